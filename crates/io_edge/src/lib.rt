@@ -1,0 +1,19 @@
+//! The program's edge: where bytes come from and where they go.
+//!
+//! A source or a sink counts its faults, and its count never falls. So a fault that a call answers can be traced to
+//! the object that was handed in: it comes only where that object's count rose. A count stands still at 2^64 - 1.
+#![tactic(auto)]
+
+mod edge;
+mod memory;
+mod reading;
+mod streams;
+#[cfg(test)]
+mod tests;
+mod writing;
+
+pub use edge::{Failed, Sink, Source};
+pub use memory::{MemSink, MemSource};
+pub use reading::{ReadError, read_all};
+pub use streams::{StdIn, StdOut};
+pub use writing::{WriteFault, write_all};

@@ -1,0 +1,10 @@
+//! Expressions over wrapping 64-bit values.
+#![tactic(auto)]
+
+mod expr;
+#[cfg(test)]
+mod tests;
+mod value;
+
+pub use expr::Expr;
+pub use value::eval;

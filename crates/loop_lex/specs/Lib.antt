@@ -1,0 +1,4 @@
+pub mod Lexical
+pub mod Tokens
+pub mod Front
+pub mod Spaced

@@ -1,0 +1,19 @@
+//! Tokens of a source: words, numbers and signs, each the longest that its place allows.
+//! White space and comments separate tokens and are dropped.
+#![tactic(auto)]
+
+mod class;
+mod law;
+mod lexer;
+mod scan;
+mod slice;
+mod token;
+
+pub use class::is_name;
+pub use law::{spaced_tokens_are_read_back, tokens_are_in_order};
+pub use lexer::lex;
+pub use slice::{number, text};
+pub use token::{LexError, MAX_NUMBER, MAX_TOKENS, Token, TokenKind};
+
+#[cfg(test)]
+mod tests;

@@ -1,0 +1,9 @@
+pub mod Negations
+pub mod Outside
+pub mod Fed
+pub mod ExpressionComplete
+pub mod ExpressionSound
+pub mod SourceComplete
+pub mod SourceSound
+pub mod SourceCloses
+pub mod Runs

@@ -1,0 +1,15 @@
+pub mod Cells
+pub mod Around
+pub mod Loops
+pub mod WellFormed
+pub mod Memory
+pub mod Access
+pub mod Meaning
+pub mod Trace
+pub mod Size
+pub mod Writers
+pub mod Laws
+pub mod Examples
+pub mod Order
+pub mod Tags
+pub mod Points

@@ -1,0 +1,43 @@
+ghost use Rattle.std.specs.Prelude.{◌≡◌};
+ghost use Rattle.sanlp.specs.Laws.{FollowsTrace, HoldsLastWriters, IsLastWriter, IsValue, SinksGiveArrays, SinksReadCells, sink_values};
+ghost use Rattle.sanlp.specs.Meaning.{arrays};
+ghost use Rattle.sanlp.specs.Order.{EnumeratesDomains};
+ghost use Rattle.sanlp.specs.Trace.{trace};
+
+use crate::nest::{Inputs, Nest};
+
+// Each of these does nothing: its contract is a law over the definitions.
+
+/// The sequential meaning executes the points of the trace, in order (Feautrier 1991).
+pub fn follows_trace(nest: &Nest, inputs: &Inputs)
+    ensures { FollowsTrace nest.now inputs.now }
+{}
+
+/// The last writer of a cell before an entry is the greatest earlier entry that writes the cell (Feautrier 1991).
+pub fn is_last_writer(nest: &Nest)
+    ensures { IsLastWriter nest.now (trace nest.now) }
+{}
+
+/// The value of an entry is its expression, where each read has the value of its last writer, or 0 where there is none.
+pub fn is_value(nest: &Nest, inputs: &Inputs)
+    ensures { IsValue nest.now inputs.now (trace nest.now) }
+{}
+
+/// Along the trace, a cell holds the value of its last writer, and nothing where it has none.
+pub fn holds_last_writers(nest: &Nest, inputs: &Inputs)
+    ensures { HoldsLastWriters nest.now inputs.now (trace nest.now) }
+{}
+
+/// The values of each sink's points, in order, are the cells of its array after the nest, and so the arrays after the
+/// nest are the values of the sinks' points.
+pub fn sinks_give_arrays(nest: &Nest, inputs: &Inputs)
+    ensures cells { SinksReadCells nest.now inputs.now }
+    ensures lists { SinksGiveArrays nest.now inputs.now }
+    ensures whole { arrays nest.now inputs.now ≡ sink_values nest.now inputs.now }
+{}
+
+/// The entries of the trace are exactly the points of the statements' iteration domains, each once, in the order that
+/// `before` tells (Feautrier 1991).
+pub fn enumerates_domains(nest: &Nest)
+    ensures { EnumeratesDomains nest.now (trace nest.now) }
+{}

@@ -1,0 +1,17 @@
+//! Static affine nested loop programs: their types and their meaning.
+#![tactic(auto)]
+
+mod law;
+mod nest;
+mod order;
+#[cfg(test)]
+mod tests;
+
+pub use law::{
+    enumerates_domains, follows_trace, holds_last_writers, is_last_writer, is_value,
+    sinks_give_arrays,
+};
+pub use nest::{
+    Access, ArrayDecl, Arrays, Inputs, Kind, Nest, Node, Point, Points, Role, Statement, Tag,
+};
+pub use order::before;

@@ -1,0 +1,5 @@
+pub mod Chain
+pub mod Systems
+pub mod Steps
+pub mod Refusal
+pub mod Rules

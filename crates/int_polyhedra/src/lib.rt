@@ -1,0 +1,13 @@
+//! Systems of affine rows over whole numbers, and proofs that no whole point meets them.
+#![tactic(auto)]
+
+mod refute;
+mod rows;
+mod steps;
+mod system;
+#[cfg(test)]
+mod tests;
+
+pub use refute::{entails, refutes};
+pub use steps::negation;
+pub use system::{Proof, Reason, System, Term};

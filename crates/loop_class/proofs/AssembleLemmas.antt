@@ -1,0 +1,133 @@
+-- From what was read of a tree to its nest.
+use Rattle.std.proofs.Common.{◌≡◌, ◌≤◌, ℕ, ◌+◌, Bool, true, false, List, [], ◌∷◌, ◌++◌, length, Option, Some, None, Result, Err, if◌then◌else◌, refl, sym, ap, subst, ◌∙◌, append_assoc, length-append, arith}
+use Rattle.std.specs.Prelude.{IsTrue, Ok, nat_le}
+use Rattle.std.specs.List.{list_all}
+use Rattle.std.specs.Cmp.Derive.{both_true}
+use Rattle.std.proofs.lemmas.Bool.{le-leb}
+use Rattle.sanlp.specs.declared.nest.ArrayDecl.{ArrayDecl}
+use Rattle.sanlp.specs.declared.nest.Nest.{Nest}
+use Rattle.sanlp.specs.declared.nest.Node.{Node}
+use Rattle.sanlp.specs.declared.nest.Statement.{Statement}
+use Rattle.sanlp.specs.WellFormed.{IsWellFormed, input_extents, output_extents, array_loops}
+use Rattle.sanlp.proofs.Each.{Each}
+use Rattle.loop_grammar.specs.declared.tree.Tree.{Tree}
+use Rattle.loop_class.specs.declared.assemble.Reading.{Reading}
+use Rattle.loop_class.specs.declared.context.Context.{Context}
+use Rattle.loop_class.specs.declared.context.Progress.{Progress}
+use Rattle.loop_class.specs.declared.declare.Table.{Table}
+use Rattle.loop_class.specs.declared.error.BindError.{BindError}
+use Rattle.loop_class.specs.declared.error.BindError.TheVariants.{UnknownName, Duplicate, Unbound, NotAffine, WrongCount, ElseForm, TooManyProcesses, TooDeep, TooManyReads, TooManyRows, Large, Memory}
+use Rattle.loop_class.specs.Binding.{outer_context, body_made, findings, nest_of, IsBound, Binds}
+use Rattle.loop_class.specs.Declarations.{Values, Declared, declared}
+use Rattle.loop_class.specs.Following.{IsReadingOf, Makes, Stands, next_statement}
+use Rattle.loop_class.specs.Parts.{Made, parts_made}
+use Rattle.loop_class.specs.Ranges.{has_small_extents}
+use Rattle.loop_class.specs.Reasons.{comes_first, lesser, least_from}
+use Rattle.loop_class.specs.Terminals.{sources_from, sinks_from, loop_count}
+use Rattle.loop_class.proofs.JudgeLemmas.{least_append}
+use Rattle.loop_class.proofs.Nests.{bound_nest_well_formed}
+use Rattle.loop_class.proofs.NestsArrays.{FewExtents, declarations_sound}
+use Rattle.loop_class.proofs.NestsTerminals.{sources_length}
+use Rattle.loop_class.proofs.NestsValues.{none_left}
+
+pick : (b : Bool) (x y : BindError) (fs : List BindError) → ((z : BindError) → least_from (Some z) fs ≡ None → ⊥) → least_from (if b then Some x else Some y) fs ≡ None → ⊥
+pick true x y fs stays e = stays x e
+pick false x y fs stays e = stays y e
+
+some_stays : (fs : List BindError) (found : BindError) → least_from (Some found) fs ≡ None → ⊥
+some_stays [] found e = cc
+some_stays (f ∷ fs) found e = pick (comes_first f found) f found fs (some_stays fs) e
+
+-- where no reason is the least, there is none
+pub none_found : (fs : List BindError) → least_from None fs ≡ None → fs ≡ []
+none_found [] e = refl
+none_found (f ∷ fs) e = absurd (some_stays fs f e)
+
+-- the least reason is told
+pub told : (tree : Tree) (params : Values) (reason : BindError) → least_from None (findings tree params) ≡ Some reason → Binds tree params (Err reason)
+told tree params (UnknownName token) h = h
+told tree params (Duplicate token) h = h
+told tree params (Unbound token) h = h
+told tree params (NotAffine token) h = h
+told tree params (WrongCount token) h = h
+told tree params (ElseForm token) h = h
+told tree params (TooManyProcesses token) h = h
+told tree params (TooDeep token) h = h
+told tree params (TooManyReads token) h = h
+told tree params (TooManyRows token) h = h
+told tree params (Large token) h = h
+told tree params Memory h = tt
+
+pub whole_body : (arrays : List ArrayDecl) (next_loop first : ℕ) (assignments s0 s1 s2 : List Statement) (nodes b0 b1 b2 b3 : List Node)
+    → s0 ≡ [] → b0 ≡ [] → s1 ≡ s0 ++ sources_from 0 0 arrays → b1 ≡ b0 ++ array_loops 0 0 (input_extents arrays)
+    → s2 ≡ s1 ++ assignments → b2 ≡ b1 ++ nodes → first ≡ length s2 → b3 ≡ b2 ++ array_loops next_loop first (output_extents arrays)
+    → b3 ≡ array_loops 0 0 (input_extents arrays) ++ (nodes ++ array_loops next_loop (length (input_extents arrays) + length assignments) (output_extents arrays))
+whole_body arrays next_loop first assignments s0 s1 s2 nodes b0 b1 b2 b3 es eb hs hb ms mb count last =
+    let sources : s1 ≡ sources_from 0 0 arrays = hs ∙ ap (λ s. s ++ sources_from 0 0 arrays) es in
+    let loops : b1 ≡ array_loops 0 0 (input_extents arrays) = hb ∙ ap (λ b. b ++ array_loops 0 0 (input_extents arrays)) eb in
+    let number : first ≡ length (input_extents arrays) + length assignments =
+    count ∙ ap length ms ∙ length-append s1 assignments ∙ ap (λ s. length s + length assignments) sources ∙ ap (λ n. n + length assignments) (sources_length 0 0 arrays) in
+    last ∙ (λ i. (mb ∙ ap (λ b. b ++ nodes) loops) i ++ array_loops next_loop (number i) (output_extents arrays))
+    ∙ append_assoc (array_loops 0 0 (input_extents arrays)) nodes (array_loops next_loop (length (input_extents arrays) + length assignments) (output_extents arrays))
+
+pub reading_is : (tree : Tree) (params : Values) (t : Table) (c0 c1 : Context) (p0 p1 : Progress) (n0 n1 : List Node)
+    → Stands t (declared params tree.declarations)
+    → c0 ≡ outer_context (declared params tree.declarations) → p0.first ≡ length (input_extents (declared params tree.declarations).arrays)
+    → p0.next_loop ≡ loop_count (input_extents (declared params tree.declarations).arrays) → p0.statements ≡ [] → p0.least ≡ t.least → n0 ≡ []
+    → Makes c0 c1 p0 p1 n0 n1 (parts_made tree.parts c0 p0.next_loop (next_statement p0))
+    → IsReadingOf (record { arrays = t.arrays; statements = p1.statements; nodes = n1; next_loop = p1.next_loop; least = p1.least }) tree params
+unfolding findings
+reading_is tree params t c0 c1 p0 p1 n0 n1 stands context first loops none least nodes h =
+    let d : Declared = declared params tree.declarations in
+    let number : next_statement p0 ≡ length (input_extents d.arrays) = ap (λ s. p0.first + length s) none ∙ plus_zero p0.first ∙ first in
+    let same : parts_made tree.parts c0 p0.next_loop (next_statement p0) ≡ body_made tree d = λ i. parts_made tree.parts (context i) (loops i) (number i) in
+    record {
+      arrays = stands.1;
+      statements = ap (λ p. p.statements) h.progress ∙ (λ i. none i ++ (same i).statements);
+      nodes = h.nodes ∙ (λ i. nodes i ++ (same i).nodes);
+      next_loop = ap (λ p. p.next_loop) h.progress ∙ ap (λ m. m.next_loop) same;
+      least = ap (λ p. p.least) h.progress ∙ (λ i. least_from (least i) (same i).findings) ∙ ap (λ l. least_from l (body_made tree d).findings) stands.2
+          ∙ sym (least_append None d.findings (body_made tree d).findings);
+    }
+  where
+    plus_zero : (n : ℕ) → n + 0 ≡ n
+    plus_zero n = omega arith
+
+small_extents : (arrays : List ArrayDecl) → Each FewExtents arrays → IsTrue (list_all has_small_extents arrays)
+small_extents [] h = refl
+small_extents (array ∷ arrays) h = both_true (both_true (le-leb (length array.extents) 6 h.0.few) h.0.limited) (small_extents arrays h.1)
+
+module _ (tree : Tree) (params : Values) (r : Reading) (is : IsReadingOf r tree params) (none : r.least ≡ None) where
+  pub no_findings : findings tree params ≡ []
+  no_findings = none_found (findings tree params) (sym is.least ∙ none)
+
+  pub reading_small : IsTrue (list_all has_small_extents r.arrays)
+  unfolding findings
+  reading_small =
+      let d : Declared = declared params tree.declarations in
+      subst (λ arrays. IsTrue (list_all has_small_extents arrays)) (sym is.arrays)
+      (small_extents d.arrays (declarations_sound params tree.declarations (none_left d.findings (body_made tree d).findings no_findings)).extents)
+
+  module _ (statements : List Statement) (body : List Node)
+      (first : statements ≡ sources_from 0 0 r.arrays ++ (r.statements ++ sinks_from 0 r.next_loop r.arrays))
+      (second : body ≡ array_loops 0 0 (input_extents r.arrays) ++ (r.nodes ++ array_loops r.next_loop (length (input_extents r.arrays) + length r.statements) (output_extents r.arrays))) where
+    pub arrays_bound : r.arrays ≡ (nest_of tree params).arrays
+    unfolding nest_of
+    arrays_bound = is.arrays
+
+    pub statements_bound : statements ≡ (nest_of tree params).statements
+    unfolding nest_of
+    statements_bound = first ∙ (λ i. sources_from 0 0 (is.arrays i) ++ (is.statements i ++ sinks_from 0 (is.next_loop i) (is.arrays i)))
+
+    pub body_bound : body ≡ (nest_of tree params).body
+    unfolding nest_of
+    body_bound =
+        second ∙ (λ i. array_loops 0 0 (input_extents (is.arrays i))
+        ++ (is.nodes i ++ array_loops (is.next_loop i) (length (input_extents (is.arrays i)) + length (is.statements i)) (output_extents (is.arrays i))))
+
+    pub reading_well_formed : IsWellFormed r.arrays statements body
+    reading_well_formed =
+        subst (λ arrays. IsWellFormed arrays statements body) (sym arrays_bound)
+        (subst (λ s. IsWellFormed (nest_of tree params).arrays s body) (sym statements_bound)
+        (subst (λ b. IsWellFormed (nest_of tree params).arrays (nest_of tree params).statements b) (sym body_bound)
+        (bound_nest_well_formed tree params no_findings)))

@@ -1,0 +1,12 @@
+pub mod Names
+pub mod Reasons
+pub mod Forms
+pub mod Judging
+pub mod Values
+pub mod Ranges
+pub mod Rows
+pub mod Parts
+pub mod Declarations
+pub mod Terminals
+pub mod Binding
+pub mod Following

@@ -1,0 +1,89 @@
+ghost use Rattle.std.specs.Prelude.{◌≡◌};
+ghost use Rattle.loop_class.specs.Reasons.{place_of, number_of, comes_first, lesser};
+
+/// Why a tree with these values of its parameters is no nest. Each place is that of a token, counted from 0.
+#[derive(Clone, Copy, Debug, PartialEq, Eq)]
+pub enum BindError {
+    /// The name isn't in scope, or isn't of the kind that its place wants.
+    UnknownName(u32),
+    /// The name is in scope already.
+    Duplicate(u32),
+    /// The parameter has no value.
+    Unbound(u32),
+    /// What stands there, where an affine form must stand, is none.
+    NotAffine(u32),
+    /// The access has another number of subscripts than its array has extents.
+    WrongCount(u32),
+    /// The `else` follows a guard of more than one comparison or of `==`.
+    ElseForm(u32),
+    /// The 65th process begins there.
+    TooManyProcesses(u32),
+    /// The seventh nested loop begins there, or the array has more than 6 extents.
+    TooDeep(u32),
+    /// The ninth access of a right side.
+    TooManyReads(u32),
+    /// The statement has more than 32 rows.
+    TooManyRows(u32),
+    /// A number of the affine form there, or the parameter's value, is outside of 2,147,483,647 and its negative.
+    Large(u32),
+    /// Want of memory.
+    Memory,
+}
+
+fn place(reason: BindError) -> u32
+    ensures { result ≡ place_of reason }
+{
+    match reason {
+        BindError::UnknownName(token) => token,
+        BindError::Duplicate(token) => token,
+        BindError::Unbound(token) => token,
+        BindError::NotAffine(token) => token,
+        BindError::WrongCount(token) => token,
+        BindError::ElseForm(token) => token,
+        BindError::TooManyProcesses(token) => token,
+        BindError::TooDeep(token) => token,
+        BindError::TooManyReads(token) => token,
+        BindError::TooManyRows(token) => token,
+        BindError::Large(token) => token,
+        BindError::Memory => 0,
+    }
+}
+
+fn number(reason: BindError) -> u32
+    ensures { result ≡ number_of reason }
+{
+    match reason {
+        BindError::UnknownName(_) => 1,
+        BindError::Duplicate(_) => 2,
+        BindError::Unbound(_) => 3,
+        BindError::NotAffine(_) => 4,
+        BindError::WrongCount(_) => 5,
+        BindError::ElseForm(_) => 6,
+        BindError::TooManyProcesses(_) => 7,
+        BindError::TooDeep(_) => 8,
+        BindError::TooManyReads(_) => 9,
+        BindError::TooManyRows(_) => 10,
+        BindError::Large(_) => 11,
+        BindError::Memory => 12,
+    }
+}
+
+fn precedes(a: BindError, b: BindError) -> bool
+    ensures { result ≡ comes_first a b }
+{
+    place(a) < place(b) || (place(a) == place(b) && number(a) < number(b))
+}
+
+/// Keeps the least reason: that at the least place, and at one place that of the least number.
+#[inline(never)]
+pub(crate) fn note(least: &mut Option<BindError>, found: BindError)
+    ensures { least.new ≡ lesser least.old found }
+{
+    let comes_first = match *least {
+        None => true,
+        Some(old) => precedes(found, old),
+    };
+    if comes_first {
+        *least = Some(found);
+    }
+}

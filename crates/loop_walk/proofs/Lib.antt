@@ -1,0 +1,14 @@
+pub mod BodyParts
+pub mod CellOrder
+pub mod CountLemmas
+pub mod HalfOpen
+pub mod LoopRange
+pub mod Placed
+pub mod PointsAdded
+pub mod Rooms
+pub mod RunLemmas
+pub mod ShortStatements
+pub mod SizeLaw
+pub mod SmallForms
+pub mod ValuesInside
+pub mod WalkLemmas

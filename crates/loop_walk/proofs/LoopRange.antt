@@ -1,0 +1,56 @@
+-- The greatest and the least value, one form further.
+use Rattle.std.proofs.Common.{◌≡◌, ◌<◌, ◌+◌, ℕ, zero, suc, ℤ, List, [], ◌∷◌, length, get_or, take, map, sym, ap, ◌∙◌, arith, add-one}
+use Rattle.std.specs.List.{fold, list_all}
+use Rattle.std.specs.Prelude.{Bool, true, false, cond, ◌&&◌, IsTrue, int_lt}
+use Rattle.std.specs.Int.{int_max, int_min}
+use Rattle.std.proofs.lemmas.Bool.{and_parts}
+use Rattle.affine_core.specs.declared.form.Form.{Form}
+use Rattle.affine_core.specs.Affine.{form_at}
+use Rattle.sanlp.specs.Loops.{greatest, least}
+use Rattle.loop_walk.specs.Counting.{all_within, is_loop_value, loop_within}
+
+one_further : {X : Type 0} (op : ℤ → ℤ → ℤ) (f : X → ℤ) (a : ℤ) (xs : List X) (i : ℕ) (x : X)
+    → i < length xs → x ≡ get_or xs i x → fold op a (map f (take (suc i) xs)) ≡ op (fold op a (map f (take i xs))) (f x)
+one_further op f a [] i x lt e = absurd (omega arith)
+one_further op f a (y ∷ xs) zero x lt e = ap (λ z. op a (f z)) (sym e)
+one_further op f a (y ∷ xs) (suc i) x lt e = one_further op f (op a (f y)) xs i x (omega arith) e
+
+pub fold_map_more : {X : Type 0} (op : ℤ → ℤ → ℤ) (f : X → ℤ) (a : ℤ) (xs : List X) (i : ℕ) (x : X) (value here next : ℤ)
+    → i < length xs → x ≡ get_or xs i x → value ≡ fold op a (map f (take i xs)) → here ≡ f x → next ≡ op value here
+    → next ≡ fold op a (map f (take (i + 1) xs))
+fold_map_more op f a xs i x value here next lt e before at is =
+    is ∙ ap (λ v. op v here) before ∙ ap (op _) at ∙ sym (one_further op f a xs i x lt e) ∙ ap (λ k. fold op a (map f (take k xs))) (sym (add-one i))
+
+-- the greatest and the least of loop values are loop values
+kept : {X : Type 0} (op : ℤ → ℤ → ℤ) (test : ℤ → Bool) (f : X → ℤ)
+    → ((x y : ℤ) → IsTrue (test x) → IsTrue (test y) → IsTrue (test (op x y)))
+    → (a : ℤ) (xs : List X) → IsTrue (test a) → IsTrue (list_all (λ x. test (f x)) xs) → IsTrue (test (fold op a (map f xs)))
+kept op test f closed a [] first others = first
+kept op test f closed a (x ∷ xs) first others =
+    let tests = and_parts (test (f x)) (list_all (λ y. test (f y)) xs) others in
+    kept op test f closed (op a (f x)) xs (closed a (f x) first tests.0) tests.1
+
+max_kept : (x y : ℤ) → IsTrue (is_loop_value x) → IsTrue (is_loop_value y) → IsTrue (is_loop_value (int_max x y))
+max_kept x y p q = elim (int_lt y x) as (λ b. IsTrue (is_loop_value (cond b x y))) [ true ↦ p | false ↦ q ]
+
+min_kept : (x y : ℤ) → IsTrue (is_loop_value x) → IsTrue (is_loop_value y) → IsTrue (is_loop_value (int_min x y))
+min_kept x y p q = elim (int_lt y x) as (λ b. IsTrue (is_loop_value (cond b y x))) [ true ↦ q | false ↦ p ]
+
+-- the greatest and the least value of forms that passed
+pub greatest_within : (forms : List Form) (at : List ℤ) (passed : Bool) (value : ℤ)
+    → passed ≡ all_within forms at → passed ≡ true → value ≡ greatest (map (λ form. form_at form at) forms) → IsTrue (is_loop_value value)
+greatest_within [] at passed value e h is = ap is_loop_value is
+greatest_within (form ∷ forms) at passed value e h is =
+    let tests = and_parts (is_loop_value (form_at form at)) (all_within forms at) (sym e ∙ h) in
+    ap is_loop_value is ∙ kept int_max is_loop_value (λ form. form_at form at) max_kept (form_at form at) forms tests.0 tests.1
+
+pub least_within : (forms : List Form) (at : List ℤ) (passed : Bool) (value : ℤ)
+    → passed ≡ all_within forms at → passed ≡ true → value ≡ least (map (λ form. form_at form at) forms) → IsTrue (is_loop_value value)
+least_within [] at passed value e h is = ap is_loop_value is
+least_within (form ∷ forms) at passed value e h is =
+    let tests = and_parts (is_loop_value (form_at form at)) (all_within forms at) (sym e ∙ h) in
+    ap is_loop_value is ∙ kept int_min is_loop_value (λ form. form_at form at) min_kept (form_at form at) forms tests.0 tests.1
+
+pub both_within : (lower upper : List Form) (at : List ℤ) (a b : Bool)
+    → a ≡ all_within lower at → a ≡ true → b ≡ all_within upper at → b ≡ true → loop_within lower upper at ≡ true
+both_within lower upper at a b e h f g = ap (λ x. x && all_within upper at) (sym e ∙ h) ∙ sym f ∙ g

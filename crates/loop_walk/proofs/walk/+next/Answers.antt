@@ -1,0 +1,23 @@
+use Rattle.std.proofs.Common.{rules, length, map, ap, ◌∙◌}
+use Rattle.std.specs.List.{list_all}
+use Rattle.sanlp.specs.declared.nest.Node.TheViews.{the_lemmas}
+use Rattle.sanlp.specs.WellFormed.{forms_fit}
+use Rattle.loop_walk.specs.Walking.{node_room, valid}
+use Rattle.loop_walk.proofs.BodyParts.{part_passes}
+use Rattle.loop_walk.proofs.WalkLemmas.{part_valid}
+use Rattle.loop_walk.proofs.walk.+next.Goals as goal
+
+pub next_part-next_of_node-point-requires : goal.next_part-next_of_node-point-requires
+next_part-next_of_node-point-requires t c =
+    let parts = c.args.parts.now in
+    let i = c.loop-frame.frame.part in
+    let part = c.index-parts-frame.result in (
+      search (rules, the_lemmas),
+      (
+        part_passes forms_fit parts (length c.args.at.now) i part c.requires.fit c.loop-frame-test.true c.index-parts-frame.is,
+        (
+          part_passes node_room parts (length c.loop-frame.deeper) i part (ap (λ k. list_all (λ room. room k) (map node_room parts)) c.loop-frame.auto.deeper ∙ c.requires.room) c.loop-frame-test.true c.index-parts-frame.is,
+          part_valid c.loop-frame.frame (valid c.loop-frame.deeper) parts i part c.args.at.now c.loop-frame-test.true c.index-parts-frame.is c.loop-frame.invariant.1,
+        ),
+      ),
+    )

@@ -1,0 +1,7 @@
+pub mod CellMap
+pub mod Counting
+pub mod Execution
+pub mod Outputs
+pub mod PointLists
+pub mod Walking
+pub mod Walks

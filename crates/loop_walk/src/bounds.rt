@@ -1,0 +1,105 @@
+ghost use Rattle.std.specs.Prelude.{◌≡◌, ◌+◌, ◌<◌, ◌≤◌, [], ◌∷◌, ◌++◌, false, length, map, take, IsTrue, MatchOption};
+ghost use Rattle.std.specs.List.{list_all};
+ghost use Rattle.affine_core.specs.Affine.{form_at};
+ghost use Rattle.sanlp.specs.Loops.{all_hold, greatest, least};
+ghost use Rattle.sanlp.specs.WellFormed.{form_fits};
+ghost use Rattle.loop_walk.specs.Counting.{IsLoopRange, all_within, are_loop_values, is_loop_value, loop_within};
+
+use crate::vector::LoopValues;
+use affine_core::Form;
+
+/// The greatest absolute value of a form of an entered loop.
+const LOOP_VALUE_LIMIT: i128 = 4_611_686_018_427_387_904;
+
+// The value of a form. Its coefficients and the loop values are so small that no sum leaves 128 bits.
+pub(crate) fn form_value(form: &Form, at: &LoopValues) -> i128
+    requires { IsTrue (form_fits (length at.now) form.now) }
+    ensures { result ≡ form_at form.now at.now }
+{
+    match form.eval(at.wide()) {
+        Ok(value) => value,
+        Err(_) => unreachable!(),
+    }
+}
+
+// The greatest value of these forms, or 0 where there is none.
+pub(crate) fn greatest_of(forms: &[Form], at: &LoopValues) -> i128
+    requires { IsTrue (list_all (form_fits (length at.now)) forms.now) }
+    ensures { result ≡ greatest (map (λ form. form_at form at.now) forms.now) }
+{
+    let Some((first, others)) = forms.split_first() else {
+        return 0;
+    };
+    let mut value = form_value(first, at);
+    for form in others {
+        value = value.max(form_value(form, at));
+    }
+    value
+}
+
+// The least value of these forms, or 0 where there is none.
+pub(crate) fn least_of(forms: &[Form], at: &LoopValues) -> i128
+    requires { IsTrue (list_all (form_fits (length at.now)) forms.now) }
+    ensures { result ≡ least (map (λ form. form_at form at.now) forms.now) }
+{
+    let Some((first, others)) = forms.split_first() else {
+        return 0;
+    };
+    let mut value = form_value(first, at);
+    for form in others {
+        value = value.min(form_value(form, at));
+    }
+    value
+}
+
+// Whether the value of each form lies within the limit of loop values.
+pub(crate) fn all_forms_within(forms: &[Form], at: &LoopValues) -> bool
+    requires { IsTrue (list_all (form_fits (length at.now)) forms.now) }
+    ensures { result ≡ all_within forms.now at.now }
+{
+    for form in forms {
+        let value = form_value(form, at);
+        if value < -LOOP_VALUE_LIMIT || value > LOOP_VALUE_LIMIT {
+            return false;
+        }
+    }
+    true
+}
+
+// Whether every row holds: its form is at least 0.
+pub(crate) fn rows_hold(rows: &[Form], at: &LoopValues) -> bool
+    requires { IsTrue (list_all (form_fits (length at.now)) rows.now) }
+    ensures { result ≡ all_hold rows.now at.now }
+{
+    for row in rows {
+        if form_value(row, at) < 0 {
+            return false;
+        }
+    }
+    true
+}
+
+// A loop value in 64 bits.
+fn narrowed(value: i128) -> i64
+    requires { IsTrue (is_loop_value value) }
+    ensures { result ≡ value }
+{
+    value as i64
+}
+
+// The first and the last value of a loop, or `None` where one of its forms has a value outside the limit of loop values.
+pub(crate) fn loop_range(lower: &[Form], upper: &[Form], at: &LoopValues) -> Option<(i64, i64)>
+    requires lower_fit { IsTrue (list_all (form_fits (length at.now)) lower.now) }
+    requires upper_fit { IsTrue (list_all (form_fits (length at.now)) upper.now) }
+    ensures { MatchOption result
+        (loop_within lower.now upper.now at.now ≡ false)
+        (λ range. IsLoopRange lower.now upper.now at.now range.0 range.1) }
+{
+    if all_forms_within(lower, at) && all_forms_within(upper, at) {
+        let first = narrowed(greatest_of(lower, at));
+        let last = narrowed(least_of(upper, at));
+        Some((first, last))
+    } else {
+        None
+    }
+}

@@ -1,0 +1,117 @@
+ghost use Rattle.std.specs.Prelude.{◌≡◌, ◌+◌, ◌<◌, ◌≤◌, [], ◌∷◌, ◌++◌, length, map, IsTrue, IfOk};
+ghost use Rattle.sanlp.specs.Loops.{interval};
+ghost use Rattle.sanlp.specs.WellFormed.{all_forms_fit, forms_fit};
+ghost use Rattle.sanlp.specs.Size.{size};
+ghost use Rattle.loop_walk.specs.Counting.{SizeIsOk, are_loop_values, counted, counted_node, counted_parts, counted_turn, counted_turns, is_loop_value, one_more};
+
+use crate::bounds::{loop_range, rows_hold};
+use crate::vector::LoopValues;
+use sanlp::{Nest, Node};
+
+/// The greatest size of a nest.
+const SIZE_LIMIT: u64 = 2_097_152;
+
+/// Why a nest is not walked.
+#[derive(Clone, Copy, Debug, PartialEq, Eq)]
+pub enum SizeError {
+    /// The count passes the limit. It is the limit and one.
+    Limit(u64),
+    /// The loop of this number is entered, and one of its forms has a value outside the limit of loop values.
+    LoopValue(u32),
+}
+
+/// The number of executed statements and loop turns of a nest.
+pub fn size(nest: &Nest) -> Result<u64, SizeError>
+    ensures exact { result ≡ counted nest.now }
+    ensures size { IfOk result (λ total. (total ≡ size nest.now) × SizeIsOk nest.now) }
+    ensures complete { SizeIsOk nest.now → result ≡ Ok (size nest.now) }
+{
+    count_parts(nest.parts(), &LoopValues::empty(), 0)
+}
+
+// Counts one more statement or turn.
+fn count_one(count: u64) -> Result<u64, SizeError>
+    ensures { result ≡ one_more count }
+{
+    if count < SIZE_LIMIT {
+        Ok(count + 1)
+    } else {
+        Err(SizeError::Limit(SIZE_LIMIT + 1))
+    }
+}
+
+// Counts the parts of a body, in turn.
+#[cycle(count)]
+fn count_parts(parts: &[Node], at: &LoopValues, count: u64) -> Result<u64, SizeError>
+    requires { IsTrue (all_forms_fit parts.now (length at.now)) }
+    ensures { result ≡ counted_parts (map counted_node parts.now) at.now count }
+{
+    let mut count = count;
+    for part in parts {
+        count = count_node(part, at, count)?;
+    }
+    Ok(count)
+}
+
+#[cycle(count)]
+fn count_node(node: &Node, at: &LoopValues, count: u64) -> Result<u64, SizeError>
+    requires { IsTrue (forms_fit node.now (length at.now)) }
+    ensures { result ≡ counted_node node.now at.now count }
+{
+    match node {
+        Node::Loop {
+            id,
+            lower,
+            upper,
+            body,
+        } => {
+            let range = loop_range(lower.as_slice(), upper.as_slice(), at);
+            let Some((first, last)) = range else {
+                return Err(SizeError::LoopValue(*id));
+            };
+            count_turns(body.as_slice(), at, first, last, count)
+        }
+        Node::Guard { rows, body } => {
+            if rows_hold(rows.as_slice(), at) {
+                count_parts(body.as_slice(), at, count)
+            } else {
+                Ok(count)
+            }
+        }
+        Node::Assign(_) => count_one(count),
+    }
+}
+
+// Counts the turns of a loop.
+#[cycle(count)]
+fn count_turns(
+    parts: &[Node],
+    at: &LoopValues,
+    first: i64,
+    last: i64,
+    count: u64,
+) -> Result<u64, SizeError>
+    requires shallow { length at.now < 6 }
+    requires first_within { IsTrue (is_loop_value first) }
+    requires last_within { IsTrue (is_loop_value last) }
+    requires fit { IsTrue (all_forms_fit parts.now (length at.now + 1)) }
+    ensures { result ≡ counted_turns (map counted_node parts.now) at.now (interval first last) count }
+{
+    let mut count = count;
+    for value in first..=last {
+        count = count_turn(parts, at, value, count)?;
+    }
+    Ok(count)
+}
+
+// Counts one turn of a loop.
+#[cycle(count)]
+fn count_turn(parts: &[Node], at: &LoopValues, value: i64, count: u64) -> Result<u64, SizeError>
+    requires shallow { length at.now < 6 }
+    requires value_within { IsTrue (is_loop_value value) }
+    requires fit { IsTrue (all_forms_fit parts.now (length at.now + 1)) }
+    ensures { result ≡ counted_turn (map counted_node parts.now) at.now value count }
+{
+    let count = count_one(count)?;
+    count_parts(parts, &at.extended(value), count)
+}

@@ -1,0 +1,17 @@
+//! The walk over a nest: its size, its trace, and the arrays that it computes.
+#![tactic(auto)]
+
+mod bounds;
+mod cells;
+mod count;
+mod execute;
+mod outputs;
+mod process_points;
+mod run;
+mod vector;
+mod walk;
+
+pub use count::{SizeError, size};
+pub use process_points::points;
+pub use run::interpret;
+pub use walk::Walk;

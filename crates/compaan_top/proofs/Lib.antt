@@ -1,0 +1,5 @@
+pub mod Endings
+pub mod Inputs
+pub mod Runs
+pub mod Sources
+pub mod Statuses

@@ -1,0 +1,61 @@
+-- What the command `run` comes to, from what its steps come to.
+use Rattle.std.proofs.Common.{◌≡◌, ℕ, ℤ, List, Option, Some, None, Result, Ok, Err, sym, subst}
+use Rattle.command_line.specs.Bundle.{source_part, data_part}
+use Rattle.sanlp.specs.Meaning.{arrays}
+use Rattle.sanlp.specs.declared.nest.Arrays.{Arrays}
+use Rattle.sanlp.specs.declared.nest.Inputs.{Inputs}
+use Rattle.sanlp.specs.declared.nest.Nest.{Nest}
+use Rattle.loop_walk.specs.Counting.{counted}
+use Rattle.array_data.specs.Answer.{answer_text}
+use Rattle.command_line.specs.declared.words.Command.{Command}
+use Rattle.command_line.specs.declared.words.Command.TheVariants.{Run}
+use Rattle.compaan_top.specs.Judging.{Judges}
+use Rattle.compaan_top.specs.Outcome.{Performs}
+use Rattle.compaan_top.specs.Planned.{as_text}
+use Rattle.compaan_top.specs.Run.{IsInputs, Runs, source_refused, size_refused, data_refused, answered}
+use Rattle.compaan_top.specs.Source.{Gives}
+use Rattle.compaan_top.specs.Steps.{HasSize}
+use Rattle.compaan_top.specs.declared.answer.Answer.{Answer}
+use Rattle.compaan_top.specs.declared.refusal.Refusal.{Refusal}
+use Rattle.compaan_top.specs.declared.refusal.Stop.{Stop}
+use Rattle.compaan_top.specs.declared.refusal.Stop.TheVariants.{Refused, ReadFault, Memory}
+
+abbrev pub JudgesRun : List (List ℕ × ℤ) → List ℕ → Result Answer Stop → Type 0
+JudgesRun params bundle result = Judges (λ answer. Runs params bundle (as_text answer)) result
+
+nest_is : (params : List (List ℕ × ℤ)) (bundle source : List ℕ) (answer : Result Nest Refusal) → source ≡ source_part bundle
+    → Gives source params answer → Gives (source_part bundle) params answer
+nest_is params bundle source answer is gives = subst (λ (s : List ℕ). Gives s params answer) is gives
+
+pub runs_without_nest : (params : List (List ℕ × ℤ)) (bundle source : List ℕ) (stop : Stop) → source ≡ source_part bundle
+    → Judges (Gives source params) (Err stop) → JudgesRun params bundle (Err stop)
+runs_without_nest params bundle source (Refused refusal) is step = source_refused refusal (nest_is params bundle source (Err refusal) is step)
+runs_without_nest params bundle source ReadFault is step = step
+runs_without_nest params bundle source Memory is step = tt
+
+pub runs_without_size : (params : List (List ℕ × ℤ)) (bundle source : List ℕ) (nest : Nest) (stop : Stop) → source ≡ source_part bundle
+    → Gives source params (Ok nest) → Judges (HasSize nest) (Err stop) → JudgesRun params bundle (Err stop)
+runs_without_size params bundle source nest (Refused refusal) is gives step =
+    subst (λ (r : Refusal). Runs params bundle (Err r)) (sym step.2) (size_refused nest step.0 (nest_is params bundle source (Ok nest) is gives) step.1)
+runs_without_size params bundle source nest ReadFault is gives step = step
+runs_without_size params bundle source nest Memory is gives step = tt
+
+pub runs_without_inputs : (params : List (List ℕ × ℤ)) (bundle source bytes : List ℕ) (nest : Nest) (total : ℕ) (stop : Stop)
+    → source ≡ source_part bundle → bytes ≡ data_part bundle → Gives source params (Ok nest) → counted nest ≡ Ok total
+    → Judges (IsInputs nest bytes) (Err stop) → JudgesRun params bundle (Err stop)
+runs_without_inputs params bundle source bytes nest total (Refused refusal) is bytes_are gives size step =
+    data_refused nest total refusal (nest_is params bundle source (Ok nest) is gives) size (subst (λ (b : List ℕ). IsInputs nest b (Err refusal)) bytes_are step)
+runs_without_inputs params bundle source bytes nest total ReadFault is bytes_are gives size step = step
+runs_without_inputs params bundle source bytes nest total Memory is bytes_are gives size step = tt
+
+pub runs_to_answer : (params : List (List ℕ × ℤ)) (bundle source bytes : List ℕ) (nest : Nest) (total : ℕ) (inputs : Inputs) (outputs : Arrays)
+    → source ≡ source_part bundle → bytes ≡ data_part bundle → Gives source params (Ok nest) → counted nest ≡ Ok total
+    → IsInputs nest bytes (Ok inputs) → outputs.arrays ≡ arrays nest inputs → Runs params bundle (Ok (answer_text nest.arrays outputs.arrays))
+runs_to_answer params bundle source bytes nest total inputs outputs is bytes_are gives size records outputs_are =
+    subst (λ (lists : List (List ℤ)). Runs params bundle (Ok (answer_text nest.arrays lists))) (sym outputs_are)
+    (answered nest total inputs (nest_is params bundle source (Ok nest) is gives) size (subst (λ (b : List ℕ). IsInputs nest b (Ok inputs)) bytes_are records))
+
+-- `run` is the one command
+pub performs_run : (command : Command) (params : List (List ℕ × ℤ)) (bundle : List ℕ) (result : Result Answer Stop)
+    → JudgesRun params bundle result → Judges (λ answer. Performs command params bundle (as_text answer)) result
+performs_run Run params bundle result run = run

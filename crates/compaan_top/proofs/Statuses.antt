@@ -1,0 +1,272 @@
+-- The statuses of outcomes.
+use Rattle.std.proofs.Common.{◌≡◌, ◌≢◌, ◌==◌, ◌&&◌, not, ◌<◌, ◌≤◌, ℕ, suc, ℤ, Bool, true, false, List, [], ◌∷◌, ◌++◌, length, take, drop, Option, Some, None, Result, Ok, Err, refl, sym, ap, ◌∙◌, subst, arith, map, inl, inr, ◌⊎◌, take-append-drop}
+use Rattle.std.specs.List.{list_any}
+use Rattle.std.proofs.lemmas.Bool.{cases_lt}
+use Rattle.loop_lex.specs.Tokens.{tokens}
+use Rattle.loop_lex.specs.declared.token.Token.{Token}
+use Rattle.loop_lex.specs.declared.token.LexError.{LexError}
+use Rattle.loop_lex.specs.declared.token.LexError.TheVariants as lexical
+use Rattle.loop_grammar.specs.Grammar.{Stops, Derives, Tok}
+use Rattle.loop_grammar.specs.Lexemes.{IsTree, sentence}
+use Rattle.loop_grammar.specs.declared.tree.Tree.{Tree}
+use Rattle.loop_class.specs.Binding.{findings, IsBound, nest_of}
+use Rattle.loop_class.specs.Reasons.{least_from}
+use Rattle.loop_class.specs.declared.error.BindError.{BindError}
+use Rattle.loop_class.specs.declared.error.BindError.TheVariants as binding
+use Rattle.loop_walk.specs.Counting.{counted, counted_parts, counted_node}
+use Rattle.loop_walk.specs.declared.count.SizeError.{SizeError}
+use Rattle.loop_walk.specs.declared.count.SizeError.TheVariants.{Limit, LoopValue}
+use Rattle.array_data.specs.Answer.{answer_text}
+use Rattle.sanlp.specs.Cells.{is_input}
+use Rattle.sanlp.specs.Meaning.{arrays}
+use Rattle.sanlp.specs.declared.nest.ArrayDecl.{ArrayDecl}
+use Rattle.sanlp.specs.declared.nest.Nest.{Nest}
+use Rattle.sanlp.specs.declared.nest.Node.{Node}
+use Rattle.sanlp.specs.declared.nest.Inputs.{Inputs}
+use Rattle.command_line.specs.Bundle.{source_part, data_part}
+use Rattle.command_line.specs.Words.{order_of}
+use Rattle.command_line.specs.declared.words.Order.{Order}
+use Rattle.command_line.specs.declared.words.Command.{Command}
+use Rattle.command_line.specs.declared.words.Command.TheVariants.{Run}
+use Rattle.compaan_top.specs.Laws.{DetermineStatus, HaveOwnStatuses, Succeeds, IsValid, outcome_statuses}
+use Rattle.compaan_top.specs.Outcome.{Outcome, IsOutcome, outcome_of, Performs, words_refused, bundle_refused, performed}
+use Rattle.compaan_top.specs.Refusals.{byte_of, lex_refusal, bind_refusal, size_refusal, syntax_refusal, data_not_yet, usage, too_long}
+use Rattle.compaan_top.specs.Run.{Runs, IsInputs, is_blank, takes_no_data, source_refused, size_refused, data_refused, answered, not_yet, no_inputs}
+use Rattle.compaan_top.specs.Source.{Gives, no_tokens, no_tree, not_bound, bound}
+use Rattle.compaan_top.specs.declared.refusal.Refusal.{Refusal}
+
+-- tokens have one tree
+abbrev pub OneTree : Type 0
+OneTree = (bytes : List ℕ) (found : List Token) (a b : Tree) → IsTree bytes found a → IsTree bytes found b → a ≡ b
+
+same_value : {A : Type 0} (x y : A) → Some x ≡ Some y → x ≡ y
+same_value x y e = cc
+
+-- ---- a source comes to one end
+
+-- where the tokens have a tree, no place is refused
+no_place : (list : List Tok) (place : ℕ) (tree : Tree) → Stops list place → Derives list tree → ⊥
+no_place list place tree stops derived =
+    elim (cases_lt place (length list)) [
+      | inl before ↦ stops.there before (drop (suc place) list, derived.0, derived.1 ∙ sym (take-append-drop (suc place) list))
+      | inr behind ↦ stops.at_end (omega (arith, stops.within)) tree derived
+    ]
+
+-- both are nests that agree in what is asked of them below, or both are refusals of one status
+abbrev pub Alike : Result Nest Refusal → Result Nest Refusal → Type 0
+Alike (Ok n) (Ok m) = (n.arrays ≡ m.arrays) × (n.body ≡ m.body)
+Alike (Err r) (Err s) = r.status ≡ s.status
+Alike (Ok n) (Err s) = ⊥
+Alike (Err r) (Ok m) = ⊥
+
+same_list : (source : List ℕ) (a b : List Token) → tokens source ≡ Ok a → tokens source ≡ Ok b → a ≡ b
+same_list source a b x y = cc
+
+same_error : (source : List ℕ) (a b : LexError) → tokens source ≡ Err a → tokens source ≡ Err b → a ≡ b
+same_error source a b x y = cc
+
+no_both : (source : List ℕ) (a : LexError) (b : List Token) → tokens source ≡ Err a → tokens source ≡ Ok b → ⊥
+no_both source a b x y = cc
+
+same_refusal : (a b : Option Refusal) (r s : Refusal) → a ≡ Some r → b ≡ Some s → a ≡ b → r.status ≡ s.status
+same_refusal a b r s x y e = ap (λ (t : Refusal). t.status) (same_value r s (sym x ∙ e ∙ y))
+
+-- no tokens of one list have a tree and a refused place
+no_tree_at_place : (source : List ℕ) (a b : List Token) (place : ℕ) (tree : Tree) → tokens source ≡ Ok a → tokens source ≡ Ok b
+    → Stops (sentence source a) place → IsTree source b tree → ⊥
+no_tree_at_place source a b place tree x y stops derived =
+    no_place (sentence source a) place tree stops (subst (λ (l : List Token). IsTree source l tree) (same_list source b a y x) derived)
+
+-- the trees of a source are one
+one_tree_of : OneTree → (source : List ℕ) (a b : List Token) (t u : Tree) → tokens source ≡ Ok a → tokens source ≡ Ok b
+    → IsTree source a t → IsTree source b u → t ≡ u
+one_tree_of one source a b t u x y p q =
+    one source a t u p (subst (λ (l : List Token). IsTree source l u) (same_list source b a y x) q)
+
+none_least : (tree : Tree) (params : List (List ℕ × ℤ)) (reason : BindError) → findings tree params ≡ [] → least_from None (findings tree params) ≡ Some reason → ⊥
+none_least tree params reason e f = let g : least_from None [] ≡ Some reason = rw e at f in cc
+
+pub gives_alike : OneTree → (source : List ℕ) (params : List (List ℕ × ℤ)) {x y : Result Nest Refusal} → Gives source params x → Gives source params y → Alike x y
+gives_alike one source params (no_tokens e r lexed made) (no_tokens f s lexed' made') =
+    same_refusal (lex_refusal e) (lex_refusal f) r s made made' (ap lex_refusal (same_error source e f lexed lexed'))
+gives_alike one source params (no_tokens e r lexed made) (no_tree a place lexed' stops) = absurd (no_both source e a lexed lexed')
+gives_alike one source params (no_tokens e r lexed made) (not_bound a t reason s lexed' derived least made') = absurd (no_both source e a lexed lexed')
+gives_alike one source params (no_tokens e r lexed made) (bound a t n lexed' derived is) = absurd (no_both source e a lexed lexed')
+gives_alike one source params (no_tree a place lexed stops) (no_tokens f s lexed' made') = absurd (no_both source f a lexed' lexed)
+gives_alike one source params (no_tree a place lexed stops) (no_tree b place' lexed' stops') = refl
+gives_alike one source params (no_tree a place lexed stops) (not_bound b t reason s lexed' derived least made') =
+    absurd (no_tree_at_place source a b place t lexed lexed' stops derived)
+gives_alike one source params (no_tree a place lexed stops) (bound b t n lexed' derived is) =
+    absurd (no_tree_at_place source a b place t lexed lexed' stops derived)
+gives_alike one source params (not_bound a t reason r lexed derived least made) (no_tokens f s lexed' made') = absurd (no_both source f a lexed' lexed)
+gives_alike one source params (not_bound a t reason r lexed derived least made) (no_tree b place lexed' stops) =
+    absurd (no_tree_at_place source b a place t lexed' lexed stops derived)
+gives_alike one source params (not_bound a t reason r lexed derived least made) (not_bound b u reason' s lexed' derived' least' made') =
+    let trees : t ≡ u = one_tree_of one source a b t u lexed lexed' derived derived' in
+    let reasons : reason ≡ reason' = same_value reason reason' (sym least ∙ ap (λ (z : Tree). least_from None (findings z params)) trees ∙ least') in
+    let lists : a ≡ b = same_list source a b lexed lexed' in
+    same_refusal (bind_refusal (byte_of source a) reason) (bind_refusal (byte_of source b) reason') r s made made'
+    (ap (λ (l : List Token). bind_refusal (byte_of source l) reason) lists ∙ ap (bind_refusal (byte_of source b)) reasons)
+gives_alike one source params (not_bound a t reason r lexed derived least made) (bound b u n lexed' derived' is) =
+    let trees : t ≡ u = one_tree_of one source a b t u lexed lexed' derived derived' in
+    absurd (none_least u params reason is.no_findings (sym (ap (λ (z : Tree). least_from None (findings z params)) trees) ∙ least))
+gives_alike one source params (bound a t n lexed derived is) (no_tokens f s lexed' made') = absurd (no_both source f a lexed' lexed)
+gives_alike one source params (bound a t n lexed derived is) (no_tree b place lexed' stops) =
+    absurd (no_tree_at_place source b a place t lexed' lexed stops derived)
+gives_alike one source params (bound a t n lexed derived is) (not_bound b u reason s lexed' derived' least made) =
+    let trees : u ≡ t = one_tree_of one source b a u t lexed' lexed derived' derived in
+    absurd (none_least t params reason is.no_findings (sym (ap (λ (z : Tree). least_from None (findings z params)) trees) ∙ least))
+gives_alike one source params (bound a t n lexed derived is) (bound b u m lexed' derived' is') =
+    let trees : t ≡ u = one_tree_of one source a b t u lexed lexed' derived derived' in
+    (is.arrays ∙ ap (λ (z : Tree). (nest_of z params).arrays) trees ∙ sym is'.arrays, is.body ∙ ap (λ (z : Tree). (nest_of z params).body) trees ∙ sym is'.body)
+
+-- ---- and so does `run`
+
+abbrev pub SameStatus : Result (List ℕ) Refusal → Result (List ℕ) Refusal → Type 0
+SameStatus x y = (outcome_of x).status ≡ (outcome_of y).status
+
+same_counted : (n m : Nest) → n.body ≡ m.body → counted n ≡ counted m
+unfolding counted
+same_counted n m e = ap (λ (body : List Node). counted_parts (map counted_node body) [] 0) e
+
+same_need : (bytes : List ℕ) (n m : Nest) → n.arrays ≡ m.arrays → takes_no_data n bytes ≡ takes_no_data m bytes
+same_need bytes n m e = ap (λ (list : List ArrayDecl). is_blank bytes && not (list_any (λ array. is_input array.kind) list)) e
+
+abbrev BothRefused : Result Inputs Refusal → Result Inputs Refusal → Type 0
+BothRefused (Ok d) (Ok e) = Unit {0}
+BothRefused (Err r) (Err s) = r.status ≡ s.status
+BothRefused (Ok d) (Err s) = ⊥
+BothRefused (Err r) (Ok e) = ⊥
+
+inputs_alike : (bytes : List ℕ) (n m : Nest) {x y : Result Inputs Refusal} → takes_no_data n bytes ≡ takes_no_data m bytes
+    → IsInputs n bytes x → IsInputs m bytes y → BothRefused x y
+inputs_alike bytes n m e (not_yet f) (not_yet g) = refl
+inputs_alike bytes n m e (not_yet f) (no_inputs d g lengths) = cc
+inputs_alike bytes n m e (no_inputs d f lengths) (not_yet g) = cc
+inputs_alike bytes n m e (no_inputs d f lengths) (no_inputs d' g lengths') = tt
+
+size_status : (e : SizeError) → (size_refusal e).status ≡ 8
+size_status (Limit count) = refl
+size_status (LoopValue loop) = refl
+
+no_both_sizes : (n m : Nest) (e : SizeError) (total : ℕ) → n.body ≡ m.body → counted n ≡ Err e → counted m ≡ Ok total → ⊥
+no_both_sizes n m e total same f g = let c = same_counted n m same in cc
+
+runs_alike : OneTree → (params : List (List ℕ × ℤ)) (bundle : List ℕ) {x y : Result (List ℕ) Refusal} → Runs params bundle x → Runs params bundle y → SameStatus x y
+runs_alike one params bundle (source_refused r g) (source_refused s h) = gives_alike one (source_part bundle) params g h
+runs_alike one params bundle (source_refused r g) (size_refused m f h d) = absurd (gives_alike one (source_part bundle) params g h)
+runs_alike one params bundle (source_refused r g) (data_refused m u s h d j) = absurd (gives_alike one (source_part bundle) params g h)
+runs_alike one params bundle (source_refused r g) (answered m u d h c j) = absurd (gives_alike one (source_part bundle) params g h)
+runs_alike one params bundle (size_refused n e g c) (source_refused s h) = absurd (gives_alike one (source_part bundle) params g h)
+runs_alike one params bundle (size_refused n e g c) (size_refused m f h d) = size_status e ∙ sym (size_status f)
+runs_alike one params bundle (size_refused n e g c) (data_refused m u s h d j) =
+    let same = gives_alike one (source_part bundle) params g h in absurd (no_both_sizes n m e u same.1 c d)
+runs_alike one params bundle (size_refused n e g c) (answered m u d h k j) =
+    let same = gives_alike one (source_part bundle) params g h in absurd (no_both_sizes n m e u same.1 c k)
+runs_alike one params bundle (data_refused n t r g c i) (source_refused s h) = absurd (gives_alike one (source_part bundle) params g h)
+runs_alike one params bundle (data_refused n t r g c i) (size_refused m f h d) =
+    let same = gives_alike one (source_part bundle) params h g in absurd (no_both_sizes m n f t same.1 d c)
+runs_alike one params bundle (data_refused n t r g c i) (data_refused m u s h d j) =
+    let same = gives_alike one (source_part bundle) params g h in
+    inputs_alike (data_part bundle) n m (same_need (data_part bundle) n m same.0) i j
+runs_alike one params bundle (data_refused n t r g c i) (answered m u d h k j) =
+    let same = gives_alike one (source_part bundle) params g h in
+    absurd (inputs_alike (data_part bundle) n m (same_need (data_part bundle) n m same.0) i j)
+runs_alike one params bundle (answered n t d g c i) (source_refused s h) = absurd (gives_alike one (source_part bundle) params g h)
+runs_alike one params bundle (answered n t d g c i) (size_refused m f h k) =
+    let same = gives_alike one (source_part bundle) params h g in absurd (no_both_sizes m n f t same.1 k c)
+runs_alike one params bundle (answered n t d g c i) (data_refused m u s h k j) =
+    let same = gives_alike one (source_part bundle) params g h in
+    absurd (inputs_alike (data_part bundle) n m (same_need (data_part bundle) n m same.0) i j)
+runs_alike one params bundle (answered n t d g c i) (answered m u e h k j) = refl
+
+performs_alike : OneTree → (command : Command) (params : List (List ℕ × ℤ)) (bundle : List ℕ) (x y : Result (List ℕ) Refusal)
+    → Performs command params bundle x → Performs command params bundle y → SameStatus x y
+performs_alike one Run params bundle x y made other = runs_alike one params bundle made other
+
+no_order : (words : List (List ℕ)) (order : Order) → order_of words ≡ None → order_of words ≡ Some order → ⊥
+no_order words order x y = cc
+
+pub outcomes_alike : OneTree → (words : List (List ℕ)) (bundle : List ℕ) {a b : Outcome} → IsOutcome words bundle a → IsOutcome words bundle b → a.status ≡ b.status
+outcomes_alike one words bundle (words_refused x) (words_refused y) = refl
+outcomes_alike one words bundle (words_refused x) (bundle_refused o y long) = absurd (no_order words o x y)
+outcomes_alike one words bundle (words_refused x) (performed o answer y within made) = absurd (no_order words o x y)
+outcomes_alike one words bundle (bundle_refused o x long) (words_refused y) = absurd (no_order words o y x)
+outcomes_alike one words bundle (bundle_refused o x long) (bundle_refused p y long') = refl
+outcomes_alike one words bundle (bundle_refused o x long) (performed p answer y within made) = absurd (omega arith)
+outcomes_alike one words bundle (performed o answer x within made) (words_refused y) = absurd (no_order words o y x)
+outcomes_alike one words bundle (performed o answer x within made) (bundle_refused p y long) = absurd (omega arith)
+outcomes_alike one words bundle (performed o answer x within made) (performed p answer' y within' made') =
+    performs_alike one o.command o.params bundle answer answer' made
+    (subst (λ (q : Order). Performs q.command q.params bundle answer') (same_value p o (sym y ∙ x)) made')
+
+-- ---- the statuses of outcomes
+
+abbrev is_own : ℕ → Bool
+is_own status = list_any (λ s. s == status) outcome_statuses
+
+own_of : (made r : Refusal) → Some made ≡ Some r → is_own made.status ≡ true → is_own r.status ≡ true
+own_of made r e own = subst (λ (t : Refusal). is_own t.status ≡ true) (same_value made r e) own
+
+lex_status : (e : LexError) (r : Refusal) → lex_refusal e ≡ Some r → is_own r.status ≡ true
+lex_status (lexical.BadByte at) r made = own_of _ r made refl
+lex_status (lexical.OpenComment at) r made = own_of _ r made refl
+lex_status (lexical.LargeNumber at) r made = own_of _ r made refl
+lex_status (lexical.TooMany at) r made = own_of _ r made refl
+lex_status lexical.Memory r made = cc
+
+bind_status : (at : ℕ → ℕ) (e : BindError) (r : Refusal) → bind_refusal at e ≡ Some r → is_own r.status ≡ true
+bind_status at (binding.UnknownName t) r made = own_of _ r made refl
+bind_status at (binding.Duplicate t) r made = own_of _ r made refl
+bind_status at (binding.Unbound t) r made = own_of _ r made refl
+bind_status at (binding.NotAffine t) r made = own_of _ r made refl
+bind_status at (binding.WrongCount t) r made = own_of _ r made refl
+bind_status at (binding.ElseForm t) r made = own_of _ r made refl
+bind_status at (binding.TooManyProcesses t) r made = own_of _ r made refl
+bind_status at (binding.TooDeep t) r made = own_of _ r made refl
+bind_status at (binding.TooManyReads t) r made = own_of _ r made refl
+bind_status at (binding.TooManyRows t) r made = own_of _ r made refl
+bind_status at (binding.Large t) r made = own_of _ r made refl
+bind_status at binding.Memory r made = cc
+
+abbrev IsOwn : {A : Type 0} → Result A Refusal → Type 0
+IsOwn (Ok x) = Unit {0}
+IsOwn (Err r) = is_own r.status ≡ true
+
+gives_own : (source : List ℕ) (params : List (List ℕ × ℤ)) {x : Result Nest Refusal} → Gives source params x → IsOwn x
+gives_own source params (no_tokens e r lexed made) = lex_status e r made
+gives_own source params (no_tree a place lexed stops) = refl
+gives_own source params (not_bound a t reason r lexed derived least made) = bind_status (byte_of source a) reason r made
+gives_own source params (bound a t n lexed derived is) = tt
+
+inputs_own : (bytes : List ℕ) (n : Nest) {x : Result Inputs Refusal} → IsInputs n bytes x → IsOwn x
+inputs_own bytes n (not_yet f) = refl
+inputs_own bytes n (no_inputs d f lengths) = tt
+
+runs_own : (params : List (List ℕ × ℤ)) (bundle : List ℕ) {x : Result (List ℕ) Refusal} → Runs params bundle x → is_own (outcome_of x).status ≡ true
+runs_own params bundle (source_refused r g) = gives_own (source_part bundle) params g
+runs_own params bundle (size_refused n e g c) = rw (size_status e) refl
+runs_own params bundle (data_refused n t r g c i) = inputs_own (data_part bundle) n i
+runs_own params bundle (answered n t d g c i) = refl
+
+performs_own : (command : Command) (params : List (List ℕ × ℤ)) (bundle : List ℕ) (x : Result (List ℕ) Refusal)
+    → Performs command params bundle x → is_own (outcome_of x).status ≡ true
+performs_own Run params bundle x made = runs_own params bundle made
+
+pub outcomes_own : (words : List (List ℕ)) (bundle : List ℕ) {a : Outcome} → IsOutcome words bundle a → is_own a.status ≡ true
+outcomes_own words bundle (words_refused x) = refl
+outcomes_own words bundle (bundle_refused o x long) = refl
+outcomes_own words bundle (performed o answer x within made) = performs_own o.command o.params bundle answer made
+
+-- ---- success
+
+performs_valid : (command : Command) (params : List (List ℕ × ℤ)) (bundle : List ℕ) → (n : Nest) (total : ℕ) (inputs : Inputs)
+    → Gives (source_part bundle) params (Ok n) → counted n ≡ Ok total → IsInputs n (data_part bundle) (Ok inputs)
+    → Performs command params bundle (Ok (answer_text n.arrays (arrays n inputs)))
+performs_valid Run params bundle n total inputs gives counts takes = answered n total inputs gives counts takes
+
+pub outcomes_succeed : OneTree → (words : List (List ℕ)) (bundle : List ℕ) → IsValid words bundle → {a : Outcome} → IsOutcome words bundle a → a.status ≡ 0
+outcomes_succeed one words bundle v is =
+    outcomes_alike one words bundle is
+    (performed v.order (Ok (answer_text v.nest.arrays (arrays v.nest v.inputs))) v.ordered v.within
+    (performs_valid v.order.command v.order.params bundle v.nest v.total v.inputs v.gives v.counts v.takes))

@@ -1,0 +1,62 @@
+-- What a call of the program does to its source and its two sinks.
+use Rattle.std.specs.Prelude.{◌≡◌, ◌⊎◌, ◌≤◌, ◌<◌, ◌+◌, ℕ, List, [], length, Option, Some, None, Result, Ok, Err}
+use Rattle.std.specs.Io.KnownBytes.{Appends, Consumes, IsAtEnd, Keeps}
+use Rattle.io_edge.specs.Causes.{Rose, AppendsFront}
+use Rattle.command_line.specs.Words.{order_of}
+use Rattle.command_line.specs.declared.words.Order.{Order}
+use Rattle.compaan_top.specs.Outcome.{Outcome, IsOutcome, bundle_limit}
+
+-- the bytes and the count of faults of a source or a sink, before a call and after it
+pub record Change : Type 0 where
+  pub old : Option (List ℕ)
+  pub new : Option (List ℕ)
+  pub faults_old : ℕ
+  pub faults_new : ℕ
+
+abbrev pub IsQuiet : Change → Type 0
+IsQuiet change = change.faults_new ≡ change.faults_old
+
+abbrev pub HasFault : Change → Type 0
+HasFault change = Rose change.faults_old change.faults_new
+
+-- the source gave the bundle: to its end, or to one byte past the limit
+pub record ReadsTo (input : Change) (bundle : List ℕ) : Type 0 where
+  pub taken : Consumes input.old input.new bundle
+  pub within : length bundle ≤ bundle_limit + 1
+  pub to_end : length bundle ≤ bundle_limit → IsAtEnd input.new
+
+-- where the words are refused nothing is read
+abbrev pub Reads : Option Order → Change → List ℕ → Type 0
+Reads None input bundle = Keeps input.old input.new × (bundle ≡ [])
+Reads (Some order) input bundle = ReadsTo input bundle
+
+-- nothing was written on either sink, and none had a fault
+pub record WritesNothing (output complaint : Change) : Type 0 where
+  pub output_kept : Keeps output.old output.new
+  pub complaint_kept : Keeps complaint.old complaint.new
+  pub output_quiet : IsQuiet output
+  pub complaint_quiet : IsQuiet complaint
+
+-- the outcome was written whole, and no sink had a fault
+pub record WritesAll (outcome : Outcome) (output complaint : Change) : Type 0 where
+  pub written : Appends output.old output.new outcome.output
+  pub complained : Appends complaint.old complaint.new outcome.complaint
+  pub output_quiet : IsQuiet output
+  pub complaint_quiet : IsQuiet complaint
+
+-- a sink had a fault, and each sink gained a front of what it was to gain
+pub record WritesFront (outcome : Outcome) (output complaint : Change) : Type 0 where
+  pub written : AppendsFront output.old output.new outcome.output
+  pub complained : AppendsFront complaint.old complaint.new outcome.complaint
+  pub cause : HasFault output ⊎ HasFault complaint
+
+-- How a call with these words may end, and its status: it wrote nothing, for want of memory or since the source had a
+-- fault, or it wrote the outcome of the words and the bundle, or a sink had a fault while it did.
+pub data Ends (words : List (List ℕ)) (input output complaint : Change) : ℕ → Type 0 where
+  no_memory : IsQuiet input → WritesNothing output complaint → Ends words input output complaint 10
+  read_fault : (order : Order) → order_of words ≡ Some order → HasFault input → WritesNothing output complaint
+      → Ends words input output complaint 3
+  written : (bundle : List ℕ) (outcome : Outcome) → IsQuiet input → Reads (order_of words) input bundle → IsOutcome words bundle outcome
+      → WritesAll outcome output complaint → Ends words input output complaint outcome.status
+  cut_short : (bundle : List ℕ) (outcome : Outcome) → IsQuiet input → Reads (order_of words) input bundle → IsOutcome words bundle outcome
+      → WritesFront outcome output complaint → Ends words input output complaint 4

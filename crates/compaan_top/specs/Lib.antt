@@ -1,0 +1,9 @@
+pub mod Answers
+pub mod Judging
+pub mod Laws
+pub mod Outcome
+pub mod Planned
+pub mod Refusals
+pub mod Run
+pub mod Source
+pub mod Steps

@@ -1,0 +1,41 @@
+-- What reading the words and the input and working on them comes to, before anything is written.
+use Rattle.std.specs.Prelude.{◌≡◌, ◌≤◌, ◌<◌, ℕ, List, length, Option, Some, None, Result, Ok, Err}
+use Rattle.std.specs.Global.{Vec}
+use Rattle.array_data.specs.Answer.{answer_text}
+use Rattle.command_line.specs.Words.{order_of}
+use Rattle.command_line.specs.declared.words.Order.{Order}
+use Rattle.compaan_top.specs.Answers.{Change, IsQuiet, HasFault, ReadsTo, Reads}
+use Rattle.compaan_top.specs.Outcome.{IsOutcome, outcome_of, bundle_limit}
+use Rattle.compaan_top.specs.Refusals.{usage, too_long}
+use Rattle.compaan_top.specs.declared.answer.Answer.{Answer}
+use Rattle.compaan_top.specs.declared.refusal.Refusal.{Refusal}
+use Rattle.compaan_top.specs.declared.refusal.Stop.{Stop}
+use Rattle.compaan_top.specs.declared.refusal.Stop.TheVariants.{Refused, ReadFault, Memory}
+
+-- the text of an answer
+abbrev pub text_of : Answer → List ℕ
+text_of answer = answer_text answer.nest.arrays answer.arrays.arrays
+
+abbrev pub as_text : Result Answer Refusal → Result (List ℕ) Refusal
+as_text (Ok answer) = Ok (text_of answer)
+as_text (Err refusal) = Err refusal
+
+abbrev pub IsOrdered : List (List ℕ) → Result Order Refusal → Type 0
+IsOrdered words (Ok order) = order_of words ≡ Some order
+IsOrdered words (Err refusal) = (order_of words ≡ None) × (refusal ≡ usage)
+
+abbrev pub ReadsBundle : Change → Result (Vec ℕ) Stop → Type 0
+ReadsBundle input (Ok bundle) = IsQuiet input × ReadsTo input bundle.items × (length bundle.items ≤ bundle_limit)
+ReadsBundle input (Err (Refused refusal)) = IsQuiet input × (refusal ≡ too_long) × (bundle : List ℕ) × ReadsTo input bundle × (bundle_limit < length bundle)
+ReadsBundle input (Err ReadFault) = HasFault input
+ReadsBundle input (Err Memory) = IsQuiet input
+
+-- the input was read, and the answer is that of the words and of what was read
+abbrev pub ReadsAndJudges : List (List ℕ) → Change → Result (List ℕ) Refusal → Type 0
+ReadsAndJudges words input answer = (bundle : List ℕ) × Reads (order_of words) input bundle × IsOutcome words bundle (outcome_of answer)
+
+abbrev pub IsPlanned : List (List ℕ) → Change → Result Answer Stop → Type 0
+IsPlanned words input (Ok answer) = IsQuiet input × ReadsAndJudges words input (Ok (text_of answer))
+IsPlanned words input (Err (Refused refusal)) = IsQuiet input × ReadsAndJudges words input (Err refusal)
+IsPlanned words input (Err ReadFault) = (order : Order) × (order_of words ≡ Some order) × HasFault input
+IsPlanned words input (Err Memory) = IsQuiet input

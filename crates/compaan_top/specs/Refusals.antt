@@ -1,0 +1,60 @@
+-- The refusals: their statuses and the lines that say them. Want of memory, which stands among the errors of some calls, is none.
+use Rattle.std.specs.Prelude.{ℕ, List, [], ◌∷◌, length, slice_get, codes, Option, Some, None}
+use Rattle.std.specs.Option.{option_map_or}
+use Rattle.command_line.specs.Complaint.{line_of}
+use Rattle.loop_lex.specs.declared.token.Token.{Token}
+use Rattle.loop_lex.specs.declared.token.LexError.{LexError}
+use Rattle.loop_lex.specs.declared.token.LexError.TheVariants as lexical
+use Rattle.loop_class.specs.declared.error.BindError.{BindError}
+use Rattle.loop_class.specs.declared.error.BindError.TheVariants as binding
+use Rattle.loop_walk.specs.declared.count.SizeError.{SizeError}
+use Rattle.loop_walk.specs.declared.count.SizeError.TheVariants.{Limit, LoopValue}
+use Rattle.compaan_top.specs.declared.refusal.Refusal.{Refusal}
+
+abbrev pub refusal_with : ℕ → List ℕ → List ℕ → Refusal
+refusal_with status text numbers = record { status = status; line = line_of text numbers }
+
+-- the words are refused
+abbrev pub usage : Refusal
+usage = refusal_with 2 (codes "usage: compaan COMMAND [--policy seq|down] [NAME=VALUE]...") []
+
+-- the bundle has too many bytes
+abbrev pub too_long : Refusal
+too_long = refusal_with 5 (codes "bundle: TooLong") []
+
+-- the byte at which the token of this number starts, or the length of the source for the place at the end
+abbrev pub byte_of : List ℕ → List Token → ℕ → ℕ
+byte_of source tokens number = option_map_or (λ token. token.start) (slice_get tokens number) (length source)
+
+abbrev pub lex_refusal : LexError → Option Refusal
+lex_refusal (lexical.BadByte byte) = Some (refusal_with 6 (codes "text: BadByte") (byte ∷ []))
+lex_refusal (lexical.OpenComment byte) = Some (refusal_with 6 (codes "text: OpenComment") (byte ∷ []))
+lex_refusal (lexical.LargeNumber byte) = Some (refusal_with 6 (codes "text: LargeNumber") (byte ∷ []))
+lex_refusal (lexical.TooMany byte) = Some (refusal_with 6 (codes "text: TooMany") (byte ∷ []))
+lex_refusal lexical.Memory = None
+
+abbrev pub syntax_refusal : ℕ → Refusal
+syntax_refusal byte = refusal_with 6 (codes "text: Syntax") (byte ∷ [])
+
+-- a reason of binding, whose token starts at a byte that `at` gives
+abbrev pub bind_refusal : (ℕ → ℕ) → BindError → Option Refusal
+bind_refusal at (binding.UnknownName token) = Some (refusal_with 7 (codes "class: UnknownName") (at token ∷ []))
+bind_refusal at (binding.Duplicate token) = Some (refusal_with 7 (codes "class: Duplicate") (at token ∷ []))
+bind_refusal at (binding.Unbound token) = Some (refusal_with 7 (codes "class: Unbound") (at token ∷ []))
+bind_refusal at (binding.NotAffine token) = Some (refusal_with 7 (codes "class: NotAffine") (at token ∷ []))
+bind_refusal at (binding.WrongCount token) = Some (refusal_with 7 (codes "class: WrongCount") (at token ∷ []))
+bind_refusal at (binding.ElseForm token) = Some (refusal_with 7 (codes "class: ElseForm") (at token ∷ []))
+bind_refusal at (binding.TooManyProcesses token) = Some (refusal_with 8 (codes "limit: TooManyProcesses") (at token ∷ []))
+bind_refusal at (binding.TooDeep token) = Some (refusal_with 8 (codes "limit: TooDeep") (at token ∷ []))
+bind_refusal at (binding.TooManyReads token) = Some (refusal_with 8 (codes "limit: TooManyReads") (at token ∷ []))
+bind_refusal at (binding.TooManyRows token) = Some (refusal_with 8 (codes "limit: TooManyRows") (at token ∷ []))
+bind_refusal at (binding.Large token) = Some (refusal_with 8 (codes "limit: Large") (at token ∷ []))
+bind_refusal at binding.Memory = None
+
+abbrev pub size_refusal : SizeError → Refusal
+size_refusal (Limit count) = refusal_with 8 (codes "limit: Size") (count ∷ [])
+size_refusal (LoopValue loop) = refusal_with 8 (codes "limit: LoopValue") (loop ∷ [])
+
+-- the data part isn't read yet
+abbrev pub data_not_yet : Refusal
+data_not_yet = refusal_with 9 (codes "data: NotYet") []

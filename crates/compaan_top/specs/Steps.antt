@@ -1,0 +1,34 @@
+-- What each step from a source to its nest, and on to its size, comes to.
+use Rattle.std.specs.Prelude.{◌≡◌, ℕ, ℤ, List, Option, Some, None, Result, Ok, Err}
+use Rattle.std.specs.Global.{Vec}
+use Rattle.loop_lex.specs.Tokens.{tokens}
+use Rattle.loop_lex.specs.declared.token.Token.{Token}
+use Rattle.loop_lex.specs.declared.token.LexError.{LexError}
+use Rattle.loop_grammar.specs.Grammar.{Stops}
+use Rattle.loop_grammar.specs.Lexemes.{IsTree, sentence}
+use Rattle.loop_grammar.specs.declared.tree.Tree.{Tree}
+use Rattle.loop_class.specs.Binding.{findings, IsBound}
+use Rattle.loop_class.specs.Reasons.{least_from}
+use Rattle.loop_class.specs.declared.error.BindError.{BindError}
+use Rattle.loop_walk.specs.Counting.{SizeIsOk, counted}
+use Rattle.loop_walk.specs.declared.count.SizeError.{SizeError}
+use Rattle.sanlp.specs.declared.nest.Nest.{Nest}
+use Rattle.compaan_top.specs.Refusals.{byte_of, lex_refusal, syntax_refusal, bind_refusal, size_refusal}
+use Rattle.compaan_top.specs.declared.refusal.Refusal.{Refusal}
+
+abbrev pub HasTokens : List ℕ → Result (Vec Token) Refusal → Type 0
+HasTokens source (Ok found) = tokens source ≡ Ok found.items
+HasTokens source (Err refusal) = (error : LexError) × (tokens source ≡ Err error) × (lex_refusal error ≡ Some refusal)
+
+abbrev pub HasTree : List ℕ → List Token → Result Tree Refusal → Type 0
+HasTree source found (Ok tree) = IsTree source found tree
+HasTree source found (Err refusal) = (place : ℕ) × Stops (sentence source found) place × (refusal ≡ syntax_refusal (byte_of source found place))
+
+abbrev pub HasNest : List ℕ → List Token → Tree → List (List ℕ × ℤ) → Result Nest Refusal → Type 0
+HasNest source found tree params (Ok nest) = IsBound tree params nest
+HasNest source found tree params (Err refusal) =
+    (reason : BindError) × (least_from None (findings tree params) ≡ Some reason) × (bind_refusal (byte_of source found) reason ≡ Some refusal)
+
+abbrev pub HasSize : Nest → Result ℕ Refusal → Type 0
+HasSize nest (Ok total) = (counted nest ≡ Ok total) × SizeIsOk nest
+HasSize nest (Err refusal) = (error : SizeError) × (counted nest ≡ Err error) × (refusal ≡ size_refusal error)

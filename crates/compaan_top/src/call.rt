@@ -1,0 +1,83 @@
+ghost use Rattle.std.specs.Prelude.{◌≤◌, length, map, string_bytes};
+ghost use Rattle.compaan_top.specs.Answers.{Change, Ends};
+ghost use Rattle.compaan_top.specs.Judging.{Judges};
+ghost use Rattle.compaan_top.specs.Outcome.{Performs, bundle_limit};
+ghost use Rattle.compaan_top.specs.Planned.{as_text, IsOrdered, IsPlanned, ReadsBundle};
+
+use crate::answer::Answer;
+use crate::refusal::{Stop, too_long, usage};
+use crate::run::run;
+use array_data::write_answer;
+use command_line::{Command, Order, WordsError, read_words};
+use io_edge::{ReadError, Sink, Source, read_all, write_all};
+use std::alloc::Global;
+
+/// The most bytes that a bundle has.
+const BUNDLE_LIMIT: usize = 67_108_864;
+
+fn order_of(alloc: Global, words: &[String]) -> Result<Order, Stop>
+    ensures { Judges (IsOrdered (map string_bytes words.now)) result }
+{
+    match read_words(alloc, words) {
+        Ok(order) => Ok(order),
+        Err(WordsError::Words) => Err(Stop::Refused(usage(alloc)?)),
+        Err(WordsError::Memory) => Err(Stop::Memory),
+    }
+}
+
+fn bundle_of<S: Source>(alloc: Global, input: &mut S) -> Result<Vec<u8>, Stop>
+    ensures { ReadsBundle (record { old = S.left input.old; new = S.left input.new; faults_old = S.faults input.old; faults_new = S.faults input.new }) result }
+{
+    match read_all(alloc, input, BUNDLE_LIMIT) {
+        Ok(bundle) => Ok(bundle),
+        Err(ReadError::TooLong) => Err(Stop::Refused(too_long(alloc)?)),
+        Err(ReadError::ReadFault) => Err(Stop::ReadFault),
+        Err(ReadError::Memory) => Err(Stop::Memory),
+    }
+}
+
+fn perform(alloc: Global, order: &Order, bundle: &[u8]) -> Result<Answer, Stop>
+    requires { length bundle.now ≤ bundle_limit }
+    ensures { Judges (λ answer. Performs order.now.command order.now.params bundle.now (as_text answer)) result }
+{
+    match order.command {
+        Command::Run => run(alloc, &order.params, bundle),
+    }
+}
+
+/// Reads and works, and writes nothing.
+fn plan<S: Source>(alloc: Global, words: &[String], input: &mut S) -> Result<Answer, Stop>
+    ensures { IsPlanned (map string_bytes words.now) (record { old = S.left input.old; new = S.left input.new; faults_old = S.faults input.old; faults_new = S.faults input.new }) result }
+{
+    let order = order_of(alloc, words)?;
+    let bundle = bundle_of(alloc, input)?;
+    perform(alloc, &order, &bundle)
+}
+
+/// All that the program does.
+pub fn compaan<S: Source, K: Sink, E: Sink>(
+    alloc: Global,
+    words: &[String],
+    input: &mut S,
+    output: &mut K,
+    complaint: &mut E,
+) -> u8
+    ensures { Ends (map string_bytes words.now)
+        (record { old = S.left input.old; new = S.left input.new; faults_old = S.faults input.old; faults_new = S.faults input.new })
+        (record { old = K.held output.old; new = K.held output.new; faults_old = K.faults output.old; faults_new = K.faults output.new })
+        (record { old = E.held complaint.old; new = E.held complaint.new; faults_old = E.faults complaint.old; faults_new = E.faults complaint.new })
+        result }
+{
+    match plan(alloc, words, input) {
+        Ok(answer) => match write_answer(&answer.nest, &answer.arrays, output) {
+            Ok(()) => 0,
+            Err(_) => 4,
+        },
+        Err(Stop::Refused(refusal)) => match write_all(complaint, refusal.line.as_slice()) {
+            Ok(()) => refusal.status,
+            Err(_) => 4,
+        },
+        Err(Stop::ReadFault) => 3,
+        Err(Stop::Memory) => 10,
+    }
+}

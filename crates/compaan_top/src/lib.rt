@@ -1,0 +1,15 @@
+//! The program: its words, its input and its two outputs in, its status out.
+#![tactic(auto)]
+
+mod answer;
+mod call;
+mod law;
+mod refusal;
+mod run;
+mod source;
+
+pub use call::compaan;
+pub use law::status_is_determined;
+
+#[cfg(test)]
+mod tests;

@@ -1,0 +1,61 @@
+ghost use Rattle.std.specs.Prelude.{◌≡◌, ◌<◌, ◌^◌, length, Ok};
+ghost use Rattle.loop_lex.specs.Tokens.{tokens};
+ghost use Rattle.compaan_top.specs.Judging.{Judges};
+ghost use Rattle.compaan_top.specs.Source.{Gives};
+ghost use Rattle.compaan_top.specs.Steps.{HasNest, HasTokens, HasTree};
+
+use crate::refusal::{Stop, bind_refusal, lex_refusal, syntax_refusal};
+use loop_class::{Params, bind};
+use loop_grammar::{ParseError, Tree, parse};
+use loop_lex::{Token, lex};
+use sanlp::Nest;
+use std::alloc::Global;
+
+fn tokens_of(alloc: Global, source: &[u8]) -> Result<Vec<Token>, Stop>
+    requires { length source.now < 2 ^ 32 }
+    ensures { Judges (HasTokens source.now) result }
+{
+    match lex(alloc, source) {
+        Ok(found) => Ok(found),
+        Err(error) => Err(Stop::Refused(lex_refusal(alloc, error)?)),
+    }
+}
+
+fn tree_of(alloc: Global, source: &[u8], found: &[Token]) -> Result<Tree, Stop>
+    requires { tokens source.now ≡ Ok found.now }
+    ensures { Judges (HasTree source.now found.now) result }
+{
+    match parse(alloc, source, found) {
+        Ok(tree) => Ok(tree),
+        Err(ParseError::Syntax(place)) => Err(Stop::Refused(syntax_refusal(
+            alloc, source, found, place,
+        )?)),
+        Err(ParseError::Memory) => Err(Stop::Memory),
+    }
+}
+
+fn bound(
+    alloc: Global,
+    source: &[u8],
+    found: &[Token],
+    tree: &Tree,
+    params: &Params,
+) -> Result<Nest, Stop>
+    ensures { Judges (HasNest source.now found.now tree.now params.now) result }
+{
+    match bind(alloc, source, found, tree, params) {
+        Ok(nest) => Ok(nest),
+        Err(reason) => Err(Stop::Refused(bind_refusal(alloc, source, found, reason)?)),
+    }
+}
+
+/// The nest of a source with these values of its parameters.
+pub(crate) fn nest_of(alloc: Global, source: &[u8], params: &Params) -> Result<Nest, Stop>
+    requires { length source.now < 2 ^ 32 }
+    ensures { Judges (Gives source.now params.now) result }
+{
+    let lexed = tokens_of(alloc, source)?;
+    let found = lexed.as_slice();
+    let tree = tree_of(alloc, source, found)?;
+    bound(alloc, source, found, &tree, params)
+}

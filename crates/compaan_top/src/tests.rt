@@ -1,0 +1,311 @@
+use crate::compaan;
+use io_edge::{MemSink, MemSource};
+use std::alloc::{AllocError, Global};
+use std::process::Abort;
+use std::test::Fail;
+
+const USAGE: &[u8] = b"usage: compaan COMMAND [--policy seq|down] [NAME=VALUE]...\n";
+
+const NO_CALL: u32 = 1_000_000_000;
+
+/// Devices in memory: how many bytes a read gives and which fails, and the room of the two sinks.
+#[derive(Clone, Copy)]
+struct Devices {
+    piece: usize,
+    failing: u32,
+    output_room: usize,
+    complaint_room: usize,
+}
+
+const SOUND: Devices = Devices {
+    piece: 65_536,
+    failing: NO_CALL,
+    output_room: 1_000,
+    complaint_room: 1_000,
+};
+
+fn in_words(alloc: Global, words: &[&str]) -> Result<Vec<String>, AllocError> {
+    let mut strings = Vec::new(alloc);
+    for word in words {
+        strings.push(String::from_str(alloc, word)?)?;
+    }
+    Ok(strings)
+}
+
+/// Calls the program and compares its status and what it wrote.
+fn expect(
+    rt: &(impl Abort + AllocGlobal),
+    devices: Devices,
+    words: &[&str],
+    bundle: &[u8],
+    status: u8,
+    output: &[u8],
+    complaint: &[u8],
+) -> Result<(), Fail> {
+    let alloc = rt.alloc();
+    let words = in_words(alloc, words)?;
+    let mut input = MemSource::new(alloc, bundle, devices.piece.max(1), &[devices.failing])?;
+    let mut written = MemSink::new(alloc, devices.output_room, 4_096, &[])?;
+    let mut complained = MemSink::new(alloc, devices.complaint_room, 4_096, &[])?;
+    let found = compaan(
+        alloc,
+        words.as_slice(),
+        &mut input,
+        &mut written,
+        &mut complained,
+    );
+    assert_eq!(rt; found, status, "status of {words:?} at {bundle:?}");
+    assert!(rt;
+        written.held() == output,
+        "output of {words:?} at {bundle:?}"
+    );
+    assert!(rt;
+        complained.held() == complaint,
+        "complaint of {words:?} at {bundle:?}"
+    );
+    Ok(())
+}
+
+#[test]
+fn programs_are_run(rt: HostRuntime) -> Result<(), Fail> {
+    let runs: [(&[&str], &[u8], &[u8]); 8] = [
+        (
+            &["run", "N=4"],
+            b"param N; out y[N]; var s; for (i = 0; i < N; i++) { s = s + i; y[i] = s; }",
+            b"y,0,1,3,6\n",
+        ),
+        (
+            &["run", "N=3"],
+            b"param N; out y[N]; var t; for (i = 0; i < N; i++) { y[i] = t; t = i; t = t + 10; }",
+            b"y,0,10,11\n",
+        ),
+        (
+            &["run"],
+            b"out y; var a; for (int i = max(0, 2); i <= min(5, 3); ++i) { if (i >= 3) { a = a + i; } else { a = 10; } } y = -a * min(2, 7);",
+            b"y,-26\n",
+        ),
+        (
+            &["run", "M=5"],
+            b"out y; y = 9223372036854775807 + 1;\n%%\n\r\n\n%%\nanything",
+            b"y,-9223372036854775808\n",
+        ),
+        (
+            &["run", "N=-2"],
+            b"param N; out y[N], z; z = N;",
+            b"y\nz,-2\n",
+        ),
+        (
+            &["run", "N=1"],
+            b"param N; // a comment\r\n/* and another */ out y[2][N];",
+            b"y,0,0\n",
+        ),
+        (&["run"], b"", b""),
+        (&["--", "run"], b" \t\r\n", b""),
+    ];
+    for (words, bundle, output) in runs {
+        expect(&rt, SOUND, words, bundle, 0, output, b"")?;
+    }
+    Ok(())
+}
+
+#[test]
+fn wrong_words_are_refused(rt: HostRuntime) -> Result<(), Fail> {
+    let refused: [&[&str]; 8] = [
+        &[],
+        &["run", "N"],
+        &["run", "N=1", "N=2"],
+        &["run", "--policy", "up"],
+        &["--policy=down", "run", "--", "N=3"],
+        &["run", "-x"],
+        &["--help"],
+        &["net"],
+    ];
+    for words in refused {
+        expect(&rt, SOUND, words, b"var a;", 2, b"", USAGE)?;
+    }
+    Ok(())
+}
+
+#[test]
+fn wrong_sources_are_refused(rt: HostRuntime) -> Result<(), Fail> {
+    let refused: [(&[&str], &[u8], u8, &[u8]); 15] = [
+        (&["run"], b"var a; $", 6, b"text: BadByte 7\n"),
+        (&["run"], b"var a; /* a = 1;", 6, b"text: OpenComment 7\n"),
+        (
+            &["run"],
+            b"var a; a = 9223372036854775808;",
+            6,
+            b"text: LargeNumber 11\n",
+        ),
+        (
+            &["run"],
+            b"param N; out y[1]; y[0] = ;",
+            6,
+            b"text: Syntax 26\n",
+        ),
+        (&["run"], b"var a; a = 1 ", 6, b"text: Syntax 13\n"),
+        (&["run"], b"var a; a = 1 \n%%\n;", 6, b"text: Syntax 14\n"),
+        (
+            &["run", "N=2"],
+            b"param N; in a[N]; out y[N]; for (i = 0; i < N; i++) y[i] = a[i*i];",
+            7,
+            b"class: NotAffine 62\n",
+        ),
+        (
+            &["run", "N=2"],
+            b"param N; in a[N]; out y[N]; for (i = 0; i < N; i++) if (a[i] > 0) y[i] = 1;",
+            7,
+            b"class: NotAffine 56\n",
+        ),
+        (
+            &["run"],
+            b"var a; for (i = 0; i < 3; i++) if (i == 1) { a = 1; } else { a = 2; }",
+            7,
+            b"class: ElseForm 54\n",
+        ),
+        (
+            &["run", "M=1"],
+            b"param N; var a;",
+            7,
+            b"class: Unbound 6\n",
+        ),
+        (
+            &["run", "N=2147483648"],
+            b"param N; in x[N]; out y[N]; for (i = 0; i < N; i++) y[i] = x[i] + 1;",
+            8,
+            b"limit: Large 6\n",
+        ),
+        (
+            &["run", "N=1048577"],
+            b"param N; var a; for (i = 0; i < N; i++) a = i;",
+            8,
+            b"limit: Size 2097153\n",
+        ),
+        (
+            &["run"],
+            b"out y[2147483647][2147483647];",
+            8,
+            b"limit: Size 2097153\n",
+        ),
+        (
+            &["run"],
+            b"out y; for (i = 2147483647; i <= 2147483647; i++) for (j = 2147483647 * i; j <= 2147483647 * i; j++) for (k = 2147483647 * j; k < 1; k++) y = 1;",
+            8,
+            b"limit: LoopValue 2\n",
+        ),
+        (&["run"], b"var a; a = b;", 7, b"class: UnknownName 11\n"),
+    ];
+    for (words, bundle, status, complaint) in refused {
+        expect(&rt, SOUND, words, bundle, status, b"", complaint)?;
+    }
+    Ok(())
+}
+
+#[test]
+fn data_is_refused_until_it_is_read(rt: HostRuntime) -> Result<(), Fail> {
+    for bundle in [
+        b"out y;\n%%\nx,1\n".as_slice(),
+        b"out y;\n%%\n ",
+        b"in x; out y;",
+        b"inout x;\n%%\n",
+    ] {
+        expect(&rt, SOUND, &["run"], bundle, 9, b"", b"data: NotYet\n")?;
+    }
+    Ok(())
+}
+
+#[test]
+fn faults_of_devices_are_told(rt: HostRuntime) -> Result<(), Fail> {
+    let sums = b"param N; out y[N]; var s; for (i = 0; i < N; i++) { s = s + i; y[i] = s; }";
+    let failing_read = Devices {
+        piece: 16,
+        failing: 1,
+        ..SOUND
+    };
+    expect(&rt, failing_read, &["run", "N=4"], sums, 3, b"", b"")?;
+    let small_pieces = Devices { piece: 1, ..SOUND };
+    expect(
+        &rt,
+        small_pieces,
+        &["run", "N=4"],
+        sums,
+        0,
+        b"y,0,1,3,6\n",
+        b"",
+    )?;
+    let no_output = Devices {
+        output_room: 0,
+        ..SOUND
+    };
+    expect(&rt, no_output, &["run", "N=4"], sums, 4, b"", b"")?;
+    let some_output = Devices {
+        output_room: 5,
+        ..SOUND
+    };
+    expect(&rt, some_output, &["run", "N=4"], sums, 4, b"y,0,1", b"")?;
+    let some_complaint = Devices {
+        complaint_room: 7,
+        ..SOUND
+    };
+    expect(&rt, some_complaint, &["run"], b"$", 4, b"", b"text: B")?;
+    expect(&rt, some_complaint, &[], b"", 4, b"", b"usage: ")?;
+    Ok(())
+}
+
+fn repeated(
+    alloc: Global,
+    front: &[u8],
+    piece: &[u8],
+    times: usize,
+) -> Result<Vec<u8>, AllocError> {
+    let mut bytes = Vec::from_slice(alloc, front)?;
+    for _ in 0..times {
+        bytes.extend_from_slice(piece)?;
+    }
+    Ok(bytes)
+}
+
+#[test]
+fn limits_are_met_and_passed(rt: HostRuntime) -> Result<(), Fail> {
+    let processes = repeated(rt.alloc(), b"var a; ", b"a = 0; ", 64)?;
+    expect(&rt, SOUND, &["run"], &processes, 0, b"", b"")?;
+    let processes = repeated(rt.alloc(), b"var a; ", b"a = 0; ", 65)?;
+    expect(
+        &rt,
+        SOUND,
+        &["run"],
+        &processes,
+        8,
+        b"",
+        b"limit: TooManyProcesses 455\n",
+    )?;
+    let tokens = repeated(rt.alloc(), b"a", b" a", 8_192)?;
+    expect(
+        &rt,
+        SOUND,
+        &["run"],
+        &tokens,
+        6,
+        b"",
+        b"text: TooMany 16384\n",
+    )?;
+    Ok(())
+}
+
+#[test]
+fn the_largest_nest_is_run(rt: HostRuntime) -> Result<(), Fail> {
+    let loops = b"param N; var a; for (i = 0; i < N; i++) a = i;";
+    expect(&rt, SOUND, &["run", "N=1048576"], loops, 0, b"", b"")
+}
+
+#[test]
+fn the_longest_bundle_is_read(rt: HostRuntime) -> Result<(), Fail> {
+    let spaces = vec![in rt.alloc(); b' '; 67_108_864]?;
+    expect(&rt, SOUND, &["run"], &spaces, 0, b"", b"")
+}
+
+#[test]
+fn a_longer_bundle_is_refused(rt: HostRuntime) -> Result<(), Fail> {
+    let spaces = vec![in rt.alloc(); b' '; 67_108_865]?;
+    expect(&rt, SOUND, &["run"], &spaces, 5, b"", b"bundle: TooLong\n")
+}

@@ -1,0 +1,37 @@
+//! The program `compaan`: the top call over the words and the streams of the process.
+#![tactic(auto)]
+
+use compaan_top::compaan;
+use io_edge::{StdIn, StdOut};
+use std::process::ExitCode;
+use std::rt::Env;
+use std::{env, io};
+
+/// The status where the runtime refuses the words. The top call never answers it.
+const WORDS_REFUSED: u8 = 11;
+
+/// The words after the program's name.
+fn words_of(rt: &(impl Env + AllocGlobal)) -> io::Result<Vec<String>> {
+    let mut words = Vec::new(rt.alloc());
+    for word in env::args(rt)?.skip(1) {
+        words.push(word)?;
+    }
+    Ok(words)
+}
+
+fn main(rt: HostRuntime) -> ExitCode {
+    let Ok(words) = words_of(&rt) else {
+        return ExitCode::from(WORDS_REFUSED);
+    };
+    let mut input = StdIn::new(rt.stdin());
+    let mut output = StdOut::new(rt.stdout());
+    let mut complaint = StdOut::new(rt.stderr());
+    let status = compaan(
+        rt.alloc(),
+        words.as_slice(),
+        &mut input,
+        &mut output,
+        &mut complaint,
+    );
+    ExitCode::from(status)
+}

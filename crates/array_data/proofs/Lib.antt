@@ -1,1 +1,5 @@
+pub mod Fields
+pub mod Judged
+pub mod Records
 pub mod Texts
+pub mod Worked

@@ -1,17 +1,9 @@
 -- The text of an answer.
-use Rattle.std.specs.Prelude.{ℕ, ℤ, Bool, true, false, List, [], ◌∷◌, ◌++◌, codes, if◌then◌else◌}
+use Rattle.std.specs.Prelude.{ℕ, ℤ, List, [], ◌∷◌, ◌++◌, codes, if◌then◌else◌}
 use Rattle.std.specs.List.{flat_map}
 use Rattle.std.specs.Fmt.{signed_decimal}
-use Rattle.sanlp.specs.declared.nest.Kind.{Kind}
-use Rattle.sanlp.specs.declared.nest.Kind.TheVariants.{Input, Output, Both, Var}
 use Rattle.sanlp.specs.declared.nest.ArrayDecl.{ArrayDecl}
-
--- an `out` or `inout` array
-abbrev pub is_output : Kind → Bool
-is_output Input = false
-is_output Output = true
-is_output Both = true
-is_output Var = false
+use Rattle.sanlp.specs.Cells.{is_output}
 
 -- a comma and the value in decimal
 abbrev pub cell_text : ℤ → List ℕ

@@ -2,7 +2,8 @@ ghost use Rattle.std.specs.Prelude.{◌≡◌, length, OnOk, OnErr};
 ghost use Rattle.std.specs.List.{flat_map};
 ghost use Rattle.std.specs.Io.KnownBytes.{Appends};
 ghost use Rattle.io_edge.specs.Causes.{Rose, AppendsFront};
-ghost use Rattle.array_data.specs.Answer.{is_output, cell_text, array_text, answer_text};
+ghost use Rattle.sanlp.specs.Cells.{is_output};
+ghost use Rattle.array_data.specs.Answer.{cell_text, array_text, answer_text};
 
 use crate::text::{CELLS, text_of};
 use io_edge::{Sink, WriteFault, write_all};

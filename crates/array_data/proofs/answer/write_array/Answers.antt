@@ -2,7 +2,8 @@ use Rattle.std.proofs.Common.{[], ◌∷◌, ◌≡◌, ◌++◌, refl, sym, ◌
 use Rattle.std.specs.List.{flat_map}
 use Rattle.std.specs.Prelude.{codes}
 use Rattle.std.proofs.KnownBytes.{Appends-trans}
-use Rattle.array_data.specs.Answer.{is_output, cell_text, array_text}
+use Rattle.sanlp.specs.Cells.{is_output}
+use Rattle.array_data.specs.Answer.{cell_text, array_text}
 use Rattle.io_edge.proofs.Fronts.{on_err, front_after}
 use Rattle.array_data.proofs.answer.write_array.Goals as goal
 

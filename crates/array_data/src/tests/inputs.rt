@@ -1,0 +1,258 @@
+use crate::DataError::{Count, Missing, NotANumber, Twice, UnknownArray};
+use crate::inputs::read_arrays;
+use crate::{DataError, read_inputs};
+use plain_data::Items;
+use sanlp::{Access, ArrayDecl, Kind, Nest, Node, Role, Statement};
+use std::alloc::{AllocError, Global};
+use std::test::Fail;
+use wrap_expr::Expr;
+
+fn declared(
+    alloc: Global,
+    name: &[u8],
+    kind: Kind,
+    extents: &[i64],
+) -> Result<ArrayDecl, AllocError> {
+    Ok(ArrayDecl {
+        name: Items::from_slice(alloc, name)?,
+        kind,
+        extents: Items::from_slice(alloc, extents)?,
+    })
+}
+
+// in x[3]; var t[1]; inout m[2][2]; out z[1]; in s; in none[2^63 - 1][2^63 - 1][-2];
+fn arrays(alloc: Global) -> Result<[ArrayDecl; 6], AllocError> {
+    Ok([
+        declared(alloc, b"x", Kind::Input, &[3])?,
+        declared(alloc, b"t", Kind::Var, &[1])?,
+        declared(alloc, b"m", Kind::Both, &[2, 2])?,
+        declared(alloc, b"z", Kind::Output, &[1])?,
+        declared(alloc, b"s", Kind::Input, &[])?,
+        declared(alloc, b"none", Kind::Input, &[i64::MAX, i64::MAX, -2])?,
+    ])
+}
+
+fn lists(alloc: Global, x: &[i64]) -> Result<Items<Items<i64>>, AllocError> {
+    let mut lists = Items::new(alloc);
+    lists.push(Items::from_slice(alloc, x)?)?;
+    lists.push(Items::new(alloc))?;
+    lists.push(Items::from_slice(alloc, &[1, 2, 3, 4])?)?;
+    lists.push(Items::new(alloc))?;
+    lists.push(Items::from_slice(alloc, &[9])?)?;
+    lists.push(Items::new(alloc))?;
+    Ok(lists)
+}
+
+#[test]
+fn records_give_each_input_its_values(rt: HostRuntime) -> Result<(), Fail> {
+    for data in [
+        b"x,5,-7,12\nm,1,2,3,4\ns,9\nnone\n".as_slice(),
+        // other line ends, and none at the end
+        b"x,5,-7,12\r\nm,1,2,3,4\r\ns,9\r\nnone\r\n",
+        b"x,5,-7,12\rm,1,2,3,4\rs,9\rnone\r",
+        b"x,5,-7,12\nm,1,2,3,4\ns,9\nnone",
+        // empty lines
+        b"\n\r\n\rx,5,-7,12\n\n\nm,1,2,3,4\r\n\r\ns,9\n\rnone\n\n",
+        // any order
+        b"none\ns,9\nm,1,2,3,4\nx,5,-7,12\n",
+        // blanks
+        b" x ,\t5, -7\t,12 \t\n\t m,1 ,2\t, 3,4 \r\n  s,\t\t9\n none\t",
+        // quotes, with blanks in them, and one that is not closed
+        b"\"x\",\"5\",\" -7 \",\"12\"\nm,1,\"2\",3,4\n\" none \"\ns,\"9",
+        // zeros in front
+        b"x,0005,-07,00000000000000000000000000000012\nm,01,02,03,04\ns,9\nnone",
+        // a byte order mark
+        b"\xEF\xBB\xBFx,5,-7,12\nm,1,2,3,4\ns,9\nnone",
+    ] {
+        let read = read_arrays(rt.alloc(), &arrays(rt.alloc())?, data);
+        assert_eq!(rt; read, Ok(lists(rt.alloc(), &[5, -7, 12])?), "{data:?}");
+    }
+    Ok(())
+}
+
+#[test]
+fn values_are_64_signed_bits(rt: HostRuntime) -> Result<(), Fail> {
+    for (data, x) in [
+        (
+            b"m,1,2,3,4\ns,9\nnone\nx,9223372036854775807,-9223372036854775808,-0".as_slice(),
+            [i64::MAX, i64::MIN, 0],
+        ),
+        (
+            b"m,1,2,3,4\ns,9\nnone\nx,-9223372036854775807,00000000000000000000,-1",
+            [-i64::MAX, 0, -1],
+        ),
+    ] {
+        let read = read_arrays(rt.alloc(), &arrays(rt.alloc())?, data);
+        assert_eq!(rt; read, Ok(lists(rt.alloc(), &x)?), "{data:?}");
+    }
+    Ok(())
+}
+
+#[test]
+fn the_first_fault_is_told(rt: HostRuntime) -> Result<(), Fail> {
+    for (data, want) in [
+        // no input array of this name
+        (b"z,1".as_slice(), UnknownArray(1)),
+        (b"t,1", UnknownArray(1)),
+        (b"y,1,2,3", UnknownArray(1)),
+        (b"X,1,2,3", UnknownArray(1)),
+        (b"xx,1,2,3", UnknownArray(1)),
+        (b"m m,1,2,3,4", UnknownArray(1)),
+        (b",1,2,3", UnknownArray(1)),
+        (b"\"\"", UnknownArray(1)),
+        (b"  \t \n", UnknownArray(1)),
+        (b" \"x\",1,2,3", UnknownArray(1)),
+        (b"\xFF,1", UnknownArray(1)),
+        (b"\n\r\nz,1", UnknownArray(1)),
+        (b"x,1,2,3\n\n\nz,1", UnknownArray(2)),
+        (b"x,1,2,3\r\ns,1\r \nm", UnknownArray(3)),
+        // an earlier record has the name
+        (b"x,5,-7,12\nx,5,-7,12", Twice(2)),
+        (b"x,1,2,3\n\t\"x\"", UnknownArray(2)),
+        (b"x,1,2,3\n\"x\"\n", Twice(2)),
+        (b"x,1,2,3\n x\t,oops", Twice(2)),
+        (b"x,1,2,3\r\ns,1\r\nx,1,2,3\r\n", Twice(3)),
+        (b"s,1\nm,1,2,3,4\nnone\nx,1,2,3\nnone", Twice(5)),
+        // another number of values
+        (b"x", Count(1, 0, 3)),
+        (b"x,5", Count(1, 1, 3)),
+        (b"x,1,2,3,4", Count(1, 4, 3)),
+        (b"x,1,2,3,", Count(1, 4, 3)),
+        (b"x,a,b", Count(1, 2, 3)),
+        (b"x,\"1,2,3\"", Count(1, 1, 3)),
+        (b"m,1,2,3", Count(1, 3, 4)),
+        (b"s", Count(1, 0, 1)),
+        (b"s,1,2", Count(1, 2, 1)),
+        (b"none,", Count(1, 1, 0)),
+        (b"none,1", Count(1, 1, 0)),
+        (b"x,1,2,3\ns,1,2", Count(2, 2, 1)),
+        (b"x\r,1,2,3", Count(1, 0, 3)),
+    ] {
+        let read = read_arrays(rt.alloc(), &arrays(rt.alloc())?, data);
+        assert_eq!(rt; read, Err(want), "{data:?}");
+    }
+    Ok(())
+}
+
+#[test]
+fn a_field_that_is_no_value_is_told(rt: HostRuntime) -> Result<(), Fail> {
+    for (data, want) in [
+        (b"x,5,12x,7".as_slice(), NotANumber(1, 2)),
+        (b"x,12x,a,7", NotANumber(1, 1)),
+        (b"x,1,2,", NotANumber(1, 3)),
+        (b"x,1, \t,3", NotANumber(1, 2)),
+        (b"x,+1,2,3", NotANumber(1, 1)),
+        (b"x,1,-,3", NotANumber(1, 2)),
+        (b"x,1,--2,3", NotANumber(1, 2)),
+        (b"x,1,- 2,3", NotANumber(1, 2)),
+        (b"x,1,2 2,3", NotANumber(1, 2)),
+        (b"x,1,2,3.0", NotANumber(1, 3)),
+        (b"x,1,2,0x3", NotANumber(1, 3)),
+        (b"x,1,2, \"3\"", NotANumber(1, 3)),
+        (b"x,1,2,\"3\n\"", NotANumber(1, 3)),
+        (b"x,1,/,:", NotANumber(1, 2)),
+        (b"x,9223372036854775808,2,3", NotANumber(1, 1)),
+        (b"x,1,-9223372036854775809,3", NotANumber(1, 2)),
+        (b"x,1,2,18446744073709551616", NotANumber(1, 3)),
+        (b"x,1,2,-18446744073709551617", NotANumber(1, 3)),
+        (
+            b"x,1,2,99999999999999999999999999999999999999999",
+            NotANumber(1, 3),
+        ),
+        (b"x,1,2,3\nm,1,2,3,4.", NotANumber(2, 4)),
+        (b"x,1,2,3\r\n\r\nm,a,b,c,d", NotANumber(2, 1)),
+    ] {
+        let read = read_arrays(rt.alloc(), &arrays(rt.alloc())?, data);
+        assert_eq!(rt; read, Err(want), "{data:?}");
+    }
+    Ok(())
+}
+
+#[test]
+fn a_missing_array_is_told_after_all_records(rt: HostRuntime) -> Result<(), Fail> {
+    for (data, want) in [
+        (b"".as_slice(), Missing(0)),
+        (b"\n\r\n\r", Missing(0)),
+        (b"\xEF\xBB\xBF", Missing(0)),
+        (b"x,1,2,3", Missing(2)),
+        (b"m,1,2,3,4", Missing(0)),
+        (b"none\ns,9\nm,1,2,3,4", Missing(0)),
+        (b"x,1,2,3\nm,1,2,3,4", Missing(4)),
+        (b"x,1,2,3\nm,1,2,3,4\nnone", Missing(4)),
+        (b"x,1,2,3\nm,1,2,3,4\ns,9\n", Missing(5)),
+        (b"s,x", NotANumber(1, 1)),
+        (b"s,1\nx,1", Count(2, 1, 3)),
+    ] {
+        let read = read_arrays(rt.alloc(), &arrays(rt.alloc())?, data);
+        assert_eq!(rt; read, Err(want), "{data:?}");
+    }
+    Ok(())
+}
+
+#[test]
+fn long_data_is_read_whole(rt: HostRuntime) -> Result<(), Fail> {
+    let alloc = rt.alloc();
+    let arrays = [declared(alloc, b"x", Kind::Input, &[100, 1_000])?];
+    let mut data = Vec::from_slice(alloc, b"x")?;
+    for _ in 0..100_000 {
+        data.extend_from_slice(b", -7")?;
+    }
+    let read = read_arrays(alloc, &arrays, data.as_slice())?;
+    let sevens = vec![in alloc; -7i64; 100_000]?;
+    let mut want = Items::new(alloc);
+    want.push(Items::from_vec(sevens))?;
+    assert_eq!(rt; read, want);
+    Ok(())
+}
+
+// in x;
+#[tactic(auto, using(crate::proofs::Worked::input_well_formed))]
+fn one_input(alloc: Global) -> Result<Nest, AllocError> {
+    let mut arrays = Items::new(alloc);
+    arrays.push(ArrayDecl {
+        name: Items::from_slice(alloc, b"x")?,
+        kind: Kind::Input,
+        extents: Items::new(alloc),
+    })?;
+    let mut statements = Items::new(alloc);
+    statements.push(Statement {
+        role: Role::Source(0),
+        loops: Items::new(alloc),
+        rows: Items::new(alloc),
+        write: Some(Access {
+            array: 0,
+            subscripts: Items::new(alloc),
+        }),
+        reads: Items::new(alloc),
+        expr: Expr::Given,
+    })?;
+    let mut body = Items::new(alloc);
+    body.push(Node::Assign(0))?;
+    Ok(Nest {
+        arrays,
+        statements,
+        body,
+    })
+}
+
+#[test]
+fn a_nest_takes_its_inputs(rt: HostRuntime) -> Result<(), Fail> {
+    let nest = one_input(rt.alloc())?;
+    let mut want = Items::new(rt.alloc());
+    want.push(Items::from_slice(rt.alloc(), &[-7])?)?;
+    assert_eq!(rt; read_inputs(rt.alloc(), &nest, b"x,-7\n")?.arrays, want);
+    for (data, want) in [
+        (b"".as_slice(), Missing(0)),
+        (b"y,1", UnknownArray(1)),
+        (b"x,1\nx,1", Twice(2)),
+        (b"x,1,2", Count(1, 2, 1)),
+        (b"x,1.", NotANumber(1, 1)),
+    ] {
+        assert_eq!(rt;
+            read_inputs(rt.alloc(), &nest, data).err(),
+            Some(want),
+            "{data:?}"
+        );
+    }
+    Ok(())
+}

@@ -12,3 +12,4 @@ pub mod SizeLaw
 pub mod SmallForms
 pub mod ValuesInside
 pub mod WalkLemmas
+pub mod Worked

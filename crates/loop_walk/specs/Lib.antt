@@ -1,5 +1,6 @@
 pub mod CellMap
 pub mod Counting
+pub mod Examples
 pub mod Execution
 pub mod Outputs
 pub mod PointLists

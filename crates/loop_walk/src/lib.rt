@@ -8,6 +8,8 @@ mod execute;
 mod outputs;
 mod process_points;
 mod run;
+#[cfg(test)]
+mod tests;
 mod vector;
 mod walk;
 

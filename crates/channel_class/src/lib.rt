@@ -1,0 +1,80 @@
+//! The class of a channel: whether its tokens are used in order, and whether some token is used more than once.
+#![tactic(auto)]
+
+ghost use Rattle.std.specs.Prelude.{◌≡◌, IfOk, IsPermutation, IsSorted};
+ghost use Rattle.std.specs.Ordering.{nat_cmp};
+ghost use Rattle.channel_class.specs.Classes.{class_of, never_falls, has_repeat};
+
+use std::alloc::{AllocError, Global};
+
+/// The order in which a channel's reader uses its tokens.
+#[derive(Clone, Copy, Debug, PartialEq, Eq)]
+pub enum UseOrder {
+    /// No use names an earlier token than the use before it.
+    InOrder,
+    Reorder,
+}
+
+/// The class of a channel. Its four texts are `inorder`, `inorder+`, `reorder` and `reorder+`, where `+` means with
+/// multiplicity: some token is used more than once.
+#[derive(Clone, Copy, Debug, PartialEq, Eq)]
+pub struct ChannelClass {
+    pub order: UseOrder,
+    pub multiplicity: bool,
+}
+
+/// The class of a channel with these uses: for each use, in the reader's order, the index of the token that it names.
+/// It takes memory for one copy of them, and the time of sorting it.
+pub fn class_of(alloc: Global, uses: &[u32]) -> Result<ChannelClass, AllocError>
+    ensures { IfOk result (λ class. class ≡ class_of uses.now) }
+{
+    let order = if never_falls(uses) {
+        UseOrder::InOrder
+    } else {
+        UseOrder::Reorder
+    };
+    let sorted = sorted(alloc, uses)?;
+    let multiplicity = has_equal_neighbours(&sorted);
+    Ok(ChannelClass {
+        order,
+        multiplicity,
+    })
+}
+
+// The same numbers in ascending order.
+fn sorted(alloc: Global, uses: &[u32]) -> Result<Vec<u32>, AllocError>
+    ensures ascending { IfOk result (λ list. IsSorted nat_cmp list.items) }
+    ensures same { IfOk result (λ list. IsPermutation uses.now list.items) }
+{
+    let mut list = Vec::from_slice(alloc, uses)?;
+    list.sort_unstable();
+    Ok(list)
+}
+
+// Whether no use is below the one before it.
+fn never_falls(uses: &[u32]) -> bool
+    ensures { result ≡ never_falls uses.now }
+{
+    for at in 1..uses.len() {
+        if uses[at] < uses[at - 1] {
+            return false;
+        }
+    }
+    true
+}
+
+// Whether two neighbours are equal: in a sorted list, whether anything is repeated.
+fn has_equal_neighbours(sorted: &[u32]) -> bool
+    requires { IsSorted nat_cmp sorted.now }
+    ensures { result ≡ has_repeat sorted.now }
+{
+    for at in 1..sorted.len() {
+        if sorted[at] == sorted[at - 1] {
+            return true;
+        }
+    }
+    false
+}
+
+#[cfg(test)]
+mod tests;

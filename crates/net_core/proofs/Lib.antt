@@ -1,0 +1,14 @@
+pub mod PaddedLemmas
+pub mod Counting
+pub mod TwoSteps
+pub mod CutOrder
+pub mod Positions
+pub mod EveryOrder
+pub mod Naming
+pub mod LastOf
+pub mod Ready
+pub mod PutCounts
+pub mod Entries
+pub mod Valued
+pub mod Fresh
+pub mod Soundness

@@ -1,0 +1,6 @@
+use Rattle.std.proofs.Common.{◌≡◌, map, take}
+use Rattle.net_core.specs.Rules.{read_slot}
+use Rattle.net_core.proofs.firing.read_all.Given as goal
+
+abbrev pub invariant-loop-reference : goal.invariant-loop-reference
+invariant-loop-reference l = l.values ≡ map (read_slot l.slots) (take l.reference-index l.refs)

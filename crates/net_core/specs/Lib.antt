@@ -1,0 +1,12 @@
+pub mod References
+pub mod ReferenceLaws
+pub mod Padded
+pub mod Machine
+pub mod Shape
+pub mod Cuts
+pub mod Orders
+pub mod Names
+pub mod Uses
+pub mod Rules
+pub mod Held
+pub mod Sound

@@ -1,0 +1,57 @@
+ghost use Rattle.std.specs.Prelude.{◌≡◌, ℕ, List, length, true};
+ghost use Rattle.net_core.specs.declared.refs.Ref.{Ref};
+ghost use Rattle.net_core.specs.declared.network.Event.{Event};
+ghost use Rattle.sanlp.specs.declared.nest.Tag.{Tag};
+ghost use Rattle.sanlp.specs.declared.nest.Nest.{Nest};
+ghost use Rattle.net_core.specs.declared.network.Network.{Network};
+ghost use Rattle.net_core.specs.Machine.{Net, Rule, net_of, start, IsRun};
+ghost use Rattle.net_core.specs.Rules.{tags};
+ghost use Rattle.net_core.specs.Sound.{FitsNest, IsSound, NamesLastWriters};
+ghost use Rattle.net_core.specs.Shape.{IsWired, fires};
+ghost use Rattle.net_core.specs.Cuts.{positions};
+ghost use Rattle.net_core.specs.Names.{GivesValues, IsNamed, fired};
+ghost use Rattle.net_core.specs.Orders.{reached, EndsAll, EndsAlways, StaysEnabled, StepsCommute, StopsAlike};
+
+use crate::network::Event;
+use crate::refs::{Ref, Refs};
+
+// Each of these does nothing: its contract is a law over the definitions.
+
+/// Two references that compare equal are the same, and so are two lists of them, and two events.
+pub fn equal_is_same()
+    ensures reference { (a b : Ref) → ⟦<Ref as PartialEq>⟧.eq a b ≡ true → a ≡ b }
+    ensures references { (a b : List Ref) → ⟦<Refs as PartialEq>⟧.eq a b ≡ true → a ≡ b }
+    ensures event { (a b : Event) → ⟦<Event as PartialEq>⟧.eq a b ≡ true → a ≡ b }
+{}
+
+/// Two steps of a network in any state: an enabled process stays enabled whatever another process does, and the steps of
+/// two enabled processes give one state in either order (Kahn 1974).
+pub fn two_steps<T: Copy>()
+    ensures stays { (n : Net) (rule : Rule T) → IsWired n → StaysEnabled n rule }
+    ensures commute { (n : Net) (rule : Rule T) → IsWired n → StepsCommute n rule }
+{}
+
+/// Every order of events: a run of a network is one whatever its fires give. Where one run ends all, every run can go on
+/// until all have ended. Two runs that can't go on have the same positions.
+pub fn every_order<T: Copy, U: Copy>()
+    ensures same { (n : Net) (rule : Rule T) (other : Rule U) (run : List ℕ) → IsWired n → IsRun n rule (start n) run → IsRun n other (start n) run }
+    ensures alike { (n : Net) (rule : Rule T) (other : Rule U) (run : List ℕ) → IsWired n → IsRun n rule (start n) run
+        → (p : ℕ) → positions (reached n other run) p ≡ positions (reached n rule run) p }
+    ensures ends { (n : Net) (rule : Rule T) (other : Rule U) (run : List ℕ) → IsWired n → EndsAll n rule run → EndsAlways n other }
+    ensures stops { (n : Net) (rule : Rule T) → IsWired n → StopsAlike n rule }
+{}
+
+/// In every state that a run reaches, each slot, each kept value and each token in a queue is the value of the tag that it
+/// names. Where all have ended, each process has kept the values of its fires in order.
+pub fn names<T: Copy>()
+    ensures named { (n : Net) (rule : Rule T) (v : Tag → T) (run : List ℕ) → IsWired n → GivesValues n rule v → IsRun n rule (start n) run → IsNamed n v (reached n rule run) }
+    ensures kept { (n : Net) (rule : Rule T) (v : Tag → T) (run : List ℕ) → IsWired n → GivesValues n rule v → EndsAll n rule run
+        → (p : ℕ) → ((reached n rule run).local p).kept ≡ fired v p (fires n p (length (n.script p))) }
+{}
+
+/// Where a network has the shape of a nest, each of its references names the last writer of what is read there, and one run
+/// over tags ends all, the network is sound for the nest: in every order of events it computes what the nest computes.
+pub fn sound()
+    ensures { (nest : Nest) (network : Network) (run : List ℕ) → FitsNest nest network → NamesLastWriters nest (net_of network)
+        → EndsAll (net_of network) tags run → IsSound nest network }
+{}

@@ -1,0 +1,17 @@
+//! Process networks with bounded channels: the machine that runs them, and what holds of every order of events.
+#![tactic(auto)]
+
+mod firing;
+mod given;
+mod laws;
+mod machine;
+mod network;
+mod opening;
+mod refs;
+
+pub use firing::{Firing, Tags, Values};
+pub use laws::{equal_is_same, every_order, names, sound, two_steps};
+pub use machine::{State, enabled, ended, kept, next, position, queued, slots, step, unended};
+pub use network::{Channel, Event, Network, Process};
+pub use opening::start;
+pub use refs::{Ref, Refs};

@@ -1,0 +1,5 @@
+use Rattle.source_tree.proofs.Numbered.{gives_last_writers}
+use Rattle.source_tree.proofs.law.gives_last_writers.Goals as goal
+
+pub returns : goal.returns
+returns c = gives_last_writers c.args.nest.now

@@ -1,0 +1,16 @@
+use plain_data::Items;
+
+/// Where a certificate says that a read has its values from.
+#[derive(Drop)]
+pub enum Origin {
+    /// From the last writers, which whoever checks the certificate finds.
+    Sweep,
+}
+
+/// A certificate of a network: one origin for each read, in the order of reader and slot, and a schedule, which is a
+/// list of process numbers.
+#[derive(Drop)]
+pub struct Cert {
+    pub sources: Items<Origin>,
+    pub schedule: Items<u32>,
+}

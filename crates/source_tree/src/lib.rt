@@ -1,0 +1,10 @@
+//! Certificates, and where the reads of a nest have their values from.
+#![tactic(auto)]
+
+mod cert;
+mod law;
+mod table;
+
+pub use cert::{Cert, Origin};
+pub use law::gives_last_writers;
+pub use table::SourceTable;

@@ -8,7 +8,7 @@ use Rattle.std.specs.Str.Parse.{digits_value}
 use Rattle.loop_class.specs.Names.{value_named}
 use Rattle.loop_lex.specs.Lexical.{is_name}
 use Rattle.command_line.specs.declared.words.Command.{Command}
-use Rattle.command_line.specs.declared.words.Command.TheVariants.{Run}
+use Rattle.command_line.specs.declared.words.Command.TheVariants.{Run, Seq}
 use Rattle.command_line.specs.declared.words.Order.{Order}
 
 abbrev pub Text : Type 0
@@ -62,7 +62,10 @@ params_with params (item ∷ items) =
     option_and_then (λ param. if is_some (value_named params param.0) then None else params_with (params ++ param ∷ []) items) (param_of item)
 
 abbrev pub command_of : Text → Option Command
-command_of word = if bytes_eq word (codes "run") then Some Run else None
+command_of word =
+    if bytes_eq word (codes "run") then Some Run
+    else (if bytes_eq word (codes "seq") then Some Seq
+    else None)
 
 abbrev pub order_of_items : List Text → Option Order
 order_of_items [] = None

@@ -21,7 +21,7 @@ fn are_taken(alloc: Global, words: &[&str]) -> Result<bool, Fail> {
 
 #[test]
 fn a_command_and_its_parameters_are_taken(rt: HostRuntime) -> Result<(), Fail> {
-    let taken: [&[&str]; 7] = [
+    let taken: [&[&str]; 9] = [
         &["run"],
         &["run", "N=4", "_m1=-007", "inn=999999999999999999", "z=-0"],
         &["run", "N=000000000000000000", "n=1"],
@@ -29,6 +29,8 @@ fn a_command_and_its_parameters_are_taken(rt: HostRuntime) -> Result<(), Fail> {
         &["--", "run", "N=1"],
         &["run", "--", "N=1"],
         &["run", "N=1", "--"],
+        &["seq"],
+        &["--", "seq", "N=1"],
     ];
     for words in taken {
         assert!(rt; are_taken(rt.alloc(), words)?, "{words:?}");
@@ -42,7 +44,7 @@ fn all_other_words_are_refused(rt: HostRuntime) -> Result<(), Fail> {
         &[],
         &[""],
         &["--"],
-        &["seq"],
+        &["sequence"],
         &["Run"],
         &["N=1", "run"],
         &["run", "N"],

@@ -13,8 +13,10 @@ use std::alloc::{AllocError, AllocFailed, Global};
 /// What the program is to do.
 #[derive(Clone, Copy, Debug, PartialEq, Eq)]
 pub enum Command {
-    /// Write what the loops compute.
+    /// Write what the loops compute, by the network.
     Run,
+    /// Write what the loops compute, by the interpreter.
+    Seq,
 }
 
 /// What the words order: a command, and values for parameters.
@@ -187,6 +189,8 @@ fn command_of(word: &[u8]) -> Option<Command>
 {
     if word == b"run".as_slice() {
         Some(Command::Run)
+    } else if word == b"seq".as_slice() {
+        Some(Command::Seq)
     } else {
         None
     }

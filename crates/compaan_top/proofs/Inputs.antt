@@ -1,37 +1,35 @@
--- The inputs of a nest that takes none, and the number of its lists of values.
-use Rattle.std.proofs.Common.{◌≡◌, ◌||◌, ◌&&◌, not, ◌∙◌, ℕ, suc, ◌+◌, ℤ, Bool, true, false, List, [], ◌∷◌, length, map, replicate, refl, ap, ap₂, sym, arith}
-use Rattle.std.specs.List.{list_any}
-use Rattle.sanlp.specs.Cells.{is_input, input_count}
-use Rattle.sanlp.specs.Memory.{Memory}
+-- The inputs that a data part gives, from what reading them comes to, and the number of the lists of values.
+use Rattle.std.proofs.Common.{◌≡◌, ℕ, suc, ◌+◌, ℤ, List, [], ◌∷◌, length, Some, Result, Ok, Err, refl, ap}
+use Rattle.array_data.specs.Data.{Gives, inputs_of, records_of}
+use Rattle.array_data.specs.declared.error.DataError.{DataError}
+use Rattle.array_data.specs.declared.error.DataError.TheVariants.{UnknownArray, Twice, Missing, Count, NotANumber, Memory}
+use Rattle.sanlp.specs.Memory.{Memory as CellMemory}
 use Rattle.sanlp.specs.Meaning.{arrays, arrays_from, exec}
 use Rattle.sanlp.specs.declared.nest.ArrayDecl.{ArrayDecl}
 use Rattle.sanlp.specs.declared.nest.Inputs.{Inputs}
-use Rattle.sanlp.specs.declared.nest.Kind.{Kind}
-use Rattle.sanlp.specs.declared.nest.Kind.TheVariants.{Input, Output, Both, Var}
 use Rattle.sanlp.specs.declared.nest.Nest.{Nest}
+use Rattle.compaan_top.specs.Refusals.{data_refusal}
+use Rattle.compaan_top.specs.Run.{IsInputs}
+use Rattle.compaan_top.specs.declared.refusal.Refusal.{Refusal}
 
-abbrev no_value : List ℤ
-no_value = []
+-- a fault that is told as a refusal is the one that the records have
+fault_is : (list : List ArrayDecl) (wanted : Result Inputs DataError) (fault : DataError) (refusal : Refusal)
+    → Gives (Err fault) wanted → data_refusal list fault ≡ Some refusal → wanted ≡ Err fault
+fault_is list wanted (UnknownArray number) refusal gives told = gives
+fault_is list wanted (Twice number) refusal gives told = gives
+fault_is list wanted (Missing array) refusal gives told = gives
+fault_is list wanted (Count number got want) refusal gives told = gives
+fault_is list wanted (NotANumber number field) refusal gives told = gives
+fault_is list wanted Memory refusal gives told = cc
 
-first_is_none : (a b : Bool) → (a || b) ≡ false → (a ≡ false) × (b ≡ false)
-first_is_none true b e = cc
-first_is_none false b e = (refl, e)
+pub inputs_refused : (n : Nest) (bytes : List ℕ) (fault : DataError) (refusal : Refusal)
+    → Gives (Err fault) (inputs_of n (records_of bytes)) → data_refusal n.arrays fault ≡ Some refusal → IsInputs n bytes (Err refusal)
+inputs_refused n bytes fault refusal gives told =
+    (fault, fault_is n.arrays (inputs_of n (records_of bytes)) fault refusal gives told, told)
 
-pub no_inputs_lengths : (list : List ArrayDecl) → list_any (λ array. is_input array.kind) list ≡ false
-    → map length (replicate (length list) no_value) ≡ map input_count list
-no_inputs_lengths [] none = refl
-no_inputs_lengths (array ∷ list) none =
-    let parts = first_is_none (is_input array.kind) (list_any (λ a. is_input a.kind) list) none in
-    rw parts.0 (ap (λ (counts : List ℕ). 0 ∷ counts) (no_inputs_lengths list parts.1))
-
-length-arrays_from : (m : Memory) (a : ℕ) (list : List ArrayDecl) → length (arrays_from m a list) ≡ length list
+length-arrays_from : (m : CellMemory) (a : ℕ) (list : List ArrayDecl) → length (arrays_from m a list) ≡ length list
 length-arrays_from m a [] = refl
 length-arrays_from m a (array ∷ list) = ap suc (length-arrays_from m (a + 1) list)
 
 pub length-arrays : (n : Nest) (d : Inputs) → length (arrays n d) ≡ length n.arrays
 length-arrays n d = length-arrays_from (exec n d) 0 n.arrays
-
-pub second_is_false : (a b : Bool) → (a && not b) ≡ true → b ≡ false
-second_is_false true true e = cc
-second_is_false true false e = refl
-second_is_false false b e = cc

@@ -1,4 +1,4 @@
--- What the command `run` comes to, from what its steps come to.
+-- What the commands `run` and `seq` come to, from what its steps come to.
 use Rattle.std.proofs.Common.{◌≡◌, ℕ, ℤ, List, Option, Some, None, Result, Ok, Err, sym, subst}
 use Rattle.command_line.specs.Bundle.{source_part, data_part}
 use Rattle.sanlp.specs.Meaning.{arrays}
@@ -8,7 +8,7 @@ use Rattle.sanlp.specs.declared.nest.Nest.{Nest}
 use Rattle.loop_walk.specs.Counting.{counted}
 use Rattle.array_data.specs.Answer.{answer_text}
 use Rattle.command_line.specs.declared.words.Command.{Command}
-use Rattle.command_line.specs.declared.words.Command.TheVariants.{Run}
+use Rattle.command_line.specs.declared.words.Command.TheVariants.{Run, Seq}
 use Rattle.compaan_top.specs.Judging.{Judges}
 use Rattle.compaan_top.specs.Outcome.{Performs}
 use Rattle.compaan_top.specs.Planned.{as_text}
@@ -55,7 +55,8 @@ runs_to_answer params bundle source bytes nest total inputs outputs is bytes_are
     subst (λ (lists : List (List ℤ)). Runs params bundle (Ok (answer_text nest.arrays lists))) (sym outputs_are)
     (answered nest total inputs (nest_is params bundle source (Ok nest) is gives) size (subst (λ (b : List ℕ). IsInputs nest b (Ok inputs)) bytes_are records))
 
--- `run` is the one command
+-- `run` and `seq` write the same text
 pub performs_run : (command : Command) (params : List (List ℕ × ℤ)) (bundle : List ℕ) (result : Result Answer Stop)
     → JudgesRun params bundle result → Judges (λ answer. Performs command params bundle (as_text answer)) result
 performs_run Run params bundle result run = run
+performs_run Seq params bundle result run = run

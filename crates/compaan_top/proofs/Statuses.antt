@@ -17,7 +17,9 @@ use Rattle.loop_walk.specs.Counting.{counted, counted_parts, counted_node}
 use Rattle.loop_walk.specs.declared.count.SizeError.{SizeError}
 use Rattle.loop_walk.specs.declared.count.SizeError.TheVariants.{Limit, LoopValue}
 use Rattle.array_data.specs.Answer.{answer_text}
-use Rattle.sanlp.specs.Cells.{is_input}
+use Rattle.array_data.specs.Data.{Record, fault_of, inputs_of, lists_of, records_of, unless}
+use Rattle.array_data.specs.declared.error.DataError.{DataError}
+use Rattle.array_data.specs.declared.error.DataError.TheVariants.{UnknownArray, Twice, Missing, Count, NotANumber, Memory}
 use Rattle.sanlp.specs.Meaning.{arrays}
 use Rattle.sanlp.specs.declared.nest.ArrayDecl.{ArrayDecl}
 use Rattle.sanlp.specs.declared.nest.Nest.{Nest}
@@ -27,11 +29,11 @@ use Rattle.command_line.specs.Bundle.{source_part, data_part}
 use Rattle.command_line.specs.Words.{order_of}
 use Rattle.command_line.specs.declared.words.Order.{Order}
 use Rattle.command_line.specs.declared.words.Command.{Command}
-use Rattle.command_line.specs.declared.words.Command.TheVariants.{Run}
+use Rattle.command_line.specs.declared.words.Command.TheVariants.{Run, Seq}
 use Rattle.compaan_top.specs.Laws.{DetermineStatus, HaveOwnStatuses, Succeeds, IsValid, outcome_statuses}
 use Rattle.compaan_top.specs.Outcome.{Outcome, IsOutcome, outcome_of, Performs, words_refused, bundle_refused, performed}
-use Rattle.compaan_top.specs.Refusals.{byte_of, lex_refusal, bind_refusal, size_refusal, syntax_refusal, data_not_yet, usage, too_long}
-use Rattle.compaan_top.specs.Run.{Runs, IsInputs, is_blank, takes_no_data, source_refused, size_refused, data_refused, answered, not_yet, no_inputs}
+use Rattle.compaan_top.specs.Refusals.{byte_of, lex_refusal, bind_refusal, size_refusal, syntax_refusal, data_refusal, usage, too_long}
+use Rattle.compaan_top.specs.Run.{Runs, IsInputs, source_refused, size_refused, data_refused, answered}
 use Rattle.compaan_top.specs.Source.{Gives, no_tokens, no_tree, not_bound, bound}
 use Rattle.compaan_top.specs.declared.refusal.Refusal.{Refusal}
 
@@ -120,7 +122,7 @@ gives_alike one source params (bound a t n lexed derived is) (bound b u m lexed'
     let trees : t ≡ u = one_tree_of one source a b t u lexed lexed' derived derived' in
     (is.arrays ∙ ap (λ (z : Tree). (nest_of z params).arrays) trees ∙ sym is'.arrays, is.body ∙ ap (λ (z : Tree). (nest_of z params).body) trees ∙ sym is'.body)
 
--- ---- and so does `run`
+-- ---- and so do `run` and `seq`
 
 abbrev pub SameStatus : Result (List ℕ) Refusal → Result (List ℕ) Refusal → Type 0
 SameStatus x y = (outcome_of x).status ≡ (outcome_of y).status
@@ -129,8 +131,17 @@ same_counted : (n m : Nest) → n.body ≡ m.body → counted n ≡ counted m
 unfolding counted
 same_counted n m e = ap (λ (body : List Node). counted_parts (map counted_node body) [] 0) e
 
-same_need : (bytes : List ℕ) (n m : Nest) → n.arrays ≡ m.arrays → takes_no_data n bytes ≡ takes_no_data m bytes
-same_need bytes n m e = ap (λ (list : List ArrayDecl). is_blank bytes && not (list_any (λ array. is_input array.kind) list)) e
+data_status : (list : List ArrayDecl) (fault : DataError) (r : Refusal) → data_refusal list fault ≡ Some r → r.status ≡ 9
+data_status list (UnknownArray number) r told = ap (λ (t : Refusal). t.status) (sym (same_value _ r told))
+data_status list (Twice number) r told = ap (λ (t : Refusal). t.status) (sym (same_value _ r told))
+data_status list (Missing array) r told = ap (λ (t : Refusal). t.status) (sym (same_value _ r told))
+data_status list (Count number got want) r told = ap (λ (t : Refusal). t.status) (sym (same_value _ r told))
+data_status list (NotANumber number field) r told = ap (λ (t : Refusal). t.status) (sym (same_value _ r told))
+data_status list Memory r told = cc
+
+-- the arrays decide what the records give
+same_inputs : (n m : Nest) (rows : List Record) → n.arrays ≡ m.arrays → inputs_of n rows ≡ inputs_of m rows
+same_inputs n m rows e = ap (λ (list : List ArrayDecl). unless (fault_of list rows) (record { arrays = lists_of list rows })) e
 
 abbrev BothRefused : Result Inputs Refusal → Result Inputs Refusal → Type 0
 BothRefused (Ok d) (Ok e) = Unit {0}
@@ -138,12 +149,17 @@ BothRefused (Err r) (Err s) = r.status ≡ s.status
 BothRefused (Ok d) (Err s) = ⊥
 BothRefused (Err r) (Ok e) = ⊥
 
-inputs_alike : (bytes : List ℕ) (n m : Nest) {x y : Result Inputs Refusal} → takes_no_data n bytes ≡ takes_no_data m bytes
+no_both_inputs : (x y : Result Inputs DataError) (d : Inputs) (fault : DataError) → x ≡ y → x ≡ Ok d → y ≡ Err fault → ⊥
+no_both_inputs x y d fault e f g = cc
+
+inputs_alike : (bytes : List ℕ) (n m : Nest) (x y : Result Inputs Refusal) → n.arrays ≡ m.arrays
     → IsInputs n bytes x → IsInputs m bytes y → BothRefused x y
-inputs_alike bytes n m e (not_yet f) (not_yet g) = refl
-inputs_alike bytes n m e (not_yet f) (no_inputs d g lengths) = cc
-inputs_alike bytes n m e (no_inputs d f lengths) (not_yet g) = cc
-inputs_alike bytes n m e (no_inputs d f lengths) (no_inputs d' g lengths') = tt
+inputs_alike bytes n m (Ok d) (Ok e) same i j = tt
+inputs_alike bytes n m (Err r) (Err s) same i j = data_status n.arrays i.0 r i.2 ∙ sym (data_status m.arrays j.0 s j.2)
+inputs_alike bytes n m (Ok d) (Err s) same i j =
+    absurd (no_both_inputs (inputs_of n (records_of bytes)) (inputs_of m (records_of bytes)) d j.0 (same_inputs n m (records_of bytes) same) i j.1)
+inputs_alike bytes n m (Err r) (Ok e) same i j =
+    absurd (no_both_inputs (inputs_of m (records_of bytes)) (inputs_of n (records_of bytes)) e i.0 (sym (same_inputs n m (records_of bytes) same)) j i.1)
 
 size_status : (e : SizeError) → (size_refusal e).status ≡ 8
 size_status (Limit count) = refl
@@ -168,21 +184,22 @@ runs_alike one params bundle (data_refused n t r g c i) (size_refused m f h d) =
     let same = gives_alike one (source_part bundle) params h g in absurd (no_both_sizes m n f t same.1 d c)
 runs_alike one params bundle (data_refused n t r g c i) (data_refused m u s h d j) =
     let same = gives_alike one (source_part bundle) params g h in
-    inputs_alike (data_part bundle) n m (same_need (data_part bundle) n m same.0) i j
+    inputs_alike (data_part bundle) n m (Err r) (Err s) same.0 i j
 runs_alike one params bundle (data_refused n t r g c i) (answered m u d h k j) =
     let same = gives_alike one (source_part bundle) params g h in
-    absurd (inputs_alike (data_part bundle) n m (same_need (data_part bundle) n m same.0) i j)
+    absurd (inputs_alike (data_part bundle) n m (Err r) (Ok d) same.0 i j)
 runs_alike one params bundle (answered n t d g c i) (source_refused s h) = absurd (gives_alike one (source_part bundle) params g h)
 runs_alike one params bundle (answered n t d g c i) (size_refused m f h k) =
     let same = gives_alike one (source_part bundle) params h g in absurd (no_both_sizes m n f t same.1 k c)
 runs_alike one params bundle (answered n t d g c i) (data_refused m u s h k j) =
     let same = gives_alike one (source_part bundle) params g h in
-    absurd (inputs_alike (data_part bundle) n m (same_need (data_part bundle) n m same.0) i j)
+    absurd (inputs_alike (data_part bundle) n m (Ok d) (Err s) same.0 i j)
 runs_alike one params bundle (answered n t d g c i) (answered m u e h k j) = refl
 
 performs_alike : OneTree → (command : Command) (params : List (List ℕ × ℤ)) (bundle : List ℕ) (x y : Result (List ℕ) Refusal)
     → Performs command params bundle x → Performs command params bundle y → SameStatus x y
 performs_alike one Run params bundle x y made other = runs_alike one params bundle made other
+performs_alike one Seq params bundle x y made other = runs_alike one params bundle made other
 
 no_order : (words : List (List ℕ)) (order : Order) → order_of words ≡ None → order_of words ≡ Some order → ⊥
 no_order words order x y = cc
@@ -239,19 +256,19 @@ gives_own source params (no_tree a place lexed stops) = refl
 gives_own source params (not_bound a t reason r lexed derived least made) = bind_status (byte_of source a) reason r made
 gives_own source params (bound a t n lexed derived is) = tt
 
-inputs_own : (bytes : List ℕ) (n : Nest) {x : Result Inputs Refusal} → IsInputs n bytes x → IsOwn x
-inputs_own bytes n (not_yet f) = refl
-inputs_own bytes n (no_inputs d f lengths) = tt
+inputs_own : (bytes : List ℕ) (n : Nest) (r : Refusal) → IsInputs n bytes (Err r) → is_own r.status ≡ true
+inputs_own bytes n r i = rw (data_status n.arrays i.0 r i.2) refl
 
 runs_own : (params : List (List ℕ × ℤ)) (bundle : List ℕ) {x : Result (List ℕ) Refusal} → Runs params bundle x → is_own (outcome_of x).status ≡ true
 runs_own params bundle (source_refused r g) = gives_own (source_part bundle) params g
 runs_own params bundle (size_refused n e g c) = rw (size_status e) refl
-runs_own params bundle (data_refused n t r g c i) = inputs_own (data_part bundle) n i
+runs_own params bundle (data_refused n t r g c i) = inputs_own (data_part bundle) n r i
 runs_own params bundle (answered n t d g c i) = refl
 
 performs_own : (command : Command) (params : List (List ℕ × ℤ)) (bundle : List ℕ) (x : Result (List ℕ) Refusal)
     → Performs command params bundle x → is_own (outcome_of x).status ≡ true
 performs_own Run params bundle x made = runs_own params bundle made
+performs_own Seq params bundle x made = runs_own params bundle made
 
 pub outcomes_own : (words : List (List ℕ)) (bundle : List ℕ) {a : Outcome} → IsOutcome words bundle a → is_own a.status ≡ true
 outcomes_own words bundle (words_refused x) = refl
@@ -264,6 +281,7 @@ performs_valid : (command : Command) (params : List (List ℕ × ℤ)) (bundle :
     → Gives (source_part bundle) params (Ok n) → counted n ≡ Ok total → IsInputs n (data_part bundle) (Ok inputs)
     → Performs command params bundle (Ok (answer_text n.arrays (arrays n inputs)))
 performs_valid Run params bundle n total inputs gives counts takes = answered n total inputs gives counts takes
+performs_valid Seq params bundle n total inputs gives counts takes = answered n total inputs gives counts takes
 
 pub outcomes_succeed : OneTree → (words : List (List ℕ)) (bundle : List ℕ) → IsValid words bundle → {a : Outcome} → IsOutcome words bundle a → a.status ≡ 0
 outcomes_succeed one words bundle v is =

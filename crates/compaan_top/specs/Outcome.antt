@@ -2,7 +2,7 @@
 use Rattle.std.specs.Prelude.{◌≡◌, ◌≤◌, ◌<◌, ℕ, ℤ, List, [], length, Option, Some, None, Result, Ok, Err}
 use Rattle.command_line.specs.Words.{order_of}
 use Rattle.command_line.specs.declared.words.Command.{Command}
-use Rattle.command_line.specs.declared.words.Command.TheVariants.{Run}
+use Rattle.command_line.specs.declared.words.Command.TheVariants.{Run, Seq}
 use Rattle.command_line.specs.declared.words.Order.{Order}
 use Rattle.compaan_top.specs.Refusals.{usage, too_long}
 use Rattle.compaan_top.specs.Run.{Runs}
@@ -26,6 +26,7 @@ bundle_limit = 67_108_864
 -- what a command with these values of parameters comes to on a bundle
 abbrev pub Performs : Command → List (List ℕ × ℤ) → List ℕ → Result (List ℕ) Refusal → Type 0
 Performs Run = Runs
+Performs Seq = Runs
 
 -- The words are refused, the bundle is too long, or the command is performed.
 pub data IsOutcome (words : List (List ℕ)) (bundle : List ℕ) : Outcome → Type 0 where

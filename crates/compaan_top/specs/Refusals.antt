@@ -1,5 +1,5 @@
 -- The refusals: their statuses and the lines that say them. Want of memory, which stands among the errors of some calls, is none.
-use Rattle.std.specs.Prelude.{ℕ, List, [], ◌∷◌, length, slice_get, codes, Option, Some, None}
+use Rattle.std.specs.Prelude.{ℕ, List, [], ◌∷◌, ◌++◌, length, slice_get, codes, Option, Some, None}
 use Rattle.std.specs.Option.{option_map_or}
 use Rattle.command_line.specs.Complaint.{line_of}
 use Rattle.loop_lex.specs.declared.token.Token.{Token}
@@ -9,6 +9,9 @@ use Rattle.loop_class.specs.declared.error.BindError.{BindError}
 use Rattle.loop_class.specs.declared.error.BindError.TheVariants as binding
 use Rattle.loop_walk.specs.declared.count.SizeError.{SizeError}
 use Rattle.loop_walk.specs.declared.count.SizeError.TheVariants.{Limit, LoopValue}
+use Rattle.array_data.specs.declared.error.DataError.{DataError}
+use Rattle.array_data.specs.declared.error.DataError.TheVariants.{UnknownArray, Twice, Missing, Count, NotANumber, Memory}
+use Rattle.sanlp.specs.declared.nest.ArrayDecl.{ArrayDecl}
 use Rattle.compaan_top.specs.declared.refusal.Refusal.{Refusal}
 
 abbrev pub refusal_with : ℕ → List ℕ → List ℕ → Refusal
@@ -55,6 +58,15 @@ abbrev pub size_refusal : SizeError → Refusal
 size_refusal (Limit count) = refusal_with 8 (codes "limit: Size") (count ∷ [])
 size_refusal (LoopValue loop) = refusal_with 8 (codes "limit: LoopValue") (loop ∷ [])
 
--- the data part isn't read yet
-abbrev pub data_not_yet : Refusal
-data_not_yet = refusal_with 9 (codes "data: NotYet") []
+-- the name of the array of this number
+abbrev pub name_of : List ArrayDecl → ℕ → List ℕ
+name_of arrays a = option_map_or (λ array. array.name) (slice_get arrays a) []
+
+-- a fault of the data for these arrays; records and fields are told by their numbers, and an array by its name
+abbrev pub data_refusal : List ArrayDecl → DataError → Option Refusal
+data_refusal arrays (UnknownArray number) = Some (refusal_with 9 (codes "data: UnknownArray") (number ∷ []))
+data_refusal arrays (Twice number) = Some (refusal_with 9 (codes "data: Twice") (number ∷ []))
+data_refusal arrays (Missing array) = Some (refusal_with 9 (codes "data: Missing " ++ name_of arrays array) [])
+data_refusal arrays (Count number got want) = Some (refusal_with 9 (codes "data: Count") (number ∷ got ∷ want ∷ []))
+data_refusal arrays (NotANumber number field) = Some (refusal_with 9 (codes "data: NotANumber") (number ∷ field ∷ []))
+data_refusal arrays Memory = None

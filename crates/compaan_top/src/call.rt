@@ -41,7 +41,7 @@ fn perform(alloc: Global, order: &Order, bundle: &[u8]) -> Result<Answer, Stop>
     ensures { Judges (λ answer. Performs order.now.command order.now.params bundle.now (as_text answer)) result }
 {
     match order.command {
-        Command::Run => run(alloc, &order.params, bundle),
+        Command::Run | Command::Seq => run(alloc, &order.params, bundle),
     }
 }
 

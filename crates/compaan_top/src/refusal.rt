@@ -1,12 +1,14 @@
-ghost use Rattle.std.specs.Prelude.{◌≡◌, [], ◌∷◌, IfOk, Some};
-ghost use Rattle.compaan_top.specs.Refusals.{bind_refusal, byte_of, data_not_yet, lex_refusal, refusal_with, size_refusal, syntax_refusal, too_long, usage};
+ghost use Rattle.std.specs.Prelude.{◌≡◌, [], ◌∷◌, ◌++◌, IfOk, Some, codes};
+ghost use Rattle.compaan_top.specs.Refusals.{bind_refusal, byte_of, data_refusal, lex_refusal, name_of, refusal_with, size_refusal, syntax_refusal, too_long, usage};
 ghost use Rattle.compaan_top.specs.declared.refusal.Stop.TheVariants.{Memory};
 
+use array_data::DataError;
 use command_line::complaint_line;
 use loop_class::BindError;
 use loop_lex::{LexError, Token};
 use loop_walk::SizeError;
 use plain_data::Items;
+use sanlp::ArrayDecl;
 use std::alloc::{AllocError, Global};
 
 /// Why the program refuses what it was given: the status, and the line that says it.
@@ -63,12 +65,6 @@ pub(crate) fn too_long(alloc: Global) -> Result<Refusal, AllocError>
     ensures { IfOk result (λ made. made ≡ too_long) }
 {
     refusal_with(alloc, 5, b"bundle: TooLong", &[])
-}
-
-pub(crate) fn data_not_yet(alloc: Global) -> Result<Refusal, AllocError>
-    ensures { IfOk result (λ made. made ≡ data_not_yet) }
-{
-    refusal_with(alloc, 9, b"data: NotYet", &[])
 }
 
 /// The byte at which the token of this number starts, or the length of the source for the place at the end.
@@ -178,5 +174,45 @@ pub(crate) fn size_refusal(alloc: Global, error: SizeError) -> Result<Refusal, A
         SizeError::LoopValue(number) => {
             refusal_with(alloc, 8, b"limit: LoopValue", &[u64::from(number)])
         }
+    }
+}
+
+fn name_of(arrays: &[ArrayDecl], number: u32) -> &[u8]
+    ensures { result.now ≡ name_of arrays.now number }
+{
+    match arrays.get(number as usize) {
+        Some(array) => array.name.as_slice(),
+        None => &[],
+    }
+}
+
+fn missing_refusal(alloc: Global, name: &[u8]) -> Result<Refusal, AllocError>
+    ensures { IfOk result (λ made. made ≡ refusal_with 9 (codes "data: Missing " ++ name.now) []) }
+{
+    let mut text = Vec::from_slice(alloc, b"data: Missing ")?;
+    text.extend_from_slice(name)?;
+    refusal_with(alloc, 9, &text, &[])
+}
+
+pub(crate) fn data_refusal(
+    alloc: Global,
+    arrays: &[ArrayDecl],
+    fault: DataError,
+) -> Result<Refusal, AllocError>
+    ensures { IfOk result (λ made. data_refusal arrays.now fault ≡ Some made) }
+{
+    match fault {
+        DataError::UnknownArray(number) => {
+            refusal_with(alloc, 9, b"data: UnknownArray", &[number])
+        }
+        DataError::Twice(number) => refusal_with(alloc, 9, b"data: Twice", &[number]),
+        DataError::Missing(array) => missing_refusal(alloc, name_of(arrays, array)),
+        DataError::Count(number, got, want) => {
+            refusal_with(alloc, 9, b"data: Count", &[number, got, want])
+        }
+        DataError::NotANumber(number, field) => {
+            refusal_with(alloc, 9, b"data: NotANumber", &[number, field])
+        }
+        DataError::Memory => Err(AllocError),
     }
 }

@@ -1,5 +1,8 @@
+mod kernels;
+
 use crate::compaan;
 use io_edge::{MemSink, MemSource};
+use kernels::KERNELS;
 use std::alloc::{AllocError, Global};
 use std::process::Abort;
 use std::test::Fail;
@@ -32,7 +35,14 @@ fn in_words(alloc: Global, words: &[&str]) -> Result<Vec<String>, AllocError> {
     Ok(strings)
 }
 
-/// Calls the program and compares its status and what it wrote.
+fn words_of(alloc: Global, command: &str, params: &[&str]) -> Result<Vec<String>, AllocError> {
+    let mut strings = in_words(alloc, &[command])?;
+    for param in params {
+        strings.push(String::from_str(alloc, param)?)?;
+    }
+    Ok(strings)
+}
+
 fn expect(
     rt: &(impl Abort + AllocGlobal),
     devices: Devices,
@@ -42,18 +52,25 @@ fn expect(
     output: &[u8],
     complaint: &[u8],
 ) -> Result<(), Fail> {
+    let words = in_words(rt.alloc(), words)?;
+    expect_words(rt, devices, &words, bundle, status, output, complaint)
+}
+
+/// Calls the program and compares its status and what it wrote.
+fn expect_words(
+    rt: &(impl Abort + AllocGlobal),
+    devices: Devices,
+    words: &[String],
+    bundle: &[u8],
+    status: u8,
+    output: &[u8],
+    complaint: &[u8],
+) -> Result<(), Fail> {
     let alloc = rt.alloc();
-    let words = in_words(alloc, words)?;
     let mut input = MemSource::new(alloc, bundle, devices.piece.max(1), &[devices.failing])?;
     let mut written = MemSink::new(alloc, devices.output_room, 4_096, &[])?;
     let mut complained = MemSink::new(alloc, devices.complaint_room, 4_096, &[])?;
-    let found = compaan(
-        alloc,
-        words.as_slice(),
-        &mut input,
-        &mut written,
-        &mut complained,
-    );
+    let found = compaan(alloc, words, &mut input, &mut written, &mut complained);
     assert_eq!(rt; found, status, "status of {words:?} at {bundle:?}");
     assert!(rt;
         written.held() == output,
@@ -68,42 +85,121 @@ fn expect(
 
 #[test]
 fn programs_are_run(rt: HostRuntime) -> Result<(), Fail> {
-    let runs: [(&[&str], &[u8], &[u8]); 8] = [
+    let runs: [(&[&str], &[u8], &[u8]); 21] = [
         (
-            &["run", "N=4"],
+            &["N=4"],
             b"param N; out y[N]; var s; for (i = 0; i < N; i++) { s = s + i; y[i] = s; }",
             b"y,0,1,3,6\n",
         ),
         (
-            &["run", "N=3"],
+            &["N=3"],
             b"param N; out y[N]; var t; for (i = 0; i < N; i++) { y[i] = t; t = i; t = t + 10; }",
             b"y,0,10,11\n",
         ),
         (
-            &["run"],
+            &[],
             b"out y; var a; for (int i = max(0, 2); i <= min(5, 3); ++i) { if (i >= 3) { a = a + i; } else { a = 10; } } y = -a * min(2, 7);",
             b"y,-26\n",
         ),
         (
-            &["run", "M=5"],
+            &["M=5"],
             b"out y; y = 9223372036854775807 + 1;\n%%\n\r\n\n%%\nanything",
             b"y,-9223372036854775808\n",
         ),
+        (&["N=-2"], b"param N; out y[N], z; z = N;", b"y\nz,-2\n"),
         (
-            &["run", "N=-2"],
-            b"param N; out y[N], z; z = N;",
-            b"y\nz,-2\n",
-        ),
-        (
-            &["run", "N=1"],
+            &["N=1"],
             b"param N; // a comment\r\n/* and another */ out y[2][N];",
             b"y,0,0\n",
         ),
-        (&["run"], b"", b""),
-        (&["--", "run"], b" \t\r\n", b""),
+        (&[], b"", b""),
+        (
+            &["N=3"],
+            b"param N; in x[N]; out y[N]; for (i = 0; i < N; i++) y[i] = x[i] + 1;\n%%\nx,5,6,7\n",
+            b"y,6,7,8\n",
+        ),
+        (
+            &["N=0"],
+            b"param N; in x[N]; out y[N]; for (i = 0; i < N; i++) y[i] = x[i] + 1;\n%%\nx",
+            b"y\n",
+        ),
+        (
+            &["N=-2"],
+            b"param N; in x[N]; out y[N]; for (i = 0; i < N; i++) y[i] = x[i] + 1;\n%%\nx\n%%\n",
+            b"y\n",
+        ),
+        (
+            &["N=3"],
+            b"param N; in x[N]; out s[N]; for (i = 0; i < N; i++) s[i] = s[i-1] + x[i];\n%%\nx,1,2,3\n",
+            b"s,1,3,6\n",
+        ),
+        (
+            &["N=4"],
+            b"param N; in x[N], c; out y[N]; for (i = 0; i < N; i++) y[i] = x[i] * c;\n%%\nx,1,2,3,4\nc,10\n",
+            b"y,10,20,30,40\n",
+        ),
+        (
+            &[],
+            b"in a[2][2]; out b[2][2]; for (j = 0; j < 2; j++) for (i = 0; i < 2; i++) b[j][i] = a[i][j];\n%%\na,1,2,3,4\n",
+            b"b,1,3,2,4\n",
+        ),
+        (
+            &[],
+            b"in x[3]; out b[2][3]; for (i = 0; i < 2; i++) for (j = 0; j < 3; j++) b[i][j] = x[2-j];\n%%\nx,1,2,3\n",
+            b"b,3,2,1,3,2,1\n",
+        ),
+        (
+            &["N=3"],
+            b"param N; in x[N]; out y[N]; var a[N]; for (i = 0; i < N; i++) { if (i < 2) { a[i] = x[i]; } else { a[i] = 0 - x[i]; } } for (i = 0; i < N; i++) y[i] = a[i];\n%%\nx,1,2,3\n",
+            b"y,1,2,-3\n",
+        ),
+        (
+            &["N=2"],
+            b"param N; in A[N][N], B[N][N]; out C[N][N]; for (i = 0; i < N; i++) for (j = 0; j < N; j++) { C[i][j] = 0; for (k = 0; k < N; k++) C[i][j] = C[i][j] + A[i][k] * B[k][j]; }\n%%\nB,5,6,7,8\nA,1,2,3,4\n",
+            b"C,19,22,43,50\n",
+        ),
+        (
+            &["N=4"],
+            b"param N; in a[N]; out c[N]; var b[N]; for (i = 0; i < N; i++) b[i] = a[i]; for (i = 0; i < N; i++) c[i] = a[i] + b[N-1];\n%%\na,1,2,3,4\n",
+            b"c,5,6,7,8\n",
+        ),
+        (
+            &["N=1"],
+            b"param N; in x[N]; out y[N]; for (i = 0; i < N; i++) y[i] = x[i] + 1;\n%%\nx,9223372036854775807\n",
+            b"y,-9223372036854775808\n",
+        ),
+        (
+            &["N=2"],
+            b"param N; in a[N]; out y[N]; for (i = 0; i < N; i++) y[i] = a[N*i];\n%%\na,5,6\n",
+            b"y,5,0\n",
+        ),
+        (
+            &["N=3"],
+            b"param N; in x[N]; out y[N]; var a[N]; for (i = 0; i < N; i++) a[2*i] = x[i]; for (i = 0; i < N; i++) y[i] = a[i];\n%%\nx,1,2,3\n",
+            b"y,1,0,2\n",
+        ),
+        (
+            &[],
+            b"inout v[3]; in w; for (i = 0; i <= 2; i++) v[i] = v[i] * w - v[2];\r\n%%\r\n w , -2 \r\n\r\n\"v\",\" 1\t\",2,-0\r\n%%\r\n",
+            b"v,-2,-4,0\n",
+        ),
     ];
-    for (words, bundle, output) in runs {
-        expect(&rt, SOUND, words, bundle, 0, output, b"")?;
+    for (params, bundle, output) in runs {
+        for command in ["run", "seq"] {
+            let words = words_of(rt.alloc(), command, params)?;
+            expect_words(&rt, SOUND, &words, bundle, 0, output, b"")?;
+        }
+    }
+    expect(&rt, SOUND, &["--", "run"], b" \t\r\n", 0, b"", b"")
+}
+
+#[test]
+fn kernels_are_run(rt: HostRuntime) -> Result<(), Fail> {
+    for (params, bundle, output) in KERNELS {
+        for command in ["run", "seq"] {
+            let words = words_of(rt.alloc(), command, params)?;
+            expect_words(&rt, SOUND, &words, bundle, 0, output, b"")?;
+        }
     }
     Ok(())
 }
@@ -118,7 +214,7 @@ fn wrong_words_are_refused(rt: HostRuntime) -> Result<(), Fail> {
         &["--policy=down", "run", "--", "N=3"],
         &["run", "-x"],
         &["--help"],
-        &["net"],
+        &["deps"],
     ];
     for words in refused {
         expect(&rt, SOUND, words, b"var a;", 2, b"", USAGE)?;
@@ -202,14 +298,27 @@ fn wrong_sources_are_refused(rt: HostRuntime) -> Result<(), Fail> {
 }
 
 #[test]
-fn data_is_refused_until_it_is_read(rt: HostRuntime) -> Result<(), Fail> {
-    for bundle in [
-        b"out y;\n%%\nx,1\n".as_slice(),
-        b"out y;\n%%\n ",
-        b"in x; out y;",
-        b"inout x;\n%%\n",
-    ] {
-        expect(&rt, SOUND, &["run"], bundle, 9, b"", b"data: NotYet\n")?;
+fn wrong_data_is_refused(rt: HostRuntime) -> Result<(), Fail> {
+    let increments = b"param N; in x[N]; out y[N]; for (i = 0; i < N; i++) y[i] = x[i] + 1;\n%%\n";
+    let refused: [(&[u8], &[u8]); 10] = [
+        (b"x,5\n", b"data: Count 1 1 3\n"),
+        (b"z,1\n", b"data: UnknownArray 1\n"),
+        (b"x,5,12x,7\n", b"data: NotANumber 1 2\n"),
+        (b"", b"data: Missing x\n"),
+        (b"\r\n\n", b"data: Missing x\n"),
+        (b"x,5,6,7\nx,5,6,7\n", b"data: Twice 2\n"),
+        (b"x,5,6,7\ny,5,6,7\n", b"data: UnknownArray 2\n"),
+        (b"x,5,6,7\nx\n", b"data: Twice 2\n"),
+        (b"x,5,6,7,\n", b"data: Count 1 4 3\n"),
+        (b"x,5,6,9223372036854775808\n", b"data: NotANumber 1 3\n"),
+    ];
+    for (data, complaint) in refused {
+        let mut bundle = Vec::from_slice(rt.alloc(), increments)?;
+        bundle.extend_from_slice(data)?;
+        for command in ["run", "seq"] {
+            let words = words_of(rt.alloc(), command, &["N=3"])?;
+            expect_words(&rt, SOUND, &words, &bundle, 9, b"", complaint)?;
+        }
     }
     Ok(())
 }

@@ -132,9 +132,9 @@ def main():
         theirs = run_c(plain, params) / executed
         # a loop that the C compiler does away with has no ratio
         ratio = "%.0f" % (ours / theirs) if theirs >= 0.05 else "-"
-        bytes_each = (kilobytes - base) * 1024 / cells
+        bytes_each = "%.0f" % ((kilobytes - base) * 1024 / cells) if cells >= 1000 else "-"
         sizes = " ".join("%s=%d" % p for p in params)
-        print("| %s %s | %d | %.0f | %.2f | %s | %.0f |" % (name, sizes, executed, ours, theirs, ratio, bytes_each))
+        print("| %s %s | %d | %.0f | %.2f | %s | %s |" % (name, sizes, executed, ours, theirs, ratio, bytes_each))
 
 
 main()

@@ -6,6 +6,7 @@ pub mod LoopRange
 pub mod Placed
 pub mod PointsAdded
 pub mod Rooms
+pub mod RowCells
 pub mod RunLemmas
 pub mod ShortStatements
 pub mod SizeLaw

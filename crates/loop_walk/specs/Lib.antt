@@ -4,5 +4,7 @@ pub mod Examples
 pub mod Execution
 pub mod Outputs
 pub mod PointLists
+pub mod RowPlaces
+pub mod Rows
 pub mod Walking
 pub mod Walks

@@ -2,7 +2,7 @@ ghost use Rattle.std.specs.List.{list_all};
 ghost use Rattle.std.specs.Option.{option_map};
 ghost use Rattle.std.specs.Prelude.{◌≡◌, ◌≤◌, ◌<◌, [], pos, length, map, min, slice_index_or, IsTrue, OnOk};
 ghost use Rattle.sanlp.specs.Access.{cell_at, extents_of, given_at};
-ghost use Rattle.sanlp.specs.Cells.{cell_count, natural, place_of};
+ghost use Rattle.sanlp.specs.Cells.{cell_count, place_of};
 ghost use Rattle.sanlp.specs.Meaning.{execute, store};
 ghost use Rattle.sanlp.specs.Memory.{cell_value};
 ghost use Rattle.wrap_expr.specs.Value.{value_of};
@@ -10,7 +10,7 @@ ghost use Rattle.loop_walk.specs.CellMap.{memory_of};
 ghost use Rattle.loop_walk.specs.Execution.{access_short, is_of_depth, statement_short};
 
 use crate::bounds::form_value;
-use crate::cells::Cells;
+use crate::cells::{Cells, natural_of};
 use crate::vector::LoopValues;
 use affine_core::{Short, Subscripts};
 use sanlp::{Access, Inputs, Nest, Role, Statement};
@@ -40,13 +40,6 @@ fn read_values(alloc: Global, reads: &[Access], at: &LoopValues, cells: &Cells) 
         values.push(cells.get(&cell_of(alloc, access, at)));
     }
     values
-}
-
-// A number, or 0 where it is negative.
-fn natural_of(value: i64) -> usize
-    ensures { result ≡ natural value }
-{
-    if value < 0 { 0 } else { value as usize }
 }
 
 // How many cells an array with these extents has, or the greatest number where there are more.

@@ -129,7 +129,7 @@ pub fn interpret(alloc: Global, nest: &Nest, inputs: &Inputs) -> Result<Arrays, 
     ensures meaning { IfOk result (λ outputs. outputs.arrays ≡ arrays nest.now inputs.now) }
     ensures sinks { IfOk result (λ outputs. outputs.arrays ≡ sink_values nest.now inputs.now) }
 {
-    let mut cells = Cells::new(alloc);
+    let mut cells = Cells::new(alloc, nest.arrays.as_slice())?;
     run_nest(alloc, nest, inputs, &mut cells)?;
     Ok(Arrays {
         arrays: output_arrays(alloc, nest, &cells)?,

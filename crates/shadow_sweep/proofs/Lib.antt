@@ -1,0 +1,5 @@
+pub mod Lists
+pub mod Shadows
+pub mod SmallForms
+pub mod Starts
+pub mod Swept

@@ -1,0 +1,9 @@
+use Rattle.std.proofs.Common.{◌≡◌, map, take, vec_len}
+use Rattle.sanlp.specs.Access.{cell_at}
+use Rattle.shadow_sweep.specs.LastWrites.{with_sources}
+use Rattle.shadow_sweep.specs.Shadows.{writes_in}
+use Rattle.shadow_sweep.proofs.entry.add_sources.Given as goal
+
+abbrev pub invariant-loop-slot : goal.invariant-loop-slot
+invariant-loop-slot l =
+    l.lists.items ≡ with_sources l.initial.lists.items l.first (map (writes_in l.shadow) (map (cell_at l.at) (take l.slot l.reads)))

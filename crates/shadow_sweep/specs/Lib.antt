@@ -1,0 +1,3 @@
+pub mod LastWrites
+pub mod Shadows
+pub mod Vectors

@@ -1,0 +1,12 @@
+//! The last writer of each read, found in one walk over the trace with a shadow of the memory.
+#![tactic(auto)]
+
+mod cell;
+mod entry;
+mod shadow;
+mod sources;
+mod state;
+#[cfg(test)]
+mod tests;
+
+pub use sources::sweep;

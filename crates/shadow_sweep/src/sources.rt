@@ -1,0 +1,39 @@
+ghost use Rattle.std.specs.Prelude.{◌≡◌, IfOk};
+ghost use Rattle.sanlp.specs.Points.{points_of};
+ghost use Rattle.loop_walk.specs.Counting.{SizeIsOk};
+ghost use Rattle.source_tree.specs.Sources.{sources_of};
+
+use crate::entry::pass;
+use crate::shadow::Shadow;
+use crate::state::{first_reads, next_turn};
+use loop_walk::Walk;
+use plain_data::Items;
+use sanlp::{Nest, Points, Tag};
+use source_tree::SourceTable;
+use std::alloc::{AllocError, Global};
+
+/// The tag of the last writer of each read at each of its fires, or `None` where there is none: the exact table of the
+/// nest (Feautrier 1991). It walks once over the trace, with a shadow of the memory. Nothing is refused but want of
+/// memory.
+pub fn sweep(alloc: Global, nest: &Nest, points: &Points) -> Result<SourceTable, AllocError>
+    requires sized { SizeIsOk nest.now }
+    requires points { points.now.of ≡ points_of nest.now }
+    ensures { IfOk result (λ table. table.of ≡ sources_of nest.now) }
+{
+    let mut lists = Vec::new(alloc);
+    let firsts = first_reads(alloc, nest, points, &mut lists)?;
+    let mut turns = vec![in alloc; 0; nest.statements.len()]?;
+    let mut shadow = Shadow::new(alloc);
+    let mut walk = Walk::new(alloc, nest)?;
+    while let Some(point) = walk.next(nest) {
+        let process = point.statement;
+        let turn = next_turn(&mut turns, process as usize);
+        let statement = nest.statement(process);
+        let first = firsts[process as usize];
+        let tag = Tag { process, turn };
+        pass(alloc, statement, &point.at, tag, first, &mut shadow, &mut lists)?;
+    }
+    Ok(SourceTable {
+        of: Items::from_vec(lists),
+    })
+}

@@ -1,0 +1,56 @@
+ghost use Rattle.std.specs.List.{sum_by};
+ghost use Rattle.std.specs.Prelude.{◌≡◌, ◌+◌, ◌<◌, [], ◌++◌, length, map, take, replicate, slice_index, slice_set, vec_len, IfOk, OnOk};
+ghost use Rattle.sanlp.specs.Cells.{count_up};
+ghost use Rattle.source_tree.specs.Sources.{read_number};
+
+use plain_data::Items;
+use sanlp::{Nest, Points, Tag};
+use std::alloc::{AllocError, Global};
+
+// Adds so many empty lists, each with room for so many sources.
+fn add_lists(
+    alloc: Global,
+    count: usize,
+    fires: usize,
+    lists: &mut Vec<Items<Option<Tag>>>,
+) -> Result<(), AllocError>
+    ensures { OnOk result (lists.new.items ≡ lists.old.items ++ replicate count []) }
+{
+    for _ in 0..count {
+        lists.push(Items::from_vec(Vec::with_capacity(alloc, fires)?))?;
+    }
+    Ok(())
+}
+
+/// Adds an empty list for each read, in the order of reader and slot, with room for the sources of all fires. It answers
+/// for each statement the number of its first read.
+pub(crate) fn first_reads(
+    alloc: Global,
+    nest: &Nest,
+    points: &Points,
+    lists: &mut Vec<Items<Option<Tag>>>,
+) -> Result<Vec<usize>, AllocError>
+    requires { lists.old.items ≡ [] }
+    ensures firsts { IfOk result (λ firsts. firsts.items ≡ map (λ p. read_number nest.now p 0) (count_up 0 (length nest.now.statements))) }
+    ensures lists { OnOk result (lists.new.items ≡ replicate (sum_by (λ s. length s.reads) nest.now.statements) []) }
+{
+    let mut firsts = Vec::new(alloc);
+    for (process, statement) in nest.statements.as_slice().iter().enumerate() {
+        firsts.push(lists.len())?;
+        let fires = points.of.get(process).map_or(0, |turns| turns.len());
+        add_lists(alloc, statement.reads.len(), fires, lists)?;
+    }
+    Ok(firsts)
+}
+
+/// The number of the next turn of a process, which is counted.
+pub(crate) fn next_turn(turns: &mut Vec<u32>, process: usize) -> u32
+    requires exists { process < vec_len turns.old }
+    requires few { slice_index turns.old.items process < 4294967295 }
+    ensures turn { result ≡ slice_index turns.old.items process }
+    ensures counted { turns.new.items ≡ slice_set turns.old.items process (slice_index turns.old.items process + 1) }
+{
+    let turn = turns[process];
+    turns[process] = turn + 1;
+    turn
+}

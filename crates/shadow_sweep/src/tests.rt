@@ -1,0 +1,334 @@
+ghost use Rattle.std.specs.Prelude.{◌≡◌, [], ◌∷◌, IfOk};
+ghost use Rattle.sanlp.specs.Examples.{delayed_body, delayed_statements, element, loop_to, number, rows_to, scalar, sets_v, sets_y, sink_of_y, sums_body, sums_statements, y_and_v};
+
+use crate::sweep;
+use affine_core::{Coefs, Form, Row, Subscripts};
+use loop_walk::{Walk, points, size};
+use plain_data::{Boxed, Items};
+use sanlp::{Access, ArrayDecl, Kind, Nest, Node, Point, Role, Statement, Tag};
+use source_tree::SourceTable;
+use std::alloc::{AllocError, Global};
+use std::test::Fail;
+use wrap_expr::Expr;
+
+fn constant(alloc: Global, constant: i128) -> Form
+    ensures { result ≡ number constant }
+{
+    Form {
+        constant,
+        coefs: Coefs::empty(alloc),
+    }
+}
+
+// A form over one variable.
+fn form(alloc: Global, constant: i128, coef: i128) -> Form
+    ensures { result ≡ record { constant = constant; coefs = coef ∷ [] } }
+{
+    let mut coefs = Coefs::empty(alloc);
+    coefs.push(coef);
+    Form { constant, coefs }
+}
+
+fn one<T: Drop>(alloc: Global, item: T) -> Result<Items<T>, AllocError>
+    ensures { IfOk result (λ items. items ≡ item ∷ []) }
+{
+    let mut items = Items::new(alloc);
+    items.push(item)?;
+    Ok(items)
+}
+
+fn two<T: Drop>(alloc: Global, first: T, second: T) -> Result<Items<T>, AllocError>
+    ensures { IfOk result (λ items. items ≡ first ∷ second ∷ []) }
+{
+    let mut items = Items::new(alloc);
+    items.push(first)?;
+    items.push(second)?;
+    Ok(items)
+}
+
+fn three<T: Drop>(alloc: Global, first: T, second: T, third: T) -> Result<Items<T>, AllocError>
+    ensures { IfOk result (λ items. items ≡ first ∷ second ∷ third ∷ []) }
+{
+    let mut items = two(alloc, first, second)?;
+    items.push(third)?;
+    Ok(items)
+}
+
+fn rows(alloc: Global, last: i128) -> Result<Items<Row>, AllocError>
+    ensures { IfOk result (λ rows. rows ≡ rows_to last) }
+{
+    two(alloc, form(alloc, 0, 1), form(alloc, last, -1))
+}
+
+fn counted_loop(alloc: Global, id: u32, last: i128, body: Items<Node>) -> Result<Node, AllocError>
+    ensures { IfOk result (λ node. node ≡ loop_to id last body) }
+{
+    Ok(Node::Loop {
+        id,
+        lower: one(alloc, constant(alloc, 0))?,
+        upper: one(alloc, constant(alloc, last))?,
+        body,
+    })
+}
+
+fn arrays(alloc: Global, extent: i64) -> Result<Items<ArrayDecl>, AllocError>
+    ensures { IfOk result (λ arrays. arrays ≡ y_and_v extent) }
+{
+    let y = ArrayDecl {
+        name: one(alloc, b'y')?,
+        kind: Kind::Output,
+        extents: one(alloc, extent)?,
+    };
+    let v = ArrayDecl {
+        name: one(alloc, b'v')?,
+        kind: Kind::Var,
+        extents: Items::new(alloc),
+    };
+    two(alloc, y, v)
+}
+
+fn access_v(alloc: Global) -> Access
+    ensures { result ≡ scalar }
+{
+    Access {
+        array: 1,
+        subscripts: Items::new(alloc),
+    }
+}
+
+fn access_y(alloc: Global) -> Result<Access, AllocError>
+    ensures { IfOk result (λ access. access ≡ element) }
+{
+    Ok(Access {
+        array: 0,
+        subscripts: one(alloc, form(alloc, 0, 1))?,
+    })
+}
+
+fn set_v(
+    alloc: Global,
+    last: i128,
+    reads: Items<Access>,
+    expr: Expr,
+) -> Result<Statement, AllocError>
+    ensures { IfOk result (λ statement. statement ≡ sets_v last reads expr) }
+{
+    Ok(Statement {
+        role: Role::Assign,
+        loops: one(alloc, 0)?,
+        rows: rows(alloc, last)?,
+        write: Some(access_v(alloc)),
+        reads,
+        expr,
+    })
+}
+
+fn set_y(alloc: Global, last: i128) -> Result<Statement, AllocError>
+    ensures { IfOk result (λ statement. statement ≡ sets_y last) }
+{
+    Ok(Statement {
+        role: Role::Assign,
+        loops: one(alloc, 0)?,
+        rows: rows(alloc, last)?,
+        write: Some(access_y(alloc)?),
+        reads: one(alloc, access_v(alloc))?,
+        expr: Expr::Read(0),
+    })
+}
+
+fn print_y(alloc: Global, last: i128) -> Result<Statement, AllocError>
+    ensures { IfOk result (λ statement. statement ≡ sink_of_y last) }
+{
+    Ok(Statement {
+        role: Role::Sink(0),
+        loops: one(alloc, 1)?,
+        rows: rows(alloc, last)?,
+        write: None,
+        reads: one(alloc, access_y(alloc)?)?,
+        expr: Expr::Read(0),
+    })
+}
+
+// v = v + i; y[i] = v;
+fn sums(alloc: Global) -> Result<Items<Statement>, AllocError>
+    ensures { IfOk result (λ statements. statements ≡ sums_statements) }
+{
+    let sum = Expr::Add(
+        Boxed::new(alloc, Expr::Read(0))?,
+        Boxed::new(alloc, Expr::Var(0))?,
+    );
+    let add = set_v(alloc, 3, one(alloc, access_v(alloc))?, sum)?;
+    three(alloc, add, set_y(alloc, 3)?, print_y(alloc, 3)?)
+}
+
+// y[i] = v; v = i; v = v + 10;
+fn delays(alloc: Global) -> Result<Items<Statement>, AllocError>
+    ensures { IfOk result (λ statements. statements ≡ delayed_statements) }
+{
+    let sum = Expr::Add(
+        Boxed::new(alloc, Expr::Read(0))?,
+        Boxed::new(alloc, Expr::Const(10))?,
+    );
+    let take = set_v(alloc, 2, Items::new(alloc), Expr::Var(0))?;
+    let add = set_v(alloc, 2, one(alloc, access_v(alloc))?, sum)?;
+    let mut statements = three(alloc, set_y(alloc, 2)?, take, add)?;
+    statements.push(print_y(alloc, 2)?)?;
+    Ok(statements)
+}
+
+fn sums_parts(alloc: Global) -> Result<Items<Node>, AllocError>
+    ensures { IfOk result (λ body. body ≡ sums_body) }
+{
+    let inside = two(alloc, Node::Assign(0), Node::Assign(1))?;
+    let assignments = counted_loop(alloc, 0, 3, inside)?;
+    let sink = counted_loop(alloc, 1, 3, one(alloc, Node::Assign(2))?)?;
+    two(alloc, assignments, sink)
+}
+
+fn delayed_parts(alloc: Global) -> Result<Items<Node>, AllocError>
+    ensures { IfOk result (λ body. body ≡ delayed_body) }
+{
+    let inside = three(alloc, Node::Assign(0), Node::Assign(1), Node::Assign(2))?;
+    let assignments = counted_loop(alloc, 0, 2, inside)?;
+    let sink = counted_loop(alloc, 1, 2, one(alloc, Node::Assign(3))?)?;
+    two(alloc, assignments, sink)
+}
+
+#[tactic(auto, using(sanlp::proofs::Worked::sums_well_formed))]
+fn running_sums(alloc: Global) -> Result<Nest, AllocError>
+{
+    Ok(Nest {
+        arrays: arrays(alloc, 4)?,
+        statements: sums(alloc)?,
+        body: sums_parts(alloc)?,
+    })
+}
+
+#[tactic(auto, using(sanlp::proofs::Worked::delayed_well_formed))]
+fn delayed(alloc: Global) -> Result<Nest, AllocError>
+{
+    Ok(Nest {
+        arrays: arrays(alloc, 3)?,
+        statements: delays(alloc)?,
+        body: delayed_parts(alloc)?,
+    })
+}
+
+// The table of a nest, where its size is within the limit.
+fn table(alloc: Global, nest: &Nest) -> Result<SourceTable, Fail> {
+    if size(nest).is_err() {
+        return Err(Fail::from("the nest is large"));
+    }
+    Ok(sweep(alloc, nest, &points(alloc, nest)?)?)
+}
+
+// Whether the table has these sources for the read of this number.
+fn has(table: &SourceTable, number: usize, sources: &[Option<Tag>]) -> bool {
+    match table.of.get(number) {
+        Some(found) => found.as_slice() == sources,
+        None => false,
+    }
+}
+
+fn tag(process: u32, turn: u32) -> Option<Tag> {
+    Some(Tag { process, turn })
+}
+
+#[test]
+fn each_read_has_its_last_writer(rt: HostRuntime) -> Result<(), Fail> {
+    let alloc = rt.alloc();
+    let delayed = table(alloc, &delayed(alloc)?)?;
+    assert_eq!(rt; delayed.of.len(), 3);
+    assert!(rt; has(&delayed, 0, &[None, tag(2, 0), tag(2, 1)]));
+    assert!(rt; has(&delayed, 1, &[tag(1, 0), tag(1, 1), tag(1, 2)]));
+    assert!(rt; has(&delayed, 2, &[tag(0, 0), tag(0, 1), tag(0, 2)]));
+    let sums = table(alloc, &running_sums(alloc)?)?;
+    assert_eq!(rt; sums.of.len(), 3);
+    assert!(rt; has(&sums, 0, &[None, tag(0, 0), tag(0, 1), tag(0, 2)]));
+    assert!(rt; has(&sums, 1, &[tag(0, 0), tag(0, 1), tag(0, 2), tag(0, 3)]));
+    assert!(rt; has(&sums, 2, &[tag(1, 0), tag(1, 1), tag(1, 2), tag(1, 3)]));
+    Ok(())
+}
+
+// All entries of the trace.
+fn entries(alloc: Global, nest: &Nest) -> Result<Vec<Point>, Fail> {
+    if size(nest).is_err() {
+        return Err(Fail::from("the nest is large"));
+    }
+    let mut entries = Vec::new(alloc);
+    let mut walk = Walk::new(alloc, nest)?;
+    while let Some(point) = walk.next(nest) {
+        entries.push(point)?;
+    }
+    Ok(entries)
+}
+
+// The array and the subscripts of an access at an entry.
+fn cell(alloc: Global, access: &Access, entry: &Point) -> Result<Vec<i128>, AllocError> {
+    let mut at = Vec::new(alloc);
+    for value in entry.at.as_slice() {
+        at.push(*value as i128)?;
+    }
+    let mut cell = Vec::new(alloc);
+    cell.push(access.array as i128)?;
+    for form in access.subscripts.as_slice() {
+        if form.coefs.len() == at.len() {
+            cell.push(form.eval(at.as_slice()).unwrap_or(i128::MIN))?;
+        }
+    }
+    Ok(cell)
+}
+
+// The tag of the last of these entries that writes a cell, found by looking at all of them.
+fn last_of(
+    alloc: Global,
+    nest: &Nest,
+    entries: &[Point],
+    read: &[i128],
+) -> Result<Option<Tag>, AllocError> {
+    let mut last = None;
+    for (t, entry) in entries.iter().enumerate() {
+        let statement = nest.statements.get(entry.statement as usize);
+        let Some(access) = statement.and_then(|found| found.write.as_ref()) else {
+            continue;
+        };
+        if cell(alloc, access, entry)?.as_slice() == read {
+            let earlier = entries[..t].iter();
+            let turn = earlier.filter(|e| e.statement == entry.statement).count();
+            last = tag(entry.statement, u32::try_from(turn).unwrap_or(u32::MAX));
+        }
+    }
+    Ok(last)
+}
+
+// Whether the table of a nest is what looking back over all entries finds.
+fn agrees(alloc: Global, nest: &Nest) -> Result<bool, Fail> {
+    let table = table(alloc, nest)?;
+    let entries = entries(alloc, nest)?;
+    let mut number = 0usize;
+    for (process, statement) in nest.statements.as_slice().iter().enumerate() {
+        for access in statement.reads.as_slice() {
+            let mut sources = Vec::new(alloc);
+            for (t, entry) in entries.as_slice().iter().enumerate() {
+                if entry.statement as usize == process {
+                    let read = cell(alloc, access, entry)?;
+                    let before = &entries.as_slice()[..t];
+                    sources.push(last_of(alloc, nest, before, read.as_slice())?)?;
+                }
+            }
+            if !has(&table, number, sources.as_slice()) {
+                return Ok(false);
+            }
+            number = number.saturating_add(1);
+        }
+    }
+    Ok(number == table.of.len())
+}
+
+#[test]
+fn the_sweep_finds_what_looking_back_finds(rt: HostRuntime) -> Result<(), Fail> {
+    let alloc = rt.alloc();
+    assert!(rt; agrees(alloc, &delayed(alloc)?)?);
+    assert!(rt; agrees(alloc, &running_sums(alloc)?)?);
+    Ok(())
+}

@@ -85,9 +85,13 @@ pub length-sources_before : (n : Nest) (points : List Point) (t p : ℕ) (statem
     → length (sources_before n points t p statements) ≡ sum_by (λ s. length s.reads) statements
 length-sources_before n points t p [] = refl
 length-sources_before n points t p (s ∷ statements) =
-    omega (arith, length-append (map (λ k. map (source_at n points k) (entries_of (take t points) p)) (count_up 0 (length s.reads))) (sources_before n points t (p + 1) statements),
-    length_counted (λ k. map (source_at n points k) (entries_of (take t points) p)) 0 (length s.reads),
-    length-sources_before n points t (p + 1) statements, sum_by-cons (λ s. length s.reads) s statements)
+    omega (
+      arith,
+      length-append (map (λ k. map (source_at n points k) (entries_of (take t points) p)) (count_up 0 (length s.reads))) (sources_before n points t (p + 1) statements),
+      length_counted (λ k. map (source_at n points k) (entries_of (take t points) p)) 0 (length s.reads),
+      length-sources_before n points t (p + 1) statements,
+      sum_by-cons (λ s. length s.reads) s statements,
+    )
 
 -- One entry more.
 entry_more : (b c : Bool) (v : ℕ) (es : List ℕ) (u : ℕ)
@@ -104,7 +108,7 @@ entries_more u (q ∷ points) p s =
     let e : u + 1 + length points ≡ u + suc (length points) = omega arith in
     ap (λ es. cond (q.statement == s) (u ∷ es) es) (entries_more (u + 1) points p s)
     ∙ ap (λ v. cond (q.statement == s) (u ∷ cond (p.statement == s) (entries_from (u + 1) points s ++ v ∷ []) (entries_from (u + 1) points s))
-        (cond (p.statement == s) (entries_from (u + 1) points s ++ v ∷ []) (entries_from (u + 1) points s))) e
+    (cond (p.statement == s) (entries_from (u + 1) points s ++ v ∷ []) (entries_from (u + 1) points s))) e
     ∙ entry_more (p.statement == s) (q.statement == s) (u + suc (length points)) (entries_from (u + 1) points s) u
 
 -- the last write of a cell after an entry
@@ -322,8 +326,12 @@ module _ (n : Nest) (left later : List Point) (p : Point) (e : drop (length (tra
 
     pub turn_is_small : size n ≤ 2097152 → get_or turns p.statement 0 < 4294967295
     turn_is_small small =
-        omega (arith, turn_is n (length (trace n) - length left) p.statement turns writes lists swept statement_exists,
-        few_turns (trace n) (length (trace n) - length left) p.statement, trace_within_size n)
+        omega (
+          arith,
+          turn_is n (length (trace n) - length left) p.statement turns writes lists swept statement_exists,
+          few_turns (trace n) (length (trace n) - length left) p.statement,
+          trace_within_size n,
+        )
 
     pub swept_later : (s : Statement) (turns' : List ℕ) (writes' : LastWrites) (lists' : List (List (Option Tag))) (turn first : ℕ)
         → slice_get n.statements p.statement ≡ Some s

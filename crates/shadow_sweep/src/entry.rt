@@ -82,6 +82,13 @@ pub(crate) fn pass(
     ensures write { OnOk result (writes_in shadow.new ≡ noted (writes_in shadow.old) (option_map (cell_at at.now) statement.now.write) tag) }
 {
     let at = wide(alloc, at);
-    add_sources(alloc, statement.reads.as_slice(), at.as_slice(), shadow, first, lists)?;
+    add_sources(
+        alloc,
+        statement.reads.as_slice(),
+        at.as_slice(),
+        shadow,
+        first,
+        lists,
+    )?;
     note_write(alloc, &statement.write, at.as_slice(), tag, shadow)
 }

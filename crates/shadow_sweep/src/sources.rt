@@ -31,7 +31,15 @@ pub fn sweep(alloc: Global, nest: &Nest, points: &Points) -> Result<SourceTable,
         let statement = nest.statement(process);
         let first = firsts[process as usize];
         let tag = Tag { process, turn };
-        pass(alloc, statement, &point.at, tag, first, &mut shadow, &mut lists)?;
+        pass(
+            alloc,
+            statement,
+            &point.at,
+            tag,
+            first,
+            &mut shadow,
+            &mut lists,
+        )?;
     }
     Ok(SourceTable {
         of: Items::from_vec(lists),

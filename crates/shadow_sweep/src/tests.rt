@@ -195,8 +195,7 @@ fn delayed_parts(alloc: Global) -> Result<Items<Node>, AllocError>
 }
 
 #[tactic(auto, using(sanlp::proofs::Worked::sums_well_formed))]
-fn running_sums(alloc: Global) -> Result<Nest, AllocError>
-{
+fn running_sums(alloc: Global) -> Result<Nest, AllocError> {
     Ok(Nest {
         arrays: arrays(alloc, 4)?,
         statements: sums(alloc)?,
@@ -205,8 +204,7 @@ fn running_sums(alloc: Global) -> Result<Nest, AllocError>
 }
 
 #[tactic(auto, using(sanlp::proofs::Worked::delayed_well_formed))]
-fn delayed(alloc: Global) -> Result<Nest, AllocError>
-{
+fn delayed(alloc: Global) -> Result<Nest, AllocError> {
     Ok(Nest {
         arrays: arrays(alloc, 3)?,
         statements: delays(alloc)?,

@@ -8,7 +8,7 @@ pub add_source-requires : goal.add_source-requires
 add_source-requires c =
     let sources = map (writes_in c.args.shadow.now) (map (cell_at c.args.at.now) (take c.loop-slot.slot c.args.reads.now)) in
     let same : vec_len c.loop-slot.lists ≡ vec_len c.args.lists.now = c.loop-slot.lists.ok.0 ∙ ap length c.loop-slot.invariant
-        ∙ length-with_sources c.args.lists.now.items c.args.first sources ∙ sym c.args.lists.now.ok.0 in
+    ∙ length-with_sources c.args.lists.now.items c.args.first sources ∙ sym c.args.lists.now.ok.0 in
     omega (arith, same, c.requires.room, c.loop-slot-test.true)
 
 pub loop-slot-preserved : goal.loop-slot-preserved

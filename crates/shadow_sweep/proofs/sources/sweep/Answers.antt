@@ -27,8 +27,11 @@ loop-point-init c =
 pub next_turn-turn-requires-clause-exists : goal.next_turn-turn-requires-clause-exists
 next_turn-turn-requires-clause-exists c =
     let n = c.args.nest.now in
-    omega (arith, c.loop-point.turns.ok.0,
-    turn_exists n (rest n c.loop-point.walk) _ c.in-Some.point c.loop-point.invariant.left c.in-Some.ensures.next _ _ _ c.loop-point.invariant.swept)
+    omega (
+      arith,
+      c.loop-point.turns.ok.0,
+      turn_exists n (rest n c.loop-point.walk) _ c.in-Some.point c.loop-point.invariant.left c.in-Some.ensures.next _ _ _ c.loop-point.invariant.swept,
+    )
 
 pub next_turn-turn-requires-clause-few : goal.next_turn-turn-requires-clause-few
 next_turn-turn-requires-clause-few c =
@@ -43,8 +46,13 @@ statement-statement-requires c =
 pub index-first-requires : goal.index-first-requires
 index-first-requires c =
     let n = c.args.nest.now in
-    omega (arith, c.in_ok-firsts.firsts.ok.0, ap length c.in_ok-firsts.ensures.firsts, length_counted (λ p. read_number n p 0) 0 (length n.statements),
-    statement_exists n (rest n c.loop-point.walk) _ c.in-Some.point c.loop-point.invariant.left c.in-Some.ensures.next)
+    omega (
+      arith,
+      c.in_ok-firsts.firsts.ok.0,
+      ap length c.in_ok-firsts.ensures.firsts,
+      length_counted (λ p. read_number n p 0) 0 (length n.statements),
+      statement_exists n (rest n c.loop-point.walk) _ c.in-Some.point c.loop-point.invariant.left c.in-Some.ensures.next,
+    )
 
 pub pass-requires-clause-fits : goal.pass-requires-clause-fits
 pass-requires-clause-fits c =
@@ -61,8 +69,13 @@ pass-requires-clause-room c =
     let exists = statement_exists n (rest n c.loop-point.walk) _ c.in-Some.point c.loop-point.invariant.left c.in-Some.ensures.next in
     let count = ap length c.in_ok-firsts.ensures.firsts ∙ length_counted (λ p. read_number n p 0) 0 (length n.statements) in
     let first = get_or_read c.in_ok-firsts.firsts.items _ _ (omega (arith, count, exists)) c.index-first.ensures 0 in
-    omega (arith, c.loop-point.lists.ok.0, first, first_is n c.in_ok-firsts.firsts.items c.in-Some.point.statement c.in_ok-firsts.ensures.firsts exists,
-    reads_have_lists n _ c.in-Some.point s _ _ _ c.statement-statement.ensures.value c.loop-point.invariant.swept)
+    omega (
+      arith,
+      c.loop-point.lists.ok.0,
+      first,
+      first_is n c.in_ok-firsts.firsts.items c.in-Some.point.statement c.in_ok-firsts.ensures.firsts exists,
+      reads_have_lists n _ c.in-Some.point s _ _ _ c.statement-statement.ensures.value c.loop-point.invariant.swept,
+    )
 
 pub loop-point-preserved : goal.loop-point-preserved
 loop-point-preserved c =

@@ -12,3 +12,4 @@ pub mod Entries
 pub mod Valued
 pub mod Fresh
 pub mod Soundness
+pub mod Worked

@@ -12,6 +12,7 @@ use Rattle.net_core.specs.Machine.{Net, Local, State, Rule, start, next, can_com
 use Rattle.net_core.specs.Shape.{is_get, is_put, is_fire, IsWired, fires}
 use Rattle.net_core.specs.Cuts.{Cut, gets_at, advanced, positions, IsCounted}
 use Rattle.net_core.specs.Names.{tag, with_token, tokens_before, tokens, with_get, latest_gets, token_at, slot_names, fired, GivesValues, IsLocalNamed, IsNamed}
+use Rattle.net_core.specs.Rules.{tags}
 use Rattle.net_core.proofs.Counting.{count_next, count_none, replaced_same, replaced_other}
 use Rattle.net_core.proofs.CutOrder.{advanced_here, advanced_there}
 use Rattle.net_core.proofs.TwoSteps.{put_writer}
@@ -283,3 +284,14 @@ pub ended_kept : {T : Type 0} (n : Net) (rule : Rule T) (wired : IsWired n) (v :
     → (p : ℕ) → ((after n rule (start n) run).local p).kept ≡ fired v p (fires n p (length (n.script p)))
 ended_kept n rule wired v run gives is ended p =
     ((every_run_named n rule wired v run gives is).locals p).kept ∙ ap (λ k. fired v p (fires n p k)) (ended p)
+
+map_same : (xs : List (Option Tag)) → map (option_map (λ (t : Tag). t)) xs ≡ xs
+map_same [] = refl
+map_same (None ∷ xs) = ap (λ ys. None ∷ ys) (map_same xs)
+map_same (Some t ∷ xs) = ap (λ ys. Some t ∷ ys) (map_same xs)
+
+-- over tags, each slot holds the tag that it names
+pub tags_named : (n : Net) (wired : IsWired n) (run : List ℕ) → IsRun n tags (start n) run → (p : ℕ)
+    → ((after n tags (start n) run).local p).slots ≡ slot_names n p ((after n tags (start n) run).local p).position
+tags_named n wired run is p =
+    ((every_run_named n tags wired (λ t. t) run (λ q k refs at. refl) is).locals p).slots ∙ map_same (slot_names n p ((after n tags (start n) run).local p).position)

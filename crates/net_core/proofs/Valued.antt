@@ -231,7 +231,7 @@ module _ (n : Nest) (network : Network) (fits : FitsNest n network) where
   net = net_of network
 
   -- a fire has its entry in the trace
-  turn_there : (p k : ℕ) (refs : List Ref) → slice_get ((net_of network).script p) k ≡ Some (Fire refs) → fires (net_of network) p k < turns (points_of n) p
+  pub turn_there : (p k : ℕ) (refs : List Ref) → slice_get ((net_of network).script p) k ≡ Some (Fire refs) → fires (net_of network) p k < turns (points_of n) p
   turn_there p k refs is =
       omega (arith, fits.shaped.turns p, count_all is_fire ((net_of network).script p) k (Fire refs) is refl)
 

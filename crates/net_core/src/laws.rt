@@ -5,11 +5,11 @@ ghost use Rattle.sanlp.specs.declared.nest.Tag.{Tag};
 ghost use Rattle.sanlp.specs.declared.nest.Nest.{Nest};
 ghost use Rattle.net_core.specs.declared.network.Network.{Network};
 ghost use Rattle.net_core.specs.Machine.{Net, Rule, net_of, start, IsRun};
-ghost use Rattle.net_core.specs.Rules.{tags};
+ghost use Rattle.net_core.specs.Rules.{AllKeepTo, tags, value_limits};
 ghost use Rattle.net_core.specs.Sound.{FitsNest, IsSound, NamesLastWriters};
 ghost use Rattle.net_core.specs.Shape.{IsWired, fires};
 ghost use Rattle.net_core.specs.Cuts.{positions};
-ghost use Rattle.net_core.specs.Names.{GivesValues, IsNamed, fired};
+ghost use Rattle.net_core.specs.Names.{GivesValues, IsNamed, fired, slot_names};
 ghost use Rattle.net_core.specs.Orders.{reached, EndsAll, EndsAlways, StaysEnabled, StepsCommute, StopsAlike};
 
 use crate::network::Event;
@@ -49,9 +49,17 @@ pub fn names<T: Copy>()
         → (p : ℕ) → ((reached n rule run).local p).kept ≡ fired v p (fires n p (length (n.script p))) }
 {}
 
-/// Where a network has the shape of a nest, each of its references names the last writer of what is read there, and one run
-/// over tags ends all, the network is sound for the nest: in every order of events it computes what the nest computes.
+/// In every state that a run over tags reaches, each slot holds the tag that it names.
+pub fn tags_name()
+    ensures { (n : Net) (run : List ℕ) → IsWired n → IsRun n tags (start n) run
+        → (p : ℕ) → ((reached n tags run).local p).slots ≡ slot_names n p ((reached n tags run).local p).position }
+{}
+
+/// Where a network has the shape of a nest, its fires keep to the numbers of the nest's points and reads. Where besides each
+/// of its references names the last writer of what is read there, and one run over tags ends all, the network is sound for
+/// the nest: in every order of events it computes what the nest computes.
 pub fn sound()
-    ensures { (nest : Nest) (network : Network) (run : List ℕ) → FitsNest nest network → NamesLastWriters nest (net_of network)
+    ensures limits { (nest : Nest) (network : Network) → FitsNest nest network → AllKeepTo (net_of network) (value_limits nest) }
+    ensures sound { (nest : Nest) (network : Network) (run : List ℕ) → FitsNest nest network → NamesLastWriters nest (net_of network)
         → EndsAll (net_of network) tags run → IsSound nest network }
 {}

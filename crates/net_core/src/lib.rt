@@ -10,7 +10,7 @@ mod opening;
 mod refs;
 
 pub use firing::{Firing, Tags, Values};
-pub use laws::{equal_is_same, every_order, names, sound, two_steps};
+pub use laws::{equal_is_same, every_order, names, sound, tags_name, two_steps};
 pub use machine::{State, enabled, ended, kept, next, position, queued, slots, step, unended};
 pub use network::{Channel, Event, Network, Process};
 pub use opening::start;

@@ -1,5 +1,5 @@
 -- A network of three processes, computed from the definitions: the second uses the tokens of the first in the order 0, 2, 1, 3.
-use Rattle.std.proofs.Common.{◌≡◌, ℕ, zero, suc, true, false, List, [], ◌∷◌, refl}
+use Rattle.std.proofs.Common.{◌≡◌, false, List, [], ◌∷◌, refl}
 use Rattle.std.specs.Prelude.{slice_index_or}
 use Rattle.sanlp.specs.declared.nest.Tag.{Tag}
 use Rattle.net_core.specs.declared.refs.Ref.TheVariants.{Zero, Slot}

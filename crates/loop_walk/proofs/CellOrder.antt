@@ -27,7 +27,7 @@ then_is_eq Greater b = refl
 nat_is_eq : (x y : ℕ) → is_eq (nat_cmp x y) ≡ (x == y)
 nat_is_eq x y = grind (arith, nat_tests)
 
-is_cell-cell_cmp : (c d : Cell) → is_eq (cell_cmp c d) ≡ is_cell c d
+pub is_cell-cell_cmp : (c d : Cell) → is_eq (cell_cmp c d) ≡ is_cell c d
 is_cell-cell_cmp c d =
     then_is_eq (nat_cmp c.0 d.0) (slice_cmp int_cmp c.1 d.1)
     ∙ ap (λ b. b && is_eq (slice_cmp int_cmp c.1 d.1)) (nat_is_eq c.0 d.0)

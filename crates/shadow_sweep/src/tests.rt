@@ -2,10 +2,10 @@ ghost use Rattle.std.specs.Prelude.{◌≡◌, [], ◌∷◌, IfOk};
 ghost use Rattle.sanlp.specs.Examples.{delayed_body, delayed_statements, element, loop_to, number, rows_to, scalar, sets_v, sets_y, sink_of_y, sums_body, sums_statements, y_and_v};
 
 use crate::sweep;
-use affine_core::{Coefs, Form, Row, Subscripts};
-use loop_walk::{Walk, points, size};
+use affine_core::{Coefs, Form, Row};
+use loop_walk::{points, size};
 use plain_data::{Boxed, Items};
-use sanlp::{Access, ArrayDecl, Kind, Nest, Node, Point, Role, Statement, Tag};
+use sanlp::{Access, ArrayDecl, Kind, Nest, Node, Role, Statement, Tag};
 use source_tree::SourceTable;
 use std::alloc::{AllocError, Global};
 use std::test::Fail;
@@ -245,88 +245,5 @@ fn each_read_has_its_last_writer(rt: HostRuntime) -> Result<(), Fail> {
     assert!(rt; has(&sums, 0, &[None, tag(0, 0), tag(0, 1), tag(0, 2)]));
     assert!(rt; has(&sums, 1, &[tag(0, 0), tag(0, 1), tag(0, 2), tag(0, 3)]));
     assert!(rt; has(&sums, 2, &[tag(1, 0), tag(1, 1), tag(1, 2), tag(1, 3)]));
-    Ok(())
-}
-
-// All entries of the trace.
-fn entries(alloc: Global, nest: &Nest) -> Result<Vec<Point>, Fail> {
-    if size(nest).is_err() {
-        return Err(Fail::from("the nest is large"));
-    }
-    let mut entries = Vec::new(alloc);
-    let mut walk = Walk::new(alloc, nest)?;
-    while let Some(point) = walk.next(nest) {
-        entries.push(point)?;
-    }
-    Ok(entries)
-}
-
-// The array and the subscripts of an access at an entry.
-fn cell(alloc: Global, access: &Access, entry: &Point) -> Result<Vec<i128>, AllocError> {
-    let mut at = Vec::new(alloc);
-    for value in entry.at.as_slice() {
-        at.push(*value as i128)?;
-    }
-    let mut cell = Vec::new(alloc);
-    cell.push(access.array as i128)?;
-    for form in access.subscripts.as_slice() {
-        if form.coefs.len() == at.len() {
-            cell.push(form.eval(at.as_slice()).unwrap_or(i128::MIN))?;
-        }
-    }
-    Ok(cell)
-}
-
-// The tag of the last of these entries that writes a cell, found by looking at all of them.
-fn last_of(
-    alloc: Global,
-    nest: &Nest,
-    entries: &[Point],
-    read: &[i128],
-) -> Result<Option<Tag>, AllocError> {
-    let mut last = None;
-    for (t, entry) in entries.iter().enumerate() {
-        let statement = nest.statements.get(entry.statement as usize);
-        let Some(access) = statement.and_then(|found| found.write.as_ref()) else {
-            continue;
-        };
-        if cell(alloc, access, entry)?.as_slice() == read {
-            let earlier = entries[..t].iter();
-            let turn = earlier.filter(|e| e.statement == entry.statement).count();
-            last = tag(entry.statement, u32::try_from(turn).unwrap_or(u32::MAX));
-        }
-    }
-    Ok(last)
-}
-
-// Whether the table of a nest is what looking back over all entries finds.
-fn agrees(alloc: Global, nest: &Nest) -> Result<bool, Fail> {
-    let table = table(alloc, nest)?;
-    let entries = entries(alloc, nest)?;
-    let mut number = 0usize;
-    for (process, statement) in nest.statements.as_slice().iter().enumerate() {
-        for access in statement.reads.as_slice() {
-            let mut sources = Vec::new(alloc);
-            for (t, entry) in entries.as_slice().iter().enumerate() {
-                if entry.statement as usize == process {
-                    let read = cell(alloc, access, entry)?;
-                    let before = &entries.as_slice()[..t];
-                    sources.push(last_of(alloc, nest, before, read.as_slice())?)?;
-                }
-            }
-            if !has(&table, number, sources.as_slice()) {
-                return Ok(false);
-            }
-            number = number.saturating_add(1);
-        }
-    }
-    Ok(number == table.of.len())
-}
-
-#[test]
-fn the_sweep_finds_what_looking_back_finds(rt: HostRuntime) -> Result<(), Fail> {
-    let alloc = rt.alloc();
-    assert!(rt; agrees(alloc, &delayed(alloc)?)?);
-    assert!(rt; agrees(alloc, &running_sums(alloc)?)?);
     Ok(())
 }

@@ -10,7 +10,7 @@ use Rattle.net_core.specs.declared.network.Event.TheVariants.{Get, Fire, Put}
 use Rattle.net_core.specs.Machine.{Net, Local, State, Rule, next, can_come, enabled, local_after, after_event, step}
 use Rattle.net_core.specs.Shape.{is_put, is_fire, IsWired, FitsNumbers, events_below, put_count}
 use Rattle.net_core.specs.Cuts.{puts_at, positions}
-use Rattle.net_core.specs.Held.{Held, IsFor, SameRoom}
+use Rattle.net_core.specs.Held.{Held, IsFor, SameRoom, IsReached}
 use Rattle.net_core.proofs.Counting.{count_past, replaced_same, replaced_other}
 use Rattle.net_core.proofs.Positions.{local_after_position, counted_step}
 
@@ -128,3 +128,7 @@ module _ {T : Type 0} (n : Net) (h : Held T) (is_for : IsFor n h) where
       let ends : record h { run = after_event rule h.run p (Some e) } ≡ h' =
       λ i. record { run = sym run i; processes = sym same.0 i; channels = sym same.1 i; kept_room = sym same.2 i; queue_room = sym same.3 i } in
       subst (IsFor n) ends stays
+
+-- a queue's length is below 2 ^ 32 in every state that steps have reached
+pub reached_short : {T : Type 0} (h : Held T) → IsReached h → (c : ℕ) → length (h.run.queue c) < 2 ^ 32
+reached_short h reached c = queue_short reached.0 h reached.1 c

@@ -55,7 +55,7 @@ run_of s = (held_of s).run
 abbrev pub SameRoom : {T : Type 0} → Held T → Held T → Type 0
 SameRoom a b = (b.processes ≡ a.processes) × (b.channels ≡ a.channels) × (b.kept_room ≡ a.kept_room) × (b.queue_room ≡ a.queue_room)
 
--- The state is one that steps of this network have reached, with the room for all that is to come.
+-- What every state has that steps of this network have reached, with the room for all that is to come.
 pub record IsFor {T : Type 0} (n : Net) (h : Held T) : Type 0 where
   pub wired : IsWired n
   pub numbers : FitsNumbers n
@@ -66,6 +66,10 @@ pub record IsFor {T : Type 0} (n : Net) (h : Held T) : Type 0 where
   pub slots : (p : ℕ) → length (h.run.local p).slots ≡ n.slots p
   pub kept_room : (p : ℕ) → h.kept_room p ≡ count_by is_fire (n.script p)
   pub queue_room : (c : ℕ) → h.queue_room c ≡ min (n.capacity c) (put_count n c)
+
+-- steps of some network have reached the state
+abbrev pub IsReached : {T : Type 0} → Held T → Type 0
+IsReached h = (n : Net) × IsFor n h
 
 -- a process isn't at its script's end, and each lower one is
 abbrev pub IsLeastUnended : {T : Type 0} → Net → State T → ℕ → Type 0

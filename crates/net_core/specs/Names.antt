@@ -57,7 +57,7 @@ slot_names n p k = map (option_and_then (token_at n)) (latest_gets n p k)
 pub data Name : Type 0 where
   -- no token: the value 0
   zero_name : Name
-  -- a slot that was not filled
+  -- a slot that was not filled, or whose Get has no token to take
   empty_name : Name
   token_name : Tag → Name
 

@@ -2,7 +2,7 @@ ghost use Rattle.std.specs.Prelude.{◌≡◌, ◌<◌, ◌+◌, ◌^◌, ℕ, [
 ghost use Rattle.net_core.specs.Machine.{Rule, net_of, last_of, next, enabled, step, after_event, HasEnded};
 ghost use Rattle.net_core.specs.Shape.{IsWithin};
 ghost use Rattle.net_core.specs.Rules.{KeepsTo, AllKeepTo};
-ghost use Rattle.net_core.specs.Held.{held_of, run_of, IsFor, SameRoom, IsLeastUnended};
+ghost use Rattle.net_core.specs.Held.{held_of, run_of, IsFor, IsReached, SameRoom, IsLeastUnended};
 
 use crate::firing::Firing;
 use crate::network::{Event, Network};
@@ -218,11 +218,20 @@ pub fn slots<T: Copy>(state: &State<T>, process: u32) -> &[Option<T>]
     &state.locals[process as usize].slots
 }
 
-/// The length of a channel's queue, which is below 2 ^ 32 where steps of a network have reached the state.
-pub fn queued<T: Copy>(state: &State<T>, channel: u32) -> u32
+// The length of a queue that is short.
+fn short_length<T: Copy>(state: &State<T>, channel: u32) -> u32
     requires channel { channel < (held_of state.now).channels }
     requires short { length ((run_of state.now).queue channel) < 2 ^ 32 }
     ensures { result ≡ length ((run_of state.now).queue channel) }
 {
     state.queues[channel as usize].len() as u32
+}
+
+/// The length of a channel's queue.
+pub fn queued<T: Copy>(state: &State<T>, channel: u32) -> u32
+    requires channel { channel < (held_of state.now).channels }
+    requires reached { IsReached (held_of state.now) }
+    ensures { result ≡ length ((run_of state.now).queue channel) }
+{
+    short_length(state, channel)
 }

@@ -1,0 +1,8 @@
+pub mod Repetitions
+pub mod Expansions
+pub mod Counts
+pub mod Firsts
+pub mod Nestings
+pub mod Builds
+pub mod Walks
+mod Worked

@@ -1,0 +1,9 @@
+use Rattle.std.proofs.Common.{◌≡◌, ◌-◌, ◌++◌}
+use Rattle.script_blocks.specs.Expansion.{repeated}
+use Rattle.script_blocks.proofs.folding.repetitions.Given as goal
+
+abbrev pub invariant-loop-times : goal.invariant-loop-times
+invariant-loop-times g l = l.first ++ l.items ≡ repeated l.times l.first ++ l.rest
+
+abbrev pub decreases-loop-times : goal.decreases-loop-times
+decreases-loop-times g l = l.most - l.times

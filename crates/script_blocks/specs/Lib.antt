@@ -1,0 +1,5 @@
+pub mod Expansion
+pub mod Nodes
+pub mod Nesting
+pub mod Places
+pub mod Cursors

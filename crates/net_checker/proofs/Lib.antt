@@ -1,0 +1,13 @@
+pub mod Choices
+pub mod Lists
+pub mod FitsShape
+pub mod FitsSchedule
+pub mod FitsClasses
+pub mod Fitting
+pub mod Found
+pub mod Walk
+pub mod Judged
+pub mod Used
+pub mod Numbers
+pub mod UsesAdded
+pub mod Verdicts

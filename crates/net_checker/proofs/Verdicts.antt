@@ -1,0 +1,59 @@
+-- The verdict, by what is wrong first.
+use Rattle.std.proofs.Common.{◌≡◌, Option, Some, None, refl, sym, ap, ◌∙◌}
+use Rattle.std.specs.Prelude.{◌↔◌}
+use Rattle.std.specs.Option.{option_or}
+use Rattle.sanlp.specs.declared.nest.Nest.{Nest}
+use Rattle.source_tree.specs.declared.cert.Cert.{Cert}
+use Rattle.net_core.specs.declared.network.Network.{Network}
+use Rattle.net_core.specs.Sound.{IsSound}
+use Rattle.net_core.proofs.Soundness.{is_sound}
+use Rattle.net_checker.specs.declared.verdict.Refusal.{Refusal}
+use Rattle.net_checker.specs.declared.verdict.Verdict.{Verdict}
+use Rattle.net_checker.specs.declared.verdict.Verdict.TheVariants.{Accepted, Refused}
+use Rattle.net_checker.specs.Shapes.{shape_refusal}
+use Rattle.net_checker.specs.Firings.{firing_refusal}
+use Rattle.net_checker.specs.Entries.{schedule_refusal}
+use Rattle.net_checker.specs.Classes.{class_refusal}
+use Rattle.net_checker.specs.Fits.{Fits, first, verdict_of}
+use Rattle.net_checker.proofs.Fitting.{first_fits, fits_first}
+
+module _ (n : Nest) (network : Network) (cert : Cert) where
+  -- the first reason that there is, in order
+  pub shape_first : (x : Refusal) → shape_refusal n network cert ≡ Some x → Some x ≡ first n network cert
+  shape_first x is =
+      sym (ap (λ o. option_or o (option_or (firing_refusal n network) (option_or (schedule_refusal n network cert.schedule) (class_refusal network)))) is)
+
+  pub shape_passed : shape_refusal n network cert ≡ None → option_or (firing_refusal n network) (option_or (schedule_refusal n network cert.schedule) (class_refusal network)) ≡ first n network cert
+  shape_passed is =
+      sym (ap (λ o. option_or o (option_or (firing_refusal n network) (option_or (schedule_refusal n network cert.schedule) (class_refusal network)))) is)
+
+  pub firing_first : (x : Refusal) → shape_refusal n network cert ≡ None → firing_refusal n network ≡ Some x → Some x ≡ first n network cert
+  firing_first x shape is =
+      sym (ap (λ o. option_or o (option_or (schedule_refusal n network cert.schedule) (class_refusal network))) is) ∙ shape_passed shape
+
+  pub firing_passed : shape_refusal n network cert ≡ None → firing_refusal n network ≡ None → option_or (schedule_refusal n network cert.schedule) (class_refusal network) ≡ first n network cert
+  firing_passed shape firing =
+      sym (ap (λ o. option_or o (option_or (schedule_refusal n network cert.schedule) (class_refusal network))) firing) ∙ shape_passed shape
+
+  pub schedule_first : (x : Refusal) → shape_refusal n network cert ≡ None → firing_refusal n network ≡ None → schedule_refusal n network cert.schedule ≡ Some x → Some x ≡ first n network cert
+  schedule_first x shape firing is =
+      sym (ap (λ o. option_or o (class_refusal network)) is) ∙ firing_passed shape firing
+
+  pub class_first : shape_refusal n network cert ≡ None → firing_refusal n network ≡ None → schedule_refusal n network cert.schedule ≡ None → class_refusal network ≡ first n network cert
+  class_first shape firing schedule =
+      sym (ap (λ o. option_or o (class_refusal network)) schedule) ∙ firing_passed shape firing
+
+  accepted : (o : Option Refusal) → verdict_of o ≡ Accepted → o ≡ None
+  accepted None h = refl
+  accepted (Some r) h = cc
+
+  pub verdict_fits : (v : Verdict) → v ≡ verdict_of (first n network cert) → (v ≡ Accepted) ↔ Fits n network cert
+  verdict_fits v is = (
+    λ h. first_fits n network cert (accepted (first n network cert) (sym is ∙ h)),
+    λ fits. is ∙ ap verdict_of (fits_first n network cert fits),
+  )
+
+  pub verdict_sound : (v : Verdict) → v ≡ verdict_of (first n network cert) → v ≡ Accepted → IsSound n network
+  verdict_sound v is h =
+      let fits = first_fits n network cert (accepted (first n network cert) (sym is ∙ h)) in
+      is_sound n network fits.shape fits.names cert.schedule fits.ends

@@ -1,0 +1,68 @@
+ghost use Rattle.std.specs.Prelude.{◌≡◌, ◌↔◌, IfOk};
+ghost use Rattle.loop_walk.specs.Counting.{SizeIsOk};
+ghost use Rattle.sanlp.specs.Points.{points_of};
+ghost use Rattle.net_core.specs.Machine.{net_of};
+ghost use Rattle.net_core.specs.Shape.{FitsNumbers};
+ghost use Rattle.net_core.specs.Sound.{IsSound};
+ghost use Rattle.net_checker.specs.Fits.{Fits, first, verdict_of};
+
+use crate::classes::class_refusal;
+use crate::entries::schedule_refusal;
+use crate::firings::firing_refusal;
+use crate::shapes::shape_refusal;
+use crate::verdict::{Refusal, Verdict};
+use net_core::Network;
+use sanlp::{Nest, Points};
+use shadow_sweep::sweep;
+use source_tree::Cert;
+use std::alloc::{AllocError, Global};
+
+// What is wrong first, if anything is.
+fn first_refusal(
+    alloc: Global,
+    nest: &Nest,
+    points: &Points,
+    network: &Network,
+    cert: &Cert,
+) -> Result<Option<Refusal>, AllocError>
+    requires size { SizeIsOk nest.now }
+    requires points { points.now.of ≡ points_of nest.now }
+    requires numbers { FitsNumbers (net_of network.now) }
+    ensures { IfOk result (λ refusal. refusal ≡ first nest.now network.now cert.now) }
+{
+    if let Some(refusal) = shape_refusal(nest, network, cert) {
+        return Ok(Some(refusal));
+    }
+    if let Some(refusal) = firing_refusal(nest, points, network) {
+        return Ok(Some(refusal));
+    }
+    let table = sweep(alloc, nest, points)?;
+    let schedule = cert.schedule.as_slice();
+    if let Some(refusal) = schedule_refusal(alloc, nest, points, network, &table, schedule)? {
+        return Ok(Some(refusal));
+    }
+    class_refusal(alloc, network)
+}
+
+/// Accepted exactly where the network and the certificate fit the nest, and else what is wrong first. What is accepted is
+/// sound: in every order of events it computes what the nest computes (Kahn 1974). It takes the time of the network's
+/// events, of one sweep of the nest, and of sorting the uses of each channel.
+pub fn check(
+    alloc: Global,
+    nest: &Nest,
+    points: &Points,
+    network: &Network,
+    cert: &Cert,
+) -> Result<Verdict, AllocError>
+    requires size { SizeIsOk nest.now }
+    requires points { points.now.of ≡ points_of nest.now }
+    requires numbers { FitsNumbers (net_of network.now) }
+    ensures exact { IfOk result (λ verdict. verdict ≡ verdict_of (first nest.now network.now cert.now)) }
+    ensures fits { IfOk result (λ verdict. (verdict ≡ Verdict.Accepted) ↔ Fits nest.now network.now cert.now) }
+    ensures sound { IfOk result (λ verdict. verdict ≡ Verdict.Accepted → IsSound nest.now network.now) }
+{
+    match first_refusal(alloc, nest, points, network, cert)? {
+        Some(refusal) => Ok(Verdict::Refused(refusal)),
+        None => Ok(Verdict::Accepted),
+    }
+}

@@ -1,0 +1,165 @@
+ghost use Rattle.std.specs.Prelude.{◌≡◌, ◌<◌, ◌+◌, ◌^◌, ℕ, [], ◌++◌, length, replicate, count_by, slice_get, slice_index, slice_index_or, Some, None, IfOk, OnOk};
+ghost use Rattle.std.specs.List.{flat_map};
+ghost use Rattle.net_core.specs.Machine.{net_of};
+ghost use Rattle.net_core.specs.Shape.{is_get, FitsNumbers, IsWired};
+ghost use Rattle.net_core.specs.Uses.{use_of, uses, uses_before};
+ghost use Rattle.net_checker.specs.Classes.{class_refusal, same_class};
+
+use crate::parts::{script_of, slots_of};
+use crate::verdict::Refusal;
+use channel_class::{ChannelClass, class_of};
+use net_core::{Event, Network, Ref};
+use plain_data::Items;
+use std::alloc::{AllocError, Global};
+
+// Adds what a reference uses: the Get whose token it names, to the list of that Get's channel.
+fn add_use(
+    reference: Ref,
+    slots: &[Option<(u32, u32)>],
+    uses: &mut [Items<u32>],
+) -> Result<(), AllocError>
+    requires { (k : ℕ) (got : ℕ × ℕ) → slice_get slots.now k ≡ Some (Some got) → got.0 < length uses.old }
+    ensures { OnOk result ((c : ℕ) → c < length uses.old
+        → slice_index_or uses.new c [] ≡ slice_index_or uses.old c [] ++ use_of c slots.now reference) }
+{
+    match reference {
+        Ref::Zero => Ok(()),
+        Ref::Slot(slot) => match slots.get(slot as usize) {
+            Some(Some((channel, get))) => uses[*channel as usize].push(*get),
+            _ => Ok(()),
+        },
+    }
+}
+
+// Adds what the references of a fire use.
+fn add_fire(
+    refs: &[Ref],
+    slots: &[Option<(u32, u32)>],
+    uses: &mut [Items<u32>],
+) -> Result<(), AllocError>
+    requires { (k : ℕ) (got : ℕ × ℕ) → slice_get slots.now k ≡ Some (Some got) → got.0 < length uses.old }
+    ensures { OnOk result ((c : ℕ) → c < length uses.old
+        → slice_index_or uses.new c [] ≡ slice_index_or uses.old c [] ++ flat_map (use_of c slots.now) refs.now) }
+{
+    for reference in refs {
+        add_use(*reference, slots, uses)?;
+    }
+    Ok(())
+}
+
+// Counts the Gets of a process's script, and adds its uses. No slot was filled, and none of its channels got from before.
+fn add_events(
+    network: &Network,
+    process: u32,
+    slots: &mut [Option<(u32, u32)>],
+    gets: &mut [u32],
+    uses: &mut [Items<u32>],
+) -> Result<(), AllocError>
+    requires wired { IsWired (net_of network.now) }
+    requires numbers { FitsNumbers (net_of network.now) }
+    requires slots { slots.old ≡ replicate ((net_of network.now).slots process) None }
+    requires gets { length gets.old ≡ length network.now.channels }
+    requires uses { length uses.old ≡ length network.now.channels }
+    requires fresh { (c : ℕ) → (net_of network.now).reader c ≡ process → slice_index gets.old c ≡ 0 }
+    ensures gets { OnOk result ((c : ℕ) → c < length network.now.channels
+        → slice_index gets.new c ≡ slice_index gets.old c + count_by (is_get c) ((net_of network.now).script process)) }
+    ensures uses { OnOk result ((c : ℕ) → c < length network.now.channels
+        → slice_index_or uses.new c [] ≡ slice_index_or uses.old c [] ++ uses_before (net_of network.now) c process (length ((net_of network.now).script process))) }
+{
+    for event in script_of(network, process) {
+        match event {
+            Event::Get { channel, slot } => {
+                let get = gets[*channel as usize];
+                slots[*slot as usize] = Some((*channel, get));
+                gets[*channel as usize] = get + 1;
+            }
+            Event::Fire { refs } => add_fire(refs.as_slice(), slots, uses)?,
+            Event::Put { .. } => {}
+        }
+    }
+    Ok(())
+}
+
+// The same, with slots of its own.
+fn add_script(
+    alloc: Global,
+    network: &Network,
+    process: u32,
+    gets: &mut [u32],
+    uses: &mut [Items<u32>],
+) -> Result<(), AllocError>
+    requires wired { IsWired (net_of network.now) }
+    requires numbers { FitsNumbers (net_of network.now) }
+    requires gets { length gets.old ≡ length network.now.channels }
+    requires uses { length uses.old ≡ length network.now.channels }
+    requires fresh { (c : ℕ) → (net_of network.now).reader c ≡ process → slice_index gets.old c ≡ 0 }
+    ensures gets { OnOk result ((c : ℕ) → c < length network.now.channels
+        → slice_index gets.new c ≡ slice_index gets.old c + count_by (is_get c) ((net_of network.now).script process)) }
+    ensures uses { OnOk result ((c : ℕ) → c < length network.now.channels
+        → slice_index_or uses.new c [] ≡ slice_index_or uses.old c [] ++ uses_before (net_of network.now) c process (length ((net_of network.now).script process))) }
+{
+    let mut slots = vec![in alloc; None; slots_of(network, process) as usize]?;
+    add_events(network, process, &mut slots, gets, uses)
+}
+
+// So many empty lists.
+fn empty_lists(alloc: Global, count: usize) -> Result<Vec<Items<u32>>, AllocError>
+    ensures { IfOk result (λ lists. lists.items ≡ replicate count []) }
+{
+    let mut lists = Vec::new(alloc);
+    for _ in 0..count {
+        lists.push(Items::new(alloc))?;
+    }
+    Ok(lists)
+}
+
+// The uses of each channel.
+fn channel_uses(alloc: Global, network: &Network) -> Result<Vec<Items<u32>>, AllocError>
+    requires wired { IsWired (net_of network.now) }
+    requires numbers { FitsNumbers (net_of network.now) }
+    ensures length { IfOk result (λ lists. length lists.items ≡ length network.now.channels) }
+    ensures uses { IfOk result (λ lists. (c : ℕ) → c < length network.now.channels → slice_index_or lists.items c [] ≡ uses (net_of network.now) c) }
+{
+    let mut uses = empty_lists(alloc, network.channels.len())?;
+    let mut gets = vec![in alloc; 0; network.channels.len()]?;
+    for process in 0..network.processes.len() as u32 {
+        add_script(alloc, network, process, &mut gets, &mut uses)?;
+    }
+    Ok(uses)
+}
+
+fn is_class(said: ChannelClass, class: ChannelClass) -> bool
+    ensures { result ≡ same_class said class }
+{
+    said == class
+}
+
+// The first channel whose class isn't that of its uses, which are these.
+fn first_other_class(
+    alloc: Global,
+    network: &Network,
+    lists: &[Items<u32>],
+) -> Result<Option<Refusal>, AllocError>
+    requires channels { length network.now.channels < 2 ^ 32 }
+    requires length { length lists.now ≡ length network.now.channels }
+    requires uses { (c : ℕ) → c < length network.now.channels → slice_index_or lists.now c [] ≡ uses (net_of network.now) c }
+    ensures { IfOk result (λ refusal. refusal ≡ class_refusal network.now) }
+{
+    for (at, channel) in network.channels.as_slice().iter().enumerate() {
+        let class = class_of(alloc, lists[at].as_slice())?;
+        if !is_class(channel.class, class) {
+            return Ok(Some(Refusal::Class(at as u32, channel.class, class)));
+        }
+    }
+    Ok(None)
+}
+
+// The first channel whose class isn't that of its uses, if there is one.
+pub(crate) fn class_refusal(alloc: Global, network: &Network) -> Result<Option<Refusal>, AllocError>
+    requires wired { IsWired (net_of network.now) }
+    requires numbers { FitsNumbers (net_of network.now) }
+    ensures { IfOk result (λ refusal. refusal ≡ class_refusal network.now) }
+{
+    let uses = channel_uses(alloc, network)?;
+    first_other_class(alloc, network, &uses)
+}

@@ -1,0 +1,204 @@
+ghost use Rattle.std.specs.Prelude.{◌≡◌, ◌<◌, ◌+◌, ◌^◌, length, slice_get, IfOk};
+ghost use Rattle.sanlp.specs.Points.{points_of};
+ghost use Rattle.source_tree.specs.Sources.{sources_of};
+ghost use Rattle.net_core.specs.Cuts.{positions};
+ghost use Rattle.net_core.specs.Held.{held_of, run_of, IsFor};
+ghost use Rattle.net_core.specs.Machine.{net_of};
+ghost use Rattle.net_core.specs.Names.{name_of, IsNamed};
+ghost use Rattle.net_core.specs.Rules.{vector_at};
+ghost use Rattle.net_core.specs.Shape.{FitsNumbers};
+ghost use Rattle.net_core.specs.Sound.{FitsNest};
+ghost use Rattle.net_checker.specs.Choice.{first_below};
+ghost use Rattle.net_checker.specs.Entries.{entry_refusal, is_wanted, name_refusal, point_of, schedule_refusal, seen_of, wanted_of};
+ghost use Rattle.net_checker.specs.Lookups.{refused_reference, source_in};
+
+use crate::parts::reads_before;
+use crate::verdict::{Refusal, Seen, Wanted};
+use affine_core::Vector;
+use net_core::{
+    Event, Network, Ref, Refs, State, Tags, enabled, kept, next, slots, start, step, unended,
+};
+use sanlp::{Nest, Point, Points, Tag};
+use source_tree::SourceTable;
+use std::alloc::{AllocError, Global};
+
+// The source of a read at a turn, or none where the table has no such entry.
+fn source_in(table: &SourceTable, read: usize, turn: usize) -> Option<Tag>
+    ensures { result ≡ source_in table.now.of read turn }
+{
+    match table.of.get(read) {
+        Some(turns) => match turns.get(turn) {
+            Some(source) => *source,
+            None => None,
+        },
+        None => None,
+    }
+}
+
+// The iteration vector of a tag, or the empty one where there is no such point.
+#[tactic(auto, using(crate::proofs::Lists::vector_found, crate::proofs::Lists::vector_past, crate::proofs::Lists::vectors_past))]
+fn vector_at(points: &Points, tag: Tag) -> Vector
+    ensures { result ≡ vector_at points.now.of tag.process tag.turn }
+{
+    match points.of.get(tag.process as usize) {
+        Some(vectors) => match vectors.get(tag.turn as usize) {
+            Some(at) => at.copy(),
+            None => Vector::empty(points.of.allocator()),
+        },
+        None => Vector::empty(points.of.allocator()),
+    }
+}
+
+// The point of a tag.
+fn point_of(points: &Points, tag: Tag) -> Point
+    ensures { result ≡ point_of points.now.of tag }
+{
+    Point {
+        statement: tag.process,
+        at: vector_at(points, tag),
+    }
+}
+
+// Whether a reference names what the read wants, which is the value of this source or zero.
+fn is_wanted(slots: &[Option<Tag>], reference: Ref, source: Option<Tag>) -> bool
+    ensures { result ≡ is_wanted (name_of slots.now reference) source }
+{
+    match reference {
+        Ref::Zero => source.is_none(),
+        Ref::Slot(slot) => match (slots.get(slot as usize), source) {
+            (Some(Some(token)), Some(source)) => *token == source,
+            _ => false,
+        },
+    }
+}
+
+// What a reference names.
+fn seen(points: &Points, slots: &[Option<Tag>], reference: Ref) -> Seen
+    ensures { result ≡ seen_of points.now.of (name_of slots.now reference) }
+{
+    match reference {
+        Ref::Zero => Seen::Zero,
+        Ref::Slot(slot) => match slots.get(slot as usize) {
+            Some(Some(token)) => Seen::At(point_of(points, *token)),
+            _ => Seen::Empty,
+        },
+    }
+}
+
+// What a read with this source wants.
+fn wanted(points: &Points, source: Option<Tag>) -> Wanted
+    ensures { result ≡ wanted_of points.now.of source }
+{
+    match source {
+        Some(tag) => Wanted::At(point_of(points, tag)),
+        None => Wanted::Zero,
+    }
+}
+
+// Why a reference of a fire is refused, if it is. Its read has this number in the table.
+fn judge_reference(
+    points: &Points,
+    table: &SourceTable,
+    read: usize,
+    turn: usize,
+    entry: u32,
+    slots: &[Option<Tag>],
+    reference: &Ref,
+) -> Option<Refusal>
+    ensures { result ≡ name_refusal points.now.of entry (name_of slots.now reference.now) (source_in table.now.of read turn) }
+{
+    let source = source_in(table, read, turn);
+    if is_wanted(slots, *reference, source) {
+        return None;
+    }
+    let seen = seen(points, slots, *reference);
+    Some(Refusal::Tag(entry, seen, wanted(points, source)))
+}
+
+// The first reference of a fire that doesn't name what its read wants. The first read has this number in the table.
+fn judge_fire(
+    points: &Points,
+    table: &SourceTable,
+    first_read: usize,
+    turn: usize,
+    entry: u32,
+    slots: &[Option<Tag>],
+    refs: &Refs,
+) -> Option<Refusal>
+    requires { first_read + length refs.now < 2 ^ 64 }
+    ensures { result ≡ first_below (λ j. refused_reference points.now.of table.now.of first_read turn slots.now entry j (slice_get refs.now j)) (length refs.now) }
+{
+    for (slot, reference) in refs.as_slice().iter().enumerate() {
+        let read = first_read + slot;
+        if let Some(refusal) = judge_reference(points, table, read, turn, entry, slots, reference) {
+            return Some(refusal);
+        }
+    }
+    None
+}
+
+// Why an entry of the schedule is refused in this state, if it is.
+fn judge(
+    nest: &Nest,
+    points: &Points,
+    network: &Network,
+    table: &SourceTable,
+    state: &State<Tag>,
+    entry: u32,
+    process: u32,
+) -> Option<Refusal>
+    requires points { points.now.of ≡ points_of nest.now }
+    requires fits { FitsNest nest.now network.now }
+    requires table { table.now.of ≡ sources_of nest.now }
+    requires state { IsFor (net_of network.now) (held_of state.now) }
+    requires named { IsNamed (net_of network.now) (λ t. t) (run_of state.now) }
+    ensures { result ≡ entry_refusal nest.now (net_of network.now) (positions (run_of state.now)) entry process }
+{
+    if !enabled(state, network, process) {
+        return Some(Refusal::NotEnabled(entry));
+    }
+    match next(state, network, process) {
+        Event::Get { .. } | Event::Put { .. } => None,
+        Event::Fire { refs } => {
+            let first_read = reads_before(nest, process as usize);
+            let turn = kept(state, process).len();
+            judge_fire(
+                points,
+                table,
+                first_read,
+                turn,
+                entry,
+                slots(state, process),
+                &refs,
+            )
+        }
+    }
+}
+
+// The first entry of the schedule that is refused, and else the least process that it leaves unended, if there is one.
+pub(crate) fn schedule_refusal(
+    alloc: Global,
+    nest: &Nest,
+    points: &Points,
+    network: &Network,
+    table: &SourceTable,
+    schedule: &[u32],
+) -> Result<Option<Refusal>, AllocError>
+    requires points { points.now.of ≡ points_of nest.now }
+    requires fits { FitsNest nest.now network.now }
+    requires numbers { FitsNumbers (net_of network.now) }
+    requires table { table.now.of ≡ sources_of nest.now }
+    ensures { IfOk result (λ refusal. refusal ≡ schedule_refusal nest.now network.now schedule.now) }
+{
+    let mut state = start(alloc, network, points)?;
+    for (entry, process) in schedule.iter().enumerate() {
+        if let Some(refusal) = judge(nest, points, network, table, &state, entry as u32, *process) {
+            return Ok(Some(refusal));
+        }
+        step(&mut state, network, &Tags {}, *process);
+    }
+    match unended(&state, network) {
+        Some(process) => Ok(Some(Refusal::Unended(process))),
+        None => Ok(None),
+    }
+}

@@ -1,0 +1,94 @@
+ghost use Rattle.std.specs.Prelude.{◌≡◌, ◌<◌, ◌^◌, length};
+ghost use Rattle.std.specs.List.{list_all};
+ghost use Rattle.sanlp.specs.Points.{points_of};
+ghost use Rattle.net_core.specs.Machine.{net_of};
+ghost use Rattle.net_core.specs.Shape.{is_fire, FitsNumbers};
+ghost use Rattle.net_checker.specs.Firings.{firing_refusal, is_within, may_stand, process_firing};
+
+use crate::parts::{reads_of, script_of, slots_of, turns_of};
+use crate::verdict::Refusal;
+use net_core::{Event, Network, Ref, Refs};
+use sanlp::{Nest, Points};
+
+// Whether a reference is `Zero` or a slot that is there.
+fn is_within(slots: u32, reference: Ref) -> bool
+    ensures { result ≡ is_within slots reference }
+{
+    match reference {
+        Ref::Zero => true,
+        Ref::Slot(slot) => slot < slots,
+    }
+}
+
+fn are_within(slots: u32, refs: &Refs) -> bool
+    ensures { result ≡ list_all (is_within slots) refs.now }
+{
+    refs.as_slice()
+        .iter()
+        .all(|reference| is_within(slots, *reference))
+}
+
+// Whether an event may stand in a process's script after so many fires.
+fn may_stand(
+    nest: &Nest,
+    points: &Points,
+    network: &Network,
+    process: u32,
+    before: usize,
+    event: &Event,
+) -> bool
+    requires { points.now.of ≡ points_of nest.now }
+    ensures { result ≡ may_stand nest.now (net_of network.now) process before event.now }
+{
+    match event {
+        Event::Get { .. } => true,
+        Event::Fire { refs } => {
+            before < turns_of(points, process)
+                && refs.len() == reads_of(nest, process)
+                && are_within(slots_of(network, process), refs)
+        }
+        Event::Put { .. } => before > 0,
+    }
+}
+
+fn is_fire(event: &Event) -> bool
+    ensures { result ≡ is_fire event.now }
+{
+    matches!(event, Event::Fire { .. })
+}
+
+// Where the fires of a process go wrong, if they do.
+fn process_firing(nest: &Nest, points: &Points, network: &Network, process: u32) -> Option<Refusal>
+    requires points { points.now.of ≡ points_of nest.now }
+    requires short { length ((net_of network.now).script process) < 2 ^ 32 }
+    ensures { result ≡ process_firing nest.now (net_of network.now) process }
+{
+    let script = script_of(network, process);
+    let mut fired = 0;
+    for (place, event) in script.iter().enumerate() {
+        if !may_stand(nest, points, network, process, fired, event) {
+            return Some(Refusal::Fires(process, place as u32));
+        }
+        if is_fire(event) {
+            fired += 1;
+        }
+    }
+    if fired < turns_of(points, process) {
+        return Some(Refusal::Fires(process, script.len() as u32));
+    }
+    None
+}
+
+// The least process whose fires go wrong, and where, if there is one.
+pub(crate) fn firing_refusal(nest: &Nest, points: &Points, network: &Network) -> Option<Refusal>
+    requires points { points.now.of ≡ points_of nest.now }
+    requires numbers { FitsNumbers (net_of network.now) }
+    ensures { result ≡ firing_refusal nest.now network.now }
+{
+    for process in 0..network.processes.len() as u32 {
+        if let Some(refusal) = process_firing(nest, points, network, process) {
+            return Some(refusal);
+        }
+    }
+    None
+}

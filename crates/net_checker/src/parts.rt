@@ -1,0 +1,70 @@
+ghost use Rattle.std.specs.Prelude.{◌≡◌, ◌≤◌, ◌*◌, take, length};
+ghost use Rattle.std.specs.List.{sum_by};
+ghost use Rattle.net_core.specs.Machine.{net_of};
+ghost use Rattle.net_core.specs.Rules.{read_count};
+ghost use Rattle.net_core.specs.Shape.{turns};
+ghost use Rattle.net_checker.specs.Shapes.{read_total};
+
+use net_core::{Event, Network};
+use sanlp::{Nest, Points};
+
+// The script of a process. A process that isn't there has no event.
+pub(crate) fn script_of(network: &Network, process: u32) -> &[Event]
+    ensures { result.now ≡ (net_of network.now).script process }
+{
+    match network.processes.get(process as usize) {
+        Some(process) => process.script.as_slice(),
+        None => &[],
+    }
+}
+
+// The number of a process's slots. A process that isn't there has none.
+pub(crate) fn slots_of(network: &Network, process: u32) -> u32
+    ensures { result ≡ (net_of network.now).slots process }
+{
+    match network.processes.get(process as usize) {
+        Some(process) => process.slots,
+        None => 0,
+    }
+}
+
+// How many points a process has.
+#[tactic(auto, using(crate::proofs::Lists::default_where_none))]
+pub(crate) fn turns_of(points: &Points, process: u32) -> usize
+    ensures { result ≡ turns points.now.of process }
+{
+    match points.of.get(process as usize) {
+        Some(vectors) => vectors.len(),
+        None => 0,
+    }
+}
+
+// How many reads a process's statement has.
+pub(crate) fn reads_of(nest: &Nest, process: u32) -> usize
+    ensures { result ≡ read_count nest.now process }
+{
+    match nest.statements.get(process as usize) {
+        Some(statement) => statement.reads.len(),
+        None => 0,
+    }
+}
+
+// How many reads the first so many statements have together.
+pub(crate) fn reads_before(nest: &Nest, statements: usize) -> usize
+    requires { statements ≤ length nest.now.statements }
+    ensures value { result ≡ sum_by (λ s. length s.reads) (take statements nest.now.statements) }
+    ensures small { result ≤ 8 * statements }
+{
+    let mut total = 0;
+    for number in 0..statements {
+        total += nest.statement(number as u32).reads.len();
+    }
+    total
+}
+
+// How many reads all statements have together.
+pub(crate) fn read_total(nest: &Nest) -> usize
+    ensures { result ≡ read_total nest.now }
+{
+    reads_before(nest, nest.statements.len())
+}

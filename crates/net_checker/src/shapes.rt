@@ -1,0 +1,97 @@
+ghost use Rattle.std.specs.Prelude.{◌≡◌, ◌<◌, ◌^◌, length, count_by};
+ghost use Rattle.std.specs.List.{list_all};
+ghost use Rattle.net_core.specs.Machine.{net_of};
+ghost use Rattle.net_core.specs.Shape.{is_any_get};
+ghost use Rattle.net_checker.specs.Shapes.{agrees, channel_agrees, is_own_event, keeps_shape, shape_refusal};
+
+use crate::parts::{read_total, reads_of, script_of, slots_of};
+use crate::verdict::Refusal;
+use net_core::{Channel, Event, Network};
+use sanlp::Nest;
+use source_tree::Cert;
+
+// Whether a channel's ends are statements, and its read one of its reader's.
+fn channel_agrees(nest: &Nest, channel: &Channel) -> bool
+    ensures { result ≡ channel_agrees nest.now channel.now }
+{
+    let statements = nest.statements.len();
+    (channel.writer as usize) < statements
+        && (channel.reader as usize) < statements
+        && (channel.read as usize) < reads_of(nest, channel.reader)
+}
+
+fn channels_agree(nest: &Nest, channels: &[Channel]) -> bool
+    ensures { result ≡ list_all (channel_agrees nest.now) channels.now }
+{
+    channels.iter().all(|channel| channel_agrees(nest, channel))
+}
+
+// Whether the numbers of processes and of sources, and all channels, agree with the nest.
+fn agrees(nest: &Nest, network: &Network, cert: &Cert) -> bool
+    ensures { result ≡ agrees nest.now network.now cert.now }
+{
+    network.processes.len() == nest.statements.len()
+        && cert.sources.len() == read_total(nest)
+        && channels_agree(nest, network.channels.as_slice())
+}
+
+// Whether an event names a channel of which the process is the right end, and a slot that is there.
+fn is_own_event(network: &Network, process: u32, event: &Event) -> bool
+    ensures { result ≡ is_own_event (net_of network.now) process event.now }
+{
+    match event {
+        Event::Get { channel, slot } => match network.channels.get(*channel as usize) {
+            Some(channel) => channel.reader == process && *slot < slots_of(network, process),
+            None => false,
+        },
+        Event::Fire { .. } => true,
+        Event::Put { channel } => match network.channels.get(*channel as usize) {
+            Some(channel) => channel.writer == process,
+            None => false,
+        },
+    }
+}
+
+fn events_are_own(network: &Network, process: u32) -> bool
+    ensures { result ≡ list_all (is_own_event (net_of network.now) process) ((net_of network.now).script process) }
+{
+    script_of(network, process)
+        .iter()
+        .all(|event| is_own_event(network, process, event))
+}
+
+fn is_get(event: &Event) -> bool
+    ensures { result ≡ is_any_get event.now }
+{
+    matches!(event, Event::Get { .. })
+}
+
+fn get_count(script: &[Event]) -> usize
+    ensures { result ≡ count_by is_any_get script.now }
+{
+    script.iter().filter(|event| is_get(event)).count()
+}
+
+// Whether all events are the process's own, and it has no more slots than Gets.
+fn keeps_shape(network: &Network, process: u32) -> bool
+    ensures { result ≡ keeps_shape (net_of network.now) process }
+{
+    let slots = slots_of(network, process) as usize;
+    events_are_own(network, process) && slots <= get_count(script_of(network, process))
+}
+
+// What is wrong with the shape, if anything is.
+pub(crate) fn shape_refusal(nest: &Nest, network: &Network, cert: &Cert) -> Option<Refusal>
+    requires { length network.now.processes < 2 ^ 32 }
+    ensures { result ≡ shape_refusal nest.now network.now cert.now }
+{
+    if !agrees(nest, network, cert) {
+        return Some(Refusal::Shape(nest.statements.len() as u32));
+    }
+    for process in 0..network.processes.len() as u32 {
+        if !keeps_shape(network, process) {
+            return Some(Refusal::Shape(process));
+        }
+    }
+    None
+}

@@ -11,6 +11,7 @@ pub mod RunLemmas
 pub mod ShortStatements
 pub mod SizeLaw
 pub mod SmallForms
+pub mod SumsInside
 pub mod ValuesInside
 pub mod WalkLemmas
 pub mod Worked

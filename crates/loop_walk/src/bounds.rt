@@ -1,6 +1,7 @@
-ghost use Rattle.std.specs.Prelude.{◌≡◌, ◌+◌, ◌<◌, ◌≤◌, [], ◌∷◌, ◌++◌, false, length, map, take, IsTrue, MatchOption};
+ghost use Rattle.std.specs.Prelude.{◌≡◌, ◌+ℤ◌, ◌*ℤ◌, Some, ◌+◌, ◌<◌, ◌≤◌, [], ◌∷◌, ◌++◌, false, length, map, take, IsTrue, MatchOption};
 ghost use Rattle.std.specs.List.{list_all};
 ghost use Rattle.affine_core.specs.Affine.{form_at};
+ghost use Rattle.affine_core.specs.Within.{sum_in_128_bits};
 ghost use Rattle.sanlp.specs.Loops.{all_hold, greatest, least};
 ghost use Rattle.sanlp.specs.WellFormed.{form_fits};
 ghost use Rattle.loop_walk.specs.Counting.{IsLoopRange, all_within, are_loop_values, is_loop_value, loop_within};
@@ -11,15 +12,27 @@ use affine_core::Form;
 /// The greatest absolute value of a form of an entered loop.
 const LOOP_VALUE_LIMIT: i128 = 4_611_686_018_427_387_904;
 
+// Adds a product to a sum, where neither leaves 128 bits.
+fn add_product(sum: i128, coef: i128, value: i128) -> i128
+    requires { sum_in_128_bits sum coef value ≡ Some (sum +ℤ (coef *ℤ value)) }
+    ensures { result ≡ sum +ℤ (coef *ℤ value) }
+{
+    sum + coef * value
+}
+
 // The value of a form. Its coefficients and the loop values are so small that no sum leaves 128 bits.
+#[tactic(auto, using(crate::proofs::SmallForms::value_is_in, crate::proofs::SumsInside::next_product, crate::proofs::SumsInside::next_rest))]
 pub(crate) fn form_value(form: &Form, at: &LoopValues) -> i128
     requires { IsTrue (form_fits (length at.now) form.now) }
     ensures { result ≡ form_at form.now at.now }
 {
-    match form.eval(at.wide()) {
-        Ok(value) => value,
-        Err(_) => unreachable!(),
+    let coefs = form.coefs.as_slice();
+    let values = at.wide();
+    let mut sum = form.constant;
+    for place in 0..coefs.len() {
+        sum = add_product(sum, coefs[place], values[place]);
     }
+    sum
 }
 
 // The greatest value of these forms, or 0 where there is none.

@@ -1,0 +1,56 @@
+-- A sum of products that stays within 128 bits does so product by product, from place to place.
+use Rattle.std.proofs.Common.{◌≡◌, ◌<◌, ◌+◌, ℕ, zero, suc, ℤ, pos, ◌+ℤ◌, ◌*ℤ◌, List, [], ◌∷◌, length, drop, refl, sym, ap, ap₂, ◌∙◌, arith, subst}
+use Rattle.std.specs.Prelude.{Option, Some, None, slice_index_or, IsTrue, ◌&&◌, ◌==◌}
+use Rattle.std.specs.List.{list_all}
+use Rattle.std.proofs.lemmas.Bool.{and_parts}
+use Rattle.std.proofs.lemmas.Bool.Decides.{nat_tests}
+use Rattle.affine_core.specs.declared.form.Form.{Form}
+use Rattle.sanlp.specs.WellFormed.{form_fits, is_moderate}
+use Rattle.std.specs.Option.{option_and_then}
+use Rattle.affine_core.specs.Within.{combined_in_128_bits, sum_in_128_bits}
+use Rattle.affine_core.proofs.Linear.{sum_in_128_bits_is}
+
+parts : {X Y : Type 0} (f : X → Option Y) (o : Option X) (y : Y) → option_and_then f o ≡ Some y → (x : X) × (o ≡ Some x) × (f x ≡ Some y)
+parts f None y e = cc e
+parts f (Some x) y e = (x, refl, e)
+
+pub one_product : (sum c v z : ℤ) (cs at : List ℤ) → combined_in_128_bits sum (c ∷ cs) (v ∷ at) ≡ Some z
+    → (sum_in_128_bits sum c v ≡ Some (sum +ℤ (c *ℤ v))) × (combined_in_128_bits (sum +ℤ (c *ℤ v)) cs at ≡ Some z)
+one_product sum c v z cs at e =
+    let p = parts (λ next. combined_in_128_bits next cs at) (sum_in_128_bits sum c v) z e in
+    let same : p.0 ≡ sum +ℤ (c *ℤ v) = sum_in_128_bits_is sum c v p.0 p.1 in
+    (p.1 ∙ ap (λ (n : ℤ). Some n) same, ap (λ n. combined_in_128_bits n cs at) (sym same) ∙ p.2)
+
+-- the list from a place on begins with what stands there
+drop_from : (xs : List ℤ) (k : ℕ) → k < length xs → drop k xs ≡ slice_index_or xs k (pos 0) ∷ drop (suc k) xs
+drop_from [] k within = absurd (omega arith)
+drop_from (x ∷ xs) zero within = refl
+drop_from (x ∷ xs) (suc k) within = drop_from xs k (omega arith)
+
+abbrev HasLeft : ℤ → List ℤ → List ℤ → ℕ → ℤ → Type 0
+HasLeft sum coefs values place z = combined_in_128_bits sum (drop place coefs) (drop place values) ≡ Some z
+
+next_both : (sum z : ℤ) (coefs values : List ℤ) (place : ℕ) → HasLeft sum coefs values place z → place < length coefs → place < length values
+    → (sum_in_128_bits sum (slice_index_or coefs place (pos 0)) (slice_index_or values place (pos 0)) ≡ Some (sum +ℤ (slice_index_or coefs place (pos 0) *ℤ slice_index_or values place (pos 0))))
+    × HasLeft (sum +ℤ (slice_index_or coefs place (pos 0) *ℤ slice_index_or values place (pos 0))) coefs values (suc place) z
+next_both sum z coefs values place left within there =
+    one_product sum (slice_index_or coefs place (pos 0)) (slice_index_or values place (pos 0)) z (drop (suc place) coefs) (drop (suc place) values)
+    (sym (ap₂ (λ cs vs. combined_in_128_bits sum cs vs) (drop_from coefs place within) (drop_from values place there)) ∙ left)
+
+pub next_product : (sum z : ℤ) (coefs values : List ℤ) (place : ℕ) → combined_in_128_bits sum (drop place coefs) (drop place values) ≡ Some z → place < length coefs → place < length values
+    → sum_in_128_bits sum (slice_index_or coefs place (pos 0)) (slice_index_or values place (pos 0)) ≡ Some (sum +ℤ (slice_index_or coefs place (pos 0) *ℤ slice_index_or values place (pos 0)))
+next_product sum z coefs values place left within there = (next_both sum z coefs values place left within there).0
+
+pub next_rest : (sum z : ℤ) (coefs values : List ℤ) (place : ℕ) → combined_in_128_bits sum (drop place coefs) (drop place values) ≡ Some z → place < length coefs → place < length values
+    → combined_in_128_bits (sum +ℤ (slice_index_or coefs place (pos 0) *ℤ slice_index_or values place (pos 0))) (drop (place + 1) coefs) (drop (place + 1) values) ≡ Some z
+next_rest sum z coefs values place left within there =
+    let e : suc place ≡ place + 1 = omega arith in
+    subst (λ (n : ℕ). combined_in_128_bits (sum +ℤ (slice_index_or coefs place (pos 0) *ℤ slice_index_or values place (pos 0))) (drop n coefs) (drop n values) ≡ Some z) e (next_both sum z coefs values place left within there).1
+
+same_number : (m n : ℕ) → IsTrue (m == n) → m ≡ n
+same_number m n h = grind (arith, nat_tests)
+
+pub as_many : (form : Form) (at : List ℤ) → IsTrue (form_fits (length at) form) → length form.coefs ≡ length at
+as_many form at fits =
+    let tests = and_parts (length form.coefs == length at && is_moderate form.constant) (list_all is_moderate form.coefs) fits in
+    same_number _ _ (and_parts (length form.coefs == length at) (is_moderate form.constant) tests.0).0

@@ -9,16 +9,17 @@ use std::alloc::{AllocError, Global};
 
 /// `min` or `max`.
 #[derive(Clone, Copy)]
-pub(crate) enum Choice {
+pub enum Choice {
     Min,
     Max,
 }
 
-/// What a token is to the grammar.
+/// What a token is to the grammar: each word and sign for itself, a name with its text, a number with its value.
 #[derive(Drop)]
-pub(crate) enum Lexeme {
+pub enum Lexeme {
     Name(Items<u8>),
     Number(i64),
+    /// `param`, `in`, `out`, `inout` or `var`.
     Declare(DeclWord),
     Int,
     For,

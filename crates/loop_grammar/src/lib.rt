@@ -12,6 +12,7 @@ mod statement;
 mod tree;
 
 pub use law::one_tree;
+pub use lexeme::{Choice, Lexeme};
 pub use parser::{ParseError, parse};
 pub use tree::{
     BinarySign, CompareSign, Comparison, DeclWord, Declaration, Name, Named, Operand, Other, Part,

@@ -1,0 +1,339 @@
+-- The text of the words is read back as these words.
+use Rattle.std.proofs.Common.{rules, ◌≡◌, ℕ, suc, ◌+◌, ◌*◌, ◌-◌, ◌^◌, ◌<◌, ◌≤◌, pos, negsuc, Bool, true, false, not, ◌&&◌, ◌||◌, List, [], ◌∷◌, fold, map, length, refl, sym, ap, subst, ◌∙◌, arith, All, codes, nat_lt, Ok, if◌then◌else◌}
+use Rattle.std.specs.Fmt.{decimal}
+use Rattle.std.specs.List.{list_all}
+use Rattle.std.specs.Str.{bytes_eq}
+use Rattle.std.proofs.lemmas.Bool.{le-ltb}
+use Rattle.std.proofs.lemmas.Bool.Decides.{nat_tests}
+use Rattle.std.proofs.lemmas.Fmt.{digits_decimal, digits_value-decimal, decimal_nonempty}
+use Rattle.std.proofs.lemmas.List.{length-map}
+use Rattle.std.proofs.lemmas.List.Elements.{All-head, All-tail}
+use Rattle.std.proofs.lemmas.Str.Parse.{IsDigitsTest, FoldsDigits, IsNumeralModel, numerals_by_fold}
+use Rattle.loop_lex.specs.Lexical.{is_word, is_letter, is_letter_or_digit, is_digit, is_digits, is_token, is_reserved, is_large, number_value, greatest_number}
+use Rattle.loop_lex.specs.Spaced.{are_token_texts, spaced, spaced_tokens}
+use Rattle.loop_lex.specs.Tokens.{kind_of, token_at, tokens, token_limit, text_of, IsTextOf as IsKindOf, IsTokenOf, AreTokensOf}
+use Rattle.loop_lex.specs.declared.token.Token.{Token}
+use Rattle.loop_lex.specs.declared.token.TokenKind.{TokenKind}
+use Rattle.loop_lex.specs.declared.token.TokenKind.TheVariants as kind
+use Rattle.loop_grammar.specs.declared.lexeme.Lexeme.{Lexeme}
+use Rattle.loop_grammar.specs.declared.lexeme.Lexeme.TheVariants as word
+use Rattle.loop_grammar.specs.declared.lexeme.Choice.TheVariants.{Min, Max}
+use Rattle.loop_grammar.specs.declared.tree.CompareSign.TheVariants.{Less, LessEq, Greater, GreaterEq, Equal}
+use Rattle.loop_grammar.specs.declared.tree.DeclWord.TheVariants.{Param, Input, Output, Both, Var}
+use Rattle.loop_grammar.specs.declared.tree.Tree.{Tree}
+use Rattle.loop_grammar.specs.Grammar.{Tok, Program, program_text, program_tree, Derives}
+use Rattle.loop_grammar.specs.Lexemes.{reserved_lexeme, bracket_lexeme, comparison_lexeme, sign_lexeme, lexeme_of, lexeme_at, numbered_from, sentence}
+use Rattle.loop_print.specs.Printing.{lexeme_text, written, tree_words}
+use Rattle.loop_print.specs.Numbers.{without_token_numbers}
+use Rattle.loop_print.specs.ReadBack.{HasSource, ReadsBackAs}
+use Rattle.loop_print.proofs.SpelledSources.{spelled_program}
+use Rattle.loop_print.proofs.Within.{IsTokenWord, AreTokenWords, AreTokens, Within, program_within}
+
+-- ---- names
+
+letter_no_digit : (b : ℕ) → is_letter b ≡ true → is_digit b ≡ false
+letter_no_digit b h = grind (arith, nat_tests)
+
+and_left : (x y : Bool) → (x && y) ≡ true → x ≡ true
+and_left true y h = refl
+and_left false y h = h
+
+word_no_digits : (text : List ℕ) → is_word text ≡ true → is_digits text ≡ false
+word_no_digits [] h = refl
+word_no_digits (b ∷ bs) h = let no_digit : is_digit b ≡ false = letter_no_digit b (and_left (is_letter b) (list_all is_letter_or_digit bs) h) in rw no_digit refl
+
+-- ---- numbers
+
+or_yes : (x : Bool) → (x || true) ≡ true
+or_yes true = refl
+or_yes false = refl
+
+abbrev IsNumeral : List ℕ → Type 0
+IsNumeral text = list_all is_digit text ≡ true
+
+abbrev value_behind : ℕ → List ℕ → ℕ
+value_behind n text = fold (λ value digit. value * 10 + (digit - 48)) n text
+
+tells_numerals : IsDigitsTest IsNumeral
+tells_numerals = search rules
+
+folds_numerals : FoldsDigits value_behind
+folds_numerals = record { empty = λ n. refl; more = λ n c cs h. refl }
+
+own_numerals : IsNumeralModel IsNumeral number_value
+own_numerals = numerals_by_fold IsNumeral tells_numerals value_behind folds_numerals
+
+digits_of_some : (text : List ℕ) → 0 < length text → IsNumeral text → is_digits text ≡ true
+digits_of_some [] some h = absurd (omega arith)
+digits_of_some (b ∷ bs) some h = h
+
+decimal_digits : (n : ℕ) → n ≤ greatest_number → is_digits (decimal n) ≡ true
+decimal_digits n le = let lt : n < 2 ^ 64 = omega arith in digits_of_some (decimal n) (decimal_nonempty n lt) (digits_decimal own_numerals n lt)
+
+decimal_value : (n : ℕ) → n ≤ greatest_number → number_value (decimal n) ≡ n
+decimal_value n le = let lt : n < 2 ^ 64 = omega arith in digits_value-decimal own_numerals n lt
+
+not_large : (n v : ℕ) → n ≤ greatest_number → v ≡ n → nat_lt greatest_number v ≡ false
+not_large n v le e = le-ltb greatest_number v (omega (arith, e, le))
+
+-- ---- words
+
+abbrev IsWritable : List ℕ → Type 0
+IsWritable text = (is_token text && not (is_large text)) ≡ true
+
+name_writable : (text : List ℕ) → is_word text ≡ true → IsWritable text
+name_writable text h = rw (h, word_no_digits text h) refl
+
+number_writable : (text : List ℕ) → is_digits text ≡ true → nat_lt greatest_number (number_value text) ≡ false → IsWritable text
+number_writable text d l = rw (d, l, or_yes (is_word text)) refl
+
+pub writable : (w : Lexeme) → IsTokenWord w → IsWritable (lexeme_text w)
+unfolding lexeme_text
+writable (word.Name text) h = name_writable text h.0
+writable (word.Number (pos n)) h = number_writable (decimal n) (decimal_digits n h) (not_large n (number_value (decimal n)) h (decimal_value n h))
+writable (word.Number (negsuc n)) h = absurd h
+writable (word.Declare Param) h = refl
+writable (word.Declare Input) h = refl
+writable (word.Declare Output) h = refl
+writable (word.Declare Both) h = refl
+writable (word.Declare Var) h = refl
+writable word.Int h = refl
+writable word.For h = refl
+writable word.If h = refl
+writable word.Else h = refl
+writable (word.Choice Min) h = refl
+writable (word.Choice Max) h = refl
+writable word.Open h = refl
+writable word.Close h = refl
+writable word.OpenSquare h = refl
+writable word.CloseSquare h = refl
+writable word.OpenCurly h = refl
+writable word.CloseCurly h = refl
+writable word.Semi h = refl
+writable word.Comma h = refl
+writable word.Assign h = refl
+writable (word.Compare Less) h = refl
+writable (word.Compare LessEq) h = refl
+writable (word.Compare Greater) h = refl
+writable (word.Compare GreaterEq) h = refl
+writable (word.Compare Equal) h = refl
+writable word.Plus h = refl
+writable word.Minus h = refl
+writable word.Times h = refl
+writable word.Increment h = refl
+writable word.And h = refl
+writable word.Other h = refl
+
+-- what a text is to the grammar
+abbrev pub lexeme_of_text : List ℕ → Lexeme
+lexeme_of_text text = lexeme_of (kind_of text) text
+
+name_read : (text : List ℕ) → is_word text ≡ true → is_reserved text ≡ false → lexeme_of_text text ≡ word.Name text
+name_read text h r =
+    let k : kind_of text ≡ kind.Name = rw (word_no_digits text h, h, r) refl in
+    ap (λ (s : TokenKind). lexeme_of s text) k
+
+number_read : (text : List ℕ) → is_digits text ≡ true → lexeme_of_text text ≡ word.Number (pos (number_value text))
+number_read text d =
+    let k : kind_of text ≡ kind.Number = rw d refl in
+    ap (λ (s : TokenKind). lexeme_of s text) k
+
+pub read_back : (w : Lexeme) → IsTokenWord w → lexeme_of_text (lexeme_text w) ≡ w
+unfolding lexeme_text reserved_lexeme sign_lexeme comparison_lexeme bracket_lexeme
+read_back (word.Name text) h = name_read text h.0 h.1
+read_back (word.Number (pos n)) h = number_read (decimal n) (decimal_digits n h) ∙ ap (λ (m : ℕ). word.Number (pos m)) (decimal_value n h)
+read_back (word.Number (negsuc n)) h = absurd h
+read_back (word.Declare Param) h = refl
+read_back (word.Declare Input) h = refl
+read_back (word.Declare Output) h = refl
+read_back (word.Declare Both) h = refl
+read_back (word.Declare Var) h = refl
+read_back word.Int h = refl
+read_back word.For h = refl
+read_back word.If h = refl
+read_back word.Else h = refl
+read_back (word.Choice Min) h = refl
+read_back (word.Choice Max) h = refl
+read_back word.Open h = refl
+read_back word.Close h = refl
+read_back word.OpenSquare h = refl
+read_back word.CloseSquare h = refl
+read_back word.OpenCurly h = refl
+read_back word.CloseCurly h = refl
+read_back word.Semi h = refl
+read_back word.Comma h = refl
+read_back word.Assign h = refl
+read_back (word.Compare Less) h = refl
+read_back (word.Compare LessEq) h = refl
+read_back (word.Compare Greater) h = refl
+read_back (word.Compare GreaterEq) h = refl
+read_back (word.Compare Equal) h = refl
+read_back word.Plus h = refl
+read_back word.Minus h = refl
+read_back word.Times h = refl
+read_back word.Increment h = refl
+read_back word.And h = refl
+read_back word.Other h = refl
+
+-- ---- texts of words
+
+pub all_writable : (ws : List Lexeme) → AreTokenWords ws → are_token_texts (map lexeme_text ws) ≡ true
+all_writable [] h = refl
+all_writable (w ∷ ws) h = rw (writable w h.0) (all_writable ws h.1)
+
+all_read : (ws : List Lexeme) → AreTokenWords ws → map lexeme_of_text (map lexeme_text ws) ≡ ws
+all_read [] h = refl
+all_read (w ∷ ws) h = ap (λ (x : Lexeme). x ∷ map lexeme_of_text (map lexeme_text ws)) (read_back w h.0) ∙ ap (λ (xs : List Lexeme). w ∷ xs) (all_read ws h.1)
+
+first_or : List ℕ → List (List ℕ) → List ℕ
+first_or d [] = d
+first_or d (x ∷ xs) = x
+
+others : List (List ℕ) → List (List ℕ)
+others [] = []
+others (x ∷ xs) = xs
+
+first_is : (x y : List ℕ) (xs ys : List (List ℕ)) → x ∷ xs ≡ y ∷ ys → x ≡ y
+unfolding first_or
+first_is x y xs ys e = ap (first_or []) e
+
+others_are : (x y : List ℕ) (xs ys : List (List ℕ)) → x ∷ xs ≡ y ∷ ys → xs ≡ ys
+unfolding others
+others_are x y xs ys e = ap others e
+
+lexemes_at : (bytes : List ℕ) (at : ℕ) (texts : List (List ℕ)) → map (text_of bytes) (spaced_tokens at texts) ≡ texts → map (lexeme_at bytes) (spaced_tokens at texts) ≡ map lexeme_of_text texts
+unfolding lexeme_at
+lexemes_at bytes at [] e = refl
+lexemes_at bytes at (text ∷ texts) e =
+    ap (λ (s : List ℕ). lexeme_of (kind_of text) s ∷ map (lexeme_at bytes) (spaced_tokens (at + length text + 1) texts))
+    (first_is (text_of bytes (token_at at text)) text (map (text_of bytes) (spaced_tokens (at + length text + 1) texts)) texts e)
+    ∙ ap (λ (xs : List Lexeme). lexeme_of_text text ∷ xs)
+    (lexemes_at bytes (at + length text + 1) texts (others_are (text_of bytes (token_at at text)) text (map (text_of bytes) (spaced_tokens (at + length text + 1) texts)) texts e))
+
+-- the sentence of the text is the words, numbered from 0
+sentence_is : (ws : List Lexeme) → AreTokenWords ws → map (text_of (written ws)) (spaced_tokens 0 (map lexeme_text ws)) ≡ map lexeme_text ws → sentence (written ws) (spaced_tokens 0 (map lexeme_text ws)) ≡ numbered_from 0 ws
+unfolding sentence
+sentence_is ws h e = ap (numbered_from 0) (lexemes_at (written ws) 0 (map lexeme_text ws) e ∙ all_read ws h)
+
+-- ---- the words of a source are tokens
+
+either : (b : Bool) (x y : Lexeme) → IsTokenWord x → IsTokenWord y → IsTokenWord (if b then x else y)
+either true x y hx hy = hx
+either false x y hx hy = hy
+
+reserved_word : (text : List ℕ) → IsTokenWord (reserved_lexeme text)
+unfolding reserved_lexeme
+reserved_word text =
+    either (bytes_eq text (codes "param")) (word.Declare Param) _ tt
+    (either (bytes_eq text (codes "in")) (word.Declare Input) _ tt
+    (either (bytes_eq text (codes "out")) (word.Declare Output) _ tt
+    (either (bytes_eq text (codes "inout")) (word.Declare Both) _ tt
+    (either (bytes_eq text (codes "var")) (word.Declare Var) _ tt
+    (either (bytes_eq text (codes "int")) word.Int _ tt
+    (either (bytes_eq text (codes "for")) word.For _ tt
+    (either (bytes_eq text (codes "if")) word.If _ tt
+    (either (bytes_eq text (codes "else")) word.Else _ tt
+    (either (bytes_eq text (codes "min")) (word.Choice Min) _ tt
+    (either (bytes_eq text (codes "max")) (word.Choice Max) word.Other tt tt))))))))))
+
+bracket_word : (text : List ℕ) → IsTokenWord (bracket_lexeme text)
+unfolding bracket_lexeme
+bracket_word text =
+    either (bytes_eq text (codes "(")) word.Open _ tt
+    (either (bytes_eq text (codes ")")) word.Close _ tt
+    (either (bytes_eq text (codes "[")) word.OpenSquare _ tt
+    (either (bytes_eq text (codes "]")) word.CloseSquare _ tt
+    (either (bytes_eq text (codes "{")) word.OpenCurly _ tt
+    (either (bytes_eq text (codes "}")) word.CloseCurly word.Other tt tt)))))
+
+comparison_word : (text : List ℕ) → IsTokenWord (comparison_lexeme text)
+unfolding comparison_lexeme
+comparison_word text =
+    either (bytes_eq text (codes "<")) (word.Compare Less) _ tt
+    (either (bytes_eq text (codes "<=")) (word.Compare LessEq) _ tt
+    (either (bytes_eq text (codes ">")) (word.Compare Greater) _ tt
+    (either (bytes_eq text (codes ">=")) (word.Compare GreaterEq) _ tt
+    (either (bytes_eq text (codes "==")) (word.Compare Equal) (bracket_lexeme text) tt (bracket_word text)))))
+
+sign_word : (text : List ℕ) → IsTokenWord (sign_lexeme text)
+unfolding sign_lexeme
+sign_word text =
+    either (bytes_eq text (codes ";")) word.Semi _ tt
+    (either (bytes_eq text (codes ",")) word.Comma _ tt
+    (either (bytes_eq text (codes "=")) word.Assign _ tt
+    (either (bytes_eq text (codes "+")) word.Plus _ tt
+    (either (bytes_eq text (codes "-")) word.Minus _ tt
+    (either (bytes_eq text (codes "*")) word.Times _ tt
+    (either (bytes_eq text (codes "++")) word.Increment _ tt
+    (either (bytes_eq text (codes "&&")) word.And (comparison_lexeme text) tt (comparison_word text))))))))
+
+token_word : (k : TokenKind) (text : List ℕ) → IsKindOf k text → IsTokenWord (lexeme_of k text)
+token_word kind.Name text h = h
+token_word kind.Number text h = h.1
+token_word kind.Reserved text h = reserved_word text
+token_word kind.Sign text h = sign_word text
+
+lexeme_word : (bytes : List ℕ) (t : Token) → IsTokenOf bytes t → IsTokenWord (lexeme_at bytes t)
+unfolding lexeme_at
+lexeme_word bytes t h = token_word t.kind (text_of bytes t) h.text
+
+numbered_tokens : (bytes : List ℕ) (n : ℕ) (found : List Token) → All (IsTokenOf bytes) found → AreTokens (numbered_from n (map (lexeme_at bytes) found))
+numbered_tokens bytes n [] h = tt
+numbered_tokens bytes n (t ∷ found) h = (lexeme_word bytes t (All-head (IsTokenOf bytes) t found h), numbered_tokens bytes (n + 1) found (All-tail (IsTokenOf bytes) t found h))
+
+sentence_tokens : (bytes : List ℕ) (found : List Token) → AreTokensOf bytes found → AreTokens (sentence bytes found)
+unfolding sentence
+sentence_tokens bytes found h = numbered_tokens bytes 0 found h.each
+
+length_numbered : (n : ℕ) (ws : List Lexeme) → length (numbered_from n ws) ≡ length ws
+length_numbered n [] = refl
+length_numbered n (w ∷ ws) = ap suc (length_numbered (n + 1) ws)
+
+length_sentence : (bytes : List ℕ) (found : List Token) → length (sentence bytes found) ≡ length found
+unfolding sentence
+length_sentence bytes found = length_numbered 0 (map (lexeme_at bytes) found) ∙ length-map found (lexeme_at bytes)
+
+-- ---- the law
+
+abbrev pub KeepsTokens : Type 0
+KeepsTokens = (bytes : List ℕ) (found : List Token) → tokens bytes ≡ Ok found → AreTokensOf bytes found
+
+abbrev pub ReadsSpaced : Type 0
+ReadsSpaced = (texts : List (List ℕ)) → are_token_texts texts ≡ true → length texts ≤ token_limit → tokens (spaced texts) ≡ Ok (spaced_tokens 0 texts)
+
+abbrev pub KeepsTexts : Type 0
+KeepsTexts = (texts : List (List ℕ)) → map (text_of (spaced texts)) (spaced_tokens 0 texts) ≡ texts
+
+words_read : (ws : List Lexeme) → ReadsSpaced → AreTokenWords ws → length ws ≤ token_limit → tokens (written ws) ≡ Ok (spaced_tokens 0 (map lexeme_text ws))
+unfolding written
+words_read ws reads valid short = let e : length (map lexeme_text ws) ≡ length ws = length-map ws lexeme_text in reads (map lexeme_text ws) (all_writable ws valid) (omega (arith, e, short))
+
+words_kept : (ws : List Lexeme) → KeepsTexts → map (text_of (written ws)) (spaced_tokens 0 (map lexeme_text ws)) ≡ map lexeme_text ws
+unfolding written
+words_kept ws texts = texts (map lexeme_text ws)
+
+of_program : (p : Program) (source : List ℕ) (found : List Token) → KeepsTokens → ReadsSpaced → KeepsTexts → tokens source ≡ Ok found → program_text p ≡ sentence source found → ReadsBackAs (written (tree_words (program_tree p))) (program_tree p)
+of_program p source found keeps reads texts read text =
+    let kept : AreTokensOf source found = keeps source found read in
+    let within : Within (tree_words (program_tree p)) (program_text p) = program_within p in
+    let valid : AreTokenWords (tree_words (program_tree p)) = within.valid (subst AreTokens (sym text) (sentence_tokens source found kept)) in
+    let le : length (tree_words (program_tree p)) ≤ length (program_text p) = within.shorter in
+    let same : length (program_text p) ≡ length found = ap length text ∙ length_sentence source found in
+    let limit : length found ≤ token_limit = kept.limit in
+    let short : length (tree_words (program_tree p)) ≤ token_limit = omega (arith, le, same, limit) in
+    let ws : List Lexeme = tree_words (program_tree p) in
+    let again : (again : Tree) × Derives (numbered_from 0 ws) again × (without_token_numbers again ≡ without_token_numbers (program_tree p)) = spelled_program p in (
+      spaced_tokens 0 (map lexeme_text ws),
+      again.0,
+      words_read ws reads valid short,
+      subst (λ (ts : List Tok). Derives ts again.0) (sym (sentence_is ws valid (words_kept ws texts))) again.1,
+      again.2,
+    )
+
+-- the text of a tree that has a source
+pub text_is_read : (tree : Tree) (text : List ℕ) → KeepsTokens → ReadsSpaced → KeepsTexts → HasSource tree → text ≡ written (tree_words tree) → ReadsBackAs text tree
+text_is_read tree text keeps reads texts has is =
+    let d : Derives (sentence has.0 has.1) tree = has.3 in
+    let p : Program = d.0 in
+    let whole : ReadsBackAs (written (tree_words (program_tree p))) (program_tree p) = of_program p has.0 has.1 keeps reads texts has.2 d.1 in
+    subst (λ (s : List ℕ). ReadsBackAs s tree) (sym is) (subst (λ (t : Tree). ReadsBackAs (written (tree_words t)) t) d.2 whole)

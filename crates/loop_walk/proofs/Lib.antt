@@ -4,6 +4,7 @@ pub mod CountLemmas
 pub mod HalfOpen
 pub mod LoopRange
 pub mod Placed
+pub mod PlaceSteps
 pub mod PointsAdded
 pub mod Rooms
 pub mod RowCells

@@ -6,5 +6,6 @@ pub mod Outputs
 pub mod PointLists
 pub mod RowPlaces
 pub mod Rows
+pub mod SmallValues
 pub mod Walking
 pub mod Walks

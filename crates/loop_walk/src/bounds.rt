@@ -1,9 +1,10 @@
-ghost use Rattle.std.specs.Prelude.{◌≡◌, ◌+ℤ◌, ◌*ℤ◌, Some, ◌+◌, ◌<◌, ◌≤◌, [], ◌∷◌, ◌++◌, false, length, map, take, IsTrue, MatchOption};
+ghost use Rattle.std.specs.Prelude.{◌≡◌, ◌+ℤ◌, ◌*ℤ◌, Some, ◌+◌, ◌<◌, ◌≤◌, [], ◌∷◌, ◌++◌, false, length, map, take, unsigned_abs, IsTrue, MatchOption};
 ghost use Rattle.std.specs.List.{list_all};
 ghost use Rattle.affine_core.specs.Affine.{form_at};
 ghost use Rattle.affine_core.specs.Within.{sum_in_128_bits};
 ghost use Rattle.sanlp.specs.Loops.{all_hold, greatest, least};
-ghost use Rattle.sanlp.specs.WellFormed.{form_fits};
+ghost use Rattle.sanlp.specs.WellFormed.{form_fits, is_moderate};
+ghost use Rattle.loop_walk.specs.SmallValues.{are_small_values};
 ghost use Rattle.loop_walk.specs.Counting.{IsLoopRange, all_within, are_loop_values, is_loop_value, loop_within};
 
 use crate::vector::LoopValues;
@@ -12,25 +13,60 @@ use affine_core::Form;
 /// The greatest absolute value of a form of an entered loop.
 const LOOP_VALUE_LIMIT: i128 = 4_611_686_018_427_387_904;
 
+// A coefficient in 64 bits.
+fn moderate(coef: i128) -> i64
+    requires { IsTrue (is_moderate coef) }
+    ensures { result ≡ coef }
+{
+    coef as i64
+}
+
 // Adds a product to a sum, where neither leaves 128 bits.
-fn add_product(sum: i128, coef: i128, value: i128) -> i128
+fn add_product(sum: i128, coef: i64, value: i64) -> i128
     requires { sum_in_128_bits sum coef value ≡ Some (sum +ℤ (coef *ℤ value)) }
     ensures { result ≡ sum +ℤ (coef *ℤ value) }
 {
-    sum + coef * value
+    sum + coef as i128 * value as i128
 }
 
 // The value of a form. Its coefficients and the loop values are so small that no sum leaves 128 bits.
-#[tactic(auto, using(crate::proofs::SmallForms::value_is_in, crate::proofs::SumsInside::next_product, crate::proofs::SumsInside::next_rest))]
+#[tactic(auto, using(crate::proofs::SumsInside::as_many))]
 pub(crate) fn form_value(form: &Form, at: &LoopValues) -> i128
     requires { IsTrue (form_fits (length at.now) form.now) }
     ensures { result ≡ form_at form.now at.now }
 {
     let coefs = form.coefs.as_slice();
-    let values = at.wide();
+    let values = at.as_slice();
     let mut sum = form.constant;
     for place in 0..coefs.len() {
-        sum = add_product(sum, coefs[place], values[place]);
+        let coef = moderate(coefs[place]);
+        sum = add_product(sum, coef, values[place]);
+    }
+    sum
+}
+
+// Adds a product to a sum, where both are so small that the sum has 64 bits.
+fn add_small_product(sum: i64, coef: i64, value: i64) -> i64
+    requires product { unsigned_abs (coef *ℤ value) ≤ 576460752303423488 }
+    requires sum { unsigned_abs sum ≤ 4000000000000000000 }
+    ensures { result ≡ sum +ℤ (coef *ℤ value) }
+{
+    sum + coef * value
+}
+
+// The value of a form at small loop values.
+#[tactic(auto, using(crate::proofs::SumsInside::as_many))]
+pub(crate) fn small_form_value(form: &Form, values: &[i64]) -> i64
+    requires fits { IsTrue (form_fits (length values.now) form.now) }
+    requires few { length values.now ≤ 6 }
+    requires small { IsTrue (are_small_values values.now) }
+    ensures { result ≡ form_at form.now values.now }
+{
+    let coefs = form.coefs.as_slice();
+    let mut sum = moderate(form.constant);
+    for place in 0..coefs.len() {
+        let coef = moderate(coefs[place]);
+        sum = add_small_product(sum, coef, values[place]);
     }
     sum
 }

@@ -1,10 +1,17 @@
-ghost use Rattle.std.specs.Prelude.{◌≡◌, ◌<◌, ◌++◌, None, Some, replicate, MatchOption, OnOk, vec_len};
+ghost use Rattle.std.specs.Prelude.{◌≡◌, ◌<◌, ◌++◌, None, Some, length, map, replicate, IsTrue, MatchOption, OnOk, vec_len};
+ghost use Rattle.std.specs.List.{list_all};
+ghost use Rattle.affine_core.specs.Affine.{form_at};
+ghost use Rattle.sanlp.specs.Access.{cell_at};
 ghost use Rattle.sanlp.specs.Cells.{natural};
+ghost use Rattle.sanlp.specs.WellFormed.{form_fits};
+ghost use Rattle.loop_walk.specs.Execution.{access_short};
 ghost use Rattle.loop_walk.specs.RowPlaces.{inside, place_after, place_from, with_place};
 
-use affine_core::Subscripts;
+use crate::bounds::{form_value, small_form_value};
+use crate::vector::LoopValues;
+use affine_core::{Form, Subscripts};
 use plain_data::Items;
-use sanlp::ArrayDecl;
+use sanlp::{Access, ArrayDecl};
 use std::alloc::{AllocError, Global};
 use std::collections::BTreeMap;
 
@@ -63,6 +70,50 @@ fn place_of(before: usize, extents: &[i64], at: &[i128]) -> Option<usize>
     }
 }
 
+// The place that a form's value leads to as the next subscript.
+fn next_place_of_form(before: usize, extent: i64, form: &Form, at: &LoopValues) -> Option<usize>
+    requires { IsTrue (form_fits (length at.now) form.now) }
+    ensures { result ≡ place_after before extent (form_at form.now at.now) }
+{
+    if at.are_small() {
+        next_place(
+            before,
+            extent,
+            small_form_value(form, at.as_slice()) as i128,
+        )
+    } else {
+        next_place(before, extent, form_value(form, at))
+    }
+}
+
+// The place of the cell whose subscripts are the values of these forms.
+fn place_of_forms(extents: &[i64], forms: &[Form], at: &LoopValues) -> Option<usize>
+    requires { IsTrue (list_all (form_fits (length at.now)) forms.now) }
+    ensures { result ≡ place_from 0 extents.now (map (λ form. form_at form at.now) forms.now) }
+{
+    if extents.len() != forms.len() {
+        return None;
+    }
+    let mut place = 0;
+    for (number, form) in forms.iter().enumerate() {
+        let next = next_place_of_form(place, extents[number], form, at)?;
+        place = next;
+    }
+    Some(place)
+}
+
+// The cell of an access.
+fn cell_of(alloc: Global, access: &Access, at: &LoopValues) -> (usize, Subscripts)
+    requires { IsTrue (access_short (length at.now) access.now) }
+    ensures { result ≡ cell_at at.now access.now }
+{
+    let mut subscripts = Subscripts::empty(alloc);
+    for form in access.subscripts.as_slice() {
+        subscripts.push(form_value(form, at));
+    }
+    (access.array as usize, subscripts)
+}
+
 // Adds so many places that were not written.
 fn add_places(values: &mut Items<Option<i64>>, count: usize) -> Result<(), AllocError>
     ensures { OnOk result (values.new ≡ values.old ++ replicate count None) }
@@ -94,6 +145,19 @@ impl Rows {
         ensures { result ≡ row_value self.now at.now }
     {
         let place = place_of(0, self.extents.as_slice(), at)?;
+        if place < self.values.len() {
+            self.values.as_slice()[place]
+        } else {
+            None
+        }
+    }
+
+    // The value of the cell whose subscripts are the values of these forms, if it was written here.
+    fn read(&self, forms: &[Form], at: &LoopValues) -> Option<i64>
+        requires { IsTrue (list_all (form_fits (length at.now)) forms.now) }
+        ensures { result ≡ row_value self.now (map (λ form. form_at form at.now) forms.now) }
+    {
+        let place = place_of_forms(self.extents.as_slice(), forms, at)?;
         if place < self.values.len() {
             self.values.as_slice()[place]
         } else {
@@ -159,31 +223,56 @@ impl Cells {
     }
 
     // The value of a cell, if it was written in rows.
-    fn kept(&self, cell: &(usize, Subscripts)) -> Option<i64>
-        ensures { result ≡ kept_value self.now.rows.items cell.now }
+    fn kept(&self, array: usize, at: &Subscripts) -> Option<i64>
+        ensures { result ≡ kept_value self.now.rows.items (array, at.now) }
     {
-        self.rows.get(cell.0)?.get(cell.1.as_slice())
+        self.rows.get(array)?.get(at.as_slice())
     }
 
     /// The value of the cell of an array number and subscripts, which is 0 where it was never written.
     #[tactic(auto, unfolding(crate::specs::CellMap::memory_of))]
-    pub(crate) fn get(&self, cell: &(usize, Subscripts)) -> i64
-        ensures { result ≡ cell_value (memory_of self.now) cell.now }
+    pub(crate) fn get(&self, array: usize, at: &Subscripts) -> i64
+        ensures { result ≡ cell_value (memory_of self.now) (array, at.now) }
     {
-        match self.kept(cell) {
+        match self.kept(array, at) {
             Some(value) => value,
-            None => self.map.get(cell).copied().unwrap_or(0),
+            None => self.map.get(&(array, at.copy())).copied().unwrap_or(0),
         }
     }
 
-    // The place of a cell in the rows of its array, if they have it or have room for it.
-    fn place_in_rows(&self, cell: &(usize, Subscripts)) -> Option<usize>
-        ensures { MatchOption result
-            (kept_value self.now.rows.items cell.now ≡ None)
-            (λ place. place_in self.now.rows.items cell.now ≡ Some place) }
+    // The value of an access's cell, if it was written in rows.
+    fn kept_read(&self, access: &Access, at: &LoopValues) -> Option<i64>
+        requires { IsTrue (access_short (length at.now) access.now) }
+        ensures { result ≡ kept_value self.now.rows.items (cell_at at.now access.now) }
     {
-        let rows = self.rows.get(cell.0)?;
-        let place = place_of(0, rows.extents.as_slice(), cell.1.as_slice())?;
+        let rows = self.rows.get(access.array as usize)?;
+        rows.read(access.subscripts.as_slice(), at)
+    }
+
+    /// The value of an access's cell, which is 0 where it was never written.
+    #[tactic(auto, unfolding(crate::specs::CellMap::memory_of))]
+    pub(crate) fn read(&self, alloc: Global, access: &Access, at: &LoopValues) -> i64
+        requires { IsTrue (access_short (length at.now) access.now) }
+        ensures { result ≡ cell_value (memory_of self.now) (cell_at at.now access.now) }
+    {
+        match self.kept_read(access, at) {
+            Some(value) => value,
+            None => {
+                let cell = cell_of(alloc, access, at);
+                self.map.get(&cell).copied().unwrap_or(0)
+            }
+        }
+    }
+
+    // The place of an access's cell in the rows of its array, if they have it or have room for it.
+    fn place_in_rows(&self, access: &Access, at: &LoopValues) -> Option<usize>
+        requires { IsTrue (access_short (length at.now) access.now) }
+        ensures { MatchOption result
+            (kept_value self.now.rows.items (cell_at at.now access.now) ≡ None)
+            (λ place. place_in self.now.rows.items (cell_at at.now access.now) ≡ Some place) }
+    {
+        let rows = self.rows.get(access.array as usize)?;
+        let place = place_of_forms(rows.extents.as_slice(), access.subscripts.as_slice(), at)?;
         if place < rows.values.len().saturating_add(self.room) {
             Some(place)
         } else {
@@ -205,14 +294,21 @@ impl Cells {
         Ok(())
     }
 
-    /// Writes a cell.
-    pub(crate) fn put(&mut self, cell: (usize, Subscripts), value: i64) -> Result<(), AllocError>
-        ensures { OnOk result (memory_of self.new ≡ with_cell (memory_of self.old) cell value) }
+    /// Writes an access's cell.
+    pub(crate) fn write(
+        &mut self,
+        alloc: Global,
+        access: &Access,
+        at: &LoopValues,
+        value: i64,
+    ) -> Result<(), AllocError>
+        requires { IsTrue (access_short (length at.now) access.now) }
+        ensures { OnOk result (memory_of self.new ≡ with_cell (memory_of self.old) (cell_at at.now access.now) value) }
     {
-        match self.place_in_rows(&cell) {
-            Some(place) => self.put_in_rows(cell.0, place, value),
+        match self.place_in_rows(access, at) {
+            Some(place) => self.put_in_rows(access.array as usize, place, value),
             None => {
-                self.map.insert(cell, value)?;
+                self.map.insert(cell_of(alloc, access, at), value)?;
                 Ok(())
             }
         }

@@ -1,6 +1,6 @@
 ghost use Rattle.std.specs.List.{list_all};
 ghost use Rattle.std.specs.Option.{option_map};
-ghost use Rattle.std.specs.Prelude.{◌≡◌, ◌≤◌, ◌<◌, [], pos, length, map, min, slice_index_or, IsTrue, OnOk};
+ghost use Rattle.std.specs.Prelude.{◌≡◌, ◌≤◌, ◌<◌, [], pos, length, map, min, take, slice_index_or, IsTrue, OnOk};
 ghost use Rattle.sanlp.specs.Access.{cell_at, extents_of, given_at};
 ghost use Rattle.sanlp.specs.Cells.{cell_count, place_of};
 ghost use Rattle.sanlp.specs.Meaning.{execute, store};
@@ -9,37 +9,27 @@ ghost use Rattle.wrap_expr.specs.Value.{value_of};
 ghost use Rattle.loop_walk.specs.CellMap.{memory_of};
 ghost use Rattle.loop_walk.specs.Execution.{access_short, is_of_depth, statement_short};
 
-use crate::bounds::form_value;
 use crate::cells::{Cells, natural_of};
 use crate::vector::LoopValues;
-use affine_core::{Short, Subscripts};
 use sanlp::{Access, Inputs, Nest, Role, Statement};
 use std::alloc::{AllocError, Global};
 use wrap_expr::eval;
 
-// The cell of an access.
-fn cell_of(alloc: Global, access: &Access, at: &LoopValues) -> (usize, Subscripts)
-    requires { IsTrue (access_short (length at.now) access.now) }
-    ensures { result ≡ cell_at at.now access.now }
-{
-    let mut subscripts = Subscripts::empty(alloc);
-    for form in access.subscripts.as_slice() {
-        subscripts.push(form_value(form, at));
-    }
-    (access.array as usize, subscripts)
-}
-
-// The values of the cells that a statement reads.
-fn read_values(alloc: Global, reads: &[Access], at: &LoopValues, cells: &Cells) -> Short<i64, 8>
+// Puts the values of the cells that a statement reads into the first places.
+fn read_values(
+    alloc: Global,
+    reads: &[Access],
+    at: &LoopValues,
+    cells: &Cells,
+    values: &mut [i64; 8],
+)
     requires few { length reads.now ≤ 8 }
     requires fit { IsTrue (list_all (access_short (length at.now)) reads.now) }
-    ensures { result ≡ map (cell_value (memory_of cells.now)) (map (cell_at at.now) reads.now) }
+    ensures { take (length reads.now) values.new ≡ map (cell_value (memory_of cells.now)) (map (cell_at at.now) reads.now) }
 {
-    let mut values = Short::empty(alloc);
-    for access in reads {
-        values.push(cells.get(&cell_of(alloc, access, at)));
+    for (slot, access) in reads.iter().enumerate() {
+        values[slot] = cells.read(alloc, access, at);
     }
-    values
 }
 
 // How many cells an array with these extents has, or the greatest number where there are more.
@@ -122,10 +112,17 @@ fn execute_statement(
         let value = value_of statement.now.expr (record { at = at.now; reads = values; given = given }) in
         OnOk result (memory_of cells.new ≡ store (memory_of cells.old) (option_map (cell_at at.now) statement.now.write) value) }
 {
-    let values = read_values(alloc, statement.reads.as_slice(), at, cells);
-    let value = eval(&statement.expr, at.as_slice(), values.as_slice(), given);
+    let reads = statement.reads.as_slice();
+    let mut values = [0; 8];
+    read_values(alloc, reads, at, cells, &mut values);
+    let value = eval(
+        &statement.expr,
+        at.as_slice(),
+        &values[..reads.len()],
+        given,
+    );
     match &statement.write {
-        Some(access) => cells.put(cell_of(alloc, access, at), value),
+        Some(access) => cells.write(alloc, access, at, value),
         None => Ok(()),
     }
 }

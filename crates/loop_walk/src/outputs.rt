@@ -58,7 +58,7 @@ fn push_value(
 ) -> Result<(), AllocError>
     ensures { OnOk result (values.new ≡ values.old ++ cell_value (memory_of cells.now) (array, at.now) ∷ []) }
 {
-    values.push(cells.get(&(array, at.copy())))
+    values.push(cells.get(array, at))
 }
 
 // Adds the values of all cells of an array.

@@ -1,27 +1,40 @@
-ghost use Rattle.std.specs.Prelude.{◌≡◌, ◌<◌, ◌≤◌, [], ◌∷◌, ◌++◌, length, IsTrue};
+ghost use Rattle.std.specs.Prelude.{◌≡◌, ◌<◌, ◌≤◌, [], ◌∷◌, ◌++◌, true, length, IsTrue};
 ghost use Rattle.loop_walk.specs.Counting.{are_loop_values, is_loop_value};
+ghost use Rattle.loop_walk.specs.SmallValues.{are_small_values, is_small_value};
 
 use std::marker::Model;
 
-/// The values of the loops round a part of a body, outermost first, each within the limit of loop values. They are kept
-/// in 64 bits, and in 128 bits for affine forms.
+/// The greatest absolute value of a small loop value: a form's value at small ones has 64 bits.
+const SMALL_VALUE_LIMIT: i64 = 134_217_728;
+
+/// The values of the loops round a part of a body, outermost first, each within the limit of loop values, and whether
+/// they are known to be small.
 #[derive(Drop)]
 pub(crate) struct LoopValues {
     values: [i64; 6],
-    wide: [i128; 6],
     depth: usize,
+    small: bool,
 }
 
 impl Model for LoopValues {
-    ghost use Rattle.std.specs.Prelude.{List, ℤ, ◌≡◌, ◌≤◌, take, IsTrue};
+    ghost use Rattle.std.specs.Prelude.{List, ℤ, ◌≡◌, ◌≤◌, take, true, IsTrue};
     ghost use Rattle.loop_walk.specs.Counting.{are_loop_values};
+    ghost use Rattle.loop_walk.specs.SmallValues.{are_small_values};
 
     ghost Value = { List ℤ };
 
     ghost view = { λ at. take at.depth at.values };
 
     ghost invariant = { λ at.
-        (at.depth ≤ 6) × (take at.depth at.wide ≡ take at.depth at.values) × IsTrue (are_loop_values (take at.depth at.values)) };
+        (at.depth ≤ 6) × IsTrue (are_loop_values (take at.depth at.values))
+        × (at.small ≡ true → IsTrue (are_small_values (take at.depth at.values))) };
+}
+
+// Whether a loop value is small.
+fn is_small(value: i64) -> bool
+    ensures { result ≡ is_small_value value }
+{
+    value >= -SMALL_VALUE_LIMIT && value <= SMALL_VALUE_LIMIT
 }
 
 impl LoopValues {
@@ -31,8 +44,8 @@ impl LoopValues {
     {
         LoopValues {
             values: [0; 6],
-            wide: [0; 6],
             depth: 0,
+            small: true,
         }
     }
 
@@ -42,31 +55,29 @@ impl LoopValues {
         requires within { IsTrue (is_loop_value value) }
         ensures { result ≡ self.now ++ value ∷ [] }
     {
-        let mut values = self.values;
-        let mut wide = self.wide;
-        values[self.depth] = value;
-        wide[self.depth] = value as i128;
-        LoopValues {
-            values,
-            wide,
-            depth: self.depth + 1,
-        }
+        let mut longer = LoopValues {
+            values: self.values,
+            depth: self.depth,
+            small: self.small && is_small(value),
+        };
+        longer.values[self.depth] = value;
+        longer.depth = self.depth + 1;
+        longer
     }
 
-    /// The values in 64 bits.
+    /// The values, in order.
     pub(crate) fn as_slice(&self) -> &[i64]
-        ensures value { result.now ≡ self.now }
-        ensures shallow { length self.now ≤ 6 }
-    {
-        &self.values[..self.depth]
-    }
-
-    /// The values in 128 bits.
-    pub(crate) fn wide(&self) -> &[i128]
         ensures value { result.now ≡ self.now }
         ensures shallow { length self.now ≤ 6 }
         ensures within { IsTrue (are_loop_values self.now) }
     {
-        &self.wide[..self.depth]
+        &self.values[..self.depth]
+    }
+
+    /// Whether the values are known to be small.
+    pub(crate) fn are_small(&self) -> bool
+        ensures { result ≡ true → IsTrue (are_small_values self.now) }
+    {
+        self.small
     }
 }

@@ -1,0 +1,6 @@
+pub mod Channels
+pub mod Counts
+pub mod Marks
+pub mod Nests
+pub mod Uses
+pub mod Worked

@@ -1,0 +1,26 @@
+use Rattle.std.proofs.Common.{◌++◌, ◌∷◌, [], map, take, count_by, sym, ap, ◌∙◌, ◌+◌}
+use Rattle.std.proofs.lemmas.List.Sums.{count_by_more_no, count_by_more_yes}
+use Rattle.sanlp.specs.Cells.{count_up}
+use Rattle.channel_plan.proofs.Counts.{map-count_up-push}
+use Rattle.channel_plan.proofs.tokens.token_numbers.Goals as goal
+use Rattle.channel_plan.proofs.tokens.token_numbers.Goals.{then-mark, else-mark}
+
+pub loop-mark-preserved : goal.loop-mark-preserved
+loop-mark-preserved c =
+    let marks = c.args.is_token.now in
+    let index = c.loop-mark.mark-index in
+    record {
+      number = elim c.if-mark.branch [
+        | then-mark w ↦
+            w.number-is ∙ ap (λ n. n + 1) c.loop-mark.invariant.number
+            ∙ sym (count_by_more_yes (λ mark. mark) marks index _ c.loop-mark-test.true w.if-mark.true)
+        | else-mark w ↦
+            w.number-is ∙ c.loop-mark.invariant.number
+            ∙ sym (count_by_more_no (λ mark. mark) marks index _ c.loop-mark-test.true w.if-mark.false)
+      ];
+      numbers =
+          c.in_ok-push.ensures.items
+          ∙ ap (λ ns. ns ++ c.loop-mark.number ∷ []) c.loop-mark.invariant.numbers
+          ∙ ap (λ n. map (λ turn. count_by (λ mark. mark) (take turn marks)) (count_up 0 index) ++ n ∷ []) c.loop-mark.invariant.number
+          ∙ sym (map-count_up-push (λ turn. count_by (λ mark. mark) (take turn marks)) index);
+    }

@@ -1,0 +1,12 @@
+//! The channels of a nest: one for each reader, read and writer of which some point is the source of that read, with the
+//! tokens that it carries, its class, and the slots in which its reader keeps them.
+#![tactic(auto)]
+
+mod plans;
+mod read;
+#[cfg(test)]
+mod tests;
+mod tokens;
+mod writers;
+
+pub use plans::{ChannelPlan, channel_plans};

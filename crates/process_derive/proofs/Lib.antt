@@ -1,0 +1,14 @@
+pub mod Lists
+pub mod Usages
+pub mod Counts
+pub mod Channels
+pub mod Tags
+pub mod Slots
+pub mod Bounds
+pub mod Scripts
+pub mod Parts
+pub mod Worked
+pub mod Sums
+pub mod Numbers
+pub mod Wired
+pub mod Shaped

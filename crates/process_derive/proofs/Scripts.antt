@@ -1,0 +1,174 @@
+-- The events that are made point by point are the script of the process.
+use Rattle.std.proofs.Common.{◌≡◌, ◌<◌, ◌≤◌, ◌+◌, ◌^◌, ℕ, zero, suc, List, [], ◌∷◌, ◌++◌, map, length, get_or, refl, sym, ap, ◌∙◌, subst, arith}
+use Rattle.std.specs.Prelude.{All, Option, Some, None, slice_get, slice_index_or}
+use Rattle.std.specs.List.{find, flat_map}
+use Rattle.std.specs.Option.{option_and_then, option_map, option_map_or}
+use Rattle.std.proofs.lemmas.List.Elements.{All-map}
+use Rattle.std.proofs.lemmas.Option.{slice_get-map, slice_get_within}
+use Rattle.channel_plan.specs.declared.plans.ChannelPlan.{ChannelPlan}
+use Rattle.channel_plan.specs.Plans.{plans_of, sources_at, turn_count}
+use Rattle.loop_walk.specs.Counting.{SizeIsOk}
+use Rattle.net_core.specs.declared.network.Event.TheVariants.{Fire}
+use Rattle.reorder_slots.specs.declared.slots.SlotPlan.{SlotPlan}
+use Rattle.sanlp.specs.declared.nest.Nest.{Nest}
+use Rattle.sanlp.specs.declared.nest.Tag.{Tag}
+use Rattle.sanlp.specs.Cells.{count_up}
+use Rattle.source_tree.specs.Sources.{read_count}
+use Rattle.source_tree.proofs.Numbered.{slice_get-count_up}
+use Rattle.process_derive.specs.declared.incoming.Incoming.{Incoming}
+use Rattle.process_derive.specs.declared.uses.ChannelUse.{ChannelUse}
+use Rattle.process_derive.specs.Incoming.{comes_from, incoming_from, outgoing_from, puts_to}
+use Rattle.process_derive.specs.Scripts.{Usage, channel_from, gets_of, point_events, ref_of, script, slot_base, usage, usage_from}
+use Rattle.process_derive.specs.Uses.{OnlyBelow, SlotsFit, UseFits, events_at, slot_uses, slots_at, usages_at, use_at, use_from, uses_before, uses_by_slot, with_slots}
+use Rattle.process_derive.proofs.Bounds.{few_entries, few_read_count, slots_fit}
+use Rattle.process_derive.proofs.Channels.{AreSame, found_same, puts_same}
+use Rattle.process_derive.proofs.Lists.{get_counted, joined_between, length_counted, same_between}
+use Rattle.process_derive.proofs.Tags.{few_turns, length-sources, processes_below}
+
+slots_there : (plans : List ChannelPlan) (c : ℕ) (plan : ChannelPlan) → slice_get plans c ≡ Some plan → slots_at plans c ≡ plan.slots
+slots_there plans c plan e = ap (λ o. option_map_or (λ plan. plan.slots) o (record { gets_before = []; slot_of_get = []; slot_of_use = []; hold = 0 })) e
+
+-- a use of the channel that is found, with its plan of slots
+named_same : (plans : List ChannelPlan) (p q : ℕ) (i : Option Incoming) (r : Option (ℕ × ChannelPlan)) → AreSame plans p i r
+    → with_slots plans (option_map (λ (found : Incoming). record { channel = found.channel; base = found.base; number = q }) i)
+    ≡ option_map (λ (found : ℕ × ChannelPlan). record { channel = found.0; base = slot_base plans p found.0; slots = found.1.slots; number = q }) r
+named_same plans p q None None h = refl
+named_same plans p q None (Some r) h = absurd h
+named_same plans p q (Some i) None h = absurd h
+named_same plans p q (Some i) (Some r) h =
+    let make : ℕ → ℕ → SlotPlan → Option Usage = λ c base slots. Some (record { channel = c; base = base; slots = slots; number = q }) in
+    ap (λ c. make c i.base (slots_at plans c)) h.number
+    ∙ ap (λ b. make r.0 b (slots_at plans r.0)) h.base
+    ∙ ap (make r.0 (slot_base plans p r.0)) (slots_there plans r.0 r.1 h.there)
+
+-- and the numbers of its slots fit
+fits_same : (plans : List ChannelPlan) (p q : ℕ) (i : Option Incoming) (r : Option (ℕ × ChannelPlan)) → AreSame plans p i r
+    → ((c : ℕ) (plan : ChannelPlan) → slice_get plans c ≡ Some plan → plan.reader ≡ p → SlotsFit (slot_base plans p c) plan.slots)
+    → UseFits plans (option_map (λ (found : Incoming). record { channel = found.channel; base = found.base; number = q }) i)
+fits_same plans p q None r h all = tt
+fits_same plans p q (Some i) None h all = absurd h
+fits_same plans p q (Some i) (Some r) h all =
+    let there : i.channel < length plans = omega (arith, h.number, slice_get_within plans r.0 r.1 h.there) in
+    let slots : slots_at plans i.channel ≡ r.1.slots = ap (slots_at plans) h.number ∙ slots_there plans r.0 r.1 h.there in
+    (there, subst (λ b. SlotsFit b (slots_at plans i.channel)) (sym h.base) (subst (SlotsFit (slot_base plans p r.0)) (sym slots) (all r.0 r.1 h.there h.reader)))
+
+pub channel_same : (plans : List ChannelPlan) (p w k : ℕ) → AreSame plans p (find (comes_from w k) (incoming_from 0 0 plans p)) (channel_from 0 plans w p k)
+channel_same plans p w k = found_same [] plans p w k 0 0 refl refl
+
+used_same : (plans : List ChannelPlan) (p k f : ℕ) (sources : List (Option Tag)) (o : Option (Option Tag))
+    → with_slots plans (option_and_then (λ source. option_and_then (λ (t : Tag). use_from (incoming_from 0 0 plans p) k t.process (uses_before sources f t.process)) source) o)
+    ≡ option_and_then (λ source. option_and_then (λ (t : Tag). usage_from plans sources p k f t.process) source) o
+used_same plans p k f sources None = refl
+used_same plans p k f sources (Some None) = refl
+used_same plans p k f sources (Some (Some t)) =
+    named_same plans p (uses_before sources f t.process) (find (comes_from t.process k) (incoming_from 0 0 plans p)) (channel_from 0 plans t.process p k) (channel_same plans p t.process k)
+
+used_fits : (n : Nest) (p k f : ℕ) (sources : List (Option Tag)) (o : Option (Option Tag)) → SizeIsOk n
+    → UseFits (plans_of n) (option_and_then (λ source. option_and_then (λ (t : Tag). use_from (incoming_from 0 0 (plans_of n) p) k t.process (uses_before sources f t.process)) source) o)
+used_fits n p k f sources None ok = tt
+used_fits n p k f sources (Some None) ok = tt
+used_fits n p k f sources (Some (Some t)) ok =
+    fits_same (plans_of n) p (uses_before sources f t.process) (find (comes_from t.process k) (incoming_from 0 0 (plans_of n) p)) (channel_from 0 (plans_of n) t.process p k)
+    (channel_same (plans_of n) p t.process k) (λ c plan e own. slots_fit n p c plan ok e own)
+
+-- every use fits
+pub all_fit : (n : Nest) (p : ℕ) (sources : List (List (Option Tag))) → SizeIsOk n
+    → All (All (UseFits (plans_of n))) (uses_by_slot (incoming_from 0 0 (plans_of n) p) sources)
+all_fit n p sources ok =
+    let incoming : List Incoming = incoming_from 0 0 (plans_of n) p in
+    All-map (All (UseFits (plans_of n))) (λ k. slot_uses incoming k (slice_index_or sources k [])) (count_up 0 (length sources))
+    (λ i d lt. let k : ℕ = get_or (count_up 0 (length sources)) i d in
+    let list : List (Option Tag) = slice_index_or sources k [] in
+    All-map (UseFits (plans_of n)) (use_at incoming k list) (count_up 0 (length list))
+    (λ j e le. used_fits n p k (get_or (count_up 0 (length list)) j e) list (slice_get list (get_or (count_up 0 (length list)) j e)) ok))
+
+map_map : {X Y Z : Type 0} (g : Y → Z) (f : X → Y) (xs : List X) → map g (map f xs) ≡ map (λ x. g (f x)) xs
+map_map g f [] = refl
+map_map g f (x ∷ xs) = ap (λ ys. g (f x) ∷ ys) (map_map g f xs)
+
+abbrev slots_of_reads : Nest → ℕ → List (List (Option Tag))
+slots_of_reads n p = map (sources_at n p) (count_up 0 (read_count n p))
+
+abbrev at_fire : ℕ → List (Option ChannelUse) → Option ChannelUse
+at_fire f list = option_and_then (λ found. found) (slice_get list f)
+
+used_at : (n : Nest) (p f k : ℕ) → f < turn_count n p → k < read_count n p
+    → with_slots (plans_of n) (at_fire f (slot_uses (incoming_from 0 0 (plans_of n) p) k (slice_index_or (slots_of_reads n p) k []))) ≡ usage n p f k
+used_at n p f k fire slot =
+    let plans : List ChannelPlan = plans_of n in
+    let incoming : List Incoming = incoming_from 0 0 plans p in
+    let sources : List (Option Tag) = sources_at n p k in
+    let read : slice_index_or (slots_of_reads n p) k [] ≡ sources =
+    get_counted (sources_at n p) [] 0 (read_count n p) k slot ∙ (let front : 0 + k ≡ k = omega arith in ap (sources_at n p) front) in
+    let front : 0 + f ≡ f = omega arith in
+    let here : at_fire f (slot_uses incoming k sources) ≡ use_at incoming k sources f =
+    ap (option_and_then (λ found. found)) (slice_get-map (use_at incoming k sources) (count_up 0 (length sources)) f
+    ∙ ap (option_map (use_at incoming k sources)) (slice_get-count_up 0 (length sources) f (omega (arith, length-sources n p k))))
+    ∙ ap (use_at incoming k sources) front in
+    ap (λ list. with_slots plans (at_fire f (slot_uses incoming k list))) read
+    ∙ ap (with_slots plans) here
+    ∙ used_same plans p k f sources (slice_get sources f)
+
+usages_same : (n : Nest) (p f : ℕ) → f < turn_count n p
+    → usages_at (plans_of n) (uses_by_slot (incoming_from 0 0 (plans_of n) p) (slots_of_reads n p)) f ≡ map (usage n p f) (count_up 0 (read_count n p))
+usages_same n p f fire =
+    let plans : List ChannelPlan = plans_of n in
+    let incoming : List Incoming = incoming_from 0 0 plans p in
+    let sources : List (List (Option Tag)) = slots_of_reads n p in
+    map_map (λ list. with_slots plans (at_fire f list)) (λ k. slot_uses incoming k (slice_index_or sources k [])) (count_up 0 (length sources))
+    ∙ ap (λ m. map (λ k. with_slots plans (at_fire f (slot_uses incoming k (slice_index_or sources k [])))) (count_up 0 m)) (length_counted (sources_at n p) 0 (read_count n p))
+    ∙ same_between (λ k. with_slots plans (at_fire f (slot_uses incoming k (slice_index_or sources k [])))) (usage n p f) 0 (read_count n p)
+    (λ k from below. used_at n p f k fire (omega arith))
+
+events_same : (n : Nest) (p f : ℕ) → f < turn_count n p
+    → events_at (plans_of n) (uses_by_slot (incoming_from 0 0 (plans_of n) p) (slots_of_reads n p)) (outgoing_from 0 (plans_of n) p) f ≡ point_events n p f
+events_same n p f fire =
+    let puts = puts_same [] (plans_of n) p f 0 refl in
+    ap (λ us. flat_map gets_of us ++ Fire (map ref_of us) ∷ puts_to (plans_of n) (outgoing_from 0 (plans_of n) p) f) (usages_same n p f fire)
+    ∙ ap (λ es. flat_map gets_of (map (usage n p f) (count_up 0 (read_count n p))) ++ Fire (map ref_of (map (usage n p f) (count_up 0 (read_count n p)))) ∷ es) puts
+
+-- the events of all points are the script
+pub script_same : (n : Nest) (p fires : ℕ) (plans : List ChannelPlan) (incoming : List Incoming) (sources : List (List (Option Tag))) (uses : List (List (Option ChannelUse))) (outgoing : List ℕ)
+    → plans ≡ plans_of n → incoming ≡ incoming_from 0 0 plans p → sources ≡ slots_of_reads n p → uses ≡ uses_by_slot incoming sources
+    → outgoing ≡ outgoing_from 0 plans p → fires ≡ turn_count n p
+    → flat_map (events_at plans uses outgoing) (count_up 0 fires) ≡ script n p
+script_same n p fires plans incoming sources uses outgoing e_plans e_incoming e_sources e_uses e_outgoing e_fires =
+    let all : incoming ≡ incoming_from 0 0 (plans_of n) p = e_incoming ∙ ap (λ ps. incoming_from 0 0 ps p) e_plans in
+    let used : uses ≡ uses_by_slot (incoming_from 0 0 (plans_of n) p) (slots_of_reads n p) = e_uses ∙ ap (λ i. uses_by_slot i sources) all ∙ ap (uses_by_slot (incoming_from 0 0 (plans_of n) p)) e_sources in
+    let out : outgoing ≡ outgoing_from 0 (plans_of n) p = e_outgoing ∙ ap (λ ps. outgoing_from 0 ps p) e_plans in
+    ap (λ ps. flat_map (events_at ps uses outgoing) (count_up 0 fires)) e_plans
+    ∙ ap (λ us. flat_map (events_at (plans_of n) us outgoing) (count_up 0 fires)) used
+    ∙ ap (λ os. flat_map (events_at (plans_of n) (uses_by_slot (incoming_from 0 0 (plans_of n) p) (slots_of_reads n p)) os) (count_up 0 fires)) out
+    ∙ ap (λ m. flat_map (events_at (plans_of n) (uses_by_slot (incoming_from 0 0 (plans_of n) p) (slots_of_reads n p)) (outgoing_from 0 (plans_of n) p)) (count_up 0 m)) e_fires
+    ∙ joined_between (events_at (plans_of n) (uses_by_slot (incoming_from 0 0 (plans_of n) p) (slots_of_reads n p)) (outgoing_from 0 (plans_of n) p)) (point_events n p) 0 (turn_count n p)
+    (λ f from below. events_same n p f (omega arith))
+
+pub fits_as : (n : Nest) (p : ℕ) (plans : List ChannelPlan) (incoming : List Incoming) (sources : List (List (Option Tag))) (uses : List (List (Option ChannelUse)))
+    → SizeIsOk n → plans ≡ plans_of n → incoming ≡ incoming_from 0 0 plans p → uses ≡ uses_by_slot incoming sources → All (All (UseFits plans)) uses
+fits_as n p plans incoming sources uses ok e_plans e_incoming e_uses =
+    let all : uses ≡ uses_by_slot (incoming_from 0 0 (plans_of n) p) sources = e_uses ∙ ap (λ i. uses_by_slot i sources) (e_incoming ∙ ap (λ ps. incoming_from 0 0 ps p) e_plans) in
+    subst (λ ps. All (All (UseFits ps)) uses) (sym e_plans) (subst (All (All (UseFits (plans_of n)))) (sym all) (all_fit n p sources ok))
+
+-- The sources of a process's reads
+
+read_mapped : (P : List (Option Tag) → Type 0) (g : ℕ → List (Option Tag)) (xs : List ℕ) (k : ℕ) → P [] → ((x : ℕ) → P (g x)) → P (get_or (map g xs) k [])
+read_mapped P g [] k none all = none
+read_mapped P g (x ∷ xs) zero none all = all x
+read_mapped P g (x ∷ xs) (suc k) none all = read_mapped P g xs k none all
+
+pub few_sources : (n : Nest) (p k : ℕ) (sources : List (List (Option Tag))) → SizeIsOk n → sources ≡ slots_of_reads n p → length (get_or sources k []) < 2 ^ 32
+few_sources n p k sources ok e =
+    subst (λ ls. length (get_or ls k []) < 2 ^ 32) (sym e)
+    (read_mapped (λ list. length list < 2 ^ 32) (sources_at n p) (count_up 0 (read_count n p)) k (omega arith)
+    (λ j. omega (arith, length-sources n p j, few_turns n p, few_entries n ok)))
+
+pub sources_exist : (n : Nest) (p k f : ℕ) (sources : List (List (Option Tag))) → sources ≡ slots_of_reads n p → OnlyBelow (length n.statements) (get_or (get_or sources k []) f None)
+sources_exist n p k f sources e =
+    subst (λ ls. OnlyBelow (length n.statements) (get_or (get_or ls k []) f None)) (sym e)
+    (read_mapped (λ list. OnlyBelow (length n.statements) (get_or list f None)) (sources_at n p) (count_up 0 (read_count n p)) k tt (λ j. processes_below n p j f))
+
+pub few_slots_read : (n : Nest) (p : ℕ) (sources : List (List (Option Tag))) → sources ≡ slots_of_reads n p → length sources ≤ 8
+few_slots_read n p sources e = omega (arith, ap length e, length_counted (sources_at n p) 0 (read_count n p), few_read_count n p)
+
+pub few_uses : (incoming : List Incoming) (sources : List (List (Option Tag))) (uses : List (List (Option ChannelUse))) → uses ≡ uses_by_slot incoming sources → length sources ≤ 8 → length uses ≤ 8
+few_uses incoming sources uses e le = omega (arith, ap length e, length_counted (λ k. slot_uses incoming k (slice_index_or sources k [])) 0 (length sources))

@@ -1,0 +1,11 @@
+use Rattle.std.proofs.Common.{◌≡◌, ◌++◌, map, take}
+use Rattle.std.specs.List.{flat_map}
+use Rattle.process_derive.specs.Scripts.{gets_of, ref_of}
+use Rattle.process_derive.specs.Uses.{usages_at}
+use Rattle.process_derive.proofs.events.add_point.Given as goal
+
+abbrev pub invariant-loop-slot : goal.invariant-loop-slot
+invariant-loop-slot l = record {
+  gets : l.events.items ≡ l.fn.events.items ++ flat_map gets_of (usages_at l.plans (take l.slot-index l.uses) l.turn);
+  refs : l.refs ≡ map ref_of (usages_at l.plans (take l.slot-index l.uses) l.turn);
+}

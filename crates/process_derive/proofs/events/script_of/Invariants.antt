@@ -1,0 +1,8 @@
+use Rattle.std.proofs.Common.{◌≡◌}
+use Rattle.std.specs.List.{flat_map}
+use Rattle.sanlp.specs.Cells.{count_up}
+use Rattle.process_derive.specs.Uses.{events_at}
+use Rattle.process_derive.proofs.events.script_of.Given as goal
+
+abbrev pub invariant-loop-turn : goal.invariant-loop-turn
+invariant-loop-turn l = l.events.items ≡ flat_map (events_at l.plans l.uses l.outgoing) (count_up 0 l.turn)

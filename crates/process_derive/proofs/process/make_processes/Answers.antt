@@ -1,0 +1,52 @@
+use Rattle.std.proofs.Common.{◌≡◌, ◌∙◌, ◌++◌, ◌∷◌, [], refl, ap, sym, arith, length, map}
+use Rattle.std.specs.Prelude.{Some, slice_get}
+use Rattle.std.proofs.lemmas.Option.{slice_get_read}
+use Rattle.sanlp.specs.Cells.{count_up}
+use Rattle.process_derive.specs.Derived.{process_of}
+use Rattle.process_derive.proofs.Lists.{counted_push}
+use Rattle.process_derive.proofs.Parts.{all_sources, later_sources, own_sources, points_there, reads_within, turns_there}
+use Rattle.process_derive.proofs.process.make_processes.Goals as goal
+
+pub loop-number-init : goal.loop-number-init
+loop-number-init c = record {
+  made = c.new-processes.ensures.items;
+  left = all_sources c.args.nest.now c.as_slice-rest.result.now c.args.sources.now.of c.as_slice-rest.ensures c.requires.sources;
+}
+
+pub split_at-requires : goal.split_at-requires
+split_at-requires c =
+    let n = c.args.nest.now in
+    let s = c.statement-item.result in
+    let here : slice_get n.statements c.loop-number.number ≡ Some s =
+    ap (λ xs. slice_get xs c.loop-number.number) (sym c.as_slice-statement-items.ensures) ∙ slice_get_read c.as_slice-statement-items.result.now _ c.loop-number.number s refl c.loop-number-test.true c.statement-item.is in
+    reads_within n c.loop-number.number c.len.result s c.loop-number.rest.now here c.len.ensures c.loop-number.invariant.left
+
+pub bounds-as_slice-number : goal.bounds-as_slice-number
+bounds-as_slice-number c =
+    points_there c.args.nest.now c.loop-number.number c.as_slice.result.now (c.as_slice.ensures ∙ c.requires.points) (omega (arith, ap length c.as_slice-statement-items.ensures, c.loop-number-test.true))
+
+pub make_process-requires-clause-fires : goal.make_process-requires-clause-fires
+make_process-requires-clause-fires c =
+    turns_there c.args.nest.now c.loop-number.number c.len-fires.result c.as_slice.result.now c.index-as_slice-number.result (c.as_slice.ensures ∙ c.requires.points)
+    (omega (arith, ap length c.as_slice-statement-items.ensures, c.loop-number-test.true)) c.index-as_slice-number.is c.len-fires.ensures
+
+pub make_process-requires-clause-sources : goal.make_process-requires-clause-sources
+make_process-requires-clause-sources c =
+    let n = c.args.nest.now in
+    let s = c.statement-item.result in
+    let here : slice_get n.statements c.loop-number.number ≡ Some s =
+    ap (λ xs. slice_get xs c.loop-number.number) (sym c.as_slice-statement-items.ensures) ∙ slice_get_read c.as_slice-statement-items.result.now _ c.loop-number.number s refl c.loop-number-test.true c.statement-item.is in
+    own_sources n c.loop-number.number c.len.result s c.loop-number.rest.now c.split_at.result.0.now here c.len.ensures c.loop-number.invariant.left c.split_at.ensures.front
+
+pub loop-number-preserved : goal.loop-number-preserved
+loop-number-preserved c =
+    let n = c.args.nest.now in
+    let s = c.statement-item.result in
+    let here : slice_get n.statements c.loop-number.number ≡ Some s =
+    ap (λ xs. slice_get xs c.loop-number.number) (sym c.as_slice-statement-items.ensures) ∙ slice_get_read c.as_slice-statement-items.result.now _ c.loop-number.number s refl c.loop-number-test.true c.statement-item.is in
+    record {
+      made = c.in_ok-push.ensures.items ∙ ap (λ xs. xs ++ c.in_ok-make_process.field-0 ∷ []) c.loop-number.invariant.made
+          ∙ ap (λ process. map (process_of n) (count_up 0 c.loop-number.number) ++ process ∷ []) c.in_ok-make_process.ensures
+          ∙ sym (counted_push (process_of n) c.loop-number.number);
+      left = later_sources n c.loop-number.number c.len.result s c.loop-number.rest.now c.split_at.result.1.now here c.len.ensures c.loop-number.invariant.left c.split_at.ensures.back;
+    }

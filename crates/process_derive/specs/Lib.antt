@@ -1,0 +1,4 @@
+pub mod Scripts
+pub mod Derived
+pub mod Incoming
+pub mod Uses

@@ -1,0 +1,166 @@
+ghost use Rattle.std.specs.Prelude.{◌≡◌, ◌<◌, ◌≤◌, ◌++◌, All, Some, length, slice_index, IfOk, OnOk};
+ghost use Rattle.std.specs.List.{flat_map};
+ghost use Rattle.std.specs.Option.{option_and_then};
+ghost use Rattle.std.specs.Prelude.{slice_get};
+ghost use Rattle.sanlp.specs.Cells.{count_up};
+ghost use Rattle.process_derive.specs.Incoming.{carries, puts_to};
+ghost use Rattle.process_derive.specs.Scripts.{gets_for_uses, gets_of, ref_of};
+ghost use Rattle.process_derive.specs.Uses.{events_at, slots_at, with_slots, SlotsFit, UseFits};
+
+use crate::uses::ChannelUse;
+use channel_plan::ChannelPlan;
+use net_core::{Event, Ref, Refs};
+use plain_data::Items;
+use reorder_slots::SlotPlan;
+use std::alloc::{AllocError, Global};
+
+// The number at a place, 0 past the end.
+fn number_at(numbers: &[u32], at: usize) -> u32
+    ensures { result ≡ slice_index numbers.now at }
+{
+    numbers.get(at).copied().unwrap_or(0)
+}
+
+// How many Gets of a channel stand before so many of its uses.
+fn gets_for(slots: &SlotPlan, uses: u32) -> u32
+    ensures { result ≡ gets_for_uses slots.now uses }
+{
+    match uses.checked_sub(1) {
+        Some(last) => number_at(slots.gets_before.as_slice(), last as usize),
+        None => 0,
+    }
+}
+
+// Adds the Gets that a use adds: those behind the Gets of the uses before it.
+fn add_gets(slots: &SlotPlan, found: ChannelUse, events: &mut Vec<Event>) -> Result<(), AllocError>
+    requires { SlotsFit found.base slots.now }
+    ensures { OnOk result (events.new.items ≡ events.old.items ++ gets_of (Some (record { channel = found.channel; base = found.base; slots = slots.now; number = found.number }))) }
+{
+    let done = gets_for(slots, found.number);
+    let needed = number_at(slots.gets_before.as_slice(), found.number as usize);
+    for get in done..needed {
+        let slot = found.base + number_at(slots.slot_of_get.as_slice(), get as usize);
+        events.push(Event::Get {
+            channel: found.channel,
+            slot,
+        })?;
+    }
+    Ok(())
+}
+
+// The slot in which a use finds its token.
+fn slot_of(slots: &SlotPlan, found: ChannelUse) -> Ref
+    requires { SlotsFit found.base slots.now }
+    ensures { result ≡ ref_of (Some (record { channel = found.channel; base = found.base; slots = slots.now; number = found.number })) }
+{
+    Ref::Slot(found.base + number_at(slots.slot_of_use.as_slice(), found.number as usize))
+}
+
+// Adds the Gets of what a fire uses at a slot, and answers what it names there.
+fn add_use(
+    plans: &[ChannelPlan],
+    found: Option<ChannelUse>,
+    events: &mut Vec<Event>,
+) -> Result<Ref, AllocError>
+    requires { UseFits plans.now found }
+    ensures gets { OnOk result (events.new.items ≡ events.old.items ++ gets_of (with_slots plans.now found)) }
+    ensures named { IfOk result (λ named. named ≡ ref_of (with_slots plans.now found)) }
+{
+    match found {
+        None => Ok(Ref::Zero),
+        Some(found) => {
+            let slots = &plans[found.channel as usize].slots;
+            add_gets(slots, found, events)?;
+            Ok(slot_of(slots, found))
+        }
+    }
+}
+
+// Whether a turn of its writer is a token of a channel.
+fn is_token(plans: &[ChannelPlan], turn: usize, channel: u32) -> bool
+    ensures { result ≡ carries plans.now turn channel }
+{
+    match plans.get(channel as usize) {
+        Some(plan) => plan.is_token.get(turn).copied().unwrap_or(false),
+        None => false,
+    }
+}
+
+/// Adds a Put to each of these channels of which the turn is a token.
+pub(crate) fn add_puts(
+    plans: &[ChannelPlan],
+    outgoing: &[u32],
+    turn: usize,
+    events: &mut Vec<Event>,
+) -> Result<(), AllocError>
+    ensures { OnOk result (events.new.items ≡ events.old.items ++ puts_to plans.now outgoing.now turn) }
+{
+    for channel in outgoing {
+        if is_token(plans, turn, *channel) {
+            events.push(Event::Put { channel: *channel })?;
+        }
+    }
+    Ok(())
+}
+
+// What a fire uses at a slot, given what each fire uses there.
+fn use_of(uses: &Items<Option<ChannelUse>>, turn: usize) -> Option<ChannelUse>
+    ensures { result ≡ option_and_then (λ found. found) (slice_get uses.now turn) }
+{
+    uses.get(turn).copied().flatten()
+}
+
+// Adds the events of a point: by read slot the Gets, one Fire, and by channel the Puts.
+fn add_point(
+    plans: &[ChannelPlan],
+    uses: &[Items<Option<ChannelUse>>],
+    outgoing: &[u32],
+    turn: usize,
+    events: &mut Vec<Event>,
+) -> Result<(), AllocError>
+    requires few { length uses.now ≤ 8 }
+    requires fit { All (All (UseFits plans.now)) uses.now }
+    ensures { OnOk result (events.new.items ≡ events.old.items ++ events_at plans.now uses.now outgoing.now turn) }
+{
+    let mut refs = Refs::empty();
+    for slot in uses {
+        refs.push(add_use(plans, use_of(slot, turn), events)?);
+    }
+    events.push(Event::Fire { refs })?;
+    add_puts(plans, outgoing, turn, events)
+}
+
+/// How many events a process with so many points has: the room that is reserved for them. No contract speaks of it.
+pub(crate) fn event_room(plans: &[ChannelPlan], process: u32, fires: usize) -> usize {
+    let mut room = fires;
+    for plan in plans {
+        if plan.reader == process {
+            room = room.saturating_add(plan.slots.slot_of_get.len());
+        }
+        if plan.writer == process {
+            room = room.saturating_add(plan.tokens as usize);
+        }
+    }
+    room
+}
+
+/// The events of a process with so many points, in order, given what each fire uses by read slot, and the numbers of the
+/// channels that it writes. Room for so many events is reserved first.
+pub(crate) fn script_of(
+    alloc: Global,
+    plans: &[ChannelPlan],
+    uses: &[Items<Option<ChannelUse>>],
+    outgoing: &[u32],
+    fires: usize,
+    room: usize,
+) -> Result<Items<Event>, AllocError>
+    requires few { length uses.now ≤ 8 }
+    requires fit { All (All (UseFits plans.now)) uses.now }
+    ensures { IfOk result (λ script. script ≡ flat_map (events_at plans.now uses.now outgoing.now) (count_up 0 fires)) }
+{
+    let mut events = Vec::with_capacity(alloc, room)?;
+    for turn in 0..fires {
+        add_point(plans, uses, outgoing, turn, &mut events)?;
+    }
+    Ok(Items::from_vec(events))
+}

@@ -1,0 +1,15 @@
+//! The process network of a nest: one process for each statement, one channel for each dependence (Compaan 2000, pn 2007).
+#![tactic(auto)]
+
+mod events;
+mod incoming;
+mod law;
+mod network;
+mod process;
+mod uses;
+
+pub use law::{fits_nest, numbers_fit};
+pub use network::derive;
+
+#[cfg(test)]
+mod tests;

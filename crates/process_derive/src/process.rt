@@ -1,0 +1,75 @@
+ghost use Rattle.std.specs.Prelude.{◌≡◌, ◌<◌, length, map, IfOk};
+ghost use Rattle.channel_plan.specs.Plans.{plans_of, sources_at, turn_count};
+ghost use Rattle.loop_walk.specs.Counting.{SizeIsOk};
+ghost use Rattle.sanlp.specs.Cells.{count_up};
+ghost use Rattle.sanlp.specs.Points.{points_of};
+ghost use Rattle.source_tree.specs.Sources.{read_count, sources_of};
+ghost use Rattle.process_derive.specs.Derived.{process_of};
+
+use crate::events::{event_room, script_of};
+use crate::incoming::{incoming_channels, outgoing_channels, slot_count};
+use crate::uses::uses_of;
+use channel_plan::ChannelPlan;
+use net_core::Process;
+use plain_data::Items;
+use sanlp::{Nest, Points, Tag};
+use source_tree::SourceTable;
+use std::alloc::{AllocError, Global};
+
+// The process of the statement of this number, which has so many points and these sources, by read slot.
+fn make_process(
+    alloc: Global,
+    nest: &Nest,
+    plans: &[ChannelPlan],
+    number: u32,
+    fires: usize,
+    sources: &[Items<Option<Tag>>],
+) -> Result<Process, AllocError>
+    requires size { SizeIsOk nest.now }
+    requires plans { plans.now ≡ plans_of nest.now }
+    requires exists { number < length nest.now.statements }
+    requires fires { fires ≡ turn_count nest.now number }
+    requires sources { sources.now ≡ map (sources_at nest.now number) (count_up 0 (read_count nest.now number)) }
+    ensures { IfOk result (λ process. process ≡ process_of nest.now number) }
+{
+    let incoming = incoming_channels(alloc, plans, number)?;
+    let outgoing = outgoing_channels(alloc, plans, number)?;
+    let uses = uses_of(alloc, incoming.as_slice(), sources, nest.statements.len())?;
+    let room = event_room(plans, number, fires);
+    Ok(Process {
+        slots: slot_count(plans, number),
+        script: script_of(
+            alloc,
+            plans,
+            uses.as_slice(),
+            outgoing.as_slice(),
+            fires,
+            room,
+        )?,
+    })
+}
+
+/// The processes of a nest, one for each statement. The table of sources is the exact one.
+pub(crate) fn make_processes(
+    alloc: Global,
+    nest: &Nest,
+    points: &Points,
+    sources: &SourceTable,
+    plans: &[ChannelPlan],
+) -> Result<Items<Process>, AllocError>
+    requires size { SizeIsOk nest.now }
+    requires points { points.now.of ≡ points_of nest.now }
+    requires sources { sources.now.of ≡ sources_of nest.now }
+    requires plans { plans.now ≡ plans_of nest.now }
+    ensures { IfOk result (λ processes. processes ≡ map (process_of nest.now) (count_up 0 (length nest.now.statements))) }
+{
+    let mut processes = Vec::new(alloc);
+    let mut rest = sources.of.as_slice();
+    for (number, statement) in nest.statements.as_slice().iter().enumerate() {
+        let (own, later) = rest.split_at(statement.reads.len());
+        let fires = points.of.as_slice()[number].len();
+        processes.push(make_process(alloc, nest, plans, number as u32, fires, own)?)?;
+        rest = later;
+    }
+    Ok(Items::from_vec(processes))
+}

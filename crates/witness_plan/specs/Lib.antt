@@ -1,0 +1,4 @@
+pub mod Examples
+pub mod Sequential
+pub mod Steps
+pub mod Traffic

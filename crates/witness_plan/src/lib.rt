@@ -1,0 +1,14 @@
+//! Schedules of the networks that nests give, the capacities that they need, and runs along a schedule.
+#![tactic(auto)]
+
+mod laws;
+mod running;
+mod schedules;
+mod steps;
+#[cfg(test)]
+mod tests;
+mod traffic;
+
+pub use laws::{other_capacities, sequential_runs};
+pub use running::run_by;
+pub use schedules::{Witness, sequential, with_capacities};

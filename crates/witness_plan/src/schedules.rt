@@ -1,0 +1,94 @@
+ghost use Rattle.std.specs.Prelude.{◌≡◌, IfOk};
+ghost use Rattle.loop_walk.specs.Counting.{SizeIsOk};
+ghost use Rattle.sanlp.specs.Points.{points_of};
+ghost use Rattle.net_core.specs.Machine.{net_of};
+ghost use Rattle.net_core.specs.Orders.{EndsAll};
+ghost use Rattle.net_core.specs.Rules.{tags};
+ghost use Rattle.process_derive.specs.Derived.{net};
+ghost use Rattle.witness_plan.specs.Sequential.{capacities, channels_with, sequential_schedule, with_capacities};
+
+use crate::steps::make_point;
+use crate::traffic::{Traffic, greatest_lengths};
+use loop_walk::Walk;
+use net_core::{Channel, Network};
+use plain_data::Items;
+use sanlp::{Nest, Points};
+use std::alloc::{AllocError, Global};
+
+/// A run of a network, and for each channel the greatest length of its queue along that run.
+#[derive(Drop)]
+pub struct Witness {
+    /// The number of the process that makes each event.
+    pub schedule: Items<u32>,
+    pub capacities: Items<u32>,
+}
+
+/// The schedule of a nest's network that takes the trace and lets the process of each entry do all events of that point,
+/// and the greatest length of each channel's queue along it. With these capacities it is a run of the network that ends
+/// all. Nothing is refused but want of memory.
+pub fn sequential(
+    alloc: Global,
+    nest: &Nest,
+    points: &Points,
+    network: &Network,
+) -> Result<Witness, AllocError>
+    requires size { SizeIsOk nest.now }
+    requires points { points.now.of ≡ points_of nest.now }
+    requires network { network.now ≡ net nest.now }
+    ensures schedule { IfOk result (λ witness. witness.schedule ≡ sequential_schedule nest.now) }
+    ensures capacities { IfOk result (λ witness. witness.capacities ≡ capacities network.now (sequential_schedule nest.now)) }
+    ensures run { IfOk result (λ witness. EndsAll (net_of (with_capacities network.now witness.capacities)) tags witness.schedule) }
+{
+    let mut schedule = Items::new(alloc);
+    let mut positions = vec![in alloc; 0; network.processes.len()]?;
+    let mut traffic = vec![in alloc; Traffic::NONE; network.channels.len()]?;
+    let mut walk = Walk::new(alloc, nest)?;
+    while let Some(point) = walk.next(nest) {
+        let process = point.statement;
+        let position = positions[process as usize];
+        let end = make_point(network, process, position, &mut schedule, &mut traffic)?;
+        positions[process as usize] = end;
+    }
+    let capacities = greatest_lengths(alloc, &traffic)?;
+    Ok(Witness {
+        schedule,
+        capacities,
+    })
+}
+
+// The channels with these capacities; a channel past the list has none.
+fn channels_with(
+    alloc: Global,
+    channels: &[Channel],
+    capacities: &[u32],
+) -> Result<Vec<Channel>, AllocError>
+    ensures { IfOk result (λ changed. changed.items ≡ channels_with channels.now capacities.now) }
+{
+    let mut changed = Vec::with_capacity(alloc, channels.len())?;
+    for (at, channel) in channels.iter().enumerate() {
+        let capacity = capacities.get(at).copied().unwrap_or(0);
+        changed.push(Channel {
+            writer: channel.writer,
+            reader: channel.reader,
+            read: channel.read,
+            capacity,
+            class: channel.class,
+        })?;
+    }
+    Ok(changed)
+}
+
+/// The network with other capacities, one for each channel.
+pub fn with_capacities(
+    alloc: Global,
+    network: Network,
+    capacities: &[u32],
+) -> Result<Network, AllocError>
+    ensures { IfOk result (λ changed. changed ≡ with_capacities network capacities.now) }
+{
+    let channels = channels_with(alloc, network.channels.as_slice(), capacities)?;
+    Ok(Network {
+        processes: network.processes,
+        channels: Items::from_vec(channels),
+    })
+}

@@ -1,0 +1,113 @@
+-- The text of a network.
+use Rattle.std.specs.Prelude.{ℕ, suc, ◌-◌, ◌==◌, min, max, if◌then◌else◌, Option, Some, List, [], ◌∷◌, ◌++◌, codes, decimal, fold, length, slice_get}
+use Rattle.std.specs.List.{flat_map, enumerate_from}
+use Rattle.std.specs.Option.{option_map, option_and_then, option_map_or}
+use Rattle.channel_class.specs.declared.ChannelClass.{ChannelClass}
+use Rattle.channel_class.specs.declared.UseOrder.{UseOrder}
+use Rattle.channel_class.specs.declared.UseOrder.TheVariants.{InOrder, Reorder}
+use Rattle.sanlp.specs.declared.nest.Nest.{Nest}
+use Rattle.sanlp.specs.declared.nest.Role.{Role}
+use Rattle.sanlp.specs.declared.nest.Role.TheVariants.{Source, Assign, Sink}
+use Rattle.sanlp.specs.declared.nest.Statement.{Statement}
+use Rattle.sanlp.specs.Points.{points_of}
+use Rattle.net_core.specs.declared.network.Channel.{Channel}
+use Rattle.net_core.specs.declared.network.Event.{Event}
+use Rattle.net_core.specs.declared.network.Event.TheVariants.{Get, Fire, Put}
+use Rattle.net_core.specs.declared.network.Network.{Network}
+use Rattle.net_core.specs.declared.network.Process.{Process}
+use Rattle.net_core.specs.Machine.{Net, net_of}
+use Rattle.net_core.specs.Shape.{turns, put_count, events_below}
+use Rattle.net_text.specs.Lines.{line_text}
+
+-- Processes
+
+-- what a process does with its array, by its statement's role
+abbrev pub role_word : Role → List ℕ
+role_word (Source array) = codes "source"
+role_word Assign = codes "assign"
+role_word (Sink array) = codes "sink"
+
+-- the number of the array that a statement is given, assigns or prints
+abbrev pub array_by_role : Role → Statement → Option ℕ
+array_by_role (Source array) statement = Some array
+array_by_role Assign statement = option_map (λ access. access.array) statement.write
+array_by_role (Sink array) statement = Some array
+
+-- the array's name; it is empty where there is no such array
+abbrev pub array_name : Nest → Statement → List ℕ
+array_name nest statement =
+    option_map_or (λ array. array.name) (option_and_then (slice_get nest.arrays) (array_by_role statement.role statement)) []
+
+-- the kind of process p, and the name of its array; each is empty where there is no such statement
+abbrev pub kind_word : Nest → ℕ → List ℕ
+kind_word nest p = option_map_or (λ statement. role_word statement.role) (slice_get nest.statements p) []
+
+abbrev pub name_word : Nest → ℕ → List ℕ
+name_word nest p = option_map_or (array_name nest) (slice_get nest.statements p) []
+
+-- process p with its numbers of fires and of slots
+abbrev pub process_line : Nest → ℕ → Process → List ℕ
+process_line nest p process = line_text (
+    codes "process" ∷ decimal p ∷ kind_word nest p ∷ name_word nest p
+    ∷ codes "fires" ∷ decimal (turns (points_of nest) p)
+    ∷ codes "slots" ∷ decimal process.slots ∷ [])
+
+-- a line for each of these processes, the first having number 0
+abbrev pub process_lines : Nest → List Process → List ℕ
+process_lines nest processes = flat_map (λ numbered. process_line nest numbered.0 numbered.1) (enumerate_from 0 processes)
+
+-- Channels
+
+-- the slot to which an event gets a token of channel c
+abbrev pub slot_got : ℕ → Event → List ℕ
+slot_got c (Get channel slot) = if c == channel then slot ∷ [] else []
+slot_got c (Fire refs) = []
+slot_got c (Put channel) = []
+
+-- how many numbers there are from the least of these to the greatest
+abbrev pub span : List ℕ → ℕ
+span [] = 0
+span (first ∷ others) = suc (fold max first others - fold min first others)
+
+-- how many slots there are from the least to the greatest that the reader's Gets of channel c name; where the channel's
+-- slots lie side by side and each is used, these are all that it has
+abbrev pub hold : Net → ℕ → ℕ
+hold n c = span (flat_map (slot_got c) (n.script (n.reader c)))
+
+-- how the reader uses the tokens
+abbrev pub order_word : UseOrder → List ℕ
+order_word InOrder = codes "inorder"
+order_word Reorder = codes "reorder"
+
+-- the same with a plus where some token is used more than once
+abbrev pub class_word : ChannelClass → List ℕ
+class_word class = order_word class.order ++ (if class.multiplicity then codes "+" else [])
+
+-- channel c with its ends, the read that it serves, its tokens, its capacity, its hold and its class
+abbrev pub channel_line : Network → ℕ → Channel → List ℕ
+channel_line network c channel = line_text (
+    codes "channel" ∷ decimal c ∷ codes "from" ∷ decimal channel.writer ∷ codes "to" ∷ decimal channel.reader
+    ∷ codes "read" ∷ decimal channel.read
+    ∷ codes "tokens" ∷ decimal (put_count (net_of network) c)
+    ∷ codes "capacity" ∷ decimal channel.capacity
+    ∷ codes "hold" ∷ decimal (hold (net_of network) c)
+    ∷ codes "class" ∷ class_word channel.class ∷ [])
+
+-- a line for each channel
+abbrev pub channel_lines : Network → List ℕ
+channel_lines network = flat_map (λ numbered. channel_line network numbered.0 numbered.1) (enumerate_from 0 network.channels)
+
+-- The text
+
+-- the number of events of all scripts together
+abbrev pub event_count : Network → ℕ
+event_count network = events_below (net_of network) (length network.processes)
+
+-- the version of the text, the processes, the channels and the number of events
+abbrev pub net_text : Nest → Network → List ℕ
+net_text nest network =
+    line_text (codes "net" ∷ codes "1" ∷ [])
+    ++ (process_lines nest network.processes
+    ++ (channel_lines network
+    ++ (line_text (codes "events" ∷ decimal (event_count network) ∷ [])
+    ++ line_text (codes "end" ∷ []))))

@@ -1,0 +1,194 @@
+ghost use Rattle.std.specs.Prelude.{◌≡◌, slice_get, OnOk, OnErr};
+ghost use Rattle.std.specs.Io.KnownBytes.{Appends};
+ghost use Rattle.io_edge.specs.Causes.{Rose, AppendsFront};
+ghost use Rattle.sanlp.specs.Points.{points_of};
+ghost use Rattle.net_core.specs.Machine.{net_of};
+ghost use Rattle.net_core.specs.Shape.{FitsNumbers};
+ghost use Rattle.net_text.specs.NetworkText.{role_word as word_of_role, array_by_role, array_name as name_of_array, kind_word as word_of_kind, name_word as word_of_name, class_word as word_of_class, process_line, process_lines, channel_line, channel_lines, net_text};
+
+use crate::counts::{event_count, fire_count, hold, put_count, script_of};
+use crate::line::{Word, write_line};
+use channel_class::{ChannelClass, UseOrder};
+use io_edge::{Sink, WriteFault};
+use net_core::{Channel, Network, Process};
+use sanlp::{Nest, Points, Role, Statement};
+
+fn role_word(role: Role) -> &'static [u8]
+    ensures { result.now ≡ word_of_role role }
+{
+    match role {
+        Role::Source(_) => b"source",
+        Role::Assign => b"assign",
+        Role::Sink(_) => b"sink",
+    }
+}
+
+/// The array that a statement is given, assigns or prints.
+fn array_of(statement: &Statement) -> Option<u32>
+    ensures { result ≡ array_by_role statement.now.role statement.now }
+{
+    match statement.role {
+        Role::Source(array) | Role::Sink(array) => Some(array),
+        Role::Assign => match &statement.write {
+            Some(access) => Some(access.array),
+            None => None,
+        },
+    }
+}
+
+/// The name of the array of a statement.
+fn array_name<'a>(nest: &'a Nest, statement: &Statement) -> &'a [u8]
+    ensures { result.now ≡ name_of_array nest.now statement.now }
+{
+    let Some(array) = array_of(statement) else {
+        return &[];
+    };
+    match nest.arrays.get(array as usize) {
+        Some(array) => array.name.as_slice(),
+        None => &[],
+    }
+}
+
+fn kind_word(nest: &Nest, process: usize) -> &'static [u8]
+    ensures { result.now ≡ word_of_kind nest.now process }
+{
+    match nest.statements.get(process) {
+        Some(statement) => role_word(statement.role),
+        None => &[],
+    }
+}
+
+fn name_word(nest: &Nest, process: usize) -> &[u8]
+    ensures { result.now ≡ word_of_name nest.now process }
+{
+    match nest.statements.get(process) {
+        Some(statement) => array_name(nest, statement),
+        None => &[],
+    }
+}
+
+fn write_process<K: Sink>(
+    nest: &Nest,
+    points: &Points,
+    number: usize,
+    process: &Process,
+    sink: &mut K,
+) -> Result<(), WriteFault>
+    requires { points.now.of ≡ points_of nest.now }
+    ensures ok { OnOk result (Appends (K.held sink.old) (K.held sink.new) (process_line nest.now number process.now)) }
+    ensures quiet { OnOk result (K.faults sink.new ≡ K.faults sink.old) }
+    ensures front { OnErr result (AppendsFront (K.held sink.old) (K.held sink.new) (process_line nest.now number process.now)) }
+    ensures cause { OnErr result (Rose (K.faults sink.old) (K.faults sink.new)) }
+{
+    let words = [
+        Word::Text(b"process"),
+        Word::Number(number as u64),
+        Word::Text(kind_word(nest, number)),
+        Word::Text(name_word(nest, number)),
+        Word::Text(b"fires"),
+        Word::Number(fire_count(points, number) as u64),
+        Word::Text(b"slots"),
+        Word::Number(u64::from(process.slots)),
+    ];
+    write_line(&words, sink)
+}
+
+fn write_processes<K: Sink>(
+    nest: &Nest,
+    points: &Points,
+    processes: &[Process],
+    sink: &mut K,
+) -> Result<(), WriteFault>
+    requires { points.now.of ≡ points_of nest.now }
+    ensures ok { OnOk result (Appends (K.held sink.old) (K.held sink.new) (process_lines nest.now processes.now)) }
+    ensures quiet { OnOk result (K.faults sink.new ≡ K.faults sink.old) }
+    ensures front { OnErr result (AppendsFront (K.held sink.old) (K.held sink.new) (process_lines nest.now processes.now)) }
+    ensures cause { OnErr result (Rose (K.faults sink.old) (K.faults sink.new)) }
+{
+    for (number, process) in processes.iter().enumerate() {
+        write_process(nest, points, number, process, sink)?;
+    }
+    Ok(())
+}
+
+fn class_word(class: ChannelClass) -> &'static [u8]
+    ensures { result.now ≡ word_of_class class }
+{
+    match (class.order, class.multiplicity) {
+        (UseOrder::InOrder, false) => b"inorder",
+        (UseOrder::InOrder, true) => b"inorder+",
+        (UseOrder::Reorder, false) => b"reorder",
+        (UseOrder::Reorder, true) => b"reorder+",
+    }
+}
+
+fn write_channel<K: Sink>(
+    network: &Network,
+    number: usize,
+    channel: &Channel,
+    sink: &mut K,
+) -> Result<(), WriteFault>
+    requires { slice_get network.now.channels number ≡ Some channel.now }
+    ensures ok { OnOk result (Appends (K.held sink.old) (K.held sink.new) (channel_line network.now number channel.now)) }
+    ensures quiet { OnOk result (K.faults sink.new ≡ K.faults sink.old) }
+    ensures front { OnErr result (AppendsFront (K.held sink.old) (K.held sink.new) (channel_line network.now number channel.now)) }
+    ensures cause { OnErr result (Rose (K.faults sink.old) (K.faults sink.new)) }
+{
+    let words = [
+        Word::Text(b"channel"),
+        Word::Number(number as u64),
+        Word::Text(b"from"),
+        Word::Number(u64::from(channel.writer)),
+        Word::Text(b"to"),
+        Word::Number(u64::from(channel.reader)),
+        Word::Text(b"read"),
+        Word::Number(u64::from(channel.read)),
+        Word::Text(b"tokens"),
+        Word::Number(put_count(script_of(network, channel.writer), number) as u64),
+        Word::Text(b"capacity"),
+        Word::Number(u64::from(channel.capacity)),
+        Word::Text(b"hold"),
+        Word::Number(hold(script_of(network, channel.reader), number)),
+        Word::Text(b"class"),
+        Word::Text(class_word(channel.class)),
+    ];
+    write_line(&words, sink)
+}
+
+pub(crate) fn write_channels<K: Sink>(network: &Network, sink: &mut K) -> Result<(), WriteFault>
+    ensures ok { OnOk result (Appends (K.held sink.old) (K.held sink.new) (channel_lines network.now)) }
+    ensures quiet { OnOk result (K.faults sink.new ≡ K.faults sink.old) }
+    ensures front { OnErr result (AppendsFront (K.held sink.old) (K.held sink.new) (channel_lines network.now)) }
+    ensures cause { OnErr result (Rose (K.faults sink.old) (K.faults sink.new)) }
+{
+    for (number, channel) in network.channels.as_slice().iter().enumerate() {
+        write_channel(network, number, channel, sink)?;
+    }
+    Ok(())
+}
+
+/// Writes the network text. It takes no memory.
+///
+/// After `net 1` there is one line for each process and one for each channel, in order, then the number of events of
+/// all scripts and `end`. At `WriteFault` the sink holds what it held and a front of the text, and its count rose in
+/// this call.
+pub fn write_net<K: Sink>(
+    nest: &Nest,
+    points: &Points,
+    network: &Network,
+    sink: &mut K,
+) -> Result<(), WriteFault>
+    requires points { points.now.of ≡ points_of nest.now }
+    requires numbers { FitsNumbers (net_of network.now) }
+    ensures ok { OnOk result (Appends (K.held sink.old) (K.held sink.new) (net_text nest.now network.now)) }
+    ensures quiet { OnOk result (K.faults sink.new ≡ K.faults sink.old) }
+    ensures front { OnErr result (AppendsFront (K.held sink.old) (K.held sink.new) (net_text nest.now network.now)) }
+    ensures cause { OnErr result (Rose (K.faults sink.old) (K.faults sink.new)) }
+{
+    write_line(&[Word::Text(b"net"), Word::Text(b"1")], sink)?;
+    write_processes(nest, points, network.processes.as_slice(), sink)?;
+    write_channels(network, sink)?;
+    let events = [Word::Text(b"events"), Word::Number(event_count(network))];
+    write_line(&events, sink)?;
+    write_line(&[Word::Text(b"end")], sink)
+}

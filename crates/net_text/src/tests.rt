@@ -1,0 +1,159 @@
+use crate::line::{Word, write_line};
+use crate::network_text::write_channels;
+use crate::write_net;
+use channel_class::{ChannelClass, UseOrder};
+use io_edge::{MemSink, WriteFault};
+use net_core::{Channel, Event, Network, Process, Refs};
+use plain_data::Items;
+use sanlp::{Nest, Points};
+use std::alloc::{AllocError, Global};
+use std::test::Fail;
+
+fn fire() -> Event {
+    Event::Fire {
+        refs: Refs::empty(),
+    }
+}
+
+fn get(channel: u32, slot: u32) -> Event {
+    Event::Get { channel, slot }
+}
+
+fn put(channel: u32) -> Event {
+    Event::Put { channel }
+}
+
+/// A channel with its writer, reader, read and capacity.
+fn channel(numbers: [u32; 4], order: UseOrder, multiplicity: bool) -> Channel {
+    let [writer, reader, read, capacity] = numbers;
+    Channel {
+        writer,
+        reader,
+        read,
+        capacity,
+        class: ChannelClass {
+            order,
+            multiplicity,
+        },
+    }
+}
+
+/// Two processes, of which the first hands four tokens to the second by one channel and one token by another. By the
+/// last two channels nothing is handed on.
+fn network(alloc: Global) -> Result<Network, AllocError> {
+    let mut processes = Items::new(alloc);
+    processes.push(Process {
+        slots: 1,
+        script: Items::from_slice(
+            alloc,
+            &[
+                fire(),
+                put(0),
+                fire(),
+                put(0),
+                put(1),
+                fire(),
+                put(0),
+                fire(),
+                put(0),
+            ],
+        )?,
+    })?;
+    processes.push(Process {
+        slots: 4,
+        script: Items::from_slice(
+            alloc,
+            &[
+                get(0, 2),
+                fire(),
+                get(0, 1),
+                get(0, 3),
+                fire(),
+                get(1, 0),
+                get(0, 2),
+                fire(),
+            ],
+        )?,
+    })?;
+    let mut channels = Items::new(alloc);
+    channels.push(channel([0, 1, 7, 90], UseOrder::Reorder, false))?;
+    channels.push(channel([0, 1, 0, 91], UseOrder::InOrder, true))?;
+    channels.push(channel([1, 0, 0, 92], UseOrder::InOrder, false))?;
+    channels.push(channel([1, 1, 1, 93], UseOrder::Reorder, true))?;
+    Ok(Network {
+        processes,
+        channels,
+    })
+}
+
+#[test]
+fn a_line_is_its_words(rt: HostRuntime) -> Result<(), Fail> {
+    for (words, want) in [
+        ([Word::Text(b"end")].as_slice(), b"end\n".as_slice()),
+        (
+            [Word::Text(b"events"), Word::Number(21)].as_slice(),
+            b"events 21\n".as_slice(),
+        ),
+        (
+            [Word::Number(0), Word::Text(b"to"), Word::Number(u64::MAX)].as_slice(),
+            b"0 to 18446744073709551615\n".as_slice(),
+        ),
+    ] {
+        let mut sink = MemSink::new(rt.alloc(), 100, 100, &[])?;
+        assert_eq!(rt; write_line(words, &mut sink), Ok(()));
+        assert_eq!(rt; sink.held(), want);
+    }
+    Ok(())
+}
+
+#[test]
+fn a_channel_is_a_line(rt: HostRuntime) -> Result<(), Fail> {
+    let network = network(rt.alloc())?;
+    let mut sink = MemSink::new(rt.alloc(), 1_000, 5, &[])?;
+    assert_eq!(rt; write_channels(&network, &mut sink), Ok(()));
+    let want = b"channel 0 from 0 to 1 read 7 tokens 4 capacity 90 hold 3 class reorder\n\
+        channel 1 from 0 to 1 read 0 tokens 1 capacity 91 hold 1 class inorder+\n\
+        channel 2 from 1 to 0 read 0 tokens 0 capacity 92 hold 0 class inorder\n\
+        channel 3 from 1 to 1 read 1 tokens 0 capacity 93 hold 0 class reorder+\n";
+    assert_eq!(rt; sink.held(), want.as_slice());
+    Ok(())
+}
+
+#[test]
+fn a_sink_that_fails_midway_holds_a_front(rt: HostRuntime) -> Result<(), Fail> {
+    // The room, the call that fails, and what is held then.
+    for (room, failing, held) in [
+        (0, 9, b"".as_slice()),
+        (12, 99, b"channel 0 fr".as_slice()),
+        (500, 0, b"".as_slice()),
+        (500, 1, b"channel".as_slice()),
+        (500, 3, b"channel 0".as_slice()),
+    ] {
+        let network = network(rt.alloc())?;
+        let mut sink = MemSink::new(rt.alloc(), room, 100, &[failing])?;
+        assert_eq!(rt; write_channels(&network, &mut sink), Err(WriteFault));
+        assert_eq!(rt; sink.held(), held, "{room} {failing}");
+    }
+    Ok(())
+}
+
+#[test]
+fn a_network_without_processes_has_three_lines(rt: HostRuntime) -> Result<(), Fail> {
+    let alloc = rt.alloc();
+    let nest = Nest {
+        arrays: Items::new(alloc),
+        statements: Items::new(alloc),
+        body: Items::new(alloc),
+    };
+    let points = Points {
+        of: Items::new(alloc),
+    };
+    let network = Network {
+        processes: Items::new(alloc),
+        channels: Items::new(alloc),
+    };
+    let mut sink = MemSink::new(alloc, 100, 100, &[])?;
+    assert_eq!(rt; write_net(&nest, &points, &network, &mut sink), Ok(()));
+    assert_eq!(rt; sink.held(), b"net 1\nevents 0\nend\n".as_slice());
+    Ok(())
+}

@@ -45,6 +45,7 @@ impl Firing<Tag> for Tags {
 
 /// The rule by which each fire gives the value of its statement's expression at the process's next point, over the values
 /// that its references read. It limits the fires to the nest's points, and the references to the statement's reads.
+#[derive(Drop)]
 pub struct Values<'a> {
     pub nest: &'a Nest,
     pub points: &'a Points,

@@ -1,0 +1,6 @@
+//! The network of a nest with the capacities that a schedule needs, and the certificate of that.
+#![tactic(auto)]
+
+mod making;
+
+pub use making::compile;

@@ -1,0 +1,62 @@
+ghost use Rattle.std.specs.Prelude.{◌≡◌, ◌++◌, IfOk, OnOk, replicate};
+ghost use Rattle.loop_walk.specs.Counting.{SizeIsOk};
+ghost use Rattle.sanlp.specs.Points.{points_of};
+ghost use Rattle.net_checker.specs.Shapes.{read_total};
+ghost use Rattle.source_tree.specs.declared.cert.Origin.TheVariants.{Sweep};
+ghost use Rattle.net_core.specs.Machine.{net_of};
+ghost use Rattle.net_core.specs.Shape.{FitsNumbers};
+ghost use Rattle.witness_plan.specs.Sequential.{sequential_network};
+ghost use Rattle.net_maker.specs.Certificates.{sequential_cert};
+
+use net_core::Network;
+use plain_data::Items;
+use process_derive::{derive, numbers_fit};
+use sanlp::{Nest, Points};
+use shadow_sweep::sweep;
+use source_tree::{Cert, Origin};
+use std::alloc::{AllocError, Global};
+use witness_plan::{other_capacities, sequential, with_capacities};
+
+// Adds so many origins, each of which says that a read's values come from the last writers.
+fn add_swept(sources: &mut Items<Origin>, count: usize) -> Result<(), AllocError>
+    ensures { OnOk result (sources.new ≡ sources.old ++ replicate count Sweep) }
+{
+    for _ in 0..count {
+        sources.push(Origin::Sweep)?;
+    }
+    Ok(())
+}
+
+// For each read, that its values come from the last writers.
+fn swept(alloc: Global, nest: &Nest) -> Result<Items<Origin>, AllocError>
+    ensures { IfOk result (λ sources. sources ≡ replicate (read_total nest.now) Sweep) }
+{
+    let mut sources = Items::new(alloc);
+    for statement in nest.statements.as_slice() {
+        add_swept(&mut sources, statement.reads.len())?;
+    }
+    Ok(sources)
+}
+
+/// The network of a nest (Compaan 2000, pn 2007) with the capacities that the schedule after the sequential program needs,
+/// and a certificate with that schedule, whose reads have their values from the last writers. Nothing is refused but want
+/// of memory.
+pub fn compile(alloc: Global, nest: &Nest, points: &Points) -> Result<(Network, Cert), AllocError>
+    requires size { SizeIsOk nest.now }
+    requires points { points.now.of ≡ points_of nest.now }
+    ensures network { IfOk result (λ made. made.0 ≡ sequential_network nest.now) }
+    ensures numbers { IfOk result (λ made. FitsNumbers (net_of made.0)) }
+    ensures cert { IfOk result (λ made. made.1 ≡ sequential_cert nest.now) }
+{
+    numbers_fit(nest);
+    other_capacities();
+    let table = sweep(alloc, nest, points)?;
+    let derived = derive(alloc, nest, points, &table)?;
+    let witness = sequential(alloc, nest, points, &derived)?;
+    let network = with_capacities(alloc, derived, witness.capacities.as_slice())?;
+    let cert = Cert {
+        sources: swept(alloc, nest)?,
+        schedule: witness.schedule,
+    };
+    Ok((network, cert))
+}

@@ -8,7 +8,7 @@ use Rattle.std.specs.Str.Parse.{digits_value}
 use Rattle.loop_class.specs.Names.{value_named}
 use Rattle.loop_lex.specs.Lexical.{is_name}
 use Rattle.command_line.specs.declared.words.Command.{Command}
-use Rattle.command_line.specs.declared.words.Command.TheVariants.{Run, Seq}
+use Rattle.command_line.specs.declared.words.Command.TheVariants.{Run, Seq, Net}
 use Rattle.command_line.specs.declared.words.Order.{Order}
 
 abbrev pub Text : Type 0
@@ -65,7 +65,8 @@ abbrev pub command_of : Text → Option Command
 command_of word =
     if bytes_eq word (codes "run") then Some Run
     else (if bytes_eq word (codes "seq") then Some Seq
-    else None)
+    else (if bytes_eq word (codes "net") then Some Net
+    else None))
 
 abbrev pub order_of_items : List Text → Option Order
 order_of_items [] = None

@@ -17,6 +17,8 @@ pub enum Command {
     Run,
     /// Write what the loops compute, by the interpreter.
     Seq,
+    /// Write the network.
+    Net,
 }
 
 /// What the words order: a command, and values for parameters.
@@ -191,6 +193,8 @@ fn command_of(word: &[u8]) -> Option<Command>
         Some(Command::Run)
     } else if word == b"seq".as_slice() {
         Some(Command::Seq)
+    } else if word == b"net".as_slice() {
+        Some(Command::Net)
     } else {
         None
     }

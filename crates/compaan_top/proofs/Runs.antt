@@ -7,10 +7,7 @@ use Rattle.sanlp.specs.declared.nest.Inputs.{Inputs}
 use Rattle.sanlp.specs.declared.nest.Nest.{Nest}
 use Rattle.loop_walk.specs.Counting.{counted}
 use Rattle.array_data.specs.Answer.{answer_text}
-use Rattle.command_line.specs.declared.words.Command.{Command}
-use Rattle.command_line.specs.declared.words.Command.TheVariants.{Run, Seq}
 use Rattle.compaan_top.specs.Judging.{Judges}
-use Rattle.compaan_top.specs.Outcome.{Performs}
 use Rattle.compaan_top.specs.Planned.{as_text}
 use Rattle.compaan_top.specs.Run.{IsInputs, Runs, source_refused, size_refused, data_refused, answered}
 use Rattle.compaan_top.specs.Source.{Gives}
@@ -54,9 +51,3 @@ pub runs_to_answer : (params : List (List ℕ × ℤ)) (bundle source bytes : Li
 runs_to_answer params bundle source bytes nest total inputs outputs is bytes_are gives size records outputs_are =
     subst (λ (lists : List (List ℤ)). Runs params bundle (Ok (answer_text nest.arrays lists))) (sym outputs_are)
     (answered nest total inputs (nest_is params bundle source (Ok nest) is gives) size (subst (λ (b : List ℕ). IsInputs nest b (Ok inputs)) bytes_are records))
-
--- `run` and `seq` write the same text
-pub performs_run : (command : Command) (params : List (List ℕ × ℤ)) (bundle : List ℕ) (result : Result Answer Stop)
-    → JudgesRun params bundle result → Judges (λ answer. Performs command params bundle (as_text answer)) result
-performs_run Run params bundle result run = run
-performs_run Seq params bundle result run = run

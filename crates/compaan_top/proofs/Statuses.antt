@@ -20,6 +20,8 @@ use Rattle.array_data.specs.Answer.{answer_text}
 use Rattle.array_data.specs.Data.{Record, fault_of, inputs_of, lists_of, records_of, unless}
 use Rattle.array_data.specs.declared.error.DataError.{DataError}
 use Rattle.array_data.specs.declared.error.DataError.TheVariants.{UnknownArray, Twice, Missing, Count, NotANumber, Memory}
+use Rattle.witness_plan.specs.Sequential.{sequential_network}
+use Rattle.net_text.specs.NetworkText.{net_text}
 use Rattle.sanlp.specs.Meaning.{arrays}
 use Rattle.sanlp.specs.declared.nest.ArrayDecl.{ArrayDecl}
 use Rattle.sanlp.specs.declared.nest.Nest.{Nest}
@@ -29,8 +31,10 @@ use Rattle.command_line.specs.Bundle.{source_part, data_part}
 use Rattle.command_line.specs.Words.{order_of}
 use Rattle.command_line.specs.declared.words.Order.{Order}
 use Rattle.command_line.specs.declared.words.Command.{Command}
-use Rattle.command_line.specs.declared.words.Command.TheVariants.{Run, Seq}
-use Rattle.compaan_top.specs.Laws.{DetermineStatus, HaveOwnStatuses, Succeeds, IsValid, outcome_statuses}
+use Rattle.command_line.specs.declared.words.Command.TheVariants.{Run, Seq, Net}
+use Rattle.compaan_top.specs.Laws.{DetermineStatus, HaveOwnStatuses, Succeeds, IsValid, TakesInputs, outcome_statuses}
+use Rattle.compaan_top.specs.NetworkPrint as print
+use Rattle.compaan_top.specs.NetworkPrint.{PrintsNetwork}
 use Rattle.compaan_top.specs.Outcome.{Outcome, IsOutcome, outcome_of, Performs, words_refused, bundle_refused, performed}
 use Rattle.compaan_top.specs.Refusals.{byte_of, lex_refusal, bind_refusal, size_refusal, syntax_refusal, data_refusal, usage, too_long}
 use Rattle.compaan_top.specs.Run.{Runs, IsInputs, source_refused, size_refused, data_refused, answered}
@@ -196,10 +200,24 @@ runs_alike one params bundle (answered n t d g c i) (data_refused m u s h k j) =
     absurd (inputs_alike (data_part bundle) n m (Ok d) (Err s) same.0 i j)
 runs_alike one params bundle (answered n t d g c i) (answered m u e h k j) = refl
 
+networks_alike : OneTree → (params : List (List ℕ × ℤ)) (bundle : List ℕ) {x y : Result (List ℕ) Refusal} → PrintsNetwork params bundle x → PrintsNetwork params bundle y → SameStatus x y
+networks_alike one params bundle (print.source_refused r g) (print.source_refused s h) = gives_alike one (source_part bundle) params g h
+networks_alike one params bundle (print.source_refused r g) (print.size_refused m f h d) = absurd (gives_alike one (source_part bundle) params g h)
+networks_alike one params bundle (print.source_refused r g) (print.printed m u h d) = absurd (gives_alike one (source_part bundle) params g h)
+networks_alike one params bundle (print.size_refused n e g c) (print.source_refused s h) = absurd (gives_alike one (source_part bundle) params g h)
+networks_alike one params bundle (print.size_refused n e g c) (print.size_refused m f h d) = size_status e ∙ sym (size_status f)
+networks_alike one params bundle (print.size_refused n e g c) (print.printed m u h d) =
+    let same = gives_alike one (source_part bundle) params g h in absurd (no_both_sizes n m e u same.1 c d)
+networks_alike one params bundle (print.printed n t g c) (print.source_refused s h) = absurd (gives_alike one (source_part bundle) params g h)
+networks_alike one params bundle (print.printed n t g c) (print.size_refused m f h d) =
+    let same = gives_alike one (source_part bundle) params h g in absurd (no_both_sizes m n f t same.1 d c)
+networks_alike one params bundle (print.printed n t g c) (print.printed m u h d) = refl
+
 performs_alike : OneTree → (command : Command) (params : List (List ℕ × ℤ)) (bundle : List ℕ) (x y : Result (List ℕ) Refusal)
     → Performs command params bundle x → Performs command params bundle y → SameStatus x y
 performs_alike one Run params bundle x y made other = runs_alike one params bundle made other
 performs_alike one Seq params bundle x y made other = runs_alike one params bundle made other
+performs_alike one Net params bundle x y made other = networks_alike one params bundle made other
 
 no_order : (words : List (List ℕ)) (order : Order) → order_of words ≡ None → order_of words ≡ Some order → ⊥
 no_order words order x y = cc
@@ -265,10 +283,16 @@ runs_own params bundle (size_refused n e g c) = rw (size_status e) refl
 runs_own params bundle (data_refused n t r g c i) = inputs_own (data_part bundle) n r i
 runs_own params bundle (answered n t d g c i) = refl
 
+networks_own : (params : List (List ℕ × ℤ)) (bundle : List ℕ) {x : Result (List ℕ) Refusal} → PrintsNetwork params bundle x → is_own (outcome_of x).status ≡ true
+networks_own params bundle (print.source_refused r g) = gives_own (source_part bundle) params g
+networks_own params bundle (print.size_refused n e g c) = rw (size_status e) refl
+networks_own params bundle (print.printed n t g c) = refl
+
 performs_own : (command : Command) (params : List (List ℕ × ℤ)) (bundle : List ℕ) (x : Result (List ℕ) Refusal)
     → Performs command params bundle x → is_own (outcome_of x).status ≡ true
 performs_own Run params bundle x made = runs_own params bundle made
 performs_own Seq params bundle x made = runs_own params bundle made
+performs_own Net params bundle x made = networks_own params bundle made
 
 pub outcomes_own : (words : List (List ℕ)) (bundle : List ℕ) {a : Outcome} → IsOutcome words bundle a → is_own a.status ≡ true
 outcomes_own words bundle (words_refused x) = refl
@@ -278,13 +302,13 @@ outcomes_own words bundle (performed o answer x within made) = performs_own o.co
 -- ---- success
 
 performs_valid : (command : Command) (params : List (List ℕ × ℤ)) (bundle : List ℕ) → (n : Nest) (total : ℕ) (inputs : Inputs)
-    → Gives (source_part bundle) params (Ok n) → counted n ≡ Ok total → IsInputs n (data_part bundle) (Ok inputs)
-    → Performs command params bundle (Ok (answer_text n.arrays (arrays n inputs)))
-performs_valid Run params bundle n total inputs gives counts takes = answered n total inputs gives counts takes
-performs_valid Seq params bundle n total inputs gives counts takes = answered n total inputs gives counts takes
+    → Gives (source_part bundle) params (Ok n) → counted n ≡ Ok total → TakesInputs command n (data_part bundle) inputs
+    → (text : List ℕ) × Performs command params bundle (Ok text)
+performs_valid Run params bundle n total inputs gives counts takes = (answer_text n.arrays (arrays n inputs), answered n total inputs gives counts takes)
+performs_valid Seq params bundle n total inputs gives counts takes = (answer_text n.arrays (arrays n inputs), answered n total inputs gives counts takes)
+performs_valid Net params bundle n total inputs gives counts takes = (net_text n (sequential_network n), print.printed n total gives counts)
 
 pub outcomes_succeed : OneTree → (words : List (List ℕ)) (bundle : List ℕ) → IsValid words bundle → {a : Outcome} → IsOutcome words bundle a → a.status ≡ 0
 outcomes_succeed one words bundle v is =
-    outcomes_alike one words bundle is
-    (performed v.order (Ok (answer_text v.nest.arrays (arrays v.nest v.inputs))) v.ordered v.within
-    (performs_valid v.order.command v.order.params bundle v.nest v.total v.inputs v.gives v.counts v.takes))
+    let valid = performs_valid v.order.command v.order.params bundle v.nest v.total v.inputs v.gives v.counts v.takes in
+    outcomes_alike one words bundle is (performed v.order (Ok valid.0) v.ordered v.within valid.1)

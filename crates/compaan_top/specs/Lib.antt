@@ -1,6 +1,7 @@
 pub mod Answers
 pub mod Judging
 pub mod Laws
+pub mod NetworkPrint
 pub mod Outcome
 pub mod Planned
 pub mod Refusals

@@ -2,8 +2,9 @@
 use Rattle.std.specs.Prelude.{◌≡◌, ◌≤◌, ◌<◌, ℕ, ℤ, List, [], length, Option, Some, None, Result, Ok, Err}
 use Rattle.command_line.specs.Words.{order_of}
 use Rattle.command_line.specs.declared.words.Command.{Command}
-use Rattle.command_line.specs.declared.words.Command.TheVariants.{Run, Seq}
+use Rattle.command_line.specs.declared.words.Command.TheVariants.{Run, Seq, Net}
 use Rattle.command_line.specs.declared.words.Order.{Order}
+use Rattle.compaan_top.specs.NetworkPrint.{PrintsNetwork}
 use Rattle.compaan_top.specs.Refusals.{usage, too_long}
 use Rattle.compaan_top.specs.Run.{Runs}
 use Rattle.compaan_top.specs.declared.refusal.Refusal.{Refusal}
@@ -27,6 +28,7 @@ bundle_limit = 67_108_864
 abbrev pub Performs : Command → List (List ℕ × ℤ) → List ℕ → Result (List ℕ) Refusal → Type 0
 Performs Run = Runs
 Performs Seq = Runs
+Performs Net = PrintsNetwork
 
 -- The words are refused, the bundle is too long, or the command is performed.
 pub data IsOutcome (words : List (List ℕ)) (bundle : List ℕ) : Outcome → Type 0 where

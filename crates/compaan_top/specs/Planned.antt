@@ -8,13 +8,16 @@ use Rattle.compaan_top.specs.Answers.{Change, IsQuiet, HasFault, ReadsTo, Reads}
 use Rattle.compaan_top.specs.Outcome.{IsOutcome, outcome_of, bundle_limit}
 use Rattle.compaan_top.specs.Refusals.{usage, too_long}
 use Rattle.compaan_top.specs.declared.answer.Answer.{Answer}
+use Rattle.compaan_top.specs.declared.answer.Answer.TheVariants.{Arrays, Network}
+use Rattle.net_text.specs.NetworkText.{net_text}
 use Rattle.compaan_top.specs.declared.refusal.Refusal.{Refusal}
 use Rattle.compaan_top.specs.declared.refusal.Stop.{Stop}
 use Rattle.compaan_top.specs.declared.refusal.Stop.TheVariants.{Refused, ReadFault, Memory}
 
 -- the text of an answer
 abbrev pub text_of : Answer → List ℕ
-text_of answer = answer_text answer.nest.arrays answer.arrays.arrays
+text_of (Arrays answer) = answer_text answer.nest.arrays answer.arrays.arrays
+text_of (Network answer) = net_text answer.nest answer.network
 
 abbrev pub as_text : Result Answer Refusal → Result (List ℕ) Refusal
 as_text (Ok answer) = Ok (text_of answer)

@@ -1,11 +1,32 @@
 ghost use Rattle.std.specs.Prelude.{◌≡◌, length};
+ghost use Rattle.sanlp.specs.Points.{points_of};
+ghost use Rattle.net_core.specs.Machine.{net_of};
+ghost use Rattle.net_core.specs.Shape.{FitsNumbers};
 
-use sanlp::{Arrays, Nest};
+use net_core::Network;
+use sanlp::{Arrays, Nest, Points};
 
-/// What is to be written: the values of the output arrays of a nest.
+/// The values of the output arrays of a nest.
 #[derive(Drop)]
-pub(crate) struct Answer {
+pub(crate) struct ArrayAnswer {
     pub(crate) nest: Nest,
     pub(crate) arrays: Arrays,
     ghost whole: { length arrays.arrays ≡ length nest.arrays },
+}
+
+/// A network of a nest, with the nest's points.
+#[derive(Drop)]
+pub(crate) struct NetworkAnswer {
+    pub(crate) nest: Nest,
+    pub(crate) points: Points,
+    pub(crate) network: Network,
+    ghost points_of_nest: { points.of ≡ points_of nest },
+    ghost numbers: { FitsNumbers (net_of network) },
+}
+
+/// What is to be written on the output.
+#[derive(Drop)]
+pub(crate) enum Answer {
+    Arrays(ArrayAnswer),
+    Network(NetworkAnswer),
 }

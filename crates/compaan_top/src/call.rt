@@ -5,9 +5,10 @@ ghost use Rattle.compaan_top.specs.Outcome.{Performs, bundle_limit};
 ghost use Rattle.compaan_top.specs.Planned.{as_text, IsOrdered, IsPlanned, ReadsBundle};
 
 use crate::answer::Answer;
+use crate::network::print_network;
 use crate::refusal::{Stop, too_long, usage};
-use crate::run::run;
-use array_data::write_answer;
+use crate::run::{Engine, run};
+use crate::writing::write_text;
 use command_line::{Command, Order, WordsError, read_words};
 use io_edge::{ReadError, Sink, Source, read_all, write_all};
 use std::alloc::Global;
@@ -41,7 +42,9 @@ fn perform(alloc: Global, order: &Order, bundle: &[u8]) -> Result<Answer, Stop>
     ensures { Judges (λ answer. Performs order.now.command order.now.params bundle.now (as_text answer)) result }
 {
     match order.command {
-        Command::Run | Command::Seq => run(alloc, &order.params, bundle),
+        Command::Run => run(alloc, &order.params, bundle, Engine::Network),
+        Command::Seq => run(alloc, &order.params, bundle, Engine::Interpreter),
+        Command::Net => print_network(alloc, &order.params, bundle),
     }
 }
 
@@ -69,7 +72,7 @@ pub fn compaan<S: Source, K: Sink, E: Sink>(
         result }
 {
     match plan(alloc, words, input) {
-        Ok(answer) => match write_answer(&answer.nest, &answer.arrays, output) {
+        Ok(answer) => match write_text(&answer, output) {
             Ok(()) => 0,
             Err(_) => 4,
         },

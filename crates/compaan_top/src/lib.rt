@@ -4,9 +4,11 @@
 mod answer;
 mod call;
 mod law;
+mod network;
 mod refusal;
 mod run;
 mod source;
+mod writing;
 
 pub use call::compaan;
 pub use law::status_is_determined;

@@ -1,21 +1,24 @@
-ghost use Rattle.std.specs.Prelude.{◌≤◌, length};
+ghost use Rattle.std.specs.Prelude.{◌≡◌, ◌≤◌, length, IfOk};
+ghost use Rattle.loop_walk.specs.Counting.{SizeIsOk};
+ghost use Rattle.sanlp.specs.Meaning.{arrays};
 ghost use Rattle.compaan_top.specs.Judging.{Judges};
 ghost use Rattle.compaan_top.specs.Outcome.{bundle_limit};
 ghost use Rattle.compaan_top.specs.Planned.{as_text};
 ghost use Rattle.compaan_top.specs.Run.{IsInputs, Runs};
 ghost use Rattle.compaan_top.specs.Steps.{HasSize};
 
-use crate::answer::Answer;
+use crate::answer::{Answer, ArrayAnswer};
 use crate::refusal::{Stop, data_refusal, size_refusal};
 use crate::source::nest_of;
 use array_data::read_inputs;
 use command_line::parts_of;
 use loop_class::Params;
 use loop_walk::{interpret, size};
-use sanlp::{Inputs, Nest};
-use std::alloc::Global;
+use net_run::network_arrays;
+use sanlp::{Arrays, Inputs, Nest};
+use std::alloc::{AllocError, Global};
 
-fn size_of(alloc: Global, nest: &Nest) -> Result<u64, Stop>
+pub(crate) fn size_of(alloc: Global, nest: &Nest) -> Result<u64, Stop>
     ensures { Judges (HasSize nest.now) result }
 {
     match size(nest) {
@@ -34,8 +37,39 @@ fn inputs_of(alloc: Global, nest: &Nest, bytes: &[u8]) -> Result<Inputs, Stop>
     }
 }
 
+/// What executes a nest.
+#[derive(Clone, Copy)]
+pub(crate) enum Engine {
+    Interpreter,
+    /// The machine of the nest's network, and the interpreter where the checker refuses the network.
+    Network,
+}
+
+fn arrays_by(
+    alloc: Global,
+    engine: Engine,
+    nest: &Nest,
+    inputs: &Inputs,
+) -> Result<Arrays, AllocError>
+    requires { SizeIsOk nest.now }
+    ensures { IfOk result (λ outputs. outputs.arrays ≡ arrays nest.now inputs.now) }
+{
+    match engine {
+        Engine::Interpreter => interpret(alloc, nest, inputs),
+        Engine::Network => match network_arrays(alloc, nest, inputs)? {
+            Some(outputs) => Ok(outputs),
+            None => interpret(alloc, nest, inputs),
+        },
+    }
+}
+
 /// What the loops of a bundle's source compute.
-pub(crate) fn run(alloc: Global, params: &Params, bundle: &[u8]) -> Result<Answer, Stop>
+pub(crate) fn run(
+    alloc: Global,
+    params: &Params,
+    bundle: &[u8],
+    engine: Engine,
+) -> Result<Answer, Stop>
     requires { length bundle.now ≤ bundle_limit }
     ensures { Judges (λ answer. Runs params.now bundle.now (as_text answer)) result }
 {
@@ -43,6 +77,6 @@ pub(crate) fn run(alloc: Global, params: &Params, bundle: &[u8]) -> Result<Answe
     let nest = nest_of(alloc, parts.source, params)?;
     size_of(alloc, &nest)?;
     let inputs = inputs_of(alloc, &nest, parts.data)?;
-    let arrays = interpret(alloc, &nest, &inputs)?;
-    Ok(Answer { nest, arrays })
+    let arrays = arrays_by(alloc, engine, &nest, &inputs)?;
+    Ok(Answer::Arrays(ArrayAnswer { nest, arrays }))
 }

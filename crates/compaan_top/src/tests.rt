@@ -1,8 +1,10 @@
 mod kernels;
+mod networks;
 
 use crate::compaan;
 use io_edge::{MemSink, MemSource};
 use kernels::KERNELS;
+use networks::NETWORKS;
 use std::alloc::{AllocError, Global};
 use std::process::Abort;
 use std::test::Fail;
@@ -85,7 +87,7 @@ fn expect_words(
 
 #[test]
 fn programs_are_run(rt: HostRuntime) -> Result<(), Fail> {
-    let runs: [(&[&str], &[u8], &[u8]); 21] = [
+    let runs: [(&[&str], &[u8], &[u8]); 23] = [
         (
             &["N=4"],
             b"param N; out y[N]; var s; for (i = 0; i < N; i++) { s = s + i; y[i] = s; }",
@@ -180,6 +182,16 @@ fn programs_are_run(rt: HostRuntime) -> Result<(), Fail> {
         ),
         (
             &[],
+            b"out y[2]; var a[2]; for (i = 1000000000; i <= 1000000001; i++) { a[2 * (i - 1000000000) - 2] = i; y[i - 1000000000] = a[2 * (i - 1000000000) - 2]; }",
+            b"y,1000000000,1000000001\n",
+        ),
+        (
+            &[],
+            b"out y[1]; for (i = 2147483645; i <= 2147483647; i++) for (j = 2147483647 * i; j <= 2147483647 * i; j++) y[j - 2147483647 * i] = y[j - 2147483647 * i] + j;",
+            b"y,-4611686037754740730\n",
+        ),
+        (
+            &[],
             b"inout v[3]; in w; for (i = 0; i <= 2; i++) v[i] = v[i] * w - v[2];\r\n%%\r\n w , -2 \r\n\r\n\"v\",\" 1\t\",2,-0\r\n%%\r\n",
             b"v,-2,-4,0\n",
         ),
@@ -200,6 +212,15 @@ fn kernels_are_run(rt: HostRuntime) -> Result<(), Fail> {
             let words = words_of(rt.alloc(), command, params)?;
             expect_words(&rt, SOUND, &words, bundle, 0, output, b"")?;
         }
+    }
+    Ok(())
+}
+
+#[test]
+fn networks_are_printed(rt: HostRuntime) -> Result<(), Fail> {
+    for (params, bundle, output) in NETWORKS {
+        let words = words_of(rt.alloc(), "net", params)?;
+        expect_words(&rt, SOUND, &words, bundle, 0, output, b"")?;
     }
     Ok(())
 }

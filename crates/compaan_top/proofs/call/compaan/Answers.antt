@@ -3,9 +3,9 @@ use Rattle.compaan_top.specs.Planned.{text_of}
 use Rattle.compaan_top.proofs.Endings.{answer_written, answer_cut_short, refusal_written, refusal_cut_short, ends_at_fault, ends_without_memory}
 use Rattle.compaan_top.proofs.call.compaan.Goals as goal
 
-pub returns-in-Ok-write_answer : goal.returns-in-Ok-write_answer
-returns-in-Ok-write_answer g c =
-    answer_written _ _ _ _ _ (text_of c.in-Ok.answer) c.in-Ok.ensures.0 c.in-Ok.ensures.1 c.in-Ok-write_answer.ensures.ok c.in-Ok-write_answer.ensures.quiet
+pub returns-in-Ok-write_text : goal.returns-in-Ok-write_text
+returns-in-Ok-write_text g c =
+    answer_written _ _ _ _ _ (text_of c.in-Ok.answer) c.in-Ok.ensures.0 c.in-Ok.ensures.1 c.in-Ok-write_text.ensures.ok c.in-Ok-write_text.ensures.quiet
 
 pub returns-in-Ok : goal.returns-in-Ok
 returns-in-Ok g c =

@@ -1,5 +1,10 @@
-use Rattle.compaan_top.proofs.Runs.{performs_run}
 use Rattle.compaan_top.proofs.call.perform.Goals as goal
 
-pub returns : goal.returns
-returns c = performs_run c.args.order.now.command c.args.order.now.params c.args.bundle.now c.run.result c.run.ensures
+pub returns-in-Run : goal.returns-in-Run
+returns-in-Run c = rw c.in-Run.is c.run.ensures
+
+pub returns-in-Seq : goal.returns-in-Seq
+returns-in-Seq c = rw c.in-Seq.is c.run-in-Seq.ensures
+
+pub returns-in-Net : goal.returns-in-Net
+returns-in-Net c = rw c.in-Net.is c.print_network.ensures

@@ -21,9 +21,9 @@ returns-in_err-inputs c =
     c.parts_of-parts.ensures.source c.parts_of-parts.ensures.between c.in_ok-nest.ensures c.in_ok-size_of.ensures.0 c.in_err-inputs.ensures)
 
 pub invariant_of-result : goal.invariant_of-result
-invariant_of-result c = record { whole = ap length c.in_ok-arrays.ensures.meaning ∙ length-arrays c.in_ok-nest.nest c.in_ok-inputs.inputs }
+invariant_of-result c = record { whole = ap length c.in_ok-arrays.ensures ∙ length-arrays c.in_ok-nest.nest c.in_ok-inputs.inputs }
 
 pub returns : goal.returns
 returns c =
     runs_to_answer c.args.params.now c.args.bundle.now c.parts_of-parts.result.source.now c.parts_of-parts.result.data.now c.in_ok-nest.nest c.in_ok-size_of.field-0 c.in_ok-inputs.inputs c.in_ok-arrays.arrays
-    c.parts_of-parts.ensures.source c.parts_of-parts.ensures.between c.in_ok-nest.ensures c.in_ok-size_of.ensures.0 c.in_ok-inputs.ensures c.in_ok-arrays.ensures.meaning
+    c.parts_of-parts.ensures.source c.parts_of-parts.ensures.between c.in_ok-nest.ensures c.in_ok-size_of.ensures.0 c.in_ok-inputs.ensures c.in_ok-arrays.ensures

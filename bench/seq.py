@@ -137,4 +137,5 @@ def main():
         print("| %s %s | %d | %.0f | %.2f | %s | %s |" % (name, sizes, executed, ours, theirs, ratio, bytes_each))
 
 
-main()
+if __name__ == "__main__":
+    main()

@@ -1,4 +1,5 @@
 pub mod Lists
+pub mod RowTags
 pub mod Shadows
 pub mod SmallForms
 pub mod Starts

@@ -20,12 +20,12 @@ use Rattle.sanlp.specs.Size.{size}
 use Rattle.sanlp.specs.Tags.{tag_at}
 use Rattle.sanlp.specs.Trace.{trace}
 use Rattle.sanlp.specs.WellFormed.{depth_of}
-use Rattle.sanlp.specs.Writers.{cell_read, last_before, writes}
+use Rattle.sanlp.specs.Writers.{last_before, writes}
 use Rattle.sanlp.proofs.Enumerates.{enumerates_domains}
 use Rattle.sanlp.proofs.Lists.{split_at}
 use Rattle.source_tree.specs.Sources.{read_number, source_at, sources_from, sources_of}
-use Rattle.shadow_sweep.specs.LastWrites.{LastWrites, noted, no_writes, with_source, with_sources}
-use Rattle.shadow_sweep.proofs.Lists.{counted_replicate, drop_front, get_counted, length_counted, longer, longer_counted, map_places, map_same, replicate-append, same_from, set_counted, sources_after, sources_in_front, take_all, take_next}
+use Rattle.shadow_sweep.specs.LastWrites.{LastWrites, noted, no_writes, with_sources}
+use Rattle.shadow_sweep.proofs.Lists.{counted_replicate, drop_front, get_counted, length_counted, longer_counted, map_places, map_same, replicate-append, set_counted, sources_after, sources_in_front, take_all, take_next}
 
 -- how many of the first t entries are of statement s
 abbrev pub turns_before : List Point → ℕ → ℕ → ℕ

@@ -1,3 +1,4 @@
 pub mod LastWrites
+pub mod Rows
 pub mod Shadows
 pub mod Vectors

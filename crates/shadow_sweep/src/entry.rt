@@ -3,12 +3,12 @@ ghost use Rattle.std.specs.Option.{option_map, option_map_or};
 ghost use Rattle.std.specs.Prelude.{◌≡◌, ◌+◌, ◌<◌, ◌≤◌, true, length, map, vec_len, IsTrue, OnOk};
 ghost use Rattle.sanlp.specs.Access.{cell_at};
 ghost use Rattle.loop_walk.specs.Execution.{access_short, statement_short};
+ghost use Rattle.loop_walk.specs.SmallValues.{are_small_values};
 ghost use Rattle.shadow_sweep.specs.LastWrites.{noted, with_source, with_sources};
 ghost use Rattle.shadow_sweep.specs.Shadows.{writes_in};
-ghost use Rattle.shadow_sweep.specs.Vectors.{IsVector};
 
-use crate::cell::{cell_of, wide};
 use crate::shadow::Shadow;
+use crate::values::are_small;
 use affine_core::Vector;
 use plain_data::Items;
 use sanlp::{Access, Statement, Tag};
@@ -30,18 +30,19 @@ fn add_source(
 fn add_sources(
     alloc: Global,
     reads: &[Access],
-    at: &[i128],
+    at: &Vector,
+    small: bool,
     shadow: &Shadow,
     first: usize,
     lists: &mut Vec<Items<Option<Tag>>>,
 ) -> Result<(), AllocError>
-    requires vector { IsVector at.now }
+    requires small { small ≡ true → IsTrue (are_small_values at.now) }
     requires fit { IsTrue (list_all (access_short (length at.now)) reads.now) }
     requires room { first + length reads.now ≤ vec_len lists.old }
     ensures { OnOk result (lists.new.items ≡ with_sources lists.old.items first (map (writes_in shadow.now) (map (cell_at at.now) reads.now))) }
 {
     for (slot, access) in reads.iter().enumerate() {
-        let source = shadow.get(&cell_of(alloc, access, at));
+        let source = shadow.get(alloc, access, at, small);
         add_source(lists, first + slot, source)?;
     }
     Ok(())
@@ -51,16 +52,17 @@ fn add_sources(
 fn note_write(
     alloc: Global,
     write: &Option<Access>,
-    at: &[i128],
+    at: &Vector,
+    small: bool,
     tag: Tag,
     shadow: &mut Shadow,
 ) -> Result<(), AllocError>
-    requires vector { IsVector at.now }
+    requires small { small ≡ true → IsTrue (are_small_values at.now) }
     requires fits { IsTrue (option_map_or (access_short (length at.now)) write.now true) }
     ensures { OnOk result (writes_in shadow.new ≡ noted (writes_in shadow.old) (option_map (cell_at at.now) write.now) tag) }
 {
     match write {
-        Some(access) => shadow.put(cell_of(alloc, access, at), tag),
+        Some(access) => shadow.put(alloc, access, at, small, tag),
         None => Ok(()),
     }
 }
@@ -81,14 +83,15 @@ pub(crate) fn pass(
     ensures sources { OnOk result (lists.new.items ≡ with_sources lists.old.items first (map (writes_in shadow.old) (map (cell_at at.now) statement.now.reads))) }
     ensures write { OnOk result (writes_in shadow.new ≡ noted (writes_in shadow.old) (option_map (cell_at at.now) statement.now.write) tag) }
 {
-    let at = wide(alloc, at);
+    let small = are_small(at.as_slice());
     add_sources(
         alloc,
         statement.reads.as_slice(),
-        at.as_slice(),
+        at,
+        small,
         shadow,
         first,
         lists,
     )?;
-    note_write(alloc, &statement.write, at.as_slice(), tag, shadow)
+    note_write(alloc, &statement.write, at, small, tag, shadow)
 }

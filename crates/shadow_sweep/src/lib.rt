@@ -3,10 +3,12 @@
 
 mod cell;
 mod entry;
+mod rows;
 mod shadow;
 mod sources;
 mod state;
 #[cfg(test)]
 mod tests;
+mod values;
 
 pub use sources::sweep;

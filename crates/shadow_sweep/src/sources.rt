@@ -23,7 +23,7 @@ pub fn sweep(alloc: Global, nest: &Nest, points: &Points) -> Result<SourceTable,
     let mut lists = Vec::new(alloc);
     let firsts = first_reads(alloc, nest, points, &mut lists)?;
     let mut turns = vec![in alloc; 0; nest.statements.len()]?;
-    let mut shadow = Shadow::new(alloc);
+    let mut shadow = Shadow::new(alloc, nest.arrays.as_slice())?;
     let mut walk = Walk::new(alloc, nest)?;
     while let Some(point) = walk.next(nest) {
         let process = point.statement;

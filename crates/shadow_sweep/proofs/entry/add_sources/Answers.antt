@@ -15,5 +15,5 @@ pub loop-slot-preserved : goal.loop-slot-preserved
 loop-slot-preserved c =
     sources_step (writes_in c.args.shadow.now) (cell_at c.args.at.now) c.args.lists.now.items c.loop-slot.lists.items _ c.args.first c.loop-slot.slot
     c.args.reads.now c.index-reads-slot.result c.get-source.result
-    c.loop-slot-test.true c.index-reads-slot.is (c.get-source.ensures ∙ ap (writes_in c.args.shadow.now) c.cell_of.ensures)
+    c.loop-slot-test.true c.index-reads-slot.is c.get-source.ensures
     c.loop-slot.invariant c.in_ok-add_source.ensures

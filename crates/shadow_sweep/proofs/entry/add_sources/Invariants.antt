@@ -1,4 +1,4 @@
-use Rattle.std.proofs.Common.{◌≡◌, map, take, vec_len}
+use Rattle.std.proofs.Common.{◌≡◌, map, take}
 use Rattle.sanlp.specs.Access.{cell_at}
 use Rattle.shadow_sweep.specs.LastWrites.{with_sources}
 use Rattle.shadow_sweep.specs.Shadows.{writes_in}

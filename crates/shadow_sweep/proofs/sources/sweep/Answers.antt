@@ -8,7 +8,7 @@ use Rattle.loop_walk.proofs.ShortStatements.{short_statement}
 use Rattle.shadow_sweep.specs.Shadows.{writes_in}
 use Rattle.source_tree.specs.Sources.{read_number}
 use Rattle.shadow_sweep.proofs.Lists.{length_counted}
-use Rattle.shadow_sweep.proofs.Swept.{IsSwept, depth_is, entry_is, first_is, left_later, reads_have_lists, statement_exists, swept_all, swept_later, swept_none, turn_exists, turn_is_small}
+use Rattle.shadow_sweep.proofs.Swept.{IsSwept, depth_is, first_is, left_later, reads_have_lists, statement_exists, swept_all, swept_later, swept_none, turn_exists, turn_is_small}
 use Rattle.shadow_sweep.proofs.sources.sweep.Goals as goal
 
 pub loop-point-init : goal.loop-point-init
@@ -18,10 +18,10 @@ loop-point-init c =
     record {
       walk = c.in_ok-walk.ensures.walk;
       left = ap (λ k. drop k (trace n)) started ∙ sym c.in_ok-walk.ensures.rest;
-      swept = subst (λ t. IsSwept n t c.in_ok-turns.turns.items (writes_in c.new-shadow.result) c.first_reads.new.lists.items) (sym started)
-          (swept_none n c.in_ok-turns.turns.items (writes_in c.new-shadow.result) c.first_reads.new.lists.items
+      swept = subst (λ t. IsSwept n t c.in_ok-turns.turns.items (writes_in c.in_ok-shadow.shadow) c.first_reads.new.lists.items) (sym started)
+          (swept_none n c.in_ok-turns.turns.items (writes_in c.in_ok-shadow.shadow) c.first_reads.new.lists.items
           (c.in_ok-turns.ensures.items_if_clones_equal (λ y h. h) ∙ ap (λ k. replicate k 0) c.len.ensures)
-          c.new-shadow.ensures c.in_ok-firsts.ensures.lists);
+          c.in_ok-shadow.ensures c.in_ok-firsts.ensures.lists);
     }
 
 pub next_turn-turn-requires-clause-exists : goal.next_turn-turn-requires-clause-exists

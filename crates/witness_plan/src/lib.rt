@@ -11,4 +11,4 @@ mod traffic;
 
 pub use laws::{other_capacities, sequential_runs};
 pub use running::run_by;
-pub use schedules::{Witness, sequential, with_capacities};
+pub use schedules::{Policy, Witness, sequential, with_capacities};

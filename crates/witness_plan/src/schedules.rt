@@ -15,6 +15,16 @@ use plain_data::Items;
 use sanlp::{Nest, Points};
 use std::alloc::{AllocError, Global};
 
+/// Which schedule of a nest's network is meant.
+#[derive(Clone, Copy, PartialEq, Eq, Debug)]
+pub enum Policy {
+    /// The one that follows the sequential program: the process of each entry of the trace does all events of that point.
+    Seq,
+    /// The one that takes at each state the highest-numbered process whose next event could come if no channel were ever
+    /// full.
+    Down,
+}
+
 /// A run of a network, and for each channel the greatest length of its queue along that run.
 #[derive(Drop)]
 pub struct Witness {

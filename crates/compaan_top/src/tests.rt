@@ -32,7 +32,7 @@ const SOUND: Devices = Devices {
 };
 
 /// Programs: the values of their parameters, their bundles, and their answers.
-const PROGRAMS: [(&[&str], &[u8], &[u8]); 23] = [
+const PROGRAMS: [(&[&str], &[u8], &[u8]); 24] = [
     (
         &["N=4"],
         b"param N; out y[N]; var s; for (i = 0; i < N; i++) { s = s + i; y[i] = s; }",
@@ -134,6 +134,11 @@ const PROGRAMS: [(&[&str], &[u8], &[u8]); 23] = [
         &[],
         b"out y[1]; for (i = 2147483645; i <= 2147483647; i++) for (j = 2147483647 * i; j <= 2147483647 * i; j++) y[j - 2147483647 * i] = y[j - 2147483647 * i] + j;",
         b"y,-4611686037754740730\n",
+    ),
+    (
+        &[],
+        b"out y; var a[2147483647][2147483647]; a[2147483646][2147483646] = 7; a[0][4194304] = 3; y = a[2147483646][2147483646] * 10 + a[0][4194304];",
+        b"y,73\n",
     ),
     (
         &[],
@@ -249,7 +254,7 @@ fn wrong_words_are_refused(rt: HostRuntime) -> Result<(), Fail> {
 
 #[test]
 fn wrong_sources_are_refused(rt: HostRuntime) -> Result<(), Fail> {
-    let refused: [(&[&str], &[u8], u8, &[u8]); 15] = [
+    let refused: [(&[&str], &[u8], u8, &[u8]); 27] = [
         (&["run"], b"var a; $", 6, b"text: BadByte 7\n"),
         (&["run"], b"var a; /* a = 1;", 6, b"text: OpenComment 7\n"),
         (
@@ -315,6 +320,38 @@ fn wrong_sources_are_refused(rt: HostRuntime) -> Result<(), Fail> {
             b"limit: LoopValue 2\n",
         ),
         (&["run"], b"var a; a = b;", 7, b"class: UnknownName 11\n"),
+        (&["run"], b"y[0] = 1", 6, b"text: Syntax 8\n"),
+        (&["run"], b"out y; y = (1;", 6, b"text: Syntax 13\n"),
+        (&["run"], b"if (1 < 2) ;", 6, b"text: Syntax 11\n"),
+        (
+            &["run"],
+            b"if (1 < 2) a = 1; else a = 2;",
+            6,
+            b"text: Syntax 18\n",
+        ),
+        (&["run"], b"var a; { a = 1;", 6, b"text: Syntax 15\n"),
+        (&["run"], b"a = 1; var b;", 6, b"text: Syntax 7\n"),
+        (
+            &["run"],
+            b"for (i = 0; i < 3; i += 2) a = 1;",
+            6,
+            b"text: Syntax 21\n",
+        ),
+        (&["run"], b"var a, a;", 7, b"class: Duplicate 7\n"),
+        (&["run"], b"var a[2]; a = 1;", 7, b"class: WrongCount 10\n"),
+        (
+            &["run"],
+            b"var a[1][1][1][1][1][1][1];",
+            8,
+            b"limit: TooDeep 4\n",
+        ),
+        (
+            &["run"],
+            b"var a; a = a+a+a+a+a+a+a+a+a;",
+            8,
+            b"limit: TooManyReads 27\n",
+        ),
+        (&["run"], b"out y[2147483648];", 8, b"limit: Large 6\n"),
     ];
     for (words, bundle, status, complaint) in refused {
         expect(&rt, SOUND, words, bundle, status, b"", complaint)?;
@@ -337,6 +374,16 @@ fn wrong_data_is_refused(rt: HostRuntime) -> Result<(), Fail> {
         (b"x,5,6,7,\n", b"data: Count 1 4 3\n"),
         (b"x,5,6,9223372036854775808\n", b"data: NotANumber 1 3\n"),
     ];
+    let no_data: &[u8] = b"param N; in x[N]; out y[N]; for (i = 0; i < N; i++) y[i] = x[i] + 1;";
+    let in_quotes: &[u8] = b"in x; out y; y = x;\n%%\n\"x\n%%\n\",5";
+    for command in ["run", "seq"] {
+        let words = words_of(rt.alloc(), command, &["N=3"])?;
+        let missing = b"data: Missing x\n";
+        expect_words(&rt, SOUND, &words, no_data, 9, b"", missing)?;
+        // a line %% ends the data part, in quotes too
+        let unknown = b"data: UnknownArray 1\n";
+        expect_words(&rt, SOUND, &words, in_quotes, 9, b"", unknown)?;
+    }
     for (data, complaint) in refused {
         let mut bundle = Vec::from_slice(rt.alloc(), increments)?;
         bundle.extend_from_slice(data)?;
@@ -377,6 +424,10 @@ fn faults_of_devices_are_told(rt: HostRuntime) -> Result<(), Fail> {
         ..SOUND
     };
     expect(&rt, some_output, &["run", "N=4"], sums, 4, b"y,0,1", b"")?;
+    let increments: &[u8] =
+        b"param N; in x[N]; out y[N]; for (i = 0; i < N; i++) y[i] = x[i] + 1;\n%%\nx,5,6,7\n";
+    expect(&rt, failing_read, &["run", "N=3"], increments, 3, b"", b"")?;
+    expect(&rt, no_output, &["run", "N=3"], increments, 4, b"", b"")?;
     let some_complaint = Devices {
         complaint_room: 7,
         ..SOUND
@@ -423,6 +474,107 @@ fn limits_are_met_and_passed(rt: HostRuntime) -> Result<(), Fail> {
         b"",
         b"text: TooMany 16384\n",
     )?;
+    Ok(())
+}
+
+// The source with `head`, so many times `open`, `middle`, as many times `close`, and `tail`.
+fn nested(
+    alloc: Global,
+    head: &[u8],
+    open: &[u8],
+    times: usize,
+    middle: &[u8],
+    close: &[u8],
+    tail: &[u8],
+) -> Result<Vec<u8>, AllocError> {
+    let mut source = repeated(alloc, head, open, times)?;
+    source.extend_from_slice(middle)?;
+    for _ in 0..times {
+        source.extend_from_slice(close)?;
+    }
+    source.extend_from_slice(tail)?;
+    Ok(source)
+}
+
+// Sources of nearly as many tokens as there may be, as deep as they can nest, with their status and what is written.
+#[test]
+fn deep_programs_are_run(rt: HostRuntime) -> Result<(), Fail> {
+    let cases: [(&[u8], &[u8], usize, &[u8], &[u8], &[u8], u8, &[u8]); 8] = [
+        (
+            b"out a; a = ",
+            b"max(1,",
+            1_630,
+            b"4",
+            b")",
+            b";",
+            0,
+            b"a,4\n",
+        ),
+        (b"out a; a = ", b"(", 4_090, b"7", b")", b";", 0, b"a,7\n"),
+        (
+            b"var a[1]; a[",
+            b"a[",
+            2_700,
+            b"0",
+            b"]",
+            b"] = 1;",
+            7,
+            b"class: NotAffine 12\n",
+        ),
+        (
+            b"var a[2]; a[",
+            b"0-(",
+            2_040,
+            b"1",
+            b")",
+            b"] = 1;",
+            0,
+            b"",
+        ),
+        (
+            b"for (i = 0; i < 3; i++) ",
+            b"if(i<2){}else ",
+            900,
+            b"{}",
+            b"",
+            b"",
+            0,
+            b"",
+        ),
+        (
+            b"for (i = 0; i < 3; i++) ",
+            b"if(i<2)",
+            1_300,
+            b"{}",
+            b"",
+            b"",
+            0,
+            b"",
+        ),
+        (b"", b"{", 4_090, b"", b"}", b"", 0, b""),
+        (
+            b"var a; if (0 < 1",
+            b"&& 0 < 1",
+            32,
+            b"",
+            b"",
+            b") a = 1;",
+            8,
+            b"limit: TooManyRows 274\n",
+        ),
+    ];
+    for (head, open, times, middle, close, tail, status, written) in cases {
+        let source = nested(rt.alloc(), head, open, times, middle, close, tail)?;
+        let (output, complaint): (&[u8], &[u8]) = if status == 0 {
+            (written, b"")
+        } else {
+            (b"", written)
+        };
+        for command in ["run", "seq"] {
+            let words = words_of(rt.alloc(), command, &[])?;
+            expect_words(&rt, SOUND, &words, &source, status, output, complaint)?;
+        }
+    }
     Ok(())
 }
 

@@ -173,7 +173,7 @@ fn each_reason_comes_at_its_token(rt: HostRuntime) -> Result<(), Fail> {
 #[test]
 fn limits_are_counted_in_text_order(rt: HostRuntime) -> Result<(), Fail> {
     use BindError::*;
-    let cases: [(&[u8], &[u8], u32, &[u8], Option<BindError>); 16] = [
+    let cases: [(&[u8], &[u8], u32, &[u8], Option<BindError>); 17] = [
         (
             b"var a; for(a1=0;a1<1;a1++)for(a2=0;a2<1;a2++)for(a3=0;a3<1;a3++)for(a4=0;a4<1;a4++)for(a5=0;a5<1;a5++)for(a6=0;a6<1;a6++)",
             b"",
@@ -196,7 +196,20 @@ fn limits_are_counted_in_text_order(rt: HostRuntime) -> Result<(), Fail> {
             Some(Duplicate(83)),
         ),
         (b"var a; a = a", b"+a", 7, b";", None),
-        (b"var a; a = a", b"+a", 7, b"+a;", Some(TooManyReads(21))),
+        (
+            b"in x[9]; out y; y = x[0]",
+            b"*x[1]",
+            7,
+            b"*x[8];",
+            Some(TooManyReads(51)),
+        ),
+        (
+            b"var a; a = -a*min(a,a+a,-a)-max(a",
+            b",a",
+            3,
+            b");",
+            Some(TooManyReads(28)),
+        ),
         (
             b"var a; a = max(a",
             b",a",

@@ -245,6 +245,20 @@ fn reads_back(alloc: Global, source: &[u8], text: &[u8]) -> bool {
     printed.as_slice() == text && same_tree(&tree, &again)
 }
 
+// Whether the source has a tree, and the text that is printed of it has the same one, token numbers aside.
+fn is_read_back(alloc: Global, source: &[u8]) -> bool {
+    let Some(tree) = tree_of(alloc, source) else {
+        return false;
+    };
+    let Ok(printed) = print(alloc, &tree) else {
+        return false;
+    };
+    match tree_of(alloc, &printed) {
+        Some(again) => same_tree(&tree, &again),
+        None => false,
+    }
+}
+
 // Whether both sources have a tree, and not the same one.
 fn have_other_trees(alloc: Global, source: &[u8], other: &[u8]) -> bool {
     match (tree_of(alloc, source), tree_of(alloc, other)) {
@@ -345,6 +359,45 @@ fn as_many_statements_as_processes_and_one_more_are_read_back(rt: HostRuntime) -
         let source = repeated(rt.alloc(), b"var a; ", b"a = 0; ", times)?;
         let text = repeated(rt.alloc(), b"var a ; ", b"a = 0 ; ", times)?;
         assert!(rt; reads_back(rt.alloc(), &source, &text), "at {times}");
+    }
+    Ok(())
+}
+
+// The source with `head`, so many times `open`, `middle`, as many times `close`, and `tail`.
+fn nested(
+    alloc: Global,
+    head: &[u8],
+    open: &[u8],
+    times: u32,
+    middle: &[u8],
+    close: &[u8],
+    tail: &[u8],
+) -> Result<Vec<u8>, AllocError> {
+    let mut source = repeated(alloc, head, open, times)?;
+    source.extend_from_slice(middle)?;
+    for _ in 0..times {
+        source.extend_from_slice(close)?;
+    }
+    source.extend_from_slice(tail)?;
+    Ok(source)
+}
+
+// Sources of nearly as many tokens as there may be, as deep as they can nest.
+#[test]
+fn deep_sources_are_read_back(rt: HostRuntime) -> Result<(), Fail> {
+    let cases: [(&[u8], &[u8], u32, &[u8], &[u8], &[u8]); 8] = [
+        (b"a = ", b"-", 8188, b"1", b"", b";"),
+        (b"a = 1", b"+1", 4094, b"", b"", b";"),
+        (b"a = ", b"(", 4094, b"1", b")", b";"),
+        (b"a = ", b"1-(", 2047, b"1", b")", b";"),
+        (b"", b"{", 4096, b"", b"}", b""),
+        (b"a = ", b"a[", 2729, b"1", b"]", b";"),
+        (b"", b"if(1<2)", 1364, b"a=1;", b"", b""),
+        (b"a = ", b"max(1,", 1637, b"1", b")", b";"),
+    ];
+    for (head, open, times, middle, close, tail) in cases {
+        let source = nested(rt.alloc(), head, open, times, middle, close, tail)?;
+        assert!(rt; is_read_back(rt.alloc(), &source), "at {open:?}");
     }
     Ok(())
 }

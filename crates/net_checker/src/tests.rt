@@ -327,6 +327,25 @@ fn the_schedule_is_refused(rt: HostRuntime) -> Result<(), Fail> {
         ..SUMS
     };
     assert!(rt; refuses(alloc, &nest, narrow, Refusal::NotEnabled(6))?);
+    let no_room = Row {
+        channels: &[(0, 0, 0, 0), (0, 1, 0, 4), (1, 2, 0, 4)],
+        ..SUMS
+    };
+    assert!(rt; refuses(alloc, &nest, no_room, Refusal::NotEnabled(1))?);
+    Ok(())
+}
+
+#[test]
+fn a_token_that_nobody_uses_is_harmless(rt: HostRuntime) -> Result<(), Fail> {
+    let alloc = rt.alloc();
+    let nest = running_sums(alloc)?;
+    let one_more: &[u8] = b"fz p0 p1 g00 f0 p0 p1 g00 f0 p0 p1 g00 f0 p1 p1";
+    let row = Row {
+        scripts: &[one_more, COPY, PRINT],
+        schedule: b"00011100001110000111000111222222220",
+        ..SUMS
+    };
+    assert!(rt; gives(alloc, &nest, row, Verdict::Accepted)?);
     Ok(())
 }
 
@@ -347,6 +366,13 @@ fn references_that_name_another_point_are_refused(rt: HostRuntime) -> Result<(),
         ..SUMS
     };
     let found = Refusal::Tag(0, Seen::Empty, Wanted::Zero);
+    assert!(rt; refuses(alloc, &nest, row, found)?);
+    let late: &[u8] = b"f0 g10 p2 g10 f0 p2 g10 f0 p2 g10 f0 p2";
+    let row = Row {
+        scripts: &[SUM, late, PRINT],
+        ..SUMS
+    };
+    let found = Refusal::Tag(3, Seen::Empty, Wanted::At(point(alloc, 0, 0)));
     assert!(rt; refuses(alloc, &nest, row, found)?);
     let swapped: &[u8] = b"g10 g11 f1 p2 f0 p2 g10 f0 p2 g10 f0 p2";
     let row = Row {

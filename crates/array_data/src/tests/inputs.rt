@@ -106,6 +106,8 @@ fn the_first_fault_is_told(rt: HostRuntime) -> Result<(), Fail> {
         (b"\n\r\nz,1", UnknownArray(1)),
         (b"x,1,2,3\n\n\nz,1", UnknownArray(2)),
         (b"x,1,2,3\r\ns,1\r \nm", UnknownArray(3)),
+        // a byte order mark behind the start
+        (b"x,1,2,3\n\xEF\xBB\xBFs,9", UnknownArray(2)),
         // an earlier record has the name
         (b"x,5,-7,12\nx,5,-7,12", Twice(2)),
         (b"x,1,2,3\n\t\"x\"", UnknownArray(2)),
@@ -113,6 +115,13 @@ fn the_first_fault_is_told(rt: HostRuntime) -> Result<(), Fail> {
         (b"x,1,2,3\n x\t,oops", Twice(2)),
         (b"x,1,2,3\r\ns,1\r\nx,1,2,3\r\n", Twice(3)),
         (b"s,1\nm,1,2,3,4\nnone\nx,1,2,3\nnone", Twice(5)),
+        (b"x,1,2,3\nx", Twice(2)),
+        (b"x,1,2,3\nx,1", Twice(2)),
+        (b"x,1,2,3\nx,a,b,c", Twice(2)),
+        (b"m,1,2,3,4\nm,1,2,3,4", Twice(2)),
+        (b"none\nnone", Twice(2)),
+        (b"x,1,2,3\n\n\r\nx,1,2,3", Twice(2)),
+        (b"s,1\nx,1,2,3\nm,1,2,3,4\nnone\ns,1", Twice(5)),
         // another number of values
         (b"x", Count(1, 0, 3)),
         (b"x,5", Count(1, 1, 3)),
@@ -150,6 +159,7 @@ fn a_field_that_is_no_value_is_told(rt: HostRuntime) -> Result<(), Fail> {
         (b"x,1,2,0x3", NotANumber(1, 3)),
         (b"x,1,2, \"3\"", NotANumber(1, 3)),
         (b"x,1,2,\"3\n\"", NotANumber(1, 3)),
+        (b"x,1,2,\"3\"\"4\"", NotANumber(1, 3)),
         (b"x,1,/,:", NotANumber(1, 2)),
         (b"x,9223372036854775808,2,3", NotANumber(1, 1)),
         (b"x,1,-9223372036854775809,3", NotANumber(1, 2)),
@@ -180,6 +190,9 @@ fn a_missing_array_is_told_after_all_records(rt: HostRuntime) -> Result<(), Fail
         (b"x,1,2,3\nm,1,2,3,4", Missing(4)),
         (b"x,1,2,3\nm,1,2,3,4\nnone", Missing(4)),
         (b"x,1,2,3\nm,1,2,3,4\ns,9\n", Missing(5)),
+        (b"m,1,2,3,4\ns,9\nnone", Missing(0)),
+        (b"x,1,2,3\ns,9\nnone", Missing(2)),
+        (b"m,1,2,3,4\nx,1,2,3\nnone", Missing(4)),
         (b"s,x", NotANumber(1, 1)),
         (b"s,1\nx,1", Count(2, 1, 3)),
     ] {

@@ -5,9 +5,10 @@ usage: bench/net.py [PROGRAM]      (PROGRAM: crates/compaan/out/compaan, which e
 
 Prints, for each kernel and size, the points of its trace, and the nanoseconds and bytes of memory for each of them. The time
 and the memory of an empty program are taken off, and the least of five runs counts. Beside it stands what a sweep for last
-writers takes in C: over an array of the last writers of a matrix product, one entry for each cell.
+writers takes in C: over an array of the last writers of a matrix product, one entry for each cell, and over a hash map.
 """
 import os
+import re
 import subprocess
 import sys
 import tempfile
@@ -53,11 +54,25 @@ int main(void) {
 """
 
 
-def sweep_in_c():
+# the same sweep with the last writers in a hash map, whose keys are the array's number and the cell's place
+HASHED = SWEEP.replace("static uint32_t A[N][N], B[N][N], C[N][N],", """static struct { uint64_t key; uint32_t writer; } map[1 << 16];
+static uint32_t *at(uint64_t array, uint64_t i, uint64_t j) {
+  uint64_t key = (array * N + i) * N + j + 1, place = key * 0x9E3779B97F4A7C15u >> 48;
+  while (map[place].key != 0 && map[place].key != key) place = (place + 1) & 0xFFFF;
+  map[place].key = key;
+  return &map[place].writer;
+}
+static uint32_t""")
+for array, name in enumerate("ABC"):
+    HASHED = re.sub(r"\b%s\[(\w)\]\[(\w)\]" % name, r"*at(%d, \1, \2)" % array, HASHED)
+HASHED = HASHED.replace('"r"(&C)', '"r"(&map)')
+
+
+def sweep_in_c(program):
     with tempfile.TemporaryDirectory() as folder:
         path = os.path.join(folder, "sweep.c")
         with open(path, "w") as file:
-            file.write(SWEEP)
+            file.write(program)
         subprocess.run(["cc", "-O2", "-o", path[:-2], path], check=True)
         return min(float(subprocess.run([path[:-2]], check=True, capture_output=True).stdout) for _ in range(3))
 
@@ -73,7 +88,7 @@ def main():
             points = points_of(**size)
             words = " ".join("%s=%d" % p for p in params)
             print("| %s %s | %d | %.0f | %.0f |" % (name, words, points, (seconds - empty) * 1e9 / points, (kilobytes - base) * 1024 / points))
-    print("\na sweep of the matrix product's trace in C, over an array: %.2f ns a point" % sweep_in_c())
+    print("\na sweep of the matrix product's trace in C: %.2f ns a point over an array, %.2f over a hash map" % (sweep_in_c(SWEEP), sweep_in_c(HASHED)))
 
 
 if __name__ == "__main__":

@@ -18,6 +18,8 @@ HERE = os.path.dirname(os.path.abspath(__file__))
 EXAMPLES = os.path.join(HERE, "..", "examples")
 PROGRAM = sys.argv[1] if len(sys.argv) > 1 else os.path.join(HERE, "..", "crates", "compaan", "out", "compaan")
 
+# every cell is written outside its array's extents, which C has no word for
+FAR = "param N; var a[1]; for (i = 0; i < N; i++) a[3*i + 7] = i;"
 COUNTER = "param N; var a; for (i = 0; i < N; i++) a = i;"
 
 
@@ -118,6 +120,7 @@ KERNELS = [
     ("1-D stencil", example("jacobi_1d"), [("N", 1000), ("T", 520)], 2 * 520 * 998, 2 * 1000),
     ("counter", COUNTER, [("N", 1048576)], 1048576, 1),
     ("transpose", example("transpose"), [("M", 500), ("N", 500)], 500 * 500, 2 * 500 * 500),
+    ("cells outside the extents", FAR, [("N", 200000)], 200000, 200000),
 ]
 
 
@@ -129,7 +132,7 @@ def main():
         plain = without_comments(source)
         seconds, kilobytes = run_compaan("seq", plain, params)
         ours = (seconds - empty) * 1e9 / executed
-        theirs = run_c(plain, params) / executed
+        theirs = run_c(plain, params) / executed if source != FAR else 0
         # a loop that the C compiler does away with has no ratio
         ratio = "%.0f" % (ours / theirs) if theirs >= 0.05 else "-"
         bytes_each = "%.0f" % ((kilobytes - base) * 1024 / cells) if cells >= 1000 else "-"

@@ -1,0 +1,66 @@
+-- Joined lists of which one part alone has items, lists with one item replaced, and what follows a front.
+use Rattle.std.proofs.Common.{◌≡◌, ℕ, zero, suc, ◌+◌, ◌<◌, ◌≤◌, Some, List, [], ◌∷◌, ◌++◌, length, drop, slice_get, refl, sym, ap, ◌∙◌, inl, inr, arith}
+use Rattle.std.specs.Prelude.{slice_set}
+use Rattle.std.specs.List.{flat_map}
+use Rattle.std.proofs.lemmas.Bool.{cases_eq}
+use Rattle.std.proofs.lemmas.List.{append-nil}
+use Rattle.std.proofs.lemmas.List.Concat.{flat_map-cons}
+use Rattle.sanlp.specs.Cells.{count_up}
+use Rattle.sanlp.proofs.Lists.{count_up-append}
+
+-- One part alone has items
+
+none_joined : {X : Type 0} (f : ℕ → List X) (k : ℕ) → ((j : ℕ) → (j ≡ k → ⊥) → f j ≡ []) → (a m : ℕ) → k < a → flat_map f (count_up a m) ≡ []
+none_joined f k other a zero lt = refl
+none_joined f k other a (suc m) lt =
+    flat_map-cons f a (count_up (a + 1) m) ∙ ap (λ xs. xs ++ flat_map f (count_up (a + 1) m)) (other a (λ e. omega arith)) ∙ none_joined f k other (a + 1) m (omega arith)
+
+pub one_joined : {X : Type 0} (f : ℕ → List X) (k : ℕ) → ((j : ℕ) → (j ≡ k → ⊥) → f j ≡ []) → (a m : ℕ) → a ≤ k → k < a + m → flat_map f (count_up a m) ≡ f k
+one_joined f k other a zero le lt = absurd (omega arith)
+one_joined f k other a (suc m) le lt =
+    elim (cases_eq a k) [
+      | inl same ↦
+          flat_map-cons f a (count_up (a + 1) m) ∙ ap (λ xs. f a ++ xs) (none_joined f k other (a + 1) m (omega arith)) ∙ append-nil (f a) ∙ ap f same
+      | inr ne ↦
+          flat_map-cons f a (count_up (a + 1) m) ∙ ap (λ xs. xs ++ flat_map f (count_up (a + 1) m)) (other a ne) ∙ one_joined f k other (a + 1) m (omega arith) (omega arith)
+    ]
+
+pub count_up_more : (g : ℕ) → count_up 0 (suc g) ≡ count_up 0 g ++ g ∷ []
+count_up_more g =
+    let next : suc g ≡ g + 1 = omega arith in
+    let front : 0 + g ≡ g = omega arith in
+    ap (count_up 0) next ∙ count_up-append 0 g 1 ∙ ap (λ a. count_up 0 g ++ a ∷ []) front
+
+-- One item replaced
+
+pub get_set_same : {X : Type 0} (xs : List X) (i : ℕ) (y : X) → i < length xs → slice_get (slice_set xs i y) i ≡ Some y
+get_set_same [] i y lt = absurd (omega arith)
+get_set_same (x ∷ xs) zero y lt = refl
+get_set_same (x ∷ xs) (suc i) y lt = get_set_same xs i y (omega arith)
+
+pub get_set_other : {X : Type 0} (xs : List X) (i j : ℕ) (y : X) → (j ≡ i → ⊥) → slice_get (slice_set xs i y) j ≡ slice_get xs j
+get_set_other [] zero j y ne = refl
+get_set_other [] (suc i) j y ne = refl
+get_set_other (x ∷ xs) zero zero y ne = absurd (ne refl)
+get_set_other (x ∷ xs) zero (suc j) y ne = refl
+get_set_other (x ∷ xs) (suc i) zero y ne = refl
+get_set_other (x ∷ xs) (suc i) (suc j) y ne = get_set_other xs i j y (λ e. ne (ap suc e))
+
+-- What follows a front
+
+pub get_dropped : {X : Type 0} (xs : List X) (k : ℕ) (x : X) (rest : List X) → drop k xs ≡ x ∷ rest → slice_get xs k ≡ Some x
+get_dropped [] zero x rest e = cc
+get_dropped [] (suc k) x rest e = cc
+get_dropped (y ∷ xs) zero x rest e = cc
+get_dropped (y ∷ xs) (suc k) x rest e = get_dropped xs k x rest e
+
+pub drop_next : {X : Type 0} (xs : List X) (k : ℕ) (x : X) (rest : List X) → drop k xs ≡ x ∷ rest → drop (suc k) xs ≡ rest
+drop_next [] zero x rest e = cc
+drop_next [] (suc k) x rest e = cc
+drop_next (y ∷ xs) zero x rest e = cc
+drop_next (y ∷ xs) (suc k) x rest e = drop_next xs k x rest e
+
+pub get_left : {X : Type 0} (xs ys : List X) (k : ℕ) → k < length xs → slice_get (xs ++ ys) k ≡ slice_get xs k
+get_left [] ys k lt = absurd (omega arith)
+get_left (x ∷ xs) ys zero lt = refl
+get_left (x ∷ xs) ys (suc k) lt = get_left xs ys k (omega arith)

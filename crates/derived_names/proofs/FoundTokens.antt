@@ -1,10 +1,10 @@
 -- The latest Get of the slot that a fire names is that of its token.
-use Rattle.std.proofs.Common.{◌≡◌, ℕ, zero, suc, ◌+◌, ◌-◌, ◌<◌, ◌≤◌, true, cond, Option, Some, None, List, [], ◌∷◌, ◌++◌, length, map, take, slice_get, get_or, count_by, refl, sym, ap, ◌∙◌, subst, inl, inr, arith, append_assoc}
-use Rattle.std.specs.Prelude.{slice_index, slice_index_or, ◌==◌}
-use Rattle.std.specs.List.{flat_map, sum_by}
-use Rattle.std.proofs.lemmas.Bool.{cases_eq, cases_lt, eq-eqb}
+use Rattle.std.proofs.Common.{◌≡◌, ℕ, zero, suc, ◌+◌, ◌-◌, ◌<◌, ◌≤◌, cond, Some, List, [], ◌∷◌, ◌++◌, length, take, slice_get, get_or, count_by, refl, sym, ap, ◌∙◌, inl, inr, arith, append_assoc}
+use Rattle.std.specs.Prelude.{slice_index, ◌==◌}
+use Rattle.std.specs.List.{flat_map}
+use Rattle.std.proofs.lemmas.Bool.{cases_lt, eq-eqb}
 use Rattle.std.proofs.lemmas.List.{get_or-map, take_at}
-use Rattle.std.proofs.lemmas.List.Concat.{flat_map-append, flat_map-cons}
+use Rattle.std.proofs.lemmas.List.Concat.{flat_map-append}
 use Rattle.std.proofs.lemmas.List.Sums.{sum_by-cons}
 use Rattle.std.proofs.lemmas.Option.{slice_get-get_or}
 use Rattle.channel_plan.specs.declared.plans.ChannelPlan.{ChannelPlan}
@@ -17,7 +17,7 @@ use Rattle.net_core.specs.Names.{latest_gets}
 use Rattle.net_core.specs.Shape.{is_get}
 use Rattle.net_core.proofs.Counting.{count_past}
 use Rattle.process_derive.specs.Derived.{net}
-use Rattle.process_derive.specs.Scripts.{point_events, puts_from, script, slot_base, slots_of}
+use Rattle.process_derive.specs.Scripts.{point_events, puts_from, script, slot_base}
 use Rattle.process_derive.proofs.Numbers.{script_at}
 use Rattle.process_derive.proofs.Slots.{gets_inside}
 use Rattle.process_derive.proofs.Sums.{sum_at}
@@ -30,7 +30,7 @@ use Rattle.sanlp.specs.declared.nest.Nest.{Nest}
 use Rattle.sanlp.specs.declared.nest.Tag.{Tag}
 use Rattle.sanlp.specs.Cells.{count_up}
 use Rattle.sanlp.proofs.Lists.{count_up-append}
-use Rattle.derived_names.proofs.Gets.{before_fire, events_before, events_split, exists, few_uses, fire_count, gets_made, place, point_refs, slot_is, used, uses_made, uses_next}
+use Rattle.derived_names.proofs.Gets.{before_fire, events_before, events_split, exists, few_uses, fire_count, place, point_refs, slot_is, uses_made, uses_next}
 use Rattle.derived_names.proofs.Latest.{IsLastInto, latest}
 use Rattle.derived_names.proofs.UsesOfFires.{turns_read}
 use Rattle.derived_names.proofs.UsesOfReads.{plan_at}
@@ -91,7 +91,7 @@ take_before n p f process lt =
 -- The Get of the token that a fire uses
 
 module _ (n : Nest) (p k w c : ℕ) (found : slice_get (plans_of n) c ≡ Some (plan_of n p k w)) (f : ℕ) (fire : f < turn_count n p) (t : Tag)
-  (source : slice_get (sources_at n p k) f ≡ Some (Some t)) (own : t.process ≡ w) where
+    (source : slice_get (sources_at n p k) f ≡ Some (Some t)) (own : t.process ≡ w) where
   abbrev uses : List ℕ
   uses = uses_of (turns_read n p k w)
 

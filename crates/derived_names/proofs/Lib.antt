@@ -5,3 +5,7 @@ pub mod UsesOfFires
 pub mod Gets
 pub mod Latest
 pub mod FoundTokens
+pub mod Fires
+pub mod Names
+pub mod UsesAlong
+pub mod Classes

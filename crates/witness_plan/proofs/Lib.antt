@@ -16,3 +16,8 @@ pub mod OtherCapacities
 pub mod SlotsInside
 pub mod Wired
 pub mod HandOn
+pub mod NeverFull
+pub mod Downward
+pub mod Planned
+pub mod Descent
+pub mod Progressed

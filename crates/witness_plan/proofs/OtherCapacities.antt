@@ -44,7 +44,7 @@ net_kept network capacities =
     (length (channels_with network.channels capacities)) (net_of (with_capacities network capacities)).writer (net_of (with_capacities network capacities)).reader
     (count_kept network.channels capacities) (fun_ext (writer_kept network.channels capacities)) (fun_ext (reader_kept network.channels capacities))
 
-wired_at : (n : Net) (capacity : ℕ → ℕ) → IsWired n → IsWired (record n { capacity = capacity })
+pub wired_at : (n : Net) (capacity : ℕ → ℕ) → IsWired n → IsWired (record n { capacity = capacity })
 wired_at n capacity w = record {
   bounded = w.bounded;
   writers = w.writers;

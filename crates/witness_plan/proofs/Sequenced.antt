@@ -30,7 +30,7 @@ pub record IsSequenced (n : Nest) (t : ℕ) (schedule positions : List ℕ) : Ty
   pub schedule_is : schedule ≡ until (point_events n) (trace n) t
   pub positions_are : positions ≡ map (cut_after opening schedule) (count_up 0 (length n.statements))
 
-all_zero : (f : ℕ → ℕ) (a m : ℕ) → ((k : ℕ) → f k ≡ 0) → replicate m 0 ≡ map f (count_up a m)
+pub all_zero : (f : ℕ → ℕ) (a m : ℕ) → ((k : ℕ) → f k ≡ 0) → replicate m 0 ≡ map f (count_up a m)
 all_zero f a zero h = refl
 all_zero f a (suc m) h = ap (λ x. x ∷ replicate m 0) (sym (h a)) ∙ ap (λ xs. f a ∷ xs) (all_zero f (a + 1) m h)
 

@@ -1,60 +1,43 @@
--- The sequential schedule is a run of its network, and ends all.
-use Rattle.std.proofs.Common.{◌≡◌, ℕ, zero, suc, ◌+◌, ◌-◌, ◌<◌, ◌≤◌, true, cond, Some, List, [], ◌∷◌, ◌++◌, length, take, drop, replicate, slice_get, get_or, count_by, refl, sym, ap, ◌∙◌, subst, inl, inr, arith, append_assoc, append-nil, length-append, lt-ltb}
+-- The sequential schedule is a run of its network, whatever room its channels need, and ends all.
+use Rattle.std.proofs.Common.{◌≡◌, ℕ, zero, suc, ◌+◌, ◌-◌, ◌<◌, ◌≤◌, true, cond, Some, List, [], ◌∷◌, ◌++◌, length, take, drop, replicate, slice_get, count_by, refl, sym, ap, ◌∙◌, subst, inl, inr, arith, length-append, lt-ltb}
 use Rattle.std.specs.Prelude.{◌==◌}
 use Rattle.std.specs.List.{flat_map}
-use Rattle.std.specs.Option.{option_map_or}
 use Rattle.std.proofs.lemmas.Bool.{cases_eq, cases_lt, eq-eqb, ne_eqb}
-use Rattle.std.proofs.lemmas.List.{replicate-append-replicate, replicate_more, take_at, take-append-drop, take_all}
+use Rattle.std.proofs.lemmas.List.{take_at, take-append-drop, take_all}
 use Rattle.std.proofs.lemmas.List.Concat.{flat_map-append}
 use Rattle.std.proofs.lemmas.Option.{slice_get_within}
 use Rattle.channel_plan.specs.declared.plans.ChannelPlan.{ChannelPlan}
 use Rattle.channel_plan.specs.Plans.{plans_of, sources_at, turn_count}
 use Rattle.channel_plan.specs.Tokens.{tokens_below, turns_used}
-use Rattle.net_core.specs.declared.network.Channel.{Channel}
 use Rattle.net_core.specs.declared.network.Event.{Event}
 use Rattle.net_core.specs.declared.network.Event.TheVariants.{Get, Fire, Put}
-use Rattle.net_core.specs.declared.network.Network.{Network}
-use Rattle.net_core.specs.Cuts.{Cut, IsCutRun, advanced, can_come_at, cut_after, enabled_at, gets_at, puts_at}
-use Rattle.net_core.specs.Machine.{IsRun, Net, State, net_of, start, step}
-use Rattle.net_core.specs.Orders.{EndsAll, reached}
-use Rattle.net_core.specs.Rules.{tags}
-use Rattle.net_core.specs.Shape.{IsWired, is_get, is_put}
+use Rattle.net_core.specs.Cuts.{Cut, IsCutRun, advanced, cut_after, enabled_at, gets_at, puts_at}
+use Rattle.net_core.specs.Machine.{Net, net_of}
+use Rattle.net_core.specs.Shape.{is_get, is_put}
 use Rattle.net_core.proofs.Counting.{count_mono, count_next}
 use Rattle.net_core.proofs.CutOrder.{advanced_here}
-use Rattle.net_core.proofs.Positions.{cut_run, run_counted, run_ends, start_counted}
 use Rattle.process_derive.specs.Derived.{net}
 use Rattle.process_derive.specs.Scripts.{point_events, script}
 use Rattle.sanlp.specs.declared.nest.Nest.{Nest}
 use Rattle.sanlp.specs.declared.nest.Point.{Point}
-use Rattle.sanlp.specs.declared.nest.Tag.{Tag}
 use Rattle.sanlp.specs.Cells.{count_up}
 use Rattle.sanlp.specs.Laws.{entries_from}
 use Rattle.sanlp.specs.Trace.{trace}
 use Rattle.sanlp.proofs.Enumerates.{enumerates_domains}
 use Rattle.sanlp.proofs.Lists.{count_up-append}
-use Rattle.witness_plan.specs.Sequential.{capacities, channels_with, greatest_length, opening, queue_length, sequential_network, sequential_schedule, with_capacities}
+use Rattle.witness_plan.specs.Schedules.{could_come_at, is_ready}
+use Rattle.witness_plan.specs.Sequential.{opening, sequential_schedule}
 use Rattle.witness_plan.specs.Traffic.{IsOwn}
-use Rattle.witness_plan.proofs.AlongCuts.{cut_after-append, cut_here, cut_there, gets_more, puts_more}
-use Rattle.witness_plan.proofs.CountedLists.{get_below, length_between}
+use Rattle.witness_plan.proofs.AlongCuts.{cut_here, cut_there, gets_more}
 use Rattle.witness_plan.proofs.GetsMade.{gets_made}
 use Rattle.witness_plan.proofs.InTraceOrder.{point_at, stands, turns_before, until, until_more}
-use Rattle.witness_plan.proofs.NotedTraffic.{greatest_more, now_within}
-use Rattle.witness_plan.proofs.OtherCapacities.{reader_kept, wired_kept, writer_kept}
+use Rattle.witness_plan.proofs.NeverFull.{never_full, ready_comes}
 use Rattle.witness_plan.proofs.OwnChannels.{channel_count, count-append, reader_is, script_own, script_past, script_there, writer_is}
 use Rattle.witness_plan.proofs.PointEvents.{events_before}
 use Rattle.witness_plan.proofs.SourcesBefore.{entries_count, wanted_are_tokens}
 use Rattle.witness_plan.proofs.TokensPut.{events_more, tokens_put}
 use Rattle.witness_plan.proofs.Usages.{all_at}
 use Rattle.witness_plan.proofs.Wired.{wired}
-
--- Other capacities
-
-capacity_given : (channels : List Channel) (capacities : List ℕ) (c : ℕ) → c < length channels → c < length capacities
-    → option_map_or (λ (x : Channel). x.capacity) (slice_get (channels_with channels capacities) c) 0 ≡ get_or capacities c 0
-capacity_given [] capacities c lt within = absurd (omega arith)
-capacity_given (x ∷ channels) [] c lt within = absurd (omega arith)
-capacity_given (x ∷ channels) (y ∷ capacities) zero lt within = refl
-capacity_given (x ∷ channels) (y ∷ capacities) (suc c) lt within = capacity_given channels capacities c (omega arith) (omega arith)
 
 -- Runs on cuts
 
@@ -67,16 +50,6 @@ run_of_one : (n : Net) (k : Cut) (p m : ℕ) → ((j : ℕ) → j < m → enable
 run_of_one n k p zero on = tt
 run_of_one n k p (suc m) on =
     (on 0 (omega arith), run_of_one n (advanced k p) p m (λ j lt. on (suc j) (omega arith)))
-
--- the lengths along a longer schedule are no less
-greatest_front : (net : Net) (schedule : List ℕ) (p c : ℕ) → greatest_length net schedule c ≤ greatest_length net (schedule ++ p ∷ []) c
-greatest_front net schedule p c = omega (arith, greatest_more net schedule p c)
-
-greatest_grows : (net : Net) (more schedule : List ℕ) (c : ℕ) → greatest_length net schedule c ≤ greatest_length net (schedule ++ more) c
-greatest_grows net [] schedule c = omega (arith, ap (λ s. greatest_length net s c) (append-nil schedule))
-greatest_grows net (p ∷ more) schedule c =
-    let whole = append_assoc schedule (p ∷ []) more in
-    omega (arith, greatest_front net schedule p c, greatest_grows net more (schedule ++ p ∷ []) c, ap (λ s. greatest_length net s c) whole)
 
 -- Scripts
 
@@ -128,26 +101,11 @@ few_turns n t p =
 all_turns : (n : Nest) (p : ℕ) → turns_before (trace n) (length (trace n)) p ≡ turn_count n p
 all_turns n p = ap (count_by (λ (q : Point). q.statement == p)) (take_all (length (trace n)) (trace n) (omega arith)) ∙ sym (entries_count 0 (trace n) p)
 
--- a list of one process in parts
-parts : (many j p : ℕ) → j < many → replicate many p ≡ (replicate j p ++ p ∷ []) ++ replicate (many - suc j) p
-parts many j p lt =
-    let whole : many ≡ j + 1 + (many - suc j) = omega arith in
-    ap (λ i. replicate i p) whole ∙ sym (replicate-append-replicate (j + 1) (many - suc j) p) ∙ ap (λ s. s ++ replicate (many - suc j) p) (sym (replicate_more j p))
-
 -- The schedule so far
 
 module _ (n : Nest) where
   abbrev before : ℕ → List ℕ
   before t = until (point_events n) (trace n) t
-
-  whole_from : (t more : ℕ) → t + more ≤ length (trace n) → (rest : List ℕ) × (before (t + more) ≡ before t ++ rest)
-  whole_from t zero le = ([], (let same : t + 0 ≡ t = omega arith in ap before same ∙ sym (append-nil (before t))))
-  whole_from t (suc more) le =
-      let front = whole_from t more (omega arith) in
-      let p = point_at (trace n) (t + more) (omega arith) in
-      let events = replicate (length (point_events n p.0.statement (turns_before (trace n) (t + more) p.0.statement))) p.0.statement in
-      let next : t + suc more ≡ suc (t + more) = omega arith in
-      (front.0 ++ events, ap before next ∙ until_more (point_events n) (trace n) (t + more) p.0 p.1 ∙ ap (λ s. s ++ events) front.1 ∙ append_assoc (before t) front.0 events)
 
   schedule_is : before (length (trace n)) ≡ sequential_schedule n
   unfolding sequential_schedule
@@ -261,123 +219,46 @@ module _ (n : Nest) (t : ℕ) (q : Point) (here : slice_get (trace n) t ≡ Some
         ) in
         omega arith
 
-    -- a queue has room, since its capacity is the greatest length that it has
-    room_there : (d : ℕ) → slice_get (m.script q.statement) (c q.statement) ≡ Some (Put d) → IsOwn m q.statement (Put d)
-        → puts_at m c d < gets_at m c d + greatest_length m (sequential_schedule n) d
-    room_there d is own =
-        let puts = puts_more m c q.statement d (Put d) is (λ h. own.1) ∙ ap (λ b. puts_at m c d + cond b 1 0) (eq-eqb d d refl) in
-        let gets : gets_at m (advanced c q.statement) d ≡ gets_at m c d + 0 = gets_more m c q.statement d (Put d) is (λ h. cc) in
-        let now = before n t ++ (replicate j q.statement ++ q.statement ∷ []) in
-        let cut : cut_after opening now ≡ advanced c q.statement =
-        cut_after-append opening (before n t) (replicate j q.statement ++ q.statement ∷ []) ∙ cut_after-append k (replicate j q.statement) (q.statement ∷ []) in
-        let greatest = now_within m now d in
-        let length_now = ap (λ x. queue_length m x d) cut in
-        let next = until_more (point_events n) (trace n) t q here in
-        let rest = whole_from n (suc t) (length (trace n) - suc t) (omega (arith, in_trace)) in
-        let parted : replicate many q.statement ≡ (replicate j q.statement ++ q.statement ∷ []) ++ replicate (many - suc j) q.statement =
-        parts many j q.statement lt in
-        let all : sequential_schedule n ≡ now ++ (replicate (many - suc j) q.statement ++ rest.0) =
-        sym (schedule_is n)
-        ∙ ap (before n) (let e : length (trace n) ≡ suc t + (length (trace n) - suc t) = omega (arith, in_trace) in e)
-        ∙ rest.1
-        ∙ ap (λ s. s ++ rest.0) (next ∙ ap (λ s. before n t ++ s) parted ∙ sym (append_assoc (before n t) (replicate j q.statement ++ q.statement ∷ []) (replicate (many - suc j) q.statement)))
-        ∙ append_assoc now (replicate (many - suc j) q.statement) rest.0 in
-        let grows = greatest_grows m (replicate (many - suc j) q.statement ++ rest.0) now d in
-        let equal = ap (λ s. greatest_length m s d) all in
-        omega arith
-
--- what a run begins with is a run
-front_runs : (n : Net) (s : State Tag) (run : List ℕ) (count : ℕ) → IsRun n tags s run → IsRun n tags s (take count run)
-front_runs n s [] zero is = tt
-front_runs n s [] (suc count) is = tt
-front_runs n s (p ∷ run) zero is = tt
-front_runs n s (p ∷ run) (suc count) is = (is.0, front_runs n (step n tags s p) run count is.1)
-
--- The network with the schedule's capacities
+-- The whole schedule
 
 module _ (n : Nest) where
-  abbrev fitted : Net
-  fitted = net_of (sequential_network n)
-
-  abbrev lengths : List ℕ
-  lengths = capacities (net n) (sequential_schedule n)
-
-  gets_kept : (k : Cut) (d : ℕ) → gets_at fitted k d ≡ gets_at (net_of (net n)) k d
-  gets_kept k d = ap (λ r. count_by (is_get d) (take (k r) ((net_of (net n)).script r))) (reader_kept (net n).channels lengths d)
-
-  puts_kept : (k : Cut) (d : ℕ) → puts_at fitted k d ≡ puts_at (net_of (net n)) k d
-  puts_kept k d = ap (λ r. count_by (is_put d) (take (k r) ((net_of (net n)).script r))) (writer_kept (net n).channels lengths d)
-
-  capacity_is : (d : ℕ) → d < (net_of (net n)).channels → fitted.capacity d ≡ greatest_length (net_of (net n)) (sequential_schedule n) d
-  capacity_is d lt =
-      capacity_given (net n).channels lengths d lt (omega (arith, lt, length_between (greatest_length (net_of (net n)) (sequential_schedule n)) 0 (length (net n).channels)))
-      ∙ get_below (greatest_length (net_of (net n)) (sequential_schedule n)) 0 (length (net n).channels) d lt
+  abbrev derived : Net
+  derived = net_of (net n)
 
   module _ (t : ℕ) (q : Point) (here : slice_get (trace n) t ≡ Some q) (j : ℕ) (lt : j < length (point_events n q.statement (turns_before (trace n) t q.statement))) where
     abbrev cut : Cut
     cut = cut_after (cut_after opening (before n t)) (replicate j q.statement)
 
-    can_come : (e : Event) → slice_get ((net_of (net n)).script q.statement) (cut q.statement) ≡ Some e → IsOwn (net_of (net n)) q.statement e → can_come_at fitted cut (Some e) ≡ true
-    can_come (Get d slot) is own =
-        lt-ltb _ _ (omega (arith, gets_kept cut d, puts_kept cut d, token_there n t q here j lt d slot is own))
-    can_come (Fire refs) is own = refl
-    can_come (Put d) is own =
-        lt-ltb _ _ (omega (arith, gets_kept cut d, puts_kept cut d, capacity_is d own.0, room_there n t q here j lt d is own))
+    could_come : (e : Event) → slice_get (derived.script q.statement) (cut q.statement) ≡ Some e → IsOwn derived q.statement e → could_come_at derived cut (Some e) ≡ true
+    could_come (Get d slot) is own = lt-ltb _ _ (token_there n t q here j lt d slot is own)
+    could_come (Fire refs) is own = refl
+    could_come (Put d) is own = refl
 
-    goes_on : enabled_at fitted cut q.statement ≡ true
-    goes_on =
-        let event = event_at ((net_of (net n)).script q.statement) (cut q.statement) (inside n t q here j lt) in
-        let own = all_at (IsOwn (net_of (net n)) q.statement) ((net_of (net n)).script q.statement) (cut q.statement) event.0 (script_own n q.statement) event.1 in
-        ap (can_come_at fitted cut) event.1 ∙ can_come event.0 event.1 own
+    ready : is_ready derived cut q.statement ≡ true
+    ready =
+        let event = event_at (derived.script q.statement) (cut q.statement) (inside n t q here j lt) in
+        let own = all_at (IsOwn derived q.statement) (derived.script q.statement) (cut q.statement) event.0 (script_own n q.statement) event.1 in
+        ap (could_come_at derived cut) event.1 ∙ could_come event.0 event.1 own
 
-  runs_until : (t : ℕ) → t ≤ length (trace n) → IsCutRun fitted opening (before n t)
+  runs_until : (t : ℕ) → t ≤ length (trace n) → IsCutRun (never_full derived) opening (before n t)
   runs_until zero le = tt
   runs_until (suc t) le =
       let q = point_at (trace n) t (omega arith) in
       let p = q.0.statement in
       let many = length (point_events n p (turns_before (trace n) t p)) in
-      subst (IsCutRun fitted opening) (sym (until_more (point_events n) (trace n) t q.0 q.1))
-      (run_append fitted opening (before n t) (replicate many p) (runs_until t (omega arith))
-      (run_of_one fitted (cut_after opening (before n t)) p many (λ j lt. goes_on t q.0 q.1 j lt)))
+      subst (IsCutRun (never_full derived) opening) (sym (until_more (point_events n) (trace n) t q.0 q.1))
+      (run_append (never_full derived) opening (before n t) (replicate many p) (runs_until t (omega arith))
+      (run_of_one (never_full derived) (cut_after opening (before n t)) p many
+      (λ j lt. ready_comes derived (wired n) (cut_after (cut_after opening (before n t)) (replicate j p)) p (ready t q.0 q.1 j lt))))
 
-  -- each entry of the schedule is enabled in turn
-  runs : IsCutRun fitted opening (sequential_schedule n)
-  runs = subst (IsCutRun fitted opening) (schedule_is n) (runs_until (length (trace n)) (omega arith))
+  -- each entry of the schedule is ready in turn
+  pub sequential_runs : IsCutRun (never_full (net_of (net n))) opening (sequential_schedule n)
+  sequential_runs = subst (IsCutRun (never_full derived) opening) (schedule_is n) (runs_until (length (trace n)) (omega arith))
 
   -- and in the end each process has made all its events
-  ends : (p : ℕ) → cut_after opening (sequential_schedule n) p ≡ length (fitted.script p)
-  ends p =
+  pub sequential_ends : (p : ℕ) → cut_after opening (sequential_schedule n) p ≡ length ((net_of (net n)).script p)
+  sequential_ends p =
       ap (λ s. cut_after opening s p) (sym (schedule_is n))
       ∙ stands (point_events n) (trace n) (length (trace n)) p (omega arith)
       ∙ ap (λ f. length (events_before n p f)) (all_turns n p)
       ∙ ap length (sym (script_is n p))
-
-  pub fitted_wired : IsWired fitted
-  fitted_wired = wired_kept (net n) lengths (wired n)
-
-  is_run : IsRun fitted tags (start fitted) (sequential_schedule n)
-  is_run = cut_run fitted tags fitted_wired (sequential_schedule n) (start fitted) (start_counted fitted) runs
-
-  pub ends_all : EndsAll fitted tags (sequential_schedule n)
-  ends_all = (is_run, λ p. ap (λ k. k p) (run_ends fitted tags (sequential_schedule n) (start fitted) is_run) ∙ ends p)
-
-  -- the lengths of which a capacity is the greatest are those of the machine's queue
-  pub queue_lengths : (many c : ℕ) → length ((reached fitted tags (take many (sequential_schedule n))).queue c)
-      ≡ queue_length (net_of (net n)) (cut_after opening (take many (sequential_schedule n))) c
-  queue_lengths many c =
-      let front = take many (sequential_schedule n) in
-      let run = front_runs fitted (start fitted) (sequential_schedule n) many is_run in
-      let counted = run_counted fitted tags fitted_wired front (start fitted) (start_counted fitted) run in
-      let at = run_ends fitted tags front (start fitted) run in
-      let queue = counted.queues c in
-      let gets = ap (λ k. gets_at fitted k c) at ∙ gets_kept (cut_after opening front) c in
-      let puts = ap (λ k. puts_at fitted k c) at ∙ puts_kept (cut_after opening front) c in
-      omega arith
-
--- so is a schedule that is the sequential one, in a network that has the capacities that it needs
-pub ends_fitted : (n : Nest) (network : Network) (schedule lengths : List ℕ) → network ≡ net n → schedule ≡ sequential_schedule n → lengths ≡ capacities network (sequential_schedule n)
-    → EndsAll (net_of (with_capacities network lengths)) tags schedule
-ends_fitted n network schedule lengths e f g =
-    subst (λ x. EndsAll (net_of (with_capacities network lengths)) tags x) (sym f)
-    (subst (λ x. EndsAll (net_of (with_capacities network x)) tags (sequential_schedule n)) (sym g)
-    (subst (λ x. EndsAll (net_of (with_capacities x (capacities x (sequential_schedule n)))) tags (sequential_schedule n)) (sym e) (ends_all n)))

@@ -1,12 +1,15 @@
--- The network of the running sums of three values, computed from the definitions: its capacities along two schedules.
-use Rattle.std.proofs.Common.{◌≡◌, ℕ, false, List, [], ◌∷◌, ◌++◌, replicate, refl}
+-- Small networks, computed from the definitions: their schedules and their capacities.
+use Rattle.std.proofs.Common.{◌≡◌, ℕ, false, Some, None, List, [], ◌∷◌, ◌++◌, replicate, refl}
 use Rattle.channel_class.specs.declared.UseOrder.TheVariants.{InOrder}
 use Rattle.net_core.specs.declared.network.Channel.{Channel}
 use Rattle.net_core.specs.declared.network.Event.{Event}
 use Rattle.net_core.specs.declared.network.Event.TheVariants.{Get, Fire, Put}
 use Rattle.net_core.specs.declared.network.Network.{Network}
 use Rattle.net_core.specs.declared.refs.Ref.TheVariants.{Zero, Slot}
-use Rattle.witness_plan.specs.Sequential.{capacities, with_capacities}
+use Rattle.net_core.specs.Cuts.{cut_after}
+use Rattle.net_core.specs.Machine.{net_of}
+use Rattle.witness_plan.specs.Schedules.{downward_schedule, highest_ready}
+use Rattle.witness_plan.specs.Sequential.{capacities, opening, with_capacities}
 use Rattle.witness_plan.specs.Steps.{point_length}
 
 values : List Event
@@ -43,6 +46,11 @@ in_trace_order : capacities running_sums (replicate 6 0 ++ (replicate 13 1 ++ re
 unfolding running_sums values sums sink channel
 in_trace_order = refl
 
+-- the downward schedule goes point by point
+downward_sums : capacities running_sums (downward_schedule (net_of running_sums)) ≡ 1 ∷ 1 ∷ 1 ∷ []
+unfolding running_sums values sums sink channel downward_schedule
+downward_sums = refl
+
 -- point by point through all processes no queue has more than one token
 point_by_point : capacities running_sums (replicate 2 0 ++ (replicate 4 1 ++ (replicate 2 2 ++ (replicate 2 0 ++ (replicate 5 1 ++ (replicate 2 2 ++ (replicate 2 0 ++ (replicate 4 1 ++ replicate 2 2))))))))
     ≡ 1 ∷ 1 ∷ 1 ∷ []
@@ -56,3 +64,69 @@ first_point = refl
 changed : (with_capacities running_sums (1 ∷ 3 ∷ 3 ∷ [])).channels ≡ channel 1 1 0 1 ∷ channel 0 1 1 3 ∷ channel 1 2 0 3 ∷ []
 unfolding running_sums channel
 changed = refl
+
+-- Three values, to each of which one is added.
+
+adder : List Event
+adder = Get 0 0 ∷ Fire (Slot 0 ∷ []) ∷ Put 1 ∷ Get 0 0 ∷ Fire (Slot 0 ∷ []) ∷ Put 1 ∷ Get 0 0 ∷ Fire (Slot 0 ∷ []) ∷ Put 1 ∷ []
+
+one_added : Network
+unfolding adder channel
+one_added = record {
+  processes =
+      record { slots = 0; script = Fire [] ∷ Put 0 ∷ Fire [] ∷ Put 0 ∷ Fire [] ∷ Put 0 ∷ [] }
+      ∷ record { slots = 1; script = adder }
+      ∷ record { slots = 1; script = Get 1 0 ∷ Fire (Slot 0 ∷ []) ∷ Get 1 0 ∷ Fire (Slot 0 ∷ []) ∷ Get 1 0 ∷ Fire (Slot 0 ∷ []) ∷ [] } ∷ [];
+  channels = channel 0 1 0 3 ∷ channel 1 2 0 3 ∷ [];
+}
+
+-- the source alone is ready at first, and after its first Put its reader is
+first_ready : highest_ready (net_of one_added) opening 3 ≡ Some 0
+unfolding one_added adder channel
+first_ready = refl
+
+next_ready : highest_ready (net_of one_added) (cut_after opening (0 ∷ 0 ∷ [])) 3 ≡ Some 1
+unfolding one_added adder channel
+next_ready = refl
+
+added_downward : downward_schedule (net_of one_added) ≡ 0 ∷ 0 ∷ 1 ∷ 1 ∷ 1 ∷ 2 ∷ 2 ∷ 0 ∷ 0 ∷ 1 ∷ 1 ∷ 1 ∷ 2 ∷ 2 ∷ 0 ∷ 0 ∷ 1 ∷ 1 ∷ 1 ∷ 2 ∷ 2 ∷ []
+unfolding one_added adder channel downward_schedule
+added_downward = refl
+
+added_ends : highest_ready (net_of one_added) (cut_after opening (downward_schedule (net_of one_added))) 3 ≡ None
+unfolding one_added adder channel downward_schedule
+added_ends = refl
+
+added_capacities : capacities one_added (downward_schedule (net_of one_added)) ≡ 1 ∷ 1 ∷ []
+unfolding one_added adder channel downward_schedule
+added_capacities = refl
+
+added_in_trace_order : capacities one_added (replicate 6 0 ++ (replicate 9 1 ++ replicate 6 2)) ≡ 3 ∷ 3 ∷ []
+unfolding one_added adder channel
+added_in_trace_order = refl
+
+-- Four values, to each of which the last one is added, by way of a copy.
+
+copied : List Event
+copied = Get 0 0 ∷ Fire (Slot 0 ∷ []) ∷ Get 0 0 ∷ Fire (Slot 0 ∷ []) ∷ Get 0 0 ∷ Fire (Slot 0 ∷ []) ∷ Get 0 0 ∷ Fire (Slot 0 ∷ []) ∷ Put 2 ∷ []
+
+last_added : Network
+unfolding copied channel
+last_added = record {
+  processes =
+      record { slots = 0; script = Fire [] ∷ Put 0 ∷ Put 1 ∷ Fire [] ∷ Put 0 ∷ Put 1 ∷ Fire [] ∷ Put 0 ∷ Put 1 ∷ Fire [] ∷ Put 0 ∷ Put 1 ∷ [] }
+      ∷ record { slots = 1; script = copied }
+      ∷ record {
+        slots = 2;
+        script =
+            Get 1 0 ∷ Get 2 1 ∷ Fire (Slot 0 ∷ Slot 1 ∷ []) ∷ Put 3
+            ∷ Get 1 0 ∷ Fire (Slot 0 ∷ Slot 1 ∷ []) ∷ Put 3 ∷ Get 1 0 ∷ Fire (Slot 0 ∷ Slot 1 ∷ []) ∷ Put 3 ∷ Get 1 0 ∷ Fire (Slot 0 ∷ Slot 1 ∷ []) ∷ Put 3 ∷ [];
+      }
+      ∷ record { slots = 1; script = Get 3 0 ∷ Fire (Slot 0 ∷ []) ∷ Get 3 0 ∷ Fire (Slot 0 ∷ []) ∷ Get 3 0 ∷ Fire (Slot 0 ∷ []) ∷ Get 3 0 ∷ Fire (Slot 0 ∷ []) ∷ [] } ∷ [];
+  channels = channel 0 1 0 4 ∷ channel 0 2 0 4 ∷ channel 1 2 1 1 ∷ channel 2 3 0 4 ∷ [];
+}
+
+-- the adder waits for the last copy, and meanwhile two values wait for it
+last_capacities : capacities last_added (downward_schedule (net_of last_added)) ≡ 1 ∷ 2 ∷ 1 ∷ 1 ∷ []
+unfolding last_added copied channel downward_schedule
+last_capacities = refl

@@ -1,4 +1,6 @@
 pub mod Examples
+pub mod Progress
+pub mod Schedules
 pub mod Sequential
 pub mod Steps
 pub mod Traffic

@@ -2,6 +2,7 @@
 #![tactic(auto)]
 
 mod laws;
+mod progress;
 mod running;
 mod schedules;
 mod steps;
@@ -9,6 +10,6 @@ mod steps;
 mod tests;
 mod traffic;
 
-pub use laws::{other_capacities, sequential_runs};
+pub use laws::{goes_downward, other_capacities, schedule_runs};
 pub use running::run_by;
-pub use schedules::{Policy, Witness, sequential, with_capacities};
+pub use schedules::{Policy, Witness, plan, with_capacities};

@@ -1,17 +1,23 @@
-ghost use Rattle.std.specs.Prelude.{◌≡◌, IfOk};
+ghost use Rattle.std.specs.Prelude.{◌≡◌, ◌<◌, ◌^◌, length, IfOk};
 ghost use Rattle.loop_walk.specs.Counting.{SizeIsOk};
 ghost use Rattle.sanlp.specs.Points.{points_of};
 ghost use Rattle.net_core.specs.Machine.{net_of};
 ghost use Rattle.net_core.specs.Orders.{EndsAll};
 ghost use Rattle.net_core.specs.Rules.{tags};
+ghost use Rattle.net_core.specs.Shape.{IsWired};
 ghost use Rattle.process_derive.specs.Derived.{net};
+ghost use Rattle.witness_plan.specs.Schedules.{downward_schedule, schedule};
 ghost use Rattle.witness_plan.specs.Sequential.{capacities, channels_with, sequential_schedule, with_capacities};
+ghost use Rattle.witness_plan.specs.Traffic.{NamesOwnChannels};
 
+use crate::laws::schedule_runs;
+use crate::progress::{Progress, bound_after};
 use crate::steps::make_point;
 use crate::traffic::{Traffic, greatest_lengths};
 use loop_walk::Walk;
 use net_core::{Channel, Network};
 use plain_data::Items;
+use process_derive::numbers_fit;
 use sanlp::{Nest, Points};
 use std::alloc::{AllocError, Global};
 
@@ -33,21 +39,12 @@ pub struct Witness {
     pub capacities: Items<u32>,
 }
 
-/// The schedule of a nest's network that takes the trace and lets the process of each entry do all events of that point,
-/// and the greatest length of each channel's queue along it. With these capacities it is a run of the network that ends
-/// all. Nothing is refused but want of memory.
-pub fn sequential(
-    alloc: Global,
-    nest: &Nest,
-    points: &Points,
-    network: &Network,
-) -> Result<Witness, AllocError>
+// The schedule that takes the trace and lets the process of each entry do all events of that point, with its capacities.
+fn sequential(alloc: Global, nest: &Nest, network: &Network) -> Result<Witness, AllocError>
     requires size { SizeIsOk nest.now }
-    requires points { points.now.of ≡ points_of nest.now }
     requires network { network.now ≡ net nest.now }
     ensures schedule { IfOk result (λ witness. witness.schedule ≡ sequential_schedule nest.now) }
     ensures capacities { IfOk result (λ witness. witness.capacities ≡ capacities network.now (sequential_schedule nest.now)) }
-    ensures run { IfOk result (λ witness. EndsAll (net_of (with_capacities network.now witness.capacities)) tags witness.schedule) }
 {
     let mut schedule = Items::new(alloc);
     let mut positions = vec![in alloc; 0; network.processes.len()]?;
@@ -64,6 +61,52 @@ pub fn sequential(
         schedule,
         capacities,
     })
+}
+
+// The schedule that takes at each state the highest-numbered process that is ready, with its capacities. After an event of
+// that process no higher one is ready but a Put's reader, so the search goes on from there.
+fn downward(alloc: Global, network: &Network) -> Result<Witness, AllocError>
+    requires wired { IsWired (net_of network.now) }
+    requires channels { NamesOwnChannels (net_of network.now) }
+    requires few { length network.now.processes < 2 ^ 32 }
+    ensures schedule { IfOk result (λ witness. witness.schedule ≡ downward_schedule (net_of network.now)) }
+    ensures capacities { IfOk result (λ witness. witness.capacities ≡ capacities network.now (downward_schedule (net_of network.now))) }
+{
+    let mut progress = Progress::new(alloc, network)?;
+    let mut below = network.processes.len() as u32;
+    while let Some(process) = progress.highest_ready(network, below) {
+        let event = progress.make_event(network, process)?;
+        below = bound_after(network, process, &event);
+    }
+    let capacities = greatest_lengths(alloc, &progress.traffic)?;
+    Ok(Witness {
+        schedule: progress.schedule,
+        capacities,
+    })
+}
+
+/// The schedule of a nest's network under a policy, and the greatest length of each channel's queue along it. With these
+/// capacities it is a run of the network that ends all. Nothing is refused but want of memory.
+pub fn plan(
+    alloc: Global,
+    nest: &Nest,
+    points: &Points,
+    network: &Network,
+    policy: Policy,
+) -> Result<Witness, AllocError>
+    requires size { SizeIsOk nest.now }
+    requires points { points.now.of ≡ points_of nest.now }
+    requires network { network.now ≡ net nest.now }
+    ensures schedule { IfOk result (λ witness. witness.schedule ≡ schedule nest.now policy) }
+    ensures capacities { IfOk result (λ witness. witness.capacities ≡ capacities network.now (schedule nest.now policy)) }
+    ensures run { IfOk result (λ witness. EndsAll (net_of (with_capacities network.now witness.capacities)) tags witness.schedule) }
+{
+    schedule_runs(nest);
+    numbers_fit(nest);
+    match policy {
+        Policy::Seq => sequential(alloc, nest, network),
+        Policy::Down => downward(alloc, network),
+    }
 }
 
 // The channels with these capacities; a channel past the list has none.

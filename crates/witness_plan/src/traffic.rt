@@ -1,4 +1,4 @@
-ghost use Rattle.std.specs.Prelude.{◌≡◌, ◌<◌, ◌+◌, ◌^◌, map, length, IfOk};
+ghost use Rattle.std.specs.Prelude.{◌≡◌, ◌<◌, ◌+◌, ◌^◌, nat_lt, map, length, IfOk};
 ghost use Rattle.witness_plan.specs.Traffic.{CanBeNoted, after_get, after_put, noted};
 
 use net_core::Event;
@@ -20,6 +20,13 @@ impl Traffic {
         gets: 0,
         greatest: 0,
     };
+
+    /// Whether its queue holds a token: one that was put and not got.
+    pub(crate) fn has_token(&self) -> bool
+        ensures { result ≡ nat_lt self.now.gets self.now.puts }
+    {
+        self.gets < self.puts
+    }
 
     fn note_get(&mut self)
         requires { self.old.gets + 1 < 2 ^ 64 }

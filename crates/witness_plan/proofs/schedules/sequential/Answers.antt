@@ -7,7 +7,6 @@ use Rattle.witness_plan.specs.Sequential.{capacities}
 use Rattle.witness_plan.specs.Traffic.{NamesOwnChannels, no_traffic}
 use Rattle.witness_plan.proofs.OwnChannels.{names_own, process_count}
 use Rattle.witness_plan.proofs.Sequenced.{IsSequenced, capacities_are, left_later, position_exists, position_is, process_exists, sequenced_all, sequenced_more, sequenced_none, stands_inside, traffic_none}
-use Rattle.witness_plan.proofs.SequentialRun.{ends_fitted}
 use Rattle.witness_plan.proofs.schedules.sequential.Goals as goal
 
 pub loop-point-init : goal.loop-point-init
@@ -99,13 +98,3 @@ returns-clause-capacities c =
     (subst (λ t. IsSequenced n t c.loop-point.schedule c.loop-point.positions.items) whole c.loop-point.invariant.sequenced) in
     capacities_are c.args.network.now c.loop-point.schedule c.deref.result.now c.in_ok-capacities.capacities c.in_ok-capacities.ensures (c.deref.ensures.value ∙ c.loop-point.invariant.traffic)
     ∙ ap (capacities c.args.network.now) all
-
-pub returns-clause-run : goal.returns-clause-run
-returns-clause-run c =
-    let n = c.args.nest.now in
-    let whole : length (trace n) - length (rest n c.loop-point.walk) ≡ length (trace n) = omega (arith, ap length c.in_default.ensures.next.0) in
-    let all = sequenced_all n c.loop-point.schedule c.loop-point.positions.items
-    (subst (λ t. IsSequenced n t c.loop-point.schedule c.loop-point.positions.items) whole c.loop-point.invariant.sequenced) in
-    let lengths = capacities_are c.args.network.now c.loop-point.schedule c.deref.result.now c.in_ok-capacities.capacities c.in_ok-capacities.ensures (c.deref.ensures.value ∙ c.loop-point.invariant.traffic)
-    ∙ ap (capacities c.args.network.now) all in
-    ends_fitted n c.args.network.now c.loop-point.schedule c.in_ok-capacities.capacities c.requires.network all lengths

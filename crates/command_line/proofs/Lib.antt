@@ -1,3 +1,5 @@
 pub mod Digits
 pub mod Lines
 pub mod Positions
+pub mod Splits
+pub mod Worked

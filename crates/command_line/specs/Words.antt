@@ -1,5 +1,5 @@
--- The words of a call: a command, and then items NAME=VALUE.
-use Rattle.std.specs.Prelude.{◌==◌, ◌&&◌, ℕ, Bool, false, List, [], ◌∷◌, ◌++◌, length, Option, Some, None, option_and_then, is_some, nat_le, if◌then◌else◌, codes, ℤ, pos, neg_ℤ}
+-- The words of a call: a command, and then items NAME=VALUE, with a policy among them.
+use Rattle.std.specs.Prelude.{◌==◌, ◌&&◌, ℕ, Bool, false, List, [], ◌∷◌, ◌++◌, length, take, drop, Option, Some, None, option_and_then, is_some, nat_le, if◌then◌else◌, codes, ℤ, pos, neg_ℤ}
 use Rattle.std.specs.Char.{is_ascii_digit}
 use Rattle.std.specs.List.{list_all, before_first, after_first}
 use Rattle.std.specs.Option.{option_map}
@@ -7,8 +7,10 @@ use Rattle.std.specs.Str.{bytes_eq}
 use Rattle.std.specs.Str.Parse.{digits_value}
 use Rattle.loop_class.specs.Names.{value_named}
 use Rattle.loop_lex.specs.Lexical.{is_name}
+use Rattle.witness_plan.specs.declared.schedules.Policy.{Policy}
+use Rattle.witness_plan.specs.declared.schedules.Policy.TheVariants as policy
 use Rattle.command_line.specs.declared.words.Command.{Command}
-use Rattle.command_line.specs.declared.words.Command.TheVariants.{Run, Seq, Net}
+use Rattle.command_line.specs.declared.words.Command.TheVariants.{Run, Seq, Net, Cert, Check}
 use Rattle.command_line.specs.declared.words.Order.{Order}
 
 abbrev pub Text : Type 0
@@ -23,13 +25,43 @@ abbrev pub is_option : Text → Bool
 is_option [] = false
 is_option (first ∷ rest) = (first == 45) && nat_le 1 (length rest)
 
--- the items of the words, or None where a word before `--` is an option
-abbrev pub items_of : List Text → Option (List Text)
-items_of [] = Some []
-items_of (word ∷ words) =
-    if is_end_of_options word then Some words
-    else (if is_option word then None
-    else option_map (λ items. word ∷ items) (items_of words))
+-- the word `--policy`, whose value is the next word
+abbrev pub is_policy_option : Text → Bool
+is_policy_option word = bytes_eq word (codes "--policy")
+
+-- a word `--policy=VALUE`
+abbrev pub has_policy_value : Text → Bool
+has_policy_value word = bytes_eq (take 9 word) (codes "--policy=")
+
+abbrev pub policy_value : Text → Text
+policy_value word = drop 9 word
+
+-- the items of the words, and the values that they give the policy
+pub record Split : Type 0 where
+  pub items : List Text
+  pub policies : List Text
+
+abbrev pub with_item : Text → Split → Split
+with_item item split = record split { items = item ∷ split.items }
+
+abbrev pub with_policy : Text → Split → Split
+with_policy value split = record split { policies = value ∷ split.policies }
+
+abbrev mutual
+  -- the words split, or None where a word before `--` is another option, or `--policy` is the last
+  pub split_words : List Text → Option Split
+  split_words [] = Some (record { items = []; policies = [] })
+  split_words (word ∷ words) =
+      if is_end_of_options word then Some (record { items = words; policies = [] })
+      else (if is_policy_option word then split_value words
+      else (if has_policy_value word then option_map (with_policy (policy_value word)) (split_words words)
+      else (if is_option word then None
+      else option_map (with_item word) (split_words words))))
+
+  -- the words after `--policy`
+  pub split_value : List Text → Option Split
+  split_value [] = None
+  split_value (value ∷ words) = option_map (with_policy value) (split_words words)
 
 -- the number that 1 to 18 decimal digits write
 abbrev pub number_of : Text → Option ℕ
@@ -66,13 +98,30 @@ command_of word =
     if bytes_eq word (codes "run") then Some Run
     else (if bytes_eq word (codes "seq") then Some Seq
     else (if bytes_eq word (codes "net") then Some Net
-    else None))
+    else (if bytes_eq word (codes "cert") then Some Cert
+    else (if bytes_eq word (codes "check") then Some Check
+    else None))))
 
-abbrev pub order_of_items : List Text → Option Order
-order_of_items [] = None
-order_of_items (word ∷ items) =
-    option_and_then (λ command. option_map (λ params. record { command = command; params = params }) (params_with [] items)) (command_of word)
+abbrev pub policy_named : Text → Option Policy
+policy_named value =
+    if bytes_eq value (codes "seq") then Some policy.Seq
+    else (if bytes_eq value (codes "down") then Some policy.Down
+    else None)
+
+-- the policy by the values that it is given, of which there is at most one
+abbrev pub policy_of : List Text → Option Policy
+policy_of [] = Some policy.Seq
+policy_of (value ∷ []) = policy_named value
+policy_of (value ∷ other ∷ values) = None
+
+abbrev pub order_of_items : Policy → List Text → Option Order
+order_of_items policy [] = None
+order_of_items policy (word ∷ items) =
+    option_and_then (λ command. option_map (λ params. record { command = command; policy = policy; params = params }) (params_with [] items)) (command_of word)
+
+abbrev pub order_of_split : Split → Option Order
+order_of_split split = option_and_then (λ policy. order_of_items policy split.items) (policy_of split.policies)
 
 -- what the words order, or None where they are refused
 abbrev pub order_of : List Text → Option Order
-order_of words = option_and_then order_of_items (items_of words)
+order_of words = option_and_then order_of_split (split_words words)

@@ -1,6 +1,7 @@
-use crate::{WordsError, complaint_line, parts_of, read_words};
+use crate::{Command, WordsError, complaint_line, parts_of, read_words};
 use std::alloc::{AllocError, Global};
 use std::test::Fail;
+use witness_plan::Policy;
 
 fn in_words(alloc: Global, words: &[&str]) -> Result<Vec<String>, AllocError> {
     let mut strings = Vec::new(alloc);
@@ -10,42 +11,88 @@ fn in_words(alloc: Global, words: &[&str]) -> Result<Vec<String>, AllocError> {
     Ok(strings)
 }
 
-fn are_taken(alloc: Global, words: &[&str]) -> Result<bool, Fail> {
+fn order_of(alloc: Global, words: &[&str]) -> Result<Option<(Command, Policy)>, Fail> {
     let words = in_words(alloc, words)?;
     match read_words(alloc, words.as_slice()) {
-        Ok(_) => Ok(true),
-        Err(WordsError::Words) => Ok(false),
+        Ok(order) => Ok(Some((order.command, order.policy))),
+        Err(WordsError::Words) => Ok(None),
         Err(WordsError::Memory) => Err(Fail::from("want of memory")),
     }
 }
 
 #[test]
 fn a_command_and_its_parameters_are_taken(rt: HostRuntime) -> Result<(), Fail> {
-    let taken: [&[&str]; 9] = [
-        &["run"],
-        &["run", "N=4", "_m1=-007", "inn=999999999999999999", "z=-0"],
-        &["run", "N=000000000000000000", "n=1"],
-        &["--", "run"],
-        &["--", "run", "N=1"],
-        &["run", "--", "N=1"],
-        &["run", "N=1", "--"],
-        &["seq"],
-        &["--", "seq", "N=1"],
+    let taken: [(&[&str], Command); 12] = [
+        (&["run"], Command::Run),
+        (
+            &["run", "N=4", "_m1=-007", "inn=999999999999999999", "z=-0"],
+            Command::Run,
+        ),
+        (&["run", "N=000000000000000000", "n=1"], Command::Run),
+        (&["--", "run"], Command::Run),
+        (&["--", "run", "N=1"], Command::Run),
+        (&["run", "--", "N=1"], Command::Run),
+        (&["run", "N=1", "--"], Command::Run),
+        (&["seq"], Command::Seq),
+        (&["--", "seq", "N=1"], Command::Seq),
+        (&["net", "N=1"], Command::Net),
+        (&["cert"], Command::Cert),
+        (&["check", "M=2"], Command::Check),
     ];
-    for words in taken {
-        assert!(rt; are_taken(rt.alloc(), words)?, "{words:?}");
+    for (words, command) in taken {
+        assert_eq!(rt;
+            order_of(rt.alloc(), words)?,
+            Some((command, Policy::Seq)),
+            "{words:?}"
+        );
+    }
+    Ok(())
+}
+
+#[test]
+fn the_policy_may_stand_anywhere_before_the_dashes(rt: HostRuntime) -> Result<(), Fail> {
+    let taken: [(&[&str], Command, Policy); 8] = [
+        (
+            &["--policy=down", "run", "--", "N=3"],
+            Command::Run,
+            Policy::Down,
+        ),
+        (&["run", "--policy=seq"], Command::Run, Policy::Seq),
+        (&["run", "--policy", "down"], Command::Run, Policy::Down),
+        (
+            &["cert", "N=1", "--policy", "down", "M=2"],
+            Command::Cert,
+            Policy::Down,
+        ),
+        (&["--policy", "seq", "net"], Command::Net, Policy::Seq),
+        (
+            &["--policy", "down", "--", "run"],
+            Command::Run,
+            Policy::Down,
+        ),
+        (&["seq", "--policy", "down"], Command::Seq, Policy::Down),
+        (&["check", "--policy=down"], Command::Check, Policy::Down),
+    ];
+    for (words, command, policy) in taken {
+        assert_eq!(rt;
+            order_of(rt.alloc(), words)?,
+            Some((command, policy)),
+            "{words:?}"
+        );
     }
     Ok(())
 }
 
 #[test]
 fn all_other_words_are_refused(rt: HostRuntime) -> Result<(), Fail> {
-    let refused: [&[&str]; 27] = [
+    let refused: [&[&str]; 51] = [
         &[],
         &[""],
         &["--"],
         &["sequence"],
         &["Run"],
+        &["load", "N=1"],
+        &["help"],
         &["N=1", "run"],
         &["run", "N"],
         &["run", ""],
@@ -63,14 +110,36 @@ fn all_other_words_are_refused(rt: HostRuntime) -> Result<(), Fail> {
         &["run", "N=1=2"],
         &["run", "N=1000000000000000000"],
         &["run", "-"],
+        &["-", "run"],
         &["run", "-x"],
+        &["run", "-5"],
+        &["run", "---"],
         &["run", "--", "--"],
+        &["run", "--", "-x"],
         &["--", "run", "-x"],
-        &["run", "--policy", "seq"],
         &["--help"],
+        &["run", "-h"],
+        &["--version"],
+        &["run", "--pol", "seq"],
+        &["run", "--polic=seq"],
+        &["run", "--policy"],
+        &["run", "--policy", "up"],
+        &["run", "--policy", "-"],
+        &["run", "--policy", "-x"],
+        &["run", "--policy", "--"],
+        &["run", "--policy", "--", "N=1"],
+        &["run", "--policy", "--policy", "seq"],
+        &["run", "--policy="],
+        &["run", "--policy=Down"],
+        &["run", "--policy==seq"],
+        &["run", "--policy", "seq", "--policy", "seq"],
+        &["--policy=seq", "run", "--policy=down"],
+        &["--policy", "run"],
+        &["run", "--", "--policy=seq"],
+        &["run", "--", "--policy", "seq"],
     ];
     for words in refused {
-        assert!(rt; !are_taken(rt.alloc(), words)?, "{words:?}");
+        assert_eq!(rt; order_of(rt.alloc(), words)?, None, "{words:?}");
     }
     Ok(())
 }

@@ -1,14 +1,15 @@
-ghost use Rattle.std.specs.Prelude.{◌≡◌, ◌<◌, ◌^◌, ◌≤◌, ◌==◌, ◌++◌, ◌∷◌, ℕ, List, [], true, length, position, IfOk, OnOk, IfSome, IsErrOf, Some, None, map, string_bytes};
+ghost use Rattle.std.specs.Prelude.{◌≡◌, ◌<◌, ◌^◌, ◌≤◌, ◌==◌, ◌++◌, ◌∷◌, ℕ, List, [], true, length, position, IfOk, OnOk, IfSome, IsErrOf, Some, None, map, string_bytes, option_copied, if◌then◌else◌};
 ghost use Rattle.std.specs.Char.{is_ascii_digit};
 ghost use Rattle.std.specs.List.{list_all};
 ghost use Rattle.std.specs.Option.{option_map};
 ghost use Rattle.std.specs.Str.Parse.{digits_value};
-ghost use Rattle.command_line.specs.Words.{command_of, is_end_of_options, is_option, items_of, number_of, order_of, order_of_items, param_of, params_with, value_of};
+ghost use Rattle.command_line.specs.Words.{command_of, has_policy_value, is_end_of_options, is_option, is_policy_option, number_of, order_of, order_of_items, order_of_split, param_of, params_with, policy_named, policy_of, policy_value, split_words, value_of};
 ghost use Rattle.command_line.specs.declared.words.WordsError.TheVariants.{Memory};
 
 use loop_class::Params;
 use loop_lex::is_name;
 use std::alloc::{AllocError, AllocFailed, Global};
+use witness_plan::Policy;
 
 /// What the program is to do.
 #[derive(Clone, Copy, Debug, PartialEq, Eq)]
@@ -19,12 +20,17 @@ pub enum Command {
     Seq,
     /// Write the network.
     Net,
+    /// Write the network with its certificate.
+    Cert,
+    /// Check a certificate.
+    Check,
 }
 
-/// What the words order: a command, and values for parameters.
+/// What the words order: a command, the schedule that is wanted, and values for parameters.
 #[derive(Drop)]
 pub struct Order {
     pub command: Command,
+    pub policy: Policy,
     pub params: Params,
 }
 
@@ -80,24 +86,58 @@ fn with_words<'a>(
     Ok(items)
 }
 
-fn items_of<'a>(alloc: Global, words: &'a [String]) -> Result<Vec<&'a [u8]>, WordsError>
-    ensures ok { IfOk result (λ items. items_of (map string_bytes words.now) ≡ Some (map (λ item. item.now) items.items)) }
-    ensures refused { IsErrOf result WordsError.Words → items_of (map string_bytes words.now) ≡ None }
+fn is_policy_option(word: &[u8]) -> bool
+    ensures { result ≡ is_policy_option word.now }
+{
+    word == b"--policy".as_slice()
+}
+
+fn policy_value(word: &[u8]) -> Option<&[u8]>
+    ensures { option_copied result ≡ if has_policy_value word.now then Some (policy_value word.now) else None }
+{
+    word.strip_prefix(b"--policy=".as_slice())
+}
+
+#[derive(Drop)]
+struct Split<'a> {
+    items: Vec<&'a [u8]>,
+    policies: Vec<&'a [u8]>,
+}
+
+fn split_words<'a>(alloc: Global, words: &'a [String]) -> Result<Split<'a>, WordsError>
+    ensures ok { IfOk result (λ split. split_words (map string_bytes words.now) ≡ Some (record { items = map (λ item. item.now) split.items.items; policies = map (λ value. value.now) split.policies.items })) }
+    ensures refused { IsErrOf result WordsError.Words → split_words (map string_bytes words.now) ≡ None }
 {
     let mut items = Vec::new(alloc);
+    let mut policies = Vec::new(alloc);
     let mut rest = words;
     while let [word, later @ ..] = rest {
         let word = word.as_bytes();
         rest = later;
         if is_end_of_options(word) {
-            return Ok(with_words(items, rest)?);
+            return Ok(Split {
+                items: with_words(items, rest)?,
+                policies,
+            });
+        }
+        if is_policy_option(word) {
+            let [value, later @ ..] = rest else {
+                return Err(WordsError::Words);
+            };
+            policies.push(value.as_bytes())?;
+            rest = later;
+            continue;
+        }
+        if let Some(value) = policy_value(word) {
+            policies.push(value)?;
+            continue;
         }
         if is_option(word) {
             return Err(WordsError::Words);
         }
         items.push(word)?;
     }
-    Ok(items)
+    Ok(Split { items, policies })
 }
 
 fn has_digits(text: &[u8]) -> bool
@@ -195,20 +235,42 @@ fn command_of(word: &[u8]) -> Option<Command>
         Some(Command::Seq)
     } else if word == b"net".as_slice() {
         Some(Command::Net)
+    } else if word == b"cert".as_slice() {
+        Some(Command::Cert)
+    } else if word == b"check".as_slice() {
+        Some(Command::Check)
     } else {
         None
     }
 }
 
-/// What the words after the program's name order. `Words` comes exactly where they are refused: where a word before
-/// the first `--` begins with `-` and isn't `-` alone, where the first of the words without that `--` is no command,
-/// or where another isn't NAME=VALUE or gives a NAME again. VALUE is an optional `-` and 1 to 18 decimal digits.
-pub fn read_words(alloc: Global, words: &[String]) -> Result<Order, WordsError>
-    ensures ok { IfOk result (λ order. order_of (map string_bytes words.now) ≡ Some order) }
-    ensures refused { IsErrOf result WordsError.Words → order_of (map string_bytes words.now) ≡ None }
+fn policy_named(value: &[u8]) -> Option<Policy>
+    ensures { result ≡ policy_named value.now }
 {
-    let items = items_of(alloc, words)?;
-    let [word, rest @ ..] = items.as_slice() else {
+    if value == b"seq".as_slice() {
+        Some(Policy::Seq)
+    } else if value == b"down".as_slice() {
+        Some(Policy::Down)
+    } else {
+        None
+    }
+}
+
+fn policy_of(values: &[&[u8]]) -> Option<Policy>
+    ensures { result ≡ policy_of (map (λ value. value.now) values.now) }
+{
+    match values {
+        [] => Some(Policy::Seq),
+        [value] => policy_named(value),
+        _ => None,
+    }
+}
+
+fn order_of_items(alloc: Global, policy: Policy, items: &[&[u8]]) -> Result<Order, WordsError>
+    ensures ok { IfOk result (λ order. order_of_items policy (map (λ item. item.now) items.now) ≡ Some order) }
+    ensures refused { IsErrOf result WordsError.Words → order_of_items policy (map (λ item. item.now) items.now) ≡ None }
+{
+    let [word, rest @ ..] = items else {
         return Err(WordsError::Words);
     };
     let Some(command) = command_of(word) else {
@@ -216,6 +278,23 @@ pub fn read_words(alloc: Global, words: &[String]) -> Result<Order, WordsError>
     };
     Ok(Order {
         command,
+        policy,
         params: params_of(alloc, rest)?,
     })
+}
+
+/// What the words after the program's name order. Before the first `--`, which is dropped, a word `--policy` takes the
+/// next word as its value, and `--policy=VALUE` is the same; the value is `seq` or `down`, and `seq` where none is given.
+/// `Words` comes exactly where the words are refused: where the policy is given twice or has another value, where another
+/// word before the first `--` begins with `-` and isn't `-` alone, where the first of the words that are left is no
+/// command, or where another isn't NAME=VALUE or gives a NAME again. VALUE is an optional `-` and 1 to 18 decimal digits.
+pub fn read_words(alloc: Global, words: &[String]) -> Result<Order, WordsError>
+    ensures ok { IfOk result (λ order. order_of (map string_bytes words.now) ≡ Some order) }
+    ensures refused { IsErrOf result WordsError.Words → order_of (map string_bytes words.now) ≡ None }
+{
+    let split = split_words(alloc, words)?;
+    let Some(policy) = policy_of(split.policies.as_slice()) else {
+        return Err(WordsError::Words);
+    };
+    order_of_items(alloc, policy, split.items.as_slice())
 }

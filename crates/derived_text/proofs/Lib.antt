@@ -1,0 +1,4 @@
+pub mod Classes
+pub mod Holds
+pub mod Spans
+pub mod TokenCounts

@@ -1,5 +1,5 @@
 -- The statements of a nest have few reads, and accesses with few subscripts.
-use Rattle.std.proofs.Common.{◌≡◌, ℕ, zero, suc, List, [], ◌∷◌, length, refl, sym, ap, ◌∙◌}
+use Rattle.std.proofs.Common.{◌≡◌, ◌<◌, ℕ, zero, suc, List, [], ◌∷◌, length, get_or, refl, sym, ap, ◌∙◌, arith}
 use Rattle.std.specs.Prelude.{true, false, ◌==◌, IsTrue, Option, Some, None, nat_le, slice_get}
 use Rattle.std.specs.List.{list_all}
 use Rattle.std.specs.Option.{option_map_or}
@@ -7,6 +7,7 @@ use Rattle.std.proofs.lemmas.Bool.{and_parts, and_from, eqb-true, false≢true}
 use Rattle.wrap_expr.specs.Value.{uses_only}
 use Rattle.sanlp.specs.declared.nest.Access.{Access}
 use Rattle.sanlp.specs.declared.nest.ArrayDecl.{ArrayDecl}
+use Rattle.sanlp.specs.declared.nest.Nest.{Nest}
 use Rattle.sanlp.specs.declared.nest.Statement.{Statement}
 use Rattle.sanlp.specs.WellFormed.{access_fits, assigns, depth_of, form_fits, statement_fits}
 use Rattle.loop_walk.specs.Execution.{access_short, is_of_depth, statement_short}
@@ -49,3 +50,27 @@ pub depth_is : (statements : List Statement) (depth s : ℕ) (found : Statement)
     → IsTrue (is_of_depth statements depth s) → slice_get statements s ≡ Some found → depth_of found ≡ depth
 depth_is statements depth s found h e =
     eqb-true _ _ (ap (λ o. option_map_or (λ found. depth_of found == depth) o false) (sym e) ∙ h)
+
+all_fit : (arrays : List ArrayDecl) (statements : List Statement) (i : ℕ) (s : Statement)
+    → IsTrue (list_all (statement_fits arrays) statements) → i < length statements → s ≡ get_or statements i s → IsTrue (statement_fits arrays s)
+all_fit arrays [] i s h lt e = absurd (omega arith)
+all_fit arrays (first ∷ statements) zero s h lt e = ap (statement_fits arrays) e ∙ (and_parts (statement_fits arrays first) (list_all (statement_fits arrays) statements) h).0
+all_fit arrays (first ∷ statements) (suc i) s h lt e = all_fit arrays statements i s (and_parts (statement_fits arrays first) (list_all (statement_fits arrays) statements) h).1 (omega arith) e
+
+-- each statement of a nest
+pub statement_is_short : (n : Nest) (statements : List Statement) (i : ℕ) (s : Statement)
+    → statements ≡ n.statements → i < length statements → s ≡ get_or statements i s → statement_short (depth_of s) s ≡ true
+statement_is_short n statements i s same lt e =
+    short_statement n.arrays n.well_formed.few_extents s
+    (all_fit n.arrays statements i s (ap (list_all (statement_fits n.arrays)) same ∙ n.well_formed.statements_fit) lt e)
+
+pub short_write : (depth : ℕ) (s : Statement) → statement_short depth s ≡ true → option_map_or (access_short depth) s.write true ≡ true
+short_write depth s h =
+    let used = and_parts _ (uses_only depth (length s.reads) s.expr) h in
+    (and_parts _ (option_map_or (access_short depth) s.write true) used.0).1
+
+pub short_reads : (depth : ℕ) (s : Statement) → statement_short depth s ≡ true → list_all (access_short depth) s.reads ≡ true
+short_reads depth s h =
+    let used = and_parts _ (uses_only depth (length s.reads) s.expr) h in
+    let write = and_parts _ (option_map_or (access_short depth) s.write true) used.0 in
+    (and_parts (nat_le (length s.reads) 8) (list_all (access_short depth) s.reads) write.0).1

@@ -13,16 +13,16 @@ use affine_core::Form;
 /// The greatest absolute value of a form of an entered loop.
 const LOOP_VALUE_LIMIT: i128 = 4_611_686_018_427_387_904;
 
-// A coefficient in 64 bits.
-fn moderate(coef: i128) -> i64
+/// A coefficient in 64 bits.
+pub(crate) fn moderate(coef: i128) -> i64
     requires { IsTrue (is_moderate coef) }
     ensures { result ≡ coef }
 {
     coef as i64
 }
 
-// Adds a product to a sum, where neither leaves 128 bits.
-fn add_product(sum: i128, coef: i64, value: i64) -> i128
+/// Adds a product to a sum, where neither leaves 128 bits.
+pub(crate) fn add_product(sum: i128, coef: i64, value: i64) -> i128
     requires { sum_in_128_bits sum coef value ≡ Some (sum +ℤ (coef *ℤ value)) }
     ensures { result ≡ sum +ℤ (coef *ℤ value) }
 {
@@ -45,30 +45,13 @@ pub(crate) fn form_value(form: &Form, at: &LoopValues) -> i128
     sum
 }
 
-// Adds a product to a sum, where both are so small that the sum has 64 bits.
-fn add_small_product(sum: i64, coef: i64, value: i64) -> i64
+/// Adds a product to a sum, where both are so small that the sum has 64 bits.
+pub(crate) fn add_small_product(sum: i64, coef: i64, value: i64) -> i64
     requires product { unsigned_abs (coef *ℤ value) ≤ 576460752303423488 }
     requires sum { unsigned_abs sum ≤ 4000000000000000000 }
     ensures { result ≡ sum +ℤ (coef *ℤ value) }
 {
     sum + coef * value
-}
-
-// The value of a form at small loop values.
-#[tactic(auto, using(crate::proofs::SumsInside::as_many))]
-pub(crate) fn small_form_value(form: &Form, values: &[i64]) -> i64
-    requires fits { IsTrue (form_fits (length values.now) form.now) }
-    requires few { length values.now ≤ 6 }
-    requires small { IsTrue (are_small_values values.now) }
-    ensures { result ≡ form_at form.now values.now }
-{
-    let coefs = form.coefs.as_slice();
-    let mut sum = moderate(form.constant);
-    for place in 0..coefs.len() {
-        let coef = moderate(coefs[place]);
-        sum = add_small_product(sum, coef, values[place]);
-    }
-    sum
 }
 
 // The greatest value of these forms, or 0 where there is none.

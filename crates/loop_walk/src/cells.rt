@@ -1,17 +1,19 @@
-ghost use Rattle.std.specs.Prelude.{◌≡◌, ◌<◌, ◌++◌, None, Some, length, map, replicate, IsTrue, MatchOption, OnOk, vec_len};
+ghost use Rattle.std.specs.Prelude.{◌≡◌, ◌<◌, ◌+◌, ◌*◌, ◌++◌, None, Some, length, map, replicate, IsTrue, MatchOption, OnOk, vec_len};
 ghost use Rattle.std.specs.List.{list_all};
 ghost use Rattle.affine_core.specs.Affine.{form_at};
 ghost use Rattle.sanlp.specs.Access.{cell_at};
 ghost use Rattle.sanlp.specs.Cells.{natural};
 ghost use Rattle.sanlp.specs.WellFormed.{form_fits};
+ghost use Rattle.loop_walk.specs.Counting.{are_loop_values};
 ghost use Rattle.loop_walk.specs.Execution.{access_short};
-ghost use Rattle.loop_walk.specs.RowPlaces.{inside, place_after, place_from, with_place};
+ghost use Rattle.loop_walk.specs.RowPlaces.{place_after, place_from, with_place, within_limit};
+ghost use Rattle.loop_walk.specs.SmallValues.{are_small_values};
 
-use crate::bounds::{form_value, small_form_value};
+use crate::narrow::{NarrowAccess, NarrowForm};
 use crate::vector::LoopValues;
-use affine_core::{Form, Subscripts};
+use affine_core::Subscripts;
 use plain_data::Items;
-use sanlp::{Access, ArrayDecl};
+use sanlp::ArrayDecl;
 use std::alloc::{AllocError, Global};
 use std::collections::BTreeMap;
 
@@ -32,27 +34,35 @@ pub(crate) fn natural_of(value: i64) -> usize
     if value < 0 { 0 } else { value as usize }
 }
 
-// A subscript as a number, if it is within its extent.
-fn subscript_inside(extent: i64, subscript: i128) -> Option<usize>
-    ensures { result ≡ inside extent subscript }
+// The place that a subscript within its extent leads to, if it is within the limit.
+fn place_within(before: usize, extent: i64, subscript: usize) -> Option<usize>
+    ensures { result ≡ within_limit (before * natural extent + subscript) }
+{
+    let place = before
+        .saturating_mul(natural_of(extent))
+        .saturating_add(subscript);
+    if place < ROW_LIMIT { Some(place) } else { None }
+}
+
+// The place that one subscript more leads to, if it is within its extent and the place within the limit.
+fn next_place(before: usize, extent: i64, subscript: i64) -> Option<usize>
+    ensures { result ≡ place_after before extent subscript }
+{
+    if subscript < 0 || subscript >= extent {
+        None
+    } else {
+        place_within(before, extent, subscript as usize)
+    }
+}
+
+// The same for a subscript in 128 bits.
+fn next_wide_place(before: usize, extent: i64, subscript: i128) -> Option<usize>
+    ensures { result ≡ place_after before extent subscript }
 {
     if subscript < 0 || subscript >= extent as i128 {
         None
     } else {
-        Some(subscript as usize)
-    }
-}
-
-// The place that one subscript more leads to, if it is within its extent and the place within the limit.
-fn next_place(before: usize, extent: i64, subscript: i128) -> Option<usize>
-    ensures { result ≡ place_after before extent subscript }
-{
-    let subscript = subscript_inside(extent, subscript)?;
-    let place = before as u128 * natural_of(extent) as u128 + subscript as u128;
-    if place < ROW_LIMIT as u128 {
-        Some(place as usize)
-    } else {
-        None
+        place_within(before, extent, subscript as usize)
     }
 }
 
@@ -64,54 +74,66 @@ fn place_of(before: usize, extents: &[i64], at: &[i128]) -> Option<usize>
     match (extents.split_first(), at.split_first()) {
         (None, None) => Some(before),
         (Some((extent, extents)), Some((subscript, at))) => {
-            place_of(next_place(before, *extent, *subscript)?, extents, at)
+            place_of(next_wide_place(before, *extent, *subscript)?, extents, at)
         }
         _ => None,
     }
 }
 
-// The place that a form's value leads to as the next subscript.
-fn next_place_of_form(before: usize, extent: i64, form: &Form, at: &LoopValues) -> Option<usize>
-    requires { IsTrue (form_fits (length at.now) form.now) }
-    ensures { result ≡ place_after before extent (form_at form.now at.now) }
+// The place of the cell whose subscripts are the values of these forms at small loop values.
+fn small_place(extents: &[i64], forms: &[NarrowForm], values: &[i64]) -> Option<usize>
+    requires many { length extents.now ≡ length forms.now }
+    requires fit { IsTrue (list_all (form_fits (length values.now)) forms.now) }
+    requires small { IsTrue (are_small_values values.now) }
+    ensures { result ≡ place_from 0 extents.now (map (λ form. form_at form values.now) forms.now) }
 {
-    if at.are_small() {
-        next_place(
-            before,
-            extent,
-            small_form_value(form, at.as_slice()) as i128,
-        )
-    } else {
-        next_place(before, extent, form_value(form, at))
-    }
-}
-
-// The place of the cell whose subscripts are the values of these forms.
-fn place_of_forms(extents: &[i64], forms: &[Form], at: &LoopValues) -> Option<usize>
-    requires { IsTrue (list_all (form_fits (length at.now)) forms.now) }
-    ensures { result ≡ place_from 0 extents.now (map (λ form. form_at form at.now) forms.now) }
-{
-    if extents.len() != forms.len() {
-        return None;
-    }
     let mut place = 0;
     for (number, form) in forms.iter().enumerate() {
-        let next = next_place_of_form(place, extents[number], form, at)?;
+        let next = next_place(place, extents[number], form.small_value(values))?;
         place = next;
     }
     Some(place)
 }
 
+// The place of the cell whose subscripts are the values of these forms.
+fn wide_place(extents: &[i64], forms: &[NarrowForm], values: &[i64]) -> Option<usize>
+    requires many { length extents.now ≡ length forms.now }
+    requires fit { IsTrue (list_all (form_fits (length values.now)) forms.now) }
+    requires within { IsTrue (are_loop_values values.now) }
+    ensures { result ≡ place_from 0 extents.now (map (λ form. form_at form values.now) forms.now) }
+{
+    let mut place = 0;
+    for (number, form) in forms.iter().enumerate() {
+        let next = next_wide_place(place, extents[number], form.value(values))?;
+        place = next;
+    }
+    Some(place)
+}
+
+// The place of the cell whose subscripts are the values of these forms.
+fn place_of_forms(extents: &[i64], forms: &[NarrowForm], at: &LoopValues) -> Option<usize>
+    requires { IsTrue (list_all (form_fits (length at.now)) forms.now) }
+    ensures { result ≡ place_from 0 extents.now (map (λ form. form_at form at.now) forms.now) }
+{
+    if extents.len() != forms.len() {
+        None
+    } else if at.are_small() {
+        small_place(extents, forms, at.as_slice())
+    } else {
+        wide_place(extents, forms, at.as_slice())
+    }
+}
+
 // The cell of an access.
-fn cell_of(alloc: Global, access: &Access, at: &LoopValues) -> (usize, Subscripts)
+fn cell_of(alloc: Global, access: &NarrowAccess, at: &LoopValues) -> (usize, Subscripts)
     requires { IsTrue (access_short (length at.now) access.now) }
     ensures { result ≡ cell_at at.now access.now }
 {
     let mut subscripts = Subscripts::empty(alloc);
-    for form in access.subscripts.as_slice() {
-        subscripts.push(form_value(form, at));
+    for form in access.subscripts() {
+        subscripts.push(form.value(at.as_slice()));
     }
-    (access.array as usize, subscripts)
+    (access.array(), subscripts)
 }
 
 // Adds so many places that were not written.
@@ -153,7 +175,7 @@ impl Rows {
     }
 
     // The value of the cell whose subscripts are the values of these forms, if it was written here.
-    fn read(&self, forms: &[Form], at: &LoopValues) -> Option<i64>
+    fn read(&self, forms: &[NarrowForm], at: &LoopValues) -> Option<i64>
         requires { IsTrue (list_all (form_fits (length at.now)) forms.now) }
         ensures { result ≡ row_value self.now (map (λ form. form_at form at.now) forms.now) }
     {
@@ -241,17 +263,17 @@ impl Cells {
     }
 
     // The value of an access's cell, if it was written in rows.
-    fn kept_read(&self, access: &Access, at: &LoopValues) -> Option<i64>
+    fn kept_read(&self, access: &NarrowAccess, at: &LoopValues) -> Option<i64>
         requires { IsTrue (access_short (length at.now) access.now) }
         ensures { result ≡ kept_value self.now.rows.items (cell_at at.now access.now) }
     {
-        let rows = self.rows.get(access.array as usize)?;
-        rows.read(access.subscripts.as_slice(), at)
+        let rows = self.rows.get(access.array())?;
+        rows.read(access.subscripts(), at)
     }
 
     /// The value of an access's cell, which is 0 where it was never written.
     #[tactic(auto, unfolding(crate::specs::CellMap::memory_of))]
-    pub(crate) fn read(&self, alloc: Global, access: &Access, at: &LoopValues) -> i64
+    pub(crate) fn read(&self, alloc: Global, access: &NarrowAccess, at: &LoopValues) -> i64
         requires { IsTrue (access_short (length at.now) access.now) }
         ensures { result ≡ cell_value (memory_of self.now) (cell_at at.now access.now) }
     {
@@ -265,14 +287,14 @@ impl Cells {
     }
 
     // The place of an access's cell in the rows of its array, if they have it or have room for it.
-    fn place_in_rows(&self, access: &Access, at: &LoopValues) -> Option<usize>
+    fn place_in_rows(&self, access: &NarrowAccess, at: &LoopValues) -> Option<usize>
         requires { IsTrue (access_short (length at.now) access.now) }
         ensures { MatchOption result
             (kept_value self.now.rows.items (cell_at at.now access.now) ≡ None)
             (λ place. place_in self.now.rows.items (cell_at at.now access.now) ≡ Some place) }
     {
-        let rows = self.rows.get(access.array as usize)?;
-        let place = place_of_forms(rows.extents.as_slice(), access.subscripts.as_slice(), at)?;
+        let rows = self.rows.get(access.array())?;
+        let place = place_of_forms(rows.extents.as_slice(), access.subscripts(), at)?;
         if place < rows.values.len().saturating_add(self.room) {
             Some(place)
         } else {
@@ -298,7 +320,7 @@ impl Cells {
     pub(crate) fn write(
         &mut self,
         alloc: Global,
-        access: &Access,
+        access: &NarrowAccess,
         at: &LoopValues,
         value: i64,
     ) -> Result<(), AllocError>
@@ -306,7 +328,7 @@ impl Cells {
         ensures { OnOk result (memory_of self.new ≡ with_cell (memory_of self.old) (cell_at at.now access.now) value) }
     {
         match self.place_in_rows(access, at) {
-            Some(place) => self.put_in_rows(access.array as usize, place, value),
+            Some(place) => self.put_in_rows(access.array(), place, value),
             None => {
                 self.map.insert(cell_of(alloc, access, at), value)?;
                 Ok(())

@@ -5,6 +5,7 @@ mod bounds;
 mod cells;
 mod count;
 mod execute;
+mod narrow;
 mod outputs;
 mod process_points;
 mod run;
@@ -14,6 +15,7 @@ mod vector;
 mod walk;
 
 pub use count::{SizeError, size};
+pub use narrow::{NarrowAccess, NarrowForm, NarrowStatement, narrow_statements};
 pub use process_points::points;
 pub use run::interpret;
 pub use walk::Walk;

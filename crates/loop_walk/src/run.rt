@@ -7,10 +7,12 @@ ghost use Rattle.sanlp.specs.WellFormed.{all_forms_fit, forms_fit};
 ghost use Rattle.loop_walk.specs.CellMap.{memory_of};
 ghost use Rattle.loop_walk.specs.Counting.{SizeIsOk, is_loop_value, node_within};
 ghost use Rattle.loop_walk.specs.Execution.{all_placed, node_placed, parts_within, turns_within};
+ghost use Rattle.loop_walk.specs.Narrow.{narrowed};
 
 use crate::bounds::{loop_range, rows_hold};
 use crate::cells::Cells;
 use crate::execute::execute_point;
+use crate::narrow::{NarrowStatement, narrow_statements};
 use crate::outputs::output_arrays;
 use crate::vector::LoopValues;
 use sanlp::{Arrays, Inputs, Nest, Node};
@@ -21,18 +23,20 @@ use std::alloc::{AllocError, Global};
 fn run_parts(
     alloc: Global,
     nest: &Nest,
+    accesses: &[NarrowStatement],
     inputs: &Inputs,
     parts: &[Node],
     at: &LoopValues,
     cells: &mut Cells,
 ) -> Result<(), AllocError>
+    requires same { accesses.now ≡ map narrowed nest.now.statements }
     requires fit { IsTrue (all_forms_fit parts.now (length at.now)) }
     requires placed { IsTrue (all_placed nest.now.statements parts.now (length at.now)) }
     requires within { IsTrue (parts_within parts.now at.now) }
     ensures { OnOk result (memory_of cells.new ≡ in_turn (map (exec_node nest.now inputs.now) parts.now) at.now (memory_of cells.old)) }
 {
     for part in parts {
-        run_node(alloc, nest, inputs, part, at, cells)?;
+        run_node(alloc, nest, accesses, inputs, part, at, cells)?;
     }
     Ok(())
 }
@@ -41,11 +45,13 @@ fn run_parts(
 fn run_node(
     alloc: Global,
     nest: &Nest,
+    accesses: &[NarrowStatement],
     inputs: &Inputs,
     node: &Node,
     at: &LoopValues,
     cells: &mut Cells,
 ) -> Result<(), AllocError>
+    requires same { accesses.now ≡ map narrowed nest.now.statements }
     requires fits { IsTrue (forms_fit node.now (length at.now)) }
     requires placed { IsTrue (node_placed nest.now.statements node.now (length at.now)) }
     requires within { IsTrue (node_within node.now at.now) }
@@ -62,16 +68,28 @@ fn run_node(
             let Some((first, last)) = range else {
                 unreachable!()
             };
-            run_turns(alloc, nest, inputs, body.as_slice(), at, first, last, cells)
+            run_turns(
+                alloc,
+                nest,
+                accesses,
+                inputs,
+                body.as_slice(),
+                at,
+                first,
+                last,
+                cells,
+            )
         }
         Node::Guard { rows, body } => {
             if rows_hold(rows.as_slice(), at) {
-                run_parts(alloc, nest, inputs, body.as_slice(), at, cells)
+                run_parts(alloc, nest, accesses, inputs, body.as_slice(), at, cells)
             } else {
                 Ok(())
             }
         }
-        Node::Assign(statement) => execute_point(alloc, nest, inputs, *statement, at, cells),
+        Node::Assign(statement) => execute_point(
+            alloc, nest, accesses, inputs, *statement, at, cells,
+        ),
     }
 }
 
@@ -80,6 +98,7 @@ fn run_node(
 fn run_turns(
     alloc: Global,
     nest: &Nest,
+    accesses: &[NarrowStatement],
     inputs: &Inputs,
     parts: &[Node],
     at: &LoopValues,
@@ -87,6 +106,7 @@ fn run_turns(
     last: i64,
     cells: &mut Cells,
 ) -> Result<(), AllocError>
+    requires same { accesses.now ≡ map narrowed nest.now.statements }
     requires shallow { length at.now < 6 }
     requires first_within { IsTrue (is_loop_value first) }
     requires last_within { IsTrue (is_loop_value last) }
@@ -96,7 +116,7 @@ fn run_turns(
     ensures { OnOk result (memory_of cells.new ≡ turns (in_turn (map (exec_node nest.now inputs.now) parts.now)) (interval first last) at.now (memory_of cells.old)) }
 {
     for value in first..=last {
-        run_turn(alloc, nest, inputs, parts, at, value, cells)?;
+        run_turn(alloc, nest, accesses, inputs, parts, at, value, cells)?;
     }
     Ok(())
 }
@@ -106,12 +126,14 @@ fn run_turns(
 fn run_turn(
     alloc: Global,
     nest: &Nest,
+    accesses: &[NarrowStatement],
     inputs: &Inputs,
     parts: &[Node],
     at: &LoopValues,
     value: i64,
     cells: &mut Cells,
 ) -> Result<(), AllocError>
+    requires same { accesses.now ≡ map narrowed nest.now.statements }
     requires shallow { length at.now < 6 }
     requires value_within { IsTrue (is_loop_value value) }
     requires fit { IsTrue (all_forms_fit parts.now (length at.now + 1)) }
@@ -119,7 +141,15 @@ fn run_turn(
     requires within { IsTrue (parts_within parts.now (at.now ++ value ∷ [])) }
     ensures { OnOk result (memory_of cells.new ≡ in_turn (map (exec_node nest.now inputs.now) parts.now) (at.now ++ value ∷ []) (memory_of cells.old)) }
 {
-    run_parts(alloc, nest, inputs, parts, &at.extended(value), cells)
+    run_parts(
+        alloc,
+        nest,
+        accesses,
+        inputs,
+        parts,
+        &at.extended(value),
+        cells,
+    )
 }
 
 /// Executes a nest one statement after another: the values of each output array after it, in row-major order, which are
@@ -147,9 +177,11 @@ fn run_nest(
     requires fresh { memory_of cells.old ≡ no_cells }
     ensures { OnOk result (memory_of cells.new ≡ exec nest.now inputs.now) }
 {
+    let accesses = narrow_statements(alloc, nest)?;
     run_parts(
         alloc,
         nest,
+        accesses.as_slice(),
         inputs,
         nest.parts(),
         &LoopValues::empty(),

@@ -19,8 +19,11 @@ run_node-run_turns-requires t c =
     let f : FitsSigned w64 c.in-Some.first = search rules in
     let g : FitsSigned w64 c.in-Some.last = search rules in (
       search (rules, the_lemmas),
-      simp to_z-of_z (loop_keeps c.args.nest.now.statements c.args.node.now c.args.at.now _ _ _ c.as_slice.result.now c.as_slice-in-Loop.result.now _ c.as_slice-in-Loop-2.result.now c.in-Some.first c.in-Some.last
-          c.in-Loop.is c.as_slice.ensures c.as_slice-in-Loop.ensures c.as_slice-in-Loop-2.ensures c.in-Some.ensures c.requires.fits c.requires.placed c.requires.within),
+      (
+        c.requires.same,
+        simp to_z-of_z (loop_keeps c.args.nest.now.statements c.args.node.now c.args.at.now _ _ _ c.as_slice.result.now c.as_slice-in-Loop.result.now _ c.as_slice-in-Loop-2.result.now c.in-Some.first c.in-Some.last
+            c.in-Loop.is c.as_slice.ensures c.as_slice-in-Loop.ensures c.as_slice-in-Loop-2.ensures c.in-Some.ensures c.requires.fits c.requires.placed c.requires.within),
+      ),
     )
 
 pub run_node-returns-in-Some : goal.run_node-returns-in-Some
@@ -42,10 +45,13 @@ run_parts-run_node-requires t c =
     let parts = c.args.parts.now in (
       search (rules, the_lemmas),
       (
-        part_passes forms_fit parts (length c.args.at.now) c.loop-part.part-index c.part-item.result c.requires.fit c.loop-part-test.true c.part-item.is,
+        c.requires.same,
         (
-          part_passes (node_placed c.args.nest.now.statements) parts (length c.args.at.now) c.loop-part.part-index c.part-item.result c.requires.placed c.loop-part-test.true c.part-item.is,
-          part_passes node_within parts c.args.at.now c.loop-part.part-index c.part-item.result c.requires.within c.loop-part-test.true c.part-item.is,
+          part_passes forms_fit parts (length c.args.at.now) c.loop-part.part-index c.part-item.result c.requires.fit c.loop-part-test.true c.part-item.is,
+          (
+            part_passes (node_placed c.args.nest.now.statements) parts (length c.args.at.now) c.loop-part.part-index c.part-item.result c.requires.placed c.loop-part-test.true c.part-item.is,
+            part_passes node_within parts c.args.at.now c.loop-part.part-index c.part-item.result c.requires.within c.loop-part-test.true c.part-item.is,
+          ),
         ),
       ),
     )
@@ -59,14 +65,17 @@ run_turns-run_turn-requires t c =
     let to = simp to_z-of_z at le in (
       search (rules, the_lemmas),
       (
-        c.requires.shallow,
+        c.requires.same,
         (
-          between_within c.args.first (to_z w64 c.loop-value.value-bits) c.args.last c.requires.first_within c.requires.last_within from to,
+          c.requires.shallow,
           (
-            c.requires.fit,
+            between_within c.args.first (to_z w64 c.loop-value.value-bits) c.args.last c.requires.first_within c.requires.last_within from to,
             (
-              c.requires.placed,
-              (turn_within c.args.parts.now c.args.at.now (to_z w64 c.loop-value.value-bits) (to_z w64 (of_z w64 c.args.last)) le c.loop-value.invariant.2).0,
+              c.requires.fit,
+              (
+                c.requires.placed,
+                (turn_within c.args.parts.now c.args.at.now (to_z w64 c.loop-value.value-bits) (to_z w64 (of_z w64 c.args.last)) le c.loop-value.invariant.2).0,
+              ),
             ),
           ),
         ),

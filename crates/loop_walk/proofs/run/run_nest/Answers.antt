@@ -12,6 +12,7 @@ run_parts-requires c =
     let n = c.args.nest.now in
     let parts = c.parts.result.now in
     record {
+      same = c.as_slice.ensures ∙ c.in_ok-accesses.ensures;
       fit = ap (λ at. all_forms_fit parts (length at)) c.empty.ensures ∙ c.parts.ensures.fit;
       placed = ap (λ at. all_placed n.statements parts (length at)) c.empty.ensures
           ∙ ap (λ ps. all_placed n.statements ps 0) c.parts.ensures.value ∙ body_placed n;

@@ -1,4 +1,4 @@
-use Rattle.std.proofs.Common.{◌≡◌, ◌∙◌, sym, ap, arith, map, Some}
+use Rattle.std.proofs.Common.{◌≡◌, ℕ, ◌∙◌, sym, ap, arith, map, Some}
 use Rattle.affine_core.specs.Affine.{form_at}
 use Rattle.sanlp.specs.Access.{cell_at}
 use Rattle.loop_walk.specs.RowPlaces.{place_from}
@@ -13,8 +13,9 @@ returns-else-place-saturating_add c =
     let lookup = c.in_ok-rows.ensures.lookup in
     let place : c.place_of_forms.result ≡ Some c.in_ok-place.place = c.in_ok-place.was in
     ap (λ list. kept_value list cell) (sym c.deref.ensures.value)
-    ∙ not_kept c.deref.result.now cell rows c.in_ok-place.place lookup.3.0 lookup.1
+    ∙ ap (λ (array : ℕ). kept_value c.deref.result.now (array, cell.1)) (sym c.array.ensures)
+    ∙ not_kept c.deref.result.now (c.array.result, cell.1) rows c.in_ok-place.place lookup.3.0 lookup.1
     (ap (λ extents. place_from 0 extents cell.1) (sym c.as_slice.ensures)
-    ∙ ap (λ forms. place_from 0 c.as_slice.result.now (map (λ form. form_at form c.args.at.now) forms)) (sym c.as_slice-2.ensures)
+    ∙ ap (λ forms. place_from 0 c.as_slice.result.now (map (λ form. form_at form c.args.at.now) forms)) (sym c.subscripts.ensures)
     ∙ sym c.place_of_forms.ensures ∙ place)
     (omega (arith, c.len.ensures))

@@ -3,7 +3,7 @@ use Rattle.std.proofs.Common.{◌≡◌, ◌≤◌, ◌<◌, ◌+◌, ◌*◌, �
 use Rattle.std.specs.Prelude.{IsTrue, unsigned_abs, nat_le, slice_index_or, FitsSigned, ◌&&◌, ◌==◌, Some, None}
 use Rattle.std.specs.Option.{option_and_then}
 use Rattle.std.specs.List.{list_all}
-use mir.Syntax.{w64}
+use mir.Syntax.{w64, w128}
 use Rattle.std.proofs.lemmas.Int.{fits_signed_from_abs, ints, unsigned_abs-mul}
 use Rattle.std.proofs.lemmas.Bool.{and_parts}
 use Rattle.std.proofs.Math.Nat.{mul-le-mul, mul-le-mul_right}
@@ -111,3 +111,25 @@ small_product_fits c v h = fits_signed_from_abs w64 (c *ℤ v) (omega arith)
 
 pub small_sum_fits : (sum c v : ℤ) → unsigned_abs sum ≤ 4000000000000000000 → unsigned_abs (c *ℤ v) ≤ 576460752303423488 → FitsSigned w64 (sum +ℤ (c *ℤ v))
 small_sum_fits sum c v before here = fits_signed_from_abs w64 (sum +ℤ (c *ℤ v)) (let size = abs_sum sum (c *ℤ v) in omega arith)
+
+-- the same for any values of 64 bits, within 128 bits
+short_size : (v : ℤ) → FitsSigned w64 v → unsigned_abs v ≤ 9223372036854775808
+short_size v h = omega (arith, ints)
+
+pub wide_product : (coef v : ℤ) → unsigned_abs coef ≤ 4294967296 → FitsSigned w64 v → unsigned_abs (coef *ℤ v) ≤ 39614081257132168796771975168
+wide_product coef v moderate short = product_small 4294967296 9223372036854775808 39614081257132168796771975168 coef v (lit≤ tt) moderate (short_size v short)
+
+pub wide_product_fits : (coef v : ℤ) → unsigned_abs coef ≤ 4294967296 → FitsSigned w64 v → FitsSigned w128 (coef *ℤ v)
+wide_product_fits coef v moderate short = fits_signed_from_abs w128 (coef *ℤ v) (let size = wide_product coef v moderate short in omega arith)
+
+pub wide_sum_fits : (sum coef v : ℤ) → unsigned_abs sum ≤ 300000000000000000000000000000 → unsigned_abs coef ≤ 4294967296 → FitsSigned w64 v → FitsSigned w128 (sum +ℤ (coef *ℤ v))
+wide_sum_fits sum coef v before moderate short =
+    fits_signed_from_abs w128 (sum +ℤ (coef *ℤ v)) (let size = abs_sum sum (coef *ℤ v) in let product = wide_product coef v moderate short in omega arith)
+
+pub wide_sum_is_in : (sum : ℤ) (place : ℕ) → unsigned_abs sum ≤ 4294967296 + place * 39614081257132168796771975168 → place < 6 → unsigned_abs sum ≤ 300000000000000000000000000000
+wide_sum_is_in sum place before few = omega arith
+
+pub next_wide_sum : (sum product next : ℤ) (place : ℕ) → unsigned_abs sum ≤ 4294967296 + place * 39614081257132168796771975168 → unsigned_abs product ≤ 39614081257132168796771975168
+    → next ≡ sum +ℤ product → unsigned_abs next ≤ 4294967296 + (place + 1) * 39614081257132168796771975168
+next_wide_sum sum product next place before here is =
+    subst (λ z. unsigned_abs z ≤ 4294967296 + (place + 1) * 39614081257132168796771975168) (sym is) (let size = abs_sum sum product in omega arith)

@@ -4,12 +4,12 @@ ghost use Rattle.affine_core.specs.Affine.{form_at};
 ghost use Rattle.sanlp.specs.Access.{cell_at};
 ghost use Rattle.sanlp.specs.Cells.{natural};
 ghost use Rattle.sanlp.specs.WellFormed.{form_fits};
-ghost use Rattle.loop_walk.specs.Counting.{are_loop_values};
 ghost use Rattle.loop_walk.specs.Execution.{access_short};
 ghost use Rattle.loop_walk.specs.RowPlaces.{place_after, place_from, with_place, within_limit};
 ghost use Rattle.loop_walk.specs.SmallValues.{are_small_values};
 
-use crate::narrow::{NarrowAccess, NarrowForm};
+use crate::narrow_access::NarrowAccess;
+use crate::places::{ROW_LIMIT, next_wide_place};
 use crate::vector::LoopValues;
 use affine_core::Subscripts;
 use plain_data::Items;
@@ -17,53 +17,11 @@ use sanlp::ArrayDecl;
 use std::alloc::{AllocError, Global};
 use std::collections::BTreeMap;
 
-/// The greatest number of cells that are kept in rows, of all arrays together.
-const ROW_LIMIT: usize = 4_194_304;
-
 /// The cells of an array within its extents, in row-major order up to the last that was written.
 #[derive(Drop)]
 pub(crate) struct Rows {
     extents: Items<i64>,
     values: Items<Option<i64>>,
-}
-
-/// A number, or 0 where it is negative.
-pub(crate) fn natural_of(value: i64) -> usize
-    ensures { result ≡ natural value }
-{
-    if value < 0 { 0 } else { value as usize }
-}
-
-// The place that a subscript within its extent leads to, if it is within the limit.
-fn place_within(before: usize, extent: i64, subscript: usize) -> Option<usize>
-    ensures { result ≡ within_limit (before * natural extent + subscript) }
-{
-    let place = before
-        .saturating_mul(natural_of(extent))
-        .saturating_add(subscript);
-    if place < ROW_LIMIT { Some(place) } else { None }
-}
-
-// The place that one subscript more leads to, if it is within its extent and the place within the limit.
-fn next_place(before: usize, extent: i64, subscript: i64) -> Option<usize>
-    ensures { result ≡ place_after before extent subscript }
-{
-    if subscript < 0 || subscript >= extent {
-        None
-    } else {
-        place_within(before, extent, subscript as usize)
-    }
-}
-
-// The same for a subscript in 128 bits.
-fn next_wide_place(before: usize, extent: i64, subscript: i128) -> Option<usize>
-    ensures { result ≡ place_after before extent subscript }
-{
-    if subscript < 0 || subscript >= extent as i128 {
-        None
-    } else {
-        place_within(before, extent, subscript as usize)
-    }
 }
 
 // The place of a cell in row-major order, if its subscripts are within the extents and the place within the limit. So
@@ -78,62 +36,6 @@ fn place_of(before: usize, extents: &[i64], at: &[i128]) -> Option<usize>
         }
         _ => None,
     }
-}
-
-// The place of the cell whose subscripts are the values of these forms at small loop values.
-fn small_place(extents: &[i64], forms: &[NarrowForm], values: &[i64]) -> Option<usize>
-    requires many { length extents.now ≡ length forms.now }
-    requires fit { IsTrue (list_all (form_fits (length values.now)) forms.now) }
-    requires small { IsTrue (are_small_values values.now) }
-    ensures { result ≡ place_from 0 extents.now (map (λ form. form_at form values.now) forms.now) }
-{
-    let mut place = 0;
-    for (number, form) in forms.iter().enumerate() {
-        let next = next_place(place, extents[number], form.small_value(values))?;
-        place = next;
-    }
-    Some(place)
-}
-
-// The place of the cell whose subscripts are the values of these forms.
-fn wide_place(extents: &[i64], forms: &[NarrowForm], values: &[i64]) -> Option<usize>
-    requires many { length extents.now ≡ length forms.now }
-    requires fit { IsTrue (list_all (form_fits (length values.now)) forms.now) }
-    requires within { IsTrue (are_loop_values values.now) }
-    ensures { result ≡ place_from 0 extents.now (map (λ form. form_at form values.now) forms.now) }
-{
-    let mut place = 0;
-    for (number, form) in forms.iter().enumerate() {
-        let next = next_wide_place(place, extents[number], form.value(values))?;
-        place = next;
-    }
-    Some(place)
-}
-
-// The place of the cell whose subscripts are the values of these forms.
-fn place_of_forms(extents: &[i64], forms: &[NarrowForm], at: &LoopValues) -> Option<usize>
-    requires { IsTrue (list_all (form_fits (length at.now)) forms.now) }
-    ensures { result ≡ place_from 0 extents.now (map (λ form. form_at form at.now) forms.now) }
-{
-    if extents.len() != forms.len() {
-        None
-    } else if at.are_small() {
-        small_place(extents, forms, at.as_slice())
-    } else {
-        wide_place(extents, forms, at.as_slice())
-    }
-}
-
-// The cell of an access.
-fn cell_of(alloc: Global, access: &NarrowAccess, at: &LoopValues) -> (usize, Subscripts)
-    requires { IsTrue (access_short (length at.now) access.now) }
-    ensures { result ≡ cell_at at.now access.now }
-{
-    let mut subscripts = Subscripts::empty(alloc);
-    for form in access.subscripts() {
-        subscripts.push(form.value(at.as_slice()));
-    }
-    (access.array(), subscripts)
 }
 
 // Adds so many places that were not written.
@@ -160,26 +62,20 @@ fn put_at(values: &mut Items<Option<i64>>, place: usize, value: i64) -> Result<(
 }
 
 impl Rows {
+    ghost use Rattle.loop_walk.specs.RowPlaces.{value_at};
     ghost use Rattle.loop_walk.specs.Rows.{row_value};
 
     // The value of a cell, if it was written here.
     fn get(&self, at: &[i128]) -> Option<i64>
         ensures { result ≡ row_value self.now at.now }
     {
-        let place = place_of(0, self.extents.as_slice(), at)?;
-        if place < self.values.len() {
-            self.values.as_slice()[place]
-        } else {
-            None
-        }
+        self.value_at(place_of(0, self.extents.as_slice(), at)?)
     }
 
-    // The value of the cell whose subscripts are the values of these forms, if it was written here.
-    fn read(&self, forms: &[NarrowForm], at: &LoopValues) -> Option<i64>
-        requires { IsTrue (list_all (form_fits (length at.now)) forms.now) }
-        ensures { result ≡ row_value self.now (map (λ form. form_at form at.now) forms.now) }
+    // The value at a place, if there is one.
+    fn value_at(&self, place: usize) -> Option<i64>
+        ensures { result ≡ value_at self.now.values place }
     {
-        let place = place_of_forms(self.extents.as_slice(), forms, at)?;
         if place < self.values.len() {
             self.values.as_slice()[place]
         } else {
@@ -268,7 +164,7 @@ impl Cells {
         ensures { result ≡ kept_value self.now.rows.items (cell_at at.now access.now) }
     {
         let rows = self.rows.get(access.array())?;
-        rows.read(access.subscripts(), at)
+        rows.value_at(access.place(rows.extents.as_slice(), at.as_slice(), at.are_small())?)
     }
 
     /// The value of an access's cell, which is 0 where it was never written.
@@ -280,7 +176,7 @@ impl Cells {
         match self.kept_read(access, at) {
             Some(value) => value,
             None => {
-                let cell = cell_of(alloc, access, at);
+                let cell = access.cell(alloc, at.as_slice());
                 self.map.get(&cell).copied().unwrap_or(0)
             }
         }
@@ -294,7 +190,7 @@ impl Cells {
             (λ place. place_in self.now.rows.items (cell_at at.now access.now) ≡ Some place) }
     {
         let rows = self.rows.get(access.array())?;
-        let place = place_of_forms(rows.extents.as_slice(), access.subscripts(), at)?;
+        let place = access.place(rows.extents.as_slice(), at.as_slice(), at.are_small())?;
         if place < rows.values.len().saturating_add(self.room) {
             Some(place)
         } else {
@@ -330,7 +226,7 @@ impl Cells {
         match self.place_in_rows(access, at) {
             Some(place) => self.put_in_rows(access.array(), place, value),
             None => {
-                self.map.insert(cell_of(alloc, access, at), value)?;
+                self.map.insert(access.cell(alloc, at.as_slice()), value)?;
                 Ok(())
             }
         }

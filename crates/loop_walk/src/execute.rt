@@ -10,8 +10,9 @@ ghost use Rattle.loop_walk.specs.CellMap.{memory_of};
 ghost use Rattle.loop_walk.specs.Execution.{access_short, is_of_depth, statement_short};
 ghost use Rattle.loop_walk.specs.Narrow.{narrowed};
 
-use crate::cells::{Cells, natural_of};
-use crate::narrow::{NarrowAccess, NarrowStatement};
+use crate::cells::Cells;
+use crate::narrow_access::{NarrowAccess, NarrowStatement};
+use crate::places::natural_of;
 use crate::vector::LoopValues;
 use sanlp::{Inputs, Nest, Role, Statement};
 use std::alloc::{AllocError, Global};

@@ -5,8 +5,10 @@ mod bounds;
 mod cells;
 mod count;
 mod execute;
-mod narrow;
+mod narrow_access;
+mod narrow_form;
 mod outputs;
+mod places;
 mod process_points;
 mod run;
 #[cfg(test)]
@@ -15,7 +17,7 @@ mod vector;
 mod walk;
 
 pub use count::{SizeError, size};
-pub use narrow::{NarrowAccess, NarrowForm, NarrowStatement, narrow_statements};
+pub use narrow_access::{NarrowAccess, NarrowStatement, narrow_statements};
 pub use process_points::points;
 pub use run::interpret;
 pub use walk::Walk;

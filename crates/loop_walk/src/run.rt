@@ -12,7 +12,7 @@ ghost use Rattle.loop_walk.specs.Narrow.{narrowed};
 use crate::bounds::{loop_range, rows_hold};
 use crate::cells::Cells;
 use crate::execute::execute_point;
-use crate::narrow::{NarrowStatement, narrow_statements};
+use crate::narrow_access::{NarrowStatement, narrow_statements};
 use crate::outputs::output_arrays;
 use crate::vector::LoopValues;
 use sanlp::{Arrays, Inputs, Nest, Node};

@@ -11,11 +11,11 @@ returns-else-place-saturating_add c =
     let rows = c.in_ok-rows.rows.now in
     let cell = cell_at c.args.at.now c.args.access.now in
     let lookup = c.in_ok-rows.ensures.lookup in
-    let place : c.place_of_forms.result ≡ Some c.in_ok-place.place = c.in_ok-place.was in
+    let place : c.place.result ≡ Some c.in_ok-place.place = c.in_ok-place.was in
     ap (λ list. kept_value list cell) (sym c.deref.ensures.value)
     ∙ ap (λ (array : ℕ). kept_value c.deref.result.now (array, cell.1)) (sym c.array.ensures)
     ∙ not_kept c.deref.result.now (c.array.result, cell.1) rows c.in_ok-place.place lookup.3.0 lookup.1
     (ap (λ extents. place_from 0 extents cell.1) (sym c.as_slice.ensures)
-    ∙ ap (λ forms. place_from 0 c.as_slice.result.now (map (λ form. form_at form c.args.at.now) forms)) (sym c.subscripts.ensures)
-    ∙ sym c.place_of_forms.ensures ∙ place)
+    ∙ ap (λ at. place_from 0 c.as_slice.result.now (map (λ form. form_at form at) c.args.access.now.subscripts)) (sym c.as_slice-2.ensures.value)
+    ∙ sym c.place.ensures ∙ place)
     (omega (arith, c.len.ensures))

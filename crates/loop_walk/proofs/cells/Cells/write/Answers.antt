@@ -21,6 +21,7 @@ returns-in_ok-insert-in-None c =
     let old = c.args.self.now in
     let fits : FitsSigned w64 c.args.value = c.ranges.value in
     let updates = simp to_z-of_z at c.in_ok-insert-in-None.ensures.updates.0 in
-    memory_after_map old (record { rows = old.rows; room = old.room; map = c.insert.new.self }) c.cell_of.result c.args.value refl
-    (ap (kept_value old.rows.items) c.cell_of.ensures ∙ c.in-None.ensures) updates
-    ∙ ap (λ cell. with_cell (memory_of old) cell c.args.value) c.cell_of.ensures
+    let cell = c.cell.ensures ∙ ap (λ at. cell_at at c.args.access.now) c.as_slice.ensures.value in
+    memory_after_map old (record { rows = old.rows; room = old.room; map = c.insert.new.self }) c.cell.result c.args.value refl
+    (ap (kept_value old.rows.items) cell ∙ c.in-None.ensures) updates
+    ∙ ap (λ cell. with_cell (memory_of old) cell c.args.value) cell

@@ -1,7 +1,7 @@
 use Rattle.std.proofs.Common.{◌≡◌, ◌≤◌, ◌+◌, ◌*◌, drop}
 use Rattle.std.specs.Prelude.{unsigned_abs}
 use Rattle.affine_core.specs.Affine.{combined}
-use Rattle.loop_walk.proofs.narrow.small_sum.Given as goal
+use Rattle.loop_walk.proofs.narrow_form.small_sum.Given as goal
 
 abbrev pub invariant-loop-place : goal.invariant-loop-place
 invariant-loop-place l =

@@ -5,7 +5,7 @@ use Rattle.std.specs.Option.{option_map_or}
 use Rattle.sanlp.specs.WellFormed.{depth_of}
 use Rattle.loop_walk.specs.Execution.{access_short}
 use Rattle.loop_walk.proofs.ShortStatements.{statement_is_short, short_write, short_reads}
-use Rattle.loop_walk.proofs.narrow.narrow_statements.Goals as goal
+use Rattle.loop_walk.proofs.narrow_access.narrow_statements.Goals as goal
 
 pub narrow_statement-requires-clause-write : goal.narrow_statement-requires-clause-write
 narrow_statement-requires-clause-write c =

@@ -4,7 +4,7 @@ use Rattle.std.proofs.lemmas.Int.{to_z-of_z}
 use Rattle.affine_core.specs.Affine.{combined}
 use Rattle.loop_walk.proofs.SmallForms.{next_sum_is_small, one_product_more, small_product}
 use Rattle.loop_walk.proofs.SumsInside.{as_many, moderate_at}
-use Rattle.loop_walk.proofs.narrow.small_sum.Goals as goal
+use Rattle.loop_walk.proofs.narrow_form.small_sum.Goals as goal
 
 pub add_small_product-sum-requires-clause-product : goal.add_small_product-sum-requires-clause-product
 add_small_product-sum-requires-clause-product c =

@@ -1,7 +1,7 @@
 use Rattle.std.proofs.Common.{◌≡◌, drop, map}
 use Rattle.affine_core.specs.Affine.{form_at}
 use Rattle.loop_walk.specs.RowPlaces.{place_from}
-use Rattle.loop_walk.proofs.cells.small_place.Given as goal
+use Rattle.loop_walk.proofs.places.wide_place.Given as goal
 
 abbrev pub invariant-loop-number : goal.invariant-loop-number
 invariant-loop-number l =

@@ -1,5 +1,5 @@
 -- The count is the size, where it is within its limit and all loops that are entered are too.
-use Rattle.std.proofs.Common.{◌≡◌, ◌<◌, ◌≤◌, ◌+◌, ℕ, ℤ, List, [], ◌∷◌, ◌++◌, map, length, refl, sym, ap, ◌∙◌, subst, inl, inr, arith, add-one, length-append}
+use Rattle.std.proofs.Common.{◌≡◌, ◌<◌, ◌≤◌, ◌+◌, ◌*◌, ℕ, zero, suc, ℤ, pos, ◌+ℤ◌, ◌-ℤ◌, List, [], ◌∷◌, ◌++◌, map, length, refl, sym, ap, ◌∙◌, subst, inl, inr, arith, add-one, suc-mul, length-append}
 use Rattle.std.specs.Prelude.{Bool, true, false, cond, ◌&&◌, Result, Ok, Err, IfOk, nat_le}
 use Rattle.std.specs.List.{list_all, sum_by}
 use Rattle.std.proofs.lemmas.List.Sums.{sum_by-cons}
@@ -10,19 +10,17 @@ use Rattle.sanlp.specs.declared.nest.Node.TheOpen.{Node-F, Loop, Guard, Assign}
 use Rattle.sanlp.specs.declared.nest.Node.TheFolds.{map-Node, fold-roll-Node, ind-Node}
 use Rattle.sanlp.specs.declared.nest.Node.TheViews.{roll-Node}
 use Rattle.sanlp.specs.declared.nest.Point.{Point}
-use Rattle.sanlp.specs.Loops.{loop_values, all_hold}
+use Rattle.sanlp.specs.Loops.{loop_values, all_hold, interval}
+use Rattle.sanlp.specs.Cells.{counted as counted_from, natural}
 use Rattle.sanlp.specs.Size.{size, turns_step, turns_of_node}
 use Rattle.sanlp.specs.Trace.{PointsAt, all_points, turn_points, trace_step, trace_node, trace}
-use Rattle.loop_walk.specs.Counting.{Count, SizeIsOk, and_then, count_step, counted, counted_node, counted_parts, counted_turn, counted_turns, in_order, loop_within, node_within, one_more, size_limit, within_step}
+use Rattle.sanlp.proofs.Folds.{by_parts, fold_assign_at, fold_guard, fold_loop}
+use Rattle.loop_walk.specs.Counting.{Count, SizeIsOk, and_then, assignment_step, capped, count_step, counted, counted_node, counted_parts, counted_turn, counted_turns, in_order, is_assignment, loop_within, node_within, one_more, size_limit, within_step}
 use Rattle.loop_walk.specs.declared.count.SizeError.{SizeError}
 use Rattle.loop_walk.specs.declared.count.SizeError.TheVariants.{Limit, LoopValue}
 
 abbrev past_limit : Result ℕ SizeError
 past_limit = Err (Limit (size_limit + 1))
-
--- a count, unless it passes the limit
-abbrev capped : ℕ → Result ℕ SizeError
-capped t = cond (nat_le t size_limit) (Ok t) past_limit
 
 capped_within : (t : ℕ) → t ≤ size_limit → capped t ≡ Ok t
 capped_within t h = ap (λ b. cond b (Ok t) past_limit) (le-leb t size_limit h)
@@ -215,3 +213,40 @@ counted_size n total e =
 pub size_of_ok : (n : Nest) (r : Result ℕ SizeError) → r ≡ counted n → IfOk r (λ total. (total ≡ size n) × SizeIsOk n)
 size_of_ok n (Ok total) e = counted_size n total (sym e)
 size_of_ok n (Err refusal) e = tt
+
+-- a part that is an assignment adds one
+one_assignment : (node : Node) → is_assignment node ≡ true → (at : List ℤ) → counted_node node at ≡ one_more
+one_assignment = by_parts (λ node. is_assignment node ≡ true → (at : List ℤ) → counted_node node at ≡ one_more)
+    (λ id lower upper body each h at. absurd (false≢true (sym (fold_loop Bool assignment_step id lower upper body) ∙ h)))
+    (λ rows body each h at. absurd (false≢true (sym (fold_guard Bool assignment_step rows body) ∙ h)))
+    (λ s h at. fold_assign_at (List ℤ) Count count_step s at)
+
+assignments_measured : (parts : List Node) (at : List ℤ) → list_all is_assignment parts ≡ true → IsMeasured (counted_parts (map counted_node parts) at) true (length parts)
+assignments_measured [] at h = measured_none
+assignments_measured (node ∷ parts) at h =
+    let tests = and_parts (is_assignment node) (list_all is_assignment parts) h in
+    let e : 1 + length parts ≡ suc (length parts) = omega arith in
+    measured_along _ true true (1 + length parts) (suc (length parts)) refl e
+    (measured_then (counted_node node at) (counted_parts (map counted_node parts) at) true true 1 (length parts)
+    (subst (λ part. IsMeasured part true 1) (sym (one_assignment node tests.0 at)) measured_one) (assignments_measured parts at tests.1))
+
+turns_of_assignments : (parts : List Node) (at values : List ℤ) → list_all is_assignment parts ≡ true
+    → IsMeasured (counted_turns (map counted_node parts) at values) true (length values * (1 + length parts))
+turns_of_assignments parts at [] h = measured_along (in_order []) true true 0 (0 * (1 + length parts)) refl (omega arith) measured_none
+turns_of_assignments parts at (value ∷ values) h =
+    let e : (1 + length parts) + length values * (1 + length parts) ≡ suc (length values) * (1 + length parts) = omega (arith, suc-mul (length values) (1 + length parts)) in
+    measured_along _ true true ((1 + length parts) + length values * (1 + length parts)) (suc (length values) * (1 + length parts)) refl e
+    (measured_then (counted_turn (map counted_node parts) at value) (counted_turns (map counted_node parts) at values) true true (1 + length parts) (length values * (1 + length parts))
+    (measured_then one_more (counted_parts (map counted_node parts) (at ++ value ∷ [])) true true 1 (length parts) measured_one (assignments_measured parts (at ++ value ∷ []) h))
+    (turns_of_assignments parts at values h))
+
+length_counted : (a : ℤ) (n : ℕ) → length (counted_from a n) ≡ n
+length_counted a zero = refl
+length_counted a (suc n) = ap suc (length_counted (a +ℤ pos 1) n)
+
+-- the turns of a loop whose body has nothing but assignments
+pub equal_turns : (parts : List Node) (at : List ℤ) (first last : ℤ) (count : ℕ) → count ≤ size_limit → list_all is_assignment parts ≡ true
+    → capped (count + natural (last +ℤ pos 1 -ℤ first) * (1 + length parts)) ≡ counted_turns (map counted_node parts) at (interval first last) count
+equal_turns parts at first last count le h =
+    ap (λ turns. capped (count + turns * (1 + length parts))) (sym (length_counted first (natural (last +ℤ pos 1 -ℤ first))))
+    ∙ sym ((turns_of_assignments parts at (interval first last) h).counts count le refl)

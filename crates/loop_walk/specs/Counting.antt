@@ -1,5 +1,5 @@
 -- The size of a nest, counted in walking order.
-use Rattle.std.specs.Prelude.{◌≡◌, ◌≤◌, ℕ, ◌+◌, ℤ, Bool, true, ◌&&◌, List, [], ◌∷◌, ◌++◌, map, Result, Ok, Err, IsTrue, if◌then◌else◌, nat_lt, nat_le, unsigned_abs}
+use Rattle.std.specs.Prelude.{◌≡◌, ◌≤◌, ℕ, ◌+◌, ℤ, Bool, true, false, ◌&&◌, List, [], ◌∷◌, ◌++◌, map, Result, Ok, Err, IsTrue, if◌then◌else◌, nat_lt, nat_le, unsigned_abs}
 use Rattle.std.specs.List.{list_all}
 use Rattle.affine_core.specs.declared.form.Form.{Form}
 use Rattle.affine_core.specs.Affine.{form_at}
@@ -60,6 +60,19 @@ in_order (part ∷ parts) count = and_then (part count) (in_order parts)
 
 abbrev pub counted_parts : List (List ℤ → Count) → List ℤ → Count
 counted_parts parts at = in_order (map (λ part. part at) parts)
+
+-- a count, unless it passes the limit
+abbrev pub capped : ℕ → Result ℕ SizeError
+capped count = if nat_le count size_limit then Ok count else Err (Limit (size_limit + 1))
+
+-- whether a part is an assignment
+abbrev pub assignment_step : Node-F Bool → Bool
+assignment_step (Loop id lower upper body) = false
+assignment_step (Guard rows body) = false
+assignment_step (Assign s) = true
+
+abbrev pub is_assignment : Node → Bool
+is_assignment = fold-Node Bool assignment_step
 
 -- a turn of a loop is counted when it begins
 abbrev pub counted_turn : List (List ℤ → Count) → List ℤ → ℤ → Count

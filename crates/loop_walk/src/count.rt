@@ -1,8 +1,10 @@
-ghost use Rattle.std.specs.Prelude.{◌≡◌, ◌+◌, ◌<◌, ◌≤◌, [], ◌∷◌, ◌++◌, length, map, IsTrue, IfOk};
+ghost use Rattle.std.specs.Prelude.{◌≡◌, ◌+◌, ◌*◌, ◌+ℤ◌, ◌-ℤ◌, pos, ◌<◌, ◌≤◌, [], ◌∷◌, ◌++◌, length, map, IsTrue, IfOk};
+ghost use Rattle.std.specs.List.{list_all};
+ghost use Rattle.sanlp.specs.Cells.{natural};
 ghost use Rattle.sanlp.specs.Loops.{interval};
 ghost use Rattle.sanlp.specs.WellFormed.{all_forms_fit, forms_fit};
 ghost use Rattle.sanlp.specs.Size.{size};
-ghost use Rattle.loop_walk.specs.Counting.{SizeIsOk, are_loop_values, counted, counted_node, counted_parts, counted_turn, counted_turns, is_loop_value, one_more};
+ghost use Rattle.loop_walk.specs.Counting.{SizeIsOk, are_loop_values, capped, counted, counted_node, counted_parts, counted_turn, counted_turns, is_assignment, is_loop_value, one_more};
 
 use crate::bounds::{loop_range, rows_hold};
 use crate::vector::LoopValues;
@@ -82,6 +84,53 @@ fn count_node(node: &Node, at: &LoopValues, count: u64) -> Result<u64, SizeError
     }
 }
 
+// Whether a part is an assignment.
+fn is_assignment(part: &Node) -> bool
+    ensures { result ≡ is_assignment part.now }
+{
+    match part {
+        Node::Assign(_) => true,
+        Node::Loop { .. } | Node::Guard { .. } => false,
+    }
+}
+
+// Whether each part is an assignment.
+fn are_assignments(parts: &[Node]) -> bool
+    ensures { result ≡ list_all is_assignment parts.now }
+{
+    for part in parts {
+        if !is_assignment(part) {
+            return false;
+        }
+    }
+    true
+}
+
+// How many turns a loop has.
+fn turns_of(first: i64, last: i64) -> u64
+    requires first_within { IsTrue (is_loop_value first) }
+    requires last_within { IsTrue (is_loop_value last) }
+    ensures { result ≡ natural (last +ℤ pos 1 -ℤ first) }
+{
+    if last < first {
+        0
+    } else {
+        (last as i128 + 1 - first as i128) as u64
+    }
+}
+
+// Counts turns that add equally much.
+fn count_equal_turns(turns: u64, each: u64, count: u64) -> Result<u64, SizeError>
+    ensures { result ≡ capped (count + turns * each) }
+{
+    let total = count.saturating_add(turns.saturating_mul(each));
+    if total <= SIZE_LIMIT {
+        Ok(total)
+    } else {
+        Err(SizeError::Limit(SIZE_LIMIT + 1))
+    }
+}
+
 // Counts the turns of a loop.
 #[cycle(count)]
 fn count_turns(
@@ -97,6 +146,9 @@ fn count_turns(
     requires fit { IsTrue (all_forms_fit parts.now (length at.now + 1)) }
     ensures { result ≡ counted_turns (map counted_node parts.now) at.now (interval first last) count }
 {
+    if count <= SIZE_LIMIT && are_assignments(parts) {
+        return count_equal_turns(turns_of(first, last), 1 + parts.len() as u64, count);
+    }
     let mut count = count;
     for value in first..=last {
         count = count_turn(parts, at, value, count)?;

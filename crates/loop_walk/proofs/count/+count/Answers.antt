@@ -1,13 +1,14 @@
-use Rattle.std.proofs.Common.{rules, ◌≡◌, map, ℕ, List, w64, ℤ, pos, ◌+ℤ◌, ◌≤ℤ◌, ◌<ℤ◌, FitsSigned, to_z, of_z, arith, sym, subst}
+use Rattle.std.proofs.Common.{rules, ◌≡◌, map, ℕ, List, w64, ℤ, pos, ◌+ℤ◌, ◌≤ℤ◌, ◌<ℤ◌, FitsSigned, to_z, of_z, arith, sym, ap, ◌∙◌, ◌+◌, ◌*◌, length, subst}
 use Rattle.std.specs.Prelude.{Result}
 use Rattle.std.proofs.lemmas.Int.{ints, to_z-of_z}
 use Rattle.std.proofs.lemmas.Result.{err_from_is_err_and}
 use Rattle.sanlp.specs.declared.nest.Node.TheViews.{the_lemmas}
 use Rattle.sanlp.specs.Loops.{interval}
 use Rattle.loop_walk.specs.declared.count.SizeError.{SizeError}
-use Rattle.loop_walk.specs.Counting.{Count, counted_node, counted_turns}
+use Rattle.loop_walk.specs.Counting.{Count, capped, counted_node, counted_turns}
 use Rattle.sanlp.specs.WellFormed.{forms_fit}
 use Rattle.loop_walk.proofs.BodyParts.{part_passes}
+use Rattle.loop_walk.proofs.SizeLaw.{equal_turns}
 use Rattle.loop_walk.proofs.CountLemmas.{turn_counted, turn_refused, turns_counted}
 use Rattle.loop_walk.proofs.count.+count.Goals as goal
 
@@ -45,3 +46,13 @@ count_turns-returns-in_ok-count t c =
     let body : List (List ℤ → Count) = map counted_node c.args.parts.now in
     let more = turn_counted body c.args.at.now _ _ c.loop-value.count _ c.in_ok-count.count le c.in_ok-count.ensures c.loop-value.invariant.0 in
     simp to_z-of_z at (turns_counted body c.args.at.now _ _ c.in_ok-count.count _ last more)
+
+pub count_turns-returns-then-are_assignments : goal.count_turns-returns-then-are_assignments
+count_turns-returns-then-are_assignments t c =
+    let parts = c.args.parts.now in
+    let f : FitsSigned w64 c.args.first = c.ranges.first in
+    let g : FitsSigned w64 c.args.last = c.ranges.last in
+    let turns = simp to_z-of_z at c.turns_of.ensures in
+    c.count_equal_turns.ensures
+    ∙ ap (λ (turns : ℕ). capped (c.args.count + turns * (1 + length parts))) turns
+    ∙ equal_turns parts c.args.at.now c.args.first c.args.last c.args.count c.if-count-le-SIZE_LIMIT.true (sym c.are_assignments.ensures ∙ c.if-are_assignments.true)

@@ -1,6 +1,7 @@
 ghost use Rattle.std.specs.Prelude.{◌≡◌, ◌++◌, IfOk, OnOk, replicate};
 ghost use Rattle.loop_walk.specs.Counting.{SizeIsOk};
 ghost use Rattle.sanlp.specs.Points.{points_of};
+ghost use Rattle.net_checker.specs.Fits.{Fits};
 ghost use Rattle.net_checker.specs.Shapes.{read_total};
 ghost use Rattle.source_tree.specs.declared.cert.Origin.TheVariants.{Sweep};
 ghost use Rattle.net_core.specs.Machine.{net_of};
@@ -8,9 +9,10 @@ ghost use Rattle.net_core.specs.Shape.{FitsNumbers};
 ghost use Rattle.witness_plan.specs.Sequential.{sequential_network};
 ghost use Rattle.net_maker.specs.Certificates.{sequential_cert};
 
+use derived_names::{has_classes_of_uses, names_last_writers};
 use net_core::Network;
 use plain_data::Items;
-use process_derive::{derive, numbers_fit};
+use process_derive::{derive, fits_nest, numbers_fit};
 use sanlp::{Nest, Points};
 use shadow_sweep::sweep;
 use source_tree::{Cert, Origin};
@@ -39,16 +41,20 @@ fn swept(alloc: Global, nest: &Nest) -> Result<Items<Origin>, AllocError>
 }
 
 /// The network of a nest (Compaan 2000, pn 2007) with the capacities that the schedule after the sequential program needs,
-/// and a certificate with that schedule, whose reads have their values from the last writers. Nothing is refused but want
-/// of memory.
+/// and a certificate with that schedule, whose reads have their values from the last writers. Both fit the nest, so the
+/// checker accepts them. Nothing is refused but want of memory.
 pub fn compile(alloc: Global, nest: &Nest, points: &Points) -> Result<(Network, Cert), AllocError>
     requires size { SizeIsOk nest.now }
     requires points { points.now.of ≡ points_of nest.now }
     ensures network { IfOk result (λ made. made.0 ≡ sequential_network nest.now) }
     ensures numbers { IfOk result (λ made. FitsNumbers (net_of made.0)) }
     ensures cert { IfOk result (λ made. made.1 ≡ sequential_cert nest.now) }
+    ensures fits { IfOk result (λ made. Fits nest.now made.0 made.1) }
 {
+    fits_nest(nest);
     numbers_fit(nest);
+    names_last_writers(nest);
+    has_classes_of_uses(nest);
     other_capacities();
     let table = sweep(alloc, nest, points)?;
     let derived = derive(alloc, nest, points, &table)?;

@@ -41,7 +41,7 @@ fn inputs_of(alloc: Global, nest: &Nest, bytes: &[u8]) -> Result<Inputs, Stop>
 #[derive(Clone, Copy)]
 pub(crate) enum Engine {
     Interpreter,
-    /// The machine of the nest's network, and the interpreter where the checker refuses the network.
+    /// The machine of the nest's network.
     Network,
 }
 
@@ -56,10 +56,7 @@ fn arrays_by(
 {
     match engine {
         Engine::Interpreter => interpret(alloc, nest, inputs),
-        Engine::Network => match network_arrays(alloc, nest, inputs)? {
-            Some(outputs) => Ok(outputs),
-            None => interpret(alloc, nest, inputs),
-        },
+        Engine::Network => network_arrays(alloc, nest, inputs),
     }
 }
 

@@ -1,18 +1,16 @@
 -- What a sound network's sinks have kept in the end.
-use Rattle.std.proofs.Common.{◌≡◌, ◌∙◌, ℕ, ℤ, List, length, refl, sym, ap, subst}
+use Rattle.std.proofs.Common.{◌≡◌, ◌∙◌, ℕ, ℤ, List, length, ap}
 use Rattle.std.specs.Prelude.{Result, Ok, Err, IfOk}
 use Rattle.net_checker.proofs.FitsShape.{points_length}
 use Rattle.net_core.specs.Machine.{Net, Rule, State, net_of, start, after, IsRun}
 use Rattle.net_core.specs.Cuts.{positions}
 use Rattle.net_core.specs.declared.network.Network.{Network}
 use Rattle.net_core.specs.Orders.{EndsAll, reached}
-use Rattle.net_core.specs.Rules.{tags, values}
-use Rattle.net_core.specs.Shape.{IsWired}
+use Rattle.net_core.specs.Rules.{values}
 use Rattle.net_core.specs.Sound.{IsSound, sink_lists}
 use Rattle.sanlp.specs.declared.nest.Arrays.{Arrays}
 use Rattle.sanlp.specs.declared.nest.Inputs.{Inputs}
 use Rattle.sanlp.specs.declared.nest.Nest.{Nest}
-use Rattle.sanlp.specs.declared.nest.Tag.{Tag}
 use Rattle.sanlp.specs.Meaning.{arrays}
 
 abbrev pub SameRuns : {T U : Type 0} → Net → Rule T → Rule U → Type 0

@@ -1,4 +1,4 @@
-ghost use Rattle.std.specs.Prelude.{◌≡◌, IfOk, IfSome, IfNone};
+ghost use Rattle.std.specs.Prelude.{◌≡◌, IfOk};
 ghost use Rattle.loop_walk.specs.Counting.{SizeIsOk};
 ghost use Rattle.sanlp.specs.Meaning.{arrays};
 ghost use Rattle.sanlp.specs.Points.{points_of};
@@ -7,9 +7,6 @@ ghost use Rattle.net_core.specs.Orders.{EndsAll};
 ghost use Rattle.net_core.specs.Rules.{tags};
 ghost use Rattle.net_core.specs.Shape.{FitsNumbers};
 ghost use Rattle.net_core.specs.Sound.{IsSound};
-ghost use Rattle.net_checker.specs.Fits.{Fits};
-ghost use Rattle.net_maker.specs.Certificates.{sequential_cert};
-ghost use Rattle.witness_plan.specs.Sequential.{sequential_network};
 
 use crate::outputs::sink_arrays;
 use loop_walk::points;
@@ -47,25 +44,19 @@ fn run_along(
     sink_arrays(alloc, nest, &state)
 }
 
-/// What the network of a nest computes, run by its machine along its schedule. `None` comes only where the checker refuses
-/// the network. Nothing is refused but want of memory.
-pub fn network_arrays(
-    alloc: Global,
-    nest: &Nest,
-    inputs: &Inputs,
-) -> Result<Option<Arrays>, AllocError>
+/// What the network of a nest computes, run by its machine along its schedule once the checker has accepted it, which it
+/// always does. Nothing is refused but want of memory.
+pub fn network_arrays(alloc: Global, nest: &Nest, inputs: &Inputs) -> Result<Arrays, AllocError>
     requires { SizeIsOk nest.now }
-    ensures computed { IfOk result (λ found. IfSome found (λ outputs. outputs.arrays ≡ arrays nest.now inputs.now)) }
-    ensures refused { IfOk result (λ found. IfNone found (Fits nest.now (sequential_network nest.now) (sequential_cert nest.now) → ⊥)) }
+    ensures { IfOk result (λ outputs. outputs.arrays ≡ arrays nest.now inputs.now) }
 {
     let points = points(alloc, nest)?;
     let (network, cert) = compile(alloc, nest, &points)?;
     match check(alloc, nest, &points, &network, &cert)? {
         Verdict::Accepted => {
             let schedule = cert.schedule.as_slice();
-            let outputs = run_along(alloc, nest, &points, inputs, &network, schedule)?;
-            Ok(Some(outputs))
+            run_along(alloc, nest, &points, inputs, &network, schedule)
         }
-        Verdict::Refused(_) => Ok(None),
+        Verdict::Refused(_) => unreachable!(),
     }
 }

@@ -1,4 +1,4 @@
-use Rattle.std.proofs.Common.{◌≡◌, ◌∙◌}
+use Rattle.std.proofs.Common.{◌∙◌}
 use Rattle.net_core.specs.Machine.{Net, net_of}
 use Rattle.net_core.specs.Rules.{tags, values}
 use Rattle.net_run.proofs.Ending.{ends_values, gives_arrays, processes_are}

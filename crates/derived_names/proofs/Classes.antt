@@ -37,10 +37,10 @@ use Rattle.derived_names.proofs.UsesOfReads.{named_by_all, named_by_fire, plan_a
 
 -- Uses of fires
 
--- what a reference of a fire uses, if it is a use of channel c
-use_in_slot : (n : Nest) (p k f c : ℕ) (u : Usage) → f < turn_count n p → usage n p f k ≡ Some u → (u.channel ≡ c → ⊥)
+-- a use of another channel is none of channel c
+none_of : (n : Nest) (p k f c : ℕ) (u : Usage) → f < turn_count n p → usage n p f k ≡ Some u → (u.channel ≡ c → ⊥)
     → use_of c (latest_gets (net_of (net n)) p (length (before_fire n p f))) (ref_of (Some u)) ≡ []
-use_in_slot n p k f c u fire h ne =
+none_of n p k f c u fire h ne =
     let slots = latest_gets (net_of (net n)) p (length (before_fire n p f)) in
     let is = use_is n p k f u h in
     let token : ℕ = get_or (uses_of (turns_read n p k is.source.process)) (length (turns_used is.source.process (take f (sources_at n p k)))) 0 in
@@ -49,19 +49,16 @@ use_in_slot n p k f c u fire h ne =
     ∙ ap (λ b. cond b (token ∷ []) []) (ne_eqb u.channel c ne)
 
 module _ (n : Nest) (p k w c : ℕ) (found : slice_get (plans_of n) c ≡ Some (plan_of n p k w)) where
-  abbrev slots_at : ℕ → List (Option (ℕ × ℕ))
-  slots_at f = latest_gets (net_of (net n)) p (length (before_fire n p f))
-
   other_slot : (f j : ℕ) → f < turn_count n p → (j ≡ k → ⊥) → (o : Option Usage) → usage n p f j ≡ o → use_of c (latest_gets (net_of (net n)) p (length (before_fire n p f))) (ref_of o) ≡ []
   other_slot f j fire ne None h = refl
-  other_slot f j fire ne (Some u) h = use_in_slot n p j f c u fire h (λ same. ne (used_where n p k w c f j u found (use_is n p j f u h) same).0)
+  other_slot f j fire ne (Some u) h = none_of n p j f c u fire h (λ same. ne (used_where n p k w c f j u found (use_is n p j f u h) same).0)
 
   other_source : (f : ℕ) (t : Tag) → f < turn_count n p → slice_get (sources_at n p k) f ≡ Some (Some t) → (t.process ≡ w → ⊥) → (o : Option Usage) → usage n p f k ≡ o
       → use_of c (latest_gets (net_of (net n)) p (length (before_fire n p f))) (ref_of o) ≡ []
   other_source f t fire e ne None h = refl
   other_source f t fire e ne (Some u) h =
       let is = use_is n p k f u h in
-      use_in_slot n p k f c u fire h (λ same. ne (ap (λ (x : Tag). x.process) (sym (source_same n p k f u is t e)) ∙ (used_where n p k w c f k u found is same).1))
+      none_of n p k f c u fire h (λ same. ne (ap (λ (x : Tag). x.process) (sym (source_same n p k f u is t e)) ∙ (used_where n p k w c f k u found is same).1))
 
   this_slot : (f : ℕ) → f < turn_count n p → (source : Option Tag) → slice_get (sources_at n p k) f ≡ Some source
       → use_of c (latest_gets (net_of (net n)) p (length (before_fire n p f))) (ref_of (usage n p f k)) ≡ token_named (turns_read n p k w) w source

@@ -265,18 +265,6 @@ found_is plans w p k found e =
     let number : found.0 ≡ at.0 = omega (arith, at.1) in
     record { there = ap (slice_get plans) number ∙ at.2; ends = at.3 }
 
--- one number is that of one channel
-pub same_ends : (plans : List ChannelPlan) (w p k v q j : ℕ) (a b : ℕ × ChannelPlan) → channel_from 0 plans w p k ≡ Some a → channel_from 0 plans v q j ≡ Some b → a.0 ≡ b.0
-    → (w ≡ v) × (p ≡ q) × (k ≡ j)
-same_ends plans w p k v q j a b e f number =
-    let first = found_is plans w p k a e in
-    let second = found_is plans v q j b f in
-    let same : a.1 ≡ b.1 = same_Some a.1 b.1 (sym first.there ∙ ap (slice_get plans) number ∙ second.there) in (
-      sym first.ends.writer ∙ ap (λ (plan : ChannelPlan). plan.writer) same ∙ second.ends.writer,
-      sym first.ends.reader ∙ ap (λ (plan : ChannelPlan). plan.reader) same ∙ second.ends.reader,
-      sym first.ends.read ∙ ap (λ (plan : ChannelPlan). plan.read) same ∙ second.ends.read,
-    )
-
 in_filter : {X : Type 0} (test : X → Bool) (xs : List X) (x : X) → In x xs → test x ≡ true → In x (filter test xs)
 in_filter test [] x h k = absurd h
 in_filter test (y ∷ xs) x h k =

@@ -6,8 +6,8 @@ ghost use Rattle.net_checker.specs.Shapes.{read_total};
 ghost use Rattle.source_tree.specs.declared.cert.Origin.TheVariants.{Sweep};
 ghost use Rattle.net_core.specs.Machine.{net_of};
 ghost use Rattle.net_core.specs.Shape.{FitsNumbers};
-ghost use Rattle.witness_plan.specs.Sequential.{sequential_network};
-ghost use Rattle.net_maker.specs.Certificates.{sequential_cert};
+ghost use Rattle.witness_plan.specs.Schedules.{planned_network};
+ghost use Rattle.net_maker.specs.Certificates.{cert_of};
 
 use derived_names::{has_classes_of_uses, names_last_writers};
 use net_core::Network;
@@ -17,7 +17,7 @@ use sanlp::{Nest, Points};
 use shadow_sweep::sweep;
 use source_tree::{Cert, Origin};
 use std::alloc::{AllocError, Global};
-use witness_plan::{other_capacities, sequential, with_capacities};
+use witness_plan::{Policy, other_capacities, plan, with_capacities};
 
 // Adds so many origins, each of which says that a read's values come from the last writers.
 fn add_swept(sources: &mut Items<Origin>, count: usize) -> Result<(), AllocError>
@@ -40,15 +40,20 @@ fn swept(alloc: Global, nest: &Nest) -> Result<Items<Origin>, AllocError>
     Ok(sources)
 }
 
-/// The network of a nest (Compaan 2000, pn 2007) with the capacities that the schedule after the sequential program needs,
-/// and a certificate with that schedule, whose reads have their values from the last writers. Both fit the nest, so the
-/// checker accepts them. Nothing is refused but want of memory.
-pub fn compile(alloc: Global, nest: &Nest, points: &Points) -> Result<(Network, Cert), AllocError>
+/// The network of a nest (Compaan 2000, pn 2007) with the capacities that its schedule under a policy needs, and a
+/// certificate with that schedule, whose reads have their values from the last writers. Both fit the nest, so the checker
+/// accepts them. Nothing is refused but want of memory.
+pub fn compile(
+    alloc: Global,
+    nest: &Nest,
+    points: &Points,
+    policy: Policy,
+) -> Result<(Network, Cert), AllocError>
     requires size { SizeIsOk nest.now }
     requires points { points.now.of ≡ points_of nest.now }
-    ensures network { IfOk result (λ made. made.0 ≡ sequential_network nest.now) }
+    ensures network { IfOk result (λ made. made.0 ≡ planned_network nest.now policy) }
     ensures numbers { IfOk result (λ made. FitsNumbers (net_of made.0)) }
-    ensures cert { IfOk result (λ made. made.1 ≡ sequential_cert nest.now) }
+    ensures cert { IfOk result (λ made. made.1 ≡ cert_of nest.now policy) }
     ensures fits { IfOk result (λ made. Fits nest.now made.0 made.1) }
 {
     fits_nest(nest);
@@ -58,7 +63,7 @@ pub fn compile(alloc: Global, nest: &Nest, points: &Points) -> Result<(Network, 
     other_capacities();
     let table = sweep(alloc, nest, points)?;
     let derived = derive(alloc, nest, points, &table)?;
-    let witness = sequential(alloc, nest, points, &derived)?;
+    let witness = plan(alloc, nest, points, &derived, policy)?;
     let network = with_capacities(alloc, derived, witness.capacities.as_slice())?;
     let cert = Cert {
         sources: swept(alloc, nest)?,

@@ -15,7 +15,7 @@ use net_core::{Network, Values, every_order, sound, start};
 use net_maker::compile;
 use sanlp::{Arrays, Inputs, Nest, Points, Tag};
 use std::alloc::{AllocError, Global};
-use witness_plan::run_by;
+use witness_plan::{Policy, run_by};
 
 // What a sound network computes along a schedule that ends all.
 fn run_along(
@@ -44,14 +44,19 @@ fn run_along(
     sink_arrays(alloc, nest, &state)
 }
 
-/// What the network of a nest computes, run by its machine along its schedule once the checker has accepted it, which it
-/// always does. Nothing is refused but want of memory.
-pub fn network_arrays(alloc: Global, nest: &Nest, inputs: &Inputs) -> Result<Arrays, AllocError>
+/// What the network of a nest computes, run by its machine along its schedule under a policy once the checker has accepted
+/// it, which it always does. Nothing is refused but want of memory.
+pub fn network_arrays(
+    alloc: Global,
+    nest: &Nest,
+    inputs: &Inputs,
+    policy: Policy,
+) -> Result<Arrays, AllocError>
     requires { SizeIsOk nest.now }
     ensures { IfOk result (λ outputs. outputs.arrays ≡ arrays nest.now inputs.now) }
 {
     let points = points(alloc, nest)?;
-    let (network, cert) = compile(alloc, nest, &points)?;
+    let (network, cert) = compile(alloc, nest, &points, policy)?;
     match check(alloc, nest, &points, &network, &cert)? {
         Verdict::Accepted => {
             let schedule = cert.schedule.as_slice();

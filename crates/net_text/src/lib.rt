@@ -7,4 +7,5 @@ mod network_text;
 #[cfg(test)]
 mod tests;
 
-pub use network_text::write_net;
+pub use line::{Word, write_line, write_spaced};
+pub use network_text::{class_word, write_net};

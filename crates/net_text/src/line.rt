@@ -9,7 +9,7 @@ use itoa::Buffer;
 
 /// A word of a line.
 #[derive(Clone, Copy)]
-pub(crate) enum Word<'a> {
+pub enum Word<'a> {
     Text(&'a [u8]),
     Number(u64),
 }
@@ -30,7 +30,7 @@ fn write_word<K: Sink>(word: Word, sink: &mut K) -> Result<(), WriteFault>
 }
 
 /// Writes a space and a word.
-fn write_spaced<K: Sink>(word: Word, sink: &mut K) -> Result<(), WriteFault>
+pub fn write_spaced<K: Sink>(word: Word, sink: &mut K) -> Result<(), WriteFault>
     ensures ok { OnOk result (Appends (K.held sink.old) (K.held sink.new) (spaced_text word.entry)) }
     ensures quiet { OnOk result (K.faults sink.new ≡ K.faults sink.old) }
     ensures front { OnErr result (AppendsFront (K.held sink.old) (K.held sink.new) (spaced_text word.entry)) }
@@ -68,7 +68,7 @@ fn write_words<K: Sink>(words: &[Word], sink: &mut K) -> Result<(), WriteFault>
 }
 
 /// Writes a line of words.
-pub(crate) fn write_line<K: Sink>(words: &[Word], sink: &mut K) -> Result<(), WriteFault>
+pub fn write_line<K: Sink>(words: &[Word], sink: &mut K) -> Result<(), WriteFault>
     ensures ok { OnOk result (Appends (K.held sink.old) (K.held sink.new) (line_text (map word_text words.now))) }
     ensures quiet { OnOk result (K.faults sink.new ≡ K.faults sink.old) }
     ensures front { OnErr result (AppendsFront (K.held sink.old) (K.held sink.new) (line_text (map word_text words.now))) }

@@ -111,7 +111,8 @@ fn write_processes<K: Sink>(
     Ok(())
 }
 
-fn class_word(class: ChannelClass) -> &'static [u8]
+/// The word of a channel's class.
+pub fn class_word(class: ChannelClass) -> &'static [u8]
     ensures { result.now ≡ word_of_class class }
 {
     match (class.order, class.multiplicity) {

@@ -1,0 +1,4 @@
+pub mod CertText
+pub mod Words
+pub mod Places
+pub mod Reading

@@ -1,0 +1,102 @@
+-- What the reading of a text comes to.
+use Rattle.std.specs.Prelude.{◌≡◌, ◌≢◌, ℕ, zero, suc, ◌+◌, ◌==◌, if◌then◌else◌, Option, Some, None, List, [], ◌∷◌, codes, Result, Ok, Err}
+use Rattle.std.specs.Option.{option_map}
+use Rattle.net_core.specs.declared.network.Network.{Network}
+use Rattle.net_core.specs.declared.network.Process.{Process}
+use Rattle.source_tree.specs.declared.cert.Cert.{Cert}
+use Rattle.cert_text.specs.declared.error.CertError.{CertError}
+use Rattle.cert_text.specs.declared.error.CertError.TheVariants.{Line, Number, Truncated, Memory}
+use Rattle.cert_text.specs.declared.error.Fault.{Fault}
+use Rattle.cert_text.specs.declared.error.Fault.TheVariants.{Words, Range}
+use Rattle.cert_text.specs.Words.{words_of}
+use Rattle.cert_text.specs.Places.{just, sizes_line, process_line, event_line, channel_line, source_line, entry_line}
+
+-- Lines
+
+-- the first line without its line feed, and what stands behind that; none where no line feed stands
+abbrev pub first_line : List ℕ → Option (List ℕ × List ℕ)
+first_line [] = None
+first_line (byte ∷ bytes) =
+    if byte == 10 then Some ([], bytes) else option_map (λ cut. (byte ∷ cut.0, cut.1)) (first_line bytes)
+
+-- Parts of the text
+
+-- where a part begins: the number of its first line, and the text from there on
+pub record Place : Type 0 where
+  pub line : ℕ
+  pub text : List ℕ
+
+-- what a part says and where the next one begins, or why it is refused
+abbrev pub Part : Type 0 → Type 0
+Part A = Place → Result (A × Place) CertError
+
+-- what line n says, before this text
+abbrev pub line_read : {A : Type 0} → ℕ → List ℕ → Result A Fault → Result (A × Place) CertError
+line_read n text (Ok value) = Ok (value, record { line = n + 1; text = text })
+line_read n text (Err Words) = Err (Line n)
+line_read n text (Err Range) = Err (Number n)
+
+-- one line, whose words are judged; a text without a line feed ends before it
+abbrev pub cut_read : {A : Type 0} → (List (List ℕ) → Result A Fault) → ℕ → Option (List ℕ × List ℕ) → Result (A × Place) CertError
+cut_read judge n None = Err Truncated
+cut_read judge n (Some cut) = line_read n cut.1 (judge (words_of cut.0))
+
+abbrev pub line : {A : Type 0} → (List (List ℕ) → Result A Fault) → Part A
+line judge at = cut_read judge at.line (first_line at.text)
+
+-- a part, and then one that goes by what it said
+abbrev pub followed_by : {A B : Type 0} → Result (A × Place) CertError → (A → Part B) → Result (B × Place) CertError
+followed_by (Ok found) next = next found.0 found.1
+followed_by (Err refusal) next = Err refusal
+
+-- so many parts of one kind
+unfoldable pub many : {A : Type 0} → Part A → ℕ → Part (List A)
+many part zero at = Ok ([], at)
+many part (suc count) at = followed_by (part at) (λ value at. followed_by (many part count at) (λ values at. Ok (value ∷ values, at)))
+
+-- a line of a process, and its events
+abbrev pub process : Part Process
+process at =
+    followed_by (line process_line at) (λ head at.
+    followed_by (many (line event_line) head.events at) (λ script at.
+    Ok (record { slots = head.slots; script = script }, at)))
+
+-- what is wrong with a text that goes on behind the last line of a certificate
+abbrev pub goes_on : ℕ → Option (List ℕ × List ℕ) → CertError
+goes_on n None = Truncated
+goes_on n (Some cut) = Line n
+
+-- nothing: a text that goes on is refused
+abbrev pub text_end : Part Unit
+text_end at = end_read at at.text
+  where
+    end_read : Place → List ℕ → Result (Unit × Place) CertError
+    end_read at [] = Ok (tt, at)
+    end_read at (byte ∷ bytes) = Err (goes_on at.line (first_line (byte ∷ bytes)))
+
+-- the version, the sizes, as many processes, channels, sources and entries as these say, `end`, and nothing behind it
+abbrev pub certificate : Part (Network × Cert)
+certificate at =
+    followed_by (line (just (codes "cert 1")) at) (λ version at.
+    followed_by (line sizes_line at) (λ sizes at.
+    followed_by (many process sizes.processes at) (λ processes at.
+    followed_by (many (line channel_line) sizes.channels at) (λ channels at.
+    followed_by (many (line source_line) sizes.sources at) (λ sources at.
+    followed_by (many (line entry_line) sizes.entries at) (λ schedule at.
+    followed_by (line (just (codes "end")) at) (λ last at.
+    followed_by (text_end at) (λ nothing at.
+    Ok ((record { processes = processes; channels = channels }, record { sources = sources; schedule = schedule }), at)))))))))
+
+-- what was read, without the place behind it
+abbrev pub found : {A : Type 0} → Result (A × Place) CertError → Result A CertError
+found (Ok read) = Ok read.0
+found (Err refusal) = Err refusal
+
+-- the network and the certificate of a text, or why it is refused
+unfoldable pub reading : List ℕ → Result (Network × Cert) CertError
+reading text = found (certificate (record { line = 1; text = text }))
+
+-- an answer is what the definition says, unless memory ran out
+abbrev pub Gives : {A : Type 0} → Result A CertError → Result A CertError → Type 0
+Gives (Ok value) wanted = wanted ≡ Ok value
+Gives (Err refusal) wanted = refusal ≢ Memory → wanted ≡ Err refusal

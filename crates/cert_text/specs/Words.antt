@@ -1,0 +1,70 @@
+-- The words of a line, and what each may be.
+use Rattle.std.specs.Prelude.{ℕ, ◌+◌, ◌-◌, ◌*◌, ◌==◌, ◌&&◌, ◌||◌, Bool, true, false, not, nat_le, if◌then◌else◌, List, [], ◌∷◌, bytes_eq, codes, find, fold, length, ok_or, slice_index, Result, Ok, Err}
+use Rattle.std.specs.Char.{is_ascii_digit}
+use Rattle.std.specs.List.{list_all, slice_split}
+use Rattle.channel_class.specs.declared.ChannelClass.{ChannelClass}
+use Rattle.channel_class.specs.declared.UseOrder.TheVariants.{InOrder, Reorder}
+use Rattle.net_core.specs.declared.refs.Ref.{Ref}
+use Rattle.net_core.specs.declared.refs.Ref.TheVariants.{Zero, Slot}
+use Rattle.net_text.specs.NetworkText.{class_word}
+use Rattle.cert_text.specs.declared.error.Fault.{Fault}
+use Rattle.cert_text.specs.declared.error.Fault.TheVariants.{Words, Range}
+
+-- the words of a line: what stands between its spaces
+abbrev pub words_of : List ℕ → List (List ℕ)
+words_of line = slice_split (λ byte. byte == 32) line
+
+-- What is judged together: both values, or what is wrong. Wrong words are told before numbers out of range.
+abbrev pub both : {A B : Type 0} → Result A Fault → Result B Fault → Result (A × B) Fault
+both (Ok a) (Ok b) = Ok (a, b)
+both (Ok a) (Err fault) = Err fault
+both (Err Words) b = Err Words
+both (Err Range) (Err Words) = Err Words
+both (Err Range) (Err Range) = Err Range
+both (Err Range) (Ok b) = Err Range
+
+-- what a value makes of another
+abbrev pub made : {A B : Type 0} → (A → B) → Result A Fault → Result B Fault
+made f (Ok a) = Ok (f a)
+made f (Err fault) = Err fault
+
+-- Numbers
+
+-- decimal digits, at least one, and no zero before another
+abbrev pub is_numeral : List ℕ → Bool
+is_numeral word = not (length word == 0) && list_all is_ascii_digit word && (not (slice_index word 0 == 48) || (length word == 1))
+
+abbrev pub numeral_value : List ℕ → ℕ
+numeral_value digits = fold (λ value digit. value * 10 + (digit - 48)) 0 digits
+
+-- a `-` and a numeral other than 0
+abbrev pub is_negative : List ℕ → Bool
+is_negative [] = false
+is_negative (byte ∷ word) = (byte == 45) && is_numeral word && not (bytes_eq word (codes "0"))
+
+-- a number within 0 to 4,294,967,295
+abbrev pub number : List ℕ → Result ℕ Fault
+number word =
+    if is_numeral word then (if nat_le (numeral_value word) 4294967295 then Ok (numeral_value word) else Err Range)
+    else if is_negative word then Err Range
+    else Err Words
+
+-- The other words
+
+-- `z` for no token, or the number of a slot
+abbrev pub reference : List ℕ → Result Ref Fault
+reference word = if bytes_eq word (codes "z") then Ok Zero else made Slot (number word)
+
+-- each of these words
+abbrev pub references : List (List ℕ) → Result (List Ref) Fault
+references [] = Ok []
+references (word ∷ words) = made (λ refs. refs.0 ∷ refs.1) (both (reference word) (references words))
+
+abbrev pub classes : List ChannelClass
+classes =
+    record { order = InOrder; multiplicity = false } ∷ record { order = InOrder; multiplicity = true }
+    ∷ record { order = Reorder; multiplicity = false } ∷ record { order = Reorder; multiplicity = true } ∷ []
+
+-- the class that has this word
+abbrev pub class : List ℕ → Result ChannelClass Fault
+class word = ok_or (find (λ class. bytes_eq (class_word class) word) classes) Words

@@ -1,0 +1,36 @@
+use std::alloc::AllocError;
+
+/// Why a text isn't that of a network with its certificate. Lines count from 1.
+///
+/// The first line with a fault decides.
+#[derive(Clone, Copy, Debug, PartialEq, Eq)]
+pub enum CertError {
+    /// This line has not the words that its place wants, or stands behind `end`.
+    Line(u64),
+    /// This line has the right words, with a number out of its range.
+    Number(u64),
+    /// The text ends before `end`, or within a line.
+    Truncated,
+    /// Want of memory.
+    Memory,
+}
+
+impl From<AllocError> for CertError {
+    ghost use Rattle.std.specs.Prelude.{◌≡◌};
+    ghost use Rattle.cert_text.specs.declared.error.CertError.TheVariants.{Memory};
+
+    ghost from_gives = { λ _ error. error ≡ Memory };
+
+    fn from(_failed: AllocError) -> CertError {
+        CertError::Memory
+    }
+}
+
+/// What is wrong with a line, whatever its number. Where both are, it is its words.
+#[derive(Clone, Copy, Debug, PartialEq, Eq)]
+pub(crate) enum Fault {
+    /// It has not the words that its place wants.
+    Words,
+    /// It has them, with a number out of its range.
+    Range,
+}

@@ -29,11 +29,13 @@ event_words (Put channel) = codes "p" ∷ decimal channel ∷ []
 abbrev pub event_text : Event → List ℕ
 event_text event = line_text (event_words event)
 
--- a process with its numbers of slots and of events, and then its events
+-- a process with its numbers of slots and of events
+abbrev pub process_head : Process → List ℕ
+process_head process = line_text (codes "process" ∷ decimal process.slots ∷ decimal (length process.script) ∷ [])
+
+-- the same, and then its events
 abbrev pub process_text : Process → List ℕ
-process_text process =
-    line_text (codes "process" ∷ decimal process.slots ∷ decimal (length process.script) ∷ [])
-    ++ flat_map event_text process.script
+process_text process = process_head process ++ flat_map event_text process.script
 
 -- Channels
 
@@ -54,14 +56,18 @@ entry_text process = line_text (decimal process ∷ [])
 
 -- The text
 
--- the version of the text, and how many processes, channels, sources and entries follow
+-- the version of the text
 abbrev pub head_text : List ℕ
 head_text = line_text (codes "cert" ∷ codes "1" ∷ [])
 
+-- how many processes, channels, sources and entries follow
 abbrev pub sizes_text : Network → Cert → List ℕ
 sizes_text network cert = line_text (
     codes "sizes" ∷ decimal (length network.processes) ∷ decimal (length network.channels) ∷ decimal (length cert.sources)
     ∷ decimal (length cert.schedule) ∷ [])
+
+abbrev pub end_text : List ℕ
+end_text = line_text (codes "end" ∷ [])
 
 abbrev pub cert_text : Network → Cert → List ℕ
 cert_text network cert =
@@ -71,7 +77,7 @@ cert_text network cert =
     ++ (flat_map channel_text network.channels
     ++ (flat_map source_text cert.sources
     ++ (flat_map entry_text cert.schedule
-    ++ line_text (codes "end" ∷ []))))))
+    ++ end_text)))))
 
 -- Which pairs have a text that can be read: each number is at most 4,294,967,295, and a fire has at most eight references.
 

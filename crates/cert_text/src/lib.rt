@@ -3,5 +3,9 @@
 
 mod error;
 mod places;
+#[cfg(test)]
+mod tests;
+mod writing;
 
 pub use error::CertError;
+pub use writing::write_cert;

@@ -1,2 +1,7 @@
+pub mod Counted
+pub mod Cuts
+pub mod Found
+pub mod Many
 pub mod Pieces
+pub mod References
 pub mod Worked

@@ -1,6 +1,6 @@
 -- What the reading of a text comes to.
-use Rattle.std.specs.Prelude.{◌≡◌, ◌≢◌, ℕ, zero, suc, ◌+◌, ◌==◌, if◌then◌else◌, Option, Some, None, List, [], ◌∷◌, codes, Result, Ok, Err}
-use Rattle.std.specs.Option.{option_map}
+use Rattle.std.specs.Prelude.{◌≡◌, ◌≢◌, ℕ, zero, suc, ◌+◌, Option, Some, None, List, [], ◌∷◌, codes, Result, Ok, Err, refl}
+use Rattle.std.specs.Coded.{Coded, code_by, coded×, coded_ℕ, coded_list}
 use Rattle.net_core.specs.declared.network.Network.{Network}
 use Rattle.net_core.specs.declared.network.Process.{Process}
 use Rattle.source_tree.specs.declared.cert.Cert.{Cert}
@@ -8,16 +8,13 @@ use Rattle.cert_text.specs.declared.error.CertError.{CertError}
 use Rattle.cert_text.specs.declared.error.CertError.TheVariants.{Line, Number, Truncated, Memory}
 use Rattle.cert_text.specs.declared.error.Fault.{Fault}
 use Rattle.cert_text.specs.declared.error.Fault.TheVariants.{Words, Range}
-use Rattle.cert_text.specs.Words.{words_of}
+use Rattle.cert_text.specs.declared.places.Sizes.{Sizes}
+use Rattle.cert_text.specs.Words.{cut_at, words_of}
 use Rattle.cert_text.specs.Places.{just, sizes_line, process_line, event_line, channel_line, source_line, entry_line}
-
--- Lines
 
 -- the first line without its line feed, and what stands behind that; none where no line feed stands
 abbrev pub first_line : List ℕ → Option (List ℕ × List ℕ)
-first_line [] = None
-first_line (byte ∷ bytes) =
-    if byte == 10 then Some ([], bytes) else option_map (λ cut. (byte ∷ cut.0, cut.1)) (first_line bytes)
+first_line text = cut_at 10 text
 
 -- Parts of the text
 
@@ -61,7 +58,21 @@ process at =
     followed_by (many (line event_line) head.events at) (λ script at.
     Ok (record { slots = head.slots; script = script }, at)))
 
--- what is wrong with a text that goes on behind the last line of a certificate
+-- as many processes and channels as the sizes say
+abbrev pub network : Sizes → Part Network
+network sizes at =
+    followed_by (many process sizes.processes at) (λ processes at.
+    followed_by (many (line channel_line) sizes.channels at) (λ channels at.
+    Ok (record { processes = processes; channels = channels }, at)))
+
+-- as many sources and entries of the schedule as the sizes say
+abbrev pub certificate : Sizes → Part Cert
+certificate sizes at =
+    followed_by (many (line source_line) sizes.sources at) (λ sources at.
+    followed_by (many (line entry_line) sizes.entries at) (λ schedule at.
+    Ok (record { sources = sources; schedule = schedule }, at)))
+
+-- what is wrong with a text that goes on behind its last line
 abbrev pub goes_on : ℕ → Option (List ℕ × List ℕ) → CertError
 goes_on n None = Truncated
 goes_on n (Some cut) = Line n
@@ -74,18 +85,16 @@ text_end at = end_read at at.text
     end_read at [] = Ok (tt, at)
     end_read at (byte ∷ bytes) = Err (goes_on at.line (first_line (byte ∷ bytes)))
 
--- the version, the sizes, as many processes, channels, sources and entries as these say, `end`, and nothing behind it
-abbrev pub certificate : Part (Network × Cert)
-certificate at =
+-- the version, the sizes, the network, the certificate, `end`, and nothing behind it
+abbrev pub whole_text : Part (Network × Cert)
+whole_text at =
     followed_by (line (just (codes "cert 1")) at) (λ version at.
     followed_by (line sizes_line at) (λ sizes at.
-    followed_by (many process sizes.processes at) (λ processes at.
-    followed_by (many (line channel_line) sizes.channels at) (λ channels at.
-    followed_by (many (line source_line) sizes.sources at) (λ sources at.
-    followed_by (many (line entry_line) sizes.entries at) (λ schedule at.
+    followed_by (network sizes at) (λ network at.
+    followed_by (certificate sizes at) (λ cert at.
     followed_by (line (just (codes "end")) at) (λ last at.
     followed_by (text_end at) (λ nothing at.
-    Ok ((record { processes = processes; channels = channels }, record { sources = sources; schedule = schedule }), at)))))))))
+    Ok ((network, cert), at)))))))
 
 -- what was read, without the place behind it
 abbrev pub found : {A : Type 0} → Result (A × Place) CertError → Result A CertError
@@ -94,7 +103,16 @@ found (Err refusal) = Err refusal
 
 -- the network and the certificate of a text, or why it is refused
 unfoldable pub reading : List ℕ → Result (Network × Cert) CertError
-reading text = found (certificate (record { line = 1; text = text }))
+reading text = found (whole_text (record { line = 1; text = text }))
+
+-- a place is stored as its line and its text
+abbrev pub place_code : Coded Place
+place_code = code_by (ℕ × List ℕ) (coded× coded_ℕ (coded_list coded_ℕ)) (λ at. (at.line, at.text)) (λ pair. record { line = pair.0; text = pair.1 }) (λ _. refl)
+
+-- what a part answers and the place that it leaves are what the definition says, unless memory ran out
+abbrev pub Reads : {A : Type 0} → Result A CertError → Place → Result (A × Place) CertError → Type 0
+Reads (Ok value) at wanted = wanted ≡ Ok (value, at)
+Reads (Err refusal) at wanted = refusal ≢ Memory → wanted ≡ Err refusal
 
 -- an answer is what the definition says, unless memory ran out
 abbrev pub Gives : {A : Type 0} → Result A CertError → Result A CertError → Type 0

@@ -1,7 +1,8 @@
--- The words of a line, and what each may be.
-use Rattle.std.specs.Prelude.{ℕ, ◌+◌, ◌-◌, ◌*◌, ◌==◌, ◌&&◌, ◌||◌, Bool, true, false, not, nat_le, if◌then◌else◌, List, [], ◌∷◌, bytes_eq, codes, find, fold, length, ok_or, slice_index, Result, Ok, Err}
+-- Lines, their words, and what a word may be.
+use Rattle.std.specs.Prelude.{ℕ, ◌+◌, ◌-◌, ◌*◌, ◌==◌, ◌&&◌, ◌||◌, Bool, true, false, not, nat_le, if◌then◌else◌, Option, Some, None, List, [], ◌∷◌, bytes_eq, codes, find, fold, length, ok_or, slice_index, Result, Ok, Err}
 use Rattle.std.specs.Char.{is_ascii_digit}
 use Rattle.std.specs.List.{list_all, slice_split}
+use Rattle.std.specs.Option.{option_map}
 use Rattle.channel_class.specs.declared.ChannelClass.{ChannelClass}
 use Rattle.channel_class.specs.declared.UseOrder.TheVariants.{InOrder, Reorder}
 use Rattle.net_core.specs.declared.refs.Ref.{Ref}
@@ -9,6 +10,12 @@ use Rattle.net_core.specs.declared.refs.Ref.TheVariants.{Zero, Slot}
 use Rattle.net_text.specs.NetworkText.{class_word}
 use Rattle.cert_text.specs.declared.error.Fault.{Fault}
 use Rattle.cert_text.specs.declared.error.Fault.TheVariants.{Words, Range}
+
+-- what stands before the first such byte, and what stands behind it; none where no such byte stands
+abbrev pub cut_at : ℕ → List ℕ → Option (List ℕ × List ℕ)
+cut_at wanted [] = None
+cut_at wanted (byte ∷ bytes) =
+    if byte == wanted then Some ([], bytes) else option_map (λ cut. (byte ∷ cut.0, cut.1)) (cut_at wanted bytes)
 
 -- the words of a line: what stands between its spaces
 abbrev pub words_of : List ℕ → List (List ℕ)

@@ -1,4 +1,4 @@
-use crate::write_cert;
+use crate::{CertError, read_cert, write_cert};
 use channel_class::{ChannelClass, UseOrder};
 use io_edge::{MemSink, WriteFault};
 use net_core::{Channel, Event, Network, Process, Ref, Refs};
@@ -119,5 +119,146 @@ fn a_sink_that_fails_midway_holds_a_front(rt: HostRuntime) -> Result<(), Fail> {
         assert_eq!(rt; write_cert(&network, &cert, &mut sink), Err(WriteFault));
         assert_eq!(rt; sink.held(), &TEXT[..room]);
     }
+    Ok(())
+}
+
+/// The text of a pair that was read.
+fn written_again(alloc: Global, text: &[u8], network: &Network, cert: &Cert) -> Result<bool, Fail> {
+    let mut sink = MemSink::new(alloc, text.len(), text.len(), &[])?;
+    if write_cert(network, cert, &mut sink).is_err() {
+        return Err(Fail::from("no room"));
+    }
+    Ok(sink.held() == text)
+}
+
+/// Why a text is refused, or `None` where it is read and what was read has this text again.
+fn refusal(alloc: Global, text: &[u8]) -> Result<Option<CertError>, Fail> {
+    match read_cert(alloc, text) {
+        Ok((network, cert)) => {
+            if written_again(alloc, text, &network, &cert)? {
+                Ok(None)
+            } else {
+                Err(Fail::from("another text"))
+            }
+        }
+        Err(error) => Ok(Some(error)),
+    }
+}
+
+/// The text of the first network, with another line in place of the line of this number.
+fn with_line(alloc: Global, number: usize, line: &[u8]) -> Result<Vec<u8>, AllocError> {
+    let mut text = Vec::new(alloc);
+    let mut count = 0;
+    for old in TEXT.split(|byte| *byte == b'\n') {
+        count += 1;
+        if count == number {
+            text.extend_from_slice(line)?;
+        } else if count <= 24 {
+            text.extend_from_slice(old)?;
+            text.push(b'\n')?;
+        }
+    }
+    Ok(text)
+}
+
+#[test]
+fn what_was_written_reads_back(rt: HostRuntime) -> Result<(), Fail> {
+    let alloc = rt.alloc();
+    let (network, cert) = match read_cert(alloc, TEXT) {
+        Ok(pair) => pair,
+        Err(_) => return Err(Fail::from("refused")),
+    };
+    assert!(rt; written_again(alloc, TEXT, &network, &cert)?);
+    assert_eq!(rt; cert.schedule.as_slice(), [0, 0, 1, 1, 1, 2, 2].as_slice());
+    assert_eq!(rt; cert.sources.len(), 2);
+    assert_eq!(rt; network.channels.len(), 2);
+    let slots = [0, 1, 1];
+    let scripts: [&[Event]; 3] = [
+        &[first_fire(), put(0)],
+        &[get(0, 0), fire(), put(1)],
+        &[get(1, 0), fire()],
+    ];
+    assert_eq!(rt; network.processes.len(), 3);
+    for (process, (slots, script)) in network
+        .processes
+        .as_slice()
+        .iter()
+        .zip(slots.iter().zip(scripts.iter()))
+    {
+        assert_eq!(rt; process.slots, *slots);
+        assert!(rt; process.script.as_slice() == *script);
+    }
+    Ok(())
+}
+
+#[test]
+fn a_changed_line_is_refused_by_its_number(rt: HostRuntime) -> Result<(), Fail> {
+    // The number of the line, what stands in its place, and what the text then comes to.
+    let cases: [(usize, &[u8], Option<CertError>); 29] = [
+        (1, b"cert 3\n", Some(CertError::Line(1))),
+        (1, b"cert  1\n", Some(CertError::Line(1))),
+        (1, b"cert 1\r\n", Some(CertError::Line(1))),
+        (1, b" cert 1\n", Some(CertError::Line(1))),
+        (2, b"sizes 3 2 2 4294967296\n", Some(CertError::Number(2))),
+        (2, b"sizes 3 2 2 4294967295\n", Some(CertError::Line(24))),
+        (2, b"sizes 3 2 2 8\n", Some(CertError::Line(24))),
+        (2, b"sizes 3 2 2 6\n", Some(CertError::Line(23))),
+        (2, b"sizes 3 2 2\n", Some(CertError::Line(2))),
+        (2, b"sizes 3 2 2 7 0\n", Some(CertError::Line(2))),
+        (2, b"sizes 4294967296 2 2 x\n", Some(CertError::Line(2))),
+        (3, b"process 0 02\n", Some(CertError::Line(3))),
+        (3, b"process -0 2\n", Some(CertError::Line(3))),
+        (3, b"process +1 2\n", Some(CertError::Line(3))),
+        (3, b"process -5 2\n", Some(CertError::Number(3))),
+        (3, b"process 00 2\n", Some(CertError::Line(3))),
+        (
+            3,
+            b"process 99999999999999999999999999 2\n",
+            Some(CertError::Number(3)),
+        ),
+        (3, b"process 4294967295 2\n", None),
+        (4, b"f 0 1 2 3 4 5 z z\n", None),
+        (4, b"f 0 1 2 3 4 5 z z z\n", Some(CertError::Line(4))),
+        (4, b"f 4294967296 y\n", Some(CertError::Line(4))),
+        (4, b"f 4294967296 z\n", Some(CertError::Number(4))),
+        (4, b"f \n", Some(CertError::Line(4))),
+        (5, b"p 0 0\n", Some(CertError::Line(5))),
+        (13, b"channel 0 1 0 1 reorder+\n", None),
+        (
+            13,
+            b"channel 0 1 0 1 inorder++\n",
+            Some(CertError::Line(13)),
+        ),
+        (15, b"tree\n", Some(CertError::Line(15))),
+        (24, b"", Some(CertError::Truncated)),
+        (24, b"end\nend\n", Some(CertError::Line(25))),
+    ];
+    for (number, line, want) in cases {
+        let text = with_line(rt.alloc(), number, line)?;
+        assert_eq!(rt; refusal(rt.alloc(), &text)?, want, "{number} {line:?}");
+    }
+    Ok(())
+}
+
+#[test]
+fn a_text_that_is_cut_short_is_truncated(rt: HostRuntime) -> Result<(), Fail> {
+    for len in 0..TEXT.len() {
+        assert_eq!(rt;
+            refusal(rt.alloc(), &TEXT[..len])?,
+            Some(CertError::Truncated),
+            "{len}"
+        );
+    }
+    // A line without its line feed isn't judged.
+    assert_eq!(rt; refusal(rt.alloc(), b"x")?, Some(CertError::Truncated));
+    let text = with_line(rt.alloc(), 24, b"end\nx")?;
+    assert_eq!(rt; refusal(rt.alloc(), &text)?, Some(CertError::Truncated));
+    assert_eq!(rt; refusal(rt.alloc(), b"\n")?, Some(CertError::Line(1)));
+    Ok(())
+}
+
+#[test]
+fn an_empty_network_has_three_lines(rt: HostRuntime) -> Result<(), Fail> {
+    assert_eq!(rt; refusal(rt.alloc(), b"cert 1\nsizes 0 0 0 0\nend\n")?, None);
     Ok(())
 }

@@ -1,0 +1,72 @@
+ghost use Rattle.std.specs.Prelude.{◌≡◌, IfOk};
+ghost use Rattle.cert_text.specs.Reading.{Gives, Reads, certificate as certificate_part, many, network as network_part, process as process_part, reading, whole_text};
+
+use crate::error::CertError;
+use crate::lines::Lines;
+use crate::places::{ProcessHead, Sizes};
+use net_core::{Network, Process};
+use plain_data::Items;
+use source_tree::Cert;
+use std::alloc::Global;
+
+fn read_process(alloc: Global, lines: &mut Lines) -> Result<Process, CertError>
+    ensures { Reads result lines.new (process_part lines.old) }
+{
+    let head: ProcessHead = lines.read()?;
+    let script = lines.read_many(alloc, head.events)?;
+    Ok(Process {
+        slots: head.slots,
+        script,
+    })
+}
+
+fn read_processes(alloc: Global, count: u32, lines: &mut Lines) -> Result<Items<Process>, CertError>
+    ensures { Reads result lines.new (many process_part count lines.old) }
+{
+    let mut processes = Items::new(alloc);
+    for _ in 0..count {
+        processes.push(read_process(alloc, lines)?)?;
+    }
+    Ok(processes)
+}
+
+fn read_network(alloc: Global, sizes: Sizes, lines: &mut Lines) -> Result<Network, CertError>
+    ensures { Reads result lines.new (network_part sizes lines.old) }
+{
+    let processes = read_processes(alloc, sizes.processes, lines)?;
+    let channels = lines.read_many(alloc, sizes.channels)?;
+    Ok(Network {
+        processes,
+        channels,
+    })
+}
+
+fn read_certificate(alloc: Global, sizes: Sizes, lines: &mut Lines) -> Result<Cert, CertError>
+    ensures { Reads result lines.new (certificate_part sizes lines.old) }
+{
+    let sources = lines.read_many(alloc, sizes.sources)?;
+    let schedule = lines.read_many(alloc, sizes.entries)?;
+    Ok(Cert { sources, schedule })
+}
+
+fn read_whole(alloc: Global, lines: &mut Lines) -> Result<(Network, Cert), CertError>
+    ensures { Reads result lines.new (whole_text lines.old) }
+{
+    lines.expect(b"cert 1")?;
+    let sizes = lines.read()?;
+    let network = read_network(alloc, sizes, lines)?;
+    let cert = read_certificate(alloc, sizes, lines)?;
+    lines.expect(b"end")?;
+    lines.end()?;
+    Ok((network, cert))
+}
+
+/// Reads the text of a network with its certificate.
+///
+/// The lists grow with the lines that come, so a count that a text announces takes no memory by itself.
+pub fn read_cert(alloc: Global, bytes: &[u8]) -> Result<(Network, Cert), CertError>
+    ensures exact { Gives result (reading bytes.now) }
+{
+    let mut lines = Lines::new(bytes);
+    read_whole(alloc, &mut lines)
+}

@@ -148,12 +148,10 @@ fn refusal(alloc: Global, text: &[u8]) -> Result<Option<CertError>, Fail> {
 /// The text of the first network, with another line in place of the line of this number.
 fn with_line(alloc: Global, number: usize, line: &[u8]) -> Result<Vec<u8>, AllocError> {
     let mut text = Vec::new(alloc);
-    let mut count = 0;
-    for old in TEXT.split(|byte| *byte == b'\n') {
-        count += 1;
-        if count == number {
+    for (at, old) in TEXT.split(|byte| *byte == b'\n').enumerate() {
+        if at + 1 == number {
             text.extend_from_slice(line)?;
-        } else if count <= 24 {
+        } else if at < 24 {
             text.extend_from_slice(old)?;
             text.push(b'\n')?;
         }

@@ -1,5 +1,11 @@
+pub mod ClapCommand
+pub mod ClapRows
+pub mod ClapSteps
+pub mod ClapWalk
+pub mod ClapWords
 pub mod Digits
 pub mod Lines
 pub mod Positions
-pub mod Splits
+pub mod Refusals
+pub mod WordCases
 pub mod Worked

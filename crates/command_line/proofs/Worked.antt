@@ -1,8 +1,8 @@
 -- The definitions at some words.
-use Rattle.std.proofs.Common.{◌≡◌, refl, codes, List, [], ◌∷◌, Option, Some, None, pos, neg_ℤ}
+use Rattle.std.proofs.Common.{◌≡◌, refl, codes, [], ◌∷◌, Some, None, pos, neg_ℤ}
 use Rattle.witness_plan.specs.declared.schedules.Policy.TheVariants as policy
 use Rattle.command_line.specs.declared.words.Command.TheVariants.{Run, Cert}
-use Rattle.command_line.specs.Words.{Split, order_of, split_words}
+use Rattle.command_line.specs.Words.{order_of, split_words}
 
 splits_off_items_and_policies : split_words (codes "cert" ∷ codes "--policy" ∷ codes "down" ∷ codes "N=-2" ∷ []) ≡ Some (record { items = codes "cert" ∷ codes "N=-2" ∷ []; policies = codes "down" ∷ [] })
 splits_off_items_and_policies = refl

@@ -1,3 +1,4 @@
 pub mod Bundle
 pub mod Complaint
+pub mod Matches
 pub mod Words

@@ -1,11 +1,16 @@
-ghost use Rattle.std.specs.Prelude.{◌≡◌, ◌<◌, ◌^◌, ◌≤◌, ◌==◌, ◌++◌, ◌∷◌, ℕ, List, [], true, length, position, IfOk, OnOk, IfSome, IsErrOf, Some, None, map, string_bytes, option_copied, if◌then◌else◌};
+ghost use Rattle.std.specs.Prelude.{◌≡◌, ◌<◌, ◌^◌, ◌≤◌, ◌≢◌, ◌==◌, ◌∷◌, ℕ, List, [], true, length, position, IfOk, IfErr, OnOk, IfSome, IsErrOf, Some, None, map, string_bytes};
 ghost use Rattle.std.specs.Char.{is_ascii_digit};
 ghost use Rattle.std.specs.List.{list_all};
 ghost use Rattle.std.specs.Option.{option_map};
 ghost use Rattle.std.specs.Str.Parse.{digits_value};
-ghost use Rattle.command_line.specs.Words.{command_of, has_policy_value, is_end_of_options, is_option, is_policy_option, number_of, order_of, order_of_items, order_of_split, param_of, params_with, policy_named, policy_of, policy_value, split_words, value_of};
-ghost use Rattle.command_line.specs.declared.words.WordsError.TheVariants.{Memory};
+ghost use Rattle.clap.specs.Words.{found_of, kind_of};
+ghost use Rattle.clap.specs.declared.error.kind.ErrorKind.TheVariants.{OutOfMemory};
+ghost use Rattle.command_line.specs.Matches.{split_found};
+ghost use Rattle.command_line.specs.Words.{command_of, number_of, order_of, order_of_items, order_of_split, param_of, params_with, policy_named, policy_of, value_of};
+ghost use Rattle.command_line.specs.declared.words.WordsError.TheVariants.{Memory, Words};
 
+use clap::error::ErrorKind;
+use clap::{Arg, ArgAction, ArgMatches, Error};
 use loop_class::Params;
 use loop_lex::is_name;
 use std::alloc::{AllocError, AllocFailed, Global};
@@ -59,85 +64,33 @@ impl<T: Drop> From<AllocFailed<T>> for WordsError {
     }
 }
 
-fn is_end_of_options(word: &[u8]) -> bool
-    ensures { result ≡ is_end_of_options word.now }
-{
-    word == b"--".as_slice()
-}
+impl From<Error> for WordsError {
+    ghost from_gives = { λ error e. e ≡ Words → kind_of error ≢ OutOfMemory };
 
-fn is_option(word: &[u8]) -> bool
-    ensures { result ≡ is_option word.now }
-{
-    match word {
-        [first, rest @ ..] => *first == b'-' && !rest.is_empty(),
-        [] => false,
+    fn from(error: Error) -> WordsError {
+        match error.kind() {
+            ErrorKind::OutOfMemory => WordsError::Memory,
+            _ => WordsError::Words,
+        }
     }
 }
 
-fn with_words<'a>(
-    mut items: Vec<&'a [u8]>,
-    words: &'a [String],
-) -> Result<Vec<&'a [u8]>, AllocError>
-    ensures { IfOk result (λ all. map (λ item. item.now) all.items ≡ map (λ item. item.now) items.entry.items ++ map string_bytes words.now) }
+/// The words as `clap` reads them: the option `--policy`, which takes one value, and the items.
+fn matches_of<'a>(alloc: Global, words: &'a [String]) -> Result<ArgMatches<'a>, Error>
+    ensures ok { IfOk result (λ matches. order_of (map string_bytes words.entry.now) ≡ order_of_split (split_found (found_of matches))) }
+    ensures refused { IfErr result (λ error. kind_of error ≢ OutOfMemory → order_of (map string_bytes words.entry.now) ≡ None) }
 {
-    for word in words {
-        items.push(word.as_bytes())?;
-    }
-    Ok(items)
-}
-
-fn is_policy_option(word: &[u8]) -> bool
-    ensures { result ≡ is_policy_option word.now }
-{
-    word == b"--policy".as_slice()
-}
-
-fn policy_value(word: &[u8]) -> Option<&[u8]>
-    ensures { option_copied result ≡ if has_policy_value word.now then Some (policy_value word.now) else None }
-{
-    word.strip_prefix(b"--policy=".as_slice())
-}
-
-#[derive(Drop)]
-struct Split<'a> {
-    items: Vec<&'a [u8]>,
-    policies: Vec<&'a [u8]>,
-}
-
-fn split_words<'a>(alloc: Global, words: &'a [String]) -> Result<Split<'a>, WordsError>
-    ensures ok { IfOk result (λ split. split_words (map string_bytes words.now) ≡ Some (record { items = map (λ item. item.now) split.items.items; policies = map (λ value. value.now) split.policies.items })) }
-    ensures refused { IsErrOf result WordsError.Words → split_words (map string_bytes words.now) ≡ None }
-{
-    let mut items = Vec::new(alloc);
-    let mut policies = Vec::new(alloc);
-    let mut rest = words;
-    while let [word, later @ ..] = rest {
-        let word = word.as_bytes();
-        rest = later;
-        if is_end_of_options(word) {
-            return Ok(Split {
-                items: with_words(items, rest)?,
-                policies,
-            });
-        }
-        if is_policy_option(word) {
-            let [value, later @ ..] = rest else {
-                return Err(WordsError::Words);
-            };
-            policies.push(value.as_bytes())?;
-            rest = later;
-            continue;
-        }
-        if let Some(value) = policy_value(word) {
-            policies.push(value)?;
-            continue;
-        }
-        if is_option(word) {
-            return Err(WordsError::Words);
-        }
-        items.push(word)?;
-    }
-    Ok(Split { items, policies })
+    let policy = Arg::new(alloc, "policy")
+        .long("policy")
+        .action(ArgAction::Set);
+    let items = Arg::new(alloc, "items").action(ArgAction::Append);
+    let command = clap::Command::new(alloc, "compaan")
+        .no_binary_name(true)
+        .disable_help_flag(true)
+        .disable_version_flag(true)
+        .arg(policy)?
+        .arg(items)?;
+    command.try_get_matches_from(words)
 }
 
 fn has_digits(text: &[u8]) -> bool
@@ -215,13 +168,13 @@ fn add_param(params: &mut Params, item: &[u8]) -> Result<(), WordsError>
     Ok(())
 }
 
-fn params_of(alloc: Global, items: &[&[u8]]) -> Result<Params, WordsError>
+fn params_of(alloc: Global, items: &[&str]) -> Result<Params, WordsError>
     ensures ok { IfOk result (λ params. params_with [] (map (λ item. item.now) items.now) ≡ Some params) }
     ensures refused { IsErrOf result WordsError.Words → params_with [] (map (λ item. item.now) items.now) ≡ None }
 {
     let mut params = Params::empty(alloc);
     for item in items {
-        add_param(&mut params, item)?;
+        add_param(&mut params, item.as_bytes())?;
     }
     Ok(params)
 }
@@ -256,24 +209,23 @@ fn policy_named(value: &[u8]) -> Option<Policy>
     }
 }
 
-fn policy_of(values: &[&[u8]]) -> Option<Policy>
-    ensures { result ≡ policy_of (map (λ value. value.now) values.now) }
+fn policy_of(matches: &ArgMatches<'_>) -> Option<Policy>
+    ensures { result ≡ policy_of (split_found (found_of matches.now)).policies }
 {
-    match values {
-        [] => Some(Policy::Seq),
-        [value] => policy_named(value),
-        _ => None,
+    match matches.get_str("policy") {
+        Some(value) => policy_named(value.as_bytes()),
+        None => Some(Policy::Seq),
     }
 }
 
-fn order_of_items(alloc: Global, policy: Policy, items: &[&[u8]]) -> Result<Order, WordsError>
+fn order_of_items(alloc: Global, policy: Policy, items: &[&str]) -> Result<Order, WordsError>
     ensures ok { IfOk result (λ order. order_of_items policy (map (λ item. item.now) items.now) ≡ Some order) }
     ensures refused { IsErrOf result WordsError.Words → order_of_items policy (map (λ item. item.now) items.now) ≡ None }
 {
     let [word, rest @ ..] = items else {
         return Err(WordsError::Words);
     };
-    let Some(command) = command_of(word) else {
+    let Some(command) = command_of(word.as_bytes()) else {
         return Err(WordsError::Words);
     };
     Ok(Order {
@@ -292,9 +244,12 @@ pub fn read_words(alloc: Global, words: &[String]) -> Result<Order, WordsError>
     ensures ok { IfOk result (λ order. order_of (map string_bytes words.now) ≡ Some order) }
     ensures refused { IsErrOf result WordsError.Words → order_of (map string_bytes words.now) ≡ None }
 {
-    let split = split_words(alloc, words)?;
-    let Some(policy) = policy_of(split.policies.as_slice()) else {
+    let matches = matches_of(alloc, words)?;
+    let Some(policy) = policy_of(&matches) else {
         return Err(WordsError::Words);
     };
-    order_of_items(alloc, policy, split.items.as_slice())
+    let Some(items) = matches.get_raw("items") else {
+        return Err(WordsError::Words);
+    };
+    order_of_items(alloc, policy, items)
 }

@@ -5,6 +5,7 @@
 #![tactic(auto)]
 
 mod edge;
+mod gate;
 mod memory;
 mod reading;
 mod streams;
@@ -13,6 +14,7 @@ mod tests;
 mod writing;
 
 pub use edge::{Failed, Sink, Source};
+pub use gate::{Gate, Open};
 pub use memory::{MemSink, MemSource};
 pub use reading::{ReadError, read_all};
 pub use streams::{StdIn, StdOut};

@@ -1,0 +1,11 @@
+//! What one process of a network does, over its ends.
+//!
+//! A process makes the events of its script in order: it gets from its ends, fires and puts to them. What it keeps and what
+//! it puts follow from the streams of its channels alone, whatever the order of events between the processes.
+#![tactic(auto)]
+
+mod node;
+mod room;
+
+pub use node::run_node;
+pub use room::Room;

@@ -1,0 +1,60 @@
+-- The line that the checker's answer is told by.
+use Rattle.std.specs.Prelude.{ℕ, ℤ, List, [], ◌∷◌, ◌++◌, Option, Some, None, codes, decimal, map}
+use Rattle.std.specs.Fmt.{signed_decimal}
+use Rattle.std.specs.List.{join_with_byte}
+use Rattle.cert_text.specs.declared.error.CertError.{CertError}
+use Rattle.cert_text.specs.declared.error.CertError.TheVariants as error
+use Rattle.net_checker.specs.declared.verdict.Refusal.{Refusal}
+use Rattle.net_checker.specs.declared.verdict.Refusal.TheVariants.{Shape, Fires, NotEnabled, Tag, Unended, Class}
+use Rattle.net_checker.specs.declared.verdict.Seen.{Seen}
+use Rattle.net_checker.specs.declared.verdict.Seen.TheVariants as seen
+use Rattle.net_checker.specs.declared.verdict.Verdict.{Verdict}
+use Rattle.net_checker.specs.declared.verdict.Verdict.TheVariants.{Accepted, Refused}
+use Rattle.net_checker.specs.declared.verdict.Wanted.{Wanted}
+use Rattle.net_checker.specs.declared.verdict.Wanted.TheVariants as wanted
+use Rattle.net_text.specs.Lines.{line_text}
+use Rattle.net_text.specs.NetworkText.{class_word}
+use Rattle.sanlp.specs.declared.nest.Point.{Point}
+
+-- the loop values with commas between them
+abbrev pub values_text : List ℤ → List ℕ
+values_text values = join_with_byte 44 (map signed_decimal values)
+
+-- a point is its process number and its loop values in parentheses, as 1(2,3)
+abbrev pub point_text : Point → List ℕ
+point_text point = decimal point.statement ++ (codes "(" ++ (values_text point.at ++ codes ")"))
+
+-- what a reference names
+abbrev pub seen_word : Seen → List ℕ
+seen_word seen.Zero = codes "zero"
+seen_word seen.Empty = codes "empty"
+seen_word (seen.At point) = point_text point
+
+-- what its read wants
+abbrev pub wanted_word : Wanted → List ℕ
+wanted_word wanted.Zero = codes "zero"
+wanted_word (wanted.At point) = point_text point
+
+-- the name of the reason with what it keeps
+abbrev pub refusal_words : Refusal → List (List ℕ)
+refusal_words (Shape process) = codes "Shape" ∷ decimal process ∷ []
+refusal_words (Fires process place) = codes "Fires" ∷ decimal process ∷ decimal place ∷ []
+refusal_words (NotEnabled entry) = codes "NotEnabled" ∷ decimal entry ∷ []
+refusal_words (Tag entry found want) = codes "Tag" ∷ decimal entry ∷ seen_word found ∷ wanted_word want ∷ []
+refusal_words (Unended process) = codes "Unended" ∷ decimal process ∷ []
+refusal_words (Class channel said is) = codes "Class" ∷ decimal channel ∷ class_word said ∷ class_word is ∷ []
+
+abbrev pub refused_line : List (List ℕ) → List ℕ
+refused_line words = line_text (codes "refused" ∷ words)
+
+-- `accepted`, or `refused` with the reason
+abbrev pub verdict_text : Verdict → List ℕ
+verdict_text Accepted = line_text (codes "accepted" ∷ [])
+verdict_text (Refused refusal) = refused_line (refusal_words refusal)
+
+-- `refused` with the reason why a text is none of a network with its certificate; want of memory is no such reason
+abbrev pub unread_text : CertError → Option (List ℕ)
+unread_text (error.Line line) = Some (refused_line (codes "Line" ∷ decimal line ∷ []))
+unread_text (error.Number line) = Some (refused_line (codes "Number" ∷ decimal line ∷ []))
+unread_text error.Truncated = Some (refused_line (codes "Truncated" ∷ []))
+unread_text error.Memory = None

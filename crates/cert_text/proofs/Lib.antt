@@ -1,7 +1,10 @@
+pub mod Codecs
 pub mod Counted
 pub mod Cuts
 pub mod Found
 pub mod Many
+pub mod Numerals
 pub mod Pieces
 pub mod References
+pub mod Spelled
 pub mod Worked

@@ -13,12 +13,23 @@ use Rattle.cert_text.specs.Reading.{Part, Place, cut_read, first_line, followed_
 use Rattle.cert_text.proofs.Cuts.{cut_of_parts, is_cut}
 use Rattle.cert_text.proofs.Spelled.{is_word, line_lacks, words_joined}
 
--- Of each value that P holds of these are the words, and nothing else has these words.
+-- Of each value that P holds of these are the words, and nothing else is read from them.
 pub record IsSpelled {A : Type 0} (judge : List (List ℕ) → Result A Fault) (words : A → List (List ℕ)) (P : A → Type 0) : Type 0 where
   pub some : (x : A) → 0 < length (words x)
   pub spelled : (x : A) → P x → list_all is_word (words x) ≡ true
   pub back : (x : A) → P x → judge (words x) ≡ Ok x
-  pub forth : (read : List (List ℕ)) (x : A) → judge read ≡ Ok x → (read ≡ words x) × P x
+  pub forth : (read : List (List ℕ)) (x : A) → judge read ≡ Ok x → (join_with_byte 32 read ≡ join_with_byte 32 (words x)) × P x
+
+-- the same where the words themselves are no others
+pub by_words : {A : Type 0} (judge : List (List ℕ) → Result A Fault) (words : A → List (List ℕ)) (P : A → Type 0) (some : (x : A) → 0 < length (words x))
+    (spelled : (x : A) → P x → list_all is_word (words x) ≡ true) (back : (x : A) → P x → judge (words x) ≡ Ok x)
+    (forth : (read : List (List ℕ)) (x : A) → judge read ≡ Ok x → (read ≡ words x) × P x) → IsSpelled judge words P
+by_words judge words P some spelled back forth = record {
+  some = some;
+  spelled = spelled;
+  back = back;
+  forth = λ read x e. let k = forth read x e in (ap (join_with_byte 32) k.0, k.1);
+}
 
 -- the place behind this text, whatever its line
 pub record ReadsTo {A : Type 0} (part : Part A) (n : ℕ) (text : List ℕ) (x : A) (rest : List ℕ) : Type 0 where
@@ -62,7 +73,7 @@ line_codec judge words P k = record {
       let cut = found.0 in
       let parts = is_cut 10 at.text cut.0 cut.1 found.1 in
       let said = k.forth (words_of cut.0) x found.3 in
-      let joined : cut.0 ≡ join_with_byte 32 (words x) = sym (join_with_byte-slice_split 32 cut.0) ∙ ap (join_with_byte 32) said.0 in
+      let joined : cut.0 ≡ join_with_byte 32 (words x) = sym (join_with_byte-slice_split 32 cut.0) ∙ said.0 in
       let before : cut.0 ++ 10 ∷ cut.1 ≡ line_text (words x) ++ next.text =
       ap (λ (front : List ℕ). front ++ 10 ∷ cut.1) joined ∙ sym (append_assoc (join_with_byte 32 (words x)) (10 ∷ []) cut.1) ∙ ap (λ (rest : List ℕ). line_text (words x) ++ rest) found.2 in
       (parts.parts ∙ before, said.1);

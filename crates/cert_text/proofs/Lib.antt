@@ -2,9 +2,11 @@ pub mod Codecs
 pub mod Counted
 pub mod Cuts
 pub mod Found
+pub mod Judged
 pub mod Many
 pub mod Numerals
 pub mod Pieces
 pub mod References
 pub mod Spelled
+pub mod Spellings
 pub mod Worked

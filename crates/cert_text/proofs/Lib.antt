@@ -3,9 +3,11 @@ pub mod Counted
 pub mod Cuts
 pub mod Found
 pub mod Judged
+pub mod Lengths
 pub mod Many
 pub mod Numerals
 pub mod Pieces
+pub mod ReadBack
 pub mod References
 pub mod Spelled
 pub mod Spellings

@@ -54,19 +54,19 @@ some_digits n test = grind (arith, nat_tests)
 pub decimal_of_number : (word : List ℕ) (n : ℕ) → number word ≡ Ok n → (word ≡ decimal n) × IsInRange n
 decimal_of_number word n e = elim (cases_Bool (is_numeral word)) [
   | inl numeral ↦ elim (cases_Bool (nat_le (numeral_value word) 4294967295)) [
-      | inl few ↦
-          let read : ◌≡◌ {A = Result ℕ Fault} (Ok (numeral_value word)) (Ok n) = rw (numeral, few) at e in
-          let value : numeral_value word ≡ n = cc in
-          let parts = and_parts _ _ numeral in
-          let front = and_parts _ _ parts.0 in
-          let range = in_range (numeral_value word) few in
-          let small : numeral_value word < 2 ^ 64 = omega arith in
-          let written = decimal-digits_value digits word front.1 (some_digits (length word) front.0) (one_digit word parts.1) small in
-          rw (← value) (sym written, range)
-      | inr many ↦ let read : ◌≡◌ {A = Result ℕ Fault} (Err Range) (Ok n) = rw (numeral, many) at e in absurd (cc read)
-    ]
+    | inl few ↦
+        let read : ◌≡◌ {A = Result ℕ Fault} (Ok (numeral_value word)) (Ok n) = rw (numeral, few) at e in
+        let value : numeral_value word ≡ n = cc in
+        let parts = and_parts _ _ numeral in
+        let front = and_parts _ _ parts.0 in
+        let range = in_range (numeral_value word) few in
+        let small : numeral_value word < 2 ^ 64 = omega arith in
+        let written = decimal-digits_value digits word front.1 (some_digits (length word) front.0) (one_digit word parts.1) small in
+        rw (← value) (sym written, range)
+    | inr many ↦ let read : ◌≡◌ {A = Result ℕ Fault} (Err Range) (Ok n) = rw (numeral, many) at e in absurd (cc read)
+  ]
   | inr other ↦ elim (cases_Bool (is_negative word)) [
-      | inl negative ↦ let read : ◌≡◌ {A = Result ℕ Fault} (Err Range) (Ok n) = rw (other, negative) at e in absurd (cc read)
-      | inr wrong ↦ let read : ◌≡◌ {A = Result ℕ Fault} (Err Words) (Ok n) = rw (other, wrong) at e in absurd (cc read)
-    ]
+    | inl negative ↦ let read : ◌≡◌ {A = Result ℕ Fault} (Err Range) (Ok n) = rw (other, negative) at e in absurd (cc read)
+    | inr wrong ↦ let read : ◌≡◌ {A = Result ℕ Fault} (Err Words) (Ok n) = rw (other, wrong) at e in absurd (cc read)
+  ]
 ]

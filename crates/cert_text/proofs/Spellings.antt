@@ -148,12 +148,12 @@ event_forth [] e said = absurd (cc said)
 event_forth (word ∷ words) e said = elim (cases_Bool (bytes_eq word (codes "g"))) [
   | inl g ↦ first_is word (codes "g") words e g (get_forth words e (rw g at said))
   | inr no_g ↦ elim (cases_Bool (bytes_eq word (codes "f"))) [
-      | inl f ↦ first_is word (codes "f") words e f (fire_forth words e (rw (no_g, f) at said))
-      | inr no_f ↦ elim (cases_Bool (bytes_eq word (codes "p"))) [
-          | inl p ↦ first_is word (codes "p") words e p (put_forth words e (rw (no_g, no_f, p) at said))
-          | inr no_p ↦ let wrong : ◌≡◌ {A = Result Event Fault} (Err Words) (Ok e) = rw (no_g, no_f, no_p) at said in absurd (cc wrong)
-        ]
+    | inl f ↦ first_is word (codes "f") words e f (fire_forth words e (rw (no_g, f) at said))
+    | inr no_f ↦ elim (cases_Bool (bytes_eq word (codes "p"))) [
+      | inl p ↦ first_is word (codes "p") words e p (put_forth words e (rw (no_g, no_f, p) at said))
+      | inr no_p ↦ let wrong : ◌≡◌ {A = Result Event Fault} (Err Words) (Ok e) = rw (no_g, no_f, no_p) at said in absurd (cc wrong)
     ]
+  ]
 ]
 
 event_some : (e : Event) → 0 < length (event_words e)
@@ -237,6 +237,7 @@ just_spelled words some spelled = record {
   where
     just_back : (text : List ℕ) (u : Unit) → ◌≡◌ {A = Result Unit Fault} (if bytes_eq text text then Ok tt else Err Words) (Ok u)
     just_back text u = rw ((bytes_eq-Decides text text).1 refl) refl
+
     just_forth : (read text : List ℕ) (u : Unit) → ◌≡◌ {A = Result Unit Fault} (if bytes_eq read text then Ok tt else Err Words) (Ok u) → read ≡ text
     just_forth read text u e = (behind_keyword read text (Ok tt) u e).0
 
@@ -250,10 +251,13 @@ source_spelled =
   where
     one_word : (origin : Origin) → 0 < length (source_words origin)
     one_word Sweep = omega arith
+
     is_spelled : (origin : Origin) → list_all is_word (source_words origin) ≡ true
     is_spelled Sweep = refl
+
     sweep_back : (origin : Origin) → source_line (source_words origin) ≡ Ok origin
     sweep_back Sweep = refl
+
     sweep_forth : IsSpelled (just (join_with_byte 32 (codes "sweep" ∷ []))) (λ (u : Unit). codes "sweep" ∷ []) (λ u. Unit {0}) → (read : List (List ℕ)) (origin : Origin) → source_line read ≡ Ok origin
         → join_with_byte 32 read ≡ join_with_byte 32 (source_words origin)
     sweep_forth k read Sweep e = let said = made_ok (λ (u : Unit). Sweep) (just (codes "sweep") read) Sweep e in (k.forth read said.0 said.1).0

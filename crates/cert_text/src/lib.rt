@@ -2,6 +2,7 @@
 #![tactic(auto)]
 
 mod error;
+mod law;
 mod lines;
 mod places;
 mod reading;
@@ -11,5 +12,6 @@ mod words;
 mod writing;
 
 pub use error::CertError;
+pub use law::reads_what_is_written;
 pub use reading::read_cert;
 pub use writing::write_cert;

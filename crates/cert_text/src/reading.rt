@@ -1,4 +1,9 @@
-ghost use Rattle.std.specs.Prelude.{◌≡◌, IfOk};
+ghost use Rattle.std.specs.Prelude.{◌≡◌, ◌≤◌, length, IfOk, MatchResult};
+ghost use Rattle.net_core.specs.declared.network.Network.{Network as AnyNetwork};
+ghost use Rattle.net_core.specs.Machine.{net_of};
+ghost use Rattle.net_core.specs.Shape.{FitsNumbers};
+ghost use Rattle.source_tree.specs.declared.cert.Cert.{Cert as AnyCert};
+ghost use Rattle.cert_text.specs.CertText.{AreInRange, cert_text};
 ghost use Rattle.cert_text.specs.Reading.{Gives, Reads, certificate as certificate_part, many, network as network_part, process as process_part, reading, whole_text};
 
 use crate::error::CertError;
@@ -66,6 +71,14 @@ fn read_whole(alloc: Global, lines: &mut Lines) -> Result<(Network, Cert), CertE
 /// The lists grow with the lines that come, so a count that a text announces takes no memory by itself.
 pub fn read_cert(alloc: Global, bytes: &[u8]) -> Result<(Network, Cert), CertError>
     ensures exact { Gives result (reading bytes.now) }
+
+    // It answers a pair just where these bytes are its text.
+    ensures is_text { IfOk result (λ pair. (bytes.now ≡ cert_text pair.0 pair.1) × AreInRange pair.0 pair.1) }
+    ensures reads_text { (network : AnyNetwork) (cert : AnyCert) →
+        AreInRange network cert → bytes.now ≡ cert_text network cert →
+        MatchResult result (λ pair. pair ≡ (network, cert)) (λ error. error ≡ CertError.Memory) }
+
+    ensures few { length bytes.now ≤ 67108864 → IfOk result (λ pair. FitsNumbers (net_of pair.0)) }
 {
     let mut lines = Lines::new(bytes);
     read_whole(alloc, &mut lines)

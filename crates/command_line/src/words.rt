@@ -10,10 +10,10 @@ ghost use Rattle.command_line.specs.Words.{command_of, number_of, order_of, orde
 ghost use Rattle.command_line.specs.declared.words.WordsError.TheVariants.{Memory, Words};
 
 use clap::error::ErrorKind;
-use clap::{Arg, ArgAction, ArgMatches, Error};
+use clap::{Arg, ArgAction, ArgMatches};
 use loop_class::Params;
 use loop_lex::is_name;
-use std::alloc::{AllocError, AllocFailed, Global};
+use std::alloc::{AllocError, Global};
 use witness_plan::Policy;
 
 /// What the program is to do.
@@ -25,9 +25,9 @@ pub enum Command {
     Seq,
     /// Write the network.
     Net,
-    /// Write the network with its certificate.
+    /// Write the certificate of the network.
     Cert,
-    /// Check a certificate.
+    /// Check the certificate that the bundle has.
     Check,
 }
 
@@ -56,18 +56,10 @@ impl From<AllocError> for WordsError {
     }
 }
 
-impl<T: Drop> From<AllocFailed<T>> for WordsError {
-    ghost from_gives = { λ _ e. e ≡ Memory };
-
-    fn from(_: AllocFailed<T>) -> WordsError {
-        WordsError::Memory
-    }
-}
-
-impl From<Error> for WordsError {
+impl From<clap::Error> for WordsError {
     ghost from_gives = { λ error e. e ≡ Words → kind_of error ≢ OutOfMemory };
 
-    fn from(error: Error) -> WordsError {
+    fn from(error: clap::Error) -> WordsError {
         match error.kind() {
             ErrorKind::OutOfMemory => WordsError::Memory,
             _ => WordsError::Words,
@@ -76,7 +68,7 @@ impl From<Error> for WordsError {
 }
 
 /// The words as `clap` reads them: the option `--policy`, which takes one value, and the items.
-fn matches_of<'a>(alloc: Global, words: &'a [String]) -> Result<ArgMatches<'a>, Error>
+fn matches_of<'a>(alloc: Global, words: &'a [String]) -> Result<ArgMatches<'a>, clap::Error>
     ensures ok { IfOk result (λ matches. order_of (map string_bytes words.entry.now) ≡ order_of_split (split_found (found_of matches))) }
     ensures refused { IfErr result (λ error. kind_of error ≢ OutOfMemory → order_of (map string_bytes words.entry.now) ≡ None) }
 {

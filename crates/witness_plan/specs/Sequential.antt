@@ -5,7 +5,6 @@ use Rattle.net_core.specs.declared.network.Channel.{Channel}
 use Rattle.net_core.specs.declared.network.Network.{Network}
 use Rattle.net_core.specs.Cuts.{Cut, cut_after, gets_at, puts_at}
 use Rattle.net_core.specs.Machine.{Net, net_of}
-use Rattle.process_derive.specs.Derived.{net}
 use Rattle.process_derive.specs.Scripts.{point_events}
 use Rattle.sanlp.specs.declared.nest.Nest.{Nest}
 use Rattle.sanlp.specs.declared.nest.Tag.{Tag}
@@ -47,7 +46,3 @@ channels_with (channel ∷ channels) (capacity ∷ capacities) = record channel 
 -- the network with these capacities
 abbrev pub with_capacities : Network → List ℕ → Network
 with_capacities network capacities = record { processes = network.processes; channels = channels_with network.channels capacities }
-
--- the network of a nest with the capacities that its sequential schedule needs
-abbrev pub sequential_network : Nest → Network
-sequential_network n = with_capacities (net n) (capacities (net n) (sequential_schedule n))

@@ -7,8 +7,9 @@ use Rattle.command_line.specs.Words.{order_of}
 use Rattle.command_line.specs.declared.words.Order.{Order}
 use Rattle.compaan_top.specs.Answers.{Change, IsQuiet, HasFault, ReadsTo, Ends, no_memory, read_fault, written, cut_short}
 use Rattle.compaan_top.specs.Judging.{Judges}
+use Rattle.compaan_top.specs.Replies.{Reply}
 use Rattle.compaan_top.specs.Outcome.{IsOutcome, outcome_of, bundle_limit, Performs, words_refused, bundle_refused, performed}
-use Rattle.compaan_top.specs.Planned.{as_text, text_of, IsOrdered, IsPlanned, ReadsBundle, ReadsAndJudges}
+use Rattle.compaan_top.specs.Planned.{as_reply, reply_of, IsOrdered, IsPlanned, ReadsBundle, ReadsAndJudges}
 use Rattle.compaan_top.specs.declared.answer.Answer.{Answer}
 use Rattle.compaan_top.specs.declared.refusal.Refusal.{Refusal}
 use Rattle.compaan_top.specs.declared.refusal.Stop.{Stop}
@@ -21,17 +22,17 @@ kept held faults = record { old = held; new = held; faults_old = faults; faults_
 AppendsFront-nil : (held : Option (List ℕ)) → AppendsFront held held []
 AppendsFront-nil held = (0, lit≤ tt, Appends-nil held)
 
-pub answer_written : (words : List (List ℕ)) (input output : Change) (held : Option (List ℕ)) (faults : ℕ) (text : List ℕ)
-    → IsQuiet input → ReadsAndJudges words input (Ok text) → Appends output.old output.new text → IsQuiet output
-    → Ends words input output (kept held faults) 0
-answer_written words input output held faults text quiet judged appends calm =
-    written judged.0 (outcome_of (Ok text)) quiet judged.1 judged.2 (record { written = appends; complained = Appends-nil held; output_quiet = calm; complaint_quiet = refl })
+pub answer_written : (words : List (List ℕ)) (input output : Change) (held : Option (List ℕ)) (faults : ℕ) (reply : Reply)
+    → IsQuiet input → ReadsAndJudges words input (Ok reply) → Appends output.old output.new reply.text → IsQuiet output
+    → Ends words input output (kept held faults) reply.status
+answer_written words input output held faults reply quiet judged appends calm =
+    written judged.0 (outcome_of (Ok reply)) quiet judged.1 judged.2 (record { written = appends; complained = Appends-nil held; output_quiet = calm; complaint_quiet = refl })
 
-pub answer_cut_short : (words : List (List ℕ)) (input output : Change) (held : Option (List ℕ)) (faults : ℕ) (text : List ℕ)
-    → IsQuiet input → ReadsAndJudges words input (Ok text) → AppendsFront output.old output.new text → HasFault output
+pub answer_cut_short : (words : List (List ℕ)) (input output : Change) (held : Option (List ℕ)) (faults : ℕ) (reply : Reply)
+    → IsQuiet input → ReadsAndJudges words input (Ok reply) → AppendsFront output.old output.new reply.text → HasFault output
     → Ends words input output (kept held faults) 4
-answer_cut_short words input output held faults text quiet judged front fault =
-    cut_short judged.0 (outcome_of (Ok text)) quiet judged.1 judged.2 (record { written = front; complained = AppendsFront-nil held; cause = inl fault })
+answer_cut_short words input output held faults reply quiet judged front fault =
+    cut_short judged.0 (outcome_of (Ok reply)) quiet judged.1 judged.2 (record { written = front; complained = AppendsFront-nil held; cause = inl fault })
 
 pub refusal_written : (words : List (List ℕ)) (input complaint : Change) (held : Option (List ℕ)) (faults : ℕ) (refusal : Refusal)
     → IsQuiet input → ReadsAndJudges words input (Err refusal) → Appends complaint.old complaint.new refusal.line → IsQuiet complaint
@@ -72,9 +73,9 @@ planned_refusal_of_bundle words input order Memory ordered read = read
 
 pub planned_answer : (words : List (List ℕ)) (input : Change) (order : Order) (bundle : List ℕ) (answer : Result Answer Stop)
     → order_of words ≡ Some order → IsQuiet input → ReadsTo input bundle → length bundle ≤ bundle_limit
-    → Judges (λ made. Performs order.command order.params bundle (as_text made)) answer → IsPlanned words input answer
+    → Judges (λ made. Performs order.command order.policy order.params bundle (as_reply made)) answer → IsPlanned words input answer
 planned_answer words input order bundle (Ok made) ordered quiet gives within judged =
-    (quiet, (bundle, rw ordered gives, performed order (Ok (text_of made)) ordered within judged))
+    (quiet, (bundle, rw ordered gives, performed order (Ok (reply_of made)) ordered within judged))
 planned_answer words input order bundle (Err (Refused refusal)) ordered quiet gives within judged =
     (quiet, (bundle, rw ordered gives, performed order (Err refusal) ordered within judged))
 planned_answer words input order bundle (Err ReadFault) ordered quiet gives within judged = absurd judged

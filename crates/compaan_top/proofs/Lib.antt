@@ -1,6 +1,9 @@
 pub mod Endings
 pub mod Inputs
-pub mod Networks
+pub mod Checked
+pub mod Parts
+pub mod Printed
 pub mod Runs
 pub mod Sources
 pub mod Statuses
+pub mod Vouched

@@ -8,7 +8,8 @@ use Rattle.sanlp.specs.declared.nest.Nest.{Nest}
 use Rattle.loop_walk.specs.Counting.{counted}
 use Rattle.array_data.specs.Answer.{answer_text}
 use Rattle.compaan_top.specs.Judging.{Judges}
-use Rattle.compaan_top.specs.Planned.{as_text}
+use Rattle.compaan_top.specs.Planned.{as_reply}
+use Rattle.compaan_top.specs.Replies.{done}
 use Rattle.compaan_top.specs.Run.{IsInputs, Runs, source_refused, size_refused, data_refused, answered}
 use Rattle.compaan_top.specs.Source.{Gives}
 use Rattle.compaan_top.specs.Steps.{HasSize}
@@ -18,7 +19,7 @@ use Rattle.compaan_top.specs.declared.refusal.Stop.{Stop}
 use Rattle.compaan_top.specs.declared.refusal.Stop.TheVariants.{Refused, ReadFault, Memory}
 
 abbrev pub JudgesRun : List (List ℕ × ℤ) → List ℕ → Result Answer Stop → Type 0
-JudgesRun params bundle result = Judges (λ answer. Runs params bundle (as_text answer)) result
+JudgesRun params bundle result = Judges (λ answer. Runs params bundle (as_reply answer)) result
 
 nest_is : (params : List (List ℕ × ℤ)) (bundle source : List ℕ) (answer : Result Nest Refusal) → source ≡ source_part bundle
     → Gives source params answer → Gives (source_part bundle) params answer
@@ -47,7 +48,7 @@ runs_without_inputs params bundle source bytes nest total Memory is bytes_are gi
 
 pub runs_to_answer : (params : List (List ℕ × ℤ)) (bundle source bytes : List ℕ) (nest : Nest) (total : ℕ) (inputs : Inputs) (outputs : Arrays)
     → source ≡ source_part bundle → bytes ≡ data_part bundle → Gives source params (Ok nest) → counted nest ≡ Ok total
-    → IsInputs nest bytes (Ok inputs) → outputs.arrays ≡ arrays nest inputs → Runs params bundle (Ok (answer_text nest.arrays outputs.arrays))
+    → IsInputs nest bytes (Ok inputs) → outputs.arrays ≡ arrays nest inputs → Runs params bundle (Ok (done (answer_text nest.arrays outputs.arrays)))
 runs_to_answer params bundle source bytes nest total inputs outputs is bytes_are gives size records outputs_are =
-    subst (λ (lists : List (List ℤ)). Runs params bundle (Ok (answer_text nest.arrays lists))) (sym outputs_are)
+    subst (λ (lists : List (List ℤ)). Runs params bundle (Ok (done (answer_text nest.arrays lists)))) (sym outputs_are)
     (answered nest total inputs (nest_is params bundle source (Ok nest) is gives) size (subst (λ (b : List ℕ). IsInputs nest b (Ok inputs)) bytes_are records))

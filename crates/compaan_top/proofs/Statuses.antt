@@ -1,7 +1,8 @@
 -- The statuses of outcomes.
-use Rattle.std.proofs.Common.{◌≡◌, ◌≢◌, ◌==◌, ◌&&◌, not, ◌<◌, ◌≤◌, ℕ, suc, ℤ, Bool, true, false, List, [], ◌∷◌, ◌++◌, length, take, drop, Option, Some, None, Result, Ok, Err, refl, sym, ap, ◌∙◌, subst, arith, map, inl, inr, ◌⊎◌, take-append-drop}
+use Rattle.std.proofs.Common.{◌≡◌, ◌≢◌, ◌==◌, ◌&&◌, not, ◌<◌, ◌≤◌, ℕ, suc, ℤ, Bool, true, false, List, [], ◌∷◌, ◌++◌, length, take, drop, Option, Some, None, Result, Ok, Err, refl, sym, ap, ◌∙◌, subst, arith, ap₂, map, inl, inr, ◌⊎◌, take-append-drop}
 use Rattle.std.specs.List.{list_any}
-use Rattle.std.proofs.lemmas.Bool.{cases_lt}
+use Rattle.sanlp.specs.WellFormed.{IsWellFormed}
+use Rattle.std.proofs.lemmas.Bool.{cases_lt, or_right}
 use Rattle.loop_lex.specs.Tokens.{tokens}
 use Rattle.loop_lex.specs.declared.token.Token.{Token}
 use Rattle.loop_lex.specs.declared.token.LexError.{LexError}
@@ -20,22 +21,37 @@ use Rattle.array_data.specs.Answer.{answer_text}
 use Rattle.array_data.specs.Data.{Record, fault_of, inputs_of, lists_of, records_of, unless}
 use Rattle.array_data.specs.declared.error.DataError.{DataError}
 use Rattle.array_data.specs.declared.error.DataError.TheVariants.{UnknownArray, Twice, Missing, Count, NotANumber, Memory}
-use Rattle.witness_plan.specs.Sequential.{sequential_network}
-use Rattle.net_text.specs.NetworkText.{net_text}
+use Rattle.witness_plan.specs.declared.schedules.Policy.{Policy}
+use Rattle.cert_text.specs.Reading.{reading}
+use Rattle.cert_text.specs.declared.error.CertError.{CertError}
+use Rattle.net_checker.specs.Entries.{schedule_refusal}
+use Rattle.net_checker.specs.Firings.{firing_refusal}
+use Rattle.net_checker.specs.Fits.{first, verdict_of}
+use Rattle.net_checker.specs.Shapes.{shape_refusal}
+use Rattle.sanlp.specs.Points.{points_of}
+use Rattle.sanlp.specs.Trace.{trace}
+use Rattle.sanlp.specs.Writers.{last_before}
+use Rattle.net_checker.specs.declared.verdict.Refusal.{Refusal as NetRefusal}
+use Rattle.net_core.specs.declared.network.Network.{Network}
+use Rattle.source_tree.specs.declared.cert.Cert.{Cert as CertValue}
 use Rattle.sanlp.specs.Meaning.{arrays}
 use Rattle.sanlp.specs.declared.nest.ArrayDecl.{ArrayDecl}
 use Rattle.sanlp.specs.declared.nest.Nest.{Nest}
 use Rattle.sanlp.specs.declared.nest.Node.{Node}
+use Rattle.sanlp.specs.declared.nest.Statement.{Statement}
 use Rattle.sanlp.specs.declared.nest.Inputs.{Inputs}
-use Rattle.command_line.specs.Bundle.{source_part, data_part}
+use Rattle.command_line.specs.Bundle.{certificate_part, data_part, source_part}
 use Rattle.command_line.specs.Words.{order_of}
 use Rattle.command_line.specs.declared.words.Order.{Order}
 use Rattle.command_line.specs.declared.words.Command.{Command}
-use Rattle.command_line.specs.declared.words.Command.TheVariants.{Run, Seq, Net}
-use Rattle.compaan_top.specs.Laws.{DetermineStatus, HaveOwnStatuses, Succeeds, IsValid, TakesInputs, outcome_statuses}
-use Rattle.compaan_top.specs.NetworkPrint as print
-use Rattle.compaan_top.specs.NetworkPrint.{PrintsNetwork}
+use Rattle.command_line.specs.declared.words.Command.TheVariants.{Run, Seq, Net, Cert, Check}
+use Rattle.compaan_top.specs.Checking as check
+use Rattle.compaan_top.specs.Checking.{Checks, verdict_reply}
+use Rattle.compaan_top.specs.Laws.{DetermineStatus, HaveOwnStatuses, HasParts, IsDone, IsValid, Succeeds, outcome_statuses}
+use Rattle.compaan_top.specs.Printing as print
+use Rattle.compaan_top.specs.Printing.{Prints, certificate_text, network_text}
 use Rattle.compaan_top.specs.Outcome.{Outcome, IsOutcome, outcome_of, Performs, words_refused, bundle_refused, performed}
+use Rattle.compaan_top.specs.Replies.{Reply, done}
 use Rattle.compaan_top.specs.Refusals.{byte_of, lex_refusal, bind_refusal, size_refusal, syntax_refusal, data_refusal, usage, too_long}
 use Rattle.compaan_top.specs.Run.{Runs, IsInputs, source_refused, size_refused, data_refused, answered}
 use Rattle.compaan_top.specs.Source.{Gives, no_tokens, no_tree, not_bound, bound}
@@ -58,9 +74,9 @@ no_place list place tree stops derived =
       | inr behind ↦ stops.at_end (omega (arith, stops.within)) tree derived
     ]
 
--- both are nests that agree in what is asked of them below, or both are refusals of one status
+-- both are nests of the same parts, or both are refusals of one status
 abbrev pub Alike : Result Nest Refusal → Result Nest Refusal → Type 0
-Alike (Ok n) (Ok m) = (n.arrays ≡ m.arrays) × (n.body ≡ m.body)
+Alike (Ok n) (Ok m) = (n.arrays ≡ m.arrays) × (n.statements ≡ m.statements) × (n.body ≡ m.body)
 Alike (Err r) (Err s) = r.status ≡ s.status
 Alike (Ok n) (Err s) = ⊥
 Alike (Err r) (Ok m) = ⊥
@@ -91,6 +107,25 @@ one_tree_of one source a b t u x y p q =
 
 none_least : (tree : Tree) (params : List (List ℕ × ℤ)) (reason : BindError) → findings tree params ≡ [] → least_from None (findings tree params) ≡ Some reason → ⊥
 none_least tree params reason e f = let g : least_from None [] ≡ Some reason = rw e at f in cc
+
+-- the facts that a nest keeps don't bear on what the checker finds wrong first
+facts_aside : (arrays : List ArrayDecl) (statements : List Statement) (body : List Node) (w v : IsWellFormed arrays statements body) (network : Network) (cert : CertValue)
+    → first (record { arrays = arrays; statements = statements; body = body; well_formed = w }) network cert
+    ≡ first (record { arrays = arrays; statements = statements; body = body; well_formed = v }) network cert
+unfolding trace last_before points_of shape_refusal firing_refusal schedule_refusal
+facts_aside arrays statements body w v network cert = refl
+
+-- nests with the same parts are found wrong alike
+first_alike : (n m : Nest) → n.arrays ≡ m.arrays → n.statements ≡ m.statements → n.body ≡ m.body → (network : Network) (cert : CertValue)
+    → first n network cert ≡ first m network cert
+first_alike n m arrays statements body network cert =
+    subst (λ (x : List ArrayDecl). (v : IsWellFormed x m.statements m.body)
+    → first n network cert ≡ first (record { arrays = x; statements = m.statements; body = m.body; well_formed = v }) network cert) arrays
+    (subst (λ (y : List Statement). (v : IsWellFormed n.arrays y m.body)
+    → first n network cert ≡ first (record { arrays = n.arrays; statements = y; body = m.body; well_formed = v }) network cert) statements
+    (subst (λ (z : List Node). (v : IsWellFormed n.arrays n.statements z)
+    → first n network cert ≡ first (record { arrays = n.arrays; statements = n.statements; body = z; well_formed = v }) network cert) body
+    (λ v. facts_aside n.arrays n.statements n.body n.well_formed v network cert))) m.well_formed
 
 pub gives_alike : OneTree → (source : List ℕ) (params : List (List ℕ × ℤ)) {x y : Result Nest Refusal} → Gives source params x → Gives source params y → Alike x y
 gives_alike one source params (no_tokens e r lexed made) (no_tokens f s lexed' made') =
@@ -124,11 +159,13 @@ gives_alike one source params (bound a t n lexed derived is) (not_bound b u reas
     absurd (none_least t params reason is.no_findings (sym (ap (λ (z : Tree). least_from None (findings z params)) trees) ∙ least))
 gives_alike one source params (bound a t n lexed derived is) (bound b u m lexed' derived' is') =
     let trees : t ≡ u = one_tree_of one source a b t u lexed lexed' derived derived' in
-    (is.arrays ∙ ap (λ (z : Tree). (nest_of z params).arrays) trees ∙ sym is'.arrays, is.body ∙ ap (λ (z : Tree). (nest_of z params).body) trees ∙ sym is'.body)
+    (is.arrays ∙ ap (λ (z : Tree). (nest_of z params).arrays) trees ∙ sym is'.arrays,
+    is.statements ∙ ap (λ (z : Tree). (nest_of z params).statements) trees ∙ sym is'.statements,
+    is.body ∙ ap (λ (z : Tree). (nest_of z params).body) trees ∙ sym is'.body)
 
 -- ---- and so do `run` and `seq`
 
-abbrev pub SameStatus : Result (List ℕ) Refusal → Result (List ℕ) Refusal → Type 0
+abbrev pub SameStatus : Result Reply Refusal → Result Reply Refusal → Type 0
 SameStatus x y = (outcome_of x).status ≡ (outcome_of y).status
 
 same_counted : (n m : Nest) → n.body ≡ m.body → counted n ≡ counted m
@@ -165,14 +202,14 @@ inputs_alike bytes n m (Ok d) (Err s) same i j =
 inputs_alike bytes n m (Err r) (Ok e) same i j =
     absurd (no_both_inputs (inputs_of m (records_of bytes)) (inputs_of n (records_of bytes)) e i.0 (sym (same_inputs n m (records_of bytes) same)) j i.1)
 
-size_status : (e : SizeError) → (size_refusal e).status ≡ 8
+pub size_status : (e : SizeError) → (size_refusal e).status ≡ 8
 size_status (Limit count) = refl
 size_status (LoopValue loop) = refl
 
 no_both_sizes : (n m : Nest) (e : SizeError) (total : ℕ) → n.body ≡ m.body → counted n ≡ Err e → counted m ≡ Ok total → ⊥
 no_both_sizes n m e total same f g = let c = same_counted n m same in cc
 
-runs_alike : OneTree → (params : List (List ℕ × ℤ)) (bundle : List ℕ) {x y : Result (List ℕ) Refusal} → Runs params bundle x → Runs params bundle y → SameStatus x y
+runs_alike : OneTree → (params : List (List ℕ × ℤ)) (bundle : List ℕ) {x y : Result Reply Refusal} → Runs params bundle x → Runs params bundle y → SameStatus x y
 runs_alike one params bundle (source_refused r g) (source_refused s h) = gives_alike one (source_part bundle) params g h
 runs_alike one params bundle (source_refused r g) (size_refused m f h d) = absurd (gives_alike one (source_part bundle) params g h)
 runs_alike one params bundle (source_refused r g) (data_refused m u s h d j) = absurd (gives_alike one (source_part bundle) params g h)
@@ -180,12 +217,12 @@ runs_alike one params bundle (source_refused r g) (answered m u d h c j) = absur
 runs_alike one params bundle (size_refused n e g c) (source_refused s h) = absurd (gives_alike one (source_part bundle) params g h)
 runs_alike one params bundle (size_refused n e g c) (size_refused m f h d) = size_status e ∙ sym (size_status f)
 runs_alike one params bundle (size_refused n e g c) (data_refused m u s h d j) =
-    let same = gives_alike one (source_part bundle) params g h in absurd (no_both_sizes n m e u same.1 c d)
+    let same = gives_alike one (source_part bundle) params g h in absurd (no_both_sizes n m e u same.2 c d)
 runs_alike one params bundle (size_refused n e g c) (answered m u d h k j) =
-    let same = gives_alike one (source_part bundle) params g h in absurd (no_both_sizes n m e u same.1 c k)
+    let same = gives_alike one (source_part bundle) params g h in absurd (no_both_sizes n m e u same.2 c k)
 runs_alike one params bundle (data_refused n t r g c i) (source_refused s h) = absurd (gives_alike one (source_part bundle) params g h)
 runs_alike one params bundle (data_refused n t r g c i) (size_refused m f h d) =
-    let same = gives_alike one (source_part bundle) params h g in absurd (no_both_sizes m n f t same.1 d c)
+    let same = gives_alike one (source_part bundle) params h g in absurd (no_both_sizes m n f t same.2 d c)
 runs_alike one params bundle (data_refused n t r g c i) (data_refused m u s h d j) =
     let same = gives_alike one (source_part bundle) params g h in
     inputs_alike (data_part bundle) n m (Err r) (Err s) same.0 i j
@@ -194,32 +231,88 @@ runs_alike one params bundle (data_refused n t r g c i) (answered m u d h k j) =
     absurd (inputs_alike (data_part bundle) n m (Err r) (Ok d) same.0 i j)
 runs_alike one params bundle (answered n t d g c i) (source_refused s h) = absurd (gives_alike one (source_part bundle) params g h)
 runs_alike one params bundle (answered n t d g c i) (size_refused m f h k) =
-    let same = gives_alike one (source_part bundle) params h g in absurd (no_both_sizes m n f t same.1 k c)
+    let same = gives_alike one (source_part bundle) params h g in absurd (no_both_sizes m n f t same.2 k c)
 runs_alike one params bundle (answered n t d g c i) (data_refused m u s h k j) =
     let same = gives_alike one (source_part bundle) params g h in
     absurd (inputs_alike (data_part bundle) n m (Ok d) (Err s) same.0 i j)
 runs_alike one params bundle (answered n t d g c i) (answered m u e h k j) = refl
 
-networks_alike : OneTree → (params : List (List ℕ × ℤ)) (bundle : List ℕ) {x y : Result (List ℕ) Refusal} → PrintsNetwork params bundle x → PrintsNetwork params bundle y → SameStatus x y
-networks_alike one params bundle (print.source_refused r g) (print.source_refused s h) = gives_alike one (source_part bundle) params g h
-networks_alike one params bundle (print.source_refused r g) (print.size_refused m f h d) = absurd (gives_alike one (source_part bundle) params g h)
-networks_alike one params bundle (print.source_refused r g) (print.printed m u h d) = absurd (gives_alike one (source_part bundle) params g h)
-networks_alike one params bundle (print.size_refused n e g c) (print.source_refused s h) = absurd (gives_alike one (source_part bundle) params g h)
-networks_alike one params bundle (print.size_refused n e g c) (print.size_refused m f h d) = size_status e ∙ sym (size_status f)
-networks_alike one params bundle (print.size_refused n e g c) (print.printed m u h d) =
-    let same = gives_alike one (source_part bundle) params g h in absurd (no_both_sizes n m e u same.1 c d)
-networks_alike one params bundle (print.printed n t g c) (print.source_refused s h) = absurd (gives_alike one (source_part bundle) params g h)
-networks_alike one params bundle (print.printed n t g c) (print.size_refused m f h d) =
-    let same = gives_alike one (source_part bundle) params h g in absurd (no_both_sizes m n f t same.1 d c)
-networks_alike one params bundle (print.printed n t g c) (print.printed m u h d) = refl
+prints_alike : OneTree → (text : Nest → List ℕ) (params : List (List ℕ × ℤ)) (bundle : List ℕ) {x y : Result Reply Refusal} → Prints text params bundle x → Prints text params bundle y → SameStatus x y
+prints_alike one text params bundle (print.source_refused r g) (print.source_refused s h) = gives_alike one (source_part bundle) params g h
+prints_alike one text params bundle (print.source_refused r g) (print.size_refused m f h d) = absurd (gives_alike one (source_part bundle) params g h)
+prints_alike one text params bundle (print.source_refused r g) (print.printed m u h d) = absurd (gives_alike one (source_part bundle) params g h)
+prints_alike one text params bundle (print.size_refused n e g c) (print.source_refused s h) = absurd (gives_alike one (source_part bundle) params g h)
+prints_alike one text params bundle (print.size_refused n e g c) (print.size_refused m f h d) = size_status e ∙ sym (size_status f)
+prints_alike one text params bundle (print.size_refused n e g c) (print.printed m u h d) =
+    let same = gives_alike one (source_part bundle) params g h in absurd (no_both_sizes n m e u same.2 c d)
+prints_alike one text params bundle (print.printed n t g c) (print.source_refused s h) = absurd (gives_alike one (source_part bundle) params g h)
+prints_alike one text params bundle (print.printed n t g c) (print.size_refused m f h d) =
+    let same = gives_alike one (source_part bundle) params h g in absurd (no_both_sizes m n f t same.2 d c)
+prints_alike one text params bundle (print.printed n t g c) (print.printed m u h d) = refl
 
-performs_alike : OneTree → (command : Command) (params : List (List ℕ × ℤ)) (bundle : List ℕ) (x y : Result (List ℕ) Refusal)
-    → Performs command params bundle x → Performs command params bundle y → SameStatus x y
-performs_alike one Run params bundle x y made other = runs_alike one params bundle made other
-performs_alike one Seq params bundle x y made other = runs_alike one params bundle made other
-performs_alike one Net params bundle x y made other = networks_alike one params bundle made other
+no_part_there : (bundle part : List ℕ) → certificate_part bundle ≡ None → certificate_part bundle ≡ Some part → ⊥
+no_part_there bundle part none there = cc
 
-no_order : (words : List (List ℕ)) (order : Order) → order_of words ≡ None → order_of words ≡ Some order → ⊥
+same_part : (bundle a b : List ℕ) → certificate_part bundle ≡ Some a → certificate_part bundle ≡ Some b → a ≡ b
+same_part bundle a b x y = cc
+
+no_both_readings : (a b : Result (Network × CertValue) CertError) (e : CertError) (found : Network × CertValue) → a ≡ b → a ≡ Err e → b ≡ Ok found → ⊥
+no_both_readings a b e found same x y = cc
+
+-- one text isn't both refused and read
+read_and_unread : (bundle a b : List ℕ) (e : CertError) (network : Network) (cert : CertValue) → certificate_part bundle ≡ Some a → certificate_part bundle ≡ Some b
+    → reading a ≡ Err e → reading b ≡ Ok (network, cert) → ⊥
+read_and_unread bundle a b e network cert x y unread read =
+    no_both_readings (reading a) (reading b) e (network, cert) (ap reading (same_part bundle a b x y)) unread read
+
+same_reading : (a b : Result (Network × CertValue) CertError) (x y : Network × CertValue) → a ≡ b → a ≡ Ok x → b ≡ Ok y → x ≡ y
+same_reading a b x y same p q = cc
+
+-- one text has one verdict
+judged_alike : (bundle a b : List ℕ) (n m : Nest) (network other : Network) (cert another : CertValue) → certificate_part bundle ≡ Some a → certificate_part bundle ≡ Some b
+    → Alike (Ok n) (Ok m) → reading a ≡ Ok (network, cert) → reading b ≡ Ok (other, another)
+    → (verdict_reply (verdict_of (first n network cert))).status ≡ (verdict_reply (verdict_of (first m other another))).status
+judged_alike bundle a b n m network other cert another x y same p q =
+    let pairs : (network, cert) ≡ (other, another) = same_reading (reading a) (reading b) (network, cert) (other, another) (ap reading (same_part bundle a b x y)) p q in
+    ap (λ (found : Option NetRefusal). (verdict_reply (verdict_of found)).status)
+    (first_alike n m same.0 same.1 same.2 network cert ∙ ap (λ (z : Network × CertValue). first m z.0 z.1) pairs)
+
+checks_alike : OneTree → (params : List (List ℕ × ℤ)) (bundle : List ℕ) {x y : Result Reply Refusal} → Checks params bundle x → Checks params bundle y → SameStatus x y
+checks_alike one params bundle (check.part_missing none) (check.part_missing none') = refl
+checks_alike one params bundle (check.part_missing none) (check.source_refused part' s there' h) = absurd (no_part_there bundle part' none there')
+checks_alike one params bundle (check.part_missing none) (check.size_refused part' m f there' h d) = absurd (no_part_there bundle part' none there')
+checks_alike one params bundle (check.part_missing none) (check.unread part' m u f text' there' h d read' told') = absurd (no_part_there bundle part' none there')
+checks_alike one params bundle (check.part_missing none) (check.judged part' m u network' cert' there' h d read') = absurd (no_part_there bundle part' none there')
+checks_alike one params bundle (check.source_refused part r there g) (check.part_missing none) = absurd (no_part_there bundle part none there)
+checks_alike one params bundle (check.source_refused part r there g) (check.source_refused part' s there' h) = gives_alike one (source_part bundle) params g h
+checks_alike one params bundle (check.source_refused part r there g) (check.size_refused part' m f there' h d) = absurd (gives_alike one (source_part bundle) params g h)
+checks_alike one params bundle (check.source_refused part r there g) (check.unread part' m u f text' there' h d read' told') = absurd (gives_alike one (source_part bundle) params g h)
+checks_alike one params bundle (check.source_refused part r there g) (check.judged part' m u network' cert' there' h d read') = absurd (gives_alike one (source_part bundle) params g h)
+checks_alike one params bundle (check.size_refused part n e there g c) (check.part_missing none) = absurd (no_part_there bundle part none there)
+checks_alike one params bundle (check.size_refused part n e there g c) (check.source_refused part' s there' h) = absurd (gives_alike one (source_part bundle) params g h)
+checks_alike one params bundle (check.size_refused part n e there g c) (check.size_refused part' m f there' h d) = size_status e ∙ sym (size_status f)
+checks_alike one params bundle (check.size_refused part n e there g c) (check.unread part' m u f text' there' h d read' told') = absurd (no_both_sizes n m e u (gives_alike one (source_part bundle) params g h).2 c d)
+checks_alike one params bundle (check.size_refused part n e there g c) (check.judged part' m u network' cert' there' h d read') = absurd (no_both_sizes n m e u (gives_alike one (source_part bundle) params g h).2 c d)
+checks_alike one params bundle (check.unread part n t e text there g c read told) (check.part_missing none) = absurd (no_part_there bundle part none there)
+checks_alike one params bundle (check.unread part n t e text there g c read told) (check.source_refused part' s there' h) = absurd (gives_alike one (source_part bundle) params g h)
+checks_alike one params bundle (check.unread part n t e text there g c read told) (check.size_refused part' m f there' h d) = absurd (no_both_sizes m n f t (gives_alike one (source_part bundle) params h g).2 d c)
+checks_alike one params bundle (check.unread part n t e text there g c read told) (check.unread part' m u f text' there' h d read' told') = refl
+checks_alike one params bundle (check.unread part n t e text there g c read told) (check.judged part' m u network' cert' there' h d read') = absurd (read_and_unread bundle part part' e network' cert' there there' read read')
+checks_alike one params bundle (check.judged part n t network cert there g c read) (check.part_missing none) = absurd (no_part_there bundle part none there)
+checks_alike one params bundle (check.judged part n t network cert there g c read) (check.source_refused part' s there' h) = absurd (gives_alike one (source_part bundle) params g h)
+checks_alike one params bundle (check.judged part n t network cert there g c read) (check.size_refused part' m f there' h d) = absurd (no_both_sizes m n f t (gives_alike one (source_part bundle) params h g).2 d c)
+checks_alike one params bundle (check.judged part n t network cert there g c read) (check.unread part' m u f text' there' h d read' told') = absurd (read_and_unread bundle part' part f network cert there' there read' read)
+checks_alike one params bundle (check.judged part n t network cert there g c read) (check.judged part' m u network' cert' there' h d read') = judged_alike bundle part part' n m network network' cert cert' there there' (gives_alike one (source_part bundle) params g h) read read'
+
+performs_alike : OneTree → (command : Command) (policy : Policy) (params : List (List ℕ × ℤ)) (bundle : List ℕ) (x y : Result Reply Refusal)
+    → Performs command policy params bundle x → Performs command policy params bundle y → SameStatus x y
+performs_alike one Run policy params bundle x y made other = runs_alike one params bundle made other
+performs_alike one Seq policy params bundle x y made other = runs_alike one params bundle made other
+performs_alike one Net policy params bundle x y made other = prints_alike one (network_text policy) params bundle made other
+performs_alike one Cert policy params bundle x y made other = prints_alike one (certificate_text policy) params bundle made other
+performs_alike one Check policy params bundle x y made other = checks_alike one params bundle made other
+
+pub no_order : (words : List (List ℕ)) (order : Order) → order_of words ≡ None → order_of words ≡ Some order → ⊥
 no_order words order x y = cc
 
 pub outcomes_alike : OneTree → (words : List (List ℕ)) (bundle : List ℕ) {a b : Outcome} → IsOutcome words bundle a → IsOutcome words bundle b → a.status ≡ b.status
@@ -232,83 +325,122 @@ outcomes_alike one words bundle (bundle_refused o x long) (performed p answer y 
 outcomes_alike one words bundle (performed o answer x within made) (words_refused y) = absurd (no_order words o y x)
 outcomes_alike one words bundle (performed o answer x within made) (bundle_refused p y long) = absurd (omega arith)
 outcomes_alike one words bundle (performed o answer x within made) (performed p answer' y within' made') =
-    performs_alike one o.command o.params bundle answer answer' made
-    (subst (λ (q : Order). Performs q.command q.params bundle answer') (same_value p o (sym y ∙ x)) made')
+    performs_alike one o.command o.policy o.params bundle answer answer' made
+    (subst (λ (q : Order). Performs q.command q.policy q.params bundle answer') (same_value p o (sym y ∙ x)) made')
 
 -- ---- the statuses of outcomes
+
+abbrev pub is_refused : ℕ → Bool
+is_refused status = list_any (λ s. s == status) (2 ∷ 5 ∷ 6 ∷ 7 ∷ 8 ∷ 9 ∷ [])
 
 abbrev is_own : ℕ → Bool
 is_own status = list_any (λ s. s == status) outcome_statuses
 
-own_of : (made r : Refusal) → Some made ≡ Some r → is_own made.status ≡ true → is_own r.status ≡ true
-own_of made r e own = subst (λ (t : Refusal). is_own t.status ≡ true) (same_value made r e) own
+-- the status of a refusal is that of an outcome
+own_refused : (status : ℕ) → is_refused status ≡ true → is_own status ≡ true
+own_refused status refused = or_right (0 == status) _ (or_right (1 == status) _ refused)
 
-lex_status : (e : LexError) (r : Refusal) → lex_refusal e ≡ Some r → is_own r.status ≡ true
-lex_status (lexical.BadByte at) r made = own_of _ r made refl
-lex_status (lexical.OpenComment at) r made = own_of _ r made refl
-lex_status (lexical.LargeNumber at) r made = own_of _ r made refl
-lex_status (lexical.TooMany at) r made = own_of _ r made refl
+refused_of : (made r : Refusal) → Some made ≡ Some r → is_refused made.status ≡ true → is_refused r.status ≡ true
+refused_of made r e own = subst (λ (t : Refusal). is_refused t.status ≡ true) (same_value made r e) own
+
+lex_status : (e : LexError) (r : Refusal) → lex_refusal e ≡ Some r → is_refused r.status ≡ true
+lex_status (lexical.BadByte at) r made = refused_of _ r made refl
+lex_status (lexical.OpenComment at) r made = refused_of _ r made refl
+lex_status (lexical.LargeNumber at) r made = refused_of _ r made refl
+lex_status (lexical.TooMany at) r made = refused_of _ r made refl
 lex_status lexical.Memory r made = cc
 
-bind_status : (at : ℕ → ℕ) (e : BindError) (r : Refusal) → bind_refusal at e ≡ Some r → is_own r.status ≡ true
-bind_status at (binding.UnknownName t) r made = own_of _ r made refl
-bind_status at (binding.Duplicate t) r made = own_of _ r made refl
-bind_status at (binding.Unbound t) r made = own_of _ r made refl
-bind_status at (binding.NotAffine t) r made = own_of _ r made refl
-bind_status at (binding.WrongCount t) r made = own_of _ r made refl
-bind_status at (binding.ElseForm t) r made = own_of _ r made refl
-bind_status at (binding.TooManyProcesses t) r made = own_of _ r made refl
-bind_status at (binding.TooDeep t) r made = own_of _ r made refl
-bind_status at (binding.TooManyReads t) r made = own_of _ r made refl
-bind_status at (binding.TooManyRows t) r made = own_of _ r made refl
-bind_status at (binding.Large t) r made = own_of _ r made refl
+bind_status : (at : ℕ → ℕ) (e : BindError) (r : Refusal) → bind_refusal at e ≡ Some r → is_refused r.status ≡ true
+bind_status at (binding.UnknownName t) r made = refused_of _ r made refl
+bind_status at (binding.Duplicate t) r made = refused_of _ r made refl
+bind_status at (binding.Unbound t) r made = refused_of _ r made refl
+bind_status at (binding.NotAffine t) r made = refused_of _ r made refl
+bind_status at (binding.WrongCount t) r made = refused_of _ r made refl
+bind_status at (binding.ElseForm t) r made = refused_of _ r made refl
+bind_status at (binding.TooManyProcesses t) r made = refused_of _ r made refl
+bind_status at (binding.TooDeep t) r made = refused_of _ r made refl
+bind_status at (binding.TooManyReads t) r made = refused_of _ r made refl
+bind_status at (binding.TooManyRows t) r made = refused_of _ r made refl
+bind_status at (binding.Large t) r made = refused_of _ r made refl
 bind_status at binding.Memory r made = cc
 
-abbrev IsOwn : {A : Type 0} → Result A Refusal → Type 0
-IsOwn (Ok x) = Unit {0}
-IsOwn (Err r) = is_own r.status ≡ true
+abbrev IsRefused : {A : Type 0} → Result A Refusal → Type 0
+IsRefused (Ok x) = Unit {0}
+IsRefused (Err r) = is_refused r.status ≡ true
 
-gives_own : (source : List ℕ) (params : List (List ℕ × ℤ)) {x : Result Nest Refusal} → Gives source params x → IsOwn x
-gives_own source params (no_tokens e r lexed made) = lex_status e r made
-gives_own source params (no_tree a place lexed stops) = refl
-gives_own source params (not_bound a t reason r lexed derived least made) = bind_status (byte_of source a) reason r made
-gives_own source params (bound a t n lexed derived is) = tt
+pub gives_refused : (source : List ℕ) (params : List (List ℕ × ℤ)) {x : Result Nest Refusal} → Gives source params x → IsRefused x
+gives_refused source params (no_tokens e r lexed made) = lex_status e r made
+gives_refused source params (no_tree a place lexed stops) = refl
+gives_refused source params (not_bound a t reason r lexed derived least made) = bind_status (byte_of source a) reason r made
+gives_refused source params (bound a t n lexed derived is) = tt
 
-inputs_own : (bytes : List ℕ) (n : Nest) (r : Refusal) → IsInputs n bytes (Err r) → is_own r.status ≡ true
-inputs_own bytes n r i = rw (data_status n.arrays i.0 r i.2) refl
+inputs_refused : (bytes : List ℕ) (n : Nest) (r : Refusal) → IsInputs n bytes (Err r) → is_refused r.status ≡ true
+inputs_refused bytes n r i = rw (data_status n.arrays i.0 r i.2) refl
 
-runs_own : (params : List (List ℕ × ℤ)) (bundle : List ℕ) {x : Result (List ℕ) Refusal} → Runs params bundle x → is_own (outcome_of x).status ≡ true
-runs_own params bundle (source_refused r g) = gives_own (source_part bundle) params g
+runs_own : (params : List (List ℕ × ℤ)) (bundle : List ℕ) {x : Result Reply Refusal} → Runs params bundle x → is_own (outcome_of x).status ≡ true
+runs_own params bundle (source_refused r g) = own_refused r.status (gives_refused (source_part bundle) params g)
 runs_own params bundle (size_refused n e g c) = rw (size_status e) refl
-runs_own params bundle (data_refused n t r g c i) = inputs_own (data_part bundle) n r i
+runs_own params bundle (data_refused n t r g c i) = own_refused r.status (inputs_refused (data_part bundle) n r i)
 runs_own params bundle (answered n t d g c i) = refl
 
-networks_own : (params : List (List ℕ × ℤ)) (bundle : List ℕ) {x : Result (List ℕ) Refusal} → PrintsNetwork params bundle x → is_own (outcome_of x).status ≡ true
-networks_own params bundle (print.source_refused r g) = gives_own (source_part bundle) params g
-networks_own params bundle (print.size_refused n e g c) = rw (size_status e) refl
-networks_own params bundle (print.printed n t g c) = refl
+prints_own : (text : Nest → List ℕ) (params : List (List ℕ × ℤ)) (bundle : List ℕ) {x : Result Reply Refusal} → Prints text params bundle x → is_own (outcome_of x).status ≡ true
+prints_own text params bundle (print.source_refused r g) = own_refused r.status (gives_refused (source_part bundle) params g)
+prints_own text params bundle (print.size_refused n e g c) = rw (size_status e) refl
+prints_own text params bundle (print.printed n t g c) = refl
 
-performs_own : (command : Command) (params : List (List ℕ × ℤ)) (bundle : List ℕ) (x : Result (List ℕ) Refusal)
-    → Performs command params bundle x → is_own (outcome_of x).status ≡ true
-performs_own Run params bundle x made = runs_own params bundle made
-performs_own Seq params bundle x made = runs_own params bundle made
-performs_own Net params bundle x made = networks_own params bundle made
+verdict_own : (found : Option NetRefusal) → is_own (verdict_reply (verdict_of found)).status ≡ true
+verdict_own None = refl
+verdict_own (Some refusal) = refl
+
+checks_own : (params : List (List ℕ × ℤ)) (bundle : List ℕ) {x : Result Reply Refusal} → Checks params bundle x → is_own (outcome_of x).status ≡ true
+checks_own params bundle (check.part_missing none) = refl
+checks_own params bundle (check.source_refused part r there g) = own_refused r.status (gives_refused (source_part bundle) params g)
+checks_own params bundle (check.size_refused part n e there g c) = rw (size_status e) refl
+checks_own params bundle (check.unread part n t e text there g c read told) = refl
+checks_own params bundle (check.judged part n t network cert there g c read) = verdict_own (first n network cert)
+
+performs_own : (command : Command) (policy : Policy) (params : List (List ℕ × ℤ)) (bundle : List ℕ) (x : Result Reply Refusal)
+    → Performs command policy params bundle x → is_own (outcome_of x).status ≡ true
+performs_own Run policy params bundle x made = runs_own params bundle made
+performs_own Seq policy params bundle x made = runs_own params bundle made
+performs_own Net policy params bundle x made = prints_own (network_text policy) params bundle made
+performs_own Cert policy params bundle x made = prints_own (certificate_text policy) params bundle made
+performs_own Check policy params bundle x made = checks_own params bundle made
 
 pub outcomes_own : (words : List (List ℕ)) (bundle : List ℕ) {a : Outcome} → IsOutcome words bundle a → is_own a.status ≡ true
 outcomes_own words bundle (words_refused x) = refl
 outcomes_own words bundle (bundle_refused o x long) = refl
-outcomes_own words bundle (performed o answer x within made) = performs_own o.command o.params bundle answer made
+outcomes_own words bundle (performed o answer x within made) = performs_own o.command o.policy o.params bundle answer made
 
 -- ---- success
 
-performs_valid : (command : Command) (params : List (List ℕ × ℤ)) (bundle : List ℕ) → (n : Nest) (total : ℕ) (inputs : Inputs)
-    → Gives (source_part bundle) params (Ok n) → counted n ≡ Ok total → TakesInputs command n (data_part bundle) inputs
-    → (text : List ℕ) × Performs command params bundle (Ok text)
-performs_valid Run params bundle n total inputs gives counts takes = (answer_text n.arrays (arrays n inputs), answered n total inputs gives counts takes)
-performs_valid Seq params bundle n total inputs gives counts takes = (answer_text n.arrays (arrays n inputs), answered n total inputs gives counts takes)
-performs_valid Net params bundle n total inputs gives counts takes = (net_text n (sequential_network n), print.printed n total gives counts)
+verdict_done : (found : Option NetRefusal) → IsDone Check (verdict_reply (verdict_of found)).status
+verdict_done None = inl refl
+verdict_done (Some refusal) = inr refl
 
-pub outcomes_succeed : OneTree → (words : List (List ℕ)) (bundle : List ℕ) → IsValid words bundle → {a : Outcome} → IsOutcome words bundle a → a.status ≡ 0
-outcomes_succeed one words bundle v is =
-    let valid = performs_valid v.order.command v.order.params bundle v.nest v.total v.inputs v.gives v.counts v.takes in
-    outcomes_alike one words bundle is (performed v.order (Ok valid.0) v.ordered v.within valid.1)
+checks_done : OneTree → (params : List (List ℕ × ℤ)) (bundle : List ℕ) (n : Nest) (total : ℕ) (part : List ℕ) → Gives (source_part bundle) params (Ok n) → counted n ≡ Ok total
+    → certificate_part bundle ≡ Some part → {x : Result Reply Refusal} → Checks params bundle x → IsDone Check (outcome_of x).status
+checks_done one params bundle n total part gives counts there (check.part_missing none) = absurd (no_part_there bundle part none there)
+checks_done one params bundle n total part gives counts there (check.source_refused other r others g) = absurd (gives_alike one (source_part bundle) params gives g)
+checks_done one params bundle n total part gives counts there (check.size_refused other m e others g c) =
+    absurd (no_both_sizes m n e total (gives_alike one (source_part bundle) params g gives).2 c counts)
+checks_done one params bundle n total part gives counts there (check.unread other m t e text others g c read told) = inr refl
+checks_done one params bundle n total part gives counts there (check.judged other m t network cert others g c read) = verdict_done (first m network cert)
+
+performs_done : OneTree → (command : Command) (policy : Policy) (params : List (List ℕ × ℤ)) (bundle : List ℕ) → (n : Nest) (total : ℕ) (inputs : Inputs)
+    → Gives (source_part bundle) params (Ok n) → counted n ≡ Ok total → HasParts command n bundle inputs
+    → (x : Result Reply Refusal) → Performs command policy params bundle x → IsDone command (outcome_of x).status
+performs_done one Run policy params bundle n total inputs gives counts has x made = runs_alike one params bundle made (answered n total inputs gives counts has)
+performs_done one Seq policy params bundle n total inputs gives counts has x made = runs_alike one params bundle made (answered n total inputs gives counts has)
+performs_done one Net policy params bundle n total inputs gives counts has x made =
+    prints_alike one (network_text policy) params bundle made (print.printed n total gives counts)
+performs_done one Cert policy params bundle n total inputs gives counts has x made =
+    prints_alike one (certificate_text policy) params bundle made (print.printed n total gives counts)
+performs_done one Check policy params bundle n total inputs gives counts has x made = checks_done one params bundle n total has.0 gives counts has.1 made
+
+pub outcomes_succeed : OneTree → (words : List (List ℕ)) (bundle : List ℕ) (v : IsValid words bundle) → {a : Outcome} → IsOutcome words bundle a → IsDone v.order.command a.status
+outcomes_succeed one words bundle v (words_refused x) = absurd (no_order words v.order x v.ordered)
+outcomes_succeed one words bundle v (bundle_refused o x long) = absurd (omega (arith, v.within))
+outcomes_succeed one words bundle v (performed o answer x within made) =
+    performs_done one v.order.command v.order.policy v.order.params bundle v.nest v.total v.inputs v.gives v.counts v.has answer
+    (subst (λ (q : Order). Performs q.command q.policy q.params bundle answer) (same_value o v.order (sym x ∙ v.ordered)) made)

@@ -1,10 +1,10 @@
 -- What follows of the definitions alone.
-use Rattle.std.specs.Prelude.{◌≡◌, ◌==◌, ◌≤◌, ℕ, true, List, [], ◌∷◌, length, Some, Ok}
+use Rattle.std.specs.Prelude.{◌≡◌, ◌⊎◌, ◌==◌, ◌≤◌, ℕ, true, List, [], ◌∷◌, length, Some, Ok}
 use Rattle.std.specs.List.{list_any}
-use Rattle.command_line.specs.Bundle.{source_part, data_part}
+use Rattle.command_line.specs.Bundle.{certificate_part, data_part, source_part}
 use Rattle.command_line.specs.Words.{order_of}
 use Rattle.command_line.specs.declared.words.Command.{Command}
-use Rattle.command_line.specs.declared.words.Command.TheVariants.{Run, Seq, Net}
+use Rattle.command_line.specs.declared.words.Command.TheVariants.{Run, Seq, Net, Cert, Check}
 use Rattle.command_line.specs.declared.words.Order.{Order}
 use Rattle.sanlp.specs.declared.nest.Inputs.{Inputs}
 use Rattle.sanlp.specs.declared.nest.Nest.{Nest}
@@ -19,16 +19,18 @@ DetermineStatus words bundle = (a b : Outcome) → IsOutcome words bundle a → 
 
 -- the statuses of outcomes: a failed read, a failed write and want of memory have others
 abbrev pub outcome_statuses : List ℕ
-outcome_statuses = 0 ∷ 2 ∷ 5 ∷ 6 ∷ 7 ∷ 8 ∷ 9 ∷ []
+outcome_statuses = 0 ∷ 1 ∷ 2 ∷ 5 ∷ 6 ∷ 7 ∷ 8 ∷ 9 ∷ []
 
 abbrev pub HaveOwnStatuses : List (List ℕ) → List ℕ → Type 0
 HaveOwnStatuses words bundle = (outcome : Outcome) → IsOutcome words bundle outcome → list_any (λ status. status == outcome.status) outcome_statuses ≡ true
 
--- a command that reads data takes the data part for these inputs
-abbrev pub TakesInputs : Command → Nest → List ℕ → Inputs → Type 0
-TakesInputs Run nest bytes inputs = IsInputs nest bytes (Ok inputs)
-TakesInputs Seq nest bytes inputs = IsInputs nest bytes (Ok inputs)
-TakesInputs Net nest bytes inputs = Unit {0}
+-- the bundle has what the command reads besides the source: a data part that gives these inputs, or a certificate part
+abbrev pub HasParts : Command → Nest → List ℕ → Inputs → Type 0
+HasParts Run nest bundle inputs = IsInputs nest (data_part bundle) (Ok inputs)
+HasParts Seq nest bundle inputs = IsInputs nest (data_part bundle) (Ok inputs)
+HasParts Net nest bundle inputs = Unit {0}
+HasParts Cert nest bundle inputs = Unit {0}
+HasParts Check nest bundle inputs = (part : List ℕ) × (certificate_part bundle ≡ Some part)
 
 -- words and a bundle at which nothing is refused
 pub record IsValid (words : List (List ℕ)) (bundle : List ℕ) : Type 0 where
@@ -40,8 +42,16 @@ pub record IsValid (words : List (List ℕ)) (bundle : List ℕ) : Type 0 where
   pub within : length bundle ≤ bundle_limit
   pub gives : Gives (source_part bundle) order.params (Ok nest)
   pub counts : counted nest ≡ Ok total
-  pub takes : TakesInputs order.command nest (data_part bundle) inputs
+  pub has : HasParts order.command nest bundle inputs
 
--- there the status is 0
+-- the status is 0, or 1 where `check` tells a refusal
+abbrev pub IsDone : Command → ℕ → Type 0
+IsDone Run status = status ≡ 0
+IsDone Seq status = status ≡ 0
+IsDone Net status = status ≡ 0
+IsDone Cert status = status ≡ 0
+IsDone Check status = (status ≡ 0) ⊎ (status ≡ 1)
+
+-- at these words and this bundle the command is done
 abbrev pub Succeeds : List (List ℕ) → List ℕ → Type 0
-Succeeds words bundle = IsValid words bundle → (outcome : Outcome) → IsOutcome words bundle outcome → outcome.status ≡ 0
+Succeeds words bundle = (valid : IsValid words bundle) (outcome : Outcome) → IsOutcome words bundle outcome → IsDone valid.order.command outcome.status

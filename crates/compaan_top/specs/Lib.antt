@@ -1,7 +1,10 @@
 pub mod Answers
 pub mod Judging
 pub mod Laws
-pub mod NetworkPrint
+pub mod Checking
+pub mod Headline
+pub mod Printing
+pub mod Replies
 pub mod Outcome
 pub mod Planned
 pub mod Refusals

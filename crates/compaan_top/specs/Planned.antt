@@ -2,26 +2,30 @@
 use Rattle.std.specs.Prelude.{◌≡◌, ◌≤◌, ◌<◌, ℕ, List, length, Option, Some, None, Result, Ok, Err}
 use Rattle.std.specs.Global.{Vec}
 use Rattle.array_data.specs.Answer.{answer_text}
+use Rattle.cert_text.specs.CertText.{cert_text}
 use Rattle.command_line.specs.Words.{order_of}
 use Rattle.command_line.specs.declared.words.Order.{Order}
 use Rattle.compaan_top.specs.Answers.{Change, IsQuiet, HasFault, ReadsTo, Reads}
 use Rattle.compaan_top.specs.Outcome.{IsOutcome, outcome_of, bundle_limit}
 use Rattle.compaan_top.specs.Refusals.{usage, too_long}
+use Rattle.compaan_top.specs.Replies.{Reply, done}
 use Rattle.compaan_top.specs.declared.answer.Answer.{Answer}
-use Rattle.compaan_top.specs.declared.answer.Answer.TheVariants.{Arrays, Network}
+use Rattle.compaan_top.specs.declared.answer.Answer.TheVariants.{Arrays, Network, Certificate, Verdict}
 use Rattle.net_text.specs.NetworkText.{net_text}
 use Rattle.compaan_top.specs.declared.refusal.Refusal.{Refusal}
 use Rattle.compaan_top.specs.declared.refusal.Stop.{Stop}
 use Rattle.compaan_top.specs.declared.refusal.Stop.TheVariants.{Refused, ReadFault, Memory}
 
--- the text of an answer
-abbrev pub text_of : Answer → List ℕ
-text_of (Arrays answer) = answer_text answer.nest.arrays answer.arrays.arrays
-text_of (Network answer) = net_text answer.nest answer.network
+-- the reply that an answer is
+abbrev pub reply_of : Answer → Reply
+reply_of (Arrays answer) = done (answer_text answer.nest.arrays answer.arrays.arrays)
+reply_of (Network answer) = done (net_text answer.nest answer.network)
+reply_of (Certificate answer) = done (cert_text answer.network answer.cert)
+reply_of (Verdict answer) = record { status = answer.status; text = answer.line }
 
-abbrev pub as_text : Result Answer Refusal → Result (List ℕ) Refusal
-as_text (Ok answer) = Ok (text_of answer)
-as_text (Err refusal) = Err refusal
+abbrev pub as_reply : Result Answer Refusal → Result Reply Refusal
+as_reply (Ok answer) = Ok (reply_of answer)
+as_reply (Err refusal) = Err refusal
 
 abbrev pub IsOrdered : List (List ℕ) → Result Order Refusal → Type 0
 IsOrdered words (Ok order) = order_of words ≡ Some order
@@ -34,11 +38,11 @@ ReadsBundle input (Err ReadFault) = HasFault input
 ReadsBundle input (Err Memory) = IsQuiet input
 
 -- the input was read, and the answer is that of the words and of what was read
-abbrev pub ReadsAndJudges : List (List ℕ) → Change → Result (List ℕ) Refusal → Type 0
+abbrev pub ReadsAndJudges : List (List ℕ) → Change → Result Reply Refusal → Type 0
 ReadsAndJudges words input answer = (bundle : List ℕ) × Reads (order_of words) input bundle × IsOutcome words bundle (outcome_of answer)
 
 abbrev pub IsPlanned : List (List ℕ) → Change → Result Answer Stop → Type 0
-IsPlanned words input (Ok answer) = IsQuiet input × ReadsAndJudges words input (Ok (text_of answer))
+IsPlanned words input (Ok answer) = IsQuiet input × ReadsAndJudges words input (Ok (reply_of answer))
 IsPlanned words input (Err (Refused refusal)) = IsQuiet input × ReadsAndJudges words input (Err refusal)
 IsPlanned words input (Err ReadFault) = (order : Order) × (order_of words ≡ Some order) × HasFault input
 IsPlanned words input (Err Memory) = IsQuiet input

@@ -25,6 +25,10 @@ usage = refusal_with 2 (codes "usage: compaan COMMAND [--policy seq|down] [NAME=
 abbrev pub too_long : Refusal
 too_long = refusal_with 5 (codes "bundle: TooLong") []
 
+-- `check` wants a certificate part, which stands behind a second separator
+abbrev pub no_part : Refusal
+no_part = refusal_with 5 (codes "bundle: NoPart") []
+
 -- the byte at which the token of this number starts, or the length of the source for the place at the end
 abbrev pub byte_of : List ℕ → List Token → ℕ → ℕ
 byte_of source tokens number = option_map_or (λ token. token.start) (slice_get tokens number) (length source)

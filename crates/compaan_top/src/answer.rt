@@ -4,7 +4,9 @@ ghost use Rattle.net_core.specs.Machine.{net_of};
 ghost use Rattle.net_core.specs.Shape.{FitsNumbers};
 
 use net_core::Network;
+use plain_data::Items;
 use sanlp::{Arrays, Nest, Points};
+use source_tree::Cert;
 
 /// The values of the output arrays of a nest.
 #[derive(Drop)]
@@ -24,9 +26,25 @@ pub(crate) struct NetworkAnswer {
     ghost numbers: { FitsNumbers (net_of network) },
 }
 
+/// A network with its certificate.
+#[derive(Drop)]
+pub(crate) struct CertificateAnswer {
+    pub(crate) network: Network,
+    pub(crate) cert: Cert,
+}
+
+/// What the checker says, and the status that goes with it.
+#[derive(Drop)]
+pub(crate) struct VerdictAnswer {
+    pub(crate) status: u8,
+    pub(crate) line: Items<u8>,
+}
+
 /// What is to be written on the output.
 #[derive(Drop)]
 pub(crate) enum Answer {
     Arrays(ArrayAnswer),
     Network(NetworkAnswer),
+    Certificate(CertificateAnswer),
+    Verdict(VerdictAnswer),
 }

@@ -1,14 +1,20 @@
-ghost use Rattle.std.specs.Prelude.{◌≤◌, length, map, string_bytes};
-ghost use Rattle.compaan_top.specs.Answers.{Change, Ends};
+ghost use Rattle.std.specs.Prelude.{◌≡◌, ◌≤◌, ℕ, List, Some, length, map, string_bytes};
+ghost use Rattle.command_line.specs.Words.{order_of};
+ghost use Rattle.command_line.specs.declared.words.Command.TheVariants as command;
+ghost use Rattle.command_line.specs.declared.words.Order.{Order as WordOrder};
+ghost use Rattle.compaan_top.specs.Answers.{Change, Ends, ReadsTo};
+ghost use Rattle.compaan_top.specs.Headline.{IsVouchedFor};
 ghost use Rattle.compaan_top.specs.Judging.{Judges};
 ghost use Rattle.compaan_top.specs.Outcome.{Performs, bundle_limit};
-ghost use Rattle.compaan_top.specs.Planned.{as_text, IsOrdered, IsPlanned, ReadsBundle};
+ghost use Rattle.compaan_top.specs.Planned.{as_reply, IsOrdered, IsPlanned, ReadsBundle};
 
 use crate::answer::Answer;
-use crate::network::print_network;
+use crate::check::check_certificate;
+use crate::law::what_is_accepted_is_sound;
+use crate::printing::{print_certificate, print_network};
 use crate::refusal::{Stop, too_long, usage};
 use crate::run::{Engine, run};
-use crate::writing::write_text;
+use crate::writing::{status_of, write_text};
 use command_line::{Command, Order, WordsError, read_words};
 use io_edge::{ReadError, Sink, Source, read_all, write_all};
 use std::alloc::Global;
@@ -39,12 +45,17 @@ fn bundle_of<S: Source>(alloc: Global, input: &mut S) -> Result<Vec<u8>, Stop>
 
 fn perform(alloc: Global, order: &Order, bundle: &[u8]) -> Result<Answer, Stop>
     requires { length bundle.now ≤ bundle_limit }
-    ensures { Judges (λ answer. Performs order.now.command order.now.params bundle.now (as_text answer)) result }
+    ensures { Judges (λ answer. Performs order.now.command order.now.policy order.now.params bundle.now (as_reply answer)) result }
 {
     match order.command {
-        Command::Run => run(alloc, &order.params, bundle, Engine::Network),
+        Command::Run => {
+            let engine = Engine::Network(order.policy);
+            run(alloc, &order.params, bundle, engine)
+        }
         Command::Seq => run(alloc, &order.params, bundle, Engine::Interpreter),
-        Command::Net => print_network(alloc, &order.params, bundle),
+        Command::Net => print_network(alloc, order.policy, &order.params, bundle),
+        Command::Cert => print_certificate(alloc, order.policy, &order.params, bundle),
+        Command::Check => check_certificate(alloc, &order.params, bundle),
     }
 }
 
@@ -57,8 +68,8 @@ fn plan<S: Source>(alloc: Global, words: &[String], input: &mut S) -> Result<Ans
     perform(alloc, &order, &bundle)
 }
 
-/// All that the program does.
-pub fn compaan<S: Source, K: Sink, E: Sink>(
+// Reads, works and writes.
+fn work<S: Source, K: Sink, E: Sink>(
     alloc: Global,
     words: &[String],
     input: &mut S,
@@ -73,7 +84,7 @@ pub fn compaan<S: Source, K: Sink, E: Sink>(
 {
     match plan(alloc, words, input) {
         Ok(answer) => match write_text(&answer, output) {
-            Ok(()) => 0,
+            Ok(()) => status_of(&answer),
             Err(_) => 4,
         },
         Err(Stop::Refused(refusal)) => match write_all(complaint, refusal.line.as_slice()) {
@@ -83,4 +94,25 @@ pub fn compaan<S: Source, K: Sink, E: Sink>(
         Err(Stop::ReadFault) => 3,
         Err(Stop::Memory) => 10,
     }
+}
+
+/// All that the program does. Where `check` answers with status 0, the bundle's certificate part is the text of a network
+/// with a certificate that fit the source's nest, and the network is sound for it.
+pub fn compaan<S: Source, K: Sink, E: Sink>(
+    alloc: Global,
+    words: &[String],
+    input: &mut S,
+    output: &mut K,
+    complaint: &mut E,
+) -> u8
+    ensures ends { Ends (map string_bytes words.now)
+        (record { old = S.left input.old; new = S.left input.new; faults_old = S.faults input.old; faults_new = S.faults input.new })
+        (record { old = K.held output.old; new = K.held output.new; faults_old = K.faults output.old; faults_new = K.faults output.new })
+        (record { old = E.held complaint.old; new = E.held complaint.new; faults_old = E.faults complaint.old; faults_new = E.faults complaint.new })
+        result }
+    ensures accepts { (order : WordOrder) → order_of (map string_bytes words.now) ≡ Some order → order.command ≡ command.Check → result ≡ 0
+        → (bundle : List ℕ) × ReadsTo (record { old = S.left input.old; new = S.left input.new; faults_old = S.faults input.old; faults_new = S.faults input.new }) bundle × IsVouchedFor order.params bundle }
+{
+    what_is_accepted_is_sound();
+    work(alloc, words, input, output, complaint)
 }

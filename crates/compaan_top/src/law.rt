@@ -1,16 +1,35 @@
 //! What follows of the definitions alone, for all words and bundles.
 
-ghost use Rattle.std.specs.Prelude.{ℕ, List};
+ghost use Rattle.std.specs.Prelude.{◌≡◌, ℕ, ℤ, List, Result};
+ghost use Rattle.compaan_top.specs.Checking.{Checks};
+ghost use Rattle.compaan_top.specs.Headline.{IsVouchedFor};
+ghost use Rattle.compaan_top.specs.Outcome.{outcome_of};
+ghost use Rattle.compaan_top.specs.Replies.{Reply};
+ghost use Rattle.compaan_top.specs.declared.refusal.Refusal.{Refusal};
 ghost use Rattle.compaan_top.specs.Laws.{DetermineStatus, HaveOwnStatuses, Succeeds};
 
+use cert_text::reads_what_is_written;
 use loop_grammar::one_tree;
+use net_checker::{accepts_what_fits, is_sound};
 
 /// The status is determined by the words and the bundle: two outcomes of theirs have the same. It is none of those that
-/// a failed read, a failed write or want of memory has, and where nothing is refused it is 0.
+/// a failed read, a failed write or want of memory has. Where nothing is refused it is 0; for `check` it is 0, or 1 where a
+/// refusal of the certificate is told.
 pub fn status_is_determined()
     ensures determined { (words : List (List ℕ)) (bundle : List ℕ) → DetermineStatus words bundle }
     ensures own { (words : List (List ℕ)) (bundle : List ℕ) → HaveOwnStatuses words bundle }
     ensures success { (words : List (List ℕ)) (bundle : List ℕ) → Succeeds words bundle }
 {
     one_tree();
+}
+
+/// Where `check` comes to status 0, the certificate part is the text of a network with a certificate that fit the nest of the
+/// source, and the network is sound for it.
+pub(crate) fn what_is_accepted_is_sound()
+    ensures { (params : List (List ℕ × ℤ)) (bundle : List ℕ) (answer : Result Reply Refusal) → Checks params bundle answer
+        → (outcome_of answer).status ≡ 0 → IsVouchedFor params bundle }
+{
+    accepts_what_fits();
+    is_sound();
+    reads_what_is_written();
 }

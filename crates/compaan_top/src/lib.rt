@@ -3,8 +3,9 @@
 
 mod answer;
 mod call;
+mod check;
 mod law;
-mod network;
+mod printing;
 mod refusal;
 mod run;
 mod source;

@@ -1,5 +1,5 @@
 ghost use Rattle.std.specs.Prelude.{◌≡◌, [], ◌∷◌, ◌++◌, IfOk, Some, codes};
-ghost use Rattle.compaan_top.specs.Refusals.{bind_refusal, byte_of, data_refusal, lex_refusal, name_of, refusal_with, size_refusal, syntax_refusal, too_long, usage};
+ghost use Rattle.compaan_top.specs.Refusals.{bind_refusal, byte_of, data_refusal, lex_refusal, name_of, no_part, refusal_with, size_refusal, syntax_refusal, too_long, usage};
 ghost use Rattle.compaan_top.specs.declared.refusal.Stop.TheVariants.{Memory};
 
 use array_data::DataError;
@@ -65,6 +65,12 @@ pub(crate) fn too_long(alloc: Global) -> Result<Refusal, AllocError>
     ensures { IfOk result (λ made. made ≡ too_long) }
 {
     refusal_with(alloc, 5, b"bundle: TooLong", &[])
+}
+
+pub(crate) fn no_part(alloc: Global) -> Result<Refusal, AllocError>
+    ensures { IfOk result (λ made. made ≡ no_part) }
+{
+    refusal_with(alloc, 5, b"bundle: NoPart", &[])
 }
 
 /// The byte at which the token of this number starts, or the length of the source for the place at the end.

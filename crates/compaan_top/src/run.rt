@@ -3,7 +3,7 @@ ghost use Rattle.loop_walk.specs.Counting.{SizeIsOk};
 ghost use Rattle.sanlp.specs.Meaning.{arrays};
 ghost use Rattle.compaan_top.specs.Judging.{Judges};
 ghost use Rattle.compaan_top.specs.Outcome.{bundle_limit};
-ghost use Rattle.compaan_top.specs.Planned.{as_text};
+ghost use Rattle.compaan_top.specs.Planned.{as_reply};
 ghost use Rattle.compaan_top.specs.Run.{IsInputs, Runs};
 ghost use Rattle.compaan_top.specs.Steps.{HasSize};
 
@@ -17,6 +17,7 @@ use loop_walk::{interpret, size};
 use net_run::network_arrays;
 use sanlp::{Arrays, Inputs, Nest};
 use std::alloc::{AllocError, Global};
+use witness_plan::Policy;
 
 pub(crate) fn size_of(alloc: Global, nest: &Nest) -> Result<u64, Stop>
     ensures { Judges (HasSize nest.now) result }
@@ -41,8 +42,8 @@ fn inputs_of(alloc: Global, nest: &Nest, bytes: &[u8]) -> Result<Inputs, Stop>
 #[derive(Clone, Copy)]
 pub(crate) enum Engine {
     Interpreter,
-    /// The machine of the nest's network.
-    Network,
+    /// The machine of the nest's network, along its schedule under this policy.
+    Network(Policy),
 }
 
 fn arrays_by(
@@ -56,7 +57,7 @@ fn arrays_by(
 {
     match engine {
         Engine::Interpreter => interpret(alloc, nest, inputs),
-        Engine::Network => network_arrays(alloc, nest, inputs),
+        Engine::Network(policy) => network_arrays(alloc, nest, inputs, policy),
     }
 }
 
@@ -68,7 +69,7 @@ pub(crate) fn run(
     engine: Engine,
 ) -> Result<Answer, Stop>
     requires { length bundle.now ≤ bundle_limit }
-    ensures { Judges (λ answer. Runs params.now bundle.now (as_text answer)) result }
+    ensures { Judges (λ answer. Runs params.now bundle.now (as_reply answer)) result }
 {
     let parts = parts_of(bundle);
     let nest = nest_of(alloc, parts.source, params)?;

@@ -1,3 +1,4 @@
+mod certificates;
 mod kernels;
 mod networks;
 mod orders;
@@ -6,7 +7,7 @@ mod sources;
 use crate::compaan;
 use io_edge::{MemSink, MemSource};
 use kernels::KERNELS;
-use networks::NETWORKS;
+use networks::{DOWNWARD, NETWORKS};
 use std::alloc::{AllocError, Global};
 use std::process::Abort;
 use std::test::Fail;
@@ -211,6 +212,14 @@ fn programs_are_run(rt: HostRuntime) -> Result<(), Fail> {
             expect_words(&rt, SOUND, &words, bundle, 0, output, b"")?;
         }
     }
+    let increments =
+        b"param N; in x[N]; out y[N]; for (i = 0; i < N; i++) y[i] = x[i] + 1;\n%%\nx,5,6,7\n";
+    let downward = ["--policy=down", "run", "--", "N=3"];
+    expect(&rt, SOUND, &downward, increments, 0, b"y,6,7,8\n", b"")?;
+    let last_value =
+        b"param N; in a[N]; out c[N]; var b[N]; for (i = 0; i < N; i++) b[i] = a[i]; for (i = 0; i < N; i++) c[i] = a[i] + b[N-1];\n%%\na,1,2,3,4\n";
+    let downward = ["run", "N=4", "--policy", "down"];
+    expect(&rt, SOUND, &downward, last_value, 0, b"c,5,6,7,8\n", b"")?;
     expect(&rt, SOUND, &["--", "run"], b" \t\r\n", 0, b"", b"")
 }
 
@@ -231,18 +240,22 @@ fn networks_are_printed(rt: HostRuntime) -> Result<(), Fail> {
         let words = words_of(rt.alloc(), "net", params)?;
         expect_words(&rt, SOUND, &words, bundle, 0, output, b"")?;
     }
+    for (words, bundle, output) in DOWNWARD {
+        expect(&rt, SOUND, words, bundle, 0, output, b"")?;
+    }
     Ok(())
 }
 
 #[test]
 fn wrong_words_are_refused(rt: HostRuntime) -> Result<(), Fail> {
-    let refused: [&[&str]; 8] = [
+    let refused: [&[&str]; 9] = [
         &[],
         &["run", "N"],
         &["run", "N=1", "N=2"],
         &["run", "--policy", "up"],
-        &["--policy=down", "run", "--", "N=3"],
         &["run", "-x"],
+        &["run", "--policy"],
+        &["run", "--policy=seq", "--policy=seq"],
         &["--help"],
         &["deps"],
     ];

@@ -1,18 +1,19 @@
 ghost use Rattle.std.specs.Prelude.{◌≡◌, OnOk, OnErr};
 ghost use Rattle.std.specs.Io.KnownBytes.{Appends};
 ghost use Rattle.io_edge.specs.Causes.{Rose, AppendsFront};
-ghost use Rattle.compaan_top.specs.Planned.{text_of};
+ghost use Rattle.compaan_top.specs.Planned.{reply_of};
 
 use crate::answer::Answer;
 use array_data::write_answer;
-use io_edge::{Sink, WriteFault};
+use cert_text::write_cert;
+use io_edge::{Sink, WriteFault, write_all};
 use net_text::write_net;
 
 /// Writes an answer's text. It takes no memory.
 pub(crate) fn write_text<K: Sink>(answer: &Answer, sink: &mut K) -> Result<(), WriteFault>
-    ensures ok { OnOk result (Appends (K.held sink.old) (K.held sink.new) (text_of answer.now)) }
+    ensures ok { OnOk result (Appends (K.held sink.old) (K.held sink.new) (reply_of answer.now).text) }
     ensures quiet { OnOk result (K.faults sink.new ≡ K.faults sink.old) }
-    ensures front { OnErr result (AppendsFront (K.held sink.old) (K.held sink.new) (text_of answer.now)) }
+    ensures front { OnErr result (AppendsFront (K.held sink.old) (K.held sink.new) (reply_of answer.now).text) }
     ensures cause { OnErr result (Rose (K.faults sink.old) (K.faults sink.new)) }
 {
     match answer {
@@ -20,5 +21,17 @@ pub(crate) fn write_text<K: Sink>(answer: &Answer, sink: &mut K) -> Result<(), W
         Answer::Network(answer) => {
             write_net(&answer.nest, &answer.points, &answer.network, sink)
         }
+        Answer::Certificate(answer) => write_cert(&answer.network, &answer.cert, sink),
+        Answer::Verdict(answer) => write_all(sink, answer.line.as_slice()),
+    }
+}
+
+/// The status of a program that has written an answer.
+pub(crate) fn status_of(answer: &Answer) -> u8
+    ensures { result ≡ (reply_of answer.now).status }
+{
+    match answer {
+        Answer::Arrays(_) | Answer::Network(_) | Answer::Certificate(_) => 0,
+        Answer::Verdict(answer) => answer.status,
     }
 }

@@ -19,6 +19,7 @@ use sanlp::{Arrays, Inputs, Nest, Points, Role};
 use std::alloc::{AllocError, Global};
 use std::process::Abort;
 use std::test::Fail;
+use witness_plan::Policy;
 
 /// A program with one output array: the value of its parameter N, its bundle, the output, and the number of its network's
 /// events.
@@ -239,7 +240,7 @@ fn runs_in_every_order(rt: &(impl Abort + AllocGlobal), program: Program) -> Res
             .any(|values| values.as_slice() == program.output)
     );
     let points = points(alloc, &nest)?;
-    let (network, cert) = compile(alloc, &nest, &points)?;
+    let (network, cert) = compile(alloc, &nest, &points, Policy::Seq)?;
     let Verdict::Accepted = check(alloc, &nest, &points, &network, &cert)? else {
         panic!(rt; "refused network of {:?}", program.bundle);
     };

@@ -8,3 +8,9 @@ returns-in-Seq c = rw c.in-Seq.is c.run-in-Seq.ensures
 
 pub returns-in-Net : goal.returns-in-Net
 returns-in-Net c = rw c.in-Net.is c.print_network.ensures
+
+pub returns-in-Cert : goal.returns-in-Cert
+returns-in-Cert c = rw c.in-Cert.is c.print_certificate.ensures
+
+pub returns-in-Check : goal.returns-in-Check
+returns-in-Check c = rw c.in-Check.is c.check_certificate.ensures

@@ -1,0 +1,56 @@
+ghost use Rattle.std.specs.Prelude.{◌≡◌, ◌≤◌, length};
+ghost use Rattle.compaan_top.specs.Judging.{Judges};
+ghost use Rattle.compaan_top.specs.Outcome.{bundle_limit};
+ghost use Rattle.compaan_top.specs.Planned.{as_reply};
+ghost use Rattle.compaan_top.specs.Printing.{Prints, certificate_text, network_text};
+
+use crate::answer::{Answer, CertificateAnswer, NetworkAnswer};
+use crate::refusal::Stop;
+use crate::run::size_of;
+use crate::source::nest_of;
+use command_line::parts_of;
+use loop_class::Params;
+use loop_walk::points;
+use net_maker::compile;
+use std::alloc::Global;
+use witness_plan::Policy;
+
+/// The network of a bundle's source.
+pub(crate) fn print_network(
+    alloc: Global,
+    policy: Policy,
+    params: &Params,
+    bundle: &[u8],
+) -> Result<Answer, Stop>
+    requires { length bundle.now ≤ bundle_limit }
+    ensures { Judges (λ answer. Prints (network_text policy) params.now bundle.now (as_reply answer)) result }
+{
+    let parts = parts_of(bundle);
+    let nest = nest_of(alloc, parts.source, params)?;
+    size_of(alloc, &nest)?;
+    let points = points(alloc, &nest)?;
+    let (network, _) = compile(alloc, &nest, &points, policy)?;
+    Ok(Answer::Network(NetworkAnswer {
+        nest,
+        points,
+        network,
+    }))
+}
+
+/// The network of a bundle's source with its certificate.
+pub(crate) fn print_certificate(
+    alloc: Global,
+    policy: Policy,
+    params: &Params,
+    bundle: &[u8],
+) -> Result<Answer, Stop>
+    requires { length bundle.now ≤ bundle_limit }
+    ensures { Judges (λ answer. Prints (certificate_text policy) params.now bundle.now (as_reply answer)) result }
+{
+    let parts = parts_of(bundle);
+    let nest = nest_of(alloc, parts.source, params)?;
+    size_of(alloc, &nest)?;
+    let points = points(alloc, &nest)?;
+    let (network, cert) = compile(alloc, &nest, &points, policy)?;
+    Ok(Answer::Certificate(CertificateAnswer { network, cert }))
+}

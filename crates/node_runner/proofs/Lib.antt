@@ -1,3 +1,4 @@
 pub mod PortLemmas
 pub mod TokenLemmas
 pub mod Turning
+pub mod LogLemmas

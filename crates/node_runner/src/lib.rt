@@ -4,8 +4,10 @@
 //! it puts follow from the streams of its channels alone, whatever the order of events between the processes.
 #![tactic(auto)]
 
+mod logged;
 mod node;
 mod room;
 
+pub use logged::LogEnds;
 pub use node::run_node;
 pub use room::Room;

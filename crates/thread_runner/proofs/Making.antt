@@ -1,0 +1,213 @@
+-- The ends of all processes are made channel by channel.
+use Rattle.std.proofs.Common.{◌≡◌, ◌==◌, ◌<◌, ◌≤◌, ◌⊎◌, inl, inr, ⊎_elim, ℕ, zero, suc, ◌+◌, Bool, true, false, cond, ℤ, Option, Some, None, List, [], ◌∷◌, length, map, slice_get, get_or, option_map, refl, sym, ap, ◌∙◌, subst, arith, length-set, zero-add, add-zero, eq-eqb, ne_eqb, lt-ltb}
+use Rattle.std.specs.Prelude.{slice_index_or, slice_set, nat_lt}
+use Rattle.std.specs.Option.{option_map_or, option_and_then}
+use Rattle.std.proofs.lemmas.Bool.{cases_eq, cases_lt, le-ltb}
+use Rattle.std.proofs.lemmas.List.{length-map}
+use Rattle.std.proofs.lemmas.Option.{slice_get_read, slice_get_within, slice_get-get_or}
+use Rattle.sanlp.specs.declared.nest.Inputs.{Inputs}
+use Rattle.sanlp.specs.declared.nest.Nest.{Nest}
+use Rattle.sanlp.specs.Cells.{count_up}
+use Rattle.net_core.specs.declared.network.Channel.{Channel}
+use Rattle.net_core.specs.declared.network.Network.{Network}
+use Rattle.net_core.specs.Machine.{net_of}
+use Rattle.net_core.specs.Shape.{IsWired}
+use Rattle.ruled_links.specs.Ports.{LinkEnd, link_end, fresh, stream_at}
+use Rattle.node_runner.specs.Nodes.{Ports, stream, incoming, outgoing}
+use Rattle.node_runner.proofs.LogLemmas.{incoming_past, outgoing_past}
+use Rattle.thread_runner.specs.declared.ends.NodeEnds.{NodeEnds}
+use Rattle.thread_runner.specs.Runs.{AreEndsOf}
+use Rattle.thread_runner.specs.Made.{port_at, all_streams, AreMade, IsPlaced}
+
+-- Lists of which one item was set
+
+set_here : {X : Type 0} (xs : List X) (k : ℕ) (x d : X) → k < length xs → slice_index_or (slice_set xs k x) k d ≡ x
+set_here [] k x d lt = absurd (omega arith)
+set_here (y ∷ xs) zero x d lt = refl
+set_here (y ∷ xs) (suc k) x d lt = set_here xs k x d (omega arith)
+
+set_off : {X : Type 0} (xs : List X) (k c : ℕ) (x d : X) → (c ≡ k → ⊥) → slice_index_or (slice_set xs k x) c d ≡ slice_index_or xs c d
+set_off [] k c x d other = refl
+set_off (y ∷ xs) zero zero x d other = absurd (other refl)
+set_off (y ∷ xs) zero (suc c) x d other = refl
+set_off (y ∷ xs) (suc k) zero x d other = refl
+set_off (y ∷ xs) (suc k) (suc c) x d other = set_off xs k c x d (λ e. other (ap suc e))
+
+same_some : {X : Type 0} (x y : X) → Some x ≡ Some y → x ≡ y
+same_some x y e = cc
+
+one_set : {X : Type 0} (xs : List X) (k : ℕ) (y : X) (p : ℕ) (e : X) → slice_get (slice_set xs k y) p ≡ Some e → ((k ≡ p) × (y ≡ e)) ⊎ ((k ≡ p → ⊥) × (slice_get xs p ≡ Some e))
+one_set [] k y p e h = absurd (cc)
+one_set (x ∷ xs) zero y zero e h = inl (refl, same_some y e h)
+one_set (x ∷ xs) zero y (suc p) e h = inr ((λ s. absurd (omega (arith, s))), h)
+one_set (x ∷ xs) (suc k) y zero e h = inr ((λ s. absurd (omega (arith, s))), h)
+one_set {X} (x ∷ xs) (suc k) y (suc p) e h =
+    ⊎_elim (λ (a : (k ≡ p) × (y ≡ e)). inl (ap suc a.0, a.1)) (λ (b : (k ≡ p → ⊥) × (slice_get xs p ≡ Some e)). inr ((λ s. b.0 (omega (arith, s))), b.1)) (one_set xs k y p e h)
+
+-- One channel's ends are set
+
+cond_true : {X : Type 0} (b : Bool) (x y : X) → b ≡ true → x ≡ cond b x y
+cond_true b x y e = rw e refl
+
+cond_false : {X : Type 0} (b : Bool) (x y : X) → b ≡ false → y ≡ cond b x y
+cond_false b x y e = rw e refl
+
+abbrev AfterPut : ℕ → ℕ → LinkEnd → List NodeEnds → ℕ → NodeEnds → Type 0
+AfterPut c w put old q e =
+    (o : NodeEnds) × (slice_get old q ≡ Some o) × (e.puts.items ≡ cond (w == q) (slice_set o.puts.items c (Some put)) o.puts.items) × (e.gets.items ≡ o.gets.items)
+
+there_is : (xs : List NodeEnds) (k : ℕ) (x : NodeEnds) → k < length xs → x ≡ slice_index_or xs k x → slice_get xs k ≡ Some x
+there_is xs k x lt is = slice_get_read xs (length xs) k x refl lt is
+
+after_put : (c w : ℕ) (put : LinkEnd) (old : List NodeEnds) (was row : NodeEnds) → w < length old → was ≡ slice_index_or old w was → row.puts.items ≡ slice_set was.puts.items c (Some put) → row.gets.items ≡ was.gets.items
+    → (q : ℕ) (e : NodeEnds) → slice_get (slice_set old w row) q ≡ Some e → AfterPut c w put old q e
+after_put c w put old was row lt is puts gets q e h =
+    ⊎_elim
+    (λ (a : (w ≡ q) × (row ≡ e)). (
+      was,
+      ap (λ k. slice_get old k) (sym a.0) ∙ there_is old w was lt is,
+      ap (λ (x : NodeEnds). x.puts.items) (sym a.1) ∙ puts ∙ cond_true (w == q) (slice_set was.puts.items c (Some put)) was.puts.items (eq-eqb w q a.0),
+      ap (λ (x : NodeEnds). x.gets.items) (sym a.1) ∙ gets,
+    ))
+    (λ (b : (w ≡ q → ⊥) × (slice_get old q ≡ Some e)). (e, b.1, cond_false (w == q) (slice_set e.puts.items c (Some put)) e.puts.items (ne_eqb w q b.0), refl))
+    (one_set old w row q e h)
+
+pub placed : (c w r : ℕ) (put get : LinkEnd) (old : List NodeEnds) (was row was' row' : NodeEnds) → w < length old → r < length old → was ≡ slice_index_or old w was → row.puts.items ≡ slice_set was.puts.items c (Some put) → row.gets.items ≡ was.gets.items
+    → was' ≡ slice_index_or (slice_set old w row) r was' → row'.gets.items ≡ slice_set was'.gets.items c (Some get) → row'.puts.items ≡ was'.puts.items → IsPlaced c w r put get old (slice_set (slice_set old w row) r row')
+placed c w r put get old was row was' row' lt lt' is puts gets is' gets' puts' =
+    let mid = slice_set old w row in
+    let n : length mid ≡ length old = length-set old w row in
+    record {
+      number = length-set mid r row' ∙ n;
+      rows = λ q e h.
+          ⊎_elim
+          (λ (a : (r ≡ q) × (row' ≡ e)).
+          let f = after_put c w put old was row lt is puts gets q was' (ap (λ k. slice_get mid k) (sym a.0) ∙ there_is mid r was' (omega (arith, n)) is') in (
+            f.0,
+            f.1,
+            (
+              ap (λ (x : NodeEnds). x.puts.items) (sym a.1) ∙ puts' ∙ f.2,
+              ap (λ (x : NodeEnds). x.gets.items) (sym a.1) ∙ gets' ∙ ap (λ l. slice_set l c (Some get)) f.3 ∙ cond_true (r == q) (slice_set f.0.gets.items c (Some get)) f.0.gets.items (eq-eqb r q a.0),
+            ),
+          ))
+          (λ (b : (r ≡ q → ⊥) × (slice_get mid q ≡ Some e)).
+          let f = after_put c w put old was row lt is puts gets q e b.1 in
+          (f.0, f.1, (f.2, f.3 ∙ cond_false (r == q) (slice_set f.0.gets.items c (Some get)) f.0.gets.items (ne_eqb r q b.0))))
+          (one_set mid r row' q e h);
+    }
+
+-- One channel more is made
+
+below_next : (c k : ℕ) → (c ≡ k → ⊥) → nat_lt c k ≡ nat_lt c (k + 1)
+below_next c k other =
+    elim (cases_lt c k) [
+      | inl lt ↦ lt-ltb c k lt ∙ sym (lt-ltb c (k + 1) (omega arith))
+      | inr le ↦ le-ltb c k le ∙ sym (le-ltb c (k + 1) (let past : (c ≡ k → ⊥) → k ≤ c → k + 1 ≤ c = λ n l. omega arith in past other le))
+    ]
+
+row_number : (b : Bool) (old new : List (Option LinkEnd)) (k : ℕ) (x : Option LinkEnd) → new ≡ cond b (slice_set old k x) old → length new ≡ length old
+row_number true old new k x is = ap length is ∙ length-set old k x
+row_number false old new k x is = ap length is
+
+row_port : (b : Bool) (old new : List (Option LinkEnd)) (k : ℕ) (end : LinkEnd) (f : Ports) → new ≡ cond b (slice_set old k (Some end)) old → k < length old
+    → ((c : ℕ) → port_at old c ≡ cond (nat_lt c k) (f c) None) → f k ≡ cond b (Some end.port) None → (c : ℕ) → port_at new c ≡ cond (nat_lt c (k + 1)) (f c) None
+row_port b old new k end f is long before here c =
+    elim (cases_eq c k) [
+      | inl same ↦
+          ap (λ i. port_at new i) same ∙ at_k b is here
+          ∙ cond_true (nat_lt c (k + 1)) (f k) None (lt-ltb c (k + 1) (omega arith))
+          ∙ ap (λ i. cond (nat_lt c (k + 1)) (f i) None) (sym same)
+      | inr other ↦
+          off_k b is other ∙ before c ∙ ap (λ t. cond t (f c) None) (below_next c k other)
+    ]
+  where
+    at_k : (b : Bool) → new ≡ cond b (slice_set old k (Some end)) old → f k ≡ cond b (Some end.port) None → port_at new k ≡ f k
+    at_k true is here = ap (λ l. port_at l k) is ∙ ap (option_map (λ (e : LinkEnd). e.port)) (set_here old k (Some end) None long) ∙ sym here
+    at_k false is here = ap (λ l. port_at l k) is ∙ before k ∙ ap (λ t. cond t (f k) None) (le-ltb k k (omega arith)) ∙ sym here
+
+    off_k : (b : Bool) → new ≡ cond b (slice_set old k (Some end)) old → (c ≡ k → ⊥) → port_at new c ≡ port_at old c
+    off_k true is other = ap (λ l. port_at l c) is ∙ ap (option_map (λ (e : LinkEnd). e.port)) (set_off old k c (Some end) None other)
+    off_k false is other = ap (λ l. port_at l c) is
+
+module _ (nest : Nest) (network : Network) (d : Inputs) where
+  incoming_at : (p c : ℕ) (channel : Channel) (capacity : ℕ) (end : LinkEnd) → slice_get network.channels c ≡ Some channel → end ≡ link_end (fresh (stream nest network d c)) capacity
+      → incoming (stream nest network d) network p c ≡ cond (channel.reader == p) (Some end.port) None
+  incoming_at p c channel capacity end found is =
+      ap (λ o. option_and_then (λ (ch : Channel). cond (ch.reader == p) (Some (fresh (stream nest network d c))) None) o) found
+      ∙ ap (λ (e : LinkEnd). cond (channel.reader == p) (Some e.port) None) (sym is)
+
+  outgoing_at : (p c : ℕ) (channel : Channel) (capacity : ℕ) (end : LinkEnd) → slice_get network.channels c ≡ Some channel → end ≡ link_end (fresh (stream nest network d c)) capacity
+      → outgoing (stream nest network d) network p c ≡ cond (channel.writer == p) (Some end.port) None
+  outgoing_at p c channel capacity end found is =
+      ap (λ o. option_and_then (λ (ch : Channel). cond (ch.writer == p) (Some (fresh (stream nest network d c))) None) o) found
+      ∙ ap (λ (e : LinkEnd). cond (channel.writer == p) (Some e.port) None) (sym is)
+
+  pub made_more : (k : ℕ) (channel : Channel) (values : List ℤ) (capacity : ℕ) (put get : LinkEnd) (old new : List NodeEnds) → slice_get network.channels k ≡ Some channel → values ≡ stream nest network d k
+      → put ≡ link_end (fresh values) capacity → get ≡ link_end (fresh values) capacity
+      → AreMade nest network d k old → IsPlaced k channel.writer channel.reader put get old new → AreMade nest network d (k + 1) new
+  made_more k channel values capacity put get old new found values_are put_is get_is made place = record {
+    number = place.number ∙ made.number;
+    rows = λ p e h.
+        let w = place.rows p e h in
+        let r = made.rows p w.0 w.1 in
+        let lt = slice_get_within network.channels k channel found in
+        record {
+          gets_number = row_number (channel.reader == p) w.0.gets.items e.gets.items k (Some get) w.2.1 ∙ r.gets_number;
+          puts_number = row_number (channel.writer == p) w.0.puts.items e.puts.items k (Some put) w.2.0 ∙ r.puts_number;
+          gets = row_port (channel.reader == p) w.0.gets.items e.gets.items k get (incoming (stream nest network d) network p) w.2.1 (omega (arith, lt, r.gets_number)) r.gets (incoming_at p k channel capacity get found (get_is ∙ ap (λ l. link_end (fresh l) capacity) values_are));
+          puts = row_port (channel.writer == p) w.0.puts.items e.puts.items k put (outgoing (stream nest network d) network p) w.2.0 (omega (arith, lt, r.puts_number)) r.puts (outgoing_at p k channel capacity put found (put_is ∙ ap (λ l. link_end (fresh l) capacity) values_are));
+        };
+  }
+
+  pub made_all : (k : ℕ) (ends : List NodeEnds) → length network.channels ≤ k → AreMade nest network d k ends
+      → AreEndsOf (λ (e : NodeEnds) c. port_at e.gets.items c) (λ (e : NodeEnds) c. port_at e.puts.items c) nest network d ends
+  made_all k ends le made = record {
+    number = made.number;
+    each = λ p e h.
+        let r = made.rows p e h in
+        record {
+          incoming = λ c. r.gets c ∙ elim (cases_lt c k) [
+            | inl lt ↦ ap (λ t. cond t (incoming (stream nest network d) network p c) None) (lt-ltb c k lt)
+            | inr past ↦ ap (λ t. cond t (incoming (stream nest network d) network p c) None) (le-ltb c k past) ∙ sym (incoming_past (stream nest network d) network p c (omega arith))
+          ];
+          outgoing = λ c. r.puts c ∙ elim (cases_lt c k) [
+            | inl lt ↦ ap (λ t. cond t (outgoing (stream nest network d) network p c) None) (lt-ltb c k lt)
+            | inr past ↦ ap (λ t. cond t (outgoing (stream nest network d) network p c) None) (le-ltb c k past) ∙ sym (outgoing_past (stream nest network d) network p c (omega arith))
+          ];
+        };
+  }
+
+  -- The plan's streams
+
+  map_up : {X : Type 0} (f : ℕ → X) (other : X) (a n i : ℕ) → i < n → get_or (map f (count_up a n)) i other ≡ f (a + i)
+  map_up f other a zero i lt = absurd (omega arith)
+  map_up f other a (suc n) zero lt = ap f (sym (add-zero a))
+  map_up f other a (suc n) (suc i) lt =
+      let there : (a + 1) + i ≡ a + suc i = omega arith in
+      map_up f other (a + 1) n i (omega arith) ∙ ap f there
+
+  length_up : (a n : ℕ) → length (count_up a n) ≡ n
+  length_up a zero = refl
+  length_up a (suc n) = ap suc (length_up (a + 1) n)
+
+  pub streams_number : length (all_streams nest network d) ≡ length network.channels
+  streams_number = length-map (count_up 0 (length network.channels)) (stream nest network d) ∙ length_up 0 (length network.channels)
+
+  pub stream_is : (c : ℕ) → c < length network.channels → stream_at (all_streams nest network d) c ≡ stream nest network d c
+  stream_is c lt = map_up (stream nest network d) [] 0 (length network.channels) c lt ∙ ap (stream nest network d) (zero-add c)
+
+-- a channel that the code reads, with its writer and its reader
+pub channel_read : (network : Network) (channels : List Channel) (other : Channel) (c : ℕ) → channels ≡ network.channels → c < length channels → slice_get network.channels c ≡ Some (get_or channels c other)
+channel_read network channels other c same lt = ap (λ l. slice_get l c) (sym same) ∙ slice_get-get_or channels c other lt
+
+pub writer_read : (network : Network) (channels : List Channel) (other : Channel) (c k : ℕ) → channels ≡ network.channels → c < length channels → IsWired (net_of network) → k ≡ length network.processes → (get_or channels c other).writer < k
+writer_read network channels other c k same lt wired processes =
+    let there = wired.writers c (subst (λ l. c < length l) same lt) in
+    subst (λ n. (get_or channels c other).writer < n) (sym processes)
+    (subst (λ w. w < length network.processes) (ap (λ o. option_map_or (λ (ch : Channel). ch.writer) o 0) (channel_read network channels other c same lt)) there)
+
+pub reader_read : (network : Network) (channels : List Channel) (other : Channel) (c k : ℕ) → channels ≡ network.channels → c < length channels → IsWired (net_of network) → k ≡ length network.processes → (get_or channels c other).reader < k
+reader_read network channels other c k same lt wired processes =
+    let there = wired.readers c (subst (λ l. c < length l) same lt) in
+    subst (λ n. (get_or channels c other).reader < n) (sym processes)
+    (subst (λ w. w < length network.processes) (ap (λ o. option_map_or (λ (ch : Channel). ch.reader) o 0) (channel_read network channels other c same lt)) there)

@@ -1,0 +1,50 @@
+-- How the ends of all processes are made, channel by channel.
+use Rattle.std.specs.Prelude.{◌≡◌, ◌==◌, ℕ, nat_lt, if◌then◌else◌, slice_set, ℤ, List, length, map, Option, Some, None, slice_get, slice_index_or}
+use Rattle.std.specs.Option.{option_map}
+use Rattle.sanlp.specs.declared.nest.Inputs.{Inputs}
+use Rattle.sanlp.specs.declared.nest.Nest.{Nest}
+use Rattle.sanlp.specs.Cells.{count_up}
+use Rattle.net_core.specs.declared.network.Network.{Network}
+use Rattle.ruled_links.specs.Ports.{Port, LinkEnd}
+use Rattle.node_runner.specs.Nodes.{stream, incoming, outgoing}
+use Rattle.thread_runner.specs.declared.ends.NodeEnds.{NodeEnds}
+
+-- the port of a channel, where its end is there
+abbrev pub port_at : List (Option LinkEnd) → ℕ → Option Port
+port_at ends c = option_map (λ end. end.port) (slice_index_or ends c None)
+
+-- the streams of all channels, in order
+abbrev pub all_streams : Nest → Network → Inputs → List (List ℤ)
+all_streams nest network d = map (stream nest network d) (count_up 0 (length network.channels))
+
+-- no end of any channel
+pub record IsBlank (channels : ℕ) (e : NodeEnds) : Type 0 where
+  pub gets_number : length e.gets.items ≡ channels
+  pub puts_number : length e.puts.items ≡ channels
+  pub no_gets : (c : ℕ) → slice_index_or e.gets.items c None ≡ None
+  pub no_puts : (c : ℕ) → slice_index_or e.puts.items c None ≡ None
+
+pub record AreBlank (processes channels : ℕ) (ends : List NodeEnds) : Type 0 where
+  pub number : length ends ≡ processes
+  pub rows : (p : ℕ) (e : NodeEnds) → slice_get ends p ≡ Some e → IsBlank channels e
+
+-- what process p has when the ends of the channels below k are made
+pub record IsMadeTo (nest : Nest) (network : Network) (d : Inputs) (k p : ℕ) (e : NodeEnds) : Type 0 where
+  pub gets_number : length e.gets.items ≡ length network.channels
+  pub puts_number : length e.puts.items ≡ length network.channels
+  pub gets : (c : ℕ) → port_at e.gets.items c ≡ (if nat_lt c k then incoming (stream nest network d) network p c else None)
+  pub puts : (c : ℕ) → port_at e.puts.items c ≡ (if nat_lt c k then outgoing (stream nest network d) network p c else None)
+
+pub record AreMade (nest : Nest) (network : Network) (d : Inputs) (k : ℕ) (ends : List NodeEnds) : Type 0 where
+  pub number : length ends ≡ length network.processes
+  pub rows : (p : ℕ) (e : NodeEnds) → slice_get ends p ≡ Some e → IsMadeTo nest network d k p e
+
+-- what one process's ends become when both ends of a channel are set
+abbrev pub IsPlacedAt : ℕ → ℕ → ℕ → LinkEnd → LinkEnd → ℕ → NodeEnds → NodeEnds → Type 0
+IsPlacedAt c writer reader put get p old new =
+    (new.puts.items ≡ (if writer == p then slice_set old.puts.items c (Some put) else old.puts.items))
+    × (new.gets.items ≡ (if reader == p then slice_set old.gets.items c (Some get) else old.gets.items))
+
+pub record IsPlaced (c writer reader : ℕ) (put get : LinkEnd) (old new : List NodeEnds) : Type 0 where
+  pub number : length new ≡ length old
+  pub rows : (p : ℕ) (e : NodeEnds) → slice_get new p ≡ Some e → (was : NodeEnds) × (slice_get old p ≡ Some was) × IsPlacedAt c writer reader put get p was e

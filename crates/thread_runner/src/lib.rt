@@ -2,5 +2,6 @@
 #![tactic(auto)]
 
 mod ends;
+mod workers;
 
 pub use ends::{NodeEnds, make_ends};

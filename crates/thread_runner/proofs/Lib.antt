@@ -1,3 +1,4 @@
 pub mod Making
 pub mod Rooms
 pub mod Gathering
+pub mod Answering

@@ -124,6 +124,7 @@ impl Keeper for State<i64> {
 }
 
 /// The rooms of all processes.
+#[derive(Clone, Copy)]
 pub(crate) struct Rooms<'a> {
     pub(crate) rooms: &'a [Room],
 }

@@ -3,7 +3,9 @@
 
 mod bench;
 mod ends;
+mod run;
 mod workers;
 
 pub use bench::Bench;
 pub use ends::{NodeEnds, make_ends};
+pub use run::run_threads;

@@ -1,5 +1,5 @@
 -- The ends of all processes are made channel by channel.
-use Rattle.std.proofs.Common.{◌≡◌, ◌==◌, ◌<◌, ◌≤◌, ◌⊎◌, inl, inr, ⊎_elim, ℕ, zero, suc, ◌+◌, Bool, true, false, cond, ℤ, Option, Some, None, List, [], ◌∷◌, length, map, slice_get, get_or, option_map, refl, sym, ap, ◌∙◌, subst, arith, length-set, zero-add, add-zero, eq-eqb, ne_eqb, lt-ltb}
+use Rattle.std.proofs.Common.{◌≡◌, ◌==◌, ◌<◌, ◌≤◌, ◌⊎◌, inl, inr, ⊎_elim, ℕ, zero, suc, ◌+◌, Bool, true, false, cond, max, ℤ, Option, Some, None, List, [], ◌∷◌, length, map, slice_get, get_or, option_map, refl, sym, ap, ◌∙◌, subst, arith, length-set, zero-add, add-zero, eq-eqb, ne_eqb, lt-ltb}
 use Rattle.std.specs.Prelude.{slice_index_or, slice_set, nat_lt}
 use Rattle.std.specs.Option.{option_map_or, option_and_then}
 use Rattle.std.proofs.lemmas.Bool.{cases_eq, cases_lt, le-ltb}
@@ -17,7 +17,7 @@ use Rattle.node_runner.specs.Nodes.{Ports, stream, incoming, outgoing}
 use Rattle.node_runner.proofs.LogLemmas.{incoming_past, outgoing_past}
 use Rattle.thread_runner.specs.declared.ends.NodeEnds.{NodeEnds}
 use Rattle.thread_runner.specs.Runs.{AreEndsOf}
-use Rattle.thread_runner.specs.Made.{port_at, all_streams, AreMade, IsPlaced}
+use Rattle.thread_runner.specs.Made.{port_at, all_streams, AreOfCapacity, AreOfCapacities, AreMade, IsPlaced}
 
 -- Lists of which one item was set
 
@@ -129,6 +129,15 @@ row_port b old new k end f is long before here c =
     off_k true is other = ap (λ l. port_at l c) is ∙ ap (option_map (λ (e : LinkEnd). e.port)) (set_off old k c (Some end) None other)
     off_k false is other = ap (λ l. port_at l c) is
 
+row_holds : (network : Network) (b : Bool) (old new : List (Option LinkEnd)) (k : ℕ) (end : LinkEnd) → new ≡ cond b (slice_set old k (Some end)) old → end.capacity ≡ max ((net_of network).capacity k) 1
+    → AreOfCapacity network old → AreOfCapacity network new
+row_holds network false old new k end is room before c x h = before c x (ap (λ l. slice_get l c) (sym is) ∙ h)
+row_holds network true old new k end is room before c x h =
+    ⊎_elim
+    (λ (a : (k ≡ c) × (Some end ≡ Some x)). ap (λ (e : LinkEnd). e.capacity) (sym (same_some end x a.1)) ∙ room ∙ ap (λ i. max ((net_of network).capacity i) 1) a.0)
+    (λ (a : (k ≡ c → ⊥) × (slice_get old c ≡ Some (Some x))). before c x a.1)
+    (one_set old k (Some end) c (Some x) (ap (λ l. slice_get l c) (sym is) ∙ h))
+
 module _ (nest : Nest) (network : Network) (d : Inputs) where
   incoming_at : (p c : ℕ) (channel : Channel) (capacity : ℕ) (end : LinkEnd) → slice_get network.channels c ≡ Some channel → end ≡ link_end (fresh (stream nest network d c)) capacity
       → incoming (stream nest network d) network p c ≡ cond (channel.reader == p) (Some end.port) None
@@ -142,16 +151,19 @@ module _ (nest : Nest) (network : Network) (d : Inputs) where
       ap (λ o. option_and_then (λ (ch : Channel). cond (ch.writer == p) (Some (fresh (stream nest network d c))) None) o) found
       ∙ ap (λ (e : LinkEnd). cond (channel.writer == p) (Some e.port) None) (sym is)
 
-  pub made_more : (k : ℕ) (channel : Channel) (values : List ℤ) (capacity : ℕ) (put get : LinkEnd) (old new : List NodeEnds) → slice_get network.channels k ≡ Some channel → values ≡ stream nest network d k
+  pub made_more : (k : ℕ) (channel : Channel) (values : List ℤ) (capacity : ℕ) (put get : LinkEnd) (old new : List NodeEnds) → slice_get network.channels k ≡ Some channel → values ≡ stream nest network d k → capacity ≡ max channel.capacity 1
       → put ≡ link_end (fresh values) capacity → get ≡ link_end (fresh values) capacity
       → AreMade nest network d k old → IsPlaced k channel.writer channel.reader put get old new → AreMade nest network d (k + 1) new
-  made_more k channel values capacity put get old new found values_are put_is get_is made place = record {
+  made_more k channel values capacity put get old new found values_are room put_is get_is made place = record {
     number = place.number ∙ made.number;
     rows = λ p e h.
         let w = place.rows p e h in
         let r = made.rows p w.0 w.1 in
         let lt = slice_get_within network.channels k channel found in
+        let room_is : capacity ≡ max ((net_of network).capacity k) 1 = room ∙ ap (λ n. max n 1) (sym (ap (λ o. option_map_or (λ (ch : Channel). ch.capacity) o 0) found)) in
         record {
+          gets_hold = row_holds network (channel.reader == p) w.0.gets.items e.gets.items k get w.2.1 (ap (λ (x : LinkEnd). x.capacity) get_is ∙ room_is) r.gets_hold;
+          puts_hold = row_holds network (channel.writer == p) w.0.puts.items e.puts.items k put w.2.0 (ap (λ (x : LinkEnd). x.capacity) put_is ∙ room_is) r.puts_hold;
           gets_number = row_number (channel.reader == p) w.0.gets.items e.gets.items k (Some get) w.2.1 ∙ r.gets_number;
           puts_number = row_number (channel.writer == p) w.0.puts.items e.puts.items k (Some put) w.2.0 ∙ r.puts_number;
           gets = row_port (channel.reader == p) w.0.gets.items e.gets.items k get (incoming (stream nest network d) network p) w.2.1 (omega (arith, lt, r.gets_number)) r.gets (incoming_at p k channel capacity get found (get_is ∙ ap (λ l. link_end (fresh l) capacity) values_are));
@@ -176,6 +188,9 @@ module _ (nest : Nest) (network : Network) (d : Inputs) where
           ];
         };
   }
+
+  pub made_capacities : (k : ℕ) (ends : List NodeEnds) → AreMade nest network d k ends → AreOfCapacities network ends
+  made_capacities k ends made p e h = ((made.rows p e h).gets_hold, (made.rows p e h).puts_hold)
 
   -- The plan's streams
 

@@ -1,10 +1,11 @@
 -- How the ends of all processes are made, channel by channel.
-use Rattle.std.specs.Prelude.{◌≡◌, ◌==◌, ℕ, nat_lt, if◌then◌else◌, slice_set, ℤ, List, length, map, Option, Some, None, slice_get, slice_index_or}
+use Rattle.std.specs.Prelude.{◌≡◌, ◌==◌, ℕ, nat_lt, max, if◌then◌else◌, slice_set, ℤ, List, length, map, Option, Some, None, slice_get, slice_index_or}
 use Rattle.std.specs.Option.{option_map}
 use Rattle.sanlp.specs.declared.nest.Inputs.{Inputs}
 use Rattle.sanlp.specs.declared.nest.Nest.{Nest}
 use Rattle.sanlp.specs.Cells.{count_up}
 use Rattle.net_core.specs.declared.network.Network.{Network}
+use Rattle.net_core.specs.Machine.{net_of}
 use Rattle.ruled_links.specs.Ports.{Port, LinkEnd}
 use Rattle.node_runner.specs.Nodes.{stream, incoming, outgoing}
 use Rattle.thread_runner.specs.declared.ends.NodeEnds.{NodeEnds}
@@ -16,6 +17,13 @@ port_at ends c = option_map (λ end. end.port) (slice_index_or ends c None)
 -- the streams of all channels, in order
 abbrev pub all_streams : Nest → Network → Inputs → List (List ℤ)
 all_streams nest network d = map (stream nest network d) (count_up 0 (length network.channels))
+
+-- each end is one of a link that holds as many values as its channel's capacity, and at least one
+abbrev pub AreOfCapacity : Network → List (Option LinkEnd) → Type 0
+AreOfCapacity network ends = (c : ℕ) (end : LinkEnd) → slice_get ends c ≡ Some (Some end) → end.capacity ≡ max ((net_of network).capacity c) 1
+
+abbrev pub AreOfCapacities : Network → List NodeEnds → Type 0
+AreOfCapacities network ends = (p : ℕ) (e : NodeEnds) → slice_get ends p ≡ Some e → AreOfCapacity network e.gets.items × AreOfCapacity network e.puts.items
 
 -- no end of any channel
 pub record IsBlank (channels : ℕ) (e : NodeEnds) : Type 0 where
@@ -34,6 +42,8 @@ pub record IsMadeTo (nest : Nest) (network : Network) (d : Inputs) (k p : ℕ) (
   pub puts_number : length e.puts.items ≡ length network.channels
   pub gets : (c : ℕ) → port_at e.gets.items c ≡ (if nat_lt c k then incoming (stream nest network d) network p c else None)
   pub puts : (c : ℕ) → port_at e.puts.items c ≡ (if nat_lt c k then outgoing (stream nest network d) network p c else None)
+  pub gets_hold : AreOfCapacity network e.gets.items
+  pub puts_hold : AreOfCapacity network e.puts.items
 
 pub record AreMade (nest : Nest) (network : Network) (d : Inputs) (k : ℕ) (ends : List NodeEnds) : Type 0 where
   pub number : length ends ≡ length network.processes

@@ -4,7 +4,7 @@ ghost use Rattle.net_core.specs.Machine.{net_of};
 ghost use Rattle.net_core.specs.Shape.{FitsNumbers};
 ghost use Rattle.net_core.specs.Sound.{IsSound};
 ghost use Rattle.node_runner.specs.Nodes.{stream};
-ghost use Rattle.thread_runner.specs.Made.{AreBlank, IsBlank, AreMade, IsPlaced, all_streams};
+ghost use Rattle.thread_runner.specs.Made.{AreBlank, IsBlank, AreMade, AreOfCapacities, IsPlaced, all_streams};
 ghost use Rattle.thread_runner.specs.Runs.{AreEndsOf};
 ghost use Rattle.thread_runner.specs.declared.ends.NodeEnds.{NodeEnds};
 
@@ -49,7 +49,8 @@ impl Ends for NodeEnds {
     }
 }
 
-/// One link for each channel, whose stream is that of the channel's tokens. There is one answer for each process, in order,
+/// One link for each channel, whose stream is that of the channel's tokens. It holds as many values as the channel's capacity,
+/// and one where that is 0, since then no value goes through. There is one answer for each process, in order,
 /// which gets from the process's incoming channels and puts to its outgoing ones.
 pub fn make_ends(
     alloc: Global,
@@ -60,8 +61,8 @@ pub fn make_ends(
 ) -> Result<Vec<NodeEnds>, AllocError>
     requires numbers { FitsNumbers (net_of network.now) }
     requires sound { IsSound nest.now network.now }
-    requires capacities { (c : ℕ) → c < length network.now.channels → 0 < (net_of network.now).capacity c }
-    ensures { IfOk result (λ ends. AreEndsOf ⟦<NodeEnds as Ends>⟧.from ⟦<NodeEnds as Ends>⟧.to nest.now network.now inputs.now ends.items) }
+    ensures ends { IfOk result (λ ends. AreEndsOf ⟦<NodeEnds as Ends>⟧.from ⟦<NodeEnds as Ends>⟧.to nest.now network.now inputs.now ends.items) }
+    ensures capacities { IfOk result (λ ends. AreOfCapacities network.now ends.items) }
 {
     made::<Brand>(alloc, nest, inputs, network)
 }
@@ -76,14 +77,14 @@ fn made<P: Plan>(
     requires plan { P.streams ≡ all_streams nest.now network.now inputs.now }
     requires numbers { FitsNumbers (net_of network.now) }
     requires sound { IsSound nest.now network.now }
-    requires capacities { (c : ℕ) → c < length network.now.channels → 0 < (net_of network.now).capacity c }
-    ensures { IfOk result (λ ends. AreEndsOf ⟦<NodeEnds as Ends>⟧.from ⟦<NodeEnds as Ends>⟧.to nest.now network.now inputs.now ends.items) }
+    ensures ends { IfOk result (λ ends. AreEndsOf ⟦<NodeEnds as Ends>⟧.from ⟦<NodeEnds as Ends>⟧.to nest.now network.now inputs.now ends.items) }
+    ensures capacities { IfOk result (λ ends. AreOfCapacities network.now ends.items) }
 {
     let channels = network.channels.as_slice();
     let mut ends = blanks(alloc, network.processes.len(), channels.len())?;
     for at in 0..channels.len() {
         let channel = &channels[at];
-        let (put, get) = link::<P>(alloc, channel.capacity, at as u32)?;
+        let (put, get) = link::<P>(alloc, channel.capacity.max(1), at as u32)?;
         place(
             &mut ends,
             at,

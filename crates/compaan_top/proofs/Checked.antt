@@ -1,19 +1,16 @@
 -- What the command `check` comes to, from what its steps come to.
-use Rattle.std.proofs.Common.{◌≡◌, ◌≢◌, ◌∙◌, ℕ, ℤ, List, Option, Some, None, Result, Ok, Err, refl, sym, subst}
+use Rattle.std.proofs.Common.{◌≡◌, ◌≢◌, ℕ, ℤ, List, Some, None, Result, Ok, Err, sym, subst}
 use Rattle.cert_text.specs.Reading.{reading}
 use Rattle.cert_text.specs.declared.error.CertError.{CertError}
 use Rattle.cert_text.specs.declared.error.CertError.TheVariants as cert
 use Rattle.command_line.specs.Bundle.{certificate_part, source_part}
 use Rattle.loop_walk.specs.Counting.{counted}
 use Rattle.net_checker.specs.Fits.{first, verdict_of}
-use Rattle.net_checker.specs.declared.verdict.Verdict.{Verdict}
-use Rattle.net_checker.specs.declared.verdict.Verdict.TheVariants.{Accepted}
-use Rattle.net_checker.specs.declared.verdict.Verdict.TheVariants as verdict
 use Rattle.net_core.specs.declared.network.Network.{Network}
 use Rattle.sanlp.specs.declared.nest.Nest.{Nest}
 use Rattle.source_tree.specs.declared.cert.Cert.{Cert}
-use Rattle.verdict_text.specs.VerdictText.{unread_text, verdict_text}
-use Rattle.compaan_top.specs.Checking.{Checks, refused, verdict_reply, part_missing, source_refused, size_refused, unread, judged}
+use Rattle.verdict_text.specs.VerdictText.{unread_text}
+use Rattle.compaan_top.specs.Checking.{Checks, verdict_reply, part_missing, source_refused, size_refused, unread, judged}
 use Rattle.compaan_top.specs.Judging.{Judges}
 use Rattle.compaan_top.specs.Planned.{as_reply}
 use Rattle.compaan_top.specs.Refusals.{no_part}

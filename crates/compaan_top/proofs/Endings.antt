@@ -1,8 +1,8 @@
 -- How a call ends, from what its parts did.
-use Rattle.std.proofs.Common.{◌≡◌, ◌≤◌, ℕ, List, [], length, take, Option, Some, None, Result, Ok, Err, refl, sym, subst, inl, inr, lit≤}
-use Rattle.std.specs.Io.KnownBytes.{Appends, Consumes, IsAtEnd, Keeps}
+use Rattle.std.proofs.Common.{◌≡◌, ◌≤◌, ℕ, List, [], length, Option, Some, Result, Ok, Err, refl, sym, subst, inl, inr, lit≤}
+use Rattle.std.specs.Io.KnownBytes.{Appends}
 use Rattle.std.proofs.KnownBytes.{Appends-nil, Keeps-refl}
-use Rattle.io_edge.specs.Causes.{Rose, AppendsFront}
+use Rattle.io_edge.specs.Causes.{AppendsFront}
 use Rattle.command_line.specs.Words.{order_of}
 use Rattle.command_line.specs.declared.words.Order.{Order}
 use Rattle.compaan_top.specs.Answers.{Change, IsQuiet, HasFault, ReadsTo, Ends, no_memory, read_fault, written, cut_short}

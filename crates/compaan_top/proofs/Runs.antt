@@ -1,5 +1,5 @@
 -- What the commands `run` and `seq` come to, from what its steps come to.
-use Rattle.std.proofs.Common.{◌≡◌, ℕ, ℤ, List, Option, Some, None, Result, Ok, Err, sym, subst}
+use Rattle.std.proofs.Common.{◌≡◌, ℕ, ℤ, List, Result, Ok, Err, sym, subst}
 use Rattle.command_line.specs.Bundle.{source_part, data_part}
 use Rattle.sanlp.specs.Meaning.{arrays}
 use Rattle.sanlp.specs.declared.nest.Arrays.{Arrays}

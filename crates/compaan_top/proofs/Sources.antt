@@ -1,5 +1,5 @@
 -- What a source gives, from what its steps come to.
-use Rattle.std.proofs.Common.{◌≡◌, ℕ, ℤ, List, Option, Some, None, Result, Ok, Err, sym, subst}
+use Rattle.std.proofs.Common.{◌≡◌, ℕ, ℤ, List, Result, Ok, Err, sym, subst}
 use Rattle.loop_lex.specs.Tokens.{tokens}
 use Rattle.loop_lex.specs.declared.token.Token.{Token}
 use Rattle.loop_grammar.specs.Lexemes.{IsTree}

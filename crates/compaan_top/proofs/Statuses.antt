@@ -1,5 +1,5 @@
 -- The statuses of outcomes.
-use Rattle.std.proofs.Common.{◌≡◌, ◌≢◌, ◌==◌, ◌&&◌, not, ◌<◌, ◌≤◌, ℕ, suc, ℤ, Bool, true, false, List, [], ◌∷◌, ◌++◌, length, take, drop, Option, Some, None, Result, Ok, Err, refl, sym, ap, ◌∙◌, subst, arith, ap₂, map, inl, inr, ◌⊎◌, take-append-drop}
+use Rattle.std.proofs.Common.{◌≡◌, ◌==◌, ℕ, suc, ℤ, Bool, true, List, [], ◌∷◌, length, drop, Option, Some, None, Result, Ok, Err, refl, sym, ap, ◌∙◌, subst, arith, map, inl, inr, take-append-drop}
 use Rattle.std.specs.List.{list_any}
 use Rattle.sanlp.specs.WellFormed.{IsWellFormed}
 use Rattle.std.proofs.lemmas.Bool.{cases_lt, or_right}
@@ -10,14 +10,13 @@ use Rattle.loop_lex.specs.declared.token.LexError.TheVariants as lexical
 use Rattle.loop_grammar.specs.Grammar.{Stops, Derives, Tok}
 use Rattle.loop_grammar.specs.Lexemes.{IsTree, sentence}
 use Rattle.loop_grammar.specs.declared.tree.Tree.{Tree}
-use Rattle.loop_class.specs.Binding.{findings, IsBound, nest_of}
+use Rattle.loop_class.specs.Binding.{findings, nest_of}
 use Rattle.loop_class.specs.Reasons.{least_from}
 use Rattle.loop_class.specs.declared.error.BindError.{BindError}
 use Rattle.loop_class.specs.declared.error.BindError.TheVariants as binding
 use Rattle.loop_walk.specs.Counting.{counted, counted_parts, counted_node}
 use Rattle.loop_walk.specs.declared.count.SizeError.{SizeError}
 use Rattle.loop_walk.specs.declared.count.SizeError.TheVariants.{Limit, LoopValue}
-use Rattle.array_data.specs.Answer.{answer_text}
 use Rattle.array_data.specs.Data.{Record, fault_of, inputs_of, lists_of, records_of, unless}
 use Rattle.array_data.specs.declared.error.DataError.{DataError}
 use Rattle.array_data.specs.declared.error.DataError.TheVariants.{UnknownArray, Twice, Missing, Count, NotANumber, Memory}
@@ -47,12 +46,12 @@ use Rattle.command_line.specs.declared.words.Command.{Command}
 use Rattle.command_line.specs.declared.words.Command.TheVariants.{Run, Seq, Net, Cert, Check}
 use Rattle.compaan_top.specs.Checking as check
 use Rattle.compaan_top.specs.Checking.{Checks, verdict_reply}
-use Rattle.compaan_top.specs.Laws.{DetermineStatus, HaveOwnStatuses, HasParts, IsDone, IsValid, Succeeds, outcome_statuses}
+use Rattle.compaan_top.specs.Laws.{HasParts, IsDone, IsValid, outcome_statuses}
 use Rattle.compaan_top.specs.Printing as print
 use Rattle.compaan_top.specs.Printing.{Prints, certificate_text, network_text}
 use Rattle.compaan_top.specs.Outcome.{Outcome, IsOutcome, outcome_of, Performs, words_refused, bundle_refused, performed}
-use Rattle.compaan_top.specs.Replies.{Reply, done}
-use Rattle.compaan_top.specs.Refusals.{byte_of, lex_refusal, bind_refusal, size_refusal, syntax_refusal, data_refusal, usage, too_long}
+use Rattle.compaan_top.specs.Replies.{Reply}
+use Rattle.compaan_top.specs.Refusals.{byte_of, lex_refusal, bind_refusal, size_refusal, data_refusal}
 use Rattle.compaan_top.specs.Run.{Runs, IsInputs, source_refused, size_refused, data_refused, answered}
 use Rattle.compaan_top.specs.Source.{Gives, no_tokens, no_tree, not_bound, bound}
 use Rattle.compaan_top.specs.declared.refusal.Refusal.{Refusal}
@@ -158,10 +157,11 @@ gives_alike one source params (bound a t n lexed derived is) (not_bound b u reas
     let trees : u ≡ t = one_tree_of one source b a u t lexed' lexed derived' derived in
     absurd (none_least t params reason is.no_findings (sym (ap (λ (z : Tree). least_from None (findings z params)) trees) ∙ least))
 gives_alike one source params (bound a t n lexed derived is) (bound b u m lexed' derived' is') =
-    let trees : t ≡ u = one_tree_of one source a b t u lexed lexed' derived derived' in
-    (is.arrays ∙ ap (λ (z : Tree). (nest_of z params).arrays) trees ∙ sym is'.arrays,
-    is.statements ∙ ap (λ (z : Tree). (nest_of z params).statements) trees ∙ sym is'.statements,
-    is.body ∙ ap (λ (z : Tree). (nest_of z params).body) trees ∙ sym is'.body)
+    let trees : t ≡ u = one_tree_of one source a b t u lexed lexed' derived derived' in (
+      is.arrays ∙ ap (λ (z : Tree). (nest_of z params).arrays) trees ∙ sym is'.arrays,
+      is.statements ∙ ap (λ (z : Tree). (nest_of z params).statements) trees ∙ sym is'.statements,
+      is.body ∙ ap (λ (z : Tree). (nest_of z params).body) trees ∙ sym is'.body,
+    )
 
 -- ---- and so do `run` and `seq`
 

@@ -1,14 +1,13 @@
 -- What holds where `check` accepts.
-use Rattle.std.proofs.Common.{true, ◌≡◌, ◌∙◌, ℕ, ℤ, List, Option, Some, None, Result, Ok, Err, refl, sym, ap, subst}
+use Rattle.std.proofs.Common.{true, ◌≡◌, ◌∙◌, ℕ, ℤ, List, Option, Some, None, Result, Ok, refl, sym, ap, subst}
 use Rattle.std.specs.Prelude.{◌↔◌}
 use Rattle.cert_text.specs.CertText.{cert_text}
 use Rattle.cert_text.specs.Reading.{reading}
-use Rattle.command_line.specs.Bundle.{certificate_part, source_part}
+use Rattle.command_line.specs.Bundle.{source_part}
 use Rattle.command_line.specs.Words.{order_of}
 use Rattle.command_line.specs.declared.words.Command.{Command}
 use Rattle.command_line.specs.declared.words.Command.TheVariants.{Check}
 use Rattle.command_line.specs.declared.words.Order.{Order}
-use Rattle.loop_walk.specs.declared.count.SizeError.{SizeError}
 use Rattle.net_checker.specs.Fits.{Fits, first, verdict_of}
 use Rattle.net_checker.specs.declared.verdict.Refusal.{Refusal as NetRefusal}
 use Rattle.net_core.specs.Sound.{IsSound}

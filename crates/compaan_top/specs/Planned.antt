@@ -1,5 +1,5 @@
 -- What reading the words and the input and working on them comes to, before anything is written.
-use Rattle.std.specs.Prelude.{◌≡◌, ◌≤◌, ◌<◌, ℕ, List, length, Option, Some, None, Result, Ok, Err}
+use Rattle.std.specs.Prelude.{◌≡◌, ◌≤◌, ◌<◌, ℕ, List, length, Some, None, Result, Ok, Err}
 use Rattle.std.specs.Global.{Vec}
 use Rattle.array_data.specs.Answer.{answer_text}
 use Rattle.cert_text.specs.CertText.{cert_text}

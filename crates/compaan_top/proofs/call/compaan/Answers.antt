@@ -1,4 +1,3 @@
-use Rattle.std.proofs.Common.{refl}
 use Rattle.compaan_top.proofs.Vouched.{ends_vouched}
 use Rattle.compaan_top.proofs.call.compaan.Goals as goal
 

@@ -1,4 +1,4 @@
-use Rattle.std.proofs.Common.{◌≡◌, ℕ, List, map, string_bytes}
+use Rattle.std.proofs.Common.{ℕ, List, map, string_bytes}
 use Rattle.std.proofs.lemmas.Result.{err_from_is_err_and}
 use Rattle.compaan_top.specs.Answers.{Change}
 use Rattle.compaan_top.proofs.Endings.{planned_refusal_of_words, planned_refusal_of_bundle, planned_answer}

@@ -1,4 +1,3 @@
-use Rattle.std.proofs.Common.{◌≡◌}
 use Rattle.compaan_top.specs.Planned.{reply_of}
 use Rattle.compaan_top.proofs.Endings.{answer_written, answer_cut_short, refusal_written, refusal_cut_short, ends_at_fault, ends_without_memory}
 use Rattle.compaan_top.proofs.call.work.Goals as goal

@@ -1,4 +1,4 @@
-use Rattle.std.proofs.Common.{arith, ◌≡◌, ◌∙◌, ◌≤◌, List, ℕ, length, Some, sym, ap}
+use Rattle.std.proofs.Common.{arith, ◌∙◌, ◌≤◌, length, Some, sym, ap}
 use Rattle.std.proofs.lemmas.Result.{err_from_is_err_and}
 use Rattle.compaan_top.proofs.Parts.{part_within}
 use Rattle.compaan_top.proofs.Checked.{checks_judged, checks_unread, checks_without_nest, checks_without_part, checks_without_size}

@@ -1,4 +1,4 @@
-use Rattle.std.proofs.Common.{◌≡◌, ◌∙◌, sym, ap, length}
+use Rattle.std.proofs.Common.{◌∙◌, ap, length}
 use Rattle.std.proofs.lemmas.Result.{err_from_is_err_and}
 use Rattle.compaan_top.proofs.Inputs.{length-arrays}
 use Rattle.compaan_top.proofs.Runs.{runs_without_nest, runs_without_size, runs_without_inputs, runs_to_answer}

@@ -1,4 +1,4 @@
-use Rattle.std.proofs.Common.{◌≡◌, ◌∙◌, Ok, ap, sym}
+use Rattle.std.proofs.Common.{◌∙◌, Ok, ap, sym}
 use Rattle.std.proofs.lemmas.Result.{err_from_is_err_and}
 use Rattle.compaan_top.proofs.Sources.{gives_without_tokens, gives_without_tree, gives_nest}
 use Rattle.compaan_top.proofs.source.nest_of.Goals as goal

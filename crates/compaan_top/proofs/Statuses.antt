@@ -115,7 +115,7 @@ unfolding trace last_before points_of shape_refusal firing_refusal schedule_refu
 facts_aside arrays statements body w v network cert = refl
 
 -- nests with the same parts are found wrong alike
-first_alike : (n m : Nest) → n.arrays ≡ m.arrays → n.statements ≡ m.statements → n.body ≡ m.body → (network : Network) (cert : CertValue)
+pub first_alike : (n m : Nest) → n.arrays ≡ m.arrays → n.statements ≡ m.statements → n.body ≡ m.body → (network : Network) (cert : CertValue)
     → first n network cert ≡ first m network cert
 first_alike n m arrays statements body network cert =
     subst (λ (x : List ArrayDecl). (v : IsWellFormed x m.statements m.body)
@@ -206,7 +206,7 @@ pub size_status : (e : SizeError) → (size_refusal e).status ≡ 8
 size_status (Limit count) = refl
 size_status (LoopValue loop) = refl
 
-no_both_sizes : (n m : Nest) (e : SizeError) (total : ℕ) → n.body ≡ m.body → counted n ≡ Err e → counted m ≡ Ok total → ⊥
+pub no_both_sizes : (n m : Nest) (e : SizeError) (total : ℕ) → n.body ≡ m.body → counted n ≡ Err e → counted m ≡ Ok total → ⊥
 no_both_sizes n m e total same f g = let c = same_counted n m same in cc
 
 runs_alike : OneTree → (params : List (List ℕ × ℤ)) (bundle : List ℕ) {x y : Result Reply Refusal} → Runs params bundle x → Runs params bundle y → SameStatus x y
@@ -250,10 +250,10 @@ prints_alike one text params bundle (print.printed n t g c) (print.size_refused 
     let same = gives_alike one (source_part bundle) params h g in absurd (no_both_sizes m n f t same.2 d c)
 prints_alike one text params bundle (print.printed n t g c) (print.printed m u h d) = refl
 
-no_part_there : (bundle part : List ℕ) → certificate_part bundle ≡ None → certificate_part bundle ≡ Some part → ⊥
+pub no_part_there : (bundle part : List ℕ) → certificate_part bundle ≡ None → certificate_part bundle ≡ Some part → ⊥
 no_part_there bundle part none there = cc
 
-same_part : (bundle a b : List ℕ) → certificate_part bundle ≡ Some a → certificate_part bundle ≡ Some b → a ≡ b
+pub same_part : (bundle a b : List ℕ) → certificate_part bundle ≡ Some a → certificate_part bundle ≡ Some b → a ≡ b
 same_part bundle a b x y = cc
 
 no_both_readings : (a b : Result (Network × CertValue) CertError) (e : CertError) (found : Network × CertValue) → a ≡ b → a ≡ Err e → b ≡ Ok found → ⊥

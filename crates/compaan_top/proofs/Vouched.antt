@@ -1,9 +1,10 @@
 -- What holds where `check` accepts.
-use Rattle.std.proofs.Common.{true, ◌≡◌, ◌∙◌, ℕ, ℤ, List, Option, Some, None, Result, Ok, refl, sym, ap, subst}
+use Rattle.std.proofs.Common.{Err, true, ◌≡◌, ◌≤◌, ◌∙◌, arith, length, ℕ, ℤ, List, Option, Some, None, Result, Ok, refl, sym, ap, subst}
 use Rattle.std.specs.Prelude.{◌↔◌}
-use Rattle.cert_text.specs.CertText.{cert_text}
+use Rattle.cert_text.specs.CertText.{AreInRange, cert_text}
 use Rattle.cert_text.specs.Reading.{reading}
-use Rattle.command_line.specs.Bundle.{source_part}
+use Rattle.cert_text.specs.declared.error.CertError.{CertError}
+use Rattle.command_line.specs.Bundle.{certificate_part, source_part}
 use Rattle.command_line.specs.Words.{order_of}
 use Rattle.command_line.specs.declared.words.Command.{Command}
 use Rattle.command_line.specs.declared.words.Command.TheVariants.{Check}
@@ -17,20 +18,20 @@ use Rattle.source_tree.specs.declared.cert.Cert.{Cert}
 use Rattle.witness_plan.specs.declared.schedules.Policy.{Policy}
 use Rattle.compaan_top.specs.Answers.{Change, Ends, Reads, ReadsTo, no_memory, read_fault, written, cut_short}
 use Rattle.compaan_top.specs.Checking.{Checks, verdict_reply, part_missing, source_refused, size_refused, unread, judged}
-use Rattle.compaan_top.specs.Headline.{IsVouchedFor}
-use Rattle.compaan_top.specs.Outcome.{Outcome, IsOutcome, Performs, outcome_of, words_refused, bundle_refused, performed}
+use Rattle.compaan_top.specs.Headline.{AcceptsWhatFits, HasFittingCertificate, HasSoundCertificate, accepted}
+use Rattle.compaan_top.specs.Outcome.{Outcome, IsOutcome, Performs, bundle_limit, outcome_of, words_refused, bundle_refused, performed}
 use Rattle.compaan_top.specs.Replies.{Reply}
 use Rattle.compaan_top.specs.declared.refusal.Refusal.{Refusal}
-use Rattle.compaan_top.proofs.Statuses.{gives_refused, is_refused, no_order, size_status}
+use Rattle.compaan_top.proofs.Statuses.{Alike, OneTree, first_alike, gives_alike, gives_refused, is_refused, no_both_sizes, no_order, no_part_there, same_part, size_status}
 
-abbrev pub AcceptsWhatFits : Type 0
-AcceptsWhatFits = (n : Nest) (network : Network) (cert : Cert) → (first n network cert ≡ None) ↔ Fits n network cert
+abbrev pub NothingWrongFits : Type 0
+NothingWrongFits = (n : Nest) (network : Network) (cert : Cert) → (first n network cert ≡ None) ↔ Fits n network cert
 
 abbrev pub WhatFitsIsSound : Type 0
 WhatFitsIsSound = (n : Nest) (network : Network) (cert : Cert) → Fits n network cert → IsSound n network
 
 abbrev pub ReadsItsText : Type 0
-ReadsItsText = (bytes : List ℕ) (network : Network) (cert : Cert) → reading bytes ≡ Ok (network, cert) → bytes ≡ cert_text network cert
+ReadsItsText = (bytes : List ℕ) (network : Network) (cert : Cert) → reading bytes ≡ Ok (network, cert) → (bytes ≡ cert_text network cert) × AreInRange network cert
 
 -- a verdict with status 0 is that nothing is wrong
 nothing_wrong : (found : Option NetRefusal) → (verdict_reply (verdict_of found)).status ≡ 0 → found ≡ None
@@ -38,7 +39,7 @@ nothing_wrong None is = refl
 nothing_wrong (Some refusal) is = cc
 
 abbrev pub VouchesFor : Type 0
-VouchesFor = (params : List (List ℕ × ℤ)) (bundle : List ℕ) (answer : Result Reply Refusal) → Checks params bundle answer → (outcome_of answer).status ≡ 0 → IsVouchedFor params bundle
+VouchesFor = (params : List (List ℕ × ℤ)) (bundle : List ℕ) (answer : Result Reply Refusal) → Checks params bundle answer → (outcome_of answer).status ≡ 0 → HasFittingCertificate params bundle
 
 one_is_not_zero : ◌≡◌ {A = ℕ} 1 0 → ⊥
 one_is_not_zero is = cc
@@ -55,36 +56,38 @@ ten_is_not_zero is = cc
 not_zero : (status : ℕ) → is_refused status ≡ true → status ≡ 0 → ⊥
 not_zero status refused is = let zero : is_refused 0 ≡ true = subst (λ (s : ℕ). is_refused s ≡ true) is refused in cc
 
-pub checks_vouched : AcceptsWhatFits → WhatFitsIsSound → ReadsItsText → (params : List (List ℕ × ℤ)) (bundle : List ℕ) {answer : Result Reply Refusal}
-    → Checks params bundle answer → (outcome_of answer).status ≡ 0 → IsVouchedFor params bundle
-checks_vouched accepts sound reads params bundle (part_missing none) is = absurd (not_zero 5 refl is)
-checks_vouched accepts sound reads params bundle (source_refused part refusal there gives) is =
+pub checks_vouched : NothingWrongFits → ReadsItsText → (params : List (List ℕ × ℤ)) (bundle : List ℕ) {answer : Result Reply Refusal}
+    → Checks params bundle answer → (outcome_of answer).status ≡ 0 → HasFittingCertificate params bundle
+checks_vouched fitting reads params bundle (part_missing none) is = absurd (not_zero 5 refl is)
+checks_vouched fitting reads params bundle (source_refused part refusal there gives) is =
     absurd (not_zero refusal.status (gives_refused (source_part bundle) params gives) is)
-checks_vouched accepts sound reads params bundle (size_refused part nest error there gives counts) is =
+checks_vouched fitting reads params bundle (size_refused part nest error there gives counts) is =
     absurd (not_zero 8 refl (sym (size_status error) ∙ is))
-checks_vouched accepts sound reads params bundle (unread part nest total error text there gives counts read told) is = absurd (one_is_not_zero is)
-checks_vouched accepts sound reads params bundle (judged part nest total network cert there gives counts read) is =
-    let fits : Fits nest network cert = (accepts nest network cert).0 (nothing_wrong (first nest network cert) is) in
+checks_vouched fitting reads params bundle (unread part nest total error text there gives counts read told) is = absurd (one_is_not_zero is)
+checks_vouched fitting reads params bundle (judged part nest total network cert there gives counts read) is =
+    let is_text = reads part network cert read in
     record {
       nest = nest;
+      total = total;
       network = network;
       cert = cert;
       gives = gives;
-      text = there ∙ ap Some (reads part network cert read);
-      fits = fits;
-      sound = sound nest network cert fits;
+      counts = counts;
+      text = there ∙ ap Some is_text.0;
+      in_range = is_text.1;
+      fits = (fitting nest network cert).0 (nothing_wrong (first nest network cert) is);
     }
 
 same_order : (words : List (List ℕ)) (a b : Order) → order_of words ≡ Some a → order_of words ≡ Some b → a ≡ b
 same_order words a b x y = cc
 
 performs_vouched : VouchesFor → (command : Command) (policy : Policy) (params : List (List ℕ × ℤ)) (bundle : List ℕ) (answer : Result Reply Refusal) → command ≡ Check
-    → Performs command policy params bundle answer → (outcome_of answer).status ≡ 0 → IsVouchedFor params bundle
+    → Performs command policy params bundle answer → (outcome_of answer).status ≡ 0 → HasFittingCertificate params bundle
 performs_vouched vouches command policy params bundle answer is made zero =
     vouches params bundle answer (subst (λ (c : Command). Performs c policy params bundle answer) is made) zero
 
 outcome_vouched : VouchesFor → (words : List (List ℕ)) (bundle : List ℕ) (order : Order) {outcome : Outcome} → order_of words ≡ Some order → order.command ≡ Check
-    → IsOutcome words bundle outcome → outcome.status ≡ 0 → IsVouchedFor order.params bundle
+    → IsOutcome words bundle outcome → outcome.status ≡ 0 → HasFittingCertificate order.params bundle
 outcome_vouched vouches words bundle order ordered is (words_refused none) zero = absurd (no_order words order none ordered)
 outcome_vouched vouches words bundle order ordered is (bundle_refused other others long) zero = absurd (not_zero 5 refl zero)
 outcome_vouched vouches words bundle order ordered is (performed other answer others within made) zero =
@@ -95,11 +98,69 @@ outcome_vouched vouches words bundle order ordered is (performed other answer ot
 reads_to : (words : List (List ℕ)) (input : Change) (bundle : List ℕ) (order : Order) → order_of words ≡ Some order → Reads (order_of words) input bundle → ReadsTo input bundle
 reads_to words input bundle order ordered reads = rw ordered at reads
 
--- a call with status 0 whose words order `check` read a bundle that is vouched for
-pub ends_vouched : VouchesFor → (words : List (List ℕ)) (input output complaint : Change) (order : Order) {status : ℕ} → Ends words input output complaint status
-    → order_of words ≡ Some order → order.command ≡ Check → status ≡ 0 → (bundle : List ℕ) × ReadsTo input bundle × IsVouchedFor order.params bundle
-ends_vouched vouches words input output complaint order (no_memory quiet nothing) ordered is zero = absurd (ten_is_not_zero zero)
-ends_vouched vouches words input output complaint order (read_fault other others fault nothing) ordered is zero = absurd (three_is_not_zero zero)
-ends_vouched vouches words input output complaint order (written bundle outcome quiet reads outcome_is all) ordered is zero =
-    (bundle, reads_to words input bundle order ordered reads, outcome_vouched vouches words bundle order ordered is outcome_is zero)
-ends_vouched vouches words input output complaint order (cut_short bundle outcome quiet reads outcome_is front) ordered is zero = absurd (four_is_not_zero zero)
+-- what has a fitting certificate has a sound one
+pub with_sound : WhatFitsIsSound → (params : List (List ℕ × ℤ)) (bundle : List ℕ) → HasFittingCertificate params bundle → HasSoundCertificate params bundle
+with_sound sound params bundle v = record { fitting = v; sound = sound v.nest v.network v.cert v.fits }
+
+-- a call with status 0 whose words order `check` read a bundle with a sound certificate
+pub ends_vouched : VouchesFor → WhatFitsIsSound → (words : List (List ℕ)) (input output complaint : Change) (order : Order) {status : ℕ} → Ends words input output complaint status
+    → order_of words ≡ Some order → order.command ≡ Check → status ≡ 0 → (bundle : List ℕ) × ReadsTo input bundle × HasSoundCertificate order.params bundle
+ends_vouched vouches sound words input output complaint order (no_memory quiet nothing) ordered is zero = absurd (ten_is_not_zero zero)
+ends_vouched vouches sound words input output complaint order (read_fault other others fault nothing) ordered is zero = absurd (three_is_not_zero zero)
+ends_vouched vouches sound words input output complaint order (written bundle outcome quiet reads outcome_is all) ordered is zero =
+    (bundle, reads_to words input bundle order ordered reads, with_sound sound order.params bundle (outcome_vouched vouches words bundle order ordered is outcome_is zero))
+ends_vouched vouches sound words input output complaint order (cut_short bundle outcome quiet reads outcome_is front) ordered is zero = absurd (four_is_not_zero zero)
+
+-- The other way
+
+abbrev pub TextIsRead : Type 0
+TextIsRead = (network : Network) (cert : Cert) → AreInRange network cert → reading (cert_text network cert) ≡ Ok (network, cert)
+
+-- the part is read as the pair that it stands for
+part_read : TextIsRead → (params : List (List ℕ × ℤ)) (bundle part : List ℕ) (v : HasFittingCertificate params bundle) → certificate_part bundle ≡ Some part
+    → reading part ≡ Ok (v.network, v.cert)
+part_read back params bundle part v there =
+    ap reading (same_part bundle part (cert_text v.network v.cert) there v.text) ∙ back v.network v.cert v.in_range
+
+no_error : (a : Result (Network × Cert) CertError) (e : CertError) (pair : Network × Cert) → a ≡ Err e → a ≡ Ok pair → ⊥
+no_error a e pair x y = cc
+
+same_pair : (a : Result (Network × Cert) CertError) (x y : Network × Cert) → a ≡ Ok x → a ≡ Ok y → x ≡ y
+same_pair a x y p q = cc
+
+-- nothing is wrong with a fitting pair
+none_wrong : NothingWrongFits → (n m : Nest) (network : Network) (cert : Cert) (pair : Network × Cert) → Alike (Ok n) (Ok m) → pair ≡ (network, cert) → Fits m network cert
+    → first n pair.0 pair.1 ≡ None
+none_wrong fitting n m network cert pair same is fits =
+    ap (λ (z : Network × Cert). first n z.0 z.1) is ∙ first_alike n m same.0 same.1 same.2 network cert ∙ (fitting m network cert).1 fits
+
+checks_accepted : OneTree → NothingWrongFits → TextIsRead → (params : List (List ℕ × ℤ)) (bundle : List ℕ) (v : HasFittingCertificate params bundle) {answer : Result Reply Refusal}
+    → Checks params bundle answer → outcome_of answer ≡ accepted
+checks_accepted one fitting back params bundle v (part_missing none) = absurd (no_part_there bundle (cert_text v.network v.cert) none v.text)
+checks_accepted one fitting back params bundle v (source_refused part refusal there gives) = absurd (gives_alike one (source_part bundle) params gives v.gives)
+checks_accepted one fitting back params bundle v (size_refused part nest error there gives counts) =
+    absurd (no_both_sizes nest v.nest error v.total (gives_alike one (source_part bundle) params gives v.gives).2 counts v.counts)
+checks_accepted one fitting back params bundle v (unread part nest total error text there gives counts read told) =
+    absurd (no_error (reading part) error (v.network, v.cert) read (part_read back params bundle part v there))
+checks_accepted one fitting back params bundle v (judged part nest total network cert there gives counts read) =
+    let pairs : (network, cert) ≡ (v.network, v.cert) = same_pair (reading part) (network, cert) (v.network, v.cert) read (part_read back params bundle part v there) in
+    let none : first nest network cert ≡ None =
+    none_wrong fitting nest v.nest v.network v.cert (network, cert) (gives_alike one (source_part bundle) params gives v.gives) pairs v.fits in
+    ap (λ (found : Option NetRefusal). outcome_of (Ok (verdict_reply (verdict_of found)))) none
+
+outcome_accepted : OneTree → NothingWrongFits → TextIsRead → (words : List (List ℕ)) (bundle : List ℕ) (order : Order) {outcome : Outcome} → order_of words ≡ Some order
+    → order.command ≡ Check → length bundle ≤ bundle_limit → HasFittingCertificate order.params bundle → IsOutcome words bundle outcome → outcome ≡ accepted
+outcome_accepted one fitting back words bundle order ordered is within v (words_refused none) = absurd (no_order words order none ordered)
+outcome_accepted one fitting back words bundle order ordered is within v (bundle_refused other others long) = absurd (omega (arith, within))
+outcome_accepted one fitting back words bundle order ordered is within v (performed other answer others small made) =
+    let same : other ≡ order = same_order words other order others ordered in
+    checks_accepted one fitting back order.params bundle v
+    (subst (λ (c : Command). Performs c order.policy order.params bundle answer) is
+    (subst (λ (o : Order). Performs o.command o.policy o.params bundle answer) same made))
+
+-- words that order `check` come to `accepted` exactly where the bundle has a fitting certificate
+pub accepts_fitting : OneTree → NothingWrongFits → ReadsItsText → TextIsRead → (words : List (List ℕ)) (bundle : List ℕ) → AcceptsWhatFits words bundle
+accepts_fitting one fitting reads back words bundle order ordered is within outcome outcome_is = (
+  λ same. outcome_vouched (λ params b answer made zero. checks_vouched fitting reads params b made zero) words bundle order ordered is outcome_is (ap (λ (o : Outcome). o.status) same),
+  λ v. outcome_accepted one fitting back words bundle order ordered is within v outcome_is,
+)

@@ -1,22 +1,45 @@
 -- What the program vouches for where `check` accepts.
-use Rattle.std.specs.Prelude.{◌≡◌, ℕ, ℤ, List, Some, Ok}
-use Rattle.cert_text.specs.CertText.{cert_text}
+use Rattle.std.specs.Prelude.{◌≡◌, ◌≤◌, ◌↔◌, ℕ, ℤ, List, [], length, codes, Some, Ok}
+use Rattle.cert_text.specs.CertText.{AreInRange, cert_text}
 use Rattle.command_line.specs.Bundle.{certificate_part, source_part}
+use Rattle.command_line.specs.Words.{order_of}
+use Rattle.command_line.specs.declared.words.Command.TheVariants.{Check}
+use Rattle.command_line.specs.declared.words.Order.{Order}
+use Rattle.loop_walk.specs.Counting.{counted}
 use Rattle.net_checker.specs.Fits.{Fits}
 use Rattle.net_core.specs.Sound.{IsSound}
 use Rattle.net_core.specs.declared.network.Network.{Network}
 use Rattle.sanlp.specs.declared.nest.Nest.{Nest}
 use Rattle.source_tree.specs.declared.cert.Cert.{Cert}
+use Rattle.compaan_top.specs.Outcome.{Outcome, IsOutcome, bundle_limit}
 use Rattle.compaan_top.specs.Source.{Gives}
 
--- The certificate part is the text of a network with a certificate that fit the source's nest, and this network is sound for
--- the nest: every run of it, in whatever order the processes step, can go on until all have ended, keeps every channel within
--- its capacity, and once ended has the same number of events and the sequential program's arrays.
-pub record IsVouchedFor (params : List (List ℕ × ℤ)) (bundle : List ℕ) : Type 0 where
+-- The source gives a nest within the limit on its size, and the certificate part stands for a network and a certificate that
+-- fit this nest.
+pub record HasFittingCertificate (params : List (List ℕ × ℤ)) (bundle : List ℕ) : Type 0 where
   pub nest : Nest
+  pub total : ℕ
   pub network : Network
   pub cert : Cert
   pub gives : Gives (source_part bundle) params (Ok nest)
+  pub counts : counted nest ≡ Ok total
   pub text : certificate_part bundle ≡ Some (cert_text network cert)
+  pub in_range : AreInRange network cert
   pub fits : Fits nest network cert
-  pub sound : IsSound nest network
+
+-- Besides, this network is sound for the nest: every run of it, in whatever order the processes step, can go on until all
+-- have ended, keeps every channel within its capacity, and once ended has the same number of events and the sequential
+-- program's arrays.
+pub record HasSoundCertificate (params : List (List ℕ × ℤ)) (bundle : List ℕ) : Type 0 where
+  pub fitting : HasFittingCertificate params bundle
+  pub sound : IsSound fitting.nest fitting.network
+
+-- what is written where the checker accepts
+abbrev pub accepted : Outcome
+accepted = record { status = 0; output = codes "accepted\n"; complaint = [] }
+
+-- Words that order `check` come to `accepted` exactly where the bundle has a fitting certificate.
+abbrev pub AcceptsWhatFits : List (List ℕ) → List ℕ → Type 0
+AcceptsWhatFits words bundle =
+    (order : Order) → order_of words ≡ Some order → order.command ≡ Check → length bundle ≤ bundle_limit
+    → (outcome : Outcome) → IsOutcome words bundle outcome → (outcome ≡ accepted) ↔ HasFittingCertificate order.params bundle

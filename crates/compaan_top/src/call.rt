@@ -3,20 +3,21 @@ ghost use Rattle.command_line.specs.Words.{order_of};
 ghost use Rattle.command_line.specs.declared.words.Command.TheVariants as command;
 ghost use Rattle.command_line.specs.declared.words.Order.{Order as WordOrder};
 ghost use Rattle.compaan_top.specs.Answers.{Change, Ends, ReadsTo};
-ghost use Rattle.compaan_top.specs.Headline.{IsVouchedFor};
+ghost use Rattle.compaan_top.specs.Headline.{HasSoundCertificate};
 ghost use Rattle.compaan_top.specs.Judging.{Judges};
 ghost use Rattle.compaan_top.specs.Outcome.{Performs, bundle_limit};
 ghost use Rattle.compaan_top.specs.Planned.{as_reply, IsOrdered, IsPlanned, ReadsBundle};
 
 use crate::answer::Answer;
 use crate::check::check_certificate;
-use crate::law::what_is_accepted_is_sound;
+use crate::law::what_is_accepted_fits;
 use crate::printing::{print_certificate, print_network};
 use crate::refusal::{Stop, too_long, usage};
 use crate::run::{Engine, run};
 use crate::writing::{status_of, write_text};
 use command_line::{Command, Order, WordsError, read_words};
 use io_edge::{ReadError, Sink, Source, read_all, write_all};
+use net_checker::is_sound;
 use std::alloc::Global;
 
 /// The most bytes that a bundle has.
@@ -111,8 +112,9 @@ pub fn compaan<S: Source, K: Sink, E: Sink>(
         (record { old = E.held complaint.old; new = E.held complaint.new; faults_old = E.faults complaint.old; faults_new = E.faults complaint.new })
         result }
     ensures accepts { (order : WordOrder) → order_of (map string_bytes words.now) ≡ Some order → order.command ≡ command.Check → result ≡ 0
-        → (bundle : List ℕ) × ReadsTo (record { old = S.left input.old; new = S.left input.new; faults_old = S.faults input.old; faults_new = S.faults input.new }) bundle × IsVouchedFor order.params bundle }
+        → (bundle : List ℕ) × ReadsTo (record { old = S.left input.old; new = S.left input.new; faults_old = S.faults input.old; faults_new = S.faults input.new }) bundle × HasSoundCertificate order.params bundle }
 {
-    what_is_accepted_is_sound();
+    what_is_accepted_fits();
+    is_sound();
     work(alloc, words, input, output, complaint)
 }

@@ -2,7 +2,7 @@
 
 ghost use Rattle.std.specs.Prelude.{◌≡◌, ℕ, ℤ, List, Result};
 ghost use Rattle.compaan_top.specs.Checking.{Checks};
-ghost use Rattle.compaan_top.specs.Headline.{IsVouchedFor};
+ghost use Rattle.compaan_top.specs.Headline.{AcceptsWhatFits, HasFittingCertificate};
 ghost use Rattle.compaan_top.specs.Outcome.{outcome_of};
 ghost use Rattle.compaan_top.specs.Replies.{Reply};
 ghost use Rattle.compaan_top.specs.declared.refusal.Refusal.{Refusal};
@@ -10,7 +10,7 @@ ghost use Rattle.compaan_top.specs.Laws.{DetermineStatus, HaveOwnStatuses, Succe
 
 use cert_text::reads_what_is_written;
 use loop_grammar::one_tree;
-use net_checker::{accepts_what_fits, is_sound};
+use net_checker::accepts_what_fits;
 
 /// The status is determined by the words and the bundle: two outcomes of theirs have the same. It is none of those that
 /// a failed read, a failed write or want of memory has. Where nothing is refused it is 0; for `check` it is 0, or 1 where a
@@ -23,13 +23,21 @@ pub fn status_is_determined()
     one_tree();
 }
 
-/// Where `check` comes to status 0, the certificate part is the text of a network with a certificate that fit the nest of the
-/// source, and the network is sound for it.
-pub(crate) fn what_is_accepted_is_sound()
+/// Words that order `check` come to `accepted` exactly where the certificate part is the text of a network and a certificate
+/// that fit the source's nest.
+pub fn what_fits_is_accepted()
+    ensures { (words : List (List ℕ)) (bundle : List ℕ) → AcceptsWhatFits words bundle }
+{
+    one_tree();
+    accepts_what_fits();
+    reads_what_is_written();
+}
+
+/// Where `check` comes to status 0, the bundle has a fitting certificate.
+pub(crate) fn what_is_accepted_fits()
     ensures { (params : List (List ℕ × ℤ)) (bundle : List ℕ) (answer : Result Reply Refusal) → Checks params bundle answer
-        → (outcome_of answer).status ≡ 0 → IsVouchedFor params bundle }
+        → (outcome_of answer).status ≡ 0 → HasFittingCertificate params bundle }
 {
     accepts_what_fits();
-    is_sound();
     reads_what_is_written();
 }

@@ -12,7 +12,7 @@ mod source;
 mod writing;
 
 pub use call::compaan;
-pub use law::status_is_determined;
+pub use law::{status_is_determined, what_fits_is_accepted};
 
 #[cfg(test)]
 mod tests;

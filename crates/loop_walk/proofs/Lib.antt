@@ -2,6 +2,8 @@ pub mod BodyParts
 pub mod CellOrder
 pub mod CountLemmas
 pub mod HalfOpen
+pub mod EvenPlaces
+pub mod LineCells
 pub mod LoopRange
 pub mod Placed
 pub mod PlaceSteps

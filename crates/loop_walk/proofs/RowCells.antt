@@ -14,12 +14,12 @@ use Rattle.loop_walk.specs.declared.cells.Rows.{Rows}
 use Rattle.loop_walk.specs.RowPlaces.{inside, place_after, place_from, row_limit, value_at, with_place, within_limit}
 use Rattle.loop_walk.specs.Rows.{kept_value, place_in, row_value, with_kept}
 
-option_parts : {X Y : Type 0} (f : X → Option Y) (o : Option X) (y : Y) → option_and_then f o ≡ Some y → (x : X) × (o ≡ Some x) × (f x ≡ Some y)
+pub option_parts : {X Y : Type 0} (f : X → Option Y) (o : Option X) (y : Y) → option_and_then f o ≡ Some y → (x : X) × (o ≡ Some x) × (f x ≡ Some y)
 option_parts f None y e = cc e
 option_parts f (Some x) y e = (x, refl, e)
 
 -- what a place after one subscript more says of the subscript
-after_parts : (before : ℕ) (extent v : ℤ) (place : ℕ) → place_after before extent v ≡ Some place
+pub after_parts : (before : ℕ) (extent v : ℤ) (place : ℕ) → place_after before extent v ≡ Some place
     → (n : ℕ) × (v ≡ pos n) × (n < natural extent) × (place ≡ before * natural extent + n)
 after_parts before extent (pos n) place e =
     let outer = option_parts (λ m. within_limit (before * natural extent + m)) (inside extent (pos n)) place e in
@@ -141,12 +141,12 @@ kept_append [] row (suc a) q none = refl
 kept_append (first ∷ rows) row zero q none = refl
 kept_append (first ∷ rows) row (suc a) q none = kept_append rows row a q none
 
-value_past : (values : List (Option ℤ)) (k : ℕ) → length values ≤ k → value_at values k ≡ None
+pub value_past : (values : List (Option ℤ)) (k : ℕ) → length values ≤ k → value_at values k ≡ None
 value_past [] k past = refl
 value_past (value ∷ values) zero past = absurd (omega arith)
 value_past (value ∷ values) (suc k) past = value_past values k (omega arith)
 
-got : (rows : List Rows) (a : ℕ) (row : Rows) → a < length rows → row ≡ get_or rows a row → slice_get rows a ≡ Some row
+pub got : (rows : List Rows) (a : ℕ) (row : Rows) → a < length rows → row ≡ get_or rows a row → slice_get rows a ≡ Some row
 got [] a row within at = absurd (omega arith)
 got (first ∷ rows) zero row within at = ap (λ (r : Rows). Some r) (sym at)
 got (first ∷ rows) (suc a) row within at = got rows a row (omega arith) at

@@ -1,20 +1,21 @@
 -- Steps of a walk, over plain variables.
 use Rattle.std.proofs.Common.{◌≡◌, ◌<◌, ℕ, zero, suc, ℤ, pos, ◌+ℤ◌, ◌≤ℤ◌, ◌<ℤ◌, List, [], ◌∷◌, ◌++◌, map, drop, set, length, get_or, false, cond, refl, sym, ap, ◌∙◌, arith}
-use Rattle.std.specs.Prelude.{IsTrue, ◌&&◌}
+use Rattle.std.specs.Prelude.{IsTrue, ◌&&◌, true, Option, Some, None, IfSome, OnSome}
 use Rattle.std.proofs.lemmas.Bool.{and_parts, and_from}
 use Rattle.std.proofs.lemmas.Int.{ints}
 use Rattle.affine_core.specs.declared.form.Form.{Form}
 use Rattle.sanlp.specs.declared.nest.Node.{Node, out-Node}
+use Rattle.sanlp.specs.declared.nest.Node.TheVariants.{Assign}
 use Rattle.sanlp.specs.declared.nest.Node.TheViews.{Loop}
 use Rattle.sanlp.specs.declared.nest.Point.{Point}
 use Rattle.sanlp.specs.Loops.{interval}
 use Rattle.sanlp.specs.Trace.{all_points, trace_node, trace_step, turn_points}
-use Rattle.sanlp.proofs.Folds.{fold_loop_at}
+use Rattle.sanlp.proofs.Folds.{fold_assign_at, fold_loop_at}
 use Rattle.sanlp.proofs.Intervals.{interval_step, interval_end}
 use Rattle.loop_walk.specs.declared.walk.Frame.{Frame}
 use Rattle.loop_walk.specs.Counting.{IsLoopRange, is_loop_value, node_within}
 use Rattle.loop_walk.specs.Execution.{parts_within, turns_within}
-use Rattle.loop_walk.specs.Walking.{Left, Valid, left, left_inside, left_of_node, left_of_turns, inside_valid, node_valid, parts_valid, turns_valid, valid}
+use Rattle.loop_walk.specs.Walking.{Left, Valid, left, left_inside, left_of_node, left_of_parts, left_of_turns, inside_valid, node_valid, parts_valid, turns_valid, valid}
 use Rattle.loop_walk.proofs.RunLemmas.{between_within, loop_turns_within, range_values, turn_within}
 
 -- before the first part of a body
@@ -90,3 +91,52 @@ part_valid f inner [] i part at lt e h = absurd (omega arith)
 part_valid f inner (p ∷ parts) zero part at lt e h =
     ap (λ x. node_valid f inner x at) e ∙ (and_parts (node_valid f inner p at) (parts_within parts at) h).0
 part_valid f inner (p ∷ parts) (suc i) part at lt e h = part_valid f inner parts i part at (omega arith) e h
+
+pub on_some_from : {X : Type 0} (P : X → Type 0) (Q : Type 0) (o : Option X) → ((x : X) → P x → Q) → IfSome o P → OnSome o Q
+on_some_from P Q None f h = tt
+on_some_from P Q (Some x) f h = f x h
+
+-- a body that is one assignment, which was entered
+module _ (f : Frame) (frames : List Frame) (s : ℕ) (entered : f.inside ≡ true) (at : List ℤ) where
+  assignment_done : left_of_parts f (left frames) (Assign s ∷ []) at ≡ []
+  unfolding out-Node denote.Hole.Carrier.out
+  assignment_done =
+      ap (λ b. cond b (left_inside f (left frames) (out-Node (Assign s)) at) (trace_node (Assign s) at) ++ []) entered
+
+  assignment_valid : IsTrue (parts_valid f (valid frames) (Assign s ∷ []) at)
+  unfolding out-Node denote.Hole.Carrier.out
+  assignment_valid =
+      and_from _ _ (ap (λ b. cond b (inside_valid f (valid frames) (out-Node (Assign s)) at) (node_within (Assign s) at)) entered) refl
+
+pub nothing_left : (deeper : List Frame) (d : Frame) (body : List Node) (s : ℕ) → 0 < length deeper → (get_or deeper 0 d).inside ≡ true → (get_or deeper 0 d).part ≡ 0
+    → body ≡ Assign s ∷ [] → (at : List ℤ) → left deeper body at ≡ []
+nothing_left [] d body s room entered first is at = absurd (omega arith)
+nothing_left (f ∷ frames) d body s room entered first is at =
+    ap (λ (k : ℕ). left_of_parts f (left frames) (drop k body) at) first
+    ∙ ap (λ (parts : List Node). left_of_parts f (left frames) (drop 0 parts) at) is ∙ assignment_done f frames s entered at
+
+pub nothing_invalid : (deeper : List Frame) (d : Frame) (body : List Node) (s : ℕ) → 0 < length deeper → (get_or deeper 0 d).inside ≡ true → (get_or deeper 0 d).part ≡ 0
+    → body ≡ Assign s ∷ [] → (at : List ℤ) → IsTrue (valid deeper body at)
+nothing_invalid [] d body s room entered first is at = absurd (omega arith)
+nothing_invalid (f ∷ frames) d body s room entered first is at =
+    ap (λ (k : ℕ). parts_valid f (valid frames) (drop k body) at) first
+    ∙ ap (λ (parts : List Node). parts_valid f (valid frames) (drop 0 parts) at) is ∙ assignment_valid f frames s entered at
+
+-- the next turn of a loop over an assignment whose turn is done
+module _ (f : Frame) (frames : List Frame) (body : List Node) (s : ℕ) (at : List ℤ) (is : body ≡ Assign s ∷ []) (done : (at : List ℤ) → left frames body at ≡ []) where
+  abbrev later : ℤ → List Point
+  later value = turn_points (all_points (map trace_node body)) (interval value f.last) at
+
+  one_point : (v : ℤ) → all_points (map trace_node body) (at ++ v ∷ []) ≡ record { statement = s; at = at ++ v ∷ [] } ∷ []
+  one_point v =
+      ap (λ (parts : List Node). all_points (map trace_node parts) (at ++ v ∷ [])) is
+      ∙ ap (λ points. points ++ []) (fold_assign_at (List ℤ) (List Point) trace_step s (at ++ v ∷ []))
+
+  pub next_assignment : (next : ℤ) → next ≡ f.value +ℤ pos 1 → f.value <ℤ f.last
+      → left_of_turns f (left frames) body at ≡ record { statement = s; at = at ++ next ∷ [] } ∷ left_of_turns (record f { value = next }) (left frames) body at
+  next_assignment next e lt =
+      ap (λ points. points ++ later (f.value +ℤ pos 1)) (done (at ++ f.value ∷ []))
+      ∙ ap later (sym e)
+      ∙ ap (λ values. turn_points (all_points (map trace_node body)) values at) (interval_step next f.last (omega (arith, ints)))
+      ∙ ap (λ points. points ++ later (next +ℤ pos 1)) (one_point next)
+      ∙ ap (λ points. record { statement = s; at = at ++ next ∷ [] } ∷ (points ++ later (next +ℤ pos 1))) (sym (done (at ++ next ∷ [])))

@@ -2,6 +2,7 @@ pub mod CellMap
 pub mod Counting
 pub mod Examples
 pub mod Execution
+pub mod LinePlaces
 pub mod Narrow
 pub mod Outputs
 pub mod PointLists

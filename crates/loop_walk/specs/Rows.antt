@@ -17,6 +17,10 @@ place_in rows cell = option_and_then (λ row. place_from 0 row.extents cell.1) (
 abbrev pub kept_value : List Rows → Cell → Option ℤ
 kept_value rows cell = option_and_then (λ row. row_value row cell.1) (slice_get rows cell.0)
 
+-- the value at a place in the rows of an array, if it was written there
+abbrev pub kept_at : List Rows → ℕ → ℕ → Option ℤ
+kept_at rows array place = option_and_then (λ row. value_at row.values place) (slice_get rows array)
+
 -- the rows with a value at a place of one array
 abbrev pub with_kept : List Rows → ℕ → ℕ → ℤ → List Rows
 with_kept [] a place v = []

@@ -8,6 +8,7 @@ ghost use Rattle.loop_walk.specs.Execution.{access_short};
 ghost use Rattle.loop_walk.specs.RowPlaces.{place_after, place_from, with_place, within_limit};
 ghost use Rattle.loop_walk.specs.SmallValues.{are_small_values};
 
+use crate::lines::{Line, line_of};
 use crate::narrow_access::NarrowAccess;
 use crate::places::{ROW_LIMIT, next_wide_place};
 use crate::vector::LoopValues;
@@ -101,10 +102,14 @@ pub(crate) struct Cells {
 }
 
 impl Cells {
-    ghost use Rattle.std.specs.Prelude.{IfOk};
+    ghost use Rattle.std.specs.Prelude.{IfOk, IfSome, false, pos, unwrap_or, ◌≤ℤ◌};
+    ghost use Rattle.std.specs.BTreeMap.{get};
+    ghost use Rattle.sanlp.specs.Cells.{Cell};
     ghost use Rattle.sanlp.specs.Memory.{no_cells, cell_value, with_cell};
-    ghost use Rattle.loop_walk.specs.CellMap.{memory_of};
-    ghost use Rattle.loop_walk.specs.Rows.{kept_value, place_in, with_kept};
+    ghost use Rattle.loop_walk.specs.CellMap.{cell_cmp, memory_of};
+    ghost use Rattle.loop_walk.specs.Counting.{is_loop_value};
+    ghost use Rattle.loop_walk.specs.LinePlaces.{IsLineOf};
+    ghost use Rattle.loop_walk.specs.Rows.{kept_at, kept_value, place_in, with_kept};
 
     /// No cell, for these arrays.
     pub(crate) fn new(alloc: Global, arrays: &[ArrayDecl]) -> Result<Cells, AllocError>
@@ -229,6 +234,92 @@ impl Cells {
                 self.map.insert(access.cell(alloc, at.as_slice()), value)?;
                 Ok(())
             }
+        }
+    }
+
+    /// The places of an access along a loop in the rows of its array, if its first and its last cell have places there.
+    pub(crate) fn line(
+        &self,
+        access: &NarrowAccess,
+        at: &LoopValues,
+        first: i64,
+        last: i64,
+    ) -> Option<Line>
+        requires shallow { length at.now < 6 }
+        requires fits { IsTrue (access_short (length at.now + 1) access.now) }
+        requires first_within { IsTrue (is_loop_value first) }
+        requires last_within { IsTrue (is_loop_value last) }
+        requires turns { first ≤ℤ last }
+        ensures { IfSome result (IsLineOf self.now.rows.items at.now first last access.now) }
+    {
+        let rows = self.rows.get(access.array())?;
+        line_of(rows.extents.as_slice(), access, at, first, last)
+    }
+
+    // The value at a place in the rows of an array, if it was written there.
+    fn kept_at(&self, array: usize, place: usize) -> Option<i64>
+        ensures { result ≡ kept_at self.now.rows.items array place }
+    {
+        self.rows.get(array)?.value_at(place)
+    }
+
+    // The value of an access's cell in the map, which is 0 where it is not there.
+    fn mapped(&self, alloc: Global, access: &NarrowAccess, at: &LoopValues) -> i64
+        requires { IsTrue (access_short (length at.now) access.now) }
+        ensures { result ≡ unwrap_or (get cell_cmp self.now.map (cell_at at.now access.now)) (pos 0) }
+    {
+        let cell = access.cell(alloc, at.as_slice());
+        self.map.get(&cell).copied().unwrap_or(0)
+    }
+
+    /// The value of an access's cell, which has this place in rows. It is 0 where the cell was never written.
+    pub(crate) fn read_at(
+        &self,
+        alloc: Global,
+        access: &NarrowAccess,
+        at: &LoopValues,
+        place: usize,
+    ) -> i64
+        requires fits { IsTrue (access_short (length at.now) access.now) }
+        requires placed { place_in self.now.rows.items (cell_at at.now access.now) ≡ Some place }
+        ensures { result ≡ cell_value (memory_of self.now) (cell_at at.now access.now) }
+    {
+        match self.kept_at(access.array(), place) {
+            Some(value) => value,
+            None => self.mapped(alloc, access, at),
+        }
+    }
+
+    // Whether the rows of an array have a place or have room for it.
+    fn has_room(&self, array: usize, place: usize) -> bool
+        ensures there { IsTrue result → array < vec_len self.now.rows }
+        ensures full { result ≡ false → kept_at self.now.rows.items array place ≡ None }
+    {
+        match self.rows.get(array) {
+            Some(rows) => place < rows.values.len().saturating_add(self.room),
+            None => false,
+        }
+    }
+
+    /// Writes an access's cell, which has this place in rows.
+    pub(crate) fn write_at(
+        &mut self,
+        alloc: Global,
+        access: &NarrowAccess,
+        at: &LoopValues,
+        place: usize,
+        value: i64,
+    ) -> Result<(), AllocError>
+        requires fits { IsTrue (access_short (length at.now) access.now) }
+        requires placed { place_in self.old.rows.items (cell_at at.now access.now) ≡ Some place }
+        ensures memory { OnOk result (memory_of self.new ≡ with_cell (memory_of self.old) (cell_at at.now access.now) value) }
+        ensures places { OnOk result ((cell : Cell) → place_in self.new.rows.items cell ≡ place_in self.old.rows.items cell) }
+    {
+        if self.has_room(access.array(), place) {
+            self.put_in_rows(access.array(), place, value)
+        } else {
+            self.map.insert(access.cell(alloc, at.as_slice()), value)?;
+            Ok(())
         }
     }
 }

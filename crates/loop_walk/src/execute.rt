@@ -89,8 +89,8 @@ fn value_at_place(values: &[i64], extents: &[i64], at: &[i64]) -> i64
     }
 }
 
-// The input value of a source's point, and 0 for the other statements.
-fn given_value(nest: &Nest, inputs: &Inputs, role: Role, at: &[i64]) -> i64
+/// The input value of a source's point, and 0 for the other statements.
+pub(crate) fn given_value(nest: &Nest, inputs: &Inputs, role: Role, at: &[i64]) -> i64
     ensures { result ≡ given_at nest.now inputs.now role at.now }
 {
     match role {
@@ -102,8 +102,8 @@ fn given_value(nest: &Nest, inputs: &Inputs, role: Role, at: &[i64]) -> i64
     }
 }
 
-// Executes a statement: it reads its cells, evaluates its expression and writes its cell.
-fn execute_statement(
+/// Executes a statement: it reads its cells, evaluates its expression and writes its cell.
+pub(crate) fn execute_statement(
     alloc: Global,
     statement: &Statement,
     accesses: &NarrowStatement,

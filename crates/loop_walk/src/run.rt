@@ -9,11 +9,13 @@ ghost use Rattle.loop_walk.specs.Counting.{SizeIsOk, is_loop_value, node_within}
 ghost use Rattle.loop_walk.specs.Execution.{all_placed, node_placed, parts_within, turns_within};
 ghost use Rattle.loop_walk.specs.Narrow.{narrowed};
 
+use crate::along::execute_values;
 use crate::bounds::{loop_range, rows_hold};
 use crate::cells::Cells;
 use crate::execute::execute_point;
 use crate::narrow_access::{NarrowStatement, narrow_statements};
 use crate::outputs::output_arrays;
+use crate::parts::only_assignment;
 use crate::vector::LoopValues;
 use sanlp::{Arrays, Inputs, Nest, Node};
 use std::alloc::{AllocError, Global};
@@ -115,6 +117,11 @@ fn run_turns(
     requires within { IsTrue (turns_within parts.now at.now (interval first last)) }
     ensures { OnOk result (memory_of cells.new ≡ turns (in_turn (map (exec_node nest.now inputs.now) parts.now)) (interval first last) at.now (memory_of cells.old)) }
 {
+    if let Some(statement) = only_assignment(parts) {
+        return execute_values(
+            alloc, nest, accesses, inputs, statement, at, first, last, cells,
+        );
+    }
     for value in first..=last {
         run_turn(alloc, nest, accesses, inputs, parts, at, value, cells)?;
     }

@@ -1,4 +1,4 @@
-ghost use Rattle.std.specs.Prelude.{◌≡◌, ◌<◌, ◌≤◌, [], ◌∷◌, ◌++◌, true, length, IsTrue};
+ghost use Rattle.std.specs.Prelude.{◌≡◌, ◌+◌, ◌<◌, ◌≤◌, [], ◌∷◌, ◌++◌, true, length, take, IsTrue};
 ghost use Rattle.loop_walk.specs.Counting.{are_loop_values, is_loop_value};
 ghost use Rattle.loop_walk.specs.SmallValues.{are_small_values, is_small_value};
 
@@ -30,8 +30,8 @@ impl Model for LoopValues {
         × (at.small ≡ true → IsTrue (are_small_values (take at.depth at.values))) };
 }
 
-// Whether a loop value is small.
-fn is_small(value: i64) -> bool
+/// Whether a loop value is small.
+pub(crate) fn is_small(value: i64) -> bool
     ensures { result ≡ is_small_value value }
 {
     value >= -SMALL_VALUE_LIMIT && value <= SMALL_VALUE_LIMIT
@@ -63,6 +63,17 @@ impl LoopValues {
         longer.values[self.depth] = value;
         longer.depth = self.depth + 1;
         longer
+    }
+
+    /// Gives the innermost loop another value. The loops round it are these.
+    pub(crate) fn set_last(&mut self, outer: &LoopValues, value: i64)
+        requires deeper { length self.old ≡ length outer.now + 1 }
+        requires outer { take (length outer.now) self.old ≡ outer.now }
+        requires within { IsTrue (is_loop_value value) }
+        ensures { self.new ≡ outer.now ++ value ∷ [] }
+    {
+        self.values[outer.depth] = value;
+        self.small = outer.small && is_small(value);
     }
 
     /// The values, in order.

@@ -1,14 +1,16 @@
 ghost use Rattle.std.specs.Bool.{OnTrue, OnFalse};
 ghost use Rattle.std.specs.List.{list_all};
-ghost use Rattle.std.specs.Prelude.{◌≡◌, ◌+◌, ◌-◌, ◌<◌, ◌≤◌, ◌+ℤ◌, ◌<ℤ◌, pos, [], ◌∷◌, drop, length, map, true, IsTrue, MatchOption, OnOk, OnSome, vec_len};
+ghost use Rattle.std.specs.Prelude.{◌≡◌, ◌+◌, ◌-◌, ◌<◌, ◌≤◌, ◌+ℤ◌, ◌<ℤ◌, pos, ℤ, List, [], ◌∷◌, drop, length, map, true, IfSome, IsTrue, MatchOption, OnOk, OnSome, vec_len};
 ghost use Rattle.sanlp.specs.Loops.{interval};
 ghost use Rattle.sanlp.specs.WellFormed.{all_forms_fit, form_fits, forms_fit};
+ghost use Rattle.sanlp.specs.declared.nest.Node.TheVariants.{Assign};
 ghost use Rattle.sanlp.specs.declared.nest.Node.TheViews.{Loop, Guard};
 ghost use Rattle.sanlp.specs.Trace.{all_points, trace_node, turn_points};
 ghost use Rattle.loop_walk.specs.Execution.{parts_within};
 ghost use Rattle.loop_walk.specs.Walking.{left, left_of_node, left_of_parts, left_of_turns, node_room, node_valid, parts_room, parts_valid, turns_valid, valid};
 
 use crate::bounds::{loop_range, rows_hold};
+use crate::parts::only_assignment;
 use crate::vector::LoopValues;
 use affine_core::{Form, Vector};
 use sanlp::{Nest, Node, Point};
@@ -143,6 +145,51 @@ fn begin_next_turn(body: &[Node], at: &LoopValues, frame: &mut Frame, deeper: &m
     frame.value = value;
 }
 
+// The number of the statement in a body that has one part, which is an assignment, if the walk has entered it.
+fn entered_assignment(body: &[Node], deeper: &[Frame]) -> Option<u32>
+    requires { 0 < length deeper.now }
+    ensures body { IfSome result (λ s. body.now ≡ Assign s ∷ []) }
+    ensures left { OnSome result ((at : List ℤ) → left deeper.now body.now at ≡ []) }
+    ensures valid { OnSome result ((at : List ℤ) → IsTrue (valid deeper.now body.now at)) }
+{
+    let frame = deeper[0];
+    if frame.inside && frame.part == 0 {
+        only_assignment(body)
+    } else {
+        None
+    }
+}
+
+// The point of the next turn of a loop whose body is an assignment that was entered.
+fn next_of_assignment(
+    alloc: Global,
+    statement: u32,
+    body: &[Node],
+    at: &LoopValues,
+    frame: &mut Frame,
+    deeper: &[Frame],
+) -> Option<Point>
+    requires shallow { length at.now < 6 }
+    requires body { body.now ≡ Assign statement ∷ [] }
+    requires none_left { (at : List ℤ) → left deeper.now body.now at ≡ [] }
+    requires all_valid { (at : List ℤ) → IsTrue (valid deeper.now body.now at) }
+    requires valid { IsTrue (turns_valid frame.old (valid deeper.now) body.now at.now) }
+    ensures part { frame.new.part ≡ frame.old.part }
+    ensures inside { frame.new.inside ≡ frame.old.inside }
+    ensures next { MatchOption result
+        (left_of_turns frame.old (left deeper.now) body.now at.now ≡ [])
+        (λ point. left_of_turns frame.old (left deeper.now) body.now at.now
+        ≡ point ∷ left_of_turns frame.new (left deeper.now) body.now at.now) }
+    ensures valid { OnSome result (IsTrue (turns_valid frame.new (valid deeper.now) body.now at.now)) }
+{
+    if frame.value >= frame.last {
+        return None;
+    }
+    let value = frame.value + 1;
+    frame.value = value;
+    Some(point_of(alloc, statement, &at.extended(value)))
+}
+
 // The next point of these parts.
 #[cycle(next)]
 fn next_in(alloc: Global, parts: &[Node], at: &LoopValues, frames: &mut [Frame]) -> Option<Point>
@@ -270,6 +317,9 @@ fn next_of_turns(
         ≡ point ∷ left_of_turns frame.new (left deeper.new) body.now at.now) }
     ensures valid { OnSome result (IsTrue (turns_valid frame.new (valid deeper.new) body.now at.now)) }
 {
+    if let Some(statement) = entered_assignment(body, deeper) {
+        return next_of_assignment(alloc, statement, body, at, frame, deeper);
+    }
     'turns: loop {
         let point = next_in(alloc, body, &at.extended(frame.value), deeper);
         if point.is_some() || frame.value >= frame.last {

@@ -97,17 +97,6 @@ run_turns-loop-value-preserved t c =
       subst (λ v. IsTrue (turns_within c.args.parts.now c.args.at.now (interval v last))) (sym next) left,
     )
 
-pub run_turns-returns : goal.run_turns-returns
-run_turns-returns t c =
-    let f : FitsSigned w64 c.args.first = c.ranges.first in
-    let g : FitsSigned w64 c.args.last = c.ranges.last in
-    let lt : to_z w64 (of_z w64 c.args.last) <ℤ to_z w64 c.loop-value.value-bits = search rules in
-    let last : ℤ = to_z w64 (of_z w64 c.args.last) in
-    let body : Action = in_turn (map (exec_node c.args.nest.now c.args.inputs.now) c.args.parts.now) in
-    let all : Memory = turns body (interval (to_z w64 (of_z w64 c.args.first)) last) c.args.at.now (memory_of c.args.cells.now) in
-    let done : memory_of c.loop-value.cells ≡ all = turns_done body _ last c.args.at.now (memory_of c.loop-value.cells) all lt c.loop-value.invariant.0 in
-    simp to_z-of_z at done
-
 pub run_turns-returns-in_ok-run_turn : goal.run_turns-returns-in_ok-run_turn
 run_turns-returns-in_ok-run_turn t c =
     let f : FitsSigned w64 c.args.first = c.ranges.first in

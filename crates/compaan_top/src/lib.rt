@@ -11,7 +11,7 @@ mod run;
 mod source;
 mod writing;
 
-pub use call::compaan;
+pub use call::{compaan, quiet};
 pub use law::{status_is_determined, what_fits_is_accepted};
 
 #[cfg(test)]

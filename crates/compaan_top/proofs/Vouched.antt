@@ -52,7 +52,7 @@ four_is_not_zero is = cc
 ten_is_not_zero : ◌≡◌ {A = ℕ} 10 0 → ⊥
 ten_is_not_zero is = cc
 
-not_zero : (status : ℕ) → is_refused status ≡ true → status ≡ 0 → ⊥
+pub not_zero : (status : ℕ) → is_refused status ≡ true → status ≡ 0 → ⊥
 not_zero status refused is = let zero : is_refused 0 ≡ true = subst (λ (s : ℕ). is_refused s ≡ true) is refused in cc
 
 pub checks_vouched : NothingWrongFits → ReadsItsText → (params : List (List ℕ × ℤ)) (bundle : List ℕ) {answer : Result Reply Refusal}
@@ -77,7 +77,7 @@ checks_vouched fitting reads params bundle (judged part nest total network cert 
       fits = (fitting nest network cert).0 (nothing_wrong (first nest network cert) is);
     }
 
-same_order : (wanted : Option Order) (a b : Order) → wanted ≡ Some a → wanted ≡ Some b → a ≡ b
+pub same_order : (wanted : Option Order) (a b : Order) → wanted ≡ Some a → wanted ≡ Some b → a ≡ b
 same_order wanted a b x y = cc
 
 performs_vouched : VouchesFor → (command : Command) (policy : Policy) (params : List (List ℕ × ℤ)) (bundle : List ℕ) (answer : Result Reply Refusal) → command ≡ Check

@@ -1,14 +1,22 @@
 //! What follows of the definitions alone, for all orders and bundles.
 
 ghost use Rattle.std.specs.Prelude.{◌≡◌, ℕ, ℤ, List, Option, Result};
+ghost use Rattle.bundle_laws.specs.Certified.{certified};
+ghost use Rattle.command_line.specs.Bundle.{source_part};
 ghost use Rattle.command_line.specs.declared.words.Order.{Order};
+ghost use Rattle.compaan_top.specs.Certified.{Accepts, Certifies, HasCertificate};
 ghost use Rattle.compaan_top.specs.Checking.{Checks};
 ghost use Rattle.compaan_top.specs.Headline.{AcceptsWhatFits, HasFittingCertificate};
-ghost use Rattle.compaan_top.specs.Outcome.{outcome_of};
+ghost use Rattle.compaan_top.specs.Outcome.{Outcome, outcome_of};
 ghost use Rattle.compaan_top.specs.Replies.{Reply};
 ghost use Rattle.compaan_top.specs.declared.refusal.Refusal.{Refusal};
 ghost use Rattle.compaan_top.specs.Laws.{DetermineStatus, HaveOwnStatuses, Succeeds};
 
+use bundle_laws::{
+    certified_bundle_has_its_parts, line_end_changes_no_token, line_end_makes_no_separator,
+    source_part_has_no_separator,
+};
+use cert_ranges::{planned_network_fits, planned_network_is_in_range};
 use cert_text::reads_what_is_written;
 use loop_grammar::one_tree;
 use net_checker::accepts_what_fits;
@@ -32,6 +40,23 @@ pub fn what_fits_is_accepted()
     one_tree();
     accepts_what_fits();
     reads_what_is_written();
+}
+
+/// Where `cert` comes to status 0, `check` with the same values of parameters comes to `accepted` on every bundle within the
+/// limit with that source and with what was written as its certificate; so on the source, two separators and what was written.
+pub fn what_cert_writes_is_accepted()
+    ensures parts { (cert check : Order) (bundle other : List ℕ) (written : Outcome) → check.params ≡ cert.params
+        → Certifies cert bundle written → HasCertificate bundle other written.output → Accepts check other }
+    ensures bytes { (cert check : Order) (bundle : List ℕ) (written : Outcome) → check.params ≡ cert.params
+        → Certifies cert bundle written → Accepts check (certified (source_part bundle) written.output) }
+{
+    what_fits_is_accepted();
+    planned_network_fits();
+    planned_network_is_in_range();
+    line_end_changes_no_token();
+    line_end_makes_no_separator();
+    source_part_has_no_separator();
+    certified_bundle_has_its_parts();
 }
 
 /// Where `check` comes to status 0, the bundle has a fitting certificate.

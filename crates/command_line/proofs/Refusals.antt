@@ -1,11 +1,13 @@
 -- Words that are refused whatever stands behind them.
-use Rattle.std.proofs.Common.{◌≡◌, ◌==◌, ◌&&◌, refl, ap, true, false, List, [], ◌∷◌, ◌++◌, Some, None, Option, Bool, option_and_then, is_some, if◌then◌else◌, arith}
+use Rattle.std.proofs.Common.{◌≡◌, ◌==◌, ◌&&◌, refl, ap, true, false, List, [], ◌∷◌, ◌++◌, Some, None, Option, Bool, option_and_then, is_some, length, nat_le, if◌then◌else◌, arith}
 use Rattle.std.specs.Option.{option_map}
 use Rattle.std.proofs.lemmas.Bool.Decides.{nat_tests}
 use Rattle.witness_plan.specs.declared.schedules.Policy.{Policy}
 use Rattle.loop_class.specs.Names.{value_named}
+use Rattle.command_line.specs.declared.words.Command.{Command}
+use Rattle.command_line.specs.declared.words.Command.TheVariants.{Run, Seq, Net, Cert, Check, Load}
 use Rattle.command_line.specs.declared.words.Order.{Order}
-use Rattle.command_line.specs.Words.{Text, Param, Split, with_policy, is_option, command_of, param_of, params_with, policy_named, policy_of, order_of_items, order_of_split}
+use Rattle.command_line.specs.Words.{Text, Param, Split, with_policy, is_option, command_of, number_of, param_of, params_with, policy_named, policy_of, load_order, params_order, order_with, order_of_items, order_of_split}
 use Rattle.command_line.proofs.WordCases.{before-other}
 
 abbrev pub join : Split → Split → Split
@@ -73,10 +75,39 @@ params_none params [] word later e = rw (option_is_no_param word e) refl
 params_none params (x ∷ before) word later e =
     then_none _ (param_of x) (λ param. either_none (is_some (value_named params param.0)) _ (params_none (params ++ param ∷ []) before word later e))
 
+neither : {X : Type 0} (a b : Bool) (x : Option X) → (if a && (b && false) then x else None) ≡ None
+neither true true x = refl
+neither true false x = refl
+neither false b x = refl
+
+option_is_no_number : (word : Text) → is_option word ≡ true → number_of word ≡ None
+option_is_no_number word e =
+    let dashed = is_dashed word e in
+    rw dashed.1 (neither (nat_le 1 (length (45 ∷ dashed.0))) (nat_le (length (45 ∷ dashed.0)) 18) _)
+
+load_none : (policy : Policy) (before : List Text) (word : Text) (later : List Text) → is_option word ≡ true → load_order policy ((before ++ word ∷ []) ++ later) ≡ None
+load_none policy [] word [] e = rw (option_is_no_number word e) refl
+load_none policy [] word (x ∷ later) e = refl
+load_none policy (x ∷ []) word later e = refl
+load_none policy (x ∷ y ∷ before) word later e = refl
+
+others_none : (policy : Policy) (command : Command) (before : List Text) (word : Text) (later : List Text) → is_option word ≡ true
+    → params_order policy command ((before ++ word ∷ []) ++ later) ≡ None
+others_none policy command before word later e = rw (params_none [] before word later e) refl
+
+with_none : (policy : Policy) (command : Command) (before : List Text) (word : Text) (later : List Text) → is_option word ≡ true
+    → order_with policy command ((before ++ word ∷ []) ++ later) ≡ None
+with_none policy Run before word later e = others_none policy Run before word later e
+with_none policy Seq before word later e = others_none policy Seq before word later e
+with_none policy Net before word later e = others_none policy Net before word later e
+with_none policy Cert before word later e = others_none policy Cert before word later e
+with_none policy Check before word later e = others_none policy Check before word later e
+with_none policy Load before word later e = load_none policy before word later e
+
 items_none : (policy : Policy) (before : List Text) (word : Text) (later : List Text) → is_option word ≡ true → order_of_items policy ((before ++ word ∷ []) ++ later) ≡ None
 items_none policy [] word later e = rw (option_is_no_command word e) refl
 items_none policy (x ∷ before) word later e =
-    then_none _ (command_of x) (λ command. rw (params_none [] before word later e) refl)
+    then_none _ (command_of x) (λ command. with_none policy command before word later e)
 
 -- an item that looks like an option
 pub no_such_item : (before : List Text) (word : Text) (policies : List Text) → is_option word ≡ true → (later : Option Split) → order_from (record { items = before ++ word ∷ []; policies = policies }) later ≡ None

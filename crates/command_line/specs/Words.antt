@@ -1,4 +1,4 @@
--- The words of a call: a command, and then items NAME=VALUE, with a policy among them.
+-- The words of a call: a command, and then items NAME=VALUE or a number, with a policy among them.
 use Rattle.std.specs.Prelude.{◌==◌, ◌&&◌, ℕ, Bool, false, List, [], ◌∷◌, ◌++◌, length, take, drop, Option, Some, None, option_and_then, is_some, nat_le, if◌then◌else◌, codes, ℤ, pos, neg_ℤ}
 use Rattle.std.specs.Char.{is_ascii_digit}
 use Rattle.std.specs.List.{list_all, before_first, after_first}
@@ -10,7 +10,7 @@ use Rattle.loop_lex.specs.Lexical.{is_name}
 use Rattle.witness_plan.specs.declared.schedules.Policy.{Policy}
 use Rattle.witness_plan.specs.declared.schedules.Policy.TheVariants as policy
 use Rattle.command_line.specs.declared.words.Command.{Command}
-use Rattle.command_line.specs.declared.words.Command.TheVariants.{Run, Seq, Net, Cert, Check}
+use Rattle.command_line.specs.declared.words.Command.TheVariants.{Run, Seq, Net, Cert, Check, Load}
 use Rattle.command_line.specs.declared.words.Order.{Order}
 
 abbrev pub Text : Type 0
@@ -100,7 +100,8 @@ command_of word =
     else (if bytes_eq word (codes "net") then Some Net
     else (if bytes_eq word (codes "cert") then Some Cert
     else (if bytes_eq word (codes "check") then Some Check
-    else None))))
+    else (if bytes_eq word (codes "load") then Some Load
+    else None)))))
 
 abbrev pub policy_named : Text → Option Policy
 policy_named value =
@@ -114,10 +115,24 @@ policy_of [] = Some policy.Seq
 policy_of (value ∷ []) = policy_named value
 policy_of (value ∷ other ∷ values) = None
 
+-- `load` is followed by one number
+abbrev pub load_order : Policy → List Text → Option Order
+load_order policy (word ∷ []) = option_map (λ count. record { command = Load; policy = policy; params = []; load = count }) (number_of word)
+load_order policy _ = None
+
+-- another command is followed by items
+abbrev pub params_order : Policy → Command → List Text → Option Order
+params_order policy command items =
+    option_map (λ params. record { command = command; policy = policy; params = params; load = 0 }) (params_with [] items)
+
+-- the order of a command that is followed by these words
+abbrev pub order_with : Policy → Command → List Text → Option Order
+order_with policy Load words = load_order policy words
+order_with policy command words = params_order policy command words
+
 abbrev pub order_of_items : Policy → List Text → Option Order
 order_of_items policy [] = None
-order_of_items policy (word ∷ items) =
-    option_and_then (λ command. option_map (λ params. record { command = command; policy = policy; params = params }) (params_with [] items)) (command_of word)
+order_of_items policy (word ∷ words) = option_and_then (λ command. order_with policy command words) (command_of word)
 
 abbrev pub order_of_split : Split → Option Order
 order_of_split split = option_and_then (λ policy. order_of_items policy split.items) (policy_of split.policies)

@@ -83,6 +83,44 @@ fn the_policy_may_stand_anywhere_before_the_dashes(rt: HostRuntime) -> Result<()
     Ok(())
 }
 
+// What follows `load`, where the words order that.
+fn load_of(alloc: Global, words: &[&str]) -> Result<Option<(Policy, u64)>, Fail> {
+    let words = in_words(alloc, words)?;
+    match read_words(alloc, words.as_slice()) {
+        Ok(order) if order.command == Command::Load => Ok(Some((order.policy, order.load))),
+        Ok(_) => Err(Fail::from("another command")),
+        Err(WordsError::Words) => Ok(None),
+        Err(WordsError::Memory) => Err(Fail::from("want of memory")),
+    }
+}
+
+#[test]
+fn a_load_has_one_number(rt: HostRuntime) -> Result<(), Fail> {
+    let cases: [(&[&str], Option<(Policy, u64)>); 14] = [
+        (&["load", "007"], Some((Policy::Seq, 7))),
+        (&["load", "5", "--policy", "down"], Some((Policy::Down, 5))),
+        (&["--policy=seq", "load", "0"], Some((Policy::Seq, 0))),
+        (&["load", "--", "2"], Some((Policy::Seq, 2))),
+        (
+            &["load", "999999999999999999"],
+            Some((Policy::Seq, 999999999999999999)),
+        ),
+        (&["load"], None),
+        (&["load", ""], None),
+        (&["load", "x"], None),
+        (&["load", "2", "3"], None),
+        (&["load", "N=3"], None),
+        (&["load", "2", "N=3"], None),
+        (&["load", "--", "-1"], None),
+        (&["load", "1234567890123456789"], None),
+        (&["load", "2", "--policy", "up"], None),
+    ];
+    for (words, wanted) in cases {
+        assert_eq!(rt; load_of(rt.alloc(), words)?, wanted, "{words:?}");
+    }
+    Ok(())
+}
+
 #[test]
 fn all_other_words_are_refused(rt: HostRuntime) -> Result<(), Fail> {
     let refused: [&[&str]; 51] = [

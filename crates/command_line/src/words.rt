@@ -6,7 +6,7 @@ ghost use Rattle.std.specs.Str.Parse.{digits_value};
 ghost use Rattle.clap.specs.Words.{found_of, kind_of};
 ghost use Rattle.clap.specs.declared.error.kind.ErrorKind.TheVariants.{OutOfMemory};
 ghost use Rattle.command_line.specs.Matches.{split_found};
-ghost use Rattle.command_line.specs.Words.{command_of, number_of, order_of, order_of_items, order_of_split, param_of, params_with, policy_named, policy_of, value_of};
+ghost use Rattle.command_line.specs.Words.{command_of, load_order, number_of, order_of, order_of_items, order_of_split, param_of, params_order, params_with, policy_named, policy_of, value_of};
 ghost use Rattle.command_line.specs.declared.words.WordsError.TheVariants.{Memory, Words};
 
 use clap::error::ErrorKind;
@@ -29,6 +29,8 @@ pub enum Command {
     Cert,
     /// Check the certificate that the bundle has.
     Check,
+    /// Multiply matrices of a size by the network, and write what that came to.
+    Load,
 }
 
 /// What the words order: a command, the schedule that is wanted, and values for parameters.
@@ -37,6 +39,8 @@ pub struct Order {
     pub command: Command,
     pub policy: Policy,
     pub params: Params,
+    /// The number that follows `load`, and 0 at another command.
+    pub load: u64,
 }
 
 /// Why the words give no order.
@@ -184,6 +188,8 @@ fn command_of(word: &[u8]) -> Option<Command>
         Some(Command::Cert)
     } else if word == b"check".as_slice() {
         Some(Command::Check)
+    } else if word == b"load".as_slice() {
+        Some(Command::Load)
     } else {
         None
     }
@@ -210,6 +216,38 @@ fn policy_of(matches: &ArgMatches<'_>) -> Option<Policy>
     }
 }
 
+fn load_order(alloc: Global, policy: Policy, words: &[&str]) -> Option<Order>
+    ensures { result ≡ load_order policy (map (λ word. word.now) words.now) }
+{
+    let [word] = words else {
+        return None;
+    };
+    let load = number_of(word.as_bytes())?;
+    Some(Order {
+        command: Command::Load,
+        policy,
+        params: Params::empty(alloc),
+        load,
+    })
+}
+
+fn params_order(
+    alloc: Global,
+    policy: Policy,
+    command: Command,
+    items: &[&str],
+) -> Result<Order, WordsError>
+    ensures ok { IfOk result (λ order. params_order policy command (map (λ item. item.now) items.now) ≡ Some order) }
+    ensures refused { IsErrOf result WordsError.Words → params_order policy command (map (λ item. item.now) items.now) ≡ None }
+{
+    Ok(Order {
+        command,
+        policy,
+        params: params_of(alloc, items)?,
+        load: 0,
+    })
+}
+
 fn order_of_items(alloc: Global, policy: Policy, items: &[&str]) -> Result<Order, WordsError>
     ensures ok { IfOk result (λ order. order_of_items policy (map (λ item. item.now) items.now) ≡ Some order) }
     ensures refused { IsErrOf result WordsError.Words → order_of_items policy (map (λ item. item.now) items.now) ≡ None }
@@ -220,18 +258,18 @@ fn order_of_items(alloc: Global, policy: Policy, items: &[&str]) -> Result<Order
     let Some(command) = command_of(word.as_bytes()) else {
         return Err(WordsError::Words);
     };
-    Ok(Order {
-        command,
-        policy,
-        params: params_of(alloc, rest)?,
-    })
+    match command {
+        Command::Load => load_order(alloc, policy, rest).ok_or(WordsError::Words),
+        _ => params_order(alloc, policy, command, rest),
+    }
 }
 
 /// What the words after the program's name order. Before the first `--`, which is dropped, a word `--policy` takes the
 /// next word as its value, and `--policy=VALUE` is the same; the value is `seq` or `down`, and `seq` where none is given.
 /// `Words` comes exactly where the words are refused: where the policy is given twice or has another value, where another
 /// word before the first `--` begins with `-` and isn't `-` alone, where the first of the words that are left is no
-/// command, or where another isn't NAME=VALUE or gives a NAME again. VALUE is an optional `-` and 1 to 18 decimal digits.
+/// command, where another isn't NAME=VALUE or gives a NAME again, or where `load` isn't followed by one number alone. VALUE
+/// is an optional `-` and 1 to 18 decimal digits, and the number is 1 to 18 decimal digits.
 pub fn read_words(alloc: Global, words: &[String]) -> Result<Order, WordsError>
     ensures ok { IfOk result (λ order. order_of (map string_bytes words.now) ≡ Some order) }
     ensures refused { IsErrOf result WordsError.Words → order_of (map string_bytes words.now) ≡ None }

@@ -88,17 +88,17 @@ prints_written order bundle (size_refused nest error gives counts) zero = absurd
 prints_written order bundle (printed nest total gives counts) zero =
     record { nest = nest; total = total; binding = binding_of (source_part bundle) order.params nest gives refl; counts = counts; is = refl }
 
-performs_written : (order : Order) (bundle : List ℕ) (answer : Result Reply Refusal) → order.command ≡ Cert → Performs order.command order.policy order.params bundle answer
+performs_written : (order : Order) (bundle : List ℕ) (answer : Result Reply Refusal) → order.command ≡ Cert → Performs order.command order bundle answer
     → (outcome_of answer).status ≡ 0 → HasWritten order bundle (outcome_of answer).output
 performs_written order bundle answer is made zero =
-    prints_written order bundle (subst (λ (c : Command). Performs c order.policy order.params bundle answer) is made) zero
+    prints_written order bundle (subst (λ (c : Command). Performs c order bundle answer) is made) zero
 
 outcome_written : (order : Order) (bundle : List ℕ) {written : Outcome} → order.command ≡ Cert → IsOutcome (Some order) bundle written → written.status ≡ 0 → HasWritten order bundle written.output
 outcome_written order bundle is (words_refused none) zero = absurd (no_order (Some order) order none refl)
 outcome_written order bundle is (bundle_refused other others long) zero = absurd (not_zero 5 refl zero)
 outcome_written order bundle is (performed other answer others within made) zero =
     let same : other ≡ order = same_order (Some order) other order others refl in
-    performs_written order bundle answer is (subst (λ (o : Order). Performs o.command o.policy o.params bundle answer) same made) zero
+    performs_written order bundle answer is (subst (λ (o : Order). Performs o.command o bundle answer) same made) zero
 
 -- What `check` comes to on that
 

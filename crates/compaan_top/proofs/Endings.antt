@@ -3,12 +3,15 @@ use Rattle.std.proofs.Common.{◌≡◌, ◌≤◌, ℕ, List, [], length, Optio
 use Rattle.std.specs.Io.KnownBytes.{Appends}
 use Rattle.std.proofs.KnownBytes.{Appends-nil, Keeps-refl}
 use Rattle.io_edge.specs.Causes.{AppendsFront}
+use Rattle.command_line.specs.declared.words.Command.{Command}
+use Rattle.command_line.specs.declared.words.Command.TheVariants.{Run, Seq, Net, Cert, Check, Load}
 use Rattle.command_line.specs.declared.words.Order.{Order}
-use Rattle.compaan_top.specs.Answers.{Change, IsQuiet, HasFault, ReadsTo, Ends, no_memory, read_fault, written, cut_short}
+use Rattle.compaan_top.specs.Answers.{Change, IsQuiet, HasFault, ReadsFor, ReadsTo, Ends, no_memory, read_fault, written, cut_short}
 use Rattle.compaan_top.specs.Judging.{Judges}
+use Rattle.compaan_top.specs.Load.{Loads}
 use Rattle.compaan_top.specs.Replies.{Reply}
 use Rattle.compaan_top.specs.Outcome.{IsOutcome, outcome_of, bundle_limit, Performs, words_refused, bundle_refused, performed}
-use Rattle.compaan_top.specs.Planned.{as_reply, reply_of, IsOrdered, IsPlanned, ReadsBundle, ReadsAndJudges}
+use Rattle.compaan_top.specs.Planned.{as_reply, reply_of, IsOrdered, IsPlanned, ReadsBundle, ReadsAndJudges, WaitsForNobody}
 use Rattle.compaan_top.specs.declared.answer.Answer.{Answer}
 use Rattle.compaan_top.specs.declared.refusal.Refusal.{Refusal}
 use Rattle.compaan_top.specs.declared.refusal.Stop.{Stop}
@@ -55,6 +58,19 @@ pub ends_without_memory : (wanted : Option Order) (input : Change) (held other :
 ends_without_memory wanted input held other faults others quiet =
     no_memory quiet (record { output_kept = Keeps-refl held; complaint_kept = Keeps-refl other; output_quiet = refl; complaint_quiet = refl })
 
+-- a command that waits for nobody reads a bundle
+pub quiet_reads : (command : Command) (input : Change) (bundle : List ℕ) → WaitsForNobody command → ReadsTo input bundle → ReadsFor command input bundle
+quiet_reads Run input bundle waits reads = absurd waits
+quiet_reads Seq input bundle waits reads = reads
+quiet_reads Net input bundle waits reads = reads
+quiet_reads Cert input bundle waits reads = reads
+quiet_reads Check input bundle waits reads = reads
+quiet_reads Load input bundle waits reads = absurd waits
+
+-- so does `run`
+pub run_reads : (command : Command) (input : Change) (bundle : List ℕ) → command ≡ Run → ReadsTo input bundle → ReadsFor command input bundle
+run_reads command input bundle is reads = subst (λ (c : Command). ReadsFor c input bundle) (sym is) reads
+
 -- where the words are refused nothing is read
 pub planned_refusal_of_words : (wanted : Option Order) (left : Option (List ℕ)) (faults : ℕ) (stop : Stop)
     → Judges (IsOrdered wanted) (Err stop) → IsPlanned wanted (kept left faults) (Err stop)
@@ -63,19 +79,25 @@ planned_refusal_of_words wanted left faults (Refused refusal) judged =
 planned_refusal_of_words wanted left faults ReadFault judged = absurd judged
 planned_refusal_of_words wanted left faults Memory judged = refl
 
-pub planned_refusal_of_bundle : (wanted : Option Order) (input : Change) (order : Order) (stop : Stop)
-    → wanted ≡ Some order → ReadsBundle input (Err stop) → IsPlanned wanted input (Err stop)
-planned_refusal_of_bundle wanted input order (Refused refusal) ordered read =
-    (read.0, (read.2, rw ordered read.3, subst (λ (r : Refusal). IsOutcome wanted read.2 (outcome_of (Err r))) (sym read.1) (bundle_refused order ordered read.4)))
-planned_refusal_of_bundle wanted input order ReadFault ordered read = (order, ordered, read)
-planned_refusal_of_bundle wanted input order Memory ordered read = read
+pub planned_refusal_of_bundle : (order : Order) (input : Change) (stop : Stop) → ((bundle : List ℕ) → ReadsTo input bundle → ReadsFor order.command input bundle)
+    → ReadsBundle input (Err stop) → IsPlanned (Some order) input (Err stop)
+planned_refusal_of_bundle order input (Refused refusal) reads read =
+    (read.0, (read.2, reads read.2 read.3, subst (λ (r : Refusal). IsOutcome (Some order) read.2 (outcome_of (Err r))) (sym read.1) (bundle_refused order refl read.4)))
+planned_refusal_of_bundle order input ReadFault reads read = (order, refl, read)
+planned_refusal_of_bundle order input Memory reads read = read
 
-pub planned_answer : (wanted : Option Order) (input : Change) (order : Order) (bundle : List ℕ) (answer : Result Answer Stop)
-    → wanted ≡ Some order → IsQuiet input → ReadsTo input bundle → length bundle ≤ bundle_limit
-    → Judges (λ made. Performs order.command order.policy order.params bundle (as_reply made)) answer → IsPlanned wanted input answer
-planned_answer wanted input order bundle (Ok made) ordered quiet gives within judged =
-    (quiet, (bundle, rw ordered gives, performed order (Ok (reply_of made)) ordered within judged))
-planned_answer wanted input order bundle (Err (Refused refusal)) ordered quiet gives within judged =
-    (quiet, (bundle, rw ordered gives, performed order (Err refusal) ordered within judged))
-planned_answer wanted input order bundle (Err ReadFault) ordered quiet gives within judged = absurd judged
-planned_answer wanted input order bundle (Err Memory) ordered quiet gives within judged = quiet
+pub planned_answer : (order : Order) (input : Change) (bundle : List ℕ) (answer : Result Answer Stop)
+    → IsQuiet input → ReadsFor order.command input bundle → length bundle ≤ bundle_limit
+    → Judges (λ made. Performs order.command order bundle (as_reply made)) answer → IsPlanned (Some order) input answer
+planned_answer order input bundle (Ok made) quiet gives within judged = (quiet, (bundle, gives, performed order (Ok (reply_of made)) refl within judged))
+planned_answer order input bundle (Err (Refused refusal)) quiet gives within judged = (quiet, (bundle, gives, performed order (Err refusal) refl within judged))
+planned_answer order input bundle (Err ReadFault) quiet gives within judged = absurd judged
+planned_answer order input bundle (Err Memory) quiet gives within judged = quiet
+
+-- `load` reads nothing
+pub planned_load : (order : Order) (left : Option (List ℕ)) (faults : ℕ) (answer : Result Answer Stop) → order.command ≡ Load
+    → Judges (λ made. Loads order.policy order.load (as_reply made)) answer → IsPlanned (Some order) (kept left faults) answer
+planned_load order left faults answer is judged =
+    planned_answer order (kept left faults) [] answer refl
+    (subst (λ (c : Command). ReadsFor c (kept left faults) []) (sym is) (Keeps-refl left, refl)) (lit≤ tt)
+    (subst (λ (c : Command). Judges (λ made. Performs c order [] (as_reply made)) answer) (sym is) judged)

@@ -8,3 +8,4 @@ pub mod Runs
 pub mod Sources
 pub mod Statuses
 pub mod Vouched
+pub mod Loads

@@ -1,5 +1,5 @@
 -- The statuses of outcomes.
-use Rattle.std.proofs.Common.{◌≡◌, ◌==◌, ℕ, suc, ℤ, Bool, true, List, [], ◌∷◌, length, drop, Option, Some, None, Result, Ok, Err, refl, sym, ap, ◌∙◌, subst, arith, map, inl, inr, take-append-drop}
+use Rattle.std.proofs.Common.{◌≡◌, ◌==◌, ◌≤◌, ℕ, suc, ℤ, Bool, true, List, [], ◌∷◌, length, drop, Option, Some, None, Result, Ok, Err, refl, sym, ap, ◌∙◌, subst, arith, map, inl, inr, take-append-drop}
 use Rattle.std.specs.List.{list_any}
 use Rattle.sanlp.specs.WellFormed.{IsWellFormed}
 use Rattle.std.proofs.lemmas.Bool.{cases_lt, or_right}
@@ -42,10 +42,13 @@ use Rattle.sanlp.specs.declared.nest.Inputs.{Inputs}
 use Rattle.command_line.specs.Bundle.{certificate_part, data_part, source_part}
 use Rattle.command_line.specs.declared.words.Order.{Order}
 use Rattle.command_line.specs.declared.words.Command.{Command}
-use Rattle.command_line.specs.declared.words.Command.TheVariants.{Run, Seq, Net, Cert, Check}
+use Rattle.command_line.specs.declared.words.Command.TheVariants.{Run, Seq, Net, Cert, Check, Load}
 use Rattle.compaan_top.specs.Checking as check
 use Rattle.compaan_top.specs.Checking.{Checks, verdict_reply}
-use Rattle.compaan_top.specs.Laws.{HasParts, IsDone, IsValid, outcome_statuses}
+use Rattle.compaan_top.specs.Laws.{HasParts, IsDone, IsNestFor, IsValid, outcome_statuses}
+use Rattle.compaan_top.specs.Load as load
+use Rattle.compaan_top.specs.Load.{Loads, load_limit}
+use Rattle.matrix_load.specs.Product.{IsMatrixNest, matrix_product, size_given}
 use Rattle.compaan_top.specs.Printing as print
 use Rattle.compaan_top.specs.Printing.{Prints, certificate_text, network_text}
 use Rattle.compaan_top.specs.Outcome.{Outcome, IsOutcome, outcome_of, Performs, words_refused, bundle_refused, performed}
@@ -303,13 +306,32 @@ checks_alike one params bundle (check.judged part n t network cert there g c rea
 checks_alike one params bundle (check.judged part n t network cert there g c read) (check.unread part' m u f text' there' h d read' told') = absurd (read_and_unread bundle part' part f network cert there' there read' read)
 checks_alike one params bundle (check.judged part n t network cert there g c read) (check.judged part' m u network' cert' there' h d read') = judged_alike bundle part part' n m network network' cert cert' there there' (gives_alike one (source_part bundle) params g h) read read'
 
-performs_alike : OneTree → (command : Command) (policy : Policy) (params : List (List ℕ × ℤ)) (bundle : List ℕ) (x y : Result Reply Refusal)
-    → Performs command policy params bundle x → Performs command policy params bundle y → SameStatus x y
-performs_alike one Run policy params bundle x y made other = runs_alike one params bundle made other
-performs_alike one Seq policy params bundle x y made other = runs_alike one params bundle made other
-performs_alike one Net policy params bundle x y made other = prints_alike one (network_text policy) params bundle made other
-performs_alike one Cert policy params bundle x y made other = prints_alike one (certificate_text policy) params bundle made other
-performs_alike one Check policy params bundle x y made other = checks_alike one params bundle made other
+-- the product of matrices with so many rows is one nest
+matrix_alike : OneTree → (rows : ℕ) (n m : Nest) → IsMatrixNest rows n → IsMatrixNest rows m → Alike (Ok n) (Ok m)
+matrix_alike one rows n m a b =
+    gives_alike one matrix_product (size_given rows) (bound a.found a.tree n a.has_tokens a.has_tree a.is_bound) (bound b.found b.tree m b.has_tokens b.has_tree b.is_bound)
+
+loads_alike : OneTree → (policy : Policy) (rows : ℕ) {x y : Result Reply Refusal} → Loads policy rows x → Loads policy rows y → SameStatus x y
+loads_alike one policy rows (load.too_large a) (load.too_large b) = refl
+loads_alike one policy rows (load.too_large a) (load.size_refused m f b h d) = absurd (omega (arith, a, b))
+loads_alike one policy rows (load.too_large a) (load.summed m u j b h d i) = absurd (omega (arith, a, b))
+loads_alike one policy rows (load.size_refused n e a g c) (load.too_large b) = absurd (omega (arith, a, b))
+loads_alike one policy rows (load.size_refused n e a g c) (load.size_refused m f b h d) = size_status e ∙ sym (size_status f)
+loads_alike one policy rows (load.size_refused n e a g c) (load.summed m u j b h d i) =
+    absurd (no_both_sizes n m e u (matrix_alike one rows n m g h).2 c d)
+loads_alike one policy rows (load.summed n t k a g c i) (load.too_large b) = absurd (omega (arith, a, b))
+loads_alike one policy rows (load.summed n t k a g c i) (load.size_refused m f b h d) =
+    absurd (no_both_sizes m n f t (matrix_alike one rows m n h g).2 d c)
+loads_alike one policy rows (load.summed n t k a g c i) (load.summed m u j b h d l) = refl
+
+performs_alike : OneTree → (command : Command) (order : Order) (bundle : List ℕ) (x y : Result Reply Refusal)
+    → Performs command order bundle x → Performs command order bundle y → SameStatus x y
+performs_alike one Run order bundle x y made other = runs_alike one order.params bundle made other
+performs_alike one Seq order bundle x y made other = runs_alike one order.params bundle made other
+performs_alike one Net order bundle x y made other = prints_alike one (network_text order.policy) order.params bundle made other
+performs_alike one Cert order bundle x y made other = prints_alike one (certificate_text order.policy) order.params bundle made other
+performs_alike one Check order bundle x y made other = checks_alike one order.params bundle made other
+performs_alike one Load order bundle x y made other = loads_alike one order.policy order.load made other
 
 pub no_order : (wanted : Option Order) (order : Order) → wanted ≡ None → wanted ≡ Some order → ⊥
 no_order wanted order x y = cc
@@ -324,8 +346,8 @@ outcomes_alike one wanted bundle (bundle_refused o x long) (performed p answer y
 outcomes_alike one wanted bundle (performed o answer x within made) (words_refused y) = absurd (no_order wanted o y x)
 outcomes_alike one wanted bundle (performed o answer x within made) (bundle_refused p y long) = absurd (omega arith)
 outcomes_alike one wanted bundle (performed o answer x within made) (performed p answer' y within' made') =
-    performs_alike one o.command o.policy o.params bundle answer answer' made
-    (subst (λ (q : Order). Performs q.command q.policy q.params bundle answer') (same_value p o (sym y ∙ x)) made')
+    performs_alike one o.command o bundle answer answer' made
+    (subst (λ (q : Order). Performs q.command q bundle answer') (same_value p o (sym y ∙ x)) made')
 
 -- ---- the statuses of outcomes
 
@@ -398,18 +420,24 @@ checks_own params bundle (check.size_refused part n e there g c) = rw (size_stat
 checks_own params bundle (check.unread part n t e text there g c read told) = refl
 checks_own params bundle (check.judged part n t network cert there g c read) = verdict_own (first n network cert)
 
-performs_own : (command : Command) (policy : Policy) (params : List (List ℕ × ℤ)) (bundle : List ℕ) (x : Result Reply Refusal)
-    → Performs command policy params bundle x → is_own (outcome_of x).status ≡ true
-performs_own Run policy params bundle x made = runs_own params bundle made
-performs_own Seq policy params bundle x made = runs_own params bundle made
-performs_own Net policy params bundle x made = prints_own (network_text policy) params bundle made
-performs_own Cert policy params bundle x made = prints_own (certificate_text policy) params bundle made
-performs_own Check policy params bundle x made = checks_own params bundle made
+loads_own : (policy : Policy) (rows : ℕ) {x : Result Reply Refusal} → Loads policy rows x → is_own (outcome_of x).status ≡ true
+loads_own policy rows (load.too_large a) = refl
+loads_own policy rows (load.size_refused n e a g c) = rw (size_status e) refl
+loads_own policy rows (load.summed n t k a g c i) = refl
+
+performs_own : (command : Command) (order : Order) (bundle : List ℕ) (x : Result Reply Refusal)
+    → Performs command order bundle x → is_own (outcome_of x).status ≡ true
+performs_own Run order bundle x made = runs_own order.params bundle made
+performs_own Seq order bundle x made = runs_own order.params bundle made
+performs_own Net order bundle x made = prints_own (network_text order.policy) order.params bundle made
+performs_own Cert order bundle x made = prints_own (certificate_text order.policy) order.params bundle made
+performs_own Check order bundle x made = checks_own order.params bundle made
+performs_own Load order bundle x made = loads_own order.policy order.load made
 
 pub outcomes_own : (wanted : Option Order) (bundle : List ℕ) {a : Outcome} → IsOutcome wanted bundle a → is_own a.status ≡ true
 outcomes_own wanted bundle (words_refused x) = refl
 outcomes_own wanted bundle (bundle_refused o x long) = refl
-outcomes_own wanted bundle (performed o answer x within made) = performs_own o.command o.policy o.params bundle answer made
+outcomes_own wanted bundle (performed o answer x within made) = performs_own o.command o bundle answer made
 
 -- ---- success
 
@@ -426,20 +454,28 @@ checks_done one params bundle n total part gives counts there (check.size_refuse
 checks_done one params bundle n total part gives counts there (check.unread other m t e text others g c read told) = inr refl
 checks_done one params bundle n total part gives counts there (check.judged other m t network cert others g c read) = verdict_done (first m network cert)
 
-performs_done : OneTree → (command : Command) (policy : Policy) (params : List (List ℕ × ℤ)) (bundle : List ℕ) → (n : Nest) (total : ℕ) (inputs : Inputs)
-    → Gives (source_part bundle) params (Ok n) → counted n ≡ Ok total → HasParts command n bundle inputs
-    → (x : Result Reply Refusal) → Performs command policy params bundle x → IsDone command (outcome_of x).status
-performs_done one Run policy params bundle n total inputs gives counts has x made = runs_alike one params bundle made (answered n total inputs gives counts has)
-performs_done one Seq policy params bundle n total inputs gives counts has x made = runs_alike one params bundle made (answered n total inputs gives counts has)
-performs_done one Net policy params bundle n total inputs gives counts has x made =
-    prints_alike one (network_text policy) params bundle made (print.printed n total gives counts)
-performs_done one Cert policy params bundle n total inputs gives counts has x made =
-    prints_alike one (certificate_text policy) params bundle made (print.printed n total gives counts)
-performs_done one Check policy params bundle n total inputs gives counts has x made = checks_done one params bundle n total has.0 gives counts has.1 made
+loads_done : OneTree → (policy : Policy) (rows : ℕ) (n : Nest) (total : ℕ) → rows ≤ load_limit → IsMatrixNest rows n → counted n ≡ Ok total
+    → {x : Result Reply Refusal} → Loads policy rows x → (outcome_of x).status ≡ 0
+loads_done one policy rows n total within is counts (load.too_large a) = absurd (omega (arith, a, within))
+loads_done one policy rows n total within is counts (load.size_refused m e a g c) =
+    absurd (no_both_sizes m n e total (matrix_alike one rows m n g is).2 c counts)
+loads_done one policy rows n total within is counts (load.summed m t k a g c i) = refl
+
+performs_done : OneTree → (command : Command) (order : Order) (bundle : List ℕ) → (n : Nest) (total : ℕ) (inputs : Inputs)
+    → IsNestFor command order bundle n → counted n ≡ Ok total → HasParts command n bundle inputs
+    → (x : Result Reply Refusal) → Performs command order bundle x → IsDone command (outcome_of x).status
+performs_done one Run order bundle n total inputs gives counts has x made = runs_alike one order.params bundle made (answered n total inputs gives counts has)
+performs_done one Seq order bundle n total inputs gives counts has x made = runs_alike one order.params bundle made (answered n total inputs gives counts has)
+performs_done one Net order bundle n total inputs gives counts has x made =
+    prints_alike one (network_text order.policy) order.params bundle made (print.printed n total gives counts)
+performs_done one Cert order bundle n total inputs gives counts has x made =
+    prints_alike one (certificate_text order.policy) order.params bundle made (print.printed n total gives counts)
+performs_done one Check order bundle n total inputs gives counts has x made = checks_done one order.params bundle n total has.0 gives counts has.1 made
+performs_done one Load order bundle n total inputs gives counts has x made = loads_done one order.policy order.load n total gives.0 gives.1 counts made
 
 pub outcomes_succeed : OneTree → (wanted : Option Order) (bundle : List ℕ) (v : IsValid wanted bundle) → {a : Outcome} → IsOutcome wanted bundle a → IsDone v.order.command a.status
 outcomes_succeed one wanted bundle v (words_refused x) = absurd (no_order wanted v.order x v.ordered)
 outcomes_succeed one wanted bundle v (bundle_refused o x long) = absurd (omega (arith, v.within))
 outcomes_succeed one wanted bundle v (performed o answer x within made) =
-    performs_done one v.order.command v.order.policy v.order.params bundle v.nest v.total v.inputs v.gives v.counts v.has answer
-    (subst (λ (q : Order). Performs q.command q.policy q.params bundle answer) (same_value o v.order (sym x ∙ v.ordered)) made)
+    performs_done one v.order.command v.order bundle v.nest v.total v.inputs v.gives v.counts v.has answer
+    (subst (λ (q : Order). Performs q.command q bundle answer) (same_value o v.order (sym x ∙ v.ordered)) made)

@@ -15,7 +15,7 @@ use Rattle.net_core.specs.declared.network.Network.{Network}
 use Rattle.sanlp.specs.declared.nest.Nest.{Nest}
 use Rattle.source_tree.specs.declared.cert.Cert.{Cert}
 use Rattle.witness_plan.specs.declared.schedules.Policy.{Policy}
-use Rattle.compaan_top.specs.Answers.{Change, Ends, Reads, ReadsTo, no_memory, read_fault, written, cut_short}
+use Rattle.compaan_top.specs.Answers.{Change, Ends, Reads, ReadsFor, ReadsTo, no_memory, read_fault, written, cut_short}
 use Rattle.compaan_top.specs.Checking.{Checks, verdict_reply, part_missing, source_refused, size_refused, unread, judged}
 use Rattle.compaan_top.specs.Headline.{AcceptsWhatFits, HasFittingCertificate, HasSoundCertificate, accepted}
 use Rattle.compaan_top.specs.Outcome.{Outcome, IsOutcome, Performs, bundle_limit, outcome_of, words_refused, bundle_refused, performed}
@@ -80,10 +80,10 @@ checks_vouched fitting reads params bundle (judged part nest total network cert 
 pub same_order : (wanted : Option Order) (a b : Order) → wanted ≡ Some a → wanted ≡ Some b → a ≡ b
 same_order wanted a b x y = cc
 
-performs_vouched : VouchesFor → (command : Command) (policy : Policy) (params : List (List ℕ × ℤ)) (bundle : List ℕ) (answer : Result Reply Refusal) → command ≡ Check
-    → Performs command policy params bundle answer → (outcome_of answer).status ≡ 0 → HasFittingCertificate params bundle
-performs_vouched vouches command policy params bundle answer is made zero =
-    vouches params bundle answer (subst (λ (c : Command). Performs c policy params bundle answer) is made) zero
+performs_vouched : VouchesFor → (order : Order) (bundle : List ℕ) (answer : Result Reply Refusal) → order.command ≡ Check
+    → Performs order.command order bundle answer → (outcome_of answer).status ≡ 0 → HasFittingCertificate order.params bundle
+performs_vouched vouches order bundle answer is made zero =
+    vouches order.params bundle answer (subst (λ (c : Command). Performs c order bundle answer) is made) zero
 
 outcome_vouched : VouchesFor → (wanted : Option Order) (bundle : List ℕ) (order : Order) {outcome : Outcome} → wanted ≡ Some order → order.command ≡ Check
     → IsOutcome wanted bundle outcome → outcome.status ≡ 0 → HasFittingCertificate order.params bundle
@@ -91,11 +91,12 @@ outcome_vouched vouches wanted bundle order ordered is (words_refused none) zero
 outcome_vouched vouches wanted bundle order ordered is (bundle_refused other others long) zero = absurd (not_zero 5 refl zero)
 outcome_vouched vouches wanted bundle order ordered is (performed other answer others within made) zero =
     let same : other ≡ order = same_order wanted other order others ordered in
-    performs_vouched vouches order.command order.policy order.params bundle answer is
-    (subst (λ (o : Order). Performs o.command o.policy o.params bundle answer) same made) zero
+    performs_vouched vouches order bundle answer is
+    (subst (λ (o : Order). Performs o.command o bundle answer) same made) zero
 
-reads_to : (wanted : Option Order) (input : Change) (bundle : List ℕ) (order : Order) → wanted ≡ Some order → Reads (wanted) input bundle → ReadsTo input bundle
-reads_to wanted input bundle order ordered reads = rw ordered at reads
+reads_to : (wanted : Option Order) (input : Change) (bundle : List ℕ) (order : Order) → wanted ≡ Some order → order.command ≡ Check → Reads wanted input bundle → ReadsTo input bundle
+reads_to wanted input bundle order ordered is reads =
+    subst (λ (c : Command). ReadsFor c input bundle) is (subst (λ (o : Option Order). Reads o input bundle) ordered reads)
 
 -- what has a fitting certificate has a sound one
 pub with_sound : WhatFitsIsSound → (params : List (List ℕ × ℤ)) (bundle : List ℕ) → HasFittingCertificate params bundle → HasSoundCertificate params bundle
@@ -107,7 +108,7 @@ pub ends_vouched : VouchesFor → WhatFitsIsSound → (wanted : Option Order) (i
 ends_vouched vouches sound wanted input output complaint order (no_memory quiet nothing) ordered is zero = absurd (ten_is_not_zero zero)
 ends_vouched vouches sound wanted input output complaint order (read_fault other others fault nothing) ordered is zero = absurd (three_is_not_zero zero)
 ends_vouched vouches sound wanted input output complaint order (written bundle outcome quiet reads outcome_is all) ordered is zero =
-    (bundle, reads_to wanted input bundle order ordered reads, with_sound sound order.params bundle (outcome_vouched vouches wanted bundle order ordered is outcome_is zero))
+    (bundle, reads_to wanted input bundle order ordered is reads, with_sound sound order.params bundle (outcome_vouched vouches wanted bundle order ordered is outcome_is zero))
 ends_vouched vouches sound wanted input output complaint order (cut_short bundle outcome quiet reads outcome_is front) ordered is zero = absurd (four_is_not_zero zero)
 
 -- The other way
@@ -154,8 +155,8 @@ outcome_accepted one fitting back wanted bundle order ordered is within v (bundl
 outcome_accepted one fitting back wanted bundle order ordered is within v (performed other answer others small made) =
     let same : other ≡ order = same_order wanted other order others ordered in
     checks_accepted one fitting back order.params bundle v
-    (subst (λ (c : Command). Performs c order.policy order.params bundle answer) is
-    (subst (λ (o : Order). Performs o.command o.policy o.params bundle answer) same made))
+    (subst (λ (c : Command). Performs c order bundle answer) is
+    (subst (λ (o : Order). Performs o.command o bundle answer) same made))
 
 -- words that order `check` come to `accepted` exactly where the bundle has a fitting certificate
 pub accepts_fitting : OneTree → NothingWrongFits → ReadsItsText → TextIsRead → (wanted : Option Order) (bundle : List ℕ) → AcceptsWhatFits wanted bundle

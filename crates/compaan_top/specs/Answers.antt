@@ -2,6 +2,8 @@
 use Rattle.std.specs.Prelude.{◌≡◌, ◌⊎◌, ◌≤◌, ◌+◌, ℕ, List, [], length, Option, Some, None}
 use Rattle.std.specs.Io.KnownBytes.{Appends, Consumes, IsAtEnd, Keeps}
 use Rattle.io_edge.specs.Causes.{Rose, AppendsFront}
+use Rattle.command_line.specs.declared.words.Command.{Command}
+use Rattle.command_line.specs.declared.words.Command.TheVariants.{Run, Seq, Net, Cert, Check, Load}
 use Rattle.command_line.specs.declared.words.Order.{Order}
 use Rattle.compaan_top.specs.Outcome.{Outcome, IsOutcome, bundle_limit}
 
@@ -24,10 +26,23 @@ pub record ReadsTo (input : Change) (bundle : List ℕ) : Type 0 where
   pub within : length bundle ≤ bundle_limit + 1
   pub to_end : length bundle ≤ bundle_limit → IsAtEnd input.new
 
+-- the source gave nothing
+abbrev pub ReadsNothing : Change → List ℕ → Type 0
+ReadsNothing input bundle = Keeps input.old input.new × (bundle ≡ [])
+
+-- `load` reads nothing
+abbrev pub ReadsFor : Command → Change → List ℕ → Type 0
+ReadsFor Run = ReadsTo
+ReadsFor Seq = ReadsTo
+ReadsFor Net = ReadsTo
+ReadsFor Cert = ReadsTo
+ReadsFor Check = ReadsTo
+ReadsFor Load = ReadsNothing
+
 -- where the words are refused nothing is read
 abbrev pub Reads : Option Order → Change → List ℕ → Type 0
-Reads None input bundle = Keeps input.old input.new × (bundle ≡ [])
-Reads (Some order) input bundle = ReadsTo input bundle
+Reads None = ReadsNothing
+Reads (Some order) = ReadsFor order.command
 
 -- nothing was written on either sink, and none had a fault
 pub record WritesNothing (output complaint : Change) : Type 0 where

@@ -4,6 +4,7 @@ pub mod Judging
 pub mod Laws
 pub mod Checking
 pub mod Headline
+pub mod Load
 pub mod Printing
 pub mod Replies
 pub mod Outcome

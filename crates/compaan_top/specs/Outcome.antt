@@ -2,10 +2,10 @@
 -- words it takes the order that they give, or None where they are refused.
 use Rattle.std.specs.Prelude.{◌≡◌, ◌≤◌, ◌<◌, ℕ, ℤ, List, [], length, Option, Some, None, Result, Ok, Err}
 use Rattle.command_line.specs.declared.words.Command.{Command}
-use Rattle.command_line.specs.declared.words.Command.TheVariants.{Run, Seq, Net, Cert, Check}
+use Rattle.command_line.specs.declared.words.Command.TheVariants.{Run, Seq, Net, Cert, Check, Load}
 use Rattle.command_line.specs.declared.words.Order.{Order}
-use Rattle.witness_plan.specs.declared.schedules.Policy.{Policy}
 use Rattle.compaan_top.specs.Checking.{Checks}
+use Rattle.compaan_top.specs.Load.{Loads}
 use Rattle.compaan_top.specs.Printing.{Prints, certificate_text, network_text}
 use Rattle.compaan_top.specs.Refusals.{usage, too_long}
 use Rattle.compaan_top.specs.Replies.{Reply}
@@ -27,17 +27,18 @@ outcome_of (Err refusal) = record { status = refusal.status; output = []; compla
 abbrev pub bundle_limit : ℕ
 bundle_limit = 67_108_864
 
--- what a command with a policy and these values of parameters comes to on a bundle
-abbrev pub Performs : Command → Policy → List (List ℕ × ℤ) → List ℕ → Result Reply Refusal → Type 0
-Performs Run policy = Runs
-Performs Seq policy = Runs
-Performs Net policy = Prints (network_text policy)
-Performs Cert policy = Prints (certificate_text policy)
-Performs Check policy = Checks
+-- what an order's command comes to on a bundle; `load` has none
+abbrev pub Performs : Command → Order → List ℕ → Result Reply Refusal → Type 0
+Performs Run order = Runs order.params
+Performs Seq order = Runs order.params
+Performs Net order = Prints (network_text order.policy) order.params
+Performs Cert order = Prints (certificate_text order.policy) order.params
+Performs Check order = Checks order.params
+Performs Load order = λ bundle. Loads order.policy order.load
 
 -- The words are refused, the bundle is too long, or the command is performed.
 pub data IsOutcome (wanted : Option Order) (bundle : List ℕ) : Outcome → Type 0 where
   words_refused : wanted ≡ None → IsOutcome wanted bundle (outcome_of (Err usage))
   bundle_refused : (order : Order) → wanted ≡ Some order → bundle_limit < length bundle → IsOutcome wanted bundle (outcome_of (Err too_long))
   performed : (order : Order) (answer : Result Reply Refusal) → wanted ≡ Some order → length bundle ≤ bundle_limit
-      → Performs order.command order.policy order.params bundle answer → IsOutcome wanted bundle (outcome_of answer)
+      → Performs order.command order bundle answer → IsOutcome wanted bundle (outcome_of answer)

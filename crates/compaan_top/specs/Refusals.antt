@@ -29,6 +29,10 @@ too_long = refusal_with 5 (codes "bundle: TooLong") []
 abbrev pub no_part : Refusal
 no_part = refusal_with 5 (codes "bundle: NoPart") []
 
+-- the matrices of `load` have more rows than a parameter's limit; the parameter's name starts at the source's byte 6
+abbrev pub too_many_rows : Refusal
+too_many_rows = refusal_with 8 (codes "limit: Large") (6 ∷ [])
+
 -- the byte at which the token of this number starts, or the length of the source for the place at the end
 abbrev pub byte_of : List ℕ → List Token → ℕ → ℕ
 byte_of source tokens number = option_map_or (λ token. token.start) (slice_get tokens number) (length source)

@@ -3,6 +3,7 @@ ghost use Rattle.sanlp.specs.Points.{points_of};
 ghost use Rattle.net_core.specs.Machine.{net_of};
 ghost use Rattle.net_core.specs.Shape.{FitsNumbers};
 
+use matrix_load::Summary;
 use net_core::Network;
 use plain_data::Items;
 use sanlp::{Arrays, Nest, Points};
@@ -47,4 +48,5 @@ pub(crate) enum Answer {
     Network(NetworkAnswer),
     Certificate(CertificateAnswer),
     Verdict(VerdictAnswer),
+    Summary(Summary),
 }

@@ -11,6 +11,7 @@ ghost use Rattle.compaan_top.specs.Planned.{as_reply, IsOrdered, IsPlanned, Read
 use crate::answer::Answer;
 use crate::check::check_certificate;
 use crate::law::what_is_accepted_fits;
+use crate::load::load;
 use crate::printing::{print_certificate, print_network};
 use crate::refusal::{Stop, too_long, usage};
 use crate::run::{run_by_interpreter, run_by_network};
@@ -50,10 +51,10 @@ fn bundle_of<S: Source>(alloc: Global, input: &mut S) -> Result<Vec<u8>, Stop>
 fn perform(alloc: Global, order: &Order, bundle: &[u8]) -> Result<Answer, Stop>
     requires command { WaitsForNobody order.now.command }
     requires bundle { length bundle.now ≤ bundle_limit }
-    ensures { Judges (λ answer. Performs order.now.command order.now.policy order.now.params bundle.now (as_reply answer)) result }
+    ensures { Judges (λ answer. Performs order.now.command order.now bundle.now (as_reply answer)) result }
 {
     match order.command {
-        Command::Run => unreachable!(),
+        Command::Run | Command::Load => unreachable!(),
         Command::Seq => run_by_interpreter(alloc, &order.params, bundle),
         Command::Net => print_network(alloc, order.policy, &order.params, bundle),
         Command::Cert => print_certificate(alloc, order.policy, &order.params, bundle),
@@ -85,6 +86,19 @@ fn plan_run<R: Threads + Wait + Sync, S: Source, G: Gate + Sync>(
     run_by_network(rt, alloc, order.policy, &order.params, &bundle, gate)
 }
 
+// Runs the matrix product, and reads and writes nothing.
+fn plan_load<R: Threads + Wait + Sync, G: Gate + Sync>(
+    rt: &R,
+    alloc: Global,
+    order: &Order,
+    gate: &G,
+) -> Result<Answer, Stop>
+    requires { order.now.command ≡ command.Load }
+    ensures { (left : Option (List ℕ)) (faults : ℕ) → IsPlanned (Some order.now) (record { old = left; new = left; faults_old = faults; faults_new = faults }) result }
+{
+    load(rt, alloc, order.policy, order.load, gate)
+}
+
 // Writes what was planned, and gives the status.
 fn finish<K: Sink, E: Sink>(planned: Result<Answer, Stop>, output: &mut K, complaint: &mut E) -> u8
     ensures { (wanted : Option WordOrder) (input : Change) → IsPlanned wanted input planned → Ends wanted input
@@ -106,7 +120,7 @@ fn finish<K: Sink, E: Sink>(planned: Result<Answer, Stop>, output: &mut K, compl
     }
 }
 
-/// Every command but `run`, which waits for threads. Where `check` answers with status 0, the bundle's certificate part is
+/// Every command but `run` and `load`, which wait for threads. Where `check` answers with status 0, the bundle's certificate part is
 /// the text of a network with a certificate that fit the source's nest, and the network is sound for it.
 pub fn quiet<S: Source, K: Sink, E: Sink>(
     alloc: Global,
@@ -147,6 +161,7 @@ fn carry_out<R: Threads + Wait + Sync, S: Source, K: Sink, E: Sink, G: Gate + Sy
 {
     match order.command {
         Command::Run => finish(plan_run(rt, alloc, order, input, gate), output, complaint),
+        Command::Load => finish(plan_load(rt, alloc, order, gate), output, complaint),
         Command::Seq | Command::Net | Command::Cert | Command::Check => {
             quiet(alloc, order, input, output, complaint)
         }
@@ -156,8 +171,8 @@ fn carry_out<R: Threads + Wait + Sync, S: Source, K: Sink, E: Sink, G: Gate + Sy
 /// All that the program does. Where `check` answers with status 0, the bundle's certificate part is the text of a network
 /// with a certificate that fit the source's nest, and the network is sound for it.
 ///
-/// `run` has one thread for each process, so this may wait. Each of its workers asks the gate before it works, and tells it
-/// each value that its process puts. `quiet`, which does every other command, returns.
+/// `run` and `load` have one thread for each process, so this may wait. Each of their workers asks the gate before it works,
+/// and tells it each value that its process puts. `quiet`, which does every other command, returns.
 pub fn compaan<R: Threads + Wait + Sync, S: Source, K: Sink, E: Sink, G: Gate + Sync>(
     rt: &R,
     alloc: Global,

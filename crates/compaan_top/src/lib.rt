@@ -5,6 +5,7 @@ mod answer;
 mod call;
 mod check;
 mod law;
+mod load;
 mod printing;
 mod refusal;
 mod run;

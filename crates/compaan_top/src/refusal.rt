@@ -1,5 +1,5 @@
 ghost use Rattle.std.specs.Prelude.{◌≡◌, [], ◌∷◌, ◌++◌, IfOk, Some, codes};
-ghost use Rattle.compaan_top.specs.Refusals.{bind_refusal, byte_of, data_refusal, lex_refusal, name_of, no_part, refusal_with, size_refusal, syntax_refusal, too_long, usage};
+ghost use Rattle.compaan_top.specs.Refusals.{bind_refusal, byte_of, data_refusal, lex_refusal, name_of, no_part, refusal_with, size_refusal, syntax_refusal, too_long, too_many_rows, usage};
 ghost use Rattle.compaan_top.specs.declared.refusal.Stop.TheVariants.{Memory};
 
 use array_data::DataError;
@@ -71,6 +71,12 @@ pub(crate) fn no_part(alloc: Global) -> Result<Refusal, AllocError>
     ensures { IfOk result (λ made. made ≡ no_part) }
 {
     refusal_with(alloc, 5, b"bundle: NoPart", &[])
+}
+
+pub(crate) fn too_many_rows(alloc: Global) -> Result<Refusal, AllocError>
+    ensures { IfOk result (λ made. made ≡ too_many_rows) }
+{
+    refusal_with(alloc, 8, b"limit: Large", &[6])
 }
 
 /// The byte at which the token of this number starts, or the length of the source for the place at the end.

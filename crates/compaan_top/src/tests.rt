@@ -258,9 +258,47 @@ fn networks_are_printed(rt: HostRuntime) -> Result<(), Fail> {
 }
 
 #[test]
+fn loads_are_summed(rt: HostRuntime) -> Result<(), Fail> {
+    let loads: [(&[&str], &[u8]); 5] = [
+        (&["load", "0"], b"points 0\nchannels 0\nevents 0\nsum 0\n"),
+        (&["load", "1"], b"points 5\nchannels 4\nevents 13\nsum 10\n"),
+        (&["load", "2"], b"points 24\nchannels 5\nevents 64\nsum 9\n"),
+        (
+            &["load", "002", "--policy", "down"],
+            b"points 24\nchannels 5\nevents 64\nsum 9\n",
+        ),
+        // the sum by another program
+        (
+            &["load", "100"],
+            b"points 1040000\nchannels 5\nevents 3100000\nsum 4\n",
+        ),
+    ];
+    // no command but `load` leaves its input unread
+    let unread = Devices {
+        failing: 0,
+        ..SOUND
+    };
+    for (words, output) in loads {
+        expect(&rt, unread, words, b"$", 0, output, b"")?;
+    }
+    let refused: [(&[&str], &[u8]); 3] = [
+        (&["load", "101"], b"limit: Size 2097153\n"),
+        (&["load", "2147483647"], b"limit: Size 2097153\n"),
+        (&["load", "2147483648"], b"limit: Large 6\n"),
+    ];
+    for (words, complaint) in refused {
+        expect(&rt, unread, words, b"", 8, b"", complaint)?;
+    }
+    Ok(())
+}
+
+#[test]
 fn wrong_words_are_refused(rt: HostRuntime) -> Result<(), Fail> {
-    let refused: [&[&str]; 9] = [
+    let refused: [&[&str]; 12] = [
         &[],
+        &["load"],
+        &["load", "N=1"],
+        &["load", "1", "N=1"],
         &["run", "N"],
         &["run", "N=1", "N=2"],
         &["run", "--policy", "up"],

@@ -7,6 +7,7 @@ use crate::answer::Answer;
 use array_data::write_answer;
 use cert_text::write_cert;
 use io_edge::{Sink, WriteFault, write_all};
+use matrix_load::write_summary;
 use net_text::write_net;
 
 /// Writes an answer's text. It takes no memory.
@@ -23,6 +24,7 @@ pub(crate) fn write_text<K: Sink>(answer: &Answer, sink: &mut K) -> Result<(), W
         }
         Answer::Certificate(answer) => write_cert(&answer.network, &answer.cert, sink),
         Answer::Verdict(answer) => write_all(sink, answer.line.as_slice()),
+        Answer::Summary(summary) => write_summary(summary, sink),
     }
 }
 
@@ -31,7 +33,7 @@ pub(crate) fn status_of(answer: &Answer) -> u8
     ensures { result ≡ (reply_of answer.now).status }
 {
     match answer {
-        Answer::Arrays(_) | Answer::Network(_) | Answer::Certificate(_) => 0,
+        Answer::Arrays(_) | Answer::Network(_) | Answer::Certificate(_) | Answer::Summary(_) => 0,
         Answer::Verdict(answer) => answer.status,
     }
 }

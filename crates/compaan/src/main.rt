@@ -2,7 +2,7 @@
 #![tactic(auto)]
 
 use compaan_top::compaan;
-use io_edge::{StdIn, StdOut};
+use io_edge::{Open, StdIn, StdOut};
 use std::process::ExitCode;
 use std::rt::Env;
 use std::{env, io};
@@ -27,11 +27,13 @@ fn main(rt: HostRuntime) -> ExitCode {
     let mut output = StdOut::new(rt.stdout());
     let mut complaint = StdOut::new(rt.stderr());
     let status = compaan(
+        &rt,
         rt.alloc(),
         words.as_slice(),
         &mut input,
         &mut output,
         &mut complaint,
+        &Open,
     );
     ExitCode::from(status)
 }

@@ -1,5 +1,6 @@
 pub mod Endings
 pub mod Inputs
+pub mod Certified
 pub mod Checked
 pub mod Parts
 pub mod Printed

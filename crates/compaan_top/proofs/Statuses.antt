@@ -40,7 +40,6 @@ use Rattle.sanlp.specs.declared.nest.Node.{Node}
 use Rattle.sanlp.specs.declared.nest.Statement.{Statement}
 use Rattle.sanlp.specs.declared.nest.Inputs.{Inputs}
 use Rattle.command_line.specs.Bundle.{certificate_part, data_part, source_part}
-use Rattle.command_line.specs.Words.{order_of}
 use Rattle.command_line.specs.declared.words.Order.{Order}
 use Rattle.command_line.specs.declared.words.Command.{Command}
 use Rattle.command_line.specs.declared.words.Command.TheVariants.{Run, Seq, Net, Cert, Check}
@@ -312,19 +311,19 @@ performs_alike one Net policy params bundle x y made other = prints_alike one (n
 performs_alike one Cert policy params bundle x y made other = prints_alike one (certificate_text policy) params bundle made other
 performs_alike one Check policy params bundle x y made other = checks_alike one params bundle made other
 
-pub no_order : (words : List (List ℕ)) (order : Order) → order_of words ≡ None → order_of words ≡ Some order → ⊥
-no_order words order x y = cc
+pub no_order : (wanted : Option Order) (order : Order) → wanted ≡ None → wanted ≡ Some order → ⊥
+no_order wanted order x y = cc
 
-pub outcomes_alike : OneTree → (words : List (List ℕ)) (bundle : List ℕ) {a b : Outcome} → IsOutcome words bundle a → IsOutcome words bundle b → a.status ≡ b.status
-outcomes_alike one words bundle (words_refused x) (words_refused y) = refl
-outcomes_alike one words bundle (words_refused x) (bundle_refused o y long) = absurd (no_order words o x y)
-outcomes_alike one words bundle (words_refused x) (performed o answer y within made) = absurd (no_order words o x y)
-outcomes_alike one words bundle (bundle_refused o x long) (words_refused y) = absurd (no_order words o y x)
-outcomes_alike one words bundle (bundle_refused o x long) (bundle_refused p y long') = refl
-outcomes_alike one words bundle (bundle_refused o x long) (performed p answer y within made) = absurd (omega arith)
-outcomes_alike one words bundle (performed o answer x within made) (words_refused y) = absurd (no_order words o y x)
-outcomes_alike one words bundle (performed o answer x within made) (bundle_refused p y long) = absurd (omega arith)
-outcomes_alike one words bundle (performed o answer x within made) (performed p answer' y within' made') =
+pub outcomes_alike : OneTree → (wanted : Option Order) (bundle : List ℕ) {a b : Outcome} → IsOutcome wanted bundle a → IsOutcome wanted bundle b → a.status ≡ b.status
+outcomes_alike one wanted bundle (words_refused x) (words_refused y) = refl
+outcomes_alike one wanted bundle (words_refused x) (bundle_refused o y long) = absurd (no_order wanted o x y)
+outcomes_alike one wanted bundle (words_refused x) (performed o answer y within made) = absurd (no_order wanted o x y)
+outcomes_alike one wanted bundle (bundle_refused o x long) (words_refused y) = absurd (no_order wanted o y x)
+outcomes_alike one wanted bundle (bundle_refused o x long) (bundle_refused p y long') = refl
+outcomes_alike one wanted bundle (bundle_refused o x long) (performed p answer y within made) = absurd (omega arith)
+outcomes_alike one wanted bundle (performed o answer x within made) (words_refused y) = absurd (no_order wanted o y x)
+outcomes_alike one wanted bundle (performed o answer x within made) (bundle_refused p y long) = absurd (omega arith)
+outcomes_alike one wanted bundle (performed o answer x within made) (performed p answer' y within' made') =
     performs_alike one o.command o.policy o.params bundle answer answer' made
     (subst (λ (q : Order). Performs q.command q.policy q.params bundle answer') (same_value p o (sym y ∙ x)) made')
 
@@ -407,10 +406,10 @@ performs_own Net policy params bundle x made = prints_own (network_text policy) 
 performs_own Cert policy params bundle x made = prints_own (certificate_text policy) params bundle made
 performs_own Check policy params bundle x made = checks_own params bundle made
 
-pub outcomes_own : (words : List (List ℕ)) (bundle : List ℕ) {a : Outcome} → IsOutcome words bundle a → is_own a.status ≡ true
-outcomes_own words bundle (words_refused x) = refl
-outcomes_own words bundle (bundle_refused o x long) = refl
-outcomes_own words bundle (performed o answer x within made) = performs_own o.command o.policy o.params bundle answer made
+pub outcomes_own : (wanted : Option Order) (bundle : List ℕ) {a : Outcome} → IsOutcome wanted bundle a → is_own a.status ≡ true
+outcomes_own wanted bundle (words_refused x) = refl
+outcomes_own wanted bundle (bundle_refused o x long) = refl
+outcomes_own wanted bundle (performed o answer x within made) = performs_own o.command o.policy o.params bundle answer made
 
 -- ---- success
 
@@ -438,9 +437,9 @@ performs_done one Cert policy params bundle n total inputs gives counts has x ma
     prints_alike one (certificate_text policy) params bundle made (print.printed n total gives counts)
 performs_done one Check policy params bundle n total inputs gives counts has x made = checks_done one params bundle n total has.0 gives counts has.1 made
 
-pub outcomes_succeed : OneTree → (words : List (List ℕ)) (bundle : List ℕ) (v : IsValid words bundle) → {a : Outcome} → IsOutcome words bundle a → IsDone v.order.command a.status
-outcomes_succeed one words bundle v (words_refused x) = absurd (no_order words v.order x v.ordered)
-outcomes_succeed one words bundle v (bundle_refused o x long) = absurd (omega (arith, v.within))
-outcomes_succeed one words bundle v (performed o answer x within made) =
+pub outcomes_succeed : OneTree → (wanted : Option Order) (bundle : List ℕ) (v : IsValid wanted bundle) → {a : Outcome} → IsOutcome wanted bundle a → IsDone v.order.command a.status
+outcomes_succeed one wanted bundle v (words_refused x) = absurd (no_order wanted v.order x v.ordered)
+outcomes_succeed one wanted bundle v (bundle_refused o x long) = absurd (omega (arith, v.within))
+outcomes_succeed one wanted bundle v (performed o answer x within made) =
     performs_done one v.order.command v.order.policy v.order.params bundle v.nest v.total v.inputs v.gives v.counts v.has answer
     (subst (λ (q : Order). Performs q.command q.policy q.params bundle answer) (same_value o v.order (sym x ∙ v.ordered)) made)

@@ -5,7 +5,6 @@ use Rattle.cert_text.specs.CertText.{AreInRange, cert_text}
 use Rattle.cert_text.specs.Reading.{reading}
 use Rattle.cert_text.specs.declared.error.CertError.{CertError}
 use Rattle.command_line.specs.Bundle.{certificate_part, source_part}
-use Rattle.command_line.specs.Words.{order_of}
 use Rattle.command_line.specs.declared.words.Command.{Command}
 use Rattle.command_line.specs.declared.words.Command.TheVariants.{Check}
 use Rattle.command_line.specs.declared.words.Order.{Order}
@@ -53,7 +52,7 @@ four_is_not_zero is = cc
 ten_is_not_zero : ◌≡◌ {A = ℕ} 10 0 → ⊥
 ten_is_not_zero is = cc
 
-not_zero : (status : ℕ) → is_refused status ≡ true → status ≡ 0 → ⊥
+pub not_zero : (status : ℕ) → is_refused status ≡ true → status ≡ 0 → ⊥
 not_zero status refused is = let zero : is_refused 0 ≡ true = subst (λ (s : ℕ). is_refused s ≡ true) is refused in cc
 
 pub checks_vouched : NothingWrongFits → ReadsItsText → (params : List (List ℕ × ℤ)) (bundle : List ℕ) {answer : Result Reply Refusal}
@@ -78,38 +77,38 @@ checks_vouched fitting reads params bundle (judged part nest total network cert 
       fits = (fitting nest network cert).0 (nothing_wrong (first nest network cert) is);
     }
 
-same_order : (words : List (List ℕ)) (a b : Order) → order_of words ≡ Some a → order_of words ≡ Some b → a ≡ b
-same_order words a b x y = cc
+pub same_order : (wanted : Option Order) (a b : Order) → wanted ≡ Some a → wanted ≡ Some b → a ≡ b
+same_order wanted a b x y = cc
 
 performs_vouched : VouchesFor → (command : Command) (policy : Policy) (params : List (List ℕ × ℤ)) (bundle : List ℕ) (answer : Result Reply Refusal) → command ≡ Check
     → Performs command policy params bundle answer → (outcome_of answer).status ≡ 0 → HasFittingCertificate params bundle
 performs_vouched vouches command policy params bundle answer is made zero =
     vouches params bundle answer (subst (λ (c : Command). Performs c policy params bundle answer) is made) zero
 
-outcome_vouched : VouchesFor → (words : List (List ℕ)) (bundle : List ℕ) (order : Order) {outcome : Outcome} → order_of words ≡ Some order → order.command ≡ Check
-    → IsOutcome words bundle outcome → outcome.status ≡ 0 → HasFittingCertificate order.params bundle
-outcome_vouched vouches words bundle order ordered is (words_refused none) zero = absurd (no_order words order none ordered)
-outcome_vouched vouches words bundle order ordered is (bundle_refused other others long) zero = absurd (not_zero 5 refl zero)
-outcome_vouched vouches words bundle order ordered is (performed other answer others within made) zero =
-    let same : other ≡ order = same_order words other order others ordered in
+outcome_vouched : VouchesFor → (wanted : Option Order) (bundle : List ℕ) (order : Order) {outcome : Outcome} → wanted ≡ Some order → order.command ≡ Check
+    → IsOutcome wanted bundle outcome → outcome.status ≡ 0 → HasFittingCertificate order.params bundle
+outcome_vouched vouches wanted bundle order ordered is (words_refused none) zero = absurd (no_order wanted order none ordered)
+outcome_vouched vouches wanted bundle order ordered is (bundle_refused other others long) zero = absurd (not_zero 5 refl zero)
+outcome_vouched vouches wanted bundle order ordered is (performed other answer others within made) zero =
+    let same : other ≡ order = same_order wanted other order others ordered in
     performs_vouched vouches order.command order.policy order.params bundle answer is
     (subst (λ (o : Order). Performs o.command o.policy o.params bundle answer) same made) zero
 
-reads_to : (words : List (List ℕ)) (input : Change) (bundle : List ℕ) (order : Order) → order_of words ≡ Some order → Reads (order_of words) input bundle → ReadsTo input bundle
-reads_to words input bundle order ordered reads = rw ordered at reads
+reads_to : (wanted : Option Order) (input : Change) (bundle : List ℕ) (order : Order) → wanted ≡ Some order → Reads (wanted) input bundle → ReadsTo input bundle
+reads_to wanted input bundle order ordered reads = rw ordered at reads
 
 -- what has a fitting certificate has a sound one
 pub with_sound : WhatFitsIsSound → (params : List (List ℕ × ℤ)) (bundle : List ℕ) → HasFittingCertificate params bundle → HasSoundCertificate params bundle
 with_sound sound params bundle v = record { fitting = v; sound = sound v.nest v.network v.cert v.fits }
 
 -- a call with status 0 whose words order `check` read a bundle with a sound certificate
-pub ends_vouched : VouchesFor → WhatFitsIsSound → (words : List (List ℕ)) (input output complaint : Change) (order : Order) {status : ℕ} → Ends words input output complaint status
-    → order_of words ≡ Some order → order.command ≡ Check → status ≡ 0 → (bundle : List ℕ) × ReadsTo input bundle × HasSoundCertificate order.params bundle
-ends_vouched vouches sound words input output complaint order (no_memory quiet nothing) ordered is zero = absurd (ten_is_not_zero zero)
-ends_vouched vouches sound words input output complaint order (read_fault other others fault nothing) ordered is zero = absurd (three_is_not_zero zero)
-ends_vouched vouches sound words input output complaint order (written bundle outcome quiet reads outcome_is all) ordered is zero =
-    (bundle, reads_to words input bundle order ordered reads, with_sound sound order.params bundle (outcome_vouched vouches words bundle order ordered is outcome_is zero))
-ends_vouched vouches sound words input output complaint order (cut_short bundle outcome quiet reads outcome_is front) ordered is zero = absurd (four_is_not_zero zero)
+pub ends_vouched : VouchesFor → WhatFitsIsSound → (wanted : Option Order) (input output complaint : Change) (order : Order) {status : ℕ} → Ends wanted input output complaint status
+    → wanted ≡ Some order → order.command ≡ Check → status ≡ 0 → (bundle : List ℕ) × ReadsTo input bundle × HasSoundCertificate order.params bundle
+ends_vouched vouches sound wanted input output complaint order (no_memory quiet nothing) ordered is zero = absurd (ten_is_not_zero zero)
+ends_vouched vouches sound wanted input output complaint order (read_fault other others fault nothing) ordered is zero = absurd (three_is_not_zero zero)
+ends_vouched vouches sound wanted input output complaint order (written bundle outcome quiet reads outcome_is all) ordered is zero =
+    (bundle, reads_to wanted input bundle order ordered reads, with_sound sound order.params bundle (outcome_vouched vouches wanted bundle order ordered is outcome_is zero))
+ends_vouched vouches sound wanted input output complaint order (cut_short bundle outcome quiet reads outcome_is front) ordered is zero = absurd (four_is_not_zero zero)
 
 -- The other way
 
@@ -148,19 +147,19 @@ checks_accepted one fitting back params bundle v (judged part nest total network
     none_wrong fitting nest v.nest v.network v.cert (network, cert) (gives_alike one (source_part bundle) params gives v.gives) pairs v.fits in
     ap (λ (found : Option NetRefusal). outcome_of (Ok (verdict_reply (verdict_of found)))) none
 
-outcome_accepted : OneTree → NothingWrongFits → TextIsRead → (words : List (List ℕ)) (bundle : List ℕ) (order : Order) {outcome : Outcome} → order_of words ≡ Some order
-    → order.command ≡ Check → length bundle ≤ bundle_limit → HasFittingCertificate order.params bundle → IsOutcome words bundle outcome → outcome ≡ accepted
-outcome_accepted one fitting back words bundle order ordered is within v (words_refused none) = absurd (no_order words order none ordered)
-outcome_accepted one fitting back words bundle order ordered is within v (bundle_refused other others long) = absurd (omega (arith, within))
-outcome_accepted one fitting back words bundle order ordered is within v (performed other answer others small made) =
-    let same : other ≡ order = same_order words other order others ordered in
+outcome_accepted : OneTree → NothingWrongFits → TextIsRead → (wanted : Option Order) (bundle : List ℕ) (order : Order) {outcome : Outcome} → wanted ≡ Some order
+    → order.command ≡ Check → length bundle ≤ bundle_limit → HasFittingCertificate order.params bundle → IsOutcome wanted bundle outcome → outcome ≡ accepted
+outcome_accepted one fitting back wanted bundle order ordered is within v (words_refused none) = absurd (no_order wanted order none ordered)
+outcome_accepted one fitting back wanted bundle order ordered is within v (bundle_refused other others long) = absurd (omega (arith, within))
+outcome_accepted one fitting back wanted bundle order ordered is within v (performed other answer others small made) =
+    let same : other ≡ order = same_order wanted other order others ordered in
     checks_accepted one fitting back order.params bundle v
     (subst (λ (c : Command). Performs c order.policy order.params bundle answer) is
     (subst (λ (o : Order). Performs o.command o.policy o.params bundle answer) same made))
 
 -- words that order `check` come to `accepted` exactly where the bundle has a fitting certificate
-pub accepts_fitting : OneTree → NothingWrongFits → ReadsItsText → TextIsRead → (words : List (List ℕ)) (bundle : List ℕ) → AcceptsWhatFits words bundle
-accepts_fitting one fitting reads back words bundle order ordered is within outcome outcome_is = (
-  λ same. outcome_vouched (λ params b answer made zero. checks_vouched fitting reads params b made zero) words bundle order ordered is outcome_is (ap (λ (o : Outcome). o.status) same),
-  λ v. outcome_accepted one fitting back words bundle order ordered is within v outcome_is,
+pub accepts_fitting : OneTree → NothingWrongFits → ReadsItsText → TextIsRead → (wanted : Option Order) (bundle : List ℕ) → AcceptsWhatFits wanted bundle
+accepts_fitting one fitting reads back wanted bundle order ordered is within outcome outcome_is = (
+  λ same. outcome_vouched (λ params b answer made zero. checks_vouched fitting reads params b made zero) wanted bundle order ordered is outcome_is (ap (λ (o : Outcome). o.status) same),
+  λ v. outcome_accepted one fitting back wanted bundle order ordered is within v outcome_is,
 )

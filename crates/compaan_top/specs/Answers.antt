@@ -2,7 +2,6 @@
 use Rattle.std.specs.Prelude.{◌≡◌, ◌⊎◌, ◌≤◌, ◌+◌, ℕ, List, [], length, Option, Some, None}
 use Rattle.std.specs.Io.KnownBytes.{Appends, Consumes, IsAtEnd, Keeps}
 use Rattle.io_edge.specs.Causes.{Rose, AppendsFront}
-use Rattle.command_line.specs.Words.{order_of}
 use Rattle.command_line.specs.declared.words.Order.{Order}
 use Rattle.compaan_top.specs.Outcome.{Outcome, IsOutcome, bundle_limit}
 
@@ -50,13 +49,14 @@ pub record WritesFront (outcome : Outcome) (output complaint : Change) : Type 0 
   pub complained : AppendsFront complaint.old complaint.new outcome.complaint
   pub cause : HasFault output ⊎ HasFault complaint
 
--- How a call with these words may end, and its status: it wrote nothing, for want of memory or since the source had a
--- fault, or it wrote the outcome of the words and the bundle, or a sink had a fault while it did.
-pub data Ends (words : List (List ℕ)) (input output complaint : Change) : ℕ → Type 0 where
-  no_memory : IsQuiet input → WritesNothing output complaint → Ends words input output complaint 10
-  read_fault : (order : Order) → order_of words ≡ Some order → HasFault input → WritesNothing output complaint
-      → Ends words input output complaint 3
-  written : (bundle : List ℕ) (outcome : Outcome) → IsQuiet input → Reads (order_of words) input bundle → IsOutcome words bundle outcome
-      → WritesAll outcome output complaint → Ends words input output complaint outcome.status
-  cut_short : (bundle : List ℕ) (outcome : Outcome) → IsQuiet input → Reads (order_of words) input bundle → IsOutcome words bundle outcome
-      → WritesFront outcome output complaint → Ends words input output complaint 4
+-- How a call may end, and its status, where this order is wanted, or None where the words are refused: it wrote nothing, for
+-- want of memory or since the source had a fault, or it wrote the outcome of the order and the bundle, or a sink had a fault
+-- while it did.
+pub data Ends (wanted : Option Order) (input output complaint : Change) : ℕ → Type 0 where
+  no_memory : IsQuiet input → WritesNothing output complaint → Ends wanted input output complaint 10
+  read_fault : (order : Order) → wanted ≡ Some order → HasFault input → WritesNothing output complaint
+      → Ends wanted input output complaint 3
+  written : (bundle : List ℕ) (outcome : Outcome) → IsQuiet input → Reads wanted input bundle → IsOutcome wanted bundle outcome
+      → WritesAll outcome output complaint → Ends wanted input output complaint outcome.status
+  cut_short : (bundle : List ℕ) (outcome : Outcome) → IsQuiet input → Reads wanted input bundle → IsOutcome wanted bundle outcome
+      → WritesFront outcome output complaint → Ends wanted input output complaint 4

@@ -1,8 +1,7 @@
 -- What the program vouches for where `check` accepts.
-use Rattle.std.specs.Prelude.{◌≡◌, ◌≤◌, ◌↔◌, ℕ, ℤ, List, [], length, codes, Some, Ok}
+use Rattle.std.specs.Prelude.{◌≡◌, ◌≤◌, ◌↔◌, ℕ, ℤ, List, [], length, codes, Option, Some, Ok}
 use Rattle.cert_text.specs.CertText.{AreInRange, cert_text}
 use Rattle.command_line.specs.Bundle.{certificate_part, source_part}
-use Rattle.command_line.specs.Words.{order_of}
 use Rattle.command_line.specs.declared.words.Command.TheVariants.{Check}
 use Rattle.command_line.specs.declared.words.Order.{Order}
 use Rattle.loop_walk.specs.Counting.{counted}
@@ -38,8 +37,8 @@ pub record HasSoundCertificate (params : List (List ℕ × ℤ)) (bundle : List 
 abbrev pub accepted : Outcome
 accepted = record { status = 0; output = codes "accepted\n"; complaint = [] }
 
--- Words that order `check` come to `accepted` exactly where the bundle has a fitting certificate.
-abbrev pub AcceptsWhatFits : List (List ℕ) → List ℕ → Type 0
-AcceptsWhatFits words bundle =
-    (order : Order) → order_of words ≡ Some order → order.command ≡ Check → length bundle ≤ bundle_limit
-    → (outcome : Outcome) → IsOutcome words bundle outcome → (outcome ≡ accepted) ↔ HasFittingCertificate order.params bundle
+-- An order to `check` comes to `accepted` exactly where the bundle has a fitting certificate.
+abbrev pub AcceptsWhatFits : Option Order → List ℕ → Type 0
+AcceptsWhatFits wanted bundle =
+    (order : Order) → wanted ≡ Some order → order.command ≡ Check → length bundle ≤ bundle_limit
+    → (outcome : Outcome) → IsOutcome wanted bundle outcome → (outcome ≡ accepted) ↔ HasFittingCertificate order.params bundle

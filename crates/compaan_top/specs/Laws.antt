@@ -1,8 +1,7 @@
 -- What follows of the definitions alone.
-use Rattle.std.specs.Prelude.{◌≡◌, ◌⊎◌, ◌==◌, ◌≤◌, ℕ, true, List, [], ◌∷◌, length, Some, Ok}
+use Rattle.std.specs.Prelude.{◌≡◌, ◌⊎◌, ◌==◌, ◌≤◌, ℕ, true, List, [], ◌∷◌, length, Option, Some, Ok}
 use Rattle.std.specs.List.{list_any}
 use Rattle.command_line.specs.Bundle.{certificate_part, data_part, source_part}
-use Rattle.command_line.specs.Words.{order_of}
 use Rattle.command_line.specs.declared.words.Command.{Command}
 use Rattle.command_line.specs.declared.words.Command.TheVariants.{Run, Seq, Net, Cert, Check}
 use Rattle.command_line.specs.declared.words.Order.{Order}
@@ -13,16 +12,16 @@ use Rattle.compaan_top.specs.Outcome.{Outcome, IsOutcome, bundle_limit}
 use Rattle.compaan_top.specs.Run.{IsInputs}
 use Rattle.compaan_top.specs.Source.{Gives}
 
--- the words and the bundle determine the status
-abbrev pub DetermineStatus : List (List ℕ) → List ℕ → Type 0
-DetermineStatus words bundle = (a b : Outcome) → IsOutcome words bundle a → IsOutcome words bundle b → a.status ≡ b.status
+-- the order and the bundle determine the status
+abbrev pub DetermineStatus : Option Order → List ℕ → Type 0
+DetermineStatus wanted bundle = (a b : Outcome) → IsOutcome wanted bundle a → IsOutcome wanted bundle b → a.status ≡ b.status
 
 -- the statuses of outcomes: a failed read, a failed write and want of memory have others
 abbrev pub outcome_statuses : List ℕ
 outcome_statuses = 0 ∷ 1 ∷ 2 ∷ 5 ∷ 6 ∷ 7 ∷ 8 ∷ 9 ∷ []
 
-abbrev pub HaveOwnStatuses : List (List ℕ) → List ℕ → Type 0
-HaveOwnStatuses words bundle = (outcome : Outcome) → IsOutcome words bundle outcome → list_any (λ status. status == outcome.status) outcome_statuses ≡ true
+abbrev pub HaveOwnStatuses : Option Order → List ℕ → Type 0
+HaveOwnStatuses wanted bundle = (outcome : Outcome) → IsOutcome wanted bundle outcome → list_any (λ status. status == outcome.status) outcome_statuses ≡ true
 
 -- the bundle has what the command reads besides the source: a data part that gives these inputs, or a certificate part
 abbrev pub HasParts : Command → Nest → List ℕ → Inputs → Type 0
@@ -32,13 +31,13 @@ HasParts Net nest bundle inputs = Unit {0}
 HasParts Cert nest bundle inputs = Unit {0}
 HasParts Check nest bundle inputs = (part : List ℕ) × (certificate_part bundle ≡ Some part)
 
--- words and a bundle at which nothing is refused
-pub record IsValid (words : List (List ℕ)) (bundle : List ℕ) : Type 0 where
+-- an order and a bundle at which nothing is refused
+pub record IsValid (wanted : Option Order) (bundle : List ℕ) : Type 0 where
   pub order : Order
   pub nest : Nest
   pub total : ℕ
   pub inputs : Inputs
-  pub ordered : order_of words ≡ Some order
+  pub ordered : wanted ≡ Some order
   pub within : length bundle ≤ bundle_limit
   pub gives : Gives (source_part bundle) order.params (Ok nest)
   pub counts : counted nest ≡ Ok total
@@ -52,6 +51,6 @@ IsDone Net status = status ≡ 0
 IsDone Cert status = status ≡ 0
 IsDone Check status = (status ≡ 0) ⊎ (status ≡ 1)
 
--- at these words and this bundle the command is done
-abbrev pub Succeeds : List (List ℕ) → List ℕ → Type 0
-Succeeds words bundle = (valid : IsValid words bundle) (outcome : Outcome) → IsOutcome words bundle outcome → IsDone valid.order.command outcome.status
+-- with this order and this bundle the command is done
+abbrev pub Succeeds : Option Order → List ℕ → Type 0
+Succeeds wanted bundle = (valid : IsValid wanted bundle) (outcome : Outcome) → IsOutcome wanted bundle outcome → IsDone valid.order.command outcome.status

@@ -1,4 +1,5 @@
 pub mod Answers
+pub mod Certified
 pub mod Judging
 pub mod Laws
 pub mod Checking

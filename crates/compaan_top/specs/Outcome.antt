@@ -1,6 +1,6 @@
--- What the program answers to its words and its bundle: one case for each cause, in the order in which they decide.
-use Rattle.std.specs.Prelude.{◌≡◌, ◌≤◌, ◌<◌, ℕ, ℤ, List, [], length, Some, None, Result, Ok, Err}
-use Rattle.command_line.specs.Words.{order_of}
+-- What the program answers to its words and its bundle: one case for each cause, in the order in which they decide. Of the
+-- words it takes the order that they give, or None where they are refused.
+use Rattle.std.specs.Prelude.{◌≡◌, ◌≤◌, ◌<◌, ℕ, ℤ, List, [], length, Option, Some, None, Result, Ok, Err}
 use Rattle.command_line.specs.declared.words.Command.{Command}
 use Rattle.command_line.specs.declared.words.Command.TheVariants.{Run, Seq, Net, Cert, Check}
 use Rattle.command_line.specs.declared.words.Order.{Order}
@@ -36,8 +36,8 @@ Performs Cert policy = Prints (certificate_text policy)
 Performs Check policy = Checks
 
 -- The words are refused, the bundle is too long, or the command is performed.
-pub data IsOutcome (words : List (List ℕ)) (bundle : List ℕ) : Outcome → Type 0 where
-  words_refused : order_of words ≡ None → IsOutcome words bundle (outcome_of (Err usage))
-  bundle_refused : (order : Order) → order_of words ≡ Some order → bundle_limit < length bundle → IsOutcome words bundle (outcome_of (Err too_long))
-  performed : (order : Order) (answer : Result Reply Refusal) → order_of words ≡ Some order → length bundle ≤ bundle_limit
-      → Performs order.command order.policy order.params bundle answer → IsOutcome words bundle (outcome_of answer)
+pub data IsOutcome (wanted : Option Order) (bundle : List ℕ) : Outcome → Type 0 where
+  words_refused : wanted ≡ None → IsOutcome wanted bundle (outcome_of (Err usage))
+  bundle_refused : (order : Order) → wanted ≡ Some order → bundle_limit < length bundle → IsOutcome wanted bundle (outcome_of (Err too_long))
+  performed : (order : Order) (answer : Result Reply Refusal) → wanted ≡ Some order → length bundle ≤ bundle_limit
+      → Performs order.command order.policy order.params bundle answer → IsOutcome wanted bundle (outcome_of answer)

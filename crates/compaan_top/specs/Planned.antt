@@ -1,9 +1,10 @@
 -- What reading the words and the input and working on them comes to, before anything is written.
-use Rattle.std.specs.Prelude.{◌≡◌, ◌≤◌, ◌<◌, ℕ, List, length, Some, None, Result, Ok, Err}
+use Rattle.std.specs.Prelude.{◌≡◌, ◌≤◌, ◌<◌, ℕ, List, length, Option, Some, None, Result, Ok, Err}
 use Rattle.std.specs.Global.{Vec}
 use Rattle.array_data.specs.Answer.{answer_text}
 use Rattle.cert_text.specs.CertText.{cert_text}
-use Rattle.command_line.specs.Words.{order_of}
+use Rattle.command_line.specs.declared.words.Command.{Command}
+use Rattle.command_line.specs.declared.words.Command.TheVariants.{Run, Seq, Net, Cert, Check}
 use Rattle.command_line.specs.declared.words.Order.{Order}
 use Rattle.compaan_top.specs.Answers.{Change, IsQuiet, HasFault, ReadsTo, Reads}
 use Rattle.compaan_top.specs.Outcome.{IsOutcome, outcome_of, bundle_limit}
@@ -27,9 +28,17 @@ abbrev pub as_reply : Result Answer Refusal → Result Reply Refusal
 as_reply (Ok answer) = Ok (reply_of answer)
 as_reply (Err refusal) = Err refusal
 
-abbrev pub IsOrdered : List (List ℕ) → Result Order Refusal → Type 0
-IsOrdered words (Ok order) = order_of words ≡ Some order
-IsOrdered words (Err refusal) = (order_of words ≡ None) × (refusal ≡ usage)
+-- the commands that no thread is waited for in
+abbrev pub WaitsForNobody : Command → Type 0
+WaitsForNobody Run = ⊥
+WaitsForNobody Seq = Unit {0}
+WaitsForNobody Net = Unit {0}
+WaitsForNobody Cert = Unit {0}
+WaitsForNobody Check = Unit {0}
+
+abbrev pub IsOrdered : Option Order → Result Order Refusal → Type 0
+IsOrdered wanted (Ok order) = wanted ≡ Some order
+IsOrdered wanted (Err refusal) = (wanted ≡ None) × (refusal ≡ usage)
 
 abbrev pub ReadsBundle : Change → Result (Vec ℕ) Stop → Type 0
 ReadsBundle input (Ok bundle) = IsQuiet input × ReadsTo input bundle.items × (length bundle.items ≤ bundle_limit)
@@ -37,12 +46,12 @@ ReadsBundle input (Err (Refused refusal)) = IsQuiet input × (refusal ≡ too_lo
 ReadsBundle input (Err ReadFault) = HasFault input
 ReadsBundle input (Err Memory) = IsQuiet input
 
--- the input was read, and the answer is that of the words and of what was read
-abbrev pub ReadsAndJudges : List (List ℕ) → Change → Result Reply Refusal → Type 0
-ReadsAndJudges words input answer = (bundle : List ℕ) × Reads (order_of words) input bundle × IsOutcome words bundle (outcome_of answer)
+-- the input was read, and the answer is that of the order and of what was read
+abbrev pub ReadsAndJudges : Option Order → Change → Result Reply Refusal → Type 0
+ReadsAndJudges wanted input answer = (bundle : List ℕ) × Reads wanted input bundle × IsOutcome wanted bundle (outcome_of answer)
 
-abbrev pub IsPlanned : List (List ℕ) → Change → Result Answer Stop → Type 0
-IsPlanned words input (Ok answer) = IsQuiet input × ReadsAndJudges words input (Ok (reply_of answer))
-IsPlanned words input (Err (Refused refusal)) = IsQuiet input × ReadsAndJudges words input (Err refusal)
-IsPlanned words input (Err ReadFault) = (order : Order) × (order_of words ≡ Some order) × HasFault input
-IsPlanned words input (Err Memory) = IsQuiet input
+abbrev pub IsPlanned : Option Order → Change → Result Answer Stop → Type 0
+IsPlanned wanted input (Ok answer) = IsQuiet input × ReadsAndJudges wanted input (Ok (reply_of answer))
+IsPlanned wanted input (Err (Refused refusal)) = IsQuiet input × ReadsAndJudges wanted input (Err refusal)
+IsPlanned wanted input (Err ReadFault) = (order : Order) × (wanted ≡ Some order) × HasFault input
+IsPlanned wanted input (Err Memory) = IsQuiet input

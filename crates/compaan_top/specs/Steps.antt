@@ -12,8 +12,12 @@ use Rattle.loop_class.specs.Reasons.{least_from}
 use Rattle.loop_class.specs.declared.error.BindError.{BindError}
 use Rattle.loop_walk.specs.Counting.{SizeIsOk, counted}
 use Rattle.loop_walk.specs.declared.count.SizeError.{SizeError}
+use Rattle.command_line.specs.Bundle.{data_part, source_part}
+use Rattle.sanlp.specs.declared.nest.Inputs.{Inputs}
 use Rattle.sanlp.specs.declared.nest.Nest.{Nest}
 use Rattle.compaan_top.specs.Refusals.{byte_of, lex_refusal, syntax_refusal, bind_refusal, size_refusal}
+use Rattle.compaan_top.specs.Run.{IsInputs, Runs}
+use Rattle.compaan_top.specs.Source.{Gives}
 use Rattle.compaan_top.specs.declared.refusal.Refusal.{Refusal}
 
 abbrev pub HasTokens : List ℕ → Result (Vec Token) Refusal → Type 0
@@ -32,3 +36,10 @@ HasNest source found tree params (Err refusal) =
 abbrev pub HasSize : Nest → Result ℕ Refusal → Type 0
 HasSize nest (Ok total) = (counted nest ≡ Ok total) × SizeIsOk nest
 HasSize nest (Err refusal) = (error : SizeError) × (counted nest ≡ Err error) × (refusal ≡ size_refusal error)
+
+-- the nest and the inputs of a bundle, or why it has none
+abbrev pub IsPrepared : List (List ℕ × ℤ) → List ℕ → Result (Nest × Inputs) Refusal → Type 0
+IsPrepared params bundle (Ok made) =
+    Gives (source_part bundle) params (Ok made.0) × IsInputs made.0 (data_part bundle) (Ok made.1) × SizeIsOk made.0
+    × (total : ℕ) × (counted made.0 ≡ Ok total)
+IsPrepared params bundle (Err refusal) = Runs params bundle (Err refusal)

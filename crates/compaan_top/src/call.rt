@@ -1,4 +1,4 @@
-ghost use Rattle.std.specs.Prelude.{◌≡◌, ◌≤◌, ℕ, List, Some, length, map, string_bytes};
+ghost use Rattle.std.specs.Prelude.{◌≡◌, ◌≤◌, ℕ, List, Option, Some, length, map, string_bytes};
 ghost use Rattle.command_line.specs.Words.{order_of};
 ghost use Rattle.command_line.specs.declared.words.Command.TheVariants as command;
 ghost use Rattle.command_line.specs.declared.words.Order.{Order as WordOrder};
@@ -6,25 +6,27 @@ ghost use Rattle.compaan_top.specs.Answers.{Change, Ends, ReadsTo};
 ghost use Rattle.compaan_top.specs.Headline.{HasSoundCertificate};
 ghost use Rattle.compaan_top.specs.Judging.{Judges};
 ghost use Rattle.compaan_top.specs.Outcome.{Performs, bundle_limit};
-ghost use Rattle.compaan_top.specs.Planned.{as_reply, IsOrdered, IsPlanned, ReadsBundle};
+ghost use Rattle.compaan_top.specs.Planned.{as_reply, IsOrdered, IsPlanned, ReadsBundle, WaitsForNobody};
 
 use crate::answer::Answer;
 use crate::check::check_certificate;
 use crate::law::what_is_accepted_fits;
 use crate::printing::{print_certificate, print_network};
 use crate::refusal::{Stop, too_long, usage};
-use crate::run::{Engine, run};
+use crate::run::{run_by_interpreter, run_by_network};
 use crate::writing::{status_of, write_text};
 use command_line::{Command, Order, WordsError, read_words};
-use io_edge::{ReadError, Sink, Source, read_all, write_all};
+use io_edge::{Gate, ReadError, Sink, Source, read_all, write_all};
 use net_checker::is_sound;
 use std::alloc::Global;
+use std::sync::Wait;
+use std::thread::Threads;
 
 /// The most bytes that a bundle has.
 const BUNDLE_LIMIT: usize = 67_108_864;
 
 fn order_of(alloc: Global, words: &[String]) -> Result<Order, Stop>
-    ensures { Judges (IsOrdered (map string_bytes words.now)) result }
+    ensures { Judges (IsOrdered (order_of (map string_bytes words.now))) result }
 {
     match read_words(alloc, words) {
         Ok(order) => Ok(order),
@@ -44,46 +46,53 @@ fn bundle_of<S: Source>(alloc: Global, input: &mut S) -> Result<Vec<u8>, Stop>
     }
 }
 
+// What a command that waits for nobody comes to.
 fn perform(alloc: Global, order: &Order, bundle: &[u8]) -> Result<Answer, Stop>
-    requires { length bundle.now ≤ bundle_limit }
+    requires command { WaitsForNobody order.now.command }
+    requires bundle { length bundle.now ≤ bundle_limit }
     ensures { Judges (λ answer. Performs order.now.command order.now.policy order.now.params bundle.now (as_reply answer)) result }
 {
     match order.command {
-        Command::Run => {
-            let engine = Engine::Network(order.policy);
-            run(alloc, &order.params, bundle, engine)
-        }
-        Command::Seq => run(alloc, &order.params, bundle, Engine::Interpreter),
+        Command::Run => unreachable!(),
+        Command::Seq => run_by_interpreter(alloc, &order.params, bundle),
         Command::Net => print_network(alloc, order.policy, &order.params, bundle),
         Command::Cert => print_certificate(alloc, order.policy, &order.params, bundle),
         Command::Check => check_certificate(alloc, &order.params, bundle),
     }
 }
 
-/// Reads and works, and writes nothing.
-fn plan<S: Source>(alloc: Global, words: &[String], input: &mut S) -> Result<Answer, Stop>
-    ensures { IsPlanned (map string_bytes words.now) (record { old = S.left input.old; new = S.left input.new; faults_old = S.faults input.old; faults_new = S.faults input.new }) result }
+// Reads and works, and writes nothing.
+fn plan<S: Source>(alloc: Global, order: &Order, input: &mut S) -> Result<Answer, Stop>
+    requires { WaitsForNobody order.now.command }
+    ensures { IsPlanned (Some order.now) (record { old = S.left input.old; new = S.left input.new; faults_old = S.faults input.old; faults_new = S.faults input.new }) result }
 {
-    let order = order_of(alloc, words)?;
     let bundle = bundle_of(alloc, input)?;
-    perform(alloc, &order, &bundle)
+    perform(alloc, order, &bundle)
 }
 
-// Reads, works and writes.
-fn work<S: Source, K: Sink, E: Sink>(
+// Reads and runs the network, and writes nothing.
+fn plan_run<R: Threads + Wait + Sync, S: Source, G: Gate + Sync>(
+    rt: &R,
     alloc: Global,
-    words: &[String],
+    order: &Order,
     input: &mut S,
-    output: &mut K,
-    complaint: &mut E,
-) -> u8
-    ensures { Ends (map string_bytes words.now)
-        (record { old = S.left input.old; new = S.left input.new; faults_old = S.faults input.old; faults_new = S.faults input.new })
+    gate: &G,
+) -> Result<Answer, Stop>
+    requires { order.now.command ≡ command.Run }
+    ensures { IsPlanned (Some order.now) (record { old = S.left input.old; new = S.left input.new; faults_old = S.faults input.old; faults_new = S.faults input.new }) result }
+{
+    let bundle = bundle_of(alloc, input)?;
+    run_by_network(rt, alloc, order.policy, &order.params, &bundle, gate)
+}
+
+// Writes what was planned, and gives the status.
+fn finish<K: Sink, E: Sink>(planned: Result<Answer, Stop>, output: &mut K, complaint: &mut E) -> u8
+    ensures { (wanted : Option WordOrder) (input : Change) → IsPlanned wanted input planned → Ends wanted input
         (record { old = K.held output.old; new = K.held output.new; faults_old = K.faults output.old; faults_new = K.faults output.new })
         (record { old = E.held complaint.old; new = E.held complaint.new; faults_old = E.faults complaint.old; faults_new = E.faults complaint.new })
         result }
 {
-    match plan(alloc, words, input) {
+    match planned {
         Ok(answer) => match write_text(&answer, output) {
             Ok(()) => status_of(&answer),
             Err(_) => 4,
@@ -97,16 +106,68 @@ fn work<S: Source, K: Sink, E: Sink>(
     }
 }
 
+/// Every command but `run`, which waits for threads. Where `check` answers with status 0, the bundle's certificate part is
+/// the text of a network with a certificate that fit the source's nest, and the network is sound for it.
+pub fn quiet<S: Source, K: Sink, E: Sink>(
+    alloc: Global,
+    order: &Order,
+    input: &mut S,
+    output: &mut K,
+    complaint: &mut E,
+) -> u8
+    requires { WaitsForNobody order.now.command }
+    ensures ends { Ends (Some order.now)
+        (record { old = S.left input.old; new = S.left input.new; faults_old = S.faults input.old; faults_new = S.faults input.new })
+        (record { old = K.held output.old; new = K.held output.new; faults_old = K.faults output.old; faults_new = K.faults output.new })
+        (record { old = E.held complaint.old; new = E.held complaint.new; faults_old = E.faults complaint.old; faults_new = E.faults complaint.new })
+        result }
+    ensures accepts { order.now.command ≡ command.Check → result ≡ 0
+        → (bundle : List ℕ) × ReadsTo (record { old = S.left input.old; new = S.left input.new; faults_old = S.faults input.old; faults_new = S.faults input.new }) bundle × HasSoundCertificate order.now.params bundle }
+{
+    what_is_accepted_fits();
+    is_sound();
+    finish(plan(alloc, order, input), output, complaint)
+}
+
+// Carries an order out.
+fn carry_out<R: Threads + Wait + Sync, S: Source, K: Sink, E: Sink, G: Gate + Sync>(
+    rt: &R,
+    alloc: Global,
+    order: &Order,
+    input: &mut S,
+    output: &mut K,
+    complaint: &mut E,
+    gate: &G,
+) -> u8
+    ensures { Ends (Some order.now)
+        (record { old = S.left input.old; new = S.left input.new; faults_old = S.faults input.old; faults_new = S.faults input.new })
+        (record { old = K.held output.old; new = K.held output.new; faults_old = K.faults output.old; faults_new = K.faults output.new })
+        (record { old = E.held complaint.old; new = E.held complaint.new; faults_old = E.faults complaint.old; faults_new = E.faults complaint.new })
+        result }
+{
+    match order.command {
+        Command::Run => finish(plan_run(rt, alloc, order, input, gate), output, complaint),
+        Command::Seq | Command::Net | Command::Cert | Command::Check => {
+            quiet(alloc, order, input, output, complaint)
+        }
+    }
+}
+
 /// All that the program does. Where `check` answers with status 0, the bundle's certificate part is the text of a network
 /// with a certificate that fit the source's nest, and the network is sound for it.
-pub fn compaan<S: Source, K: Sink, E: Sink>(
+///
+/// `run` has one thread for each process, so this may wait. Each of its workers asks the gate before it works, and tells it
+/// each value that its process puts. `quiet`, which does every other command, returns.
+pub fn compaan<R: Threads + Wait + Sync, S: Source, K: Sink, E: Sink, G: Gate + Sync>(
+    rt: &R,
     alloc: Global,
     words: &[String],
     input: &mut S,
     output: &mut K,
     complaint: &mut E,
+    gate: &G,
 ) -> u8
-    ensures ends { Ends (map string_bytes words.now)
+    ensures ends { Ends (order_of (map string_bytes words.now))
         (record { old = S.left input.old; new = S.left input.new; faults_old = S.faults input.old; faults_new = S.faults input.new })
         (record { old = K.held output.old; new = K.held output.new; faults_old = K.faults output.old; faults_new = K.faults output.new })
         (record { old = E.held complaint.old; new = E.held complaint.new; faults_old = E.faults complaint.old; faults_new = E.faults complaint.new })
@@ -116,5 +177,8 @@ pub fn compaan<S: Source, K: Sink, E: Sink>(
 {
     what_is_accepted_fits();
     is_sound();
-    work(alloc, words, input, output, complaint)
+    match order_of(alloc, words) {
+        Ok(order) => carry_out(rt, alloc, &order, input, output, complaint, gate),
+        Err(stop) => finish(Err(stop), output, complaint),
+    }
 }

@@ -1,36 +1,62 @@
-//! What follows of the definitions alone, for all words and bundles.
+//! What follows of the definitions alone, for all orders and bundles.
 
-ghost use Rattle.std.specs.Prelude.{◌≡◌, ℕ, ℤ, List, Result};
+ghost use Rattle.std.specs.Prelude.{◌≡◌, ℕ, ℤ, List, Option, Result};
+ghost use Rattle.bundle_laws.specs.Certified.{certified};
+ghost use Rattle.command_line.specs.Bundle.{source_part};
+ghost use Rattle.command_line.specs.declared.words.Order.{Order};
+ghost use Rattle.compaan_top.specs.Certified.{Accepts, Certifies, HasCertificate};
 ghost use Rattle.compaan_top.specs.Checking.{Checks};
 ghost use Rattle.compaan_top.specs.Headline.{AcceptsWhatFits, HasFittingCertificate};
-ghost use Rattle.compaan_top.specs.Outcome.{outcome_of};
+ghost use Rattle.compaan_top.specs.Outcome.{Outcome, outcome_of};
 ghost use Rattle.compaan_top.specs.Replies.{Reply};
 ghost use Rattle.compaan_top.specs.declared.refusal.Refusal.{Refusal};
 ghost use Rattle.compaan_top.specs.Laws.{DetermineStatus, HaveOwnStatuses, Succeeds};
 
+use bundle_laws::{
+    certified_bundle_has_its_parts, line_end_changes_no_token, line_end_makes_no_separator,
+    source_part_has_no_separator,
+};
+use cert_ranges::{planned_network_fits, planned_network_is_in_range};
 use cert_text::reads_what_is_written;
 use loop_grammar::one_tree;
 use net_checker::accepts_what_fits;
 
-/// The status is determined by the words and the bundle: two outcomes of theirs have the same. It is none of those that
+/// The status is determined by the order, or that the words are refused, and the bundle: two outcomes of theirs have the same. It is none of those that
 /// a failed read, a failed write or want of memory has. Where nothing is refused it is 0; for `check` it is 0, or 1 where a
 /// refusal of the certificate is told.
 pub fn status_is_determined()
-    ensures determined { (words : List (List ℕ)) (bundle : List ℕ) → DetermineStatus words bundle }
-    ensures own { (words : List (List ℕ)) (bundle : List ℕ) → HaveOwnStatuses words bundle }
-    ensures success { (words : List (List ℕ)) (bundle : List ℕ) → Succeeds words bundle }
+    ensures determined { (wanted : Option Order) (bundle : List ℕ) → DetermineStatus wanted bundle }
+    ensures own { (wanted : Option Order) (bundle : List ℕ) → HaveOwnStatuses wanted bundle }
+    ensures success { (wanted : Option Order) (bundle : List ℕ) → Succeeds wanted bundle }
 {
     one_tree();
 }
 
-/// Words that order `check` come to `accepted` exactly where the certificate part is the text of a network and a certificate
+/// An order to `check` comes to `accepted` exactly where the certificate part is the text of a network and a certificate
 /// that fit the source's nest.
 pub fn what_fits_is_accepted()
-    ensures { (words : List (List ℕ)) (bundle : List ℕ) → AcceptsWhatFits words bundle }
+    ensures { (wanted : Option Order) (bundle : List ℕ) → AcceptsWhatFits wanted bundle }
 {
     one_tree();
     accepts_what_fits();
     reads_what_is_written();
+}
+
+/// Where `cert` comes to status 0, `check` with the same values of parameters comes to `accepted` on every bundle within the
+/// limit with that source and with what was written as its certificate; so on the source, two separators and what was written.
+pub fn what_cert_writes_is_accepted()
+    ensures parts { (cert check : Order) (bundle other : List ℕ) (written : Outcome) → check.params ≡ cert.params
+        → Certifies cert bundle written → HasCertificate bundle other written.output → Accepts check other }
+    ensures bytes { (cert check : Order) (bundle : List ℕ) (written : Outcome) → check.params ≡ cert.params
+        → Certifies cert bundle written → Accepts check (certified (source_part bundle) written.output) }
+{
+    what_fits_is_accepted();
+    planned_network_fits();
+    planned_network_is_in_range();
+    line_end_changes_no_token();
+    line_end_makes_no_separator();
+    source_part_has_no_separator();
+    certified_bundle_has_its_parts();
 }
 
 /// Where `check` comes to status 0, the bundle has a fitting certificate.

@@ -11,8 +11,8 @@ mod run;
 mod source;
 mod writing;
 
-pub use call::compaan;
-pub use law::{status_is_determined, what_fits_is_accepted};
+pub use call::{compaan, quiet};
+pub use law::{status_is_determined, what_cert_writes_is_accepted, what_fits_is_accepted};
 
 #[cfg(test)]
 mod tests;

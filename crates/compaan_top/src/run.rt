@@ -1,22 +1,24 @@
-ghost use Rattle.std.specs.Prelude.{◌≡◌, ◌≤◌, length, IfOk};
-ghost use Rattle.loop_walk.specs.Counting.{SizeIsOk};
+ghost use Rattle.std.specs.Prelude.{◌≡◌, ◌≤◌, length};
 ghost use Rattle.sanlp.specs.Meaning.{arrays};
 ghost use Rattle.compaan_top.specs.Judging.{Judges};
 ghost use Rattle.compaan_top.specs.Outcome.{bundle_limit};
 ghost use Rattle.compaan_top.specs.Planned.{as_reply};
 ghost use Rattle.compaan_top.specs.Run.{IsInputs, Runs};
-ghost use Rattle.compaan_top.specs.Steps.{HasSize};
+ghost use Rattle.compaan_top.specs.Steps.{HasSize, IsPrepared};
 
 use crate::answer::{Answer, ArrayAnswer};
 use crate::refusal::{Stop, data_refusal, size_refusal};
 use crate::source::nest_of;
 use array_data::read_inputs;
 use command_line::parts_of;
+use io_edge::Gate;
 use loop_class::Params;
 use loop_walk::{interpret, size};
-use net_run::network_arrays;
-use sanlp::{Arrays, Inputs, Nest};
-use std::alloc::{AllocError, Global};
+use nest_run::run_by_threads;
+use sanlp::{Inputs, Nest};
+use std::alloc::Global;
+use std::sync::Wait;
+use std::thread::Threads;
 use witness_plan::Policy;
 
 pub(crate) fn size_of(alloc: Global, nest: &Nest) -> Result<u64, Stop>
@@ -38,43 +40,48 @@ fn inputs_of(alloc: Global, nest: &Nest, bytes: &[u8]) -> Result<Inputs, Stop>
     }
 }
 
-/// What executes a nest.
-#[derive(Clone, Copy)]
-pub(crate) enum Engine {
-    Interpreter,
-    /// The machine of the nest's network, along its schedule under this policy.
-    Network(Policy),
-}
-
-fn arrays_by(
-    alloc: Global,
-    engine: Engine,
-    nest: &Nest,
-    inputs: &Inputs,
-) -> Result<Arrays, AllocError>
-    requires { SizeIsOk nest.now }
-    ensures { IfOk result (λ outputs. outputs.arrays ≡ arrays nest.now inputs.now) }
-{
-    match engine {
-        Engine::Interpreter => interpret(alloc, nest, inputs),
-        Engine::Network(policy) => network_arrays(alloc, nest, inputs, policy),
-    }
-}
-
-/// What the loops of a bundle's source compute.
-pub(crate) fn run(
-    alloc: Global,
-    params: &Params,
-    bundle: &[u8],
-    engine: Engine,
-) -> Result<Answer, Stop>
+/// The nest of a bundle's source, with its inputs.
+fn prepared(alloc: Global, params: &Params, bundle: &[u8]) -> Result<(Nest, Inputs), Stop>
     requires { length bundle.now ≤ bundle_limit }
-    ensures { Judges (λ answer. Runs params.now bundle.now (as_reply answer)) result }
+    ensures { Judges (IsPrepared params.now bundle.now) result }
 {
     let parts = parts_of(bundle);
     let nest = nest_of(alloc, parts.source, params)?;
     size_of(alloc, &nest)?;
     let inputs = inputs_of(alloc, &nest, parts.data)?;
-    let arrays = arrays_by(alloc, engine, &nest, &inputs)?;
+    Ok((nest, inputs))
+}
+
+/// What the loops of a bundle's source compute, by the interpreter.
+pub(crate) fn run_by_interpreter(
+    alloc: Global,
+    params: &Params,
+    bundle: &[u8],
+) -> Result<Answer, Stop>
+    requires { length bundle.now ≤ bundle_limit }
+    ensures { Judges (λ answer. Runs params.now bundle.now (as_reply answer)) result }
+{
+    let (nest, inputs) = prepared(alloc, params, bundle)?;
+    let arrays = interpret(alloc, &nest, &inputs)?;
     Ok(Answer::Arrays(ArrayAnswer { nest, arrays }))
+}
+
+/// What the loops of a bundle's source compute, by their network with one thread for each process.
+pub(crate) fn run_by_network<R: Threads + Wait + Sync, G: Gate + Sync>(
+    rt: &R,
+    alloc: Global,
+    policy: Policy,
+    params: &Params,
+    bundle: &[u8],
+    gate: &G,
+) -> Result<Answer, Stop>
+    requires { length bundle.now ≤ bundle_limit }
+    ensures { Judges (λ answer. Runs params.now bundle.now (as_reply answer)) result }
+{
+    let (nest, inputs) = prepared(alloc, params, bundle)?;
+    let run = run_by_threads(rt, alloc, &nest, &inputs, policy, gate)?;
+    Ok(Answer::Arrays(ArrayAnswer {
+        nest,
+        arrays: run.arrays,
+    }))
 }

@@ -3,14 +3,17 @@ mod kernels;
 mod networks;
 mod orders;
 mod sources;
+mod threads;
 
 use crate::compaan;
-use io_edge::{MemSink, MemSource};
+use io_edge::{MemSink, MemSource, Open};
 use kernels::KERNELS;
 use networks::{DOWNWARD, NETWORKS};
 use std::alloc::{AllocError, Global};
 use std::process::Abort;
+use std::sync::Wait;
 use std::test::Fail;
+use std::thread::Threads;
 
 const USAGE: &[u8] = b"usage: compaan COMMAND [--policy seq|down] [NAME=VALUE]...\n";
 
@@ -165,7 +168,7 @@ fn words_of(alloc: Global, command: &str, params: &[&str]) -> Result<Vec<String>
 }
 
 fn expect(
-    rt: &(impl Abort + AllocGlobal),
+    rt: &(impl Abort + AllocGlobal + Threads + Wait + Sync),
     devices: Devices,
     words: &[&str],
     bundle: &[u8],
@@ -179,7 +182,7 @@ fn expect(
 
 /// Calls the program and compares its status and what it wrote.
 fn expect_words(
-    rt: &(impl Abort + AllocGlobal),
+    rt: &(impl Abort + AllocGlobal + Threads + Wait + Sync),
     devices: Devices,
     words: &[String],
     bundle: &[u8],
@@ -191,7 +194,15 @@ fn expect_words(
     let mut input = MemSource::new(alloc, bundle, devices.piece.max(1), &[devices.failing])?;
     let mut written = MemSink::new(alloc, devices.output_room, 4_096, &[])?;
     let mut complained = MemSink::new(alloc, devices.complaint_room, 4_096, &[])?;
-    let found = compaan(alloc, words, &mut input, &mut written, &mut complained);
+    let found = compaan(
+        rt,
+        alloc,
+        words,
+        &mut input,
+        &mut written,
+        &mut complained,
+        &Open,
+    );
     assert_eq!(rt; found, status, "status of {words:?} at {bundle:?}");
     assert!(rt;
         written.held() == output,

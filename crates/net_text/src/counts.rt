@@ -79,7 +79,7 @@ fn count_between(least: u32, greatest: u32) -> u64
 }
 
 /// The number of events of all scripts together.
-pub(crate) fn event_count(network: &Network) -> u64
+pub fn event_count(network: &Network) -> u64
     requires { FitsNumbers (net_of network.now) }
     ensures { result ≡ count_of_events network.now }
 {

@@ -1,7 +1,9 @@
 use super::{SOUND, expect_words, words_of};
 use std::alloc::{AllocError, Global};
 use std::process::Abort;
+use std::sync::Wait;
 use std::test::Fail;
+use std::thread::Threads;
 
 const INCREMENT: &[u8] = b"param N; in x[N]; out y[N]; for (i = 0; i < N; i++) y[i] = x[i] + 1;";
 
@@ -112,7 +114,7 @@ fn changed(alloc: Global, changes: &[(usize, &[u8])]) -> Result<Vec<u8>, AllocEr
 
 /// Has a certificate checked, and compares the status and the line.
 fn checks(
-    rt: &(impl Abort + AllocGlobal),
+    rt: &(impl Abort + AllocGlobal + Threads + Wait + Sync),
     params: &[&str],
     source: &[u8],
     certificate: &[u8],

@@ -1,10 +1,7 @@
 use Rattle.compaan_top.proofs.call.perform.Goals as goal
 
-pub returns-in-Run : goal.returns-in-Run
-returns-in-Run c = rw c.in-Run.is c.run.ensures
-
 pub returns-in-Seq : goal.returns-in-Seq
-returns-in-Seq c = rw c.in-Seq.is c.run-in-Seq.ensures
+returns-in-Seq c = rw c.in-Seq.is c.run_by_interpreter.ensures
 
 pub returns-in-Net : goal.returns-in-Net
 returns-in-Net c = rw c.in-Net.is c.print_network.ensures

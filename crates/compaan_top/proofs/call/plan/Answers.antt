@@ -1,25 +1,17 @@
-use Rattle.std.proofs.Common.{ℕ, List, map, string_bytes}
+use Rattle.std.proofs.Common.{Some, refl}
 use Rattle.std.proofs.lemmas.Result.{err_from_is_err_and}
 use Rattle.compaan_top.specs.Answers.{Change}
-use Rattle.compaan_top.proofs.Endings.{planned_refusal_of_words, planned_refusal_of_bundle, planned_answer}
+use Rattle.compaan_top.proofs.Endings.{planned_refusal_of_bundle, planned_answer}
 use Rattle.compaan_top.proofs.call.plan.Goals as goal
-
-pub returns-in_err-order : goal.returns-in_err-order
-returns-in_err-order g c =
-    let words : List (List ℕ) = map string_bytes c.args.words.now in
-    let stop = err_from_is_err_and c.from_residual.result c.from_residual.ensures.1 in
-    rw (stop.1, stop.2) (planned_refusal_of_words words (g.S.Source.left c.args.input.now) (g.S.Source.faults c.args.input.now) _ c.in_err-order.ensures)
 
 pub returns-in_err-bundle : goal.returns-in_err-bundle
 returns-in_err-bundle g c =
-    let words : List (List ℕ) = map string_bytes c.args.words.now in
     let input : Change = record { old = g.S.Source.left c.args.input.now; new = g.S.Source.left c.bundle_of.new.input; faults_old = g.S.Source.faults c.args.input.now; faults_new = g.S.Source.faults c.bundle_of.new.input } in
-    let stop = err_from_is_err_and c.from_residual-in_err-bundle.result c.from_residual-in_err-bundle.ensures.1 in
-    rw (stop.1, stop.2) (planned_refusal_of_bundle words input c.in_ok-order.order _ c.in_ok-order.ensures c.in_err-bundle.ensures)
+    let stop = err_from_is_err_and c.from_residual.result c.from_residual.ensures.1 in
+    rw (stop.1, stop.2) (planned_refusal_of_bundle (Some c.args.order.now) input c.args.order.now _ refl c.in_err-bundle.ensures)
 
 pub returns : goal.returns
 returns g c =
-    let words : List (List ℕ) = map string_bytes c.args.words.now in
     let input : Change = record { old = g.S.Source.left c.args.input.now; new = g.S.Source.left c.bundle_of.new.input; faults_old = g.S.Source.faults c.args.input.now; faults_new = g.S.Source.faults c.bundle_of.new.input } in
     let read = c.in_ok-bundle.ensures in
-    planned_answer words input c.in_ok-order.order c.in_ok-bundle.bundle.items c.perform.result c.in_ok-order.ensures read.0 read.1 read.2 (rw c.deref.ensures.value at c.perform.ensures)
+    planned_answer (Some c.args.order.now) input c.args.order.now c.in_ok-bundle.bundle.items c.perform.result refl read.0 read.1 read.2 (rw c.deref.ensures.value at c.perform.ensures)

@@ -1,0 +1,5 @@
+mod Feeds
+mod LineEnds
+mod Parts
+mod Separators
+mod Worked

@@ -1,0 +1,91 @@
+-- The network that a nest is compiled to, with its certificate, fits the nest and can be read from its text.
+use Rattle.std.proofs.Common.{◌≡◌, ℕ, zero, suc, ◌+◌, ◌<◌, ◌≤◌, ◌^◌, max, Option, Some, None, List, [], ◌∷◌, length, map, take, slice_get, refl, ap, arith}
+use Rattle.std.specs.List.{fold}
+use Rattle.std.specs.Option.{option_map_or}
+use Rattle.std.proofs.lemmas.List.{length-replicate, length-take}
+use Rattle.std.proofs.lemmas.List.Sums.{count_by-le-length}
+use Rattle.cert_text.specs.CertText.{AreInRange}
+use Rattle.derived_names.proofs.Classes.{has_classes_of_uses}
+use Rattle.derived_names.proofs.Names.{names_last_writers}
+use Rattle.loop_walk.specs.Counting.{SizeIsOk}
+use Rattle.net_checker.specs.Fits.{Fits}
+use Rattle.net_checker.specs.Shapes.{read_total}
+use Rattle.net_core.proofs.Ready.{script_short}
+use Rattle.net_core.specs.Cuts.{Cut, cut_after}
+use Rattle.net_core.specs.declared.network.Channel.{Channel}
+use Rattle.net_core.specs.Machine.{Net, net_of}
+use Rattle.net_core.specs.Shape.{FitsNumbers, is_put}
+use Rattle.net_maker.proofs.Fitting.{fits_with}
+use Rattle.net_maker.proofs.Numbers.{numbers_stay}
+use Rattle.net_maker.specs.Certificates.{cert_of}
+use Rattle.process_derive.proofs.Numbers.{numbers_fit}
+use Rattle.process_derive.proofs.Shaped.{fits_nest}
+use Rattle.process_derive.specs.Derived.{net}
+use Rattle.sanlp.proofs.Each.{Each, each_map, each_of}
+use Rattle.sanlp.specs.Cells.{count_up}
+use Rattle.sanlp.specs.declared.nest.Nest.{Nest}
+use Rattle.source_tree.specs.declared.cert.Origin.TheVariants.{Sweep}
+use Rattle.witness_plan.proofs.OtherCapacities.{net_kept, wired_kept}
+use Rattle.witness_plan.proofs.Planned.{ends_all}
+use Rattle.witness_plan.proofs.Wired.{wired}
+use Rattle.witness_plan.specs.declared.schedules.Policy.{Policy}
+use Rattle.witness_plan.specs.Schedules.{planned_network, schedule}
+use Rattle.witness_plan.specs.Sequential.{capacities, channels_with, greatest_length, opening, queue_length}
+use Rattle.cert_ranges.proofs.Ranges.{in_range}
+
+pub planned_fits : (n : Nest) (policy : Policy) → Fits n (planned_network n policy) (cert_of n policy)
+planned_fits n policy =
+    fits_with n (net n) (capacities (net n) (schedule n policy)) (cert_of n policy) (fits_nest n) (names_last_writers n) (has_classes_of_uses n)
+    (net_kept (net n) (capacities (net n) (schedule n policy))) (wired_kept (net n) (capacities (net n) (schedule n policy)) (wired n))
+    (length-replicate (read_total n) Sweep) (ends_all n policy)
+
+-- Capacities
+
+greatest_within : (f : ℕ → ℕ) (limit first : ℕ) (ks : List ℕ) → ((k : ℕ) → f k ≤ limit) → first ≤ limit → fold max first (map f ks) ≤ limit
+greatest_within f limit first [] all le = le
+greatest_within f limit first (k ∷ ks) all le = greatest_within f limit (max first (f k)) ks all (omega (arith, all k))
+
+-- a queue is never longer than its writer's script
+queue_within : (m : Net) (cut : Cut) (c : ℕ) → queue_length m cut c ≤ length (m.script (m.writer c))
+queue_within m cut c =
+    omega (arith, count_by-le-length (is_put c) (take (cut (m.writer c)) (m.script (m.writer c))), length-take (cut (m.writer c)) (m.script (m.writer c)))
+
+capacity_within : (channels : List Channel) (rooms : List ℕ) (limit : ℕ) → Each (λ room. room ≤ limit) rooms
+    → (c : ℕ) (channel : Channel) → slice_get (channels_with channels rooms) c ≡ Some channel → channel.capacity ≤ limit
+capacity_within [] rooms limit each c channel there = cc
+capacity_within (x ∷ channels) [] limit each zero channel there =
+    let same : (let changed : Channel = record x { capacity = 0 } in changed) ≡ channel = cc in
+    omega (arith, ap (λ (y : Channel). y.capacity) same)
+capacity_within (x ∷ channels) [] limit each (suc c) channel there = capacity_within channels [] limit each c channel there
+capacity_within (x ∷ channels) (room ∷ rooms) limit each zero channel there =
+    let same : (let changed : Channel = record x { capacity = room } in changed) ≡ channel = cc in
+    omega (arith, ap (λ (y : Channel). y.capacity) same, each.0)
+capacity_within (x ∷ channels) (room ∷ rooms) limit each (suc c) channel there = capacity_within channels rooms limit each.1 c channel there
+
+capacity_at : (channels : List Channel) (c limit : ℕ) (o : Option Channel) → slice_get channels c ≡ o → ((channel : Channel) → slice_get channels c ≡ Some channel → channel.capacity ≤ limit)
+    → option_map_or (λ (channel : Channel). channel.capacity) o 0 ≤ limit
+capacity_at channels c limit None is all = omega arith
+capacity_at channels c limit (Some channel) is all = all channel is
+
+planned_small : (n : Nest) (policy : Policy) → SizeIsOk n → (c : ℕ) → (net_of (planned_network n policy)).capacity c < 2 ^ 32
+planned_small n policy sized c =
+    let m : Net = net_of (net n) in
+    let run : List ℕ = schedule n policy in
+    let one : (d : ℕ) → greatest_length m run d ≤ 4294967295 = λ d.
+    greatest_within (λ k. queue_length m (cut_after opening (take k run)) d) 4294967295 0 (count_up 0 (length run + 1))
+    (λ k. omega (arith, queue_within m (cut_after opening (take k run)) d, script_short m (wired n) (numbers_fit n sized) (m.writer d))) (omega arith) in
+    let all : Each (λ room. room ≤ 4294967295) (capacities (net n) run) =
+    each_map (λ room. room ≤ 4294967295) (greatest_length m run) (count_up 0 (length (net n).channels)) (each_of (λ d. greatest_length m run d ≤ 4294967295) (count_up 0 (length (net n).channels)) one) in
+    omega (
+      arith,
+      capacity_at (planned_network n policy).channels c 4294967295 (slice_get (planned_network n policy).channels c) refl
+          (capacity_within (net n).channels (capacities (net n) run) 4294967295 all c),
+    )
+
+planned_few : (n : Nest) (policy : Policy) → SizeIsOk n → FitsNumbers (net_of (planned_network n policy))
+planned_few n policy sized =
+    numbers_stay (net_of (net n)) (net_of (planned_network n policy)) (net_of (planned_network n policy)).capacity (net_kept (net n) (capacities (net n) (schedule n policy))) (numbers_fit n sized)
+
+pub planned_in_range : (n : Nest) (policy : Policy) → SizeIsOk n → AreInRange (planned_network n policy) (cert_of n policy)
+planned_in_range n policy sized =
+    in_range n (planned_network n policy) (cert_of n policy) (planned_fits n policy) (planned_few n policy sized) (planned_small n policy sized)

@@ -1,0 +1,8 @@
+pub mod Counts
+pub mod Pieces
+pub mod Sentence
+pub mod Derivation
+pub mod Bound
+pub mod Unrefused
+pub mod Lengths
+pub mod Worked

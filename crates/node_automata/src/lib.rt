@@ -1,0 +1,9 @@
+//! The automaton of each process of a network: its script, its points and its statement's expression.
+#![tactic(auto)]
+
+mod copy;
+mod node;
+#[cfg(test)]
+mod tests;
+
+pub use node::{NodeAuto, automaton};

@@ -37,12 +37,7 @@ fn data_in(own: bool) -> &'static [u8]
     if own { b"_in" } else { b"_data" }
 }
 
-fn write_part<K: Sink>(
-    part: Part,
-    own: bool,
-    channel: u32,
-    sink: &mut K,
-) -> Result<(), WriteFault>
+fn write_part<K: Sink>(part: Part, own: bool, channel: u32, sink: &mut K) -> Result<(), WriteFault>
     ensures ok { OnOk result (Appends (K.held sink.old) (K.held sink.new) (part_text part own channel)) }
     ensures quiet { OnOk result (K.faults sink.new ≡ K.faults sink.old) }
     ensures front { OnErr result (AppendsFront (K.held sink.old) (K.held sink.new) (part_text part own channel)) }

@@ -170,15 +170,27 @@ fn write_head<K: Sink>(column: Column, count: u64, sink: &mut K) -> Result<(), W
     let range_end = Piece::Text(b") := (");
     match column {
         Column::Op => {
-            let pieces = [Piece::Text(b"  constant op : codes(0 to "), count, range_end];
+            let pieces = [
+                Piece::Text(b"  constant op : codes(0 to "),
+                count,
+                range_end,
+            ];
             write_pieces(&pieces, sink)
         }
         Column::Arg => {
-            let pieces = [Piece::Text(b"  constant arg : codes(0 to "), count, range_end];
+            let pieces = [
+                Piece::Text(b"  constant arg : codes(0 to "),
+                count,
+                range_end,
+            ];
             write_pieces(&pieces, sink)
         }
         Column::Dst => {
-            let pieces = [Piece::Text(b"  constant dst : codes(0 to "), count, range_end];
+            let pieces = [
+                Piece::Text(b"  constant dst : codes(0 to "),
+                count,
+                range_end,
+            ];
             write_pieces(&pieces, sink)
         }
         Column::Read(read) => {
@@ -292,11 +304,7 @@ fn write_point_entries<K: Sink>(
     Ok(())
 }
 
-fn write_variable_head<K: Sink>(
-    number: u32,
-    count: u64,
-    sink: &mut K,
-) -> Result<(), WriteFault>
+fn write_variable_head<K: Sink>(number: u32, count: u64, sink: &mut K) -> Result<(), WriteFault>
     ensures ok { OnOk result (Appends (K.held sink.old) (K.held sink.new) (head_text (codes "v" ++ decimal number) (codes "words") count)) }
     ensures quiet { OnOk result (K.faults sink.new ≡ K.faults sink.old) }
     ensures front { OnErr result (AppendsFront (K.held sink.old) (K.held sink.new) (head_text (codes "v" ++ decimal number) (codes "words") count)) }
@@ -313,11 +321,7 @@ fn write_variable_head<K: Sink>(
 }
 
 /// Writes the constant of a loop variable.
-fn write_variable<K: Sink>(
-    number: u32,
-    auto: &NodeAuto,
-    sink: &mut K,
-) -> Result<(), WriteFault>
+fn write_variable<K: Sink>(number: u32, auto: &NodeAuto, sink: &mut K) -> Result<(), WriteFault>
     ensures ok { OnOk result (Appends (K.held sink.old) (K.held sink.new) (variable_constant number auto.now)) }
     ensures quiet { OnOk result (K.faults sink.new ≡ K.faults sink.old) }
     ensures front { OnErr result (AppendsFront (K.held sink.old) (K.held sink.new) (variable_constant number auto.now)) }

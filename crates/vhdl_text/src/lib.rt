@@ -7,6 +7,8 @@ mod error;
 mod expression;
 mod node;
 mod piece;
+#[cfg(test)]
+mod tests;
 mod text;
 
 pub use error::VhdlError;

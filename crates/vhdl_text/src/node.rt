@@ -181,11 +181,7 @@ fn write_fire<K: Sink>(auto: &NodeAuto, sink: &mut K) -> Result<(), WriteFault>
     write_all(sink, b";\n")
 }
 
-fn write_section<K: Sink>(
-    section: Section,
-    auto: &NodeAuto,
-    sink: &mut K,
-) -> Result<(), WriteFault>
+fn write_section<K: Sink>(section: Section, auto: &NodeAuto, sink: &mut K) -> Result<(), WriteFault>
     ensures ok { OnOk result (Appends (K.held sink.old) (K.held sink.new) (section_text auto.now section)) }
     ensures quiet { OnOk result (K.faults sink.new ≡ K.faults sink.old) }
     ensures front { OnErr result (AppendsFront (K.held sink.old) (K.held sink.new) (section_text auto.now section)) }

@@ -17,7 +17,7 @@ use node_automata::NodeAuto;
 const MOST_EVENTS: usize = 65_536;
 
 /// The first automaton whose script is too long for a node.
-fn too_long(autos: &[NodeAuto]) -> Option<&NodeAuto>
+pub(crate) fn too_long(autos: &[NodeAuto]) -> Option<&NodeAuto>
     ensures { option_copied result ≡ first_too_long autos.now }
 {
     for auto in autos {
@@ -28,11 +28,7 @@ fn too_long(autos: &[NodeAuto]) -> Option<&NodeAuto>
     None
 }
 
-fn write_channel<K: Sink>(
-    number: usize,
-    channel: &Channel,
-    sink: &mut K,
-) -> Result<(), WriteFault>
+fn write_channel<K: Sink>(number: usize, channel: &Channel, sink: &mut K) -> Result<(), WriteFault>
     ensures ok { OnOk result (Appends (K.held sink.old) (K.held sink.new) (channel_line (number, channel.now))) }
     ensures quiet { OnOk result (K.faults sink.new ≡ K.faults sink.old) }
     ensures front { OnErr result (AppendsFront (K.held sink.old) (K.held sink.new) (channel_line (number, channel.now))) }
@@ -100,17 +96,12 @@ pub fn write_vhdl<K: Sink>(
     autos: &[NodeAuto],
     sink: &mut K,
 ) -> Result<(), VhdlError>
-    ensures {
-        MatchOption (first_too_long autos.now)
-            (IsWritten result (K.held sink.old) (K.held sink.new) (K.faults sink.old) (K.faults sink.new) (vhdl_text network.now autos.now))
-            (λ auto. IsRefused result (K.held sink.old) (K.held sink.new) (K.faults sink.old) (K.faults sink.new) auto)
-    }
+    ensures { MatchOption (first_too_long autos.now)
+        (IsWritten result (K.held sink.old) (K.held sink.new) (K.faults sink.old) (K.faults sink.new) (vhdl_text network.now autos.now))
+        (λ auto. IsRefused result (K.held sink.old) (K.held sink.new) (K.faults sink.old) (K.faults sink.new) auto) }
 {
     if let Some(auto) = too_long(autos) {
-        return Err(VhdlError::ScriptTooLong(
-            auto.process,
-            auto.events.len() as u64,
-        ));
+        return Err(VhdlError::ScriptTooLong(auto.process, auto.events.len() as u64));
     }
     match write_text(network, autos, sink) {
         Ok(()) => Ok(()),

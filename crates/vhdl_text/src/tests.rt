@@ -1,0 +1,410 @@
+use crate::error::VhdlError;
+use crate::expression::write_expr;
+use crate::node::write_node;
+use crate::text::{too_long, write_vhdl};
+use affine_core::Vector;
+use channel_class::{ChannelClass, UseOrder};
+use io_edge::{MemSink, WriteFault, write_all};
+use net_core::{Channel, Event, Network, Ref, Refs};
+use node_automata::NodeAuto;
+use plain_data::{Boxed, Items};
+use sanlp::Role;
+use std::alloc::{AllocError, Global};
+use std::test::Fail;
+use wrap_expr::Expr;
+
+const ASSIGN: &[u8] = br#"library ieee;
+use ieee.std_logic_1164.all;
+use ieee.numeric_std.all;
+entity node_1 is
+  port (
+    clk : in std_logic;
+    rst : in std_logic;
+    c0_valid : in std_logic;
+    c0_data : in signed(63 downto 0);
+    c0_take : out std_logic;
+    c1_ready : in std_logic;
+    c1_data : out signed(63 downto 0);
+    c1_give : out std_logic;
+    done : out std_logic
+  );
+end entity;
+architecture rtl of node_1 is
+  type codes is array (natural range <>) of integer;
+  type words is array (natural range <>) of signed(63 downto 0);
+  constant zero : signed(63 downto 0) := x"0000000000000000";
+  constant op : codes(0 to 3) := (0 => 1, 1 => 2, 2 => 3, 3 => 0);
+  constant arg : codes(0 to 3) := (0 => 0, 1 => 0, 2 => 1, 3 => 0);
+  constant dst : codes(0 to 3) := (0 => 0, 1 => 0, 2 => 0, 3 => 0);
+  constant r0 : codes(0 to 1) := (0 => 0, 1 => -1);
+  constant v0 : words(0 to 1) := (0 => x"0000000000000000", 1 => x"0000000000000000");
+  signal pc : integer range 0 to 3 := 0;
+  signal slot : words(0 to 1);
+  signal fired : signed(63 downto 0);
+  function pick(b : words; r : integer) return signed is
+  begin
+    if r < 0 then
+      return zero;
+    else
+      return b(r);
+    end if;
+  end function;
+  function mul(a, b : signed(63 downto 0)) return signed is
+    variable p : signed(127 downto 0);
+  begin
+    p := a * b;
+    return p(63 downto 0);
+  end function;
+  function least(a, b : signed(63 downto 0)) return signed is
+  begin
+    if a < b then
+      return a;
+    else
+      return b;
+    end if;
+  end function;
+  function most(a, b : signed(63 downto 0)) return signed is
+  begin
+    if a < b then
+      return b;
+    else
+      return a;
+    end if;
+  end function;
+begin
+  c0_take <= '1' when op(pc) = 1 and arg(pc) = 0 else '0';
+  c1_data <= fired;
+  c1_give <= '1' when op(pc) = 3 and arg(pc) = 1 else '0';
+  done <= '1' when op(pc) = 0 else '0';
+  process (clk)
+  begin
+    if rising_edge(clk) then
+      if rst = '1' then
+        pc <= 0;
+      else
+        case op(pc) is
+          when 1 =>
+            if arg(pc) = 0 and c0_valid = '1' then
+              slot(dst(pc)) <= c0_data;
+              pc <= pc + 1;
+            end if;
+          when 2 =>
+            fired <= (pick(slot, r0(arg(pc))) + signed'(x"0000000000000001"));
+            pc <= pc + 1;
+          when 3 =>
+            if arg(pc) = 1 and c1_ready = '1' then
+              pc <= pc + 1;
+            end if;
+          when others =>
+            null;
+        end case;
+      end if;
+    end if;
+  end process;
+end architecture;
+"#;
+
+fn get(channel: u32, slot: u32) -> Event {
+    Event::Get { channel, slot }
+}
+
+fn fire(references: &[Ref]) -> Event {
+    let mut refs = Refs::empty();
+    for reference in references {
+        if refs.len() < 8 {
+            refs.push(*reference);
+        }
+    }
+    Event::Fire { refs }
+}
+
+fn put(channel: u32) -> Event {
+    Event::Put { channel }
+}
+
+fn vector(alloc: Global, values: &[i64]) -> Vector {
+    let mut vector = Vector::empty(alloc);
+    for value in values {
+        if vector.len() < 6 {
+            vector.push(*value);
+        }
+    }
+    vector
+}
+
+/// The process that is given the one value of an array.
+fn source(alloc: Global) -> Result<NodeAuto, AllocError> {
+    let mut values = Items::new(alloc);
+    values.push(vector(alloc, &[0]))?;
+    Ok(NodeAuto {
+        process: 0,
+        role: Role::Source(0),
+        depth: 1,
+        reads: 0,
+        gets: Items::new(alloc),
+        puts: Items::from_slice(alloc, &[0])?,
+        slots: 0,
+        events: Items::from_slice(alloc, &[fire(&[]), put(0)])?,
+        values,
+        expr: Expr::Given,
+    })
+}
+
+/// The process that adds 1.
+fn assign(alloc: Global) -> Result<NodeAuto, AllocError> {
+    let mut values = Items::new(alloc);
+    values.push(vector(alloc, &[0]))?;
+    let one = Boxed::new(alloc, Expr::Const(1))?;
+    Ok(NodeAuto {
+        process: 1,
+        role: Role::Assign,
+        depth: 1,
+        reads: 1,
+        gets: Items::from_slice(alloc, &[0])?,
+        puts: Items::from_slice(alloc, &[1])?,
+        slots: 1,
+        events: Items::from_slice(alloc, &[get(0, 0), fire(&[Ref::Slot(0)]), put(1)])?,
+        values,
+        expr: Expr::Add(Boxed::new(alloc, Expr::Read(0))?, one),
+    })
+}
+
+/// The process that prints the sum.
+fn sink(alloc: Global) -> Result<NodeAuto, AllocError> {
+    let mut values = Items::new(alloc);
+    values.push(vector(alloc, &[0]))?;
+    Ok(NodeAuto {
+        process: 2,
+        role: Role::Sink(1),
+        depth: 1,
+        reads: 1,
+        gets: Items::from_slice(alloc, &[1])?,
+        puts: Items::new(alloc),
+        slots: 1,
+        events: Items::from_slice(alloc, &[get(1, 0), fire(&[Ref::Slot(0)])])?,
+        values,
+        expr: Expr::Read(0),
+    })
+}
+
+/// A process of two loops with a channel to itself.
+fn own_channel(alloc: Global) -> Result<NodeAuto, AllocError> {
+    let mut values = Items::new(alloc);
+    values.push(vector(alloc, &[-1, 5]))?;
+    values.push(vector(alloc, &[i64::MAX, -2]))?;
+    let events = [
+        get(2, 0),
+        fire(&[Ref::Slot(0), Ref::Zero]),
+        put(4),
+        put(10),
+        get(4, 2),
+        fire(&[Ref::Slot(0), Ref::Slot(2)]),
+        put(10),
+    ];
+    let product = Expr::Mul(
+        Boxed::new(alloc, Expr::Var(0))?,
+        Boxed::new(alloc, Expr::Read(1))?,
+    );
+    let difference = Expr::Sub(
+        Boxed::new(alloc, Expr::Read(0))?,
+        Boxed::new(alloc, Expr::Const(i64::MIN))?,
+    );
+    let least = Expr::Min(Boxed::new(alloc, product)?, Boxed::new(alloc, difference)?);
+    let negation = Expr::Neg(Boxed::new(alloc, Expr::Var(1))?);
+    Ok(NodeAuto {
+        process: 7,
+        role: Role::Assign,
+        depth: 2,
+        reads: 2,
+        gets: Items::from_slice(alloc, &[2, 4])?,
+        puts: Items::from_slice(alloc, &[4, 10])?,
+        slots: 3,
+        events: Items::from_slice(alloc, &events)?,
+        values,
+        expr: Expr::Max(Boxed::new(alloc, least)?, Boxed::new(alloc, negation)?),
+    })
+}
+
+#[test]
+fn a_node_is_an_entity_with_its_architecture(rt: HostRuntime) -> Result<(), Fail> {
+    let mut text = MemSink::new(rt.alloc(), 10_000, 10_000, &[])?;
+    assert_eq!(rt; write_node(&assign(rt.alloc())?, &mut text), Ok(()));
+    let mut want = MemSink::new(rt.alloc(), 10_000, 10_000, &[])?;
+    assert_eq!(rt; write_all(&mut want, b"\n"), Ok(()));
+    assert_eq!(rt; write_all(&mut want, ASSIGN), Ok(()));
+    assert_eq!(rt; text.held(), want.held());
+    Ok(())
+}
+
+/// Whether a part stands somewhere in a text.
+fn has(text: &[u8], part: &str) -> bool {
+    match str::from_utf8(text) {
+        Ok(text) => text.contains(part),
+        Err(_) => false,
+    }
+}
+
+#[test]
+fn a_source_is_given_its_values(rt: HostRuntime) -> Result<(), Fail> {
+    let mut text = MemSink::new(rt.alloc(), 10_000, 10_000, &[])?;
+    assert_eq!(rt; write_node(&source(rt.alloc())?, &mut text), Ok(()));
+    for part in [
+        "\nentity node_0 is\n  port (\n    clk : in std_logic;\n    rst : in std_logic;\n    given : in signed(63 downto 0);\n    given_take : out std_logic;\n    c0_ready : in std_logic;\n",
+        "  constant dst : codes(0 to 2) := (0 => 0, 1 => 0, 2 => 0);\n  constant v0 : words(0 to 1) := (",
+        "  signal slot : words(0 to 0);\n",
+        "begin\n  given_take <= '1' when op(pc) = 2 else '0';\n  c0_data <= fired;\n",
+        "          when 1 =>\n            null;\n          when 2 =>\n            fired <= given;\n            pc <= pc + 1;\n",
+    ] {
+        assert!(rt; has(text.held(), part), "{part}");
+    }
+    Ok(())
+}
+
+#[test]
+fn a_sink_gives_its_result_out(rt: HostRuntime) -> Result<(), Fail> {
+    let mut text = MemSink::new(rt.alloc(), 10_000, 10_000, &[])?;
+    assert_eq!(rt; write_node(&sink(rt.alloc())?, &mut text), Ok(()));
+    for part in [
+        "\nentity node_2 is\n  port (\n    clk : in std_logic;\n    rst : in std_logic;\n    result : out signed(63 downto 0);\n    result_give : out std_logic;\n    c1_valid : in std_logic;\n",
+        "  signal fired : signed(63 downto 0);\n  signal gave : std_logic := '0';\n  function pick(",
+        "begin\n  result <= fired;\n  result_give <= gave;\n  c1_take <= ",
+        "    if rising_edge(clk) then\n      gave <= '0';\n      if rst = '1' then\n",
+        "            fired <= pick(slot, r0(arg(pc)));\n            gave <= '1';\n            pc <= pc + 1;\n          when 3 =>\n            null;\n          when others =>\n",
+    ] {
+        assert!(rt; has(text.held(), part), "{part}");
+    }
+    Ok(())
+}
+
+#[test]
+fn a_channel_to_itself_has_another_name_where_it_comes_in(rt: HostRuntime) -> Result<(), Fail> {
+    let mut text = MemSink::new(rt.alloc(), 10_000, 10_000, &[])?;
+    assert_eq!(rt; write_node(&own_channel(rt.alloc())?, &mut text), Ok(()));
+    for part in [
+        "    c2_data : in signed(63 downto 0);\n    c2_take : out std_logic;\n    c4_valid : in std_logic;\n    c4_in : in signed(63 downto 0);\n    c4_take : out std_logic;\n    c4_ready : in std_logic;\n    c4_data : out signed(63 downto 0);\n    c4_give : out std_logic;\n    c10_ready : in",
+        "  constant arg : codes(0 to 7) := (0 => 2, 1 => 0, 2 => 4, 3 => 10, 4 => 4, 5 => 1, 6 => 10, 7 => 0);\n  constant dst : codes(0 to 7) := (0 => 0, 1 => 0, 2 => 0, 3 => 0, 4 => 2, ",
+        "  constant r0 : codes(0 to 2) := (0 => 0, 1 => 0, 2 => -1);\n  constant r1 : codes(0 to 2) := (0 => -1, 1 => 2, 2 => -1);\n",
+        "  constant v1 : words(0 to 2) := (0 => x\"0000000000000005\", 1 => x\"fffffffffffffffe\", 2 => x\"0000000000000000\");\n  signal pc : integer range 0 to 7 := 0;\n",
+        "              slot(dst(pc)) <= c2_data;\n              pc <= pc + 1;\n            end if;\n            if arg(pc) = 4 and c4_valid = '1' then\n              slot(dst(pc)) <= c4_in;\n",
+        "fired <= most(least(mul(v0(arg(pc)), pick(slot, r1(arg(pc)))), (pick(slot, r0(arg(pc))) - signed'(x\"8000000000000000\"))), (zero - v1(arg(pc))));\n",
+    ] {
+        assert!(rt; has(text.held(), part), "{part}");
+    }
+    Ok(())
+}
+
+fn channel(writer: u32, reader: u32, capacity: u32) -> Channel {
+    Channel {
+        writer,
+        reader,
+        read: 0,
+        capacity,
+        class: ChannelClass {
+            order: UseOrder::InOrder,
+            multiplicity: false,
+        },
+    }
+}
+
+fn network(alloc: Global) -> Result<Network, AllocError> {
+    let mut channels = Items::new(alloc);
+    channels.push(channel(0, 1, 1))?;
+    channels.push(channel(1, 2, 17))?;
+    Ok(Network {
+        processes: Items::new(alloc),
+        channels,
+    })
+}
+
+#[test]
+fn the_text_has_the_channels_and_then_the_nodes(rt: HostRuntime) -> Result<(), Fail> {
+    let alloc = rt.alloc();
+    let mut autos = Items::new(alloc);
+    autos.push(source(alloc)?)?;
+    autos.push(sink(alloc)?)?;
+    let mut text = MemSink::new(alloc, 10_000, 7, &[])?;
+    let answer = write_vhdl(&network(alloc)?, autos.as_slice(), &mut text);
+    assert_eq!(rt; answer, Ok(()));
+    for part in [
+        "-- compaan vhdl 1\n-- channel 0 node_0 node_1 capacity 1\n-- channel 1 node_1 node_2 capacity 17\n\nlibrary ieee;\n",
+        "end architecture;\n\nlibrary ieee;\nuse ieee.std_logic_1164.all;\nuse ieee.numeric_std.all;\nentity node_2 is\n",
+    ] {
+        assert!(rt; has(text.held(), part), "{part}");
+    }
+    Ok(())
+}
+
+/// A process that only fires.
+fn firing(alloc: Global, process: u32, fires: u32) -> Result<NodeAuto, AllocError> {
+    let mut events = Items::new(alloc);
+    for _ in 0..fires {
+        events.push(fire(&[]))?;
+    }
+    Ok(NodeAuto {
+        process,
+        role: Role::Assign,
+        depth: 0,
+        reads: 0,
+        gets: Items::new(alloc),
+        puts: Items::new(alloc),
+        slots: 0,
+        events,
+        values: Items::new(alloc),
+        expr: Expr::Const(0),
+    })
+}
+
+#[test]
+fn the_first_script_that_is_too_long_is_told(rt: HostRuntime) -> Result<(), Fail> {
+    let alloc = rt.alloc();
+    let network = network(alloc)?;
+    let mut autos = Items::new(alloc);
+    autos.push(firing(alloc, 0, 65_536)?)?;
+    assert!(rt; too_long(autos.as_slice()).is_none());
+    autos.push(firing(alloc, 1, 65_537)?)?;
+    autos.push(firing(alloc, 2, 65_538)?)?;
+    let mut text = MemSink::new(alloc, 100, 100, &[])?;
+    let answer = write_vhdl(&network, autos.as_slice(), &mut text);
+    assert_eq!(rt; answer, Err(VhdlError::ScriptTooLong(1, 65_537)));
+    assert_eq!(rt; text.held(), b"".as_slice());
+    Ok(())
+}
+
+#[test]
+fn a_sink_that_fails_midway_holds_a_front(rt: HostRuntime) -> Result<(), Fail> {
+    let alloc = rt.alloc();
+    // The room, the call that fails, and what is held then.
+    for (room, failing, held) in [
+        (0, 99, b"".as_slice()),
+        (12, 99, b"-- compaan v".as_slice()),
+        (500, 0, b"".as_slice()),
+        (500, 1, b"-- compaan vhdl 1\n".as_slice()),
+        (500, 3, b"-- compaan vhdl 1\n-- channel 0".as_slice()),
+    ] {
+        let mut text = MemSink::new(alloc, room, 100, &[failing])?;
+        let answer = write_vhdl(&network(alloc)?, &[], &mut text);
+        assert_eq!(rt; answer, Err(VhdlError::WriteFault));
+        assert_eq!(rt; text.held(), held, "{room} {failing}");
+    }
+    Ok(())
+}
+
+// -(1 - (-(1 - ..))), so many levels deep.
+fn nested(alloc: Global, pairs: u32) -> Result<Expr, AllocError> {
+    let mut expr = Expr::Var(0);
+    for _ in 0..pairs {
+        let one = Boxed::new(alloc, Expr::Const(1))?;
+        expr = Expr::Neg(Boxed::new(alloc, Expr::Sub(one, Boxed::new(alloc, expr)?))?);
+    }
+    Ok(expr)
+}
+
+// As many levels as a source has tokens, each pair with 42 bytes. (`rt try` bears fewer.)
+#[test]
+fn an_expression_of_8192_levels_is_written(rt: HostRuntime) -> Result<(), Fail> {
+    let expr = nested(rt.alloc(), 4096)?;
+    let mut text = MemSink::new(rt.alloc(), 200_000, 200_000, &[])?;
+    assert_eq!(rt; write_expr(&expr, &mut text), Ok(()));
+    assert_eq!(rt; text.held().len(), 42 * 4096 + 11);
+    Ok(())
+}

@@ -180,66 +180,109 @@ fn vector(alloc: Global, values: &[i64]) -> Vector {
     vector
 }
 
-/// The process that is given the one value of an array.
-fn source(alloc: Global) -> Result<NodeAuto, AllocError> {
-    let mut values = Items::new(alloc);
-    values.push(vector(alloc, &[0]))?;
+/// Points with these loop values.
+fn points(alloc: Global, values: &[&[i64]]) -> Result<Items<Vector>, AllocError> {
+    let mut points = Items::new(alloc);
+    for at in values {
+        points.push(vector(alloc, at))?;
+    }
+    Ok(points)
+}
+
+/// Two operands in their boxes.
+fn pair(alloc: Global, left: Expr, right: Expr) -> Result<(Boxed<Expr>, Boxed<Expr>), AllocError> {
+    let left = Boxed::new(alloc, left)?;
+    let right = Boxed::new(alloc, right)?;
+    Ok((left, right))
+}
+
+/// The numbers of a process: its own, its depth, its reads and its slots.
+type Numbers = [u32; 4];
+
+/// An automaton without channels, points and expression.
+fn scripted(
+    alloc: Global,
+    numbers: Numbers,
+    role: Role,
+    events: &[Event],
+) -> Result<NodeAuto, AllocError> {
+    let [process, depth, reads, slots] = numbers;
+    let events = Items::from_slice(alloc, events)?;
     Ok(NodeAuto {
-        process: 0,
-        role: Role::Source(0),
-        depth: 1,
-        reads: 0,
+        process,
+        role,
+        depth,
+        reads,
         gets: Items::new(alloc),
-        puts: Items::from_slice(alloc, &[0])?,
-        slots: 0,
-        events: Items::from_slice(alloc, &[fire(&[]), put(0)])?,
-        values,
+        puts: Items::new(alloc),
+        slots,
+        events,
+        values: Items::new(alloc),
         expr: Expr::Given,
     })
 }
 
+/// The process that is given the one value of an array.
+fn source(alloc: Global) -> Result<NodeAuto, AllocError> {
+    let mut auto = scripted(alloc, [0, 1, 0, 0], Role::Source(0), &[fire(&[]), put(0)])?;
+    auto.puts = Items::from_slice(alloc, &[0])?;
+    auto.values = points(alloc, &[&[0]])?;
+    Ok(auto)
+}
+
+/// The value read and 1.
+fn one_more(alloc: Global) -> Result<Expr, AllocError> {
+    let (read, one) = pair(alloc, Expr::Read(0), Expr::Const(1))?;
+    Ok(Expr::Add(read, one))
+}
+
 /// The process that adds 1.
 fn assign(alloc: Global) -> Result<NodeAuto, AllocError> {
-    let mut values = Items::new(alloc);
-    values.push(vector(alloc, &[0]))?;
-    let one = Boxed::new(alloc, Expr::Const(1))?;
-    Ok(NodeAuto {
-        process: 1,
-        role: Role::Assign,
-        depth: 1,
-        reads: 1,
-        gets: Items::from_slice(alloc, &[0])?,
-        puts: Items::from_slice(alloc, &[1])?,
-        slots: 1,
-        events: Items::from_slice(alloc, &[get(0, 0), fire(&[Ref::Slot(0)]), put(1)])?,
-        values,
-        expr: Expr::Add(Boxed::new(alloc, Expr::Read(0))?, one),
-    })
+    let events = [get(0, 0), fire(&[Ref::Slot(0)]), put(1)];
+    let mut auto = scripted(alloc, [1, 1, 1, 1], Role::Assign, &events)?;
+    auto.gets = Items::from_slice(alloc, &[0])?;
+    auto.puts = Items::from_slice(alloc, &[1])?;
+    auto.values = points(alloc, &[&[0]])?;
+    auto.expr = one_more(alloc)?;
+    Ok(auto)
 }
 
 /// The process that prints the sum.
 fn sink(alloc: Global) -> Result<NodeAuto, AllocError> {
-    let mut values = Items::new(alloc);
-    values.push(vector(alloc, &[0]))?;
-    Ok(NodeAuto {
-        process: 2,
-        role: Role::Sink(1),
-        depth: 1,
-        reads: 1,
-        gets: Items::from_slice(alloc, &[1])?,
-        puts: Items::new(alloc),
-        slots: 1,
-        events: Items::from_slice(alloc, &[get(1, 0), fire(&[Ref::Slot(0)])])?,
-        values,
-        expr: Expr::Read(0),
-    })
+    let events = [get(1, 0), fire(&[Ref::Slot(0)])];
+    let mut auto = scripted(alloc, [2, 1, 1, 1], Role::Sink(1), &events)?;
+    auto.gets = Items::from_slice(alloc, &[1])?;
+    auto.values = points(alloc, &[&[0]])?;
+    auto.expr = Expr::Read(0);
+    Ok(auto)
+}
+
+fn product(alloc: Global) -> Result<Expr, AllocError> {
+    let (left, right) = pair(alloc, Expr::Var(0), Expr::Read(1))?;
+    Ok(Expr::Mul(left, right))
+}
+
+fn difference(alloc: Global) -> Result<Expr, AllocError> {
+    let (left, right) = pair(alloc, Expr::Read(0), Expr::Const(i64::MIN))?;
+    Ok(Expr::Sub(left, right))
+}
+
+fn least(alloc: Global) -> Result<Expr, AllocError> {
+    let product = product(alloc)?;
+    let difference = difference(alloc)?;
+    let (left, right) = pair(alloc, product, difference)?;
+    Ok(Expr::Min(left, right))
+}
+
+fn greatest(alloc: Global) -> Result<Expr, AllocError> {
+    let least = least(alloc)?;
+    let negation = Expr::Neg(Boxed::new(alloc, Expr::Var(1))?);
+    let (left, right) = pair(alloc, least, negation)?;
+    Ok(Expr::Max(left, right))
 }
 
 /// A process of two loops with a channel to itself.
 fn own_channel(alloc: Global) -> Result<NodeAuto, AllocError> {
-    let mut values = Items::new(alloc);
-    values.push(vector(alloc, &[-1, 5]))?;
-    values.push(vector(alloc, &[i64::MAX, -2]))?;
     let events = [
         get(2, 0),
         fire(&[Ref::Slot(0), Ref::Zero]),
@@ -249,28 +292,12 @@ fn own_channel(alloc: Global) -> Result<NodeAuto, AllocError> {
         fire(&[Ref::Slot(0), Ref::Slot(2)]),
         put(10),
     ];
-    let product = Expr::Mul(
-        Boxed::new(alloc, Expr::Var(0))?,
-        Boxed::new(alloc, Expr::Read(1))?,
-    );
-    let difference = Expr::Sub(
-        Boxed::new(alloc, Expr::Read(0))?,
-        Boxed::new(alloc, Expr::Const(i64::MIN))?,
-    );
-    let least = Expr::Min(Boxed::new(alloc, product)?, Boxed::new(alloc, difference)?);
-    let negation = Expr::Neg(Boxed::new(alloc, Expr::Var(1))?);
-    Ok(NodeAuto {
-        process: 7,
-        role: Role::Assign,
-        depth: 2,
-        reads: 2,
-        gets: Items::from_slice(alloc, &[2, 4])?,
-        puts: Items::from_slice(alloc, &[4, 10])?,
-        slots: 3,
-        events: Items::from_slice(alloc, &events)?,
-        values,
-        expr: Expr::Max(Boxed::new(alloc, least)?, Boxed::new(alloc, negation)?),
-    })
+    let mut auto = scripted(alloc, [7, 2, 2, 3], Role::Assign, &events)?;
+    auto.gets = Items::from_slice(alloc, &[2, 4])?;
+    auto.puts = Items::from_slice(alloc, &[4, 10])?;
+    auto.values = points(alloc, &[&[-1, 5], &[i64::MAX, -2]])?;
+    auto.expr = greatest(alloc)?;
+    Ok(auto)
 }
 
 #[test]
@@ -397,18 +424,9 @@ fn firing(alloc: Global, process: u32, fires: u32) -> Result<NodeAuto, AllocErro
     for _ in 0..fires {
         events.push(fire(&[]))?;
     }
-    Ok(NodeAuto {
-        process,
-        role: Role::Assign,
-        depth: 0,
-        reads: 0,
-        gets: Items::new(alloc),
-        puts: Items::new(alloc),
-        slots: 0,
-        events,
-        values: Items::new(alloc),
-        expr: Expr::Const(0),
-    })
+    let mut auto = scripted(alloc, [process, 0, 0, 0], Role::Assign, &[])?;
+    auto.events = events;
+    Ok(auto)
 }
 
 #[test]

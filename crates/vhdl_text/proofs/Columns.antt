@@ -1,16 +1,15 @@
 -- The entries of a column, event by event, and how many there are.
-use Rattle.std.proofs.Common.{◌≡◌, ℕ, zero, suc, ◌+◌, ◌≤◌, ◌<◌, Option, Some, List, [], ◌∷◌, ◌++◌, codes, count_by, decimal, drop, length, map, slice_get, append_assoc, append-nil, refl, sym, ap, ◌∙◌, arith, add-one}
+use Rattle.std.proofs.Common.{◌≡◌, ℕ, zero, suc, ◌+◌, ◌≤◌, Some, List, [], ◌∷◌, ◌++◌, codes, count_by, decimal, drop, length, map, slice_get, append_assoc, append-nil, refl, sym, ap, ◌∙◌, arith, add-one}
 use Rattle.std.specs.List.{concat, enumerate_from, flat_map, join_by}
 use Rattle.std.proofs.lemmas.List.{length-map}
-use Rattle.net_core.specs.declared.refs.Ref.{Ref}
 use Rattle.net_core.specs.declared.network.Event.{Event}
 use Rattle.net_core.specs.declared.network.Event.TheVariants.{Get, Fire, Put}
 use Rattle.net_core.specs.Shape.{is_fire}
 use Rattle.net_core.proofs.Counting.{count_cons}
 use Rattle.vhdl_text.specs.declared.constants.Column.{Column}
 use Rattle.vhdl_text.specs.declared.constants.Column.TheVariants.{Op, Arg, Dst, Read}
-use Rattle.vhdl_text.specs.Constants.{aggregate, args_from, column_values, constant_text, dst_of, entry, fires_of, op_of, slot_text}
-use Rattle.vhdl_text.specs.Pieces.{arg_of, entries_from, entry_comma, event_entries, event_entry, fires_after, head_text, tail_text}
+use Rattle.vhdl_text.specs.Constants.{args_from, column_values, constant_text, dst_of, entry, fires_of, op_of, slot_text}
+use Rattle.vhdl_text.specs.Pieces.{entries_from, entry_comma, event_entries, event_entry, fires_after, head_text, tail_text}
 
 -- Numbers of values
 

@@ -1,11 +1,11 @@
 -- A text that is written piece by piece.
-use Rattle.std.proofs.Common.{◌≡◌, ℕ, zero, suc, ◌+◌, ◌<◌, ◌≤◌, length, add-one, Option, Result, OnErr, Some, List, [], ◌∷◌, ◌++◌, map, take, drop, slice_get, append_assoc, append-nil, refl, sym, ap, subst, ◌∙◌, arith}
+use Rattle.std.proofs.Common.{◌≡◌, ℕ, zero, suc, ◌+◌, ◌<◌, ◌≤◌, length, add-one, Option, Some, List, [], ◌∷◌, ◌++◌, map, take, drop, slice_get, append_assoc, append-nil, refl, sym, ap, subst, ◌∙◌, arith}
 use Rattle.std.specs.List.{flat_map, enumerate_from, range_with_len}
 use Rattle.std.specs.Io.KnownBytes.{Appends}
 use Rattle.std.proofs.KnownBytes.{Appends-nil, Appends-trans}
 use Rattle.std.proofs.lemmas.List.{take_all}
 use Rattle.io_edge.specs.Causes.{AppendsFront}
-use Rattle.io_edge.proofs.Fronts.{front_after, on_err}
+use Rattle.io_edge.proofs.Fronts.{front_after}
 
 -- a front of the first piece came
 pub first_front : (old new : Option (List ℕ)) (piece rest : List ℕ) → AppendsFront old new piece → AppendsFront old new (piece ++ rest)

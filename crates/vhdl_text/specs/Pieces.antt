@@ -12,7 +12,7 @@ use Rattle.vhdl_text.specs.declared.node.Section.TheVariants as section
 use Rattle.vhdl_text.specs.declared.piece.Piece.{Piece}
 use Rattle.vhdl_text.specs.declared.piece.Piece.TheVariants.{Text, Number, Literal}
 use Rattle.vhdl_text.specs.Channels.{branch_text, parts_text}
-use Rattle.vhdl_text.specs.Constants.{dst_of, entry, event_constant, op_of, read_constants, slot_text, variable_constants}
+use Rattle.vhdl_text.specs.Constants.{dst_of, event_constant, op_of, read_constants, slot_text, variable_constants}
 use Rattle.vhdl_text.specs.Expressions.{expr_text}
 use Rattle.vhdl_text.specs.Literals.{literal}
 use Rattle.vhdl_text.specs.VhdlText.{architecture_head, case_head, done_line, entity_end, entity_head, fired_line, gave_high, gave_low, least_text, most_text, mul_text, pick_text, process_end, process_head, role_lines, role_ports, role_signal, signals}

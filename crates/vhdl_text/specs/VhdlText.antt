@@ -1,5 +1,5 @@
 -- The VHDL text of a network: its channels, and an entity for each process.
-use Rattle.std.specs.Prelude.{ℕ, List, [], ◌∷◌, ◌++◌, codes, decimal, length, map}
+use Rattle.std.specs.Prelude.{ℕ, List, [], ◌∷◌, ◌++◌, codes, decimal, length}
 use Rattle.std.specs.List.{concat, enumerate_from, flat_map}
 use Rattle.sanlp.specs.declared.nest.Role.{Role}
 use Rattle.sanlp.specs.declared.nest.Role.TheVariants as role

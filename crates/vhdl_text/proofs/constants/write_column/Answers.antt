@@ -1,7 +1,7 @@
-use Rattle.std.proofs.Common.{◌≡◌, ◌++◌, codes, length}
+use Rattle.std.proofs.Common.{◌++◌, codes, length}
 use Rattle.std.proofs.lemmas.Result.{on_ok_weaker, on_err_weaker}
 use Rattle.io_edge.proofs.Fronts.{on_err}
-use Rattle.vhdl_text.specs.Constants.{column_values, event_constant, last_of, name_of}
+use Rattle.vhdl_text.specs.Constants.{column_values, last_of, name_of}
 use Rattle.vhdl_text.specs.Pieces.{entries_from, head_text, tail_text}
 use Rattle.vhdl_text.proofs.Pieces.{begun, begun_front, next_came, front_came, last_came, last_front_came}
 use Rattle.vhdl_text.proofs.Columns.{column_entries, constant_pieces}

@@ -2,7 +2,7 @@ use Rattle.std.proofs.Common.{◌≡◌, ◌++◌, ◌∙◌, pos, codes, decima
 use Rattle.std.proofs.lemmas.List.{length-map}
 use Rattle.std.proofs.lemmas.Result.{on_ok_weaker, on_err_weaker}
 use Rattle.io_edge.proofs.Fronts.{on_err}
-use Rattle.vhdl_text.specs.Constants.{variable_constant, variable_values}
+use Rattle.vhdl_text.specs.Constants.{variable_values}
 use Rattle.vhdl_text.specs.Literals.{literal}
 use Rattle.vhdl_text.specs.Pieces.{entries_from, head_text, tail_text}
 use Rattle.vhdl_text.proofs.Pieces.{begun, begun_front, next_came, front_came, last_came, last_front_came}

@@ -1,0 +1,7 @@
+pub mod Literals
+pub mod Expressions
+pub mod Constants
+pub mod Channels
+pub mod VhdlText
+pub mod Pieces
+pub mod Refusal

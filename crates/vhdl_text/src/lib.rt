@@ -1,0 +1,15 @@
+//! The VHDL text of a network.
+#![tactic(auto)]
+
+mod channels;
+mod constants;
+mod error;
+mod expression;
+mod node;
+mod piece;
+#[cfg(test)]
+mod tests;
+mod text;
+
+pub use error::VhdlError;
+pub use text::write_vhdl;

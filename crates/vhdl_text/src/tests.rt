@@ -1,0 +1,485 @@
+use crate::error::VhdlError;
+use crate::expression::write_expr;
+use crate::node::write_node;
+use crate::text::{too_long, write_vhdl};
+use affine_core::Vector;
+use channel_class::{ChannelClass, UseOrder};
+use io_edge::{MemSink, WriteFault, write_all};
+use net_core::{Channel, Event, Network, Ref, Refs};
+use node_automata::NodeAuto;
+use plain_data::{Boxed, Items};
+use sanlp::Role;
+use std::alloc::{AllocError, Global};
+use std::test::Fail;
+use wrap_expr::Expr;
+
+fn write_lines(want: &mut MemSink, lines: &[&[u8]]) -> Result<(), WriteFault> {
+    for line in lines {
+        write_all(want, line)?;
+        write_all(want, b"\n")?;
+    }
+    Ok(())
+}
+
+/// The entity of the process that adds 1.
+fn entity(want: &mut MemSink) -> Result<(), WriteFault> {
+    let lines = [
+        b"library ieee;".as_slice(),
+        b"use ieee.std_logic_1164.all;".as_slice(),
+        b"use ieee.numeric_std.all;".as_slice(),
+        b"entity node_1 is".as_slice(),
+        b"  port (".as_slice(),
+        b"    clk : in std_logic;".as_slice(),
+        b"    rst : in std_logic;".as_slice(),
+        b"    c0_valid : in std_logic;".as_slice(),
+        b"    c0_data : in signed(63 downto 0);".as_slice(),
+        b"    c0_take : out std_logic;".as_slice(),
+        b"    c1_ready : in std_logic;".as_slice(),
+        b"    c1_data : out signed(63 downto 0);".as_slice(),
+        b"    c1_give : out std_logic;".as_slice(),
+        b"    done : out std_logic".as_slice(),
+        b"  );".as_slice(),
+        b"end entity;".as_slice(),
+    ];
+    write_lines(want, &lines)
+}
+
+/// Its constants and signals.
+fn declarations(want: &mut MemSink) -> Result<(), WriteFault> {
+    let lines = [
+        b"architecture rtl of node_1 is".as_slice(),
+        b"  type codes is array (natural range <>) of integer;".as_slice(),
+        b"  type words is array (natural range <>) of signed(63 downto 0);".as_slice(),
+        b"  constant zero : signed(63 downto 0) := x\"0000000000000000\";".as_slice(),
+        b"  constant op : codes(0 to 3) := (0 => 1, 1 => 2, 2 => 3, 3 => 0);".as_slice(),
+        b"  constant arg : codes(0 to 3) := (0 => 0, 1 => 0, 2 => 1, 3 => 0);".as_slice(),
+        b"  constant dst : codes(0 to 3) := (0 => 0, 1 => 0, 2 => 0, 3 => 0);".as_slice(),
+        b"  constant r0 : codes(0 to 1) := (0 => 0, 1 => -1);".as_slice(),
+        b"  constant v0 : words(0 to 1) := (0 => x\"0000000000000000\", 1 => x\"0000000000000000\");".as_slice(),
+        b"  signal pc : integer range 0 to 3 := 0;".as_slice(),
+        b"  signal slot : words(0 to 1);".as_slice(),
+        b"  signal fired : signed(63 downto 0);".as_slice(),
+    ];
+    write_lines(want, &lines)
+}
+
+/// Two of its functions.
+fn pick_and_mul(want: &mut MemSink) -> Result<(), WriteFault> {
+    let lines = [
+        b"  function pick(b : words; r : integer) return signed is".as_slice(),
+        b"  begin".as_slice(),
+        b"    if r < 0 then".as_slice(),
+        b"      return zero;".as_slice(),
+        b"    else".as_slice(),
+        b"      return b(r);".as_slice(),
+        b"    end if;".as_slice(),
+        b"  end function;".as_slice(),
+        b"  function mul(a, b : signed(63 downto 0)) return signed is".as_slice(),
+        b"    variable p : signed(127 downto 0);".as_slice(),
+        b"  begin".as_slice(),
+        b"    p := a * b;".as_slice(),
+        b"    return p(63 downto 0);".as_slice(),
+        b"  end function;".as_slice(),
+    ];
+    write_lines(want, &lines)
+}
+
+/// The other two.
+fn least_and_most(want: &mut MemSink) -> Result<(), WriteFault> {
+    let lines = [
+        b"  function least(a, b : signed(63 downto 0)) return signed is".as_slice(),
+        b"  begin".as_slice(),
+        b"    if a < b then".as_slice(),
+        b"      return a;".as_slice(),
+        b"    else".as_slice(),
+        b"      return b;".as_slice(),
+        b"    end if;".as_slice(),
+        b"  end function;".as_slice(),
+        b"  function most(a, b : signed(63 downto 0)) return signed is".as_slice(),
+        b"  begin".as_slice(),
+        b"    if a < b then".as_slice(),
+        b"      return b;".as_slice(),
+        b"    else".as_slice(),
+        b"      return a;".as_slice(),
+        b"    end if;".as_slice(),
+        b"  end function;".as_slice(),
+    ];
+    write_lines(want, &lines)
+}
+
+/// Its outputs and its reset.
+fn outputs(want: &mut MemSink) -> Result<(), WriteFault> {
+    let lines = [
+        b"begin".as_slice(),
+        b"  c0_take <= '1' when op(pc) = 1 and arg(pc) = 0 else '0';".as_slice(),
+        b"  c1_data <= fired;".as_slice(),
+        b"  c1_give <= '1' when op(pc) = 3 and arg(pc) = 1 else '0';".as_slice(),
+        b"  done <= '1' when op(pc) = 0 else '0';".as_slice(),
+        b"  process (clk)".as_slice(),
+        b"  begin".as_slice(),
+        b"    if rising_edge(clk) then".as_slice(),
+        b"      if rst = '1' then".as_slice(),
+        b"        pc <= 0;".as_slice(),
+        b"      else".as_slice(),
+    ];
+    write_lines(want, &lines)
+}
+
+/// What it does at each event.
+fn events(want: &mut MemSink) -> Result<(), WriteFault> {
+    let lines = [
+        b"        case op(pc) is".as_slice(),
+        b"          when 1 =>".as_slice(),
+        b"            if arg(pc) = 0 and c0_valid = '1' then".as_slice(),
+        b"              slot(dst(pc)) <= c0_data;".as_slice(),
+        b"              pc <= pc + 1;".as_slice(),
+        b"            end if;".as_slice(),
+        b"          when 2 =>".as_slice(),
+        b"            fired <= (pick(slot, r0(arg(pc))) + signed'(x\"0000000000000001\"));".as_slice(),
+        b"            pc <= pc + 1;".as_slice(),
+        b"          when 3 =>".as_slice(),
+        b"            if arg(pc) = 1 and c1_ready = '1' then".as_slice(),
+        b"              pc <= pc + 1;".as_slice(),
+        b"            end if;".as_slice(),
+        b"          when others =>".as_slice(),
+        b"            null;".as_slice(),
+        b"        end case;".as_slice(),
+        b"      end if;".as_slice(),
+        b"    end if;".as_slice(),
+        b"  end process;".as_slice(),
+        b"end architecture;".as_slice(),
+    ];
+    write_lines(want, &lines)
+}
+
+fn get(channel: u32, slot: u32) -> Event {
+    Event::Get { channel, slot }
+}
+
+fn fire(references: &[Ref]) -> Event {
+    let mut refs = Refs::empty();
+    for reference in references {
+        if refs.len() < 8 {
+            refs.push(*reference);
+        }
+    }
+    Event::Fire { refs }
+}
+
+fn put(channel: u32) -> Event {
+    Event::Put { channel }
+}
+
+fn vector(alloc: Global, values: &[i64]) -> Vector {
+    let mut vector = Vector::empty(alloc);
+    for value in values {
+        if vector.len() < 6 {
+            vector.push(*value);
+        }
+    }
+    vector
+}
+
+/// Points with these loop values.
+fn points(alloc: Global, values: &[&[i64]]) -> Result<Items<Vector>, AllocError> {
+    let mut points = Items::new(alloc);
+    for at in values {
+        points.push(vector(alloc, at))?;
+    }
+    Ok(points)
+}
+
+/// Two operands in their boxes.
+fn pair(alloc: Global, left: Expr, right: Expr) -> Result<(Boxed<Expr>, Boxed<Expr>), AllocError> {
+    let left = Boxed::new(alloc, left)?;
+    let right = Boxed::new(alloc, right)?;
+    Ok((left, right))
+}
+
+/// The numbers of a process: its own, its depth, its reads and its slots.
+type Numbers = [u32; 4];
+
+/// An automaton without channels, points and expression.
+fn scripted(
+    alloc: Global,
+    numbers: Numbers,
+    role: Role,
+    events: &[Event],
+) -> Result<NodeAuto, AllocError> {
+    let [process, depth, reads, slots] = numbers;
+    let events = Items::from_slice(alloc, events)?;
+    Ok(NodeAuto {
+        process,
+        role,
+        depth,
+        reads,
+        gets: Items::new(alloc),
+        puts: Items::new(alloc),
+        slots,
+        events,
+        values: Items::new(alloc),
+        expr: Expr::Given,
+    })
+}
+
+/// The process that is given the one value of an array.
+fn source(alloc: Global) -> Result<NodeAuto, AllocError> {
+    let mut auto = scripted(alloc, [0, 1, 0, 0], Role::Source(0), &[fire(&[]), put(0)])?;
+    auto.puts = Items::from_slice(alloc, &[0])?;
+    auto.values = points(alloc, &[&[0]])?;
+    Ok(auto)
+}
+
+/// The value read and 1.
+fn one_more(alloc: Global) -> Result<Expr, AllocError> {
+    let (read, one) = pair(alloc, Expr::Read(0), Expr::Const(1))?;
+    Ok(Expr::Add(read, one))
+}
+
+/// The process that adds 1.
+fn assign(alloc: Global) -> Result<NodeAuto, AllocError> {
+    let events = [get(0, 0), fire(&[Ref::Slot(0)]), put(1)];
+    let mut auto = scripted(alloc, [1, 1, 1, 1], Role::Assign, &events)?;
+    auto.gets = Items::from_slice(alloc, &[0])?;
+    auto.puts = Items::from_slice(alloc, &[1])?;
+    auto.values = points(alloc, &[&[0]])?;
+    auto.expr = one_more(alloc)?;
+    Ok(auto)
+}
+
+/// The process that prints the sum.
+fn sink(alloc: Global) -> Result<NodeAuto, AllocError> {
+    let events = [get(1, 0), fire(&[Ref::Slot(0)])];
+    let mut auto = scripted(alloc, [2, 1, 1, 1], Role::Sink(1), &events)?;
+    auto.gets = Items::from_slice(alloc, &[1])?;
+    auto.values = points(alloc, &[&[0]])?;
+    auto.expr = Expr::Read(0);
+    Ok(auto)
+}
+
+fn product(alloc: Global) -> Result<Expr, AllocError> {
+    let (left, right) = pair(alloc, Expr::Var(0), Expr::Read(1))?;
+    Ok(Expr::Mul(left, right))
+}
+
+fn difference(alloc: Global) -> Result<Expr, AllocError> {
+    let (left, right) = pair(alloc, Expr::Read(0), Expr::Const(i64::MIN))?;
+    Ok(Expr::Sub(left, right))
+}
+
+fn least(alloc: Global) -> Result<Expr, AllocError> {
+    let product = product(alloc)?;
+    let difference = difference(alloc)?;
+    let (left, right) = pair(alloc, product, difference)?;
+    Ok(Expr::Min(left, right))
+}
+
+fn greatest(alloc: Global) -> Result<Expr, AllocError> {
+    let least = least(alloc)?;
+    let negation = Expr::Neg(Boxed::new(alloc, Expr::Var(1))?);
+    let (left, right) = pair(alloc, least, negation)?;
+    Ok(Expr::Max(left, right))
+}
+
+/// A process of two loops with a channel to itself.
+fn own_channel(alloc: Global) -> Result<NodeAuto, AllocError> {
+    let events = [
+        get(2, 0),
+        fire(&[Ref::Slot(0), Ref::Zero]),
+        put(4),
+        put(10),
+        get(4, 2),
+        fire(&[Ref::Slot(0), Ref::Slot(2)]),
+        put(10),
+    ];
+    let mut auto = scripted(alloc, [7, 2, 2, 3], Role::Assign, &events)?;
+    auto.gets = Items::from_slice(alloc, &[2, 4])?;
+    auto.puts = Items::from_slice(alloc, &[4, 10])?;
+    auto.values = points(alloc, &[&[-1, 5], &[i64::MAX, -2]])?;
+    auto.expr = greatest(alloc)?;
+    Ok(auto)
+}
+
+#[test]
+fn a_node_is_an_entity_with_its_architecture(rt: HostRuntime) -> Result<(), Fail> {
+    let mut text = MemSink::new(rt.alloc(), 10_000, 10_000, &[])?;
+    assert_eq!(rt; write_node(&assign(rt.alloc())?, &mut text), Ok(()));
+    let mut want = MemSink::new(rt.alloc(), 10_000, 10_000, &[])?;
+    assert_eq!(rt; write_all(&mut want, b"\n"), Ok(()));
+    assert_eq!(rt; entity(&mut want), Ok(()));
+    assert_eq!(rt; declarations(&mut want), Ok(()));
+    assert_eq!(rt; pick_and_mul(&mut want), Ok(()));
+    assert_eq!(rt; least_and_most(&mut want), Ok(()));
+    assert_eq!(rt; outputs(&mut want), Ok(()));
+    assert_eq!(rt; events(&mut want), Ok(()));
+    assert_eq!(rt; text.held(), want.held());
+    Ok(())
+}
+
+/// Whether a part stands somewhere in a text.
+fn has(text: &[u8], part: &[u8]) -> bool {
+    for at in 0..text.len() {
+        if text[at..].starts_with(part) {
+            return true;
+        }
+    }
+    false
+}
+
+#[test]
+fn a_source_is_given_its_values(rt: HostRuntime) -> Result<(), Fail> {
+    let mut text = MemSink::new(rt.alloc(), 10_000, 10_000, &[])?;
+    assert_eq!(rt; write_node(&source(rt.alloc())?, &mut text), Ok(()));
+    for part in [
+        b"    rst : in std_logic;\n    given : in signed(63 downto 0);\n    given_take : out std_logic;\n    c0_ready : in".as_slice(),
+        b"begin\n  given_take <= '1' when op(pc) = 2 else '0';\n  c0_data <= fired;\n".as_slice(),
+        b"          when 1 =>\n            null;\n          when 2 =>\n            fired <= given;\n            pc".as_slice(),
+    ] {
+        assert!(rt; has(text.held(), part));
+    }
+    Ok(())
+}
+
+#[test]
+fn a_sink_gives_its_result_out(rt: HostRuntime) -> Result<(), Fail> {
+    let mut text = MemSink::new(rt.alloc(), 10_000, 10_000, &[])?;
+    assert_eq!(rt; write_node(&sink(rt.alloc())?, &mut text), Ok(()));
+    for part in [
+        b"    rst : in std_logic;\n    result : out signed(63 downto 0);\n    result_give : out std_logic;\n    c1_valid : in".as_slice(),
+        b"  signal fired : signed(63 downto 0);\n  signal gave : std_logic := '0';\n  function".as_slice(),
+        b"begin\n  result <= fired;\n  result_give <= gave;\n  c1_take <= ".as_slice(),
+        b"    if rising_edge(clk) then\n      gave <= '0';\n      if rst = '1' then\n".as_slice(),
+        b"r0(arg(pc)));\n            gave <= '1';\n            pc <= pc + 1;\n          when 3 =>\n            null;\n          when".as_slice(),
+    ] {
+        assert!(rt; has(text.held(), part));
+    }
+    Ok(())
+}
+
+#[test]
+fn a_channel_to_itself_has_another_name_where_it_comes_in(rt: HostRuntime) -> Result<(), Fail> {
+    let mut text = MemSink::new(rt.alloc(), 10_000, 10_000, &[])?;
+    assert_eq!(rt; write_node(&own_channel(rt.alloc())?, &mut text), Ok(()));
+    for part in [
+        b"    c2_data : in signed(63 downto 0);\n    c2_take".as_slice(),
+        b"    c4_in : in signed(63 downto 0);\n    c4_take".as_slice(),
+        b"    c4_data : out signed(63 downto 0);\n    c4_give".as_slice(),
+        b" arg : codes(0 to 7) := (0 => 2, 1 => 0, 2 => 4, 3 => 10, 4 => 4, 5 => 1, 6 => 10, 7 => 0);".as_slice(),
+        b" r1 : codes(0 to 2) := (0 => -1, 1 => 2, 2 => -1);".as_slice(),
+        b"(0 => x\"0000000000000005\", 1 => x\"fffffffffffffffe\", 2 => x\"0000000000000000\");".as_slice(),
+        b"              slot(dst(pc)) <= c4_in;\n".as_slice(),
+        b"most(least(mul(v0(arg(pc)), pick(slot, r1(arg(pc)))), (pick(slot, r0(arg(pc))) - ".as_slice(),
+        b" - signed'(x\"8000000000000000\"))), (zero - v1(arg(pc))));\n".as_slice(),
+    ] {
+        assert!(rt; has(text.held(), part));
+    }
+    Ok(())
+}
+
+fn channel(writer: u32, reader: u32, capacity: u32) -> Channel {
+    Channel {
+        writer,
+        reader,
+        read: 0,
+        capacity,
+        class: ChannelClass {
+            order: UseOrder::InOrder,
+            multiplicity: false,
+        },
+    }
+}
+
+fn network(alloc: Global) -> Result<Network, AllocError> {
+    let mut channels = Items::new(alloc);
+    channels.push(channel(0, 1, 1))?;
+    channels.push(channel(1, 2, 17))?;
+    Ok(Network {
+        processes: Items::new(alloc),
+        channels,
+    })
+}
+
+#[test]
+fn the_text_has_the_channels_and_then_the_nodes(rt: HostRuntime) -> Result<(), Fail> {
+    let alloc = rt.alloc();
+    let mut autos = Items::new(alloc);
+    autos.push(source(alloc)?)?;
+    autos.push(sink(alloc)?)?;
+    let mut text = MemSink::new(alloc, 10_000, 7, &[])?;
+    let answer = write_vhdl(&network(alloc)?, autos.as_slice(), &mut text);
+    assert_eq!(rt; answer, Ok(()));
+    for part in [
+        b"-- compaan vhdl 1\n-- channel 0 node_0 node_1 capacity 1\n".as_slice(),
+        b"-- channel 1 node_1 node_2 capacity 17\n\nlibrary ieee;\n".as_slice(),
+        b"end architecture;\n\nlibrary ieee;\n".as_slice(),
+    ] {
+        assert!(rt; has(text.held(), part));
+    }
+    Ok(())
+}
+
+/// A process that only fires.
+fn firing(alloc: Global, process: u32, fires: u32) -> Result<NodeAuto, AllocError> {
+    let mut events = Items::new(alloc);
+    for _ in 0..fires {
+        events.push(fire(&[]))?;
+    }
+    let mut auto = scripted(alloc, [process, 0, 0, 0], Role::Assign, &[])?;
+    auto.events = events;
+    Ok(auto)
+}
+
+#[test]
+fn the_first_script_that_is_too_long_is_told(rt: HostRuntime) -> Result<(), Fail> {
+    let alloc = rt.alloc();
+    let network = network(alloc)?;
+    let mut autos = Items::new(alloc);
+    autos.push(firing(alloc, 0, 65_536)?)?;
+    assert!(rt; too_long(autos.as_slice()).is_none());
+    autos.push(firing(alloc, 1, 65_537)?)?;
+    autos.push(firing(alloc, 2, 65_538)?)?;
+    let mut text = MemSink::new(alloc, 100, 100, &[])?;
+    let answer = write_vhdl(&network, autos.as_slice(), &mut text);
+    assert_eq!(rt; answer, Err(VhdlError::ScriptTooLong(1, 65_537)));
+    assert_eq!(rt; text.held(), b"".as_slice());
+    Ok(())
+}
+
+#[test]
+fn a_sink_that_fails_midway_holds_a_front(rt: HostRuntime) -> Result<(), Fail> {
+    let alloc = rt.alloc();
+    // The room, the call that fails, and what is held then.
+    for (room, failing, held) in [
+        (0, 99, b"".as_slice()),
+        (12, 99, b"-- compaan v".as_slice()),
+        (500, 0, b"".as_slice()),
+        (500, 1, b"-- compaan vhdl 1\n".as_slice()),
+        (500, 3, b"-- compaan vhdl 1\n-- channel 0".as_slice()),
+    ] {
+        let mut text = MemSink::new(alloc, room, 100, &[failing])?;
+        let answer = write_vhdl(&network(alloc)?, &[], &mut text);
+        assert_eq!(rt; answer, Err(VhdlError::WriteFault));
+        assert_eq!(rt; text.held(), held, "{room} {failing}");
+    }
+    Ok(())
+}
+
+// -(1 - (-(1 - ..))), so many levels deep.
+fn nested(alloc: Global, pairs: u32) -> Result<Expr, AllocError> {
+    let mut expr = Expr::Var(0);
+    for _ in 0..pairs {
+        let one = Boxed::new(alloc, Expr::Const(1))?;
+        expr = Expr::Neg(Boxed::new(alloc, Expr::Sub(one, Boxed::new(alloc, expr)?))?);
+    }
+    Ok(expr)
+}
+
+// As many levels as a source has tokens, each pair with 42 bytes. (`rt try` bears fewer.)
+#[test]
+fn an_expression_of_8192_levels_is_written(rt: HostRuntime) -> Result<(), Fail> {
+    let expr = nested(rt.alloc(), 4096)?;
+    let mut text = MemSink::new(rt.alloc(), 200_000, 200_000, &[])?;
+    assert_eq!(rt; write_expr(&expr, &mut text), Ok(()));
+    assert_eq!(rt; text.held().len(), 42 * 4096 + 11);
+    Ok(())
+}

@@ -2,6 +2,8 @@
 use Rattle.std.proofs.Common.{◌≡◌, ℕ, zero, suc, ◌+◌, Some, List, [], ◌∷◌, map, length, slice_get, refl, ap, ◌∙◌, arith}
 use Rattle.std.specs.List.{enumerate_from}
 use Rattle.std.proofs.lemmas.List.{length-map}
+use Rattle.net_core.specs.declared.network.Network.{Network}
+use Rattle.node_automata.specs.Automata.{automata, automaton_of}
 use Rattle.sanlp.specs.declared.nest.Nest.{Nest}
 use Rattle.sanlp.specs.Cells.{count_up}
 use Rattle.sanlp.specs.Points.{points_of, vectors_of}
@@ -25,3 +27,11 @@ length_up a (suc many) = ap suc (length_up (a + 1) many)
 pub points_length : (n : Nest) → length (points_of n) ≡ length n.statements
 unfolding points_of
 points_length n = length-map (count_up 0 (length n.statements)) (vectors_of (trace n)) ∙ length_up 0 (length n.statements)
+
+length_made : {X Y : Type 0} (f : ℕ × X → Y) (n : ℕ) (xs : List X) → length (map f (enumerate_from n xs)) ≡ length xs
+length_made f n [] = refl
+length_made f n (x ∷ xs) = ap suc (length_made f (n + 1) xs)
+
+-- there is one automaton for each statement
+pub automata_length : (nest : Nest) (network : Network) → length (automata nest network) ≡ length nest.statements
+automata_length nest network = length_made (λ numbered. automaton_of nest network numbered.0 numbered.1) 0 nest.statements

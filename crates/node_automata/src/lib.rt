@@ -6,4 +6,4 @@ mod node;
 #[cfg(test)]
 mod tests;
 
-pub use node::{NodeAuto, automaton};
+pub use node::{NodeAuto, automata, automaton};

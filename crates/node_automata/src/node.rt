@@ -119,3 +119,22 @@ pub fn automaton(
         expr,
     })
 }
+
+/// The automata of all processes, in order.
+pub fn automata(
+    alloc: Global,
+    nest: &Nest,
+    points: &Points,
+    network: &Network,
+) -> Result<Vec<NodeAuto>, AllocError>
+    requires points { points.now.of ≡ points_of nest.now }
+    requires shaped { IsShaped (net_of network.now) points.now.of }
+    requires numbers { FitsNumbers (net_of network.now) }
+    ensures { IfOk result (λ autos. autos.items ≡ automata nest.now network.now) }
+{
+    let mut autos = Vec::new(alloc);
+    for process in 0..network.processes.len() as u32 {
+        autos.push(automaton(alloc, nest, points, network, process)?)?;
+    }
+    Ok(autos)
+}

@@ -12,4 +12,4 @@ mod tests;
 mod text;
 
 pub use error::VhdlError;
-pub use text::write_vhdl;
+pub use text::{too_long, write_vhdl};

@@ -16,8 +16,8 @@ use node_automata::NodeAuto;
 /// The most events of a node.
 const MOST_EVENTS: usize = 65_536;
 
-/// The first automaton whose script is too long for a node.
-pub(crate) fn too_long(autos: &[NodeAuto]) -> Option<&NodeAuto>
+/// The first automaton whose script is too long for a node: it has more than 65,536 events.
+pub fn too_long(autos: &[NodeAuto]) -> Option<&NodeAuto>
     ensures { option_copied result ≡ first_too_long autos.now }
 {
     for auto in autos {

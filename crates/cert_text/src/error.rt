@@ -1,17 +1,22 @@
 use std::alloc::AllocError;
+use thiserror::Error;
 
 /// Why a text isn't that of a network with its certificate. Lines count from 1.
 ///
 /// The first line with a fault decides.
-#[derive(Clone, Copy, Debug, PartialEq, Eq)]
+#[derive(Clone, Copy, Debug, PartialEq, Eq, Error)]
 pub enum CertError {
     /// This line has not the words that its place wants, or stands behind `end`.
+    #[error("line {0} has not the words that its place wants")]
     Line(u64),
     /// This line has the right words, with a number out of its range.
+    #[error("line {0} has a number out of its range")]
     Number(u64),
     /// The text ends before `end`, or within a line.
+    #[error("the text ends before `end`, or within a line")]
     Truncated,
     /// Want of memory.
+    #[error("no memory")]
     Memory,
 }
 

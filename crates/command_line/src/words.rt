@@ -14,6 +14,7 @@ use clap::{Arg, ArgAction, ArgMatches};
 use loop_class::Params;
 use loop_lex::is_name;
 use std::alloc::{AllocError, Global};
+use thiserror::Error;
 use witness_plan::Policy;
 
 /// What the program is to do.
@@ -44,11 +45,13 @@ pub struct Order {
 }
 
 /// Why the words give no order.
-#[derive(Clone, Copy, Debug, PartialEq, Eq)]
+#[derive(Clone, Copy, Debug, PartialEq, Eq, Error)]
 pub enum WordsError {
     /// They are refused.
+    #[error("the words are refused")]
     Words,
     /// Want of memory.
+    #[error("no memory")]
     Memory,
 }
 

@@ -36,3 +36,7 @@ ConsumesLength old new count = (bytes : List ℕ) × (length bytes ≡ count) ×
 -- the source lost at most so many bytes
 abbrev pub ConsumesAtMost : Option (List ℕ) → Option (List ℕ) → ℕ → Type 0
 ConsumesAtMost old new most = (bytes : List ℕ) × (length bytes ≤ most) × Consumes old new bytes
+
+-- besides at most one read, each took at least one of the bytes that the source lost
+abbrev pub ReadsWithin : Option (List ℕ) → Option (List ℕ) → ℕ → ℕ → Type 0
+ReadsWithin old new before now = (bytes : List ℕ) × Consumes old new bytes × (now ≤ before + length bytes + 1)

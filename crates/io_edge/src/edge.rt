@@ -1,10 +1,13 @@
-ghost use Rattle.std.specs.Prelude.{◌≡◌, ℕ, List, Option};
+ghost use Rattle.std.specs.Prelude.{◌≡◌, ◌≤◌, ◌+◌, ℕ, List, Option};
 ghost use Rattle.std.specs.Io.{ReadsAtMost, WritesAtMost};
 ghost use Rattle.std.specs.Io.KnownBytes.{ReadConsumes, WriteAppends};
 ghost use Rattle.io_edge.specs.Causes.{ReadCause, WriteCause, one_more};
 
+use thiserror::Error;
+
 /// A read or a write failed.
-#[derive(Clone, Copy, Debug, PartialEq, Eq)]
+#[derive(Clone, Copy, Debug, PartialEq, Eq, Error)]
+#[error("a read or a write failed")]
 pub struct Failed;
 
 /// Where bytes come from.
@@ -15,13 +18,17 @@ pub trait Source {
     /// How many faults there were.
     ghost faults: { Self → ℕ };
 
+    /// How many reads there were, where the source counts them, else always the same number.
+    ghost reads: { Self → ℕ };
+
     /// Fills a front of the buffer with the next bytes, and gives their number.
     ///
     /// `Ok(0)` for a non-empty buffer is the end of input. At `Failed` no byte is lost, and the count rose.
     fn read(&mut self, buf: &mut [u8]) -> Result<usize, Failed>
         ensures bound { ReadsAtMost result buf.new }
         ensures bytes { ReadConsumes (left self.old) (left self.new) result buf.new }
-        ensures cause { ReadCause (faults self.old) (faults self.new) result };
+        ensures cause { ReadCause (faults self.old) (faults self.new) result }
+        ensures one { reads self.new ≤ reads self.old + 1 };
 }
 
 /// Where bytes go.

@@ -1,4 +1,4 @@
-ghost use Rattle.std.specs.Prelude.{◌≡◌, ◌≤◌, ◌++◌, [], take, drop, length, IsTrue, IsErr, IfOk, Ok};
+ghost use Rattle.std.specs.Prelude.{◌≡◌, ◌≤◌, ◌+◌, ◌++◌, [], take, drop, length, IsTrue, IsErr, IfOk, Ok};
 ghost use Rattle.std.specs.Io.{ReadsAtMost, WritesAtMost};
 ghost use Rattle.std.specs.Io.KnownBytes.{ReadConsumes, WriteAppends};
 ghost use Rattle.io_edge.specs.Causes.{ReadCause, WriteCause};
@@ -81,10 +81,13 @@ impl Source for MemSource {
 
     ghost faults = { λ s. s.faults };
 
+    ghost reads = { λ s. s.calls };
+
     fn read(&mut self, buf: &mut [u8]) -> Result<usize, Failed>
         ensures bound { ReadsAtMost result buf.new }
         ensures bytes { ReadConsumes (Some self.old.left) (Some self.new.left) result buf.new }
         ensures cause { ReadCause self.old.faults self.new.faults result }
+        ensures one { self.new.calls ≤ self.old.calls + 1 }
 
         // Which calls fail, and what every other call gives.
         ensures fails { IsTrue (is_among self.old.failing self.old.calls) →

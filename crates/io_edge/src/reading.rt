@@ -1,25 +1,29 @@
 ghost use Rattle.std.specs.Prelude.{◌≡◌, ◌≢◌, ◌≤◌, ◌+◌, length, OnOk, IfOk, Err};
 ghost use Rattle.std.specs.Io.KnownBytes.{Consumes, IsAtEnd};
-ghost use Rattle.io_edge.specs.Causes.{Rose, ConsumesLength, ConsumesAtMost};
+ghost use Rattle.io_edge.specs.Causes.{Rose, ConsumesLength, ConsumesAtMost, ReadsWithin};
 
 use crate::edge::Source;
 use std::alloc::Global;
+use thiserror::Error;
 
 /// Why not all bytes were read.
-#[derive(Clone, Copy, Debug, PartialEq, Eq)]
+#[derive(Clone, Copy, Debug, PartialEq, Eq, Error)]
 pub enum ReadError {
     /// A read failed.
+    #[error("a read failed")]
     ReadFault,
     /// One byte more than the limit came.
+    #[error("the input passes the limit")]
     TooLong,
     /// There was no memory for the bytes.
+    #[error("no memory")]
     Memory,
 }
 
 /// Reads all bytes to the end of input, where they are at most `limit`. It never takes more than `limit + 1` bytes.
 ///
 /// `TooLong` comes exactly where `limit + 1` bytes came, `ReadFault` only where the source's count rose in this call.
-/// Every other answer leaves the count.
+/// Every other answer leaves the count. Every read but the last takes at least one byte.
 pub fn read_all<S: Source>(
     alloc: Global,
     source: &mut S,
@@ -36,6 +40,9 @@ pub fn read_all<S: Source>(
         ConsumesAtMost (S.left source.old) (S.left source.new) limit }
     ensures memory { result ≡ Err ReadError.Memory →
         ConsumesAtMost (S.left source.old) (S.left source.new) (limit + 1) }
+
+    // Every read but the last took at least one byte.
+    ensures reads { ReadsWithin (S.left source.old) (S.left source.new) (S.reads source.old) (S.reads source.new) }
 
     ensures cause { result ≡ Err ReadError.ReadFault → Rose (S.faults source.old) (S.faults source.new) }
     ensures quiet { result ≢ Err ReadError.ReadFault → S.faults source.new ≡ S.faults source.old }

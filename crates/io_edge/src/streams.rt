@@ -27,6 +27,8 @@ impl<R: Read + Drop> Source for StdIn<R> {
 
     ghost faults = { λ s. s.faults };
 
+    ghost reads = { λ _. 0 };
+
     fn read(&mut self, buf: &mut [u8]) -> Result<usize, Failed> {
         match self.reader.read(buf) {
             Ok(count) => Ok(count),

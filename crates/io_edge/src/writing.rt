@@ -3,9 +3,11 @@ ghost use Rattle.std.specs.Io.KnownBytes.{Appends};
 ghost use Rattle.io_edge.specs.Causes.{Rose, AppendsFront};
 
 use crate::edge::Sink;
+use thiserror::Error;
 
 /// A sink failed, or took nothing of what was left to write.
-#[derive(Clone, Copy, Debug, PartialEq, Eq)]
+#[derive(Clone, Copy, Debug, PartialEq, Eq, Error)]
+#[error("the sink failed, or took nothing")]
 pub struct WriteFault;
 
 /// Writes the whole piece. It takes no memory.

@@ -1,32 +1,46 @@
 ghost use Rattle.std.specs.Prelude.{◌≡◌};
 ghost use Rattle.loop_class.specs.Reasons.{place_of, number_of, comes_first, lesser};
 
+use thiserror::Error;
+
 /// Why a tree with these values of its parameters is no nest. Each place is that of a token, counted from 0.
-#[derive(Clone, Copy, Debug, PartialEq, Eq)]
+#[derive(Clone, Copy, Debug, PartialEq, Eq, Error)]
 pub enum BindError {
     /// The name isn't in scope, or isn't of the kind that its place wants.
+    #[error("token {0}: this name isn't in scope, or not of this kind")]
     UnknownName(u32),
     /// The name is in scope already.
+    #[error("token {0}: this name is in scope already")]
     Duplicate(u32),
     /// The parameter has no value.
+    #[error("token {0}: this parameter has no value")]
     Unbound(u32),
     /// What stands there, where an affine form must stand, is none.
+    #[error("token {0}: an affine form must stand here")]
     NotAffine(u32),
     /// The access has another number of subscripts than its array has extents.
+    #[error("token {0}: the array has another number of extents")]
     WrongCount(u32),
     /// The `else` follows a guard of more than one comparison or of `==`.
+    #[error("token {0}: no `else` follows such a guard")]
     ElseForm(u32),
     /// The 65th process begins there.
+    #[error("token {0}: the 65th process")]
     TooManyProcesses(u32),
     /// The seventh nested loop begins there, or the array has more than 6 extents.
+    #[error("token {0}: more than 6 nested loops or extents")]
     TooDeep(u32),
     /// The ninth access of a right side.
+    #[error("token {0}: the ninth read of a statement")]
     TooManyReads(u32),
     /// The statement has more than 32 rows.
+    #[error("token {0}: the statement has more than 32 rows")]
     TooManyRows(u32),
     /// A number of the affine form there, or the parameter's value, is outside of 2,147,483,647 and its negative.
+    #[error("token {0}: a number outside of 2147483647 and its negative")]
     Large(u32),
     /// Want of memory.
+    #[error("no memory")]
     Memory,
 }
 

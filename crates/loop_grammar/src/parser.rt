@@ -13,14 +13,17 @@ use crate::tree::Tree;
 use loop_lex::Token;
 use plain_data::Boxed;
 use std::alloc::{AllocError, Global};
+use thiserror::Error;
 
 /// Why tokens have no tree.
-#[derive(Clone, Copy, Debug, PartialEq, Eq)]
+#[derive(Clone, Copy, Debug, PartialEq, Eq, Error)]
 pub enum ParseError {
     /// The first token that no source has after the tokens before it, or the number of tokens where the source may not
     /// end there.
+    #[error("no source goes on with token {0}")]
     Syntax(u32),
     /// Want of memory.
+    #[error("no memory")]
     Memory,
 }
 

@@ -1,4 +1,5 @@
 use std::alloc::AllocFailed;
+use thiserror::Error;
 
 /// The greatest number that a source can write.
 pub const MAX_NUMBER: u64 = 9223372036854775807;
@@ -29,17 +30,22 @@ pub struct Token {
 
 /// Why bytes have no tokens. Each place is that of a byte, counted from 0.
 /// The first place decides, and at one place the variant that is listed first.
-#[derive(Clone, Copy, Debug, PartialEq, Eq)]
+#[derive(Clone, Copy, Debug, PartialEq, Eq, Error)]
 pub enum LexError {
     /// The byte there begins no token, space or comment.
+    #[error("the byte at {0} begins no token")]
     BadByte(u32),
     /// The comment that begins there has no end.
+    #[error("the comment that begins at byte {0} has no end")]
     OpenComment(u32),
     /// The number that begins there passes 9223372036854775807.
+    #[error("the number that begins at byte {0} passes {max}", max = MAX_NUMBER)]
     LargeNumber(u32),
     /// The 8,193rd token begins there.
+    #[error("more than {max} tokens: the next begins at byte {0}", max = MAX_TOKENS)]
     TooMany(u32),
     /// Want of memory.
+    #[error("no memory")]
     Memory,
 }
 

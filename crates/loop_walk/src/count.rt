@@ -9,16 +9,19 @@ ghost use Rattle.loop_walk.specs.Counting.{SizeIsOk, are_loop_values, capped, co
 use crate::bounds::{loop_range, rows_hold};
 use crate::vector::LoopValues;
 use sanlp::{Nest, Node};
+use thiserror::Error;
 
 /// The greatest size of a nest.
 const SIZE_LIMIT: u64 = 2_097_152;
 
 /// Why a nest is not walked.
-#[derive(Clone, Copy, Debug, PartialEq, Eq)]
+#[derive(Clone, Copy, Debug, PartialEq, Eq, Error)]
 pub enum SizeError {
     /// The count passes the limit. It is the limit and one.
+    #[error("the count passes the limit on the size: it comes to {0}")]
     Limit(u64),
     /// The loop of this number is entered, and one of its forms has a value outside the limit of loop values.
+    #[error("loop {0}: a form has a value outside the limit of loop values")]
     LoopValue(u32),
 }
 

@@ -1,4 +1,10 @@
--- The uses of a channel in the reader's script are those that its plan counts.
+-- The uses of a channel in the reader's script are those that its plan counts, so each channel has the class of its
+-- uses.
+--
+-- The plan's uses are counted from the sources, fire by fire; those of the network are read off the references and the
+-- Gets that they name. By induction on the reader's points both lists grow alike: a fire adds what its reference at
+-- the channel's read names, which is the token of its use (FoundTokens), and its references at other reads, or to
+-- other writers, add nothing.
 use Rattle.std.proofs.Common.{◌≡◌, ℕ, zero, suc, ◌+◌, ◌<◌, ◌≤◌, cond, Option, Some, None, List, [], ◌∷◌, ◌++◌, length, map, take, drop, slice_get, get_or, refl, sym, ap, ◌∙◌, inl, inr, arith, append_assoc}
 use Rattle.std.specs.Prelude.{slice_index}
 use Rattle.std.specs.List.{flat_map}

@@ -1,4 +1,9 @@
 -- The latest Get of the slot that a fire names is that of its token.
+--
+-- It joins three things: the m-th Get is into the plan's slot for m (Gets), no Get takes the slot of a token with a
+-- use to come (reorder_slots), and the slots of different channels of one reader lie apart, side by side (`apart`).
+-- With them the premises of Latest hold at the fire. It isn't an induction of its own, and the place of the fire comes
+-- from splitting the script at it.
 use Rattle.std.proofs.Common.{◌≡◌, ℕ, zero, suc, ◌+◌, ◌-◌, ◌<◌, ◌≤◌, cond, Some, List, [], ◌∷◌, ◌++◌, length, take, slice_get, get_or, count_by, refl, sym, ap, ◌∙◌, inl, inr, arith, append_assoc}
 use Rattle.std.specs.Prelude.{slice_index, ◌==◌}
 use Rattle.std.specs.List.{flat_map}

@@ -1,4 +1,11 @@
--- The slots of the Gets of a channel, in order.
+-- The slots of the Gets of a channel, in order: the m-th Get of a channel is into the slot that its plan has for Get
+-- m.
+--
+-- By induction on the reader's points: before point f the channel's Gets are as many as its uses so far want
+-- (`gets_made`), and they are into the slots of these numbers. One point adds the Gets from there to what its own use
+-- wants, at the one read that the channel is for, and none where its source is of another process. So at a fire all
+-- Gets of its token are made and no more than that. It is about scripts alone; that a Get finds a token in the queue
+-- is witness_plan's.
 use Rattle.std.proofs.Common.{◌≡◌, ℕ, zero, suc, ◌+◌, ◌-◌, ◌<◌, ◌≤◌, Bool, true, false, cond, Option, Some, None, List, [], ◌∷◌, ◌++◌, length, map, take, slice_get, count_by, refl, sym, ap, ◌∙◌, inl, inr, arith, append_assoc}
 use Rattle.std.specs.Prelude.{slice_index, slice_index_or, ◌==◌, ◌&&◌}
 use Rattle.std.specs.List.{cons_option, flat_map}

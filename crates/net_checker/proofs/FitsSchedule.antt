@@ -1,5 +1,11 @@
--- No entry of a schedule is refused, and nothing is unended, exactly where it is a run that ends all and every reference
--- names what its read wants.
+-- No entry of a schedule is refused, and nothing is unended, exactly where it is a run that ends all and every
+-- reference names what its read wants.
+--
+-- The entries are judged on cuts, which only count, so no machine runs in the definition; Positions turns a run on
+-- cuts into one of the machine. By induction on the schedule: each fire that it passes names what it wants
+-- (`none_entries`). In the end every process is at its script's end, so every fire of every script was passed, which
+-- is why one schedule tells of all references. Names don't depend on the order, so whether any of them is wrong is the
+-- same for every such schedule.
 use Rattle.std.proofs.Common.{◌≡◌, ℕ, zero, suc, ◌+◌, ◌<◌, ◌≤◌, true, false, cond, ltb, eqb, Option, Some, None, List, [], ◌∷◌, length, slice_get, refl, sym, ap, ap₂, ◌∙◌, inl, inr, arith, eqb-true, eq-eqb}
 use Rattle.std.proofs.lemmas.Bool.{and_parts, and_from, cases_Bool, cases_lt, cases_eq, ltb-false, le-ltb}
 use Rattle.std.proofs.lemmas.Option.{slice_get_within}

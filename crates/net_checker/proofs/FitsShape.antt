@@ -1,4 +1,10 @@
 -- Nothing is wrong with shape and fires exactly where the network fits the nest's points and reads.
+--
+-- Both ways, process by process and event by event: a test that answers nothing is the fact that it tests, and a fact
+-- makes its test answer nothing. The one step that isn't by a single event is the number of fires: each fire's turn is
+-- below the points, so there are never more fires than points (`fires_bounded`, by induction on the place), and the
+-- test at the script's end says that there are no fewer. `first` tells the least process; that it is the least is a
+-- matter of Choices and not of this file.
 use Rattle.std.proofs.Common.{◌≡◌, ℕ, zero, suc, ◌+◌, ◌<◌, ◌≤◌, ℤ, Bool, true, false, cond, eqb, ltb, leb, ◌&&◌, Option, Some, None, List, [], ◌∷◌, length, map, take, slice_get, get_or, count_by, refl, sym, ap, ◌∙◌, inl, inr, arith, ltb-true, lt-ltb, eqb-true, eq-eqb}
 use Rattle.std.proofs.lemmas.Bool.{and_parts, and_from, cases_lt, cases_Bool, le-ltb, leb-true, le-leb, ltb-false, cond-true, cond-false}
 use Rattle.std.proofs.lemmas.List.{length-map}

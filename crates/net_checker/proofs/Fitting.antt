@@ -1,4 +1,9 @@
 -- Nothing is wrong first exactly where the network and the certificate fit the nest.
+--
+-- `first` is the first of four answers, each by a function of its own, so it is none exactly where all four are. Each
+-- pair of laws below is one of them, both ways. They lean on each other in the order of `first`: that the schedule is
+-- a run of the machine is only said of a wired network, which the shape has made sure of. A new reason is a fifth
+-- pair.
 use Rattle.std.proofs.Common.{◌≡◌, None, ap, ◌∙◌}
 use Rattle.std.specs.Option.{option_or}
 use Rattle.sanlp.specs.declared.nest.Nest.{Nest}

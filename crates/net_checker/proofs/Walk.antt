@@ -1,4 +1,9 @@
--- Steps of the walk over a schedule.
+-- Steps of the walk over a schedule: the machine that the checker runs, beside the cuts that the definition counts on.
+--
+-- The invariant is `IsWalked`, after i entries: the state is one of the network, each of its places holds the tag that
+-- it names, what the definition would still refuse from these positions on is what it would refuse of the whole
+-- schedule, and i events were made. An entry that isn't refused is enabled, so the machine steps and all of it holds
+-- again. Since events are fewer than 2^32, so are the entries that are ever judged, however long the schedule is.
 use Rattle.std.proofs.Common.{◌≡◌, ℕ, zero, suc, ◌+◌, ◌<◌, ◌≤◌, ◌^◌, true, false, cond, ltb, Option, Some, None, List, [], ◌∷◌, length, map, drop, take, slice_get, option_map, refl, sym, ap, ap₂, ◌∙◌, subst, add-one, drop_of_length-le, inl, inr, arith, lt-ltb}
 use Rattle.std.proofs.lemmas.Bool.{cases_Bool, cases_lt, cases_eq, le-ltb}
 use Rattle.std.specs.Option.{option_or}

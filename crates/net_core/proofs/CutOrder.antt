@@ -1,4 +1,11 @@
 -- The law on cuts: a process that may go on at a cut may go on at each later cut that leaves it where it is.
+--
+-- A Get wants more Puts than Gets, and only its own process makes the Gets; a Put wants room, and only its own process
+-- takes it. So others going on can only help. From this, for a run on cuts and any cut c: what the run does past c is
+-- a run from c on (`beyond_runs`, by induction on the run, at the greater of both cuts), and what it does before a
+-- legal c is a run that ends at c (`within_runs`, at the lesser of both; there the bounds that a legal c keeps make up
+-- for the others being held back). And no run passes a cut above its start at which nobody may go on (`no_further`).
+-- Nothing here knows of states or values.
 use Rattle.std.proofs.Common.{◌≡◌, ◌⊎◌, ℕ, suc, ◌<◌, ◌≤◌, min, max, true, false, Option, Some, None, List, [], ◌∷◌, take, slice_get, count_by, refl, sym, ap, ◌∙◌, inl, inr, arith, ltb-true, lt-ltb, eq-eqb, nat_lt, if◌then◌else◌}
 use Rattle.std.proofs.lemmas.Bool.{cases_eq, cases_lt, le-ltb}
 use Rattle.net_core.specs.declared.network.Event.{Event}

@@ -1,4 +1,10 @@
 -- Every order of events: where one run ends all, each run does.
+--
+-- Let one full run be given, and any other run, which leads to the cut c. What the full run does past c is a run from
+-- c on (CutOrder), and it ends where both end, which is at every script's end. So the other run is never stuck and can
+-- go on until all have ended, and each run that ends all has as many events. That no queue passes its capacity holds
+-- step by step. A legal cut is reached by the part of the full run before it. Two runs that can't go on can't pass
+-- each other, so they stand alike. No run is rearranged step by step, and nothing is claimed of fairness or of time.
 use Rattle.std.proofs.Common.{◌≡◌, ◌⊎◌, ℕ, zero, suc, ◌+◌, ◌<◌, ◌≤◌, min, max, true, false, eqb, Option, Some, None, List, [], ◌∷◌, length, refl, sym, ap, ◌∙◌, subst, inl, inr, arith, ltb-true, eqb-true, length-append}
 use Rattle.std.proofs.lemmas.Bool.{cases_eq, cases_lt, cases_Bool}
 use Rattle.net_core.specs.declared.network.Event.{Event}

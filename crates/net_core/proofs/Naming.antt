@@ -1,4 +1,11 @@
 -- Whatever the order of events, each place holds the value of what it names.
+--
+-- Which token a slot has, and which tokens lie in a queue, follows from the scripts and the positions: the m-th Get of
+-- a channel takes its m-th token, and a token is the tag of the last fire before its Put. The invariant is `IsNamed`:
+-- each slot, each kept value and each queue is the list of the values of the tags that it names there. Each step keeps
+-- it, given that a fire gives its tag's value where the slots hold the values of what they name (`GivesValues`), and
+-- that the queues are counted (Positions). A token stands at its number from its Put on (`token_stays`), so the whole
+-- list of tokens may be read at any moment.
 use Rattle.std.proofs.Common.{◌≡◌, ℕ, zero, suc, pred, ◌+◌, ◌-◌, ◌<◌, ◌≤◌, true, cond, eqb, Option, Some, None, List, [], ◌∷◌, ◌++◌, length, map, take, drop, slice_get, slice_set, replicate, count_by, option_map, refl, sym, ap, ◌∙◌, ap₂, zero-add, suc-add, add-zero, inl, inr, arith, ltb-true, length-append}
 use Rattle.std.specs.Option.{option_and_then}
 use Rattle.std.proofs.lemmas.Bool.{cond-true, cond-false, cases_eq, cases_lt, cases_Bool}

@@ -1,4 +1,10 @@
 -- The machine's positions go as the cuts do: the queues hold what was put and not got.
+--
+-- The invariant is `IsCounted`: on each channel the queue's length and the Gets before the reader's position are
+-- together the Puts before the writer's, and each process has kept one value for each of its fires. It holds at the
+-- start, and each enabled step keeps it: a Get takes one of at least one, a Put appends exactly one value, since no
+-- Put stands before the first fire. So whether a process may go on is a matter of the positions alone, and runs of the
+-- machine are runs on cuts, both ways (`run_cut`, `cut_run`). It says nothing of what the values are: that is Naming.
 use Rattle.std.proofs.Common.{◌≡◌, ℕ, suc, ◌+◌, ◌<◌, ◌≤◌, true, false, cond, eqb, Option, Some, None, List, [], ◌∷◌, length, take, slice_get, count_by, refl, sym, ap, ◌∙◌, subst, inl, inr, arith, ltb-true, lt-ltb, eqb-true, length-append, length-drop}
 use Rattle.std.proofs.lemmas.Bool.{cases_eq, cases_lt, le-ltb, cases_Bool}
 use Rattle.std.proofs.lemmas.Option.{slice_get_past}

@@ -1,4 +1,10 @@
 -- Two processes: neither hinders the other, and their steps give one state in either order.
+--
+-- A channel has one reader and one writer, so two events of different processes are never two Gets or two Puts of one
+-- channel (`Apart`). A Get and a Put of one channel touch it at its two ends: where the Get may come the queue isn't
+-- empty, so its front and what is left don't depend on a Put behind it. It holds in every state, reached or not, and
+-- whatever a fire gives, and it is no induction. Longer runs are the matter of CutOrder and EveryOrder, which argue by
+-- monotony and don't use this exchange.
 use Rattle.std.proofs.Common.{◌≡◌, ℕ, ◌<◌, ◌≤◌, true, eqb, Option, Some, None, List, [], ◌∷◌, ◌++◌, length, drop, slice_get, refl, sym, ap, ◌∙◌, inl, inr, arith, ltb-true, lt-ltb, eq-eqb, eqb-true, length-append, length-drop}
 use Rattle.std.proofs.lemmas.Bool.{cases_eq, cases_Bool}
 use mathlib.Core.Path.{fun_ext}

@@ -1,4 +1,9 @@
 -- A nest's network fits the nest with whatever capacities some schedule ends all.
+--
+-- Of what the checker asks only the schedule depends on capacities. Shape, names and uses are read off the scripts and
+-- the channels' ends, so they stay when capacities change; each of these is one induction along a script. What is left
+-- is given: that the network fits with the numbers of its tokens, and that some schedule ends all with the new
+-- capacities. So a new policy has to prove nothing but its schedule.
 use Rattle.std.proofs.Common.{◌≡◌, ◌∙◌, ◌<◌, ℕ, zero, suc, Option, Some, List, [], ◌∷◌, ◌++◌, length, map, slice_get, refl, sym, ap, subst}
 use Rattle.std.specs.Option.{option_and_then}
 use mathlib.Core.Path.{fun_ext}

@@ -1,4 +1,11 @@
 -- One event takes a process a place further in its script.
+--
+-- The invariant is `Stands`, after k events: each end has moved by the channel's Gets or Puts among them, and the room
+-- holds the values of what it names, as in the machine (`IsLocalNamed` of net_core). At a Get the stream isn't used
+-- up, since a sound network has no more Gets than tokens; the value that comes is the next of the stream, and the
+-- stream is the values of the tokens, so it is the one that the slot names. A Put sends the last fired value, which is
+-- the stream's next. So each process, by itself and without any state of the others, keeps the values of its points.
+-- That a Get or a Put returns is assumed, not shown.
 use Rattle.std.proofs.Common.{◌≡◌, ◌<◌, ◌≤◌, ◌+◌, ◌==◌, ℕ, zero, suc, pred, Bool, All, get_or, true, false, cond, ℤ, Option, Some, None, List, [], ◌∷◌, ◌++◌, length, take, slice_get, count_by, option_map, refl, sym, ap, ap₂, ◌∙◌, subst, arith, eq-eqb, add-zero, append_assoc, take_all, length-append, length-set}
 use Rattle.std.specs.Option.{option_and_then, option_map_or}
 use Rattle.std.proofs.lemmas.List.{length-map, length-replicate}

@@ -1,4 +1,10 @@
 -- The network's numbers are below 2 ^ 32: its processes, its channels and its events.
+--
+-- Events are bounded by the length L of the trace. The Gets of one read, over all its writers, are at most the turns
+-- of all processes, so at most L, counted fire by fire (`slot_gets`): 8 L for each of 64 processes. A point has one
+-- Fire and at most one Put for each read of each process, so 513 L for all points together. These 1,025 for each entry
+-- of the trace are some sixty times what there can be: one Fire, and for each of at most eight uses at most one Get
+-- and one Put.
 use Rattle.std.proofs.Common.{◌≡◌, ◌≢◌, ◌<◌, ◌≤◌, ◌+◌, ◌-◌, ◌*◌, ℕ, zero, suc, false, cond, eqb, List, [], ◌∷◌, map, length, take, get_or, refl, sym, ap, ◌∙◌, subst, inl, inr, arith, eqb-true, length-append}
 use Rattle.std.specs.Prelude.{Option, Some, None, slice_get, slice_index, slice_index_or}
 use Rattle.std.specs.List.{cons_option, flat_map, list_any, range_with_len, sum_by}

@@ -1,4 +1,10 @@
--- The network has the shape of the nest's points and reads.
+-- The network of a nest has the shape of the nest's points and reads.
+--
+-- One point has one Fire, so there are as many fires as points. That no process has more slots than Gets is the longer
+-- part: a channel's hold is no more than the Gets that all its uses want, and all of these are made, which is counted
+-- fire by fire (`slot_makes`): a fire adds to one writer's channel what its use wants, and nothing to the others. The
+-- sums over fires and over reads are then exchanged. The channel of each source exists (`plan_there`), else a use
+-- would make no Get.
 use Rattle.std.proofs.Common.{◌≡◌, ◌≢◌, ◌<◌, ◌≤◌, ◌+◌, ◌-◌, ℕ, zero, suc, Bool, true, false, cond, eqb, List, [], ◌∷◌, map, length, take, get_or, refl, sym, ap, ◌∙◌, subst, inl, inr, arith}
 use Rattle.std.specs.Prelude.{Option, Some, None, slice_get, slice_index, slice_index_or, count_by}
 use Rattle.std.specs.List.{filter, flat_map, list_any, sum_by}

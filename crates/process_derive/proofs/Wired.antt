@@ -1,4 +1,10 @@
--- Every name in the scripts is that of something that is there.
+-- Every name in the scripts of a nest's network is that of something that is there, by its own reader or writer.
+--
+-- What holds of every event is gathered upward: of a use, of the events of a point, of a script (`IsEventOf`). A use's
+-- channel is found among the plans by its ends, so its reader is the process; its slots lie behind those of the
+-- reader's channels before it and within the channel's hold, so they are the reader's. In each point the Gets and the
+-- Fire come before the Puts, so no Put stands before the first fire. It is no matter of order or of values, and no
+-- schedule is needed.
 use Rattle.std.proofs.Common.{◌≡◌, ◌<◌, ◌≤◌, ◌+◌, ◌-◌, ℕ, zero, suc, Bool, false, cond, eqb, List, [], ◌∷◌, ◌++◌, map, length, take, refl, sym, ap, ◌∙◌, subst, inl, inr, arith, eqb-true, append_assoc}
 use Rattle.std.specs.Prelude.{All, Option, Some, None, slice_get, slice_index, slice_index_or, count_by}
 use Rattle.std.specs.List.{filter, find, flat_map, list_any}

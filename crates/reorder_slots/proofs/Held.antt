@@ -1,4 +1,9 @@
 -- What is held after a Get: the lowest free slot, and the slots with a token in one of them.
+--
+-- The invariant is `KeepsTokens`, before use q: each slot has the token of the last Get that took it, and each token
+-- that has a use numbered q or more lies in the slot of its Get. A Get keeps it, since it takes a slot whose token has
+-- no such use, or a new one: were it the slot of a wanted token, that slot wouldn't be free. Going on from use q to
+-- the next makes fewer tokens wanted, which keeps it too. Nothing is said of how few slots there are.
 use Rattle.std.proofs.Common.{◌≡◌, ℕ, zero, suc, ◌+◌, ◌<◌, ◌≤◌, max, true, false, List, [], ◌∷◌, ◌++◌, length, get_or, set, take, drop, refl, sym, ap, ◌∙◌, inl, inr, arith, add-one}
 use Rattle.std.proofs.lemmas.Bool.{cases_Bool, cases_lt, cases_eq, cond-true, cond-false}
 use Rattle.std.proofs.lemmas.List.{set_split, take_all, drop_all, length-set, get_or-set_same, get_or-set_other, get_or_append_left, get_or_push, length_push}

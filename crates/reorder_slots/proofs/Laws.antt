@@ -1,4 +1,9 @@
 -- Each use finds its token, and one slot serves exactly where the uses never fall.
+--
+-- When the Gets before a use are over its token has been got and is wanted, so by `KeepsTokens` (Held) it lies in the
+-- slot of its Get; a Get's slot stays as later Gets come (`stays`), so that is the slot that the plan names. For the
+-- same reason no Get between takes that slot. Where the uses never fall, the only earlier token has no use left when a
+-- Get comes, so one slot serves; where a use falls, two tokens must be held at once, and one slot can't.
 use Rattle.std.proofs.Common.{◌≡◌, ◌↔◌, ℕ, zero, suc, ◌+◌, ◌-◌, ◌<◌, ◌≤◌, max, true, false, IsTrue, Some, List, [], ◌∷◌, length, get_or, take, refl, sym, ap, ◌∙◌, inl, inr, arith, leb}
 use Rattle.std.specs.Option.{option_map}
 use Rattle.std.proofs.lemmas.Bool.{cases_lt, and_parts, and_from, leb-true, le-leb, false_from_ne_true}

@@ -1,4 +1,10 @@
--- Each step keeps the rule of a link.
+-- Each step keeps the rule of a link, and tells its end what it may know.
+--
+-- The rule is `Linked`: before the two ends part, the channel is empty; afterwards what was got and then what is held
+-- is what was put, a front of the stream, and no more is held than the capacity. A put of the stream's next value
+-- makes the front one longer; a get takes the oldest of what is held, and so, whatever the other end does meanwhile,
+-- the value behind what was got. Each end knows only its own half: how much it has moved. That a value ever comes is
+-- no part of the rule.
 use Rattle.std.proofs.Common.{◌≡◌, inr, ⊎_elim, ℕ, zero, suc, true, false, true≢false, List, [], ◌∷◌, ◌++◌, length, set, Some, refl, sym, ap, ◌∙◌, subst, append_assoc, arith, length-append}
 use Rattle.std.specs.Prelude.{ℤ, slice_get}
 use mathlib.Core.Option.{some, some-ne-none, some-injective}

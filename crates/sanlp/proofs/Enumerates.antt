@@ -1,4 +1,10 @@
 -- The trace has exactly the points of the iteration domains, each once, in the order of execution.
+--
+-- Three inductions on the nodes are joined here: each point of a node comes from a place of it, with values at which
+-- the place's rows hold (Domains); each such vector is reached (Reached); of two points of a node the one that
+-- precedes stands first (Ordered). The facts of a nest say that the places are those that the statements name, in
+-- ascending order. No two points precede each other, so "each once" and "earlier exactly where it precedes" follow
+-- from the order alone.
 use Rattle.std.proofs.Common.{◌≡◌, ◌<◌, ◌≤◌, ℕ, zero, suc, ◌+◌, ℤ, List, [], ◌∷◌, length, Bool, true, false, cond, inl, inr, refl, sym, ap, ◌∙◌, subst, arith}
 use Rattle.std.specs.Prelude.{◌==◌, nat_lt, Some, slice_get}
 use Rattle.std.proofs.lemmas.Bool.{cases_Bool, cases_order, eqb-true, ltb-true, ne_eqb, eq-eqb}

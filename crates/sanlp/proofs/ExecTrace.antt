@@ -1,4 +1,9 @@
 -- The sequential meaning executes the points of the trace, in order.
+--
+-- By induction on the nodes of the body: at any values of the loops round a node and from any memory, what the node
+-- does is executing the points that it gives there, one after the other. A loop is its turns in order, a guard its
+-- body or nothing, an assignment one point; joining lists of points is doing one after the other (`fold_flat`).
+-- Nothing is said of which points these are: that they are the iteration domains in order is Enumerates.
 use Rattle.std.proofs.Common.{◌≡◌, ℤ, List, [], ◌∷◌, ◌++◌, map, Bool, true, false, cond, refl, sym, ap, ◌∙◌, subst}
 use Rattle.std.specs.List.{fold, flat_map}
 use Rattle.std.proofs.lemmas.List.Sums.{fold-append}

@@ -1,4 +1,9 @@
--- A cell holds the value of its last writer.
+-- Along any list of points a cell holds the value of its last writer, and nothing where it has none.
+--
+-- By induction on the entries so far, for all cells at once: an entry that writes the cell becomes its last writer and
+-- its value is stored, any other leaves both. The values are defined without a memory, so the step needs that the
+-- reads of the entry see the same there as in the memory, which is the statement for the earlier entries. A value
+-- stays as entries are added (`value_stays`), so it doesn't matter how far it was computed.
 use Rattle.std.proofs.Common.{◌≡◌, ◌<◌, ℕ, zero, suc, pos, ℤ, List, [], ◌∷◌, length, get_or, take, Bool, true, false, cond, refl, sym, ap, ◌∙◌, subst, inl, inr, arith, add-one}
 use Rattle.std.specs.Prelude.{Option, Some, None, slice_get, unwrap_or}
 use Rattle.std.specs.Option.{option_map, option_map_or}

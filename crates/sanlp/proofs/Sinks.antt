@@ -1,4 +1,10 @@
--- The values of a sink's points are the cells of its array.
+-- The values of a sink's points are the cells of its array in the memory after the nest, in row-major order.
+--
+-- The trace ends with the points of the sinks, array by array (Frame), and no sink writes. So from the first sink's
+-- point on the memory is the last one, and each of these points reads its own cell of it: its value is that of the
+-- cell's last writer, which by LastWriter is what the memory has. It goes over the sink's vectors one by one, with the
+-- trace split before and behind. It isn't about which cells are printed: that is the order of `all_subscripts`, by
+-- Rounds.
 use Rattle.std.proofs.Common.{◌≡◌, ◌<◌, ◌≤◌, ◌+◌, ◌-◌, ℕ, suc, pos, ℤ, List, [], ◌∷◌, ◌++◌, length, take, drop, get_or, zero, map, true, false, cond, refl, sym, ap, ◌∙◌, subst, inl, inr, arith, append_assoc, length-append}
 use Rattle.std.specs.Prelude.{Option, Some, None, slice_get, unwrap_or, IsTrue, ◌==◌}
 use Rattle.std.specs.Option.{option_map, option_and_then, option_map_or}

@@ -1,4 +1,10 @@
 -- What a sweep knows after the first entries of the trace, and one entry more.
+--
+-- The invariant is `IsSwept`, after t entries: for each statement how many of them are its own, for each cell the tag
+-- of its last writer among them, and for each read the sources at those entries. One entry adds its sources from the
+-- shadow before its own write, then its write, then its turn. The last writer is defined by looking back over all
+-- earlier entries, and not by a shadow; that both agree is the induction. How the shadow is kept, in rows or in a map,
+-- is another file's.
 use Rattle.std.proofs.Common.{◌≡◌, ◌≢◌, ◌<◌, ◌≤◌, ◌+◌, ◌-◌, ℕ, zero, suc, List, [], ◌∷◌, ◌++◌, map, length, take, drop, set, get_or, Bool, true, false, cond, refl, sym, ap, ◌∙◌, subst, arith, add_assoc, length-append, length-drop}
 use Rattle.std.specs.Prelude.{Option, Some, None, slice_get, replicate, ◌==◌}
 use Rattle.std.specs.List.{sum_by, count_by}

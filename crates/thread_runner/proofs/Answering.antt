@@ -1,4 +1,8 @@
 -- What the processes of a sound network have kept in the end are the arrays after the nest.
+--
+-- A sound network has an ended state, and in it each process has kept the values of its points. Whoever keeps the same
+-- lists, threads in their rooms or the machine along its schedule, gives the same arrays: they are a function of what
+-- the sinks kept. So nothing is compared between the two ways of running, and no order of the threads' work occurs.
 use Rattle.std.proofs.Common.{◌≡◌, ◌≤◌, ◌-◌, ℕ, ℤ, List, [], length, get_or, sym, ap, ◌∙◌, subst, arith, inl, inr}
 use Rattle.std.specs.Option.{option_map_or}
 use Rattle.std.proofs.lemmas.Bool.{cases_lt}

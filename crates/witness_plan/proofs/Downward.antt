@@ -1,4 +1,9 @@
 -- The downward schedule of a network: it takes the highest-numbered ready process until none is ready.
+--
+-- It is a run that heeds no capacity, by its definition. That it ends all is no matter of the policy: where any such
+-- run ends all, as the sequential one does, no run can stop before (`no_further`), and this one stops only where
+-- nobody is ready. The second part is for the code: after an event of p no process past p and past the channel's
+-- reader has become ready, so the search for the highest needn't begin at the top again (`quiet_after`).
 use Rattle.std.proofs.Common.{◌≡◌, ℕ, zero, suc, ◌+◌, ◌-◌, ◌<◌, ◌≤◌, true, false, cond, Option, Some, None, List, [], ◌∷◌, length, take, slice_get, refl, sym, ap, ◌∙◌, subst, inl, inr, arith, ltb-false, eqb-true}
 use Rattle.std.specs.Option.{option_map_or}
 use Rattle.std.proofs.lemmas.Bool.{cases_Bool, cases_eq, cases_lt, le-ltb}

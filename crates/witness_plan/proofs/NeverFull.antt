@@ -1,4 +1,10 @@
 -- Runs that heed no capacity, and the capacities at which they are runs.
+--
+-- A channel with room for all its tokens is never full, so there only Gets can wait. Take such a run that ends all,
+-- and for each channel the greatest length of its queue along it: with these capacities it is a run again, since a Put
+-- leads to a length that was counted. By induction on the run, with what it has done and what is left. The capacities
+-- are those of this one run: in another order a process may find a queue full and wait, and by EveryOrder the network
+-- goes on. They are not the least: less may do for another schedule.
 use Rattle.std.proofs.Common.{◌≡◌, ℕ, zero, suc, ◌+◌, ◌<◌, ◌≤◌, true, cond, Option, Some, None, List, [], ◌∷◌, ◌++◌, length, take, slice_get, count_by, get_or, refl, sym, ap, ◌∙◌, subst, arith, append_assoc, append-nil, lt-ltb, eq-eqb}
 use Rattle.std.specs.Option.{option_map_or}
 use Rattle.std.proofs.lemmas.List.{take_all}

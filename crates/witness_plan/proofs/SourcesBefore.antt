@@ -1,4 +1,10 @@
 -- What the fires so far read was written before, so the writers have made those points.
+--
+-- At entry t of the trace, take a reader's fires up to that entry and one writer: each turn that they name is of an
+-- entry before its reader's, so it is among the writer's turns before t (`source_turn`). The Gets that these uses want
+-- are one more than the greatest number of such a token, and so no more than the tokens among those turns
+-- (`wanted_are_tokens`). It is the one place where "a last writer is earlier" is used for a schedule, and it says
+-- nothing of when a Put or a Get really comes.
 use Rattle.std.proofs.Common.{◌≡◌, ℕ, zero, suc, ◌+◌, ◌-◌, ◌<◌, ◌≤◌, Bool, true, false, cond, Option, Some, None, List, [], ◌∷◌, ◌++◌, length, map, take, drop, slice_get, get_or, count_by, refl, sym, ap, ◌∙◌, subst, inl, inr, arith}
 use Rattle.std.specs.Prelude.{All, ◌==◌, ◌||◌}
 use Rattle.std.specs.List.{cons_option, list_any}

@@ -1,0 +1,4 @@
+pub mod Joined
+pub mod Numbered
+pub mod HandedOn
+pub mod Walks

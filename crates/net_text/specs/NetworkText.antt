@@ -17,7 +17,7 @@ use Rattle.net_core.specs.declared.network.Network.{Network}
 use Rattle.net_core.specs.declared.network.Process.{Process}
 use Rattle.net_core.specs.Machine.{Net, net_of}
 use Rattle.net_core.specs.Shape.{turns, put_count, events_below}
-use Rattle.net_text.specs.Lines.{line_text}
+use Rattle.text_out.specs.Words.{line_text}
 
 -- Processes
 

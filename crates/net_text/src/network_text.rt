@@ -4,14 +4,15 @@ ghost use Rattle.io_edge.specs.Causes.{Rose, AppendsFront};
 ghost use Rattle.sanlp.specs.Points.{points_of};
 ghost use Rattle.net_core.specs.Machine.{net_of};
 ghost use Rattle.net_core.specs.Shape.{FitsNumbers};
+ghost use Rattle.text_out.specs.Wrote.{Wrote};
 ghost use Rattle.net_text.specs.NetworkText.{role_word as word_of_role, array_by_role, array_name as name_of_array, kind_word as word_of_kind, name_word as word_of_name, class_word as word_of_class, process_line, process_lines, channel_line, channel_lines, net_text};
 
 use crate::counts::{event_count, fire_count, hold, put_count, script_of};
-use crate::line::{Word, write_line};
 use channel_class::{ChannelClass, UseOrder};
 use io_edge::{Sink, WriteFault};
 use net_core::{Channel, Network, Process};
 use sanlp::{Nest, Points, Role, Statement};
+use text_out::{TextWriter, Word, Writer, write_line};
 
 fn role_word(role: Role) -> &'static [u8]
     ensures { result.now ≡ word_of_role role }
@@ -67,18 +68,15 @@ fn name_word(nest: &Nest, process: usize) -> &[u8]
     }
 }
 
-fn write_process<K: Sink>(
+fn write_process<W: TextWriter>(
     nest: &Nest,
     points: &Points,
     number: usize,
     process: &Process,
-    sink: &mut K,
-) -> Result<(), WriteFault>
+    out: &mut W,
+)
     requires { points.now.of ≡ points_of nest.now }
-    ensures ok { OnOk result (Appends (K.held sink.old) (K.held sink.new) (process_line nest.now number process.now)) }
-    ensures quiet { OnOk result (K.faults sink.new ≡ K.faults sink.old) }
-    ensures front { OnErr result (AppendsFront (K.held sink.old) (K.held sink.new) (process_line nest.now number process.now)) }
-    ensures cause { OnErr result (Rose (K.faults sink.old) (K.faults sink.new)) }
+    ensures { Wrote W.given out.old out.new (process_line nest.now number process.now) }
 {
     let words = [
         Word::Text(b"process"),
@@ -90,25 +88,22 @@ fn write_process<K: Sink>(
         Word::Text(b"slots"),
         Word::Number(u64::from(process.slots)),
     ];
-    write_line(&words, sink)
+    write_line(&words, out);
 }
 
-fn write_processes<K: Sink>(
+#[tactic(auto, using(text_out::proofs::Numbered::numbered))]
+fn write_processes<W: TextWriter>(
     nest: &Nest,
     points: &Points,
     processes: &[Process],
-    sink: &mut K,
-) -> Result<(), WriteFault>
+    out: &mut W,
+)
     requires { points.now.of ≡ points_of nest.now }
-    ensures ok { OnOk result (Appends (K.held sink.old) (K.held sink.new) (process_lines nest.now processes.now)) }
-    ensures quiet { OnOk result (K.faults sink.new ≡ K.faults sink.old) }
-    ensures front { OnErr result (AppendsFront (K.held sink.old) (K.held sink.new) (process_lines nest.now processes.now)) }
-    ensures cause { OnErr result (Rose (K.faults sink.old) (K.faults sink.new)) }
+    ensures { Wrote W.given out.old out.new (process_lines nest.now processes.now) }
 {
     for (number, process) in processes.iter().enumerate() {
-        write_process(nest, points, number, process, sink)?;
+        write_process(nest, points, number, process, out);
     }
-    Ok(())
 }
 
 /// The word of a channel's class.
@@ -123,17 +118,14 @@ pub fn class_word(class: ChannelClass) -> &'static [u8]
     }
 }
 
-fn write_channel<K: Sink>(
+fn write_channel<W: TextWriter>(
     network: &Network,
     number: usize,
     channel: &Channel,
-    sink: &mut K,
-) -> Result<(), WriteFault>
+    out: &mut W,
+)
     requires { slice_get network.now.channels number ≡ Some channel.now }
-    ensures ok { OnOk result (Appends (K.held sink.old) (K.held sink.new) (channel_line network.now number channel.now)) }
-    ensures quiet { OnOk result (K.faults sink.new ≡ K.faults sink.old) }
-    ensures front { OnErr result (AppendsFront (K.held sink.old) (K.held sink.new) (channel_line network.now number channel.now)) }
-    ensures cause { OnErr result (Rose (K.faults sink.old) (K.faults sink.new)) }
+    ensures { Wrote W.given out.old out.new (channel_line network.now number channel.now) }
 {
     let words = [
         Word::Text(b"channel"),
@@ -153,19 +145,29 @@ fn write_channel<K: Sink>(
         Word::Text(b"class"),
         Word::Text(class_word(channel.class)),
     ];
-    write_line(&words, sink)
+    write_line(&words, out);
 }
 
-pub(crate) fn write_channels<K: Sink>(network: &Network, sink: &mut K) -> Result<(), WriteFault>
-    ensures ok { OnOk result (Appends (K.held sink.old) (K.held sink.new) (channel_lines network.now)) }
-    ensures quiet { OnOk result (K.faults sink.new ≡ K.faults sink.old) }
-    ensures front { OnErr result (AppendsFront (K.held sink.old) (K.held sink.new) (channel_lines network.now)) }
-    ensures cause { OnErr result (Rose (K.faults sink.old) (K.faults sink.new)) }
+#[tactic(auto, using(text_out::proofs::Numbered::numbered))]
+pub(crate) fn write_channels<W: TextWriter>(network: &Network, out: &mut W)
+    ensures { Wrote W.given out.old out.new (channel_lines network.now) }
 {
     for (number, channel) in network.channels.as_slice().iter().enumerate() {
-        write_channel(network, number, channel, sink)?;
+        write_channel(network, number, channel, out);
     }
-    Ok(())
+}
+
+fn write_parts<W: TextWriter>(nest: &Nest, points: &Points, network: &Network, out: &mut W)
+    requires points { points.now.of ≡ points_of nest.now }
+    requires numbers { FitsNumbers (net_of network.now) }
+    ensures { Wrote W.given out.old out.new (net_text nest.now network.now) }
+{
+    write_line(&[Word::Text(b"net"), Word::Text(b"1")], out);
+    write_processes(nest, points, network.processes.as_slice(), out);
+    write_channels(network, out);
+    let events = [Word::Text(b"events"), Word::Number(event_count(network))];
+    write_line(&events, out);
+    write_line(&[Word::Text(b"end")], out);
 }
 
 /// Writes the network text. It takes no memory.
@@ -186,10 +188,7 @@ pub fn write_net<K: Sink>(
     ensures front { OnErr result (AppendsFront (K.held sink.old) (K.held sink.new) (net_text nest.now network.now)) }
     ensures cause { OnErr result (Rose (K.faults sink.old) (K.faults sink.new)) }
 {
-    write_line(&[Word::Text(b"net"), Word::Text(b"1")], sink)?;
-    write_processes(nest, points, network.processes.as_slice(), sink)?;
-    write_channels(network, sink)?;
-    let events = [Word::Text(b"events"), Word::Number(event_count(network))];
-    write_line(&events, sink)?;
-    write_line(&[Word::Text(b"end")], sink)
+    let mut out = Writer::new(sink);
+    write_parts(nest, points, network, &mut out);
+    out.finish()
 }

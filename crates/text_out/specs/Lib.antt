@@ -1,5 +1,4 @@
-pub mod Given
+pub mod Wrote
 pub mod Handed
 pub mod Writer
 pub mod Words
-pub mod Trial

@@ -2,7 +2,7 @@
 use Rattle.std.specs.Prelude.{◌++◌}
 use Rattle.io_edge.specs.declared.edge.Sink.{Ghosts}
 use Rattle.text_out.specs.declared.writer.Writer.{Writer}
-use Rattle.text_out.specs.Given.{Given}
+use Rattle.text_out.specs.Wrote.{Given}
 
 -- what was handed to the sink, and what waits
 abbrev pub given_of : {K : Type 0} (S : Ghosts K) → Writer K S → Given

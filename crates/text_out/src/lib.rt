@@ -3,7 +3,6 @@
 
 mod block;
 mod past;
-pub mod trial;
 mod words;
 mod writer;
 

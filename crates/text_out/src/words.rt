@@ -1,6 +1,6 @@
 ghost use Rattle.std.specs.Prelude.{◌≡◌, map};
 ghost use Rattle.std.specs.List.{flat_map, join_with_byte};
-ghost use Rattle.text_out.specs.Given.{Wrote};
+ghost use Rattle.text_out.specs.Wrote.{Wrote};
 ghost use Rattle.text_out.specs.Words.{word_text, spaced_text, line_text};
 
 use crate::writer::TextWriter;

@@ -1,7 +1,7 @@
 ghost use Rattle.std.specs.Prelude.{◌≡◌, ◌≤◌, ◌<◌, true, false, [], ◌++◌, length, take, OnOk, OnErr};
 ghost use Rattle.std.specs.Io.KnownBytes.{Appends};
 ghost use Rattle.io_edge.specs.Causes.{Rose, AppendsFront};
-ghost use Rattle.text_out.specs.Given.{Given, Wrote};
+ghost use Rattle.text_out.specs.Wrote.{Given, Wrote};
 ghost use Rattle.text_out.specs.Handed.{Handed, Handed-prop};
 
 use crate::block::Waiting;

@@ -1,12 +1,8 @@
-use Rattle.std.proofs.Common.{◌≡◌, take}
-use Rattle.std.specs.List.{flat_map, enumerate_from}
-use Rattle.std.specs.Io.KnownBytes.{Appends}
-use Rattle.net_text.specs.NetworkText.{process_line}
+use Rattle.std.proofs.Common.{take}
+use Rattle.text_out.specs.Wrote.{Wrote}
+use Rattle.net_text.specs.NetworkText.{process_lines}
 use Rattle.net_text.proofs.network_text.write_processes.Given as goal
 
--- the lines so far were written, and the count is as it was
+-- the lines so far were written
 abbrev pub invariant-loop-number : goal.invariant-loop-number
-invariant-loop-number g l =
-    Appends (g.K.Sink.held l.fn.sink) (g.K.Sink.held l.sink)
-    (flat_map (λ numbered. process_line l.nest numbered.0 numbered.1) (take l.number (enumerate_from 0 l.processes)))
-    × (g.K.Sink.faults l.sink ≡ g.K.Sink.faults l.fn.sink)
+invariant-loop-number g l = Wrote g.W.TextWriter.given l.fn.out l.out (process_lines l.nest (take l.number l.processes))

@@ -1,6 +1,6 @@
 use Rattle.std.proofs.Common.{take}
 use Rattle.std.specs.List.{flat_map}
-use Rattle.text_out.specs.Given.{Wrote}
+use Rattle.text_out.specs.Wrote.{Wrote}
 use Rattle.text_out.specs.Words.{spaced_text}
 use Rattle.text_out.proofs.words.write_all_spaced.Given as goal
 

@@ -1,5 +1,5 @@
 use Rattle.std.proofs.Common.{◌≤◌, length, ◌-◌, take}
-use Rattle.text_out.specs.Given.{Wrote}
+use Rattle.text_out.specs.Wrote.{Wrote}
 use Rattle.text_out.specs.Writer.{given_of}
 use Rattle.text_out.proofs.writer.WriterTextWriter.put.Given as goal
 

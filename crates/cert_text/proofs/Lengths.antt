@@ -8,7 +8,7 @@ use Rattle.net_core.specs.declared.network.Network.{Network}
 use Rattle.net_core.specs.declared.network.Process.{Process}
 use Rattle.net_core.specs.Machine.{net_of}
 use Rattle.net_core.specs.Shape.{FitsNumbers, events_below}
-use Rattle.net_text.specs.Lines.{line_text}
+use Rattle.text_out.specs.Words.{line_text}
 use Rattle.source_tree.specs.declared.cert.Cert.{Cert}
 use Rattle.cert_text.specs.CertText.{AreInRange, cert_text, channel_text, end_text, entry_text, event_text, event_words, head_text, process_head, process_text, sizes_text, source_text}
 

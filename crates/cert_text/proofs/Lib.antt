@@ -1,12 +1,12 @@
 pub mod Codecs
 pub mod Counted
 pub mod Cuts
+pub mod Fires
 pub mod Found
 pub mod Judged
 pub mod Lengths
 pub mod Many
 pub mod Numerals
-pub mod Pieces
 pub mod ReadBack
 pub mod References
 pub mod Spelled

@@ -11,7 +11,7 @@ use Rattle.net_core.specs.declared.network.Process.{Process}
 use Rattle.source_tree.specs.declared.cert.Cert.{Cert}
 use Rattle.source_tree.specs.declared.cert.Origin.{Origin}
 use Rattle.source_tree.specs.declared.cert.Origin.TheVariants.{Sweep}
-use Rattle.net_text.specs.Lines.{line_text}
+use Rattle.text_out.specs.Words.{line_text}
 use Rattle.net_text.specs.NetworkText.{class_word}
 
 -- Processes

@@ -12,7 +12,7 @@ use Rattle.net_checker.specs.declared.verdict.Verdict.{Verdict}
 use Rattle.net_checker.specs.declared.verdict.Verdict.TheVariants.{Accepted, Refused}
 use Rattle.net_checker.specs.declared.verdict.Wanted.{Wanted}
 use Rattle.net_checker.specs.declared.verdict.Wanted.TheVariants as wanted
-use Rattle.net_text.specs.Lines.{line_text}
+use Rattle.text_out.specs.Words.{line_text}
 use Rattle.net_text.specs.NetworkText.{class_word}
 use Rattle.sanlp.specs.declared.nest.Point.{Point}
 

@@ -4,7 +4,7 @@ use Rattle.std.specs.Io.KnownBytes.{Appends}
 use Rattle.std.proofs.KnownBytes.{Appends-nil, Keeps-refl}
 use Rattle.io_edge.specs.Causes.{AppendsFront}
 use Rattle.command_line.specs.declared.words.Command.{Command}
-use Rattle.command_line.specs.declared.words.Command.TheVariants.{Run, Seq, Net, Cert, Check, Load}
+use Rattle.command_line.specs.declared.words.Command.TheVariants.{Run, Seq, Net, Cert, Check, Vhdl, Load}
 use Rattle.command_line.specs.declared.words.Order.{Order}
 use Rattle.compaan_top.specs.Answers.{Change, IsQuiet, HasFault, ReadsFor, ReadsTo, Ends, no_memory, read_fault, written, cut_short}
 use Rattle.compaan_top.specs.Judging.{Judges}
@@ -65,6 +65,7 @@ quiet_reads Seq input bundle waits reads = reads
 quiet_reads Net input bundle waits reads = reads
 quiet_reads Cert input bundle waits reads = reads
 quiet_reads Check input bundle waits reads = reads
+quiet_reads Vhdl input bundle waits reads = reads
 quiet_reads Load input bundle waits reads = absurd waits
 
 -- so does `run`

@@ -9,3 +9,4 @@ pub mod Sources
 pub mod Statuses
 pub mod Vouched
 pub mod Loads
+pub mod Described

@@ -42,9 +42,17 @@ use Rattle.sanlp.specs.declared.nest.Inputs.{Inputs}
 use Rattle.command_line.specs.Bundle.{certificate_part, data_part, source_part}
 use Rattle.command_line.specs.declared.words.Order.{Order}
 use Rattle.command_line.specs.declared.words.Command.{Command}
-use Rattle.command_line.specs.declared.words.Command.TheVariants.{Run, Seq, Net, Cert, Check, Load}
+use Rattle.command_line.specs.declared.words.Command.TheVariants.{Run, Seq, Net, Cert, Check, Vhdl, Load}
 use Rattle.compaan_top.specs.Checking as check
 use Rattle.compaan_top.specs.Checking.{Checks, verdict_reply}
+use Rattle.channel_plan.specs.Plans.{plans_of}
+use Rattle.node_automata.specs.declared.node.NodeAuto.{NodeAuto}
+use Rattle.process_derive.specs.Derived.{net}
+use Rattle.source_tree.specs.Sources.{sources_of}
+use Rattle.vhdl_text.specs.Refusal.{first_too_long}
+use Rattle.witness_plan.specs.Sequential.{sequential_schedule}
+use Rattle.compaan_top.specs.Describing as describe
+use Rattle.compaan_top.specs.Describing.{Describes, planned_automata}
 use Rattle.compaan_top.specs.Laws.{HasParts, IsDone, IsNestFor, IsValid, outcome_statuses}
 use Rattle.compaan_top.specs.Load as load
 use Rattle.compaan_top.specs.Load.{Loads, load_limit}
@@ -127,6 +135,24 @@ first_alike n m arrays statements body network cert =
     (subst (λ (z : List Node). (v : IsWellFormed n.arrays n.statements z)
     → first n network cert ≡ first (record { arrays = n.arrays; statements = n.statements; body = z; well_formed = v }) network cert) body
     (λ v. facts_aside n.arrays n.statements n.body n.well_formed v network cert))) m.well_formed
+
+-- nor on the automata of the network
+automata_aside : (arrays : List ArrayDecl) (statements : List Statement) (body : List Node) (w v : IsWellFormed arrays statements body) (policy : Policy)
+    → planned_automata policy (record { arrays = arrays; statements = statements; body = body; well_formed = w })
+    ≡ planned_automata policy (record { arrays = arrays; statements = statements; body = body; well_formed = v })
+unfolding trace last_before points_of sources_of plans_of net sequential_schedule
+automata_aside arrays statements body w v policy = refl
+
+automata_alike : (n m : Nest) → n.arrays ≡ m.arrays → n.statements ≡ m.statements → n.body ≡ m.body → (policy : Policy)
+    → planned_automata policy n ≡ planned_automata policy m
+automata_alike n m arrays statements body policy =
+    subst (λ (x : List ArrayDecl). (v : IsWellFormed x m.statements m.body)
+    → planned_automata policy n ≡ planned_automata policy (record { arrays = x; statements = m.statements; body = m.body; well_formed = v })) arrays
+    (subst (λ (y : List Statement). (v : IsWellFormed n.arrays y m.body)
+    → planned_automata policy n ≡ planned_automata policy (record { arrays = n.arrays; statements = y; body = m.body; well_formed = v })) statements
+    (subst (λ (z : List Node). (v : IsWellFormed n.arrays n.statements z)
+    → planned_automata policy n ≡ planned_automata policy (record { arrays = n.arrays; statements = n.statements; body = z; well_formed = v })) body
+    (λ v. automata_aside n.arrays n.statements n.body n.well_formed v policy))) m.well_formed
 
 pub gives_alike : OneTree → (source : List ℕ) (params : List (List ℕ × ℤ)) {x y : Result Nest Refusal} → Gives source params x → Gives source params y → Alike x y
 gives_alike one source params (no_tokens e r lexed made) (no_tokens f s lexed' made') =
@@ -306,6 +332,38 @@ checks_alike one params bundle (check.judged part n t network cert there g c rea
 checks_alike one params bundle (check.judged part n t network cert there g c read) (check.unread part' m u f text' there' h d read' told') = absurd (read_and_unread bundle part' part f network cert there' there read' read)
 checks_alike one params bundle (check.judged part n t network cert there g c read) (check.judged part' m u network' cert' there' h d read') = judged_alike bundle part part' n m network network' cert cert' there there' (gives_alike one (source_part bundle) params g h) read read'
 
+no_both_lengths : (a b : Option NodeAuto) (auto : NodeAuto) → a ≡ b → a ≡ Some auto → b ≡ None → ⊥
+no_both_lengths a b auto same x y = cc
+
+-- the scripts of one nest's network aren't both too long and short enough
+long_and_short : (policy : Policy) (n m : Nest) (auto : NodeAuto) → Alike (Ok n) (Ok m) → first_too_long (planned_automata policy n) ≡ Some auto
+    → first_too_long (planned_automata policy m) ≡ None → ⊥
+long_and_short policy n m auto same x y =
+    no_both_lengths (first_too_long (planned_automata policy n)) (first_too_long (planned_automata policy m)) auto
+    (ap first_too_long (automata_alike n m same.0 same.1 same.2 policy)) x y
+
+describes_alike : OneTree → (policy : Policy) (params : List (List ℕ × ℤ)) (bundle : List ℕ) {x y : Result Reply Refusal} → Describes policy params bundle x → Describes policy params bundle y → SameStatus x y
+describes_alike one policy params bundle (describe.source_refused r g) (describe.source_refused s h) = gives_alike one (source_part bundle) params g h
+describes_alike one policy params bundle (describe.source_refused r g) (describe.size_refused m f h d) = absurd (gives_alike one (source_part bundle) params g h)
+describes_alike one policy params bundle (describe.source_refused r g) (describe.script_refused m u a h d l) = absurd (gives_alike one (source_part bundle) params g h)
+describes_alike one policy params bundle (describe.source_refused r g) (describe.described m u h d l) = absurd (gives_alike one (source_part bundle) params g h)
+describes_alike one policy params bundle (describe.size_refused n e g c) (describe.source_refused s h) = absurd (gives_alike one (source_part bundle) params g h)
+describes_alike one policy params bundle (describe.size_refused n e g c) (describe.size_refused m f h d) = size_status e ∙ sym (size_status f)
+describes_alike one policy params bundle (describe.size_refused n e g c) (describe.script_refused m u a h d l) = size_status e
+describes_alike one policy params bundle (describe.size_refused n e g c) (describe.described m u h d l) =
+    absurd (no_both_sizes n m e u (gives_alike one (source_part bundle) params g h).2 c d)
+describes_alike one policy params bundle (describe.script_refused n t a g c k) (describe.source_refused s h) = absurd (gives_alike one (source_part bundle) params g h)
+describes_alike one policy params bundle (describe.script_refused n t a g c k) (describe.size_refused m f h d) = sym (size_status f)
+describes_alike one policy params bundle (describe.script_refused n t a g c k) (describe.script_refused m u b h d l) = refl
+describes_alike one policy params bundle (describe.script_refused n t a g c k) (describe.described m u h d l) =
+    absurd (long_and_short policy n m a (gives_alike one (source_part bundle) params g h) k l)
+describes_alike one policy params bundle (describe.described n t g c k) (describe.source_refused s h) = absurd (gives_alike one (source_part bundle) params g h)
+describes_alike one policy params bundle (describe.described n t g c k) (describe.size_refused m f h d) =
+    absurd (no_both_sizes m n f t (gives_alike one (source_part bundle) params h g).2 d c)
+describes_alike one policy params bundle (describe.described n t g c k) (describe.script_refused m u b h d l) =
+    absurd (long_and_short policy m n b (gives_alike one (source_part bundle) params h g) l k)
+describes_alike one policy params bundle (describe.described n t g c k) (describe.described m u h d l) = refl
+
 -- the product of matrices with so many rows is one nest
 matrix_alike : OneTree → (rows : ℕ) (n m : Nest) → IsMatrixNest rows n → IsMatrixNest rows m → Alike (Ok n) (Ok m)
 matrix_alike one rows n m a b =
@@ -331,6 +389,7 @@ performs_alike one Seq order bundle x y made other = runs_alike one order.params
 performs_alike one Net order bundle x y made other = prints_alike one (network_text order.policy) order.params bundle made other
 performs_alike one Cert order bundle x y made other = prints_alike one (certificate_text order.policy) order.params bundle made other
 performs_alike one Check order bundle x y made other = checks_alike one order.params bundle made other
+performs_alike one Vhdl order bundle x y made other = describes_alike one order.policy order.params bundle made other
 performs_alike one Load order bundle x y made other = loads_alike one order.policy order.load made other
 
 pub no_order : (wanted : Option Order) (order : Order) → wanted ≡ None → wanted ≡ Some order → ⊥
@@ -420,6 +479,12 @@ checks_own params bundle (check.size_refused part n e there g c) = rw (size_stat
 checks_own params bundle (check.unread part n t e text there g c read told) = refl
 checks_own params bundle (check.judged part n t network cert there g c read) = verdict_own (first n network cert)
 
+describes_own : (policy : Policy) (params : List (List ℕ × ℤ)) (bundle : List ℕ) {x : Result Reply Refusal} → Describes policy params bundle x → is_own (outcome_of x).status ≡ true
+describes_own policy params bundle (describe.source_refused r g) = own_refused r.status (gives_refused (source_part bundle) params g)
+describes_own policy params bundle (describe.size_refused n e g c) = rw (size_status e) refl
+describes_own policy params bundle (describe.script_refused n t a g c k) = refl
+describes_own policy params bundle (describe.described n t g c k) = refl
+
 loads_own : (policy : Policy) (rows : ℕ) {x : Result Reply Refusal} → Loads policy rows x → is_own (outcome_of x).status ≡ true
 loads_own policy rows (load.too_large a) = refl
 loads_own policy rows (load.size_refused n e a g c) = rw (size_status e) refl
@@ -432,6 +497,7 @@ performs_own Seq order bundle x made = runs_own order.params bundle made
 performs_own Net order bundle x made = prints_own (network_text order.policy) order.params bundle made
 performs_own Cert order bundle x made = prints_own (certificate_text order.policy) order.params bundle made
 performs_own Check order bundle x made = checks_own order.params bundle made
+performs_own Vhdl order bundle x made = describes_own order.policy order.params bundle made
 performs_own Load order bundle x made = loads_own order.policy order.load made
 
 pub outcomes_own : (wanted : Option Order) (bundle : List ℕ) {a : Outcome} → IsOutcome wanted bundle a → is_own a.status ≡ true
@@ -471,6 +537,8 @@ performs_done one Net order bundle n total inputs gives counts has x made =
 performs_done one Cert order bundle n total inputs gives counts has x made =
     prints_alike one (certificate_text order.policy) order.params bundle made (print.printed n total gives counts)
 performs_done one Check order bundle n total inputs gives counts has x made = checks_done one order.params bundle n total has.0 gives counts has.1 made
+performs_done one Vhdl order bundle n total inputs gives counts has x made =
+    describes_alike one order.policy order.params bundle made (describe.described n total gives.0 counts gives.1)
 performs_done one Load order bundle n total inputs gives counts has x made = loads_done one order.policy order.load n total gives.0 gives.1 counts made
 
 pub outcomes_succeed : OneTree → (wanted : Option Order) (bundle : List ℕ) (v : IsValid wanted bundle) → {a : Outcome} → IsOutcome wanted bundle a → IsDone v.order.command a.status

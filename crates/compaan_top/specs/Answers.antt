@@ -3,7 +3,7 @@ use Rattle.std.specs.Prelude.{◌≡◌, ◌⊎◌, ◌≤◌, ◌+◌, ℕ, Lis
 use Rattle.std.specs.Io.KnownBytes.{Appends, Consumes, IsAtEnd, Keeps}
 use Rattle.io_edge.specs.Causes.{Rose, AppendsFront}
 use Rattle.command_line.specs.declared.words.Command.{Command}
-use Rattle.command_line.specs.declared.words.Command.TheVariants.{Run, Seq, Net, Cert, Check, Load}
+use Rattle.command_line.specs.declared.words.Command.TheVariants.{Run, Seq, Net, Cert, Check, Vhdl, Load}
 use Rattle.command_line.specs.declared.words.Order.{Order}
 use Rattle.compaan_top.specs.Outcome.{Outcome, IsOutcome, bundle_limit}
 
@@ -37,6 +37,7 @@ ReadsFor Seq = ReadsTo
 ReadsFor Net = ReadsTo
 ReadsFor Cert = ReadsTo
 ReadsFor Check = ReadsTo
+ReadsFor Vhdl = ReadsTo
 ReadsFor Load = ReadsNothing
 
 -- where the words are refused nothing is read

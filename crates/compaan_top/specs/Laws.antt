@@ -1,14 +1,16 @@
 -- What follows of the definitions alone.
-use Rattle.std.specs.Prelude.{◌≡◌, ◌⊎◌, ◌==◌, ◌≤◌, ℕ, true, List, [], ◌∷◌, length, Option, Some, Ok}
+use Rattle.std.specs.Prelude.{◌≡◌, ◌⊎◌, ◌==◌, ◌≤◌, ℕ, true, List, [], ◌∷◌, length, Option, Some, None, Ok}
 use Rattle.std.specs.List.{list_any}
 use Rattle.command_line.specs.Bundle.{certificate_part, data_part, source_part}
 use Rattle.command_line.specs.declared.words.Command.{Command}
-use Rattle.command_line.specs.declared.words.Command.TheVariants.{Run, Seq, Net, Cert, Check, Load}
+use Rattle.command_line.specs.declared.words.Command.TheVariants.{Run, Seq, Net, Cert, Check, Vhdl, Load}
 use Rattle.command_line.specs.declared.words.Order.{Order}
 use Rattle.matrix_load.specs.Product.{IsMatrixNest}
 use Rattle.sanlp.specs.declared.nest.Inputs.{Inputs}
 use Rattle.sanlp.specs.declared.nest.Nest.{Nest}
 use Rattle.loop_walk.specs.Counting.{counted}
+use Rattle.vhdl_text.specs.Refusal.{first_too_long}
+use Rattle.compaan_top.specs.Describing.{planned_automata}
 use Rattle.compaan_top.specs.Load.{load_limit}
 use Rattle.compaan_top.specs.Outcome.{Outcome, IsOutcome, bundle_limit}
 use Rattle.compaan_top.specs.Run.{IsInputs}
@@ -32,15 +34,18 @@ HasParts Seq nest bundle inputs = IsInputs nest (data_part bundle) (Ok inputs)
 HasParts Net nest bundle inputs = Unit {0}
 HasParts Cert nest bundle inputs = Unit {0}
 HasParts Check nest bundle inputs = (part : List ℕ) × (certificate_part bundle ≡ Some part)
+HasParts Vhdl nest bundle inputs = Unit {0}
 HasParts Load nest bundle inputs = Unit {0}
 
--- the nest that an order is about: that of the bundle's source, and for `load` the product of matrices with so many rows
+-- the nest that an order is about: that of the bundle's source, which for `vhdl` has no script that is too long, and for `load`
+-- the product of matrices with so many rows
 abbrev pub IsNestFor : Command → Order → List ℕ → Nest → Type 0
 IsNestFor Run order bundle nest = Gives (source_part bundle) order.params (Ok nest)
 IsNestFor Seq order bundle nest = Gives (source_part bundle) order.params (Ok nest)
 IsNestFor Net order bundle nest = Gives (source_part bundle) order.params (Ok nest)
 IsNestFor Cert order bundle nest = Gives (source_part bundle) order.params (Ok nest)
 IsNestFor Check order bundle nest = Gives (source_part bundle) order.params (Ok nest)
+IsNestFor Vhdl order bundle nest = Gives (source_part bundle) order.params (Ok nest) × (first_too_long (planned_automata order.policy nest) ≡ None)
 IsNestFor Load order bundle nest = (order.load ≤ load_limit) × IsMatrixNest order.load nest
 
 -- an order and a bundle at which nothing is refused
@@ -62,6 +67,7 @@ IsDone Seq status = status ≡ 0
 IsDone Net status = status ≡ 0
 IsDone Cert status = status ≡ 0
 IsDone Check status = (status ≡ 0) ⊎ (status ≡ 1)
+IsDone Vhdl status = status ≡ 0
 IsDone Load status = status ≡ 0
 
 -- with this order and this bundle the command is done

@@ -3,6 +3,7 @@ pub mod Certified
 pub mod Judging
 pub mod Laws
 pub mod Checking
+pub mod Describing
 pub mod Headline
 pub mod Load
 pub mod Printing

@@ -2,9 +2,10 @@
 -- words it takes the order that they give, or None where they are refused.
 use Rattle.std.specs.Prelude.{◌≡◌, ◌≤◌, ◌<◌, ℕ, ℤ, List, [], length, Option, Some, None, Result, Ok, Err}
 use Rattle.command_line.specs.declared.words.Command.{Command}
-use Rattle.command_line.specs.declared.words.Command.TheVariants.{Run, Seq, Net, Cert, Check, Load}
+use Rattle.command_line.specs.declared.words.Command.TheVariants.{Run, Seq, Net, Cert, Check, Vhdl, Load}
 use Rattle.command_line.specs.declared.words.Order.{Order}
 use Rattle.compaan_top.specs.Checking.{Checks}
+use Rattle.compaan_top.specs.Describing.{Describes}
 use Rattle.compaan_top.specs.Load.{Loads}
 use Rattle.compaan_top.specs.Printing.{Prints, certificate_text, network_text}
 use Rattle.compaan_top.specs.Refusals.{usage, too_long}
@@ -34,6 +35,7 @@ Performs Seq order = Runs order.params
 Performs Net order = Prints (network_text order.policy) order.params
 Performs Cert order = Prints (certificate_text order.policy) order.params
 Performs Check order = Checks order.params
+Performs Vhdl order = Describes order.policy order.params
 Performs Load order = λ bundle. Loads order.policy order.load
 
 -- The words are refused, the bundle is too long, or the command is performed.

@@ -4,16 +4,17 @@ use Rattle.std.specs.Global.{Vec}
 use Rattle.array_data.specs.Answer.{answer_text}
 use Rattle.cert_text.specs.CertText.{cert_text}
 use Rattle.command_line.specs.declared.words.Command.{Command}
-use Rattle.command_line.specs.declared.words.Command.TheVariants.{Run, Seq, Net, Cert, Check, Load}
+use Rattle.command_line.specs.declared.words.Command.TheVariants.{Run, Seq, Net, Cert, Check, Vhdl, Load}
 use Rattle.command_line.specs.declared.words.Order.{Order}
 use Rattle.compaan_top.specs.Answers.{Change, IsQuiet, HasFault, ReadsTo, Reads}
 use Rattle.compaan_top.specs.Outcome.{IsOutcome, outcome_of, bundle_limit}
 use Rattle.compaan_top.specs.Refusals.{usage, too_long}
 use Rattle.compaan_top.specs.Replies.{Reply, done}
 use Rattle.compaan_top.specs.declared.answer.Answer.{Answer}
-use Rattle.compaan_top.specs.declared.answer.Answer.TheVariants.{Arrays, Network, Certificate, Verdict, Summary}
+use Rattle.compaan_top.specs.declared.answer.Answer.TheVariants.{Arrays, Network, Certificate, Verdict, Summary, Nodes}
 use Rattle.matrix_load.specs.Summary.{summary_text}
 use Rattle.net_text.specs.NetworkText.{net_text}
+use Rattle.vhdl_text.specs.VhdlText.{vhdl_text}
 use Rattle.compaan_top.specs.declared.refusal.Refusal.{Refusal}
 use Rattle.compaan_top.specs.declared.refusal.Stop.{Stop}
 use Rattle.compaan_top.specs.declared.refusal.Stop.TheVariants.{Refused, ReadFault, Memory}
@@ -24,6 +25,7 @@ reply_of (Arrays answer) = done (answer_text answer.nest.arrays answer.arrays.ar
 reply_of (Network answer) = done (net_text answer.nest answer.network)
 reply_of (Certificate answer) = done (cert_text answer.network answer.cert)
 reply_of (Verdict answer) = record { status = answer.status; text = answer.line }
+reply_of (Nodes answer) = done (vhdl_text answer.network answer.autos)
 reply_of (Summary answer) = done (summary_text answer.points answer.channels answer.events answer.sum)
 
 abbrev pub as_reply : Result Answer Refusal → Result Reply Refusal
@@ -37,6 +39,7 @@ WaitsForNobody Seq = Unit {0}
 WaitsForNobody Net = Unit {0}
 WaitsForNobody Cert = Unit {0}
 WaitsForNobody Check = Unit {0}
+WaitsForNobody Vhdl = Unit {0}
 WaitsForNobody Load = ⊥
 
 abbrev pub IsOrdered : Option Order → Result Order Refusal → Type 0

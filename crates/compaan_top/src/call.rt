@@ -10,6 +10,7 @@ ghost use Rattle.compaan_top.specs.Planned.{as_reply, IsOrdered, IsPlanned, Read
 
 use crate::answer::Answer;
 use crate::check::check_certificate;
+use crate::describing::describe_network;
 use crate::law::what_is_accepted_fits;
 use crate::load::load;
 use crate::printing::{print_certificate, print_network};
@@ -59,6 +60,7 @@ fn perform(alloc: Global, order: &Order, bundle: &[u8]) -> Result<Answer, Stop>
         Command::Net => print_network(alloc, order.policy, &order.params, bundle),
         Command::Cert => print_certificate(alloc, order.policy, &order.params, bundle),
         Command::Check => check_certificate(alloc, &order.params, bundle),
+        Command::Vhdl => describe_network(alloc, order.policy, &order.params, bundle),
     }
 }
 
@@ -162,7 +164,7 @@ fn carry_out<R: Threads + Wait + Sync, S: Source, K: Sink, E: Sink, G: Gate + Sy
     match order.command {
         Command::Run => finish(plan_run(rt, alloc, order, input, gate), output, complaint),
         Command::Load => finish(plan_load(rt, alloc, order, gate), output, complaint),
-        Command::Seq | Command::Net | Command::Cert | Command::Check => {
+        Command::Seq | Command::Net | Command::Cert | Command::Check | Command::Vhdl => {
             quiet(alloc, order, input, output, complaint)
         }
     }

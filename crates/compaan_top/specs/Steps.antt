@@ -19,7 +19,7 @@ use Rattle.sanlp.specs.declared.nest.Inputs.{Inputs}
 use Rattle.sanlp.specs.declared.nest.Nest.{Nest}
 use Rattle.compaan_top.specs.Refusals.{byte_of, lex_refusal, syntax_refusal, bind_refusal, script_refusal, size_refusal}
 use Rattle.compaan_top.specs.Run.{IsInputs, Runs}
-use Rattle.compaan_top.specs.Source.{Gives}
+use Rattle.compaan_top.specs.Source.{GivesWithinSize}
 use Rattle.vhdl_text.specs.Refusal.{first_too_long}
 use Rattle.compaan_top.specs.declared.answer.NodesAnswer.{NodesAnswer}
 use Rattle.compaan_top.specs.declared.refusal.Refusal.{Refusal}
@@ -41,11 +41,15 @@ abbrev pub HasSize : Nest → Result ℕ Refusal → Type 0
 HasSize nest (Ok total) = (counted nest ≡ Ok total) × SizeIsOk nest
 HasSize nest (Err refusal) = (error : SizeError) × (counted nest ≡ Err error) × (refusal ≡ size_refusal error)
 
+-- the nest of a source, or why it has none within the limit on its size
+abbrev pub HasSizedNest : List ℕ → List (List ℕ × ℤ) → Result Nest Refusal → Type 0
+HasSizedNest source params (Ok nest) = GivesWithinSize source params (Ok nest) × SizeIsOk nest
+HasSizedNest source params (Err refusal) = GivesWithinSize source params (Err refusal)
+
 -- the nest and the inputs of a bundle, or why it has none
 abbrev pub IsPrepared : List (List ℕ × ℤ) → List ℕ → Result (Nest × Inputs) Refusal → Type 0
 IsPrepared params bundle (Ok made) =
-    Gives (source_part bundle) params (Ok made.0) × IsInputs made.0 (data_part bundle) (Ok made.1) × SizeIsOk made.0
-    × (total : ℕ) × (counted made.0 ≡ Ok total)
+    GivesWithinSize (source_part bundle) params (Ok made.0) × IsInputs made.0 (data_part bundle) (Ok made.1) × SizeIsOk made.0
 IsPrepared params bundle (Err refusal) = Runs params bundle (Err refusal)
 
 -- the automata are to be written with their network, or a script is too long

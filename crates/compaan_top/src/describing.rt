@@ -11,8 +11,7 @@ ghost use Rattle.compaan_top.specs.Steps.{HasNodes};
 
 use crate::answer::{Answer, NodesAnswer};
 use crate::refusal::{Stop, script_refusal};
-use crate::run::size_of;
-use crate::source::nest_of;
+use crate::source::sized_nest;
 use command_line::parts_of;
 use loop_class::Params;
 use loop_walk::points;
@@ -65,8 +64,7 @@ pub(crate) fn describe_network(
     ensures { Judges (λ answer. Describes policy params.now bundle.now (as_reply answer)) result }
 {
     let parts = parts_of(bundle);
-    let nest = nest_of(alloc, parts.source, params)?;
-    size_of(alloc, &nest)?;
+    let nest = sized_nest(alloc, parts.source, params)?;
     let (network, autos) = nodes_of(alloc, policy, &nest)?;
     Ok(Answer::Nodes(described(alloc, network, autos)?))
 }

@@ -1,9 +1,11 @@
 mod certificates;
 mod kernels;
+mod meeting;
 mod networks;
 mod orders;
 mod sources;
 mod threads;
+mod vhdl;
 
 use crate::compaan;
 use io_edge::{MemSink, MemSource, Open};
@@ -255,61 +257,6 @@ fn networks_are_printed(rt: HostRuntime) -> Result<(), Fail> {
         expect(&rt, SOUND, words, bundle, 0, output, b"")?;
     }
     Ok(())
-}
-
-const INCREMENT: &[u8] = b"param N; in x[N]; out y[N]; for (i = 0; i < N; i++) y[i] = x[i] + 1;";
-
-const VHDL_HEAD: &[u8] = b"-- compaan vhdl 1
--- channel 0 node_0 node_1 capacity 1
--- channel 1 node_1 node_2 capacity 1
-
-library ieee;
-use ieee.std_logic_1164.all;
-use ieee.numeric_std.all;
-entity node_0 is
-  port (
-    clk : in std_logic;
-    rst : in std_logic;
-    given : in signed(63 downto 0);
-    given_take : out std_logic;
-    c0_ready : in std_logic;
-    c0_data : out signed(63 downto 0);
-    c0_give : out std_logic;
-    done : out std_logic
-  );
-end entity;
-";
-
-#[test]
-fn vhdl_is_written(rt: HostRuntime) -> Result<(), Fail> {
-    let alloc = rt.alloc();
-    let words = words_of(alloc, "vhdl", &["N=1"])?;
-    let mut input = MemSource::new(alloc, INCREMENT, 16, &[])?;
-    let mut written = MemSink::new(alloc, 100_000, 4_096, &[])?;
-    let mut complained = MemSink::new(alloc, 1_000, 4_096, &[])?;
-    let status = compaan(
-        &rt,
-        alloc,
-        &words,
-        &mut input,
-        &mut written,
-        &mut complained,
-        &Open,
-    );
-    assert_eq!(rt; status, 0);
-    assert!(rt; complained.held().is_empty());
-    assert!(rt; written.held().starts_with(VHDL_HEAD));
-    assert!(rt; written.held().ends_with(b"end architecture;\n"));
-    let counter = b"param N; var a; for (i = 0; i < N; i++) a = i;";
-    let no_room = Devices {
-        output_room: 0,
-        ..SOUND
-    };
-    // a script of the limit is written, so the output fails
-    expect(&rt, no_room, &["vhdl", "N=65536"], counter, 4, b"", b"")?;
-    let longer = b"limit: Script 0 65537\n";
-    expect(&rt, SOUND, &["vhdl", "N=65537"], counter, 8, b"", longer)?;
-    expect(&rt, SOUND, &["vhdl"], b"$", 6, b"", b"text: BadByte 0\n")
 }
 
 #[test]

@@ -3,9 +3,9 @@ use Rattle.node_runner.specs.Nodes.{Ports}
 use Rattle.thread_runner.specs.declared.ends.NodeEnds.{NodeEnds}
 use Rattle.thread_runner.specs.Made.{port_at}
 use Rattle.thread_runner.specs.Runs.{AreEndsOf}
-use Rattle.nest_run.specs.declared.tests.meeting.MeetEnds.{MeetEnds}
-use Rattle.nest_run.proofs.Wrapped.{wrapped_ends}
-use Rattle.nest_run.proofs.tests.meeting.run_meeting.Goals as goal
+use Rattle.compaan_top.specs.declared.tests.meeting.MeetEnds.{MeetEnds}
+use Rattle.compaan_top.proofs.Wrapped.{wrapped_ends}
+use Rattle.compaan_top.proofs.tests.meeting.run_meeting.Goals as goal
 
 pub run_threads-requires-clause-ends : goal.run_threads-requires-clause-ends
 run_threads-requires-clause-ends g c κs within =

@@ -1,6 +1,8 @@
 ghost use Rattle.std.specs.Prelude.{◌≡◌, IfOk, map};
 ghost use Rattle.loop_walk.specs.Counting.{SizeIsOk};
 
+use super::orders::nest_with;
+use array_data::read_inputs;
 use io_edge::Open;
 use loop_walk::points;
 use net_checker::{Verdict, check};
@@ -10,22 +12,24 @@ use sanlp::{Arrays, Inputs, Nest};
 use std::alloc::{AllocError, Global};
 use std::sync::Wait;
 use std::sync::atomic::{AtomicU64, Ordering};
+use std::test::Fail;
 use std::thread;
 use std::thread::Threads;
 use thread_runner::{Bench, NodeEnds, make_ends, run_threads};
 use witness_plan::Policy;
 
+/// How often a process looks for the other one that it waits for.
 const MOST_TURNS: u64 = 100_000_000;
 
 /// Where processes 0 and 1 wait for each other.
 #[derive(Drop)]
-pub struct Meeting {
+pub(super) struct Meeting {
     came: [AtomicU64; 2],
     late: AtomicU64,
 }
 
 impl Meeting {
-    pub fn new() -> Meeting {
+    pub(super) fn new() -> Meeting {
         Meeting {
             came: [AtomicU64::new(0), AtomicU64::new(0)],
             late: AtomicU64::new(0),
@@ -33,14 +37,14 @@ impl Meeting {
     }
 
     /// Whether both came, and neither gave up.
-    pub fn met(&self) -> bool {
+    pub(super) fn met(&self) -> bool {
         self.came[0].load(Ordering::SeqCst) == 1
             && self.came[1].load(Ordering::SeqCst) == 1
             && self.late.load(Ordering::SeqCst) == 0
     }
 
     /// Holds process 0 or 1 until the other one came, for so many turns at most. No other process is held.
-    pub fn wait(&self, who: usize) {
+    pub(super) fn wait(&self, who: usize) {
         if who >= 2 {
             return;
         }
@@ -104,8 +108,8 @@ fn meeting_ends<'a>(
     Ok(all)
 }
 
-/// What the network of a nest computes, run by threads whose ends meet.
-pub fn run_meeting<R: Threads + Wait + Sync>(
+// What the network of a nest computes, run by threads whose ends meet.
+fn run_meeting<R: Threads + Wait + Sync>(
     rt: &R,
     alloc: Global,
     nest: &Nest,
@@ -128,4 +132,24 @@ pub fn run_meeting<R: Threads + Wait + Sync>(
         }
         Verdict::Refused(_) => unreachable!(),
     }
+}
+
+#[test]
+fn two_nodes_meet(rt: HostRuntime) -> Result<(), Fail> {
+    let alloc = rt.alloc();
+    let nest = nest_with(&rt, b"in x, z; out y; y = x + z;", 0)?;
+    let Ok(inputs) = read_inputs(alloc, &nest, b"x,1\nz,2\n") else {
+        panic!(rt; "no inputs");
+    };
+    let meeting = Meeting::new();
+    let outputs = run_meeting(&rt, alloc, &nest, &inputs, &meeting)?;
+    assert!(rt;
+        outputs
+            .arrays
+            .as_slice()
+            .iter()
+            .any(|values| values.as_slice() == [3].as_slice())
+    );
+    assert!(rt; meeting.met());
+    Ok(())
 }

@@ -1,7 +1,6 @@
 ghost use Rattle.std.specs.Prelude.{◌≡◌, IfOk};
 ghost use Rattle.loop_walk.specs.Counting.{SizeIsOk};
 ghost use Rattle.sanlp.specs.Meaning.{arrays};
-ghost use Rattle.sanlp.specs.Points.{points_of};
 ghost use Rattle.net_core.specs.Machine.{net_of};
 ghost use Rattle.net_core.specs.Shape.{FitsNumbers};
 ghost use Rattle.witness_plan.specs.Schedules.{planned_network};
@@ -11,25 +10,24 @@ use loop_walk::points;
 use net_checker::{Verdict, check};
 use net_core::Network;
 use net_maker::compile;
-use sanlp::{Arrays, Inputs, Nest, Points};
+use sanlp::{Arrays, Inputs, Nest};
 use std::alloc::{AllocError, Global};
 use std::sync::Wait;
 use std::thread::Threads;
 use thread_runner::{Bench, make_ends, run_threads};
 use witness_plan::Policy;
 
-/// What a run of a nest's network gives: the points of its processes, the network and the arrays after the nest.
+/// What a run of a nest's network gives: the network and the arrays after the nest.
 #[derive(Drop)]
-pub struct NetworkRun {
-    pub points: Points,
-    pub network: Network,
-    pub arrays: Arrays,
+pub(crate) struct NetworkRun {
+    pub(crate) network: Network,
+    pub(crate) arrays: Arrays,
 }
 
 /// Runs the network of a nest, with the capacities that its schedule under a policy needs, by one thread for each process. It
 /// is run once the checker has accepted it, which it always does. A worker asks the gate before it works, and its process tells
 /// the gate each value before it puts it. Nothing is refused but want of memory.
-pub fn run_by_threads<R: Threads + Wait + Sync, G: Gate + Sync>(
+pub(crate) fn run_by_threads<R: Threads + Wait + Sync, G: Gate + Sync>(
     rt: &R,
     alloc: Global,
     nest: &Nest,
@@ -38,7 +36,6 @@ pub fn run_by_threads<R: Threads + Wait + Sync, G: Gate + Sync>(
     gate: &G,
 ) -> Result<NetworkRun, AllocError>
     requires { SizeIsOk nest.now }
-    ensures points { IfOk result (λ run. run.points.of ≡ points_of nest.now) }
     ensures network { IfOk result (λ run. run.network ≡ planned_network nest.now policy) }
     ensures numbers { IfOk result (λ run. FitsNumbers (net_of run.network)) }
     ensures arrays { IfOk result (λ run. run.arrays.arrays ≡ arrays nest.now inputs.now) }
@@ -53,11 +50,7 @@ pub fn run_by_threads<R: Threads + Wait + Sync, G: Gate + Sync>(
             let arrays = run_threads(
                 rt, alloc, nest, &points, inputs, &network, schedule, bench, ends, gate,
             );
-            Ok(NetworkRun {
-                points,
-                network,
-                arrays,
-            })
+            Ok(NetworkRun { network, arrays })
         }
         Verdict::Refused(_) => unreachable!(),
     }

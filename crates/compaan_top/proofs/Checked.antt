@@ -4,19 +4,18 @@ use Rattle.cert_text.specs.Reading.{reading}
 use Rattle.cert_text.specs.declared.error.CertError.{CertError}
 use Rattle.cert_text.specs.declared.error.CertError.TheVariants as cert
 use Rattle.command_line.specs.Bundle.{certificate_part, source_part}
-use Rattle.loop_walk.specs.Counting.{counted}
 use Rattle.net_checker.specs.Fits.{first, verdict_of}
 use Rattle.net_core.specs.declared.network.Network.{Network}
 use Rattle.sanlp.specs.declared.nest.Nest.{Nest}
 use Rattle.source_tree.specs.declared.cert.Cert.{Cert}
 use Rattle.verdict_text.specs.VerdictText.{unread_text}
-use Rattle.compaan_top.specs.Checking.{Checks, verdict_reply, part_missing, source_refused, size_refused, unread, judged}
+use Rattle.compaan_top.specs.Checking.{Checks, verdict_reply, part_missing, source_refused, unread, judged}
 use Rattle.compaan_top.specs.Judging.{Judges}
 use Rattle.compaan_top.specs.Planned.{as_reply}
 use Rattle.compaan_top.specs.Refusals.{no_part}
 use Rattle.compaan_top.specs.Replies.{Reply}
-use Rattle.compaan_top.specs.Source.{Gives}
-use Rattle.compaan_top.specs.Steps.{HasSize}
+use Rattle.compaan_top.specs.Source.{GivesWithinSize}
+use Rattle.compaan_top.specs.Steps.{HasSizedNest}
 use Rattle.compaan_top.specs.declared.answer.Answer.{Answer}
 use Rattle.compaan_top.specs.declared.refusal.Refusal.{Refusal}
 use Rattle.compaan_top.specs.declared.refusal.Stop.{Stop}
@@ -31,18 +30,10 @@ pub checks_without_part : (params : List (List ℕ × ℤ)) (bundle : List ℕ) 
 checks_without_part params bundle refusal none is = subst (λ (r : Refusal). Checks params bundle (Err r)) (sym is) (part_missing none)
 
 pub checks_without_nest : (params : List (List ℕ × ℤ)) (bundle source part : List ℕ) (stop : Stop) → source ≡ source_part bundle
-    → certificate_part bundle ≡ Some part → Judges (Gives source params) (Err stop) → JudgesCheck params bundle (Err stop)
+    → certificate_part bundle ≡ Some part → Judges (HasSizedNest source params) (Err stop) → JudgesCheck params bundle (Err stop)
 checks_without_nest params bundle source part (Refused refusal) is there step = source_refused part refusal there (nest_is params bundle source (Err refusal) is step)
 checks_without_nest params bundle source part ReadFault is there step = step
 checks_without_nest params bundle source part Memory is there step = tt
-
-pub checks_without_size : (params : List (List ℕ × ℤ)) (bundle source part : List ℕ) (nest : Nest) (stop : Stop) → source ≡ source_part bundle
-    → certificate_part bundle ≡ Some part → Gives source params (Ok nest) → Judges (HasSize nest) (Err stop) → JudgesCheck params bundle (Err stop)
-checks_without_size params bundle source part nest (Refused refusal) is there gives step =
-    subst (λ (r : Refusal). Checks params bundle (Err r)) (sym step.2)
-    (size_refused part nest step.0 there (nest_is params bundle source (Ok nest) is gives) step.1)
-checks_without_size params bundle source part nest ReadFault is there gives step = step
-checks_without_size params bundle source part nest Memory is there gives step = tt
 
 -- an error that is told isn't want of memory
 told_error : (error : CertError) (text : List ℕ) → unread_text error ≡ Some text → error ≢ cert.Memory
@@ -51,15 +42,15 @@ told_error (cert.Number line) text told = λ is. cc
 told_error cert.Truncated text told = λ is. cc
 told_error cert.Memory text told = λ is. cc
 
-pub checks_unread : (params : List (List ℕ × ℤ)) (bundle source part : List ℕ) (nest : Nest) (total : ℕ) (error : CertError) (text : List ℕ) → source ≡ source_part bundle
-    → certificate_part bundle ≡ Some part → Gives source params (Ok nest) → counted nest ≡ Ok total
+pub checks_unread : (params : List (List ℕ × ℤ)) (bundle source part : List ℕ) (nest : Nest) (error : CertError) (text : List ℕ) → source ≡ source_part bundle
+    → certificate_part bundle ≡ Some part → GivesWithinSize source params (Ok nest)
     → (error ≢ cert.Memory → reading part ≡ Err error) → unread_text error ≡ Some text → Checks params bundle (Ok (record { status = 1; text = text }))
-checks_unread params bundle source part nest total error text is there gives size read told =
-    unread part nest total error text there (nest_is params bundle source (Ok nest) is gives) size (read (told_error error text told)) told
+checks_unread params bundle source part nest error text is there gives read told =
+    unread part nest error text there (nest_is params bundle source (Ok nest) is gives) (read (told_error error text told)) told
 
-pub checks_judged : (params : List (List ℕ × ℤ)) (bundle source part : List ℕ) (nest : Nest) (total : ℕ) (network : Network) (given : Cert) (reply : Reply) → source ≡ source_part bundle
-    → certificate_part bundle ≡ Some part → Gives source params (Ok nest) → counted nest ≡ Ok total → reading part ≡ Ok (network, given)
+pub checks_judged : (params : List (List ℕ × ℤ)) (bundle source part : List ℕ) (nest : Nest) (network : Network) (given : Cert) (reply : Reply) → source ≡ source_part bundle
+    → certificate_part bundle ≡ Some part → GivesWithinSize source params (Ok nest) → reading part ≡ Ok (network, given)
     → reply ≡ verdict_reply (verdict_of (first nest network given)) → Checks params bundle (Ok reply)
-checks_judged params bundle source part nest total network given reply is there gives size read told =
+checks_judged params bundle source part nest network given reply is there gives read told =
     subst (λ (r : Reply). Checks params bundle (Ok r)) (sym told)
-    (judged part nest total network given there (nest_is params bundle source (Ok nest) is gives) size read)
+    (judged part nest network given there (nest_is params bundle source (Ok nest) is gives) read)

@@ -1,17 +1,18 @@
 -- How a call ends, from what its parts did.
-use Rattle.std.proofs.Common.{◌≡◌, ◌≤◌, ℕ, List, [], length, Option, Some, Result, Ok, Err, refl, sym, subst, inl, inr, lit≤}
+use Rattle.std.proofs.Common.{◌≡◌, ◌≢◌, ◌≤◌, ◌+◌, ℕ, List, [], length, Option, Some, Result, Ok, Err, refl, sym, subst, inl, inr, lit≤, arith}
 use Rattle.std.specs.Io.KnownBytes.{Appends}
-use Rattle.std.proofs.KnownBytes.{Appends-nil, Keeps-refl}
+use Rattle.std.proofs.KnownBytes.{Appends-nil, Consumes-nil, Keeps-refl}
 use Rattle.io_edge.specs.Causes.{AppendsFront}
 use Rattle.command_line.specs.declared.words.Command.{Command}
-use Rattle.command_line.specs.declared.words.Command.TheVariants.{Run, Seq, Net, Cert, Check, Load}
+use Rattle.command_line.specs.declared.words.Command.TheVariants.{Run, Seq, Net, Cert, Check, Vhdl, Load}
 use Rattle.command_line.specs.declared.words.Order.{Order}
-use Rattle.compaan_top.specs.Answers.{Change, IsQuiet, HasFault, ReadsFor, ReadsTo, Ends, no_memory, read_fault, written, cut_short}
+use Rattle.compaan_top.specs.Answers.{Change, IsQuiet, HasFault, IsRead, ReadsFor, ReadsTo, TakesAtMost, most_taken, Ends, no_memory, read_fault, written, cut_short}
+use Rattle.compaan_top.specs.Commands.{Reads, source_alone, source_and_data, source_and_certificate, nothing, read_by, reads_of, WaitsForNobody}
 use Rattle.compaan_top.specs.Judging.{Judges}
 use Rattle.compaan_top.specs.Load.{Loads}
 use Rattle.compaan_top.specs.Replies.{Reply}
 use Rattle.compaan_top.specs.Outcome.{IsOutcome, outcome_of, bundle_limit, Performs, words_refused, bundle_refused, performed}
-use Rattle.compaan_top.specs.Planned.{as_reply, reply_of, IsOrdered, IsPlanned, ReadsBundle, ReadsAndJudges, WaitsForNobody}
+use Rattle.compaan_top.specs.Planned.{as_reply, reply_of, IsOrdered, IsPlanned, ReadsBundle, ReadsAndJudges}
 use Rattle.compaan_top.specs.declared.answer.Answer.{Answer}
 use Rattle.compaan_top.specs.declared.refusal.Refusal.{Refusal}
 use Rattle.compaan_top.specs.declared.refusal.Stop.{Stop}
@@ -51,25 +52,49 @@ refusal_cut_short wanted input complaint held faults refusal quiet judged front 
 pub ends_at_fault : (wanted : Option Order) (input : Change) (held other : Option (List ℕ)) (faults others : ℕ)
     → IsPlanned wanted input (Err ReadFault) → Ends wanted input (kept held faults) (kept other others) 3
 ends_at_fault wanted input held other faults others fault =
-    read_fault fault.0 fault.1 fault.2 (record { output_kept = Keeps-refl held; complaint_kept = Keeps-refl other; output_quiet = refl; complaint_quiet = refl })
+    read_fault fault.0 fault.1 fault.2 fault.3 fault.4 (record { output_kept = Keeps-refl held; complaint_kept = Keeps-refl other; output_quiet = refl; complaint_quiet = refl })
 
 pub ends_without_memory : (wanted : Option Order) (input : Change) (held other : Option (List ℕ)) (faults others : ℕ)
-    → IsQuiet input → Ends wanted input (kept held faults) (kept other others) 10
-ends_without_memory wanted input held other faults others quiet =
-    no_memory quiet (record { output_kept = Keeps-refl held; complaint_kept = Keeps-refl other; output_quiet = refl; complaint_quiet = refl })
+    → IsPlanned wanted input (Err Memory) → Ends wanted input (kept held faults) (kept other others) 10
+ends_without_memory wanted input held other faults others want =
+    no_memory want.0 want.1 (record { output_kept = Keeps-refl held; complaint_kept = Keeps-refl other; output_quiet = refl; complaint_quiet = refl })
 
 -- a command that waits for nobody reads a bundle
-pub quiet_reads : (command : Command) (input : Change) (bundle : List ℕ) → WaitsForNobody command → ReadsTo input bundle → ReadsFor command input bundle
-quiet_reads Run input bundle waits reads = absurd waits
-quiet_reads Seq input bundle waits reads = reads
-quiet_reads Net input bundle waits reads = reads
-quiet_reads Cert input bundle waits reads = reads
-quiet_reads Check input bundle waits reads = reads
-quiet_reads Load input bundle waits reads = absurd waits
+pub quiet_reads : (command : Command) → WaitsForNobody command → reads_of command ≢ nothing
+quiet_reads Run quiet = λ e. cc
+quiet_reads Seq quiet = λ e. cc
+quiet_reads Net quiet = λ e. cc
+quiet_reads Cert quiet = λ e. cc
+quiet_reads Check quiet = λ e. cc
+quiet_reads Vhdl quiet = λ e. cc
+quiet_reads Load quiet = λ e. cc
+
+run_reads_some : reads_of Run ≢ nothing
+run_reads_some = λ e. cc
 
 -- so does `run`
-pub run_reads : (command : Command) (input : Change) (bundle : List ℕ) → command ≡ Run → ReadsTo input bundle → ReadsFor command input bundle
-run_reads command input bundle is reads = subst (λ (c : Command). ReadsFor c input bundle) (sym is) reads
+pub run_reads : (command : Command) → command ≡ Run → reads_of command ≢ nothing
+run_reads command is = subst (λ (c : Command). reads_of c ≢ nothing) (sym is) run_reads_some
+
+-- what reads a bundle reads it so
+pub reads_bundle : (reads : Reads) (input : Change) (bundle : List ℕ) → reads ≢ nothing → ReadsTo input bundle → ReadsFor reads input bundle
+reads_bundle source_alone input bundle some read = read
+reads_bundle source_and_data input bundle some read = read
+reads_bundle source_and_certificate input bundle some read = read
+reads_bundle nothing input bundle some read = absurd (some refl)
+
+-- and takes at most a byte past the limit
+takes_bundle : (reads : Reads) (input : Change) → reads ≢ nothing → TakesAtMost input (bundle_limit + 1) → TakesAtMost input (most_taken reads)
+takes_bundle source_alone input some taken = taken
+takes_bundle source_and_data input some taken = taken
+takes_bundle source_and_certificate input some taken = taken
+takes_bundle nothing input some taken = absurd (some refl)
+
+pub takes_read : (reads : Reads) (input : Change) (bundle : List ℕ) → reads ≢ nothing → ReadsTo input bundle → TakesAtMost input (most_taken reads)
+takes_read reads input bundle some read = takes_bundle reads input some (bundle, read.within, read.taken)
+
+takes_none : (left : Option (List ℕ)) (faults most : ℕ) → TakesAtMost (kept left faults) most
+takes_none left faults most = ([], omega arith, Consumes-nil left)
 
 -- where the words are refused nothing is read
 pub planned_refusal_of_words : (wanted : Option Order) (left : Option (List ℕ)) (faults : ℕ) (stop : Stop)
@@ -77,27 +102,48 @@ pub planned_refusal_of_words : (wanted : Option Order) (left : Option (List ℕ)
 planned_refusal_of_words wanted left faults (Refused refusal) judged =
     (refl, ([], rw judged.0 (Keeps-refl left, refl), subst (λ (r : Refusal). IsOutcome wanted [] (outcome_of (Err r))) (sym judged.1) (words_refused judged.0)))
 planned_refusal_of_words wanted left faults ReadFault judged = absurd judged
-planned_refusal_of_words wanted left faults Memory judged = refl
+planned_refusal_of_words wanted left faults Memory judged = (refl, takes_none left faults (most_taken (read_by wanted)))
 
-pub planned_refusal_of_bundle : (order : Order) (input : Change) (stop : Stop) → ((bundle : List ℕ) → ReadsTo input bundle → ReadsFor order.command input bundle)
+pub planned_refusal_of_bundle : (order : Order) (input : Change) (stop : Stop) → reads_of order.command ≢ nothing
     → ReadsBundle input (Err stop) → IsPlanned (Some order) input (Err stop)
-planned_refusal_of_bundle order input (Refused refusal) reads read =
-    (read.0, (read.2, reads read.2 read.3, subst (λ (r : Refusal). IsOutcome (Some order) read.2 (outcome_of (Err r))) (sym read.1) (bundle_refused order refl read.4)))
-planned_refusal_of_bundle order input ReadFault reads read = (order, refl, read)
-planned_refusal_of_bundle order input Memory reads read = read
+planned_refusal_of_bundle order input (Refused refusal) some read = (
+  read.0,
+  (
+    read.2,
+    reads_bundle (reads_of order.command) input read.2 some read.3,
+    subst (λ (r : Refusal). IsOutcome (Some order) read.2 (outcome_of (Err r))) (sym read.1) (bundle_refused order refl some read.4),
+  ),
+)
+planned_refusal_of_bundle order input ReadFault some read = (order, refl, some, read.0, read.1)
+planned_refusal_of_bundle order input Memory some read = (read.0, takes_bundle (reads_of order.command) input some read.1)
 
 pub planned_answer : (order : Order) (input : Change) (bundle : List ℕ) (answer : Result Answer Stop)
-    → IsQuiet input → ReadsFor order.command input bundle → length bundle ≤ bundle_limit
+    → IsQuiet input → IsRead (Some order) input bundle → TakesAtMost input (most_taken (reads_of order.command)) → length bundle ≤ bundle_limit
     → Judges (λ made. Performs order.command order bundle (as_reply made)) answer → IsPlanned (Some order) input answer
-planned_answer order input bundle (Ok made) quiet gives within judged = (quiet, (bundle, gives, performed order (Ok (reply_of made)) refl within judged))
-planned_answer order input bundle (Err (Refused refusal)) quiet gives within judged = (quiet, (bundle, gives, performed order (Err refusal) refl within judged))
-planned_answer order input bundle (Err ReadFault) quiet gives within judged = absurd judged
-planned_answer order input bundle (Err Memory) quiet gives within judged = quiet
+planned_answer order input bundle (Ok made) quiet gives taken within judged = (quiet, (bundle, gives, performed order (Ok (reply_of made)) refl within judged))
+planned_answer order input bundle (Err (Refused refusal)) quiet gives taken within judged = (quiet, (bundle, gives, performed order (Err refusal) refl within judged))
+planned_answer order input bundle (Err ReadFault) quiet gives taken within judged = absurd judged
+planned_answer order input bundle (Err Memory) quiet gives taken within judged = (quiet, taken)
+
+-- a bundle that was read is worked on
+pub planned_work : (order : Order) (input : Change) (bundle : List ℕ) (answer : Result Answer Stop) → reads_of order.command ≢ nothing
+    → IsQuiet input → ReadsTo input bundle → length bundle ≤ bundle_limit
+    → Judges (λ made. Performs order.command order bundle (as_reply made)) answer → IsPlanned (Some order) input answer
+planned_work order input bundle answer some quiet read within judged =
+    planned_answer order input bundle answer quiet (reads_bundle (reads_of order.command) input bundle some read)
+    (takes_read (reads_of order.command) input bundle some read) within judged
 
 -- `load` reads nothing
 pub planned_load : (order : Order) (left : Option (List ℕ)) (faults : ℕ) (answer : Result Answer Stop) → order.command ≡ Load
     → Judges (λ made. Loads order.policy order.load (as_reply made)) answer → IsPlanned (Some order) (kept left faults) answer
 planned_load order left faults answer is judged =
     planned_answer order (kept left faults) [] answer refl
-    (subst (λ (c : Command). ReadsFor c (kept left faults) []) (sym is) (Keeps-refl left, refl)) (lit≤ tt)
+    (subst (λ (c : Command). ReadsFor (reads_of c) (kept left faults) []) (sym is) (Keeps-refl left, refl))
+    (takes_none left faults (most_taken (reads_of order.command))) (lit≤ tt)
     (subst (λ (c : Command). Judges (λ made. Performs c order [] (as_reply made)) answer) (sym is) judged)
+
+-- a call ends as its order does
+pub ends_ordered : (wanted : Option Order) (order : Order) (input output complaint : Change) (status : ℕ) → wanted ≡ Some order
+    → Ends (Some order) input output complaint status → Ends wanted input output complaint status
+ends_ordered wanted order input output complaint status ordered ends =
+    subst (λ (w : Option Order). Ends w input output complaint status) (sym ordered) ends

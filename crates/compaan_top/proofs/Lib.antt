@@ -6,6 +6,10 @@ pub mod Parts
 pub mod Printed
 pub mod Runs
 pub mod Sources
+pub mod OwnStatuses
 pub mod Statuses
+pub mod Told
 pub mod Vouched
 pub mod Loads
+pub mod Described
+mod Wrapped

@@ -1,14 +1,13 @@
 -- What the commands that print come to, from what their steps come to.
 use Rattle.std.proofs.Common.{◌≡◌, ℕ, ℤ, List, Result, Ok, Err, sym, subst}
 use Rattle.command_line.specs.Bundle.{source_part}
-use Rattle.loop_walk.specs.Counting.{counted}
 use Rattle.sanlp.specs.declared.nest.Nest.{Nest}
 use Rattle.compaan_top.specs.Judging.{Judges}
 use Rattle.compaan_top.specs.Planned.{as_reply}
-use Rattle.compaan_top.specs.Printing.{Prints, source_refused, size_refused, printed}
+use Rattle.compaan_top.specs.Printing.{Prints, source_refused, printed}
 use Rattle.compaan_top.specs.Replies.{done}
-use Rattle.compaan_top.specs.Source.{Gives}
-use Rattle.compaan_top.specs.Steps.{HasSize}
+use Rattle.compaan_top.specs.Source.{GivesWithinSize}
+use Rattle.compaan_top.specs.Steps.{HasSizedNest}
 use Rattle.compaan_top.specs.declared.answer.Answer.{Answer}
 use Rattle.compaan_top.specs.declared.refusal.Refusal.{Refusal}
 use Rattle.compaan_top.specs.declared.refusal.Stop.{Stop}
@@ -18,24 +17,17 @@ abbrev pub JudgesText : (Nest → List ℕ) → List (List ℕ × ℤ) → List 
 JudgesText text params bundle result = Judges (λ answer. Prints text params bundle (as_reply answer)) result
 
 pub nest_is : (params : List (List ℕ × ℤ)) (bundle source : List ℕ) (answer : Result Nest Refusal) → source ≡ source_part bundle
-    → Gives source params answer → Gives (source_part bundle) params answer
-nest_is params bundle source answer is gives = subst (λ (s : List ℕ). Gives s params answer) is gives
+    → GivesWithinSize source params answer → GivesWithinSize (source_part bundle) params answer
+nest_is params bundle source answer is gives = subst (λ (s : List ℕ). GivesWithinSize s params answer) is gives
 
 pub prints_without_nest : (text : Nest → List ℕ) (params : List (List ℕ × ℤ)) (bundle source : List ℕ) (stop : Stop) → source ≡ source_part bundle
-    → Judges (Gives source params) (Err stop) → JudgesText text params bundle (Err stop)
+    → Judges (HasSizedNest source params) (Err stop) → JudgesText text params bundle (Err stop)
 prints_without_nest text params bundle source (Refused refusal) is step = source_refused refusal (nest_is params bundle source (Err refusal) is step)
 prints_without_nest text params bundle source ReadFault is step = step
 prints_without_nest text params bundle source Memory is step = tt
 
-pub prints_without_size : (text : Nest → List ℕ) (params : List (List ℕ × ℤ)) (bundle source : List ℕ) (nest : Nest) (stop : Stop) → source ≡ source_part bundle
-    → Gives source params (Ok nest) → Judges (HasSize nest) (Err stop) → JudgesText text params bundle (Err stop)
-prints_without_size text params bundle source nest (Refused refusal) is gives step =
-    subst (λ (r : Refusal). Prints text params bundle (Err r)) (sym step.2) (size_refused nest step.0 (nest_is params bundle source (Ok nest) is gives) step.1)
-prints_without_size text params bundle source nest ReadFault is gives step = step
-prints_without_size text params bundle source nest Memory is gives step = tt
-
-pub prints_text : (text : Nest → List ℕ) (params : List (List ℕ × ℤ)) (bundle source written : List ℕ) (nest : Nest) (total : ℕ) → source ≡ source_part bundle
-    → Gives source params (Ok nest) → counted nest ≡ Ok total → written ≡ text nest → Prints text params bundle (Ok (done written))
-prints_text text params bundle source written nest total is gives size made =
+pub prints_text : (text : Nest → List ℕ) (params : List (List ℕ × ℤ)) (bundle source written : List ℕ) (nest : Nest) → source ≡ source_part bundle
+    → GivesWithinSize source params (Ok nest) → written ≡ text nest → Prints text params bundle (Ok (done written))
+prints_text text params bundle source written nest is gives made =
     subst (λ (t : List ℕ). Prints text params bundle (Ok (done t))) (sym made)
-    (printed nest total (nest_is params bundle source (Ok nest) is gives) size)
+    (printed nest (nest_is params bundle source (Ok nest) is gives))

@@ -6,8 +6,8 @@ use Rattle.loop_grammar.specs.Lexemes.{IsTree}
 use Rattle.loop_grammar.specs.declared.tree.Tree.{Tree}
 use Rattle.sanlp.specs.declared.nest.Nest.{Nest}
 use Rattle.compaan_top.specs.Judging.{Judges}
-use Rattle.compaan_top.specs.Source.{Gives, no_tokens, no_tree, not_bound, bound}
-use Rattle.compaan_top.specs.Steps.{HasTokens, HasTree, HasNest}
+use Rattle.compaan_top.specs.Source.{Gives, GivesWithinSize, no_tokens, no_tree, not_bound, bound, source_refused, size_refused}
+use Rattle.compaan_top.specs.Steps.{HasSize, HasSizedNest, HasTokens, HasTree, HasNest}
 use Rattle.compaan_top.specs.declared.refusal.Refusal.{Refusal}
 use Rattle.compaan_top.specs.declared.refusal.Stop.{Stop}
 use Rattle.compaan_top.specs.declared.refusal.Stop.TheVariants.{Refused, ReadFault, Memory}
@@ -31,3 +31,16 @@ gives_nest source params found tree (Ok nest) lexed parsed step = bound found tr
 gives_nest source params found tree (Err (Refused refusal)) lexed parsed step = not_bound found tree step.0 refusal lexed parsed step.1 step.2
 gives_nest source params found tree (Err ReadFault) lexed parsed step = step
 gives_nest source params found tree (Err Memory) lexed parsed step = tt
+
+pub sized_without_nest : (source : List ℕ) (params : List (List ℕ × ℤ)) (stop : Stop)
+    → Judges (Gives source params) (Err stop) → Judges (HasSizedNest source params) (Err stop)
+sized_without_nest source params (Refused refusal) step = source_refused refusal step
+sized_without_nest source params ReadFault step = step
+sized_without_nest source params Memory step = tt
+
+pub sized_without_size : (source : List ℕ) (params : List (List ℕ × ℤ)) (nest : Nest) (stop : Stop)
+    → Gives source params (Ok nest) → Judges (HasSize nest) (Err stop) → Judges (HasSizedNest source params) (Err stop)
+sized_without_size source params nest (Refused refusal) gives step =
+    subst (λ (r : Refusal). GivesWithinSize source params (Err r)) (sym step.2) (size_refused nest step.0 gives step.1)
+sized_without_size source params nest ReadFault gives step = step
+sized_without_size source params nest Memory gives step = tt

@@ -1,8 +1,7 @@
--- The statuses of outcomes.
+-- The order and the bundle determine the status, and where nothing is refused it is success.
 use Rattle.std.proofs.Common.{◌≡◌, ◌==◌, ◌≤◌, ℕ, suc, ℤ, Bool, true, List, [], ◌∷◌, length, drop, Option, Some, None, Result, Ok, Err, refl, sym, ap, ◌∙◌, subst, arith, map, inl, inr, take-append-drop}
-use Rattle.std.specs.List.{list_any}
 use Rattle.sanlp.specs.WellFormed.{IsWellFormed}
-use Rattle.std.proofs.lemmas.Bool.{cases_lt, or_right}
+use Rattle.std.proofs.lemmas.Bool.{cases_lt}
 use Rattle.loop_lex.specs.Tokens.{tokens}
 use Rattle.loop_lex.specs.declared.token.Token.{Token}
 use Rattle.loop_lex.specs.declared.token.LexError.{LexError}
@@ -42,10 +41,19 @@ use Rattle.sanlp.specs.declared.nest.Inputs.{Inputs}
 use Rattle.command_line.specs.Bundle.{certificate_part, data_part, source_part}
 use Rattle.command_line.specs.declared.words.Order.{Order}
 use Rattle.command_line.specs.declared.words.Command.{Command}
-use Rattle.command_line.specs.declared.words.Command.TheVariants.{Run, Seq, Net, Cert, Check, Load}
+use Rattle.command_line.specs.declared.words.Command.TheVariants.{Run, Seq, Net, Cert, Check, Vhdl, Load}
 use Rattle.compaan_top.specs.Checking as check
 use Rattle.compaan_top.specs.Checking.{Checks, verdict_reply}
-use Rattle.compaan_top.specs.Laws.{HasParts, IsDone, IsNestFor, IsValid, outcome_statuses}
+use Rattle.compaan_top.specs.Commands.{nothing, reads_of, source_and_certificate}
+use Rattle.channel_plan.specs.Plans.{plans_of}
+use Rattle.node_automata.specs.declared.node.NodeAuto.{NodeAuto}
+use Rattle.process_derive.specs.Derived.{net}
+use Rattle.source_tree.specs.Sources.{sources_of}
+use Rattle.vhdl_text.specs.Refusal.{first_too_long}
+use Rattle.witness_plan.specs.Sequential.{sequential_schedule}
+use Rattle.compaan_top.specs.Describing as describe
+use Rattle.compaan_top.specs.Describing.{Describes, planned_automata}
+use Rattle.compaan_top.specs.Laws.{HasParts, IsDone, IsNestFor, IsValid, IsWithinOwnLimit}
 use Rattle.compaan_top.specs.Load as load
 use Rattle.compaan_top.specs.Load.{Loads, load_limit}
 use Rattle.matrix_load.specs.Product.{IsMatrixNest, matrix_product, size_given}
@@ -54,15 +62,16 @@ use Rattle.compaan_top.specs.Printing.{Prints, certificate_text, network_text}
 use Rattle.compaan_top.specs.Outcome.{Outcome, IsOutcome, outcome_of, Performs, words_refused, bundle_refused, performed}
 use Rattle.compaan_top.specs.Replies.{Reply}
 use Rattle.compaan_top.specs.Refusals.{byte_of, lex_refusal, bind_refusal, size_refusal, data_refusal}
-use Rattle.compaan_top.specs.Run.{Runs, IsInputs, source_refused, size_refused, data_refused, answered}
-use Rattle.compaan_top.specs.Source.{Gives, no_tokens, no_tree, not_bound, bound}
+use Rattle.compaan_top.specs.Run.{Runs, IsInputs, source_refused, data_refused, answered}
+use Rattle.compaan_top.specs.Source as sized
+use Rattle.compaan_top.specs.Source.{Gives, GivesWithinSize, no_tokens, no_tree, not_bound, bound}
 use Rattle.compaan_top.specs.declared.refusal.Refusal.{Refusal}
 
 -- tokens have one tree
 abbrev pub OneTree : Type 0
 OneTree = (bytes : List ℕ) (found : List Token) (a b : Tree) → IsTree bytes found a → IsTree bytes found b → a ≡ b
 
-same_value : {A : Type 0} (x y : A) → Some x ≡ Some y → x ≡ y
+pub same_value : {A : Type 0} (x y : A) → Some x ≡ Some y → x ≡ y
 same_value x y e = cc
 
 -- ---- a source comes to one end
@@ -128,6 +137,24 @@ first_alike n m arrays statements body network cert =
     → first n network cert ≡ first (record { arrays = n.arrays; statements = n.statements; body = z; well_formed = v }) network cert) body
     (λ v. facts_aside n.arrays n.statements n.body n.well_formed v network cert))) m.well_formed
 
+-- nor on the automata of the network
+automata_aside : (arrays : List ArrayDecl) (statements : List Statement) (body : List Node) (w v : IsWellFormed arrays statements body) (policy : Policy)
+    → planned_automata policy (record { arrays = arrays; statements = statements; body = body; well_formed = w })
+    ≡ planned_automata policy (record { arrays = arrays; statements = statements; body = body; well_formed = v })
+unfolding trace last_before points_of sources_of plans_of net sequential_schedule
+automata_aside arrays statements body w v policy = refl
+
+automata_alike : (n m : Nest) → n.arrays ≡ m.arrays → n.statements ≡ m.statements → n.body ≡ m.body → (policy : Policy)
+    → planned_automata policy n ≡ planned_automata policy m
+automata_alike n m arrays statements body policy =
+    subst (λ (x : List ArrayDecl). (v : IsWellFormed x m.statements m.body)
+    → planned_automata policy n ≡ planned_automata policy (record { arrays = x; statements = m.statements; body = m.body; well_formed = v })) arrays
+    (subst (λ (y : List Statement). (v : IsWellFormed n.arrays y m.body)
+    → planned_automata policy n ≡ planned_automata policy (record { arrays = n.arrays; statements = y; body = m.body; well_formed = v })) statements
+    (subst (λ (z : List Node). (v : IsWellFormed n.arrays n.statements z)
+    → planned_automata policy n ≡ planned_automata policy (record { arrays = n.arrays; statements = n.statements; body = z; well_formed = v })) body
+    (λ v. automata_aside n.arrays n.statements n.body n.well_formed v policy))) m.well_formed
+
 pub gives_alike : OneTree → (source : List ℕ) (params : List (List ℕ × ℤ)) {x y : Result Nest Refusal} → Gives source params x → Gives source params y → Alike x y
 gives_alike one source params (no_tokens e r lexed made) (no_tokens f s lexed' made') =
     same_refusal (lex_refusal e) (lex_refusal f) r s made made' (ap lex_refusal (same_error source e f lexed lexed'))
@@ -165,16 +192,36 @@ gives_alike one source params (bound a t n lexed derived is) (bound b u m lexed'
       is.body ∙ ap (λ (z : Tree). (nest_of z params).body) trees ∙ sym is'.body,
     )
 
--- ---- and so do `run` and `seq`
-
-abbrev pub SameStatus : Result Reply Refusal → Result Reply Refusal → Type 0
-SameStatus x y = (outcome_of x).status ≡ (outcome_of y).status
+-- ---- so does a nest within the limit on its size
 
 same_counted : (n m : Nest) → n.body ≡ m.body → counted n ≡ counted m
 unfolding counted
 same_counted n m e = ap (λ (body : List Node). counted_parts (map counted_node body) [] 0) e
 
-data_status : (list : List ArrayDecl) (fault : DataError) (r : Refusal) → data_refusal list fault ≡ Some r → r.status ≡ 9
+pub size_status : (e : SizeError) → (size_refusal e).status ≡ 8
+size_status (Limit count) = refl
+size_status (LoopValue loop) = refl
+
+pub no_both_sizes : (n m : Nest) (e : SizeError) (total : ℕ) → n.body ≡ m.body → counted n ≡ Err e → counted m ≡ Ok total → ⊥
+no_both_sizes n m e total same f g = let c = same_counted n m same in cc
+
+pub sized_alike : OneTree → (source : List ℕ) (params : List (List ℕ × ℤ)) {x y : Result Nest Refusal} → GivesWithinSize source params x → GivesWithinSize source params y → Alike x y
+sized_alike one source params (sized.source_refused r g) (sized.source_refused s h) = gives_alike one source params g h
+sized_alike one source params (sized.source_refused r g) (sized.size_refused m f h d) = absurd (gives_alike one source params g h)
+sized_alike one source params (sized.source_refused r g) (sized.within_size m u h d) = absurd (gives_alike one source params g h)
+sized_alike one source params (sized.size_refused n e g c) (sized.source_refused s h) = absurd (gives_alike one source params g h)
+sized_alike one source params (sized.size_refused n e g c) (sized.size_refused m f h d) = size_status e ∙ sym (size_status f)
+sized_alike one source params (sized.size_refused n e g c) (sized.within_size m u h d) = absurd (no_both_sizes n m e u (gives_alike one source params g h).2 c d)
+sized_alike one source params (sized.within_size n t g c) (sized.source_refused s h) = absurd (gives_alike one source params g h)
+sized_alike one source params (sized.within_size n t g c) (sized.size_refused m f h d) = absurd (no_both_sizes m n f t (gives_alike one source params h g).2 d c)
+sized_alike one source params (sized.within_size n t g c) (sized.within_size m u h d) = gives_alike one source params g h
+
+-- ---- and so do `run` and `seq`
+
+abbrev pub SameStatus : Result Reply Refusal → Result Reply Refusal → Type 0
+SameStatus x y = (outcome_of x).status ≡ (outcome_of y).status
+
+pub data_status : (list : List ArrayDecl) (fault : DataError) (r : Refusal) → data_refusal list fault ≡ Some r → r.status ≡ 9
 data_status list (UnknownArray number) r told = ap (λ (t : Refusal). t.status) (sym (same_value _ r told))
 data_status list (Twice number) r told = ap (λ (t : Refusal). t.status) (sym (same_value _ r told))
 data_status list (Missing array) r told = ap (λ (t : Refusal). t.status) (sym (same_value _ r told))
@@ -204,53 +251,25 @@ inputs_alike bytes n m (Ok d) (Err s) same i j =
 inputs_alike bytes n m (Err r) (Ok e) same i j =
     absurd (no_both_inputs (inputs_of m (records_of bytes)) (inputs_of n (records_of bytes)) e i.0 (sym (same_inputs n m (records_of bytes) same)) j i.1)
 
-pub size_status : (e : SizeError) → (size_refusal e).status ≡ 8
-size_status (Limit count) = refl
-size_status (LoopValue loop) = refl
-
-pub no_both_sizes : (n m : Nest) (e : SizeError) (total : ℕ) → n.body ≡ m.body → counted n ≡ Err e → counted m ≡ Ok total → ⊥
-no_both_sizes n m e total same f g = let c = same_counted n m same in cc
-
 runs_alike : OneTree → (params : List (List ℕ × ℤ)) (bundle : List ℕ) {x y : Result Reply Refusal} → Runs params bundle x → Runs params bundle y → SameStatus x y
-runs_alike one params bundle (source_refused r g) (source_refused s h) = gives_alike one (source_part bundle) params g h
-runs_alike one params bundle (source_refused r g) (size_refused m f h d) = absurd (gives_alike one (source_part bundle) params g h)
-runs_alike one params bundle (source_refused r g) (data_refused m u s h d j) = absurd (gives_alike one (source_part bundle) params g h)
-runs_alike one params bundle (source_refused r g) (answered m u d h c j) = absurd (gives_alike one (source_part bundle) params g h)
-runs_alike one params bundle (size_refused n e g c) (source_refused s h) = absurd (gives_alike one (source_part bundle) params g h)
-runs_alike one params bundle (size_refused n e g c) (size_refused m f h d) = size_status e ∙ sym (size_status f)
-runs_alike one params bundle (size_refused n e g c) (data_refused m u s h d j) =
-    let same = gives_alike one (source_part bundle) params g h in absurd (no_both_sizes n m e u same.2 c d)
-runs_alike one params bundle (size_refused n e g c) (answered m u d h k j) =
-    let same = gives_alike one (source_part bundle) params g h in absurd (no_both_sizes n m e u same.2 c k)
-runs_alike one params bundle (data_refused n t r g c i) (source_refused s h) = absurd (gives_alike one (source_part bundle) params g h)
-runs_alike one params bundle (data_refused n t r g c i) (size_refused m f h d) =
-    let same = gives_alike one (source_part bundle) params h g in absurd (no_both_sizes m n f t same.2 d c)
-runs_alike one params bundle (data_refused n t r g c i) (data_refused m u s h d j) =
-    let same = gives_alike one (source_part bundle) params g h in
-    inputs_alike (data_part bundle) n m (Err r) (Err s) same.0 i j
-runs_alike one params bundle (data_refused n t r g c i) (answered m u d h k j) =
-    let same = gives_alike one (source_part bundle) params g h in
-    absurd (inputs_alike (data_part bundle) n m (Err r) (Ok d) same.0 i j)
-runs_alike one params bundle (answered n t d g c i) (source_refused s h) = absurd (gives_alike one (source_part bundle) params g h)
-runs_alike one params bundle (answered n t d g c i) (size_refused m f h k) =
-    let same = gives_alike one (source_part bundle) params h g in absurd (no_both_sizes m n f t same.2 k c)
-runs_alike one params bundle (answered n t d g c i) (data_refused m u s h k j) =
-    let same = gives_alike one (source_part bundle) params g h in
-    absurd (inputs_alike (data_part bundle) n m (Ok d) (Err s) same.0 i j)
-runs_alike one params bundle (answered n t d g c i) (answered m u e h k j) = refl
+runs_alike one params bundle (source_refused r g) (source_refused s h) = sized_alike one (source_part bundle) params g h
+runs_alike one params bundle (source_refused r g) (data_refused m s h j) = absurd (sized_alike one (source_part bundle) params g h)
+runs_alike one params bundle (source_refused r g) (answered m d h j) = absurd (sized_alike one (source_part bundle) params g h)
+runs_alike one params bundle (data_refused n r g i) (source_refused s h) = absurd (sized_alike one (source_part bundle) params g h)
+runs_alike one params bundle (data_refused n r g i) (data_refused m s h j) =
+    inputs_alike (data_part bundle) n m (Err r) (Err s) (sized_alike one (source_part bundle) params g h).0 i j
+runs_alike one params bundle (data_refused n r g i) (answered m d h j) =
+    absurd (inputs_alike (data_part bundle) n m (Err r) (Ok d) (sized_alike one (source_part bundle) params g h).0 i j)
+runs_alike one params bundle (answered n d g i) (source_refused s h) = absurd (sized_alike one (source_part bundle) params g h)
+runs_alike one params bundle (answered n d g i) (data_refused m s h j) =
+    absurd (inputs_alike (data_part bundle) n m (Ok d) (Err s) (sized_alike one (source_part bundle) params g h).0 i j)
+runs_alike one params bundle (answered n d g i) (answered m e h j) = refl
 
 prints_alike : OneTree → (text : Nest → List ℕ) (params : List (List ℕ × ℤ)) (bundle : List ℕ) {x y : Result Reply Refusal} → Prints text params bundle x → Prints text params bundle y → SameStatus x y
-prints_alike one text params bundle (print.source_refused r g) (print.source_refused s h) = gives_alike one (source_part bundle) params g h
-prints_alike one text params bundle (print.source_refused r g) (print.size_refused m f h d) = absurd (gives_alike one (source_part bundle) params g h)
-prints_alike one text params bundle (print.source_refused r g) (print.printed m u h d) = absurd (gives_alike one (source_part bundle) params g h)
-prints_alike one text params bundle (print.size_refused n e g c) (print.source_refused s h) = absurd (gives_alike one (source_part bundle) params g h)
-prints_alike one text params bundle (print.size_refused n e g c) (print.size_refused m f h d) = size_status e ∙ sym (size_status f)
-prints_alike one text params bundle (print.size_refused n e g c) (print.printed m u h d) =
-    let same = gives_alike one (source_part bundle) params g h in absurd (no_both_sizes n m e u same.2 c d)
-prints_alike one text params bundle (print.printed n t g c) (print.source_refused s h) = absurd (gives_alike one (source_part bundle) params g h)
-prints_alike one text params bundle (print.printed n t g c) (print.size_refused m f h d) =
-    let same = gives_alike one (source_part bundle) params h g in absurd (no_both_sizes m n f t same.2 d c)
-prints_alike one text params bundle (print.printed n t g c) (print.printed m u h d) = refl
+prints_alike one text params bundle (print.source_refused r g) (print.source_refused s h) = sized_alike one (source_part bundle) params g h
+prints_alike one text params bundle (print.source_refused r g) (print.printed m h) = absurd (sized_alike one (source_part bundle) params g h)
+prints_alike one text params bundle (print.printed n g) (print.source_refused s h) = absurd (sized_alike one (source_part bundle) params g h)
+prints_alike one text params bundle (print.printed n g) (print.printed m h) = refl
 
 pub no_part_there : (bundle part : List ℕ) → certificate_part bundle ≡ None → certificate_part bundle ≡ Some part → ⊥
 no_part_there bundle part none there = cc
@@ -280,31 +299,46 @@ judged_alike bundle a b n m network other cert another x y same p q =
     (first_alike n m same.0 same.1 same.2 network cert ∙ ap (λ (z : Network × CertValue). first m z.0 z.1) pairs)
 
 checks_alike : OneTree → (params : List (List ℕ × ℤ)) (bundle : List ℕ) {x y : Result Reply Refusal} → Checks params bundle x → Checks params bundle y → SameStatus x y
-checks_alike one params bundle (check.part_missing none) (check.part_missing none') = refl
-checks_alike one params bundle (check.part_missing none) (check.source_refused part' s there' h) = absurd (no_part_there bundle part' none there')
-checks_alike one params bundle (check.part_missing none) (check.size_refused part' m f there' h d) = absurd (no_part_there bundle part' none there')
-checks_alike one params bundle (check.part_missing none) (check.unread part' m u f text' there' h d read' told') = absurd (no_part_there bundle part' none there')
-checks_alike one params bundle (check.part_missing none) (check.judged part' m u network' cert' there' h d read') = absurd (no_part_there bundle part' none there')
-checks_alike one params bundle (check.source_refused part r there g) (check.part_missing none) = absurd (no_part_there bundle part none there)
-checks_alike one params bundle (check.source_refused part r there g) (check.source_refused part' s there' h) = gives_alike one (source_part bundle) params g h
-checks_alike one params bundle (check.source_refused part r there g) (check.size_refused part' m f there' h d) = absurd (gives_alike one (source_part bundle) params g h)
-checks_alike one params bundle (check.source_refused part r there g) (check.unread part' m u f text' there' h d read' told') = absurd (gives_alike one (source_part bundle) params g h)
-checks_alike one params bundle (check.source_refused part r there g) (check.judged part' m u network' cert' there' h d read') = absurd (gives_alike one (source_part bundle) params g h)
-checks_alike one params bundle (check.size_refused part n e there g c) (check.part_missing none) = absurd (no_part_there bundle part none there)
-checks_alike one params bundle (check.size_refused part n e there g c) (check.source_refused part' s there' h) = absurd (gives_alike one (source_part bundle) params g h)
-checks_alike one params bundle (check.size_refused part n e there g c) (check.size_refused part' m f there' h d) = size_status e ∙ sym (size_status f)
-checks_alike one params bundle (check.size_refused part n e there g c) (check.unread part' m u f text' there' h d read' told') = absurd (no_both_sizes n m e u (gives_alike one (source_part bundle) params g h).2 c d)
-checks_alike one params bundle (check.size_refused part n e there g c) (check.judged part' m u network' cert' there' h d read') = absurd (no_both_sizes n m e u (gives_alike one (source_part bundle) params g h).2 c d)
-checks_alike one params bundle (check.unread part n t e text there g c read told) (check.part_missing none) = absurd (no_part_there bundle part none there)
-checks_alike one params bundle (check.unread part n t e text there g c read told) (check.source_refused part' s there' h) = absurd (gives_alike one (source_part bundle) params g h)
-checks_alike one params bundle (check.unread part n t e text there g c read told) (check.size_refused part' m f there' h d) = absurd (no_both_sizes m n f t (gives_alike one (source_part bundle) params h g).2 d c)
-checks_alike one params bundle (check.unread part n t e text there g c read told) (check.unread part' m u f text' there' h d read' told') = refl
-checks_alike one params bundle (check.unread part n t e text there g c read told) (check.judged part' m u network' cert' there' h d read') = absurd (read_and_unread bundle part part' e network' cert' there there' read read')
-checks_alike one params bundle (check.judged part n t network cert there g c read) (check.part_missing none) = absurd (no_part_there bundle part none there)
-checks_alike one params bundle (check.judged part n t network cert there g c read) (check.source_refused part' s there' h) = absurd (gives_alike one (source_part bundle) params g h)
-checks_alike one params bundle (check.judged part n t network cert there g c read) (check.size_refused part' m f there' h d) = absurd (no_both_sizes m n f t (gives_alike one (source_part bundle) params h g).2 d c)
-checks_alike one params bundle (check.judged part n t network cert there g c read) (check.unread part' m u f text' there' h d read' told') = absurd (read_and_unread bundle part' part f network cert there' there read' read)
-checks_alike one params bundle (check.judged part n t network cert there g c read) (check.judged part' m u network' cert' there' h d read') = judged_alike bundle part part' n m network network' cert cert' there there' (gives_alike one (source_part bundle) params g h) read read'
+checks_alike one params bundle (check.part_missing none) (check.part_missing other) = refl
+checks_alike one params bundle (check.part_missing none) (check.source_refused b s y h) = absurd (no_part_there bundle b none y)
+checks_alike one params bundle (check.part_missing none) (check.unread b m f u y h q v) = absurd (no_part_there bundle b none y)
+checks_alike one params bundle (check.part_missing none) (check.judged b m other another y h q) = absurd (no_part_there bundle b none y)
+checks_alike one params bundle (check.source_refused a r x g) (check.part_missing none) = absurd (no_part_there bundle a none x)
+checks_alike one params bundle (check.source_refused a r x g) (check.source_refused b s y h) = sized_alike one (source_part bundle) params g h
+checks_alike one params bundle (check.source_refused a r x g) (check.unread b m f u y h q v) = absurd (sized_alike one (source_part bundle) params g h)
+checks_alike one params bundle (check.source_refused a r x g) (check.judged b m other another y h q) = absurd (sized_alike one (source_part bundle) params g h)
+checks_alike one params bundle (check.unread a n e t x g p w) (check.part_missing none) = absurd (no_part_there bundle a none x)
+checks_alike one params bundle (check.unread a n e t x g p w) (check.source_refused b s y h) = absurd (sized_alike one (source_part bundle) params g h)
+checks_alike one params bundle (check.unread a n e t x g p w) (check.unread b m f u y h q v) = refl
+checks_alike one params bundle (check.unread a n e t x g p w) (check.judged b m other another y h q) = absurd (read_and_unread bundle a b e other another x y p q)
+checks_alike one params bundle (check.judged a n network cert x g p) (check.part_missing none) = absurd (no_part_there bundle a none x)
+checks_alike one params bundle (check.judged a n network cert x g p) (check.source_refused b s y h) = absurd (sized_alike one (source_part bundle) params g h)
+checks_alike one params bundle (check.judged a n network cert x g p) (check.unread b m f u y h q v) = absurd (read_and_unread bundle b a f network cert y x q p)
+checks_alike one params bundle (check.judged a n network cert x g p) (check.judged b m other another y h q) =
+    judged_alike bundle a b n m network other cert another x y (sized_alike one (source_part bundle) params g h) p q
+
+no_both_lengths : (a b : Option NodeAuto) (auto : NodeAuto) → a ≡ b → a ≡ Some auto → b ≡ None → ⊥
+no_both_lengths a b auto same x y = cc
+
+-- the scripts of one nest's network aren't both too long and short enough
+long_and_short : (policy : Policy) (n m : Nest) (auto : NodeAuto) → Alike (Ok n) (Ok m) → first_too_long (planned_automata policy n) ≡ Some auto
+    → first_too_long (planned_automata policy m) ≡ None → ⊥
+long_and_short policy n m auto same x y =
+    no_both_lengths (first_too_long (planned_automata policy n)) (first_too_long (planned_automata policy m)) auto
+    (ap first_too_long (automata_alike n m same.0 same.1 same.2 policy)) x y
+
+describes_alike : OneTree → (policy : Policy) (params : List (List ℕ × ℤ)) (bundle : List ℕ) {x y : Result Reply Refusal} → Describes policy params bundle x → Describes policy params bundle y → SameStatus x y
+describes_alike one policy params bundle (describe.source_refused r g) (describe.source_refused s h) = sized_alike one (source_part bundle) params g h
+describes_alike one policy params bundle (describe.source_refused r g) (describe.script_refused m a h l) = absurd (sized_alike one (source_part bundle) params g h)
+describes_alike one policy params bundle (describe.source_refused r g) (describe.described m h l) = absurd (sized_alike one (source_part bundle) params g h)
+describes_alike one policy params bundle (describe.script_refused n a g k) (describe.source_refused s h) = absurd (sized_alike one (source_part bundle) params g h)
+describes_alike one policy params bundle (describe.script_refused n a g k) (describe.script_refused m b h l) = refl
+describes_alike one policy params bundle (describe.script_refused n a g k) (describe.described m h l) =
+    absurd (long_and_short policy n m a (sized_alike one (source_part bundle) params g h) k l)
+describes_alike one policy params bundle (describe.described n g k) (describe.source_refused s h) = absurd (sized_alike one (source_part bundle) params g h)
+describes_alike one policy params bundle (describe.described n g k) (describe.script_refused m b h l) =
+    absurd (long_and_short policy m n b (sized_alike one (source_part bundle) params h g) l k)
+describes_alike one policy params bundle (describe.described n g k) (describe.described m h l) = refl
 
 -- the product of matrices with so many rows is one nest
 matrix_alike : OneTree → (rows : ℕ) (n m : Nest) → IsMatrixNest rows n → IsMatrixNest rows m → Alike (Ok n) (Ok m)
@@ -331,6 +365,7 @@ performs_alike one Seq order bundle x y made other = runs_alike one order.params
 performs_alike one Net order bundle x y made other = prints_alike one (network_text order.policy) order.params bundle made other
 performs_alike one Cert order bundle x y made other = prints_alike one (certificate_text order.policy) order.params bundle made other
 performs_alike one Check order bundle x y made other = checks_alike one order.params bundle made other
+performs_alike one Vhdl order bundle x y made other = describes_alike one order.policy order.params bundle made other
 performs_alike one Load order bundle x y made other = loads_alike one order.policy order.load made other
 
 pub no_order : (wanted : Option Order) (order : Order) → wanted ≡ None → wanted ≡ Some order → ⊥
@@ -338,121 +373,29 @@ no_order wanted order x y = cc
 
 pub outcomes_alike : OneTree → (wanted : Option Order) (bundle : List ℕ) {a b : Outcome} → IsOutcome wanted bundle a → IsOutcome wanted bundle b → a.status ≡ b.status
 outcomes_alike one wanted bundle (words_refused x) (words_refused y) = refl
-outcomes_alike one wanted bundle (words_refused x) (bundle_refused o y long) = absurd (no_order wanted o x y)
+outcomes_alike one wanted bundle (words_refused x) (bundle_refused o y reads long) = absurd (no_order wanted o x y)
 outcomes_alike one wanted bundle (words_refused x) (performed o answer y within made) = absurd (no_order wanted o x y)
-outcomes_alike one wanted bundle (bundle_refused o x long) (words_refused y) = absurd (no_order wanted o y x)
-outcomes_alike one wanted bundle (bundle_refused o x long) (bundle_refused p y long') = refl
-outcomes_alike one wanted bundle (bundle_refused o x long) (performed p answer y within made) = absurd (omega arith)
+outcomes_alike one wanted bundle (bundle_refused o x reads long) (words_refused y) = absurd (no_order wanted o y x)
+outcomes_alike one wanted bundle (bundle_refused o x reads long) (bundle_refused p y others other) = refl
+outcomes_alike one wanted bundle (bundle_refused o x reads long) (performed p answer y within made) = absurd (omega arith)
 outcomes_alike one wanted bundle (performed o answer x within made) (words_refused y) = absurd (no_order wanted o y x)
-outcomes_alike one wanted bundle (performed o answer x within made) (bundle_refused p y long) = absurd (omega arith)
+outcomes_alike one wanted bundle (performed o answer x within made) (bundle_refused p y reads long) = absurd (omega arith)
 outcomes_alike one wanted bundle (performed o answer x within made) (performed p answer' y within' made') =
     performs_alike one o.command o bundle answer answer' made
     (subst (λ (q : Order). Performs q.command q bundle answer') (same_value p o (sym y ∙ x)) made')
 
--- ---- the statuses of outcomes
-
-abbrev pub is_refused : ℕ → Bool
-is_refused status = list_any (λ s. s == status) (2 ∷ 5 ∷ 6 ∷ 7 ∷ 8 ∷ 9 ∷ [])
-
-abbrev is_own : ℕ → Bool
-is_own status = list_any (λ s. s == status) outcome_statuses
-
--- the status of a refusal is that of an outcome
-own_refused : (status : ℕ) → is_refused status ≡ true → is_own status ≡ true
-own_refused status refused = or_right (0 == status) _ (or_right (1 == status) _ refused)
-
-refused_of : (made r : Refusal) → Some made ≡ Some r → is_refused made.status ≡ true → is_refused r.status ≡ true
-refused_of made r e own = subst (λ (t : Refusal). is_refused t.status ≡ true) (same_value made r e) own
-
-lex_status : (e : LexError) (r : Refusal) → lex_refusal e ≡ Some r → is_refused r.status ≡ true
-lex_status (lexical.BadByte at) r made = refused_of _ r made refl
-lex_status (lexical.OpenComment at) r made = refused_of _ r made refl
-lex_status (lexical.LargeNumber at) r made = refused_of _ r made refl
-lex_status (lexical.TooMany at) r made = refused_of _ r made refl
-lex_status lexical.Memory r made = cc
-
-bind_status : (at : ℕ → ℕ) (e : BindError) (r : Refusal) → bind_refusal at e ≡ Some r → is_refused r.status ≡ true
-bind_status at (binding.UnknownName t) r made = refused_of _ r made refl
-bind_status at (binding.Duplicate t) r made = refused_of _ r made refl
-bind_status at (binding.Unbound t) r made = refused_of _ r made refl
-bind_status at (binding.NotAffine t) r made = refused_of _ r made refl
-bind_status at (binding.WrongCount t) r made = refused_of _ r made refl
-bind_status at (binding.ElseForm t) r made = refused_of _ r made refl
-bind_status at (binding.TooManyProcesses t) r made = refused_of _ r made refl
-bind_status at (binding.TooDeep t) r made = refused_of _ r made refl
-bind_status at (binding.TooManyReads t) r made = refused_of _ r made refl
-bind_status at (binding.TooManyRows t) r made = refused_of _ r made refl
-bind_status at (binding.Large t) r made = refused_of _ r made refl
-bind_status at binding.Memory r made = cc
-
-abbrev IsRefused : {A : Type 0} → Result A Refusal → Type 0
-IsRefused (Ok x) = Unit {0}
-IsRefused (Err r) = is_refused r.status ≡ true
-
-pub gives_refused : (source : List ℕ) (params : List (List ℕ × ℤ)) {x : Result Nest Refusal} → Gives source params x → IsRefused x
-gives_refused source params (no_tokens e r lexed made) = lex_status e r made
-gives_refused source params (no_tree a place lexed stops) = refl
-gives_refused source params (not_bound a t reason r lexed derived least made) = bind_status (byte_of source a) reason r made
-gives_refused source params (bound a t n lexed derived is) = tt
-
-inputs_refused : (bytes : List ℕ) (n : Nest) (r : Refusal) → IsInputs n bytes (Err r) → is_refused r.status ≡ true
-inputs_refused bytes n r i = rw (data_status n.arrays i.0 r i.2) refl
-
-runs_own : (params : List (List ℕ × ℤ)) (bundle : List ℕ) {x : Result Reply Refusal} → Runs params bundle x → is_own (outcome_of x).status ≡ true
-runs_own params bundle (source_refused r g) = own_refused r.status (gives_refused (source_part bundle) params g)
-runs_own params bundle (size_refused n e g c) = rw (size_status e) refl
-runs_own params bundle (data_refused n t r g c i) = own_refused r.status (inputs_refused (data_part bundle) n r i)
-runs_own params bundle (answered n t d g c i) = refl
-
-prints_own : (text : Nest → List ℕ) (params : List (List ℕ × ℤ)) (bundle : List ℕ) {x : Result Reply Refusal} → Prints text params bundle x → is_own (outcome_of x).status ≡ true
-prints_own text params bundle (print.source_refused r g) = own_refused r.status (gives_refused (source_part bundle) params g)
-prints_own text params bundle (print.size_refused n e g c) = rw (size_status e) refl
-prints_own text params bundle (print.printed n t g c) = refl
-
-verdict_own : (found : Option NetRefusal) → is_own (verdict_reply (verdict_of found)).status ≡ true
-verdict_own None = refl
-verdict_own (Some refusal) = refl
-
-checks_own : (params : List (List ℕ × ℤ)) (bundle : List ℕ) {x : Result Reply Refusal} → Checks params bundle x → is_own (outcome_of x).status ≡ true
-checks_own params bundle (check.part_missing none) = refl
-checks_own params bundle (check.source_refused part r there g) = own_refused r.status (gives_refused (source_part bundle) params g)
-checks_own params bundle (check.size_refused part n e there g c) = rw (size_status e) refl
-checks_own params bundle (check.unread part n t e text there g c read told) = refl
-checks_own params bundle (check.judged part n t network cert there g c read) = verdict_own (first n network cert)
-
-loads_own : (policy : Policy) (rows : ℕ) {x : Result Reply Refusal} → Loads policy rows x → is_own (outcome_of x).status ≡ true
-loads_own policy rows (load.too_large a) = refl
-loads_own policy rows (load.size_refused n e a g c) = rw (size_status e) refl
-loads_own policy rows (load.summed n t k a g c i) = refl
-
-performs_own : (command : Command) (order : Order) (bundle : List ℕ) (x : Result Reply Refusal)
-    → Performs command order bundle x → is_own (outcome_of x).status ≡ true
-performs_own Run order bundle x made = runs_own order.params bundle made
-performs_own Seq order bundle x made = runs_own order.params bundle made
-performs_own Net order bundle x made = prints_own (network_text order.policy) order.params bundle made
-performs_own Cert order bundle x made = prints_own (certificate_text order.policy) order.params bundle made
-performs_own Check order bundle x made = checks_own order.params bundle made
-performs_own Load order bundle x made = loads_own order.policy order.load made
-
-pub outcomes_own : (wanted : Option Order) (bundle : List ℕ) {a : Outcome} → IsOutcome wanted bundle a → is_own a.status ≡ true
-outcomes_own wanted bundle (words_refused x) = refl
-outcomes_own wanted bundle (bundle_refused o x long) = refl
-outcomes_own wanted bundle (performed o answer x within made) = performs_own o.command o bundle answer made
-
 -- ---- success
 
-verdict_done : (found : Option NetRefusal) → IsDone Check (verdict_reply (verdict_of found)).status
+verdict_done : (found : Option NetRefusal) → IsDone source_and_certificate (verdict_reply (verdict_of found)).status
 verdict_done None = inl refl
 verdict_done (Some refusal) = inr refl
 
-checks_done : OneTree → (params : List (List ℕ × ℤ)) (bundle : List ℕ) (n : Nest) (total : ℕ) (part : List ℕ) → Gives (source_part bundle) params (Ok n) → counted n ≡ Ok total
-    → certificate_part bundle ≡ Some part → {x : Result Reply Refusal} → Checks params bundle x → IsDone Check (outcome_of x).status
-checks_done one params bundle n total part gives counts there (check.part_missing none) = absurd (no_part_there bundle part none there)
-checks_done one params bundle n total part gives counts there (check.source_refused other r others g) = absurd (gives_alike one (source_part bundle) params gives g)
-checks_done one params bundle n total part gives counts there (check.size_refused other m e others g c) =
-    absurd (no_both_sizes m n e total (gives_alike one (source_part bundle) params g gives).2 c counts)
-checks_done one params bundle n total part gives counts there (check.unread other m t e text others g c read told) = inr refl
-checks_done one params bundle n total part gives counts there (check.judged other m t network cert others g c read) = verdict_done (first m network cert)
+checks_done : OneTree → (params : List (List ℕ × ℤ)) (bundle : List ℕ) (n : Nest) (part : List ℕ) → GivesWithinSize (source_part bundle) params (Ok n)
+    → certificate_part bundle ≡ Some part → {x : Result Reply Refusal} → Checks params bundle x → IsDone source_and_certificate (outcome_of x).status
+checks_done one params bundle n part gives there (check.part_missing none) = absurd (no_part_there bundle part none there)
+checks_done one params bundle n part gives there (check.source_refused other r others g) = absurd (sized_alike one (source_part bundle) params gives g)
+checks_done one params bundle n part gives there (check.unread other m e text others g read told) = inr refl
+checks_done one params bundle n part gives there (check.judged other m network cert others g read) = verdict_done (first m network cert)
 
 loads_done : OneTree → (policy : Policy) (rows : ℕ) (n : Nest) (total : ℕ) → rows ≤ load_limit → IsMatrixNest rows n → counted n ≡ Ok total
     → {x : Result Reply Refusal} → Loads policy rows x → (outcome_of x).status ≡ 0
@@ -462,20 +405,26 @@ loads_done one policy rows n total within is counts (load.size_refused m e a g c
 loads_done one policy rows n total within is counts (load.summed m t k a g c i) = refl
 
 performs_done : OneTree → (command : Command) (order : Order) (bundle : List ℕ) → (n : Nest) (total : ℕ) (inputs : Inputs)
-    → IsNestFor command order bundle n → counted n ≡ Ok total → HasParts command n bundle inputs
-    → (x : Result Reply Refusal) → Performs command order bundle x → IsDone command (outcome_of x).status
-performs_done one Run order bundle n total inputs gives counts has x made = runs_alike one order.params bundle made (answered n total inputs gives counts has)
-performs_done one Seq order bundle n total inputs gives counts has x made = runs_alike one order.params bundle made (answered n total inputs gives counts has)
-performs_done one Net order bundle n total inputs gives counts has x made =
-    prints_alike one (network_text order.policy) order.params bundle made (print.printed n total gives counts)
-performs_done one Cert order bundle n total inputs gives counts has x made =
-    prints_alike one (certificate_text order.policy) order.params bundle made (print.printed n total gives counts)
-performs_done one Check order bundle n total inputs gives counts has x made = checks_done one order.params bundle n total has.0 gives counts has.1 made
-performs_done one Load order bundle n total inputs gives counts has x made = loads_done one order.policy order.load n total gives.0 gives.1 counts made
+    → IsNestFor (reads_of command) order bundle n → counted n ≡ Ok total → IsWithinOwnLimit command order.policy n → HasParts (reads_of command) n bundle inputs
+    → (x : Result Reply Refusal) → Performs command order bundle x → IsDone (reads_of command) (outcome_of x).status
+performs_done one Run order bundle n total inputs gives counts limited has x made =
+    runs_alike one order.params bundle made (answered n inputs (sized.within_size n total gives counts) has)
+performs_done one Seq order bundle n total inputs gives counts limited has x made =
+    runs_alike one order.params bundle made (answered n inputs (sized.within_size n total gives counts) has)
+performs_done one Net order bundle n total inputs gives counts limited has x made =
+    prints_alike one (network_text order.policy) order.params bundle made (print.printed n (sized.within_size n total gives counts))
+performs_done one Cert order bundle n total inputs gives counts limited has x made =
+    prints_alike one (certificate_text order.policy) order.params bundle made (print.printed n (sized.within_size n total gives counts))
+performs_done one Check order bundle n total inputs gives counts limited has x made =
+    checks_done one order.params bundle n has.0 (sized.within_size n total gives counts) has.1 made
+performs_done one Vhdl order bundle n total inputs gives counts limited has x made =
+    describes_alike one order.policy order.params bundle made (describe.described n (sized.within_size n total gives counts) limited)
+performs_done one Load order bundle n total inputs gives counts limited has x made = loads_done one order.policy order.load n total gives.0 gives.1 counts made
 
-pub outcomes_succeed : OneTree → (wanted : Option Order) (bundle : List ℕ) (v : IsValid wanted bundle) → {a : Outcome} → IsOutcome wanted bundle a → IsDone v.order.command a.status
+pub outcomes_succeed : OneTree → (wanted : Option Order) (bundle : List ℕ) (v : IsValid wanted bundle) → {a : Outcome} → IsOutcome wanted bundle a
+    → IsDone (reads_of v.order.command) a.status
 outcomes_succeed one wanted bundle v (words_refused x) = absurd (no_order wanted v.order x v.ordered)
-outcomes_succeed one wanted bundle v (bundle_refused o x long) = absurd (omega (arith, v.within))
+outcomes_succeed one wanted bundle v (bundle_refused o x reads long) = absurd (omega (arith, v.within))
 outcomes_succeed one wanted bundle v (performed o answer x within made) =
-    performs_done one v.order.command v.order bundle v.nest v.total v.inputs v.gives v.counts v.has answer
+    performs_done one v.order.command v.order bundle v.nest v.total v.inputs v.gives v.counts v.limited v.has answer
     (subst (λ (q : Order). Performs q.command q bundle answer) (same_value o v.order (sym x ∙ v.ordered)) made)

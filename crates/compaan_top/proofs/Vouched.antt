@@ -1,5 +1,5 @@
 -- What holds where `check` accepts.
-use Rattle.std.proofs.Common.{Err, true, ◌≡◌, ◌≤◌, ◌∙◌, arith, length, ℕ, ℤ, List, Option, Some, None, Result, Ok, refl, sym, ap, subst}
+use Rattle.std.proofs.Common.{Err, true, ◌≡◌, ◌≤◌, ◌∙◌, arith, length, ℕ, ℤ, List, Option, Some, None, Result, Ok, refl, sym, ap, subst, inl, inr}
 use Rattle.std.specs.Prelude.{◌↔◌}
 use Rattle.cert_text.specs.CertText.{AreInRange, cert_text}
 use Rattle.cert_text.specs.Reading.{reading}
@@ -15,13 +15,15 @@ use Rattle.net_core.specs.declared.network.Network.{Network}
 use Rattle.sanlp.specs.declared.nest.Nest.{Nest}
 use Rattle.source_tree.specs.declared.cert.Cert.{Cert}
 use Rattle.witness_plan.specs.declared.schedules.Policy.{Policy}
-use Rattle.compaan_top.specs.Answers.{Change, Ends, Reads, ReadsFor, ReadsTo, no_memory, read_fault, written, cut_short}
-use Rattle.compaan_top.specs.Checking.{Checks, verdict_reply, part_missing, source_refused, size_refused, unread, judged}
+use Rattle.compaan_top.specs.Answers.{Change, Ends, IsRead, ReadsFor, ReadsTo, no_memory, read_fault, written, cut_short}
+use Rattle.compaan_top.specs.Checking.{Checks, verdict_reply, part_missing, source_refused, unread, judged}
 use Rattle.compaan_top.specs.Headline.{AcceptsWhatFits, HasFittingCertificate, HasSoundCertificate, accepted}
 use Rattle.compaan_top.specs.Outcome.{Outcome, IsOutcome, Performs, bundle_limit, outcome_of, words_refused, bundle_refused, performed}
 use Rattle.compaan_top.specs.Replies.{Reply}
 use Rattle.compaan_top.specs.declared.refusal.Refusal.{Refusal}
-use Rattle.compaan_top.proofs.Statuses.{Alike, OneTree, first_alike, gives_alike, gives_refused, is_refused, no_both_sizes, no_order, no_part_there, same_part, size_status}
+use Rattle.compaan_top.specs.Commands.{reads_of, read_by}
+use Rattle.compaan_top.proofs.OwnStatuses.{IsOfSource, sized_refused}
+use Rattle.compaan_top.proofs.Statuses.{Alike, OneTree, first_alike, no_order, no_part_there, same_part, sized_alike}
 
 abbrev pub NothingWrongFits : Type 0
 NothingWrongFits = (n : Nest) (network : Network) (cert : Cert) → (first n network cert ≡ None) ↔ Fits n network cert
@@ -52,26 +54,36 @@ four_is_not_zero is = cc
 ten_is_not_zero : ◌≡◌ {A = ℕ} 10 0 → ⊥
 ten_is_not_zero is = cc
 
-pub not_zero : (status : ℕ) → is_refused status ≡ true → status ≡ 0 → ⊥
-not_zero status refused is = let zero : is_refused 0 ≡ true = subst (λ (s : ℕ). is_refused s ≡ true) is refused in cc
+pub five_is_not_zero : ◌≡◌ {A = ℕ} 5 0 → ⊥
+five_is_not_zero is = cc
+
+six_is_not_zero : ◌≡◌ {A = ℕ} 6 0 → ⊥
+six_is_not_zero is = cc
+
+seven_is_not_zero : ◌≡◌ {A = ℕ} 7 0 → ⊥
+seven_is_not_zero is = cc
+
+eight_is_not_zero : ◌≡◌ {A = ℕ} 8 0 → ⊥
+eight_is_not_zero is = cc
+
+pub not_zero : (status : ℕ) → IsOfSource status → status ≡ 0 → ⊥
+not_zero status (inl six) is = six_is_not_zero (sym six ∙ is)
+not_zero status (inr (inl seven)) is = seven_is_not_zero (sym seven ∙ is)
+not_zero status (inr (inr eight)) is = eight_is_not_zero (sym eight ∙ is)
 
 pub checks_vouched : NothingWrongFits → ReadsItsText → (params : List (List ℕ × ℤ)) (bundle : List ℕ) {answer : Result Reply Refusal}
     → Checks params bundle answer → (outcome_of answer).status ≡ 0 → HasFittingCertificate params bundle
-checks_vouched fitting reads params bundle (part_missing none) is = absurd (not_zero 5 refl is)
+checks_vouched fitting reads params bundle (part_missing none) is = absurd (five_is_not_zero is)
 checks_vouched fitting reads params bundle (source_refused part refusal there gives) is =
-    absurd (not_zero refusal.status (gives_refused (source_part bundle) params gives) is)
-checks_vouched fitting reads params bundle (size_refused part nest error there gives counts) is =
-    absurd (not_zero 8 refl (sym (size_status error) ∙ is))
-checks_vouched fitting reads params bundle (unread part nest total error text there gives counts read told) is = absurd (one_is_not_zero is)
-checks_vouched fitting reads params bundle (judged part nest total network cert there gives counts read) is =
+    absurd (not_zero refusal.status (sized_refused (source_part bundle) params gives) is)
+checks_vouched fitting reads params bundle (unread part nest error text there gives read told) is = absurd (one_is_not_zero is)
+checks_vouched fitting reads params bundle (judged part nest network cert there gives read) is =
     let is_text = reads part network cert read in
     record {
       nest = nest;
-      total = total;
       network = network;
       cert = cert;
       gives = gives;
-      counts = counts;
       text = there ∙ ap Some is_text.0;
       in_range = is_text.1;
       fits = (fitting nest network cert).0 (nothing_wrong (first nest network cert) is);
@@ -85,18 +97,18 @@ performs_vouched : VouchesFor → (order : Order) (bundle : List ℕ) (answer : 
 performs_vouched vouches order bundle answer is made zero =
     vouches order.params bundle answer (subst (λ (c : Command). Performs c order bundle answer) is made) zero
 
-outcome_vouched : VouchesFor → (wanted : Option Order) (bundle : List ℕ) (order : Order) {outcome : Outcome} → wanted ≡ Some order → order.command ≡ Check
+pub outcome_vouched : VouchesFor → (wanted : Option Order) (bundle : List ℕ) (order : Order) {outcome : Outcome} → wanted ≡ Some order → order.command ≡ Check
     → IsOutcome wanted bundle outcome → outcome.status ≡ 0 → HasFittingCertificate order.params bundle
 outcome_vouched vouches wanted bundle order ordered is (words_refused none) zero = absurd (no_order wanted order none ordered)
-outcome_vouched vouches wanted bundle order ordered is (bundle_refused other others long) zero = absurd (not_zero 5 refl zero)
+outcome_vouched vouches wanted bundle order ordered is (bundle_refused other others some long) zero = absurd (five_is_not_zero zero)
 outcome_vouched vouches wanted bundle order ordered is (performed other answer others within made) zero =
     let same : other ≡ order = same_order wanted other order others ordered in
     performs_vouched vouches order bundle answer is
     (subst (λ (o : Order). Performs o.command o bundle answer) same made) zero
 
-reads_to : (wanted : Option Order) (input : Change) (bundle : List ℕ) (order : Order) → wanted ≡ Some order → order.command ≡ Check → Reads wanted input bundle → ReadsTo input bundle
+reads_to : (wanted : Option Order) (input : Change) (bundle : List ℕ) (order : Order) → wanted ≡ Some order → order.command ≡ Check → IsRead wanted input bundle → ReadsTo input bundle
 reads_to wanted input bundle order ordered is reads =
-    subst (λ (c : Command). ReadsFor c input bundle) is (subst (λ (o : Option Order). Reads o input bundle) ordered reads)
+    subst (λ (c : Command). ReadsFor (reads_of c) input bundle) is (subst (λ (o : Option Order). IsRead o input bundle) ordered reads)
 
 -- what has a fitting certificate has a sound one
 pub with_sound : WhatFitsIsSound → (params : List (List ℕ × ℤ)) (bundle : List ℕ) → HasFittingCertificate params bundle → HasSoundCertificate params bundle
@@ -105,8 +117,8 @@ with_sound sound params bundle v = record { fitting = v; sound = sound v.nest v.
 -- a call with status 0 whose words order `check` read a bundle with a sound certificate
 pub ends_vouched : VouchesFor → WhatFitsIsSound → (wanted : Option Order) (input output complaint : Change) (order : Order) {status : ℕ} → Ends wanted input output complaint status
     → wanted ≡ Some order → order.command ≡ Check → status ≡ 0 → (bundle : List ℕ) × ReadsTo input bundle × HasSoundCertificate order.params bundle
-ends_vouched vouches sound wanted input output complaint order (no_memory quiet nothing) ordered is zero = absurd (ten_is_not_zero zero)
-ends_vouched vouches sound wanted input output complaint order (read_fault other others fault nothing) ordered is zero = absurd (three_is_not_zero zero)
+ends_vouched vouches sound wanted input output complaint order (no_memory quiet taken writes) ordered is zero = absurd (ten_is_not_zero zero)
+ends_vouched vouches sound wanted input output complaint order (read_fault other others some fault taken writes) ordered is zero = absurd (three_is_not_zero zero)
 ends_vouched vouches sound wanted input output complaint order (written bundle outcome quiet reads outcome_is all) ordered is zero =
     (bundle, reads_to wanted input bundle order ordered is reads, with_sound sound order.params bundle (outcome_vouched vouches wanted bundle order ordered is outcome_is zero))
 ends_vouched vouches sound wanted input output complaint order (cut_short bundle outcome quiet reads outcome_is front) ordered is zero = absurd (four_is_not_zero zero)
@@ -137,21 +149,19 @@ none_wrong fitting n m network cert pair same is fits =
 checks_accepted : OneTree → NothingWrongFits → TextIsRead → (params : List (List ℕ × ℤ)) (bundle : List ℕ) (v : HasFittingCertificate params bundle) {answer : Result Reply Refusal}
     → Checks params bundle answer → outcome_of answer ≡ accepted
 checks_accepted one fitting back params bundle v (part_missing none) = absurd (no_part_there bundle (cert_text v.network v.cert) none v.text)
-checks_accepted one fitting back params bundle v (source_refused part refusal there gives) = absurd (gives_alike one (source_part bundle) params gives v.gives)
-checks_accepted one fitting back params bundle v (size_refused part nest error there gives counts) =
-    absurd (no_both_sizes nest v.nest error v.total (gives_alike one (source_part bundle) params gives v.gives).2 counts v.counts)
-checks_accepted one fitting back params bundle v (unread part nest total error text there gives counts read told) =
+checks_accepted one fitting back params bundle v (source_refused part refusal there gives) = absurd (sized_alike one (source_part bundle) params gives v.gives)
+checks_accepted one fitting back params bundle v (unread part nest error text there gives read told) =
     absurd (no_error (reading part) error (v.network, v.cert) read (part_read back params bundle part v there))
-checks_accepted one fitting back params bundle v (judged part nest total network cert there gives counts read) =
+checks_accepted one fitting back params bundle v (judged part nest network cert there gives read) =
     let pairs : (network, cert) ≡ (v.network, v.cert) = same_pair (reading part) (network, cert) (v.network, v.cert) read (part_read back params bundle part v there) in
     let none : first nest network cert ≡ None =
-    none_wrong fitting nest v.nest v.network v.cert (network, cert) (gives_alike one (source_part bundle) params gives v.gives) pairs v.fits in
+    none_wrong fitting nest v.nest v.network v.cert (network, cert) (sized_alike one (source_part bundle) params gives v.gives) pairs v.fits in
     ap (λ (found : Option NetRefusal). outcome_of (Ok (verdict_reply (verdict_of found)))) none
 
 outcome_accepted : OneTree → NothingWrongFits → TextIsRead → (wanted : Option Order) (bundle : List ℕ) (order : Order) {outcome : Outcome} → wanted ≡ Some order
     → order.command ≡ Check → length bundle ≤ bundle_limit → HasFittingCertificate order.params bundle → IsOutcome wanted bundle outcome → outcome ≡ accepted
 outcome_accepted one fitting back wanted bundle order ordered is within v (words_refused none) = absurd (no_order wanted order none ordered)
-outcome_accepted one fitting back wanted bundle order ordered is within v (bundle_refused other others long) = absurd (omega (arith, within))
+outcome_accepted one fitting back wanted bundle order ordered is within v (bundle_refused other others some long) = absurd (omega (arith, within))
 outcome_accepted one fitting back wanted bundle order ordered is within v (performed other answer others small made) =
     let same : other ≡ order = same_order wanted other order others ordered in
     checks_accepted one fitting back order.params bundle v

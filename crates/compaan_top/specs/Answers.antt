@@ -1,10 +1,9 @@
 -- What a call of the program does to its source and its two sinks.
-use Rattle.std.specs.Prelude.{◌≡◌, ◌⊎◌, ◌≤◌, ◌+◌, ℕ, List, [], length, Option, Some, None}
+use Rattle.std.specs.Prelude.{◌≡◌, ◌≢◌, ◌⊎◌, ◌≤◌, ◌+◌, ℕ, List, [], length, Option, Some}
 use Rattle.std.specs.Io.KnownBytes.{Appends, Consumes, IsAtEnd, Keeps}
-use Rattle.io_edge.specs.Causes.{Rose, AppendsFront}
-use Rattle.command_line.specs.declared.words.Command.{Command}
-use Rattle.command_line.specs.declared.words.Command.TheVariants.{Run, Seq, Net, Cert, Check, Load}
+use Rattle.io_edge.specs.Causes.{Rose, AppendsFront, ConsumesAtMost}
 use Rattle.command_line.specs.declared.words.Order.{Order}
+use Rattle.compaan_top.specs.Commands.{Reads, source_alone, source_and_data, source_and_certificate, nothing, read_by, reads_of}
 use Rattle.compaan_top.specs.Outcome.{Outcome, IsOutcome, bundle_limit}
 
 -- the bytes and the count of faults of a source or a sink, before a call and after it
@@ -13,6 +12,9 @@ pub record Change : Type 0 where
   pub new : Option (List ℕ)
   pub faults_old : ℕ
   pub faults_new : ℕ
+
+abbrev pub change : Option (List ℕ) → Option (List ℕ) → ℕ → ℕ → Change
+change old new faults_old faults_new = record { old = old; new = new; faults_old = faults_old; faults_new = faults_new }
 
 abbrev pub IsQuiet : Change → Type 0
 IsQuiet change = change.faults_new ≡ change.faults_old
@@ -30,19 +32,26 @@ pub record ReadsTo (input : Change) (bundle : List ℕ) : Type 0 where
 abbrev pub ReadsNothing : Change → List ℕ → Type 0
 ReadsNothing input bundle = Keeps input.old input.new × (bundle ≡ [])
 
--- `load` reads nothing
-abbrev pub ReadsFor : Command → Change → List ℕ → Type 0
-ReadsFor Run = ReadsTo
-ReadsFor Seq = ReadsTo
-ReadsFor Net = ReadsTo
-ReadsFor Cert = ReadsTo
-ReadsFor Check = ReadsTo
-ReadsFor Load = ReadsNothing
+-- where a bundle is to be read the source gave it, and else nothing
+abbrev pub ReadsFor : Reads → Change → List ℕ → Type 0
+ReadsFor source_alone = ReadsTo
+ReadsFor source_and_data = ReadsTo
+ReadsFor source_and_certificate = ReadsTo
+ReadsFor nothing = ReadsNothing
 
--- where the words are refused nothing is read
-abbrev pub Reads : Option Order → Change → List ℕ → Type 0
-Reads None = ReadsNothing
-Reads (Some order) = ReadsFor order.command
+-- the bundle is what was read of the source where this order is wanted
+abbrev pub IsRead : Option Order → Change → List ℕ → Type 0
+IsRead wanted = ReadsFor (read_by wanted)
+
+-- the most bytes that are taken of the source
+abbrev pub most_taken : Reads → ℕ
+most_taken source_alone = bundle_limit + 1
+most_taken source_and_data = bundle_limit + 1
+most_taken source_and_certificate = bundle_limit + 1
+most_taken nothing = 0
+
+abbrev pub TakesAtMost : Change → ℕ → Type 0
+TakesAtMost input most = ConsumesAtMost input.old input.new most
 
 -- nothing was written on either sink, and none had a fault
 pub record WritesNothing (output complaint : Change) : Type 0 where
@@ -68,10 +77,11 @@ pub record WritesFront (outcome : Outcome) (output complaint : Change) : Type 0 
 -- want of memory or since the source had a fault, or it wrote the outcome of the order and the bundle, or a sink had a fault
 -- while it did.
 pub data Ends (wanted : Option Order) (input output complaint : Change) : ℕ → Type 0 where
-  no_memory : IsQuiet input → WritesNothing output complaint → Ends wanted input output complaint 10
-  read_fault : (order : Order) → wanted ≡ Some order → HasFault input → WritesNothing output complaint
-      → Ends wanted input output complaint 3
-  written : (bundle : List ℕ) (outcome : Outcome) → IsQuiet input → Reads wanted input bundle → IsOutcome wanted bundle outcome
+  no_memory : IsQuiet input → TakesAtMost input (most_taken (read_by wanted)) → WritesNothing output complaint
+      → Ends wanted input output complaint 10
+  read_fault : (order : Order) → wanted ≡ Some order → reads_of order.command ≢ nothing → HasFault input → TakesAtMost input bundle_limit
+      → WritesNothing output complaint → Ends wanted input output complaint 3
+  written : (bundle : List ℕ) (outcome : Outcome) → IsQuiet input → IsRead wanted input bundle → IsOutcome wanted bundle outcome
       → WritesAll outcome output complaint → Ends wanted input output complaint outcome.status
-  cut_short : (bundle : List ℕ) (outcome : Outcome) → IsQuiet input → Reads wanted input bundle → IsOutcome wanted bundle outcome
+  cut_short : (bundle : List ℕ) (outcome : Outcome) → IsQuiet input → IsRead wanted input bundle → IsOutcome wanted bundle outcome
       → WritesFront outcome output complaint → Ends wanted input output complaint 4

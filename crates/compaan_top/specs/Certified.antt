@@ -1,11 +1,35 @@
 -- What `check` answers to what `cert` writes.
-use Rattle.std.specs.Prelude.{◌≡◌, ◌≤◌, ℕ, List, length, Some}
+use Rattle.std.specs.Prelude.{◌≡◌, ◌≤◌, ℕ, ℤ, List, ◌++◌, length, Contains, Option, Some, Ok}
 use Rattle.bundle_laws.specs.Certified.{with_line_end}
 use Rattle.command_line.specs.Bundle.{certificate_part, source_part}
 use Rattle.command_line.specs.declared.words.Command.TheVariants.{Cert, Check}
 use Rattle.command_line.specs.declared.words.Order.{Order}
+use Rattle.loop_class.specs.Names.{value_named}
+use Rattle.loop_grammar.specs.Lexemes.{IsTree}
+use Rattle.loop_grammar.specs.declared.tree.Declaration.{Declaration}
+use Rattle.loop_grammar.specs.declared.tree.DeclWord.TheVariants.{Param}
+use Rattle.loop_grammar.specs.declared.tree.Named.{Named}
+use Rattle.loop_grammar.specs.declared.tree.Tree.{Tree}
+use Rattle.loop_lex.specs.Tokens.{tokens}
+use Rattle.loop_lex.specs.declared.token.Token.{Token}
+use Rattle.compaan_top.specs.Answers.{Change, Ends}
 use Rattle.compaan_top.specs.Headline.{accepted}
 use Rattle.compaan_top.specs.Outcome.{Outcome, IsOutcome, bundle_limit}
+
+-- a tree declares a parameter of this name
+pub record HasParameter (tree : Tree) (name : List ℕ) : Type 0 where
+  pub declaration : Declaration
+  pub named : Named
+  pub stands : Contains tree.declarations declaration
+  pub word : declaration.word ≡ Param
+  pub is_declared : Contains declaration.names named
+  pub text : named.name.text ≡ name
+
+-- each parameter that the source declares has one value in both lists, or none in either
+abbrev pub AgreeOn : List ℕ → List (List ℕ × ℤ) → List (List ℕ × ℤ) → Type 0
+AgreeOn source a b =
+    (found : List Token) (tree : Tree) (name : List ℕ) → tokens source ≡ Ok found → IsTree source found tree
+    → HasParameter tree name → value_named a name ≡ value_named b name
 
 -- an order to `cert` comes to this outcome on a bundle, and the certificate was written
 pub record Certifies (order : Order) (bundle : List ℕ) (written : Outcome) : Type 0 where
@@ -21,3 +45,27 @@ pub record HasCertificate (bundle other text : List ℕ) : Type 0 where
 -- an order to `check` comes to `accepted` on a bundle within the limit
 abbrev pub Accepts : Order → List ℕ → Type 0
 Accepts order bundle = order.command ≡ Check → length bundle ≤ bundle_limit → (outcome : Outcome) → IsOutcome (Some order) bundle outcome → outcome ≡ accepted
+
+-- a call with an order, and how it ended
+pub record Call : Type 0 where
+  pub order : Order
+  pub input : Change
+  pub output : Change
+  pub complaint : Change
+  pub status : ℕ
+  pub ended : Ends (Some order) input output complaint status
+
+-- a call to `cert` that had this bundle left to read and wrote this text
+pub record WroteCertificate (call : Call) (bundle text : List ℕ) : Type 0 where
+  pub command : call.order.command ≡ Cert
+  pub done : call.status ≡ 0
+  pub left : call.input.old ≡ Some bundle
+  pub held : List ℕ
+  pub before : call.output.old ≡ Some held
+  pub after : call.output.new ≡ Some (held ++ text)
+
+-- a call to `check` that had this bundle left to read
+pub record ReadCertificate (call : Call) (bundle : List ℕ) : Type 0 where
+  pub command : call.order.command ≡ Check
+  pub left : call.input.old ≡ Some bundle
+  pub within : length bundle ≤ bundle_limit

@@ -3,8 +3,6 @@ use Rattle.std.specs.Prelude.{◌≡◌, ℕ, ℤ, List, Some, None, Result, Ok,
 use Rattle.cert_text.specs.Reading.{reading}
 use Rattle.cert_text.specs.declared.error.CertError.{CertError}
 use Rattle.command_line.specs.Bundle.{certificate_part, source_part}
-use Rattle.loop_walk.specs.Counting.{counted}
-use Rattle.loop_walk.specs.declared.count.SizeError.{SizeError}
 use Rattle.net_checker.specs.Fits.{first, verdict_of}
 use Rattle.net_checker.specs.declared.verdict.Verdict.{Verdict}
 use Rattle.net_checker.specs.declared.verdict.Verdict.TheVariants.{Accepted, Refused}
@@ -12,9 +10,9 @@ use Rattle.net_core.specs.declared.network.Network.{Network}
 use Rattle.sanlp.specs.declared.nest.Nest.{Nest}
 use Rattle.source_tree.specs.declared.cert.Cert.{Cert}
 use Rattle.verdict_text.specs.VerdictText.{unread_text, verdict_text}
-use Rattle.compaan_top.specs.Refusals.{no_part, size_refusal}
+use Rattle.compaan_top.specs.Refusals.{no_part}
 use Rattle.compaan_top.specs.Replies.{Reply, done}
-use Rattle.compaan_top.specs.Source.{Gives}
+use Rattle.compaan_top.specs.Source.{GivesWithinSize}
 use Rattle.compaan_top.specs.declared.refusal.Refusal.{Refusal}
 
 -- what was refused is told on the output, with status 1
@@ -26,17 +24,15 @@ abbrev pub verdict_reply : Verdict → Reply
 verdict_reply Accepted = done (verdict_text Accepted)
 verdict_reply (Refused refusal) = refused (verdict_text (Refused refusal))
 
--- There is no certificate part, the source is refused, the nest is too large, the certificate part is no text of a network
--- with its certificate, or the checker's verdict on these is told.
+-- There is no certificate part, the source gives no nest within the limit, the certificate part is no text of a network with its
+-- certificate, or the checker's verdict on these is told.
 pub data Checks (params : List (List ℕ × ℤ)) (bundle : List ℕ) : Result Reply Refusal → Type 0 where
   part_missing : certificate_part bundle ≡ None → Checks params bundle (Err no_part)
-  source_refused : (part : List ℕ) (refusal : Refusal) → certificate_part bundle ≡ Some part → Gives (source_part bundle) params (Err refusal)
-      → Checks params bundle (Err refusal)
-  size_refused : (part : List ℕ) (nest : Nest) (error : SizeError) → certificate_part bundle ≡ Some part
-      → Gives (source_part bundle) params (Ok nest) → counted nest ≡ Err error → Checks params bundle (Err (size_refusal error))
-  unread : (part : List ℕ) (nest : Nest) (total : ℕ) (error : CertError) (text : List ℕ) → certificate_part bundle ≡ Some part
-      → Gives (source_part bundle) params (Ok nest) → counted nest ≡ Ok total → reading part ≡ Err error → unread_text error ≡ Some text
+  source_refused : (part : List ℕ) (refusal : Refusal) → certificate_part bundle ≡ Some part
+      → GivesWithinSize (source_part bundle) params (Err refusal) → Checks params bundle (Err refusal)
+  unread : (part : List ℕ) (nest : Nest) (error : CertError) (text : List ℕ) → certificate_part bundle ≡ Some part
+      → GivesWithinSize (source_part bundle) params (Ok nest) → reading part ≡ Err error → unread_text error ≡ Some text
       → Checks params bundle (Ok (refused text))
-  judged : (part : List ℕ) (nest : Nest) (total : ℕ) (network : Network) (cert : Cert) → certificate_part bundle ≡ Some part
-      → Gives (source_part bundle) params (Ok nest) → counted nest ≡ Ok total → reading part ≡ Ok (network, cert)
+  judged : (part : List ℕ) (nest : Nest) (network : Network) (cert : Cert) → certificate_part bundle ≡ Some part
+      → GivesWithinSize (source_part bundle) params (Ok nest) → reading part ≡ Ok (network, cert)
       → Checks params bundle (Ok (verdict_reply (verdict_of (first nest network cert))))

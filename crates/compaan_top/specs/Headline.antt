@@ -4,24 +4,23 @@ use Rattle.cert_text.specs.CertText.{AreInRange, cert_text}
 use Rattle.command_line.specs.Bundle.{certificate_part, source_part}
 use Rattle.command_line.specs.declared.words.Command.TheVariants.{Check}
 use Rattle.command_line.specs.declared.words.Order.{Order}
-use Rattle.loop_walk.specs.Counting.{counted}
 use Rattle.net_checker.specs.Fits.{Fits}
 use Rattle.net_core.specs.Sound.{IsSound}
 use Rattle.net_core.specs.declared.network.Network.{Network}
 use Rattle.sanlp.specs.declared.nest.Nest.{Nest}
 use Rattle.source_tree.specs.declared.cert.Cert.{Cert}
+use Rattle.std.specs.Io.KnownBytes.{Appends}
+use Rattle.compaan_top.specs.Answers.{Change}
 use Rattle.compaan_top.specs.Outcome.{Outcome, IsOutcome, bundle_limit}
-use Rattle.compaan_top.specs.Source.{Gives}
+use Rattle.compaan_top.specs.Source.{GivesWithinSize}
 
 -- The source gives a nest within the limit on its size, and the certificate part stands for a network and a certificate that
 -- fit this nest.
 pub record HasFittingCertificate (params : List (List ℕ × ℤ)) (bundle : List ℕ) : Type 0 where
   pub nest : Nest
-  pub total : ℕ
   pub network : Network
   pub cert : Cert
-  pub gives : Gives (source_part bundle) params (Ok nest)
-  pub counts : counted nest ≡ Ok total
+  pub gives : GivesWithinSize (source_part bundle) params (Ok nest)
   pub text : certificate_part bundle ≡ Some (cert_text network cert)
   pub in_range : AreInRange network cert
   pub fits : Fits nest network cert
@@ -36,6 +35,14 @@ pub record HasSoundCertificate (params : List (List ℕ × ℤ)) (bundle : List 
 -- what is written where the checker accepts
 abbrev pub accepted : Outcome
 accepted = record { status = 0; output = codes "accepted\n"; complaint = [] }
+
+-- the bundle is within its limit and has a sound certificate
+abbrev pub IsAcceptable : List (List ℕ × ℤ) → List ℕ → Type 0
+IsAcceptable params bundle = (length bundle ≤ bundle_limit) × HasSoundCertificate params bundle
+
+-- `accepted` was written, with its status
+abbrev pub SaysAccepted : Change → ℕ → Type 0
+SaysAccepted output status = (status ≡ 0) × Appends output.old output.new accepted.output
 
 -- An order to `check` comes to `accepted` exactly where the bundle has a fitting certificate.
 abbrev pub AcceptsWhatFits : Option Order → List ℕ → Type 0

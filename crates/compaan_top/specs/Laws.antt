@@ -1,14 +1,19 @@
 -- What follows of the definitions alone.
-use Rattle.std.specs.Prelude.{◌≡◌, ◌⊎◌, ◌==◌, ◌≤◌, ℕ, true, List, [], ◌∷◌, length, Option, Some, Ok}
-use Rattle.std.specs.List.{list_any}
+use Rattle.std.specs.Prelude.{◌≡◌, ◌⊎◌, ◌≤◌, ℕ, true, List, [], ◌∷◌, ◌++◌, length, Option, Some, None, Ok}
 use Rattle.command_line.specs.Bundle.{certificate_part, data_part, source_part}
 use Rattle.command_line.specs.declared.words.Command.{Command}
-use Rattle.command_line.specs.declared.words.Command.TheVariants.{Run, Seq, Net, Cert, Check, Load}
+use Rattle.command_line.specs.declared.words.Command.TheVariants.{Vhdl}
 use Rattle.command_line.specs.declared.words.Order.{Order}
+use Rattle.io_edge.specs.InMemory.{is_among}
 use Rattle.matrix_load.specs.Product.{IsMatrixNest}
 use Rattle.sanlp.specs.declared.nest.Inputs.{Inputs}
 use Rattle.sanlp.specs.declared.nest.Nest.{Nest}
 use Rattle.loop_walk.specs.Counting.{counted}
+use Rattle.vhdl_text.specs.Refusal.{first_too_long}
+use Rattle.witness_plan.specs.declared.schedules.Policy.{Policy}
+use Rattle.compaan_top.specs.Answers.{Change, Ends}
+use Rattle.compaan_top.specs.Commands.{Reads, source_alone, source_and_data, source_and_certificate, nothing, read_by, reads_of}
+use Rattle.compaan_top.specs.Describing.{planned_automata}
 use Rattle.compaan_top.specs.Load.{load_limit}
 use Rattle.compaan_top.specs.Outcome.{Outcome, IsOutcome, bundle_limit}
 use Rattle.compaan_top.specs.Run.{IsInputs}
@@ -18,30 +23,54 @@ use Rattle.compaan_top.specs.Source.{Gives}
 abbrev pub DetermineStatus : Option Order → List ℕ → Type 0
 DetermineStatus wanted bundle = (a b : Outcome) → IsOutcome wanted bundle a → IsOutcome wanted bundle b → a.status ≡ b.status
 
+-- the statuses of what a command comes to
+abbrev pub command_statuses : Reads → List ℕ
+command_statuses source_alone = 0 ∷ 5 ∷ 6 ∷ 7 ∷ 8 ∷ []
+command_statuses source_and_data = 0 ∷ 5 ∷ 6 ∷ 7 ∷ 8 ∷ 9 ∷ []
+command_statuses source_and_certificate = 0 ∷ 1 ∷ 5 ∷ 6 ∷ 7 ∷ 8 ∷ []
+command_statuses nothing = 0 ∷ 8 ∷ []
+
 -- the statuses of outcomes: a failed read, a failed write and want of memory have others
-abbrev pub outcome_statuses : List ℕ
-outcome_statuses = 0 ∷ 1 ∷ 2 ∷ 5 ∷ 6 ∷ 7 ∷ 8 ∷ 9 ∷ []
+abbrev pub outcome_statuses : Option Order → List ℕ
+outcome_statuses None = 2 ∷ []
+outcome_statuses (Some order) = command_statuses (reads_of order.command)
 
 abbrev pub HaveOwnStatuses : Option Order → List ℕ → Type 0
-HaveOwnStatuses wanted bundle = (outcome : Outcome) → IsOutcome wanted bundle outcome → list_any (λ status. status == outcome.status) outcome_statuses ≡ true
+HaveOwnStatuses wanted bundle = (outcome : Outcome) → IsOutcome wanted bundle outcome → is_among (outcome_statuses wanted) outcome.status ≡ true
 
--- the bundle has what the command reads besides the source: a data part that gives these inputs, or a certificate part
-abbrev pub HasParts : Command → Nest → List ℕ → Inputs → Type 0
-HasParts Run nest bundle inputs = IsInputs nest (data_part bundle) (Ok inputs)
-HasParts Seq nest bundle inputs = IsInputs nest (data_part bundle) (Ok inputs)
-HasParts Net nest bundle inputs = Unit {0}
-HasParts Cert nest bundle inputs = Unit {0}
-HasParts Check nest bundle inputs = (part : List ℕ) × (certificate_part bundle ≡ Some part)
-HasParts Load nest bundle inputs = Unit {0}
+-- a failed read has a status where something is read
+abbrev pub read_statuses : Reads → List ℕ
+read_statuses source_alone = 3 ∷ []
+read_statuses source_and_data = 3 ∷ []
+read_statuses source_and_certificate = 3 ∷ []
+read_statuses nothing = []
 
--- the nest that an order is about: that of the bundle's source, and for `load` the product of matrices with so many rows
-abbrev pub IsNestFor : Command → Order → List ℕ → Nest → Type 0
-IsNestFor Run order bundle nest = Gives (source_part bundle) order.params (Ok nest)
-IsNestFor Seq order bundle nest = Gives (source_part bundle) order.params (Ok nest)
-IsNestFor Net order bundle nest = Gives (source_part bundle) order.params (Ok nest)
-IsNestFor Cert order bundle nest = Gives (source_part bundle) order.params (Ok nest)
-IsNestFor Check order bundle nest = Gives (source_part bundle) order.params (Ok nest)
-IsNestFor Load order bundle nest = (order.load ≤ load_limit) × IsMatrixNest order.load nest
+-- the statuses of calls: those of a failed write, of want of memory, of a failed read and of outcomes
+abbrev pub call_statuses : Option Order → List ℕ
+call_statuses wanted = 4 ∷ 10 ∷ (read_statuses (read_by wanted) ++ outcome_statuses wanted)
+
+abbrev pub HasStatusOf : Option Order → ℕ → Type 0
+HasStatusOf wanted status = is_among (call_statuses wanted) status ≡ true
+
+-- the bundle has what is read of it besides the source: a data part that gives these inputs, or a certificate part
+abbrev pub HasParts : Reads → Nest → List ℕ → Inputs → Type 0
+HasParts source_alone nest bundle inputs = Unit {0}
+HasParts source_and_data nest bundle inputs = IsInputs nest (data_part bundle) (Ok inputs)
+HasParts source_and_certificate nest bundle inputs = (part : List ℕ) × (certificate_part bundle ≡ Some part)
+HasParts nothing nest bundle inputs = Unit {0}
+
+-- The nest that an order is about: that of the bundle's source, and for `load`, which reads nothing, the product of matrices
+-- with so many rows.
+abbrev pub IsNestFor : Reads → Order → List ℕ → Nest → Type 0
+IsNestFor source_alone order bundle nest = Gives (source_part bundle) order.params (Ok nest)
+IsNestFor source_and_data order bundle nest = Gives (source_part bundle) order.params (Ok nest)
+IsNestFor source_and_certificate order bundle nest = Gives (source_part bundle) order.params (Ok nest)
+IsNestFor nothing order bundle nest = (order.load ≤ load_limit) × IsMatrixNest order.load nest
+
+-- the nest is within the command's own limit: for `vhdl` no script is too long
+abbrev pub IsWithinOwnLimit : Command → Policy → Nest → Type 0
+IsWithinOwnLimit Vhdl policy nest = first_too_long (planned_automata policy nest) ≡ None
+IsWithinOwnLimit command policy nest = Unit {0}
 
 -- an order and a bundle at which nothing is refused
 pub record IsValid (wanted : Option Order) (bundle : List ℕ) : Type 0 where
@@ -51,19 +80,20 @@ pub record IsValid (wanted : Option Order) (bundle : List ℕ) : Type 0 where
   pub inputs : Inputs
   pub ordered : wanted ≡ Some order
   pub within : length bundle ≤ bundle_limit
-  pub gives : IsNestFor order.command order bundle nest
+  pub gives : IsNestFor (reads_of order.command) order bundle nest
   pub counts : counted nest ≡ Ok total
-  pub has : HasParts order.command nest bundle inputs
+  pub limited : IsWithinOwnLimit order.command order.policy nest
+  pub has : HasParts (reads_of order.command) nest bundle inputs
 
--- the status is 0, or 1 where `check` tells a refusal
-abbrev pub IsDone : Command → ℕ → Type 0
-IsDone Run status = status ≡ 0
-IsDone Seq status = status ≡ 0
-IsDone Net status = status ≡ 0
-IsDone Cert status = status ≡ 0
-IsDone Check status = (status ≡ 0) ⊎ (status ≡ 1)
-IsDone Load status = status ≡ 0
+-- the status is 0, or 1 where a certificate is read and its refusal is told
+abbrev pub IsDone : Reads → ℕ → Type 0
+IsDone source_alone status = status ≡ 0
+IsDone source_and_data status = status ≡ 0
+IsDone source_and_certificate status = (status ≡ 0) ⊎ (status ≡ 1)
+IsDone nothing status = status ≡ 0
 
 -- with this order and this bundle the command is done
 abbrev pub Succeeds : Option Order → List ℕ → Type 0
-Succeeds wanted bundle = (valid : IsValid wanted bundle) (outcome : Outcome) → IsOutcome wanted bundle outcome → IsDone valid.order.command outcome.status
+Succeeds wanted bundle =
+    (valid : IsValid wanted bundle) (outcome : Outcome) → IsOutcome wanted bundle outcome
+    → IsDone (reads_of valid.order.command) outcome.status

@@ -3,6 +3,8 @@ pub mod Certified
 pub mod Judging
 pub mod Laws
 pub mod Checking
+pub mod Commands
+pub mod Describing
 pub mod Headline
 pub mod Load
 pub mod Printing
@@ -13,3 +15,4 @@ pub mod Refusals
 pub mod Run
 pub mod Source
 pub mod Steps
+pub mod Told

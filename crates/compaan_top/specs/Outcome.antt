@@ -1,10 +1,12 @@
 -- What the program answers to its words and its bundle: one case for each cause, in the order in which they decide. Of the
 -- words it takes the order that they give, or None where they are refused.
-use Rattle.std.specs.Prelude.{◌≡◌, ◌≤◌, ◌<◌, ℕ, ℤ, List, [], length, Option, Some, None, Result, Ok, Err}
+use Rattle.std.specs.Prelude.{◌≡◌, ◌≢◌, ◌≤◌, ◌<◌, ℕ, ℤ, List, [], length, Option, Some, None, Result, Ok, Err}
 use Rattle.command_line.specs.declared.words.Command.{Command}
-use Rattle.command_line.specs.declared.words.Command.TheVariants.{Run, Seq, Net, Cert, Check, Load}
+use Rattle.command_line.specs.declared.words.Command.TheVariants.{Run, Seq, Net, Cert, Check, Vhdl, Load}
 use Rattle.command_line.specs.declared.words.Order.{Order}
 use Rattle.compaan_top.specs.Checking.{Checks}
+use Rattle.compaan_top.specs.Commands.{nothing, reads_of}
+use Rattle.compaan_top.specs.Describing.{Describes}
 use Rattle.compaan_top.specs.Load.{Loads}
 use Rattle.compaan_top.specs.Printing.{Prints, certificate_text, network_text}
 use Rattle.compaan_top.specs.Refusals.{usage, too_long}
@@ -34,11 +36,13 @@ Performs Seq order = Runs order.params
 Performs Net order = Prints (network_text order.policy) order.params
 Performs Cert order = Prints (certificate_text order.policy) order.params
 Performs Check order = Checks order.params
+Performs Vhdl order = Describes order.policy order.params
 Performs Load order = λ bundle. Loads order.policy order.load
 
 -- The words are refused, the bundle is too long, or the command is performed.
 pub data IsOutcome (wanted : Option Order) (bundle : List ℕ) : Outcome → Type 0 where
   words_refused : wanted ≡ None → IsOutcome wanted bundle (outcome_of (Err usage))
-  bundle_refused : (order : Order) → wanted ≡ Some order → bundle_limit < length bundle → IsOutcome wanted bundle (outcome_of (Err too_long))
+  bundle_refused : (order : Order) → wanted ≡ Some order → reads_of order.command ≢ nothing → bundle_limit < length bundle
+      → IsOutcome wanted bundle (outcome_of (Err too_long))
   performed : (order : Order) (answer : Result Reply Refusal) → wanted ≡ Some order → length bundle ≤ bundle_limit
       → Performs order.command order bundle answer → IsOutcome wanted bundle (outcome_of answer)

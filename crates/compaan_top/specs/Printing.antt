@@ -1,18 +1,15 @@
 -- What the commands that print what a source is compiled to come to on a bundle: one case for each cause, in the order in
 -- which they decide.
-use Rattle.std.specs.Prelude.{◌≡◌, ℕ, ℤ, List, Result, Ok, Err}
+use Rattle.std.specs.Prelude.{ℕ, ℤ, List, Result, Ok, Err}
 use Rattle.cert_text.specs.CertText.{cert_text}
 use Rattle.command_line.specs.Bundle.{source_part}
-use Rattle.loop_walk.specs.Counting.{counted}
-use Rattle.loop_walk.specs.declared.count.SizeError.{SizeError}
 use Rattle.net_maker.specs.Certificates.{cert_of}
 use Rattle.net_text.specs.NetworkText.{net_text}
 use Rattle.sanlp.specs.declared.nest.Nest.{Nest}
 use Rattle.witness_plan.specs.declared.schedules.Policy.{Policy}
 use Rattle.witness_plan.specs.Schedules.{planned_network}
-use Rattle.compaan_top.specs.Refusals.{size_refusal}
 use Rattle.compaan_top.specs.Replies.{Reply, done}
-use Rattle.compaan_top.specs.Source.{Gives}
+use Rattle.compaan_top.specs.Source.{GivesWithinSize}
 use Rattle.compaan_top.specs.declared.refusal.Refusal.{Refusal}
 
 -- what `net` prints of a nest: its network, with the capacities that its schedule needs
@@ -23,10 +20,8 @@ network_text policy nest = net_text nest (planned_network nest policy)
 abbrev pub certificate_text : Policy → Nest → List ℕ
 certificate_text policy nest = cert_text (planned_network nest policy) (cert_of nest policy)
 
--- The source is refused, the nest is too large, or its text is written.
+-- The source gives no nest within the limit, or the text of the nest is written.
 pub data Prints (text : Nest → List ℕ) (params : List (List ℕ × ℤ)) (bundle : List ℕ) : Result Reply Refusal → Type 0 where
-  source_refused : (refusal : Refusal) → Gives (source_part bundle) params (Err refusal) → Prints text params bundle (Err refusal)
-  size_refused : (nest : Nest) (error : SizeError) → Gives (source_part bundle) params (Ok nest) → counted nest ≡ Err error
-      → Prints text params bundle (Err (size_refusal error))
-  printed : (nest : Nest) (total : ℕ) → Gives (source_part bundle) params (Ok nest) → counted nest ≡ Ok total
-      → Prints text params bundle (Ok (done (text nest)))
+  source_refused : (refusal : Refusal) → GivesWithinSize (source_part bundle) params (Err refusal)
+      → Prints text params bundle (Err refusal)
+  printed : (nest : Nest) → GivesWithinSize (source_part bundle) params (Ok nest) → Prints text params bundle (Ok (done (text nest)))

@@ -11,6 +11,7 @@ use Rattle.loop_walk.specs.declared.count.SizeError.{SizeError}
 use Rattle.loop_walk.specs.declared.count.SizeError.TheVariants.{Limit, LoopValue}
 use Rattle.array_data.specs.declared.error.DataError.{DataError}
 use Rattle.array_data.specs.declared.error.DataError.TheVariants.{UnknownArray, Twice, Missing, Count, NotANumber, Memory}
+use Rattle.node_automata.specs.declared.node.NodeAuto.{NodeAuto}
 use Rattle.sanlp.specs.declared.nest.ArrayDecl.{ArrayDecl}
 use Rattle.compaan_top.specs.declared.refusal.Refusal.{Refusal}
 
@@ -32,6 +33,10 @@ no_part = refusal_with 5 (codes "bundle: NoPart") []
 -- the matrices of `load` have more rows than a parameter's limit; the parameter's name starts at the source's byte 6
 abbrev pub too_many_rows : Refusal
 too_many_rows = refusal_with 8 (codes "limit: Large") (6 ∷ [])
+
+-- a process has too long a script for VHDL
+abbrev pub script_refusal : NodeAuto → Refusal
+script_refusal auto = refusal_with 8 (codes "limit: Script") (auto.process ∷ length auto.events ∷ [])
 
 -- the byte at which the token of this number starts, or the length of the source for the place at the end
 abbrev pub byte_of : List ℕ → List Token → ℕ → ℕ

@@ -4,14 +4,12 @@ use Rattle.command_line.specs.Bundle.{source_part, data_part}
 use Rattle.sanlp.specs.Meaning.{arrays}
 use Rattle.sanlp.specs.declared.nest.Inputs.{Inputs}
 use Rattle.sanlp.specs.declared.nest.Nest.{Nest}
-use Rattle.loop_walk.specs.Counting.{counted}
-use Rattle.loop_walk.specs.declared.count.SizeError.{SizeError}
 use Rattle.array_data.specs.Answer.{answer_text}
 use Rattle.array_data.specs.Data.{inputs_of, records_of}
 use Rattle.array_data.specs.declared.error.DataError.{DataError}
-use Rattle.compaan_top.specs.Refusals.{size_refusal, data_refusal}
+use Rattle.compaan_top.specs.Refusals.{data_refusal}
 use Rattle.compaan_top.specs.Replies.{Reply, done}
-use Rattle.compaan_top.specs.Source.{Gives}
+use Rattle.compaan_top.specs.Source.{GivesWithinSize}
 use Rattle.compaan_top.specs.declared.refusal.Refusal.{Refusal}
 
 -- the inputs that the records of a data part give a nest, or why they are refused
@@ -20,12 +18,10 @@ IsInputs nest bytes (Ok inputs) = inputs_of nest (records_of bytes) ≡ Ok input
 IsInputs nest bytes (Err refusal) =
     (fault : DataError) × (inputs_of nest (records_of bytes) ≡ Err fault) × (data_refusal nest.arrays fault ≡ Some refusal)
 
--- The source is refused, the nest is too large, the data part is refused, or the answer text is written.
+-- The source gives no nest within the limit, the data part is refused, or the answer text is written.
 pub data Runs (params : List (List ℕ × ℤ)) (bundle : List ℕ) : Result Reply Refusal → Type 0 where
-  source_refused : (refusal : Refusal) → Gives (source_part bundle) params (Err refusal) → Runs params bundle (Err refusal)
-  size_refused : (nest : Nest) (error : SizeError) → Gives (source_part bundle) params (Ok nest) → counted nest ≡ Err error
-      → Runs params bundle (Err (size_refusal error))
-  data_refused : (nest : Nest) (total : ℕ) (refusal : Refusal) → Gives (source_part bundle) params (Ok nest) → counted nest ≡ Ok total
+  source_refused : (refusal : Refusal) → GivesWithinSize (source_part bundle) params (Err refusal) → Runs params bundle (Err refusal)
+  data_refused : (nest : Nest) (refusal : Refusal) → GivesWithinSize (source_part bundle) params (Ok nest)
       → IsInputs nest (data_part bundle) (Err refusal) → Runs params bundle (Err refusal)
-  answered : (nest : Nest) (total : ℕ) (inputs : Inputs) → Gives (source_part bundle) params (Ok nest) → counted nest ≡ Ok total
+  answered : (nest : Nest) (inputs : Inputs) → GivesWithinSize (source_part bundle) params (Ok nest)
       → IsInputs nest (data_part bundle) (Ok inputs) → Runs params bundle (Ok (done (answer_text nest.arrays (arrays nest inputs))))

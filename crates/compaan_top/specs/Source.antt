@@ -10,7 +10,9 @@ use Rattle.loop_class.specs.Binding.{findings, IsBound}
 use Rattle.loop_class.specs.Reasons.{least_from}
 use Rattle.loop_class.specs.declared.error.BindError.{BindError}
 use Rattle.sanlp.specs.declared.nest.Nest.{Nest}
-use Rattle.compaan_top.specs.Refusals.{byte_of, lex_refusal, syntax_refusal, bind_refusal}
+use Rattle.loop_walk.specs.Counting.{counted}
+use Rattle.loop_walk.specs.declared.count.SizeError.{SizeError}
+use Rattle.compaan_top.specs.Refusals.{byte_of, lex_refusal, syntax_refusal, bind_refusal, size_refusal}
 use Rattle.compaan_top.specs.declared.refusal.Refusal.{Refusal}
 
 -- A source with values for its parameters gives a nest, or is refused: it has no tokens, its tokens have no tree, the
@@ -25,3 +27,12 @@ pub data Gives (source : List ℕ) (params : List (List ℕ × ℤ)) : Result Ne
       → bind_refusal (byte_of source found) reason ≡ Some refusal → Gives source params (Err refusal)
   bound : (found : List Token) (tree : Tree) (nest : Nest) → tokens source ≡ Ok found → IsTree source found tree → IsBound tree params nest
       → Gives source params (Ok nest)
+
+-- A source with values for its parameters gives a nest within the limit on its size, or is refused: it gives no nest, the nest
+-- is too large, or it is within the limit.
+pub data GivesWithinSize (source : List ℕ) (params : List (List ℕ × ℤ)) : Result Nest Refusal → Type 0 where
+  source_refused : (refusal : Refusal) → Gives source params (Err refusal) → GivesWithinSize source params (Err refusal)
+  size_refused : (nest : Nest) (error : SizeError) → Gives source params (Ok nest) → counted nest ≡ Err error
+      → GivesWithinSize source params (Err (size_refusal error))
+  within_size : (nest : Nest) (total : ℕ) → Gives source params (Ok nest) → counted nest ≡ Ok total
+      → GivesWithinSize source params (Ok nest)

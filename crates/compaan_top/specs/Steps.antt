@@ -13,11 +13,15 @@ use Rattle.loop_class.specs.declared.error.BindError.{BindError}
 use Rattle.loop_walk.specs.Counting.{SizeIsOk, counted}
 use Rattle.loop_walk.specs.declared.count.SizeError.{SizeError}
 use Rattle.command_line.specs.Bundle.{data_part, source_part}
+use Rattle.net_core.specs.declared.network.Network.{Network}
+use Rattle.node_automata.specs.declared.node.NodeAuto.{NodeAuto}
 use Rattle.sanlp.specs.declared.nest.Inputs.{Inputs}
 use Rattle.sanlp.specs.declared.nest.Nest.{Nest}
-use Rattle.compaan_top.specs.Refusals.{byte_of, lex_refusal, syntax_refusal, bind_refusal, size_refusal}
+use Rattle.compaan_top.specs.Refusals.{byte_of, lex_refusal, syntax_refusal, bind_refusal, script_refusal, size_refusal}
 use Rattle.compaan_top.specs.Run.{IsInputs, Runs}
-use Rattle.compaan_top.specs.Source.{Gives}
+use Rattle.compaan_top.specs.Source.{GivesWithinSize}
+use Rattle.vhdl_text.specs.Refusal.{first_too_long}
+use Rattle.compaan_top.specs.declared.answer.NodesAnswer.{NodesAnswer}
 use Rattle.compaan_top.specs.declared.refusal.Refusal.{Refusal}
 
 abbrev pub HasTokens : List ℕ → Result (Vec Token) Refusal → Type 0
@@ -37,9 +41,18 @@ abbrev pub HasSize : Nest → Result ℕ Refusal → Type 0
 HasSize nest (Ok total) = (counted nest ≡ Ok total) × SizeIsOk nest
 HasSize nest (Err refusal) = (error : SizeError) × (counted nest ≡ Err error) × (refusal ≡ size_refusal error)
 
+-- the nest of a source, or why it has none within the limit on its size
+abbrev pub HasSizedNest : List ℕ → List (List ℕ × ℤ) → Result Nest Refusal → Type 0
+HasSizedNest source params (Ok nest) = GivesWithinSize source params (Ok nest) × SizeIsOk nest
+HasSizedNest source params (Err refusal) = GivesWithinSize source params (Err refusal)
+
 -- the nest and the inputs of a bundle, or why it has none
 abbrev pub IsPrepared : List (List ℕ × ℤ) → List ℕ → Result (Nest × Inputs) Refusal → Type 0
 IsPrepared params bundle (Ok made) =
-    Gives (source_part bundle) params (Ok made.0) × IsInputs made.0 (data_part bundle) (Ok made.1) × SizeIsOk made.0
-    × (total : ℕ) × (counted made.0 ≡ Ok total)
+    GivesWithinSize (source_part bundle) params (Ok made.0) × IsInputs made.0 (data_part bundle) (Ok made.1) × SizeIsOk made.0
 IsPrepared params bundle (Err refusal) = Runs params bundle (Err refusal)
+
+-- the automata are to be written with their network, or a script is too long
+abbrev pub HasNodes : Network → List NodeAuto → Result NodesAnswer Refusal → Type 0
+HasNodes network autos (Ok answer) = (answer.network ≡ network) × (answer.autos ≡ autos) × (first_too_long autos ≡ None)
+HasNodes network autos (Err refusal) = (auto : NodeAuto) × (first_too_long autos ≡ Some auto) × (refusal ≡ script_refusal auto)

@@ -1,10 +1,12 @@
-ghost use Rattle.std.specs.Prelude.{◌≡◌, length};
+ghost use Rattle.std.specs.Prelude.{◌≡◌, None, length};
+ghost use Rattle.vhdl_text.specs.Refusal.{first_too_long};
 ghost use Rattle.sanlp.specs.Points.{points_of};
 ghost use Rattle.net_core.specs.Machine.{net_of};
 ghost use Rattle.net_core.specs.Shape.{FitsNumbers};
 
 use matrix_load::Summary;
 use net_core::Network;
+use node_automata::NodeAuto;
 use plain_data::Items;
 use sanlp::{Arrays, Nest, Points};
 use source_tree::Cert;
@@ -41,6 +43,14 @@ pub(crate) struct VerdictAnswer {
     pub(crate) line: Items<u8>,
 }
 
+/// A network with the automata of its processes, none of which has too long a script.
+#[derive(Drop)]
+pub(crate) struct NodesAnswer {
+    pub(crate) network: Network,
+    pub(crate) autos: Items<NodeAuto>,
+    ghost short: { first_too_long autos ≡ None },
+}
+
 /// What is to be written on the output.
 #[derive(Drop)]
 pub(crate) enum Answer {
@@ -49,4 +59,5 @@ pub(crate) enum Answer {
     Certificate(CertificateAnswer),
     Verdict(VerdictAnswer),
     Summary(Summary),
+    Nodes(NodesAnswer),
 }

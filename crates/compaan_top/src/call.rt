@@ -1,16 +1,20 @@
-ghost use Rattle.std.specs.Prelude.{◌≡◌, ◌≤◌, ℕ, List, Option, Some, length, map, string_bytes};
+ghost use Rattle.std.specs.Prelude.{◌≡◌, ◌≤◌, ◌↔◌, ℕ, List, Option, Some, length, map, string_bytes};
 ghost use Rattle.command_line.specs.Words.{order_of};
 ghost use Rattle.command_line.specs.declared.words.Command.TheVariants as command;
 ghost use Rattle.command_line.specs.declared.words.Order.{Order as WordOrder};
-ghost use Rattle.compaan_top.specs.Answers.{Change, Ends, ReadsTo};
-ghost use Rattle.compaan_top.specs.Headline.{HasSoundCertificate};
+ghost use Rattle.compaan_top.specs.Answers.{Change, change, Ends, ReadsTo};
+ghost use Rattle.compaan_top.specs.Commands.{WaitsForNobody, read_by, reads_of};
+ghost use Rattle.compaan_top.specs.Headline.{HasSoundCertificate, IsAcceptable, SaysAccepted};
 ghost use Rattle.compaan_top.specs.Judging.{Judges};
+ghost use Rattle.compaan_top.specs.Laws.{HasStatusOf, IsDone, IsValid};
 ghost use Rattle.compaan_top.specs.Outcome.{Performs, bundle_limit};
-ghost use Rattle.compaan_top.specs.Planned.{as_reply, IsOrdered, IsPlanned, ReadsBundle, WaitsForNobody};
+ghost use Rattle.compaan_top.specs.Planned.{as_reply, IsOrdered, IsPlanned, ReadsBundle};
+ghost use Rattle.compaan_top.specs.Told.{ComesTo, IsAnswered, IsTold};
 
 use crate::answer::Answer;
 use crate::check::check_certificate;
-use crate::law::what_is_accepted_fits;
+use crate::describing::describe_network;
+use crate::law::{status_is_determined, what_fits_is_accepted, what_is_accepted_fits};
 use crate::load::load;
 use crate::printing::{print_certificate, print_network};
 use crate::refusal::{Stop, too_long, usage};
@@ -37,7 +41,7 @@ fn order_of(alloc: Global, words: &[String]) -> Result<Order, Stop>
 }
 
 fn bundle_of<S: Source>(alloc: Global, input: &mut S) -> Result<Vec<u8>, Stop>
-    ensures { ReadsBundle (record { old = S.left input.old; new = S.left input.new; faults_old = S.faults input.old; faults_new = S.faults input.new }) result }
+    ensures { ReadsBundle (change (S.left input.old) (S.left input.new) (S.faults input.old) (S.faults input.new)) result }
 {
     match read_all(alloc, input, BUNDLE_LIMIT) {
         Ok(bundle) => Ok(bundle),
@@ -59,13 +63,14 @@ fn perform(alloc: Global, order: &Order, bundle: &[u8]) -> Result<Answer, Stop>
         Command::Net => print_network(alloc, order.policy, &order.params, bundle),
         Command::Cert => print_certificate(alloc, order.policy, &order.params, bundle),
         Command::Check => check_certificate(alloc, &order.params, bundle),
+        Command::Vhdl => describe_network(alloc, order.policy, &order.params, bundle),
     }
 }
 
 // Reads and works, and writes nothing.
 fn plan<S: Source>(alloc: Global, order: &Order, input: &mut S) -> Result<Answer, Stop>
     requires { WaitsForNobody order.now.command }
-    ensures { IsPlanned (Some order.now) (record { old = S.left input.old; new = S.left input.new; faults_old = S.faults input.old; faults_new = S.faults input.new }) result }
+    ensures { IsPlanned (Some order.now) (change (S.left input.old) (S.left input.new) (S.faults input.old) (S.faults input.new)) result }
 {
     let bundle = bundle_of(alloc, input)?;
     perform(alloc, order, &bundle)
@@ -80,7 +85,7 @@ fn plan_run<R: Threads + Wait + Sync, S: Source, G: Gate + Sync>(
     gate: &G,
 ) -> Result<Answer, Stop>
     requires { order.now.command ≡ command.Run }
-    ensures { IsPlanned (Some order.now) (record { old = S.left input.old; new = S.left input.new; faults_old = S.faults input.old; faults_new = S.faults input.new }) result }
+    ensures { IsPlanned (Some order.now) (change (S.left input.old) (S.left input.new) (S.faults input.old) (S.faults input.new)) result }
 {
     let bundle = bundle_of(alloc, input)?;
     run_by_network(rt, alloc, order.policy, &order.params, &bundle, gate)
@@ -94,7 +99,7 @@ fn plan_load<R: Threads + Wait + Sync, G: Gate + Sync>(
     gate: &G,
 ) -> Result<Answer, Stop>
     requires { order.now.command ≡ command.Load }
-    ensures { (left : Option (List ℕ)) (faults : ℕ) → IsPlanned (Some order.now) (record { old = left; new = left; faults_old = faults; faults_new = faults }) result }
+    ensures { (left : Option (List ℕ)) (faults : ℕ) → IsPlanned (Some order.now) (change left left faults faults) result }
 {
     load(rt, alloc, order.policy, order.load, gate)
 }
@@ -102,8 +107,8 @@ fn plan_load<R: Threads + Wait + Sync, G: Gate + Sync>(
 // Writes what was planned, and gives the status.
 fn finish<K: Sink, E: Sink>(planned: Result<Answer, Stop>, output: &mut K, complaint: &mut E) -> u8
     ensures { (wanted : Option WordOrder) (input : Change) → IsPlanned wanted input planned → Ends wanted input
-        (record { old = K.held output.old; new = K.held output.new; faults_old = K.faults output.old; faults_new = K.faults output.new })
-        (record { old = E.held complaint.old; new = E.held complaint.new; faults_old = E.faults complaint.old; faults_new = E.faults complaint.new })
+        (change (K.held output.old) (K.held output.new) (K.faults output.old) (K.faults output.new))
+        (change (E.held complaint.old) (E.held complaint.new) (E.faults complaint.old) (E.faults complaint.new))
         result }
 {
     match planned {
@@ -120,8 +125,12 @@ fn finish<K: Sink, E: Sink>(planned: Result<Answer, Stop>, output: &mut K, compl
     }
 }
 
-/// Every command but `run` and `load`, which wait for threads. Where `check` answers with status 0, the bundle's certificate part is
-/// the text of a network with a certificate that fit the source's nest, and the network is sound for it.
+/// Every command but `run` and `load`, which wait for threads.
+///
+/// `ends` says how the call may end, whatever the source and the sinks are, and `statuses` with which statuses: `check` alone
+/// answers 1, and 2 comes from words alone. The other clauses are about a source that tells its bytes, where no fault and no
+/// want of memory ended the call: it wrote what the order and these bytes come to, it is done where nothing is to be refused, and
+/// `check` writes `accepted` exactly where the bundle is within its limit and has a sound certificate.
 pub fn quiet<S: Source, K: Sink, E: Sink>(
     alloc: Global,
     order: &Order,
@@ -131,14 +140,30 @@ pub fn quiet<S: Source, K: Sink, E: Sink>(
 ) -> u8
     requires { WaitsForNobody order.now.command }
     ensures ends { Ends (Some order.now)
-        (record { old = S.left input.old; new = S.left input.new; faults_old = S.faults input.old; faults_new = S.faults input.new })
-        (record { old = K.held output.old; new = K.held output.new; faults_old = K.faults output.old; faults_new = K.faults output.new })
-        (record { old = E.held complaint.old; new = E.held complaint.new; faults_old = E.faults complaint.old; faults_new = E.faults complaint.new })
+        (change (S.left input.old) (S.left input.new) (S.faults input.old) (S.faults input.new))
+        (change (K.held output.old) (K.held output.new) (K.faults output.old) (K.faults output.new))
+        (change (E.held complaint.old) (E.held complaint.new) (E.faults complaint.old) (E.faults complaint.new))
         result }
-    ensures accepts { order.now.command ≡ command.Check → result ≡ 0
-        → (bundle : List ℕ) × ReadsTo (record { old = S.left input.old; new = S.left input.new; faults_old = S.faults input.old; faults_new = S.faults input.new }) bundle × HasSoundCertificate order.now.params bundle }
+    ensures statuses { HasStatusOf (Some order.now) result }
+    ensures accepts { order.now.command ≡ command.Check → result ≡ 0 → (bundle : List ℕ)
+        × ReadsTo (change (S.left input.old) (S.left input.new) (S.faults input.old) (S.faults input.new)) bundle
+        × HasSoundCertificate order.now.params bundle }
+    ensures comes { (bundle : List ℕ) → IsTold (reads_of order.now.command) (S.left input.old) bundle → IsAnswered result
+        → ComesTo (Some order.now) bundle
+        (change (K.held output.old) (K.held output.new) (K.faults output.old) (K.faults output.new))
+        (change (E.held complaint.old) (E.held complaint.new) (E.faults complaint.old) (E.faults complaint.new))
+        result }
+    ensures completes { (bundle : List ℕ) → IsTold (reads_of order.now.command) (S.left input.old) bundle
+        → (valid : IsValid (Some order.now) bundle) → IsAnswered result
+        → IsDone (reads_of valid.order.command) result }
+    ensures accepted { order.now.command ≡ command.Check
+        → (bundle : List ℕ) → S.left input.old ≡ Some bundle → IsAnswered result
+        → SaysAccepted (change (K.held output.old) (K.held output.new) (K.faults output.old) (K.faults output.new)) result
+        ↔ IsAcceptable order.now.params bundle }
 {
     what_is_accepted_fits();
+    what_fits_is_accepted();
+    status_is_determined();
     is_sound();
     finish(plan(alloc, order, input), output, complaint)
 }
@@ -154,22 +179,27 @@ fn carry_out<R: Threads + Wait + Sync, S: Source, K: Sink, E: Sink, G: Gate + Sy
     gate: &G,
 ) -> u8
     ensures { Ends (Some order.now)
-        (record { old = S.left input.old; new = S.left input.new; faults_old = S.faults input.old; faults_new = S.faults input.new })
-        (record { old = K.held output.old; new = K.held output.new; faults_old = K.faults output.old; faults_new = K.faults output.new })
-        (record { old = E.held complaint.old; new = E.held complaint.new; faults_old = E.faults complaint.old; faults_new = E.faults complaint.new })
+        (change (S.left input.old) (S.left input.new) (S.faults input.old) (S.faults input.new))
+        (change (K.held output.old) (K.held output.new) (K.faults output.old) (K.faults output.new))
+        (change (E.held complaint.old) (E.held complaint.new) (E.faults complaint.old) (E.faults complaint.new))
         result }
 {
     match order.command {
         Command::Run => finish(plan_run(rt, alloc, order, input, gate), output, complaint),
         Command::Load => finish(plan_load(rt, alloc, order, gate), output, complaint),
-        Command::Seq | Command::Net | Command::Cert | Command::Check => {
+        Command::Seq | Command::Net | Command::Cert | Command::Check | Command::Vhdl => {
             quiet(alloc, order, input, output, complaint)
         }
     }
 }
 
-/// All that the program does. Where `check` answers with status 0, the bundle's certificate part is the text of a network
-/// with a certificate that fit the source's nest, and the network is sound for it.
+/// All that the program does.
+///
+/// `ends` says how the call may end, whatever the source and the sinks are, and `statuses` with which statuses: `check` alone
+/// answers 1, `run` and `seq` alone answer 9, words that are refused alone answer 2, and `load` answers none of 3, 5, 6, 7 and 9.
+/// The other clauses are about a source that tells its bytes, where no fault and no want of memory ended the call: it wrote
+/// what the order and these bytes come to, it is done where nothing is to be refused, and `check` writes `accepted` exactly
+/// where the bundle is within its limit and has a sound certificate.
 ///
 /// `run` and `load` have one thread for each process, so this may wait. Each of their workers asks the gate before it works,
 /// and tells it each value that its process puts. `quiet`, which does every other command, returns.
@@ -183,14 +213,34 @@ pub fn compaan<R: Threads + Wait + Sync, S: Source, K: Sink, E: Sink, G: Gate + 
     gate: &G,
 ) -> u8
     ensures ends { Ends (order_of (map string_bytes words.now))
-        (record { old = S.left input.old; new = S.left input.new; faults_old = S.faults input.old; faults_new = S.faults input.new })
-        (record { old = K.held output.old; new = K.held output.new; faults_old = K.faults output.old; faults_new = K.faults output.new })
-        (record { old = E.held complaint.old; new = E.held complaint.new; faults_old = E.faults complaint.old; faults_new = E.faults complaint.new })
+        (change (S.left input.old) (S.left input.new) (S.faults input.old) (S.faults input.new))
+        (change (K.held output.old) (K.held output.new) (K.faults output.old) (K.faults output.new))
+        (change (E.held complaint.old) (E.held complaint.new) (E.faults complaint.old) (E.faults complaint.new))
         result }
-    ensures accepts { (order : WordOrder) → order_of (map string_bytes words.now) ≡ Some order → order.command ≡ command.Check → result ≡ 0
-        → (bundle : List ℕ) × ReadsTo (record { old = S.left input.old; new = S.left input.new; faults_old = S.faults input.old; faults_new = S.faults input.new }) bundle × HasSoundCertificate order.params bundle }
+    ensures statuses { HasStatusOf (order_of (map string_bytes words.now)) result }
+    ensures accepts { (order : WordOrder) → order_of (map string_bytes words.now) ≡ Some order
+        → order.command ≡ command.Check → result ≡ 0 → (bundle : List ℕ)
+        × ReadsTo (change (S.left input.old) (S.left input.new) (S.faults input.old) (S.faults input.new)) bundle
+        × HasSoundCertificate order.params bundle }
+    ensures comes { (bundle : List ℕ)
+        → IsTold (read_by (order_of (map string_bytes words.now))) (S.left input.old) bundle → IsAnswered result
+        → ComesTo (order_of (map string_bytes words.now)) bundle
+        (change (K.held output.old) (K.held output.new) (K.faults output.old) (K.faults output.new))
+        (change (E.held complaint.old) (E.held complaint.new) (E.faults complaint.old) (E.faults complaint.new))
+        result }
+    ensures completes { (bundle : List ℕ)
+        → IsTold (read_by (order_of (map string_bytes words.now))) (S.left input.old) bundle
+        → (valid : IsValid (order_of (map string_bytes words.now)) bundle) → IsAnswered result
+        → IsDone (reads_of valid.order.command) result }
+    ensures accepted { (order : WordOrder) → order_of (map string_bytes words.now) ≡ Some order
+        → order.command ≡ command.Check
+        → (bundle : List ℕ) → S.left input.old ≡ Some bundle → IsAnswered result
+        → SaysAccepted (change (K.held output.old) (K.held output.new) (K.faults output.old) (K.faults output.new)) result
+        ↔ IsAcceptable order.params bundle }
 {
     what_is_accepted_fits();
+    what_fits_is_accepted();
+    status_is_determined();
     is_sound();
     match order_of(alloc, words) {
         Ok(order) => carry_out(rt, alloc, &order, input, output, complaint, gate),

@@ -11,8 +11,7 @@ ghost use Rattle.compaan_top.specs.Planned.{as_reply, reply_of};
 
 use crate::answer::{Answer, VerdictAnswer};
 use crate::refusal::{Stop, no_part};
-use crate::run::size_of;
-use crate::source::nest_of;
+use crate::source::sized_nest;
 use cert_text::read_cert;
 use command_line::parts_of;
 use loop_class::Params;
@@ -61,8 +60,7 @@ pub(crate) fn check_certificate(
     let Some(part) = parts.certificate else {
         return Err(Stop::Refused(no_part(alloc)?));
     };
-    let nest = nest_of(alloc, parts.source, params)?;
-    size_of(alloc, &nest)?;
+    let nest = sized_nest(alloc, parts.source, params)?;
     match read_cert(alloc, part) {
         Ok((network, cert)) => {
             let answer = verdict_on(alloc, &nest, &network, &cert)?;

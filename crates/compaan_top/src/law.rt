@@ -4,13 +4,15 @@ ghost use Rattle.std.specs.Prelude.{◌≡◌, ℕ, ℤ, List, Option, Result};
 ghost use Rattle.bundle_laws.specs.Certified.{certified};
 ghost use Rattle.command_line.specs.Bundle.{source_part};
 ghost use Rattle.command_line.specs.declared.words.Order.{Order};
-ghost use Rattle.compaan_top.specs.Certified.{Accepts, Certifies, HasCertificate};
+ghost use Rattle.compaan_top.specs.Answers.{Change, Ends};
+ghost use Rattle.compaan_top.specs.Certified.{Accepts, AgreeOn, Call, Certifies, HasCertificate, ReadCertificate, WroteCertificate};
 ghost use Rattle.compaan_top.specs.Checking.{Checks};
-ghost use Rattle.compaan_top.specs.Headline.{AcceptsWhatFits, HasFittingCertificate};
+ghost use Rattle.compaan_top.specs.Headline.{AcceptsWhatFits, HasFittingCertificate, SaysAccepted};
 ghost use Rattle.compaan_top.specs.Outcome.{Outcome, outcome_of};
 ghost use Rattle.compaan_top.specs.Replies.{Reply};
 ghost use Rattle.compaan_top.specs.declared.refusal.Refusal.{Refusal};
-ghost use Rattle.compaan_top.specs.Laws.{DetermineStatus, HaveOwnStatuses, Succeeds};
+ghost use Rattle.compaan_top.specs.Laws.{DetermineStatus, HasStatusOf, HaveOwnStatuses, Succeeds};
+ghost use Rattle.compaan_top.specs.Told.{IsAnswered};
 
 use bundle_laws::{
     certified_bundle_has_its_parts, line_end_changes_no_token, line_end_makes_no_separator,
@@ -21,9 +23,10 @@ use cert_text::reads_what_is_written;
 use loop_grammar::one_tree;
 use net_checker::accepts_what_fits;
 
-/// The status is determined by the order, or that the words are refused, and the bundle: two outcomes of theirs have the same. It is none of those that
-/// a failed read, a failed write or want of memory has. Where nothing is refused it is 0; for `check` it is 0, or 1 where a
-/// refusal of the certificate is told.
+/// The status is determined by the order, or that the words are refused, and the bundle: two outcomes of theirs have the same.
+/// Each command has its own statuses: `check` alone comes to 1, `run` and `seq` alone to 9, refused words alone to 2, and `load`
+/// to none of 5, 6, 7 and 9. No command comes to the status of a failed read, a failed write or want of memory. Where nothing is
+/// refused the status is 0; for `check` it is 0, or 1 where a refusal of the certificate is told.
 pub fn status_is_determined()
     ensures determined { (wanted : Option Order) (bundle : List ℕ) → DetermineStatus wanted bundle }
     ensures own { (wanted : Option Order) (bundle : List ℕ) → HaveOwnStatuses wanted bundle }
@@ -31,6 +34,13 @@ pub fn status_is_determined()
 {
     one_tree();
 }
+
+/// A call ends with one of the statuses that its order has, or with that of a failed write, of want of memory, or, where the
+/// order reads something, of a failed read.
+pub fn calls_have_their_statuses()
+    ensures { (wanted : Option Order) (input output complaint : Change) (status : ℕ) → Ends wanted input output complaint status
+        → HasStatusOf wanted status }
+{}
 
 /// An order to `check` comes to `accepted` exactly where the certificate part is the text of a network and a certificate
 /// that fit the source's nest.
@@ -42,13 +52,21 @@ pub fn what_fits_is_accepted()
     reads_what_is_written();
 }
 
-/// Where `cert` comes to status 0, `check` with the same values of parameters comes to `accepted` on every bundle within the
-/// limit with that source and with what was written as its certificate; so on the source, two separators and what was written.
+/// Where `cert` comes to status 0, `check` comes to `accepted` on every bundle within the limit with that source and with what
+/// was written as its certificate; so on the source, two separators and what was written. The values of the parameters are to
+/// agree, name by name, on those that the source declares. `calls` says it of two calls: the first wrote a text, and the
+/// second read it behind the source.
 pub fn what_cert_writes_is_accepted()
-    ensures parts { (cert check : Order) (bundle other : List ℕ) (written : Outcome) → check.params ≡ cert.params
+    ensures parts { (cert check : Order) (bundle other : List ℕ) (written : Outcome)
+        → AgreeOn (source_part bundle) cert.params check.params
         → Certifies cert bundle written → HasCertificate bundle other written.output → Accepts check other }
-    ensures bytes { (cert check : Order) (bundle : List ℕ) (written : Outcome) → check.params ≡ cert.params
+    ensures bytes { (cert check : Order) (bundle : List ℕ) (written : Outcome)
+        → AgreeOn (source_part bundle) cert.params check.params
         → Certifies cert bundle written → Accepts check (certified (source_part bundle) written.output) }
+    ensures calls { (cert check : Call) (bundle text : List ℕ)
+        → AgreeOn (source_part bundle) cert.order.params check.order.params
+        → WroteCertificate cert bundle text → ReadCertificate check (certified (source_part bundle) text)
+        → IsAnswered check.status → SaysAccepted check.output check.status }
 {
     what_fits_is_accepted();
     planned_network_fits();

@@ -4,8 +4,10 @@
 mod answer;
 mod call;
 mod check;
+mod describing;
 mod law;
 mod load;
+mod network_run;
 mod printing;
 mod refusal;
 mod run;
@@ -13,7 +15,10 @@ mod source;
 mod writing;
 
 pub use call::{compaan, quiet};
-pub use law::{status_is_determined, what_cert_writes_is_accepted, what_fits_is_accepted};
+pub use law::{
+    calls_have_their_statuses, status_is_determined, what_cert_writes_is_accepted,
+    what_fits_is_accepted,
+};
 
 #[cfg(test)]
 mod tests;

@@ -10,12 +10,12 @@ ghost use Rattle.compaan_top.specs.Load.{Loads, product_cells};
 ghost use Rattle.compaan_top.specs.Planned.{as_reply};
 
 use crate::answer::Answer;
+use crate::network_run::{NetworkRun, run_by_threads};
 use crate::refusal::{Stop, too_many_rows};
-use crate::run::size_of;
+use crate::source::size_of;
 use io_edge::Gate;
 use loop_walk::Walk;
 use matrix_load::{Summary, matrix_inputs, matrix_nest, wrapping_sum};
-use nest_run::{NetworkRun, run_by_threads};
 use net_text::event_count;
 use sanlp::{Arrays, Nest};
 use std::alloc::{AllocError, Global};

@@ -6,8 +6,7 @@ ghost use Rattle.compaan_top.specs.Printing.{Prints, certificate_text, network_t
 
 use crate::answer::{Answer, CertificateAnswer, NetworkAnswer};
 use crate::refusal::Stop;
-use crate::run::size_of;
-use crate::source::nest_of;
+use crate::source::sized_nest;
 use command_line::parts_of;
 use loop_class::Params;
 use loop_walk::points;
@@ -26,8 +25,7 @@ pub(crate) fn print_network(
     ensures { Judges (λ answer. Prints (network_text policy) params.now bundle.now (as_reply answer)) result }
 {
     let parts = parts_of(bundle);
-    let nest = nest_of(alloc, parts.source, params)?;
-    size_of(alloc, &nest)?;
+    let nest = sized_nest(alloc, parts.source, params)?;
     let points = points(alloc, &nest)?;
     let (network, _) = compile(alloc, &nest, &points, policy)?;
     Ok(Answer::Network(NetworkAnswer {
@@ -48,8 +46,7 @@ pub(crate) fn print_certificate(
     ensures { Judges (λ answer. Prints (certificate_text policy) params.now bundle.now (as_reply answer)) result }
 {
     let parts = parts_of(bundle);
-    let nest = nest_of(alloc, parts.source, params)?;
-    size_of(alloc, &nest)?;
+    let nest = sized_nest(alloc, parts.source, params)?;
     let points = points(alloc, &nest)?;
     let (network, cert) = compile(alloc, &nest, &points, policy)?;
     Ok(Answer::Certificate(CertificateAnswer { network, cert }))

@@ -1,5 +1,5 @@
 ghost use Rattle.std.specs.Prelude.{◌≡◌, [], ◌∷◌, ◌++◌, IfOk, Some, codes};
-ghost use Rattle.compaan_top.specs.Refusals.{bind_refusal, byte_of, data_refusal, lex_refusal, name_of, no_part, refusal_with, size_refusal, syntax_refusal, too_long, too_many_rows, usage};
+ghost use Rattle.compaan_top.specs.Refusals.{bind_refusal, byte_of, data_refusal, lex_refusal, name_of, no_part, refusal_with, script_refusal, size_refusal, syntax_refusal, too_long, too_many_rows, usage};
 ghost use Rattle.compaan_top.specs.declared.refusal.Stop.TheVariants.{Memory};
 
 use array_data::DataError;
@@ -7,6 +7,7 @@ use command_line::complaint_line;
 use loop_class::BindError;
 use loop_lex::{LexError, Token};
 use loop_walk::SizeError;
+use node_automata::NodeAuto;
 use plain_data::Items;
 use sanlp::ArrayDecl;
 use std::alloc::{AllocError, Global};
@@ -77,6 +78,13 @@ pub(crate) fn too_many_rows(alloc: Global) -> Result<Refusal, AllocError>
     ensures { IfOk result (λ made. made ≡ too_many_rows) }
 {
     refusal_with(alloc, 8, b"limit: Large", &[6])
+}
+
+pub(crate) fn script_refusal(alloc: Global, auto: &NodeAuto) -> Result<Refusal, AllocError>
+    ensures { IfOk result (λ made. made ≡ script_refusal auto.now) }
+{
+    let numbers = [u64::from(auto.process), auto.events.len() as u64];
+    refusal_with(alloc, 8, b"limit: Script", &numbers)
 }
 
 /// The byte at which the token of this number starts, or the length of the source for the place at the end.

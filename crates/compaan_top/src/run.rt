@@ -4,31 +4,22 @@ ghost use Rattle.compaan_top.specs.Judging.{Judges};
 ghost use Rattle.compaan_top.specs.Outcome.{bundle_limit};
 ghost use Rattle.compaan_top.specs.Planned.{as_reply};
 ghost use Rattle.compaan_top.specs.Run.{IsInputs, Runs};
-ghost use Rattle.compaan_top.specs.Steps.{HasSize, IsPrepared};
+ghost use Rattle.compaan_top.specs.Steps.{IsPrepared};
 
 use crate::answer::{Answer, ArrayAnswer};
-use crate::refusal::{Stop, data_refusal, size_refusal};
-use crate::source::nest_of;
+use crate::network_run::run_by_threads;
+use crate::refusal::{Stop, data_refusal};
+use crate::source::sized_nest;
 use array_data::read_inputs;
 use command_line::parts_of;
 use io_edge::Gate;
 use loop_class::Params;
-use loop_walk::{interpret, size};
-use nest_run::run_by_threads;
+use loop_walk::interpret;
 use sanlp::{Inputs, Nest};
 use std::alloc::Global;
 use std::sync::Wait;
 use std::thread::Threads;
 use witness_plan::Policy;
-
-pub(crate) fn size_of(alloc: Global, nest: &Nest) -> Result<u64, Stop>
-    ensures { Judges (HasSize nest.now) result }
-{
-    match size(nest) {
-        Ok(total) => Ok(total),
-        Err(error) => Err(Stop::Refused(size_refusal(alloc, error)?)),
-    }
-}
 
 /// The inputs of a nest, from the data part of a bundle.
 fn inputs_of(alloc: Global, nest: &Nest, bytes: &[u8]) -> Result<Inputs, Stop>
@@ -46,8 +37,7 @@ fn prepared(alloc: Global, params: &Params, bundle: &[u8]) -> Result<(Nest, Inpu
     ensures { Judges (IsPrepared params.now bundle.now) result }
 {
     let parts = parts_of(bundle);
-    let nest = nest_of(alloc, parts.source, params)?;
-    size_of(alloc, &nest)?;
+    let nest = sized_nest(alloc, parts.source, params)?;
     let inputs = inputs_of(alloc, &nest, parts.data)?;
     Ok((nest, inputs))
 }

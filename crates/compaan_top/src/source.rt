@@ -2,12 +2,13 @@ ghost use Rattle.std.specs.Prelude.{◌≡◌, ◌<◌, ◌^◌, length, Ok};
 ghost use Rattle.loop_lex.specs.Tokens.{tokens};
 ghost use Rattle.compaan_top.specs.Judging.{Judges};
 ghost use Rattle.compaan_top.specs.Source.{Gives};
-ghost use Rattle.compaan_top.specs.Steps.{HasNest, HasTokens, HasTree};
+ghost use Rattle.compaan_top.specs.Steps.{HasNest, HasSize, HasSizedNest, HasTokens, HasTree};
 
-use crate::refusal::{Stop, bind_refusal, lex_refusal, syntax_refusal};
+use crate::refusal::{Stop, bind_refusal, lex_refusal, size_refusal, syntax_refusal};
 use loop_class::{Params, bind};
 use loop_grammar::{ParseError, Tree, parse};
 use loop_lex::{Token, lex};
+use loop_walk::size;
 use sanlp::Nest;
 use std::alloc::Global;
 
@@ -58,4 +59,23 @@ pub(crate) fn nest_of(alloc: Global, source: &[u8], params: &Params) -> Result<N
     let found = lexed.as_slice();
     let tree = tree_of(alloc, source, found)?;
     bound(alloc, source, found, &tree, params)
+}
+
+pub(crate) fn size_of(alloc: Global, nest: &Nest) -> Result<u64, Stop>
+    ensures { Judges (HasSize nest.now) result }
+{
+    match size(nest) {
+        Ok(total) => Ok(total),
+        Err(error) => Err(Stop::Refused(size_refusal(alloc, error)?)),
+    }
+}
+
+/// The nest of a source with these values of its parameters, within the limit on its size.
+pub(crate) fn sized_nest(alloc: Global, source: &[u8], params: &Params) -> Result<Nest, Stop>
+    requires { length source.now < 2 ^ 32 }
+    ensures { Judges (HasSizedNest source.now params.now) result }
+{
+    let nest = nest_of(alloc, source, params)?;
+    size_of(alloc, &nest)?;
+    Ok(nest)
 }

@@ -1,9 +1,11 @@
 mod certificates;
 mod kernels;
+mod meeting;
 mod networks;
 mod orders;
 mod sources;
 mod threads;
+mod vhdl;
 
 use crate::compaan;
 use io_edge::{MemSink, MemSource, Open};

@@ -198,6 +198,19 @@ fn certificates_of_longer_runs_are_judged(rt: HostRuntime) -> Result<(), Fail> {
 }
 
 #[test]
+fn parameters_agree_by_name(rt: HostRuntime) -> Result<(), Fail> {
+    let source = b"param N, M; in x[N]; out y[M]; for (i = 0; i < N; i++) y[i] = x[i] + 1;";
+    let text = changed(rt.alloc(), &[])?;
+    let words = words_of(rt.alloc(), "cert", &["N=1", "M=1"])?;
+    expect_words(&rt, SOUND, &words, source, 0, &text, b"")?;
+    let params: [&[&str]; 2] = [&["M=1", "N=1"], &["K=7", "M=1", "N=1"]];
+    for params in params {
+        checks(&rt, params, source, &text, b"accepted\n")?;
+    }
+    Ok(())
+}
+
+#[test]
 fn a_check_wants_a_certificate_part(rt: HostRuntime) -> Result<(), Fail> {
     let words = words_of(rt.alloc(), "check", &["N=1"])?;
     let complaint = b"bundle: NoPart\n";

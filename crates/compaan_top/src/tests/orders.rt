@@ -7,11 +7,11 @@ ghost use Rattle.net_core.specs.Shape.{FitsNumbers};
 ghost use Rattle.net_core.specs.Sound.{IsSound};
 ghost use Rattle.sanlp.specs.Points.{points_of};
 
-use crate::source::nest_of;
+use crate::source::sized_nest;
 use array_data::read_inputs;
 use command_line::parts_of;
 use loop_class::Params;
-use loop_walk::{interpret, points, size};
+use loop_walk::{interpret, points};
 use net_checker::{Verdict, check};
 use net_core::{Network, State, Values, enabled, ended, kept, sound, start, step};
 use net_maker::compile;
@@ -178,16 +178,20 @@ fn sinks_keep(nest: &Nest, network: &Network, state: &State<i64>, arrays: &Array
     has_sink
 }
 
-fn nest_with(rt: &(impl Abort + AllocGlobal), source: &[u8], value: i64) -> Result<Nest, Fail>
+/// The nest of a source whose parameter N, if it has one, has this value.
+pub(super) fn nest_with(
+    rt: &(impl Abort + AllocGlobal),
+    source: &[u8],
+    value: i64,
+) -> Result<Nest, Fail>
     ensures { IfOk result (λ nest. SizeIsOk nest) }
 {
     let mut params = Params::empty(rt.alloc());
     params.add(b"N", value)?;
     assert!(rt; source.len() < 1_000);
-    let Ok(nest) = nest_of(rt.alloc(), source, &params) else {
+    let Ok(nest) = sized_nest(rt.alloc(), source, &params) else {
         panic!(rt; "no nest of {source:?}");
     };
-    assert!(rt; size(&nest).is_ok(), "size of {source:?}");
     Ok(nest)
 }
 

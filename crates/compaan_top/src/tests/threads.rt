@@ -1,3 +1,4 @@
+use super::meeting::Meeting;
 use super::words_of;
 use crate::compaan;
 use io_edge::{Gate, MemSink, MemSource};
@@ -6,11 +7,7 @@ use std::process::Abort;
 use std::sync::Wait;
 use std::sync::atomic::{AtomicU64, Ordering};
 use std::test::Fail;
-use std::thread;
 use std::thread::Threads;
-
-/// How often a process looks for the other one that it waits for.
-const MOST_TURNS: u64 = 100_000_000;
 
 /// What was heard of one process: how often it passed and how much it told, which is to be these channels and values.
 #[derive(Drop)]
@@ -26,9 +23,8 @@ struct Heard {
 struct Listener {
     processes: Vec<Heard>,
     wrong: AtomicU64,
-    late: AtomicU64,
-    came: [AtomicU64; 2],
     holds: bool,
+    meeting: Meeting,
 }
 
 impl Listener {
@@ -44,13 +40,12 @@ impl Listener {
         Ok(Listener {
             processes,
             wrong: AtomicU64::new(0),
-            late: AtomicU64::new(0),
-            came: [AtomicU64::new(0), AtomicU64::new(0)],
             holds,
+            meeting: Meeting::new(),
         })
     }
 
-    /// Whether each process passed once and told all of its list, nothing else was heard, and no wait was given up.
+    /// Whether each process passed once and told all of its list, and nothing else was heard.
     fn heard_all(&self) -> bool {
         for heard in self.processes.as_slice() {
             if heard.passes.load(Ordering::SeqCst) != 1
@@ -59,22 +54,7 @@ impl Listener {
                 return false;
             }
         }
-        self.wrong.load(Ordering::SeqCst) == 0 && self.late.load(Ordering::SeqCst) == 0
-    }
-
-    /// Holds process 0 or 1 until the other one came, for so many turns at most. No other process is held.
-    fn wait(&self, who: usize) {
-        if who >= 2 {
-            return;
-        }
-        self.came[who].store(1, Ordering::SeqCst);
-        for _ in 0..MOST_TURNS {
-            if self.came[1 - who].load(Ordering::SeqCst) == 1 {
-                return;
-            }
-            thread::yield_now();
-        }
-        self.late.store(1, Ordering::SeqCst);
+        self.wrong.load(Ordering::SeqCst) == 0
     }
 }
 
@@ -96,7 +76,7 @@ impl Gate for Listener {
             self.wrong.fetch_add(1, Ordering::SeqCst);
         }
         if self.holds {
-            self.wait(who as usize);
+            self.meeting.wait(who as usize);
         }
     }
 }
@@ -134,6 +114,7 @@ fn run_meets(rt: HostRuntime) -> Result<(), Fail> {
     let sum = b"in x, z; out y; y = x + z;\n%%\nx,1\nz,2\n";
     expect_run(&rt, sum, b"y,3\n", &gate)?;
     assert!(rt; gate.heard_all());
+    assert!(rt; gate.meeting.met());
     Ok(())
 }
 

@@ -11,3 +11,6 @@ returns-in-Cert c = rw c.in-Cert.is c.print_certificate.ensures
 
 pub returns-in-Check : goal.returns-in-Check
 returns-in-Check c = rw c.in-Check.is c.check_certificate.ensures
+
+pub returns-in-Vhdl : goal.returns-in-Vhdl
+returns-in-Vhdl c = rw c.in-Vhdl.is c.describe_network.ensures

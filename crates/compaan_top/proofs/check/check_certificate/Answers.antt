@@ -1,7 +1,7 @@
 use Rattle.std.proofs.Common.{arith, ◌∙◌, ◌≤◌, length, Some, sym, ap}
 use Rattle.std.proofs.lemmas.Result.{err_from_is_err_and}
 use Rattle.compaan_top.proofs.Parts.{part_within}
-use Rattle.compaan_top.proofs.Checked.{checks_judged, checks_unread, checks_without_nest, checks_without_part, checks_without_size}
+use Rattle.compaan_top.proofs.Checked.{checks_judged, checks_unread, checks_without_nest, checks_without_part}
 use Rattle.compaan_top.proofs.check.check_certificate.Goals as goal
 
 pub returns-in_default : goal.returns-in_default
@@ -14,12 +14,6 @@ returns-in_err-nest c =
     rw (stop.1, stop.2) (checks_without_nest c.args.params.now c.args.bundle.now c.parts_of-parts.result.source.now c.in-Some.part.now _ c.parts_of-parts.ensures.source
     (sym (rw c.in-Some.is at c.parts_of-parts.ensures.certificate)) c.in_err-nest.ensures)
 
-pub returns-in_err-size_of : goal.returns-in_err-size_of
-returns-in_err-size_of c =
-    let stop = err_from_is_err_and c.from_residual-in_err-size_of.result c.from_residual-in_err-size_of.ensures.1 in
-    rw (stop.1, stop.2) (checks_without_size c.args.params.now c.args.bundle.now c.parts_of-parts.result.source.now c.in-Some.part.now c.in_ok-nest.nest _ c.parts_of-parts.ensures.source
-    (sym (rw c.in-Some.is at c.parts_of-parts.ensures.certificate)) c.in_ok-nest.ensures c.in_err-size_of.ensures)
-
 pub verdict_on-requires-clause-numbers : goal.verdict_on-requires-clause-numbers
 verdict_on-requires-clause-numbers c =
     let part : length c.in-Some.part.now ≤ length c.args.bundle.now =
@@ -28,11 +22,11 @@ verdict_on-requires-clause-numbers c =
 
 pub returns-in-Ok : goal.returns-in-Ok
 returns-in-Ok c =
-    checks_judged c.args.params.now c.args.bundle.now c.parts_of-parts.result.source.now c.in-Some.part.now c.in_ok-nest.nest c.in_ok-size_of.field-0 c.in-Ok.network c.in-Ok.cert _ c.parts_of-parts.ensures.source
-    (sym (rw c.in-Some.is at c.parts_of-parts.ensures.certificate)) c.in_ok-nest.ensures c.in_ok-size_of.ensures.0 c.in-Ok.ensures.exact c.in_ok-answer-in-Ok.ensures
+    checks_judged c.args.params.now c.args.bundle.now c.parts_of-parts.result.source.now c.in-Some.part.now c.in_ok-nest.nest c.in-Ok.network c.in-Ok.cert _ c.parts_of-parts.ensures.source
+    (sym (rw c.in-Some.is at c.parts_of-parts.ensures.certificate)) c.in_ok-nest.ensures.0 c.in-Ok.ensures.exact c.in_ok-answer-in-Ok.ensures
 
 pub returns : goal.returns
 returns c =
-    checks_unread c.args.params.now c.args.bundle.now c.parts_of-parts.result.source.now c.in-Some.part.now c.in_ok-nest.nest c.in_ok-size_of.field-0 c.in-Err.error _ c.parts_of-parts.ensures.source
-    (sym (rw c.in-Some.is at c.parts_of-parts.ensures.certificate)) c.in_ok-nest.ensures c.in_ok-size_of.ensures.0 c.in-Err.ensures.exact
+    checks_unread c.args.params.now c.args.bundle.now c.parts_of-parts.result.source.now c.in-Some.part.now c.in_ok-nest.nest c.in-Err.error _ c.parts_of-parts.ensures.source
+    (sym (rw c.in-Some.is at c.parts_of-parts.ensures.certificate)) c.in_ok-nest.ensures.0 c.in-Err.ensures.exact
     (c.in_ok-unread_line-in-Err.ensures ∙ ap Some (sym c.from_vec.ensures))

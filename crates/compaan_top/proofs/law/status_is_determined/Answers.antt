@@ -1,4 +1,5 @@
-use Rattle.compaan_top.proofs.Statuses.{outcomes_alike, outcomes_own, outcomes_succeed}
+use Rattle.compaan_top.proofs.OwnStatuses.{outcomes_own}
+use Rattle.compaan_top.proofs.Statuses.{outcomes_alike, outcomes_succeed}
 use Rattle.compaan_top.proofs.law.status_is_determined.Goals as goal
 
 pub returns-clause-determined : goal.returns-clause-determined

@@ -2,7 +2,7 @@ use Rattle.std.proofs.lemmas.Result.{err_from_is_err_and}
 use Rattle.std.proofs.Common.{ap}
 use Rattle.net_text.specs.NetworkText.{net_text}
 use Rattle.compaan_top.specs.Printing.{network_text}
-use Rattle.compaan_top.proofs.Printed.{prints_without_nest, prints_without_size, prints_text}
+use Rattle.compaan_top.proofs.Printed.{prints_without_nest, prints_text}
 use Rattle.compaan_top.proofs.printing.print_network.Goals as goal
 
 pub returns-in_err-nest : goal.returns-in_err-nest
@@ -10,13 +10,8 @@ returns-in_err-nest c =
     let stop = err_from_is_err_and c.from_residual.result c.from_residual.ensures.1 in
     rw (stop.1, stop.2) (prints_without_nest (network_text c.args.policy) c.args.params.now c.args.bundle.now c.parts_of-parts.result.source.now _ c.parts_of-parts.ensures.source c.in_err-nest.ensures)
 
-pub returns-in_err-size_of : goal.returns-in_err-size_of
-returns-in_err-size_of c =
-    let stop = err_from_is_err_and c.from_residual-in_err-size_of.result c.from_residual-in_err-size_of.ensures.1 in
-    rw (stop.1, stop.2) (prints_without_size (network_text c.args.policy) c.args.params.now c.args.bundle.now c.parts_of-parts.result.source.now c.in_ok-nest.nest _ c.parts_of-parts.ensures.source c.in_ok-nest.ensures c.in_err-size_of.ensures)
-
 pub returns : goal.returns
 returns c =
-    prints_text (network_text c.args.policy) c.args.params.now c.args.bundle.now c.parts_of-parts.result.source.now _ c.in_ok-nest.nest c.in_ok-size_of.field-0
-    c.parts_of-parts.ensures.source c.in_ok-nest.ensures c.in_ok-size_of.ensures.0
+    prints_text (network_text c.args.policy) c.args.params.now c.args.bundle.now c.parts_of-parts.result.source.now _ c.in_ok-nest.nest
+    c.parts_of-parts.ensures.source c.in_ok-nest.ensures.0
     (ap (net_text c.in_ok-nest.nest) c.in_ok-network.ensures.network)

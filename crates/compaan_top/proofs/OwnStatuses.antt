@@ -1,0 +1,170 @@
+-- The statuses with which each command may end.
+use Rattle.std.proofs.Common.{◌≡◌, ◌⊎◌, ◌==◌, ◌++◌, ℕ, ℤ, true, List, [], ◌∷◌, Option, Some, None, Result, Ok, Err, refl, sym, ap, subst, inl, inr}
+use Rattle.std.proofs.lemmas.Bool.{or_right}
+use Rattle.std.specs.List.{list_any}
+use Rattle.array_data.specs.declared.error.DataError.{DataError}
+use Rattle.command_line.specs.Bundle.{source_part, data_part}
+use Rattle.command_line.specs.declared.words.Command.{Command}
+use Rattle.command_line.specs.declared.words.Command.TheVariants.{Run, Seq, Net, Cert, Check, Vhdl, Load}
+use Rattle.command_line.specs.declared.words.Order.{Order}
+use Rattle.io_edge.specs.InMemory.{is_among}
+use Rattle.loop_class.specs.declared.error.BindError.{BindError}
+use Rattle.loop_class.specs.declared.error.BindError.TheVariants as binding
+use Rattle.loop_lex.specs.declared.token.LexError.{LexError}
+use Rattle.loop_lex.specs.declared.token.LexError.TheVariants as lexical
+use Rattle.net_checker.specs.Fits.{first, verdict_of}
+use Rattle.net_checker.specs.declared.verdict.Refusal.{Refusal as NetRefusal}
+use Rattle.sanlp.specs.declared.nest.Nest.{Nest}
+use Rattle.witness_plan.specs.declared.schedules.Policy.{Policy}
+use Rattle.compaan_top.specs.Answers.{Change, Ends, no_memory, read_fault, written, cut_short}
+use Rattle.compaan_top.specs.Checking as check
+use Rattle.compaan_top.specs.Checking.{Checks, verdict_reply}
+use Rattle.compaan_top.specs.Commands.{Reads, source_alone, source_and_data, source_and_certificate, nothing, read_by, reads_of}
+use Rattle.compaan_top.specs.Describing as describe
+use Rattle.compaan_top.specs.Describing.{Describes}
+use Rattle.compaan_top.specs.Laws.{HasStatusOf, call_statuses, command_statuses, outcome_statuses, read_statuses}
+use Rattle.compaan_top.specs.Load as load
+use Rattle.compaan_top.specs.Load.{Loads}
+use Rattle.compaan_top.specs.Outcome.{Outcome, IsOutcome, outcome_of, Performs, words_refused, bundle_refused, performed}
+use Rattle.compaan_top.specs.Printing as print
+use Rattle.compaan_top.specs.Printing.{Prints, certificate_text, network_text}
+use Rattle.compaan_top.specs.Refusals.{byte_of, lex_refusal, bind_refusal}
+use Rattle.compaan_top.specs.Replies.{Reply}
+use Rattle.compaan_top.specs.Run.{Runs, IsInputs, source_refused, data_refused, answered}
+use Rattle.compaan_top.specs.Source as sized
+use Rattle.compaan_top.specs.Source.{Gives, GivesWithinSize, no_tokens, no_tree, not_bound, bound}
+use Rattle.compaan_top.specs.declared.refusal.Refusal.{Refusal}
+use Rattle.compaan_top.proofs.Statuses.{data_status, no_order, same_value, size_status}
+
+-- the statuses of what is wrong with a source
+abbrev pub IsOfSource : ℕ → Type 0
+IsOfSource status = (status ≡ 6) ⊎ ((status ≡ 7) ⊎ (status ≡ 8))
+
+refused_of : (made r : Refusal) → Some made ≡ Some r → IsOfSource made.status → IsOfSource r.status
+refused_of made r e own = subst (λ (t : Refusal). IsOfSource t.status) (same_value made r e) own
+
+lex_status : (e : LexError) (r : Refusal) → lex_refusal e ≡ Some r → IsOfSource r.status
+lex_status (lexical.BadByte at) r made = refused_of _ r made (inl refl)
+lex_status (lexical.OpenComment at) r made = refused_of _ r made (inl refl)
+lex_status (lexical.LargeNumber at) r made = refused_of _ r made (inl refl)
+lex_status (lexical.TooMany at) r made = refused_of _ r made (inl refl)
+lex_status lexical.Memory r made = cc
+
+bind_status : (at : ℕ → ℕ) (e : BindError) (r : Refusal) → bind_refusal at e ≡ Some r → IsOfSource r.status
+bind_status at (binding.UnknownName t) r made = refused_of _ r made (inr (inl refl))
+bind_status at (binding.Duplicate t) r made = refused_of _ r made (inr (inl refl))
+bind_status at (binding.Unbound t) r made = refused_of _ r made (inr (inl refl))
+bind_status at (binding.NotAffine t) r made = refused_of _ r made (inr (inl refl))
+bind_status at (binding.WrongCount t) r made = refused_of _ r made (inr (inl refl))
+bind_status at (binding.ElseForm t) r made = refused_of _ r made (inr (inl refl))
+bind_status at (binding.TooManyProcesses t) r made = refused_of _ r made (inr (inr refl))
+bind_status at (binding.TooDeep t) r made = refused_of _ r made (inr (inr refl))
+bind_status at (binding.TooManyReads t) r made = refused_of _ r made (inr (inr refl))
+bind_status at (binding.TooManyRows t) r made = refused_of _ r made (inr (inr refl))
+bind_status at (binding.Large t) r made = refused_of _ r made (inr (inr refl))
+bind_status at binding.Memory r made = cc
+
+abbrev pub IsRefusedByStatus : {A : Type 0} → Result A Refusal → Type 0
+IsRefusedByStatus (Ok x) = Unit {0}
+IsRefusedByStatus (Err r) = IsOfSource r.status
+
+gives_refused : (source : List ℕ) (params : List (List ℕ × ℤ)) {x : Result Nest Refusal} → Gives source params x → IsRefusedByStatus x
+gives_refused source params (no_tokens e r lexed made) = lex_status e r made
+gives_refused source params (no_tree a place lexed stops) = inl refl
+gives_refused source params (not_bound a t reason r lexed derived least made) = bind_status (byte_of source a) reason r made
+gives_refused source params (bound a t n lexed derived is) = tt
+
+pub sized_refused : (source : List ℕ) (params : List (List ℕ × ℤ)) {x : Result Nest Refusal} → GivesWithinSize source params x → IsRefusedByStatus x
+sized_refused source params (sized.source_refused r g) = gives_refused source params g
+sized_refused source params (sized.size_refused n e g c) = inr (inr (size_status e))
+sized_refused source params (sized.within_size n t g c) = tt
+
+-- a list that has the three statuses of sources has that of a refused source
+among : (list : List ℕ) (status : ℕ) → is_among list 6 ≡ true → is_among list 7 ≡ true → is_among list 8 ≡ true → IsOfSource status → is_among list status ≡ true
+among list status six seven eight (inl e) = subst (λ (s : ℕ). is_among list s ≡ true) (sym e) six
+among list status six seven eight (inr (inl e)) = subst (λ (s : ℕ). is_among list s ≡ true) (sym e) seven
+among list status six seven eight (inr (inr e)) = subst (λ (s : ℕ). is_among list s ≡ true) (sym e) eight
+
+abbrev HasStatus : Reads → Result Reply Refusal → Type 0
+HasStatus reads x = is_among (command_statuses reads) (outcome_of x).status ≡ true
+
+inputs_status : (bytes : List ℕ) (n : Nest) (r : Refusal) → IsInputs n bytes (Err r) → is_among (command_statuses source_and_data) r.status ≡ true
+inputs_status bytes n r i = rw (data_status n.arrays i.0 r i.2) refl
+
+runs_own : (params : List (List ℕ × ℤ)) (bundle : List ℕ) {x : Result Reply Refusal} → Runs params bundle x → HasStatus source_and_data x
+runs_own params bundle (source_refused r g) = among (command_statuses source_and_data) r.status refl refl refl (sized_refused (source_part bundle) params g)
+runs_own params bundle (data_refused n r g i) = inputs_status (data_part bundle) n r i
+runs_own params bundle (answered n d g i) = refl
+
+prints_own : (text : Nest → List ℕ) (params : List (List ℕ × ℤ)) (bundle : List ℕ) {x : Result Reply Refusal} → Prints text params bundle x → HasStatus source_alone x
+prints_own text params bundle (print.source_refused r g) = among (command_statuses source_alone) r.status refl refl refl (sized_refused (source_part bundle) params g)
+prints_own text params bundle (print.printed n g) = refl
+
+verdict_own : (found : Option NetRefusal) → is_among (command_statuses source_and_certificate) (verdict_reply (verdict_of found)).status ≡ true
+verdict_own None = refl
+verdict_own (Some refusal) = refl
+
+checks_own : (params : List (List ℕ × ℤ)) (bundle : List ℕ) {x : Result Reply Refusal} → Checks params bundle x → HasStatus source_and_certificate x
+checks_own params bundle (check.part_missing none) = refl
+checks_own params bundle (check.source_refused part r there g) = among (command_statuses source_and_certificate) r.status refl refl refl (sized_refused (source_part bundle) params g)
+checks_own params bundle (check.unread part n e text there g read told) = refl
+checks_own params bundle (check.judged part n network cert there g read) = verdict_own (first n network cert)
+
+describes_own : (policy : Policy) (params : List (List ℕ × ℤ)) (bundle : List ℕ) {x : Result Reply Refusal} → Describes policy params bundle x → HasStatus source_alone x
+describes_own policy params bundle (describe.source_refused r g) = among (command_statuses source_alone) r.status refl refl refl (sized_refused (source_part bundle) params g)
+describes_own policy params bundle (describe.script_refused n a g k) = refl
+describes_own policy params bundle (describe.described n g k) = refl
+
+loads_own : (policy : Policy) (rows : ℕ) {x : Result Reply Refusal} → Loads policy rows x → HasStatus nothing x
+loads_own policy rows (load.too_large a) = refl
+loads_own policy rows (load.size_refused n e a g c) = rw (size_status e) refl
+loads_own policy rows (load.summed n t k a g c i) = refl
+
+performs_own : (command : Command) (order : Order) (bundle : List ℕ) (x : Result Reply Refusal) → Performs command order bundle x → HasStatus (reads_of command) x
+performs_own Run order bundle x made = runs_own order.params bundle made
+performs_own Seq order bundle x made = runs_own order.params bundle made
+performs_own Net order bundle x made = prints_own (network_text order.policy) order.params bundle made
+performs_own Cert order bundle x made = prints_own (certificate_text order.policy) order.params bundle made
+performs_own Check order bundle x made = checks_own order.params bundle made
+performs_own Vhdl order bundle x made = describes_own order.policy order.params bundle made
+performs_own Load order bundle x made = loads_own order.policy order.load made
+
+-- where something is read, too long a bundle has its status
+long_status : (reads : Reads) → (reads ≡ nothing → ⊥) → is_among (command_statuses reads) 5 ≡ true
+long_status source_alone some = refl
+long_status source_and_data some = refl
+long_status source_and_certificate some = refl
+long_status nothing some = absurd (some refl)
+
+-- the statuses of an order's outcomes are those of its command
+of_command : (wanted : Option Order) (order : Order) (status : ℕ) → wanted ≡ Some order → is_among (command_statuses (reads_of order.command)) status ≡ true
+    → is_among (outcome_statuses wanted) status ≡ true
+of_command wanted order status ordered own = subst (λ (o : Option Order). is_among (outcome_statuses o) status ≡ true) (sym ordered) own
+
+pub outcomes_own : (wanted : Option Order) (bundle : List ℕ) {a : Outcome} → IsOutcome wanted bundle a → is_among (outcome_statuses wanted) a.status ≡ true
+outcomes_own wanted bundle (words_refused x) = subst (λ (o : Option Order). is_among (outcome_statuses o) 2 ≡ true) (sym x) refl
+outcomes_own wanted bundle (bundle_refused o x reads long) = of_command wanted o 5 x (long_status (reads_of o.command) reads)
+outcomes_own wanted bundle (performed o answer x within made) = of_command wanted o (outcome_of answer).status x (performs_own o.command o bundle answer made)
+
+-- ---- the statuses of calls
+
+is_behind : (front list : List ℕ) (status : ℕ) → is_among list status ≡ true → is_among (front ++ list) status ≡ true
+is_behind [] list status there = there
+is_behind (one ∷ front) list status there = or_right (one == status) _ (is_behind front list status there)
+
+read_status : (reads : Reads) (list : List ℕ) → (reads ≡ nothing → ⊥) → is_among (4 ∷ 10 ∷ (read_statuses reads ++ list)) 3 ≡ true
+read_status source_alone list some = refl
+read_status source_and_data list some = refl
+read_status source_and_certificate list some = refl
+read_status nothing list some = absurd (some refl)
+
+outcome_status : (wanted : Option Order) (status : ℕ) → is_among (outcome_statuses wanted) status ≡ true → HasStatusOf wanted status
+outcome_status wanted status own =
+    is_behind (4 ∷ 10 ∷ []) (read_statuses (read_by wanted) ++ outcome_statuses wanted) status (is_behind (read_statuses (read_by wanted)) (outcome_statuses wanted) status own)
+
+pub calls_own : (wanted : Option Order) (input output complaint : Change) {status : ℕ} → Ends wanted input output complaint status → HasStatusOf wanted status
+calls_own wanted input output complaint (no_memory quiet taken writes) = refl
+calls_own wanted input output complaint (read_fault o x reads fault taken writes) =
+    subst (λ (w : Option Order). HasStatusOf w 3) (sym x) (read_status (reads_of o.command) (outcome_statuses (Some o)) reads)
+calls_own wanted input output complaint (written bundle outcome quiet read is writes) = outcome_status wanted outcome.status (outcomes_own wanted bundle is)
+calls_own wanted input output complaint (cut_short bundle outcome quiet read is writes) = refl

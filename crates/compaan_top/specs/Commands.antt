@@ -1,0 +1,39 @@
+-- What each command reads, and whether it waits for threads.
+use Rattle.std.specs.Prelude.{◌≡◌, Bool, true, false, Option, Some, None}
+use Rattle.command_line.specs.declared.words.Command.{Command}
+use Rattle.command_line.specs.declared.words.Command.TheVariants.{Run, Seq, Net, Cert, Check, Vhdl, Load}
+use Rattle.command_line.specs.declared.words.Order.{Order}
+
+-- the parts of a bundle that are read
+pub data Reads : Type 0 where
+  source_alone : Reads
+  source_and_data : Reads
+  source_and_certificate : Reads
+  nothing : Reads
+
+abbrev pub reads_of : Command → Reads
+reads_of Run = source_and_data
+reads_of Seq = source_and_data
+reads_of Net = source_alone
+reads_of Cert = source_alone
+reads_of Check = source_and_certificate
+reads_of Vhdl = source_alone
+reads_of Load = nothing
+
+abbrev pub waits : Command → Bool
+waits Run = true
+waits Seq = false
+waits Net = false
+waits Cert = false
+waits Check = false
+waits Vhdl = false
+waits Load = true
+
+-- the commands that no thread is waited for in
+abbrev pub WaitsForNobody : Command → Type 0
+WaitsForNobody command = waits command ≡ false
+
+-- what is read where this order is wanted, or None where the words are refused
+abbrev pub read_by : Option Order → Reads
+read_by None = nothing
+read_by (Some order) = reads_of order.command

@@ -1,0 +1,57 @@
+ghost use Rattle.std.specs.Prelude.{◌≡◌, IfOk};
+ghost use Rattle.loop_walk.specs.Counting.{SizeIsOk};
+ghost use Rattle.sanlp.specs.Meaning.{arrays};
+ghost use Rattle.net_core.specs.Machine.{net_of};
+ghost use Rattle.net_core.specs.Shape.{FitsNumbers};
+ghost use Rattle.witness_plan.specs.Schedules.{planned_network};
+
+use io_edge::Gate;
+use loop_walk::points;
+use net_checker::{Verdict, check};
+use net_core::Network;
+use net_maker::compile;
+use sanlp::{Arrays, Inputs, Nest};
+use std::alloc::{AllocError, Global};
+use std::sync::Wait;
+use std::thread::Threads;
+use thread_runner::{Bench, make_ends, run_threads};
+use witness_plan::Policy;
+
+/// What a run of a nest's network gives: the network and the arrays after the nest.
+#[derive(Drop)]
+pub(crate) struct NetworkRun {
+    pub(crate) network: Network,
+    pub(crate) arrays: Arrays,
+}
+
+/// Runs the network of a nest, with the capacities that its schedule under a policy needs, by one thread for each process. It
+/// is run once the checker has accepted it, which it always does. A worker asks the gate before it works, and its process tells
+/// the gate each value before it puts it. Nothing is refused but want of memory.
+pub(crate) fn run_by_threads<R: Threads + Wait + Sync, G: Gate + Sync>(
+    rt: &R,
+    alloc: Global,
+    nest: &Nest,
+    inputs: &Inputs,
+    policy: Policy,
+    gate: &G,
+) -> Result<NetworkRun, AllocError>
+    requires { SizeIsOk nest.now }
+    ensures network { IfOk result (λ run. run.network ≡ planned_network nest.now policy) }
+    ensures numbers { IfOk result (λ run. FitsNumbers (net_of run.network)) }
+    ensures arrays { IfOk result (λ run. run.arrays.arrays ≡ arrays nest.now inputs.now) }
+{
+    let points = points(alloc, nest)?;
+    let (network, cert) = compile(alloc, nest, &points, policy)?;
+    match check(alloc, nest, &points, &network, &cert)? {
+        Verdict::Accepted => {
+            let ends = make_ends(alloc, nest, &points, inputs, &network)?;
+            let bench = Bench::new(alloc, nest, &points, &network)?;
+            let schedule = cert.schedule.as_slice();
+            let arrays = run_threads(
+                rt, alloc, nest, &points, inputs, &network, schedule, bench, ends, gate,
+            );
+            Ok(NetworkRun { network, arrays })
+        }
+        Verdict::Refused(_) => unreachable!(),
+    }
+}

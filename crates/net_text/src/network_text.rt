@@ -92,12 +92,7 @@ fn write_process<W: TextWriter>(
 }
 
 #[tactic(auto, using(text_out::proofs::Numbered::numbered))]
-fn write_processes<W: TextWriter>(
-    nest: &Nest,
-    points: &Points,
-    processes: &[Process],
-    out: &mut W,
-)
+fn write_processes<W: TextWriter>(nest: &Nest, points: &Points, processes: &[Process], out: &mut W)
     requires { points.now.of ≡ points_of nest.now }
     ensures { Wrote W.given out.old out.new (process_lines nest.now processes.now) }
 {
@@ -118,12 +113,7 @@ pub fn class_word(class: ChannelClass) -> &'static [u8]
     }
 }
 
-fn write_channel<W: TextWriter>(
-    network: &Network,
-    number: usize,
-    channel: &Channel,
-    out: &mut W,
-)
+fn write_channel<W: TextWriter>(network: &Network, number: usize, channel: &Channel, out: &mut W)
     requires { slice_get network.now.channels number ≡ Some channel.now }
     ensures { Wrote W.given out.old out.new (channel_line network.now number channel.now) }
 {

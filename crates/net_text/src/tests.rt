@@ -1,4 +1,3 @@
-use crate::line::{Word, write_line};
 use crate::network_text::write_channels;
 use crate::write_net;
 use channel_class::{ChannelClass, UseOrder};
@@ -8,6 +7,7 @@ use plain_data::Items;
 use sanlp::{Nest, Points};
 use std::alloc::{AllocError, Global};
 use std::test::Fail;
+use text_out::Writer;
 
 fn fire() -> Event {
     Event::Fire {
@@ -86,31 +86,18 @@ fn network(alloc: Global) -> Result<Network, AllocError> {
     })
 }
 
-#[test]
-fn a_line_is_its_words(rt: HostRuntime) -> Result<(), Fail> {
-    for (words, want) in [
-        ([Word::Text(b"end")].as_slice(), b"end\n".as_slice()),
-        (
-            [Word::Text(b"events"), Word::Number(21)].as_slice(),
-            b"events 21\n".as_slice(),
-        ),
-        (
-            [Word::Number(0), Word::Text(b"to"), Word::Number(u64::MAX)].as_slice(),
-            b"0 to 18446744073709551615\n".as_slice(),
-        ),
-    ] {
-        let mut sink = MemSink::new(rt.alloc(), 100, 100, &[])?;
-        assert_eq!(rt; write_line(words, &mut sink), Ok(()));
-        assert_eq!(rt; sink.held(), want);
-    }
-    Ok(())
+/// Writes the lines of the channels to a sink.
+fn send_channels(network: &Network, sink: &mut MemSink) -> Result<(), WriteFault> {
+    let mut out = Writer::new(sink);
+    write_channels(network, &mut out);
+    out.finish()
 }
 
 #[test]
 fn a_channel_is_a_line(rt: HostRuntime) -> Result<(), Fail> {
     let network = network(rt.alloc())?;
     let mut sink = MemSink::new(rt.alloc(), 1_000, 5, &[])?;
-    assert_eq!(rt; write_channels(&network, &mut sink), Ok(()));
+    assert_eq!(rt; send_channels(&network, &mut sink), Ok(()));
     let want = b"channel 0 from 0 to 1 read 7 tokens 4 capacity 90 hold 3 class reorder\n\
         channel 1 from 0 to 1 read 0 tokens 1 capacity 91 hold 1 class inorder+\n\
         channel 2 from 1 to 0 read 0 tokens 0 capacity 92 hold 0 class inorder\n\
@@ -121,18 +108,18 @@ fn a_channel_is_a_line(rt: HostRuntime) -> Result<(), Fail> {
 
 #[test]
 fn a_sink_that_fails_midway_holds_a_front(rt: HostRuntime) -> Result<(), Fail> {
-    // The room, the call that fails, and what is held then.
-    for (room, failing, held) in [
-        (0, 9, b"".as_slice()),
-        (12, 99, b"channel 0 fr".as_slice()),
-        (500, 0, b"".as_slice()),
-        (500, 1, b"channel".as_slice()),
-        (500, 3, b"channel 0".as_slice()),
+    // The room, the most bytes of a call, the call that fails, and what is held then.
+    for (room, most, failing, held) in [
+        (0, 100, 9, b"".as_slice()),
+        (12, 100, 99, b"channel 0 fr".as_slice()),
+        (500, 100, 0, b"".as_slice()),
+        (500, 7, 1, b"channel".as_slice()),
+        (500, 3, 3, b"channel 0".as_slice()),
     ] {
         let network = network(rt.alloc())?;
-        let mut sink = MemSink::new(rt.alloc(), room, 100, &[failing])?;
-        assert_eq!(rt; write_channels(&network, &mut sink), Err(WriteFault));
-        assert_eq!(rt; sink.held(), held, "{room} {failing}");
+        let mut sink = MemSink::new(rt.alloc(), room, most, &[failing])?;
+        assert_eq!(rt; send_channels(&network, &mut sink), Err(WriteFault));
+        assert_eq!(rt; sink.held(), held, "{room} {most} {failing}");
     }
     Ok(())
 }

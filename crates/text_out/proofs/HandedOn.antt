@@ -1,10 +1,9 @@
 -- A text that is handed to a sink in parts. As long as no write failed, the sink holds what it held and all of the text so
 -- far, so the next part goes behind it; a write that fails leaves a front of that part, and so a front of the whole. From
 -- then on nothing more is written, and a front of the text so far is a front of the longer text too.
-use Rattle.std.proofs.Common.{◌≡◌, ◌≤◌, ◌+◌, ◌-◌, ℕ, Bool, true, false, List, [], ◌++◌, Option, None, Some, take, length, refl, ap, sym, subst, ◌∙◌, append-nil, append_assoc, arith, length-append}
+use Rattle.std.proofs.Common.{◌≡◌, ◌≤◌, ◌-◌, ℕ, Bool, true, false, List, [], ◌++◌, Option, None, Some, take, length, refl, ap, sym, subst, ◌∙◌, append-nil, arith, length-append}
 use Rattle.std.proofs.lemmas.List.{take-append-le, length-take, length-take-le}
 use Rattle.std.proofs.KnownBytes.{Appends-trans}
-use Rattle.std.specs.Io.KnownBytes.{Appends}
 use Rattle.io_edge.proofs.Fronts.{front_after}
 use Rattle.io_edge.specs.Causes.{AppendsFront, Rose}
 use Rattle.text_out.specs.Handed.{Handed, HoldsFront}

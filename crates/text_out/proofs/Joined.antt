@@ -5,7 +5,7 @@ use Rattle.std.proofs.lemmas.List.Folds.{flat_map-map}
 use Rattle.text_out.specs.declared.words.Word.{Word}
 use Rattle.text_out.specs.Words.{word_text, spaced_text}
 
-joined : (word : List ℕ) (words : List (List ℕ)) → join_with_byte 32 (word ∷ words) ≡ word ++ flat_map (λ other. 32 ∷ other) words
+pub joined : (word : List ℕ) (words : List (List ℕ)) → join_with_byte 32 (word ∷ words) ≡ word ++ flat_map (λ other. 32 ∷ other) words
 joined word [] = sym (append-nil word)
 joined word (other ∷ words) = ap (λ (text : List ℕ). word ++ (32 ∷ text)) (joined other words)
 

@@ -1,8 +1,8 @@
 -- What became of a text that was handed to a sink.
-use Rattle.std.specs.Prelude.{◌≡◌, ◌≤◌, ◌-◌, ℕ, Bool, true, false, List, ◌++◌, take, length, Option, None, Some}
+use Rattle.std.specs.Prelude.{◌≡◌, ◌-◌, ℕ, Bool, true, false, List, ◌++◌, take, length, Option, None, Some}
 use Rattle.std.specs.Coded.{×_prop, Unit-prop, le_prop, coded_ℕ, coded_list, Coded-set}
 use Rattle.std.specs.Io.KnownBytes.{Appends}
-use Rattle.io_edge.specs.Causes.{Rose, one_more}
+use Rattle.io_edge.specs.Causes.{Rose}
 
 -- the sink holds what it held, and a front of the text
 abbrev pub HoldsFront : Option (List ℕ) → Option (List ℕ) → List ℕ → Type 0

@@ -1,5 +1,5 @@
 -- What a writer of a text was given.
-use Rattle.std.specs.Prelude.{◌≡◌, ℕ, List, [], ◌++◌, Option}
+use Rattle.std.specs.Prelude.{◌≡◌, ℕ, List, ◌++◌, Option}
 use Rattle.std.specs.Borrow.{GName}
 
 -- a sink as a writer found it: its name, the bytes that it held, and its count of faults

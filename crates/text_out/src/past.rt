@@ -1,11 +1,13 @@
-//! What a writer was given, for proofs alone. It takes no memory, and its methods do nothing at run time.
 ghost use Rattle.std.specs.Prelude.{◌≡◌, List, ℕ, [], ◌++◌};
 ghost use Rattle.std.specs.Borrow.{ftrue};
 
-use crate::block::Waiting;
+use crate::waiting::Waiting;
 use std::marker::{Model, PhantomData};
 
-/// A clause reads the sink as it was at first as `start`, and what it was given since as `text`.
+/// What proofs alone read of a writer: the sink as it was at first, `start`, and the text that was handed over since,
+/// `text`. It takes no memory, and its calls do nothing.
+///
+/// By itself it says nothing of any sink. The fact that ties it to one is the field `handed` of `Writer`.
 #[derive(Drop)]
 pub(crate) struct Past<K> {
     of: PhantomData<K>,
@@ -18,14 +20,16 @@ impl<K> Model for Past<K> {
 }
 
 impl<K> Past<K> {
+    /// The past of a sink to which nothing was handed.
     pub(crate) fn new(sink: &K) -> Past<K>
         ensures { result ≡ record { of = record {}; start = sink.now; text = [] } }
     {
         Past { of: PhantomData }
     }
 
-    pub(crate) fn and(&self, block: &Waiting) -> Past<K>
-        ensures { result ≡ record self.now { text = self.now.text ++ block.now } }
+    /// The past with these bytes behind it.
+    pub(crate) fn and(&self, bytes: &Waiting) -> Past<K>
+        ensures { result ≡ record self.now { text = self.now.text ++ bytes.now } }
     {
         Past { of: PhantomData }
     }

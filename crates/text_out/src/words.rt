@@ -40,7 +40,7 @@ pub fn write_spaced<W: TextWriter>(word: Word, out: &mut W)
 }
 
 /// Writes words with a space before each.
-pub fn write_all_spaced<W: TextWriter>(words: &[Word], out: &mut W)
+fn write_others<W: TextWriter>(words: &[Word], out: &mut W)
     ensures { Wrote W.given out.old out.new (flat_map spaced_text words.now) }
 {
     for word in words {
@@ -54,7 +54,7 @@ pub fn write_words<W: TextWriter>(words: &[Word], out: &mut W)
 {
     if let Some((first, others)) = words.split_first() {
         write_word(*first, out);
-        write_all_spaced(others, out);
+        write_others(others, out);
     }
 }
 

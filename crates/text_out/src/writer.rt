@@ -4,11 +4,11 @@ ghost use Rattle.io_edge.specs.Causes.{Rose, AppendsFront};
 ghost use Rattle.text_out.specs.Wrote.{Given, Wrote};
 ghost use Rattle.text_out.specs.Handed.{Handed, Handed-prop};
 
-use crate::block::Waiting;
 use crate::past::Past;
+use crate::waiting::Waiting;
 use io_edge::{Sink, WriteFault, write_all};
 
-/// Where a text is written piece by piece. After a failure nothing more is written.
+/// Where a text is written piece by piece. No call tells of a failure: after one, nothing more is written.
 pub trait TextWriter {
     /// What it was given so far.
     ghost given: { Self → Given };
@@ -19,6 +19,8 @@ pub trait TextWriter {
 }
 
 /// A writer to a sink, with a buffer in place. It takes no memory.
+///
+/// The sink is handed 4096 bytes at a time, and what is left by `finish`.
 #[derive(Drop)]
 pub struct Writer<'a, K: Sink> {
     sink: &'a mut K,
@@ -26,8 +28,10 @@ pub struct Writer<'a, K: Sink> {
     failed: bool,
     past: Past<K>,
 
-    // What was given before what waits has gone to the sink, as far as no write failed.
-    ghost handed: { Handed failed (K.held past.start) (K.held sink.now) (K.faults past.start) (K.faults sink.now) past.text } by { Handed-prop failed (K.held past.start) (K.held sink.now) (K.faults past.start) (K.faults sink.now) past.text },
+    // What became of the text that was handed to the sink.
+    ghost handed: { Handed failed (K.held past.start) (K.held sink.now)
+        (K.faults past.start) (K.faults sink.now) past.text } by { Handed-prop failed (K.held past.start) (K.held sink.now)
+            (K.faults past.start) (K.faults sink.now) past.text },
 }
 
 impl<'a, K: Sink> Writer<'a, K> {
@@ -36,7 +40,11 @@ impl<'a, K: Sink> Writer<'a, K> {
     /// A writer that was given nothing.
     pub fn new(sink: &'a mut K) -> Writer<'a, K>
         ensures { given_of K.Sink result ≡ record {
-          start = record { sink = sink.entry.ghost_name; held = K.held sink.old; faults = K.faults sink.old };
+          start = record {
+            sink = sink.entry.ghost_name;
+            held = K.held sink.old;
+            faults = K.faults sink.old;
+          };
           text = [];
         } }
     {
@@ -74,21 +82,22 @@ impl<'a, K: Sink> Writer<'a, K> {
         front.len()
     }
 
-    /// Hands the last bytes to the sink, and tells whether some write failed.
-    #[tactic(auto, using(crate::proofs::HandedOn::appends_front))]
+    /// Hands the last bytes to the sink, and tells what became of the text.
+    ///
+    /// At `Ok` the sink took all of it, and at `WriteFault`, which is of this write or an earlier one, a front of it.
     pub fn finish(&mut self) -> Result<(), WriteFault>
         ensures given { given_of K.Sink self.new ≡ given_of K.Sink self.old }
-        ensures ok { OnOk result (Appends (given_of K.Sink self.old).start.held (K.held (sink_of self.new)) (given_of K.Sink self.old).text) }
-        ensures quiet { OnOk result (K.faults (sink_of self.new) ≡ (given_of K.Sink self.old).start.faults) }
-        ensures front { OnErr result (AppendsFront (given_of K.Sink self.old).start.held (K.held (sink_of self.new)) (given_of K.Sink self.old).text) }
-        ensures cause { OnErr result (Rose (given_of K.Sink self.old).start.faults (K.faults (sink_of self.new))) }
+        ensures ok { let given = given_of K.Sink self.old in
+            OnOk result (Appends given.start.held (K.held (sink_of self.new)) given.text) }
+        ensures quiet { let given = given_of K.Sink self.old in
+            OnOk result (K.faults (sink_of self.new) ≡ given.start.faults) }
+        ensures front { let given = given_of K.Sink self.old in
+            OnErr result (AppendsFront given.start.held (K.held (sink_of self.new)) given.text) }
+        ensures cause { let given = given_of K.Sink self.old in
+            OnErr result (Rose given.start.faults (K.faults (sink_of self.new))) }
     {
         self.flush();
-        if self.failed {
-            Err(WriteFault)
-        } else {
-            Ok(())
-        }
+        if self.failed { Err(WriteFault) } else { Ok(()) }
     }
 }
 
@@ -97,7 +106,8 @@ impl<'a, K: Sink> Writer<'a, K> {
 fn hand_over<K: Sink>(sink: &mut K, bytes: &[u8], failed: bool) -> bool
     ensures stopped { failed ≡ true → (result ≡ true) × (sink.new ≡ sink.old) }
     ensures going { failed ≡ false
-        → Handed result (K.held sink.old) (K.held sink.new) (K.faults sink.old) (K.faults sink.new) bytes.now }
+        → Handed result (K.held sink.old) (K.held sink.new)
+        (K.faults sink.old) (K.faults sink.new) bytes.now }
 {
     failed || write_all(sink, bytes).is_err()
 }

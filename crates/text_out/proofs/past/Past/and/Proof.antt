@@ -24,7 +24,6 @@ use denote.Param.{param, layouts}
 use denote.Signature.{plain, types_at}
 use denote.Steps.{nothing, owned}
 use denote.Struct.Laws.{makes}
-use denote.Struct.Tuple.{Tuple}
 use denote.Triple.Clauses.{Clauses, Ended, closing}
 use denote.Triple.Entry.{alive}
 use denote.Triple.Spec.{Meets, triple_of}
@@ -32,7 +31,7 @@ use denote.Triple.Table.{entered}
 use denote.Triple.Walked.{says, Stays, stay_dropped, walk_of, ends_at, walk_Meets, Goes-dropped}
 use Rattle.std.specs.contracts.marker.PhantomData as Mark
 use Rattle.text_out.proofs.Walks.{none, one, one_made}
-use Rattle.text_out.specs.contracts.block.Waiting as Waiting
+use Rattle.text_out.specs.contracts.waiting.Waiting as Waiting
 use Rattle.text_out.specs.contracts.past.Past as Past
 use Rattle.text_out.specs.contracts.past.Past.and as F
 use Rattle.text_out.specs.contracts.past.Past.and.Key.{name as #self}

@@ -1,5 +1,5 @@
 ghost use Rattle.std.specs.Prelude.{◌≡◌, ◌+◌, ◌≤◌, ℕ, List, [], ◌++◌, take, length};
-ghost use Rattle.text_out.specs.declared.block.TheConstants.{BLOCK};
+ghost use Rattle.text_out.specs.declared.waiting.TheConstants.{BLOCK};
 
 use std::marker::Model;
 

@@ -2,7 +2,7 @@ ghost use Rattle.std.specs.Prelude.{◌≡◌, ℕ, List, ◌∷◌, ◌++◌, c
 ghost use Rattle.std.specs.List.{flat_map};
 ghost use Rattle.std.specs.Io.KnownBytes.{Appends};
 ghost use Rattle.io_edge.specs.Causes.{Rose, AppendsFront};
-ghost use Rattle.text_out.specs.Given.{Wrote};
+ghost use Rattle.text_out.specs.Wrote.{Wrote};
 ghost use Rattle.text_out.specs.Words.{line_text, word_text};
 ghost use Rattle.cert_text.specs.CertText.{cert_text, channel_text as text_of_channel, entry_text, event_text, process_head, process_text, ref_word, sizes_text, source_text};
 

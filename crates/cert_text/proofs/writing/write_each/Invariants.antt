@@ -1,6 +1,6 @@
 use Rattle.std.proofs.Common.{take}
 use Rattle.std.specs.List.{flat_map}
-use Rattle.text_out.specs.Given.{Wrote}
+use Rattle.text_out.specs.Wrote.{Wrote}
 use Rattle.cert_text.proofs.writing.write_each.Given as goal
 
 -- the items so far were written

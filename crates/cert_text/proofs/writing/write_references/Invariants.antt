@@ -1,6 +1,6 @@
 use Rattle.std.proofs.Common.{◌++◌, codes, take}
 use Rattle.std.specs.List.{flat_map}
-use Rattle.text_out.specs.Given.{Wrote}
+use Rattle.text_out.specs.Wrote.{Wrote}
 use Rattle.cert_text.specs.CertText.{ref_word}
 use Rattle.cert_text.proofs.writing.write_references.Given as goal
 

@@ -1,7 +1,7 @@
 #!/usr/bin/env python3
 """Times `compaan net` at growing sizes.
 
-usage: bench/net.py [PROGRAM]      (PROGRAM: crates/compaan/out/compaan, which examples/run builds)
+usage: bench/net.py [PROGRAM]      (PROGRAM: crates/compaan/out/compaan, which ./compaan build builds)
 
 Prints, for each kernel and size, the points of its trace, and the nanoseconds and bytes of memory for each of them. The time
 and the memory of an empty program are taken off, and the least of five runs counts. Beside it stands what a sweep for last

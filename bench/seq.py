@@ -1,7 +1,7 @@
 #!/usr/bin/env python3
 """Times `compaan seq` against the same loops in C, which this script makes from the source.
 
-usage: bench/seq.py [PROGRAM]      (PROGRAM: crates/compaan/out/compaan, which examples/run builds)
+usage: bench/seq.py [PROGRAM]      (PROGRAM: crates/compaan/out/compaan, which ./compaan build builds)
 
 Prints, for each kernel, its executed assignments, the nanoseconds for each by `seq` and by C, and the bytes of memory for
 each cell that is written. The time of an empty program is taken off, and the least of five runs counts.

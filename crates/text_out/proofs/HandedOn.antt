@@ -6,7 +6,7 @@ use Rattle.std.proofs.lemmas.List.{take-append-le, length-take, length-take-le}
 use Rattle.std.proofs.KnownBytes.{Appends-trans}
 use Rattle.io_edge.proofs.Fronts.{front_after}
 use Rattle.io_edge.specs.Causes.{AppendsFront, Rose}
-use Rattle.text_out.specs.Handed.{Handed, HoldsFront}
+use Rattle.text_out.specs.ReachesSink.{ReachesSink, HoldsFront}
 
 -- a front, by how many bytes came
 pub holds_front : (held now : Option (List ℕ)) (text : List ℕ) → AppendsFront held now text → HoldsFront held now text
@@ -34,8 +34,8 @@ longer_front (Some xs) (Some ys) text more holds =
 
 module _ {S : Type 0} (held : S → Option (List ℕ)) (faults : S → ℕ) (first mid now : S) (text more : List ℕ) where
   -- what became of the text so far, and of the next part where no write had failed, by whether one has failed then
-  behind : (q : Bool) → Handed false (held first) (held mid) (faults first) (faults mid) text → Handed q (held mid) (held now) (faults mid) (faults now) more
-      → Handed q (held first) (held now) (faults first) (faults now) (text ++ more)
+  behind : (q : Bool) → ReachesSink false (held first) (held mid) (faults first) (faults mid) text → ReachesSink q (held mid) (held now) (faults mid) (faults now) more
+      → ReachesSink q (held first) (held now) (faults first) (faults now) (text ++ more)
   behind false so_far next = (Appends-trans (held first) (held mid) (held now) text more so_far.0 next.0, next.1 ∙ so_far.1)
   behind true so_far next =
       let front = appends_front (held mid) (held now) more next.0 in
@@ -44,29 +44,29 @@ module _ {S : Type 0} (held : S → Option (List ℕ)) (faults : S → ℕ) (fir
         subst (λ n. Rose n (faults now)) so_far.1 next.1,
       )
 
-  stopped : (q : Bool) → Handed true (held first) (held mid) (faults first) (faults mid) text → q ≡ true → now ≡ mid
-      → Handed q (held first) (held now) (faults first) (faults now) (text ++ more)
+  stopped : (q : Bool) → ReachesSink true (held first) (held mid) (faults first) (faults mid) text → q ≡ true → now ≡ mid
+      → ReachesSink q (held first) (held now) (faults first) (faults now) (text ++ more)
   stopped false so_far e same = cc
   stopped true so_far e same = (
     subst (λ (s : S). HoldsFront (held first) (held s) (text ++ more)) (sym same) (longer_front (held first) (held mid) text more so_far.0),
     subst (λ (s : S). Rose (faults first) (faults s)) (sym same) so_far.1,
   )
 
-  by_cases : (p q : Bool) → Handed p (held first) (held mid) (faults first) (faults mid) text
-      → (p ≡ true → (q ≡ true) × (now ≡ mid)) → (p ≡ false → Handed q (held mid) (held now) (faults mid) (faults now) more)
-      → Handed q (held first) (held now) (faults first) (faults now) (text ++ more)
+  by_cases : (p q : Bool) → ReachesSink p (held first) (held mid) (faults first) (faults mid) text
+      → (p ≡ true → (q ≡ true) × (now ≡ mid)) → (p ≡ false → ReachesSink q (held mid) (held now) (faults mid) (faults now) more)
+      → ReachesSink q (held first) (held now) (faults first) (faults now) (text ++ more)
   by_cases true q so_far stays goes = stopped q so_far (stays refl).0 (stays refl).1
   by_cases false q so_far stays goes = behind q so_far (goes refl)
 
 -- so the text and its next part were handed over
 pub handed_on : {S : Type 0} (held : S → Option (List ℕ)) (faults : S → ℕ) (first mid now : S) (text more : List ℕ) (p q : Bool)
-    → Handed p (held first) (held mid) (faults first) (faults mid) text
-    → (p ≡ true → (q ≡ true) × (now ≡ mid)) → (p ≡ false → Handed q (held mid) (held now) (faults mid) (faults now) more)
-    → Handed q (held first) (held now) (faults first) (faults now) (text ++ more)
+    → ReachesSink p (held first) (held mid) (faults first) (faults mid) text
+    → (p ≡ true → (q ≡ true) × (now ≡ mid)) → (p ≡ false → ReachesSink q (held mid) (held now) (faults mid) (faults now) more)
+    → ReachesSink q (held first) (held now) (faults first) (faults now) (text ++ more)
 handed_on held faults first mid now text more p q so_far stays goes = by_cases held faults first mid now text more p q so_far stays goes
 
 -- where a write failed, a front came
 pub front_of_failed : (failed : Bool) (held now : Option (List ℕ)) (faults count : ℕ) (text all : List ℕ)
-    → Handed failed held now faults count text → failed ≡ true → text ≡ all → AppendsFront held now all
+    → ReachesSink failed held now faults count text → failed ≡ true → text ≡ all → AppendsFront held now all
 front_of_failed true held now faults count text all handed e same = rw (← same) (appends_front held now text handed.0)
 front_of_failed false held now faults count text all handed e same = cc

@@ -1,4 +1,4 @@
 pub mod Wrote
-pub mod Handed
+pub mod ReachesSink
 pub mod Writer
 pub mod Words

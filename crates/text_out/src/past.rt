@@ -7,7 +7,7 @@ use std::marker::{Model, PhantomData};
 /// What proofs alone read of a writer: the sink as it was at first, `start`, and the text that was handed over since,
 /// `text`. It takes no memory, and its calls do nothing.
 ///
-/// By itself it says nothing of any sink. The fact that ties it to one is the field `handed` of `Writer`.
+/// By itself it says nothing of any sink. The fact that ties it to one is the field `reaches` of `Writer`.
 #[derive(Drop)]
 pub(crate) struct Past<K> {
     of: PhantomData<K>,

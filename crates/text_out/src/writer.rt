@@ -2,7 +2,7 @@ ghost use Rattle.std.specs.Prelude.{◌≡◌, ◌≤◌, ◌<◌, true, false, 
 ghost use Rattle.std.specs.Io.KnownBytes.{Appends};
 ghost use Rattle.io_edge.specs.Causes.{Rose, AppendsFront};
 ghost use Rattle.text_out.specs.Wrote.{Given, Wrote};
-ghost use Rattle.text_out.specs.Handed.{Handed, Handed-prop};
+ghost use Rattle.text_out.specs.ReachesSink.{ReachesSink, ReachesSink-prop};
 
 use crate::past::Past;
 use crate::waiting::Waiting;
@@ -29,8 +29,8 @@ pub struct Writer<'a, K: Sink> {
     past: Past<K>,
 
     // What became of the text that was handed to the sink.
-    ghost handed: { Handed failed (K.held past.start) (K.held sink.now)
-        (K.faults past.start) (K.faults sink.now) past.text } by { Handed-prop failed (K.held past.start) (K.held sink.now)
+    ghost reaches: { ReachesSink failed (K.held past.start) (K.held sink.now)
+        (K.faults past.start) (K.faults sink.now) past.text } by { ReachesSink-prop failed (K.held past.start) (K.held sink.now)
             (K.faults past.start) (K.faults sink.now) past.text },
 }
 
@@ -106,7 +106,7 @@ impl<'a, K: Sink> Writer<'a, K> {
 fn hand_over<K: Sink>(sink: &mut K, bytes: &[u8], failed: bool) -> bool
     ensures stopped { failed ≡ true → (result ≡ true) × (sink.new ≡ sink.old) }
     ensures going { failed ≡ false
-        → Handed result (K.held sink.old) (K.held sink.new)
+        → ReachesSink result (K.held sink.old) (K.held sink.new)
         (K.faults sink.old) (K.faults sink.new) bytes.now }
 {
     failed || write_all(sink, bytes).is_err()

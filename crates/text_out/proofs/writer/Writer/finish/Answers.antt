@@ -11,4 +11,4 @@ returns-then-self-clause-front g c =
     let none : after.past.text ≡ after.past.text ++ after.waiting = sym (append-nil after.past.text) ∙ ap (λ (bytes : List ℕ). after.past.text ++ bytes) (sym c.flush.ensures.empty) in
     let all : after.past.text ≡ before.past.text ++ before.waiting = none ∙ written.1 ∙ append-nil (before.past.text ++ before.waiting) in
     let held = ap (λ (start : Start). start.held) written.0 in
-    rw (← held) (front_of_failed after.failed _ _ _ _ after.past.text _ after.handed c.if-self.true all)
+    rw (← held) (front_of_failed after.failed _ _ _ _ after.past.text _ after.reaches c.if-self.true all)

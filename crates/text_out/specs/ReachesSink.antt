@@ -11,9 +11,9 @@ HoldsFront (Some xs) None text = ⊥
 HoldsFront (Some xs) (Some ys) text = ys ≡ xs ++ take (length ys - length xs) text
 
 -- the sink took all of the text, or it failed, took a front of it, and its count rose
-abbrev pub Handed : Bool → Option (List ℕ) → Option (List ℕ) → ℕ → ℕ → List ℕ → Type 0
-Handed false held now faults count text = Appends held now text × (count ≡ faults)
-Handed true held now faults count text = HoldsFront held now text × Rose faults count
+abbrev pub ReachesSink : Bool → Option (List ℕ) → Option (List ℕ) → ℕ → ℕ → List ℕ → Type 0
+ReachesSink false held now faults count text = Appends held now text × (count ≡ faults)
+ReachesSink true held now faults count text = HoldsFront held now text × Rose faults count
 
 -- each of these facts has one proof
 
@@ -30,6 +30,6 @@ front-prop None now text = Unit-prop
 front-prop (Some xs) None text = λ p. absurd p
 front-prop (Some xs) (Some ys) text = same_list-prop ys (xs ++ take (length ys - length xs) text)
 
-pub Handed-prop : (failed : Bool) (held now : Option (List ℕ)) (faults count : ℕ) (text : List ℕ) → IsProp (Handed failed held now faults count text)
-Handed-prop false held now faults count text = ×_prop (appends-prop held now text) (Coded-set coded_ℕ count faults)
-Handed-prop true held now faults count text = ×_prop (front-prop held now text) le_prop
+pub ReachesSink-prop : (failed : Bool) (held now : Option (List ℕ)) (faults count : ℕ) (text : List ℕ) → IsProp (ReachesSink failed held now faults count text)
+ReachesSink-prop false held now faults count text = ×_prop (appends-prop held now text) (Coded-set coded_ℕ count faults)
+ReachesSink-prop true held now faults count text = ×_prop (front-prop held now text) le_prop

@@ -1,3 +1,3 @@
-pub mod Pieces
 pub mod Columns
 pub mod Expressions
+pub mod Sequences

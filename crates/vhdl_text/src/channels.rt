@@ -1,11 +1,9 @@
-ghost use Rattle.std.specs.Prelude.{◌≡◌, ◌==◌, OnOk, OnErr};
-ghost use Rattle.std.specs.Io.KnownBytes.{Appends};
-ghost use Rattle.io_edge.specs.Causes.{Rose, AppendsFront};
-ghost use Rattle.vhdl_text.specs.Channels.{branch_text, data_in as data_name, is_own as leads_back, part_text, parts_text};
+ghost use Rattle.std.specs.Prelude.{◌≡◌};
+ghost use Rattle.text_out.specs.Wrote.{Wrote};
+ghost use Rattle.vhdl_text.specs.Channels.{branch_text, data_in, give_lines, is_own as leads_back, part_text, parts_text, ports_in, ports_out, receive_lines, send_lines, take_line};
 
-use crate::piece::{Piece, write_pieces};
-use io_edge::{Sink, WriteFault, write_all};
 use node_automata::NodeAuto;
+use text_out::{TextWriter, write_number};
 
 /// What a node has for a channel.
 #[derive(Clone, Copy)]
@@ -31,134 +29,120 @@ fn is_own(auto: &NodeAuto, channel: u32) -> bool
     auto.puts.as_slice().contains(&channel)
 }
 
-fn data_in(own: bool) -> &'static [u8]
-    ensures { result.now ≡ data_name own }
+fn write_data_in<W: TextWriter>(own: bool, out: &mut W)
+    ensures { Wrote W.given out.old out.new (data_in own) }
 {
-    if own { b"_in" } else { b"_data" }
+    if own {
+        out.put(b"_in");
+    } else {
+        out.put(b"_data");
+    }
 }
 
-fn write_part<K: Sink>(part: Part, own: bool, channel: u32, sink: &mut K) -> Result<(), WriteFault>
-    ensures ok { OnOk result (Appends (K.held sink.old) (K.held sink.new) (part_text part own channel)) }
-    ensures quiet { OnOk result (K.faults sink.new ≡ K.faults sink.old) }
-    ensures front { OnErr result (AppendsFront (K.held sink.old) (K.held sink.new) (part_text part own channel)) }
-    ensures cause { OnErr result (Rose (K.faults sink.old) (K.faults sink.new)) }
+fn write_ports_in<W: TextWriter>(own: bool, channel: u32, out: &mut W)
+    ensures { Wrote W.given out.old out.new (ports_in own channel) }
 {
-    let number = Piece::Number(u64::from(channel));
+    out.put(b"    c");
+    write_number(channel, out);
+    out.put(b"_valid : in std_logic;\n    c");
+    write_number(channel, out);
+    write_data_in(own, out);
+    out.put(b" : in signed(63 downto 0);\n    c");
+    write_number(channel, out);
+    out.put(b"_take : out std_logic;\n");
+}
+
+fn write_ports_out<W: TextWriter>(channel: u32, out: &mut W)
+    ensures { Wrote W.given out.old out.new (ports_out channel) }
+{
+    out.put(b"    c");
+    write_number(channel, out);
+    out.put(b"_ready : in std_logic;\n    c");
+    write_number(channel, out);
+    out.put(b"_data : out signed(63 downto 0);\n    c");
+    write_number(channel, out);
+    out.put(b"_give : out std_logic;\n");
+}
+
+fn write_take_line<W: TextWriter>(channel: u32, out: &mut W)
+    ensures { Wrote W.given out.old out.new (take_line channel) }
+{
+    out.put(b"  c");
+    write_number(channel, out);
+    out.put(b"_take <= '1' when op(pc) = 1 and arg(pc) = ");
+    write_number(channel, out);
+    out.put(b" else '0';\n");
+}
+
+fn write_give_lines<W: TextWriter>(channel: u32, out: &mut W)
+    ensures { Wrote W.given out.old out.new (give_lines channel) }
+{
+    out.put(b"  c");
+    write_number(channel, out);
+    out.put(b"_data <= fired;\n  c");
+    write_number(channel, out);
+    out.put(b"_give <= '1' when op(pc) = 3 and arg(pc) = ");
+    write_number(channel, out);
+    out.put(b" else '0';\n");
+}
+
+fn write_receive_lines<W: TextWriter>(own: bool, channel: u32, out: &mut W)
+    ensures { Wrote W.given out.old out.new (receive_lines own channel) }
+{
+    out.put(b"            if arg(pc) = ");
+    write_number(channel, out);
+    out.put(b" and c");
+    write_number(channel, out);
+    out.put(b"_valid = '1' then\n              slot(dst(pc)) <= c");
+    write_number(channel, out);
+    write_data_in(own, out);
+    out.put(b";\n              pc <= pc + 1;\n            end if;\n");
+}
+
+fn write_send_lines<W: TextWriter>(channel: u32, out: &mut W)
+    ensures { Wrote W.given out.old out.new (send_lines channel) }
+{
+    out.put(b"            if arg(pc) = ");
+    write_number(channel, out);
+    out.put(b" and c");
+    write_number(channel, out);
+    out.put(b"_ready = '1' then\n              pc <= pc + 1;\n            end if;\n");
+}
+
+fn write_part<W: TextWriter>(part: Part, own: bool, channel: u32, out: &mut W)
+    ensures { Wrote W.given out.old out.new (part_text part own channel) }
+{
     match part {
-        Part::PortsIn => {
-            let pieces = [
-                Piece::Text(b"    c"),
-                number,
-                Piece::Text(b"_valid : in std_logic;\n"),
-                Piece::Text(b"    c"),
-                number,
-                Piece::Text(data_in(own)),
-                Piece::Text(b" : in signed(63 downto 0);\n"),
-                Piece::Text(b"    c"),
-                number,
-                Piece::Text(b"_take : out std_logic;\n"),
-            ];
-            write_pieces(&pieces, sink)
-        }
-        Part::PortsOut => {
-            let pieces = [
-                Piece::Text(b"    c"),
-                number,
-                Piece::Text(b"_ready : in std_logic;\n"),
-                Piece::Text(b"    c"),
-                number,
-                Piece::Text(b"_data : out signed(63 downto 0);\n"),
-                Piece::Text(b"    c"),
-                number,
-                Piece::Text(b"_give : out std_logic;\n"),
-            ];
-            write_pieces(&pieces, sink)
-        }
-        Part::Take => {
-            let pieces = [
-                Piece::Text(b"  c"),
-                number,
-                Piece::Text(b"_take <= '1' when op(pc) = 1 and arg(pc) = "),
-                number,
-                Piece::Text(b" else '0';\n"),
-            ];
-            write_pieces(&pieces, sink)
-        }
-        Part::Give => {
-            let pieces = [
-                Piece::Text(b"  c"),
-                number,
-                Piece::Text(b"_data <= fired;\n"),
-                Piece::Text(b"  c"),
-                number,
-                Piece::Text(b"_give <= '1' when op(pc) = 3 and arg(pc) = "),
-                number,
-                Piece::Text(b" else '0';\n"),
-            ];
-            write_pieces(&pieces, sink)
-        }
-        Part::Receive => {
-            let pieces = [
-                Piece::Text(b"            if arg(pc) = "),
-                number,
-                Piece::Text(b" and c"),
-                number,
-                Piece::Text(b"_valid = '1' then\n"),
-                Piece::Text(b"              slot(dst(pc)) <= c"),
-                number,
-                Piece::Text(data_in(own)),
-                Piece::Text(b";\n"),
-                Piece::Text(b"              pc <= pc + 1;\n            end if;\n"),
-            ];
-            write_pieces(&pieces, sink)
-        }
-        Part::Send => {
-            let pieces = [
-                Piece::Text(b"            if arg(pc) = "),
-                number,
-                Piece::Text(b" and c"),
-                number,
-                Piece::Text(b"_ready = '1' then\n"),
-                Piece::Text(b"              pc <= pc + 1;\n            end if;\n"),
-            ];
-            write_pieces(&pieces, sink)
-        }
+        Part::PortsIn => write_ports_in(own, channel, out),
+        Part::PortsOut => write_ports_out(channel, out),
+        Part::Take => write_take_line(channel, out),
+        Part::Give => write_give_lines(channel, out),
+        Part::Receive => write_receive_lines(own, channel, out),
+        Part::Send => write_send_lines(channel, out),
     }
 }
 
 /// Writes a part for each of these channels.
-pub(crate) fn write_parts<K: Sink>(
-    part: Part,
-    auto: &NodeAuto,
-    channels: &[u32],
-    sink: &mut K,
-) -> Result<(), WriteFault>
-    ensures ok { OnOk result (Appends (K.held sink.old) (K.held sink.new) (parts_text part auto.now channels.now)) }
-    ensures quiet { OnOk result (K.faults sink.new ≡ K.faults sink.old) }
-    ensures front { OnErr result (AppendsFront (K.held sink.old) (K.held sink.new) (parts_text part auto.now channels.now)) }
-    ensures cause { OnErr result (Rose (K.faults sink.old) (K.faults sink.new)) }
+pub(crate) fn write_parts<W: TextWriter>(part: Part, auto: &NodeAuto, channels: &[u32], out: &mut W)
+    ensures { Wrote W.given out.old out.new (parts_text part auto.now channels.now) }
 {
     for channel in channels {
-        write_part(part, is_own(auto, *channel), *channel, sink)?;
+        write_part(part, is_own(auto, *channel), *channel, out);
     }
-    Ok(())
 }
 
 /// Writes the same as a branch of the case statement, which isn't empty where there is no channel.
-pub(crate) fn write_branch<K: Sink>(
+pub(crate) fn write_branch<W: TextWriter>(
     part: Part,
     auto: &NodeAuto,
     channels: &[u32],
-    sink: &mut K,
-) -> Result<(), WriteFault>
-    ensures ok { OnOk result (Appends (K.held sink.old) (K.held sink.new) (branch_text part auto.now channels.now)) }
-    ensures quiet { OnOk result (K.faults sink.new ≡ K.faults sink.old) }
-    ensures front { OnErr result (AppendsFront (K.held sink.old) (K.held sink.new) (branch_text part auto.now channels.now)) }
-    ensures cause { OnErr result (Rose (K.faults sink.old) (K.faults sink.new)) }
+    out: &mut W,
+)
+    ensures { Wrote W.given out.old out.new (branch_text part auto.now channels.now) }
 {
     if channels.is_empty() {
-        write_all(sink, b"            null;\n")
+        out.put(b"            null;\n");
     } else {
-        write_parts(part, auto, channels, sink)
+        write_parts(part, auto, channels, out);
     }
 }

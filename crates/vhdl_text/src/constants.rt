@@ -1,17 +1,16 @@
-ghost use Rattle.std.specs.Prelude.{◌≡◌, ◌+◌, ◌<◌, ◌++◌, ◌^◌, pos, codes, count_by, decimal, length, slice_get, slice_index_or, OnOk, OnErr};
-ghost use Rattle.std.specs.Io.KnownBytes.{Appends};
-ghost use Rattle.io_edge.specs.Causes.{Rose, AppendsFront};
+ghost use Rattle.std.specs.Prelude.{◌≡◌, ◌+◌, ◌<◌, ◌++◌, ◌^◌, pos, codes, count_by, decimal, length, slice_get, slice_index_or};
 ghost use Rattle.net_core.specs.Shape.{is_fire};
-ghost use Rattle.vhdl_text.specs.Constants.{column_values, dst_of as slot_of_event, event_constant, last_of as last_value, name_of, op_of as kind_of_event, read_constants, slot_text, variable_constant, variable_values};
-ghost use Rattle.vhdl_text.specs.Pieces.{arg_of as arg_of_event, entries_from, entry_comma, event_entry, event_entries, fires_after as fires_behind, head_text, piece_text, tail_text};
-ghost use Rattle.vhdl_text.specs.Constants.{variable_constants};
+ghost use Rattle.text_out.specs.Wrote.{Wrote};
+ghost use Rattle.text_out.specs.Words.{word_text};
+ghost use Rattle.vhdl_text.specs.Constants.{column_values, dst_of as slot_of_event, event_constant, last_of as last_value, name_of, op_of as kind_of_event, read_constants, slot_text, variable_constant, variable_constants, variable_values};
+ghost use Rattle.vhdl_text.specs.Pieces.{arg_of as arg_of_event, entries_from, entry_comma, event_entry, event_entries, fires_after as fires_behind, head_text, tail_text};
 ghost use Rattle.vhdl_text.specs.Literals.{literal};
 
-use crate::piece::{Piece, write_pieces};
+use crate::literal::literal as literal_of;
 use affine_core::Vector;
-use io_edge::{Sink, WriteFault};
 use net_core::{Event, Ref, Refs};
 use node_automata::NodeAuto;
+use text_out::{TextWriter, Word, write_number, write_word};
 
 /// A constant array over the events or the fires of a node.
 #[derive(Clone, Copy)]
@@ -55,12 +54,12 @@ fn dst_of(event: &Event) -> u64
 }
 
 /// The slot that a fire names for a read, or -1 where it names no token.
-fn slot_of(refs: &Refs, read: u32) -> Piece<'static>
-    ensures { piece_text result ≡ slot_text (slice_get refs.now read) }
+fn slot_of(refs: &Refs, read: u32) -> Word<'static>
+    ensures { word_text result ≡ slot_text (slice_get refs.now read) }
 {
     match refs.as_slice().get(read as usize) {
-        Some(Ref::Slot(slot)) => Piece::Number(u64::from(*slot)),
-        Some(Ref::Zero) | None => Piece::Text(b"-1"),
+        Some(Ref::Slot(slot)) => Word::Number(u64::from(*slot)),
+        Some(Ref::Zero) | None => Word::Text(b"-1"),
     }
 }
 
@@ -101,165 +100,109 @@ fn value_count(column: Column, events: &[Event]) -> u64
 }
 
 /// Writes an entry that another follows.
-fn write_entry<K: Sink>(index: u64, value: Piece, sink: &mut K) -> Result<(), WriteFault>
-    ensures ok { OnOk result (Appends (K.held sink.old) (K.held sink.new) (entry_comma (index, piece_text value.entry))) }
-    ensures quiet { OnOk result (K.faults sink.new ≡ K.faults sink.old) }
-    ensures front { OnErr result (AppendsFront (K.held sink.old) (K.held sink.new) (entry_comma (index, piece_text value.entry))) }
-    ensures cause { OnErr result (Rose (K.faults sink.old) (K.faults sink.new)) }
+fn write_entry<W: TextWriter>(index: u64, value: Word, out: &mut W)
+    ensures { Wrote W.given out.old out.new (entry_comma (index, word_text value.entry)) }
 {
-    let pieces = [
-        Piece::Number(index),
-        Piece::Text(b" => "),
-        value,
-        Piece::Text(b", "),
-    ];
-    write_pieces(&pieces, sink)
+    write_number(index, out);
+    out.put(b" => ");
+    write_word(value, out);
+    out.put(b", ");
 }
 
 /// Writes the entry of an event of this index, before which so many fires stand.
-fn write_event_entry<K: Sink>(
+fn write_event_entry<W: TextWriter>(
     column: Column,
     index: u64,
     fires: u64,
     event: &Event,
-    sink: &mut K,
-) -> Result<(), WriteFault>
-    ensures ok { OnOk result (Appends (K.held sink.old) (K.held sink.new) (event_entry column index fires event.now)) }
-    ensures quiet { OnOk result (K.faults sink.new ≡ K.faults sink.old) }
-    ensures front { OnErr result (AppendsFront (K.held sink.old) (K.held sink.new) (event_entry column index fires event.now)) }
-    ensures cause { OnErr result (Rose (K.faults sink.old) (K.faults sink.new)) }
+    out: &mut W,
+)
+    ensures { Wrote W.given out.old out.new (event_entry column index fires event.now) }
 {
     match column {
-        Column::Op => write_entry(index, Piece::Number(op_of(event)), sink),
-        Column::Arg => write_entry(index, Piece::Number(arg_of(event, fires)), sink),
-        Column::Dst => write_entry(index, Piece::Number(dst_of(event)), sink),
-        Column::Read(read) => match event {
-            Event::Fire { refs } => write_entry(fires, slot_of(refs, read), sink),
-            Event::Get { .. } => Ok(()),
-            Event::Put { .. } => Ok(()),
-        },
+        Column::Op => write_entry(index, Word::Number(op_of(event)), out),
+        Column::Arg => write_entry(index, Word::Number(arg_of(event, fires)), out),
+        Column::Dst => write_entry(index, Word::Number(dst_of(event)), out),
+        Column::Read(read) => {
+            if let Event::Fire { refs } = event {
+                write_entry(fires, slot_of(refs, read), out);
+            }
+        }
     }
 }
 
-fn write_event_entries<K: Sink>(
-    column: Column,
-    events: &[Event],
-    sink: &mut K,
-) -> Result<(), WriteFault>
-    ensures ok { OnOk result (Appends (K.held sink.old) (K.held sink.new) (event_entries column 0 0 events.now)) }
-    ensures quiet { OnOk result (K.faults sink.new ≡ K.faults sink.old) }
-    ensures front { OnErr result (AppendsFront (K.held sink.old) (K.held sink.new) (event_entries column 0 0 events.now)) }
-    ensures cause { OnErr result (Rose (K.faults sink.old) (K.faults sink.new)) }
+fn write_event_entries<W: TextWriter>(column: Column, events: &[Event], out: &mut W)
+    ensures { Wrote W.given out.old out.new (event_entries column 0 0 events.now) }
 {
     let mut fires = 0;
     for (index, event) in events.iter().enumerate() {
-        write_event_entry(column, index as u64, fires, event, sink)?;
+        write_event_entry(column, index as u64, fires, event, out);
         fires = fires_after(fires, event);
     }
-    Ok(())
+}
+
+fn write_name<W: TextWriter>(column: Column, out: &mut W)
+    ensures { Wrote W.given out.old out.new (name_of column) }
+{
+    match column {
+        Column::Op => out.put(b"op"),
+        Column::Arg => out.put(b"arg"),
+        Column::Dst => out.put(b"dst"),
+        Column::Read(read) => {
+            out.put(b"r");
+            write_number(read, out);
+        }
+    }
 }
 
 /// Writes a constant's name, its type and its range.
-fn write_head<K: Sink>(column: Column, count: u64, sink: &mut K) -> Result<(), WriteFault>
-    ensures ok { OnOk result (Appends (K.held sink.old) (K.held sink.new) (head_text (name_of column) (codes "codes") count)) }
-    ensures quiet { OnOk result (K.faults sink.new ≡ K.faults sink.old) }
-    ensures front { OnErr result (AppendsFront (K.held sink.old) (K.held sink.new) (head_text (name_of column) (codes "codes") count)) }
-    ensures cause { OnErr result (Rose (K.faults sink.old) (K.faults sink.new)) }
+fn write_head<W: TextWriter>(column: Column, count: u64, out: &mut W)
+    ensures { Wrote W.given out.old out.new (head_text (name_of column) (codes "codes") count) }
 {
-    let count = Piece::Number(count);
-    let range_end = Piece::Text(b") := (");
-    match column {
-        Column::Op => {
-            let pieces = [
-                Piece::Text(b"  constant op : codes(0 to "),
-                count,
-                range_end,
-            ];
-            write_pieces(&pieces, sink)
-        }
-        Column::Arg => {
-            let pieces = [
-                Piece::Text(b"  constant arg : codes(0 to "),
-                count,
-                range_end,
-            ];
-            write_pieces(&pieces, sink)
-        }
-        Column::Dst => {
-            let pieces = [
-                Piece::Text(b"  constant dst : codes(0 to "),
-                count,
-                range_end,
-            ];
-            write_pieces(&pieces, sink)
-        }
-        Column::Read(read) => {
-            let pieces = [
-                Piece::Text(b"  constant r"),
-                Piece::Number(u64::from(read)),
-                Piece::Text(b" : codes(0 to "),
-                count,
-                range_end,
-            ];
-            write_pieces(&pieces, sink)
-        }
-    }
+    out.put(b"  constant ");
+    write_name(column, out);
+    out.put(b" : codes(0 to ");
+    write_number(count, out);
+    out.put(b") := (");
 }
 
-fn last_of(column: Column) -> Piece<'static>
-    ensures { piece_text result ≡ last_value column }
+fn last_of(column: Column) -> Word<'static>
+    ensures { word_text result ≡ last_value column }
 {
     match column {
-        Column::Op | Column::Arg | Column::Dst => Piece::Text(b"0"),
-        Column::Read(_) => Piece::Text(b"-1"),
+        Column::Op | Column::Arg | Column::Dst => Word::Text(b"0"),
+        Column::Read(_) => Word::Text(b"-1"),
     }
 }
 
 /// Writes the last entry of a constant.
-fn write_tail<K: Sink>(index: u64, value: Piece, sink: &mut K) -> Result<(), WriteFault>
-    ensures ok { OnOk result (Appends (K.held sink.old) (K.held sink.new) (tail_text index (piece_text value.entry))) }
-    ensures quiet { OnOk result (K.faults sink.new ≡ K.faults sink.old) }
-    ensures front { OnErr result (AppendsFront (K.held sink.old) (K.held sink.new) (tail_text index (piece_text value.entry))) }
-    ensures cause { OnErr result (Rose (K.faults sink.old) (K.faults sink.new)) }
+fn write_tail<W: TextWriter>(index: u64, value: Word, out: &mut W)
+    ensures { Wrote W.given out.old out.new (tail_text index (word_text value.entry)) }
 {
-    let pieces = [
-        Piece::Number(index),
-        Piece::Text(b" => "),
-        value,
-        Piece::Text(b");\n"),
-    ];
-    write_pieces(&pieces, sink)
+    write_number(index, out);
+    out.put(b" => ");
+    write_word(value, out);
+    out.put(b");\n");
 }
 
 /// Writes the constant of a column.
-pub(crate) fn write_column<K: Sink>(
-    column: Column,
-    auto: &NodeAuto,
-    sink: &mut K,
-) -> Result<(), WriteFault>
-    ensures ok { OnOk result (Appends (K.held sink.old) (K.held sink.new) (event_constant column auto.now)) }
-    ensures quiet { OnOk result (K.faults sink.new ≡ K.faults sink.old) }
-    ensures front { OnErr result (AppendsFront (K.held sink.old) (K.held sink.new) (event_constant column auto.now)) }
-    ensures cause { OnErr result (Rose (K.faults sink.old) (K.faults sink.new)) }
+pub(crate) fn write_column<W: TextWriter>(column: Column, auto: &NodeAuto, out: &mut W)
+    ensures { Wrote W.given out.old out.new (event_constant column auto.now) }
 {
     let events = auto.events.as_slice();
     let count = value_count(column, events);
-    write_head(column, count, sink)?;
-    write_event_entries(column, events, sink)?;
-    write_tail(count, last_of(column), sink)
+    write_head(column, count, out);
+    write_event_entries(column, events, out);
+    write_tail(count, last_of(column), out);
 }
 
 /// Writes the constants of the reads.
-pub(crate) fn write_reads<K: Sink>(auto: &NodeAuto, sink: &mut K) -> Result<(), WriteFault>
-    ensures ok { OnOk result (Appends (K.held sink.old) (K.held sink.new) (read_constants auto.now)) }
-    ensures quiet { OnOk result (K.faults sink.new ≡ K.faults sink.old) }
-    ensures front { OnErr result (AppendsFront (K.held sink.old) (K.held sink.new) (read_constants auto.now)) }
-    ensures cause { OnErr result (Rose (K.faults sink.old) (K.faults sink.new)) }
+pub(crate) fn write_reads<W: TextWriter>(auto: &NodeAuto, out: &mut W)
+    ensures { Wrote W.given out.old out.new (read_constants auto.now) }
 {
     for read in 0..auto.reads {
-        write_column(Column::Read(read), auto, sink)?;
+        write_column(Column::Read(read), auto, out);
     }
-    Ok(())
 }
 
 /// The value of the loop of this number, or 0 where there is none.
@@ -272,77 +215,51 @@ fn value_at(at: &Vector, number: u32) -> i64
     }
 }
 
-/// Writes the entry of a loop value, which another follows.
-fn write_point_entry<K: Sink>(index: u64, value: i64, sink: &mut K) -> Result<(), WriteFault>
-    ensures ok { OnOk result (Appends (K.held sink.old) (K.held sink.new) (entry_comma (index, literal value))) }
-    ensures quiet { OnOk result (K.faults sink.new ≡ K.faults sink.old) }
-    ensures front { OnErr result (AppendsFront (K.held sink.old) (K.held sink.new) (entry_comma (index, literal value))) }
-    ensures cause { OnErr result (Rose (K.faults sink.old) (K.faults sink.new)) }
+/// Writes the entry of a loop's value at a point, which another follows.
+fn write_point_entry<W: TextWriter>(index: usize, number: u32, at: &Vector, out: &mut W)
+    ensures { Wrote W.given out.old out.new (entry_comma (index, literal (slice_index_or at.now number (pos 0)))) }
 {
-    let pieces = [
-        Piece::Number(index),
-        Piece::Text(b" => "),
-        Piece::Literal(value),
-        Piece::Text(b", "),
-    ];
-    write_pieces(&pieces, sink)
+    write_entry(
+        index as u64,
+        Word::Text(&literal_of(value_at(at, number))),
+        out,
+    );
 }
 
-fn write_point_entries<K: Sink>(
-    number: u32,
-    values: &[Vector],
-    sink: &mut K,
-) -> Result<(), WriteFault>
-    ensures ok { OnOk result (Appends (K.held sink.old) (K.held sink.new) (entries_from 0 (variable_values number values.now))) }
-    ensures quiet { OnOk result (K.faults sink.new ≡ K.faults sink.old) }
-    ensures front { OnErr result (AppendsFront (K.held sink.old) (K.held sink.new) (entries_from 0 (variable_values number values.now))) }
-    ensures cause { OnErr result (Rose (K.faults sink.old) (K.faults sink.new)) }
+fn write_point_entries<W: TextWriter>(number: u32, values: &[Vector], out: &mut W)
+    ensures { Wrote W.given out.old out.new (entries_from 0 (variable_values number values.now)) }
 {
     for (index, at) in values.iter().enumerate() {
-        write_point_entry(index as u64, value_at(at, number), sink)?;
+        write_point_entry(index, number, at, out);
     }
-    Ok(())
 }
 
-fn write_variable_head<K: Sink>(number: u32, count: u64, sink: &mut K) -> Result<(), WriteFault>
-    ensures ok { OnOk result (Appends (K.held sink.old) (K.held sink.new) (head_text (codes "v" ++ decimal number) (codes "words") count)) }
-    ensures quiet { OnOk result (K.faults sink.new ≡ K.faults sink.old) }
-    ensures front { OnErr result (AppendsFront (K.held sink.old) (K.held sink.new) (head_text (codes "v" ++ decimal number) (codes "words") count)) }
-    ensures cause { OnErr result (Rose (K.faults sink.old) (K.faults sink.new)) }
+fn write_variable_head<W: TextWriter>(number: u32, count: u64, out: &mut W)
+    ensures { Wrote W.given out.old out.new (head_text (codes "v" ++ decimal number) (codes "words") count) }
 {
-    let pieces = [
-        Piece::Text(b"  constant v"),
-        Piece::Number(u64::from(number)),
-        Piece::Text(b" : words(0 to "),
-        Piece::Number(count),
-        Piece::Text(b") := ("),
-    ];
-    write_pieces(&pieces, sink)
+    out.put(b"  constant v");
+    write_number(number, out);
+    out.put(b" : words(0 to ");
+    write_number(count, out);
+    out.put(b") := (");
 }
 
 /// Writes the constant of a loop variable.
-fn write_variable<K: Sink>(number: u32, auto: &NodeAuto, sink: &mut K) -> Result<(), WriteFault>
-    ensures ok { OnOk result (Appends (K.held sink.old) (K.held sink.new) (variable_constant number auto.now)) }
-    ensures quiet { OnOk result (K.faults sink.new ≡ K.faults sink.old) }
-    ensures front { OnErr result (AppendsFront (K.held sink.old) (K.held sink.new) (variable_constant number auto.now)) }
-    ensures cause { OnErr result (Rose (K.faults sink.old) (K.faults sink.new)) }
+fn write_variable<W: TextWriter>(number: u32, auto: &NodeAuto, out: &mut W)
+    ensures { Wrote W.given out.old out.new (variable_constant number auto.now) }
 {
     let values = auto.values.as_slice();
     let count = values.len() as u64;
-    write_variable_head(number, count, sink)?;
-    write_point_entries(number, values, sink)?;
-    write_tail(count, Piece::Literal(0), sink)
+    write_variable_head(number, count, out);
+    write_point_entries(number, values, out);
+    write_tail(count, Word::Text(&literal_of(0)), out);
 }
 
 /// Writes the constants of the loop variables.
-pub(crate) fn write_variables<K: Sink>(auto: &NodeAuto, sink: &mut K) -> Result<(), WriteFault>
-    ensures ok { OnOk result (Appends (K.held sink.old) (K.held sink.new) (variable_constants auto.now)) }
-    ensures quiet { OnOk result (K.faults sink.new ≡ K.faults sink.old) }
-    ensures front { OnErr result (AppendsFront (K.held sink.old) (K.held sink.new) (variable_constants auto.now)) }
-    ensures cause { OnErr result (Rose (K.faults sink.old) (K.faults sink.new)) }
+pub(crate) fn write_variables<W: TextWriter>(auto: &NodeAuto, out: &mut W)
+    ensures { Wrote W.given out.old out.new (variable_constants auto.now) }
 {
     for number in 0..auto.depth {
-        write_variable(number, auto, sink)?;
+        write_variable(number, auto, out);
     }
-    Ok(())
 }

@@ -1,112 +1,84 @@
-ghost use Rattle.std.specs.Prelude.{◌≡◌, ◌++◌, OnOk, OnErr};
-ghost use Rattle.std.specs.Io.KnownBytes.{Appends};
-ghost use Rattle.io_edge.specs.Causes.{Rose, AppendsFront};
+ghost use Rattle.std.specs.Prelude.{◌++◌};
+ghost use Rattle.text_out.specs.Wrote.{Wrote};
 ghost use Rattle.vhdl_text.specs.Expressions.{constant, expr_text, last_operand, read_value, variable};
 
-use crate::piece::{Piece, write_pieces};
-use io_edge::{Sink, WriteFault, write_all};
+use crate::literal::write_literal;
+use text_out::{TextWriter, write_number};
 use wrap_expr::Expr;
 
 /// Writes an operand behind a text.
 #[cycle(write_expr)]
-fn write_first<K: Sink>(before: &[u8], a: &Expr, sink: &mut K) -> Result<(), WriteFault>
-    ensures ok { OnOk result (Appends (K.held sink.old) (K.held sink.new) (before.now ++ expr_text a.now)) }
-    ensures quiet { OnOk result (K.faults sink.new ≡ K.faults sink.old) }
-    ensures front { OnErr result (AppendsFront (K.held sink.old) (K.held sink.new) (before.now ++ expr_text a.now)) }
-    ensures cause { OnErr result (Rose (K.faults sink.old) (K.faults sink.new)) }
+fn write_first<W: TextWriter>(before: &[u8], a: &Expr, out: &mut W)
+    ensures { Wrote W.given out.old out.new (before.now ++ expr_text a.now) }
 {
-    write_all(sink, before)?;
-    write_expr(a, sink)
+    out.put(before);
+    write_expr(a, out);
 }
 
 /// Writes an operand behind a text, and a parenthesis.
 #[cycle(write_expr)]
-fn write_last<K: Sink>(before: &[u8], a: &Expr, sink: &mut K) -> Result<(), WriteFault>
-    ensures ok { OnOk result (Appends (K.held sink.old) (K.held sink.new) (last_operand before.now (expr_text a.now))) }
-    ensures quiet { OnOk result (K.faults sink.new ≡ K.faults sink.old) }
-    ensures front { OnErr result (AppendsFront (K.held sink.old) (K.held sink.new) (last_operand before.now (expr_text a.now))) }
-    ensures cause { OnErr result (Rose (K.faults sink.old) (K.faults sink.new)) }
+fn write_last<W: TextWriter>(before: &[u8], a: &Expr, out: &mut W)
+    ensures { Wrote W.given out.old out.new (last_operand before.now (expr_text a.now)) }
 {
-    write_all(sink, before)?;
-    write_expr(a, sink)?;
-    write_all(sink, b")")
+    out.put(before);
+    write_expr(a, out);
+    out.put(b")");
 }
 
 /// Writes an expression. Its stack grows with the depth of the expression.
 #[cycle(write_expr)]
-pub(crate) fn write_expr<K: Sink>(expr: &Expr, sink: &mut K) -> Result<(), WriteFault>
-    ensures ok { OnOk result (Appends (K.held sink.old) (K.held sink.new) (expr_text expr.now)) }
-    ensures quiet { OnOk result (K.faults sink.new ≡ K.faults sink.old) }
-    ensures front { OnErr result (AppendsFront (K.held sink.old) (K.held sink.new) (expr_text expr.now)) }
-    ensures cause { OnErr result (Rose (K.faults sink.old) (K.faults sink.new)) }
+pub(crate) fn write_expr<W: TextWriter>(expr: &Expr, out: &mut W)
+    ensures { Wrote W.given out.old out.new (expr_text expr.now) }
 {
     match expr {
-        Expr::Const(value) => write_constant(*value, sink),
-        Expr::Var(number) => write_variable(*number, sink),
-        Expr::Read(slot) => write_read(*slot, sink),
-        Expr::Given => write_all(sink, b"given"),
+        Expr::Const(value) => write_constant(*value, out),
+        Expr::Var(number) => write_variable(*number, out),
+        Expr::Read(slot) => write_read(*slot, out),
+        Expr::Given => out.put(b"given"),
         Expr::Add(a, b) => {
-            write_first(b"(", a.get(), sink)?;
-            write_last(b" + ", b.get(), sink)
+            write_first(b"(", a.get(), out);
+            write_last(b" + ", b.get(), out);
         }
         Expr::Sub(a, b) => {
-            write_first(b"(", a.get(), sink)?;
-            write_last(b" - ", b.get(), sink)
+            write_first(b"(", a.get(), out);
+            write_last(b" - ", b.get(), out);
         }
         Expr::Mul(a, b) => {
-            write_first(b"mul(", a.get(), sink)?;
-            write_last(b", ", b.get(), sink)
+            write_first(b"mul(", a.get(), out);
+            write_last(b", ", b.get(), out);
         }
         Expr::Min(a, b) => {
-            write_first(b"least(", a.get(), sink)?;
-            write_last(b", ", b.get(), sink)
+            write_first(b"least(", a.get(), out);
+            write_last(b", ", b.get(), out);
         }
         Expr::Max(a, b) => {
-            write_first(b"most(", a.get(), sink)?;
-            write_last(b", ", b.get(), sink)
+            write_first(b"most(", a.get(), out);
+            write_last(b", ", b.get(), out);
         }
-        Expr::Neg(a) => write_last(b"(zero - ", a.get(), sink),
+        Expr::Neg(a) => write_last(b"(zero - ", a.get(), out),
     }
 }
 
-fn write_constant<K: Sink>(value: i64, sink: &mut K) -> Result<(), WriteFault>
-    ensures ok { OnOk result (Appends (K.held sink.old) (K.held sink.new) (constant value)) }
-    ensures quiet { OnOk result (K.faults sink.new ≡ K.faults sink.old) }
-    ensures front { OnErr result (AppendsFront (K.held sink.old) (K.held sink.new) (constant value)) }
-    ensures cause { OnErr result (Rose (K.faults sink.old) (K.faults sink.new)) }
+fn write_constant<W: TextWriter>(value: i64, out: &mut W)
+    ensures { Wrote W.given out.old out.new (constant value) }
 {
-    let pieces = [
-        Piece::Text(b"signed'("),
-        Piece::Literal(value),
-        Piece::Text(b")"),
-    ];
-    write_pieces(&pieces, sink)
+    out.put(b"signed'(");
+    write_literal(value, out);
+    out.put(b")");
 }
 
-fn write_variable<K: Sink>(number: u32, sink: &mut K) -> Result<(), WriteFault>
-    ensures ok { OnOk result (Appends (K.held sink.old) (K.held sink.new) (variable number)) }
-    ensures quiet { OnOk result (K.faults sink.new ≡ K.faults sink.old) }
-    ensures front { OnErr result (AppendsFront (K.held sink.old) (K.held sink.new) (variable number)) }
-    ensures cause { OnErr result (Rose (K.faults sink.old) (K.faults sink.new)) }
+fn write_variable<W: TextWriter>(number: u32, out: &mut W)
+    ensures { Wrote W.given out.old out.new (variable number) }
 {
-    let pieces = [
-        Piece::Text(b"v"),
-        Piece::Number(u64::from(number)),
-        Piece::Text(b"(arg(pc))"),
-    ];
-    write_pieces(&pieces, sink)
+    out.put(b"v");
+    write_number(number, out);
+    out.put(b"(arg(pc))");
 }
 
-fn write_read<K: Sink>(slot: u32, sink: &mut K) -> Result<(), WriteFault>
-    ensures ok { OnOk result (Appends (K.held sink.old) (K.held sink.new) (read_value slot)) }
-    ensures quiet { OnOk result (K.faults sink.new ≡ K.faults sink.old) }
-    ensures front { OnErr result (AppendsFront (K.held sink.old) (K.held sink.new) (read_value slot)) }
-    ensures cause { OnErr result (Rose (K.faults sink.old) (K.faults sink.new)) }
+fn write_read<W: TextWriter>(slot: u32, out: &mut W)
+    ensures { Wrote W.given out.old out.new (read_value slot) }
 {
-    let pieces = [
-        Piece::Text(b"pick(slot, r"),
-        Piece::Number(u64::from(slot)),
-        Piece::Text(b"(arg(pc)))"),
-    ];
-    write_pieces(&pieces, sink)
+    out.put(b"pick(slot, r");
+    write_number(slot, out);
+    out.put(b"(arg(pc)))");
 }

@@ -5,8 +5,8 @@ mod channels;
 mod constants;
 mod error;
 mod expression;
+mod literal;
 mod node;
-mod piece;
 #[cfg(test)]
 mod tests;
 mod text;

@@ -11,6 +11,7 @@ use plain_data::{Boxed, Items};
 use sanlp::Role;
 use std::alloc::{AllocError, Global};
 use std::test::Fail;
+use text_out::Writer;
 use wrap_expr::Expr;
 
 fn write_lines(want: &mut MemSink, lines: &[&[u8]]) -> Result<(), WriteFault> {
@@ -300,10 +301,17 @@ fn own_channel(alloc: Global) -> Result<NodeAuto, AllocError> {
     Ok(auto)
 }
 
+/// Writes the text of a node.
+fn node(auto: &NodeAuto, text: &mut MemSink) -> Result<(), WriteFault> {
+    let mut out = Writer::new(text);
+    write_node(auto, &mut out);
+    out.finish()
+}
+
 #[test]
 fn a_node_is_an_entity_with_its_architecture(rt: HostRuntime) -> Result<(), Fail> {
     let mut text = MemSink::new(rt.alloc(), 10_000, 10_000, &[])?;
-    assert_eq!(rt; write_node(&assign(rt.alloc())?, &mut text), Ok(()));
+    assert_eq!(rt; node(&assign(rt.alloc())?, &mut text), Ok(()));
     let mut want = MemSink::new(rt.alloc(), 10_000, 10_000, &[])?;
     assert_eq!(rt; write_all(&mut want, b"\n"), Ok(()));
     assert_eq!(rt; entity(&mut want), Ok(()));
@@ -329,7 +337,7 @@ fn has(text: &[u8], part: &[u8]) -> bool {
 #[test]
 fn a_source_is_given_its_values(rt: HostRuntime) -> Result<(), Fail> {
     let mut text = MemSink::new(rt.alloc(), 10_000, 10_000, &[])?;
-    assert_eq!(rt; write_node(&source(rt.alloc())?, &mut text), Ok(()));
+    assert_eq!(rt; node(&source(rt.alloc())?, &mut text), Ok(()));
     for part in [
         b"    rst : in std_logic;\n    given : in signed(63 downto 0);\n    given_take : out std_logic;\n    c0_ready : in".as_slice(),
         b"begin\n  given_take <= '1' when op(pc) = 2 else '0';\n  c0_data <= fired;\n".as_slice(),
@@ -343,7 +351,7 @@ fn a_source_is_given_its_values(rt: HostRuntime) -> Result<(), Fail> {
 #[test]
 fn a_sink_gives_its_result_out(rt: HostRuntime) -> Result<(), Fail> {
     let mut text = MemSink::new(rt.alloc(), 10_000, 10_000, &[])?;
-    assert_eq!(rt; write_node(&sink(rt.alloc())?, &mut text), Ok(()));
+    assert_eq!(rt; node(&sink(rt.alloc())?, &mut text), Ok(()));
     for part in [
         b"    rst : in std_logic;\n    result : out signed(63 downto 0);\n    result_give : out std_logic;\n    c1_valid : in".as_slice(),
         b"  signal fired : signed(63 downto 0);\n  signal gave : std_logic := '0';\n  function".as_slice(),
@@ -359,7 +367,7 @@ fn a_sink_gives_its_result_out(rt: HostRuntime) -> Result<(), Fail> {
 #[test]
 fn a_channel_to_itself_has_another_name_where_it_comes_in(rt: HostRuntime) -> Result<(), Fail> {
     let mut text = MemSink::new(rt.alloc(), 10_000, 10_000, &[])?;
-    assert_eq!(rt; write_node(&own_channel(rt.alloc())?, &mut text), Ok(()));
+    assert_eq!(rt; node(&own_channel(rt.alloc())?, &mut text), Ok(()));
     for part in [
         b"    c2_data : in signed(63 downto 0);\n    c2_take".as_slice(),
         b"    c4_in : in signed(63 downto 0);\n    c4_take".as_slice(),
@@ -448,15 +456,15 @@ fn the_first_script_that_is_too_long_is_told(rt: HostRuntime) -> Result<(), Fail
 #[test]
 fn a_sink_that_fails_midway_holds_a_front(rt: HostRuntime) -> Result<(), Fail> {
     let alloc = rt.alloc();
-    // The room, the call that fails, and what is held then.
+    // The room, the call that fails, and what is held then, where a call takes 10 bytes.
     for (room, failing, held) in [
         (0, 99, b"".as_slice()),
         (12, 99, b"-- compaan v".as_slice()),
         (500, 0, b"".as_slice()),
-        (500, 1, b"-- compaan vhdl 1\n".as_slice()),
+        (500, 1, b"-- compaan".as_slice()),
         (500, 3, b"-- compaan vhdl 1\n-- channel 0".as_slice()),
     ] {
-        let mut text = MemSink::new(alloc, room, 100, &[failing])?;
+        let mut text = MemSink::new(alloc, room, 10, &[failing])?;
         let answer = write_vhdl(&network(alloc)?, &[], &mut text);
         assert_eq!(rt; answer, Err(VhdlError::WriteFault));
         assert_eq!(rt; text.held(), held, "{room} {failing}");
@@ -479,7 +487,9 @@ fn nested(alloc: Global, pairs: u32) -> Result<Expr, AllocError> {
 fn an_expression_of_8192_levels_is_written(rt: HostRuntime) -> Result<(), Fail> {
     let expr = nested(rt.alloc(), 4096)?;
     let mut text = MemSink::new(rt.alloc(), 200_000, 200_000, &[])?;
-    assert_eq!(rt; write_expr(&expr, &mut text), Ok(()));
+    let mut out = Writer::new(&mut text);
+    write_expr(&expr, &mut out);
+    assert_eq!(rt; out.finish(), Ok(()));
     assert_eq!(rt; text.held().len(), 42 * 4096 + 11);
     Ok(())
 }

@@ -1,17 +1,16 @@
-ghost use Rattle.std.specs.Prelude.{◌≡◌, ◌++◌, ◌∷◌, length, MatchOption, OnOk, OnErr, IfErr, Err};
-ghost use Rattle.std.specs.List.{enumerate_from, flat_map};
+ghost use Rattle.std.specs.Prelude.{◌≡◌, MatchOption};
+ghost use Rattle.std.specs.List.{flat_map};
 ghost use Rattle.std.specs.Option.{option_copied};
-ghost use Rattle.std.specs.Io.KnownBytes.{Appends};
-ghost use Rattle.io_edge.specs.Causes.{Rose, AppendsFront};
+ghost use Rattle.text_out.specs.Wrote.{Wrote};
 ghost use Rattle.vhdl_text.specs.Refusal.{first_too_long, IsRefused, IsWritten};
 ghost use Rattle.vhdl_text.specs.VhdlText.{channel_line, channel_lines, node_text, vhdl_text};
 
 use crate::error::VhdlError;
 use crate::node::write_node;
-use crate::piece::{Piece, write_pieces};
-use io_edge::{Sink, WriteFault, write_all};
+use io_edge::{Sink, WriteFault};
 use net_core::{Channel, Network};
 use node_automata::NodeAuto;
+use text_out::{TextWriter, Writer, write_number};
 
 /// The most events of a node.
 const MOST_EVENTS: usize = 65_536;
@@ -28,63 +27,42 @@ pub fn too_long(autos: &[NodeAuto]) -> Option<&NodeAuto>
     None
 }
 
-fn write_channel<K: Sink>(number: usize, channel: &Channel, sink: &mut K) -> Result<(), WriteFault>
-    ensures ok { OnOk result (Appends (K.held sink.old) (K.held sink.new) (channel_line (number, channel.now))) }
-    ensures quiet { OnOk result (K.faults sink.new ≡ K.faults sink.old) }
-    ensures front { OnErr result (AppendsFront (K.held sink.old) (K.held sink.new) (channel_line (number, channel.now))) }
-    ensures cause { OnErr result (Rose (K.faults sink.old) (K.faults sink.new)) }
+fn write_channel<W: TextWriter>(number: usize, channel: &Channel, out: &mut W)
+    ensures { Wrote W.given out.old out.new (channel_line (number, channel.now)) }
 {
-    let pieces = [
-        Piece::Text(b"-- channel "),
-        Piece::Number(number as u64),
-        Piece::Text(b" node_"),
-        Piece::Number(u64::from(channel.writer)),
-        Piece::Text(b" node_"),
-        Piece::Number(u64::from(channel.reader)),
-        Piece::Text(b" capacity "),
-        Piece::Number(u64::from(channel.capacity)),
-        Piece::Text(b"\n"),
-    ];
-    write_pieces(&pieces, sink)
+    out.put(b"-- channel ");
+    write_number(number, out);
+    out.put(b" node_");
+    write_number(channel.writer, out);
+    out.put(b" node_");
+    write_number(channel.reader, out);
+    out.put(b" capacity ");
+    write_number(channel.capacity, out);
+    out.put(b"\n");
 }
 
-fn write_channels<K: Sink>(channels: &[Channel], sink: &mut K) -> Result<(), WriteFault>
-    ensures ok { OnOk result (Appends (K.held sink.old) (K.held sink.new) (channel_lines channels.now)) }
-    ensures quiet { OnOk result (K.faults sink.new ≡ K.faults sink.old) }
-    ensures front { OnErr result (AppendsFront (K.held sink.old) (K.held sink.new) (channel_lines channels.now)) }
-    ensures cause { OnErr result (Rose (K.faults sink.old) (K.faults sink.new)) }
+fn write_channels<W: TextWriter>(channels: &[Channel], out: &mut W)
+    ensures { Wrote W.given out.old out.new (channel_lines channels.now) }
 {
     for (number, channel) in channels.iter().enumerate() {
-        write_channel(number, channel, sink)?;
+        write_channel(number, channel, out);
     }
-    Ok(())
 }
 
-fn write_nodes<K: Sink>(autos: &[NodeAuto], sink: &mut K) -> Result<(), WriteFault>
-    ensures ok { OnOk result (Appends (K.held sink.old) (K.held sink.new) (flat_map node_text autos.now)) }
-    ensures quiet { OnOk result (K.faults sink.new ≡ K.faults sink.old) }
-    ensures front { OnErr result (AppendsFront (K.held sink.old) (K.held sink.new) (flat_map node_text autos.now)) }
-    ensures cause { OnErr result (Rose (K.faults sink.old) (K.faults sink.new)) }
+fn write_nodes<W: TextWriter>(autos: &[NodeAuto], out: &mut W)
+    ensures { Wrote W.given out.old out.new (flat_map node_text autos.now) }
 {
     for auto in autos {
-        write_node(auto, sink)?;
+        write_node(auto, out);
     }
-    Ok(())
 }
 
-fn write_text<K: Sink>(
-    network: &Network,
-    autos: &[NodeAuto],
-    sink: &mut K,
-) -> Result<(), WriteFault>
-    ensures ok { OnOk result (Appends (K.held sink.old) (K.held sink.new) (vhdl_text network.now autos.now)) }
-    ensures quiet { OnOk result (K.faults sink.new ≡ K.faults sink.old) }
-    ensures front { OnErr result (AppendsFront (K.held sink.old) (K.held sink.new) (vhdl_text network.now autos.now)) }
-    ensures cause { OnErr result (Rose (K.faults sink.old) (K.faults sink.new)) }
+fn write_text<W: TextWriter>(network: &Network, autos: &[NodeAuto], out: &mut W)
+    ensures { Wrote W.given out.old out.new (vhdl_text network.now autos.now) }
 {
-    write_all(sink, b"-- compaan vhdl 1\n")?;
-    write_channels(network.channels.as_slice(), sink)?;
-    write_nodes(autos, sink)
+    out.put(b"-- compaan vhdl 1\n");
+    write_channels(network.channels.as_slice(), out);
+    write_nodes(autos, out);
 }
 
 /// Writes the VHDL text of a network with the automata of its processes, in order. It takes no memory.
@@ -103,7 +81,9 @@ pub fn write_vhdl<K: Sink>(
     if let Some(auto) = too_long(autos) {
         return Err(VhdlError::ScriptTooLong(auto.process, auto.events.len() as u64));
     }
-    match write_text(network, autos, sink) {
+    let mut out = Writer::new(sink);
+    write_text(network, autos, &mut out);
+    match out.finish() {
         Ok(()) => Ok(()),
         Err(WriteFault) => Err(VhdlError::WriteFault),
     }

@@ -1,7 +1,7 @@
+use Rattle.vhdl_text.proofs.Sequences.{and_then}
 use Rattle.vhdl_text.proofs.node.write_start.Goals as goal
 
-pub returns-clause-ok : goal.returns-clause-ok
-returns-clause-ok g c = rw c.from.ensures at c.write_pieces.ensures.ok
-
-pub returns-clause-front : goal.returns-clause-front
-returns-clause-front g c = rw c.from.ensures at c.write_pieces.ensures.front
+pub returns : goal.returns
+returns g c =
+    let w = g.W.TextWriter.given in
+    and_then w _ _ c.put.ensures (and_then w _ _ c.write_number.ensures c.put-2.ensures)

@@ -1,4 +1,0 @@
-use Rattle.vhdl_text.proofs.node.write_architecture_head.Goals as goal
-
-pub returns-clause-front : goal.returns-clause-front
-returns-clause-front g c = rw c.from.ensures at c.write_pieces.ensures.front

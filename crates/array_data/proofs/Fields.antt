@@ -1,6 +1,5 @@
 -- The fields of a record, one after the other.
-use Rattle.std.proofs.Common.{ℕ, List, ◌≡◌, ◌+◌, ◌<◌, ◌∷◌, ◌++◌, [], zero, suc, length, drop, get_or, Some, None, Result, Ok, Err, refl, add-one}
-use Rattle.std.proofs.Math.Seq.{drop-cons}
+use Rattle.std.proofs.Common.{ℕ, List, ◌≡◌, ◌∷◌, ◌++◌, [], zero, suc, get_or, Some, None, Result, Ok, Err, refl}
 use Rattle.csv.specs.Records.{field_at}
 use Rattle.array_data.specs.declared.error.DataError.{DataError}
 

@@ -1,5 +1,4 @@
 pub mod Fields
 pub mod Judged
 pub mod Records
-pub mod Texts
 pub mod Worked

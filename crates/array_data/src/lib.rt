@@ -9,7 +9,6 @@ mod law;
 mod record;
 #[cfg(test)]
 mod tests;
-mod text;
 
 pub use answer::write_answer;
 pub use error::DataError;

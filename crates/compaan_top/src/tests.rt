@@ -1,3 +1,4 @@
+mod automata;
 mod certificates;
 mod kernels;
 mod meeting;

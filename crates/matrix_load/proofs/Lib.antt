@@ -1,5 +1,4 @@
 pub mod Counts
-pub mod Pieces
 pub mod Sentence
 pub mod Derivation
 pub mod Bound

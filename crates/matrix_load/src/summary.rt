@@ -1,11 +1,12 @@
-ghost use Rattle.std.specs.Prelude.{◌≡◌, OnOk, OnErr, codes, decimal};
-ghost use Rattle.std.specs.Fmt.{signed_decimal};
+ghost use Rattle.std.specs.Prelude.{◌≡◌, OnOk, OnErr};
 ghost use Rattle.std.specs.Io.KnownBytes.{Appends};
 ghost use Rattle.io_edge.specs.Causes.{Rose, AppendsFront};
+ghost use Rattle.text_out.specs.Wrote.{Wrote};
 ghost use Rattle.matrix_load.specs.Summary.{line_text, summary_text, wrapping_sum as sum_of};
 
-use io_edge::{Sink, WriteFault, write_all};
-use itoa::Buffer;
+use io_edge::{Sink, WriteFault};
+use itoa::Integer;
+use text_out::{TextWriter, Writer, write_number};
 
 /// What a run came to.
 #[derive(Clone, Copy, Debug, PartialEq, Eq)]
@@ -31,35 +32,23 @@ pub fn wrapping_sum(cells: &[i64]) -> i64
     sum
 }
 
-fn write_line<K: Sink>(name: &[u8], digits: &[u8], sink: &mut K) -> Result<(), WriteFault>
-    ensures ok { OnOk result (Appends (K.held sink.old) (K.held sink.new) (line_text name.now digits.now)) }
-    ensures quiet { OnOk result (K.faults sink.new ≡ K.faults sink.old) }
-    ensures front { OnErr result (AppendsFront (K.held sink.old) (K.held sink.new) (line_text name.now digits.now)) }
-    ensures cause { OnErr result (Rose (K.faults sink.old) (K.faults sink.new)) }
+/// Writes a name and a number as a line.
+fn write_line<I: Integer, W: TextWriter>(name: &[u8], number: I, out: &mut W)
+    ensures { Wrote W.given out.old out.new (line_text name.now (I.text number)) }
 {
-    write_all(sink, name)?;
-    write_all(sink, digits)?;
-    write_all(sink, b"\n")
+    out.put(name);
+    write_number(number, out);
+    out.put(b"\n");
 }
 
-fn write_count<K: Sink>(name: &[u8], count: u64, sink: &mut K) -> Result<(), WriteFault>
-    ensures ok { OnOk result (Appends (K.held sink.old) (K.held sink.new) (line_text name.now (decimal count))) }
-    ensures quiet { OnOk result (K.faults sink.new ≡ K.faults sink.old) }
-    ensures front { OnErr result (AppendsFront (K.held sink.old) (K.held sink.new) (line_text name.now (decimal count))) }
-    ensures cause { OnErr result (Rose (K.faults sink.old) (K.faults sink.new)) }
+fn write_lines<W: TextWriter>(summary: &Summary, out: &mut W)
+    ensures { Wrote W.given out.old out.new
+        (summary_text summary.now.points summary.now.channels summary.now.events summary.now.sum) }
 {
-    let mut buffer = Buffer::new();
-    write_line(name, buffer.format(count).as_bytes(), sink)
-}
-
-fn write_sum<K: Sink>(summary: &Summary, sink: &mut K) -> Result<(), WriteFault>
-    ensures ok { OnOk result (Appends (K.held sink.old) (K.held sink.new) (line_text (codes "sum ") (signed_decimal summary.now.sum))) }
-    ensures quiet { OnOk result (K.faults sink.new ≡ K.faults sink.old) }
-    ensures front { OnErr result (AppendsFront (K.held sink.old) (K.held sink.new) (line_text (codes "sum ") (signed_decimal summary.now.sum))) }
-    ensures cause { OnErr result (Rose (K.faults sink.old) (K.faults sink.new)) }
-{
-    let mut buffer = Buffer::new();
-    write_line(b"sum ", buffer.format(summary.sum).as_bytes(), sink)
+    write_line(b"points ", summary.points, out);
+    write_line(b"channels ", summary.channels, out);
+    write_line(b"events ", summary.events, out);
+    write_line(b"sum ", summary.sum, out);
 }
 
 /// Writes the four lines of a summary. It takes no memory.
@@ -74,8 +63,7 @@ pub fn write_summary<K: Sink>(summary: &Summary, sink: &mut K) -> Result<(), Wri
         (summary_text summary.now.points summary.now.channels summary.now.events summary.now.sum)) }
     ensures cause { OnErr result (Rose (K.faults sink.old) (K.faults sink.new)) }
 {
-    write_count(b"points ", summary.points, sink)?;
-    write_count(b"channels ", summary.channels, sink)?;
-    write_count(b"events ", summary.events, sink)?;
-    write_sum(summary, sink)
+    let mut out = Writer::new(sink);
+    write_lines(summary, &mut out);
+    out.finish()
 }

@@ -1,5 +1,5 @@
 -- The entries of a column, event by event, and how many there are.
-use Rattle.std.proofs.Common.{◌≡◌, ℕ, zero, suc, ◌+◌, ◌≤◌, Some, List, [], ◌∷◌, ◌++◌, codes, count_by, decimal, drop, length, map, slice_get, append_assoc, append-nil, refl, sym, ap, ◌∙◌, arith, add-one}
+use Rattle.std.proofs.Common.{◌≡◌, ℕ, suc, ◌+◌, List, [], ◌∷◌, ◌++◌, codes, count_by, decimal, length, map, slice_get, append_assoc, append-nil, refl, sym, ap, ◌∙◌, arith}
 use Rattle.std.specs.List.{concat, enumerate_from, flat_map, join_by}
 use Rattle.std.proofs.lemmas.List.{length-map}
 use Rattle.net_core.specs.declared.network.Event.{Event}
@@ -27,23 +27,11 @@ fires_length (Fire refs ∷ events) =
     omega (arith, more, fires_length events, count_cons is_fire (Fire refs) events)
 fires_length (Put channel ∷ events) = fires_length events
 
-pub op_length : (events : List Event) → length (column_values Op events) ≡ length events
-op_length events = length-map events (λ event. decimal (op_of event))
-
 pub arg_length : (events : List Event) → length (column_values Arg events) ≡ length events
 arg_length events = length-map (args_from 0 events) decimal ∙ args_length 0 events
 
-pub dst_length : (events : List Event) → length (column_values Dst events) ≡ length events
-dst_length events = length-map events (λ event. decimal (dst_of event))
-
 pub read_length : (k : ℕ) (events : List Event) → length (column_values (Read k) events) ≡ count_by is_fire events
 read_length k events = length-map (fires_of events) (λ refs. slot_text (slice_get refs k)) ∙ fires_length events
-
--- an event adds at most one fire
-pub fires_bound : (f : ℕ) (event : Event) → fires_after f event ≤ f + 1
-fires_bound f (Get channel slot) = omega arith
-fires_bound f (Fire refs) = omega arith
-fires_bound f (Put channel) = omega arith
 
 -- Entries
 
@@ -73,18 +61,6 @@ column_entries Op events = op_entries 0 0 events
 column_entries Arg events = arg_entries 0 0 events
 column_entries Dst events = dst_entries 0 0 events
 column_entries (Read k) events = read_entries k 0 0 events
-
-dropped : {X : Type 0} (xs : List X) (i : ℕ) (x : X) → slice_get xs i ≡ Some x → drop i xs ≡ x ∷ drop (suc i) xs
-dropped [] i x e = cc
-dropped (y ∷ ys) zero x e = let same : y ≡ x = cc in rw same refl
-dropped (y ∷ ys) (suc i) x e = dropped ys i x e
-
--- the entries of the events from a place on
-pub entries_at : (column : Column) (events : List Event) (i f : ℕ) (event : Event) → slice_get events i ≡ Some event
-    → event_entries column i f (drop i events) ≡ event_entry column i f event ++ event_entries column (i + 1) (fires_after f event) (drop (i + 1) events)
-entries_at column events i f event found =
-    ap (event_entries column i f) (dropped events i event found)
-    ∙ ap (λ (k : ℕ). event_entry column i f event ++ event_entries column (i + 1) (fires_after f event) (drop k events)) (sym (add-one i))
 
 -- The text of a constant
 

@@ -1,8 +1,8 @@
 use super::orders::nest_with;
+use loop_walk::points;
 use net_core::{Event, Ref, Refs};
 use net_maker::compile;
 use node_automata::{NodeAuto, automata, automaton};
-use loop_walk::points;
 use sanlp::Role;
 use std::alloc::Global;
 use std::process::Abort;
@@ -133,9 +133,15 @@ fn compare(rt: &impl Abort, auto: &NodeAuto, process: u32, wanted: &Wanted) {
     let values = auto.values.as_slice();
     assert_eq!(rt; values.len(), wanted.values.len(), "points of {process}");
     for (vector, value) in values.iter().zip(wanted.values) {
-        assert!(rt; vector.as_slice() == [*value].as_slice(), "a point of {process}");
+        assert!(rt;
+            vector.as_slice() == [*value].as_slice(),
+            "a point of {process}"
+        );
     }
-    assert!(rt; computes(&auto.expr, wanted.expr), "expression of {process}");
+    assert!(rt;
+        computes(&auto.expr, wanted.expr),
+        "expression of {process}"
+    );
 }
 
 #[test]

@@ -1,7 +1,7 @@
 -- What `cert` writes is accepted. The values of parameters bear on a nest through the declarations alone, each of which looks up
 -- its own name. So two lists that agree on the declared names bind a tree to the same nest, and the pair that `cert` wrote fits
 -- the nest that `check` makes.
-use Rattle.std.proofs.Common.{◌≡◌, ◌∙◌, ◌+◌, ◌<◌, ◌++◌, arith, ℕ, suc, ℤ, List, [], ◌∷◌, length, Option, Some, None, Result, Ok, Err, refl, sym, ap, subst}
+use Rattle.std.proofs.Common.{◌≡◌, ◌∙◌, ◌++◌, arith, ℕ, ℤ, List, [], ◌∷◌, Option, Some, None, Result, Ok, Err, refl, sym, ap, subst}
 use Rattle.bundle_laws.specs.Certified.{certified, with_line_end}
 use Rattle.cert_text.specs.CertText.{AreInRange}
 use Rattle.command_line.specs.Bundle.{after_separator, certificate_part, source_part}
@@ -34,10 +34,9 @@ use Rattle.sanlp.specs.Size.{size}
 use Rattle.std.specs.Prelude.{Contains, IfOk}
 use Rattle.witness_plan.specs.declared.schedules.Policy.{Policy}
 use Rattle.witness_plan.specs.Schedules.{planned_network}
-use Rattle.compaan_top.specs.Answers.{Change}
-use Rattle.compaan_top.specs.Certified.{Accepts, AgreeOn, Call, Certifies, HasCertificate, HasParameter, ReadCertificate, WroteCertificate}
+use Rattle.compaan_top.specs.Certified.{Accepts, AgreeOn, Call, Certifies, HasCertificate, ReadCertificate, WroteCertificate}
 use Rattle.compaan_top.specs.Commands.{reads_of}
-use Rattle.compaan_top.specs.Headline.{AcceptsWhatFits, HasFittingCertificate, SaysAccepted, accepted}
+use Rattle.compaan_top.specs.Headline.{AcceptsWhatFits, HasFittingCertificate, SaysAccepted}
 use Rattle.compaan_top.specs.Outcome.{Outcome, IsOutcome, Performs, outcome_of, words_refused, bundle_refused, performed}
 use Rattle.compaan_top.specs.Printing.{Prints, certificate_text, source_refused, printed}
 use Rattle.compaan_top.specs.Replies.{Reply}

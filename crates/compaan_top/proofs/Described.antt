@@ -1,5 +1,5 @@
 -- What the command `vhdl` comes to, from what its steps come to.
-use Rattle.std.proofs.Common.{◌≡◌, ◌∙◌, ℕ, ℤ, List, Some, None, Result, Ok, Err, ap, sym, subst}
+use Rattle.std.proofs.Common.{◌≡◌, ◌∙◌, ℕ, ℤ, List, Result, Ok, Err, ap, sym, subst}
 use Rattle.command_line.specs.Bundle.{source_part}
 use Rattle.net_core.specs.declared.network.Network.{Network}
 use Rattle.node_automata.specs.Automata.{automata}

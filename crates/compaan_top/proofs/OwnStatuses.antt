@@ -1,8 +1,6 @@
 -- The statuses with which each command may end.
-use Rattle.std.proofs.Common.{◌≡◌, ◌⊎◌, ◌==◌, ◌++◌, ℕ, ℤ, true, List, [], ◌∷◌, Option, Some, None, Result, Ok, Err, refl, sym, ap, subst, inl, inr}
+use Rattle.std.proofs.Common.{◌≡◌, ◌⊎◌, ◌==◌, ◌++◌, ℕ, ℤ, true, List, [], ◌∷◌, Option, Some, None, Result, Ok, Err, refl, sym, subst, inl, inr}
 use Rattle.std.proofs.lemmas.Bool.{or_right}
-use Rattle.std.specs.List.{list_any}
-use Rattle.array_data.specs.declared.error.DataError.{DataError}
 use Rattle.command_line.specs.Bundle.{source_part, data_part}
 use Rattle.command_line.specs.declared.words.Command.{Command}
 use Rattle.command_line.specs.declared.words.Command.TheVariants.{Run, Seq, Net, Cert, Check, Vhdl, Load}
@@ -22,7 +20,7 @@ use Rattle.compaan_top.specs.Checking.{Checks, verdict_reply}
 use Rattle.compaan_top.specs.Commands.{Reads, source_alone, source_and_data, source_and_certificate, nothing, read_by, reads_of}
 use Rattle.compaan_top.specs.Describing as describe
 use Rattle.compaan_top.specs.Describing.{Describes}
-use Rattle.compaan_top.specs.Laws.{HasStatusOf, call_statuses, command_statuses, outcome_statuses, read_statuses}
+use Rattle.compaan_top.specs.Laws.{HasStatusOf, command_statuses, outcome_statuses, read_statuses}
 use Rattle.compaan_top.specs.Load as load
 use Rattle.compaan_top.specs.Load.{Loads}
 use Rattle.compaan_top.specs.Outcome.{Outcome, IsOutcome, outcome_of, Performs, words_refused, bundle_refused, performed}
@@ -34,7 +32,7 @@ use Rattle.compaan_top.specs.Run.{Runs, IsInputs, source_refused, data_refused, 
 use Rattle.compaan_top.specs.Source as sized
 use Rattle.compaan_top.specs.Source.{Gives, GivesWithinSize, no_tokens, no_tree, not_bound, bound}
 use Rattle.compaan_top.specs.declared.refusal.Refusal.{Refusal}
-use Rattle.compaan_top.proofs.Statuses.{data_status, no_order, same_value, size_status}
+use Rattle.compaan_top.proofs.Statuses.{data_status, same_value, size_status}
 
 -- the statuses of what is wrong with a source
 abbrev pub IsOfSource : ℕ → Type 0

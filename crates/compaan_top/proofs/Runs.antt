@@ -13,7 +13,6 @@ use Rattle.compaan_top.specs.Run.{IsInputs, Runs, source_refused, data_refused, 
 use Rattle.compaan_top.specs.Source.{GivesWithinSize}
 use Rattle.compaan_top.specs.Steps.{HasSizedNest, IsPrepared}
 use Rattle.compaan_top.specs.declared.answer.Answer.{Answer}
-use Rattle.compaan_top.specs.declared.refusal.Refusal.{Refusal}
 use Rattle.compaan_top.specs.declared.refusal.Stop.{Stop}
 use Rattle.compaan_top.specs.declared.refusal.Stop.TheVariants.{Refused, ReadFault, Memory}
 use Rattle.compaan_top.proofs.Printed.{nest_is}

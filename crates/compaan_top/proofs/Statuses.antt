@@ -1,18 +1,16 @@
 -- The order and the bundle determine the status, and where nothing is refused it is success.
-use Rattle.std.proofs.Common.{◌≡◌, ◌==◌, ◌≤◌, ℕ, suc, ℤ, Bool, true, List, [], ◌∷◌, length, drop, Option, Some, None, Result, Ok, Err, refl, sym, ap, ◌∙◌, subst, arith, map, inl, inr, take-append-drop}
+use Rattle.std.proofs.Common.{◌≡◌, ◌≤◌, ℕ, suc, ℤ, List, [], length, drop, Option, Some, None, Result, Ok, Err, refl, sym, ap, ◌∙◌, subst, arith, map, inl, inr, take-append-drop}
 use Rattle.sanlp.specs.WellFormed.{IsWellFormed}
 use Rattle.std.proofs.lemmas.Bool.{cases_lt}
 use Rattle.loop_lex.specs.Tokens.{tokens}
 use Rattle.loop_lex.specs.declared.token.Token.{Token}
 use Rattle.loop_lex.specs.declared.token.LexError.{LexError}
-use Rattle.loop_lex.specs.declared.token.LexError.TheVariants as lexical
 use Rattle.loop_grammar.specs.Grammar.{Stops, Derives, Tok}
 use Rattle.loop_grammar.specs.Lexemes.{IsTree, sentence}
 use Rattle.loop_grammar.specs.declared.tree.Tree.{Tree}
 use Rattle.loop_class.specs.Binding.{findings, nest_of}
 use Rattle.loop_class.specs.Reasons.{least_from}
 use Rattle.loop_class.specs.declared.error.BindError.{BindError}
-use Rattle.loop_class.specs.declared.error.BindError.TheVariants as binding
 use Rattle.loop_walk.specs.Counting.{counted, counted_parts, counted_node}
 use Rattle.loop_walk.specs.declared.count.SizeError.{SizeError}
 use Rattle.loop_walk.specs.declared.count.SizeError.TheVariants.{Limit, LoopValue}
@@ -44,7 +42,7 @@ use Rattle.command_line.specs.declared.words.Command.{Command}
 use Rattle.command_line.specs.declared.words.Command.TheVariants.{Run, Seq, Net, Cert, Check, Vhdl, Load}
 use Rattle.compaan_top.specs.Checking as check
 use Rattle.compaan_top.specs.Checking.{Checks, verdict_reply}
-use Rattle.compaan_top.specs.Commands.{nothing, reads_of, source_and_certificate}
+use Rattle.compaan_top.specs.Commands.{reads_of, source_and_certificate}
 use Rattle.channel_plan.specs.Plans.{plans_of}
 use Rattle.node_automata.specs.declared.node.NodeAuto.{NodeAuto}
 use Rattle.process_derive.specs.Derived.{net}

@@ -1,6 +1,6 @@
 -- What a call comes to whose source tells its bytes. Within the limit what was read is all that the source had; past it, both
 -- are too long, and too long a bundle is refused whatever it holds.
-use Rattle.std.proofs.Common.{◌≡◌, ◌∙◌, ◌≢◌, ◌⊎◌, ◌≤◌, ◌<◌, ◌++◌, arith, ℕ, ℤ, List, length, length-append, append-nil, Option, Some, None, refl, sym, ap, subst, inl, inr}
+use Rattle.std.proofs.Common.{◌≡◌, ◌∙◌, ◌⊎◌, ◌≤◌, ◌<◌, ◌++◌, arith, ℕ, List, length, length-append, append-nil, Option, Some, None, refl, sym, ap, subst, inl, inr}
 use Rattle.std.specs.Io.KnownBytes.{Appends, Consumes, IsAtEnd}
 use Rattle.std.specs.Prelude.{◌↔◌}
 use Rattle.std.proofs.lemmas.Bool.{cases_lt}
@@ -13,7 +13,7 @@ use Rattle.compaan_top.specs.Headline.{AcceptsWhatFits, IsAcceptable, SaysAccept
 use Rattle.compaan_top.specs.Laws.{IsDone, IsValid, Succeeds}
 use Rattle.compaan_top.specs.Outcome.{Outcome, IsOutcome, bundle_limit, words_refused, bundle_refused, performed}
 use Rattle.compaan_top.specs.Told.{ComesTo, IsAnswered, IsTold}
-use Rattle.compaan_top.proofs.Statuses.{no_order, same_value}
+use Rattle.compaan_top.proofs.Statuses.{same_value}
 use Rattle.compaan_top.proofs.Vouched.{VouchesFor, WhatFitsIsSound, five_is_not_zero, outcome_vouched, with_sound}
 
 no_bytes : (all : List ℕ) → ◌≡◌ {A = Option (List ℕ)} None (Some all) → ⊥

@@ -1,5 +1,5 @@
 -- What holds where `check` accepts.
-use Rattle.std.proofs.Common.{Err, true, ◌≡◌, ◌≤◌, ◌∙◌, arith, length, ℕ, ℤ, List, Option, Some, None, Result, Ok, refl, sym, ap, subst, inl, inr}
+use Rattle.std.proofs.Common.{Err, ◌≡◌, ◌≤◌, ◌∙◌, arith, length, ℕ, ℤ, List, Option, Some, None, Result, Ok, refl, sym, ap, subst, inl, inr}
 use Rattle.std.specs.Prelude.{◌↔◌}
 use Rattle.cert_text.specs.CertText.{AreInRange, cert_text}
 use Rattle.cert_text.specs.Reading.{reading}
@@ -14,14 +14,13 @@ use Rattle.net_core.specs.Sound.{IsSound}
 use Rattle.net_core.specs.declared.network.Network.{Network}
 use Rattle.sanlp.specs.declared.nest.Nest.{Nest}
 use Rattle.source_tree.specs.declared.cert.Cert.{Cert}
-use Rattle.witness_plan.specs.declared.schedules.Policy.{Policy}
 use Rattle.compaan_top.specs.Answers.{Change, Ends, IsRead, ReadsFor, ReadsTo, no_memory, read_fault, written, cut_short}
 use Rattle.compaan_top.specs.Checking.{Checks, verdict_reply, part_missing, source_refused, unread, judged}
 use Rattle.compaan_top.specs.Headline.{AcceptsWhatFits, HasFittingCertificate, HasSoundCertificate, accepted}
 use Rattle.compaan_top.specs.Outcome.{Outcome, IsOutcome, Performs, bundle_limit, outcome_of, words_refused, bundle_refused, performed}
 use Rattle.compaan_top.specs.Replies.{Reply}
 use Rattle.compaan_top.specs.declared.refusal.Refusal.{Refusal}
-use Rattle.compaan_top.specs.Commands.{reads_of, read_by}
+use Rattle.compaan_top.specs.Commands.{reads_of}
 use Rattle.compaan_top.proofs.OwnStatuses.{IsOfSource, sized_refused}
 use Rattle.compaan_top.proofs.Statuses.{Alike, OneTree, first_alike, no_order, no_part_there, same_part, sized_alike}
 

@@ -1,5 +1,5 @@
 -- What `check` answers to what `cert` writes.
-use Rattle.std.specs.Prelude.{◌≡◌, ◌≤◌, ℕ, ℤ, List, ◌++◌, length, Contains, Option, Some, Ok}
+use Rattle.std.specs.Prelude.{◌≡◌, ◌≤◌, ℕ, ℤ, List, ◌++◌, length, Contains, Some, Ok}
 use Rattle.bundle_laws.specs.Certified.{with_line_end}
 use Rattle.command_line.specs.Bundle.{certificate_part, source_part}
 use Rattle.command_line.specs.declared.words.Command.TheVariants.{Cert, Check}

@@ -11,7 +11,6 @@ use Rattle.sanlp.specs.declared.nest.Nest.{Nest}
 use Rattle.loop_walk.specs.Counting.{counted}
 use Rattle.vhdl_text.specs.Refusal.{first_too_long}
 use Rattle.witness_plan.specs.declared.schedules.Policy.{Policy}
-use Rattle.compaan_top.specs.Answers.{Change, Ends}
 use Rattle.compaan_top.specs.Commands.{Reads, source_alone, source_and_data, source_and_certificate, nothing, read_by, reads_of}
 use Rattle.compaan_top.specs.Describing.{planned_automata}
 use Rattle.compaan_top.specs.Load.{load_limit}

@@ -13,6 +13,7 @@ use wrap_expr::Expr;
 const INCREMENT: &[u8] = b"param N; in x[N]; out y[N]; for (i = 0; i < N; i++) y[i] = x[i] + 1;";
 
 /// What is wanted of an automaton. Its points have one loop value each.
+#[derive(Clone, Copy)]
 struct Wanted {
     role: Role,
     reads: u32,

@@ -106,7 +106,7 @@ fn is_step(event: &Event, wanted: Step) -> bool {
     }
 }
 
-fn computes(expr: &Expr, wanted: Computes) -> bool {
+fn is_expression(expr: &Expr, wanted: Computes) -> bool {
     match (expr, wanted) {
         (Expr::Given, Computes::Given) => true,
         (Expr::Read(read), Computes::Read) => *read == 0,
@@ -140,7 +140,7 @@ fn compare(rt: &impl Abort, auto: &NodeAuto, process: u32, wanted: &Wanted) {
         );
     }
     assert!(rt;
-        computes(&auto.expr, wanted.expr),
+        is_expression(&auto.expr, wanted.expr),
         "expression of {process}"
     );
 }

@@ -1,11 +1,12 @@
 -- The points of a node are those of the domains of its statements.
-use Rattle.std.proofs.Common.{◌≡◌, ◌≤◌, ℕ, ◌+◌, ℤ, pos, negsuc, ◌*ℤ◌, ◌≤ℤ◌, List, [], ◌∷◌, ◌++◌, map, length, Bool, true, false, cond, inl, inr, refl, sym, ◌∙◌, subst, arith, append_assoc}
-use Rattle.std.specs.Prelude.{nat_lt}
+use Rattle.std.proofs.Common.{◌≡◌, ◌≤◌, ℕ, ◌+◌, ℤ, pos, negsuc, ◌*ℤ◌, ◌≤ℤ◌, List, [], ◌∷◌, ◌++◌, map, length, Bool, true, false, cond, ◌&&◌, ◌||◌, inl, inr, refl, sym, ap, ◌∙◌, subst, arith, append_assoc}
+use Rattle.std.specs.Prelude.{◌==◌, int_le, nat_lt}
 use Rattle.std.specs.List.{flat_map, list_all}
+use Rattle.std.specs.Ordering.{int_eq}
 use Rattle.std.proofs.lemmas.Bool.{and_parts, eqb-true}
 use Rattle.std.proofs.lemmas.List.{append-nil, length-map, length_push}
 use Rattle.affine_core.proofs.Linear.{form_at_more, widened_at}
-use Rattle.affine_core.specs.Affine.{form_at, products, widened_form}
+use Rattle.affine_core.specs.Affine.{form_at, products, variable_form, widened_form}
 use Rattle.affine_core.specs.declared.form.Form.{Form}
 use Rattle.sanlp.specs.declared.nest.Node.{Node}
 use Rattle.sanlp.specs.declared.nest.Node.TheViews.{Loop, Guard}
@@ -13,19 +14,24 @@ use Rattle.sanlp.specs.declared.nest.Node.TheVariants.{Assign}
 use Rattle.sanlp.specs.declared.nest.Point.{Point}
 use Rattle.sanlp.specs.Loops.{all_hold, loop_values}
 use Rattle.sanlp.specs.Trace.{all_points, trace_node, trace_step}
-use Rattle.sanlp.specs.WellFormed.{Place, all_forms_fit, all_loops, form_fits, forms_fit, forms_fit_step, in_each, loops_of, loops_step, lower_row, places_of, places_step, upper_row}
-use Rattle.sanlp.proofs.BoundRows.{AllHold, AreBounds, hold_each, values_meet}
-use Rattle.sanlp.proofs.Each.{Each, each_append, each_map, each_then}
+use Rattle.sanlp.specs.WellFormed.{Place, all_forms_fit, all_loops, bound_rows, form_fits, forms_fit, forms_fit_step, in_each, loops_of, loops_step, lower_row, places_of, places_step, step_fits, turn_row, upper_row}
+use Rattle.sanlp.proofs.BoundRows.{AllHold, AreBounds, hold_each, length_first_row, length_turn_row, values_meet}
+use Rattle.sanlp.proofs.Each.{Each, each_append, each_flat_map, each_map, each_then}
 use Rattle.sanlp.proofs.Folds.{by_parts, fold_assign_at, fold_assign_at_both, fold_guard, fold_guard_at, fold_guard_at_both, fold_loop, fold_loop_at, fold_loop_at_both}
+use Rattle.sanlp.proofs.Intervals.{le_from_test}
 use Rattle.sanlp.proofs.Members.{In, from_flat_map, in_cases, in_left, in_right}
 
 -- the equations of each kind of node
 abbrev pub Walk : Type 0
 Walk = List ℤ → List Point
 
-pub trace_loop : (id : ℕ) (lower upper : List Form) (body : List Node) (at : List ℤ)
-    → trace_node (Loop id lower upper body) at ≡ flat_map (λ v. all_points (map trace_node body) (at ++ v ∷ [])) (loop_values lower upper at)
-trace_loop id lower upper body at = fold_loop_at (List ℤ) (List Point) trace_step id lower upper body at
+-- the rows round the body of a loop inside so many loops
+abbrev pub inner_rows : ℕ → List Form → List Form → List Form → ℤ → List Form
+inner_rows depth rows lower upper step = rows ++ bound_rows depth lower upper step
+
+pub trace_loop : (id : ℕ) (lower upper : List Form) (step : ℤ) (body : List Node) (at : List ℤ)
+    → trace_node (Loop id lower upper step body) at ≡ flat_map (λ v. all_points (map trace_node body) (at ++ v ∷ [])) (loop_values lower upper step at)
+trace_loop id lower upper step body at = fold_loop_at (List ℤ) (List Point) trace_step id lower upper step body at
 
 pub trace_guard : (guards : List Form) (body : List Node) (at : List ℤ)
     → trace_node (Guard guards body) at ≡ cond (all_hold guards at) (all_points (map trace_node body) at) []
@@ -34,9 +40,9 @@ trace_guard guards body at = fold_guard_at (List ℤ) (List Point) trace_step gu
 pub trace_assign : (s : ℕ) (at : List ℤ) → trace_node (Assign s) at ≡ (record { statement = s; at = at }) ∷ []
 trace_assign s at = fold_assign_at (List ℤ) (List Point) trace_step s at
 
-pub places_loop : (id : ℕ) (lower upper : List Form) (body : List Node) (loops : List ℕ) (rows : List Form)
-    → places_of (Loop id lower upper body) loops rows ≡ in_each (map places_of body) (loops ++ id ∷ []) (rows ++ (map lower_row lower ++ map upper_row upper))
-places_loop id lower upper body loops rows = fold_loop_at_both (List ℕ) (List Form) (List Place) places_step id lower upper body loops rows
+pub places_loop : (id : ℕ) (lower upper : List Form) (step : ℤ) (body : List Node) (loops : List ℕ) (rows : List Form)
+    → places_of (Loop id lower upper step body) loops rows ≡ in_each (map places_of body) (loops ++ id ∷ []) (inner_rows (length loops) rows lower upper step)
+places_loop id lower upper step body loops rows = fold_loop_at_both (List ℕ) (List Form) (List Place) places_step id lower upper step body loops rows
 
 pub places_guard : (guards : List Form) (body : List Node) (loops : List ℕ) (rows : List Form)
     → places_of (Guard guards body) loops rows ≡ in_each (map places_of body) loops (rows ++ guards)
@@ -63,20 +69,33 @@ each_fits depth (node ∷ nodes) h =
     (parts.0, each_fits depth nodes parts.1)
 
 -- the facts of a loop and of a guard that fit
-pub record LoopFits (lower upper : List Form) (body : List Node) (depth : ℕ) : Type 0 where
-  pub bounds : AreBounds lower upper depth
+pub record LoopFits (lower upper : List Form) (step : ℤ) (body : List Node) (depth : ℕ) : Type 0 where
+  pub bounds : AreBounds lower upper step depth
   pub body_fits : Each (FitsIn (depth + 1)) body
 
-pub loop_fits : (id : ℕ) (lower upper : List Form) (body : List Node) (depth : ℕ) → FitsIn depth (Loop id lower upper body) → LoopFits lower upper body depth
-loop_fits id lower upper body depth h =
-    let fits = sym (fold_loop_at ℕ Bool forms_fit_step id lower upper body depth) ∙ h in
+second_of : (a b : Bool) → (a || b) ≡ true → a ≡ false → b ≡ true
+second_of a b h e = sym (ap (λ c. c || b) e) ∙ h
+
+pub loop_fits : (id : ℕ) (lower upper : List Form) (step : ℤ) (body : List Node) (depth : ℕ) → FitsIn depth (Loop id lower upper step body) → LoopFits lower upper step body depth
+loop_fits id lower upper step body depth h =
+    let fits = sym (fold_loop_at ℕ Bool forms_fit_step id lower upper step body depth) ∙ h in
     let a = and_parts _ (list_all (λ part. part (depth + 1)) (map forms_fit body)) fits in
-    let b = and_parts _ (list_all (form_fits depth) upper) a.0 in
+    let g = and_parts _ (step_fits lower step) a.0 in
+    let h = and_parts (int_le (pos 1) step && int_le step (pos 2147483647)) (int_eq step (pos 1) || (length lower == 1)) g.1 in
+    let i = and_parts (int_le (pos 1) step) (int_le step (pos 2147483647)) h.0 in
+    let b = and_parts _ (list_all (form_fits depth) upper) g.0 in
     let c = and_parts _ (list_all (form_fits depth) lower) b.0 in
     let d = and_parts _ (nat_lt 0 (length upper)) c.0 in
     let e = and_parts _ (nat_lt 0 (length lower)) d.0 in
     record {
-      bounds = record { some_lower = e.1; some_upper = d.1; lower_over = over_from_fits depth lower c.1; upper_over = over_from_fits depth upper b.1 };
+      bounds = record {
+        some_lower = e.1;
+        some_upper = d.1;
+        lower_over = over_from_fits depth lower c.1;
+        upper_over = over_from_fits depth upper b.1;
+        step_counts = le_from_test (pos 1) step i.0;
+        one_lower = λ more. eqb-true (length lower) 1 (second_of (int_eq step (pos 1)) (length lower == 1) h.1 more);
+      };
       body_fits = each_fits (depth + 1) body a.1;
     }
 
@@ -94,21 +113,35 @@ guard_fits guards body depth h =
 abbrev pub Over : ℕ → List Form → Type 0
 Over depth rows = Each (λ row. length row.coefs ≤ depth) rows
 
-abbrev pub inner_rows : List Form → List Form → List Form → List Form
-inner_rows rows lower upper = rows ++ (map lower_row lower ++ map upper_row upper)
+module _ (depth : ℕ) where
+  abbrev InTurn : Form → Type 0
+  InTurn row = length row.coefs ≤ depth + 1
 
-bounds_over : (depth : ℕ) (lower upper : List Form) → AreBounds lower upper depth → Over (depth + 1) (map lower_row lower ++ map upper_row upper)
-bounds_over depth lower upper b =
-    each_append (λ row. length row.coefs ≤ depth + 1) (map lower_row lower) (map upper_row upper)
-    (each_map (λ row. length row.coefs ≤ depth + 1) lower_row lower (each_then (λ form. length form.coefs ≡ depth) (λ form. length (lower_row form).coefs ≤ depth + 1) lower
-    (λ form e. omega (arith, length_push (products (negsuc 0) form.coefs) (pos 1), length-map form.coefs (λ c. c *ℤ negsuc 0))) b.lower_over))
-    (each_map (λ row. length row.coefs ≤ depth + 1) upper_row upper (each_then (λ form. length form.coefs ≡ depth) (λ form. length (upper_row form).coefs ≤ depth + 1) upper
-    (λ form e. omega (arith, length_push form.coefs (negsuc 0))) b.upper_over))
+  each_over : (lower upper : List Form) → Each (λ form. length form.coefs ≡ depth) lower → Each (λ form. length form.coefs ≡ depth) upper → Each InTurn (map lower_row lower ++ map upper_row upper)
+  each_over lower upper e f =
+      each_append InTurn (map lower_row lower) (map upper_row upper)
+      (each_map InTurn lower_row lower (each_then (λ form. length form.coefs ≡ depth) (λ form. InTurn (lower_row form)) lower
+      (λ form e. omega (arith, length_push (products (negsuc 0) form.coefs) (pos 1), length-map form.coefs (λ c. c *ℤ negsuc 0))) e))
+      (each_map InTurn upper_row upper (each_then (λ form. length form.coefs ≡ depth) (λ form. InTurn (upper_row form)) upper
+      (λ form e. omega (arith, length_push form.coefs (negsuc 0))) f))
 
-pub rows_over : (depth : ℕ) (rows lower upper : List Form) → Over depth rows → AreBounds lower upper depth → Over (depth + 1) (inner_rows rows lower upper)
-rows_over depth rows lower upper h b =
-    each_append (λ row. length row.coefs ≤ depth + 1) rows (map lower_row lower ++ map upper_row upper)
-    (each_then (λ row. length row.coefs ≤ depth) (λ row. length row.coefs ≤ depth + 1) rows (λ row e. omega arith) h) (bounds_over depth lower upper b)
+  turns_over : (step : ℤ) (lower upper : List Form) → Each (λ form. length form.coefs ≡ depth) lower → Each (λ form. length form.coefs ≡ depth) upper → Each InTurn (flat_map (λ form. map (turn_row step form) upper) lower)
+  turns_over step lower upper e f =
+      each_flat_map InTurn (λ form. map (turn_row step form) upper) lower
+      (each_then (λ form. length form.coefs ≡ depth) (λ form. Each InTurn (map (turn_row step form) upper)) lower
+      (λ first d. each_map InTurn (turn_row step first) upper (each_then (λ form. length form.coefs ≡ depth) (λ form. InTurn (turn_row step first form)) upper
+      (λ form k. omega (arith, length_turn_row step first form depth d k)) f)) e)
+
+  over_if : (b : Bool) (rows rows' : List Form) → Each InTurn rows → Each InTurn rows' → Each InTurn (cond b rows rows')
+  over_if true rows rows' h k = h
+  over_if false rows rows' h k = k
+
+  pub rows_over : (loops : ℕ) (rows lower upper : List Form) (step : ℤ) → loops ≡ depth → Over depth rows → AreBounds lower upper step depth → Over (depth + 1) (inner_rows loops rows lower upper step)
+  rows_over loops rows lower upper step e h b =
+      each_append InTurn rows (bound_rows loops lower upper step)
+      (each_then (λ row. length row.coefs ≤ depth) InTurn rows (λ row e. omega arith) h)
+      (over_if (int_eq step (pos 1)) (map lower_row lower ++ map upper_row upper) (variable_form (loops + 1) loops ∷ flat_map (λ form. map (turn_row step form) upper) lower)
+      (each_over lower upper b.lower_over b.upper_over) (omega (arith, length_first_row loops), turns_over step lower upper b.lower_over b.upper_over))
 
 -- rows hold at more values exactly where they hold
 pub hold_more : (rows : List Form) (at more : List ℤ) → Over (length at) rows → AllHold rows at → AllHold rows (at ++ more)
@@ -161,12 +194,12 @@ pub record Round (loops : List ℕ) (rows : List Form) (at : List ℤ) : Type 0 
   pub over : Over (length at) rows
   pub holds : AllHold rows at
 
-pub round_turn : (id : ℕ) (lower upper : List Form) (loops : List ℕ) (rows : List Form) (at : List ℤ) (v : ℤ) → AreBounds lower upper (length at)
-    → Round loops rows at → In v (loop_values lower upper at) → Round (loops ++ id ∷ []) (inner_rows rows lower upper) (at ++ v ∷ [])
-round_turn id lower upper loops rows at v b r h = record {
+pub round_turn : (id : ℕ) (lower upper : List Form) (step : ℤ) (loops : List ℕ) (rows : List Form) (at : List ℤ) (v : ℤ) → AreBounds lower upper step (length at)
+    → Round loops rows at → In v (loop_values lower upper step at) → Round (loops ++ id ∷ []) (inner_rows (length loops) rows lower upper step) (at ++ v ∷ [])
+round_turn id lower upper step loops rows at v b r h = record {
   lengths = length_push loops id ∙ omega (arith, r.lengths, length_push at v);
-  over = subst (λ d. Over d (inner_rows rows lower upper)) (sym (length_push at v)) (rows_over (length at) rows lower upper r.over b);
-  holds = each_append (λ row. pos 0 ≤ℤ form_at row (at ++ v ∷ [])) rows (map lower_row lower ++ map upper_row upper) (hold_more rows at (v ∷ []) r.over r.holds) (values_meet lower upper at v b h);
+  over = subst (λ d. Over d (inner_rows (length loops) rows lower upper step)) (sym (length_push at v)) (rows_over (length at) (length loops) rows lower upper step r.lengths r.over b);
+  holds = each_append (λ row. pos 0 ≤ℤ form_at row (at ++ v ∷ [])) rows (bound_rows (length loops) lower upper step) (hold_more rows at (v ∷ []) r.over r.holds) (values_meet upper step (length loops) at v r.lengths lower b h);
 }
 
 pub round_guard : (guards : List Form) (loops : List ℕ) (rows : List Form) (at : List ℤ) → Each (λ form. length form.coefs ≡ length at) guards
@@ -195,22 +228,22 @@ parts_origins (node ∷ nodes) h loops rows at fits r p k =
           (λ place. in_right place places others) (λ k. in_right k (loops_of node) (all_loops nodes)) (parts_origins nodes h.1 loops rows at fits.1 r p l)
     ]
 
-origins_loop : (id : ℕ) (lower upper : List Form) (body : List Node) → Each HasOrigins body → HasOrigins (Loop id lower upper body)
-origins_loop id lower upper body h loops rows at fits r p k =
-    let f : LoopFits lower upper body (length at) = loop_fits id lower upper body (length at) fits in
-    let turn = from_flat_map (λ v. all_points (map trace_node body) (at ++ v ∷ [])) p (loop_values lower upper at) (subst (λ points. In p points) (trace_loop id lower upper body at) k) in
+origins_loop : (id : ℕ) (lower upper : List Form) (step : ℤ) (body : List Node) → Each HasOrigins body → HasOrigins (Loop id lower upper step body)
+origins_loop id lower upper step body h loops rows at fits r p k =
+    let f : LoopFits lower upper step body (length at) = loop_fits id lower upper step body (length at) fits in
+    let turn = from_flat_map (λ v. all_points (map trace_node body) (at ++ v ∷ [])) p (loop_values lower upper step at) (subst (λ points. In p points) (trace_loop id lower upper step body at) k) in
     let v : ℤ = turn.0 in
     let fits' : Each (FitsIn (length (at ++ v ∷ []))) body = subst (λ d. Each (FitsIn d) body) (sym (length_push at v)) f.body_fits in
-    let o = parts_origins body h (loops ++ id ∷ []) (inner_rows rows lower upper) (at ++ v ∷ []) fits' (round_turn id lower upper loops rows at v f.bounds r turn.1) p turn.2 in
+    let o = parts_origins body h (loops ++ id ∷ []) (inner_rows (length loops) rows lower upper step) (at ++ v ∷ []) fits' (round_turn id lower upper step loops rows at v f.bounds r turn.1) p turn.2 in
     record {
       place = o.place;
-      placed = subst (λ places. In o.place places) (sym (places_loop id lower upper body loops rows)) o.placed;
+      placed = subst (λ places. In o.place places) (sym (places_loop id lower upper step body loops rows)) o.placed;
       numbered = o.numbered;
       tail = v ∷ o.tail;
       extends = o.extends ∙ append_assoc at (v ∷ []) o.tail;
       inner = id ∷ o.inner;
       rounds = o.rounds ∙ append_assoc loops (id ∷ []) o.inner;
-      inside = subst (λ ids. Each (λ k. In k ids) (id ∷ o.inner)) (sym (fold_loop (List ℕ) loops_step id lower upper body)) (inl refl, each_then (λ k. In k (all_loops body)) (λ k. In k (id ∷ all_loops body)) o.inner (λ k l. inr l) o.inside);
+      inside = subst (λ ids. Each (λ k. In k ids) (id ∷ o.inner)) (sym (fold_loop (List ℕ) loops_step id lower upper step body)) (inl refl, each_then (λ k. In k (all_loops body)) (λ k. In k (id ∷ all_loops body)) o.inner (λ k l. inr l) o.inside);
       deep = o.deep;
       holds = o.holds;
     }

@@ -1,7 +1,6 @@
 -- What holds of each element of a list.
 use Rattle.std.proofs.Common.{◌<◌, ◌≤◌, ℕ, zero, suc, ◌+◌, List, [], ◌∷◌, ◌++◌, map, arith}
-use Rattle.std.specs.List.{flat_map}
-use Rattle.sanlp.specs.Cells.{count_up}
+use Rattle.std.specs.List.{flat_map, range_with_len}
 
 abbrev pub Each : {X : Type 0} → (X → Type 0) → List X → Type 0
 Each P [] = Unit {0}
@@ -39,11 +38,18 @@ pub each_flat_map : {X Y : Type 0} (P : Y → Type 0) (f : X → List Y) (xs : L
 each_flat_map P f [] h = tt
 each_flat_map P f (x ∷ xs) h = each_append P (f x) (flat_map f xs) h.0 (each_flat_map P f xs h.1)
 
--- numbers counted up from a are at least a, and below a + n
-pub count_up_above : (a b n : ℕ) → b ≤ a → Each (λ k. b ≤ k) (count_up a n)
-count_up_above a b zero h = tt
-count_up_above a b (suc n) h = (h, count_up_above (a + 1) b n (omega arith))
+-- what holds of each number from a on, below a + n
+pub each_range_with_len : (P : ℕ → Type 0) (a n : ℕ) → ((k : ℕ) → a ≤ k → k < a + n → P k) → Each P (range_with_len a n)
+each_range_with_len P a zero f = tt
+each_range_with_len P a (suc n) f = (f a (omega arith) (omega arith), each_range_with_len P (a + 1) n (λ k l r. f k (omega arith) (omega arith)))
 
-pub count_up_below : (a n b : ℕ) → a + n ≤ b → Each (λ k. k < b) (count_up a n)
-count_up_below a zero b h = tt
-count_up_below a (suc n) b h = (omega arith, count_up_below (a + 1) n b (omega arith))
+-- these numbers are at least a, and below a + n
+pub range_with_len_above : (a b n : ℕ) → b ≤ a → Each (λ k. b ≤ k) (range_with_len a n)
+range_with_len_above a b n h = each_range_with_len (λ k. b ≤ k) a n (λ k l r. omega arith)
+
+pub range_with_len_below : (a n b : ℕ) → a + n ≤ b → Each (λ k. k < b) (range_with_len a n)
+range_with_len_below a n b h = each_range_with_len (λ k. k < b) a n (λ k l r. omega arith)
+
+-- by the name that crates above have for it
+pub count_up_below : (a n b : ℕ) → a + n ≤ b → Each (λ k. k < b) (range_with_len a n)
+count_up_below = range_with_len_below

@@ -19,7 +19,7 @@ use Rattle.sanlp.specs.WellFormed.{Place, all_loops, all_places, said_from}
 use Rattle.sanlp.proofs.BoundRows.{AllHold, each_holds, hold_each}
 use Rattle.sanlp.proofs.Domains.{FitsIn, HasOrigins, Origin, Round, each_fits, origins, parts_origins}
 use Rattle.sanlp.proofs.Each.{Each, each_of, each_then}
-use Rattle.sanlp.proofs.Members.{In, Pairwise, at_in, count_up_ascends, each_from_in, in_at, pairwise_at}
+use Rattle.sanlp.proofs.Members.{In, Pairwise, at_in, range_with_len_ascends, each_from_in, in_at, pairwise_at}
 use Rattle.sanlp.proofs.Ordered.{Ascends, InOrder, IsOrdered, IsSaid, ordered, parts_ordered}
 use Rattle.sanlp.proofs.Reached.{IsReached, parts_reached, reached}
 
@@ -102,7 +102,7 @@ module _ (n : Nest) where
   in_order = record {
     said = subst (Each (IsSaid n)) (sym n.well_formed.placed) (each_from_in (IsSaid n) (said_from 0 n.statements) is_said);
     ascends = subst (Pairwise (Ascends n)) (sym n.well_formed.placed) (said_ascends 0 n.statements);
-    numbered = subst (Pairwise (λ j k. j < k)) (sym n.well_formed.loops_numbered) (count_up_ascends 0 (length (all_loops n.body)));
+    numbered = subst (Pairwise (λ j k. j < k)) (sym n.well_formed.loops_numbered) (range_with_len_ascends 0 (length (all_loops n.body)));
   }
 
   fits : Each (FitsIn 0) n.body

@@ -45,10 +45,10 @@ module _ (n : Nest) (d : Inputs) where
       ∙ sym (fold-append (execute n d) m (trace_node e.0 at) _)
 
   layer_traced : (y : Node-F Traced) → IsTraced (roll-Node (map-Node Traced Node (λ e. e.0) y))
-  layer_traced (Loop id lower upper body) at m =
-      ap (λ act. act at m) (fold-roll-Node Action (exec_step n d) (Loop id lower upper (map (λ e. e.0) body)))
-      ∙ fold_flat (execute n d) _ _ (λ v m. parts_traced body (at ++ v ∷ []) m) m (loop_values lower upper at)
-      ∙ ap (λ ps. fold (execute n d) m (ps at)) (sym (fold-roll-Node PointsAt trace_step (Loop id lower upper (map (λ e. e.0) body))))
+  layer_traced (Loop id lower upper step body) at m =
+      ap (λ act. act at m) (fold-roll-Node Action (exec_step n d) (Loop id lower upper step (map (λ e. e.0) body)))
+      ∙ fold_flat (execute n d) _ _ (λ v m. parts_traced body (at ++ v ∷ []) m) m (loop_values lower upper step at)
+      ∙ ap (λ ps. fold (execute n d) m (ps at)) (sym (fold-roll-Node PointsAt trace_step (Loop id lower upper step (map (λ e. e.0) body))))
   layer_traced (Guard rows body) at m =
       ap (λ act. act at m) (fold-roll-Node Action (exec_step n d) (Guard rows (map (λ e. e.0) body)))
       ∙ guarded (all_hold rows at)

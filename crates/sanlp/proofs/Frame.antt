@@ -1,16 +1,16 @@
 -- The points of sources and sinks, and where they stand in the trace.
 use Rattle.std.proofs.Common.{◌≡◌, ◌<◌, ◌≤◌, ℕ, suc, ◌+◌, ◌-◌, ℤ, List, [], ◌∷◌, ◌++◌, map, length, refl, sym, ap, ◌∙◌, subst, arith, append_assoc}
-use Rattle.std.specs.List.{flat_map, sum_by}
+use Rattle.std.specs.List.{flat_map, range_with_len, sum_by}
 use Rattle.std.proofs.lemmas.List.{append_cancel_right, map-append}
 use Rattle.std.proofs.lemmas.List.Concat.{flat_map-append}
 use Rattle.sanlp.specs.declared.nest.Nest.{Nest}
 use Rattle.sanlp.specs.declared.nest.Node.{Node}
 use Rattle.sanlp.specs.declared.nest.Point.{Point}
-use Rattle.sanlp.specs.Cells.{count_up, all_subscripts, is_input, is_output}
+use Rattle.sanlp.specs.Cells.{all_subscripts, is_input, is_output}
 use Rattle.sanlp.specs.Trace.{all_points, trace, trace_node}
 use Rattle.sanlp.specs.WellFormed.{all_loops, all_places, array_loops, between, input_extents, output_extents, places_of}
-use Rattle.sanlp.proofs.Each.{Each, each_append, each_right, each_of, each_map, each_from_map, count_up_below}
-use Rattle.sanlp.proofs.Lists.{count_up-append}
+use Rattle.sanlp.proofs.Each.{Each, each_append, each_right, each_of, each_map, each_from_map, range_with_len_below}
+use Rattle.sanlp.proofs.Lists.{range_with_len-append}
 use Rattle.sanlp.proofs.Places.{numbers_of, numbers_said, numbers_array_loops, points_carry}
 use Rattle.sanlp.proofs.Roles.{first_sink, inputs, outputs, inputs_come_first, length_numbers, length_statements}
 use Rattle.sanlp.proofs.Rounds.{trace_round}
@@ -97,24 +97,24 @@ module _ (n : Nest) where
       ∙ sym (append_assoc (array_points 0 ins) middle_points (array_points (first_sink n) outs))
 
   -- the numbers of the statements in the body, in order
-  numbers_split : count_up 0 (length ins) ++ (numbers_of (all_places middle [] []) ++ count_up (length n.statements - length outs) (length outs)) ≡ count_up 0 (length n.statements)
+  numbers_split : range_with_len 0 (length ins) ++ (numbers_of (all_places middle [] []) ++ range_with_len (length n.statements - length outs) (length outs)) ≡ range_with_len 0 (length n.statements)
   numbers_split =
-      ap (λ ks. ks ++ (numbers_of (all_places middle [] []) ++ count_up (length n.statements - length outs) (length outs))) (sym (numbers_array_loops 0 0 ins))
+      ap (λ ks. ks ++ (numbers_of (all_places middle [] []) ++ range_with_len (length n.statements - length outs) (length outs))) (sym (numbers_array_loops 0 0 ins))
       ∙ ap (λ ks. numbers_of (all_places (array_loops 0 0 ins) [] []) ++ (numbers_of (all_places middle [] []) ++ ks)) (sym (numbers_array_loops _ (length n.statements - length outs) outs))
       ∙ ap (λ ks. numbers_of (all_places (array_loops 0 0 ins) [] []) ++ ks) (sym (map-append (λ place. place.statement) (all_places middle [] []) (all_places sinks [] [])) ∙ ap numbers_of (sym (places-append middle sinks)))
       ∙ sym (map-append (λ place. place.statement) (all_places (array_loops 0 0 ins) [] []) (all_places (middle ++ sinks) [] []))
       ∙ ap numbers_of (sym (places-append (array_loops 0 0 ins) (middle ++ sinks)) ∙ ap (λ body. all_places body [] []) (sym framed_so) ∙ n.well_formed.placed)
       ∙ numbers_said 0 n.statements
 
-  middle_numbers : count_up 0 (length ins) ++ numbers_of (all_places middle [] []) ≡ count_up 0 (first_sink n)
+  middle_numbers : range_with_len 0 (length ins) ++ numbers_of (all_places middle [] []) ≡ range_with_len 0 (first_sink n)
   middle_numbers =
       let first : ℕ = length n.statements - length outs in
       let whole : length n.statements ≡ first + length outs = omega (arith, length_statements n, length_outs) in
       let from : 0 + first ≡ first = omega arith in
-      append_cancel_right _ _ (count_up first (length outs))
-      (append_assoc (count_up 0 (length ins)) (numbers_of (all_places middle [] [])) (count_up first (length outs))
-      ∙ numbers_split ∙ ap (count_up 0) whole ∙ count_up-append 0 first (length outs) ∙ ap (λ k. count_up 0 first ++ count_up k (length outs)) from
-      ∙ ap (λ k. count_up 0 (length n.statements - k) ++ count_up first (length outs)) length_outs)
+      append_cancel_right _ _ (range_with_len first (length outs))
+      (append_assoc (range_with_len 0 (length ins)) (numbers_of (all_places middle [] [])) (range_with_len first (length outs))
+      ∙ numbers_split ∙ ap (range_with_len 0) whole ∙ range_with_len-append 0 first (length outs) ∙ ap (λ k. range_with_len 0 first ++ range_with_len k (length outs)) from
+      ∙ ap (λ k. range_with_len 0 (length n.statements - k) ++ range_with_len first (length outs)) length_outs)
 
   -- no point before the sinks' is of a sink
   pub before_sinks_below : Each (λ p. p.statement < first_sink n) before_sinks
@@ -123,5 +123,5 @@ module _ (n : Nest) where
       (array_points_below 0 (first_sink n) ins (omega (arith, inputs_come_first n, length_ins)))
       (points_carry (λ s. s < first_sink n) middle []
       (each_from_map (λ s. s < first_sink n) (λ place. place.statement) (all_places middle [] [])
-      (each_right (λ s. s < first_sink n) (count_up 0 (length ins)) (numbers_of (all_places middle [] []))
-      (subst (λ ks. Each (λ s. s < first_sink n) ks) (sym middle_numbers) (count_up_below 0 (first_sink n) (first_sink n) (omega arith))))))
+      (each_right (λ s. s < first_sink n) (range_with_len 0 (length ins)) (numbers_of (all_places middle [] []))
+      (subst (λ ks. Each (λ s. s < first_sink n) ks) (sym middle_numbers) (range_with_len_below 0 (first_sink n) (first_sink n) (omega arith))))))

@@ -11,6 +11,7 @@ pub mod Intervals
 pub mod LastWriter
 pub mod Lists
 pub mod Members
+pub mod NestFacts
 pub mod Ordered
 pub mod Outputs
 pub mod OwnCells
@@ -20,4 +21,6 @@ pub mod Reached
 pub mod Roles
 pub mod Rounds
 pub mod Sinks
+pub mod Stepped
+pub mod Turns
 pub mod Worked

@@ -1,10 +1,10 @@
 -- Membership in lists, and lists in which each element relates to all later ones.
 use Rattle.std.proofs.Common.{◌≡◌, ◌<◌, ◌≤◌, ℕ, zero, suc, ◌+◌, List, [], ◌∷◌, ◌++◌, ◌⊎◌, inl, inr, refl, sym, ap, subst, arith}
 use Rattle.std.specs.Prelude.{Some, slice_get}
-use Rattle.std.specs.List.{flat_map}
+use Rattle.std.specs.List.{flat_map, range_with_len}
+use Rattle.std.proofs.lemmas.Bool.{cases_lt}
 use Rattle.std.proofs.lemmas.Option.{same_Some}
-use Rattle.sanlp.specs.Cells.{count_up}
-use Rattle.sanlp.proofs.Each.{Each, each_append, each_left, each_right, each_then, count_up_above}
+use Rattle.sanlp.proofs.Each.{Each, each_append, each_left, each_right, each_then, range_with_len_above}
 
 abbrev pub In : {X : Type 0} → X → List X → Type 0
 In x [] = ⊥
@@ -90,6 +90,14 @@ pairwise_flat_map S R f (x ∷ xs) h each across =
     (pairwise_flat_map S R f xs h.1 (λ z k. each z (inr k)) (λ y z k l. across y z (inr k) (inr l)))
     (λ y w k l. let from = from_flat_map f w xs l in across x from.0 (inl refl) (inr from.1) (each_in (S x) from.0 xs h.0 from.1) y w k from.2)
 
-pub count_up_ascends : (a n : ℕ) → Pairwise (λ j k. j < k) (count_up a n)
-count_up_ascends a zero = tt
-count_up_ascends a (suc n) = (each_then (λ k. a + 1 ≤ k) (λ k. a < k) (count_up (a + 1) n) (λ k h. omega arith) (count_up_above (a + 1) (a + 1) n (omega arith)), count_up_ascends (a + 1) n)
+pub range_with_len_ascends : (a n : ℕ) → Pairwise (λ j k. j < k) (range_with_len a n)
+range_with_len_ascends a zero = tt
+range_with_len_ascends a (suc n) = (each_then (λ k. a + 1 ≤ k) (λ k. a < k) (range_with_len (a + 1) n) (λ k h. omega arith) (range_with_len_above (a + 1) (a + 1) n (omega arith)), range_with_len_ascends (a + 1) n)
+
+-- by the name that crates above have for it
+pub count_up_ascends : (a n : ℕ) → Pairwise (λ j k. j < k) (range_with_len a n)
+count_up_ascends = range_with_len_ascends
+
+pub in_range_with_len : (a n k : ℕ) → a ≤ k → k < a + n → In k (range_with_len a n)
+in_range_with_len a zero k h l = absurd (omega arith)
+in_range_with_len a (suc n) k h l = elim (cases_lt a k) [ inl lt ↦ inr (in_range_with_len (a + 1) n k (omega arith) (omega arith)) | inr le ↦ inl (omega arith) ]

@@ -14,7 +14,7 @@ use Rattle.sanlp.specs.Loops.{all_hold, loop_values}
 use Rattle.sanlp.specs.Order.{Precedes, PrecedesWithin, common_loops, loops_round_point}
 use Rattle.sanlp.specs.Trace.{all_points, trace_node}
 use Rattle.sanlp.specs.WellFormed.{Place, all_loops, in_each, loops_of, loops_step, places_of}
-use Rattle.sanlp.proofs.BoundRows.{counted_ascends, hold_each}
+use Rattle.sanlp.proofs.BoundRows.{hold_each, values_ascend}
 use Rattle.sanlp.proofs.Domains.{FitsIn, GuardFits, LoopFits, Origin, HasOrigins, Round, guard_fits, inner_rows, loop_fits, origins, parts_origins, places_guard, places_loop, round_guard, round_turn, trace_assign, trace_guard, trace_loop}
 use Rattle.sanlp.proofs.Each.{Each, each_left, each_of, each_right}
 use Rattle.sanlp.proofs.Folds.{by_parts, fold_guard, fold_loop}
@@ -126,25 +126,25 @@ module _ (n : Nest) where
       (λ a b i j. pairwise_across (λ j k. j < k) (loops_of node) (all_loops nodes) a b o.numbered i j) p q
       (origins node loops rows at fits.0 r p k) (parts_origins nodes (each_of HasOrigins nodes origins) loops rows at fits.1 r q l))
 
-  ordered_loop : (id : ℕ) (lower upper : List Form) (body : List Node) → Each IsOrdered body → IsOrdered (Loop id lower upper body)
-  ordered_loop id lower upper body h loops rows at fits r o =
-      let f : LoopFits lower upper body (length at) = loop_fits id lower upper body (length at) fits in
-      let values : List ℤ = loop_values lower upper at in
+  ordered_loop : (id : ℕ) (lower upper : List Form) (step : ℤ) (body : List Node) → Each IsOrdered body → IsOrdered (Loop id lower upper step body)
+  ordered_loop id lower upper step body h loops rows at fits r o =
+      let f : LoopFits lower upper step body (length at) = loop_fits id lower upper step body (length at) fits in
+      let values : List ℤ = loop_values lower upper step at in
       let points : ℤ → List Point = λ v. all_points (map trace_node body) (at ++ v ∷ []) in
-      let ids : Pairwise (λ j k. j < k) (id ∷ all_loops body) = subst (Pairwise (λ j k. j < k)) (fold_loop (List ℕ) loops_step id lower upper body) o.numbered in
-      let inner : InOrder (in_each (map places_of body) (loops ++ id ∷ []) (inner_rows rows lower upper)) (all_loops body) = record {
-        said = subst (Each IsSaid) (places_loop id lower upper body loops rows) o.said;
-        ascends = subst (Pairwise Ascends) (places_loop id lower upper body loops rows) o.ascends;
+      let ids : Pairwise (λ j k. j < k) (id ∷ all_loops body) = subst (Pairwise (λ j k. j < k)) (fold_loop (List ℕ) loops_step id lower upper step body) o.numbered in
+      let inner : InOrder (in_each (map places_of body) (loops ++ id ∷ []) (inner_rows (length loops) rows lower upper step)) (all_loops body) = record {
+        said = subst (Each IsSaid) (places_loop id lower upper step body loops rows) o.said;
+        ascends = subst (Pairwise Ascends) (places_loop id lower upper step body loops rows) o.ascends;
         numbered = ids.1;
       } in
       let turn_fits : (v : ℤ) → Each (FitsIn (length (at ++ v ∷ []))) body = λ v. subst (λ d. Each (FitsIn d) body) (sym (length_push at v)) f.body_fits in
-      let turn : (v : ℤ) → In v values → Round (loops ++ id ∷ []) (inner_rows rows lower upper) (at ++ v ∷ []) = λ v k. round_turn id lower upper loops rows at v f.bounds r k in
-      let from : (v : ℤ) → In v values → (p : Point) → In p (points v) → Origin (in_each (map places_of body) (loops ++ id ∷ []) (inner_rows rows lower upper)) (all_loops body) (loops ++ id ∷ []) (at ++ v ∷ []) p
-      = λ v k p l. parts_origins body (each_of HasOrigins body origins) (loops ++ id ∷ []) (inner_rows rows lower upper) (at ++ v ∷ []) (turn_fits v) (turn v k) p l in
-      subst (Pairwise (Precedes n)) (sym (trace_loop id lower upper body at))
-      (pairwise_flat_map (λ v w. v <ℤ w) (Precedes n) points values (counted_ascends _ _)
-      (λ v k. parts_ordered body h (loops ++ id ∷ []) (inner_rows rows lower upper) (at ++ v ∷ []) (turn_fits v) (turn v k) inner)
-      (λ v w k l lt p q i j. across_turns (in_each (map places_of body) (loops ++ id ∷ []) (inner_rows rows lower upper)) (all_loops body) loops id at v w r.lengths inner.said lt p q (from v k p i) (from w l q j)))
+      let turn : (v : ℤ) → In v values → Round (loops ++ id ∷ []) (inner_rows (length loops) rows lower upper step) (at ++ v ∷ []) = λ v k. round_turn id lower upper step loops rows at v f.bounds r k in
+      let from : (v : ℤ) → In v values → (p : Point) → In p (points v) → Origin (in_each (map places_of body) (loops ++ id ∷ []) (inner_rows (length loops) rows lower upper step)) (all_loops body) (loops ++ id ∷ []) (at ++ v ∷ []) p
+      = λ v k p l. parts_origins body (each_of HasOrigins body origins) (loops ++ id ∷ []) (inner_rows (length loops) rows lower upper step) (at ++ v ∷ []) (turn_fits v) (turn v k) p l in
+      subst (Pairwise (Precedes n)) (sym (trace_loop id lower upper step body at))
+      (pairwise_flat_map (λ v w. v <ℤ w) (Precedes n) points values (values_ascend lower upper step at f.bounds.step_counts)
+      (λ v k. parts_ordered body h (loops ++ id ∷ []) (inner_rows (length loops) rows lower upper step) (at ++ v ∷ []) (turn_fits v) (turn v k) inner)
+      (λ v w k l lt p q i j. across_turns (in_each (map places_of body) (loops ++ id ∷ []) (inner_rows (length loops) rows lower upper step)) (all_loops body) loops id at v w r.lengths inner.said lt p q (from v k p i) (from w l q j)))
 
   ordered_if : (b : Bool) (points : List Point) → (b ≡ true → Pairwise (Precedes n) points) → Pairwise (Precedes n) (cond b points [])
   ordered_if true points h = h refl

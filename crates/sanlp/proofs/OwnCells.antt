@@ -1,10 +1,10 @@
 -- The cell that a source or sink accesses is the one of its loop values.
 use Rattle.std.proofs.Common.{◌≡◌, ℕ, ℤ, pos, List, [], ◌∷◌, map, length, refl, sym, ap, ◌∙◌, suc}
 use Rattle.std.specs.Prelude.{slice_index_or}
-use Rattle.std.specs.List.{flat_map}
+use Rattle.std.specs.List.{flat_map, range_with_len}
 use Rattle.affine_core.proofs.Linear.{variable_at}
 use Rattle.affine_core.specs.Affine.{form_at, variable_form}
-use Rattle.sanlp.specs.Cells.{natural, counted, count_up, all_subscripts}
+use Rattle.sanlp.specs.Cells.{natural, counted, all_subscripts}
 use Rattle.sanlp.specs.Access.{cell_at}
 use Rattle.sanlp.specs.WellFormed.{own_cell}
 use Rattle.sanlp.proofs.Each.{Each, each_append, each_map, each_then}
@@ -19,7 +19,7 @@ variables_at depth at (v ∷ vs) =
 
 pub own_cell_at : (depth a : ℕ) (at : List ℤ) → length at ≡ depth → cell_at at (own_cell depth a) ≡ (a, at)
 own_cell_at depth a at e =
-    ap (λ subscripts. (a, subscripts)) (variables_at depth at (count_up 0 depth) ∙ ap (λ k. map (λ v. slice_index_or at v (pos 0)) (count_up 0 k)) (sym e) ∙ all_elements at)
+    ap (λ subscripts. (a, subscripts)) (variables_at depth at (range_with_len 0 depth) ∙ ap (λ k. map (λ v. slice_index_or at v (pos 0)) (range_with_len 0 k)) (sym e) ∙ all_elements at)
 
 -- an array's subscripts are as many as its extents
 subscripts_from : (extents : List ℤ) (values : List ℤ) → Each (λ at. length at ≡ length extents) (all_subscripts extents)

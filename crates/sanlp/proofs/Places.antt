@@ -1,6 +1,6 @@
 -- Where the statements of points stand.
 use Rattle.std.proofs.Common.{◌≡◌, ℕ, ◌+◌, ℤ, pos, ◌-ℤ◌, List, [], ◌∷◌, ◌++◌, map, length, Bool, true, false, cond, refl, sym, ap, ◌∙◌, subst}
-use Rattle.std.specs.List.{flat_map}
+use Rattle.std.specs.List.{flat_map, range_with_len}
 use Rattle.std.proofs.lemmas.List.{append-nil, map-append}
 use Rattle.affine_core.specs.Affine.{constant_form}
 use Rattle.affine_core.specs.declared.form.Form.{Form}
@@ -11,10 +11,10 @@ use Rattle.sanlp.specs.declared.nest.Node.TheViews.{roll-Node}
 use Rattle.sanlp.specs.declared.nest.Point.{Point}
 use Rattle.sanlp.specs.declared.nest.Statement.{Statement}
 use Rattle.sanlp.specs.Around.{loops_round}
-use Rattle.sanlp.specs.Cells.{natural, count_up}
+use Rattle.sanlp.specs.Cells.{natural}
 use Rattle.sanlp.specs.Loops.{loop_values, all_hold}
 use Rattle.sanlp.specs.Trace.{PointsAt, all_points, trace_step, trace_node}
-use Rattle.sanlp.specs.WellFormed.{Place, Places, in_each, places_step, places_of, all_places, said_from, array_loops, lower_row, upper_row}
+use Rattle.sanlp.specs.WellFormed.{Place, Places, in_each, places_step, places_of, all_places, said_from, array_loops, bound_rows}
 use Rattle.sanlp.proofs.Each.{Each, each_append, each_left, each_right}
 use Rattle.sanlp.proofs.Folds.{fold_loop_at_both, fold_assign_at_both}
 
@@ -49,11 +49,11 @@ module _ (Q : ℕ → Type 0) where
   carried_if false points h = tt
 
   carried_layer : (y : Node-F Carried) → Carries (roll-Node (map-Node Carried Node (λ e. e.0) y))
-  carried_layer (Loop id lower upper body) loops rows at h =
+  carried_layer (Loop id lower upper step body) loops rows at h =
       let nodes : List Node = map (λ e. e.0) body in
-      let inside = subst OfPlaces (ap (λ f. f loops rows) (fold-roll-Node Places places_step (Loop id lower upper nodes))) h in
-      subst OfPoints (ap (λ f. f at) (sym (fold-roll-Node PointsAt trace_step (Loop id lower upper nodes))))
-      (carried_turns (all_points (map trace_node nodes)) (λ at. carried_parts body _ _ at inside) at (loop_values lower upper at))
+      let inside = subst OfPlaces (ap (λ f. f loops rows) (fold-roll-Node Places places_step (Loop id lower upper step nodes))) h in
+      subst OfPoints (ap (λ f. f at) (sym (fold-roll-Node PointsAt trace_step (Loop id lower upper step nodes))))
+      (carried_turns (all_points (map trace_node nodes)) (λ at. carried_parts body _ _ at inside) at (loop_values lower upper step at))
   carried_layer (Guard guards body) loops rows at h =
       let nodes : List Node = map (λ e. e.0) body in
       let inside = subst OfPlaces (ap (λ f. f loops rows) (fold-roll-Node Places places_step (Guard guards nodes))) h in
@@ -83,16 +83,16 @@ numbers_round id k (e ∷ extents) s loops rows =
     let inner : Node = loops_round (id + 1) (k + 1) extents s in
     let lower : List Form = constant_form k (pos 0) ∷ [] in
     let upper : List Form = constant_form k (pos (natural e) -ℤ pos 1) ∷ [] in
-    ap numbers_of (fold_loop_at_both (List ℕ) (List Form) (List Place) places_step id lower upper (inner ∷ []) loops rows)
-    ∙ ap numbers_of (append-nil (places_of inner (loops ++ id ∷ []) (rows ++ (map lower_row lower ++ map upper_row upper))))
+    ap numbers_of (fold_loop_at_both (List ℕ) (List Form) (List Place) places_step id lower upper (pos 1) (inner ∷ []) loops rows)
+    ∙ ap numbers_of (append-nil (places_of inner (loops ++ id ∷ []) (rows ++ bound_rows (length loops) lower upper (pos 1))))
     ∙ numbers_round (id + 1) (k + 1) extents s _ _
 
 -- the statements' own places have their numbers in order
-pub numbers_said : (k : ℕ) (statements : List Statement) → numbers_of (said_from k statements) ≡ count_up k (length statements)
+pub numbers_said : (k : ℕ) (statements : List Statement) → numbers_of (said_from k statements) ≡ range_with_len k (length statements)
 numbers_said k [] = refl
 numbers_said k (s ∷ statements) = ap (λ ks. k ∷ ks) (numbers_said (k + 1) statements)
 
-pub numbers_array_loops : (id s : ℕ) (extents : List (List ℤ)) → numbers_of (all_places (array_loops id s extents) [] []) ≡ count_up s (length extents)
+pub numbers_array_loops : (id s : ℕ) (extents : List (List ℤ)) → numbers_of (all_places (array_loops id s extents) [] []) ≡ range_with_len s (length extents)
 numbers_array_loops id s [] = refl
 numbers_array_loops id s (e ∷ extents) =
     let rest : List Node = array_loops (id + length e) (s + 1) extents in

@@ -9,7 +9,7 @@ use Rattle.sanlp.specs.declared.nest.Node.TheVariants.{Assign}
 use Rattle.sanlp.specs.declared.nest.Point.{Point}
 use Rattle.sanlp.specs.Loops.{all_hold, loop_values}
 use Rattle.sanlp.specs.Trace.{all_points, trace_node}
-use Rattle.sanlp.specs.WellFormed.{Place, in_each, lower_row, places_of, upper_row}
+use Rattle.sanlp.specs.WellFormed.{Place, bound_rows, in_each, places_of}
 use Rattle.sanlp.proofs.BoundRows.{AllHold, each_holds, meeting_values}
 use Rattle.sanlp.proofs.Domains.{FitsIn, GuardFits, LoopFits, Over, from_widened, guard_fits, hold_less, inner_rows, loop_fits, places_assign, places_guard, places_loop, rows_over, trace_assign, trace_guard, trace_loop}
 use Rattle.sanlp.proofs.Each.{Each, each_left, each_of, each_right, each_append, each_then}
@@ -30,10 +30,10 @@ parts_fronts (node ∷ nodes) h loops rows place k = elim (in_cases place (place
   | inr l ↦ parts_fronts nodes h.1 loops rows place l
 ]
 
-fronts_loop : (id : ℕ) (lower upper : List Form) (body : List Node) → Each HasFronts body → HasFronts (Loop id lower upper body)
-fronts_loop id lower upper body h loops rows place k =
-    let inner = parts_fronts body h (loops ++ id ∷ []) (inner_rows rows lower upper) place (subst (λ places. In place places) (places_loop id lower upper body loops rows) k) in
-    (omega (arith, inner.0, length_push loops id), λ at l. each_left (λ row. pos 0 ≤ℤ form_at row at) rows (map lower_row lower ++ map upper_row upper) (inner.1 at l))
+fronts_loop : (id : ℕ) (lower upper : List Form) (step : ℤ) (body : List Node) → Each HasFronts body → HasFronts (Loop id lower upper step body)
+fronts_loop id lower upper step body h loops rows place k =
+    let inner = parts_fronts body h (loops ++ id ∷ []) (inner_rows (length loops) rows lower upper step) place (subst (λ places. In place places) (places_loop id lower upper step body loops rows) k) in
+    (omega (arith, inner.0, length_push loops id), λ at l. each_left (λ row. pos 0 ≤ℤ form_at row at) rows (bound_rows (length loops) lower upper step) (inner.1 at l))
 
 fronts_guard : (guards : List Form) (body : List Node) → Each HasFronts body → HasFronts (Guard guards body)
 fronts_guard guards body h loops rows place k =
@@ -66,31 +66,31 @@ parts_reached (node ∷ nodes) h loops rows at fits lengths over place k tail de
       | inr l ↦ in_right p (trace_node node at) (all_points (map trace_node nodes) at) (parts_reached nodes h.1 loops rows at fits.1 lengths over place l tail deep holds)
     ]
 
-reached_loop : (id : ℕ) (lower upper : List Form) (body : List Node) → Each IsReached body → IsReached (Loop id lower upper body)
-reached_loop id lower upper body h loops rows at fits lengths over place k tail deep holds =
-    by_tail tail deep holds (subst (λ places. In place places) (places_loop id lower upper body loops rows) k) where
+reached_loop : (id : ℕ) (lower upper : List Form) (step : ℤ) (body : List Node) → Each IsReached body → IsReached (Loop id lower upper step body)
+reached_loop id lower upper step body h loops rows at fits lengths over place k tail deep holds =
+    by_tail tail deep holds (subst (λ places. In place places) (places_loop id lower upper step body loops rows) k) where
       by_tail : (tail : List ℤ) → length (at ++ tail) ≡ length place.loops → AllHold place.rows (at ++ tail)
-          → In place (in_each (map places_of body) (loops ++ id ∷ []) (inner_rows rows lower upper))
-          → In (record { statement = place.statement; at = at ++ tail }) (trace_node (Loop id lower upper body) at)
+          → In place (in_each (map places_of body) (loops ++ id ∷ []) (inner_rows (length loops) rows lower upper step))
+          → In (record { statement = place.statement; at = at ++ tail }) (trace_node (Loop id lower upper step body) at)
       by_tail [] deep holds k =
-          let begins = parts_fronts body (each_of HasFronts body fronts) (loops ++ id ∷ []) (inner_rows rows lower upper) place k in
+          let begins = parts_fronts body (each_of HasFronts body fronts) (loops ++ id ∷ []) (inner_rows (length loops) rows lower upper step) place k in
           let none : List ℤ = [] in
           absurd (omega (arith, begins.0, length_push loops id, length-append at none))
       by_tail (v ∷ tail) deep holds k =
-          let f : LoopFits lower upper body (length at) = loop_fits id lower upper body (length at) fits in
+          let f : LoopFits lower upper step body (length at) = loop_fits id lower upper step body (length at) fits in
           let at' : List ℤ = at ++ v ∷ [] in
           let joined : at' ++ tail ≡ at ++ v ∷ tail = append_assoc at (v ∷ []) tail in
-          let begins = parts_fronts body (each_of HasFronts body fronts) (loops ++ id ∷ []) (inner_rows rows lower upper) place k in
-          let over' : Over (length at') (inner_rows rows lower upper) = subst (λ d. Over d (inner_rows rows lower upper)) (sym (length_push at v)) (rows_over (length at) rows lower upper over f.bounds) in
+          let begins = parts_fronts body (each_of HasFronts body fronts) (loops ++ id ∷ []) (inner_rows (length loops) rows lower upper step) place k in
+          let over' : Over (length at') (inner_rows (length loops) rows lower upper step) = subst (λ d. Over d (inner_rows (length loops) rows lower upper step)) (sym (length_push at v)) (rows_over (length at) (length loops) rows lower upper step lengths over f.bounds) in
           let holds' : AllHold place.rows (at' ++ tail) = subst (AllHold place.rows) (sym joined) holds in
-          let here : AllHold (inner_rows rows lower upper) at' = hold_less (inner_rows rows lower upper) at' tail over' (begins.1 (at' ++ tail) holds') in
-          let value : In v (loop_values lower upper at) = meeting_values lower upper at v f.bounds (each_right (λ row. pos 0 ≤ℤ form_at row at') rows (map lower_row lower ++ map upper_row upper) here) in
+          let here : AllHold (inner_rows (length loops) rows lower upper step) at' = hold_less (inner_rows (length loops) rows lower upper step) at' tail over' (begins.1 (at' ++ tail) holds') in
+          let value : In v (loop_values lower upper step at) = meeting_values upper step (length loops) at v lengths lower f.bounds (each_right (λ row. pos 0 ≤ℤ form_at row at') rows (bound_rows (length loops) lower upper step) here) in
           let fits' : Each (FitsIn (length at')) body = subst (λ d. Each (FitsIn d) body) (sym (length_push at v)) f.body_fits in
           let lengths' : length (loops ++ id ∷ []) ≡ length at' = omega (arith, lengths, length_push loops id, length_push at v) in
-          let inside = parts_reached body h (loops ++ id ∷ []) (inner_rows rows lower upper) at' fits' lengths' over' place k tail (ap length joined ∙ deep) holds' in
+          let inside = parts_reached body h (loops ++ id ∷ []) (inner_rows (length loops) rows lower upper step) at' fits' lengths' over' place k tail (ap length joined ∙ deep) holds' in
           let p : Point = record { statement = place.statement; at = at ++ v ∷ tail } in
-          subst (λ points. In p points) (sym (trace_loop id lower upper body at))
-          (in_flat_map (λ v. all_points (map trace_node body) (at ++ v ∷ [])) v p (loop_values lower upper at) value
+          subst (λ points. In p points) (sym (trace_loop id lower upper step body at))
+          (in_flat_map (λ v. all_points (map trace_node body) (at ++ v ∷ [])) v p (loop_values lower upper step at) value
           (subst (λ x. In (record { statement = place.statement; at = x }) (all_points (map trace_node body) at')) joined inside))
 
 reached_guard : (guards : List Form) (body : List Node) → Each IsReached body → IsReached (Guard guards body)

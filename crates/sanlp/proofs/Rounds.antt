@@ -29,7 +29,7 @@ constant_stays (suc k) c (v ∷ at) =
     ap (λ s. combined s (replicate k (pos 0)) at) e)
     ∙ constant_stays k c at
 
-values_round : (k n : ℕ) (at : List ℤ) → loop_values (constant_form k (pos 0) ∷ []) (constant_form k (pos n -ℤ pos 1) ∷ []) at ≡ counted (pos 0) n
+values_round : (k n : ℕ) (at : List ℤ) → loop_values (constant_form k (pos 0) ∷ []) (constant_form k (pos n -ℤ pos 1) ∷ []) (pos 1) at ≡ counted (pos 0) n
 values_round k n at =
     ap (λ first. interval first (combined (pos n -ℤ pos 1) (replicate k (pos 0)) at)) (constant_stays k (pos 0) at)
     ∙ ap (interval (pos 0)) (constant_stays k (pos n -ℤ pos 1) at)
@@ -63,7 +63,7 @@ trace_round id k (e ∷ extents) s at =
     let lower : List Form = constant_form k (pos 0) ∷ [] in
     let upper : List Form = constant_form k (pos (natural e) -ℤ pos 1) ∷ [] in
     let inner : Node = loops_round (id + 1) (k + 1) extents s in
-    ap (λ node. trace_node node at) (sym (rolls-Loop id lower upper (inner ∷ [])))
-    ∙ ap (λ ps. ps at) (fold-roll-Node PointsAt trace_step (open_.Loop id lower upper (inner ∷ [])))
+    ap (λ node. trace_node node at) (sym (rolls-Loop id lower upper (pos 1) (inner ∷ [])))
+    ∙ ap (λ ps. ps at) (fold-roll-Node PointsAt trace_step (open_.Loop id lower upper (pos 1) (inner ∷ [])))
     ∙ ap (λ vs. flat_map (λ v. trace_node inner (at ++ v ∷ []) ++ []) vs) (values_round k (natural e) at)
     ∙ spread s at (trace_node inner) (all_subscripts extents) (λ v. trace_round (id + 1) (k + 1) extents s (at ++ v ∷ [])) (counted (pos 0) (natural e))

@@ -5,14 +5,16 @@
 -- cell's last writer, which by LastWriter is what the memory has. It goes over the sink's vectors one by one, with the
 -- trace split before and behind. It isn't about which cells are printed: that is the order of `all_subscripts`, by
 -- Rounds.
-use Rattle.std.proofs.Common.{◌≡◌, ◌<◌, ◌≤◌, ◌+◌, ◌-◌, ℕ, suc, pos, ℤ, List, [], ◌∷◌, ◌++◌, length, take, drop, get_or, zero, map, true, false, cond, refl, sym, ap, ◌∙◌, subst, inl, inr, arith, append_assoc, length-append}
+use Rattle.std.proofs.Common.{◌≡◌, ◌<◌, ◌≤◌, ◌+◌, ◌-◌, ℕ, suc, pos, ℤ, List, [], ◌∷◌, ◌++◌, length, take, drop, get_or, map, true, false, cond, refl, sym, ap, ◌∙◌, subst, inl, inr, arith, append_assoc, length-append}
 use Rattle.std.specs.Prelude.{Option, Some, None, slice_get, unwrap_or, IsTrue, ◌==◌}
 use Rattle.std.specs.Option.{option_map, option_and_then, option_map_or}
 use Rattle.std.specs.List.{fold, list_all}
 use Rattle.std.proofs.lemmas.Bool.{and_parts, cases_lt, eq-eqb, eqb-true, ne_eqb}
-use Rattle.std.proofs.lemmas.List.{take_at, length-map}
+use Rattle.std.proofs.lemmas.List.{take_at}
+use Rattle.std.proofs.lemmas.List.FromFn.{length-map-range_with_len}
 use Rattle.std.proofs.lemmas.List.Sums.{fold-append}
 use Rattle.std.proofs.lemmas.Option.{slice_get-get_or, slice_get_past}
+use Rattle.affine_core.specs.Affine.{variable_form}
 use Rattle.wrap_expr.specs.Value.{Operands, value_of, value_step}
 use Rattle.wrap_expr.specs.declared.expr.Expr.TheVariants as expr
 use Rattle.sanlp.specs.declared.nest.ArrayDecl.{ArrayDecl}
@@ -22,7 +24,7 @@ use Rattle.sanlp.specs.declared.nest.Point.{Point}
 use Rattle.sanlp.specs.declared.nest.Role.TheVariants.{Sink}
 use Rattle.sanlp.specs.declared.nest.Statement.{Statement}
 use Rattle.sanlp.specs.Access.{cell_at, extents_of, given_at, result_of, write_of}
-use Rattle.sanlp.specs.Cells.{Cell, all_subscripts, count_up, is_output}
+use Rattle.sanlp.specs.Cells.{Cell, all_subscripts, is_output}
 use Rattle.sanlp.specs.Laws.{entries_from, values_of}
 use Rattle.sanlp.specs.Meaning.{store, execute, exec}
 use Rattle.sanlp.specs.Memory.{Memory, no_cells, cell_value}
@@ -106,10 +108,7 @@ module _ (n : Nest) (d : Inputs) (s a depth : ℕ) (points : List Point)
 
 -- a sink reads the cell of its loop values
 length_own : (depth a : ℕ) → length (own_cell depth a).subscripts ≡ depth
-length_own depth a = length-map (count_up 0 depth) _ ∙ length_count 0 depth where
-  length_count : (k m : ℕ) → length (count_up k m) ≡ m
-  length_count k zero = refl
-  length_count k (suc m) = ap suc (length_count (k + 1) m)
+length_own depth a = length-map-range_with_len (variable_form depth) 0 depth
 
 module _ (n : Nest) where
   sink_depth : (s a : ℕ) (is : StatementOf n s (Sink a)) → depth_of is.statement ≡ length (extents_of n a)

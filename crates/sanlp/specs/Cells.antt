@@ -1,6 +1,6 @@
 -- The cells of declared arrays. This file names no `Nest`.
 use Rattle.std.specs.Prelude.{ℕ, zero, suc, ◌+◌, ◌*◌, ℤ, pos, negsuc, ◌+ℤ◌, List, [], ◌∷◌, map, Bool, true, false, if◌then◌else◌}
-use Rattle.std.specs.List.{flat_map}
+use Rattle.std.specs.List.{flat_map, range_with_len}
 use Rattle.sanlp.specs.declared.nest.ArrayDecl.{ArrayDecl}
 use Rattle.sanlp.specs.declared.nest.Kind.{Kind}
 use Rattle.sanlp.specs.declared.nest.Kind.TheVariants.{Input, Output, Both, Var}
@@ -19,10 +19,9 @@ abbrev pub counted : ℤ → ℕ → List ℤ
 counted a zero = []
 counted a (suc n) = a ∷ counted (a +ℤ pos 1) n
 
--- n natural numbers from a on
+-- std's numbers from a on, by the name that crates above have for them
 abbrev pub count_up : ℕ → ℕ → List ℕ
-count_up a zero = []
-count_up a (suc n) = a ∷ count_up (a + 1) n
+count_up = range_with_len
 
 -- how many cells an array with these extents has
 abbrev pub cell_count : List ℤ → ℕ

@@ -19,7 +19,7 @@ rows_to last = record { constant = pos 0; coefs = pos 1 ∷ [] } ∷ record { co
 
 -- a loop from 0 to `last`
 abbrev pub loop_to : ℕ → ℤ → List Node → Node
-loop_to id last body = Loop id (number (pos 0) ∷ []) (number last ∷ []) body
+loop_to id last body = Loop id (number (pos 0) ∷ []) (number last ∷ []) (pos 1) body
 
 -- the cell v, and the cell y[i]
 abbrev pub scalar : Access

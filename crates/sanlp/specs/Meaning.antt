@@ -33,7 +33,8 @@ abbrev pub turns : Action → List ℤ → Action
 turns body values at m = fold (λ m v. body (at ++ v ∷ []) m) m values
 
 abbrev pub exec_step : Nest → Inputs → Node-F Action → Action
-exec_step n d (Loop id lower upper body) at m = turns (in_turn body) (loop_values lower upper at) at m
+exec_step n d (Loop id lower upper step body) at m =
+    turns (in_turn body) (loop_values lower upper step at) at m
 exec_step n d (Guard rows body) at m = if all_hold rows at then in_turn body at m else m
 exec_step n d (Assign s) at m = execute n d m (record { statement = s; at = at })
 
@@ -46,7 +47,9 @@ exec n d = in_turn (map (exec_node n d) n.body) [] no_cells
 
 -- the values of array number a in row-major order, if it is an output
 abbrev pub output_values : Memory → ℕ → ArrayDecl → List ℤ
-output_values m a array = if is_output array.kind then map (λ at. cell_value m (a, at)) (all_subscripts array.extents) else []
+output_values m a array =
+    if is_output array.kind then map (λ at. cell_value m (a, at)) (all_subscripts array.extents)
+    else []
 
 abbrev pub arrays_from : Memory → ℕ → List ArrayDecl → List (List ℤ)
 arrays_from m a [] = []

@@ -20,7 +20,8 @@ abbrev pub turn_points : PointsAt → List ℤ → PointsAt
 turn_points body values at = flat_map (λ v. body (at ++ v ∷ [])) values
 
 abbrev pub trace_step : Node-F PointsAt → PointsAt
-trace_step (Loop id lower upper body) at = turn_points (all_points body) (loop_values lower upper at) at
+trace_step (Loop id lower upper step body) at =
+    turn_points (all_points body) (loop_values lower upper step at) at
 trace_step (Guard rows body) at = if all_hold rows at then all_points body at else []
 trace_step (Assign s) at = record { statement = s; at = at } ∷ []
 

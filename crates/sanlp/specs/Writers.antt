@@ -28,11 +28,11 @@ greatest_below passes (suc t) = if passes t then Some t else greatest_below pass
 unfoldable pub last_before : Nest → List Point → ℕ → Cell → Option ℕ
 last_before n points t cell = greatest_below (writes_at n points cell) t
 
--- the cell that entry t reads at slot k, if there is one
+-- the cell of read k of entry t, if there is one
 abbrev pub cell_read : Nest → List Point → ℕ → ℕ → Option Cell
 cell_read n points t k = option_and_then (λ p. slice_get (reads_of n p) k) (slice_get points t)
 
--- the last writer of what entry t of the trace reads at slot k, or none
+-- the last writer of the cell of read k of entry t of the trace, or none
 abbrev pub last_writer : Nest → ℕ → ℕ → Option ℕ
 last_writer n t k = option_and_then (last_before n (trace n) t) (cell_read n (trace n) t k)
 

@@ -1,12 +1,16 @@
 //! Static affine nested loop programs: their types and their meaning.
 #![tactic(auto)]
 
+mod cells;
+mod given;
 mod law;
 mod nest;
 mod order;
 #[cfg(test)]
 mod tests;
 
+pub use cells::{capped_count, natural_of};
+pub use given::given_value;
 pub use law::{
     enumerates_domains, follows_trace, holds_last_writers, is_last_writer, is_value,
     sinks_give_arrays,

@@ -13,6 +13,25 @@ pub enum Kind {
     Var,
 }
 
+impl Kind {
+    ghost use Rattle.std.specs.Prelude.{◌≡◌};
+    ghost use Rattle.sanlp.specs.Cells.{is_input as is_read, is_output as is_printed};
+
+    /// Whether arrays of this kind are read from data before the body.
+    pub fn is_input(self) -> bool
+        ensures { result ≡ is_read self }
+    {
+        matches!(self, Kind::Input | Kind::Both)
+    }
+
+    /// Whether arrays of this kind are printed after the body.
+    pub fn is_output(self) -> bool
+        ensures { result ≡ is_printed self }
+    {
+        matches!(self, Kind::Output | Kind::Both)
+    }
+}
+
 /// A declared array. An extent below 0 counts as 0.
 #[derive(Drop)]
 pub struct ArrayDecl {
@@ -28,7 +47,8 @@ pub struct Access {
     pub subscripts: Items<Form>,
 }
 
-/// A source writes its array's cells before the body, a sink reads them after it. The number is that of the array.
+/// A source writes its array's cells before the body, a sink reads them after it. The number is that
+/// of the array.
 #[derive(Clone, Copy, Debug, PartialEq, Eq)]
 pub enum Role {
     Source(u32),
@@ -47,13 +67,17 @@ pub struct Statement {
     pub expr: Expr,
 }
 
-/// A part of a nest's body. A loop runs from its greatest lower form to its least upper form, inclusive.
+/// A part of a nest's body. A loop of step 1 runs its variable from the greatest lower form to the
+/// least upper form, inclusive. A loop of a step above 1 has one lower form, and its variable is the
+/// turn: it runs from 0 upwards by 1, as long as the lower form plus `step` times the turn is at most
+/// every upper form.
 #[derive(Drop)]
 pub enum Node {
     Loop {
         id: u32,
         lower: Items<Form>,
         upper: Items<Form>,
+        step: i64,
         body: Items<Node>,
     },
     Guard {

@@ -1,7 +1,10 @@
 ghost use Rattle.std.specs.Prelude.{◌≡◌, ◌<◌, [], ◌∷◌, pos, length, IfOk};
 ghost use Rattle.sanlp.specs.Examples.{delayed_body, delayed_statements, element, loop_to, number, rows_to, scalar, sets_v, sets_y, sink_of_y, sums_body, sums_statements, y_and_v};
 
-use crate::{Access, ArrayDecl, Kind, Nest, Node, Point, Role, Statement, before};
+use crate::{
+    Access, ArrayDecl, Inputs, Kind, Nest, Node, Point, Role, Statement, before, capped_count,
+    given_value, natural_of,
+};
 use affine_core::{Coefs, Form, Row, Vector};
 use plain_data::{Boxed, Items};
 use std::alloc::{AllocError, Global};
@@ -64,6 +67,7 @@ fn counted_loop(alloc: Global, id: u32, last: i128, body: Items<Node>) -> Result
         id,
         lower: one(alloc, constant(alloc, 0))?,
         upper: one(alloc, constant(alloc, last))?,
+        step: 1,
         body,
     })
 }
@@ -259,5 +263,35 @@ fn points_come_by_their_common_loops_and_then_by_their_statements(
     assert!(rt; !is_earlier(alloc, &nest, (0, 1), (1, 0)));
     assert!(rt; !is_earlier(alloc, &nest, (2, 0), (1, 3)));
     assert!(rt; !is_earlier(alloc, &nest, (2, 1), (2, 1)));
+    Ok(())
+}
+
+#[test]
+fn a_source_is_given_the_value_at_its_cell(rt: HostRuntime) -> Result<(), Fail> {
+    let alloc = rt.alloc();
+    let nest = running_sums(alloc)?;
+    let inputs = Inputs {
+        arrays: one(alloc, three(alloc, 5, 6, 7)?)?,
+    };
+    assert_eq!(rt; given_value(&nest, &inputs, Role::Source(0), &[1]), 6);
+    assert_eq!(rt; given_value(&nest, &inputs, Role::Source(0), &[3]), 0);
+    assert_eq!(rt; given_value(&nest, &inputs, Role::Assign, &[1]), 0);
+    Ok(())
+}
+
+#[test]
+fn an_extent_below_0_counts_as_0(rt: HostRuntime) -> Result<(), Fail> {
+    assert_eq!(rt; natural_of(-3), 0);
+    assert_eq!(rt; capped_count(&[3, 4]), 12);
+    assert_eq!(rt; capped_count(&[3, -1]), 0);
+    assert_eq!(rt; capped_count(&[i64::MAX, 4]), usize::MAX);
+    Ok(())
+}
+
+#[test]
+fn an_array_of_both_kinds_is_read_and_printed(rt: HostRuntime) -> Result<(), Fail> {
+    assert!(rt; Kind::Both.is_input() && Kind::Both.is_output());
+    assert!(rt; !Kind::Output.is_input() && !Kind::Input.is_output());
+    assert!(rt; !Kind::Var.is_input() && !Kind::Var.is_output());
     Ok(())
 }

@@ -13,6 +13,8 @@ use Rattle.loop_grammar.specs.declared.tree.Named.{Named}
 use Rattle.loop_grammar.specs.declared.tree.Operand.{Operand}
 use Rattle.loop_grammar.specs.declared.tree.Part.{Part}
 use Rattle.loop_grammar.specs.declared.tree.Part as part
+use Rattle.loop_grammar.specs.declared.tree.Step.{Step}
+use Rattle.loop_grammar.specs.declared.tree.Step.TheVariants.{One, By}
 use Rattle.loop_grammar.specs.declared.tree.Tree.{Tree}
 use Rattle.loop_grammar.specs.declared.place.Bounds.{Bounds}
 use Rattle.loop_grammar.specs.declared.place.Enclosing.{Enclosing}
@@ -28,7 +30,7 @@ use Rattle.loop_grammar.specs.declared.place.Place.TheVariants as place
 use Rattle.loop_grammar.specs.declared.place.Nesting.{Nesting}
 use Rattle.loop_grammar.specs.Grammar.{Tok}
 use Rattle.loop_grammar.specs.ExpressionMachine as expression
-use Rattle.loop_grammar.specs.SourceMachine.{Where, at, within, State, begun, at_for, name_of, enclosed, landed, settled, at_declare, declared, named_of, comparison_of, ends_expression, fill, feed, finish, start, fed}
+use Rattle.loop_grammar.specs.SourceMachine.{Where, at, within, State, begun, at_for, name_of, enclosed, for_part, landed, settled, at_declare, declared, named_of, comparison_of, ends_expression, fill, feed, finish, start, fed}
 use Rattle.loop_grammar.proofs.Fed.{fed_append, some_is}
 use Rattle.loop_grammar.proofs.ExpressionSound as expressions
 use Rattle.loop_grammar.proofs.SourceComplete.{fed_within, ends_within}
@@ -49,7 +51,7 @@ step_closes s t next step c = record { rest = t ∷ c.rest; last = c.last; tree 
 curlies : List Enclosing → List Tok
 curlies [] = []
 curlies (enclosing.Block outer ∷ k) = (word.CloseCurly, 0) ∷ curlies k
-curlies (enclosing.For b third ∷ k) = curlies k
+curlies (enclosing.For b third step ∷ k) = curlies k
 curlies (enclosing.If cond ∷ k) = curlies k
 curlies (enclosing.Else cond ps p ∷ k) = curlies k
 
@@ -61,7 +63,7 @@ as_statement : (k : List Enclosing) (m : Nesting) (ps : List Part) → ClosesBy 
 unfolding curlies
 as_statement [] m ps h = ((m, at (place.AfterBlock ps)), h.1, refl, ap finish (some_is (settled m (part.Block ps), at place.Statement) h.0 h.2) ∙ h.3)
 as_statement (enclosing.Block outer ∷ k) m ps h = h
-as_statement (enclosing.For b third ∷ k) m ps h = as_statement k m ps h
+as_statement (enclosing.For b third step ∷ k) m ps h = as_statement k m ps h
 as_statement (enclosing.If cond ∷ k) m ps h = as_statement k m ps h
 as_statement (enclosing.Else cond block p ∷ k) m ps h = as_statement k m ps h
 
@@ -69,7 +71,7 @@ settled_closes : (d : List Declaration) (k : List Enclosing) (parts : List Part)
 unfolding curlies
 settled_closes d [] parts v = ((record { declarations = d; enclosing = []; parts = parts ++ v ∷ [] }, at place.Statement), record { declarations = d; parts = parts ++ v ∷ [] }, refl, refl)
 settled_closes d (enclosing.Block outer ∷ k) parts v = as_statement k (record { declarations = d; enclosing = k; parts = outer }) (parts ++ v ∷ []) (settled_closes d k outer (part.Block (parts ++ v ∷ [])))
-settled_closes d (enclosing.For b third ∷ k) parts v = settled_closes d k parts (part.For b.name b.first b.second b.inclusive b.bound third v)
+settled_closes d (enclosing.For b third step ∷ k) parts v = settled_closes d k parts (for_part b third step v)
 settled_closes d (enclosing.If cond ∷ k) parts v = settled_closes d k parts (part.If cond v None)
 settled_closes d (enclosing.Else cond ps p ∷ k) parts v = settled_closes d k parts (part.If cond (part.Block ps) (Some (record { token = p; body = v })))
 
@@ -118,10 +120,10 @@ within_closes m s w ending fills x =
 -- ---- in the brackets of a `for`, from their end backwards
 
 close_closes : (m : Nesting) (b : Bounds) (third : Name) → Closes (m, at_for (for_place.Close b third))
-close_closes m b third = step_closes (m, at_for (for_place.Close b third)) (word.Close, 0) (enclosed m (enclosing.For b third), at place.Statement) refl (statement_closes (enclosed m (enclosing.For b third)))
+close_closes m b third = step_closes (m, at_for (for_place.Close b third)) (word.Close, 0) (enclosed m (enclosing.For b third One), at place.Statement) refl (statement_closes (enclosed m (enclosing.For b third One)))
 
-increment_closes : (m : Nesting) (b : Bounds) (third : Name) → Closes (m, at_for (for_place.Increment b third))
-increment_closes m b third = step_closes (m, at_for (for_place.Increment b third)) (word.Increment, 0) (m, at_for (for_place.Close b third)) refl (close_closes m b third)
+sign_closes : (m : Nesting) (b : Bounds) (third : Name) → Closes (m, at_for (for_place.StepSign b third))
+sign_closes m b third = step_closes (m, at_for (for_place.StepSign b third)) (word.Increment, 0) (m, at_for (for_place.Close b third)) refl (close_closes m b third)
 
 third_closes : (m : Nesting) (b : Bounds) → Closes (m, at_for (for_place.Third b))
 third_closes m b = step_closes (m, at_for (for_place.Third b)) (word.Name [], 0) (m, at_for (for_place.Close b (name_of [] 0))) refl (close_closes m b (name_of [] 0))
@@ -161,9 +163,12 @@ for_closes m (for_place.Assign n) = assign_closes m n
 for_closes m (for_place.Second n first) = second_closes m n first
 for_closes m (for_place.Compare n first second) = compare_closes m n first second
 for_closes m (for_place.Step b) = for_step_closes m b
-for_closes m (for_place.Increment b third) = increment_closes m b third
+for_closes m (for_place.StepSign b third) = sign_closes m b third
 for_closes m (for_place.Third b) = third_closes m b
 for_closes m (for_place.Close b third) = close_closes m b third
+
+step_fills : (m : Nesting) (b : Bounds) (third : Name) (token : ℕ) → Fills m (slot.Step b third token) word.Close
+step_fills m b third token = λ v. ((enclosed m (enclosing.For b third (By token v)), at place.Statement), refl, statement_closes (enclosed m (enclosing.For b third (By token v))))
 
 -- ---- in an `if`, an assignment and a declaration
 
@@ -210,6 +215,7 @@ slot_closes : (m : Nesting) (s : Slot) (x : expression.State) → Closes (m, wit
 slot_closes m (slot.Extent w names n list) x = within_closes m (slot.Extent w names n list) word.CloseSquare refl (extent_fills m w names n list) x
 slot_closes m (slot.First n) x = first_closes m n x
 slot_closes m (slot.Bound n first second inclusive) x = bound_closes m n first second inclusive x
+slot_closes m (slot.Step b third token) x = within_closes m (slot.Step b third token) word.Close refl (step_fills m b third token) x
 slot_closes m (slot.Left cond) x = left_closes m cond x
 slot_closes m (slot.Right cond left sign token) x = right_closes m cond left sign token x
 slot_closes m (slot.Subscript n list) x = within_closes m (slot.Subscript n list) word.CloseSquare refl (subscript_fills m n list) x

@@ -13,6 +13,7 @@ use Rattle.loop_grammar.specs.declared.tree.Named.{Named}
 use Rattle.loop_grammar.specs.declared.tree.Operand.{Operand}
 use Rattle.loop_grammar.specs.declared.tree.Part.{Part}
 use Rattle.loop_grammar.specs.declared.tree.Part as part
+use Rattle.loop_grammar.specs.declared.tree.Step.{Step}
 use Rattle.loop_grammar.specs.declared.tree.Tree.{Tree}
 use Rattle.loop_grammar.specs.declared.place.Bounds.{Bounds}
 use Rattle.loop_grammar.specs.declared.place.Enclosing.{Enclosing}
@@ -27,7 +28,7 @@ use Rattle.loop_grammar.specs.declared.place.Place.{Place}
 use Rattle.loop_grammar.specs.declared.place.Place.TheVariants as place
 use Rattle.loop_grammar.specs.declared.place.Nesting.{Nesting}
 use Rattle.loop_grammar.specs.declared.expression.Reading.TheVariants as reading
-use Rattle.loop_grammar.specs.Grammar.{Tok, Expr, Access, name, subscript, access_text, accessed, subscripts, expr_text, expr_tree, name_token, Separated, single, more, separated_text, separated_list, Compared, compared, compared_text, compared_tree, Guard, guard, guard_text, guard_tree, Step, postfix, prefix, step_text, stepped, bound_sign, int_text, Header, header, header_text, Statement, loop, guarded, alternative, assign, block, Block, braces, Statements, no_statement, and_statement, statement_text, block_text, statements_text, loop_part, statement_tree, block_parts, statement_trees, ArrayWord, input, output, both, var, array_word, Declared, parameters, arrays, parameter_text, declared_text, parameter, array, declared_tree, Declarations, none_declared, also_declared, declarations_text, declaration_trees, Program, program, program_text, program_tree}
+use Rattle.loop_grammar.specs.Grammar.{Tok, Expr, Access, name, subscript, access_text, accessed, subscripts, expr_text, expr_tree, name_token, Separated, single, more, separated_text, separated_list, Compared, compared, compared_text, compared_tree, Guard, guard, guard_text, guard_tree, Stepped, postfix, prefix, compound, stepped_text, stepped_name, stepped_tree, bound_sign, int_text, Header, header, header_text, Statement, loop, guarded, alternative, assign, block, Block, braces, Statements, no_statement, and_statement, statement_text, block_text, statements_text, loop_part, statement_tree, block_parts, statement_trees, ArrayWord, input, output, both, var, array_word, Declared, parameters, arrays, parameter_text, declared_text, parameter, array, declared_tree, Declarations, none_declared, also_declared, declarations_text, declaration_trees, Program, program, program_text, program_tree}
 use Rattle.loop_grammar.specs.ExpressionMachine as expression
 use Rattle.loop_grammar.specs.Feeding.{fed_by}
 use Rattle.loop_grammar.specs.SourceMachine.{Where, at, within, State, begun, at_for, enclosed, feed_header, feed_statement, end_block, for_part, landed, settled, feed_after_block, at_declare, declared, named_of, declare_place, comparison_of, feed_comparison, fill, ends_expression, filled, within_again, feed_within, feed, finish, start, fed}
@@ -109,7 +110,14 @@ abbrev pub bounds_of : Header → Bounds
 bounds_of (header p q int n r first s second inclusive t bound u step v) = record { name = n; first = expr_tree first; second = second; inclusive = inclusive; bound = expr_tree bound }
 
 abbrev pub third_of : Header → Name
-third_of (header p q int n r first s second inclusive t bound u step v) = stepped step
+third_of (header p q int n r first s second inclusive t bound u step v) = stepped_name step
+
+abbrev pub step_of : Header → Step
+step_of (header p q int n r first s second inclusive t bound u step v) = stepped_tree step
+
+-- a `for` that waits for its body
+abbrev pub for_of : Header → Enclosing
+for_of h = enclosing.For (bounds_of h) (third_of h) (step_of h)
 
 int_read : (m : Nesting) (int : Option ℕ) (n : Name) (rest : List Tok) → fed (Some (m, at_for for_place.Int)) (int_text int ++ name_token n ∷ rest) ≡ fed (Some (m, at_for (for_place.Assign n))) rest
 int_read m None n rest = refl
@@ -119,14 +127,15 @@ bound_read : (m : Nesting) (n : Name) (first : Operand) (second : Name) (inclusi
 bound_read m n first second true t = refl
 bound_read m n first second false t = refl
 
-step_read : (m : Nesting) (b : Bounds) (step : Step) (v : ℕ) (rest : List Tok) → fed (Some (m, at_for (for_place.Step b))) (step_text step ++ (word.Close, v) ∷ rest) ≡ fed (Some (enclosed m (enclosing.For b (stepped step)), at place.Statement)) rest
+step_read : (m : Nesting) (b : Bounds) (step : Stepped) (v : ℕ) (rest : List Tok) → fed (Some (m, at_for (for_place.Step b))) (stepped_text step ++ (word.Close, v) ∷ rest) ≡ fed (Some (enclosed m (enclosing.For b (stepped_name step) (stepped_tree step)), at place.Statement)) rest
 step_read m b (postfix n p) v rest = refl
 step_read m b (prefix p n) v rest = refl
+step_read m b (compound n p e) v rest = value_read m (slot.Step b n p) e word.Close v rest refl
 
-header_read : (h : Header) (m : Nesting) (rest : List Tok) → fed (Some (m, at place.Statement)) (header_text h ++ rest) ≡ fed (Some (enclosed m (enclosing.For (bounds_of h) (third_of h)), at place.Statement)) rest
+header_read : (h : Header) (m : Nesting) (rest : List Tok) → fed (Some (m, at place.Statement)) (header_text h ++ rest) ≡ fed (Some (enclosed m (for_of h), at place.Statement)) rest
 header_read (header p q int n r first s second inclusive t bound u step v) m rest =
     let b : Bounds = record { name = n; first = expr_tree first; second = second; inclusive = inclusive; bound = expr_tree bound } in
-    let tail : List Tok = step_text step ++ (word.Close, v) ∷ rest in
+    let tail : List Tok = stepped_text step ++ (word.Close, v) ∷ rest in
     let text : header_text (header p q int n r first s second inclusive t bound u step v) ++ rest
     ≡ (word.For, p) ∷ (word.Open, q) ∷ (int_text int ++ name_token n ∷ (word.Assign, r) ∷ (expr_text first ++ (word.Semi, s) ∷ name_token second ∷ (word.Compare (bound_sign inclusive), t) ∷ (expr_text bound ++ (word.Semi, u) ∷ tail))) = simp append_assoc in
     ap (fed (Some (m, at place.Statement))) text
@@ -164,7 +173,7 @@ target_read (subscript a p e q) m rest =
 
 -- the state after a statement
 abbrev pub behind_statement : Nesting → Statement → State
-behind_statement m (loop h s) = behind_statement (enclosed m (enclosing.For (bounds_of h) (third_of h))) s
+behind_statement m (loop h s) = behind_statement (enclosed m (for_of h)) s
 behind_statement m (guarded g s) = behind_statement (enclosed m (enclosing.If (guard_tree g))) s
 behind_statement m (alternative g b p s) = behind_statement (enclosed m (enclosing.Else (guard_tree g) (block_parts b) p)) s
 behind_statement m (assign a p e q) = (settled m (part.Assign (accessed a) (subscripts a) (expr_tree e)), at place.Statement)
@@ -180,18 +189,18 @@ block_settles : (m : Nesting) (ps : List Part) (w : Lexeme) (p : ℕ) → Separa
 block_settles m ps word.Else p ok = absurd ok
 block_settles m ps _ p ok = refl
 
-loop_settles : (h : Header) (m : Nesting) (v : Part) → settled (enclosed m (enclosing.For (bounds_of h) (third_of h))) v ≡ settled m (loop_part h v)
+loop_settles : (h : Header) (m : Nesting) (v : Part) → settled (enclosed m (for_of h)) v ≡ settled m (loop_part h v)
 loop_settles (header p q int n r first s second inclusive t bound u step v) m body = refl
 
 statement_settles : (s : Statement) (m : Nesting) (w : Lexeme) (p : ℕ) → Separates w → feed (behind_statement m s) (w, p) ≡ feed_statement (settled m (statement_tree s)) (w, p)
-statement_settles (loop h s) m w p ok = statement_settles s (enclosed m (enclosing.For (bounds_of h) (third_of h))) w p ok ∙ ap (λ (x : Nesting). feed_statement x (w, p)) (loop_settles h m (statement_tree s))
+statement_settles (loop h s) m w p ok = statement_settles s (enclosed m (for_of h)) w p ok ∙ ap (λ (x : Nesting). feed_statement x (w, p)) (loop_settles h m (statement_tree s))
 statement_settles (guarded g s) m w p ok = statement_settles s (enclosed m (enclosing.If (guard_tree g))) w p ok
 statement_settles (alternative g b q s) m w p ok = statement_settles s (enclosed m (enclosing.Else (guard_tree g) (block_parts b) q)) w p ok
 statement_settles (assign a q e r) m w p ok = refl
 statement_settles (block b) m w p ok = block_settles m (block_parts b) w p ok
 
 statement_finishes : (s : Statement) (m : Nesting) → finish (behind_statement m s) ≡ finish (settled m (statement_tree s), at place.Statement)
-statement_finishes (loop h s) m = statement_finishes s (enclosed m (enclosing.For (bounds_of h) (third_of h))) ∙ ap (λ (x : Nesting). finish (x, at place.Statement)) (loop_settles h m (statement_tree s))
+statement_finishes (loop h s) m = statement_finishes s (enclosed m (for_of h)) ∙ ap (λ (x : Nesting). finish (x, at place.Statement)) (loop_settles h m (statement_tree s))
 statement_finishes (guarded g s) m = statement_finishes s (enclosed m (enclosing.If (guard_tree g)))
 statement_finishes (alternative g b q s) m = statement_finishes s (enclosed m (enclosing.Else (guard_tree g) (block_parts b) q))
 statement_finishes (assign a q e r) m = refl
@@ -209,7 +218,7 @@ begins_more : (text rest : List Tok) → Begins text → Begins (text ++ rest)
 begins_more text rest b = record { lexeme = b.lexeme; token = b.token; tail = b.tail ++ rest; whole = ap (λ (x : List Tok). x ++ rest) b.whole; separates = b.separates }
 
 header_begins : (h : Header) → Begins (header_text h)
-header_begins (header p q int n r first s second inclusive t bound u step v) = record { lexeme = word.For; token = p; tail = (word.Open, q) ∷ (int_text int ++ name_token n ∷ (word.Assign, r) ∷ (expr_text first ++ (word.Semi, s) ∷ name_token second ∷ (word.Compare (bound_sign inclusive), t) ∷ (expr_text bound ++ (word.Semi, u) ∷ (step_text step ++ (word.Close, v) ∷ [])))); whole = refl; separates = tt }
+header_begins (header p q int n r first s second inclusive t bound u step v) = record { lexeme = word.For; token = p; tail = (word.Open, q) ∷ (int_text int ++ name_token n ∷ (word.Assign, r) ∷ (expr_text first ++ (word.Semi, s) ∷ name_token second ∷ (word.Compare (bound_sign inclusive), t) ∷ (expr_text bound ++ (word.Semi, u) ∷ (stepped_text step ++ (word.Close, v) ∷ [])))); whole = refl; separates = tt }
 
 guard_begins : (g : Guard) → Begins (guard_text g)
 guard_begins (guard p q cond r) = record { lexeme = word.If; token = p; tail = (word.Open, q) ∷ (separated_text word.And compared_text cond ++ (word.Close, r) ∷ []); whole = refl; separates = tt }
@@ -236,7 +245,7 @@ same_first x y text rest b same = rw b.whole (ap (λ o. fed o (b.tail ++ rest)) 
 abbrev pub InList : List Enclosing → Type 0
 InList [] = Unit {0}
 InList (enclosing.Block outer ∷ k) = Unit {0}
-InList (enclosing.For b n ∷ k) = ⊥
+InList (enclosing.For b n s ∷ k) = ⊥
 InList (enclosing.If c ∷ k) = ⊥
 InList (enclosing.Else c b p ∷ k) = ⊥
 
@@ -246,7 +255,7 @@ with_parts m ps = record m { parts = ps }
 list_settles : (d : List Declaration) (k : List Enclosing) (ps : List Part) (v : Part) → InList k → settled (record { declarations = d; enclosing = k; parts = ps }) v ≡ record { declarations = d; enclosing = k; parts = ps ++ v ∷ [] }
 list_settles d [] ps v ok = refl
 list_settles d (enclosing.Block outer ∷ k) ps v ok = refl
-list_settles d (enclosing.For b n ∷ k) ps v ok = absurd ok
+list_settles d (enclosing.For b n s ∷ k) ps v ok = absurd ok
 list_settles d (enclosing.If c ∷ k) ps v ok = absurd ok
 list_settles d (enclosing.Else c b p ∷ k) ps v ok = absurd ok
 
@@ -271,7 +280,7 @@ mutual
   reads_statement (loop h s) m rest =
       ap (fed (Some (m, at place.Statement))) (append_assoc (header_text h) (statement_text s) rest)
       ∙ header_read h m (statement_text s ++ rest)
-      ∙ reads_statement s (enclosed m (enclosing.For (bounds_of h) (third_of h))) rest
+      ∙ reads_statement s (enclosed m (for_of h)) rest
   reads_statement (guarded g s) m rest =
       ap (fed (Some (m, at place.Statement))) (append_assoc (guard_text g) (statement_text s) rest)
       ∙ guard_read g m (statement_text s ++ rest)

@@ -14,6 +14,8 @@ use Rattle.loop_grammar.specs.declared.tree.Named.{Named}
 use Rattle.loop_grammar.specs.declared.tree.Operand.{Operand}
 use Rattle.loop_grammar.specs.declared.tree.Part.{Part}
 use Rattle.loop_grammar.specs.declared.tree.Part as part
+use Rattle.loop_grammar.specs.declared.tree.Step.{Step}
+use Rattle.loop_grammar.specs.declared.tree.Step.TheVariants.{One, By}
 use Rattle.loop_grammar.specs.declared.tree.Tree.{Tree}
 use Rattle.loop_grammar.specs.declared.place.Bounds.{Bounds}
 use Rattle.loop_grammar.specs.declared.place.Enclosing.{Enclosing}
@@ -27,12 +29,12 @@ use Rattle.loop_grammar.specs.declared.place.Slot.TheVariants as slot
 use Rattle.loop_grammar.specs.declared.place.Place.{Place}
 use Rattle.loop_grammar.specs.declared.place.Place.TheVariants as place
 use Rattle.loop_grammar.specs.declared.place.Nesting.{Nesting}
-use Rattle.loop_grammar.specs.Grammar.{Tok, Expr, Access, name, subscript, access_text, accessed, subscripts, expr_text, expr_tree, name_token, Separated, single, more, separated_text, separated_list, Compared, compared, compared_text, compared_tree, Guard, guard, guard_text, guard_tree, Step, postfix, prefix, step_text, stepped, bound_sign, int_text, Header, header, header_text, Statement, loop, guarded, alternative, assign, block, Block, braces, Statements, no_statement, and_statement, statement_text, block_text, statements_text, loop_part, statement_tree, block_parts, statement_trees, ArrayWord, input, output, both, var, array_word, Declared, parameters, arrays, parameter_text, declared_text, parameter, array, declared_tree, Declarations, none_declared, also_declared, declarations_text, declaration_trees, Program, program, program_text, program_tree, Derives}
+use Rattle.loop_grammar.specs.Grammar.{Tok, Expr, Access, name, subscript, access_text, accessed, subscripts, expr_text, expr_tree, name_token, Separated, single, more, separated_text, separated_list, Compared, compared, compared_text, compared_tree, Guard, guard, guard_text, guard_tree, Stepped, postfix, prefix, compound, stepped_text, stepped_name, stepped_tree, bound_sign, int_text, Header, header, header_text, Statement, loop, guarded, alternative, assign, block, Block, braces, Statements, no_statement, and_statement, statement_text, block_text, statements_text, loop_part, statement_tree, block_parts, statement_trees, ArrayWord, input, output, both, var, array_word, Declared, parameters, arrays, parameter_text, declared_text, parameter, array, declared_tree, Declarations, none_declared, also_declared, declarations_text, declaration_trees, Program, program, program_text, program_tree, Derives}
 use Rattle.loop_grammar.specs.ExpressionMachine as expression
 use Rattle.loop_grammar.specs.Feeding.{fed_by}
-use Rattle.loop_grammar.specs.SourceMachine.{Where, at, within, State, begun, at_for, name_of, enclosed, feed_for, feed_header, feed_begin, feed_statement, end_block, for_part, landed, settled, else_begun, feed_after_block, feed_if, feed_target, at_declare, declared, named_of, feed_declare, declare_place, feed_declaration, comparison_of, feed_comparison, feed_assigned, fill, ends_expression, filled, within_again, feed_within, feed_at, feed, end, finish, start, fed}
+use Rattle.loop_grammar.specs.SourceMachine.{Where, at, within, State, begun, at_for, name_of, enclosed, feed_for, feed_step, feed_header, feed_begin, feed_statement, end_block, for_part, landed, settled, else_begun, feed_after_block, feed_if, feed_target, at_declare, declared, named_of, feed_declare, declare_place, feed_declaration, comparison_of, feed_comparison, feed_assigned, fill, ends_expression, filled, within_again, feed_within, feed_at, feed, end, finish, start, fed}
 use Rattle.loop_grammar.proofs.Fed.{fed_append, fed_none, some_is, none_is}
-use Rattle.loop_grammar.proofs.SourceComplete.{bounds_of, third_of}
+use Rattle.loop_grammar.proofs.SourceComplete.{bounds_of, third_of, step_of}
 use Rattle.loop_grammar.proofs.ExpressionSound as expressions
 
 -- ---- lists with a separator, of which one more comes
@@ -64,6 +66,9 @@ BoundText n first second inclusive own = (before : List Tok) × (t : ℕ) × Com
 abbrev pub BoundsText : Bounds → List Tok → Type 0
 BoundsText b own = (before : List Tok) × (e : Expr) × (u : ℕ) × BoundText b.name b.first b.second b.inclusive before × (expr_tree e ≡ b.bound) × (own ≡ before ++ (expr_text e ++ (word.Semi, u) ∷ []))
 
+abbrev pub StepText : Bounds → Name → Step → List Tok → Type 0
+StepText b third step own = (before : List Tok) × (x : Stepped) × BoundsText b before × (stepped_name x ≡ third) × (stepped_tree x ≡ step) × (own ≡ before ++ stepped_text x)
+
 abbrev pub ForText : ForPlace → List Tok → Type 0
 ForText for_place.Open own = (p : ℕ) × (own ≡ (word.For, p) ∷ [])
 ForText for_place.Int own = (p q : ℕ) × (own ≡ (word.For, p) ∷ (word.Open, q) ∷ [])
@@ -72,9 +77,9 @@ ForText (for_place.Assign n) own = FirstName n own
 ForText (for_place.Second n first) own = SecondText n first own
 ForText (for_place.Compare n first second) own = CompareText n first second own
 ForText (for_place.Step b) own = BoundsText b own
-ForText (for_place.Increment b third) own = (before : List Tok) × BoundsText b before × (own ≡ before ++ name_token third ∷ [])
+ForText (for_place.StepSign b third) own = (before : List Tok) × BoundsText b before × (own ≡ before ++ name_token third ∷ [])
 ForText (for_place.Third b) own = (before : List Tok) × (p : ℕ) × BoundsText b before × (own ≡ before ++ (word.Increment, p) ∷ [])
-ForText (for_place.Close b third) own = (before : List Tok) × (step : Step) × BoundsText b before × (stepped step ≡ third) × (own ≡ before ++ step_text step)
+ForText (for_place.Close b third) own = StepText b third One own
 
 -- ---- an `if` up to a comparison
 
@@ -108,7 +113,7 @@ DeclareText (declare.AfterArray w names n list) own = ArrayText w names n list o
 abbrev pub StackText : List Declaration → List Enclosing → List Part → List Tok → Type 0
 StackText d [] parts read = (ds : Declarations) × (ss : Statements) × (declaration_trees ds ≡ d) × (statement_trees ss ≡ parts) × (read ≡ declarations_text ds ++ statements_text ss)
 StackText d (enclosing.Block outer ∷ k) parts read = (before : List Tok) × (p : ℕ) × (ss : Statements) × StackText d k outer before × (statement_trees ss ≡ parts) × (read ≡ before ++ (word.OpenCurly, p) ∷ statements_text ss)
-StackText d (enclosing.For b third ∷ k) parts read = (before : List Tok) × (h : Header) × StackText d k parts before × (bounds_of h ≡ b) × (third_of h ≡ third) × (read ≡ before ++ header_text h)
+StackText d (enclosing.For b third step ∷ k) parts read = (before : List Tok) × (h : Header) × StackText d k parts before × (bounds_of h ≡ b) × (third_of h ≡ third) × (step_of h ≡ step) × (read ≡ before ++ header_text h)
 StackText d (enclosing.If cond ∷ k) parts read = (before : List Tok) × (g : Guard) × StackText d k parts before × (guard_tree g ≡ cond) × (read ≡ before ++ guard_text g)
 StackText d (enclosing.Else cond ps p ∷ k) parts read = (before : List Tok) × (g : Guard) × (b : Block) × StackText d k parts before × (guard_tree g ≡ cond) × (block_parts b ≡ ps) × (read ≡ before ++ (guard_text g ++ (block_text b ++ (word.Else, p) ∷ [])))
 
@@ -126,6 +131,7 @@ abbrev pub SlotText : Nesting → Slot → List Tok → List Tok → Type 0
 SlotText m (slot.Extent w names n list) before own = Declares m before × ((text : List Tok) × (q : ℕ) × ArrayText w names n list text × (own ≡ text ++ (word.OpenSquare, q) ∷ []))
 SlotText m (slot.First n) before own = Holds m before × FirstText n own
 SlotText m (slot.Bound n first second inclusive) before own = Holds m before × BoundText n first second inclusive own
+SlotText m (slot.Step b third token) before own = Holds m before × ((text : List Tok) × BoundsText b text × (own ≡ text ++ name_token third ∷ (word.AddAssign, token) ∷ []))
 SlotText m (slot.Left cond) before own = Holds m before × CondText cond own
 SlotText m (slot.Right cond left sign token) before own = Holds m before × LeftText cond left sign token own
 SlotText m (slot.Subscript n list) before own = Holds m before × ((text : List Tok) × (q : ℕ) × AccessText n list text × (own ≡ text ++ (word.OpenSquare, q) ∷ []))
@@ -149,13 +155,14 @@ Stands (m, within s e) read = (before own tokens : List Tok) × SlotText m s bef
 landed_holds : (d : List Declaration) (k : List Enclosing) (parts : List Part) (read : List Tok) → StackText d k parts read → (s : Statement) → StackText d (landed k parts (statement_tree s)).0 (landed k parts (statement_tree s)).1 (read ++ statement_text s)
 landed_holds d [] parts read h s = (h.0, and_statement h.1 s, h.2, rw h.3 refl, rw h.4 (append_assoc (declarations_text h.0) (statements_text h.1) (statement_text s)))
 landed_holds d (enclosing.Block outer ∷ k) parts read h s = (h.0, h.1, and_statement h.2 s, h.3, rw h.4 refl, rw h.5 (append_assoc h.0 ((word.OpenCurly, h.1) ∷ statements_text h.2) (statement_text s)))
-landed_holds d (enclosing.For b third ∷ k) parts read h s =
+landed_holds d (enclosing.For b third step ∷ k) parts read h s =
     subst (λ (x : Part). StackText d (landed k parts x).0 (landed k parts x).1 (read ++ statement_text s))
-    (loop_lands h.1 b third (statement_tree s) h.3 h.4)
-    (rw (h.5, append_assoc h.0 (header_text h.1) (statement_text s)) (landed_holds d k parts h.0 h.2 (loop h.1 s)))
+    (loop_lands h.1 b third step (statement_tree s) h.3 h.4 h.5)
+    (rw (h.6, append_assoc h.0 (header_text h.1) (statement_text s)) (landed_holds d k parts h.0 h.2 (loop h.1 s)))
   where
-    loop_lands : (x : Header) (b : Bounds) (third : Name) (v : Part) → bounds_of x ≡ b → third_of x ≡ third → loop_part x v ≡ for_part b third v
-    loop_lands (header p q int n r first s second inclusive t bound u step v) b third body eb et = ap (λ (x : Bounds). for_part x (stepped step) body) eb ∙ ap (λ (x : Name). for_part b x body) et
+    loop_lands : (x : Header) (b : Bounds) (third : Name) (step : Step) (v : Part) → bounds_of x ≡ b → third_of x ≡ third → step_of x ≡ step → loop_part x v ≡ for_part b third step v
+    loop_lands (header p q int n r first s second inclusive t bound u x v) b third step body eb et es =
+        ap (λ (y : Bounds). for_part y (stepped_name x) (stepped_tree x) body) eb ∙ ap (λ (y : Name). for_part b y (stepped_tree x) body) et ∙ ap (λ (y : Step). for_part b third y body) es
 landed_holds d (enclosing.If cond ∷ k) parts read h s =
     subst (λ (c : List Comparison). StackText d (landed k parts (part.If c (statement_tree s) None)).0 (landed k parts (part.If c (statement_tree s) None)).1 (read ++ statement_text s))
     h.3
@@ -178,13 +185,14 @@ at_statement m read h = (read, [], (h, refl), sym (append-nil read))
 
 -- ---- one token more
 
-header_of : (b : Bounds) (third : Name) (own : List Tok) (v : ℕ) → ForText (for_place.Close b third) own → (x : Header) × (bounds_of x ≡ b) × (third_of x ≡ third) × (header_text x ≡ own ++ (word.Close, v) ∷ [])
-header_of b third own v h =
+header_of : (b : Bounds) (third : Name) (step : Step) (own : List Tok) (v : ℕ) → StepText b third step own → (x : Header) × (bounds_of x ≡ b) × (third_of x ≡ third) × (step_of x ≡ step) × (header_text x ≡ own ++ (word.Close, v) ∷ [])
+header_of b third step own v h =
     let bounds = h.2 in let bound = bounds.3 in let compare = bound.2 in let second = compare.1 in let first = second.3 in let n = first.2 in (
       header n.0 n.1 n.2 b.name first.1 second.1 second.2 b.second b.inclusive bound.1 bounds.1 bounds.2 h.1 v,
       rw (second.4, bounds.4) refl,
       h.3,
-      rw (h.4, bounds.5, bound.3, compare.2, second.5, first.3, n.3) (simp append_assoc),
+      h.4,
+      rw (h.5, bounds.5, bound.3, compare.2, second.5, first.3, n.3) (simp append_assoc),
     )
 
 for_fed : (p : ForPlace) (t : Tok) (next : Where) (m : Nesting) (before own read : List Tok) → Holds m before → ForText p own → read ≡ before ++ own → feed_for p t ≡ Some next → Stands (m, next) (read ++ t ∷ [])
@@ -202,21 +210,25 @@ for_fed (for_place.Second n first) (_, q) next m before own read h is e step = a
 for_fed (for_place.Compare n first second) (word.Compare Less, q) next m before own read h is e step = rw (← some_is (begun (slot.Bound n first second false)) next step) (before, own ++ (word.Compare Less, q) ∷ [], [], (h, (own, q, is, refl)), refl, rw e (simp (append-nil, append_assoc)))
 for_fed (for_place.Compare n first second) (word.Compare LessEq, q) next m before own read h is e step = rw (← some_is (begun (slot.Bound n first second true)) next step) (before, own ++ (word.Compare LessEq, q) ∷ [], [], (h, (own, q, is, refl)), refl, rw e (simp (append-nil, append_assoc)))
 for_fed (for_place.Compare n first second) (_, q) next m before own read h is e step = absurd cc
-for_fed (for_place.Step b) (word.Name text, q) next m before own read h is e step = rw (← some_is (at_for (for_place.Increment b (name_of text q))) next step) (before, own ++ (word.Name text, q) ∷ [], (h, (own, is, refl)), rw e (append_assoc before own ((word.Name text, q) ∷ [])))
+for_fed (for_place.Step b) (word.Name text, q) next m before own read h is e step = rw (← some_is (at_for (for_place.StepSign b (name_of text q))) next step) (before, own ++ (word.Name text, q) ∷ [], (h, (own, is, refl)), rw e (append_assoc before own ((word.Name text, q) ∷ [])))
 for_fed (for_place.Step b) (word.Increment, q) next m before own read h is e step = rw (← some_is (at_for (for_place.Third b)) next step) (before, own ++ (word.Increment, q) ∷ [], (h, (own, q, is, refl)), rw e (append_assoc before own ((word.Increment, q) ∷ [])))
 for_fed (for_place.Step b) (_, q) next m before own read h is e step = absurd cc
-for_fed (for_place.Increment b third) (word.Increment, q) next m before own read h is e step = rw (← some_is (at_for (for_place.Close b third)) next step) (before, own ++ (word.Increment, q) ∷ [], (h, (is.0, postfix third q, is.1, refl, rw is.2 (append_assoc is.0 (name_token third ∷ []) ((word.Increment, q) ∷ [])))), rw e (append_assoc before own ((word.Increment, q) ∷ [])))
-for_fed (for_place.Increment b third) (_, q) next m before own read h is e step = absurd cc
-for_fed (for_place.Third b) (word.Name text, q) next m before own read h is e step = rw (← some_is (at_for (for_place.Close b (name_of text q))) next step) (before, own ++ (word.Name text, q) ∷ [], (h, (is.0, prefix is.1 (name_of text q), is.2, refl, rw is.3 (append_assoc is.0 ((word.Increment, is.1) ∷ []) ((word.Name text, q) ∷ [])))), rw e (append_assoc before own ((word.Name text, q) ∷ [])))
+for_fed (for_place.StepSign b third) (word.Increment, q) next m before own read h is e step = rw (← some_is (at_for (for_place.Close b third)) next step) (before, own ++ (word.Increment, q) ∷ [], (h, (is.0, postfix third q, is.1, refl, refl, rw is.2 (append_assoc is.0 (name_token third ∷ []) ((word.Increment, q) ∷ [])))), rw e (append_assoc before own ((word.Increment, q) ∷ [])))
+for_fed (for_place.StepSign b third) (word.AddAssign, q) next m before own read h is e step = rw (← some_is (begun (slot.Step b third q)) next step) (before, own ++ (word.AddAssign, q) ∷ [], [], (h, (is.0, is.1, rw is.2 (append_assoc is.0 (name_token third ∷ []) ((word.AddAssign, q) ∷ [])))), refl, rw e (simp (append-nil, append_assoc)))
+for_fed (for_place.StepSign b third) (_, q) next m before own read h is e step = absurd cc
+for_fed (for_place.Third b) (word.Name text, q) next m before own read h is e step = rw (← some_is (at_for (for_place.Close b (name_of text q))) next step) (before, own ++ (word.Name text, q) ∷ [], (h, (is.0, prefix is.1 (name_of text q), is.2, refl, refl, rw is.3 (append_assoc is.0 ((word.Increment, is.1) ∷ []) ((word.Name text, q) ∷ [])))), rw e (append_assoc before own ((word.Name text, q) ∷ [])))
 for_fed (for_place.Third b) (_, q) next m before own read h is e step = absurd cc
 for_fed (for_place.Close b third) t next m before own read h is e step = absurd cc
 
+step_fed : (b : Bounds) (third : Name) (step : Step) (w : Lexeme) (v : ℕ) (next : State) (m : Nesting) (before own read : List Tok) → Holds m before → StepText b third step own → read ≡ before ++ own → feed_step m b third step w ≡ Some next → Stands next (read ++ (w, v) ∷ [])
+step_fed b third step word.Close v next m before own read h is e fed =
+    let x = header_of b third step own v is in
+    rw (← some_is (enclosed m (enclosing.For b third step), at place.Statement) next fed)
+    (at_statement (enclosed m (enclosing.For b third step)) (read ++ (word.Close, v) ∷ []) (before, x.0, h, x.1, x.2, x.3, rw (e, x.4) (append_assoc before own ((word.Close, v) ∷ []))))
+step_fed b third step _ v next m before own read h is e fed = absurd cc
+
 header_fed : (p : ForPlace) (t : Tok) (next : State) (m : Nesting) (before own read : List Tok) → Holds m before → ForText p own → read ≡ before ++ own → feed_header m p t ≡ Some next → Stands next (read ++ t ∷ [])
-header_fed (for_place.Close b third) (word.Close, v) next m before own read h is e step =
-    let x = header_of b third own v is in
-    rw (← some_is (enclosed m (enclosing.For b third), at place.Statement) next step)
-    (at_statement (enclosed m (enclosing.For b third)) (read ++ (word.Close, v) ∷ []) (before, x.0, h, x.1, x.2, rw (e, x.3) (append_assoc before own ((word.Close, v) ∷ []))))
-header_fed (for_place.Close b third) (_, v) next m before own read h is e step = absurd cc
+header_fed (for_place.Close b third) (w, v) next m before own read h is e step = step_fed b third One w v next m before own read h is e step
 header_fed p t next m before own read h is e step = go (feed_for p t) refl step
   where
     go : (o : Option Where) → feed_for p t ≡ o → option_map (λ (w : Where). (m, w)) o ≡ Some next → Stands next (read ++ t ∷ [])
@@ -236,7 +248,7 @@ end_block_fed d (enclosing.Block outer ∷ k) parts q next read h step =
     rw (← some_is (m, at (place.AfterBlock parts)) next step)
     (h.0, block_text (braces h.1 h.2 q), (h.3, (braces h.1 h.2 q, h.4, refl)), rw h.5 (append_assoc h.0 ((word.OpenCurly, h.1) ∷ statements_text h.2) ((word.CloseCurly, q) ∷ [])))
 end_block_fed d [] parts q next read h step = absurd cc
-end_block_fed d (enclosing.For b third ∷ k) parts q next read h step = absurd cc
+end_block_fed d (enclosing.For b third s ∷ k) parts q next read h step = absurd cc
 end_block_fed d (enclosing.If cond ∷ k) parts q next read h step = absurd cc
 end_block_fed d (enclosing.Else cond ps p ∷ k) parts q next read h step = absurd cc
 
@@ -251,7 +263,7 @@ else_fed d (enclosing.If cond ∷ k) parts ps q next before own read b h is text
     (at_statement m (read ++ (word.Else, q) ∷ []) (h.0, h.1, b, h.2, h.3, is, rw (e, h.4, text) (simp append_assoc)))
 else_fed d [] parts ps q next before own read b h is text e step = absurd cc
 else_fed d (enclosing.Block outer ∷ k) parts ps q next before own read b h is text e step = absurd cc
-else_fed d (enclosing.For bounds third ∷ k) parts ps q next before own read b h is text e step = absurd cc
+else_fed d (enclosing.For bounds third s ∷ k) parts ps q next before own read b h is text e step = absurd cc
 else_fed d (enclosing.Else cond inner p ∷ k) parts ps q next before own read b h is text e step = absurd cc
 
 after_block_fed : (ps : List Part) (t : Tok) (next : State) (m : Nesting) (before own read : List Tok) (b : Block) → Holds m before → block_parts b ≡ ps → own ≡ block_text b → read ≡ before ++ own → feed_after_block m ps t ≡ Some next → Stands next (read ++ t ∷ [])
@@ -369,6 +381,9 @@ fill_fed (slot.Bound n first second inclusive) (word.Semi, q) next m before own 
     rw (← some_is (m, at_for (for_place.Step b)) next step)
     (before, own ++ (expr_text x ++ (word.Semi, q) ∷ []), (h.0, (own, x, q, h.1, refl, refl)), rw e (simp append_assoc))
 fill_fed (slot.Bound n first second inclusive) (_, q) next m before own read x h e step = absurd cc
+fill_fed (slot.Step b third token) (w, q) next m before own read x h e step =
+    let is = h.1 in
+    step_fed b third (By token (expr_tree x)) w q next m before (own ++ expr_text x) read h.0 (is.0, compound third token x, is.1, refl, refl, rw is.2 (append_assoc is.0 (name_token third ∷ (word.AddAssign, token) ∷ []) (expr_text x))) e step
 fill_fed (slot.Left cond) (word.Compare sign, q) next m before own read x h e step =
     rw (← some_is (m, begun (slot.Right cond (expr_tree x) sign q)) next step)
     (before, own ++ (expr_text x ++ (word.Compare sign, q) ∷ []), [], (h.0, (own, x, h.1, refl, refl)), refl, rw e (simp (append-nil, append_assoc)))

@@ -19,6 +19,8 @@ use Rattle.loop_grammar.specs.declared.tree.Operand as operand
 use Rattle.loop_grammar.specs.declared.tree.Other.{Other}
 use Rattle.loop_grammar.specs.declared.tree.Part.{Part}
 use Rattle.loop_grammar.specs.declared.tree.Part as part
+use Rattle.loop_grammar.specs.declared.tree.Step.{Step}
+use Rattle.loop_grammar.specs.declared.tree.Step.TheVariants.{One, By}
 use Rattle.loop_grammar.specs.declared.tree.Tree.{Tree}
 
 -- a token with its number
@@ -167,18 +169,27 @@ guard_text (guard p q cond r) = (word.If, p) ∷ (word.Open, q) ∷ (separated_t
 abbrev pub guard_tree : Guard → List Comparison
 guard_tree (guard p q cond r) = separated_list compared_tree cond
 
--- name "++" | "++" name
-pub data Step : Type 0 where
-  postfix : Name → ℕ → Step
-  prefix : ℕ → Name → Step
+-- step = name "++" | "++" name | name "+=" expr
+pub data Stepped : Type 0 where
+  postfix : Name → ℕ → Stepped
+  prefix : ℕ → Name → Stepped
+  compound : Name → ℕ → Expr → Stepped
 
-abbrev pub step_text : Step → List Tok
-step_text (postfix n p) = name_token n ∷ (word.Increment, p) ∷ []
-step_text (prefix p n) = (word.Increment, p) ∷ name_token n ∷ []
+abbrev pub stepped_text : Stepped → List Tok
+stepped_text (postfix n p) = name_token n ∷ (word.Increment, p) ∷ []
+stepped_text (prefix p n) = (word.Increment, p) ∷ name_token n ∷ []
+stepped_text (compound n p e) = name_token n ∷ (word.AddAssign, p) ∷ expr_text e
 
-abbrev pub stepped : Step → Name
-stepped (postfix n p) = n
-stepped (prefix p n) = n
+abbrev pub stepped_name : Stepped → Name
+stepped_name (postfix n p) = n
+stepped_name (prefix p n) = n
+stepped_name (compound n p e) = n
+
+-- the tree keeps not on which side `++` stands
+abbrev pub stepped_tree : Stepped → Step
+stepped_tree (postfix n p) = One
+stepped_tree (prefix p n) = One
+stepped_tree (compound n p e) = By p (expr_tree e)
 
 -- the sign of a bound, which is inclusive or not
 abbrev pub bound_sign : Bool → CompareSign
@@ -189,15 +200,15 @@ abbrev pub int_text : Option ℕ → List Tok
 int_text None = []
 int_text (Some p) = (word.Int, p) ∷ []
 
--- "for" "(" [ "int" ] name "=" expr ";" name ( "<" | "<=" ) expr ";" ( name "++" | "++" name ) ")"
+-- "for" "(" [ "int" ] name "=" expr ";" name ( "<" | "<=" ) expr ";" step ")"
 pub data Header : Type 0 where
-  header : ℕ → ℕ → Option ℕ → Name → ℕ → Expr → ℕ → Name → Bool → ℕ → Expr → ℕ → Step → ℕ → Header
+  header : ℕ → ℕ → Option ℕ → Name → ℕ → Expr → ℕ → Name → Bool → ℕ → Expr → ℕ → Stepped → ℕ → Header
 
 abbrev pub header_text : Header → List Tok
 header_text (header p q int n r first s second inclusive t bound u step v) =
     (word.For, p) ∷ (word.Open, q) ∷ (int_text int ++ name_token n ∷ (word.Assign, r) ∷
     (expr_text first ++ (word.Semi, s) ∷ name_token second ∷ (word.Compare (bound_sign inclusive), t) ∷
-    (expr_text bound ++ (word.Semi, u) ∷ (step_text step ++ (word.Close, v) ∷ []))))
+    (expr_text bound ++ (word.Semi, u) ∷ (stepped_text step ++ (word.Close, v) ∷ []))))
 
 -- statement = for | if | assign | block
 -- for = header statement
@@ -234,10 +245,10 @@ abbrev mutual
   statements_text no_statement = []
   statements_text (and_statement ss s) = statements_text ss ++ statement_text s
 
--- the tree keeps no `int` and not on which side `++` stands
+-- the tree keeps no `int`
 abbrev pub loop_part : Header → Part → Part
 loop_part (header p q int n r first s second inclusive t bound u step v) body =
-    part.For n (expr_tree first) second inclusive (expr_tree bound) (stepped step) body
+    part.For n (expr_tree first) second inclusive (expr_tree bound) (stepped_name step) (stepped_tree step) body
 
 abbrev mutual
   pub statement_tree : Statement → Part

@@ -7,7 +7,7 @@ use Rattle.loop_lex.specs.declared.token.Token.{Token}
 use Rattle.loop_lex.specs.declared.token.TokenKind.{TokenKind}
 use Rattle.loop_lex.specs.declared.token.TokenKind.TheVariants as kind
 use Rattle.loop_grammar.specs.declared.lexeme.Lexeme.{Lexeme}
-use Rattle.loop_grammar.specs.declared.lexeme.Lexeme.TheVariants.{Name, Number, Declare, Int, For, If, Else, Choice, Open, Close, OpenSquare, CloseSquare, OpenCurly, CloseCurly, Semi, Comma, Assign, Compare, Plus, Minus, Times, Increment, And, Other}
+use Rattle.loop_grammar.specs.declared.lexeme.Lexeme.TheVariants.{Name, Number, Declare, Int, For, If, Else, Choice, Open, Close, OpenSquare, CloseSquare, OpenCurly, CloseCurly, Semi, Comma, Assign, Compare, Plus, Minus, Times, Increment, AddAssign, And, Other}
 use Rattle.loop_grammar.specs.declared.lexeme.Choice.TheVariants.{Min, Max}
 use Rattle.loop_grammar.specs.declared.tree.CompareSign.TheVariants.{Less, LessEq, Greater, GreaterEq, Equal}
 use Rattle.loop_grammar.specs.declared.tree.DeclWord.TheVariants.{Param, Input, Output, Both, Var}
@@ -16,6 +16,7 @@ use Rattle.loop_grammar.specs.declared.parser.ParseError.{ParseError}
 use Rattle.loop_grammar.specs.declared.parser.ParseError.TheVariants.{Syntax, Memory}
 use Rattle.loop_grammar.specs.Grammar.{Tok, Derives, Stops}
 
+-- `Other` is what no token is
 unfoldable pub reserved_lexeme : List ℕ → Lexeme
 reserved_lexeme text =
     if bytes_eq text (codes "param") then Declare Param
@@ -50,7 +51,6 @@ comparison_lexeme text =
     else (if bytes_eq text (codes "==") then Compare Equal
     else bracket_lexeme text))))
 
--- `+=` stands in no production
 unfoldable pub sign_lexeme : List ℕ → Lexeme
 sign_lexeme text =
     if bytes_eq text (codes ";") then Semi
@@ -60,8 +60,9 @@ sign_lexeme text =
     else (if bytes_eq text (codes "-") then Minus
     else (if bytes_eq text (codes "*") then Times
     else (if bytes_eq text (codes "++") then Increment
+    else (if bytes_eq text (codes "+=") then AddAssign
     else (if bytes_eq text (codes "&&") then And
-    else comparison_lexeme text)))))))
+    else comparison_lexeme text))))))))
 
 abbrev pub lexeme_of : TokenKind → List ℕ → Lexeme
 lexeme_of kind.Name text = Name text

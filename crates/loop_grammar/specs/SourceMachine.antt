@@ -13,6 +13,8 @@ use Rattle.loop_grammar.specs.declared.tree.Named.{Named}
 use Rattle.loop_grammar.specs.declared.tree.Operand.{Operand}
 use Rattle.loop_grammar.specs.declared.tree.Part.{Part}
 use Rattle.loop_grammar.specs.declared.tree.Part as part
+use Rattle.loop_grammar.specs.declared.tree.Step.{Step}
+use Rattle.loop_grammar.specs.declared.tree.Step.TheVariants.{One, By}
 use Rattle.loop_grammar.specs.declared.tree.Tree.{Tree}
 use Rattle.loop_grammar.specs.declared.place.Bounds.{Bounds}
 use Rattle.loop_grammar.specs.declared.place.Enclosing.{Enclosing}
@@ -79,15 +81,20 @@ feed_for (for_place.Assign n) (word.Assign, p) = Some (begun (slot.First n))
 feed_for (for_place.Second n first) (word.Name text, p) = Some (at_for (for_place.Compare n first (name_of text p)))
 feed_for (for_place.Compare n first second) (word.Compare Less, p) = Some (begun (slot.Bound n first second false))
 feed_for (for_place.Compare n first second) (word.Compare LessEq, p) = Some (begun (slot.Bound n first second true))
-feed_for (for_place.Step bounds) (word.Name text, p) = Some (at_for (for_place.Increment bounds (name_of text p)))
+feed_for (for_place.Step bounds) (word.Name text, p) = Some (at_for (for_place.StepSign bounds (name_of text p)))
 feed_for (for_place.Step bounds) (word.Increment, p) = Some (at_for (for_place.Third bounds))
-feed_for (for_place.Increment bounds third) (word.Increment, p) = Some (at_for (for_place.Close bounds third))
+feed_for (for_place.StepSign bounds third) (word.Increment, p) = Some (at_for (for_place.Close bounds third))
+feed_for (for_place.StepSign bounds third) (word.AddAssign, p) = Some (begun (slot.Step bounds third p))
 feed_for (for_place.Third bounds) (word.Name text, p) = Some (at_for (for_place.Close bounds (name_of text p)))
 feed_for _ _ = None
 
--- the body of a `for` comes next, where its brackets end
+-- after the step of a `for`: its body comes next, where its brackets end
+abbrev pub feed_step : Nesting → Bounds → Name → Step → Lexeme → Option State
+feed_step n bounds third step word.Close = Some (enclosed n (enclosing.For bounds third step), at place.Statement)
+feed_step n bounds third step _ = None
+
 abbrev pub feed_header : Nesting → ForPlace → Tok → Option State
-feed_header n (for_place.Close bounds third) (word.Close, p) = Some (enclosed n (enclosing.For bounds third), at place.Statement)
+feed_header n (for_place.Close bounds third) (w, p) = feed_step n bounds third One w
 feed_header n place t = option_map (λ w. (n, w)) (feed_for place t)
 
 -- ---- statements
@@ -109,14 +116,14 @@ feed_statement n (word.CloseCurly, p) = end_block n n.enclosing
 feed_statement n t = feed_begin n t
 
 -- the part that a `for` makes
-abbrev pub for_part : Bounds → Name → Part → Part
-for_part b third body = part.For b.name b.first b.second b.inclusive b.bound third body
+abbrev pub for_part : Bounds → Name → Step → Part → Part
+for_part b third step body = part.For b.name b.first b.second b.inclusive b.bound third step body
 
 -- a statement is complete, and with it those that waited for it as their last part
 abbrev pub landed : List Enclosing → List Part → Part → List Enclosing × List Part
 landed [] parts v = ([], parts ++ v ∷ [])
 landed (enclosing.Block outer ∷ k) parts v = (enclosing.Block outer ∷ k, parts ++ v ∷ [])
-landed (enclosing.For bounds third ∷ k) parts v = landed k parts (for_part bounds third v)
+landed (enclosing.For bounds third step ∷ k) parts v = landed k parts (for_part bounds third step v)
 landed (enclosing.If cond ∷ k) parts v = landed k parts (part.If cond v None)
 landed (enclosing.Else cond block p ∷ k) parts v = landed k parts (part.If cond (part.Block block) (Some (record { token = p; body = v })))
 
@@ -191,6 +198,7 @@ abbrev pub fill : Nesting → Slot → Operand → Tok → Option State
 fill n (slot.Extent w names name extents) v (word.CloseSquare, p) = Some (n, at_declare (declare.AfterArray w names name (extents ++ v ∷ [])))
 fill n (slot.First name) v (word.Semi, p) = Some (n, at_for (for_place.Second name v))
 fill n (slot.Bound name first second inclusive) v (word.Semi, p) = Some (n, at_for (for_place.Step (record { name = name; first = first; second = second; inclusive = inclusive; bound = v })))
+fill n (slot.Step bounds third token) v (w, p) = feed_step n bounds third (By token v) w
 fill n (slot.Left cond) v (word.Compare sign, p) = Some (n, begun (slot.Right cond v sign p))
 fill n (slot.Right cond left sign token) v (w, p) = feed_comparison n (cond ++ comparison_of left sign token v ∷ []) w
 fill n (slot.Subscript name subscripts) v (word.CloseSquare, p) = Some (n, at (place.Target name (subscripts ++ v ∷ [])))

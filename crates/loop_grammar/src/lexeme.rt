@@ -40,8 +40,10 @@ pub enum Lexeme {
     Minus,
     Times,
     Increment,
+    /// `+=`.
+    AddAssign,
     And,
-    /// A token of no production.
+    /// What no token of a source is.
     Other,
 }
 
@@ -134,6 +136,8 @@ fn sign(text: &[u8]) -> Lexeme
         Lexeme::Times
     } else if text == b"++".as_slice() {
         Lexeme::Increment
+    } else if text == b"+=".as_slice() {
+        Lexeme::AddAssign
     } else if text == b"&&".as_slice() {
         Lexeme::And
     } else {

@@ -16,8 +16,5 @@ pub use lexeme::{Choice, Lexeme};
 pub use parser::{ParseError, parse};
 pub use tree::{
     BinarySign, CompareSign, Comparison, DeclWord, Declaration, Name, Named, Operand, Other, Part,
-    Tree,
+    Step, Tree,
 };
-
-#[cfg(test)]
-mod tests;

@@ -1,5 +1,7 @@
 use crate::expression::Expression;
-use crate::tree::{CompareSign, Comparison, DeclWord, Declaration, Name, Named, Operand, Part};
+use crate::tree::{
+    CompareSign, Comparison, DeclWord, Declaration, Name, Named, Operand, Part, Step,
+};
 use plain_data::Items;
 
 /// A `for` up to its second `;`.
@@ -20,6 +22,7 @@ pub(crate) enum Enclosing {
     For {
         bounds: Bounds,
         third: Name,
+        step: Step,
     },
     If(Items<Comparison>),
     Else {
@@ -53,14 +56,14 @@ pub(crate) enum ForPlace {
     },
     /// Before the third name or `++`.
     Step(Bounds),
-    /// Between the third name and `++`.
-    Increment {
+    /// Between the third name and `++` or `+=`.
+    StepSign {
         bounds: Bounds,
         third: Name,
     },
     /// Between `++` and the third name.
     Third(Bounds),
-    /// Before `)`.
+    /// Before the `)` after a step by `++`.
     Close {
         bounds: Bounds,
         third: Name,
@@ -106,6 +109,12 @@ pub(crate) enum Slot {
         first: Operand,
         second: Name,
         inclusive: bool,
+    },
+    /// What a `for` steps by, behind `+=` with this token.
+    Step {
+        bounds: Bounds,
+        third: Name,
+        token: u32,
     },
     /// The left side of a comparison, after these.
     Left(Items<Comparison>),

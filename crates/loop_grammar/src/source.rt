@@ -9,9 +9,9 @@ use crate::lexeme::Lexeme;
 use crate::place::{Bounds, DeclarePlace, ForPlace, Nesting, Place, Position, Reader, Slot};
 use crate::statement::{
     begin, feed_after_block, feed_assigned, feed_comparison, feed_header, feed_if, feed_statement,
-    feed_target, settle,
+    feed_step, feed_target, settle,
 };
-use crate::tree::{Comparison, Operand, Part, Tree};
+use crate::tree::{Comparison, Operand, Part, Step, Tree};
 use plain_data::Items;
 use std::alloc::{AllocError, Global};
 
@@ -81,6 +81,14 @@ fn fill_slot(
             }))),
             _ => return Ok(None),
         },
+        Slot::Step {
+            bounds,
+            third,
+            token: at,
+        } => {
+            let step = Step::By { token: at, value };
+            return feed_step(nesting, bounds, third, step, word);
+        }
         Slot::Left(cond) => match word {
             Lexeme::Compare(sign) => begin(
                 alloc,

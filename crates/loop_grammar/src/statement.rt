@@ -1,11 +1,11 @@
 ghost use Rattle.std.specs.Prelude.{◌≡◌, ℕ, ◌∷◌, [], ◌++◌, IfOk, option_map, reverse, Some, None};
-ghost use Rattle.loop_grammar.specs.SourceMachine.{at, at_for, enclosed, inside_out, where_of, state_of, begun, name_of, feed_for, feed_header, feed_begin, end_block, feed_statement, for_part, landed, settled, else_begun, feed_after_block, feed_if, feed_target, feed_comparison, feed_assigned};
+ghost use Rattle.loop_grammar.specs.SourceMachine.{at, at_for, enclosed, inside_out, where_of, state_of, begun, name_of, feed_for, feed_step, feed_header, feed_begin, end_block, feed_statement, for_part, landed, settled, else_begun, feed_after_block, feed_if, feed_target, feed_comparison, feed_assigned};
 ghost use Rattle.loop_grammar.specs.declared.tree.Part as part;
 
 use crate::expression;
 use crate::lexeme::Lexeme;
 use crate::place::{Bounds, Enclosing, ForPlace, Nesting, Place, Position, Reader, Slot};
-use crate::tree::{CompareSign, Comparison, Name, Operand, Other, Part};
+use crate::tree::{CompareSign, Comparison, Name, Operand, Other, Part, Step};
 use plain_data::{Boxed, Items};
 use std::alloc::{AllocError, Global};
 
@@ -81,15 +81,23 @@ fn feed_for(alloc: Global, place: ForPlace, word: Lexeme, token: u32) -> Option<
             _ => None,
         },
         ForPlace::Step(bounds) => match word {
-            Lexeme::Name(text) => in_for(ForPlace::Increment {
+            Lexeme::Name(text) => in_for(ForPlace::StepSign {
                 bounds,
                 third: Name { text, token },
             }),
             Lexeme::Increment => in_for(ForPlace::Third(bounds)),
             _ => None,
         },
-        ForPlace::Increment { bounds, third } => match word {
+        ForPlace::StepSign { bounds, third } => match word {
             Lexeme::Increment => in_for(ForPlace::Close { bounds, third }),
+            Lexeme::AddAssign => Some(begin(
+                alloc,
+                Slot::Step {
+                    bounds,
+                    third,
+                    token,
+                },
+            )),
             _ => None,
         },
         ForPlace::Third(bounds) => match word {
@@ -134,7 +142,30 @@ fn enclose(nesting: Nesting, statement: Enclosing) -> Result<Reader, AllocError>
     ))
 }
 
-/// Goes on by one token in the brackets of a `for`; its body comes next where they end.
+/// Goes on by one token after the step of a `for`; its body comes next where its brackets end.
+pub(crate) fn feed_step(
+    nesting: Nesting,
+    bounds: Bounds,
+    third: Name,
+    step: Step,
+    word: Lexeme,
+) -> Result<Option<Reader>, AllocError>
+    ensures { IfOk result (λ after. feed_step (inside_out nesting) bounds third step word ≡ option_map state_of after) }
+{
+    match word {
+        Lexeme::Close => {
+            let statement = Enclosing::For {
+                bounds,
+                third,
+                step,
+            };
+            Ok(Some(enclose(nesting, statement)?))
+        }
+        _ => Ok(None),
+    }
+}
+
+/// Goes on by one token in the brackets of a `for`.
 pub(crate) fn feed_header(
     alloc: Global,
     nesting: Nesting,
@@ -145,10 +176,7 @@ pub(crate) fn feed_header(
     ensures { IfOk result (λ after. feed_header (inside_out nesting) place (word, token) ≡ option_map state_of after) }
 {
     match place {
-        ForPlace::Close { bounds, third } => match word {
-            Lexeme::Close => Ok(Some(enclose(nesting, Enclosing::For { bounds, third })?)),
-            _ => Ok(None),
-        },
+        ForPlace::Close { bounds, third } => feed_step(nesting, bounds, third, Step::One, word),
         place => match feed_for(alloc, place, word, token) {
             Some(position) => Ok(Some(Reader { nesting, position })),
             None => Ok(None),
@@ -235,8 +263,14 @@ pub(crate) fn feed_statement(
     }
 }
 
-fn for_part(alloc: Global, bounds: Bounds, third: Name, body: Part) -> Result<Part, AllocError>
-    ensures { IfOk result (λ tree. tree ≡ for_part bounds third body) }
+fn for_part(
+    alloc: Global,
+    bounds: Bounds,
+    third: Name,
+    step: Step,
+    body: Part,
+) -> Result<Part, AllocError>
+    ensures { IfOk result (λ tree. tree ≡ for_part bounds third step body) }
 {
     let Bounds {
         name,
@@ -252,6 +286,7 @@ fn for_part(alloc: Global, bounds: Bounds, third: Name, body: Part) -> Result<Pa
         inclusive,
         bound,
         third,
+        step,
         body: Boxed::new(alloc, body)?,
     })
 }
@@ -301,7 +336,13 @@ fn land(
                 enclosing.push(Enclosing::Block(outer))?;
                 break;
             }
-            Enclosing::For { bounds, third } => part = for_part(alloc, bounds, third, part)?,
+            Enclosing::For {
+                bounds,
+                third,
+                step,
+            } => {
+                part = for_part(alloc, bounds, third, step, part)?;
+            }
             Enclosing::If(cond) => part = if_part(alloc, cond, part)?,
             Enclosing::Else { cond, block, token } => {
                 part = else_part(alloc, cond, block, token, part)?;

@@ -49,6 +49,7 @@ pub enum Part {
         inclusive: bool,
         bound: Operand,
         third: Name,
+        step: Step,
         body: Boxed<Part>,
     },
     If {
@@ -62,6 +63,13 @@ pub enum Part {
         value: Operand,
     },
     Block(Items<Part>),
+}
+
+/// What a loop's variable grows by: one, written `++`, or the value behind `+=`, with the token of `+=`.
+#[derive(Drop)]
+pub enum Step {
+    One,
+    By { token: u32, value: Operand },
 }
 
 /// An `else` with its token.

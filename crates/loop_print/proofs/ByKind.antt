@@ -9,6 +9,8 @@ use Rattle.loop_grammar.specs.declared.tree.Name.{Name}
 use Rattle.loop_grammar.specs.declared.tree.Other.{Other}
 use Rattle.loop_grammar.specs.declared.tree.Operand.{Operand}
 use Rattle.loop_grammar.specs.declared.tree.Operand as operand
+use Rattle.loop_grammar.specs.declared.tree.Step.{Step}
+use Rattle.loop_grammar.specs.declared.tree.Step.TheVariants.{One, By}
 use Rattle.loop_grammar.specs.declared.tree.Part.{Part}
 use Rattle.loop_grammar.specs.declared.tree.Part as part
 use Rattle.loop_grammar.specs.declared.tree.Declaration.{Declaration}
@@ -16,7 +18,7 @@ use Rattle.loop_grammar.specs.declared.tree.Named.{Named}
 use Rattle.std.specs.List.{flat_map}
 use Rattle.loop_print.specs.declared.printer.Rank.{Rank}
 use Rattle.loop_print.specs.declared.printer.Rank.TheVariants as rank
-use Rattle.loop_print.specs.Printing.{Writes, written, named_words, declaration_words, phrase_at, phrase_of, phrase_words, in_parentheses, joined, binary_word, binary_rank, right_rank, expr_words, access_words, header_words, guard_words, in_braces, assign_words, part_words, other_words, parts_words}
+use Rattle.loop_print.specs.Printing.{Writes, written, named_words, declaration_words, phrase_at, phrase_of, phrase_words, in_parentheses, joined, binary_word, binary_rank, right_rank, expr_words, access_words, step_words, header_words, guard_words, in_braces, assign_words, part_words, other_words, parts_words}
 use Rattle.loop_print.proofs.Phrases.{choice_of, phrase_number, phrase_access, phrase_binary, phrase_neg, phrase_choice, words_for, words_if, words_assign, words_block}
 use Rattle.loop_print.proofs.Written.{behind, nothing, recast}
 
@@ -47,9 +49,15 @@ choice_written c op token list given is same h =
 pub enclosed_written : {o0 o1 o2 o3 : List ℕ} {w v : Lexeme} {words : List Lexeme} → Writes o0 o1 (w ∷ []) → Writes o1 o2 words → Writes o2 o3 (v ∷ []) → Writes o0 o3 (w ∷ (words ++ v ∷ []))
 enclosed_written first second third = behind first (behind second third)
 
-pub for_written : (p : Part) (name : Name) (first : Operand) (second : Name) (inclusive : Bool) (bound : Operand) (third : Name) (body : Part) {o0 o1 o2 : List ℕ} → p ≡ part.For name first second inclusive bound third body → Writes o0 o1 (header_words name first second inclusive bound third) → Writes o1 o2 (part_words body) → Writes o0 o2 (part_words p)
-for_written p name first second inclusive bound third body is own rest =
-    recast (sym (ap part_words is ∙ words_for name first second inclusive bound third body)) (behind own rest)
+pub one_written : (s : Step) (third : Name) {o0 o1 o2 : List ℕ} → s ≡ One → Writes o0 o1 (word.Name third.text ∷ []) → Writes o1 o2 (word.Increment ∷ []) → Writes o0 o2 (step_words third s)
+one_written s third is first second = recast (ap (step_words third) (sym is)) (behind first second)
+
+pub by_written : (s : Step) (third : Name) (token : ℕ) (value : Operand) {o0 o1 o2 o3 : List ℕ} → s ≡ By token value → Writes o0 o1 (word.Name third.text ∷ []) → Writes o1 o2 (word.AddAssign ∷ []) → Writes o2 o3 (expr_words value) → Writes o0 o3 (step_words third s)
+by_written s third token value is first second last = recast (ap (step_words third) (sym is)) (behind first (behind second last))
+
+pub for_written : (p : Part) (name : Name) (first : Operand) (second : Name) (inclusive : Bool) (bound : Operand) (third : Name) (step : Step) (body : Part) {o0 o1 o2 : List ℕ} → p ≡ part.For name first second inclusive bound third step body → Writes o0 o1 (header_words name first second inclusive bound third step) → Writes o1 o2 (part_words body) → Writes o0 o2 (part_words p)
+for_written p name first second inclusive bound third step body is own rest =
+    recast (sym (ap part_words is ∙ words_for name first second inclusive bound third step body)) (behind own rest)
 
 pub if_written : (p : Part) (cond given : List Comparison) (body : Part) (other : Option Other) {o0 o1 o2 o3 : List ℕ} → p ≡ part.If cond body other → given ≡ cond → Writes o0 o1 (guard_words given) → Writes o1 o2 (part_words body) → Writes o2 o3 (other_words other) → Writes o0 o3 (part_words p)
 if_written p cond given body other is same first second third =

@@ -14,12 +14,13 @@ use Rattle.loop_grammar.specs.declared.tree.Operand.{Operand}
 use Rattle.loop_grammar.specs.declared.tree.Operand.TheOpen as layer
 use Rattle.loop_grammar.specs.declared.tree.Operand.TheVariants.{Number, Access, Binary, Neg, Min, Max, rolls-Number, rolls-Access, rolls-Binary, rolls-Neg, rolls-Min, rolls-Max}
 use Rattle.loop_grammar.specs.declared.tree.Operand.TheFolds.{fold-roll-Operand}
+use Rattle.loop_grammar.specs.declared.tree.Step.{Step}
 use Rattle.loop_grammar.specs.declared.tree.Part.{Part}
 use Rattle.loop_grammar.specs.declared.tree.Part.TheOpen as part_layer
 use Rattle.loop_grammar.specs.declared.tree.Part.TheVariants.{For, If, Assign, Block, rolls-For, rolls-If, rolls-Assign, rolls-Block}
 use Rattle.loop_grammar.specs.declared.tree.Part.TheFolds.{fold-roll-Part, fold_out-Other}
 use Rattle.loop_print.specs.Printing.{Phrase, phrase_words, squared_phrase, in_parentheses, in_braces, joined, behind_sign, phrase_step, phrase_of, expr_words, access_words, choice_words, header_words, guard_words, assign_words, part_step, other_step, part_words, other_words, all_words, parts_words}
-use Rattle.loop_print.specs.Numbers.{unnumbered_name, unnumbered_operand_step, unnumbered_operand, unnumbered_comparison, unnumbered_part_step, unnumbered_other_step, unnumbered_part}
+use Rattle.loop_print.specs.Numbers.{unnumbered_name, unnumbered_operand_step, unnumbered_operand, unnumbered_comparison, unnumbered_step, unnumbered_part_step, unnumbered_other_step, unnumbered_part}
 
 -- ---- operands
 
@@ -107,9 +108,9 @@ unnumbered_choice ChoiceMax token list = unnumbered_max token list
 
 -- ---- parts
 
-pub words_for : (name : Name) (first : Operand) (second : Name) (inclusive : Bool) (bound : Operand) (third : Name) (body : Part) → part_words (For name first second inclusive bound third body) ≡ header_words name first second inclusive bound third ++ part_words body
+pub words_for : (name : Name) (first : Operand) (second : Name) (inclusive : Bool) (bound : Operand) (third : Name) (step : Step) (body : Part) → part_words (For name first second inclusive bound third step body) ≡ header_words name first second inclusive bound third step ++ part_words body
 unfolding part_words
-words_for name first second inclusive bound third body = ap part_words (sym (rolls-For name first second inclusive bound third body)) ∙ fold-roll-Part (List Lexeme) (List Lexeme) part_step other_step (part_layer.For name first second inclusive bound third body)
+words_for name first second inclusive bound third step body = ap part_words (sym (rolls-For name first second inclusive bound third step body)) ∙ fold-roll-Part (List Lexeme) (List Lexeme) part_step other_step (part_layer.For name first second inclusive bound third step body)
 
 words_if_folded : (cond : List Comparison) (body : Part) → part_words (If cond body None) ≡ part_step (part_layer.If cond (part_words body) None)
 unfolding part_words
@@ -143,9 +144,9 @@ words_block parts = words_block_folded parts ∙ ap in_braces (flat_map-map (λ 
 
 -- ---- parts without token numbers
 
-pub unnumbered_for : (name : Name) (first : Operand) (second : Name) (inclusive : Bool) (bound : Operand) (third : Name) (body : Part) → unnumbered_part (For name first second inclusive bound third body) ≡ For (unnumbered_name name) (unnumbered_operand first) (unnumbered_name second) inclusive (unnumbered_operand bound) (unnumbered_name third) (unnumbered_part body)
+pub unnumbered_for : (name : Name) (first : Operand) (second : Name) (inclusive : Bool) (bound : Operand) (third : Name) (step : Step) (body : Part) → unnumbered_part (For name first second inclusive bound third step body) ≡ For (unnumbered_name name) (unnumbered_operand first) (unnumbered_name second) inclusive (unnumbered_operand bound) (unnumbered_name third) (unnumbered_step step) (unnumbered_part body)
 unfolding unnumbered_part
-unnumbered_for name first second inclusive bound third body = ap unnumbered_part (sym (rolls-For name first second inclusive bound third body)) ∙ fold-roll-Part Part Other unnumbered_part_step unnumbered_other_step (part_layer.For name first second inclusive bound third body)
+unnumbered_for name first second inclusive bound third step body = ap unnumbered_part (sym (rolls-For name first second inclusive bound third step body)) ∙ fold-roll-Part Part Other unnumbered_part_step unnumbered_other_step (part_layer.For name first second inclusive bound third step body)
 
 pub unnumbered_if : (cond : List Comparison) (body : Part) → unnumbered_part (If cond body None) ≡ If (map unnumbered_comparison cond) (unnumbered_part body) None
 unfolding unnumbered_part

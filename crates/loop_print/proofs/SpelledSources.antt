@@ -15,11 +15,13 @@ use Rattle.loop_grammar.specs.declared.tree.Operand.{Operand}
 use Rattle.loop_grammar.specs.declared.tree.Other.{Other}
 use Rattle.loop_grammar.specs.declared.tree.Part.{Part}
 use Rattle.loop_grammar.specs.declared.tree.Part as part
+use Rattle.loop_grammar.specs.declared.tree.Step.{Step}
+use Rattle.loop_grammar.specs.declared.tree.Step.TheVariants.{By}
 use Rattle.loop_grammar.specs.declared.tree.Tree.{Tree}
-use Rattle.loop_grammar.specs.Grammar.{Tok, Expr, Access, access_text, accessed, subscripts, expr_text, expr_tree, Separated, single, more, separated_text, separated_list, Compared, compared, compared_text, compared_tree, Guard, guard, guard_text, guard_tree, postfix, stepped, bound_sign, Header, header, header_text, Statement, loop, guarded, alternative, assign, block, Block, braces, Statements, no_statement, and_statement, statement_text, block_text, statements_text, loop_part, statement_tree, block_parts, statement_trees, array_word, Declared, parameters, arrays, parameter_text, declared_text, parameter, array, declared_tree, Declarations, none_declared, also_declared, declarations_text, declaration_trees, Program, program, program_text, program_tree, Derives}
+use Rattle.loop_grammar.specs.Grammar.{Tok, Expr, Access, access_text, accessed, subscripts, expr_text, expr_tree, Separated, single, more, separated_text, separated_list, Compared, compared, compared_text, compared_tree, Guard, guard, guard_text, guard_tree, Stepped, postfix, prefix, compound, stepped_text, stepped_name, stepped_tree, bound_sign, Header, header, header_text, Statement, loop, guarded, alternative, assign, block, Block, braces, Statements, no_statement, and_statement, statement_text, block_text, statements_text, loop_part, statement_tree, block_parts, statement_trees, array_word, Declared, parameters, arrays, parameter_text, declared_text, parameter, array, declared_tree, Declarations, none_declared, also_declared, declarations_text, declaration_trees, Program, program, program_text, program_tree, Derives}
 use Rattle.loop_grammar.specs.Lexemes.{numbered_from}
-use Rattle.loop_print.specs.Printing.{joined, expr_words, access_words, comparison_words, header_words, guard_words, in_braces, part_words, parts_words, named_words, declaration_words, tree_words}
-use Rattle.loop_print.specs.Numbers.{unnumbered_name, unnumbered_operand, unnumbered_comparison, unnumbered_part, unnumbered_named, unnumbered_declaration, without_token_numbers}
+use Rattle.loop_print.specs.Printing.{joined, expr_words, access_words, comparison_words, step_words, header_words, guard_words, in_braces, part_words, parts_words, named_words, declaration_words, tree_words}
+use Rattle.loop_print.specs.Numbers.{unnumbered_name, unnumbered_operand, unnumbered_comparison, unnumbered_step, unnumbered_part, unnumbered_named, unnumbered_declaration, without_token_numbers}
 use Rattle.loop_print.proofs.Phrases.{words_for, words_if, words_assign, words_block, unnumbered_for, unnumbered_if, unnumbered_else, unnumbered_assign, unnumbered_block, unnumbered_other}
 use Rattle.loop_print.proofs.SpelledExpressions.{together, between, enclosed, IsCons, more_is_cons, flat_more, joined_more, map_more, AsExpr, AsAccess, expr_of, spelled_expr, spelled_access}
 
@@ -102,49 +104,72 @@ spelled_guard (guard p q cond r) n =
 -- ---- the brackets of a `for`
 
 abbrev header_words_of : Header → List Lexeme
-header_words_of (header p q int x r first s second inclusive t bound u step v) = header_words x (expr_tree first) second inclusive (expr_tree bound) (stepped step)
+header_words_of (header p q int x r first s second inclusive t bound u step v) = header_words x (expr_tree first) second inclusive (expr_tree bound) (stepped_name step) (stepped_tree step)
 
 abbrev named_at : ℕ → Name → Name
 named_at n x = record { text = x.text; token = n }
+
+pub record AsStep (n : ℕ) (third : Name) (s : Step) : Type 0 where
+  pub new : Stepped
+  pub text : stepped_text new ≡ numbered_from n (step_words third s)
+  pub name_is : unnumbered_name (stepped_name new) ≡ unnumbered_name third
+  pub step_is : unnumbered_step (stepped_tree new) ≡ unnumbered_step s
+
+spelled_step : (s : Stepped) (n : ℕ) → AsStep n (stepped_name s) (stepped_tree s)
+spelled_step (postfix x p) n = record { new = postfix (named_at n x) (n + 1); text = refl; name_is = refl; step_is = refl }
+spelled_step (prefix p x) n = record { new = postfix (named_at n x) (n + 1); text = refl; name_is = refl; step_is = refl }
+spelled_step (compound x p e) n =
+    let y : AsExpr (n + 1 + 1) (expr_words (expr_tree e)) (expr_tree e) = expr_of (expr_tree e) (spelled_expr e) (n + 1 + 1) in
+    record {
+      new = compound (named_at n x) (n + 1) y.new;
+      text = ap (λ (ts : List Tok). (word.Name x.text, n) ∷ (word.AddAssign, n + 1) ∷ ts) y.text;
+      name_is = refl;
+      step_is = ap (By 0) y.tree;
+    }
 
 pub record AsHeader (n : ℕ) (words : List Lexeme) (h : Header) : Type 0 where
   pub new : Header
   pub text : header_text new ≡ numbered_from n words
   pub part_is : (a b : Part) → unnumbered_part a ≡ unnumbered_part b → unnumbered_part (loop_part new a) ≡ unnumbered_part (loop_part h b)
 
-same_for : (x x' y y' z z' : Name) (inclusive : Bool) (f f' b b' : Operand) (body body' : Part) → unnumbered_name x ≡ unnumbered_name x' → unnumbered_name y ≡ unnumbered_name y' → unnumbered_name z ≡ unnumbered_name z' → unnumbered_operand f ≡ unnumbered_operand f' → unnumbered_operand b ≡ unnumbered_operand b' → unnumbered_part body ≡ unnumbered_part body' → unnumbered_part (part.For x f y inclusive b z body) ≡ unnumbered_part (part.For x' f' y' inclusive b' z' body')
-same_for x x' y y' z z' inclusive f f' b b' body body' ex ey ez ef eb e =
-    unnumbered_for x f y inclusive b z body
-    ∙ ap (λ (w : Name). part.For w (unnumbered_operand f) (unnumbered_name y) inclusive (unnumbered_operand b) (unnumbered_name z) (unnumbered_part body)) ex
-    ∙ ap (λ (w : Name). part.For (unnumbered_name x') (unnumbered_operand f) w inclusive (unnumbered_operand b) (unnumbered_name z) (unnumbered_part body)) ey
-    ∙ ap (λ (w : Name). part.For (unnumbered_name x') (unnumbered_operand f) (unnumbered_name y') inclusive (unnumbered_operand b) w (unnumbered_part body)) ez
-    ∙ ap (λ (w : Operand). part.For (unnumbered_name x') w (unnumbered_name y') inclusive (unnumbered_operand b) (unnumbered_name z') (unnumbered_part body)) ef
-    ∙ ap (λ (w : Operand). part.For (unnumbered_name x') (unnumbered_operand f') (unnumbered_name y') inclusive w (unnumbered_name z') (unnumbered_part body)) eb
-    ∙ ap (λ (w : Part). part.For (unnumbered_name x') (unnumbered_operand f') (unnumbered_name y') inclusive (unnumbered_operand b') (unnumbered_name z') w) e
-    ∙ sym (unnumbered_for x' f' y' inclusive b' z' body')
+same_for : (x x' y y' z z' : Name) (inclusive : Bool) (f f' b b' : Operand) (s s' : Step) (body body' : Part) → unnumbered_name x ≡ unnumbered_name x' → unnumbered_name y ≡ unnumbered_name y' → unnumbered_name z ≡ unnumbered_name z' → unnumbered_operand f ≡ unnumbered_operand f' → unnumbered_operand b ≡ unnumbered_operand b' → unnumbered_step s ≡ unnumbered_step s' → unnumbered_part body ≡ unnumbered_part body' → unnumbered_part (part.For x f y inclusive b z s body) ≡ unnumbered_part (part.For x' f' y' inclusive b' z' s' body')
+same_for x x' y y' z z' inclusive f f' b b' s s' body body' ex ey ez ef eb es e =
+    unnumbered_for x f y inclusive b z s body
+    ∙ ap (λ (w : Name). part.For w (unnumbered_operand f) (unnumbered_name y) inclusive (unnumbered_operand b) (unnumbered_name z) (unnumbered_step s) (unnumbered_part body)) ex
+    ∙ ap (λ (w : Name). part.For (unnumbered_name x') (unnumbered_operand f) w inclusive (unnumbered_operand b) (unnumbered_name z) (unnumbered_step s) (unnumbered_part body)) ey
+    ∙ ap (λ (w : Name). part.For (unnumbered_name x') (unnumbered_operand f) (unnumbered_name y') inclusive (unnumbered_operand b) w (unnumbered_step s) (unnumbered_part body)) ez
+    ∙ ap (λ (w : Operand). part.For (unnumbered_name x') w (unnumbered_name y') inclusive (unnumbered_operand b) (unnumbered_name z') (unnumbered_step s) (unnumbered_part body)) ef
+    ∙ ap (λ (w : Operand). part.For (unnumbered_name x') (unnumbered_operand f') (unnumbered_name y') inclusive w (unnumbered_name z') (unnumbered_step s) (unnumbered_part body)) eb
+    ∙ ap (λ (w : Step). part.For (unnumbered_name x') (unnumbered_operand f') (unnumbered_name y') inclusive (unnumbered_operand b') (unnumbered_name z') w (unnumbered_part body)) es
+    ∙ ap (λ (w : Part). part.For (unnumbered_name x') (unnumbered_operand f') (unnumbered_name y') inclusive (unnumbered_operand b') (unnumbered_name z') (unnumbered_step s') w) e
+    ∙ sym (unnumbered_for x' f' y' inclusive b' z' s' body')
 
 spelled_header : (h : Header) (n : ℕ) → AsHeader n (header_words_of h) h
 spelled_header (header p q int x r first s second inclusive t bound u step v) n =
     let k : ℕ = n + 1 + 1 + 1 + 1 in
     let from : List Lexeme = expr_words (expr_tree first) in
     let to : List Lexeme = expr_words (expr_tree bound) in
-    let last : List Lexeme = word.Name (stepped step).text ∷ word.Increment ∷ word.Close ∷ [] in
+    let own : List Lexeme = step_words (stepped_name step) (stepped_tree step) in
+    let last : List Lexeme = own ++ word.Close ∷ [] in
     let later : List Lexeme = word.Name second.text ∷ word.Compare (bound_sign inclusive) ∷ (to ++ word.Semi ∷ last) in
     let f : AsExpr k from (expr_tree first) = expr_of (expr_tree first) (spelled_expr first) k in
     let l : ℕ = k + length from in
     let m : ℕ = l + 1 + 1 + 1 in
     let b : AsExpr m to (expr_tree bound) = expr_of (expr_tree bound) (spelled_expr bound) m in
     let o : ℕ = m + length to in
-    let new_header : Header = header n (n + 1) None (named_at (n + 1 + 1) x) (n + 1 + 1 + 1) f.new l (named_at (l + 1) second) inclusive (l + 1 + 1) b.new o (postfix (named_at (o + 1) (stepped step)) (o + 1 + 1)) (o + 1 + 1 + 1) in
-    let inner : expr_text b.new ++ (word.Semi, o) ∷ numbered_from (o + 1) last ≡ numbered_from m (to ++ word.Semi ∷ last)
-    = between m to last word.Semi (expr_text b.new) (numbered_from (o + 1) last) b.text refl in
-    let outer : expr_text f.new ++ (word.Semi, l) ∷ ((word.Name second.text, l + 1) ∷ (word.Compare (bound_sign inclusive), l + 1 + 1) ∷ (expr_text b.new ++ (word.Semi, o) ∷ numbered_from (o + 1) last)) ≡ numbered_from k (from ++ word.Semi ∷ later)
-    = between k from later word.Semi (expr_text f.new) ((word.Name second.text, l + 1) ∷ (word.Compare (bound_sign inclusive), l + 1 + 1) ∷ (expr_text b.new ++ (word.Semi, o) ∷ numbered_from (o + 1) last)) f.text
+    let c : AsStep (o + 1) (stepped_name step) (stepped_tree step) = spelled_step step (o + 1) in
+    let w : ℕ = o + 1 + length own in
+    let ending : List Tok = stepped_text c.new ++ (word.Close, w) ∷ [] in
+    let new_header : Header = header n (n + 1) None (named_at (n + 1 + 1) x) (n + 1 + 1 + 1) f.new l (named_at (l + 1) second) inclusive (l + 1 + 1) b.new o c.new w in
+    let inner : expr_text b.new ++ (word.Semi, o) ∷ ending ≡ numbered_from m (to ++ word.Semi ∷ last)
+    = between m to last word.Semi (expr_text b.new) ending b.text (between (o + 1) own [] word.Close (stepped_text c.new) [] c.text refl) in
+    let outer : expr_text f.new ++ (word.Semi, l) ∷ ((word.Name second.text, l + 1) ∷ (word.Compare (bound_sign inclusive), l + 1 + 1) ∷ (expr_text b.new ++ (word.Semi, o) ∷ ending)) ≡ numbered_from k (from ++ word.Semi ∷ later)
+    = between k from later word.Semi (expr_text f.new) ((word.Name second.text, l + 1) ∷ (word.Compare (bound_sign inclusive), l + 1 + 1) ∷ (expr_text b.new ++ (word.Semi, o) ∷ ending)) f.text
     (ap (λ (ts : List Tok). (word.Name second.text, l + 1) ∷ (word.Compare (bound_sign inclusive), l + 1 + 1) ∷ ts) inner) in
     record {
       new = new_header;
       text = ap (λ (ts : List Tok). (word.For, n) ∷ (word.Open, n + 1) ∷ (word.Name x.text, n + 1 + 1) ∷ (word.Assign, n + 1 + 1 + 1) ∷ ts) outer;
-      part_is = λ c d e. same_for (named_at (n + 1 + 1) x) x (named_at (l + 1) second) second (named_at (o + 1) (stepped step)) (stepped step) inclusive (expr_tree f.new) (expr_tree first) (expr_tree b.new) (expr_tree bound) c d refl refl refl f.tree b.tree e;
+      part_is = λ y z e. same_for (named_at (n + 1 + 1) x) x (named_at (l + 1) second) second (stepped_name c.new) (stepped_name step) inclusive (expr_tree f.new) (expr_tree first) (expr_tree b.new) (expr_tree bound) (stepped_tree c.new) (stepped_tree step) y z refl refl c.name_is f.tree b.tree c.step_is e;
     }
 
 -- ---- statements
@@ -165,7 +190,7 @@ pub record AsStatements (n : ℕ) (words : List Lexeme) (list : List Part) : Typ
   pub list_is : map unnumbered_part (statement_trees new) ≡ map unnumbered_part list
 
 loop_words : (h : Header) (body : Part) → part_words (loop_part h body) ≡ header_words_of h ++ part_words body
-loop_words (header p q int x r first s second inclusive t bound u step v) body = words_for x (expr_tree first) second inclusive (expr_tree bound) (stepped step) body
+loop_words (header p q int x r first s second inclusive t bound u step v) body = words_for x (expr_tree first) second inclusive (expr_tree bound) (stepped_name step) (stepped_tree step) body
 
 loop_spelled : (h : Header) (body : Part) (n : ℕ) → ((m : ℕ) → AsStatement m (part_words body) body) → AsStatement n (part_words (loop_part h body)) (loop_part h body)
 loop_spelled h body n inside =

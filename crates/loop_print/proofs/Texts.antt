@@ -1,15 +1,16 @@
 -- The text of the words is read back as these words.
-use Rattle.std.proofs.Common.{rules, ◌≡◌, ℕ, suc, ◌+◌, ◌*◌, ◌-◌, ◌^◌, ◌<◌, ◌≤◌, pos, negsuc, Bool, true, false, not, ◌&&◌, ◌||◌, List, [], ◌∷◌, fold, map, length, refl, sym, ap, subst, ◌∙◌, arith, All, codes, nat_lt, Ok, if◌then◌else◌}
+use Rattle.std.proofs.Common.{rules, ◌≡◌, ℕ, suc, ◌+◌, ◌*◌, ◌-◌, ◌^◌, ◌<◌, ◌≤◌, pos, negsuc, Bool, true, false, not, ◌&&◌, ◌||◌, List, [], ◌∷◌, fold, map, length, refl, sym, ap, subst, ◌∙◌, arith, All, nat_lt, Ok}
 use Rattle.std.specs.Fmt.{decimal}
-use Rattle.std.specs.List.{list_all}
+use Rattle.std.specs.List.{list_all, list_any}
 use Rattle.std.specs.Str.{bytes_eq}
 use Rattle.std.proofs.lemmas.Bool.{le-ltb}
 use Rattle.std.proofs.lemmas.Bool.Decides.{nat_tests}
 use Rattle.std.proofs.lemmas.Fmt.{digits_decimal, digits_value-decimal, decimal_nonempty}
 use Rattle.std.proofs.lemmas.List.{length-map}
 use Rattle.std.proofs.lemmas.List.Elements.{All-head, All-tail}
+use Rattle.std.proofs.lemmas.Slice.Eq.{bytes_eq-Decides}
 use Rattle.std.proofs.lemmas.Str.Parse.{IsDigitsTest, FoldsDigits, IsNumeralModel, numerals_by_fold}
-use Rattle.loop_lex.specs.Lexical.{is_word, is_letter, is_letter_or_digit, is_digit, is_digits, is_token, is_reserved, is_large, number_value, greatest_number}
+use Rattle.loop_lex.specs.Lexical.{is_word, is_letter, is_letter_or_digit, is_digit, is_digits, is_token, is_reserved, is_sign, reserved_words, signs, is_large, number_value, greatest_number}
 use Rattle.loop_lex.specs.Spaced.{are_token_texts, spaced, spaced_tokens}
 use Rattle.loop_lex.specs.Tokens.{kind_of, token_at, tokens, token_limit, text_of, IsTextOf as IsKindOf, IsTokenOf, AreTokensOf}
 use Rattle.loop_lex.specs.declared.token.Token.{Token}
@@ -121,8 +122,9 @@ writable word.Plus h = refl
 writable word.Minus h = refl
 writable word.Times h = refl
 writable word.Increment h = refl
+writable word.AddAssign h = refl
 writable word.And h = refl
-writable word.Other h = refl
+writable word.Other h = absurd h
 
 -- what a text is to the grammar
 abbrev pub lexeme_of_text : List ℕ → Lexeme
@@ -172,8 +174,9 @@ read_back word.Plus h = refl
 read_back word.Minus h = refl
 read_back word.Times h = refl
 read_back word.Increment h = refl
+read_back word.AddAssign h = refl
 read_back word.And h = refl
-read_back word.Other h = refl
+read_back word.Other h = absurd h
 
 -- ---- texts of words
 
@@ -217,61 +220,40 @@ sentence_is ws h e = ap (numbered_from 0) (lexemes_at (written ws) 0 (map lexeme
 
 -- ---- the words of a source are tokens
 
-either : (b : Bool) (x y : Lexeme) → IsTokenWord x → IsTokenWord y → IsTokenWord (if b then x else y)
-either true x y hx hy = hx
-either false x y hx hy = hy
+abbrev Each : (List ℕ → Type 0) → List (List ℕ) → Type 0
+Each P [] = Unit {0}
+Each P (x ∷ xs) = P x × Each P xs
 
-reserved_word : (text : List ℕ) → IsTokenWord (reserved_lexeme text)
+first_or_later : (P : List ℕ → Type 0) (text x : List ℕ) (first later : Bool) → bytes_eq text x ≡ first → P x
+    → (later ≡ true → P text) → (first || later) ≡ true → P text
+first_or_later P text x true later e own others h = subst P (sym ((bytes_eq-Decides text x).0 e)) own
+first_or_later P text x false later e own others h = others h
+
+-- what holds of each text in a list holds of a text that is in it
+listed : (P : List ℕ → Type 0) (text : List ℕ) (list : List (List ℕ)) → list_any (bytes_eq text) list ≡ true → Each P list → P text
+listed P text [] h each = absurd cc
+listed P text (x ∷ xs) h each =
+    first_or_later P text x (bytes_eq text x) (list_any (bytes_eq text) xs) refl each.0 (λ later. listed P text xs later each.1) h
+
+abbrev IsReservedToken : List ℕ → Type 0
+IsReservedToken text = IsTokenWord (reserved_lexeme text)
+
+reserved_word : (text : List ℕ) → is_reserved text ≡ true → IsReservedToken text
 unfolding reserved_lexeme
-reserved_word text =
-    either (bytes_eq text (codes "param")) (word.Declare Param) _ tt
-    (either (bytes_eq text (codes "in")) (word.Declare Input) _ tt
-    (either (bytes_eq text (codes "out")) (word.Declare Output) _ tt
-    (either (bytes_eq text (codes "inout")) (word.Declare Both) _ tt
-    (either (bytes_eq text (codes "var")) (word.Declare Var) _ tt
-    (either (bytes_eq text (codes "int")) word.Int _ tt
-    (either (bytes_eq text (codes "for")) word.For _ tt
-    (either (bytes_eq text (codes "if")) word.If _ tt
-    (either (bytes_eq text (codes "else")) word.Else _ tt
-    (either (bytes_eq text (codes "min")) (word.Choice Min) _ tt
-    (either (bytes_eq text (codes "max")) (word.Choice Max) word.Other tt tt))))))))))
+reserved_word text h = listed IsReservedToken text reserved_words h (search rules)
 
-bracket_word : (text : List ℕ) → IsTokenWord (bracket_lexeme text)
-unfolding bracket_lexeme
-bracket_word text =
-    either (bytes_eq text (codes "(")) word.Open _ tt
-    (either (bytes_eq text (codes ")")) word.Close _ tt
-    (either (bytes_eq text (codes "[")) word.OpenSquare _ tt
-    (either (bytes_eq text (codes "]")) word.CloseSquare _ tt
-    (either (bytes_eq text (codes "{")) word.OpenCurly _ tt
-    (either (bytes_eq text (codes "}")) word.CloseCurly word.Other tt tt)))))
+abbrev IsSignToken : List ℕ → Type 0
+IsSignToken text = IsTokenWord (sign_lexeme text)
 
-comparison_word : (text : List ℕ) → IsTokenWord (comparison_lexeme text)
-unfolding comparison_lexeme
-comparison_word text =
-    either (bytes_eq text (codes "<")) (word.Compare Less) _ tt
-    (either (bytes_eq text (codes "<=")) (word.Compare LessEq) _ tt
-    (either (bytes_eq text (codes ">")) (word.Compare Greater) _ tt
-    (either (bytes_eq text (codes ">=")) (word.Compare GreaterEq) _ tt
-    (either (bytes_eq text (codes "==")) (word.Compare Equal) (bracket_lexeme text) tt (bracket_word text)))))
-
-sign_word : (text : List ℕ) → IsTokenWord (sign_lexeme text)
-unfolding sign_lexeme
-sign_word text =
-    either (bytes_eq text (codes ";")) word.Semi _ tt
-    (either (bytes_eq text (codes ",")) word.Comma _ tt
-    (either (bytes_eq text (codes "=")) word.Assign _ tt
-    (either (bytes_eq text (codes "+")) word.Plus _ tt
-    (either (bytes_eq text (codes "-")) word.Minus _ tt
-    (either (bytes_eq text (codes "*")) word.Times _ tt
-    (either (bytes_eq text (codes "++")) word.Increment _ tt
-    (either (bytes_eq text (codes "&&")) word.And (comparison_lexeme text) tt (comparison_word text))))))))
+sign_word : (text : List ℕ) → is_sign text ≡ true → IsSignToken text
+unfolding sign_lexeme comparison_lexeme bracket_lexeme
+sign_word text h = listed IsSignToken text signs h (search rules)
 
 token_word : (k : TokenKind) (text : List ℕ) → IsKindOf k text → IsTokenWord (lexeme_of k text)
 token_word kind.Name text h = h
 token_word kind.Number text h = h.1
-token_word kind.Reserved text h = reserved_word text
-token_word kind.Sign text h = sign_word text
+token_word kind.Reserved text h = reserved_word text h
+token_word kind.Sign text h = sign_word text h
 
 lexeme_word : (bytes : List ℕ) (t : Token) → IsTokenOf bytes t → IsTokenWord (lexeme_at bytes t)
 unfolding lexeme_at

@@ -16,19 +16,20 @@ use Rattle.loop_grammar.specs.declared.tree.Operand as operand
 use Rattle.loop_grammar.specs.declared.tree.Operand.TheOpen as layer
 use Rattle.loop_grammar.specs.declared.tree.Part.{Part}
 use Rattle.loop_grammar.specs.declared.tree.Part as part
-use Rattle.loop_grammar.specs.Grammar.{Tok, SumSign, plus, minus, Expr, Term, Factor, Access, Exprs, term, sum, factor, product, negation, number, parentheses, access, choice, name, subscript, one, also, sum_word, binary_sign, chosen, expr_text, term_text, factor_text, access_text, exprs_text, expr_tree, term_tree, factor_tree, accessed, subscripts, expr_trees, Separated, single, more, separated_text, separated_list, Compared, compared, compared_text, compared_tree, Guard, guard, guard_text, guard_tree, Step, postfix, prefix, step_text, stepped, bound_sign, int_text, Header, header, header_text, Statement, loop, guarded, alternative, assign, block, Block, braces, Statements, no_statement, and_statement, statement_text, block_text, statements_text, loop_part, statement_tree, block_parts, statement_trees, array_word, Declared, parameters, arrays, parameter_text, declared_text, parameter, array, declared_tree, Declarations, none_declared, also_declared, declarations_text, declaration_trees, Program, program, program_text, program_tree}
-use Rattle.loop_print.specs.Printing.{Phrase, placed, phrase_at, in_parentheses, joined, phrase_step, phrase_of, expr_words, subscript_words, access_words, choice_words, comparison_words, guard_words, in_braces, part_words, parts_words, named_words, declaration_words, tree_words}
+use Rattle.loop_grammar.specs.Grammar.{Tok, SumSign, plus, minus, Expr, Term, Factor, Access, Exprs, term, sum, factor, product, negation, number, parentheses, access, choice, name, subscript, one, also, sum_word, binary_sign, chosen, expr_text, term_text, factor_text, access_text, exprs_text, expr_tree, term_tree, factor_tree, accessed, subscripts, expr_trees, Separated, single, more, separated_text, separated_list, Compared, compared, compared_text, compared_tree, Guard, guard, guard_text, guard_tree, Stepped, postfix, prefix, compound, stepped_text, stepped_name, stepped_tree, bound_sign, int_text, Header, header, header_text, Statement, loop, guarded, alternative, assign, block, Block, braces, Statements, no_statement, and_statement, statement_text, block_text, statements_text, loop_part, statement_tree, block_parts, statement_trees, array_word, Declared, parameters, arrays, parameter_text, declared_text, parameter, array, declared_tree, Declarations, none_declared, also_declared, declarations_text, declaration_trees, Program, program, program_text, program_tree}
+use Rattle.loop_print.specs.Printing.{Phrase, placed, phrase_at, in_parentheses, joined, phrase_step, phrase_of, expr_words, subscript_words, access_words, choice_words, comparison_words, step_words, guard_words, in_braces, part_words, parts_words, named_words, declaration_words, tree_words}
 use Rattle.loop_print.proofs.Phrases.{factor_phrase, choice_of, phrase_number, phrase_access, phrase_binary, phrase_neg, phrase_choice, words_for, words_if, words_assign, words_block}
 use Rattle.loop_print.proofs.SpelledExpressions.{flat_more, joined_more, exprs_are_cons, IsPlural, more_is_plural, chosen_plural}
 use Rattle.loop_print.proofs.SpelledSources.{separated_is_cons}
 
 -- ---- words that stand for tokens
 
--- a name is no reserved word, and a number is within the greatest
+-- a name is no reserved word, a number is within the greatest, and no token is `Other`
 abbrev pub IsTokenWord : Lexeme → Type 0
 IsTokenWord (word.Name text) = (is_word text ≡ true) × (is_reserved text ≡ false)
 IsTokenWord (word.Number (pos n)) = n ≤ greatest_number
 IsTokenWord (word.Number (negsuc n)) = ⊥
+IsTokenWord word.Other = ⊥
 IsTokenWord _ = Unit {0}
 
 abbrev pub AreTokenWords : List Lexeme → Type 0
@@ -175,17 +176,18 @@ int_within (Some p) h = skip (word.Int, p) h
 swapped : (w v : Lexeme) (p q : ℕ) {a : List Lexeme} {ts : List Tok} → Within a ts → Within (w ∷ v ∷ a) ((v, p) ∷ (w, q) ∷ ts)
 swapped w v p q {a} {ts} h = let le = h.shorter in record { shorter = omega arith; valid = λ x. let y : IsTokenWord w × AreTokens ts = x.1 in (y.0, (x.0, h.valid y.1)) }
 
-step_within : (s : Step) (v : ℕ) → Within (word.Name (stepped s).text ∷ word.Increment ∷ word.Close ∷ []) (step_text s ++ (word.Close, v) ∷ [])
-step_within (postfix x p) v = first_within (word.Name x.text) x.token (first_within word.Increment p (sign_within word.Close v))
-step_within (prefix p x) v = swapped (word.Name x.text) word.Increment p x.token (sign_within word.Close v)
+step_within : (s : Stepped) → Within (step_words (stepped_name s) (stepped_tree s)) (stepped_text s)
+step_within (postfix x p) = first_within (word.Name x.text) x.token (sign_within word.Increment p)
+step_within (prefix p x) = swapped (word.Name x.text) word.Increment p x.token (none_within [])
+step_within (compound x p e) = first_within (word.Name x.text) x.token (first_within word.AddAssign p (expr_within e))
 
 loop_within : (h : Header) (body : Part) (ts : List Tok) → Within (part_words body) ts → Within (part_words (loop_part h body)) (header_text h ++ ts)
 loop_within (header p q int x r first s second inclusive t bound u step v) body ts inside =
-    recast (sym (words_for x (expr_tree first) second inclusive (expr_tree bound) (stepped step) body))
+    recast (sym (words_for x (expr_tree first) second inclusive (expr_tree bound) (stepped_name step) (stepped_tree step) body))
     (both
     (first_within word.For p (first_within word.Open q (int_within int (first_within (word.Name x.text) x.token (first_within word.Assign r
     (both (expr_within first) (first_within word.Semi s (first_within (word.Name second.text) second.token (first_within (word.Compare (bound_sign inclusive)) t
-    (both (expr_within bound) (first_within word.Semi u (step_within step v))))))))))))
+    (both (expr_within bound) (first_within word.Semi u (both (step_within step) (sign_within word.Close v)))))))))))))
     inside)
 
 mutual

@@ -11,6 +11,8 @@ use Rattle.loop_grammar.specs.declared.tree.Other.{Other}
 use Rattle.loop_grammar.specs.declared.tree.Part.{Part, fold-Part}
 use Rattle.loop_grammar.specs.declared.tree.Part as part
 use Rattle.loop_grammar.specs.declared.tree.Part.TheOpen as part_layer
+use Rattle.loop_grammar.specs.declared.tree.Step.{Step}
+use Rattle.loop_grammar.specs.declared.tree.Step.TheVariants.{One, By}
 use Rattle.loop_grammar.specs.declared.tree.Tree.{Tree}
 
 abbrev pub unnumbered_name : Name → Name
@@ -31,10 +33,14 @@ unnumbered_operand = fold-Operand Operand unnumbered_operand_step
 abbrev pub unnumbered_comparison : Comparison → Comparison
 unnumbered_comparison c = record { left = unnumbered_operand c.left; sign = c.sign; token = 0; right = unnumbered_operand c.right }
 
+abbrev pub unnumbered_step : Step → Step
+unnumbered_step One = One
+unnumbered_step (By token value) = By 0 (unnumbered_operand value)
+
 -- one part, whose own parts have no token numbers
 abbrev pub unnumbered_part_step : part_layer.Part-F Part Other → Part
-unnumbered_part_step (part_layer.For name first second inclusive bound third body) =
-    part.For (unnumbered_name name) (unnumbered_operand first) (unnumbered_name second) inclusive (unnumbered_operand bound) (unnumbered_name third) body
+unnumbered_part_step (part_layer.For name first second inclusive bound third step body) =
+    part.For (unnumbered_name name) (unnumbered_operand first) (unnumbered_name second) inclusive (unnumbered_operand bound) (unnumbered_name third) (unnumbered_step step) body
 unnumbered_part_step (part_layer.If cond body other) = part.If (map unnumbered_comparison cond) body other
 unnumbered_part_step (part_layer.Assign target subscripts value) = part.Assign (unnumbered_name target) (map unnumbered_operand subscripts) (unnumbered_operand value)
 unnumbered_part_step (part_layer.Block parts) = part.Block parts

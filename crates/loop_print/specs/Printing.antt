@@ -25,6 +25,8 @@ use Rattle.loop_grammar.specs.declared.tree.Operand.TheOpen as layer
 use Rattle.loop_grammar.specs.declared.tree.Other.{Other}
 use Rattle.loop_grammar.specs.declared.tree.Part.{Part, fold-Part}
 use Rattle.loop_grammar.specs.declared.tree.Part.TheOpen as part_layer
+use Rattle.loop_grammar.specs.declared.tree.Step.{Step}
+use Rattle.loop_grammar.specs.declared.tree.Step.TheVariants.{One, By}
 use Rattle.loop_grammar.specs.declared.tree.Tree.{Tree}
 use Rattle.loop_grammar.specs.Grammar.{bound_sign}
 
@@ -62,8 +64,9 @@ lexeme_text word.Plus = codes "+"
 lexeme_text word.Minus = codes "-"
 lexeme_text word.Times = codes "*"
 lexeme_text word.Increment = codes "++"
+lexeme_text word.AddAssign = codes "+="
 lexeme_text word.And = codes "&&"
-lexeme_text word.Other = codes "+="
+lexeme_text word.Other = []
 
 abbrev pub mark_word : Mark → Lexeme
 mark_word mark.For = word.For
@@ -81,6 +84,7 @@ mark_word mark.Semi = word.Semi
 mark_word mark.Comma = word.Comma
 mark_word mark.Assign = word.Assign
 mark_word mark.Increment = word.Increment
+mark_word mark.AddAssign = word.AddAssign
 mark_word mark.And = word.And
 
 -- the texts of the words, with a space behind each
@@ -181,9 +185,13 @@ access_words name subscripts = word.Name name.text ∷ flat_map subscript_words 
 abbrev pub comparison_words : Comparison → List Lexeme
 comparison_words c = expr_words c.left ++ word.Compare c.sign ∷ expr_words c.right
 
-abbrev pub header_words : Name → Operand → Name → Bool → Operand → Name → List Lexeme
-header_words name first second inclusive bound third =
-    word.For ∷ word.Open ∷ word.Name name.text ∷ word.Assign ∷ (expr_words first ++ word.Semi ∷ word.Name second.text ∷ word.Compare (bound_sign inclusive) ∷ (expr_words bound ++ word.Semi ∷ word.Name third.text ∷ word.Increment ∷ word.Close ∷ []))
+abbrev pub step_words : Name → Step → List Lexeme
+step_words third One = word.Name third.text ∷ word.Increment ∷ []
+step_words third (By token value) = word.Name third.text ∷ word.AddAssign ∷ expr_words value
+
+abbrev pub header_words : Name → Operand → Name → Bool → Operand → Name → Step → List Lexeme
+header_words name first second inclusive bound third step =
+    word.For ∷ word.Open ∷ word.Name name.text ∷ word.Assign ∷ (expr_words first ++ word.Semi ∷ word.Name second.text ∷ word.Compare (bound_sign inclusive) ∷ (expr_words bound ++ word.Semi ∷ (step_words third step ++ word.Close ∷ [])))
 
 abbrev pub guard_words : List Comparison → List Lexeme
 guard_words cond = word.If ∷ in_parentheses (joined word.And comparison_words cond)
@@ -198,7 +206,7 @@ abbrev pub all_words : List (List Lexeme) → List Lexeme
 all_words list = flat_map (λ words. words) list
 
 abbrev pub part_step : part_layer.Part-F (List Lexeme) (List Lexeme) → List Lexeme
-part_step (part_layer.For name first second inclusive bound third body) = header_words name first second inclusive bound third ++ body
+part_step (part_layer.For name first second inclusive bound third step body) = header_words name first second inclusive bound third step ++ body
 part_step (part_layer.If cond body None) = guard_words cond ++ body
 part_step (part_layer.If cond body (Some other)) = guard_words cond ++ (body ++ other)
 part_step (part_layer.Assign target subscripts value) = assign_words target subscripts value

@@ -7,4 +7,6 @@ mod readable;
 pub use readable::print;
 
 #[cfg(test)]
+mod parsing_tests;
+#[cfg(test)]
 mod tests;

@@ -2,12 +2,12 @@ ghost use Rattle.std.specs.Prelude.{◌≡◌, ◌∷◌, [], ◌++◌, OnOk, If
 ghost use Rattle.std.specs.List.{flat_map};
 ghost use Rattle.loop_grammar.specs.Grammar.{bound_sign as sign_of_bound};
 ghost use Rattle.loop_grammar.specs.declared.lexeme.Lexeme.TheVariants as word;
-ghost use Rattle.loop_print.specs.Printing.{Writes, written, needs_parentheses, phrase_at, phrase_of, joined, in_parentheses, mark_word, binary_word, binary_rank, right_rank, expr_words, subscript_words, access_words, comparison_words, header_words, guard_words, in_braces, assign_words, part_words, other_words, parts_words, named_words, declaration_words, tree_words};
+ghost use Rattle.loop_print.specs.Printing.{Writes, written, needs_parentheses, phrase_at, phrase_of, joined, in_parentheses, mark_word, binary_word, binary_rank, right_rank, expr_words, subscript_words, access_words, comparison_words, step_words, header_words, guard_words, in_braces, assign_words, part_words, other_words, parts_words, named_words, declaration_words, tree_words};
 
 use itoa::Buffer;
 use loop_grammar::{
     BinarySign, CompareSign, Comparison, DeclWord, Declaration, Name, Named, Operand, Other, Part,
-    Tree,
+    Step, Tree,
 };
 use std::alloc::{AllocError, Global};
 
@@ -37,6 +37,7 @@ pub(crate) enum Mark {
     Comma,
     Assign,
     Increment,
+    AddAssign,
     And,
 }
 
@@ -121,6 +122,7 @@ fn put(out: &mut Vec<u8>, mark: Mark) -> Result<(), AllocError>
         Mark::Comma => put_text(out, b","),
         Mark::Assign => put_text(out, b"="),
         Mark::Increment => put_text(out, b"++"),
+        Mark::AddAssign => put_text(out, b"+="),
         Mark::And => put_text(out, b"&&"),
     }
 }
@@ -310,6 +312,21 @@ fn bound_sign(inclusive: bool) -> CompareSign
     }
 }
 
+/// Writes what a `for` does to its variable after each turn.
+fn print_step(out: &mut Vec<u8>, third: &Name, step: &Step) -> Result<(), AllocError>
+    ensures { OnOk result (Writes out.old.items out.new.items (step_words third.now step.now)) }
+{
+    put_name(out, third)?;
+    match step {
+        Step::One => put(out, Mark::Increment)?,
+        Step::By { value, .. } => {
+            put(out, Mark::AddAssign)?;
+            print_operand(out, value)?;
+        }
+    }
+    Ok(())
+}
+
 /// Writes a `for` up to its `)`.
 fn print_header(
     out: &mut Vec<u8>,
@@ -319,8 +336,9 @@ fn print_header(
     inclusive: bool,
     bound: &Operand,
     third: &Name,
+    step: &Step,
 ) -> Result<(), AllocError>
-    ensures { OnOk result (Writes out.old.items out.new.items (header_words name.now first.now second.now inclusive bound.now third.now)) }
+    ensures { OnOk result (Writes out.old.items out.new.items (header_words name.now first.now second.now inclusive bound.now third.now step.now)) }
 {
     put(out, Mark::For)?;
     put(out, Mark::Open)?;
@@ -332,8 +350,7 @@ fn print_header(
     put_compare(out, bound_sign(inclusive))?;
     print_operand(out, bound)?;
     put(out, Mark::Semi)?;
-    put_name(out, third)?;
-    put(out, Mark::Increment)?;
+    print_step(out, third, step)?;
     put(out, Mark::Close)?;
     Ok(())
 }
@@ -366,9 +383,10 @@ fn print_part(out: &mut Vec<u8>, part: &Part) -> Result<(), AllocError>
             inclusive,
             bound,
             third,
+            step,
             body,
         } => {
-            print_header(out, name, first, second, *inclusive, bound, third)?;
+            print_header(out, name, first, second, *inclusive, bound, third, step)?;
             print_part(out, body.get())?;
         }
         Part::If { cond, body, other } => {

@@ -3,7 +3,7 @@ ghost use Rattle.loop_lex.specs.Tokens.{tokens as tokens_of};
 ghost use Rattle.loop_print.specs.ReadBack.{HasSource};
 
 use super::*;
-use loop_grammar::{Comparison, Declaration, Name, Named, Operand, Other, Part, Tree, parse};
+use loop_grammar::{Comparison, Declaration, Name, Named, Operand, Other, Part, Step, Tree, parse};
 use loop_lex::{Token, lex};
 use std::alloc::{AllocError, Global};
 use std::test::Fail;
@@ -110,6 +110,14 @@ fn same_comparisons(a: &[Comparison], b: &[Comparison]) -> bool {
     true
 }
 
+fn same_step(a: &Step, b: &Step) -> bool {
+    match (a, b) {
+        (Step::One, Step::One) => true,
+        (Step::By { value, .. }, Step::By { value: other, .. }) => same_operand(value, other),
+        _ => false,
+    }
+}
+
 #[cycle(same_part)]
 fn same_other(a: &Option<Other>, b: &Option<Other>) -> bool {
     match (a, b) {
@@ -144,6 +152,7 @@ fn same_part(a: &Part, b: &Part) -> bool {
                 inclusive,
                 bound,
                 third,
+                step,
                 body,
             },
             Part::For {
@@ -153,6 +162,7 @@ fn same_part(a: &Part, b: &Part) -> bool {
                 inclusive: other_inclusive,
                 bound: other_bound,
                 third: other_third,
+                step: other_step,
                 body: other_body,
             },
         ) => {
@@ -162,6 +172,7 @@ fn same_part(a: &Part, b: &Part) -> bool {
                 && inclusive == other_inclusive
                 && same_operand(bound, other_bound)
                 && same_name(third, other_third)
+                && same_step(step, other_step)
                 && same_part(body.get(), other_body.get())
         }
         (
@@ -269,7 +280,7 @@ fn have_other_trees(alloc: Global, source: &[u8], other: &[u8]) -> bool {
 
 #[test]
 fn sources_are_printed_and_read_back(rt: HostRuntime) {
-    let cases: [(&[u8], &[u8]); 20] = [
+    let cases: [(&[u8], &[u8]); 23] = [
         (b"", b""),
         (
             b"param N; in a[N]; out y[N]; for (i = 0; i < N; i++) y[i] = a[i*i];",
@@ -311,6 +322,18 @@ fn sources_are_printed_and_read_back(rt: HostRuntime) {
         (
             b"out y; var a; for (int i = max(0, 2); i <= min(5, 3); ++i) { if (i >= 3) { a = a + i; } else { a = 10; } } y = -a * min(2, 7);",
             b"out y ; var a ; for ( i = max ( 0 , 2 ) ; i <= min ( 5 , 3 ) ; i ++ ) { if ( i >= 3 ) { a = a + i ; } else { a = 10 ; } } y = - a * min ( 2 , 7 ) ; ",
+        ),
+        (
+            b"param N; in x[N]; out y[N]; for (i = 0; i < N; i += 2) y[i] = x[i];",
+            b"param N ; in x [ N ] ; out y [ N ] ; for ( i = 0 ; i < N ; i += 2 ) y [ i ] = x [ i ] ; ",
+        ),
+        (
+            b"out y; for (i = 1; i <= 8; i += 3) y = y + i;",
+            b"out y ; for ( i = 1 ; i <= 8 ; i += 3 ) y = y + i ; ",
+        ),
+        (
+            b"for (i = 0; i < 9; i += (N + 1) * (2)) for (j = 0; j < i; j += 1) { }",
+            b"for ( i = 0 ; i < 9 ; i += ( N + 1 ) * 2 ) for ( j = 0 ; j < i ; j += 1 ) { } ",
         ),
         (b"inout q[ 007 ];", b"inout q [ 7 ] ; "),
         (
@@ -385,7 +408,7 @@ fn nested(
 // Sources of nearly as many tokens as there may be, as deep as they can nest.
 #[test]
 fn deep_sources_are_read_back(rt: HostRuntime) -> Result<(), Fail> {
-    let cases: [(&[u8], &[u8], u32, &[u8], &[u8], &[u8]); 8] = [
+    let cases: [(&[u8], &[u8], u32, &[u8], &[u8], &[u8]); 10] = [
         (b"a = ", b"-", 8188, b"1", b"", b";"),
         (b"a = 1", b"+1", 4094, b"", b"", b";"),
         (b"a = ", b"(", 4094, b"1", b")", b";"),
@@ -394,6 +417,8 @@ fn deep_sources_are_read_back(rt: HostRuntime) -> Result<(), Fail> {
         (b"a = ", b"a[", 2729, b"1", b"]", b";"),
         (b"", b"if(1<2)", 1364, b"a=1;", b"", b""),
         (b"a = ", b"max(1,", 1637, b"1", b")", b";"),
+        (b"for(i=0;i<1;i+=", b"-", 8176, b"1", b"", b"){}"),
+        (b"for(i=0;i<1;i+=", b"1-(", 2044, b"1", b")", b"){}"),
     ];
     for (head, open, times, middle, close, tail) in cases {
         let source = nested(rt.alloc(), head, open, times, middle, close, tail)?;
@@ -404,13 +429,21 @@ fn deep_sources_are_read_back(rt: HostRuntime) -> Result<(), Fail> {
 
 #[test]
 fn other_trees_are_told_apart(rt: HostRuntime) {
-    let cases: [(&[u8], &[u8]); 4] = [
+    let cases: [(&[u8], &[u8]); 6] = [
         (b"a = b - (c - d);", b"a = (b - c) - d;"),
         (b"a = min(1, 2);", b"a = max(1, 2);"),
         (b"if (1 < 2) { } else { }", b"if (1 < 2) { }"),
         (
             b"for (i = 0; i < 1; i++) { }",
             b"for (i = 0; i <= 1; i++) { }",
+        ),
+        (
+            b"for (i = 0; i < 1; i++) { }",
+            b"for (i = 0; i < 1; i += 1) { }",
+        ),
+        (
+            b"for (i = 0; i < 1; i += 1) { }",
+            b"for (i = 0; i < 1; i += 2) { }",
         ),
     ];
     for (source, other) in cases {

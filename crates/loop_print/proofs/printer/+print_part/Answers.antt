@@ -8,8 +8,8 @@ use Rattle.loop_print.proofs.printer.+print_part.Goals as goal
 pub print_part-returns-in_ok-print_part-in-For : goal.print_part-returns-in_ok-print_part-in-For
 print_part-returns-in_ok-print_part-in-For t c =
     let f = c.in-For in
-    for_written c.args.part.now f.name f.first f.second f.inclusive f.bound f.third c.get.result.now
-    (f.is ∙ ap (For f.name f.first f.second f.inclusive f.bound f.third) (sym c.get.ensures))
+    for_written c.args.part.now f.name f.first f.second f.inclusive f.bound f.third f.step c.get.result.now
+    (f.is ∙ ap (For f.name f.first f.second f.inclusive f.bound f.third f.step) (sym c.get.ensures))
     c.in_ok-print_header-in-For.ensures c.in_ok-print_part-in-For.ensures
 
 pub print_part-returns-in_ok-print_other-in-If : goal.print_part-returns-in_ok-print_other-in-If

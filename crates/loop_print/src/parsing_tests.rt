@@ -1,4 +1,6 @@
-use super::*;
+// Tests of `loop_grammar::parse`. They stand here, since a crate with tests of its own is proved twice, and that one is dear.
+
+use loop_grammar::{ParseError, parse};
 use loop_lex::lex;
 use std::alloc::{AllocError, Global};
 use std::test::Fail;
@@ -20,7 +22,7 @@ fn stops_at(alloc: Global, source: &[u8], place: Option<u32>) -> bool {
 
 #[test]
 fn sources_are_read_or_refused_at_their_first_wrong_token(rt: HostRuntime) {
-    let cases: [(&[u8], Option<u32>); 26] = [
+    let cases: [(&[u8], Option<u32>); 36] = [
         (b"", None),
         (
             b"param N, M; out y[N], z[N][M + 1]; in a; inout b[1]; var c;",
@@ -47,7 +49,20 @@ fn sources_are_read_or_refused_at_their_first_wrong_token(rt: HostRuntime) {
         (b"if (1 < 2) a = 1; else a = 2;", Some(10)),
         (b"var a; { a = 1;", Some(8)),
         (b"a = 1; var b;", Some(4)),
-        (b"for (i = 0; i < 3; i += 2) a = 1;", Some(11)),
+        (b"for (i = 0; i < 3; i += 2) a = 1;", None),
+        (
+            b"for (int i = 0; i <= N; j += -(2 * N) + max(1, N)) { }",
+            None,
+        ),
+        (b"for (i = 0; i < 3; i += ) a = 1;", Some(12)),
+        (b"for (i = 0; i < 3; i += 2 a = 1;", Some(13)),
+        (b"for (i = 0; i < 3; i += 2; a = 1;", Some(13)),
+        (b"for (i = 0; i < 3; i += 2 < 3) a = 1;", Some(13)),
+        (b"for (i = 0; i < 3; i ++ 2) a = 1;", Some(12)),
+        (b"for (i = 0; i < 3; += i) a = 1;", Some(10)),
+        (b"for (i = 0; i < 3; ++ i += 2) a = 1;", Some(12)),
+        (b"for (i = 0; i < 3; i = i + 2) a = 1;", Some(11)),
+        (b"a += 1;", Some(1)),
         (b"param N; out y[1]; y[0] = ;", Some(14)),
         (b"for (i = 0; i > 3; i++) a = 1;", Some(7)),
         (b"a = min();", Some(4)),
@@ -80,7 +95,7 @@ fn repeated(
 
 #[test]
 fn deep_sources_are_read(rt: HostRuntime) -> Result<(), Fail> {
-    let cases: [(&[u8], &[u8], u32, &[u8], Option<u32>); 12] = [
+    let cases: [(&[u8], &[u8], u32, &[u8], Option<u32>); 15] = [
         (b"a =", b"(", 8190, b"", Some(8192)),
         (b"a =", b"-", 8188, b"1;", None),
         (b"", b"{", 8192, b"", Some(8192)),
@@ -93,6 +108,9 @@ fn deep_sources_are_read(rt: HostRuntime) -> Result<(), Fail> {
         (b"a = ", b"max(", 4095, b"", Some(8192)),
         (b"a = max(", b"1,", 4092, b"1);", None),
         (b"", b"for(i=0;i<1;i++)", 630, b"a", Some(8191)),
+        (b"", b"for(i=0;i<1;i+=2)", 585, b"a", Some(8191)),
+        (b"for(i=0;i<1;i+=", b"(", 8180, b"", Some(8192)),
+        (b"for(i=0;i<1;i+=", b"-", 8176, b"1){}", None),
     ];
     for (head, part, times, tail, place) in cases {
         let source = repeated(rt.alloc(), head, part, times, tail)?;

@@ -1,5 +1,5 @@
 -- Forms number by number.
-use Rattle.std.proofs.Common.{◌≡◌, ℕ, zero, suc, ◌+◌, ◌<◌, ℤ, pos, List, [], ◌∷◌, length, get_or, map, refl, ap, ◌∙◌, sym, arith}
+use Rattle.std.proofs.Common.{◌≡◌, ℕ, zero, suc, ◌<◌, ℤ, pos, List, [], ◌∷◌, length, get_or, map, refl, arith}
 use Rattle.loop_class.specs.Forms.{termwise}
 
 -- a list whose numbers are those of two others, put together one by one

@@ -1,11 +1,10 @@
 -- From what was read of a tree to its nest.
-use Rattle.std.proofs.Common.{◌≡◌, ◌≤◌, ℕ, ◌+◌, Bool, true, false, List, [], ◌∷◌, ◌++◌, length, Option, Some, None, Result, Err, if◌then◌else◌, refl, sym, ap, subst, ◌∙◌, append_assoc, length-append, arith}
-use Rattle.std.specs.Prelude.{IsTrue, Ok, nat_le}
+use Rattle.std.proofs.Common.{◌≡◌, ℕ, ◌+◌, Bool, true, false, List, [], ◌∷◌, ◌++◌, length, Some, None, Err, if◌then◌else◌, refl, sym, ap, subst, ◌∙◌, append_assoc, length-append, arith}
+use Rattle.std.specs.Prelude.{IsTrue}
 use Rattle.std.specs.List.{list_all}
 use Rattle.std.specs.Cmp.Derive.{both_true}
 use Rattle.std.proofs.lemmas.Bool.{le-leb}
 use Rattle.sanlp.specs.declared.nest.ArrayDecl.{ArrayDecl}
-use Rattle.sanlp.specs.declared.nest.Nest.{Nest}
 use Rattle.sanlp.specs.declared.nest.Node.{Node}
 use Rattle.sanlp.specs.declared.nest.Statement.{Statement}
 use Rattle.sanlp.specs.WellFormed.{IsWellFormed, input_extents, output_extents, array_loops}
@@ -16,13 +15,13 @@ use Rattle.loop_class.specs.declared.context.Context.{Context}
 use Rattle.loop_class.specs.declared.context.Progress.{Progress}
 use Rattle.loop_class.specs.declared.declare.Table.{Table}
 use Rattle.loop_class.specs.declared.error.BindError.{BindError}
-use Rattle.loop_class.specs.declared.error.BindError.TheVariants.{UnknownName, Duplicate, Unbound, NotAffine, WrongCount, ElseForm, TooManyProcesses, TooDeep, TooManyReads, TooManyRows, Large, Memory}
-use Rattle.loop_class.specs.Binding.{outer_context, body_made, findings, nest_of, IsBound, Binds}
+use Rattle.loop_class.specs.declared.error.BindError.TheVariants.{UnknownName, Duplicate, Unbound, NotAffine, WrongCount, ElseForm, TooManyProcesses, TooDeep, TooManyReads, TooManyRows, Large, StepMax, StepRange, Memory}
+use Rattle.loop_class.specs.Binding.{outer_context, body_made, findings, nest_of, Binds}
 use Rattle.loop_class.specs.Declarations.{Values, Declared, declared}
 use Rattle.loop_class.specs.Following.{IsReadingOf, Makes, Stands, next_statement}
-use Rattle.loop_class.specs.Parts.{Made, parts_made}
+use Rattle.loop_class.specs.Parts.{parts_made}
 use Rattle.loop_class.specs.Ranges.{has_small_extents}
-use Rattle.loop_class.specs.Reasons.{comes_first, lesser, least_from}
+use Rattle.loop_class.specs.Reasons.{comes_first, least_from}
 use Rattle.loop_class.specs.Terminals.{sources_from, sinks_from, loop_count}
 use Rattle.loop_class.proofs.JudgeLemmas.{least_append}
 use Rattle.loop_class.proofs.Nests.{bound_nest_well_formed}
@@ -56,6 +55,8 @@ told tree params (TooDeep token) h = h
 told tree params (TooManyReads token) h = h
 told tree params (TooManyRows token) h = h
 told tree params (Large token) h = h
+told tree params (StepMax token) h = h
+told tree params (StepRange token) h = h
 told tree params Memory h = tt
 
 pub whole_body : (arrays : List ArrayDecl) (next_loop first : ℕ) (assignments s0 s1 s2 : List Statement) (nodes b0 b1 b2 b3 : List Node)

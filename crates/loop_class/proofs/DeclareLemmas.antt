@@ -1,5 +1,5 @@
 -- Declarations one after another.
-use Rattle.std.proofs.Common.{◌≡◌, ℕ, ◌+◌, ◌<◌, List, [], ◌∷◌, ◌++◌, length, take, get_or, Option, None, refl, sym, ap, subst, ◌∙◌, append_assoc, append-nil, ◌≤◌}
+use Rattle.std.proofs.Common.{◌≡◌, ℕ, ◌+◌, ◌<◌, List, [], ◌∷◌, ◌++◌, length, take, get_or, None, refl, sym, ap, subst, ◌∙◌, append_assoc, append-nil, ◌≤◌}
 use Rattle.std.specs.List.{fold}
 use Rattle.std.proofs.lemmas.List.{take_more, take_all}
 use Rattle.loop_grammar.specs.declared.tree.Declaration.{Declaration}
@@ -11,7 +11,7 @@ use Rattle.loop_class.specs.declared.error.BindError.{BindError}
 use Rattle.sanlp.specs.declared.nest.Kind.TheVariants as kind
 use Rattle.loop_class.specs.Names.{value_named}
 use Rattle.loop_class.specs.Parts.{new_name_findings}
-use Rattle.loop_class.specs.Declarations.{Values, Declared, value_findings, array_findings, declare_parameter, declare_array, declare_name, declare, declared, nothing_declared}
+use Rattle.loop_class.specs.Declarations.{Values, Declared, value_findings, array_findings, declare_name, declare, declared, nothing_declared}
 use Rattle.loop_class.specs.Following.{Declares, Stands, seen}
 use Rattle.loop_class.specs.Reasons.{least_from}
 use Rattle.loop_class.proofs.JudgeLemmas.{least_append}

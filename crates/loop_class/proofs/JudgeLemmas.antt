@@ -1,18 +1,17 @@
 -- What noting the reasons of an operand comes to, by its kind.
-use Rattle.std.proofs.Common.{◌≡◌, ℕ, suc, arith, ◌==◌, Bool, true, false, List, [], ◌∷◌, ◌++◌, length, map, Option, Some, refl, sym, ap, ◌∙◌}
+use Rattle.std.proofs.Common.{◌≡◌, ℕ, suc, arith, ◌==◌, Bool, true, false, List, [], ◌∷◌, ◌++◌, length, map, Option, refl, sym, ap, ◌∙◌}
 use Rattle.std.specs.Prelude.{IsTrue}
 use Rattle.std.proofs.lemmas.Bool.Decides.{nat_tests}
 use Rattle.loop_grammar.specs.declared.tree.BinarySign.{BinarySign}
 use Rattle.loop_grammar.specs.declared.tree.Name.{Name}
 use Rattle.loop_grammar.specs.declared.tree.Operand.{Operand}
-use Rattle.loop_grammar.specs.declared.tree.Operand.TheOpen as layer
-use Rattle.loop_grammar.specs.declared.tree.Operand.TheVariants.{Access, Binary, Neg, Min, Max, outs-Min, outs-Max, outs-Number, outs-Access, outs-Binary, outs-Neg}
+use Rattle.loop_grammar.specs.declared.tree.Operand.TheVariants.{Access, Binary, Neg, Min, Max}
 use Rattle.loop_class.specs.declared.affine.Affine.{Affine}
 use Rattle.loop_class.specs.declared.error.BindError.{BindError}
 use Rattle.loop_class.specs.declared.error.BindError.TheVariants.{NotAffine}
 use Rattle.loop_class.specs.declared.scope.Place.{Place}
 use Rattle.loop_class.specs.declared.scope.What.{What}
-use Rattle.loop_class.specs.Judging.{Scope, Judged, judged, after, named, negated, combined, seen_from, all_findings, findings_of}
+use Rattle.loop_class.specs.Judging.{Scope, judged, named, negated, combined, seen_from, all_findings, findings_of}
 use Rattle.loop_class.specs.Names.{value_named}
 use Rattle.loop_class.specs.Reasons.{lesser, least_from}
 use Rattle.loop_class.proofs.Operands.{judged_access, judged_binary, judged_neg, judged_min, judged_max, all_findings_of}

@@ -13,6 +13,7 @@ pub mod NestsSizes
 pub mod NestsScope
 pub mod NestsBody
 pub mod NestsValues
+pub mod NestsBounds
 pub mod NestsParts
 pub mod NestsArrays
 pub mod NestsTerminals

@@ -23,7 +23,7 @@ use Rattle.loop_class.specs.declared.error.BindError.{BindError}
 use Rattle.loop_class.specs.declared.error.BindError.TheVariants.{Duplicate, TooManyProcesses, TooDeep}
 use Rattle.loop_class.specs.declared.scope.Place.TheVariants.{Extent}
 use Rattle.loop_class.specs.declared.scope.What.{What}
-use Rattle.loop_class.specs.declared.scope.What.TheVariants.{Parameter, Array, Loop}
+use Rattle.loop_class.specs.declared.scope.What.TheVariants.{Parameter, Array, Loop, Progression}
 use Rattle.loop_class.specs.Declarations.{Values, Declared, nothing_declared, declare_parameter, processes_of, array_findings, extents_of, declare_array, declare_name, declare, declared}
 use Rattle.loop_class.specs.Forms.{is_limited_number}
 use Rattle.loop_class.specs.Judging.{Scope, forms_of, findings_of, judged, form_or_zero}
@@ -110,6 +110,7 @@ known_before arrays more d scope h = each_then (λ e. Known arrays d e.1) (λ e.
   one (Parameter v) k = tt
   one (Array number extents) k = has_before arrays more number extents k
   one (Loop v) k = k
+  one (Progression f) k = k
 
 pub where-append : (passes : ArrayDecl → Bool) (xs ys : List ArrayDecl) → extents_where passes (xs ++ ys) ≡ extents_where passes xs ++ extents_where passes ys
 where-append passes [] ys = refl

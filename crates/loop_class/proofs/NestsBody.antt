@@ -1,5 +1,5 @@
 -- The loops, the places of statements and the forms of parts of a body.
-use Rattle.std.proofs.Common.{◌≡◌, ◌<◌, ℕ, zero, suc, ◌+◌, List, [], ◌∷◌, ◌++◌, map, length, Bool, refl, sym, ap, ◌∙◌, arith}
+use Rattle.std.proofs.Common.{◌≡◌, ◌<◌, ℕ, zero, suc, ◌+◌, ℤ, List, [], ◌∷◌, ◌++◌, map, length, Bool, refl, sym, ap, ◌∙◌, arith}
 use Rattle.std.specs.Prelude.{IsTrue}
 use Rattle.std.specs.List.{list_all, flat_map}
 use Rattle.std.specs.Cmp.Derive.{both_true}
@@ -12,7 +12,7 @@ use Rattle.sanlp.specs.declared.nest.Node.{Node}
 use Rattle.sanlp.specs.declared.nest.Node as node
 use Rattle.sanlp.specs.declared.nest.Statement.{Statement}
 use Rattle.sanlp.specs.Cells.{count_up}
-use Rattle.sanlp.specs.WellFormed.{Place, form_fits, forms_fit_step, forms_fit, all_forms_fit, loops_step, loops_of, all_loops, lower_row, upper_row, places_step, places_of, all_places, said_from}
+use Rattle.sanlp.specs.WellFormed.{Place, form_fits, forms_fit_step, forms_fit, all_forms_fit, loops_step, loops_of, all_loops, step_fits, bound_rows, places_step, places_of, all_places, said_from}
 use Rattle.sanlp.proofs.Folds.{fold_loop, fold_guard, fold_assign, fold_loop_at, fold_guard_at, fold_assign_at, fold_loop_at_both, fold_guard_at_both, fold_assign_at_both}
 use Rattle.sanlp.proofs.Lists.{count_up-append}
 
@@ -42,25 +42,25 @@ numbered_append first middle next xs ys h k = record {
   ends = omega (arith, h.ends, k.ends);
 }
 
-module _ (lower upper : List Form) (parts : List Node) where
-  pub numbered_loop : (first next : ℕ) → Numbered (first + 1) next parts → Numbered first next (node.Loop first lower upper parts ∷ [])
+module _ (lower upper : List Form) (step : ℤ) (parts : List Node) where
+  pub numbered_loop : (first next : ℕ) → Numbered (first + 1) next parts → Numbered first next (node.Loop first lower upper step parts ∷ [])
   numbered_loop first next h = record {
     count = suc h.count;
-    loops = append-nil (loops_of (node.Loop first lower upper parts)) ∙ fold_loop (List ℕ) loops_step first lower upper parts ∙ ap (λ ks. first ∷ ks) h.loops;
+    loops = append-nil (loops_of (node.Loop first lower upper step parts)) ∙ fold_loop (List ℕ) loops_step first lower upper step parts ∙ ap (λ ks. first ∷ ks) h.loops;
     ends = omega (arith, h.ends);
   }
 
   pub loop_places : (id : ℕ) (loops : List ℕ) (rows : List Form)
-      → all_places (node.Loop id lower upper parts ∷ []) loops rows ≡ all_places parts (loops ++ id ∷ []) (rows ++ (map lower_row lower ++ map upper_row upper))
+      → all_places (node.Loop id lower upper step parts ∷ []) loops rows ≡ all_places parts (loops ++ id ∷ []) (rows ++ bound_rows (length loops) lower upper step)
   loop_places id loops rows =
-      append-nil (places_of (node.Loop id lower upper parts) loops rows)
-      ∙ fold_loop_at_both (List ℕ) (List Form) (List Place) places_step id lower upper parts loops rows
+      append-nil (places_of (node.Loop id lower upper step parts) loops rows)
+      ∙ fold_loop_at_both (List ℕ) (List Form) (List Place) places_step id lower upper step parts loops rows
 
   pub loop_fits : (id d : ℕ) → d < 6 → 0 < length lower → 0 < length upper → IsTrue (list_all (form_fits d) lower) → IsTrue (list_all (form_fits d) upper)
-      → IsTrue (all_forms_fit parts (d + 1)) → IsTrue (all_forms_fit (node.Loop id lower upper parts ∷ []) d)
-  loop_fits id d room some_lower some_upper lower_fit upper_fit inside =
-      both_true (fold_loop_at ℕ Bool forms_fit_step id lower upper parts d
-      ∙ both_true (both_true (both_true (both_true (both_true (lt-ltb d 6 room) (lt-ltb 0 (length lower) some_lower)) (lt-ltb 0 (length upper) some_upper)) lower_fit) upper_fit) inside)
+      → IsTrue (step_fits lower step) → IsTrue (all_forms_fit parts (d + 1)) → IsTrue (all_forms_fit (node.Loop id lower upper step parts ∷ []) d)
+  loop_fits id d room some_lower some_upper lower_fit upper_fit step_fit inside =
+      both_true (fold_loop_at ℕ Bool forms_fit_step id lower upper step parts d
+      ∙ both_true (both_true (both_true (both_true (both_true (both_true (lt-ltb d 6 room) (lt-ltb 0 (length lower) some_lower)) (lt-ltb 0 (length upper) some_upper)) lower_fit) upper_fit) step_fit) inside)
       refl
 
 module _ (rows : List Form) (parts : List Node) where

@@ -1,11 +1,12 @@
 -- Six coefficients that are 0 beyond the loops round a place, and what `form_over` leaves of them.
-use Rattle.std.proofs.Common.{◌≡◌, ◌<◌, ◌≤◌, ℕ, zero, suc, ◌+◌, ◌-◌, ℤ, pos, negsuc, ◌-ℤ◌, ◌*ℤ◌, List, [], ◌∷◌, ◌++◌, map, length, take, replicate, refl, sym, ap, ◌∙◌, arith}
+use Rattle.std.proofs.Common.{◌≡◌, ◌<◌, ◌≤◌, ℕ, zero, suc, ◌+◌, ◌-◌, ℤ, pos, negsuc, neg_ℤ, ◌+ℤ◌, ◌-ℤ◌, ◌*ℤ◌, List, [], ◌∷◌, ◌++◌, map, length, take, replicate, refl, sym, ap, ◌∙◌, arith}
 use Rattle.std.specs.Prelude.{slice_set}
 use Rattle.std.proofs.lemmas.Int.{ints}
-use Rattle.affine_core.specs.Affine.{widened_form}
-use Rattle.sanlp.specs.WellFormed.{lower_row, upper_row}
+use Rattle.affine_core.specs.Affine.{widened_form, variable_form, sums}
+use Rattle.sanlp.specs.WellFormed.{lower_row, upper_row, turn_row}
 use Rattle.loop_class.specs.declared.affine.Affine.{Affine}
 use Rattle.loop_class.specs.Forms.{termwise, loop_form, difference_form, form_over}
+use Rattle.loop_class.specs.Rows as rows
 
 -- a list of so many numbers, which are 0 from place d on
 abbrev pub IsOver : ℕ → ℕ → List ℤ → Type 0
@@ -52,12 +53,12 @@ over_termwise op z (suc room) d (x ∷ xs) [] h k = absurd k
 over_termwise op z (suc room) zero (x ∷ xs) (y ∷ ys) h k = ((λ i. op (h.0 i) (k.0 i)) ∙ z, over_termwise op z room zero xs ys h.1 k.1)
 over_termwise op z (suc room) (suc d) (x ∷ xs) (y ∷ ys) h k = over_termwise op z room d xs ys h k
 
--- the variable of a loop that stands round the place
-pub over_variable : (room d v : ℕ) → v < d → IsOver room d (slice_set (replicate room (pos 0)) v (pos 1))
-over_variable zero d v h = tt
-over_variable (suc room) zero v h = absurd (omega arith)
-over_variable (suc room) (suc d) zero h = over_zeros room d
-over_variable (suc room) (suc d) (suc v) h = over_variable room d v (omega arith)
+-- a multiple of the variable of a loop that stands round the place
+pub over_multiple : (room d v : ℕ) (k : ℤ) → v < d → IsOver room d (slice_set (replicate room (pos 0)) v k)
+over_multiple zero d v k h = tt
+over_multiple (suc room) zero v k h = absurd (omega arith)
+over_multiple (suc room) (suc d) zero k h = over_zeros room d
+over_multiple (suc room) (suc d) (suc v) k h = over_multiple room d v k (omega arith)
 
 -- more coefficients are zeros
 over_take : (room d k e : ℕ) (cs : List ℤ) → d + k ≡ e → e ≤ room → IsOver room d cs → take d cs ++ replicate k (pos 0) ≡ take e cs
@@ -124,3 +125,40 @@ upper_over d f lt h =
     let same : f.constant -ℤ pos 0 ≡ f.constant = omega (arith, ints) in
     let rest = upper_coefs 6 d f.coefs lt h in
     λ i. record { constant = same i; coefs = rest i }
+
+variable_coefs : (room d : ℕ) → d < room → take (suc d) (slice_set (replicate room (pos 0)) d (pos 1)) ≡ replicate d (pos 0) ++ pos 1 ∷ []
+variable_coefs zero d lt = absurd (omega arith)
+variable_coefs (suc room) zero lt = refl
+variable_coefs (suc room) (suc d) lt = ap (λ cs. pos 0 ∷ cs) (variable_coefs room d (omega arith))
+
+-- a turn as a row
+pub turn_over : (d : ℕ) → d < 6 → form_over (suc d) (loop_form d) ≡ variable_form (d + 1) d
+turn_over d lt =
+    let none : 0 ≡ (d + 1) - (d + 1) = omega arith in
+    let coefs : take (suc d) (loop_form d).coefs ≡ replicate d (pos 0) ++ pos 1 ∷ replicate ((d + 1) - (d + 1)) (pos 0) =
+    variable_coefs 6 d lt ∙ ap (λ n. replicate d (pos 0) ++ pos 1 ∷ replicate n (pos 0)) none in
+    λ i. record { constant = pos 0; coefs = coefs i }
+
+reach_is : (u l : ℤ) → (u -ℤ l) -ℤ pos 0 ≡ u +ℤ (l *ℤ negsuc 0)
+reach_is u l = omega (arith, ints)
+
+negated_is : (u l k : ℤ) → u ≡ pos 0 → l ≡ pos 0 → (u -ℤ l) -ℤ k ≡ neg_ℤ k
+negated_is u l k first second = omega (arith, ints)
+
+turn_coefs : (room d : ℕ) (k : ℤ) (us ls : List ℤ) → d < room → IsOver room d us → IsOver room d ls
+    → take (suc d) (termwise ◌-ℤ◌ (termwise ◌-ℤ◌ us ls) (slice_set (replicate room (pos 0)) d k))
+    ≡ sums (take d us) (map (λ c. c *ℤ negsuc 0) (take d ls)) ++ neg_ℤ k ∷ []
+turn_coefs zero d k us ls lt h j = absurd (omega arith)
+turn_coefs (suc room) d k [] ls lt h j = absurd h
+turn_coefs (suc room) d k (u ∷ us) [] lt h j = absurd j
+turn_coefs (suc room) zero k (u ∷ us) (l ∷ ls) lt h j = ap (λ c. c ∷ []) (negated_is u l k h.0 j.0)
+turn_coefs (suc room) (suc d) k (u ∷ us) (l ∷ ls) lt h j =
+    let rest = turn_coefs room d k us ls (omega arith) h j in
+    λ i. reach_is u l i ∷ rest i
+
+-- the row of an upper form of a loop of a step above 1
+pub turn_row_over : (d : ℕ) (first : Affine) (step : ℤ) (upper : Affine) → d < 6 → IsOver 6 d first.coefs → IsOver 6 d upper.coefs
+    → form_over (suc d) (rows.turn_row d first step upper) ≡ turn_row step (form_over d first) (form_over d upper)
+turn_row_over d first step upper lt h j =
+    let rest = turn_coefs 6 d step upper.coefs first.coefs lt j h in
+    λ i. record { constant = reach_is upper.constant first.constant i; coefs = rest i }

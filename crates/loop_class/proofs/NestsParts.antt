@@ -1,42 +1,51 @@
 -- The parts of a body: where no reason stands in them, their nodes and statements are those of a nest.
-use Rattle.std.proofs.Common.{◌≡◌, ◌<◌, ◌≤◌, ℕ, suc, ◌+◌, List, [], ◌∷◌, ◌++◌, map, length, Bool, cond, not, Option, Some, None, refl, sym, ap, ◌∙◌, arith, subst}
-use Rattle.std.specs.Prelude.{IsTrue, nat_lt, nat_le, ◌==◌}
+use Rattle.std.proofs.Common.{◌≡◌, ◌<◌, ◌≤◌, ℕ, suc, ◌+◌, ℤ, pos, negsuc, ◌+ℤ◌, ◌<ℤ◌, List, [], ◌∷◌, ◌++◌, map, length, Bool, true, false, cond, not, ◌||◌, Option, Some, None, refl, sym, ap, ◌∙◌, arith, subst}
+use Rattle.std.specs.Prelude.{IsTrue, int_le, nat_lt, nat_le, ◌==◌}
+use Rattle.std.specs.Ordering.{int_eq}
 use Rattle.std.specs.Cmp.Derive.{both_true}
-use Rattle.std.proofs.lemmas.Bool.{lt-ltb, le-leb, ltb-false, leb-false, eqb-false, eqb-true, not_from_false}
-use Rattle.std.proofs.lemmas.List.{length-append, length-map, length_push, map-append}
+use Rattle.std.proofs.lemmas.Int.{ints}
+use Rattle.std.proofs.lemmas.Bool.{and_parts, lt-ltb, le-leb, ltb-false, leb-false, eqb-false, eqb-true, not_from_false}
+use Rattle.std.proofs.lemmas.List.{append-nil, length-append, length-map, length_push, map-append}
 use Rattle.affine_core.specs.declared.form.Form.{Form}
-use Rattle.affine_core.specs.Affine.{widened_form}
+use Rattle.affine_core.specs.Affine.{variable_form, widened_form}
 use Rattle.sanlp.specs.declared.nest.ArrayDecl.{ArrayDecl}
 use Rattle.sanlp.specs.declared.nest.Role.TheVariants as role
 use Rattle.sanlp.specs.declared.nest.Statement.{Statement}
-use Rattle.sanlp.specs.WellFormed.{access_fits, uses_given, statement_fits, all_forms_fit, lower_row, upper_row, all_places, said_from}
+use Rattle.sanlp.specs.WellFormed.{access_fits, uses_given, statement_fits, step_fits, all_forms_fit, lower_row, upper_row, turn_row, bound_rows, all_places, said_from}
 use Rattle.sanlp.proofs.Each.{Each, each_append, each_then}
 use Rattle.loop_grammar.specs.declared.tree.Comparison.{Comparison}
 use Rattle.loop_grammar.specs.declared.tree.Name.{Name}
 use Rattle.loop_grammar.specs.declared.tree.Operand.{Operand}
 use Rattle.loop_grammar.specs.declared.tree.Other.{Other}
 use Rattle.loop_grammar.specs.declared.tree.Part.{Part}
+use Rattle.loop_grammar.specs.declared.tree.Step.{Step}
 use Rattle.loop_grammar.specs.declared.tree.Part.TheOpen.{Part-F, For, If, Assign, Block, Other-F}
 use Rattle.loop_grammar.specs.declared.tree.Part.TheFolds.{map-Part, map-Other, fold-Other, fold-roll-Part, fold-roll-Other, ind-Part}
 use Rattle.loop_grammar.specs.declared.tree.Part.TheViews.{roll-Part, roll-Other}
 use Rattle.loop_class.specs.declared.affine.Affine.{Affine}
+use Rattle.loop_class.specs.declared.bounds.Bounds.{Bounds}
+use Rattle.loop_class.specs.declared.bounds.Bounds.TheVariants.{Range, Progression}
 use Rattle.loop_class.specs.declared.context.Context.{Context}
 use Rattle.loop_class.specs.declared.error.BindError.{BindError}
 use Rattle.loop_class.specs.declared.error.BindError.TheVariants.{WrongCount, ElseForm, TooManyProcesses, TooDeep, TooManyRows}
 use Rattle.loop_class.specs.declared.scope.Place.TheVariants.{Body}
 use Rattle.loop_class.specs.declared.scope.What.{What}
 use Rattle.loop_class.specs.declared.scope.What.TheVariants.{Parameter, Array, Loop}
-use Rattle.loop_class.specs.Forms.{loop_form, difference_form, form_over}
+use Rattle.loop_class.specs.declared.scope.What.TheVariants as what
+use Rattle.loop_class.specs.Bounds.{step_findings, loop_bounds, lower_of, upper_of, step_of, variable_of}
+use Rattle.loop_class.specs.Forms.{loop_form, multiple_form, difference_form, form_over}
 use Rattle.loop_class.specs.Judging.{Scope, findings_of, lower_operands, upper_operands}
 use Rattle.loop_class.specs.Names.{value_named}
 use Rattle.loop_class.specs.Parts.{Made, Meaning, nothing, both, in_order, Otherwise, new_name_findings, same_name_findings, inside_loop, for_findings, loop_body, loop_made, guarded, with_findings, else_made, array_number, assign_made, part_step, other_step, part_made, parts_made}
 use Rattle.loop_class.specs.Reasons.{found_if}
-use Rattle.loop_class.specs.Rows.{lower_forms, upper_forms, loop_rows, guard_rows, guard_findings, may_have_else, else_rows}
+use Rattle.loop_class.specs.Rows.{lower_forms, loop_rows, guard_rows, guard_findings, may_have_else, else_rows}
+use Rattle.loop_class.specs.Rows as rows
 use Rattle.loop_class.specs.Values.{Valued, valued, subscripts_over, access_findings}
-use Rattle.loop_class.proofs.NestsForms.{form_wider, lower_over, upper_over}
-use Rattle.loop_class.proofs.NestsSizes.{IsRow, IsBound, row_deeper, bound_row, loop_rows_are, all_fit}
-use Rattle.loop_class.proofs.NestsScope.{KnownIfAny, KnownScope, value_known, with_name_known, known_deeper, lower_bounds, upper_bounds, guard_rows_are, else_rows_are, some_lower, some_upper}
+use Rattle.loop_class.proofs.NestsForms.{over_deeper, over_multiple, over_termwise, form_wider, lower_over, upper_over, turn_over, turn_row_over}
+use Rattle.loop_class.proofs.NestsSizes.{IsForm, IsRow, IsBound, AreBounds, row_deeper, loop_rows_are, lower_rows, upper_rows, has_lower, has_upper, all_fit}
+use Rattle.loop_class.proofs.NestsScope.{Known, KnownIfAny, KnownScope, value_known, with_name_known, known_deeper, guard_rows_are, else_rows_are}
 use Rattle.loop_class.proofs.NestsBody.{Numbered, numbered_none, numbered_append, numbered_loop, numbered_guard, numbered_assign, loop_places, loop_fits, guard_places, guard_fits, assign_places, assign_fits, placed_append, fit_append}
+use Rattle.loop_class.proofs.NestsBounds.{bounds_are}
 use Rattle.loop_class.proofs.NestsValues.{none_left, none_right, found_none, not_found, access_is, Fitting, subscripts_fit, subscripts_count, value_fits}
 
 -- forms that say the same as rows, inside this many loops and more
@@ -73,14 +82,51 @@ upper_same d (f ∷ upper) room h =
     let rest = upper_same d upper room h.1 in
     λ i. first i ∷ rest i
 
--- the rows of a loop, as its lower and its upper forms give them
-pub shows_loop : (d : ℕ) (lower upper : List Affine) → d < 6 → Each (IsBound d) lower → Each (IsBound d) upper
-    → Shows (suc d) (map lower_row (map (form_over d) lower) ++ map upper_row (map (form_over d) upper)) (loop_rows d lower upper)
-shows_loop d lower upper room h k =
-    let same : map (form_over (suc d)) (loop_rows d lower upper) ≡ map lower_row (map (form_over d) lower) ++ map upper_row (map (form_over d) upper) =
+turns_same : (d : ℕ) (first : Affine) (step : ℤ) (upper : List Affine) → d < 6 → IsForm d first → Each (IsBound d) upper
+    → map (turn_row step (form_over d first)) (map (form_over d) upper) ≡ map (form_over (suc d)) (map (rows.turn_row d first step) upper)
+turns_same d first step [] room h k = refl
+turns_same d first step (f ∷ upper) room h k =
+    let head = sym (turn_row_over d first step f room h.over k.0.over) in
+    let rest = turns_same d first step upper room h k.1 in
+    λ i. head i ∷ rest i
+
+-- the rows of a nest's loop with these bounds, inside so many loops
+abbrev pub shown_rows : ℕ → Bounds → List Form
+shown_rows d bounds = bound_rows d (map (form_over d) (lower_of bounds)) (map (form_over d) (upper_of bounds)) (step_of bounds)
+
+other_than_1 : (k : ℤ) → pos 1 <ℤ k → int_eq k (pos 1) ≡ false
+other_than_1 k h = grind (arith, ints)
+
+rows_same : (d : ℕ) (bounds : Bounds) → d < 6 → AreBounds d bounds → map (form_over (suc d)) (loop_rows d bounds) ≡ shown_rows d bounds
+rows_same d (Range lower upper) room h =
     map-append (form_over (suc d)) (map (λ f. difference_form (loop_form d) f) lower) (map (λ f. difference_form f (loop_form d)) upper)
-    ∙ (λ i. sym (lower_same d lower room h) i ++ sym (upper_same d upper room k) i) in
-    subst (λ forms. Shows (suc d) forms (loop_rows d lower upper)) same (shows_over (suc d) (loop_rows d lower upper) (loop_rows_are d lower upper room h k))
+    ∙ (λ i. sym (lower_same d lower room h.lower_is) i ++ sym (upper_same d upper room h.upper_is) i)
+rows_same d (Progression first upper step) room h =
+    let low : List Form = form_over d first ∷ [] in
+    let high : List Form = map (form_over d) upper in
+    let turns : List Form = variable_form (d + 1) d ∷ (map (turn_row step (form_over d first)) high ++ []) in
+    (λ i. turn_over d room i ∷ (sym (turns_same d first step upper room h.first_is h.upper_is) ∙ sym (append-nil (map (turn_row step (form_over d first)) high))) i)
+    ∙ ap (λ b. cond {A = List Form} b (map lower_row low ++ map upper_row high) turns) (sym (other_than_1 step h.above))
+
+-- the rows of a loop, as its bounds give them
+pub shows_loop : (d : ℕ) (bounds : Bounds) → d < 6 → AreBounds d bounds → Shows (suc d) (shown_rows d bounds) (loop_rows d bounds)
+shows_loop d bounds room h =
+    subst (λ forms. Shows (suc d) forms (loop_rows d bounds)) (rows_same d bounds room h)
+    (shows_over (suc d) (loop_rows d bounds) (loop_rows_are d room bounds h))
+
+-- a loop's step fits its lower forms
+steps_fit : (d : ℕ) (bounds : Bounds) → AreBounds d bounds → IsTrue (step_fits (map (form_over d) (lower_of bounds)) (step_of bounds))
+steps_fit d (Range lower upper) h = refl
+steps_fit d (Progression first upper step) h =
+    let limit = and_parts (int_le (negsuc 2147483646) step) (int_le step (pos 2147483647)) h.limited in
+    both_true (both_true (above_1 step h.above) limit.1) (or_true (int_eq step (pos 1)))
+  where
+    above_1 : (k : ℤ) → pos 1 <ℤ k → int_le (pos 1) k ≡ true
+    above_1 k h = grind (arith, ints)
+
+    or_true : (b : Bool) → (b || true) ≡ true
+    or_true true = refl
+    or_true false = refl
 
 module _ (arrays : List ArrayDecl) where
   -- what stands round a part
@@ -175,75 +221,85 @@ module _ (arrays : List ArrayDecl) where
       found_stands c l s (guard_findings c.scope cond) (both yes otherwise) (both_stand c l s yes otherwise first
       (well_else cond other k c yes.next_loop (s + length yes.statements) context first.few (none_right yes.findings otherwise.findings rest)))
 
-  -- a seventh nested loop is a reason
-  for_room : (c : Context) (name : Name) (first : Operand) (second : Name) (bound : Operand) (third : Name) → for_findings c name first second bound third ≡ [] → length c.loops < 6
-  for_room c name first second bound third none =
+  -- a seventh nested loop is a reason, and so is what is wrong with the step
+  for_room : (c : Context) (name : Name) (first : Operand) (second : Name) (bound : Operand) (third : Name) (step : Step)
+      → for_findings c name first second bound third step ≡ []
+      → (length c.loops < 6) × (step_findings c.scope (length (lower_forms c.scope first)) step ≡ [])
+  for_room c name first second bound third step none =
       let a : List BindError = new_name_findings c.scope name in
       let b : List BindError = found_if (nat_le 6 (length c.loops)) (TooDeep name.token) in
       let p : List BindError = findings_of Body c.scope (lower_operands first) in
       let q : List BindError = same_name_findings name second in
       let r : List BindError = findings_of Body c.scope (upper_operands bound) in
       let t : List BindError = same_name_findings name third in
-      let found : b ≡ [] = none_right a b (none_left (a ++ b) p (none_left (a ++ b ++ p) q (none_left (a ++ b ++ p ++ q) r (none_left (a ++ b ++ p ++ q ++ r) t none)))) in
-      leb-false 6 (length c.loops) (found_none (nat_le 6 (length c.loops)) (TooDeep name.token) found)
+      let u : List BindError = step_findings c.scope (length (lower_forms c.scope first)) step in
+      let before : a ++ b ++ p ++ q ++ r ++ t ≡ [] = none_left (a ++ b ++ p ++ q ++ r ++ t) u none in
+      let found : b ≡ [] = none_right a b (none_left (a ++ b) p (none_left (a ++ b ++ p) q (none_left (a ++ b ++ p ++ q) r (none_left (a ++ b ++ p ++ q ++ r) t before)))) in (
+        leb-false 6 (length c.loops) (found_none (nat_le 6 (length c.loops)) (TooDeep name.token) found),
+        none_right (a ++ b ++ p ++ q ++ r ++ t) u none,
+      )
 
-  inside_context : (c : Context) (name : List ℕ) (l : ℕ) (lower upper : List Affine) → IsContext c → length c.loops < 6
-      → Each (IsBound (length c.loops)) lower → Each (IsBound (length c.loops)) upper → IsContext (inside_loop c name l lower upper)
-  inside_context c name l lower upper context room h k =
+  -- what the source's variable stands for
+  variable_known : (d : ℕ) (bounds : Bounds) → d < 6 → AreBounds d bounds → Known arrays (suc d) (variable_of d bounds)
+  variable_known d (Range lower upper) room h = omega arith
+  variable_known d (Progression first upper step) room h =
+      over_termwise ◌+ℤ◌ refl 6 (suc d) first.coefs (multiple_form step d).coefs (over_deeper 6 d (suc d) first.coefs (omega arith) h.first_is.over)
+      (over_multiple 6 (suc d) d step (omega arith))
+
+  inside_context : (c : Context) (name : List ℕ) (l : ℕ) (bounds : Bounds) → IsContext c → length c.loops < 6
+      → AreBounds (length c.loops) bounds → IsContext (inside_loop c name l bounds)
+  inside_context c name l bounds context room h =
       let d : ℕ = length c.loops in
       let deeper : suc d ≡ length (c.loops ++ l ∷ []) = omega (arith, length_push c.loops l) in
       record {
         room = omega (arith, deeper);
-        scope = subst (λ e. KnownScope arrays e (inside_loop c name l lower upper).scope) deeper
-            (with_name_known arrays (suc d) c.scope name (Loop d) (known_deeper arrays d c.scope context.scope) (omega arith));
-        rows = subst (λ e. Each (IsRow e) (c.rows ++ loop_rows d lower upper)) deeper
-            (each_append (IsRow (suc d)) c.rows (loop_rows d lower upper) (each_then (IsRow d) (IsRow (suc d)) c.rows (λ f. row_deeper d (suc d) f (omega arith)) context.rows)
-            (loop_rows_are d lower upper room h k));
+        scope = subst (λ e. KnownScope arrays e (inside_loop c name l bounds).scope) deeper
+            (with_name_known arrays (suc d) c.scope name (variable_of d bounds) (known_deeper arrays d c.scope context.scope) (variable_known d bounds room h));
+        rows = subst (λ e. Each (IsRow e) (c.rows ++ loop_rows d bounds)) deeper
+            (each_append (IsRow (suc d)) c.rows (loop_rows d bounds) (each_then (IsRow d) (IsRow (suc d)) c.rows (λ f. row_deeper d (suc d) f (omega arith)) context.rows)
+            (loop_rows_are d room bounds h));
       }
 
-  loop_stands : (c : Context) (l s : ℕ) (lower upper : List Affine) (header : List BindError) (inside : Made) (name : List ℕ) → length c.loops < 6
-      → Each (IsBound (length c.loops)) lower → Each (IsBound (length c.loops)) upper → 0 < length lower → 0 < length upper
-      → GivesParts (inside_loop c name l lower upper) (l + 1) s inside → GivesParts c l s (loop_made (length c.loops) l lower upper header inside)
-  loop_stands c l s lower upper header inside name room h k some_l some_u j =
+  loop_stands : (c : Context) (l s : ℕ) (bounds : Bounds) (header : List BindError) (inside : Made) (name : List ℕ) → length c.loops < 6
+      → AreBounds (length c.loops) bounds
+      → GivesParts (inside_loop c name l bounds) (l + 1) s inside → GivesParts c l s (loop_made (length c.loops) l bounds header inside)
+  loop_stands c l s bounds header inside name room h j =
       let d : ℕ = length c.loops in
       let deeper : suc d ≡ length (c.loops ++ l ∷ []) = omega (arith, length_push c.loops l) in
-      let low : List Form = map (form_over d) lower in
-      let high : List Form = map (form_over d) upper in
+      let low : List Form = map (form_over d) (lower_of bounds) in
+      let high : List Form = map (form_over d) (upper_of bounds) in
+      let step : ℤ = step_of bounds in
       let inner : length (c.loops ++ l ∷ []) ≡ d + 1 = omega (arith, deeper) in
       record {
-        numbered = numbered_loop low high inside.nodes l inside.next_loop j.numbered;
-        placed = λ rows shown. loop_places low high inside.nodes l c.loops rows
-            ∙ j.placed (rows ++ (map lower_row low ++ map upper_row high))
-            (subst (λ e. Shows e (rows ++ (map lower_row low ++ map upper_row high)) (c.rows ++ loop_rows d lower upper)) deeper
-            (shows_append (suc d) rows (map lower_row low ++ map upper_row high) c.rows (loop_rows d lower upper)
-            (shows_deeper d (suc d) rows c.rows (omega arith) shown) (shows_loop d lower upper room h k)));
-        fit = loop_fits low high inside.nodes l d room (omega (arith, length-map lower (form_over d))) (omega (arith, length-map upper (form_over d)))
-            (all_fit d lower (omega arith) (each_then (IsBound d) (IsRow d) lower (bound_row d) h))
-            (all_fit d upper (omega arith) (each_then (IsBound d) (IsRow d) upper (bound_row d) k))
-            (subst (λ e. IsTrue (all_forms_fit inside.nodes e)) inner j.fit);
+        numbered = numbered_loop low high step inside.nodes l inside.next_loop j.numbered;
+        placed = λ outer shown. loop_places low high step inside.nodes l c.loops outer
+            ∙ j.placed (outer ++ shown_rows d bounds)
+            (subst (λ e. Shows e (outer ++ shown_rows d bounds) (c.rows ++ loop_rows d bounds)) deeper
+            (shows_append (suc d) outer (shown_rows d bounds) c.rows (loop_rows d bounds)
+            (shows_deeper d (suc d) outer c.rows (omega arith) shown) (shows_loop d bounds room h)));
+        fit = loop_fits low high step inside.nodes l d room
+            (omega (arith, length-map (lower_of bounds) (form_over d), has_lower d bounds h)) (omega (arith, length-map (upper_of bounds) (form_over d), has_upper d bounds h))
+            (all_fit d (lower_of bounds) (omega arith) (lower_rows d bounds h)) (all_fit d (upper_of bounds) (omega arith) (upper_rows d bounds h))
+            (steps_fit d bounds h) (subst (λ e. IsTrue (all_forms_fit inside.nodes e)) inner j.fit);
         few = j.few;
         assigns = j.assigns;
       }
 
-  well_for : (name : Name) (first : Operand) (second : Name) (inclusive : Bool) (bound : Operand) (third : Name) (body : Meaning)
-      → Well body → Well (part_step (For name first second inclusive bound third body))
-  well_for name first second inclusive bound third body h c l s context few none =
+  well_for : (name : Name) (first : Operand) (second : Name) (inclusive : Bool) (bound : Operand) (third : Name) (step : Step) (body : Meaning)
+      → Well body → Well (part_step (For name first second inclusive bound third step body))
+  well_for name first second inclusive bound third step body h c l s context few none =
       let d : ℕ = length c.loops in
-      let lower : List Affine = lower_forms c.scope first in
-      let upper : List Affine = upper_forms c.scope inclusive bound in
-      let header : List BindError = for_findings c name first second bound third in
-      let inner : Context = inside_loop c name.text l lower upper in
+      let bounds : Bounds = loop_bounds c.scope first inclusive bound step in
+      let header : List BindError = for_findings c name first second bound third step in
+      let inner : Context = inside_loop c name.text l bounds in
       let inside : Made = body inner (l + 1) s in
-      let read : Made = loop_body body c name.text lower upper l s in
-      let room : d < 6 = for_room c name first second bound third (none_left header read.findings none) in
-      let is_read : read ≡ inside = ap (λ b. cond {A = Made} b inside (nothing (l + 1))) (lt-ltb d 6 room) in
+      let read : Made = loop_body body c name.text bounds l s in
+      let head = for_room c name first second bound third step (none_left header read.findings none) in
+      let are : AreBounds d bounds = bounds_are arrays d c.scope context.scope first inclusive bound step head.1 in
+      let is_read : read ≡ inside = ap (λ b. cond {A = Made} b inside (nothing (l + 1))) (lt-ltb d 6 head.0) in
       let h' : GivesParts inner (l + 1) s inside =
-      h inner (l + 1) s (inside_context c name.text l lower upper context room (lower_bounds arrays d c.scope context.scope first) (upper_bounds arrays d c.scope context.scope inclusive bound))
-      few (ap (λ m. m.findings) (sym is_read) ∙ none_right header read.findings none) in
-      subst (λ m. GivesParts c l s (loop_made d l lower upper header m)) (sym is_read)
-      (loop_stands c l s lower upper header inside name.text room
-      (lower_bounds arrays d c.scope context.scope first) (upper_bounds arrays d c.scope context.scope inclusive bound)
-      (some_lower c.scope first) (some_upper c.scope inclusive bound) h')
+      h inner (l + 1) s (inside_context c name.text l bounds context head.0 are) few (ap (λ m. m.findings) (sym is_read) ∙ none_right header read.findings none) in
+      subst (λ m. GivesParts c l s (loop_made d l bounds header m)) (sym is_read) (loop_stands c l s bounds header inside name.text head.0 are h')
 
   -- what is written fits its array
   write_fits : (d : ℕ) (room : d ≤ 6) (scope : Scope) → KnownScope arrays d scope → (token : ℕ) (what : Option What) (subscripts : List Operand) → KnownIfAny arrays d what
@@ -251,6 +307,7 @@ module _ (arrays : List ArrayDecl) where
   write_fits d room scope known token None subscripts h none = absurd (cc)
   write_fits d room scope known token (Some (Parameter v)) subscripts h none = absurd (cc)
   write_fits d room scope known token (Some (Loop v)) subscripts h none = absurd (cc)
+  write_fits d room scope known token (Some (what.Progression f)) subscripts h none = absurd (cc)
   write_fits d room scope known token (Some (Array number extents)) subscripts h none =
       let count : length subscripts ≡ extents = eqb-true (length subscripts) extents (not_found (length subscripts == extents) (WrongCount token) none) in
       access_is arrays d number extents (subscripts_over d scope subscripts) h (subscripts_count arrays d room scope known subscripts ∙ count) (subscripts_fit arrays d room scope known subscripts)
@@ -320,7 +377,7 @@ module _ (arrays : List ArrayDecl) where
 
   step_well : (y : Part-F WellPart WellOther)
       → Well (part_step (map-Part Part Other Meaning Otherwise part_made (fold-Other Meaning Otherwise part_step other_step) (map-Part WellPart WellOther Part Other (λ e. e.0) (λ e. e.0) y)))
-  step_well (For name first second inclusive bound third body) = well_for name first second inclusive bound third (part_made body.0) body.1
+  step_well (For name first second inclusive bound third step body) = well_for name first second inclusive bound third step (part_made body.0) body.1
   step_well (If cond body None) = well_if cond (part_made body.0) None body.1 tt
   step_well (If cond body (Some other)) = well_if cond (part_made body.0) (Some (fold-Other Meaning Otherwise part_step other_step other.0)) body.1 other.1
   step_well (Assign target subscripts value) = well_assign target subscripts value

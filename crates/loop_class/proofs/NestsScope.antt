@@ -19,12 +19,12 @@ use Rattle.loop_class.specs.declared.affine.Affine.{Affine}
 use Rattle.loop_class.specs.declared.scope.Place.{Place}
 use Rattle.loop_class.specs.declared.scope.Place.TheVariants.{Extent, Body}
 use Rattle.loop_class.specs.declared.scope.What.{What}
-use Rattle.loop_class.specs.declared.scope.What.TheVariants.{Parameter, Array, Loop}
+use Rattle.loop_class.specs.declared.scope.What.TheVariants.{Parameter, Array, Loop, Progression}
 use Rattle.loop_class.specs.Forms.{constant_form, loop_form, sum_form, difference_form, scaled_form, negated_form, lowered_form, is_limited, has_no_variable}
 use Rattle.loop_class.specs.Judging.{Scope, Judged, limited, named, negated, combined, seen_from, judge_step, judged, form_or_zero, forms_of, lower_layer, upper_layer, lower_operands, upper_operands}
 use Rattle.loop_class.specs.Names.{value_named, with_name}
 use Rattle.loop_class.specs.Rows.{lower_forms, upper_forms, sign_rows, comparison_rows, guard_rows, else_rows, negated_sign}
-use Rattle.loop_class.proofs.NestsForms.{IsOver, over_zeros, over_map, over_termwise, over_variable}
+use Rattle.loop_class.proofs.NestsForms.{IsOver, over_zeros, over_deeper, over_map, over_termwise, over_multiple}
 use Rattle.loop_class.proofs.NestsSizes.{IsForm, IsRow, IsBound, form_bound, form_lowered, difference_row, lowered_row}
 
 -- an array that is declared, with so many extents
@@ -38,6 +38,7 @@ abbrev pub Known : List ArrayDecl → ℕ → What → Type 0
 Known arrays d (Parameter v) = Unit {0}
 Known arrays d (Array number extents) = HasArray arrays number extents
 Known arrays d (Loop v) = v < d
+Known arrays d (Progression f) = IsOver 6 d f.coefs
 
 abbrev pub KnownIfAny : List ArrayDecl → ℕ → Option What → Type 0
 KnownIfAny arrays d None = Unit {0}
@@ -66,6 +67,7 @@ known_deeper arrays d scope h = each_then (λ e. Known arrays d e.1) (λ e. Know
   one (Parameter v) k = tt
   one (Array number extents) k = k
   one (Loop v) k = omega arith
+  one (Progression f) k = over_deeper 6 d (suc d) f.coefs (omega arith) k
 
 -- a form that is there is one of so many loops
 abbrev pub IsFormIfAny : ℕ → Option Affine → Type 0
@@ -105,17 +107,20 @@ module _ (arrays : List ArrayDecl) (d : ℕ) (scope : Scope) (known : KnownScope
   seen_is Extent (Some (Parameter v)) h = tt
   seen_is Extent (Some (Array number extents)) h = tt
   seen_is Extent (Some (Loop v)) h = tt
+  seen_is Extent (Some (Progression f)) h = tt
 
   named_is : (token : ℕ) (alone : Bool) (o : Option What) → KnownIfAny arrays d o → IsFormIfAny d (named token alone o).form
   named_is token alone None h = tt
   named_is token alone (Some (Array number extents)) h = tt
   named_is token true (Some (Parameter v)) h = limited_is d token (constant_form v) (over_zeros 6 d)
-  named_is token true (Some (Loop v)) h = limited_is d token (loop_form v) (over_variable 6 d v h)
+  named_is token true (Some (Loop v)) h = limited_is d token (loop_form v) (over_multiple 6 d v (pos 1) h)
+  named_is token true (Some (Progression f)) h = limited_is d token f h
   named_is token false (Some (Parameter v)) h = tt
   named_is token false (Some (Loop v)) h = tt
+  named_is token false (Some (Progression f)) h = tt
 
   module _ (place : Place) where
-    abbrev Formed : Operand → Type 0
+    abbrev pub Formed : Operand → Type 0
     Formed o = IsFormIfAny d (judged place scope o).form
 
     judged_roll : (y : Operand-F Operand) → judged place scope (roll-Operand y) ≡ judge_step place scope (map-Operand Operand Judged (judged place scope) y)
@@ -133,7 +138,7 @@ module _ (arrays : List ArrayDecl) (d : ℕ) (scope : Scope) (known : KnownScope
     step_formed (Min token list) = tt
     step_formed (Max token list) = tt
 
-    formed : (o : Operand) → Formed o
+    pub formed : (o : Operand) → Formed o
     formed =
         ind-Operand Formed (λ x y is. subst (λ z. Formed (roll-Operand z)) is
         (subst (λ j. IsFormIfAny d j.form) (sym (judged_roll (map-Operand ((o : Operand) × Formed o) Operand (λ e. e.0) y))) (step_formed y)))

@@ -24,11 +24,14 @@ use Rattle.sanlp.specs.WellFormed.{is_moderate, form_fits, access_fits, statemen
 use Rattle.sanlp.proofs.Each.{Each, each_append, each_then, count_up_below}
 use Rattle.sanlp.proofs.Folds.{fold_read, fold_given}
 use Rattle.loop_class.specs.declared.affine.Affine.{Affine}
+use Rattle.loop_class.specs.declared.bounds.Bounds.{Bounds}
+use Rattle.loop_class.specs.declared.bounds.Bounds.TheVariants.{Range}
 use Rattle.loop_class.specs.Forms.{constant_form, form_over, is_limited_number}
 use Rattle.loop_class.specs.Rows.{loop_rows}
 use Rattle.loop_class.specs.Terminals.{extent_rows, source_statement, sink_statement, sources_from, sinks_from}
+use Rattle.loop_class.proofs.Moderate.{bound_last_number}
 use Rattle.loop_class.proofs.NestsForms.{over_zeros}
-use Rattle.loop_class.proofs.NestsSizes.{IsRow, IsBound, bound_row, row_deeper, loop_rows_are, all_fit, natural_bound}
+use Rattle.loop_class.proofs.NestsSizes.{IsRow, AreBounds, lower_rows, upper_rows, row_deeper, loop_rows_are, all_fit}
 use Rattle.loop_class.proofs.NestsBody.{Numbered, numbered_none, numbered_append, numbered_loop, numbered_assign, loop_places, loop_fits, assign_places, assign_fits, placed_append, fit_append, length-count_up}
 use Rattle.loop_class.proofs.NestsParts.{Shows, shows_append, shows_deeper, shows_loop}
 use Rattle.loop_class.proofs.NestsValues.{all_append}
@@ -41,11 +44,16 @@ lowest = constant_form (pos 0) ∷ []
 abbrev pub highest : ℤ → List Affine
 highest e = constant_form (pos (natural e) -ℤ pos 1) ∷ []
 
-lowest_is : (d : ℕ) → Each (IsBound d) lowest
-lowest_is d = (record { over = over_zeros 6 d; constant = refl; coefs = refl }, tt)
+abbrev pub round_bounds : ℤ → Bounds
+round_bounds e = Range lowest (highest e)
 
-highest_is : (d : ℕ) (e : ℤ) → IsTrue (is_limited_number e) → Each (IsBound d) (highest e)
-highest_is d e h = (record { over = over_zeros 6 d; constant = natural_bound e h; coefs = refl }, tt)
+round_bounds_are : (d : ℕ) (e : ℤ) → IsTrue (is_limited_number e) → AreBounds d (round_bounds e)
+round_bounds_are d e h = record {
+  lower_is = (record { over = over_zeros 6 d; constant = refl; coefs = refl }, tt);
+  upper_is = (record { over = over_zeros 6 d; constant = bound_last_number e h; coefs = refl }, tt);
+  some_lower = omega arith;
+  some_upper = omega arith;
+}
 
 take_zeros : (room k : ℕ) → k ≤ room → take k (replicate room (pos 0)) ≡ replicate k (pos 0)
 take_zeros room zero h = refl
@@ -54,16 +62,16 @@ take_zeros (suc room) (suc k) h = ap (λ l. pos 0 ∷ l) (take_zeros room k (ome
 
 -- the loop round an extent has these bounds
 round_is : (id k : ℕ) (e : ℤ) (extents : List ℤ) (s : ℕ) → k ≤ 6
-    → loops_round id k (e ∷ extents) s ≡ node.Loop id (map (form_over k) lowest) (map (form_over k) (highest e)) (loops_round (id + 1) (k + 1) extents s ∷ [])
+    → loops_round id k (e ∷ extents) s ≡ node.Loop id (map (form_over k) lowest) (map (form_over k) (highest e)) (pos 1) (loops_round (id + 1) (k + 1) extents s ∷ [])
 round_is id k e extents s room =
-    ap (λ zeros. node.Loop id (record { constant = pos 0; coefs = zeros } ∷ []) (record { constant = pos (natural e) -ℤ pos 1; coefs = zeros } ∷ []) (loops_round (id + 1) (k + 1) extents s ∷ []))
+    ap (λ zeros. node.Loop id (record { constant = pos 0; coefs = zeros } ∷ []) (record { constant = pos (natural e) -ℤ pos 1; coefs = zeros } ∷ []) (pos 1) (loops_round (id + 1) (k + 1) extents s ∷ []))
     (sym (take_zeros 6 k room))
 
 round_numbered : (id k : ℕ) (extents : List ℤ) (s : ℕ) → Numbered id (id + length extents) (loops_round id k extents s ∷ [])
 round_numbered id k [] s = let e : id ≡ id + 0 = omega arith in subst (λ n. Numbered id n (node.Assign s ∷ [])) e (numbered_assign s id)
 round_numbered id k (e ∷ extents) s =
     let later : id + 1 + length extents ≡ id + suc (length extents) = omega arith in
-    numbered_loop (affine.constant_form k (pos 0) ∷ []) (affine.constant_form k (pos (natural e) -ℤ pos 1) ∷ []) (loops_round (id + 1) (k + 1) extents s ∷ []) id (id + suc (length extents))
+    numbered_loop (affine.constant_form k (pos 0) ∷ []) (affine.constant_form k (pos (natural e) -ℤ pos 1) ∷ []) (pos 1) (loops_round (id + 1) (k + 1) extents s ∷ []) id (id + suc (length extents))
     (subst (λ n. Numbered (id + 1) n (loops_round (id + 1) (k + 1) extents s ∷ [])) later (round_numbered (id + 1) (k + 1) extents s))
 
 -- where the statement inside stands
@@ -80,14 +88,15 @@ round_place id k n (e ∷ extents) s loops forms rows len all room limited shown
     let next : suc k ≡ k + 1 = omega arith in
     let low : List Form = map (form_over k) lowest in
     let high : List Form = map (form_over k) (highest e) in
-    let more : List Affine = loop_rows k lowest (highest e) in
-    let inner : Shows (k + 1) (forms ++ (map lower_row low ++ map upper_row high)) (rows ++ more) =
-    subst (λ d. Shows d (forms ++ (map lower_row low ++ map upper_row high)) (rows ++ more)) next
-    (shows_append (suc k) forms (map lower_row low ++ map upper_row high) rows more (shows_deeper k (suc k) forms rows (omega arith) shown)
-    (shows_loop k lowest (highest e) (omega arith) (lowest_is k) (highest_is k e limited.0))) in
+    let added : List Form = map lower_row low ++ map upper_row high in
+    let more : List Affine = loop_rows k (round_bounds e) in
+    let inner : Shows (k + 1) (forms ++ added) (rows ++ more) =
+    subst (λ d. Shows d (forms ++ added) (rows ++ more)) next
+    (shows_append (suc k) forms added rows more (shows_deeper k (suc k) forms rows (omega arith) shown)
+    (shows_loop k (round_bounds e) (omega arith) (round_bounds_are k e limited.0))) in
     ap (λ x. all_places (x ∷ []) loops forms) (round_is id k e extents s (omega arith))
-    ∙ loop_places low high (loops_round (id + 1) (k + 1) extents s ∷ []) id loops forms
-    ∙ round_place (id + 1) (k + 1) n extents s (loops ++ id ∷ []) (forms ++ (map lower_row low ++ map upper_row high)) (rows ++ more)
+    ∙ loop_places low high (pos 1) (loops_round (id + 1) (k + 1) extents s ∷ []) id loops forms
+    ∙ round_place (id + 1) (k + 1) n extents s (loops ++ id ∷ []) (forms ++ added) (rows ++ more)
     (omega (arith, length_push loops id)) (omega arith) room limited.1 inner
     ∙ (λ i. record {
       statement = s;
@@ -99,22 +108,22 @@ round_fits : (id k : ℕ) (extents : List ℤ) (s : ℕ) → k + length extents 
 round_fits id k [] s room limited = assign_fits s k
 round_fits id k (e ∷ extents) s room limited =
     subst (λ x. IsTrue (all_forms_fit (x ∷ []) k)) (sym (round_is id k e extents s (omega arith)))
-    (loop_fits (map (form_over k) lowest) (map (form_over k) (highest e)) (loops_round (id + 1) (k + 1) extents s ∷ []) id k (omega arith) (omega arith) (omega arith)
-    (all_fit k lowest (omega arith) (bound_row k _ (lowest_is k).0, tt))
-    (all_fit k (highest e) (omega arith) (bound_row k _ (highest_is k e limited.0).0, tt))
-    (round_fits (id + 1) (k + 1) extents s (omega arith) limited.1))
+    (loop_fits (map (form_over k) lowest) (map (form_over k) (highest e)) (pos 1) (loops_round (id + 1) (k + 1) extents s ∷ []) id k (omega arith) (omega arith) (omega arith)
+    (all_fit k lowest (omega arith) (lower_rows k (round_bounds e) (round_bounds_are k e limited.0)))
+    (all_fit k (highest e) (omega arith) (upper_rows k (round_bounds e) (round_bounds_are k e limited.0)))
+    refl (round_fits (id + 1) (k + 1) extents s (omega arith) limited.1))
 
 -- the rows of loops round extents
 extent_rows_are : (k n : ℕ) (extents : List ℤ) → k + length extents ≤ n → n ≤ 6 → Each (λ e. IsTrue (is_limited_number e)) extents → Each (IsRow n) (extent_rows k extents)
 extent_rows_are k n [] le room limited = tt
 extent_rows_are k n (e ∷ extents) le room limited =
-    each_append (IsRow n) (loop_rows k lowest (highest e)) (extent_rows (k + 1) extents)
-    (each_then (IsRow (suc k)) (IsRow n) (loop_rows k lowest (highest e)) (λ f. row_deeper (suc k) n f (omega arith)) (loop_rows_are k lowest (highest e) (omega arith) (lowest_is k) (highest_is k e limited.0)))
+    each_append (IsRow n) (loop_rows k (round_bounds e)) (extent_rows (k + 1) extents)
+    (each_then (IsRow (suc k)) (IsRow n) (loop_rows k (round_bounds e)) (λ f. row_deeper (suc k) n f (omega arith)) (loop_rows_are k (omega arith) (round_bounds e) (round_bounds_are k e limited.0)))
     (extent_rows_are (k + 1) n extents (omega arith) room limited.1)
 
 extent_rows_count : (k : ℕ) (extents : List ℤ) → length (extent_rows k extents) ≡ length extents + length extents
 extent_rows_count k [] = omega arith
-extent_rows_count k (e ∷ extents) = omega (arith, length-append (loop_rows k lowest (highest e)) (extent_rows (k + 1) extents), extent_rows_count (k + 1) extents)
+extent_rows_count k (e ∷ extents) = omega (arith, length-append (loop_rows k (round_bounds e)) (extent_rows (k + 1) extents), extent_rows_count (k + 1) extents)
 
 -- the cell of the loop values
 zeros_moderate : (n : ℕ) → IsTrue (list_all is_moderate (replicate n (pos 0)))

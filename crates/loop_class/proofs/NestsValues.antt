@@ -1,9 +1,10 @@
 -- Right sides: where no reason stands in one, its reads fit and its expression names only loops and reads that are there.
-use Rattle.std.proofs.Common.{◌≡◌, ◌≤◌, ℕ, ◌+◌, ℤ, pos, List, [], ◌∷◌, ◌++◌, map, length, Bool, true, false, not, ◌&&◌, ◌||◌, Option, Some, None, refl, sym, ap, ◌∙◌, arith, subst}
+use Rattle.std.proofs.Common.{◌≡◌, ◌≤◌, ℕ, suc, ◌+◌, ℤ, pos, List, [], ◌∷◌, ◌++◌, map, length, Bool, true, false, cond, not, ◌&&◌, ◌||◌, take, length-take, Option, Some, None, refl, sym, ap, ◌∙◌, arith, subst}
 use Rattle.std.specs.Prelude.{IsTrue, ◌==◌}
 use Rattle.std.specs.List.{list_all}
 use Rattle.std.specs.Option.{option_map_or}
 use Rattle.std.specs.Cmp.Derive.{both_true}
+use Rattle.std.specs.Ordering.{int_eq}
 use Rattle.std.proofs.lemmas.Bool.{and_parts, lt-ltb, eq-eqb, eqb-true, eqb-false, or_from}
 use Rattle.std.proofs.lemmas.List.{length-append, length-map}
 use Rattle.affine_core.specs.declared.form.Form.{Form}
@@ -23,18 +24,19 @@ use Rattle.loop_grammar.specs.declared.tree.Operand.{Operand}
 use Rattle.loop_grammar.specs.declared.tree.Operand.TheOpen.{Operand-F, Number, Access, Binary, Neg, Min, Max}
 use Rattle.loop_grammar.specs.declared.tree.Operand.TheFolds.{map-Operand, para-roll-Operand, ind-Operand}
 use Rattle.loop_grammar.specs.declared.tree.Operand.TheViews.{roll-Operand}
+use Rattle.loop_class.specs.declared.affine.Affine.{Affine}
 use Rattle.loop_class.specs.declared.error.BindError.{BindError}
 use Rattle.loop_class.specs.declared.error.BindError.TheVariants.{WrongCount, TooManyReads}
 use Rattle.loop_class.specs.declared.scope.Place.TheVariants.{Body}
 use Rattle.loop_class.specs.declared.scope.What.{What}
-use Rattle.loop_class.specs.declared.scope.What.TheVariants.{Parameter, Array, Loop}
+use Rattle.loop_class.specs.declared.scope.What.TheVariants.{Parameter, Array, Loop, Progression}
 use Rattle.loop_class.specs.declared.value.Extreme.{Extreme}
 use Rattle.loop_class.specs.declared.value.Extreme.TheVariants.{Least, Greatest}
 use Rattle.loop_class.specs.Forms.{form_over}
 use Rattle.loop_class.specs.Judging.{Scope, forms_of, findings_of, judged, form_or_zero}
 use Rattle.loop_class.specs.Names.{value_named}
 use Rattle.loop_class.specs.Reasons.{found_if}
-use Rattle.loop_class.specs.Values.{Valued, Value, without_reads, subscripts_over, name_value, binary_expr, extreme_expr, joined, joined_all, list_value, value_parts, value_step, valued}
+use Rattle.loop_class.specs.Values.{Valued, Value, without_reads, subscripts_over, with_multiple, with_multiples, form_expr, name_value, binary_expr, extreme_expr, joined, joined_all, list_value, value_parts, value_step, valued}
 use Rattle.loop_class.proofs.NestsSizes.{IsForm, form_row, all_fit, IsRow}
 use Rattle.loop_class.proofs.NestsScope.{HasArray, KnownIfAny, KnownScope, value_known, forms_are}
 
@@ -89,6 +91,38 @@ binary_joins sign.Mul = record { uses = λ depth slots. fold_mul Bool (uses_step
 extreme_joins : (which : Extreme) → IsJoin (extreme_expr which)
 extreme_joins Least = record { uses = λ depth slots. fold_min Bool (uses_step depth slots); gives = fold_min Bool gives_step }
 extreme_joins Greatest = record { uses = λ depth slots. fold_max Bool (uses_step depth slots); gives = fold_max Bool gives_step }
+
+-- an expression that names no more than these loops, and no read and no input value
+record IsOfLoops (depth : ℕ) (e : Expr) : Type 0 where
+  uses : (slots : ℕ) → IsTrue (uses_only depth slots e)
+  no_given : uses_given e ≡ false
+
+multiple_of_loops : (depth : ℕ) (before : Expr) (v : ℕ) (c : ℤ) → suc v ≤ depth → IsOfLoops depth before → IsOfLoops depth (with_multiple before v c)
+multiple_of_loops depth before v c room h = by_test (int_eq c (pos 0)) where
+  multiple : Expr
+  multiple = expr.Mul (expr.Const c) (expr.Var v)
+
+  by_test : (b : Bool) → IsOfLoops depth (cond b before (expr.Add before multiple))
+  by_test true = h
+  by_test false = record {
+    uses = λ slots. (binary_joins sign.Add).uses depth slots before multiple
+        ∙ both_true (h.uses slots) ((binary_joins sign.Mul).uses depth slots (expr.Const c) (expr.Var v)
+        ∙ both_true (fold_const Bool (uses_step depth slots) c) (fold_var Bool (uses_step depth slots) v ∙ lt-ltb v depth room));
+    no_given = (binary_joins sign.Add).gives before multiple
+        ∙ or_from (uses_given before) (uses_given multiple) h.no_given ((binary_joins sign.Mul).gives (expr.Const c) (expr.Var v)
+        ∙ or_from (uses_given (expr.Const c)) (uses_given (expr.Var v)) (fold_const Bool gives_step c) (fold_var Bool gives_step v));
+  }
+
+multiples_of_loops : (depth : ℕ) (before : Expr) (v : ℕ) (coefs : List ℤ) → v + length coefs ≤ depth → IsOfLoops depth before
+    → IsOfLoops depth (with_multiples before v coefs)
+multiples_of_loops depth before v [] room h = h
+multiples_of_loops depth before v (c ∷ coefs) room h =
+    multiples_of_loops depth (with_multiple before v c) (v + 1) coefs (omega arith) (multiple_of_loops depth before v c (omega arith) h)
+
+form_of_loops : (depth : ℕ) (f : Affine) → IsOfLoops depth (form_expr (form_over depth f))
+form_of_loops depth f =
+    multiples_of_loops depth (expr.Const f.constant) 0 (take depth f.coefs) (omega (arith, length-take depth f.coefs))
+    (record { uses = λ slots. fold_const Bool (uses_step depth slots) f.constant; no_given = fold_const Bool gives_step f.constant })
 
 -- subscripts that fit the array
 pub access_is : (arrays : List ArrayDecl) (d number extents : ℕ) (subscripts : List Form) → HasArray arrays number extents
@@ -148,8 +182,17 @@ module _ (arrays : List ArrayDecl) (d : ℕ) (in_room : d ≤ 6) (scope : Scope)
     uses = λ slots k. fold_var Bool (uses_step d slots) v ∙ lt-ltb v d h;
     no_given = fold_var Bool gives_step v;
   }
+  name_fits token (Some (Progression f)) [] h slot le e =
+      let of_loops = form_of_loops d f in
+      record {
+        few = omega arith;
+        reads = refl;
+        uses = λ slots k. of_loops.uses slots;
+        no_given = of_loops.no_given;
+      }
   name_fits token (Some (Parameter c)) [] h slot le e = const_fits c slot le e
   name_fits token (Some (Loop v)) (s ∷ subscripts) h slot le e = absurd (cc)
+  name_fits token (Some (Progression f)) (s ∷ subscripts) h slot le e = absurd (cc)
   name_fits token (Some (Parameter c)) (s ∷ subscripts) h slot le e = absurd (cc)
 
   joined_fit : (op : Expr → Expr → Expr) → IsJoin op → (slot : ℕ) (a b : Valued) → Fitting slot a → Fitting (slot + length a.reads) b → Fitting slot (joined op a b)

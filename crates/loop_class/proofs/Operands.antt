@@ -1,11 +1,11 @@
 -- Affine places and right sides, by the kind of operand.
-use Rattle.std.proofs.Common.{◌≡◌, ℕ, ◌+◌, ℤ, ◌==◌, List, [], ◌∷◌, ◌++◌, length, map, Option, refl, sym, ap, ◌∙◌}
+use Rattle.std.proofs.Common.{◌≡◌, ℕ, ℤ, List, [], ◌∷◌, ◌++◌, map, refl, sym, ap, ◌∙◌}
 use Rattle.loop_grammar.specs.declared.tree.BinarySign.{BinarySign}
 use Rattle.loop_grammar.specs.declared.tree.Name.{Name}
 use Rattle.loop_grammar.specs.declared.tree.Operand.{Operand, out-Operand, roll-Operand, roll-out-Operand}
 use Rattle.loop_grammar.specs.declared.tree.Operand.TheOpen as layer
-use Rattle.loop_grammar.specs.declared.tree.Operand.TheVariants.{Number, Access, Binary, Neg, Min, Max, rolls-Number, rolls-Access, rolls-Binary, rolls-Neg, rolls-Min, rolls-Max, outs-Number, outs-Access, outs-Binary, outs-Neg, outs-Min, outs-Max}
-use Rattle.loop_grammar.specs.declared.tree.Operand.TheFolds.{fold-roll-Operand, para-roll-Operand}
+use Rattle.loop_grammar.specs.declared.tree.Operand.TheVariants.{Number, Access, Binary, Neg, Min, Max, rolls-Number, rolls-Access, rolls-Binary, rolls-Neg, rolls-Min, rolls-Max, outs-Min, outs-Max}
+use Rattle.loop_grammar.specs.declared.tree.Operand.TheFolds.{fold-roll-Operand}
 use Rattle.loop_class.specs.declared.scope.Place.{Place}
 use Rattle.loop_class.specs.Judging.{Scope, Judged, judge_step, judged, all_findings, findings_of, lower_layer, lower_operands, upper_layer, upper_operands}
 

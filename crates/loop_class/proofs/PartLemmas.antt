@@ -1,26 +1,28 @@
 -- What binding a part comes to, by its kind.
-use Rattle.std.proofs.Common.{◌≡◌, ℕ, ◌+◌, ◌<◌, Bool, List, [], ◌∷◌, ◌++◌, length, map, take, get_or, Option, Some, None, Result, refl, sym, ap, subst, ◌∙◌, append_assoc, append-nil, length-append, arith}
+use Rattle.std.proofs.Common.{◌≡◌, ℕ, ◌+◌, ◌<◌, Bool, List, [], ◌∷◌, ◌++◌, length, map, take, get_or, Option, Some, None, Result, sym, ap, subst, ◌∙◌, append_assoc, append-nil, length-append, arith}
 use Rattle.std.specs.Prelude.{OnOk}
 use Rattle.std.proofs.lemmas.List.{map-append, take_more}
 use Rattle.std.proofs.lemmas.Result.{on_ok_weaker}
 use Rattle.sanlp.specs.declared.nest.Node.{Node}
-use Rattle.sanlp.specs.declared.nest.Statement.{Statement}
 use Rattle.loop_grammar.specs.declared.tree.Comparison.{Comparison}
 use Rattle.loop_grammar.specs.declared.tree.Name.{Name}
 use Rattle.loop_grammar.specs.declared.tree.Operand.{Operand}
 use Rattle.loop_grammar.specs.declared.tree.Other.{Other}
 use Rattle.loop_grammar.specs.declared.tree.Part.{Part}
+use Rattle.loop_grammar.specs.declared.tree.Step.{Step}
 use Rattle.loop_grammar.specs.declared.tree.Part.TheOpen as layer
 use Rattle.loop_grammar.specs.declared.tree.Part.TheVariants.{For, If, Assign, Block, rolls-For, rolls-If, rolls-Assign, rolls-Block}
-use Rattle.loop_grammar.specs.declared.tree.Part.TheFolds.{fold-roll-Part, fold-Other, fold_out-Other}
+use Rattle.loop_grammar.specs.declared.tree.Part.TheFolds.{fold-roll-Part, fold_out-Other}
 use Rattle.loop_class.specs.declared.affine.Affine.{Affine}
+use Rattle.loop_class.specs.declared.bounds.Bounds.{Bounds}
 use Rattle.loop_class.specs.declared.context.Context.{Context}
 use Rattle.loop_class.specs.declared.context.Progress.{Progress}
 use Rattle.loop_class.specs.declared.error.BindError.{BindError}
+use Rattle.loop_class.specs.Bounds.{loop_bounds}
 use Rattle.loop_class.specs.Following.{Makes, next_statement, advanced}
 use Rattle.loop_class.specs.Parts.{Made, Meaning, Otherwise, nothing, both, in_order, depth_of, for_findings, loop_made, loop_body, guarded, with_findings, else_made, assign_made, part_step, other_step, part_made, parts_made}
 use Rattle.loop_class.specs.Reasons.{least_from}
-use Rattle.loop_class.specs.Rows.{lower_forms, upper_forms, guard_rows, guard_findings}
+use Rattle.loop_class.specs.Rows.{guard_rows, guard_findings}
 use Rattle.loop_class.proofs.JudgeLemmas.{least_append}
 
 -- two results one after the other
@@ -90,13 +92,13 @@ followed c c1 c2 p p1 p2 n n1 n2 a m first second =
     }
 
 module _ (part : Part) (c : Context) (l s : ℕ) where
-  part_for : (name : Name) (first : Operand) (second : Name) (inclusive : Bool) (bound : Operand) (third : Name) (body : Part)
-      → part ≡ For name first second inclusive bound third body
-      → part_made part c l s ≡ part_step (layer.For name first second inclusive bound third (part_made body)) c l s
+  part_for : (name : Name) (first : Operand) (second : Name) (inclusive : Bool) (bound : Operand) (third : Name) (step : Step) (body : Part)
+      → part ≡ For name first second inclusive bound third step body
+      → part_made part c l s ≡ part_step (layer.For name first second inclusive bound third step (part_made body)) c l s
   unfolding part_made
-  part_for name first second inclusive bound third body is =
-      ap (λ p. part_made p c l s) (is ∙ sym (rolls-For name first second inclusive bound third body))
-      ∙ ap (λ f. f c l s) (fold-roll-Part Meaning Otherwise part_step other_step (layer.For name first second inclusive bound third body))
+  part_for name first second inclusive bound third step body is =
+      ap (λ p. part_made p c l s) (is ∙ sym (rolls-For name first second inclusive bound third step body))
+      ∙ ap (λ f. f c l s) (fold-roll-Part Meaning Otherwise part_step other_step (layer.For name first second inclusive bound third step body))
 
   part_if_none : (cond : List Comparison) (body : Part) → part ≡ If cond body None
       → part_made part c l s ≡ part_step (layer.If cond (part_made body) None) c l s
@@ -130,23 +132,23 @@ pub renamed : {E : Type 0} (result : Result (Unit {0}) E) (c c1 : Context) (p p1
 renamed result c c1 p p1 nodes nodes1 a b h is = subst (λ m. OnOk result (Makes c c1 p p1 nodes nodes1 m)) (sym is) h
 
 module _ (part : Part) (c c1 : Context) (p p1 : Progress) (nodes nodes1 : List Node) where
-  pub for_ok : {E : Type 0} (result : Result (Unit {0}) E) (name : Name) (first : Operand) (second : Name) (inclusive : Bool) (bound : Operand) (third : Name) (body : Part)
-      (lower upper : List Affine) (l1 : Option BindError)
-      → part ≡ For name first second inclusive bound third body → lower ≡ lower_forms c.scope first → upper ≡ upper_forms c.scope inclusive bound
-      → l1 ≡ least_from p.least (for_findings c name first second bound third)
+  pub for_ok : {E : Type 0} (result : Result (Unit {0}) E) (name : Name) (first : Operand) (second : Name) (inclusive : Bool) (bound : Operand) (third : Name) (step : Step) (body : Part)
+      (bounds : Bounds) (l1 : Option BindError)
+      → part ≡ For name first second inclusive bound third step body → bounds ≡ loop_bounds c.scope first inclusive bound step
+      → l1 ≡ least_from p.least (for_findings c name first second bound third step)
       → OnOk result (Makes c c1 (record p { least = l1 }) p1 nodes nodes1
-      (loop_made (depth_of c) p.next_loop lower upper [] (loop_body (part_made body) c name.text lower upper p.next_loop (next_statement p))))
+      (loop_made (depth_of c) p.next_loop bounds [] (loop_body (part_made body) c name.text bounds p.next_loop (next_statement p))))
       → OnOk result (Makes c c1 p p1 nodes nodes1 (part_made part c p.next_loop (next_statement p)))
-  for_ok result name first second inclusive bound third body lower upper l1 is low high least h =
-      let header = for_findings c name first second bound third in
-      let wanted : List Affine → List Affine → Made =
-      λ lower upper. loop_made (depth_of c) p.next_loop lower upper header (loop_body (part_made body) c name.text lower upper p.next_loop (next_statement p)) in
-      let noted_all : OnOk result (Makes c c1 p p1 nodes nodes1 (wanted lower upper)) =
+  for_ok result name first second inclusive bound third step body bounds l1 is same least h =
+      let header = for_findings c name first second bound third step in
+      let wanted : Bounds → Made =
+      λ bounds. loop_made (depth_of c) p.next_loop bounds header (loop_body (part_made body) c name.text bounds p.next_loop (next_statement p)) in
+      let noted_all : OnOk result (Makes c c1 p p1 nodes nodes1 (wanted bounds)) =
       on_ok_weaker result
       (noted c c1 p p1 nodes nodes1 l1 header
-      (loop_made (depth_of c) p.next_loop lower upper [] (loop_body (part_made body) c name.text lower upper p.next_loop (next_statement p))) least) h in
-      renamed result c c1 p p1 nodes nodes1 (wanted lower upper) (part_made part c p.next_loop (next_statement p)) noted_all
-      (part_for part c p.next_loop (next_statement p) name first second inclusive bound third body is ∙ (λ i. wanted (sym low i) (sym high i)))
+      (loop_made (depth_of c) p.next_loop bounds [] (loop_body (part_made body) c name.text bounds p.next_loop (next_statement p))) least) h in
+      renamed result c c1 p p1 nodes nodes1 (wanted bounds) (part_made part c p.next_loop (next_statement p)) noted_all
+      (part_for part c p.next_loop (next_statement p) name first second inclusive bound third step body is ∙ ap wanted (sym same))
 
   pub assign_ok : {E : Type 0} (result : Result (Unit {0}) E) (target : Name) (subscripts operands : List Operand) (value : Operand)
       → part ≡ Assign target subscripts value → operands ≡ subscripts

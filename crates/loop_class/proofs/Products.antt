@@ -1,9 +1,9 @@
 -- Products of limited numbers fit 64 bits.
-use Rattle.std.proofs.Common.{◌≡◌, ℕ, ◌+◌, ◌*◌, ◌^◌, ◌<◌, ◌≤◌, ℤ, pos, negsuc, ◌*ℤ◌, arith, sym, subst, rules, tests}
+use Rattle.std.proofs.Common.{◌*◌, ◌≤◌, ℤ, pos, negsuc, ◌*ℤ◌, arith}
 use Rattle.std.specs.Prelude.{IsTrue, FitsSigned, unsigned_abs}
 use Rattle.std.specs.Int.{w64}
 use Rattle.std.proofs.Math.Nat.{mul-le-mul}
-use Rattle.std.proofs.lemmas.Int.{unsigned_abs-mul, fits_signed_from_abs, ints}
+use Rattle.std.proofs.lemmas.Int.{unsigned_abs-mul, fits_signed_from_abs}
 use Rattle.std.proofs.lemmas.Bool.Decides.{nat_tests}
 use Rattle.loop_class.specs.Forms.{is_limited_number}
 

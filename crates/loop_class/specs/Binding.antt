@@ -1,5 +1,5 @@
 -- Binding: the nest of a tree with values for its parameters, and the reasons why it may have none.
-use Rattle.std.specs.Prelude.{◌≡◌, ℕ, ◌+◌, List, [], ◌++◌, length, Option, Some, None, Result, Ok, Err}
+use Rattle.std.specs.Prelude.{◌≡◌, ◌+◌, List, [], ◌++◌, length, Some, None, Result, Ok, Err}
 use Rattle.sanlp.specs.WellFormed.{input_extents, output_extents, array_loops}
 use Rattle.sanlp.specs.declared.nest.ArrayDecl.{ArrayDecl}
 use Rattle.sanlp.specs.declared.nest.Nest.{Nest}

@@ -9,9 +9,13 @@ use Rattle.loop_class.specs.declared.affine.Affine.{Affine}
 abbrev pub constant_form : ℤ → Affine
 constant_form c = record { constant = c; coefs = replicate 6 (pos 0) }
 
--- the variable of this loop, counted from the outermost
+-- a multiple of the variable of this loop, counted from the outermost
+abbrev pub multiple_form : ℤ → ℕ → Affine
+multiple_form k v = record { constant = pos 0; coefs = slice_set (replicate 6 (pos 0)) v k }
+
+-- the variable of this loop
 abbrev pub loop_form : ℕ → Affine
-loop_form v = record { constant = pos 0; coefs = slice_set (replicate 6 (pos 0)) v (pos 1) }
+loop_form v = multiple_form (pos 1) v
 
 abbrev pub termwise : (ℤ → ℤ → ℤ) → List ℤ → List ℤ → List ℤ
 termwise op [] ys = []

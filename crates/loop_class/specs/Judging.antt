@@ -1,5 +1,5 @@
 -- Affine places: the form of an operand, if it has one, and each reason that stands in it.
-use Rattle.std.specs.Prelude.{ℕ, ℤ, ◌==◌, Bool, true, false, List, [], ◌∷◌, ◌++◌, map, length, Option, Some, None, unwrap_or, if◌then◌else◌, pos}
+use Rattle.std.specs.Prelude.{ℕ, ◌==◌, Bool, true, false, List, [], ◌∷◌, ◌++◌, map, length, Option, Some, None, unwrap_or, if◌then◌else◌, pos}
 use Rattle.std.specs.List.{flat_map}
 use Rattle.loop_grammar.specs.declared.tree.BinarySign.{BinarySign}
 use Rattle.loop_grammar.specs.declared.tree.BinarySign.TheVariants.{Add, Sub, Mul}
@@ -11,7 +11,7 @@ use Rattle.loop_class.specs.declared.error.BindError.TheVariants.{UnknownName, N
 use Rattle.loop_class.specs.declared.scope.Place.{Place}
 use Rattle.loop_class.specs.declared.scope.Place.TheVariants.{Extent, Body}
 use Rattle.loop_class.specs.declared.scope.What.{What}
-use Rattle.loop_class.specs.declared.scope.What.TheVariants.{Parameter, Array, Loop}
+use Rattle.loop_class.specs.declared.scope.What.TheVariants.{Parameter, Array, Loop, Progression}
 use Rattle.loop_class.specs.Forms.{constant_form, loop_form, sum_form, difference_form, scaled_form, negated_form, has_no_variable, is_limited}
 use Rattle.loop_class.specs.Names.{value_named}
 
@@ -52,8 +52,10 @@ named token alone None = faulty (UnknownName token)
 named token alone (Some (Array number extents)) = faulty (NotAffine token)
 named token true (Some (Parameter v)) = limited token (constant_form v)
 named token true (Some (Loop v)) = limited token (loop_form v)
+named token true (Some (Progression f)) = limited token f
 named token false (Some (Parameter v)) = faulty (UnknownName token)
 named token false (Some (Loop v)) = faulty (UnknownName token)
+named token false (Some (Progression f)) = faulty (UnknownName token)
 
 abbrev pub negated : ℕ → Option Affine → Judged
 negated token None = formless

@@ -5,6 +5,7 @@ pub mod Judging
 pub mod Values
 pub mod Ranges
 pub mod Rows
+pub mod Bounds
 pub mod Parts
 pub mod Declarations
 pub mod Terminals

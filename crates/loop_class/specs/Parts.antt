@@ -1,7 +1,6 @@
 -- Statements of a source: the parts of the body that they give, their statements, and each reason that stands in them.
-use Rattle.std.specs.Prelude.{ℕ, ◌+◌, pos, ◌==◌, Bool, true, false, List, [], ◌∷◌, ◌++◌, map, length, nat_lt, nat_le, Option, Some, None, not, is_some, if◌then◌else◌}
+use Rattle.std.specs.Prelude.{ℕ, ◌+◌, ◌==◌, List, [], ◌∷◌, ◌++◌, map, length, nat_lt, nat_le, Option, Some, None, not, is_some, if◌then◌else◌}
 use Rattle.std.specs.Str.{bytes_eq}
-use Rattle.sanlp.specs.declared.nest.Access.{Access as Reference}
 use Rattle.sanlp.specs.declared.nest.Node.{Node}
 use Rattle.sanlp.specs.declared.nest.Node as node
 use Rattle.sanlp.specs.declared.nest.Role.TheVariants as role
@@ -11,18 +10,21 @@ use Rattle.loop_grammar.specs.declared.tree.Name.{Name}
 use Rattle.loop_grammar.specs.declared.tree.Operand.{Operand}
 use Rattle.loop_grammar.specs.declared.tree.Part.{Part, fold-Part}
 use Rattle.loop_grammar.specs.declared.tree.Part.TheOpen.{Part-F, For, If, Assign, Block, Other-F}
+use Rattle.loop_grammar.specs.declared.tree.Step.{Step}
 use Rattle.loop_class.specs.declared.affine.Affine.{Affine}
+use Rattle.loop_class.specs.declared.bounds.Bounds.{Bounds}
 use Rattle.loop_class.specs.declared.context.Context.{Context}
 use Rattle.loop_class.specs.declared.error.BindError.{BindError}
 use Rattle.loop_class.specs.declared.error.BindError.TheVariants.{UnknownName, Duplicate, ElseForm, TooManyProcesses, TooDeep, TooManyRows}
 use Rattle.loop_class.specs.declared.scope.Place.TheVariants.{Body}
 use Rattle.loop_class.specs.declared.scope.What.{What}
-use Rattle.loop_class.specs.declared.scope.What.TheVariants.{Parameter, Array, Loop}
+use Rattle.loop_class.specs.declared.scope.What.TheVariants.{Array}
+use Rattle.loop_class.specs.Bounds.{loop_bounds, step_findings, lower_of, upper_of, step_of, variable_of}
 use Rattle.loop_class.specs.Forms.{form_over}
-use Rattle.loop_class.specs.Judging.{Scope, forms_of, findings_of, lower_operands, upper_operands}
+use Rattle.loop_class.specs.Judging.{Scope, findings_of, lower_operands, upper_operands}
 use Rattle.loop_class.specs.Names.{value_named, with_name}
 use Rattle.loop_class.specs.Reasons.{found_if}
-use Rattle.loop_class.specs.Rows.{lower_forms, upper_forms, loop_rows, guard_rows, guard_findings, may_have_else, else_rows}
+use Rattle.loop_class.specs.Rows.{lower_forms, loop_rows, guard_rows, guard_findings, may_have_else, else_rows}
 use Rattle.loop_class.specs.Values.{valued, subscripts_over, access_findings}
 
 -- what a part gives: nodes, statements in text order, the number of the next loop, and the reasons in it
@@ -60,29 +62,34 @@ abbrev pub same_name_findings : Name → Name → List BindError
 same_name_findings first name = found_if (not (bytes_eq first.text name.text)) (UnknownName name.token)
 
 -- the context inside the loop of this number
-abbrev pub inside_loop : Context → List ℕ → ℕ → List Affine → List Affine → Context
-inside_loop c name l lower upper =
+abbrev pub inside_loop : Context → List ℕ → ℕ → Bounds → Context
+inside_loop c name l bounds =
     record c {
-      scope = with_name c.scope name (Loop (depth_of c));
+      scope = with_name c.scope name (variable_of (depth_of c) bounds);
       loops = c.loops ++ l ∷ [];
-      rows = c.rows ++ loop_rows (depth_of c) lower upper;
+      rows = c.rows ++ loop_rows (depth_of c) bounds;
     }
 
-abbrev pub for_findings : Context → Name → Operand → Name → Operand → Name → List BindError
-for_findings c name first second bound third =
+abbrev pub for_findings : Context → Name → Operand → Name → Operand → Name → Step → List BindError
+for_findings c name first second bound third step =
     new_name_findings c.scope name ++ found_if (nat_le 6 (depth_of c)) (TooDeep name.token)
     ++ findings_of Body c.scope (lower_operands first) ++ same_name_findings name second
     ++ findings_of Body c.scope (upper_operands bound) ++ same_name_findings name third
+    ++ step_findings c.scope (length (lower_forms c.scope first)) step
 
 -- The body of a seventh nested loop isn't read: all that stands in it comes after the loop, which is too deep.
-abbrev pub loop_body : Meaning → Context → List ℕ → List Affine → List Affine → ℕ → ℕ → Made
-loop_body body c name lower upper l s =
-    if nat_lt (depth_of c) 6 then body (inside_loop c name l lower upper) (l + 1) s else nothing (l + 1)
+abbrev pub loop_body : Meaning → Context → List ℕ → Bounds → ℕ → ℕ → Made
+loop_body body c name bounds l s =
+    if nat_lt (depth_of c) 6 then body (inside_loop c name l bounds) (l + 1) s else nothing (l + 1)
 
-abbrev pub loop_made : ℕ → ℕ → List Affine → List Affine → List BindError → Made → Made
-loop_made depth l lower upper header inside =
+abbrev pub loop_node : ℕ → ℕ → Bounds → List Node → Node
+loop_node depth l bounds body =
+    node.Loop l (map (form_over depth) (lower_of bounds)) (map (form_over depth) (upper_of bounds)) (step_of bounds) body
+
+abbrev pub loop_made : ℕ → ℕ → Bounds → List BindError → Made → Made
+loop_made depth l bounds header inside =
     record inside {
-      nodes = node.Loop l (map (form_over depth) lower) (map (form_over depth) upper) inside.nodes ∷ [];
+      nodes = loop_node depth l bounds inside.nodes ∷ [];
       findings = header ++ inside.findings;
     }
 
@@ -137,10 +144,9 @@ assign_made target subscripts right c l s =
     }
 
 abbrev pub part_step : Part-F Meaning Otherwise → Meaning
-part_step (For name first second inclusive bound third body) c l s =
-    let lower = lower_forms c.scope first in
-    let upper = upper_forms c.scope inclusive bound in
-    loop_made (depth_of c) l lower upper (for_findings c name first second bound third) (loop_body body c name.text lower upper l s)
+part_step (For name first second inclusive bound third step body) c l s =
+    let bounds = loop_bounds c.scope first inclusive bound step in
+    loop_made (depth_of c) l bounds (for_findings c name first second bound third step) (loop_body body c name.text bounds l s)
 part_step (If cond body other) c l s =
     let yes = guarded body (guard_rows c.scope cond) c l s in
     with_findings (guard_findings c.scope cond) (both yes (else_made cond other c yes.next_loop (s + length yes.statements)))

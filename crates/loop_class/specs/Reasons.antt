@@ -2,7 +2,7 @@
 use Rattle.std.specs.Prelude.{ℕ, ◌==◌, ◌&&◌, ◌||◌, Bool, true, false, List, [], ◌∷◌, Option, Some, None, nat_lt, if◌then◌else◌}
 use Rattle.std.specs.List.{fold}
 use Rattle.loop_class.specs.declared.error.BindError.{BindError}
-use Rattle.loop_class.specs.declared.error.BindError.TheVariants.{UnknownName, Duplicate, Unbound, NotAffine, WrongCount, ElseForm, TooManyProcesses, TooDeep, TooManyReads, TooManyRows, Large, Memory}
+use Rattle.loop_class.specs.declared.error.BindError.TheVariants.{UnknownName, Duplicate, Unbound, NotAffine, WrongCount, ElseForm, TooManyProcesses, TooDeep, TooManyReads, TooManyRows, Large, StepMax, StepRange, Memory}
 
 -- the token at which a reason stands; want of memory stands nowhere, and is never found
 abbrev pub place_of : BindError → ℕ
@@ -17,6 +17,8 @@ place_of (TooDeep token) = token
 place_of (TooManyReads token) = token
 place_of (TooManyRows token) = token
 place_of (Large token) = token
+place_of (StepMax token) = token
+place_of (StepRange token) = token
 place_of Memory = 0
 
 abbrev pub number_of : BindError → ℕ
@@ -32,6 +34,8 @@ number_of (TooManyReads token) = 9
 number_of (TooManyRows token) = 10
 number_of (Large token) = 11
 number_of Memory = 12
+number_of (StepMax token) = 13
+number_of (StepRange token) = 14
 
 -- the reason at the lesser place, and at one place that with the lesser number
 abbrev pub comes_first : BindError → BindError → Bool

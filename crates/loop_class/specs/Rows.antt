@@ -1,14 +1,16 @@
 -- The rows that loops and guards give.
-use Rattle.std.specs.Prelude.{ℕ, Bool, true, false, List, [], ◌∷◌, ◌++◌, map}
+use Rattle.std.specs.Prelude.{ℕ, ℤ, Bool, true, false, List, [], ◌∷◌, ◌++◌, map}
 use Rattle.std.specs.List.{flat_map}
 use Rattle.loop_grammar.specs.declared.tree.Comparison.{Comparison}
 use Rattle.loop_grammar.specs.declared.tree.CompareSign.{CompareSign}
 use Rattle.loop_grammar.specs.declared.tree.CompareSign.TheVariants.{Less, LessEq, Greater, GreaterEq, Equal}
 use Rattle.loop_grammar.specs.declared.tree.Operand.{Operand}
 use Rattle.loop_class.specs.declared.affine.Affine.{Affine}
+use Rattle.loop_class.specs.declared.bounds.Bounds.{Bounds}
+use Rattle.loop_class.specs.declared.bounds.Bounds.TheVariants.{Range, Progression}
 use Rattle.loop_class.specs.declared.error.BindError.{BindError}
 use Rattle.loop_class.specs.declared.scope.Place.TheVariants.{Body}
-use Rattle.loop_class.specs.Forms.{loop_form, difference_form, lowered_form}
+use Rattle.loop_class.specs.Forms.{loop_form, multiple_form, difference_form, lowered_form}
 use Rattle.loop_class.specs.Judging.{Scope, judged, form_or_zero, forms_of, lower_operands, upper_operands}
 
 abbrev pub lower_forms : Scope → Operand → List Affine
@@ -19,9 +21,16 @@ abbrev pub upper_forms : Scope → Bool → Operand → List Affine
 upper_forms scope true bound = forms_of Body scope (upper_operands bound)
 upper_forms scope false bound = map lowered_form (forms_of Body scope (upper_operands bound))
 
--- the rows of loop number v: `v - lower >= 0` for each lower form, then `upper - v >= 0` for each upper form
-abbrev pub loop_rows : ℕ → List Affine → List Affine → List Affine
-loop_rows v lower upper = map (λ f. difference_form (loop_form v) f) lower ++ map (λ f. difference_form f (loop_form v)) upper
+-- the row `upper - first - step * turn >= 0` of an upper form of loop number v, whose variable is the turn
+abbrev pub turn_row : ℕ → Affine → ℤ → Affine → Affine
+turn_row v first step upper = difference_form (difference_form upper first) (multiple_form step v)
+
+-- The rows of loop number v. With step 1: `v - lower >= 0` for each lower form, then `upper - v >= 0` for each upper form.
+-- With a step above 1: `turn >= 0`, then the row of each upper form.
+abbrev pub loop_rows : ℕ → Bounds → List Affine
+loop_rows v (Range lower upper) =
+    map (λ f. difference_form (loop_form v) f) lower ++ map (λ f. difference_form f (loop_form v)) upper
+loop_rows v (Progression first upper step) = loop_form v ∷ map (turn_row v first step) upper
 
 -- the rows of `a sign b`
 abbrev pub sign_rows : CompareSign → Affine → Affine → List Affine

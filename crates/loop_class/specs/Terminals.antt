@@ -1,5 +1,5 @@
 -- Sources and sinks: the statements that give an array its input values and that read its results.
-use Rattle.std.specs.Prelude.{ℕ, ◌+◌, ℤ, pos, ◌-ℤ◌, Bool, List, [], ◌∷◌, ◌++◌, map, length, Some, None, if◌then◌else◌}
+use Rattle.std.specs.Prelude.{ℕ, ◌+◌, ℤ, pos, ◌-ℤ◌, List, [], ◌∷◌, ◌++◌, map, length, Some, None, if◌then◌else◌}
 use Rattle.std.specs.List.{sum_by}
 use Rattle.wrap_expr.specs.declared.expr.Expr.TheVariants.{Given, Read}
 use Rattle.sanlp.specs.Cells.{natural, count_up, is_input, is_output}
@@ -8,6 +8,7 @@ use Rattle.sanlp.specs.declared.nest.ArrayDecl.{ArrayDecl}
 use Rattle.sanlp.specs.declared.nest.Role.TheVariants.{Source, Sink}
 use Rattle.sanlp.specs.declared.nest.Statement.{Statement}
 use Rattle.loop_class.specs.declared.affine.Affine.{Affine}
+use Rattle.loop_class.specs.declared.bounds.Bounds.TheVariants.{Range}
 use Rattle.loop_class.specs.Forms.{constant_form, form_over}
 use Rattle.loop_class.specs.Rows.{loop_rows}
 
@@ -16,7 +17,8 @@ use Rattle.loop_class.specs.Rows.{loop_rows}
 abbrev pub extent_rows : ℕ → List ℤ → List Affine
 extent_rows v [] = []
 extent_rows v (e ∷ extents) =
-    loop_rows v (constant_form (pos 0) ∷ []) (constant_form (pos (natural e) -ℤ pos 1) ∷ []) ++ extent_rows (v + 1) extents
+    loop_rows v (Range (constant_form (pos 0) ∷ []) (constant_form (pos (natural e) -ℤ pos 1) ∷ []))
+    ++ extent_rows (v + 1) extents
 
 -- the source and the sink of an array of this number, where the first of the loops round it has this number
 abbrev pub source_statement : ℕ → ℕ → List ℤ → Statement

@@ -1,5 +1,6 @@
 -- Right sides: the expression, its reads in text order, and each reason that stands in it.
-use Rattle.std.specs.Prelude.{ℕ, ◌+◌, ℤ, pos, ◌==◌, Bool, true, false, List, [], ◌∷◌, ◌++◌, map, length, Option, Some, None, not}
+use Rattle.std.specs.Prelude.{ℕ, ◌+◌, ℤ, pos, ◌==◌, List, [], ◌∷◌, ◌++◌, map, length, Option, Some, None, not, if◌then◌else◌}
+use Rattle.std.specs.Ordering.{int_eq}
 use Rattle.affine_core.specs.declared.form.Form.{Form}
 use Rattle.wrap_expr.specs.declared.expr.Expr.{Expr, Const, Var, Read}
 use Rattle.wrap_expr.specs.declared.expr.Expr as expr
@@ -12,7 +13,7 @@ use Rattle.loop_class.specs.declared.error.BindError.{BindError}
 use Rattle.loop_class.specs.declared.error.BindError.TheVariants.{UnknownName, WrongCount, TooManyReads}
 use Rattle.loop_class.specs.declared.scope.Place.TheVariants.{Body}
 use Rattle.loop_class.specs.declared.scope.What.{What}
-use Rattle.loop_class.specs.declared.scope.What.TheVariants.{Parameter, Array, Loop}
+use Rattle.loop_class.specs.declared.scope.What.TheVariants.{Parameter, Array, Loop, Progression}
 use Rattle.loop_class.specs.declared.value.Extreme.{Extreme}
 use Rattle.loop_class.specs.declared.value.Extreme.TheVariants.{Least, Greatest}
 use Rattle.loop_class.specs.Forms.{form_over}
@@ -41,7 +42,21 @@ abbrev pub access_findings : ℕ → Option What → ℕ → List BindError
 access_findings token (Some (Array number extents)) count = found_if (not (count == extents)) (WrongCount token)
 access_findings token _ count = UnknownName token ∷ []
 
--- a name in a right side: an access is the next read, a loop variable and a parameter stand for their values
+-- what stands before with a multiple of this variable added, unless the coefficient is 0
+abbrev pub with_multiple : Expr → ℕ → ℤ → Expr
+with_multiple before v c = if int_eq c (pos 0) then before else expr.Add before (expr.Mul (Const c) (Var v))
+
+-- what stands before with these multiples of variables added, the first being variable v
+abbrev pub with_multiples : Expr → ℕ → List ℤ → Expr
+with_multiples before v [] = before
+with_multiples before v (c ∷ coefs) = with_multiples (with_multiple before v c) (v + 1) coefs
+
+-- the expression of a form: its constant, and then in variable order each multiple that isn't 0
+abbrev pub form_expr : Form → Expr
+form_expr f = with_multiples (Const f.constant) 0 f.coefs
+
+-- A name in a right side: an access is the next read. A loop variable and a parameter stand for their values, and the
+-- variable of a loop of a step above 1 for its form.
 abbrev pub name_value : ℕ → Scope → ℕ → Option What → List Operand → Value
 name_value depth scope token (Some (Array number extents)) subscripts slot =
     record {
@@ -51,8 +66,11 @@ name_value depth scope token (Some (Array number extents)) subscripts slot =
           ++ found_if (slot == 8) (TooManyReads token) ++ findings_of Body scope subscripts;
     }
 name_value depth scope token (Some (Loop v)) [] slot = without_reads (Var v) []
+name_value depth scope token (Some (Progression f)) [] slot = without_reads (form_expr (form_over depth f)) []
 name_value depth scope token (Some (Parameter c)) [] slot = without_reads (Const c) []
 name_value depth scope token (Some (Loop v)) (s ∷ subscripts) slot =
+    without_reads (Const (pos 0)) (UnknownName token ∷ findings_of Body scope (s ∷ subscripts))
+name_value depth scope token (Some (Progression f)) (s ∷ subscripts) slot =
     without_reads (Const (pos 0)) (UnknownName token ∷ findings_of Body scope (s ∷ subscripts))
 name_value depth scope token (Some (Parameter c)) (s ∷ subscripts) slot =
     without_reads (Const (pos 0)) (UnknownName token ∷ findings_of Body scope (s ∷ subscripts))

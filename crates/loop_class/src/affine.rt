@@ -1,5 +1,5 @@
 ghost use Rattle.std.specs.Prelude.{◌≡◌, ◌≤◌, ◌<◌, IsTrue, ◌+ℤ◌, ◌-ℤ◌, ◌*ℤ◌, pos, length};
-ghost use Rattle.loop_class.specs.Forms.{constant_form, loop_form, sum_form, difference_form, scaled_form, negated_form, lowered_form, has_no_variable, is_limited_number, is_limited, form_over};
+ghost use Rattle.loop_class.specs.Forms.{constant_form, loop_form, multiple_form, sum_form, difference_form, scaled_form, negated_form, lowered_form, has_no_variable, is_limited_number, is_limited, form_over};
 ghost use Rattle.sanlp.specs.WellFormed.{is_moderate};
 ghost use Rattle.loop_class.specs.Ranges.{is_moderate_form};
 ghost use Rattle.std.specs.List.{list_all};
@@ -63,15 +63,22 @@ impl Affine {
         }
     }
 
-    /// The variable of this loop, counted from the outermost.
-    pub fn variable(number: usize) -> Affine
-        ensures { result ≡ loop_form number }
+    /// A multiple of the variable of this loop, counted from the outermost.
+    pub fn multiple(by: i64, number: usize) -> Affine
+        ensures { result ≡ multiple_form by number }
     {
         let mut coefs = [0; 6];
         if number < 6 {
-            coefs[number] = 1;
+            coefs[number] = by;
         }
         Affine { constant: 0, coefs }
+    }
+
+    /// The variable of this loop.
+    pub fn variable(number: usize) -> Affine
+        ensures { result ≡ loop_form number }
+    {
+        Affine::multiple(1, number)
     }
 
     /// Whether each coefficient is 0.

@@ -39,6 +39,12 @@ pub enum BindError {
     /// A number of the affine form there, or the parameter's value, is outside of 2,147,483,647 and its negative.
     #[error("token {0}: a number outside of 2147483647 and its negative")]
     Large(u32),
+    /// A step above 1 stands there, and the lower bound has more than one form.
+    #[error("token {0}: a loop with this step has one lower bound")]
+    StepMax(u32),
+    /// A step below 1 stands there.
+    #[error("token {0}: a step below 1")]
+    StepRange(u32),
     /// Want of memory.
     #[error("no memory")]
     Memory,
@@ -59,6 +65,8 @@ fn place(reason: BindError) -> u32
         BindError::TooManyReads(token) => token,
         BindError::TooManyRows(token) => token,
         BindError::Large(token) => token,
+        BindError::StepMax(token) => token,
+        BindError::StepRange(token) => token,
         BindError::Memory => 0,
     }
 }
@@ -79,6 +87,8 @@ fn number(reason: BindError) -> u32
         BindError::TooManyRows(_) => 10,
         BindError::Large(_) => 11,
         BindError::Memory => 12,
+        BindError::StepMax(_) => 13,
+        BindError::StepRange(_) => 14,
     }
 }
 

@@ -1,14 +1,15 @@
 ghost use Rattle.std.specs.Prelude.{◌≡◌, ◌≤◌, IsTrue, IfSome, IfOk, OnOk, map};
 ghost use Rattle.std.specs.List.{list_all};
 ghost use Rattle.loop_class.specs.Forms.{is_limited, form_over};
-ghost use Rattle.loop_class.specs.Judging.{limited, named, negated, product, combined_forms, combined, judged, form_or_zero, forms_of, findings_of, lower_operands, upper_operands};
+ghost use Rattle.loop_class.specs.Judging.{limited, seen_from, named, negated, product, combined_forms, combined, judged, form_or_zero, forms_of, findings_of, lower_operands, upper_operands};
+ghost use Rattle.loop_class.specs.Names.{value_named};
 ghost use Rattle.loop_class.specs.Reasons.{least_from};
 
 use crate::affine::Affine;
 use crate::error::{BindError, note};
 use crate::scope::{Place, Scope, What, seen};
 use affine_core::Form;
-use loop_grammar::{BinarySign, Operand};
+use loop_grammar::{BinarySign, Name, Operand};
 use plain_data::Items;
 use std::alloc::{AllocError, Global};
 use std::slice;
@@ -47,11 +48,29 @@ fn name_form(
         Some(What::Loop(number)) if alone => {
             limit(Affine::variable(number as usize), token, least)
         }
+        Some(What::Progression(form)) if alone => limit(form, token, least),
         _ => {
             note(least, BindError::UnknownName(token));
             None
         }
     }
+}
+
+// The name of this text and token, seen from such a place.
+#[inline(never)]
+fn find_form(
+    scope: &Scope,
+    place: Place,
+    name: &Name,
+    alone: bool,
+    least: &mut Option<BindError>,
+) -> Option<Affine>
+    ensures form { result ≡ (named name.now.token alone (seen_from place (value_named scope.now name.now.text))).form }
+    ensures least { least.new ≡ least_from least.old (named name.now.token alone (seen_from place (value_named scope.now name.now.text))).findings }
+    ensures small { IfSome result (λ f. IsTrue (is_limited f)) }
+{
+    let what = seen(place, scope.find(name.text.as_slice()));
+    name_form(what, alone, name.token, least)
 }
 
 #[inline(never)]
@@ -130,8 +149,7 @@ pub(crate) fn judge(
         Operand::Number { value, token } => limit(Affine::constant(*value), *token, least),
         Operand::Access { name, subscripts } => {
             judge_all(scope, place, subscripts.as_slice(), least);
-            let what = seen(place, scope.find(name.text.as_slice()));
-            name_form(what, subscripts.is_empty(), name.token, least)
+            find_form(scope, place, name, subscripts.is_empty(), least)
         }
         Operand::Binary {
             sign,

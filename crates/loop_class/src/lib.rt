@@ -3,6 +3,7 @@
 
 mod affine;
 mod assemble;
+mod bounds;
 mod context;
 mod declare;
 mod error;
@@ -13,8 +14,6 @@ mod parts;
 mod rows;
 mod scope;
 mod terminals;
-#[cfg(test)]
-mod tests;
 mod value;
 
 pub use assemble::bind;

@@ -4,13 +4,14 @@ ghost use Rattle.loop_class.specs.Following.{Makes, next_statement, advanced};
 ghost use Rattle.loop_class.specs.Forms.{form_over};
 ghost use Rattle.loop_class.specs.Judging.{findings_of};
 ghost use Rattle.loop_class.specs.Names.{with_name};
-ghost use Rattle.loop_class.specs.Parts.{part_made, parts_made, for_findings, loop_made, loop_body, inside_loop, guarded, assign_made, assign_statement, target_findings, else_made, new_name_findings, same_name_findings, nothing, array_number};
-ghost use Rattle.loop_class.specs.Ranges.{is_moderate_form};
+ghost use Rattle.loop_class.specs.Parts.{part_made, parts_made, for_findings, loop_node, loop_made, loop_body, inside_loop, guarded, assign_made, assign_statement, target_findings, else_made, new_name_findings, same_name_findings, nothing, array_number};
+ghost use Rattle.loop_class.specs.Ranges.{has_small_forms};
 ghost use Rattle.loop_class.specs.Reasons.{least_from};
-ghost use Rattle.loop_class.specs.Rows.{lower_forms, upper_forms};
+ghost use Rattle.loop_class.specs.Bounds.{loop_bounds};
 ghost use Rattle.loop_class.specs.Values.{valued};
 
 use crate::affine::Affine;
+use crate::bounds::{Bounds, bounds_by, read_step};
 use crate::context::{Context, Progress};
 use crate::error::{BindError, note};
 use crate::judge::over_all;
@@ -18,7 +19,7 @@ use crate::rows::{allows_else, guard, lower, otherwise, push_loop_rows, upper};
 use crate::scope::{Place, Scope, What};
 use crate::value::{note_access, subscripts, value};
 use affine_core::Form;
-use loop_grammar::{Comparison, Name, Operand, Other, Part};
+use loop_grammar::{Comparison, Name, Operand, Other, Part, Step};
 use plain_data::Items;
 use sanlp::{Access, Node, Role, Statement};
 use std::alloc::{AllocError, Global};
@@ -41,13 +42,6 @@ fn note_same_name(first: &Name, name: &Name, least: &mut Option<BindError>)
     }
 }
 
-// The lower and the upper forms of a loop.
-#[derive(Drop)]
-struct Bounds {
-    lower: Items<Affine>,
-    upper: Items<Affine>,
-}
-
 // The bounds of a loop. Each reason that stands in the head of its `for` is noted.
 #[inline(never)]
 fn read_head(
@@ -59,13 +53,12 @@ fn read_head(
     inclusive: bool,
     bound: &Operand,
     third: &Name,
+    step: &Step,
     least: &mut Option<BindError>,
 ) -> Result<Bounds, AllocError>
-    ensures lower { IfOk result (λ bounds. bounds.lower ≡ lower_forms context.now.scope first.now) }
-    ensures upper { IfOk result (λ bounds. bounds.upper ≡ upper_forms context.now.scope inclusive bound.now) }
-    ensures least { OnOk result (least.new ≡ least_from least.old (for_findings context.now name.now first.now second.now bound.now third.now)) }
-    ensures small_lower { IfOk result (λ bounds. IsTrue (list_all is_moderate_form bounds.lower)) }
-    ensures small_upper { IfOk result (λ bounds. IsTrue (list_all is_moderate_form bounds.upper)) }
+    ensures bounds { IfOk result (λ bounds. bounds ≡ loop_bounds context.now.scope first.now inclusive bound.now step.now) }
+    ensures least { OnOk result (least.new ≡ least_from least.old (for_findings context.now name.now first.now second.now bound.now third.now step.now)) }
+    ensures small { IfOk result (λ bounds. IsTrue (has_small_forms bounds)) }
 {
     note_new_name(&context.scope, name, least);
     if context.loops.len() >= 6 {
@@ -75,7 +68,8 @@ fn read_head(
     note_same_name(name, second, least);
     let upper = upper(alloc, &context.scope, inclusive, bound, least)?;
     note_same_name(name, third, least);
-    Ok(Bounds { lower, upper })
+    let step = read_step(&context.scope, step, lower.len(), least);
+    Ok(bounds_by(alloc, step, lower, upper))
 }
 
 // How far a context reached before a loop was entered.
@@ -96,9 +90,8 @@ fn enter(
     bounds: &Bounds,
 ) -> Result<Reach, AllocError>
     requires shallow { length context.old.loops < 6 }
-    requires lower { IsTrue (list_all is_moderate_form bounds.now.lower) }
-    requires upper { IsTrue (list_all is_moderate_form bounds.now.upper) }
-    ensures inside { OnOk result (context.new ≡ inside_loop context.old name.now.text number bounds.now.lower bounds.now.upper) }
+    requires small { IsTrue (has_small_forms bounds.now) }
+    ensures inside { OnOk result (context.new ≡ inside_loop context.old name.now.text number bounds.now) }
     ensures reach { IfOk result (λ reach. reach ≡ record { names = length context.old.scope; loops = length context.old.loops; rows = length context.old.rows }) }
 {
     let reach = Reach {
@@ -107,16 +100,10 @@ fn enter(
         rows: context.rows.len(),
     };
     let depth = context.loops.len();
-    context
-        .scope
-        .add(alloc, name.text.as_slice(), What::Loop(depth as u32))?;
+    let variable = bounds.variable(depth as u32);
+    context.scope.add(alloc, name.text.as_slice(), variable)?;
     context.loops.push(number)?;
-    push_loop_rows(
-        &mut context.rows,
-        depth,
-        bounds.lower.as_slice(),
-        bounds.upper.as_slice(),
-    )?;
+    push_loop_rows(&mut context.rows, depth, bounds)?;
     Ok(reach)
 }
 
@@ -157,12 +144,13 @@ fn push_loop(
     body: Items<Node>,
 ) -> Result<(), AllocError>
     requires { depth ≤ 6 }
-    ensures { OnOk result (nodes.new ≡ nodes.old ++ Node.Loop id (map (form_over depth) bounds.now.lower) (map (form_over depth) bounds.now.upper) body ∷ []) }
+    ensures { OnOk result (nodes.new ≡ nodes.old ++ loop_node depth id bounds.now body ∷ []) }
 {
     nodes.push(Node::Loop {
         id,
-        lower: over_all(alloc, bounds.lower.as_slice(), depth)?,
-        upper: over_all(alloc, bounds.upper.as_slice(), depth)?,
+        lower: over_all(alloc, bounds.lower(), depth)?,
+        upper: over_all(alloc, bounds.upper(), depth)?,
+        step: bounds.step(),
         body,
     })
 }
@@ -222,6 +210,7 @@ fn bind_part(
             inclusive,
             bound,
             third,
+            step,
             body,
         } => {
             let bounds = read_head(
@@ -233,6 +222,7 @@ fn bind_part(
                 *inclusive,
                 bound,
                 third,
+                step,
                 &mut progress.least,
             )?;
             bind_loop(alloc, name, &bounds, body.get(), context, progress, nodes)
@@ -277,9 +267,8 @@ fn bind_loop(
     nodes: &mut Items<Node>,
 ) -> Result<(), AllocError>
     requires shallow { length context.old.loops ≤ 6 }
-    requires lower { IsTrue (list_all is_moderate_form bounds.now.lower) }
-    requires upper { IsTrue (list_all is_moderate_form bounds.now.upper) }
-    ensures { OnOk result (Makes context.old context.new progress.old progress.new nodes.old nodes.new (loop_made (length context.old.loops) progress.old.next_loop bounds.now.lower bounds.now.upper [] (loop_body (part_made body.now) context.old name.now.text bounds.now.lower bounds.now.upper progress.old.next_loop (next_statement progress.old)))) }
+    requires small { IsTrue (has_small_forms bounds.now) }
+    ensures { OnOk result (Makes context.old context.new progress.old progress.new nodes.old nodes.new (loop_made (length context.old.loops) progress.old.next_loop bounds.now [] (loop_body (part_made body.now) context.old name.now.text bounds.now progress.old.next_loop (next_statement progress.old)))) }
 {
     let id = progress.next_loop;
     progress.next_loop = next(id)?;

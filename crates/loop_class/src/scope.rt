@@ -1,6 +1,7 @@
 ghost use Rattle.std.specs.Prelude.{◌≡◌};
 ghost use Rattle.loop_class.specs.Judging.{seen_from};
 
+use crate::affine::Affine;
 use crate::names::Names;
 
 /// What a name in scope stands for.
@@ -10,8 +11,10 @@ pub enum What {
     Parameter(i64),
     /// An array: its number and its number of extents.
     Array(u32, usize),
-    /// The variable of a loop, counted from the outermost.
+    /// The variable of a loop of step 1, counted from the outermost.
     Loop(u32),
+    /// The variable of a loop of a step above 1: its form over the loops' turns.
+    Progression(Affine),
 }
 
 /// Where an affine form stands: in an extent only parameters are seen.

@@ -10,7 +10,7 @@ ghost use Rattle.loop_class.specs.Terminals.{extent_rows, source_statement, sink
 
 use crate::affine::Affine;
 use crate::judge::over_all;
-use crate::rows::push_loop_rows;
+use crate::rows::push_range_rows;
 use affine_core::Form;
 use plain_data::Items;
 use sanlp::{Access, ArrayDecl, Kind, Node, Role, Statement};
@@ -54,7 +54,7 @@ fn rows_round(alloc: Global, extents: &[i64]) -> Result<Items<Form>, AllocError>
     let lower = [Affine::constant(0)];
     for (number, extent) in extents.iter().enumerate() {
         let upper = [Affine::constant(last_value(*extent))];
-        push_loop_rows(&mut rows, number, &lower, &upper)?;
+        push_range_rows(&mut rows, number, &lower, &upper)?;
     }
     over_all(alloc, rows.as_slice(), extents.len())
 }
@@ -147,6 +147,7 @@ fn loops_of(
         id: first,
         lower,
         upper,
+        step: 1,
         body,
     })
 }

@@ -1,10 +1,12 @@
 ghost use Rattle.std.specs.Prelude.{◌≡◌, ◌≤◌, ◌++◌, IfOk, OnOk, length, map};
 ghost use Rattle.loop_class.specs.Following.{Reads};
+ghost use Rattle.loop_class.specs.Forms.{form_over};
 ghost use Rattle.loop_class.specs.Judging.{findings_of};
 ghost use Rattle.loop_class.specs.Names.{value_named};
 ghost use Rattle.loop_class.specs.Reasons.{least_from};
-ghost use Rattle.loop_class.specs.Values.{valued, subscripts_over, access_findings, name_value, binary_expr, list_value, extreme_expr};
+ghost use Rattle.loop_class.specs.Values.{valued, subscripts_over, access_findings, name_value, with_multiple, form_expr, binary_expr, list_value, extreme_expr};
 
+use crate::affine::Affine;
 use crate::error::{BindError, note};
 use crate::judge::{forms, judge_all, over_all};
 use crate::scope::{Place, Scope, What};
@@ -89,6 +91,37 @@ fn read(
     Ok(Expr::Read(slot))
 }
 
+// The sum of what stands before and a multiple of a variable, unless the coefficient is 0.
+fn plus_multiple(alloc: Global, before: Expr, variable: u32, coef: i64) -> Result<Expr, AllocError>
+    ensures { IfOk result (λ e. e ≡ with_multiple before variable coef) }
+{
+    if coef == 0 {
+        return Ok(before);
+    }
+    let multiple = binary(
+        alloc,
+        BinarySign::Mul,
+        Expr::Const(coef),
+        Expr::Var(variable),
+    )?;
+    binary(alloc, BinarySign::Add, before, multiple)
+}
+
+// The expression of a form over so many loops.
+#[inline(never)]
+fn form_expr(alloc: Global, form: &Affine, depth: usize) -> Result<Expr, AllocError>
+    requires { depth ≤ 6 }
+    ensures { IfOk result (λ e. e ≡ form_expr (form_over depth form.now)) }
+{
+    let mut expr = Expr::Const(form.constant);
+    let mut variable = 0;
+    for coef in &form.coefs[..depth] {
+        expr = plus_multiple(alloc, expr, variable, *coef)?;
+        variable += 1;
+    }
+    Ok(expr)
+}
+
 // A name in a right side.
 #[inline(never)]
 fn name_expr(
@@ -108,6 +141,7 @@ fn name_expr(
             alloc, scope, depth, name.token, array, extents, operands, reads, least,
         ),
         Some(What::Loop(number)) if operands.is_empty() => Ok(Expr::Var(number)),
+        Some(What::Progression(form)) if operands.is_empty() => form_expr(alloc, &form, depth),
         Some(What::Parameter(value)) if operands.is_empty() => Ok(Expr::Const(value)),
         _ => {
             note(least, BindError::UnknownName(name.token));

@@ -1,4 +1,4 @@
-use Rattle.std.proofs.Common.{◌≡◌, ◌∙◌, ◌++◌, ◌+◌, ap, subst, sym, length}
+use Rattle.std.proofs.Common.{◌∙◌, ◌++◌, ◌+◌, ap, subst, sym, length}
 use Rattle.std.specs.Prelude.{IsTrue}
 use Rattle.std.specs.List.{list_all}
 use Rattle.sanlp.specs.WellFormed.{input_extents, output_extents, array_loops}

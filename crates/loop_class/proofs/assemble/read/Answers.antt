@@ -1,5 +1,4 @@
-use Rattle.std.proofs.Common.{◌≡◌, ◌∙◌, ap, subst, refl, length}
-use Rattle.loop_grammar.specs.declared.tree.Part.{Part}
+use Rattle.std.proofs.Common.{◌∙◌, ap, subst, refl, length}
 use Rattle.sanlp.specs.WellFormed.{input_extents, output_extents}
 use Rattle.loop_class.specs.Declarations.{declared}
 use Rattle.loop_class.specs.Following.{Stands, Makes, next_statement}

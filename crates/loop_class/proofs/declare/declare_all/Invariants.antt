@@ -1,7 +1,7 @@
 use Rattle.std.proofs.Common.{take}
 use Rattle.std.specs.List.{fold}
 use Rattle.loop_class.specs.Declarations.{declare, nothing_declared}
-use Rattle.loop_class.specs.Following.{Declares, seen}
+use Rattle.loop_class.specs.Following.{Declares}
 use Rattle.loop_class.proofs.declare.declare_all.Given as goal
 
 abbrev pub invariant-loop-declaration : goal.invariant-loop-declaration

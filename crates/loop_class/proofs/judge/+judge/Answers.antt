@@ -1,4 +1,4 @@
-use Rattle.std.proofs.Common.{◌∙◌, ap, sym}
+use Rattle.std.proofs.Common.{◌∙◌, ap, refl}
 use Rattle.loop_class.specs.Judging.{seen_from, findings_of, judged}
 use Rattle.loop_class.specs.Names.{value_named}
 use Rattle.loop_class.specs.Reasons.{least_from}
@@ -7,18 +7,19 @@ use Rattle.loop_class.proofs.judge.+judge.Goals as goal
 
 pub judge-returns-in-Access-clause-form : goal.judge-returns-in-Access-clause-form
 judge-returns-in-Access-clause-form t c =
+    let place = c.args.place in
     let scope = c.args.scope.now in
-    let seen = c.seen-what.ensures ∙ ap (seen_from c.args.place) (c.find.ensures ∙ ap (value_named scope) c.as_slice-in-Access.ensures) in
-    c.name_form.ensures.form
-    ∙ access_form c.args.place scope c.args.operand.now c.args.least.now c.in-Access.name c.in-Access.subscripts c.is_empty.result c.seen-what.result c.in-Access.is c.is_empty.ensures seen
+    c.find_form.ensures.form
+    ∙ access_form place scope c.args.operand.now c.args.least.now c.in-Access.name c.in-Access.subscripts c.is_empty.result (seen_from place (value_named scope c.in-Access.name.text))
+    c.in-Access.is c.is_empty.ensures refl
 
 pub judge-returns-in-Access-clause-least : goal.judge-returns-in-Access-clause-least
 judge-returns-in-Access-clause-least t c =
+    let place = c.args.place in
     let scope = c.args.scope.now in
-    let seen = c.seen-what.ensures ∙ ap (seen_from c.args.place) (c.find.ensures ∙ ap (value_named scope) c.as_slice-in-Access.ensures) in
-    access_least c.args.place scope c.args.operand.now c.args.least.now c.in-Access.name c.in-Access.subscripts c.is_empty.result c.seen-what.result c.in-Access.is c.is_empty.ensures seen
-    c.judge_all.new.least c.name_form.new.least
-    (c.judge_all.ensures ∙ ap (λ list. least_from c.args.least.now (findings_of c.args.place scope list)) c.as_slice.ensures) c.name_form.ensures.least
+    access_least place scope c.args.operand.now c.args.least.now c.in-Access.name c.in-Access.subscripts c.is_empty.result (seen_from place (value_named scope c.in-Access.name.text))
+    c.in-Access.is c.is_empty.ensures refl c.judge_all.new.least c.find_form.new.least
+    (c.judge_all.ensures ∙ ap (λ list. least_from c.args.least.now (findings_of place scope list)) c.as_slice.ensures) c.find_form.ensures.least
 
 pub judge-returns-in-Binary-clause-least : goal.judge-returns-in-Binary-clause-least
 judge-returns-in-Binary-clause-least t c =

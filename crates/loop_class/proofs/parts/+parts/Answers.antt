@@ -1,4 +1,4 @@
-use Rattle.std.proofs.Common.{◌∙◌, sym, ap, None, Some}
+use Rattle.std.proofs.Common.{◌∙◌, sym, ap}
 use Rattle.loop_grammar.specs.declared.tree.Part.TheVariants.{For, If}
 use Rattle.loop_class.specs.Reasons.{least_from}
 use Rattle.loop_class.specs.Rows.{guard_rows, guard_findings}
@@ -15,10 +15,10 @@ pub bind_part-returns-in-For : goal.bind_part-returns-in-For
 bind_part-returns-in-For t c =
     let f = c.in-For in
     for_ok c.args.part.now c.args.context.now c.bind_loop.new.context c.args.progress.now c.bind_loop.new.progress c.args.nodes.now c.bind_loop.new.nodes
-    c.bind_loop.result f.name f.first f.second f.inclusive f.bound f.third c.get.result.now
-    c.in_ok-bounds-in-For.bounds.lower c.in_ok-bounds-in-For.bounds.upper c.read_head.new.least
-    (f.is ∙ ap (For f.name f.first f.second f.inclusive f.bound f.third) (sym c.get.ensures))
-    c.in_ok-bounds-in-For.ensures.lower c.in_ok-bounds-in-For.ensures.upper c.in_ok-bounds-in-For.ensures.least c.bind_loop.ensures
+    c.bind_loop.result f.name f.first f.second f.inclusive f.bound f.third f.step c.get.result.now
+    c.in_ok-bounds-in-For.bounds c.read_head.new.least
+    (f.is ∙ ap (For f.name f.first f.second f.inclusive f.bound f.third f.step) (sym c.get.ensures))
+    c.in_ok-bounds-in-For.ensures.bounds c.in_ok-bounds-in-For.ensures.least c.bind_loop.ensures
 
 pub bind_part-returns-in-None : goal.bind_part-returns-in-None
 bind_part-returns-in-None t c =

@@ -1,6 +1,3 @@
-use Rattle.std.proofs.Common.{◌∙◌, ap, sym, map, ◌++◌, ◌∷◌, [], ◌+◌, add-one}
-use Rattle.affine_core.specs.Affine.{variable_form}
-use Rattle.sanlp.specs.Cells.{count_up}
 use Rattle.loop_class.proofs.ListLemmas.{variables_more}
 use Rattle.loop_class.proofs.terminals.cell_of_loops.Goals as goal
 

@@ -1,4 +1,4 @@
-use Rattle.std.proofs.Common.{◌≡◌, ◌++◌, take, drop}
+use Rattle.std.proofs.Common.{◌≡◌, ◌++◌, drop}
 use Rattle.loop_class.specs.Terminals.{extent_rows}
 use Rattle.loop_class.proofs.terminals.rows_round.Given as goal
 

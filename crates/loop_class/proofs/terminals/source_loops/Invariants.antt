@@ -1,4 +1,4 @@
-use Rattle.std.proofs.Common.{◌≡◌, ◌+◌, length, drop}
+use Rattle.std.proofs.Common.{◌≡◌, ◌+◌, drop}
 use Rattle.sanlp.specs.WellFormed.{input_extents}
 use Rattle.loop_class.specs.Terminals.{loop_count}
 use Rattle.loop_class.proofs.terminals.source_loops.Given as goal

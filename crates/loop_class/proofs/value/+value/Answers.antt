@@ -1,12 +1,10 @@
-use Rattle.std.proofs.Common.{◌≡◌, [], get_or, ◌<◌, length, sym, ap, subst, ◌∙◌, to_z, of_z, arith, map}
-use Rattle.std.specs.Prelude.{IfOk}
+use Rattle.std.proofs.Common.{◌≡◌, [], length, sym, ap, ◌∙◌, to_z, of_z, arith, map}
 use Rattle.std.specs.Int.{w64}
 use Rattle.std.proofs.lemmas.Int.{ints}
 use Rattle.wrap_expr.specs.declared.expr.Expr.{Const, Neg}
 use Rattle.loop_grammar.specs.declared.tree.Operand.TheVariants.{Binary}
 use Rattle.loop_grammar.specs.declared.tree.Operand.TheVariants as operand
 use Rattle.loop_class.specs.declared.value.Extreme.TheVariants.{Least, Greatest}
-use Rattle.loop_class.specs.Following.{Reads}
 use Rattle.loop_class.specs.Names.{value_named}
 use Rattle.loop_class.specs.Values.{valued, name_value, binary_expr, extreme_expr, list_value, without_reads}
 use Rattle.loop_class.proofs.ValueLemmas.{valued_number, valued_access, valued_binary, valued_neg, valued_min, valued_max, no_reads, binary_ok, neg_reads, same_ok, next_reads}

@@ -1,7 +1,6 @@
 use Rattle.std.proofs.Common.{◌≡◌, pos, ◌*ℤ◌, ◌∙◌, ap, get_or, map, to_z, of_z, arith}
-use Rattle.std.specs.Prelude.{FitsSigned}
 use Rattle.std.specs.Int.{w64}
-use Rattle.std.proofs.lemmas.Int.{to_z-of_z, ints}
+use Rattle.std.proofs.lemmas.Int.{ints}
 use Rattle.loop_class.proofs.AffineLemmas.{map_is}
 use Rattle.loop_class.proofs.affine.Affine.times.Goals as goal
 

@@ -1,4 +1,4 @@
-use Rattle.std.proofs.Common.{◌∙◌, sym, true, false, refl}
+use Rattle.std.proofs.Common.{◌∙◌, sym, true, refl}
 use Rattle.std.specs.Str.{bytes_eq}
 use Rattle.indexmap.proofs.CallerLemmas.{insert_entry-new}
 use Rattle.loop_class.proofs.NameLemmas.{is_there, is_new, key_is_new, shown_insert}

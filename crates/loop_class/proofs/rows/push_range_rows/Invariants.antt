@@ -1,6 +1,6 @@
 use Rattle.std.proofs.Common.{◌≡◌, ◌++◌, map, take}
 use Rattle.loop_class.specs.Forms.{loop_form, difference_form}
-use Rattle.loop_class.proofs.rows.push_loop_rows.Given as goal
+use Rattle.loop_class.proofs.rows.push_range_rows.Given as goal
 
 abbrev pub invariant-loop-low : goal.invariant-loop-low
 invariant-loop-low l = l.rows ≡ l.initial.rows ++ map (λ f. difference_form (loop_form l.number) f) (take l.low-index l.lower)

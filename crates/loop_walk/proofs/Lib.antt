@@ -17,4 +17,3 @@ pub mod SmallForms
 pub mod SumsInside
 pub mod ValuesInside
 pub mod WalkLemmas
-pub mod Worked

@@ -1,13 +1,21 @@
--- The greatest and the least value, one form further.
-use Rattle.std.proofs.Common.{◌≡◌, ◌<◌, ◌+◌, ℕ, zero, suc, ℤ, List, [], ◌∷◌, length, get_or, take, map, sym, ap, ◌∙◌, arith, add-one}
+-- The range of a loop.
+--
+-- The greatest and the least value are found form by form, and they are loop values where the values of all forms are. With a
+-- step above 1 the turns run from 0 to the quotient of their difference and the step, rounded down. The difference of two loop
+-- values has up to twice their limit, and so its quotient by a step of at least 2 is a loop value again.
+use Rattle.std.proofs.Common.{◌≡◌, ◌<◌, ◌+◌, ℕ, zero, suc, ℤ, List, [], ◌∷◌, length, get_or, take, map, sym, ap, ◌∙◌, arith, add-one, pos, negsuc, ◌-ℤ◌, ◌*ℤ◌, ◌≤ℤ◌}
 use Rattle.std.specs.List.{fold, list_all}
-use Rattle.std.specs.Prelude.{Bool, true, false, cond, ◌&&◌, IsTrue, int_lt}
-use Rattle.std.specs.Int.{int_max, int_min}
+use Rattle.std.specs.Prelude.{Bool, true, false, cond, ◌&&◌, IsTrue, if◌then◌else◌, int_lt}
+use Rattle.std.specs.Int.{int_div_euclid, int_max, int_min}
+use Rattle.std.specs.Ordering.{int_eq}
 use Rattle.std.proofs.lemmas.Bool.{and_parts}
+use Rattle.std.proofs.lemmas.Bool.Decides.{nat_tests}
+use Rattle.std.proofs.lemmas.Int.{by_lt_z, ints}
 use Rattle.affine_core.specs.declared.form.Form.{Form}
 use Rattle.affine_core.specs.Affine.{form_at}
-use Rattle.sanlp.specs.Loops.{greatest, least}
-use Rattle.loop_walk.specs.Counting.{all_within, is_loop_value, loop_within}
+use Rattle.sanlp.specs.Loops.{greatest, interval, least, turns_up_to}
+use Rattle.sanlp.specs.Size.{all_within, is_loop_value, loop_within}
+use Rattle.sanlp.proofs.Turns.{below_quotient, to_quotient, turns_are}
 
 one_further : {X : Type 0} (op : ℤ → ℤ → ℤ) (f : X → ℤ) (a : ℤ) (xs : List X) (i : ℕ) (x : X)
     → i < length xs → x ≡ get_or xs i x → fold op a (map f (take (suc i) xs)) ≡ op (fold op a (map f (take i xs))) (f x)
@@ -54,3 +62,30 @@ least_within (form ∷ forms) at passed value e h is =
 pub both_within : (lower upper : List Form) (at : List ℤ) (a b : Bool)
     → a ≡ all_within lower at → a ≡ true → b ≡ all_within upper at → b ≡ true → loop_within lower upper at ≡ true
 both_within lower upper at a b e h f g = ap (λ x. x && all_within upper at) (sym e ∙ h) ∙ sym f ∙ g
+
+-- the last turn of a loop between loop values is a loop value
+pub quotient_within : (first last step : ℤ) → IsTrue (is_loop_value first) → IsTrue (is_loop_value last) → pos 2 ≤ℤ step
+    → IsTrue (is_loop_value (int_div_euclid (last -ℤ first) step))
+quotient_within first last step f l h =
+    let z : ℤ = last -ℤ first in
+    let q : ℤ = int_div_euclid z step in
+    let counts : pos 1 ≤ℤ step = omega (arith, ints) in
+    let above : negsuc 9223372036854775807 ≤ℤ z = grind (arith, ints, nat_tests) in
+    let below : z ≤ℤ pos 9223372036854775808 = grind (arith, ints, nat_tests) in
+    let low : negsuc 4611686018427387903 ≤ℤ q
+    = to_quotient z step (negsuc 4611686018427387903) counts (omega (arith, ints, above)) in
+    let high : q ≤ℤ pos 4611686018427387904
+    = by_lt_z (pos 4611686018427387904) q
+    (λ lt. absurd (let past : (step *ℤ pos 4611686018427387905) ≤ℤ z = below_quotient z step (pos 4611686018427387905) counts (omega (arith, ints, lt)) in omega (arith, ints, below)))
+    (λ le. le) in
+    grind (arith, ints, nat_tests)
+
+pub above_one : (step : ℤ) → pos 2 ≤ℤ step → int_eq step (pos 1) ≡ false
+above_one step h = grind (arith, ints)
+
+-- the values of a loop of a step above 1
+pub range_of_turns : (first last step result : ℤ) → pos 2 ≤ℤ step → result ≡ int_div_euclid (last -ℤ first) step
+    → (if int_eq step (pos 1) then interval first last else turns_up_to first last step) ≡ interval (pos 0) result
+range_of_turns first last step result h is =
+    ap (λ b. cond b (interval first last) (turns_up_to first last step)) (above_one step h)
+    ∙ turns_are first last step (omega (arith, ints)) ∙ ap (interval (pos 0)) (sym is)

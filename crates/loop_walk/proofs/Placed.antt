@@ -12,7 +12,7 @@ use Rattle.sanlp.specs.declared.nest.Node.TheOpen.{Node-F, Loop, Guard, Assign}
 use Rattle.sanlp.specs.declared.nest.Node.TheFolds.{map-Node, fold-roll-Node, ind-Node}
 use Rattle.sanlp.specs.declared.nest.Node.TheViews.{roll-Node}
 use Rattle.sanlp.specs.declared.nest.Statement.{Statement}
-use Rattle.sanlp.specs.WellFormed.{Place, Places, all_places, depth_of, in_each, lower_row, places_of, places_step, said_from, upper_row}
+use Rattle.sanlp.specs.WellFormed.{Place, Places, all_places, bound_rows, depth_of, in_each, places_of, places_step, said_from}
 use Rattle.loop_walk.specs.Execution.{all_placed, is_of_depth, node_placed, placed_step}
 
 -- the statement of a place exists and has the place's loops
@@ -46,11 +46,11 @@ module _ (statements : List Statement) where
         and_from _ _ (placed x loops rows tests.0) (parts_placed parts loops rows tests.1)
 
     layer_placed : (y : Node-F X) → IsPlaced (roll-Node (map-Node X Node node y))
-    layer_placed (Loop id lower upper body) loops rows h =
-        ap (λ f. f (length loops)) (fold-roll-Node (ℕ → Bool) (placed_step statements) (Loop id lower upper (map node body)))
+    layer_placed (Loop id lower upper step body) loops rows h =
+        ap (λ f. f (length loops)) (fold-roll-Node (ℕ → Bool) (placed_step statements) (Loop id lower upper step (map node body)))
         ∙ ap (all_placed statements (map node body)) (sym (length-append loops (id ∷ [])))
-        ∙ parts_placed body (loops ++ id ∷ []) (rows ++ (map lower_row lower ++ map upper_row upper))
-        (sym (ap (λ f. list_all (place_fits statements) (f loops rows)) (fold-roll-Node Places places_step (Loop id lower upper (map node body)))) ∙ h)
+        ∙ parts_placed body (loops ++ id ∷ []) (rows ++ bound_rows (length loops) lower upper step)
+        (sym (ap (λ f. list_all (place_fits statements) (f loops rows)) (fold-roll-Node Places places_step (Loop id lower upper step (map node body)))) ∙ h)
     layer_placed (Guard guards body) loops rows h =
         ap (λ f. f (length loops)) (fold-roll-Node (ℕ → Bool) (placed_step statements) (Guard guards (map node body)))
         ∙ parts_placed body loops (rows ++ guards)

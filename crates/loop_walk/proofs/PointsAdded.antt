@@ -1,13 +1,12 @@
 -- Adding the points of a list one after another gives each statement its points.
 use Rattle.std.proofs.Common.{◌≡◌, ◌<◌, ◌+◌, ℕ, zero, suc, ℤ, List, [], ◌∷◌, ◌++◌, map, set, get_or, length, cond, refl, sym, ap, ◌∙◌, arith, append_assoc}
 use Rattle.std.specs.Prelude.{Some, nat_lt, replicate, slice_get, IsTrue}
-use Rattle.std.specs.List.{fold, list_all}
+use Rattle.std.specs.List.{fold, list_all, range_with_len}
 use Rattle.std.proofs.lemmas.Bool.{and_from, eq-eqb, lt-ltb, ne_eqb}
 use Rattle.std.proofs.lemmas.List.{append-nil}
 use Rattle.std.proofs.lemmas.Option.{slice_get_within}
 use Rattle.sanlp.specs.declared.nest.Nest.{Nest}
 use Rattle.sanlp.specs.declared.nest.Point.{Point}
-use Rattle.sanlp.specs.Cells.{count_up}
 use Rattle.sanlp.specs.Points.{points_of, vectors_of}
 use Rattle.sanlp.specs.Trace.{trace}
 use Rattle.sanlp.proofs.Enumerates.{enumerates_domains}
@@ -49,7 +48,7 @@ all_added : (points : List Point) (lists : List (List (List ℤ))) → fold with
 all_added [] lists = sym (added_none 0 lists)
 all_added (p ∷ points) lists = all_added points (with_point lists p) ∙ one_added p points 0 p.statement lists (omega arith)
 
-from_empty : (points : List Point) (k n : ℕ) → added k (replicate n []) points ≡ map (vectors_of points) (count_up k n)
+from_empty : (points : List Point) (k n : ℕ) → added k (replicate n []) points ≡ map (vectors_of points) (range_with_len k n)
 from_empty points k zero = refl
 from_empty points k (suc n) = ap (λ ls. vectors_of points k ∷ ls) (from_empty points (k + 1) n)
 

@@ -26,8 +26,8 @@ module _ (X : Type 0) (node : X → Node) (grows : (x : X) (j k : ℕ) → j ≤
   body_grows parts (suc j) (suc k) le h = all_grow parts j k (omega arith) h
 
   layer_grows : (y : Node-F X) (j k : ℕ) → j ≤ k → node_room (roll-Node (map-Node X Node node y)) j ≡ true → node_room (roll-Node (map-Node X Node node y)) k ≡ true
-  layer_grows (Loop id lower upper body) j k le h =
-      let is = fold-roll-Node (ℕ → Bool) room_step (Loop id lower upper (map node body)) in
+  layer_grows (Loop id lower upper step body) j k le h =
+      let is = fold-roll-Node (ℕ → Bool) room_step (Loop id lower upper step (map node body)) in
       ap (λ f. f k) is ∙ body_grows body j k le (sym (ap (λ f. f j) is) ∙ h)
   layer_grows (Guard rows body) j k le h =
       let is = fold-roll-Node (ℕ → Bool) room_step (Guard rows (map node body)) in

@@ -1,6 +1,6 @@
 -- The count is the size, where it is within its limit and all loops that are entered are too.
 use Rattle.std.proofs.Common.{◌≡◌, ◌<◌, ◌≤◌, ◌+◌, ◌*◌, ℕ, zero, suc, ℤ, pos, ◌+ℤ◌, ◌-ℤ◌, List, [], ◌∷◌, ◌++◌, map, length, refl, sym, ap, ◌∙◌, subst, inl, inr, arith, add-one, suc-mul, length-append}
-use Rattle.std.specs.Prelude.{Bool, true, false, cond, ◌&&◌, Result, Ok, Err, IfOk, nat_le}
+use Rattle.std.specs.Prelude.{Bool, true, false, cond, ◌&&◌, Result, Ok, Err, IfOk, ◌↔◌, nat_le}
 use Rattle.std.specs.List.{list_all, sum_by}
 use Rattle.std.proofs.lemmas.List.Sums.{sum_by-cons}
 use Rattle.std.proofs.lemmas.Bool.{and_parts, cases_lt, le-leb, lt-leb, false≢true}
@@ -12,10 +12,10 @@ use Rattle.sanlp.specs.declared.nest.Node.TheViews.{roll-Node}
 use Rattle.sanlp.specs.declared.nest.Point.{Point}
 use Rattle.sanlp.specs.Loops.{loop_values, all_hold, interval}
 use Rattle.sanlp.specs.Cells.{counted as counted_from, natural}
-use Rattle.sanlp.specs.Size.{size, turns_step, turns_of_node}
+use Rattle.sanlp.specs.Size.{size, turns_step, turns_of_node, SizeIsOk, loop_within, node_within, size_limit, within_step}
 use Rattle.sanlp.specs.Trace.{PointsAt, all_points, turn_points, trace_step, trace_node, trace}
 use Rattle.sanlp.proofs.Folds.{by_parts, fold_assign_at, fold_guard, fold_loop}
-use Rattle.loop_walk.specs.Counting.{Count, SizeIsOk, and_then, assignment_step, capped, count_step, counted, counted_node, counted_parts, counted_turn, counted_turns, in_order, is_assignment, loop_within, node_within, one_more, size_limit, within_step}
+use Rattle.loop_walk.specs.Counting.{Count, and_then, assignment_step, capped, count_step, counted, counted_node, counted_parts, counted_turn, counted_turns, in_order, is_assignment, one_more}
 use Rattle.loop_walk.specs.declared.count.SizeError.{SizeError}
 use Rattle.loop_walk.specs.declared.count.SizeError.TheVariants.{Limit, LoopValue}
 
@@ -150,13 +150,13 @@ module _ (X : Type 0) (node : X → Node) (measured : (x : X) → IsMeasuredNode
       (measured_then (counted_turn (counts_of parts) at value) (counted_turns (counts_of parts) at values) _ _ _ _ (turn_measured parts at value) (turns_measured parts at values))
 
   layer_measured : (y : Node-F X) → IsMeasuredNode (roll-Node (map-Node X Node node y))
-  layer_measured (Loop id lower upper body) at =
+  layer_measured (Loop id lower upper step body) at =
       measured_as _ _ _ _ _ _
-      (ap (λ part. part at) (sym (fold-roll-Node (List ℤ → Count) count_step (Loop id lower upper (map node body)))))
-      (ap (λ part. part at) (sym (fold-roll-Node (List ℤ → Bool) within_step (Loop id lower upper (map node body)))))
-      (ap (λ part. length (part at) + sum_by (λ value. parts_turns body (at ++ value ∷ []) + 1) (loop_values lower upper at)) (sym (fold-roll-Node PointsAt trace_step (Loop id lower upper (map node body))))
-      ∙ ap (λ part. length (trace_node (roll-Node (Loop id lower upper (map node body))) at) + part at) (sym (fold-roll-Node (List ℤ → ℕ) turns_step (Loop id lower upper (map node body)))))
-      (measured_loop (loop_within lower upper at) _ _ _ id (turns_measured body at (loop_values lower upper at)))
+      (ap (λ part. part at) (sym (fold-roll-Node (List ℤ → Count) count_step (Loop id lower upper step (map node body)))))
+      (ap (λ part. part at) (sym (fold-roll-Node (List ℤ → Bool) within_step (Loop id lower upper step (map node body)))))
+      (ap (λ part. length (part at) + sum_by (λ value. parts_turns body (at ++ value ∷ []) + 1) (loop_values lower upper step at)) (sym (fold-roll-Node PointsAt trace_step (Loop id lower upper step (map node body))))
+      ∙ ap (λ part. length (trace_node (roll-Node (Loop id lower upper step (map node body))) at) + part at) (sym (fold-roll-Node (List ℤ → ℕ) turns_step (Loop id lower upper step (map node body)))))
+      (measured_loop (loop_within lower upper at) _ _ _ id (turns_measured body at (loop_values lower upper step at)))
   layer_measured (Guard rows body) at =
       measured_as _ _ _ _ _ _
       (ap (λ part. part at) (sym (fold-roll-Node (List ℤ → Count) count_step (Guard rows (map node body)))))
@@ -214,10 +214,27 @@ pub size_of_ok : (n : Nest) (r : Result ℕ SizeError) → r ≡ counted n → I
 size_of_ok n (Ok total) e = counted_size n total (sym e)
 size_of_ok n (Err refusal) e = tt
 
+-- where the loops are within their limit, the count is refused exactly where the size is past its own
+capped_refused : (t : ℕ) → capped t ≡ past_limit ↔ size_limit < t
+capped_refused t = (
+  λ e. elim (cases_lt size_limit t) [
+    | inl past ↦ past
+    | inr le ↦ absurd (let f = sym e ∙ capped_within t le in cc)
+  ],
+  capped_past t,
+)
+
+pub size_past_limit : (n : Nest) (r : Result ℕ SizeError) → r ≡ counted n → nest_within n ≡ true
+    → r ≡ past_limit ↔ size_limit < size n
+size_past_limit n r e within =
+    let is = e ∙ counted_is n within in
+    let refused = capped_refused (size n) in
+    (λ f. refused.0 (sym is ∙ f), λ past. is ∙ refused.1 past)
+
 -- a part that is an assignment adds one
 one_assignment : (node : Node) → is_assignment node ≡ true → (at : List ℤ) → counted_node node at ≡ one_more
 one_assignment = by_parts (λ node. is_assignment node ≡ true → (at : List ℤ) → counted_node node at ≡ one_more)
-    (λ id lower upper body each h at. absurd (false≢true (sym (fold_loop Bool assignment_step id lower upper body) ∙ h)))
+    (λ id lower upper step body each h at. absurd (false≢true (sym (fold_loop Bool assignment_step id lower upper step body) ∙ h)))
     (λ rows body each h at. absurd (false≢true (sym (fold_guard Bool assignment_step rows body) ∙ h)))
     (λ s h at. fold_assign_at (List ℤ) Count count_step s at)
 

@@ -12,7 +12,8 @@ use Rattle.affine_core.specs.declared.form.Form.{Form}
 use Rattle.affine_core.specs.Affine.{combined, form_at}
 use Rattle.affine_core.specs.Within.{fits_128_bits, number_in_128_bits, combined_in_128_bits, value_in_128_bits}
 use Rattle.sanlp.specs.WellFormed.{form_fits, is_moderate}
-use Rattle.loop_walk.specs.Counting.{are_loop_values, is_loop_value}
+use Rattle.sanlp.specs.Size.{is_loop_value}
+use Rattle.loop_walk.specs.Counting.{are_loop_values}
 use Rattle.loop_walk.specs.SmallValues.{are_small_values, is_small_value}
 
 le_of_test : (m n : ℕ) → IsTrue (nat_le m n) → m ≤ n

@@ -1,6 +1,6 @@
 -- Steps of a walk, over plain variables.
-use Rattle.std.proofs.Common.{◌≡◌, ◌<◌, ℕ, zero, suc, ℤ, pos, ◌+ℤ◌, ◌≤ℤ◌, ◌<ℤ◌, List, [], ◌∷◌, ◌++◌, map, drop, set, length, get_or, false, cond, refl, sym, ap, ◌∙◌, arith}
-use Rattle.std.specs.Prelude.{IsTrue, ◌&&◌, true, Option, Some, None, IfSome, OnSome}
+use Rattle.std.proofs.Common.{◌≡◌, ◌<◌, ◌+◌, ℕ, zero, suc, ℤ, pos, ◌+ℤ◌, ◌≤ℤ◌, ◌<ℤ◌, List, [], ◌∷◌, ◌++◌, map, drop, set, length, get_or, false, cond, refl, sym, ap, ◌∙◌, arith}
+use Rattle.std.specs.Prelude.{Bool, IsTrue, ◌&&◌, true, Option, Some, None, IfSome, OnSome}
 use Rattle.std.proofs.lemmas.Bool.{and_parts, and_from}
 use Rattle.std.proofs.lemmas.Int.{ints}
 use Rattle.affine_core.specs.declared.form.Form.{Form}
@@ -10,13 +10,15 @@ use Rattle.sanlp.specs.declared.nest.Node.TheViews.{Loop}
 use Rattle.sanlp.specs.declared.nest.Point.{Point}
 use Rattle.sanlp.specs.Loops.{interval}
 use Rattle.sanlp.specs.Trace.{all_points, trace_node, trace_step, turn_points}
-use Rattle.sanlp.proofs.Folds.{fold_assign_at, fold_loop_at}
+use Rattle.sanlp.specs.WellFormed.{all_forms_fit, forms_fit}
+use Rattle.sanlp.proofs.Folds.{fold_assign_at, fold_loop, fold_loop_at}
 use Rattle.sanlp.proofs.Intervals.{interval_step, interval_end}
 use Rattle.loop_walk.specs.declared.walk.Frame.{Frame}
-use Rattle.loop_walk.specs.Counting.{IsLoopRange, is_loop_value, node_within}
+use Rattle.sanlp.specs.Size.{is_loop_value, node_within}
+use Rattle.loop_walk.specs.Counting.{IsLoopRange}
 use Rattle.loop_walk.specs.Execution.{parts_within, turns_within}
-use Rattle.loop_walk.specs.Walking.{Left, Valid, left, left_inside, left_of_node, left_of_parts, left_of_turns, inside_valid, node_valid, parts_valid, turns_valid, valid}
-use Rattle.loop_walk.proofs.RunLemmas.{between_within, loop_turns_within, range_values, turn_within}
+use Rattle.loop_walk.specs.Walking.{Left, Valid, left, left_inside, left_of_node, left_of_parts, left_of_turns, inside_valid, node_room, node_valid, parts_room, parts_valid, room_step, turns_valid, valid}
+use Rattle.loop_walk.proofs.RunLemmas.{between_within, loop_fits, loop_turns_within, turn_within}
 
 -- before the first part of a body
 abbrev start : Frame
@@ -35,25 +37,38 @@ valid_at_start (f ∷ frames) [] at room h = refl
 valid_at_start (f ∷ frames) (node ∷ parts) at room h = h
 
 -- a loop that is entered: its first turn, and the others
-module _ (id : ℕ) (lower upper : List Form) (body : List Node) (at : List ℤ) (first last : ℤ) (range : IsLoopRange lower upper at first last) where
+module _ (id : ℕ) (lower upper : List Form) (step : ℤ) (body : List Node) (at : List ℤ) (first last : ℤ) (range : IsLoopRange lower upper step at first last) where
   loop_points : (values : List ℤ) → interval first last ≡ values
-      → trace_node (Loop id lower upper body) at ≡ turn_points (all_points (map trace_node body)) values at
+      → trace_node (Loop id lower upper step body) at ≡ turn_points (all_points (map trace_node body)) values at
   loop_points values e =
-      fold_loop_at (List ℤ) (List Point) trace_step id lower upper body at
-      ∙ ap (λ vs. turn_points (all_points (map trace_node body)) vs at) (sym (range_values lower upper at first last range) ∙ e)
+      fold_loop_at (List ℤ) (List Point) trace_step id lower upper step body at
+      ∙ ap (λ vs. turn_points (all_points (map trace_node body)) vs at) (range.values ∙ e)
 
-  pub points_of_turns : first ≤ℤ last → trace_node (Loop id lower upper body) at
+  pub points_of_turns : first ≤ℤ last → trace_node (Loop id lower upper step body) at
       ≡ all_points (map trace_node body) (at ++ first ∷ []) ++ turn_points (all_points (map trace_node body)) (interval (first +ℤ pos 1) last) at
   points_of_turns le = loop_points (first ∷ interval (first +ℤ pos 1) last) (interval_step first last le)
 
-  pub no_turn : last <ℤ first → trace_node (Loop id lower upper body) at ≡ []
+  pub no_turn : last <ℤ first → trace_node (Loop id lower upper step body) at ≡ []
   no_turn lt = loop_points [] (interval_end first last lt)
 
-  pub turns_are_within : first ≤ℤ last → IsTrue (node_within (Loop id lower upper body) at)
+  pub turns_are_within : first ≤ℤ last → IsTrue (node_within (Loop id lower upper step body) at)
       → IsTrue (parts_within body (at ++ first ∷ [])) × IsTrue (turns_within body at (interval (first +ℤ pos 1) last))
   turns_are_within le h =
       turn_within body at first last le
-      (ap (turns_within body at) (range_values lower upper at first last range) ∙ loop_turns_within id lower upper body at h)
+      (sym (ap (turns_within body at) range.values) ∙ loop_turns_within id lower upper step body at h)
+
+-- what the walk of a loop's turns may rest on
+pub turns_walk : (node : Node) (id : ℕ) (lower upper : List Form) (step : ℤ) (body parts : List Node) (depth frames deeper : ℕ)
+    → node ≡ Loop id lower upper step body → parts ≡ body → deeper ≡ frames
+    → IsTrue (forms_fit node depth) → IsTrue (node_room node frames)
+    → (depth < 6) × (IsTrue (all_forms_fit parts (depth + 1)) × IsTrue (parts_room parts deeper))
+turns_walk node id lower upper step body parts depth frames deeper is part same fits room =
+    let fit = loop_fits id lower upper step body depth (sym (ap (λ x. forms_fit x depth) is) ∙ fits) in
+    let enough : IsTrue (parts_room body frames)
+    = sym (ap (λ f. f frames) (fold_loop (ℕ → Bool) room_step id lower upper step body)) ∙ sym (ap (λ x. node_room x frames) is) ∙ room in (
+      fit.0,
+      (ap (λ ps. all_forms_fit ps (depth + 1)) part ∙ fit.2, ap (λ k. parts_room parts k) same ∙ ap (λ ps. parts_room ps frames) part ∙ enough),
+    )
 
 -- a part that was not entered
 pub left_outside : (f : Frame) (inner : Left) (node : Node) (at : List ℤ) → f.inside ≡ false → left_of_node f inner node at ≡ trace_node node at

@@ -1,44 +1,24 @@
 -- The size of a nest, counted in walking order.
-use Rattle.std.specs.Prelude.{◌≡◌, ◌≤◌, ℕ, ◌+◌, ℤ, Bool, true, false, ◌&&◌, List, [], ◌∷◌, ◌++◌, map, Result, Ok, Err, IsTrue, if◌then◌else◌, nat_lt, nat_le, unsigned_abs}
+use Rattle.std.specs.Prelude.{◌≡◌, ℕ, ◌+◌, ℤ, Bool, true, false, List, [], ◌∷◌, ◌++◌, map, Result, Ok, Err, IsTrue, if◌then◌else◌, nat_lt, nat_le}
 use Rattle.std.specs.List.{list_all}
 use Rattle.affine_core.specs.declared.form.Form.{Form}
-use Rattle.affine_core.specs.Affine.{form_at}
 use Rattle.sanlp.specs.declared.nest.Nest.{Nest}
 use Rattle.sanlp.specs.declared.nest.Node.{Node}
 use Rattle.sanlp.specs.declared.nest.Node.TheOpen.{Node-F, Loop, Guard, Assign}
 use Rattle.sanlp.specs.declared.nest.Node.TheFolds.{fold-Node}
-use Rattle.sanlp.specs.Loops.{greatest, least, loop_values, all_hold}
-use Rattle.sanlp.specs.Size.{size}
+use Rattle.sanlp.specs.Loops.{all_hold, interval, loop_values}
+use Rattle.sanlp.specs.Size.{is_loop_value, loop_within, size_limit}
 use Rattle.loop_walk.specs.declared.count.SizeError.{SizeError}
 use Rattle.loop_walk.specs.declared.count.SizeError.TheVariants.{Limit, LoopValue}
 
--- the greatest size
-abbrev pub size_limit : ℕ
-size_limit = 2097152
-
--- the greatest absolute value of a form of an entered loop
-abbrev pub loop_value_limit : ℕ
-loop_value_limit = 4611686018427387904
-
-abbrev pub is_loop_value : ℤ → Bool
-is_loop_value value = nat_le (unsigned_abs value) loop_value_limit
-
+-- each value is within the limit
 abbrev pub are_loop_values : List ℤ → Bool
 are_loop_values values = list_all is_loop_value values
 
--- the value of each form is within the limit
-abbrev pub all_within : List Form → List ℤ → Bool
-all_within forms at = list_all (λ form. is_loop_value (form_at form at)) forms
-
--- the forms of a loop
-abbrev pub loop_within : List Form → List Form → List ℤ → Bool
-loop_within lower upper at = all_within lower at && all_within upper at
-
--- the first and the last value of a loop whose forms are within the limit
-pub record IsLoopRange (lower upper : List Form) (at : List ℤ) (first last : ℤ) : Type 0 where
+-- the values of a loop whose forms are within the limit run from the first to the last
+pub record IsLoopRange (lower upper : List Form) (step : ℤ) (at : List ℤ) (first last : ℤ) : Type 0 where
   pub within : loop_within lower upper at ≡ true
-  pub first_is : first ≡ greatest (map (λ form. form_at form at) lower)
-  pub last_is : last ≡ least (map (λ form. form_at form at) upper)
+  pub values : loop_values lower upper step at ≡ interval first last
   pub first_within : IsTrue (is_loop_value first)
   pub last_within : IsTrue (is_loop_value last)
 
@@ -67,7 +47,7 @@ capped count = if nat_le count size_limit then Ok count else Err (Limit (size_li
 
 -- whether a part is an assignment
 abbrev pub assignment_step : Node-F Bool → Bool
-assignment_step (Loop id lower upper body) = false
+assignment_step (Loop id lower upper step body) = false
 assignment_step (Guard rows body) = false
 assignment_step (Assign s) = true
 
@@ -83,8 +63,9 @@ counted_turns body at values = in_order (map (counted_turn body at) values)
 
 -- a loop's forms are looked at when it is entered
 abbrev pub count_step : Node-F (List ℤ → Count) → List ℤ → Count
-count_step (Loop id lower upper body) at count =
-    if loop_within lower upper at then counted_turns body at (loop_values lower upper at) count else Err (LoopValue id)
+count_step (Loop id lower upper step body) at count =
+    if loop_within lower upper at then counted_turns body at (loop_values lower upper step at) count
+    else Err (LoopValue id)
 count_step (Guard rows body) at count = if all_hold rows at then counted_parts body at count else Ok count
 count_step (Assign s) at count = one_more count
 
@@ -94,19 +75,3 @@ counted_node = fold-Node (List ℤ → Count) count_step
 -- the number of executed statements and loop turns, or the first refusal in walking order
 unfoldable pub counted : Nest → Result ℕ SizeError
 counted n = counted_parts (map counted_node n.body) [] 0
-
--- each loop that is entered has only forms whose values are within the limit
-abbrev pub within_step : Node-F (List ℤ → Bool) → List ℤ → Bool
-within_step (Loop id lower upper body) at =
-    loop_within lower upper at && list_all (λ value. list_all (λ part. part (at ++ value ∷ [])) body)
-    (loop_values lower upper at)
-within_step (Guard rows body) at = if all_hold rows at then list_all (λ part. part at) body else true
-within_step (Assign s) at = true
-
-abbrev pub node_within : Node → List ℤ → Bool
-node_within = fold-Node (List ℤ → Bool) within_step
-
--- The size is within its limit, and so are the forms of each loop that is entered.
-pub record SizeIsOk (n : Nest) : Type 0 where
-  pub size_within : size n ≤ size_limit
-  pub loops_within : IsTrue (list_all (λ node. node []) (map node_within n.body))

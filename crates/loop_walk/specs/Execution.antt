@@ -9,7 +9,7 @@ use Rattle.sanlp.specs.declared.nest.Node.TheOpen.{Node-F, Loop, Guard, Assign}
 use Rattle.sanlp.specs.declared.nest.Node.TheFolds.{fold-Node}
 use Rattle.sanlp.specs.declared.nest.Statement.{Statement}
 use Rattle.sanlp.specs.WellFormed.{depth_of, form_fits}
-use Rattle.loop_walk.specs.Counting.{node_within}
+use Rattle.sanlp.specs.Size.{node_within}
 
 -- an access with at most 6 subscripts over the loops round it
 abbrev pub access_short : ℕ → Access → Bool
@@ -28,7 +28,7 @@ is_of_depth statements depth s = option_map_or (λ found. depth_of found == dept
 
 -- each statement that stands in a part exists, and has as many loops as stand round it
 abbrev pub placed_step : List Statement → Node-F (ℕ → Bool) → ℕ → Bool
-placed_step statements (Loop id lower upper body) depth = list_all (λ part. part (depth + 1)) body
+placed_step statements (Loop id lower upper step body) depth = list_all (λ part. part (depth + 1)) body
 placed_step statements (Guard rows body) depth = list_all (λ part. part depth) body
 placed_step statements (Assign s) depth = is_of_depth statements depth s
 

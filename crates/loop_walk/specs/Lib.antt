@@ -1,6 +1,5 @@
 pub mod CellMap
 pub mod Counting
-pub mod Examples
 pub mod Execution
 pub mod LinePlaces
 pub mod Narrow

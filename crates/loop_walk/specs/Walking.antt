@@ -8,7 +8,7 @@ use Rattle.sanlp.specs.declared.nest.Point.{Point}
 use Rattle.sanlp.specs.Loops.{interval}
 use Rattle.sanlp.specs.Trace.{PointsAt, all_points, trace_node, turn_points}
 use Rattle.loop_walk.specs.declared.walk.Frame.{Frame}
-use Rattle.loop_walk.specs.Counting.{is_loop_value, node_within}
+use Rattle.sanlp.specs.Size.{is_loop_value, node_within}
 use Rattle.loop_walk.specs.Execution.{parts_within, turns_within}
 
 -- what is left of a body, at the values of the loops round it
@@ -21,7 +21,7 @@ left_of_turns f inner body at = inner body (at ++ f.value ∷ []) ++ turn_points
 
 -- an assignment that was entered is done
 abbrev pub left_inside : Frame → Left → Node-F Node → PointsAt
-left_inside f inner (Loop id lower upper body) at = left_of_turns f inner body at
+left_inside f inner (Loop id lower upper step body) at = left_of_turns f inner body at
 left_inside f inner (Guard rows body) at = inner body at
 left_inside f inner (Assign s) at = []
 
@@ -48,7 +48,7 @@ turns_valid f inner body at =
     && turns_within body at (interval (f.value +ℤ pos 1) f.last) && inner body (at ++ f.value ∷ [])
 
 abbrev pub inside_valid : Frame → Valid → Node-F Node → List ℤ → Bool
-inside_valid f inner (Loop id lower upper body) at = turns_valid f inner body at
+inside_valid f inner (Loop id lower upper step body) at = turns_valid f inner body at
 inside_valid f inner (Guard rows body) at = inner body at
 inside_valid f inner (Assign s) at = true
 
@@ -69,7 +69,7 @@ body_room parts zero = false
 body_room parts (suc frames) = list_all (λ part. part frames) parts
 
 abbrev pub room_step : Node-F (ℕ → Bool) → ℕ → Bool
-room_step (Loop id lower upper body) frames = body_room body frames
+room_step (Loop id lower upper step body) frames = body_room body frames
 room_step (Guard rows body) frames = body_room body frames
 room_step (Assign s) frames = true
 

@@ -8,7 +8,7 @@ ghost use Rattle.sanlp.specs.Meaning.{execute, store, turns};
 ghost use Rattle.sanlp.specs.Memory.{cell_value};
 ghost use Rattle.wrap_expr.specs.Value.{value_of};
 ghost use Rattle.loop_walk.specs.CellMap.{memory_of};
-ghost use Rattle.loop_walk.specs.Counting.{is_loop_value};
+ghost use Rattle.sanlp.specs.Size.{is_loop_value};
 ghost use Rattle.loop_walk.specs.Execution.{access_short, is_of_depth, statement_short};
 ghost use Rattle.loop_walk.specs.LinePlaces.{ArePlacedBy, AreStatementLines, IsStatementPlaced};
 ghost use Rattle.loop_walk.specs.Narrow.{narrowed};
@@ -16,11 +16,11 @@ ghost use Rattle.loop_walk.specs.Rows.{place_in};
 ghost use Rattle.loop_walk.specs.SmallValues.{is_small_value};
 
 use crate::cells::Cells;
-use crate::execute::{execute_statement, given_value};
+use crate::execute::execute_statement;
 use crate::lines::{Line, NO_LINE, place_at};
 use crate::narrow_access::{NarrowAccess, NarrowStatement};
 use crate::vector::{LoopValues, is_small};
-use sanlp::{Inputs, Nest, Statement};
+use sanlp::{Inputs, Nest, Statement, given_value};
 use std::alloc::{AllocError, Global};
 use wrap_expr::eval;
 

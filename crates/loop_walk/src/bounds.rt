@@ -1,11 +1,14 @@
-ghost use Rattle.std.specs.Prelude.{◌≡◌, ◌+ℤ◌, ◌*ℤ◌, Some, ◌+◌, ◌<◌, ◌≤◌, [], ◌∷◌, ◌++◌, false, length, map, take, unsigned_abs, IsTrue, MatchOption};
+ghost use Rattle.std.specs.Prelude.{◌≡◌, pos, ◌+ℤ◌, ◌-ℤ◌, ◌*ℤ◌, ◌≤ℤ◌, Some, ◌+◌, ◌<◌, ◌≤◌, [], ◌∷◌, ◌++◌, false, if◌then◌else◌, length, map, take, unsigned_abs, IsTrue, MatchOption};
+ghost use Rattle.std.specs.Int.{int_div_euclid};
+ghost use Rattle.std.specs.Ordering.{int_eq};
 ghost use Rattle.std.specs.List.{list_all};
 ghost use Rattle.affine_core.specs.Affine.{form_at};
 ghost use Rattle.affine_core.specs.Within.{sum_in_128_bits};
-ghost use Rattle.sanlp.specs.Loops.{all_hold, greatest, least};
+ghost use Rattle.sanlp.specs.Loops.{all_hold, greatest, interval, least, turns_up_to};
 ghost use Rattle.sanlp.specs.WellFormed.{form_fits, is_moderate};
 ghost use Rattle.loop_walk.specs.SmallValues.{are_small_values};
-ghost use Rattle.loop_walk.specs.Counting.{IsLoopRange, all_within, are_loop_values, is_loop_value, loop_within};
+ghost use Rattle.sanlp.specs.Size.{all_within, is_loop_value, loop_within};
+ghost use Rattle.loop_walk.specs.Counting.{IsLoopRange, are_loop_values};
 
 use crate::vector::LoopValues;
 use affine_core::Form;
@@ -119,18 +122,60 @@ fn narrowed(value: i128) -> i64
     value as i64
 }
 
+// The quotient of the difference of two loop values and a step, rounded down.
+fn quotient(first: i64, last: i64, step: i64) -> i128
+    requires { pos 2 ≤ℤ step }
+    ensures { result ≡ int_div_euclid (last -ℤ first) step }
+{
+    (last as i128 - first as i128).div_euclid(step as i128)
+}
+
+// The last turn of a loop from `first` to `last`, or a number below 0 where it has none.
+fn last_turn(first: i64, last: i64, step: i64) -> i64
+    requires first_within { IsTrue (is_loop_value first) }
+    requires last_within { IsTrue (is_loop_value last) }
+    requires more { pos 2 ≤ℤ step }
+    ensures value { result ≡ int_div_euclid (last -ℤ first) step }
+    ensures within { IsTrue (is_loop_value result) }
+{
+    narrowed(quotient(first, last, step))
+}
+
+// The first and the last value of a loop's variable: with a step above 1 they are turns.
+fn range_of(first: i64, last: i64, step: i64) -> (i64, i64)
+    requires first_within { IsTrue (is_loop_value first) }
+    requires last_within { IsTrue (is_loop_value last) }
+    requires step { pos 1 ≤ℤ step }
+    ensures values { (if int_eq step (pos 1) then interval first last else turns_up_to first last step)
+        ≡ interval result.0 result.1 }
+    ensures first_within { IsTrue (is_loop_value result.0) }
+    ensures last_within { IsTrue (is_loop_value result.1) }
+{
+    if step == 1 {
+        (first, last)
+    } else {
+        (0, last_turn(first, last, step))
+    }
+}
+
 // The first and the last value of a loop, or `None` where one of its forms has a value outside the limit of loop values.
-pub(crate) fn loop_range(lower: &[Form], upper: &[Form], at: &LoopValues) -> Option<(i64, i64)>
+pub(crate) fn loop_range(
+    lower: &[Form],
+    upper: &[Form],
+    step: i64,
+    at: &LoopValues,
+) -> Option<(i64, i64)>
     requires lower_fit { IsTrue (list_all (form_fits (length at.now)) lower.now) }
     requires upper_fit { IsTrue (list_all (form_fits (length at.now)) upper.now) }
+    requires step { pos 1 ≤ℤ step }
     ensures { MatchOption result
         (loop_within lower.now upper.now at.now ≡ false)
-        (λ range. IsLoopRange lower.now upper.now at.now range.0 range.1) }
+        (λ range. IsLoopRange lower.now upper.now step at.now range.0 range.1) }
 {
     if all_forms_within(lower, at) && all_forms_within(upper, at) {
         let first = narrowed(greatest_of(lower, at));
         let last = narrowed(least_of(upper, at));
-        Some((first, last))
+        Some(range_of(first, last, step))
     } else {
         None
     }

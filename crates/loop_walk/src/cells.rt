@@ -107,7 +107,7 @@ impl Cells {
     ghost use Rattle.sanlp.specs.Cells.{Cell};
     ghost use Rattle.sanlp.specs.Memory.{no_cells, cell_value, with_cell};
     ghost use Rattle.loop_walk.specs.CellMap.{cell_cmp, memory_of};
-    ghost use Rattle.loop_walk.specs.Counting.{is_loop_value};
+    ghost use Rattle.sanlp.specs.Size.{is_loop_value};
     ghost use Rattle.loop_walk.specs.LinePlaces.{IsLineOf};
     ghost use Rattle.loop_walk.specs.Rows.{kept_at, kept_value, place_in, with_kept};
 

@@ -1,10 +1,12 @@
-ghost use Rattle.std.specs.Prelude.{◌≡◌, ◌+◌, ◌*◌, ◌+ℤ◌, ◌-ℤ◌, pos, ◌<◌, ◌≤◌, [], ◌∷◌, ◌++◌, length, map, IsTrue, IfOk};
+ghost use Rattle.std.specs.Prelude.{◌≡◌, ◌↔◌, ◌+◌, ◌*◌, ◌+ℤ◌, ◌-ℤ◌, pos, ◌<◌, ◌≤◌, [], ◌∷◌, ◌++◌, length, map, IsTrue, IfOk};
 ghost use Rattle.std.specs.List.{list_all};
 ghost use Rattle.sanlp.specs.Cells.{natural};
 ghost use Rattle.sanlp.specs.Loops.{interval};
 ghost use Rattle.sanlp.specs.WellFormed.{all_forms_fit, forms_fit};
-ghost use Rattle.sanlp.specs.Size.{size};
-ghost use Rattle.loop_walk.specs.Counting.{SizeIsOk, are_loop_values, capped, counted, counted_node, counted_parts, counted_turn, counted_turns, is_assignment, is_loop_value, one_more};
+ghost use Rattle.sanlp.specs.Size.{size, size_limit, SizeIsOk, is_loop_value};
+ghost use Rattle.loop_walk.specs.Execution.{parts_within};
+ghost use Rattle.loop_walk.specs.declared.count.SizeError.TheVariants.{Limit};
+ghost use Rattle.loop_walk.specs.Counting.{are_loop_values, capped, counted, counted_node, counted_parts, counted_turn, counted_turns, is_assignment, one_more};
 
 use crate::bounds::{loop_range, rows_hold};
 use crate::vector::LoopValues;
@@ -30,6 +32,8 @@ pub fn size(nest: &Nest) -> Result<u64, SizeError>
     ensures exact { result ≡ counted nest.now }
     ensures size { IfOk result (λ total. (total ≡ size nest.now) × SizeIsOk nest.now) }
     ensures complete { SizeIsOk nest.now → result ≡ Ok (size nest.now) }
+    ensures limit { IsTrue (parts_within nest.now.body [])
+        → result ≡ Err (Limit (size_limit + 1)) ↔ size_limit < size nest.now }
 {
     count_parts(nest.parts(), &LoopValues::empty(), 0)
 }
@@ -68,9 +72,10 @@ fn count_node(node: &Node, at: &LoopValues, count: u64) -> Result<u64, SizeError
             id,
             lower,
             upper,
+            step,
             body,
         } => {
-            let range = loop_range(lower.as_slice(), upper.as_slice(), at);
+            let range = loop_range(lower.as_slice(), upper.as_slice(), *step, at);
             let Some((first, last)) = range else {
                 return Err(SizeError::LoopValue(*id));
             };

@@ -14,8 +14,6 @@ mod parts;
 mod places;
 mod process_points;
 mod run;
-#[cfg(test)]
-mod tests;
 mod vector;
 mod walk;
 

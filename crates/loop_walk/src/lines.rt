@@ -1,14 +1,14 @@
 ghost use Rattle.std.specs.Prelude.{◌≡◌, ◌≤◌, ◌<◌, ◌+◌, ◌≤ℤ◌, ◌<ℤ◌, ◌+ℤ◌, ◌-ℤ◌, pos, ℤ, [], ◌∷◌, ◌++◌, length, map, unsigned_abs, IfSome, IsTrue, Some};
 ghost use Rattle.affine_core.specs.Affine.{form_at};
 ghost use Rattle.sanlp.specs.Cells.{natural};
-ghost use Rattle.loop_walk.specs.Counting.{is_loop_value};
+ghost use Rattle.sanlp.specs.Size.{is_loop_value};
 ghost use Rattle.loop_walk.specs.Execution.{access_short};
 ghost use Rattle.loop_walk.specs.LinePlaces.{IsShortLine, place_along};
 ghost use Rattle.loop_walk.specs.RowPlaces.{place_from, row_limit};
 
 use crate::narrow_access::NarrowAccess;
-use crate::places::natural_of;
 use crate::vector::LoopValues;
+use sanlp::natural_of;
 
 /// The places of an access along a loop, which change evenly: the place at the first turn, and the step to the next.
 #[derive(Clone, Copy)]

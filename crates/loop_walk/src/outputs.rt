@@ -1,5 +1,5 @@
 ghost use Rattle.std.specs.Prelude.{◌≡◌, ◌+◌, ◌<◌, ◌≤◌, [], ◌∷◌, ◌++◌, length, map, IfOk, IsTrue, OnOk, ℤ, List};
-ghost use Rattle.sanlp.specs.Cells.{all_subscripts, is_output};
+ghost use Rattle.sanlp.specs.Cells.{all_subscripts};
 ghost use Rattle.sanlp.specs.Meaning.{arrays_from, output_values};
 ghost use Rattle.sanlp.specs.Memory.{cell_value};
 ghost use Rattle.loop_walk.specs.CellMap.{memory_of};
@@ -8,7 +8,7 @@ ghost use Rattle.loop_walk.specs.Outputs.{values_inside};
 use crate::cells::Cells;
 use affine_core::Subscripts;
 use plain_data::Items;
-use sanlp::{ArrayDecl, Kind, Nest};
+use sanlp::{ArrayDecl, Nest};
 use std::alloc::{AllocError, Global};
 
 // Adds the values of an array's cells in row-major order. Some subscripts are given, and the extents are those of the others.
@@ -75,15 +75,6 @@ fn push_all_values(
     push_values(cells, array, extents, &Subscripts::empty(alloc), values)
 }
 
-fn is_output_kind(kind: Kind) -> bool
-    ensures { result ≡ is_output kind }
-{
-    match kind {
-        Kind::Output | Kind::Both => true,
-        Kind::Input | Kind::Var => false,
-    }
-}
-
 // The values of an array, if it is an output.
 #[tactic(auto, using(crate::proofs::ValuesInside::values_are))]
 fn output_values_of(
@@ -96,7 +87,7 @@ fn output_values_of(
     ensures { IfOk result (λ values. values ≡ output_values (memory_of cells.now) number array.now) }
 {
     let mut values = Items::new(alloc);
-    if is_output_kind(array.kind) {
+    if array.kind.is_output() {
         push_all_values(alloc, cells, number, array.extents.as_slice(), &mut values)?;
     }
     Ok(values)

@@ -7,16 +7,10 @@ ghost use Rattle.loop_walk.specs.RowPlaces.{place_after, place_from, within_limi
 ghost use Rattle.loop_walk.specs.SmallValues.{are_small_values};
 
 use crate::narrow_form::NarrowForm;
+use sanlp::natural_of;
 
 /// The greatest number of cells that are kept in rows, of all arrays together.
 pub(crate) const ROW_LIMIT: usize = 4_194_304;
-
-/// A number, or 0 where it is negative.
-pub(crate) fn natural_of(value: i64) -> usize
-    ensures { result ≡ natural value }
-{
-    if value < 0 { 0 } else { value as usize }
-}
 
 // The place that a subscript within its extent leads to, if it is within the limit.
 fn place_within(before: usize, extent: i64, subscript: usize) -> Option<usize>

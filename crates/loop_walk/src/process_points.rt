@@ -1,6 +1,6 @@
 ghost use Rattle.std.specs.Prelude.{◌≡◌, ◌<◌, [], length, replicate, vec_len, IfOk, OnOk};
 ghost use Rattle.sanlp.specs.Points.{points_of};
-ghost use Rattle.loop_walk.specs.Counting.{SizeIsOk};
+ghost use Rattle.sanlp.specs.Size.{SizeIsOk};
 ghost use Rattle.loop_walk.specs.PointLists.{with_point};
 
 use crate::walk::Walk;

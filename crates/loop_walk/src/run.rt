@@ -5,7 +5,7 @@ ghost use Rattle.sanlp.specs.Meaning.{arrays, exec, exec_node, in_turn, turns};
 ghost use Rattle.sanlp.specs.Memory.{no_cells};
 ghost use Rattle.sanlp.specs.WellFormed.{all_forms_fit, forms_fit};
 ghost use Rattle.loop_walk.specs.CellMap.{memory_of};
-ghost use Rattle.loop_walk.specs.Counting.{SizeIsOk, is_loop_value, node_within};
+ghost use Rattle.sanlp.specs.Size.{SizeIsOk, is_loop_value, node_within};
 ghost use Rattle.loop_walk.specs.Execution.{all_placed, node_placed, parts_within, turns_within};
 ghost use Rattle.loop_walk.specs.Narrow.{narrowed};
 
@@ -63,10 +63,11 @@ fn run_node(
         Node::Loop {
             lower,
             upper,
+            step,
             body,
             ..
         } => {
-            let range = loop_range(lower.as_slice(), upper.as_slice(), at);
+            let range = loop_range(lower.as_slice(), upper.as_slice(), *step, at);
             let Some((first, last)) = range else {
                 unreachable!()
             };

@@ -1,5 +1,6 @@
 ghost use Rattle.std.specs.Prelude.{◌≡◌, ◌+◌, ◌<◌, ◌≤◌, [], ◌∷◌, ◌++◌, true, length, take, IsTrue};
-ghost use Rattle.loop_walk.specs.Counting.{are_loop_values, is_loop_value};
+ghost use Rattle.sanlp.specs.Size.{is_loop_value};
+ghost use Rattle.loop_walk.specs.Counting.{are_loop_values};
 ghost use Rattle.loop_walk.specs.SmallValues.{are_small_values, is_small_value};
 
 use std::marker::Model;

@@ -1,6 +1,6 @@
 ghost use Rattle.std.specs.Bool.{OnTrue, OnFalse};
 ghost use Rattle.std.specs.List.{list_all};
-ghost use Rattle.std.specs.Prelude.{◌≡◌, ◌+◌, ◌-◌, ◌<◌, ◌≤◌, ◌+ℤ◌, ◌<ℤ◌, pos, ℤ, List, [], ◌∷◌, drop, length, map, true, IfSome, IsTrue, MatchOption, OnOk, OnSome, vec_len};
+ghost use Rattle.std.specs.Prelude.{◌≡◌, ◌+◌, ◌-◌, ◌<◌, ◌≤◌, ◌+ℤ◌, ◌<ℤ◌, ◌≤ℤ◌, pos, ℤ, List, [], ◌∷◌, drop, length, map, true, IfSome, IsTrue, MatchOption, OnOk, OnSome, vec_len};
 ghost use Rattle.sanlp.specs.Loops.{interval};
 ghost use Rattle.sanlp.specs.WellFormed.{all_forms_fit, form_fits, forms_fit};
 ghost use Rattle.sanlp.specs.declared.nest.Node.TheVariants.{Assign};
@@ -66,6 +66,7 @@ fn enter_loop(
     id: u32,
     lower: &[Form],
     upper: &[Form],
+    step: i64,
     body: &[Node],
     at: &LoopValues,
     frame: &mut Frame,
@@ -75,19 +76,20 @@ fn enter_loop(
     requires room { 0 < length deeper.old }
     requires lower_fit { IsTrue (list_all (form_fits (length at.now)) lower.now) }
     requires upper_fit { IsTrue (list_all (form_fits (length at.now)) upper.now) }
-    requires valid { IsTrue (node_valid frame.old (valid deeper.old) (Loop id lower.now upper.now body.now) at.now) }
+    requires step { pos 1 ≤ℤ step }
+    requires valid { IsTrue (node_valid frame.old (valid deeper.old) (Loop id lower.now upper.now step body.now) at.now) }
     ensures part { frame.new.part ≡ frame.old.part }
     ensures entered { OnTrue result (frame.new.inside ≡ true) }
     ensures turns { OnTrue result
-        (left_of_node frame.old (left deeper.old) (Loop id lower.now upper.now body.now) at.now
+        (left_of_node frame.old (left deeper.old) (Loop id lower.now upper.now step body.now) at.now
         ≡ left_of_turns frame.new (left deeper.new) body.now at.now) }
     ensures valid { OnTrue result (IsTrue (turns_valid frame.new (valid deeper.new) body.now at.now)) }
-    ensures empty { OnFalse result (left_of_node frame.old (left deeper.old) (Loop id lower.now upper.now body.now) at.now ≡ []) }
+    ensures empty { OnFalse result (left_of_node frame.old (left deeper.old) (Loop id lower.now upper.now step body.now) at.now ≡ []) }
 {
     if frame.inside {
         return true;
     }
-    let Some((first, last)) = loop_range(lower, upper, at) else {
+    let Some((first, last)) = loop_range(lower, upper, step, at) else {
         unreachable!()
     };
     if first > last {
@@ -261,6 +263,7 @@ fn next_of_node(
             id,
             lower,
             upper,
+            step,
             body,
         } => {
             let body = body.as_slice();
@@ -268,6 +271,7 @@ fn next_of_node(
                 *id,
                 lower.as_slice(),
                 upper.as_slice(),
+                *step,
                 body,
                 at,
                 frame,
@@ -369,7 +373,7 @@ pub struct Walk {
 impl Walk {
     ghost use Rattle.std.specs.Prelude.{◌≡◌, [], ◌∷◌, IfOk, MatchOption};
     ghost use Rattle.sanlp.specs.Trace.{trace};
-    ghost use Rattle.loop_walk.specs.Counting.{SizeIsOk};
+    ghost use Rattle.sanlp.specs.Size.{SizeIsOk};
     ghost use Rattle.loop_walk.specs.Walks.{IsWalkOf, rest};
 
     /// A walk that stands before the first point of the nest.

@@ -1,5 +1,5 @@
 use Rattle.std.proofs.Common.{◌≡◌, take, true}
-use Rattle.loop_walk.specs.Counting.{all_within}
+use Rattle.sanlp.specs.Size.{all_within}
 use Rattle.loop_walk.proofs.bounds.all_forms_within.Given as goal
 
 abbrev pub invariant-loop-form : goal.invariant-loop-form

@@ -2,7 +2,7 @@ use Rattle.std.proofs.Common.{rules, ◌∙◌}
 use Rattle.std.specs.Prelude.{FitsSigned}
 use Rattle.std.specs.Int.{w64, w128}
 use Rattle.std.proofs.lemmas.Int.{to_z-of_z}
-use Rattle.loop_walk.proofs.LoopRange.{both_within, greatest_within, least_within}
+use Rattle.loop_walk.proofs.LoopRange.{greatest_within, least_within}
 use Rattle.loop_walk.proofs.bounds.loop_range.Goals as goal
 
 pub narrowed-first-requires : goal.narrowed-first-requires
@@ -15,19 +15,16 @@ narrowed-last-requires c =
     let fits : FitsSigned w128 c.least_of.result = search rules in
     simp to_z-of_z (least_within c.args.upper.now c.args.at.now c.all_forms_within-then-all_forms_within.result _ c.all_forms_within-then-all_forms_within.ensures c.if-all_forms_within-2.true c.least_of.ensures)
 
-pub returns-then-all_forms_within-2 : goal.returns-then-all_forms_within-2
-returns-then-all_forms_within-2 c =
-    let first_wide : FitsSigned w128 c.greatest_of.result = search rules in
-    let last_wide : FitsSigned w128 c.least_of.result = search rules in
-    let first_fits : FitsSigned w64 c.narrowed-first.result = search rules in
-    let last_fits : FitsSigned w64 c.narrowed-last.result = search rules in
-    let first_is = simp to_z-of_z at c.narrowed-first.ensures in
-    let last_is = simp to_z-of_z at c.narrowed-last.ensures in
-    simp to_z-of_z (record {
-      within = both_within c.args.lower.now c.args.upper.now c.args.at.now c.all_forms_within.result c.all_forms_within-then-all_forms_within.result
-          c.all_forms_within.ensures c.if-all_forms_within.true c.all_forms_within-then-all_forms_within.ensures c.if-all_forms_within-2.true;
-      first_is = first_is ∙ c.greatest_of.ensures;
-      last_is = last_is ∙ c.least_of.ensures;
-      first_within = greatest_within c.args.lower.now c.args.at.now c.all_forms_within.result _ c.all_forms_within.ensures c.if-all_forms_within.true (first_is ∙ c.greatest_of.ensures);
-      last_within = least_within c.args.upper.now c.args.at.now c.all_forms_within-then-all_forms_within.result _ c.all_forms_within-then-all_forms_within.ensures c.if-all_forms_within-2.true (last_is ∙ c.least_of.ensures);
-    })
+pub range_of-requires-clause-first_within : goal.range_of-requires-clause-first_within
+range_of-requires-clause-first_within c =
+    let wide : FitsSigned w128 c.greatest_of.result = search rules in
+    let fits : FitsSigned w64 c.narrowed-first.result = search rules in
+    let is = simp to_z-of_z at c.narrowed-first.ensures in
+    simp to_z-of_z (greatest_within c.args.lower.now c.args.at.now c.all_forms_within.result _ c.all_forms_within.ensures c.if-all_forms_within.true (is ∙ c.greatest_of.ensures))
+
+pub range_of-requires-clause-last_within : goal.range_of-requires-clause-last_within
+range_of-requires-clause-last_within c =
+    let wide : FitsSigned w128 c.least_of.result = search rules in
+    let fits : FitsSigned w64 c.narrowed-last.result = search rules in
+    let is = simp to_z-of_z at c.narrowed-last.ensures in
+    simp to_z-of_z (least_within c.args.upper.now c.args.at.now c.all_forms_within-then-all_forms_within.result _ c.all_forms_within-then-all_forms_within.ensures c.if-all_forms_within-2.true (is ∙ c.least_of.ensures))

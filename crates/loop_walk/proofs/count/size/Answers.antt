@@ -1,6 +1,6 @@
 use Rattle.std.proofs.Common.{◌≡◌, map, ap, ◌∙◌}
 use Rattle.loop_walk.specs.Counting.{counted, counted_node, counted_parts}
-use Rattle.loop_walk.proofs.SizeLaw.{counted_all, size_of_ok}
+use Rattle.loop_walk.proofs.SizeLaw.{counted_all, size_of_ok, size_past_limit}
 use Rattle.loop_walk.proofs.count.size.Goals as goal
 
 pub returns : goal.returns
@@ -14,4 +14,5 @@ returns c =
       exact = is;
       size = size_of_ok c.args.nest.now c.count_parts.result is;
       complete = λ ok. is ∙ counted_all c.args.nest.now ok;
+      limit = size_past_limit c.args.nest.now c.count_parts.result is;
     }

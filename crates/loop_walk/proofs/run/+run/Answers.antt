@@ -8,7 +8,7 @@ use Rattle.sanlp.specs.Meaning.{Action, exec_node, in_turn, turns}
 use Rattle.sanlp.specs.Memory.{Memory}
 use Rattle.sanlp.specs.WellFormed.{forms_fit}
 use Rattle.loop_walk.specs.CellMap.{memory_of}
-use Rattle.loop_walk.specs.Counting.{node_within}
+use Rattle.sanlp.specs.Size.{node_within}
 use Rattle.loop_walk.specs.Execution.{node_placed, turns_within}
 use Rattle.loop_walk.proofs.BodyParts.{part_passes}
 use Rattle.loop_walk.proofs.RunLemmas.{assign_done, between_within, loop_done, loop_keeps, turn_done, turn_within, turns_done}
@@ -17,12 +17,14 @@ use Rattle.loop_walk.proofs.run.+run.Goals as goal
 pub run_node-run_turns-requires : goal.run_node-run_turns-requires
 run_node-run_turns-requires t c =
     let f : FitsSigned w64 c.in-Some.first = search rules in
-    let g : FitsSigned w64 c.in-Some.last = search rules in (
+    let g : FitsSigned w64 c.in-Some.last = search rules in
+    let s : FitsSigned w64 c.in-Loop.step = search rules in
+    let range = simp to_z-of_z at c.in-Some.ensures in (
       search (rules, the_lemmas),
       (
         c.requires.same,
-        simp to_z-of_z (loop_keeps c.args.nest.now.statements c.args.node.now c.args.at.now _ _ _ c.as_slice.result.now c.as_slice-in-Loop.result.now _ c.as_slice-in-Loop-2.result.now c.in-Some.first c.in-Some.last
-            c.in-Loop.is c.as_slice.ensures c.as_slice-in-Loop.ensures c.as_slice-in-Loop-2.ensures c.in-Some.ensures c.requires.fits c.requires.placed c.requires.within),
+        simp to_z-of_z (loop_keeps c.args.nest.now.statements c.args.node.now c.args.at.now _ _ _ c.as_slice.result.now c.as_slice-in-Loop.result.now _ _ c.as_slice-in-Loop-2.result.now c.in-Some.first c.in-Some.last
+            c.in-Loop.is c.as_slice.ensures c.as_slice-in-Loop.ensures c.as_slice-in-Loop-2.ensures range c.requires.fits c.requires.placed c.requires.within),
       ),
     )
 
@@ -30,10 +32,12 @@ pub run_node-returns-in-Some : goal.run_node-returns-in-Some
 run_node-returns-in-Some t c =
     let f : FitsSigned w64 c.in-Some.first = search rules in
     let g : FitsSigned w64 c.in-Some.last = search rules in
+    let s : FitsSigned w64 c.in-Loop.step = search rules in
+    let range = simp to_z-of_z at c.in-Some.ensures in
     let h = simp to_z-of_z at c.run_turns.ensures in
     loop_done c.args.nest.now c.args.inputs.now c.args.node.now c.args.at.now (memory_of c.args.cells.now) (memory_of c.run_turns.new.cells)
-    _ _ _ c.as_slice.result.now c.as_slice-in-Loop.result.now _ c.as_slice-in-Loop-2.result.now c.in-Some.first c.in-Some.last c.run_turns.result
-    c.in-Loop.is c.as_slice.ensures c.as_slice-in-Loop.ensures c.as_slice-in-Loop-2.ensures c.in-Some.ensures h
+    _ _ _ c.as_slice.result.now c.as_slice-in-Loop.result.now _ _ c.as_slice-in-Loop-2.result.now c.in-Some.first c.in-Some.last c.run_turns.result
+    c.in-Loop.is c.as_slice.ensures c.as_slice-in-Loop.ensures c.as_slice-in-Loop-2.ensures range h
 
 pub run_node-returns-in-Assign : goal.run_node-returns-in-Assign
 run_node-returns-in-Assign t c =

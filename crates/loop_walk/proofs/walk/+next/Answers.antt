@@ -4,7 +4,7 @@ use Rattle.sanlp.specs.declared.nest.Node.TheViews.{the_lemmas}
 use Rattle.sanlp.specs.WellFormed.{forms_fit}
 use Rattle.loop_walk.specs.Walking.{node_room, valid}
 use Rattle.loop_walk.proofs.BodyParts.{part_passes}
-use Rattle.loop_walk.proofs.WalkLemmas.{part_valid}
+use Rattle.loop_walk.proofs.WalkLemmas.{part_valid, turns_walk}
 use Rattle.loop_walk.proofs.walk.+next.Goals as goal
 
 pub next_part-next_of_node-point-requires : goal.next_part-next_of_node-point-requires
@@ -21,3 +21,9 @@ next_part-next_of_node-point-requires t c =
         ),
       ),
     )
+
+pub next_of_node-next_of_turns-requires : goal.next_of_node-next_of_turns-requires
+next_of_node-next_of_turns-requires t c =
+    let walks = turns_walk c.args.node.now c.in-Loop.id _ _ c.in-Loop.step _ c.as_slice-body.result.now (length c.args.at.now) (length c.args.deeper.now) (length c.enter_loop.new.deeper)
+    c.in-Loop.is c.as_slice-body.ensures c.enter_loop.auto.deeper c.requires.fits c.requires.room in
+    (search (rules, the_lemmas), (walks.0, (walks.1.0, (walks.1.1, c.if-enter_loop.ensures.valid))))

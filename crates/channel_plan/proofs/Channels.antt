@@ -1,7 +1,7 @@
 -- A channel, from its parts.
 use Rattle.std.proofs.Common.{◌≡◌, ◌<◌, ◌≤◌, ◌+◌, ℕ, zero, suc, List, [], ◌∷◌, Bool, true, false, cond, Some, None, get_or, refl, ap, arith, ◌==◌}
 use Rattle.std.specs.Prelude.{Option}
-use Rattle.std.specs.List.{All, cons_option, list_any}
+use Rattle.std.specs.List.{All, cons_option, list_any, range_with_len}
 use Rattle.std.proofs.lemmas.Bool.{eqb-true}
 use Rattle.std.proofs.lemmas.List.Elements.{All-cons, All-filter, All-head, All-nil, All-tail}
 use Rattle.channel_class.specs.declared.ChannelClass.{ChannelClass}
@@ -9,7 +9,6 @@ use Rattle.channel_class.specs.Classes.{class_of}
 use Rattle.reorder_slots.specs.Slots.{gets_before, hold_of, slots_of_gets, slots_of_uses}
 use Rattle.reorder_slots.specs.declared.slots.SlotPlan.{SlotPlan}
 use Rattle.sanlp.specs.declared.nest.Tag.{Tag}
-use Rattle.sanlp.specs.Cells.{count_up}
 use Rattle.channel_plan.specs.declared.plans.ChannelPlan.{ChannelPlan}
 use Rattle.channel_plan.specs.Plans.{slot_plan}
 use Rattle.channel_plan.specs.Reads.{IsTurnAmong, channel_of}
@@ -43,10 +42,10 @@ turns_within turns w (Some tag ∷ sources) among =
     (λ same. omega (arith, first.1, ap (λ p. get_or turns p 0) (eqb-true tag.process w same)))
     (turns_within turns w sources (All-tail (IsTurnAmong turns) (Some tag) sources among))
 
-count_up_within : (a n b : ℕ) → a + n ≤ b → All (λ k. k < b) (count_up a n)
-count_up_within a zero b h = All-nil (λ k. k < b)
-count_up_within a (suc n) b h = All-cons (λ k. k < b) a (count_up (a + 1) n) (omega arith) (count_up_within (a + 1) n b (omega arith))
+range_with_len_within : (a n b : ℕ) → a + n ≤ b → All (λ k. k < b) (range_with_len a n)
+range_with_len_within a zero b h = All-nil (λ k. k < b)
+range_with_len_within a (suc n) b h = All-cons (λ k. k < b) a (range_with_len (a + 1) n) (omega arith) (range_with_len_within (a + 1) n b (omega arith))
 
 pub writers_exist : (processes : ℕ) (sources : List (Option Tag)) → All (λ w. w < processes) (writers_of processes sources)
 writers_exist processes sources =
-    All-filter (λ w. list_any (is_from w) sources) (λ w. w < processes) (count_up 0 processes) (count_up_within 0 processes processes (omega arith))
+    All-filter (λ w. list_any (is_from w) sources) (λ w. w < processes) (range_with_len 0 processes) (range_with_len_within 0 processes processes (omega arith))

@@ -2,5 +2,6 @@ pub mod Channels
 pub mod Counts
 pub mod Marks
 pub mod Nests
+pub mod OneSlot
 pub mod Uses
 pub mod Worked

@@ -1,13 +1,14 @@
 -- Marks for each of so many numbers, and lists that grow by one element of another.
 use Rattle.std.proofs.Common.{◌≡◌, ◌≢◌, ◌<◌, ◌+◌, ℕ, List, [], ◌∷◌, ◌++◌, Bool, true, false, map, length, take, set, get_or, refl, sym, ap, ◌∙◌, arith, ◌||◌}
 use Rattle.std.specs.Prelude.{Option}
-use Rattle.std.specs.List.{cons_option, filter, filter_map, list_any}
+use Rattle.std.specs.List.{cons_option, filter, filter_map, list_any, range_with_len}
 use Rattle.std.proofs.lemmas.Bool.{or_right}
 use Rattle.std.proofs.lemmas.List.{take_more}
 use Rattle.std.proofs.lemmas.List.Elements.{filter_map-append}
 use Rattle.std.proofs.lemmas.List.Folds.{list_any_more}
-use Rattle.sanlp.specs.Cells.{count_up}
-use Rattle.channel_plan.proofs.Counts.{get_mapped_first, length-mapped, same_filter_from, same_from, set_mapped}
+use Rattle.std.proofs.lemmas.List.FromFn.{length-map-range_with_len, get_or-map-range_with_len}
+use Rattle.channel_plan.proofs.Counts.{same_filter_from, set_mapped}
+use Rattle.sanlp.proofs.Lists.{map-range_with_len_same}
 
 or_no : (b : Bool) → (b || false) ≡ b
 or_no true = refl
@@ -15,7 +16,7 @@ or_no false = refl
 
 -- for each of m numbers, whether some of the first i elements passes its test
 abbrev pub passed : {X : Type 0} → (ℕ → X → Bool) → List X → ℕ → ℕ → List Bool
-passed test xs i m = map (λ k. list_any (test k) (take i xs)) (count_up 0 m)
+passed test xs i m = map (λ k. list_any (test k) (take i xs)) (range_with_len 0 m)
 
 module _ {X : Type 0} (test : ℕ → X → Bool) (xs : List X) (i : ℕ) (d : X) (within : i < length xs) where
   stays : (k : ℕ) → test k (get_or xs i d) ≡ false → list_any (test k) (take i xs) ≡ list_any (test k) (take (i + 1) xs)
@@ -32,7 +33,7 @@ module _ {X : Type 0} (test : ℕ → X → Bool) (xs : List X) (i : ℕ) (d : X
 
   -- the next element passes no test
   pub passed_same : (m : ℕ) → ((k : ℕ) → test k (get_or xs i d) ≡ false) → passed test xs i m ≡ passed test xs (i + 1) m
-  passed_same m none = same_from _ _ 0 m (λ k _ _. stays k (none k))
+  passed_same m none = map-range_with_len_same _ _ 0 m (λ k _ _. stays k (none k))
 
 pub filter_map_more : {X Y : Type 0} (h : X → Option Y) (xs : List X) (i : ℕ) (d : X) (r : Option Y) → i < length xs → r ≡ h (get_or xs i d)
     → filter_map h (take (i + 1) xs) ≡ filter_map h (take i xs) ++ cons_option r []
@@ -42,9 +43,9 @@ filter_map_more h xs i d r within e =
     ∙ ap (λ o. filter_map h (take i xs) ++ cons_option o []) (sym e)
 
 -- the places of the marks are the numbers that pass
-pub places_are : (test : ℕ → Bool) (marks : List Bool) (m : ℕ) → marks ≡ map test (count_up 0 m)
-    → filter (λ place. get_or marks place false) (count_up 0 (length marks)) ≡ filter test (count_up 0 m)
+pub places_are : (test : ℕ → Bool) (marks : List Bool) (m : ℕ) → marks ≡ map test (range_with_len 0 m)
+    → filter (λ place. get_or marks place false) (range_with_len 0 (length marks)) ≡ filter test (range_with_len 0 m)
 places_are test marks m e =
-    ap (λ ms. filter (λ place. get_or ms place false) (count_up 0 (length ms))) e
-    ∙ ap (λ n. filter (λ place. get_or (map test (count_up 0 m)) place false) (count_up 0 n)) (length-mapped test 0 m)
-    ∙ same_filter_from (λ place. get_or (map test (count_up 0 m)) place false) test 0 m (λ k _ below. get_mapped_first test false m k (omega arith))
+    ap (λ ms. filter (λ place. get_or ms place false) (range_with_len 0 (length ms))) e
+    ∙ ap (λ n. filter (λ place. get_or (map test (range_with_len 0 m)) place false) (range_with_len 0 n)) (length-map-range_with_len test 0 m)
+    ∙ same_filter_from (λ place. get_or (map test (range_with_len 0 m)) place false) test 0 m (λ k _ below. get_or-map-range_with_len test 0 m k k false (omega arith) (omega arith))

@@ -1,15 +1,14 @@
 -- The uses of a channel, from the marks of its tokens.
 use Rattle.std.proofs.Common.{◌≡◌, ◌<◌, ◌≤◌, ◌+◌, ℕ, zero, suc, List, [], ◌∷◌, Bool, true, cond, map, length, take, count_by, refl, sym, ap, ◌∙◌, inl, inr, arith, ◌==◌}
-use Rattle.std.specs.List.{All, list_any}
+use Rattle.std.specs.List.{All, list_any, range_with_len}
 use Rattle.std.proofs.lemmas.Bool.{cases_Bool, cases_eq, cases_lt, cond-true, cond-false, eq-eqb, eqb-true, or_cases, or_left, or_right}
 use Rattle.std.proofs.lemmas.List.Elements.{All-head, All-map, All-tail, All-weaker}
 use Rattle.std.proofs.lemmas.List.Sums.{count_by-le-length, sum_by-cons, sum_by_push}
-use Rattle.loop_walk.specs.Counting.{size_limit}
+use Rattle.std.proofs.lemmas.List.FromFn.{length-range_with_len, length-map-range_with_len, take-map-range_with_len}
+use Rattle.sanlp.specs.Size.{size_limit}
+use Rattle.sanlp.proofs.Lists.{range_with_len_more}
 use Rattle.reorder_slots.specs.Slots.{NamesAllBelow, gets_for}
-use Rattle.sanlp.specs.Cells.{count_up}
-use Rattle.source_tree.proofs.Numbered.{length-count_up}
 use Rattle.channel_plan.specs.Tokens.{is_used, tokens_among, tokens_below, uses_of}
-use Rattle.channel_plan.proofs.Counts.{count_up-push, length-mapped, take-mapped}
 
 pub map_agree : {X Y : Type 0} (f g : X → Y) (xs : List X) → All (λ x. f x ≡ g x) xs → map f xs ≡ map g xs
 map_agree f g [] same = refl
@@ -25,10 +24,10 @@ count_marks p (x ∷ xs) =
 
 -- how many marks there are, and how many below a turn
 pub marks_all : (turns : ℕ) (used : List ℕ) → count_by (λ mark. mark) (tokens_among turns used) ≡ tokens_below used turns
-marks_all turns used = count_marks (is_used used) (count_up 0 turns)
+marks_all turns used = count_marks (is_used used) (range_with_len 0 turns)
 
 marks_below : (turns turn : ℕ) (used : List ℕ) → turn ≤ turns → count_by (λ mark. mark) (take turn (tokens_among turns used)) ≡ tokens_below used turn
-marks_below turns turn used h = ap (count_by (λ mark. mark)) (take-mapped (is_used used) 0 turns turn h) ∙ count_marks (is_used used) (count_up 0 turn)
+marks_below turns turn used h = ap (count_by (λ mark. mark)) (take-map-range_with_len (is_used used) 0 turns turn h) ∙ count_marks (is_used used) (range_with_len 0 turn)
 
 uses_are : (turns : ℕ) (used : List ℕ) → All (λ turn. turn < turns) used
     → map (λ turn. count_by (λ mark. mark) (take turn (tokens_among turns used))) used ≡ uses_of used
@@ -38,7 +37,7 @@ uses_are turns used within =
     (λ turn below. marks_below turns turn used (omega arith)) used within)
 
 pub long_marks : (turns : ℕ) (used : List ℕ) (marks : List Bool) → marks ≡ tokens_among turns used → length marks ≡ turns
-long_marks turns used marks e = ap length e ∙ length-mapped (is_used used) 0 turns
+long_marks turns used marks e = ap length e ∙ length-map-range_with_len (is_used used) 0 turns
 
 -- the same of a list that is equal to the used turns
 pub uses_found : (turns : ℕ) (used found uses : List ℕ) (marks : List Bool) → found ≡ used → marks ≡ tokens_among turns found
@@ -51,7 +50,7 @@ uses_found turns used found uses marks e f g within =
 
 -- no token has a greater number than its turn
 below_turn : (used : List ℕ) (turn : ℕ) → tokens_below used turn ≤ turn
-below_turn used turn = omega (arith, count_by-le-length (is_used used) (count_up 0 turn), length-count_up 0 turn)
+below_turn used turn = omega (arith, count_by-le-length (is_used used) (range_with_len 0 turn), length-range_with_len 0 turn)
 
 pub few_uses : (turns : ℕ) (used : List ℕ) → turns ≤ size_limit → All (λ turn. turn < turns) used → All (λ named. named < 4294967295) (uses_of used)
 few_uses turns used few within =
@@ -60,7 +59,7 @@ few_uses turns used few within =
 
 -- Each number below a use is a use.
 one_more : (used : List ℕ) (turn : ℕ) → tokens_below used (turn + 1) ≡ tokens_below used turn + cond (is_used used turn) 1 0
-one_more used turn = ap (count_by (is_used used)) (count_up-push turn) ∙ sum_by_push (λ k. cond (is_used used k) 1 0) (count_up 0 turn) turn
+one_more used turn = ap (count_by (is_used used)) (range_with_len_more 0 turn turn (omega arith)) ∙ sum_by_push (λ k. cond (is_used used k) 1 0) (range_with_len 0 turn) turn
 
 -- some used turn has this number
 abbrev IsNumbered : List ℕ → ℕ → Type 0

@@ -2,6 +2,7 @@
 //! tokens that it carries, its class, and the slots in which its reader keeps them.
 #![tactic(auto)]
 
+mod law;
 mod plans;
 mod read;
 #[cfg(test)]
@@ -9,4 +10,5 @@ mod tests;
 mod tokens;
 mod writers;
 
+pub use law::one_slot_in_order;
 pub use plans::{ChannelPlan, channel_plans};

@@ -1,5 +1,5 @@
 ghost use Rattle.std.specs.Prelude.{◌≡◌, length, map, IfOk};
-ghost use Rattle.loop_walk.specs.Counting.{SizeIsOk};
+ghost use Rattle.sanlp.specs.Size.{SizeIsOk};
 ghost use Rattle.sanlp.specs.Points.{points_of};
 ghost use Rattle.source_tree.specs.Sources.{sources_of};
 ghost use Rattle.channel_plan.specs.Plans.{plans_of};
@@ -17,7 +17,7 @@ use std::alloc::{AllocError, Global};
 pub struct ChannelPlan {
     /// The process that reads.
     pub reader: u32,
-    /// The number of its read slot.
+    /// The number of its read.
     pub read: u32,
     /// The process that writes.
     pub writer: u32,

@@ -1,6 +1,6 @@
 ghost use Rattle.std.specs.List.{All};
 ghost use Rattle.std.specs.Prelude.{◌≡◌, ◌<◌, ◌≤◌, ◌++◌, length, IfOk, OnOk};
-ghost use Rattle.loop_walk.specs.Counting.{size_limit};
+ghost use Rattle.sanlp.specs.Size.{size_limit};
 ghost use Rattle.channel_plan.specs.Reads.{AreFew, IsTurnAmong, channel_of, channels_of, channels_to};
 ghost use Rattle.channel_plan.specs.Tokens.{turns_used};
 
@@ -64,7 +64,7 @@ fn add_channels_of(
     Ok(())
 }
 
-/// Adds the channels of a reader, by slot and writer, where these are the sources of its slots.
+/// Adds the channels of a reader, by read and writer, where these are the sources of its reads.
 pub(crate) fn add_channels_to(
     alloc: Global,
     turns: &[usize],
@@ -73,7 +73,7 @@ pub(crate) fn add_channels_to(
     plans: &mut Vec<ChannelPlan>,
 ) -> Result<(), AllocError>
     requires few { AreFew turns.now }
-    requires slots { length reads.now < 4294967296 }
+    requires reads { length reads.now < 4294967296 }
     requires among { All (All (IsTurnAmong turns.now)) reads.now }
     ensures { OnOk result (plans.new.items ≡ plans.old.items ++ channels_to turns.now reader reads.now) }
 {

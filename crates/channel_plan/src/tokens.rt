@@ -1,6 +1,5 @@
-ghost use Rattle.std.specs.List.{All};
+ghost use Rattle.std.specs.List.{All, range_with_len};
 ghost use Rattle.std.specs.Prelude.{◌≡◌, ◌<◌, length, map, take, count_by, IfOk};
-ghost use Rattle.sanlp.specs.Cells.{count_up};
 ghost use Rattle.channel_plan.specs.Tokens.{tokens_among, turn_of, turns_used};
 
 use sanlp::Tag;
@@ -76,7 +75,9 @@ pub(crate) fn token_count(is_token: &[bool]) -> u32
 // For each turn, how many turns before it are tokens.
 fn token_numbers(alloc: Global, is_token: &[bool]) -> Result<Vec<u32>, AllocError>
     requires { length is_token.now < 4294967296 }
-    ensures { IfOk result (λ numbers. numbers.items ≡ map (λ turn. count_by (λ mark. mark) (take turn is_token.now)) (count_up 0 (length is_token.now))) }
+    ensures { IfOk result (λ numbers.
+        numbers.items ≡ map (λ turn. count_by (λ mark. mark) (take turn is_token.now))
+        (range_with_len 0 (length is_token.now))) }
 {
     let mut numbers = Vec::with_capacity(alloc, is_token.len())?;
     let mut number = 0;

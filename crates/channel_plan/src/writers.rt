@@ -1,6 +1,5 @@
-ghost use Rattle.std.specs.List.{All, filter, list_any};
+ghost use Rattle.std.specs.List.{All, filter, list_any, range_with_len};
 ghost use Rattle.std.specs.Prelude.{◌≡◌, ◌<◌, false, length, map, slice_index_or, IfOk};
-ghost use Rattle.sanlp.specs.Cells.{count_up};
 ghost use Rattle.channel_plan.specs.Reads.{AreFew, IsTurnAmong};
 ghost use Rattle.channel_plan.specs.Tokens.{is_from, writers_of};
 
@@ -14,7 +13,9 @@ fn marked_writers(
     sources: &[Option<Tag>],
 ) -> Result<Vec<bool>, AllocError>
     requires { All (IsTurnAmong turns.now) sources.now }
-    ensures { IfOk result (λ marks. marks.items ≡ map (λ w. list_any (is_from w) sources.now) (count_up 0 (length turns.now))) }
+    ensures { IfOk result (λ marks.
+        marks.items ≡ map (λ w. list_any (is_from w) sources.now)
+        (range_with_len 0 (length turns.now))) }
 {
     let mut marks = vec![in alloc; false; turns.len()]?;
     for source in sources {
@@ -28,7 +29,9 @@ fn marked_writers(
 // The places of the marks, ascending.
 fn places(alloc: Global, marks: &[bool]) -> Result<Vec<u32>, AllocError>
     requires { length marks.now < 4294967296 }
-    ensures { IfOk result (λ places. places.items ≡ filter (λ place. slice_index_or marks.now place false) (count_up 0 (length marks.now))) }
+    ensures { IfOk result (λ places.
+        places.items ≡ filter (λ place. slice_index_or marks.now place false)
+        (range_with_len 0 (length marks.now))) }
 {
     let mut places = Vec::new(alloc);
     for (place, mark) in marks.iter().enumerate() {

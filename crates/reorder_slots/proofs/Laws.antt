@@ -9,7 +9,8 @@ use Rattle.std.specs.Option.{option_map}
 use Rattle.std.proofs.lemmas.Bool.{cases_lt, and_parts, and_from, leb-true, le-leb, false_from_ne_true}
 use Rattle.std.proofs.lemmas.List.{take_all, length_push}
 use Rattle.std.proofs.lemmas.Option.{slice_get_within, get_or_from_slice_get, slice_get-map, slice_get-get_or, same_Some}
-use Rattle.reorder_slots.specs.Slots.{FindsItsToken, KeepsUntilUsed, Held, after_get, after_gets, gets_for, held_after, hold_of, is_wanted, lowest_free, never_falls, slots_of_gets}
+use Rattle.channel_class.specs.Classes.{never_falls}
+use Rattle.reorder_slots.specs.Slots.{FindsItsToken, KeepsUntilUsed, Held, after_get, after_gets, gets_for, held_after, hold_of, is_wanted, lowest_free, slots_of_gets}
 use Rattle.reorder_slots.specs.Readers.{KeepsTokens}
 use Rattle.reorder_slots.proofs.Uses.{named_before, named_below, wanted_at, wanted_from}
 use Rattle.reorder_slots.proofs.Held.{KeepsTokens-get, length-filled, lowest_free-is}

@@ -82,9 +82,3 @@ KeepsUntilUsed uses =
 -- the uses name every token below their greatest
 abbrev pub NamesAllBelow : List ℕ → Type 0
 NamesAllBelow uses = (token : ℕ) → token < gets_for uses → IsTrue (list_any (λ named. named == token) uses)
-
--- no use names an earlier token than the use before it
-abbrev pub never_falls : List ℕ → Bool
-never_falls [] = true
-never_falls (token ∷ []) = true
-never_falls (token ∷ next ∷ uses) = nat_le token next && never_falls (next ∷ uses)

@@ -1,5 +1,6 @@
 ghost use Rattle.std.specs.Prelude.{◌≡◌, ◌<◌, ◌↔◌, length, All, IfOk, IsTrue};
-ghost use Rattle.reorder_slots.specs.Slots.{FindsItsToken, NamesAllBelow, gets_before, hold_of, never_falls, slots_of_gets, slots_of_uses};
+ghost use Rattle.channel_class.specs.Classes.{never_falls};
+ghost use Rattle.reorder_slots.specs.Slots.{FindsItsToken, NamesAllBelow, gets_before, hold_of, slots_of_gets, slots_of_uses};
 
 use crate::reader::Reader;
 use crate::tokens::last_uses;

@@ -37,8 +37,8 @@ add_channels_to-requires-clause-few c =
     let turns = c.deref.ensures.value ∙ c.in_ok-turns.ensures ∙ ap (map length) c.requires.points ∙ turns_are n in
     subst AreFew (sym turns) (few_turns n c.requires.size)
 
-pub add_channels_to-requires-clause-slots : goal.add_channels_to-requires-clause-slots
-add_channels_to-requires-clause-slots c =
+pub add_channels_to-requires-clause-reads : goal.add_channels_to-requires-clause-reads
+add_channels_to-requires-clause-reads c =
     let n = c.args.nest.now in
     let p = c.loop-reader.reader in
     let s = c.statement-item.result in

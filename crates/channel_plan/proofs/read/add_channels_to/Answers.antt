@@ -1,9 +1,8 @@
 use Rattle.std.proofs.Common.{◌≡◌, ◌++◌, ℕ, [], length, get_or, ap, sym, ◌∙◌, arith, append_assoc}
-use Rattle.std.specs.List.{flat_map}
+use Rattle.std.specs.List.{flat_map, range_with_len}
 use Rattle.std.proofs.lemmas.List.{get_or_read}
-use Rattle.sanlp.specs.Cells.{count_up}
 use Rattle.channel_plan.specs.Reads.{channels_of, channels_to}
-use Rattle.channel_plan.proofs.Counts.{flat_map-count_up-push}
+use Rattle.sanlp.proofs.Lists.{flat_map-range_with_len_more}
 use Rattle.channel_plan.proofs.read.add_channels_to.Goals as goal
 
 pub loop-read-preserved : goal.loop-read-preserved
@@ -12,17 +11,17 @@ loop-read-preserved c =
     let reads = c.args.reads.now in
     let read = c.loop-read.read in
     let channels = λ (k : ℕ). channels_of turns c.args.reader k (get_or reads k []) in
-    let before = flat_map channels (count_up 0 read) in
+    let before = flat_map channels (range_with_len 0 read) in
     let source = c.as_slice.ensures ∙ get_or_read reads read c.index-reads-read.result c.loop-read-test.true c.index-reads-read.is [] in
     c.in_ok-add_channels_of.ensures
     ∙ ap (λ old. old ++ channels_of turns c.args.reader read c.as_slice.result.now) c.loop-read.invariant
     ∙ ap (λ sources. (c.args.plans.now.items ++ before) ++ channels_of turns c.args.reader read sources) source
     ∙ append_assoc c.args.plans.now.items before (channels read)
-    ∙ ap (λ new. c.args.plans.now.items ++ new) (sym (flat_map-count_up-push channels read))
+    ∙ ap (λ new. c.args.plans.now.items ++ new) (sym (flat_map-range_with_len_more channels 0 read read (omega arith)))
 
 pub returns : goal.returns
 unfolding channels_to
 returns c =
     let channels = λ (k : ℕ). channels_of c.args.turns.now c.args.reader k (get_or c.args.reads.now k []) in
     let all : c.loop-read.read ≡ length c.args.reads.now = omega arith in
-    c.loop-read.invariant ∙ ap (λ m. c.args.plans.now.items ++ flat_map channels (count_up 0 m)) all
+    c.loop-read.invariant ∙ ap (λ m. c.args.plans.now.items ++ flat_map channels (range_with_len 0 m)) all

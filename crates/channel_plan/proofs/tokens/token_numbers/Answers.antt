@@ -1,7 +1,7 @@
-use Rattle.std.proofs.Common.{◌++◌, ◌∷◌, [], map, take, count_by, sym, ap, ◌∙◌, ◌+◌}
+use Rattle.std.proofs.Common.{◌++◌, ◌∷◌, [], map, take, count_by, sym, ap, ◌∙◌, ◌+◌, arith}
 use Rattle.std.proofs.lemmas.List.Sums.{count_by_more_no, count_by_more_yes}
-use Rattle.sanlp.specs.Cells.{count_up}
-use Rattle.channel_plan.proofs.Counts.{map-count_up-push}
+use Rattle.std.proofs.lemmas.List.FromFn.{map-range_with_len_more}
+use Rattle.std.specs.List.{range_with_len}
 use Rattle.channel_plan.proofs.tokens.token_numbers.Goals as goal
 use Rattle.channel_plan.proofs.tokens.token_numbers.Goals.{then-mark, else-mark}
 
@@ -21,6 +21,6 @@ loop-mark-preserved c =
       numbers =
           c.in_ok-push.ensures.items
           ∙ ap (λ ns. ns ++ c.loop-mark.number ∷ []) c.loop-mark.invariant.numbers
-          ∙ ap (λ n. map (λ turn. count_by (λ mark. mark) (take turn marks)) (count_up 0 index) ++ n ∷ []) c.loop-mark.invariant.number
-          ∙ sym (map-count_up-push (λ turn. count_by (λ mark. mark) (take turn marks)) index);
+          ∙ ap (λ n. map (λ turn. count_by (λ mark. mark) (take turn marks)) (range_with_len 0 index) ++ n ∷ []) c.loop-mark.invariant.number
+          ∙ sym (map-range_with_len_more (λ turn. count_by (λ mark. mark) (take turn marks)) 0 index index (omega arith));
     }

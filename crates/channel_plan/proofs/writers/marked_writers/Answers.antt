@@ -1,15 +1,15 @@
 use Rattle.std.proofs.Common.{false, sym, ap, ◌∙◌, set, true, refl, length, None}
 use Rattle.std.proofs.lemmas.Bool.{eq-eqb, ne_eqb}
 use Rattle.channel_plan.specs.Tokens.{is_from}
-use Rattle.channel_plan.proofs.Counts.{mapped_replicate}
 use Rattle.channel_plan.proofs.Marks.{passed_more, passed_same}
 use Rattle.channel_plan.proofs.writers.marked_writers.Goals as goal
 use Rattle.channel_plan.proofs.writers.marked_writers.Goals.{in-Some, in_default}
+use Rattle.sanlp.proofs.Lists.{map-range_with_len_replicate}
 
 pub loop-source-init : goal.loop-source-init
 loop-source-init c =
     c.in_ok-marks.ensures.items_if_clones_equal (λ y h. h)
-    ∙ sym (mapped_replicate (λ k. false) false 0 (length c.args.turns.now) (λ k. refl))
+    ∙ sym (map-range_with_len_replicate (λ k. false) false 0 (length c.args.turns.now) (λ k. refl))
 
 pub loop-source-preserved : goal.loop-source-preserved
 loop-source-preserved c =

@@ -1,0 +1,74 @@
+-- One slot is enough for a channel of a nest exactly where its class is in order.
+--
+-- A channel is there only for a writer of which some source of the read is a turn, so it has a use. With a use, one slot
+-- is enough exactly where no use names an earlier token than the use before it; and the class is in order exactly there.
+-- So both sides are the same question on the uses, for each channel by itself. Nothing is said here of how many slots a
+-- channel out of order needs.
+use Rattle.std.proofs.Common.{◌≡◌, ◌<◌, ◌==◌, ℕ, List, [], ◌∷◌, ◌||◌, Bool, true, false, cond, Some, None, length, refl, arith, IsTrue, ◌↔◌}
+use Rattle.std.specs.Prelude.{Option, map}
+use Rattle.std.specs.List.{All, cons_option, flat_map, list_any, range_with_len}
+use Rattle.std.proofs.lemmas.List.{length-map}
+use Rattle.std.proofs.lemmas.List.Elements.{All-cons, All-head, All-nil, All-tail, filter_passes}
+use Rattle.channel_class.specs.Classes.{never_falls}
+use Rattle.channel_class.specs.declared.UseOrder.{UseOrder}
+use Rattle.channel_class.specs.declared.UseOrder.TheVariants.{InOrder, Reorder}
+use Rattle.reorder_slots.proofs.Laws.{one_slot}
+use Rattle.sanlp.specs.Access.{read_count}
+use Rattle.sanlp.specs.declared.nest.Nest.{Nest}
+use Rattle.sanlp.specs.declared.nest.Tag.{Tag}
+use Rattle.sanlp.proofs.Each.{Each, each_flat_map, each_map, each_of, each_then}
+use Rattle.channel_plan.specs.declared.plans.ChannelPlan.{ChannelPlan}
+use Rattle.channel_plan.specs.Plans.{HasOneSlotInOrder, plan_of, plans_at, plans_of, sources_at}
+use Rattle.channel_plan.specs.Tokens.{is_from, tokens_below, turns_used, uses_of, writers_of}
+
+all_from_each : {X : Type 0} (P : X → Type 0) (xs : List X) → Each P xs → All P xs
+all_from_each P [] h = All-nil P
+all_from_each P (x ∷ xs) h = All-cons P x xs h.0 (all_from_each P xs h.1)
+
+each_from_all : {X : Type 0} (P : X → Type 0) (xs : List X) → All P xs → Each P xs
+each_from_all P [] h = tt
+each_from_all P (x ∷ xs) h = (All-head P x xs h, each_from_all P xs (All-tail P x xs h))
+
+some_used : (b rest : Bool) (turn : ℕ) (used : List ℕ) → (b || rest) ≡ true → (rest ≡ true → 0 < length used)
+    → 0 < length (cons_option (cond b (Some turn) None) used)
+some_used true rest turn used h later = omega arith
+some_used false rest turn used h later = later h
+
+has_use : (w : ℕ) (sources : List (Option Tag)) → list_any (is_from w) sources ≡ true → 0 < length (turns_used w sources)
+has_use w [] h = absurd (cc)
+has_use w (None ∷ sources) h = has_use w sources h
+has_use w (Some tag ∷ sources) h =
+    some_used (tag.process == w) (list_any (is_from w) sources) tag.turn (turns_used w sources) h (has_use w sources)
+
+in_order_where : (b : Bool) → (cond b InOrder Reorder ≡ InOrder) ↔ IsTrue b
+in_order_where true = (λ e. refl, λ t. refl)
+in_order_where false = (λ e. absurd (cc), λ t. absurd (cc))
+
+of_plan : (n : Nest) (p k w : ℕ) → list_any (is_from w) (sources_at n p k) ≡ true → HasOneSlotInOrder (plan_of n p k w)
+of_plan n p k w from =
+    let used = turns_used w (sources_at n p k) in
+    let uses = uses_of used in
+    let some : 0 < length uses = omega (arith, has_use w (sources_at n p k) from, length-map used (tokens_below used)) in
+    let one = one_slot uses some in
+    let order = in_order_where (never_falls uses) in
+    (λ h. order.1 (one.0 h), λ h. one.1 (order.0 h))
+
+of_read : (n : Nest) (p k : ℕ) → Each HasOneSlotInOrder (plans_at n p k)
+of_read n p k =
+    let sources = sources_at n p k in
+    each_map HasOneSlotInOrder (plan_of n p k) (writers_of (length n.statements) sources)
+    (each_then (λ w. list_any (is_from w) sources ≡ true) (λ w. HasOneSlotInOrder (plan_of n p k w)) (writers_of (length n.statements) sources)
+    (of_plan n p k)
+    (each_from_all (λ w. list_any (is_from w) sources ≡ true) (writers_of (length n.statements) sources)
+    (filter_passes (λ w. list_any (is_from w) sources) (range_with_len 0 (length n.statements)))))
+
+pub one_slot_in_order : (n : Nest) → All HasOneSlotInOrder (plans_of n)
+unfolding plans_of
+one_slot_in_order n =
+    let reads : ℕ → List ℕ = λ p. range_with_len 0 (read_count n p) in
+    let processes : List ℕ = range_with_len 0 (length n.statements) in
+    all_from_each HasOneSlotInOrder (flat_map (λ p. flat_map (plans_at n p) (reads p)) processes)
+    (each_flat_map HasOneSlotInOrder (λ p. flat_map (plans_at n p) (reads p)) processes
+    (each_of (λ p. Each HasOneSlotInOrder (flat_map (plans_at n p) (reads p))) processes (λ p.
+    each_flat_map HasOneSlotInOrder (plans_at n p) (reads p)
+    (each_of (λ k. Each HasOneSlotInOrder (plans_at n p k)) (reads p) (of_read n p)))))

@@ -2,13 +2,15 @@
 use Rattle.std.proofs.Common.{ℕ, zero, suc, ℤ, List, ◌≡◌, ◌≢◌, ◌⊎◌, ◌+◌, ◌<◌, ◌≤◌, ◌==◌, ◌∷◌, ◌++◌, [], Bool, true, false, cond, map, length, Option, Some, None, Result, Ok, Err, refl, sym, ◌∙◌, ap, arith, inl, inr, append_assoc}
 use Rattle.std.specs.Prelude.{IfOk, replicate, filter_map, find, is_some, is_none, ok_or, slice_get, slice_set, slice_index_or, option_map, if◌then◌else◌}
 use Rattle.std.specs.Option.{option_map_or, option_or}
-use Rattle.std.specs.List.{cons_option, position_from}
+use Rattle.std.specs.List.{cons_option, position_from, range_with_len}
 use Rattle.std.proofs.lemmas.Bool.{cases_Bool, and_parts, eqb-true, ne_eqb, eq-eqb}
-use Rattle.std.proofs.lemmas.List.{append-nil, length-map}
+use Rattle.std.proofs.lemmas.List.{append-nil}
 use Rattle.std.proofs.lemmas.List.Folds.{find-append}
+use Rattle.std.proofs.lemmas.List.FromFn.{get_or-map-range_with_len, length-map-range_with_len}
 use Rattle.sanlp.specs.declared.nest.ArrayDecl.{ArrayDecl}
-use Rattle.sanlp.specs.Cells.{cell_count, count_up, is_input, input_count}
+use Rattle.sanlp.specs.Cells.{cell_count, is_input, input_count}
 use Rattle.sanlp.specs.WellFormed.{numbers_from}
+use Rattle.sanlp.proofs.Lists.{map-range_with_len_same, map-range_with_len_replicate}
 use Rattle.array_data.specs.declared.error.DataError.{DataError}
 use Rattle.array_data.specs.declared.error.DataError.TheVariants.{UnknownArray, Twice, Missing, Count, NotANumber, Memory}
 use Rattle.array_data.specs.Data.{Gives, Record, array_named, field_fault, first_fault, lists_or_fault, name_of, record_fault, record_of, unless, value_fields, value_of, values_fault, values_in, wanted_count}
@@ -94,22 +96,13 @@ values_taken_agree arrays earlier row a =
 
 -- The values at the numbers of the arrays
 
-get_or-map-count_up : {X : Type 0} (f : ℕ → X) (s n i : ℕ) (d : X) → i < n → slice_index_or (map f (count_up s n)) i d ≡ f (s + i)
-get_or-map-count_up f s zero i d within = absurd (omega arith)
-get_or-map-count_up f s (suc n) zero d within = let e : s ≡ s + 0 = omega arith in ap f e
-get_or-map-count_up f s (suc n) (suc i) d within = let e : s + 1 + i ≡ s + suc i = omega arith in get_or-map-count_up f (s + 1) n i d (omega arith) ∙ ap f e
-
-same_above : {X : Type 0} (f g : ℕ → X) (s n : ℕ) → ((b : ℕ) → s ≤ b → f b ≡ g b) → map f (count_up s n) ≡ map g (count_up s n)
-same_above f g s zero same = refl
-same_above f g s (suc n) same = let first = same s (omega arith) in let more = same_above f g (s + 1) n (λ b above. same b (omega arith)) in cc
-
 -- two functions that differ at one number alone
-changed_at : {X : Type 0} (f g : ℕ → X) (s n i j : ℕ) → s + i ≡ j → i < n → ((b : ℕ) → b ≢ j → f b ≡ g b) → map f (count_up s n) ≡ slice_set (map g (count_up s n)) i (f j)
+changed_at : {X : Type 0} (f g : ℕ → X) (s n i j : ℕ) → s + i ≡ j → i < n → ((b : ℕ) → b ≢ j → f b ≡ g b) → map f (range_with_len s n) ≡ slice_set (map g (range_with_len s n)) i (f j)
 changed_at f g s zero i j at within same = absurd (omega arith)
 changed_at f g s (suc n) zero j at within same =
     let here : s ≡ j = omega (arith, at) in
     let first = ap f here in
-    let more = same_above f g (s + 1) n (λ b above. same b (omega (arith, here))) in cc
+    let more = map-range_with_len_same f g (s + 1) n (λ b above below. same b (omega (arith, here))) in cc
 changed_at f g s (suc n) (suc i) j at within same =
     let first = same s (omega (arith, at)) in
     let more = changed_at f g (s + 1) n i j (omega (arith, at)) (omega arith) same in cc
@@ -196,7 +189,7 @@ taken_for arrays earlier row given a named after =
     let within : a < length arrays = let below = k.2 in omega (arith, here, below) in
     let values_of : ℕ → Option (List ℤ) = λ b. option_map values_in (record_of arrays earlier b) in
     let start : 0 + a ≡ a = omega arith in
-    let old : slice_index_or given a None ≡ values_of a = ap (λ (g : Given). slice_index_or g a None) after.0 ∙ get_or-map-count_up values_of 0 (length arrays) a None within ∙ ap values_of start in
+    let old : slice_index_or given a None ≡ values_of a = ap (λ (g : Given). slice_index_or g a None) after.0 ∙ get_or-map-range_with_len values_of 0 (length arrays) a a None within start in
     let is : is_some (slice_index_or given a None) ≡ is_some (record_of arrays earlier a) = ap is_some old ∙ is_some-map values_in (record_of arrays earlier a) in
     let count : wanted_count arrays a ≡ cell_count k.3.0.extents = rw there refl in
     rw is (placed_agrees (AreTaken arrays earlier row a) (IsAfter arrays (earlier ++ row ∷ [])) given a _ _
@@ -234,25 +227,17 @@ pub record HaveGiven (arrays : List ArrayDecl) (rows : List Record) (given : Giv
   pub no_fault : first_fault arrays [] rows ≡ None
   pub after : IsAfter arrays rows given
 
-given_none : (s n : ℕ) → ◌≡◌ {A = Given} (map (λ a. None) (count_up s n)) (replicate n None)
-given_none s zero = refl
-given_none s (suc n) = ap (λ (g : Given). None ∷ g) (given_none (s + 1) n)
-
 fits_none : (arrays : List ArrayDecl) → Fits arrays (replicate (length arrays) None)
 fits_none [] = tt
 fits_none (array ∷ arrays) = fits_none arrays
 
 -- no records have no values
 pub none_given : (arrays : List ArrayDecl) → HaveGiven arrays [] (replicate (length arrays) None)
-none_given arrays = record { no_fault = refl; after = (sym (given_none 0 (length arrays)), fits_none arrays) }
-
-length-count_up : (s n : ℕ) → length (count_up s n) ≡ n
-length-count_up s zero = refl
-length-count_up s (suc n) = ap suc (length-count_up (s + 1) n)
+none_given arrays = record { no_fault = refl; after = (sym (map-range_with_len_replicate (λ a. option_map values_in (record_of arrays [] a)) None 0 (length arrays) (λ a. refl)), fits_none arrays) }
 
 -- there is a place for each array
 pub length-given : (arrays : List ArrayDecl) (rows : List Record) (given : Given) → HaveGiven arrays rows given → length given ≡ length arrays
-length-given arrays rows given have = ap length have.after.0 ∙ length-map (count_up 0 (length arrays)) _ ∙ length-count_up 0 (length arrays)
+length-given arrays rows given have = ap length have.after.0 ∙ length-map-range_with_len _ 0 (length arrays)
 
 -- one more record that is taken
 pub more_given : (arrays : List ArrayDecl) (rows : List Record) (row : Record) (given new : Given) → HaveGiven arrays rows given
@@ -279,8 +264,8 @@ before_unless values (Some fault) lists = refl
 
 -- the lists of the arrays from number s on, where `of` gives the record of each
 collected_from : (of : ℕ → Option Record) (s : ℕ) (arrays : List ArrayDecl)
-    → collected s arrays (map (λ a. option_map values_in (of a)) (count_up s (length arrays)))
-    ≡ unless (option_map Missing (find (λ a. is_none (of a)) (numbers_from (λ array. is_input array.kind) s arrays))) (map (λ a. option_map_or values_in (of a) []) (count_up s (length arrays)))
+    → collected s arrays (map (λ a. option_map values_in (of a)) (range_with_len s (length arrays)))
+    ≡ unless (option_map Missing (find (λ a. is_none (of a)) (numbers_from (λ array. is_input array.kind) s arrays))) (map (λ a. option_map_or values_in (of a) []) (range_with_len s (length arrays)))
 collected_from of s [] = refl
 collected_from of s (array ∷ arrays) =
     let more = collected_from of (s + 1) arrays in

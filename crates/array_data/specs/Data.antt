@@ -1,13 +1,13 @@
 -- Input values as CSV: each record is the name of an `in` or `inout` array, and then its values in row-major order.
 use Rattle.std.specs.Prelude.{◌≡◌, ℕ, ◌+◌, ◌-◌, ◌*◌, ◌==◌, ◌&&◌, ◌||◌, ℤ, pos, neg_ℤ, Bool, false, List, [], ◌∷◌, ◌++◌, map, length, take, drop, find, filter_map, fold, nat_le, not, is_some, is_none, bytes_eq, Option, Some, None, Result, Ok, Err, if◌then◌else◌, slice_get, slice_index_or}
 use Rattle.std.specs.Char.{is_ascii_digit}
-use Rattle.std.specs.List.{list_all, prefix_len, suffix_len, position_from}
+use Rattle.std.specs.List.{list_all, prefix_len, suffix_len, position_from, range_with_len}
 use Rattle.std.specs.Option.{option_map, option_map_or, option_or}
 use Rattle.csv.specs.Reading.{default_config, records, strip_bom}
 use Rattle.sanlp.specs.declared.nest.ArrayDecl.{ArrayDecl}
 use Rattle.sanlp.specs.declared.nest.Inputs.{Inputs}
 use Rattle.sanlp.specs.declared.nest.Nest.{Nest}
-use Rattle.sanlp.specs.Cells.{cell_count, count_up, is_input}
+use Rattle.sanlp.specs.Cells.{cell_count, is_input}
 use Rattle.sanlp.specs.WellFormed.{input_numbers}
 use Rattle.array_data.specs.declared.error.DataError.{DataError}
 use Rattle.array_data.specs.declared.error.DataError.TheVariants.{UnknownArray, Twice, Missing, Count, NotANumber, Memory}
@@ -115,7 +115,7 @@ fault_of arrays rows = option_or (first_fault arrays [] rows) (option_map Missin
 
 -- the values of each array, and none for an array that is no input
 abbrev pub lists_of : List ArrayDecl → List Record → List (List ℤ)
-lists_of arrays rows = map (λ a. option_map_or values_in (record_of arrays rows a) []) (count_up 0 (length arrays))
+lists_of arrays rows = map (λ a. option_map_or values_in (record_of arrays rows a) []) (range_with_len 0 (length arrays))
 
 abbrev pub unless : {A : Type 0} → Option DataError → A → Result A DataError
 unless None value = Ok value

@@ -1,8 +1,9 @@
 -- How the records are judged in turn, with the values so far at the numbers of their arrays.
 use Rattle.std.specs.Prelude.{◌≡◌, ◌<◌, ℕ, ◌+◌, ◌==◌, ℤ, Bool, true, map, List, [], ◌∷◌, length, is_some, ok_or, Option, Some, None, Result, Ok, Err, if◌then◌else◌, slice_index_or, slice_set}
 use Rattle.std.specs.Option.{option_map, option_map_or}
+use Rattle.std.specs.List.{range_with_len}
 use Rattle.sanlp.specs.declared.nest.ArrayDecl.{ArrayDecl}
-use Rattle.sanlp.specs.Cells.{cell_count, count_up, is_input}
+use Rattle.sanlp.specs.Cells.{cell_count, is_input}
 use Rattle.array_data.specs.declared.error.DataError.{DataError}
 use Rattle.array_data.specs.declared.error.DataError.TheVariants.{UnknownArray, Twice, Missing, Count, NotANumber, Memory}
 use Rattle.array_data.specs.Data.{Gives, Record, array_named, first_fault, name_of, record_of, unless, value_fields, value_of, values_in, wanted_count}
@@ -82,7 +83,7 @@ Fits (array ∷ arrays) (None ∷ given) = Fits arrays given
 
 -- the values of the record of each array that has one
 abbrev pub given_by : List ArrayDecl → List Record → Given
-given_by arrays rows = map (λ a. option_map values_in (record_of arrays rows a)) (count_up 0 (length arrays))
+given_by arrays rows = map (λ a. option_map values_in (record_of arrays rows a)) (range_with_len 0 (length arrays))
 
 -- what the records give before it is known which arrays have none
 abbrev pub IsGivenBy : List ArrayDecl → List Record → Result Given DataError → Type 0

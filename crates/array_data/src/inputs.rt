@@ -7,7 +7,7 @@ ghost use Rattle.array_data.specs.Data.{Gives, inputs_of, lists_or_fault, record
 ghost use Rattle.array_data.specs.Judging.{IsMissing, IsGivenBy, collected, given_or_missing};
 
 use crate::error::DataError;
-use crate::record::{is_input, take_record};
+use crate::record::take_record;
 use csv::ReaderBuilder;
 use plain_data::Items;
 use sanlp::{ArrayDecl, Inputs, Nest};
@@ -70,7 +70,7 @@ fn values_or_missing(
     match given {
         Some(values) => Ok(values),
         None => {
-            if is_input(array.kind) {
+            if array.kind.is_input() {
                 Err(missing(number))
             } else {
                 Ok(Items::new(alloc))

@@ -1,8 +1,8 @@
 //! The judgement of one record.
 
-ghost use Rattle.std.specs.Prelude.{◌≡◌, ◌<◌, ◌&&◌, [], IfSome, bytes_eq, length, min, slice_index_or};
+ghost use Rattle.std.specs.Prelude.{◌≡◌, ◌<◌, ◌&&◌, [], IfSome, bytes_eq, length, slice_index_or};
 ghost use Rattle.csv.specs.Records.{fields_of};
-ghost use Rattle.sanlp.specs.Cells.{cell_count, is_input as is_read, natural};
+ghost use Rattle.sanlp.specs.Cells.{cell_count, is_input};
 ghost use Rattle.array_data.specs.Data.{Gives, array_named as number_named, value_fields, without_blanks as trimmed};
 ghost use Rattle.array_data.specs.Judging.{IsCountFault, Takes, taken, values_from, values_taken};
 
@@ -10,20 +10,13 @@ use crate::error::DataError;
 use crate::field::{value_of, without_blanks};
 use csv::ByteRecord;
 use plain_data::Items;
-use sanlp::{ArrayDecl, Kind};
+use sanlp::{ArrayDecl, capped_count};
 use std::alloc::Global;
 
-/// Whether arrays of this kind take values.
-pub(crate) fn is_input(kind: Kind) -> bool
-    ensures { result ≡ is_read kind }
-{
-    matches!(kind, Kind::Input | Kind::Both)
-}
-
 fn is_named(array: &ArrayDecl, name: &[u8]) -> bool
-    ensures { result ≡ (is_read array.now.kind && bytes_eq array.now.name name.now) }
+    ensures { result ≡ (is_input array.now.kind && bytes_eq array.now.name name.now) }
 {
-    is_input(array.kind) && array.name.as_slice() == name
+    array.kind.is_input() && array.name.as_slice() == name
 }
 
 // The number of the input array of this name.
@@ -37,23 +30,6 @@ fn array_named(arrays: &[ArrayDecl], name: &[u8]) -> Option<usize>
         }
     }
     None
-}
-
-// A number, or 0 where it is negative.
-fn natural_of(value: i64) -> u64
-    ensures { result ≡ natural value }
-{
-    if value < 0 { 0 } else { value as u64 }
-}
-
-// How many cells an array with these extents has, or the greatest number where there are more.
-fn capped_count(extents: &[i64]) -> u64
-    ensures { result ≡ min (cell_count extents.now) u64.MAX }
-{
-    let Some((extent, inner)) = extents.split_first() else {
-        return 1;
-    };
-    natural_of(*extent).saturating_mul(capped_count(inner))
 }
 
 // The field at this place without the blanks round it, or an empty one past the last.
@@ -105,7 +81,7 @@ fn values_for(
         return Err(DataError::Twice(number));
     }
     let got = row.len().saturating_sub(1) as u64;
-    let want = capped_count(extents);
+    let want = capped_count(extents) as u64;
     if got != want {
         return Err(count_fault(number, got, want));
     }

@@ -7,7 +7,7 @@ use Rattle.std.proofs.lemmas.List.Sums.{count_by-le-length}
 use Rattle.cert_text.specs.CertText.{AreInRange}
 use Rattle.derived_names.proofs.Classes.{has_classes_of_uses}
 use Rattle.derived_names.proofs.Names.{names_last_writers}
-use Rattle.loop_walk.specs.Counting.{SizeIsOk}
+use Rattle.sanlp.specs.Size.{SizeIsOk}
 use Rattle.net_checker.specs.Fits.{Fits}
 use Rattle.net_checker.specs.Shapes.{read_total}
 use Rattle.net_core.proofs.Ready.{script_short}

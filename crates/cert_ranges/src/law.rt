@@ -1,5 +1,5 @@
 ghost use Rattle.cert_text.specs.CertText.{AreInRange};
-ghost use Rattle.loop_walk.specs.Counting.{SizeIsOk};
+ghost use Rattle.sanlp.specs.Size.{SizeIsOk};
 ghost use Rattle.net_checker.specs.Fits.{Fits};
 ghost use Rattle.net_maker.specs.Certificates.{cert_of};
 ghost use Rattle.sanlp.specs.declared.nest.Nest.{Nest};

@@ -28,10 +28,10 @@ use Rattle.process_derive.specs.Derived.{channel_of, net}
 use Rattle.process_derive.specs.Scripts.{Usage, puts_from, ref_of, usage}
 use Rattle.process_derive.proofs.Numbers.{script_at}
 use Rattle.process_derive.proofs.Wired.{channel_at, item_at}
+use Rattle.sanlp.specs.Access.{read_count}
 use Rattle.sanlp.specs.declared.nest.Nest.{Nest}
 use Rattle.sanlp.specs.declared.nest.Tag.{Tag}
 use Rattle.sanlp.specs.Cells.{count_up}
-use Rattle.source_tree.specs.Sources.{read_count}
 use Rattle.derived_names.proofs.Fires.{no_fire_behind, no_fire_first}
 use Rattle.derived_names.proofs.FoundTokens.{finds_token, points_after, script_splits}
 use Rattle.derived_names.proofs.Gets.{before_fire, events_before, events_split, exists, point_gets, point_refs, source_at_fire}

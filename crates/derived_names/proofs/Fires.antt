@@ -16,12 +16,12 @@ use Rattle.process_derive.specs.Derived.{net}
 use Rattle.process_derive.specs.Scripts.{gets_of, point_events, puts_from, usage}
 use Rattle.process_derive.proofs.Numbers.{script_at}
 use Rattle.process_derive.proofs.Wired.{IsGet, all_gets, event_is}
+use Rattle.sanlp.specs.Access.{read_count}
 use Rattle.sanlp.specs.declared.nest.Nest.{Nest}
 use Rattle.sanlp.specs.Cells.{count_up}
 use Rattle.sanlp.proofs.Each.{Each, each_flat_map, each_map, each_of, each_then}
 use Rattle.sanlp.proofs.Lists.{slice_get-append_right}
 use Rattle.sanlp.proofs.Members.{at_in, each_in}
-use Rattle.source_tree.specs.Sources.{read_count}
 use Rattle.derived_names.proofs.FoundTokens.{take_before}
 use Rattle.derived_names.proofs.Gets.{before_fire, events_before, events_more, events_split, point_gets, point_refs}
 use Rattle.derived_names.proofs.Lists.{get_left}

@@ -9,12 +9,12 @@
 use Rattle.std.proofs.Common.{◌≡◌, ℕ, zero, suc, ◌+◌, ◌-◌, ◌<◌, ◌≤◌, Bool, true, false, cond, Option, Some, None, List, [], ◌∷◌, ◌++◌, length, map, take, slice_get, count_by, refl, sym, ap, ◌∙◌, inl, inr, arith, append_assoc}
 use Rattle.std.specs.Prelude.{slice_index, slice_index_or, ◌==◌, ◌&&◌}
 use Rattle.std.specs.List.{cons_option, flat_map}
-use Rattle.std.specs.Option.{option_map}
 use Rattle.std.proofs.lemmas.Bool.{cases_Bool, cases_eq, eq-eqb, ne_eqb}
 use Rattle.std.proofs.lemmas.List.{append-nil, length-map, map-append}
 use Rattle.std.proofs.lemmas.List.Concat.{flat_map-append, flat_map-cons}
 use Rattle.std.proofs.lemmas.List.Folds.{flat_map-map}
-use Rattle.std.proofs.lemmas.Option.{same_Some, slice_get-map, slice_get_within}
+use Rattle.std.proofs.lemmas.List.FromFn.{length-map-range_with_len}
+use Rattle.std.proofs.lemmas.Option.{same_Some, slice_get_within}
 use Rattle.channel_plan.specs.declared.plans.ChannelPlan.{ChannelPlan}
 use Rattle.channel_plan.specs.Plans.{plan_of, plans_of, slot_plan, sources_at, turn_count}
 use Rattle.channel_plan.specs.Tokens.{tokens_below, turn_of, turns_used, uses_of}
@@ -32,13 +32,12 @@ use Rattle.process_derive.proofs.Tags.{length-sources}
 use Rattle.process_derive.proofs.Wired.{IsChannelOf, all_channels, item_at}
 use Rattle.reorder_slots.specs.Slots.{gets_for, slots_of_gets}
 use Rattle.reorder_slots.proofs.Gets.{more_gets}
+use Rattle.sanlp.specs.Access.{read_count}
 use Rattle.sanlp.specs.declared.nest.Nest.{Nest}
 use Rattle.sanlp.specs.declared.nest.Tag.{Tag}
 use Rattle.sanlp.specs.Cells.{count_up}
-use Rattle.sanlp.proofs.Lists.{count_up-append}
+use Rattle.sanlp.proofs.Lists.{count_up-append, slice_get-map-range_with_len}
 use Rattle.sanlp.proofs.Members.{at_in, each_in}
-use Rattle.source_tree.specs.Sources.{read_count}
-use Rattle.source_tree.proofs.Numbered.{length-count_up, slice_get-count_up}
 use Rattle.derived_names.proofs.Lists.{count_up_more, one_joined}
 use Rattle.derived_names.proofs.UsesOfFires.{no_use, source_same, turns_read, use_here, use_is, used_where}
 
@@ -285,7 +284,7 @@ module _ (n : Nest) (p k w c : ℕ) (found : slice_get (plans_of n) c ≡ Some (
 
   pub fire_count : (f : ℕ) → f < turn_count n p → count_by (is_get c) (before_fire n p f) ≡ gets_made (suc f)
   fire_count f lt =
-      sym (got_count c (before_fire n p f)) ∙ ap length (fire_got f lt) ∙ length-map (count_up 0 (gets_made (suc f))) place ∙ length-count_up 0 (gets_made (suc f))
+      sym (got_count c (before_fire n p f)) ∙ ap length (fire_got f lt) ∙ length-map-range_with_len place 0 (gets_made (suc f))
 
   -- each Get of the channel is into the slot of its number
   pub slot_is : (i slot : ℕ) → slice_get ((net_of (net n)).script p) i ≡ Some (Get c slot)
@@ -296,8 +295,8 @@ module _ (n : Nest) (p k w c : ℕ) (found : slice_get (plans_of n) c ≡ Some (
       let all : slots_got c events ≡ map place (count_up 0 (gets_made (turn_count n p))) = ap (slots_got c) (script_at n p exists.reader) ∙ points_got (turn_count n p) (omega arith) in
       let at : slice_get (map place (count_up 0 (gets_made (turn_count n p)))) m ≡ Some slot = ap (λ xs. slice_get xs m) (sym all) ∙ got_at c events i slot e in
       let within : m < gets_made (turn_count n p) =
-      omega (arith, slice_get_within (map place (count_up 0 (gets_made (turn_count n p)))) m slot at, length-map (count_up 0 (gets_made (turn_count n p))) place, length-count_up 0 (gets_made (turn_count n p))) in
+      omega (arith, slice_get_within (map place (count_up 0 (gets_made (turn_count n p)))) m slot at, length-map-range_with_len place 0 (gets_made (turn_count n p))) in
       let front : 0 + m ≡ m = omega arith in
       let here : slice_get (map place (count_up 0 (gets_made (turn_count n p)))) m ≡ Some (place m) =
-      slice_get-map place (count_up 0 (gets_made (turn_count n p))) m ∙ ap (option_map place) (slice_get-count_up 0 (gets_made (turn_count n p)) m within) ∙ ap (λ j. Some (place j)) front in
+      slice_get-map-range_with_len place 0 (gets_made (turn_count n p)) m m within front in
       (within, same_Some slot (place m) (sym at ∙ here))

@@ -9,6 +9,7 @@ use Rattle.std.proofs.Common.{◌≡◌, ℕ, ◌+◌, ◌<◌, Option, Some, No
 use Rattle.std.specs.Prelude.{slice_index}
 use Rattle.std.specs.Option.{option_and_then, option_map}
 use Rattle.std.proofs.lemmas.List.{length-map}
+use Rattle.std.proofs.lemmas.List.FromFn.{length-map-range_with_len}
 use Rattle.std.proofs.lemmas.Option.{get_or_from_slice_get, same_Some, slice_get-map, slice_get_within}
 use Rattle.channel_plan.specs.Plans.{plans_of, sources_at, turn_count}
 use Rattle.channel_plan.specs.Tokens.{tokens_below, turns_used, uses_of}
@@ -20,6 +21,7 @@ use Rattle.process_derive.specs.Derived.{net}
 use Rattle.process_derive.specs.Scripts.{Usage, ref_of, slot_base, usage}
 use Rattle.process_derive.proofs.Wired.{item_at}
 use Rattle.reorder_slots.specs.Slots.{slots_of_uses}
+use Rattle.sanlp.specs.Access.{read_count}
 use Rattle.sanlp.specs.declared.nest.Nest.{Nest}
 use Rattle.sanlp.specs.declared.nest.Tag.{Tag}
 use Rattle.sanlp.specs.Cells.{count_up}
@@ -27,8 +29,8 @@ use Rattle.sanlp.specs.Laws.{entries_of}
 use Rattle.sanlp.specs.Tags.{tag_at}
 use Rattle.sanlp.specs.Trace.{trace}
 use Rattle.sanlp.specs.Writers.{last_writer}
-use Rattle.source_tree.specs.Sources.{read_count, source_at}
-use Rattle.source_tree.proofs.Numbered.{length-count_up, slice_get-count_up}
+use Rattle.sanlp.proofs.Lists.{slice_get-map-range_with_len}
+use Rattle.source_tree.specs.Sources.{source_at}
 use Rattle.derived_names.proofs.Fires.{fire_is}
 use Rattle.derived_names.proofs.FoundTokens.{finds_token}
 use Rattle.derived_names.proofs.Gets.{before_fire, point_refs}
@@ -72,10 +74,10 @@ reference_at n p f k r e =
     let numbers : List ℕ = count_up 0 (read_count n p) in
     let usages : List (Option Usage) = map (usage n p f) numbers in
     let front : 0 + k ≡ k = omega arith in
-    let within : k < read_count n p = omega (arith, slice_get_within (map ref_of usages) k r e, length-map usages ref_of, length-map numbers (usage n p f), length-count_up 0 (read_count n p)) in
+    let within : k < read_count n p = omega (arith, slice_get_within (map ref_of usages) k r e, length-map usages ref_of, length-map-range_with_len (usage n p f) 0 (read_count n p)) in
     let here : slice_get (map ref_of usages) k ≡ Some (ref_of (usage n p f k)) =
     slice_get-map ref_of usages k
-    ∙ ap (option_map ref_of) (slice_get-map (usage n p f) numbers k ∙ ap (option_map (usage n p f)) (slice_get-count_up 0 (read_count n p) k within) ∙ ap (λ j. Some (usage n p f j)) front) in
+    ∙ ap (option_map ref_of) (slice_get-map-range_with_len (usage n p f) 0 (read_count n p) k k within front) in
     (within, same_Some r (ref_of (usage n p f k)) (sym e ∙ here))
 
 pub names_last_writers : (n : Nest) → NamesLastWriters n (net_of (net n))

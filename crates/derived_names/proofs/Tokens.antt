@@ -12,17 +12,18 @@ use Rattle.std.proofs.lemmas.Bool.{cases_Bool, eq-eqb, ne_eqb}
 use Rattle.std.proofs.lemmas.List.{append-nil}
 use Rattle.std.proofs.lemmas.List.Concat.{flat_map-cons}
 use Rattle.std.proofs.lemmas.List.Sums.{sum_by-append, sum_by-cons}
+use Rattle.std.proofs.lemmas.List.FromFn.{get_or-map-range_with_len}
 use Rattle.std.proofs.lemmas.Option.{same_Some, slice_get-map}
+use Rattle.sanlp.specs.Access.{read_count}
 use Rattle.sanlp.specs.declared.nest.Nest.{Nest}
 use Rattle.sanlp.specs.declared.nest.Tag.{Tag}
 use Rattle.sanlp.specs.Cells.{count_up}
 use Rattle.sanlp.proofs.Each.{Each, each_flat_map, each_map, each_of}
 use Rattle.sanlp.proofs.Members.{at_in, each_in}
-use Rattle.source_tree.specs.Sources.{read_count}
 use Rattle.channel_plan.specs.declared.plans.ChannelPlan.{ChannelPlan}
 use Rattle.channel_plan.specs.Plans.{plan_of, plans_of, sources_at, turn_count}
 use Rattle.channel_plan.specs.Tokens.{is_used, tokens_among, tokens_below, turns_used}
-use Rattle.channel_plan.proofs.Counts.{get_mapped_first, same_filter_from}
+use Rattle.channel_plan.proofs.Counts.{same_filter_from}
 use Rattle.net_core.specs.declared.network.Channel.{Channel}
 use Rattle.net_core.specs.declared.network.Event.{Event}
 use Rattle.net_core.specs.declared.network.Event.TheVariants.{Get, Fire, Put}
@@ -215,7 +216,7 @@ token_of_turn n p k w c turn e lt is =
     let turns : ℕ = turn_count n w in
     let front : 0 + turn ≡ turn = omega arith in
     let marks : filter (λ f. slice_index_or (tokens_among turns used) f false) (count_up 0 turns) ≡ filter (is_used used) (count_up 0 turns) =
-    same_filter_from (λ f. slice_index_or (tokens_among turns used) f false) (is_used used) 0 turns (λ f from below. get_mapped_first (is_used used) false turns f (omega arith)) in
+    same_filter_from (λ f. slice_index_or (tokens_among turns used) f false) (is_used used) 0 turns (λ f from below. get_or-map-range_with_len (is_used used) 0 turns f f false (omega arith) (omega arith)) in
     let all : tokens (net_of (net n)) c ≡ map (tag w) (filter (is_used used) (count_up 0 turns)) = tokens_are n c (plan_of n p k w) e ∙ ap (map (tag w)) marks in
     let token : slice_get (filter (is_used used) (count_up 0 turns)) (tokens_below used turn) ≡ Some turn =
     found_at (is_used used) 0 turns turn lt (ap (is_used used) front ∙ is) ∙ ap Some front in

@@ -7,13 +7,13 @@ use Rattle.std.proofs.lemmas.Bool.{and_parts, cases_Bool, eq-eqb, or_cases}
 use Rattle.std.proofs.lemmas.List.{append-nil, map-append}
 use Rattle.std.proofs.lemmas.List.Elements.{filter_map-append}
 use Rattle.std.proofs.lemmas.Option.{same_Some, slice_get-map}
+use Rattle.sanlp.specs.Access.{read_count}
 use Rattle.sanlp.specs.declared.nest.Nest.{Nest}
 use Rattle.sanlp.specs.declared.nest.Tag.{Tag}
 use Rattle.sanlp.specs.Cells.{count_up}
 use Rattle.sanlp.proofs.Each.{Each, each_flat_map, each_map, each_of}
-use Rattle.sanlp.proofs.Members.{In, Pairwise, at_in, count_up_ascends, each_in, in_at, in_flat_map, pairwise_flat_map}
-use Rattle.source_tree.specs.Sources.{read_count}
-use Rattle.source_tree.proofs.Numbered.{slice_get-count_up}
+use Rattle.sanlp.proofs.Members.{In, Pairwise, at_in, count_up_ascends, each_in, in_at, in_flat_map, pairwise_flat_map, in_range_with_len}
+use Rattle.sanlp.proofs.Lists.{flat_map-range_with_len_more}
 use Rattle.channel_plan.specs.declared.plans.ChannelPlan.{ChannelPlan}
 use Rattle.channel_plan.specs.Plans.{plan_of, plans_at, plans_of, sources_at, turn_count}
 use Rattle.channel_plan.specs.Tokens.{is_from, is_used, tokens_below, turn_of, turns_used, uses_of, writers_of}
@@ -21,7 +21,7 @@ use Rattle.net_core.specs.Machine.{net_of}
 use Rattle.net_core.specs.Names.{tokens}
 use Rattle.process_derive.specs.Derived.{net}
 use Rattle.process_derive.specs.Scripts.{channel_from, goes_between}
-use Rattle.process_derive.proofs.Lists.{joined_push, take_all, take_next}
+use Rattle.process_derive.proofs.Lists.{take_all, take_next}
 use Rattle.process_derive.proofs.Tags.{IsTurn, length-sources, sources_are}
 use Rattle.process_derive.proofs.Wired.{IsChannelOf, all_channels}
 use Rattle.derived_names.proofs.Tokens.{token_of_turn}
@@ -63,7 +63,7 @@ pub named_before : (used : List ℕ) (w : ℕ) (sources : List (Option Tag)) (f 
 named_before used w sources zero = refl
 named_before used w sources (suc f) =
     ap (λ k. flat_map (named_by_fire used w sources) (count_up 0 k)) (sym (add-one f))
-    ∙ joined_push (named_by_fire used w sources) f
+    ∙ flat_map-range_with_len_more (named_by_fire used w sources) 0 f f (omega arith)
     ∙ ap (λ xs. xs ++ named_by_fire used w sources f) (named_before used w sources f)
     ∙ named_next used w sources f (slice_get sources f) refl
 
@@ -277,17 +277,14 @@ in_map : {X Y : Type 0} (f : X → Y) (xs : List X) (x : X) → In x xs → In (
 in_map f [] x h = h
 in_map f (y ∷ xs) x h = elim h [ inl e ↦ inl (ap f e) | inr l ↦ inr (in_map f xs x l) ]
 
-in_counted : (m k : ℕ) → k < m → In k (count_up 0 m)
-in_counted m k lt = at_in k (count_up 0 m) k (slice_get-count_up 0 m k lt ∙ (let front : 0 + k ≡ k = omega arith in ap Some front))
-
 plan_there : (n : Nest) (p k w : ℕ) → p < length n.statements → k < read_count n p → w < length n.statements → list_any (is_from w) (sources_at n p k) ≡ true
     → In (plan_of n p k w) (plans_of n)
 unfolding plans_of
 plan_there n p k w process read writer from =
-    in_flat_map (λ p. flat_map (plans_at n p) (count_up 0 (read_count n p))) p (plan_of n p k w) (count_up 0 (length n.statements)) (in_counted (length n.statements) p process)
-    (in_flat_map (plans_at n p) k (plan_of n p k w) (count_up 0 (read_count n p)) (in_counted (read_count n p) k read)
+    in_flat_map (λ p. flat_map (plans_at n p) (count_up 0 (read_count n p))) p (plan_of n p k w) (count_up 0 (length n.statements)) (in_range_with_len 0 (length n.statements) p (omega arith) (omega arith))
+    (in_flat_map (plans_at n p) k (plan_of n p k w) (count_up 0 (read_count n p)) (in_range_with_len 0 (read_count n p) k (omega arith) (omega arith))
     (in_map (plan_of n p k) (writers_of (length n.statements) (sources_at n p k)) w
-    (in_filter (λ w. list_any (is_from w) (sources_at n p k)) (count_up 0 (length n.statements)) w (in_counted (length n.statements) w writer) from)))
+    (in_filter (λ w. list_any (is_from w) (sources_at n p k)) (count_up 0 (length n.statements)) w (in_range_with_len 0 (length n.statements) w (omega arith) (omega arith)) from)))
 
 any_found : {X : Type 0} (test : X → Bool) (xs : List X) → list_any test xs ≡ true → (f : ℕ) × (x : X) × (slice_get xs f ≡ Some x) × (test x ≡ true)
 any_found test [] e = absurd (cc)

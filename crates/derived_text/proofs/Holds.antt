@@ -9,8 +9,7 @@ use Rattle.sanlp.specs.declared.nest.Nest.{Nest}
 use Rattle.sanlp.specs.declared.nest.Tag.{Tag}
 use Rattle.sanlp.specs.Cells.{count_up}
 use Rattle.sanlp.proofs.Each.{Each, count_up_below, each_map, each_of, each_then}
-use Rattle.sanlp.proofs.Members.{In, at_in, each_in}
-use Rattle.source_tree.proofs.Numbered.{slice_get-count_up}
+use Rattle.sanlp.proofs.Members.{In, at_in, each_in, in_range_with_len}
 use Rattle.reorder_slots.specs.Slots.{Held, gets_for, held_after, hold_of, slots_of_gets}
 use Rattle.reorder_slots.specs.Readers.{KeepsTokens}
 use Rattle.reorder_slots.proofs.Gets.{KeepsTokens-held, length-held}
@@ -39,9 +38,6 @@ in_map : (f : ℕ → ℕ) (xs : List ℕ) (x : ℕ) → In x xs → In (f x) (m
 in_map f [] x h = h
 in_map f (y ∷ xs) x h = elim h [ inl e ↦ inl (ap f e) | inr later ↦ inr (in_map f xs x later) ]
 
-in_counted : (m k : ℕ) → k < m → In k (count_up 0 m)
-in_counted m k lt = at_in k (count_up 0 m) k (slice_get-count_up 0 m k lt ∙ (let front : 0 + k ≡ k = omega arith in ap Some front))
-
 -- the Gets for all uses name each slot that is held, and no other
 slots_span : (uses : List ℕ) (base : ℕ) → 0 < length uses → span (map (λ m. base + slice_index (slots_of_gets uses) m) (count_up 0 (gets_for uses))) ≡ hold_of uses
 slots_span uses base some =
@@ -55,7 +51,7 @@ slots_span uses base some =
     let last : ℕ = hold_of uses - 1 in
     let there : (s : ℕ) → s < hold_of uses → In (base + s) all = λ s lt.
     let m : ℕ = slice_index held.slots s in
-    subst (λ k. In (base + k) all) (keeps.taken s lt) (in_map slot (count_up 0 gets) m (in_counted gets m (omega (arith, count, keeps.got s lt))))
+    subst (λ k. In (base + k) all) (keeps.taken s lt) (in_map slot (count_up 0 gets) m (in_range_with_len 0 gets m (omega arith) (omega (arith, count, keeps.got s lt))))
     in
     let above : Each (λ x. base ≤ x) all = each_map (λ x. base ≤ x) slot (count_up 0 gets) (each_of (λ m. base ≤ slot m) (count_up 0 gets) (λ m. omega arith)) in
     let below : Each (λ x. x ≤ base + last) all =

@@ -4,12 +4,13 @@ use Rattle.std.specs.Prelude.{Some, slice_get, slice_index_or, count_by}
 use Rattle.std.specs.List.{filter}
 use Rattle.std.proofs.lemmas.List.{length-map}
 use Rattle.std.proofs.lemmas.List.Sums.{length-filter}
+use Rattle.std.proofs.lemmas.List.FromFn.{get_or-map-range_with_len}
 use Rattle.sanlp.specs.declared.nest.Nest.{Nest}
 use Rattle.sanlp.specs.Cells.{count_up}
 use Rattle.channel_plan.specs.declared.plans.ChannelPlan.{ChannelPlan}
 use Rattle.channel_plan.specs.Plans.{plan_of, plans_of, sources_at, turn_count}
 use Rattle.channel_plan.specs.Tokens.{is_used, tokens_among, tokens_below, turns_used}
-use Rattle.channel_plan.proofs.Counts.{get_mapped_first, same_filter_from}
+use Rattle.channel_plan.proofs.Counts.{same_filter_from}
 use Rattle.net_core.specs.declared.network.Event.{Event}
 use Rattle.net_core.specs.Machine.{Net, net_of}
 use Rattle.net_core.specs.Names.{tag, tokens}
@@ -33,7 +34,7 @@ planned n p k w c e =
     let turns : ℕ = turn_count n w in
     let marked : List ℕ = filter (λ f. slice_index_or (tokens_among turns used) f false) (count_up 0 turns) in
     let marks : marked ≡ filter (is_used used) (count_up 0 turns) =
-    same_filter_from (λ f. slice_index_or (tokens_among turns used) f false) (is_used used) 0 turns (λ f from below. get_mapped_first (is_used used) false turns f (omega arith)) in
+    same_filter_from (λ f. slice_index_or (tokens_among turns used) f false) (is_used used) 0 turns (λ f from below. get_or-map-range_with_len (is_used used) 0 turns f f false (omega arith) (omega arith)) in
     puts_are_tokens (net_of (net n)) c
     ∙ ap length (tokens_are n c (plan_of n p k w) e)
     ∙ length-map marked (tag w)

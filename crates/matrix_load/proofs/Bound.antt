@@ -10,6 +10,7 @@ use Rattle.loop_grammar.specs.declared.tree.Part.TheOpen as layer
 use Rattle.loop_grammar.specs.declared.tree.Part.TheVariants.{For, Assign, Block, rolls-For, rolls-Assign, rolls-Block}
 use Rattle.loop_grammar.specs.declared.tree.Part.TheFolds.{fold-roll-Part}
 use Rattle.loop_grammar.specs.declared.tree.BinarySign.{BinarySign}
+use Rattle.loop_grammar.specs.declared.tree.Step.{Step}
 use Rattle.wrap_expr.specs.declared.expr.Expr.{Const}
 use Rattle.loop_class.specs.declared.context.Context.{Context}
 use Rattle.sanlp.specs.Cells.{input_count}
@@ -27,12 +28,15 @@ use Rattle.matrix_load.proofs.Derivation.{matrix_tree}
 
 -- ---- the kinds of part and of bound that stand in the source
 
-for_made : (name : Name) (first : Operand) (second : Name) (inclusive : Bool) (bound : Operand) (third : Name) (body : Part) (c : Context) (l s : ℕ)
-    → part_made (For name first second inclusive bound third body) c l s ≡ part_step (layer.For name first second inclusive bound third (part_made body)) c l s
+for_made : (name : Name) (first : Operand) (second : Name) (inclusive : Bool) (bound : Operand) (third : Name)
+    (step : Step) (body : Part) (c : Context) (l s : ℕ)
+    → part_made (For name first second inclusive bound third step body) c l s
+    ≡ part_step (layer.For name first second inclusive bound third step (part_made body)) c l s
 unfolding part_made
-for_made name first second inclusive bound third body c l s =
-    ap (λ p. part_made p c l s) (sym (rolls-For name first second inclusive bound third body))
-    ∙ ap (λ f. f c l s) (fold-roll-Part Meaning Otherwise part_step other_step (layer.For name first second inclusive bound third body))
+for_made name first second inclusive bound third step body c l s =
+    ap (λ p. part_made p c l s) (sym (rolls-For name first second inclusive bound third step body))
+    ∙ ap (λ f. f c l s)
+    (fold-roll-Part Meaning Otherwise part_step other_step (layer.For name first second inclusive bound third step body))
 
 assign_is : (target : Name) (subscripts : List Operand) (value : Operand) (c : Context) (l s : ℕ)
     → part_made (Assign target subscripts value) c l s ≡ assign_made target subscripts value c l s

@@ -1,4 +1,3 @@
-pub mod Counts
 pub mod Sentence
 pub mod Derivation
 pub mod Bound

@@ -12,7 +12,7 @@ use Rattle.loop_class.specs.Binding.{findings, Binds}
 use Rattle.loop_class.specs.Declarations.{Values}
 use Rattle.loop_class.specs.Reasons.{least_from}
 use Rattle.loop_class.specs.declared.error.BindError.{BindError}
-use Rattle.loop_class.specs.declared.error.BindError.TheVariants.{UnknownName, Duplicate, Unbound, NotAffine, WrongCount, ElseForm, TooManyProcesses, TooDeep, TooManyReads, TooManyRows, Large, Memory}
+use Rattle.loop_class.specs.declared.error.BindError.TheVariants as binding
 use Rattle.matrix_load.specs.Product.{matrix_product, size_given}
 use Rattle.matrix_load.proofs.Bound.{nothing_found}
 use Rattle.matrix_load.proofs.Derivation.{matrix_tree, has_tree}
@@ -38,22 +38,24 @@ derived source found same is =
 pub same_tree : (found : List Token) (tree : Tree) → tokens matrix_product ≡ Ok found → IsTree matrix_product found tree → tree ≡ matrix_tree
 same_tree found tree is h = unique (sentence matrix_product found) tree matrix_tree h (derived matrix_product found refl is)
 
-unfounded : (tree : Tree) (params : Values) (e : BindError) → findings tree params ≡ [] → Binds tree params (Err e) → e ≡ Memory
-unfounded tree params (UnknownName t) none h = absurd (let least = ap (least_from None) none in cc)
-unfounded tree params (Duplicate t) none h = absurd (let least = ap (least_from None) none in cc)
-unfounded tree params (Unbound t) none h = absurd (let least = ap (least_from None) none in cc)
-unfounded tree params (NotAffine t) none h = absurd (let least = ap (least_from None) none in cc)
-unfounded tree params (WrongCount t) none h = absurd (let least = ap (least_from None) none in cc)
-unfounded tree params (ElseForm t) none h = absurd (let least = ap (least_from None) none in cc)
-unfounded tree params (TooManyProcesses t) none h = absurd (let least = ap (least_from None) none in cc)
-unfounded tree params (TooDeep t) none h = absurd (let least = ap (least_from None) none in cc)
-unfounded tree params (TooManyReads t) none h = absurd (let least = ap (least_from None) none in cc)
-unfounded tree params (TooManyRows t) none h = absurd (let least = ap (least_from None) none in cc)
-unfounded tree params (Large t) none h = absurd (let least = ap (least_from None) none in cc)
-unfounded tree params Memory none h = refl
+unfounded : (tree : Tree) (params : Values) (e : BindError) → findings tree params ≡ [] → Binds tree params (Err e) → e ≡ binding.Memory
+unfounded tree params (binding.UnknownName t) none h = absurd (let least = ap (least_from None) none in cc)
+unfounded tree params (binding.Duplicate t) none h = absurd (let least = ap (least_from None) none in cc)
+unfounded tree params (binding.Unbound t) none h = absurd (let least = ap (least_from None) none in cc)
+unfounded tree params (binding.NotAffine t) none h = absurd (let least = ap (least_from None) none in cc)
+unfounded tree params (binding.WrongCount t) none h = absurd (let least = ap (least_from None) none in cc)
+unfounded tree params (binding.ElseForm t) none h = absurd (let least = ap (least_from None) none in cc)
+unfounded tree params (binding.TooManyProcesses t) none h = absurd (let least = ap (least_from None) none in cc)
+unfounded tree params (binding.TooDeep t) none h = absurd (let least = ap (least_from None) none in cc)
+unfounded tree params (binding.TooManyReads t) none h = absurd (let least = ap (least_from None) none in cc)
+unfounded tree params (binding.TooManyRows t) none h = absurd (let least = ap (least_from None) none in cc)
+unfounded tree params (binding.Large t) none h = absurd (let least = ap (least_from None) none in cc)
+unfounded tree params (binding.StepMax t) none h = absurd (let least = ap (least_from None) none in cc)
+unfounded tree params (binding.StepRange t) none h = absurd (let least = ap (least_from None) none in cc)
+unfounded tree params binding.Memory none h = refl
 
 pub bound : (count : ℕ) (found : List Token) (tree : Tree) (params : Values) (e : BindError) → count ≤ 2147483647 → tokens matrix_product ≡ Ok found
-    → IsTree matrix_product found tree → params ≡ size_given count → Binds tree params (Err e) → e ≡ Memory
+    → IsTree matrix_product found tree → params ≡ size_given count → Binds tree params (Err e) → e ≡ binding.Memory
 bound count found tree params e small is h given refused =
     let none : findings tree params ≡ [] =
     ap (findings tree) given ∙ ap (λ (t : Tree). findings t (size_given count)) (same_tree found tree is h) ∙ nothing_found count small in

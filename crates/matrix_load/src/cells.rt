@@ -1,6 +1,6 @@
 ghost use Rattle.std.specs.Prelude.{◌≡◌, ◌≤◌, ◌*◌, IfOk, map};
+ghost use Rattle.std.specs.List.{range_with_len};
 ghost use Rattle.sanlp.specs.Access.{HasInputLengths};
-ghost use Rattle.sanlp.specs.Cells.{count_up};
 ghost use Rattle.sanlp.specs.declared.nest.Nest.{Nest};
 ghost use Rattle.matrix_load.specs.Cells.{a_cell as cell_of_a, b_cell as cell_of_b, matrix_inputs as inputs_of};
 ghost use Rattle.matrix_load.specs.Product.{IsMatrixNest};
@@ -22,7 +22,7 @@ fn b_cell(number: u64) -> i64
 }
 
 fn a_cells(alloc: Global, cells: u64) -> Result<Items<i64>, AllocError>
-    ensures { IfOk result (λ list. list ≡ map cell_of_a (count_up 0 cells)) }
+    ensures { IfOk result (λ list. list ≡ map cell_of_a (range_with_len 0 cells)) }
 {
     let mut list = Items::new(alloc);
     for number in 0..cells {
@@ -32,7 +32,7 @@ fn a_cells(alloc: Global, cells: u64) -> Result<Items<i64>, AllocError>
 }
 
 fn b_cells(alloc: Global, cells: u64) -> Result<Items<i64>, AllocError>
-    ensures { IfOk result (λ list. list ≡ map cell_of_b (count_up 0 cells)) }
+    ensures { IfOk result (λ list. list ≡ map cell_of_b (range_with_len 0 cells)) }
 {
     let mut list = Items::new(alloc);
     for number in 0..cells {

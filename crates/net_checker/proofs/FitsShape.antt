@@ -13,6 +13,7 @@ use Rattle.std.proofs.lemmas.List.Sums.{sum_by-take-le}
 use Rattle.std.proofs.lemmas.Option.{slice_get_past, slice_get_within}
 use Rattle.std.specs.List.{list_all, All}
 use Rattle.std.specs.Option.{option_or, option_map_or}
+use Rattle.sanlp.specs.Access.{read_count}
 use Rattle.sanlp.specs.declared.nest.Nest.{Nest}
 use Rattle.sanlp.specs.Cells.{count_up}
 use Rattle.sanlp.specs.Points.{points_of, vectors_of}
@@ -25,7 +26,6 @@ use Rattle.net_core.specs.declared.network.Network.{Network}
 use Rattle.net_core.specs.declared.refs.Ref.{Ref}
 use Rattle.net_core.specs.declared.refs.Ref.TheVariants.{Zero, Slot}
 use Rattle.net_core.specs.Machine.{Net, net_of}
-use Rattle.net_core.specs.Rules.{read_count}
 use Rattle.net_core.specs.Shape.{fires, is_fire, is_any_get, turns, IsWithin, IsWired, IsShaped}
 use Rattle.net_core.specs.Sound.{FitsNest}
 use Rattle.net_core.proofs.Counting.{count_next}

@@ -2,6 +2,7 @@
 use Rattle.std.proofs.Common.{◌≡◌, ℕ, zero, suc, ◌+◌, ◌<◌, ◌≤◌, ℤ, true, Option, Some, None, List, length, take, slice_get, refl, sym, ap, ap₂, ◌∙◌, inl, inr, arith, add-zero}
 use Rattle.std.specs.List.{sum_by}
 use Rattle.std.specs.Option.{option_or, option_and_then}
+use Rattle.sanlp.specs.Access.{read_count}
 use Rattle.sanlp.specs.declared.nest.Nest.{Nest}
 use Rattle.sanlp.specs.declared.nest.Tag.{Tag}
 use Rattle.sanlp.specs.Laws.{entries_of}
@@ -17,7 +18,6 @@ use Rattle.net_core.specs.declared.refs.Ref.{Ref}
 use Rattle.net_core.specs.Cuts.{positions, IsCounted}
 use Rattle.net_core.specs.Machine.{Net, State, net_of, next, enabled}
 use Rattle.net_core.specs.Names.{name_of, name_at, slot_names, IsNamed}
-use Rattle.net_core.specs.Rules.{read_count}
 use Rattle.net_core.specs.Shape.{fires, turns}
 use Rattle.net_core.specs.Sound.{source_tag, FitsNest}
 use Rattle.net_core.proofs.Valued.{entry_count}

@@ -6,10 +6,10 @@ use Rattle.std.specs.Option.{option_map_or}
 use Rattle.std.proofs.lemmas.Bool.{and_parts, leb-true}
 use Rattle.std.proofs.lemmas.List.Sums.{sum_by_more}
 use Rattle.std.proofs.lemmas.Option.{slice_get_within, get_or_from_slice_get}
+use Rattle.sanlp.specs.Access.{read_count}
 use Rattle.sanlp.specs.declared.nest.ArrayDecl.{ArrayDecl}
 use Rattle.sanlp.specs.declared.nest.Nest.{Nest}
 use Rattle.sanlp.specs.declared.nest.Statement.{Statement}
-use Rattle.net_core.specs.Rules.{read_count}
 use Rattle.net_checker.proofs.Lists.{all_at}
 use Rattle.sanlp.specs.WellFormed.{access_fits, assigns, depth_of, form_fits, statement_fits}
 use Rattle.wrap_expr.specs.Value.{uses_only}

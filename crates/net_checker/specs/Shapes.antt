@@ -2,6 +2,7 @@
 use Rattle.std.specs.Prelude.{ℕ, Bool, true, ◌==◌, ◌&&◌, nat_lt, nat_le, if◌then◌else◌, Option, Some, None, length, count_by}
 use Rattle.std.specs.List.{sum_by, list_all}
 use Rattle.std.specs.Option.{option_or}
+use Rattle.sanlp.specs.Access.{read_count}
 use Rattle.sanlp.specs.declared.nest.Nest.{Nest}
 use Rattle.source_tree.specs.declared.cert.Cert.{Cert}
 use Rattle.net_core.specs.declared.network.Channel.{Channel}
@@ -9,7 +10,6 @@ use Rattle.net_core.specs.declared.network.Event.{Event}
 use Rattle.net_core.specs.declared.network.Event.TheVariants.{Get, Fire, Put}
 use Rattle.net_core.specs.declared.network.Network.{Network}
 use Rattle.net_core.specs.Machine.{Net, net_of}
-use Rattle.net_core.specs.Rules.{read_count}
 use Rattle.net_core.specs.Shape.{is_any_get}
 use Rattle.net_checker.specs.declared.verdict.Refusal.{Refusal}
 use Rattle.net_checker.specs.declared.verdict.Refusal.TheVariants as refusal

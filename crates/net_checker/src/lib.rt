@@ -8,8 +8,6 @@ mod firings;
 mod laws;
 mod parts;
 mod shapes;
-#[cfg(test)]
-mod tests;
 mod verdict;
 
 pub use checker::check;

@@ -1,9 +1,9 @@
 ghost use Rattle.std.specs.Prelude.{◌≡◌, ◌≤◌, ◌*◌, take, length};
 ghost use Rattle.std.specs.List.{sum_by};
 ghost use Rattle.net_core.specs.Machine.{net_of};
-ghost use Rattle.net_core.specs.Rules.{read_count};
 ghost use Rattle.net_core.specs.Shape.{turns};
 ghost use Rattle.net_checker.specs.Shapes.{read_total};
+ghost use Rattle.sanlp.specs.Access.{read_count};
 
 use net_core::{Event, Network};
 use sanlp::{Nest, Points};

@@ -5,11 +5,13 @@
 -- names nothing reads 0, and the value of an entry is by definition its expression over just these. So all fires of a
 -- process give the values of its entries in order. That the references do name the last writers is a premise here: the
 -- checker tests it, and for the compiler's networks it is a law.
-use Rattle.std.proofs.Common.{◌≡◌, ℕ, zero, suc, ◌+◌, ◌<◌, ◌≤◌, false, eqb, ℤ, pos, Option, Some, None, List, [], ◌∷◌, ◌++◌, length, map, take, slice_get, count_by, get_or, option_map, refl, sym, ap, ap₂, ◌∙◌, inl, inr, arith, ne_eqb, take_all, add-zero, zero-add}
+use Rattle.std.proofs.Common.{◌≡◌, ℕ, zero, suc, ◌+◌, ◌<◌, ◌≤◌, false, eqb, ℤ, pos, Option, Some, None, List, [], ◌∷◌, ◌++◌, length, map, take, slice_get, count_by, get_or, option_map, refl, sym, ap, ap₂, ◌∙◌, inl, inr, arith, ne_eqb, take_all, zero-add}
 use Rattle.std.specs.Prelude.{unwrap_or, IsTrue}
 use Rattle.std.specs.Option.{option_and_then, option_map_or}
+use Rattle.std.specs.List.{range_with_len}
 use Rattle.std.proofs.lemmas.Bool.{and_parts, cases_lt}
 use Rattle.std.proofs.lemmas.List.{get_or_past, length-map}
+use Rattle.std.proofs.lemmas.List.FromFn.{length-map-range_with_len, get_or-map-range_with_len}
 use Rattle.std.proofs.lemmas.Option.{slice_get-map, slice_get_within, slice_get-get_or, get_or_from_slice_get}
 use Rattle.wrap_expr.specs.Value.{value_of, uses_only, UsesOnly}
 use Rattle.sanlp.specs.declared.nest.ArrayDecl.{ArrayDecl}
@@ -18,8 +20,8 @@ use Rattle.sanlp.specs.declared.nest.Nest.{Nest}
 use Rattle.sanlp.specs.declared.nest.Point.{Point}
 use Rattle.sanlp.specs.declared.nest.Statement.{Statement}
 use Rattle.sanlp.specs.declared.nest.Tag.{Tag}
-use Rattle.sanlp.specs.Access.{cell_at, given_at, reads_of}
-use Rattle.sanlp.specs.Cells.{Cell, count_up}
+use Rattle.sanlp.specs.Access.{cell_at, given_at, read_count, reads_of}
+use Rattle.sanlp.specs.Cells.{Cell}
 use Rattle.sanlp.specs.Laws.{entries_of, values_of, IsGreatestBelow}
 use Rattle.sanlp.specs.Points.{points_of, vectors_of}
 use Rattle.sanlp.specs.Tags.{tag_at}
@@ -36,24 +38,13 @@ use Rattle.net_core.specs.declared.network.Network.{Network}
 use Rattle.net_core.specs.Machine.{Net, net_of}
 use Rattle.net_core.specs.Shape.{is_fire, fires, turns}
 use Rattle.net_core.specs.Names.{tag, name_in, name_of, slot_names, fired, GivesValues}
-use Rattle.net_core.specs.Rules.{read_count, read_slot, values, vector_at}
+use Rattle.net_core.specs.Rules.{read_slot, values, vector_at}
 use Rattle.net_core.specs.Sound.{entry_at, tag_value, source_tag, name_of_source, FitsNest, NamesLastWriters}
 use Rattle.net_core.proofs.Entries.{EntryAt, entries_length, entry_at_turn, turn_of_entry}
 use Rattle.net_core.proofs.Fresh.{item_found}
 use Rattle.net_core.proofs.Ready.{count_all}
 
 -- Lists
-
-map_up : {X : Type 0} (f : ℕ → List X) (a n i : ℕ) → i < n → get_or (map f (count_up a n)) i [] ≡ f (a + i)
-map_up f a zero i lt = absurd (omega arith)
-map_up f a (suc n) zero lt = ap f (sym (add-zero a))
-map_up f a (suc n) (suc i) lt =
-    let there : (a + 1) + i ≡ a + suc i = omega arith in
-    map_up f (a + 1) n i (omega arith) ∙ ap f there
-
-length_up : (a n : ℕ) → length (count_up a n) ≡ n
-length_up a zero = refl
-length_up a (suc n) = ap suc (length_up (a + 1) n)
 
 maps_same : {X Y Z : Type 0} (f : X → Z) (g : Y → Z) (xs : List X) (ys : List Y) → length xs ≡ length ys
     → ((j : ℕ) (x : X) (y : Y) → slice_get xs j ≡ Some x → slice_get ys j ≡ Some y → f x ≡ g y) → map f xs ≡ map g ys
@@ -81,11 +72,11 @@ pub vectors_at : (n : Nest) (p : ℕ) → get_or (points_of n) p [] ≡ vectors_
 unfolding points_of
 vectors_at n p =
     elim (cases_lt p (length n.statements)) [
-      | inl lt ↦ map_up (vectors_of (trace n)) 0 (length n.statements) p lt ∙ ap (vectors_of (trace n)) (zero-add p)
+      | inl lt ↦ get_or-map-range_with_len (vectors_of (trace n)) 0 (length n.statements) p p [] lt (zero-add p)
       | inr past ↦
-          let short : length (map (vectors_of (trace n)) (count_up 0 (length n.statements))) ≤ p =
-          omega (arith, length-map (count_up 0 (length n.statements)) (vectors_of (trace n)), length_up 0 (length n.statements)) in
-          get_or_past (map (vectors_of (trace n)) (count_up 0 (length n.statements))) p [] short
+          let short : length (map (vectors_of (trace n)) (range_with_len 0 (length n.statements))) ≤ p =
+          omega (arith, length-map-range_with_len (vectors_of (trace n)) 0 (length n.statements)) in
+          get_or_past (map (vectors_of (trace n)) (range_with_len 0 (length n.statements))) p [] short
           ∙ sym (no_vectors (trace n) p (λ i q is. (let lt = statement_there n i q is in omega arith)))
     ]
 

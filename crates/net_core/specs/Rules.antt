@@ -5,7 +5,7 @@ use Rattle.wrap_expr.specs.Value.{value_of}
 use Rattle.sanlp.specs.declared.nest.Inputs.{Inputs}
 use Rattle.sanlp.specs.declared.nest.Nest.{Nest}
 use Rattle.sanlp.specs.declared.nest.Tag.{Tag}
-use Rattle.sanlp.specs.Access.{given_at}
+use Rattle.sanlp.specs.Access.{given_at, read_count}
 use Rattle.sanlp.specs.Points.{points_of}
 use Rattle.net_core.specs.declared.refs.Ref.{Ref}
 use Rattle.net_core.specs.declared.refs.Ref.TheVariants.{Zero, Slot}
@@ -41,10 +41,6 @@ read_slot slots (Slot k) = unwrap_or (option_and_then (λ token. token) (slice_g
 -- the iteration vector of a process's turn
 abbrev pub vector_at : List (List (List ℤ)) → ℕ → ℕ → List ℤ
 vector_at points p turn = slice_index_or (slice_index_or points p []) turn []
-
--- how many reads a process's statement has
-abbrev pub read_count : Nest → ℕ → ℕ
-read_count n p = option_map_or (λ statement. length statement.reads) (slice_get n.statements p) 0
 
 -- each fire gives the value of the statement's expression at the process's next point, over what its references read
 abbrev pub values : Nest → Inputs → Rule ℤ

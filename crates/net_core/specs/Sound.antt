@@ -1,6 +1,7 @@
 -- When a network is sound for a nest.
 use Rattle.std.specs.Prelude.{◌≡◌, ◌<◌, ℕ, ◌+◌, ◌-◌, ℤ, List, [], ◌∷◌, length, slice_get, slice_index_or, Option, Some, None, if◌then◌else◌}
 use Rattle.std.specs.Option.{option_and_then}
+use Rattle.sanlp.specs.Access.{read_count}
 use Rattle.sanlp.specs.declared.nest.ArrayDecl.{ArrayDecl}
 use Rattle.sanlp.specs.declared.nest.Inputs.{Inputs}
 use Rattle.sanlp.specs.declared.nest.Nest.{Nest}
@@ -22,7 +23,7 @@ use Rattle.net_core.specs.Machine.{Net, State, net_of}
 use Rattle.net_core.specs.Names.{Name, name_at}
 use Rattle.net_core.specs.Names.Name.{zero_name, token_name}
 use Rattle.net_core.specs.Orders.{EndsAll, EndsAlways, reached}
-use Rattle.net_core.specs.Rules.{read_count, values}
+use Rattle.net_core.specs.Rules.{values}
 use Rattle.net_core.specs.Shape.{IsShaped, fires}
 
 -- the entry of the trace that a tag names
@@ -33,10 +34,10 @@ entry_at n t = slice_get (entries_of (trace n) t.process) t.turn
 abbrev pub tag_value : Nest → Inputs → Tag → ℤ
 tag_value n d t = value_at n d (trace n) (slice_index_or (entries_of (trace n) t.process) t.turn 0)
 
--- the tag of the last writer of what a process reads at this turn and slot, or none
+-- the tag of the last writer of what a process has as this read at this turn, or none
 abbrev pub source_tag : Nest → ℕ → ℕ → ℕ → Option Tag
-source_tag n p turn slot =
-    option_and_then (tag_at (trace n)) (option_and_then (λ t. last_writer n t slot) (entry_at n (record { process = p; turn = turn })))
+source_tag n p turn read =
+    option_and_then (tag_at (trace n)) (option_and_then (λ t. last_writer n t read) (entry_at n (record { process = p; turn = turn })))
 
 -- a read without a last writer wants Zero
 abbrev pub name_of_source : Option Tag → Name
@@ -47,7 +48,7 @@ name_of_source (Some t) = token_name t
 abbrev pub NamesLastWriters : Nest → Net → Type 0
 NamesLastWriters n net =
     (p k : ℕ) (refs : List Ref) → slice_get (net.script p) k ≡ Some (Fire refs)
-    → (slot : ℕ) (r : Ref) → slice_get refs slot ≡ Some r → name_at net p k r ≡ name_of_source (source_tag n p (fires net p k) slot)
+    → (read : ℕ) (r : Ref) → slice_get refs read ≡ Some r → name_at net p k r ≡ name_of_source (source_tag n p (fires net p k) read)
 
 -- the lists that the sinks have kept, one for each declared array, empty where it is no output; the first sink is process s
 abbrev pub sink_lists_from : (ℕ → List ℤ) → ℕ → List ArrayDecl → List (List ℤ)

@@ -5,10 +5,9 @@ ghost use Rattle.net_core.specs.declared.refs.Ref.{Ref};
 ghost use Rattle.net_core.specs.Shape.{IsWithin};
 ghost use Rattle.net_core.specs.Rules.{Limits, KeepsTo, read_slot};
 
-use crate::given::given_value;
 use crate::refs::{Ref, Refs};
 use affine_core::Short;
-use sanlp::{Inputs, Nest, Points, Tag};
+use sanlp::{Inputs, Nest, Points, Tag, given_value};
 use std::alloc::Global;
 use wrap_expr::eval;
 

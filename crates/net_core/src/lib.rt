@@ -2,7 +2,6 @@
 #![tactic(auto)]
 
 mod firing;
-mod given;
 mod laws;
 mod machine;
 mod network;

@@ -20,7 +20,7 @@ pub struct Process {
     pub script: Items<Event>,
 }
 
-/// A channel with one writer and one reader. It carries what the reader uses at its read slot of number `read`, and its
+/// A channel with one writer and one reader. It carries what the reader uses for its read of number `read`, and its
 /// queue is never longer than its capacity.
 #[derive(Drop)]
 pub struct Channel {

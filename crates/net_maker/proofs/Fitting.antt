@@ -21,10 +21,10 @@ use Rattle.net_core.specs.Rules.{tags}
 use Rattle.net_core.specs.Shape.{IsWired}
 use Rattle.net_core.specs.Sound.{FitsNest, NamesLastWriters}
 use Rattle.net_core.specs.Uses.{uses, uses_before, uses_of}
+use Rattle.sanlp.specs.Access.{read_count}
 use Rattle.sanlp.specs.declared.nest.Nest.{Nest}
 use Rattle.sanlp.specs.declared.nest.Tag.{Tag}
 use Rattle.source_tree.specs.declared.cert.Cert.{Cert}
-use Rattle.source_tree.specs.Sources.{read_count}
 use Rattle.witness_plan.specs.Sequential.{channels_with, with_capacities}
 
 -- Names and uses without the capacities

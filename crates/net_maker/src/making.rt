@@ -1,5 +1,5 @@
 ghost use Rattle.std.specs.Prelude.{◌≡◌, ◌++◌, IfOk, OnOk, replicate};
-ghost use Rattle.loop_walk.specs.Counting.{SizeIsOk};
+ghost use Rattle.sanlp.specs.Size.{SizeIsOk};
 ghost use Rattle.sanlp.specs.Points.{points_of};
 ghost use Rattle.net_checker.specs.Fits.{Fits};
 ghost use Rattle.net_checker.specs.Shapes.{read_total};

@@ -1,13 +1,9 @@
--- The item at a place of a list that was made from a numbered one, and how many lists of points there are.
+-- The item at a place of a list that was made from a numbered one, and how many automata there are.
 use Rattle.std.proofs.Common.{◌≡◌, ℕ, zero, suc, ◌+◌, Some, List, [], ◌∷◌, map, length, slice_get, refl, ap, ◌∙◌, arith}
 use Rattle.std.specs.List.{enumerate_from}
-use Rattle.std.proofs.lemmas.List.{length-map}
 use Rattle.net_core.specs.declared.network.Network.{Network}
 use Rattle.node_automata.specs.Automata.{automata, automaton_of}
 use Rattle.sanlp.specs.declared.nest.Nest.{Nest}
-use Rattle.sanlp.specs.Cells.{count_up}
-use Rattle.sanlp.specs.Points.{points_of, vectors_of}
-use Rattle.sanlp.specs.Trace.{trace}
 
 made_from : {X Y : Type 0} (f : ℕ × X → Y) (n : ℕ) (xs : List X) (i k : ℕ) (x : X) → n + i ≡ k → slice_get xs i ≡ Some x
     → slice_get (map f (enumerate_from n xs)) i ≡ Some (f (k, x))
@@ -18,15 +14,6 @@ made_from f n (y ∷ ys) (suc i) k x sum e = made_from f (n + 1) ys i k x (omega
 pub made_at : {X Y : Type 0} (f : ℕ × X → Y) (xs : List X) (i : ℕ) (x : X) → slice_get xs i ≡ Some x
     → slice_get (map f (enumerate_from 0 xs)) i ≡ Some (f (i, x))
 made_at f xs i x e = made_from f 0 xs i i x (omega arith) e
-
-length_up : (a many : ℕ) → length (count_up a many) ≡ many
-length_up a zero = refl
-length_up a (suc many) = ap suc (length_up (a + 1) many)
-
--- there is one list of points for each statement
-pub points_length : (n : Nest) → length (points_of n) ≡ length n.statements
-unfolding points_of
-points_length n = length-map (count_up 0 (length n.statements)) (vectors_of (trace n)) ∙ length_up 0 (length n.statements)
 
 length_made : {X Y : Type 0} (f : ℕ × X → Y) (n : ℕ) (xs : List X) → length (map f (enumerate_from n xs)) ≡ length xs
 length_made f n [] = refl

@@ -1,7 +1,7 @@
 -- The network's numbers are below 2 ^ 32: its processes, its channels and its events.
 --
 -- Events are bounded by the length L of the trace. The Gets of one read, over all its writers, are at most the turns
--- of all processes, so at most L, counted fire by fire (`slot_gets`): 8 L for each of 64 processes. A point has one
+-- of all processes, so at most L, counted fire by fire (`read_gets`): 8 L for each of 64 processes. A point has one
 -- Fire and at most one Put for each read of each process, so 513 L for all points together. These 1,025 for each entry
 -- of the trace are some sixty times what there can be: one Fire, and for each of at most eight uses at most one Get
 -- and one Put.
@@ -12,20 +12,20 @@ use Rattle.std.specs.Option.{option_and_then, option_map, option_map_or}
 use Rattle.std.proofs.lemmas.Bool.{cases_Bool, ne_eqb}
 use Rattle.std.proofs.lemmas.List.{length-map}
 use Rattle.std.proofs.lemmas.List.Concat.{length-flat_map}
-use Rattle.std.proofs.lemmas.List.FromFn.{get_or-map-range_with_len}
+use Rattle.std.proofs.lemmas.List.FromFn.{get_or-map-range_with_len, length-range_with_len, length-map-range_with_len}
 use Rattle.std.proofs.lemmas.List.Sums.{sum_by-cons}
 use Rattle.std.proofs.lemmas.Nat.{mul-le}
-use Rattle.std.proofs.lemmas.Option.{slice_get-get_or, slice_get-map}
+use Rattle.std.proofs.lemmas.Option.{slice_get-get_or}
+use Rattle.sanlp.specs.Access.{read_count}
 use Rattle.sanlp.specs.declared.nest.Nest.{Nest}
 use Rattle.sanlp.specs.declared.nest.Point.{Point}
 use Rattle.sanlp.specs.declared.nest.Tag.{Tag}
-use Rattle.sanlp.specs.Cells.{count_up}
 use Rattle.sanlp.specs.Points.{vectors_of}
 use Rattle.sanlp.specs.Trace.{trace}
 use Rattle.sanlp.proofs.Each.{Each, each_flat_map, each_map, each_of}
-use Rattle.loop_walk.specs.Counting.{SizeIsOk}
-use Rattle.source_tree.specs.Sources.{read_count}
-use Rattle.source_tree.proofs.Numbered.{length-count_up, slice_get-count_up}
+use Rattle.sanlp.proofs.Lists.{slice_get-map-range_with_len}
+use Rattle.sanlp.proofs.NestFacts.{few_statements, few_read_count}
+use Rattle.sanlp.specs.Size.{SizeIsOk}
 use Rattle.reorder_slots.specs.declared.slots.SlotPlan.{SlotPlan}
 use Rattle.reorder_slots.specs.Slots.{gets_for}
 use Rattle.channel_plan.specs.declared.plans.ChannelPlan.{ChannelPlan}
@@ -39,16 +39,15 @@ use Rattle.net_core.proofs.Entries.{entries_length}
 use Rattle.process_derive.specs.Derived.{channel_of, net, process_of}
 use Rattle.process_derive.specs.Scripts.{Usage, channel_from, gets_for_uses, gets_of, point_events, puts_from, ref_of, script, slot_base, usage, usage_from}
 use Rattle.process_derive.specs.Uses.{OnlyBelow, uses_before}
-use Rattle.process_derive.proofs.Bounds.{few_entries, few_plans, few_read_count, few_statements, few_tokens}
+use Rattle.process_derive.proofs.Bounds.{few_entries, few_plans, few_tokens}
 use Rattle.process_derive.proofs.Counts.{before_more, of_other, of_own}
-use Rattle.process_derive.proofs.Lists.{length_counted}
 use Rattle.process_derive.proofs.Slots.{each_take, few_gets}
 use Rattle.process_derive.proofs.Sums.{one_if, sum_added, sum_filter, sum_joined, sum_less, sum_map, sum_one, sum_push, sum_raised, sum_risen, sum_turned, sum_within}
 use Rattle.process_derive.proofs.Tags.{length-sources, processes_below}
 
 -- The turns of all processes are no more than the entries of the trace.
 
-turns_of_all : (points : List Point) (m : ℕ) → sum_by (λ w. length (vectors_of points w)) (count_up 0 m) ≤ length points
+turns_of_all : (points : List Point) (m : ℕ) → sum_by (λ w. length (vectors_of points w)) (range_with_len 0 m) ≤ length points
 turns_of_all [] m = sum_one (λ w. 0) 0 0 0 m (λ q e. refl) (omega arith)
 turns_of_all (p ∷ points) m =
     let f : ℕ → ℕ = λ w. length (vectors_of points w) in
@@ -57,9 +56,9 @@ turns_of_all (p ∷ points) m =
     let other : (k : ℕ) → k ≢ p.statement → g k ≡ f k = λ k ne. rw (ne_eqb p.statement k (λ e. ne (sym e))) refl in
     omega (arith, sum_risen f g p.statement 1 own other 0 m, turns_of_all points m)
 
-all_turns : (n : Nest) (m : ℕ) → sum_by (turn_count n) (count_up 0 m) ≤ length (trace n)
+all_turns : (n : Nest) (m : ℕ) → sum_by (turn_count n) (range_with_len 0 m) ≤ length (trace n)
 all_turns n m =
-    omega (arith, sum_less (turn_count n) (λ w. length (vectors_of (trace n) w)) (count_up 0 m) (λ w. omega (arith, entries_length 0 (trace n) w)), turns_of_all (trace n) m)
+    omega (arith, sum_less (turn_count n) (λ w. length (vectors_of (trace n) w)) (range_with_len 0 m) (λ w. omega (arith, entries_length 0 (trace n) w)), turns_of_all (trace n) m)
 
 -- The Gets of a channel before its uses
 
@@ -108,9 +107,9 @@ IsPlanned n plan = plan.slots ≡ slot_plan (uses_of (used n plan.reader plan.re
 pub all_planned : (n : Nest) → Each (IsPlanned n) (plans_of n)
 unfolding plans_of
 all_planned n =
-    each_flat_map (IsPlanned n) (λ p. flat_map (plans_at n p) (count_up 0 (read_count n p))) (count_up 0 (length n.statements))
-    (each_of _ (count_up 0 (length n.statements)) (λ p. each_flat_map (IsPlanned n) (plans_at n p) (count_up 0 (read_count n p))
-    (each_of _ (count_up 0 (read_count n p)) (λ k. each_map (IsPlanned n) (plan_of n p k) (writers_of (length n.statements) (sources_at n p k))
+    each_flat_map (IsPlanned n) (λ p. flat_map (plans_at n p) (range_with_len 0 (read_count n p))) (range_with_len 0 (length n.statements))
+    (each_of _ (range_with_len 0 (length n.statements)) (λ p. each_flat_map (IsPlanned n) (plans_at n p) (range_with_len 0 (read_count n p))
+    (each_of _ (range_with_len 0 (read_count n p)) (λ k. each_map (IsPlanned n) (plan_of n p k) (writers_of (length n.statements) (sources_at n p k))
     (each_of _ (writers_of (length n.statements) (sources_at n p k)) (λ w. refl))))))
 
 abbrev pub HasSlots : Nest → ℕ → ℕ → ℕ → Option (ℕ × ChannelPlan) → Type 0
@@ -144,14 +143,14 @@ gets_of_one : (n : Nest) (p k w q : ℕ) (plans : List ChannelPlan) (r : Option 
 gets_of_one n p k w q plans None h = omega arith
 gets_of_one n p k w q plans (Some found) h =
     let slots : SlotPlan = found.1.slots in
-    let made : length (map (λ m. Get found.0 (slot_base plans p found.0 + slice_index slots.slot_of_get m)) (count_up (gets_for_uses slots q) (gets_for_uses slots (suc q) - gets_for_uses slots q)))
+    let made : length (map (λ m. Get found.0 (slot_base plans p found.0 + slice_index slots.slot_of_get m)) (range_with_len (gets_for_uses slots q) (gets_for_uses slots (suc q) - gets_for_uses slots q)))
     ≡ gets_for_uses slots (suc q) - gets_for_uses slots q =
-    length_counted (λ m. Get found.0 (slot_base plans p found.0 + slice_index slots.slot_of_get m)) (gets_for_uses slots q) (gets_for_uses slots (suc q) - gets_for_uses slots q) in
+    length-map-range_with_len (λ m. Get found.0 (slot_base plans p found.0 + slice_index slots.slot_of_get m)) (gets_for_uses slots q) (gets_for_uses slots (suc q) - gets_for_uses slots q) in
     omega (arith, made, ap (λ s. gets_for_uses s q) h, ap (λ s. gets_for_uses s (suc q)) h)
 
--- the Gets of slot k that stand before fire f, over all writers
+-- the Gets for read k that stand before fire f, over all writers
 abbrev pub gets_until : Nest → ℕ → ℕ → ℕ → ℕ
-gets_until n p k f = sum_by (λ w. gets_by (uses_of (used n p k w)) (uses_before (sources_at n p k) f w)) (count_up 0 (length n.statements))
+gets_until n p k f = sum_by (λ w. gets_by (uses_of (used n p k w)) (uses_before (sources_at n p k) f w)) (range_with_len 0 (length n.statements))
 
 kept_more : (o : Option ℕ) (xs ys : List ℕ) → length xs ≤ length ys → length (cons_option o xs) ≤ length (cons_option o ys)
 kept_more None xs ys h = h
@@ -170,7 +169,7 @@ fire_gets n p k f None e below =
     ap (λ o. length (gets_of (option_and_then (λ source. option_and_then (λ (t : Tag). usage_from (plans_of n) sources p k f t.process) source) o))) e in
     let next : f + 1 ≡ suc f = omega arith in
     let same : gets_until n p k f ≤ gets_until n p k (suc f) =
-    sum_less (λ w. gets_by (uses_of (used n p k w)) (uses_before sources f w)) (λ w. gets_by (uses_of (used n p k w)) (uses_before sources (suc f) w)) (count_up 0 (length n.statements))
+    sum_less (λ w. gets_by (uses_of (used n p k w)) (uses_before sources f w)) (λ w. gets_by (uses_of (used n p k w)) (uses_before sources (suc f) w)) (range_with_len 0 (length n.statements))
     (λ w. (let q : uses_before sources f w ≡ uses_before sources (suc f) w = omega (arith, before_more sources f w None e, ap (λ j. uses_before sources j w) next) in
     omega (arith, ap (gets_by (uses_of (used n p k w))) q))) in
     omega (arith, none, same)
@@ -191,19 +190,19 @@ fire_gets n p k f (Some t) e below =
     (omega (arith, found, gets_rise (uses v) q within, ap (gets_by (uses v)) here))
     (λ w ne. ap (gets_by (uses w)) (others w ne)) 0 (length n.statements) (omega arith) (omega (arith, below))
 
-slot_gets : (n : Nest) (p k f : ℕ) → f ≤ turn_count n p → sum_by (λ g. length (gets_of (usage n p g k))) (count_up 0 f) ≤ gets_until n p k f
-slot_gets n p k zero le = omega arith
-slot_gets n p k (suc f) le =
+read_gets : (n : Nest) (p k f : ℕ) → f ≤ turn_count n p → sum_by (λ g. length (gets_of (usage n p g k))) (range_with_len 0 f) ≤ gets_until n p k f
+read_gets n p k zero le = omega arith
+read_gets n p k (suc f) le =
     let sources : List (Option Tag) = sources_at n p k in
     let here = slice_get-get_or sources f None (omega (arith, length-sources n p k)) in
-    omega (arith, sum_push (λ g. length (gets_of (usage n p g k))) f, slot_gets n p k f (omega arith), fire_gets n p k f (get_or sources f None) here (processes_below n p k f))
+    omega (arith, sum_push (λ g. length (gets_of (usage n p g k))) f, read_gets n p k f (omega arith), fire_gets n p k f (get_or sources f None) here (processes_below n p k f))
 
 until_few : (n : Nest) (p k f : ℕ) → gets_until n p k f ≤ length (trace n)
 until_few n p k f =
     omega (
       arith,
       all_turns n (length n.statements),
-      sum_less (λ w. gets_by (uses_of (used n p k w)) (uses_before (sources_at n p k) f w)) (turn_count n) (count_up 0 (length n.statements))
+      sum_less (λ w. gets_by (uses_of (used n p k w)) (uses_before (sources_at n p k) f w)) (turn_count n) (range_with_len 0 (length n.statements))
           (λ w. gets_few (uses_of (used n p k w)) (turn_count n w) (uses_before (sources_at n p k) f w) (few_tokens n p k w)),
     )
 
@@ -230,53 +229,53 @@ one_writer n p q k =
     omega (
       arith,
       sum_map (writes p) (plan_of n q k) ws,
-      sum_filter (λ w. cond (eqb w p) 1 0) (λ w. list_any (is_from w) (sources_at n q k)) (count_up 0 (length n.statements)),
+      sum_filter (λ w. cond (eqb w p) 1 0) (λ w. list_any (is_from w) (sources_at n q k)) (range_with_len 0 (length n.statements)),
       sum_one (λ w. cond (eqb w p) 1 0) p 1 0 (length n.statements) (λ w other. ap one_if other) (elim (cases_Bool (eqb p p)) [ inl h ↦ rw h (omega arith) | inr h ↦ rw h (omega arith) ]),
     )
 
 few_written : (n : Nest) (p : ℕ) → sum_by (writes p) (plans_of n) ≤ 64 * (8 * 1)
 unfolding plans_of
 few_written n p =
-    subst (λ k. k ≤ 64 * (8 * 1)) (sym (sum_joined (writes p) (λ q. flat_map (plans_at n q) (count_up 0 (read_count n q))) (count_up 0 (length n.statements))))
-    (sum_within (λ q. sum_by (writes p) (flat_map (plans_at n q) (count_up 0 (read_count n q)))) (8 * 1) 64 (count_up 0 (length n.statements))
-    (λ q. subst (λ k. k ≤ 8 * 1) (sym (sum_joined (writes p) (plans_at n q) (count_up 0 (read_count n q))))
-    (sum_within (λ k. sum_by (writes p) (plans_at n q k)) 1 8 (count_up 0 (read_count n q)) (one_writer n p q) (omega (arith, length-count_up 0 (read_count n q), few_read_count n q))))
-    (omega (arith, length-count_up 0 (length n.statements), few_statements n)))
+    subst (λ k. k ≤ 64 * (8 * 1)) (sym (sum_joined (writes p) (λ q. flat_map (plans_at n q) (range_with_len 0 (read_count n q))) (range_with_len 0 (length n.statements))))
+    (sum_within (λ q. sum_by (writes p) (flat_map (plans_at n q) (range_with_len 0 (read_count n q)))) (8 * 1) 64 (range_with_len 0 (length n.statements))
+    (λ q. subst (λ k. k ≤ 8 * 1) (sym (sum_joined (writes p) (plans_at n q) (range_with_len 0 (read_count n q))))
+    (sum_within (λ k. sum_by (writes p) (plans_at n q k)) 1 8 (range_with_len 0 (read_count n q)) (one_writer n p q) (omega (arith, length-range_with_len 0 (read_count n q), few_read_count n q))))
+    (omega (arith, length-range_with_len 0 (length n.statements), few_statements n)))
 
 -- The events of one process
 
 abbrev pub point_gets : Nest → ℕ → ℕ → ℕ
-point_gets n p f = sum_by (λ k. length (gets_of (usage n p f k))) (count_up 0 (read_count n p))
+point_gets n p f = sum_by (λ k. length (gets_of (usage n p f k))) (range_with_len 0 (read_count n p))
 
 point_few : (n : Nest) (p f : ℕ) → length (point_events n p f) ≤ point_gets n p f + 513
 point_few n p f =
-    let usages : List (Option Usage) = map (usage n p f) (count_up 0 (read_count n p)) in
+    let usages : List (Option Usage) = map (usage n p f) (range_with_len 0 (read_count n p)) in
     omega (
       arith,
       length-append (flat_map gets_of usages) (Fire (map ref_of usages) ∷ puts_from 0 (plans_of n) p f),
       length-flat_map gets_of usages,
-      sum_map (λ u. length (gets_of u)) (usage n p f) (count_up 0 (read_count n p)),
+      sum_map (λ u. length (gets_of u)) (usage n p f) (range_with_len 0 (read_count n p)),
       puts_few 0 (plans_of n) p f,
       few_written n p,
     )
 
-process_gets : (n : Nest) (p : ℕ) → sum_by (point_gets n p) (count_up 0 (turn_count n p)) ≤ 8 * length (trace n)
+process_gets : (n : Nest) (p : ℕ) → sum_by (point_gets n p) (range_with_len 0 (turn_count n p)) ≤ 8 * length (trace n)
 process_gets n p =
-    subst (λ k. k ≤ 8 * length (trace n)) (sym (sum_turned (λ f k. length (gets_of (usage n p f k))) (count_up 0 (turn_count n p)) (count_up 0 (read_count n p))))
-    (sum_within (λ k. sum_by (λ f. length (gets_of (usage n p f k))) (count_up 0 (turn_count n p))) (length (trace n)) 8 (count_up 0 (read_count n p))
-    (λ k. omega (arith, slot_gets n p k (turn_count n p) (omega arith), until_few n p k (turn_count n p)))
-    (omega (arith, length-count_up 0 (read_count n p), few_read_count n p)))
+    subst (λ k. k ≤ 8 * length (trace n)) (sym (sum_turned (λ f k. length (gets_of (usage n p f k))) (range_with_len 0 (turn_count n p)) (range_with_len 0 (read_count n p))))
+    (sum_within (λ k. sum_by (λ f. length (gets_of (usage n p f k))) (range_with_len 0 (turn_count n p))) (length (trace n)) 8 (range_with_len 0 (read_count n p))
+    (λ k. omega (arith, read_gets n p k (turn_count n p) (omega arith), until_few n p k (turn_count n p)))
+    (omega (arith, length-range_with_len 0 (read_count n p), few_read_count n p)))
 
 script_few : (n : Nest) (p : ℕ) → length (script n p) ≤ 8 * length (trace n) + 513 * turn_count n p
 script_few n p =
-    let fires : List ℕ = count_up 0 (turn_count n p) in
+    let fires : List ℕ = range_with_len 0 (turn_count n p) in
     omega (
       arith,
       length-flat_map (point_events n p) fires,
       sum_less (λ f. length (point_events n p f)) (λ f. point_gets n p f + 513) fires (point_few n p),
       sum_added (point_gets n p) (λ f. 513) fires,
       process_gets n p,
-      sum_within (λ f. 513) 513 (turn_count n p) fires (λ f. omega arith) (omega (arith, length-count_up 0 (turn_count n p))),
+      sum_within (λ f. 513) 513 (turn_count n p) fires (λ f. omega arith) (omega (arith, length-range_with_len 0 (turn_count n p))),
     )
 
 -- The network
@@ -284,19 +283,16 @@ script_few n p =
 pub script_at : (n : Nest) (p : ℕ) → p < length n.statements → (net_of (net n)).script p ≡ script n p
 unfolding net
 script_at n p lt =
-    let front : 0 + p ≡ p = omega arith in
-    ap (λ (o : Option Process). option_map_or (λ process. process.script) o []) (slice_get-map (process_of n) (count_up 0 (length n.statements)) p
-    ∙ ap (option_map (process_of n)) (slice_get-count_up 0 (length n.statements) p lt))
-    ∙ ap (script n) front
+    ap (λ (o : Option Process). option_map_or (λ process. process.script) o []) (slice_get-map-range_with_len (process_of n) 0 (length n.statements) p p lt (omega arith))
 
-events_few : (n : Nest) (m : ℕ) → m ≤ length n.statements → events_below (net_of (net n)) m ≤ m * (8 * length (trace n)) + 513 * sum_by (turn_count n) (count_up 0 m)
+events_few : (n : Nest) (m : ℕ) → m ≤ length n.statements → events_below (net_of (net n)) m ≤ m * (8 * length (trace n)) + 513 * sum_by (turn_count n) (range_with_len 0 m)
 events_few n zero le = omega arith
 events_few n (suc m) le =
     omega (arith, events_few n m (omega arith), ap length (script_at n m (omega arith)), script_few n m, sum_push (turn_count n) m)
 
 pub count_processes : (n : Nest) → (net_of (net n)).processes ≡ length n.statements
 unfolding net
-count_processes n = length_counted (process_of n) 0 (length n.statements)
+count_processes n = length-map-range_with_len (process_of n) 0 (length n.statements)
 
 pub count_channels : (n : Nest) → (net_of (net n)).channels ≡ length (plans_of n)
 unfolding net

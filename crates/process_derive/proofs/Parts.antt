@@ -2,14 +2,16 @@
 use Rattle.std.proofs.Common.{◌≡◌, ◌<◌, ◌≤◌, ◌+◌, ℤ, ℕ, List, [], ◌∷◌, ◌++◌, map, length, take, drop, get_or, refl, sym, ap, ◌∙◌, arith, add-one, length-append}
 use Rattle.std.specs.Prelude.{Option, Some, slice_get}
 use Rattle.std.specs.Option.{option_map_or}
+use Rattle.std.specs.List.{range_with_len}
 use Rattle.std.proofs.lemmas.List.{take_at}
+use Rattle.std.proofs.lemmas.List.FromFn.{length-map-range_with_len, get_or-map-range_with_len}
+use Rattle.sanlp.specs.Access.{read_count}
 use Rattle.sanlp.specs.declared.nest.Nest.{Nest}
 use Rattle.sanlp.specs.declared.nest.Statement.{Statement}
 use Rattle.sanlp.specs.declared.nest.Tag.{Tag}
-use Rattle.sanlp.specs.Cells.{count_up}
 use Rattle.sanlp.specs.Points.{points_of, vectors_of}
 use Rattle.sanlp.specs.Trace.{trace}
-use Rattle.source_tree.specs.Sources.{read_count, sources_from, sources_of}
+use Rattle.source_tree.specs.Sources.{sources_from, sources_of}
 use Rattle.net_core.proofs.Entries.{entries_length}
 use Rattle.net_core.specs.declared.network.Channel.{Channel}
 use Rattle.net_core.specs.declared.network.Network.{Network}
@@ -17,7 +19,7 @@ use Rattle.net_core.specs.declared.network.Process.{Process}
 use Rattle.channel_plan.specs.declared.plans.ChannelPlan.{ChannelPlan}
 use Rattle.channel_plan.specs.Plans.{plans_of, sources_at, turn_count}
 use Rattle.process_derive.specs.Derived.{channel_of, net, process_of}
-use Rattle.process_derive.proofs.Lists.{drop_at, get_counted, length_counted}
+use Rattle.process_derive.proofs.Lists.{drop_at}
 
 drop_front : {X : Type 0} (xs ys : List X) (n : ℕ) → length xs ≡ n → drop n (xs ++ ys) ≡ ys
 drop_front [] ys n e = ap (λ k. drop k ys) (sym e)
@@ -27,7 +29,7 @@ abbrev rest_from : Nest → ℕ → List (List (Option Tag))
 rest_from n p = sources_from n (trace n) p (drop p n.statements)
 
 abbrev sources_of_reads : Nest → ℕ → ℕ → List (List (Option Tag))
-sources_of_reads n p reads = map (sources_at n p) (count_up 0 reads)
+sources_of_reads n p reads = map (sources_at n p) (range_with_len 0 reads)
 
 next_rest : (n : Nest) (p : ℕ) (s : Statement) → slice_get n.statements p ≡ Some s → rest_from n p ≡ sources_of_reads n p (length s.reads) ++ rest_from n (p + 1)
 next_rest n p s e =
@@ -37,20 +39,20 @@ next_rest n p s e =
 pub reads_within : (n : Nest) (p reads : ℕ) (s : Statement) (rest : List (List (Option Tag))) → slice_get n.statements p ≡ Some s → reads ≡ length s.reads
     → rest ≡ rest_from n p → reads ≤ length rest
 reads_within n p reads s rest e counts is =
-    omega (arith, ap length is, ap length (next_rest n p s e), length-append (sources_of_reads n p (length s.reads)) (rest_from n (p + 1)), length_counted (sources_at n p) 0 (length s.reads))
+    omega (arith, ap length is, ap length (next_rest n p s e), length-append (sources_of_reads n p (length s.reads)) (rest_from n (p + 1)), length-map-range_with_len (sources_at n p) 0 (length s.reads))
 
 pub own_sources : (n : Nest) (p reads : ℕ) (s : Statement) (rest own : List (List (Option Tag))) → slice_get n.statements p ≡ Some s → reads ≡ length s.reads
     → rest ≡ rest_from n p → own ≡ take reads rest → own ≡ sources_of_reads n p (read_count n p)
 own_sources n p reads s rest own e counts is f =
     f ∙ ap (take reads) (is ∙ next_rest n p s e)
-    ∙ take_at (sources_of_reads n p (length s.reads)) (rest_from n (p + 1)) reads (length_counted (sources_at n p) 0 (length s.reads) ∙ sym counts)
+    ∙ take_at (sources_of_reads n p (length s.reads)) (rest_from n (p + 1)) reads (length-map-range_with_len (sources_at n p) 0 (length s.reads) ∙ sym counts)
     ∙ ap (λ o. sources_of_reads n p (option_map_or (λ (t : Statement). length t.reads) o 0)) (sym e)
 
 pub later_sources : (n : Nest) (p reads : ℕ) (s : Statement) (rest later : List (List (Option Tag))) → slice_get n.statements p ≡ Some s → reads ≡ length s.reads
     → rest ≡ rest_from n p → later ≡ drop reads rest → later ≡ rest_from n (p + 1)
 later_sources n p reads s rest later e counts is f =
     f ∙ ap (drop reads) (is ∙ next_rest n p s e)
-    ∙ drop_front (sources_of_reads n p (length s.reads)) (rest_from n (p + 1)) reads (length_counted (sources_at n p) 0 (length s.reads) ∙ sym counts)
+    ∙ drop_front (sources_of_reads n p (length s.reads)) (rest_from n (p + 1)) reads (length-map-range_with_len (sources_at n p) 0 (length s.reads) ∙ sym counts)
 
 pub all_sources : (n : Nest) (rest table : List (List (Option Tag))) → rest ≡ table → table ≡ sources_of n → rest ≡ rest_from n 0
 unfolding sources_of
@@ -58,21 +60,20 @@ all_sources n rest table e f = e ∙ f
 
 pub points_there : (n : Nest) (p : ℕ) (points : List (List (List ℤ))) → points ≡ points_of n → p < length n.statements → p < length points
 unfolding points_of
-points_there n p points e lt = omega (arith, ap length e, length_counted (vectors_of (trace n)) 0 (length n.statements))
+points_there n p points e lt = omega (arith, ap length e, length-map-range_with_len (vectors_of (trace n)) 0 (length n.statements))
 
 pub turns_there : (n : Nest) (p fires : ℕ) (points : List (List (List ℤ))) (vectors : List (List ℤ)) → points ≡ points_of n → p < length n.statements
     → vectors ≡ get_or points p vectors → fires ≡ length vectors → fires ≡ turn_count n p
 unfolding points_of
 turns_there n p fires points vectors e lt is counts =
-    let front : 0 + p ≡ p = omega arith in
-    counts ∙ ap length (is ∙ ap (λ ps. get_or ps p vectors) e ∙ get_counted (vectors_of (trace n)) vectors 0 (length n.statements) p lt ∙ ap (vectors_of (trace n)) front)
+    counts ∙ ap length (is ∙ ap (λ ps. get_or ps p vectors) e ∙ get_or-map-range_with_len (vectors_of (trace n)) 0 (length n.statements) p p vectors lt (omega arith))
     ∙ sym (entries_length 0 (trace n) p)
 
 -- the network of these processes and channels
 pub net_made : (n : Nest) (processes : List Process) (channels : List Channel) (plans : List ChannelPlan)
-    → processes ≡ map (process_of n) (count_up 0 (length n.statements)) → channels ≡ map channel_of plans → plans ≡ plans_of n
+    → processes ≡ map (process_of n) (range_with_len 0 (length n.statements)) → channels ≡ map channel_of plans → plans ≡ plans_of n
     → record { processes = processes; channels = channels } ≡ net n
 unfolding net
 net_made n processes channels plans e f g =
     let make : List Process → List Channel → Network = λ ps cs. record { processes = ps; channels = cs } in
-    ap (λ ps. make ps channels) e ∙ ap (make (map (process_of n) (count_up 0 (length n.statements)))) (f ∙ ap (map channel_of) g)
+    ap (λ ps. make ps channels) e ∙ ap (make (map (process_of n) (range_with_len 0 (length n.statements)))) (f ∙ ap (map channel_of) g)

@@ -1,28 +1,28 @@
 -- The events that are made point by point are the script of the process.
 use Rattle.std.proofs.Common.{◌≡◌, ◌<◌, ◌≤◌, ◌+◌, ◌^◌, ℕ, zero, suc, List, [], ◌∷◌, ◌++◌, map, length, get_or, refl, sym, ap, ◌∙◌, subst, arith}
 use Rattle.std.specs.Prelude.{All, Option, Some, None, slice_get, slice_index_or}
-use Rattle.std.specs.List.{find, flat_map}
+use Rattle.std.specs.List.{find, flat_map, range_with_len}
 use Rattle.std.specs.Option.{option_and_then, option_map, option_map_or}
 use Rattle.std.proofs.lemmas.List.Elements.{All-map}
-use Rattle.std.proofs.lemmas.Option.{slice_get-map, slice_get_within}
+use Rattle.std.proofs.lemmas.List.FromFn.{length-map-range_with_len, get_or-map-range_with_len}
+use Rattle.std.proofs.lemmas.Option.{slice_get_within}
 use Rattle.channel_plan.specs.declared.plans.ChannelPlan.{ChannelPlan}
 use Rattle.channel_plan.specs.Plans.{plans_of, sources_at, turn_count}
-use Rattle.loop_walk.specs.Counting.{SizeIsOk}
+use Rattle.sanlp.specs.Access.{read_count}
+use Rattle.sanlp.specs.Size.{SizeIsOk}
 use Rattle.net_core.specs.declared.network.Event.TheVariants.{Fire}
 use Rattle.reorder_slots.specs.declared.slots.SlotPlan.{SlotPlan}
 use Rattle.sanlp.specs.declared.nest.Nest.{Nest}
 use Rattle.sanlp.specs.declared.nest.Tag.{Tag}
-use Rattle.sanlp.specs.Cells.{count_up}
-use Rattle.source_tree.specs.Sources.{read_count}
-use Rattle.source_tree.proofs.Numbered.{slice_get-count_up}
+use Rattle.sanlp.proofs.Lists.{map-range_with_len_same, flat_map-range_with_len_same, slice_get-map-range_with_len}
+use Rattle.sanlp.proofs.NestFacts.{few_read_count}
 use Rattle.process_derive.specs.declared.incoming.Incoming.{Incoming}
 use Rattle.process_derive.specs.declared.uses.ChannelUse.{ChannelUse}
 use Rattle.process_derive.specs.Incoming.{comes_from, incoming_from, outgoing_from, puts_to}
 use Rattle.process_derive.specs.Scripts.{Usage, channel_from, gets_of, point_events, ref_of, script, slot_base, usage, usage_from}
-use Rattle.process_derive.specs.Uses.{OnlyBelow, SlotsFit, UseFits, events_at, slot_uses, slots_at, usages_at, use_at, use_from, uses_before, uses_by_slot, with_slots}
-use Rattle.process_derive.proofs.Bounds.{few_entries, few_read_count, slots_fit}
+use Rattle.process_derive.specs.Uses.{OnlyBelow, SlotsFit, UseFits, events_at, read_uses, slots_at, usages_at, use_at, use_from, uses_before, uses_by_read, with_slots}
+use Rattle.process_derive.proofs.Bounds.{few_entries, slots_fit}
 use Rattle.process_derive.proofs.Channels.{AreSame, found_same, puts_same}
-use Rattle.process_derive.proofs.Lists.{get_counted, joined_between, length_counted, same_between}
 use Rattle.process_derive.proofs.Tags.{few_turns, length-sources, processes_below}
 
 slots_there : (plans : List ChannelPlan) (c : ℕ) (plan : ChannelPlan) → slice_get plans c ≡ Some plan → slots_at plans c ≡ plan.slots
@@ -73,80 +73,77 @@ used_fits n p k f sources (Some (Some t)) ok =
 
 -- every use fits
 pub all_fit : (n : Nest) (p : ℕ) (sources : List (List (Option Tag))) → SizeIsOk n
-    → All (All (UseFits (plans_of n))) (uses_by_slot (incoming_from 0 0 (plans_of n) p) sources)
+    → All (All (UseFits (plans_of n))) (uses_by_read (incoming_from 0 0 (plans_of n) p) sources)
 all_fit n p sources ok =
     let incoming : List Incoming = incoming_from 0 0 (plans_of n) p in
-    All-map (All (UseFits (plans_of n))) (λ k. slot_uses incoming k (slice_index_or sources k [])) (count_up 0 (length sources))
-    (λ i d lt. let k : ℕ = get_or (count_up 0 (length sources)) i d in
+    All-map (All (UseFits (plans_of n))) (λ k. read_uses incoming k (slice_index_or sources k [])) (range_with_len 0 (length sources))
+    (λ i d lt. let k : ℕ = get_or (range_with_len 0 (length sources)) i d in
     let list : List (Option Tag) = slice_index_or sources k [] in
-    All-map (UseFits (plans_of n)) (use_at incoming k list) (count_up 0 (length list))
-    (λ j e le. used_fits n p k (get_or (count_up 0 (length list)) j e) list (slice_get list (get_or (count_up 0 (length list)) j e)) ok))
+    All-map (UseFits (plans_of n)) (use_at incoming k list) (range_with_len 0 (length list))
+    (λ j e le. used_fits n p k (get_or (range_with_len 0 (length list)) j e) list (slice_get list (get_or (range_with_len 0 (length list)) j e)) ok))
 
 map_map : {X Y Z : Type 0} (g : Y → Z) (f : X → Y) (xs : List X) → map g (map f xs) ≡ map (λ x. g (f x)) xs
 map_map g f [] = refl
 map_map g f (x ∷ xs) = ap (λ ys. g (f x) ∷ ys) (map_map g f xs)
 
-abbrev slots_of_reads : Nest → ℕ → List (List (Option Tag))
-slots_of_reads n p = map (sources_at n p) (count_up 0 (read_count n p))
+abbrev sources_of_process : Nest → ℕ → List (List (Option Tag))
+sources_of_process n p = map (sources_at n p) (range_with_len 0 (read_count n p))
 
 abbrev at_fire : ℕ → List (Option ChannelUse) → Option ChannelUse
 at_fire f list = option_and_then (λ found. found) (slice_get list f)
 
 used_at : (n : Nest) (p f k : ℕ) → f < turn_count n p → k < read_count n p
-    → with_slots (plans_of n) (at_fire f (slot_uses (incoming_from 0 0 (plans_of n) p) k (slice_index_or (slots_of_reads n p) k []))) ≡ usage n p f k
-used_at n p f k fire slot =
+    → with_slots (plans_of n) (at_fire f (read_uses (incoming_from 0 0 (plans_of n) p) k (slice_index_or (sources_of_process n p) k []))) ≡ usage n p f k
+used_at n p f k fire within =
     let plans : List ChannelPlan = plans_of n in
     let incoming : List Incoming = incoming_from 0 0 plans p in
     let sources : List (Option Tag) = sources_at n p k in
-    let read : slice_index_or (slots_of_reads n p) k [] ≡ sources =
-    get_counted (sources_at n p) [] 0 (read_count n p) k slot ∙ (let front : 0 + k ≡ k = omega arith in ap (sources_at n p) front) in
-    let front : 0 + f ≡ f = omega arith in
-    let here : at_fire f (slot_uses incoming k sources) ≡ use_at incoming k sources f =
-    ap (option_and_then (λ found. found)) (slice_get-map (use_at incoming k sources) (count_up 0 (length sources)) f
-    ∙ ap (option_map (use_at incoming k sources)) (slice_get-count_up 0 (length sources) f (omega (arith, length-sources n p k))))
-    ∙ ap (use_at incoming k sources) front in
-    ap (λ list. with_slots plans (at_fire f (slot_uses incoming k list))) read
+    let read : slice_index_or (sources_of_process n p) k [] ≡ sources =
+    get_or-map-range_with_len (sources_at n p) 0 (read_count n p) k k [] within (omega arith) in
+    let here : at_fire f (read_uses incoming k sources) ≡ use_at incoming k sources f =
+    ap (option_and_then (λ found. found)) (slice_get-map-range_with_len (use_at incoming k sources) 0 (length sources) f f (omega (arith, length-sources n p k)) (omega arith)) in
+    ap (λ list. with_slots plans (at_fire f (read_uses incoming k list))) read
     ∙ ap (with_slots plans) here
     ∙ used_same plans p k f sources (slice_get sources f)
 
 usages_same : (n : Nest) (p f : ℕ) → f < turn_count n p
-    → usages_at (plans_of n) (uses_by_slot (incoming_from 0 0 (plans_of n) p) (slots_of_reads n p)) f ≡ map (usage n p f) (count_up 0 (read_count n p))
+    → usages_at (plans_of n) (uses_by_read (incoming_from 0 0 (plans_of n) p) (sources_of_process n p)) f ≡ map (usage n p f) (range_with_len 0 (read_count n p))
 usages_same n p f fire =
     let plans : List ChannelPlan = plans_of n in
     let incoming : List Incoming = incoming_from 0 0 plans p in
-    let sources : List (List (Option Tag)) = slots_of_reads n p in
-    map_map (λ list. with_slots plans (at_fire f list)) (λ k. slot_uses incoming k (slice_index_or sources k [])) (count_up 0 (length sources))
-    ∙ ap (λ m. map (λ k. with_slots plans (at_fire f (slot_uses incoming k (slice_index_or sources k [])))) (count_up 0 m)) (length_counted (sources_at n p) 0 (read_count n p))
-    ∙ same_between (λ k. with_slots plans (at_fire f (slot_uses incoming k (slice_index_or sources k [])))) (usage n p f) 0 (read_count n p)
+    let sources : List (List (Option Tag)) = sources_of_process n p in
+    map_map (λ list. with_slots plans (at_fire f list)) (λ k. read_uses incoming k (slice_index_or sources k [])) (range_with_len 0 (length sources))
+    ∙ ap (λ m. map (λ k. with_slots plans (at_fire f (read_uses incoming k (slice_index_or sources k [])))) (range_with_len 0 m)) (length-map-range_with_len (sources_at n p) 0 (read_count n p))
+    ∙ map-range_with_len_same (λ k. with_slots plans (at_fire f (read_uses incoming k (slice_index_or sources k [])))) (usage n p f) 0 (read_count n p)
     (λ k from below. used_at n p f k fire (omega arith))
 
 events_same : (n : Nest) (p f : ℕ) → f < turn_count n p
-    → events_at (plans_of n) (uses_by_slot (incoming_from 0 0 (plans_of n) p) (slots_of_reads n p)) (outgoing_from 0 (plans_of n) p) f ≡ point_events n p f
+    → events_at (plans_of n) (uses_by_read (incoming_from 0 0 (plans_of n) p) (sources_of_process n p)) (outgoing_from 0 (plans_of n) p) f ≡ point_events n p f
 events_same n p f fire =
     let puts = puts_same [] (plans_of n) p f 0 refl in
     ap (λ us. flat_map gets_of us ++ Fire (map ref_of us) ∷ puts_to (plans_of n) (outgoing_from 0 (plans_of n) p) f) (usages_same n p f fire)
-    ∙ ap (λ es. flat_map gets_of (map (usage n p f) (count_up 0 (read_count n p))) ++ Fire (map ref_of (map (usage n p f) (count_up 0 (read_count n p)))) ∷ es) puts
+    ∙ ap (λ es. flat_map gets_of (map (usage n p f) (range_with_len 0 (read_count n p))) ++ Fire (map ref_of (map (usage n p f) (range_with_len 0 (read_count n p)))) ∷ es) puts
 
 -- the events of all points are the script
 pub script_same : (n : Nest) (p fires : ℕ) (plans : List ChannelPlan) (incoming : List Incoming) (sources : List (List (Option Tag))) (uses : List (List (Option ChannelUse))) (outgoing : List ℕ)
-    → plans ≡ plans_of n → incoming ≡ incoming_from 0 0 plans p → sources ≡ slots_of_reads n p → uses ≡ uses_by_slot incoming sources
+    → plans ≡ plans_of n → incoming ≡ incoming_from 0 0 plans p → sources ≡ sources_of_process n p → uses ≡ uses_by_read incoming sources
     → outgoing ≡ outgoing_from 0 plans p → fires ≡ turn_count n p
-    → flat_map (events_at plans uses outgoing) (count_up 0 fires) ≡ script n p
+    → flat_map (events_at plans uses outgoing) (range_with_len 0 fires) ≡ script n p
 script_same n p fires plans incoming sources uses outgoing e_plans e_incoming e_sources e_uses e_outgoing e_fires =
     let all : incoming ≡ incoming_from 0 0 (plans_of n) p = e_incoming ∙ ap (λ ps. incoming_from 0 0 ps p) e_plans in
-    let used : uses ≡ uses_by_slot (incoming_from 0 0 (plans_of n) p) (slots_of_reads n p) = e_uses ∙ ap (λ i. uses_by_slot i sources) all ∙ ap (uses_by_slot (incoming_from 0 0 (plans_of n) p)) e_sources in
+    let used : uses ≡ uses_by_read (incoming_from 0 0 (plans_of n) p) (sources_of_process n p) = e_uses ∙ ap (λ i. uses_by_read i sources) all ∙ ap (uses_by_read (incoming_from 0 0 (plans_of n) p)) e_sources in
     let out : outgoing ≡ outgoing_from 0 (plans_of n) p = e_outgoing ∙ ap (λ ps. outgoing_from 0 ps p) e_plans in
-    ap (λ ps. flat_map (events_at ps uses outgoing) (count_up 0 fires)) e_plans
-    ∙ ap (λ us. flat_map (events_at (plans_of n) us outgoing) (count_up 0 fires)) used
-    ∙ ap (λ os. flat_map (events_at (plans_of n) (uses_by_slot (incoming_from 0 0 (plans_of n) p) (slots_of_reads n p)) os) (count_up 0 fires)) out
-    ∙ ap (λ m. flat_map (events_at (plans_of n) (uses_by_slot (incoming_from 0 0 (plans_of n) p) (slots_of_reads n p)) (outgoing_from 0 (plans_of n) p)) (count_up 0 m)) e_fires
-    ∙ joined_between (events_at (plans_of n) (uses_by_slot (incoming_from 0 0 (plans_of n) p) (slots_of_reads n p)) (outgoing_from 0 (plans_of n) p)) (point_events n p) 0 (turn_count n p)
+    ap (λ ps. flat_map (events_at ps uses outgoing) (range_with_len 0 fires)) e_plans
+    ∙ ap (λ us. flat_map (events_at (plans_of n) us outgoing) (range_with_len 0 fires)) used
+    ∙ ap (λ os. flat_map (events_at (plans_of n) (uses_by_read (incoming_from 0 0 (plans_of n) p) (sources_of_process n p)) os) (range_with_len 0 fires)) out
+    ∙ ap (λ m. flat_map (events_at (plans_of n) (uses_by_read (incoming_from 0 0 (plans_of n) p) (sources_of_process n p)) (outgoing_from 0 (plans_of n) p)) (range_with_len 0 m)) e_fires
+    ∙ flat_map-range_with_len_same (events_at (plans_of n) (uses_by_read (incoming_from 0 0 (plans_of n) p) (sources_of_process n p)) (outgoing_from 0 (plans_of n) p)) (point_events n p) 0 (turn_count n p)
     (λ f from below. events_same n p f (omega arith))
 
 pub fits_as : (n : Nest) (p : ℕ) (plans : List ChannelPlan) (incoming : List Incoming) (sources : List (List (Option Tag))) (uses : List (List (Option ChannelUse)))
-    → SizeIsOk n → plans ≡ plans_of n → incoming ≡ incoming_from 0 0 plans p → uses ≡ uses_by_slot incoming sources → All (All (UseFits plans)) uses
+    → SizeIsOk n → plans ≡ plans_of n → incoming ≡ incoming_from 0 0 plans p → uses ≡ uses_by_read incoming sources → All (All (UseFits plans)) uses
 fits_as n p plans incoming sources uses ok e_plans e_incoming e_uses =
-    let all : uses ≡ uses_by_slot (incoming_from 0 0 (plans_of n) p) sources = e_uses ∙ ap (λ i. uses_by_slot i sources) (e_incoming ∙ ap (λ ps. incoming_from 0 0 ps p) e_plans) in
+    let all : uses ≡ uses_by_read (incoming_from 0 0 (plans_of n) p) sources = e_uses ∙ ap (λ i. uses_by_read i sources) (e_incoming ∙ ap (λ ps. incoming_from 0 0 ps p) e_plans) in
     subst (λ ps. All (All (UseFits ps)) uses) (sym e_plans) (subst (All (All (UseFits (plans_of n)))) (sym all) (all_fit n p sources ok))
 
 -- The sources of a process's reads
@@ -156,19 +153,19 @@ read_mapped P g [] k none all = none
 read_mapped P g (x ∷ xs) zero none all = all x
 read_mapped P g (x ∷ xs) (suc k) none all = read_mapped P g xs k none all
 
-pub few_sources : (n : Nest) (p k : ℕ) (sources : List (List (Option Tag))) → SizeIsOk n → sources ≡ slots_of_reads n p → length (get_or sources k []) < 2 ^ 32
+pub few_sources : (n : Nest) (p k : ℕ) (sources : List (List (Option Tag))) → SizeIsOk n → sources ≡ sources_of_process n p → length (get_or sources k []) < 2 ^ 32
 few_sources n p k sources ok e =
     subst (λ ls. length (get_or ls k []) < 2 ^ 32) (sym e)
-    (read_mapped (λ list. length list < 2 ^ 32) (sources_at n p) (count_up 0 (read_count n p)) k (omega arith)
+    (read_mapped (λ list. length list < 2 ^ 32) (sources_at n p) (range_with_len 0 (read_count n p)) k (omega arith)
     (λ j. omega (arith, length-sources n p j, few_turns n p, few_entries n ok)))
 
-pub sources_exist : (n : Nest) (p k f : ℕ) (sources : List (List (Option Tag))) → sources ≡ slots_of_reads n p → OnlyBelow (length n.statements) (get_or (get_or sources k []) f None)
+pub sources_exist : (n : Nest) (p k f : ℕ) (sources : List (List (Option Tag))) → sources ≡ sources_of_process n p → OnlyBelow (length n.statements) (get_or (get_or sources k []) f None)
 sources_exist n p k f sources e =
     subst (λ ls. OnlyBelow (length n.statements) (get_or (get_or ls k []) f None)) (sym e)
-    (read_mapped (λ list. OnlyBelow (length n.statements) (get_or list f None)) (sources_at n p) (count_up 0 (read_count n p)) k tt (λ j. processes_below n p j f))
+    (read_mapped (λ list. OnlyBelow (length n.statements) (get_or list f None)) (sources_at n p) (range_with_len 0 (read_count n p)) k tt (λ j. processes_below n p j f))
 
-pub few_slots_read : (n : Nest) (p : ℕ) (sources : List (List (Option Tag))) → sources ≡ slots_of_reads n p → length sources ≤ 8
-few_slots_read n p sources e = omega (arith, ap length e, length_counted (sources_at n p) 0 (read_count n p), few_read_count n p)
+pub few_sources_read : (n : Nest) (p : ℕ) (sources : List (List (Option Tag))) → sources ≡ sources_of_process n p → length sources ≤ 8
+few_sources_read n p sources e = omega (arith, ap length e, length-map-range_with_len (sources_at n p) 0 (read_count n p), few_read_count n p)
 
-pub few_uses : (incoming : List Incoming) (sources : List (List (Option Tag))) (uses : List (List (Option ChannelUse))) → uses ≡ uses_by_slot incoming sources → length sources ≤ 8 → length uses ≤ 8
-few_uses incoming sources uses e le = omega (arith, ap length e, length_counted (λ k. slot_uses incoming k (slice_index_or sources k [])) 0 (length sources))
+pub few_uses : (incoming : List Incoming) (sources : List (List (Option Tag))) (uses : List (List (Option ChannelUse))) → uses ≡ uses_by_read incoming sources → length sources ≤ 8 → length uses ≤ 8
+few_uses incoming sources uses e le = omega (arith, ap length e, length-map-range_with_len (λ k. read_uses incoming k (slice_index_or sources k [])) 0 (length sources))

@@ -2,27 +2,27 @@
 --
 -- One point has one Fire, so there are as many fires as points. That no process has more slots than Gets is the longer
 -- part: a channel's hold is no more than the Gets that all its uses want, and all of these are made, which is counted
--- fire by fire (`slot_makes`): a fire adds to one writer's channel what its use wants, and nothing to the others. The
+-- fire by fire (`read_makes`): a fire adds to one writer's channel what its use wants, and nothing to the others. The
 -- sums over fires and over reads are then exchanged. The channel of each source exists (`plan_there`), else a use
 -- would make no Get.
 use Rattle.std.proofs.Common.{◌≡◌, ◌≢◌, ◌<◌, ◌≤◌, ◌+◌, ◌-◌, ℕ, zero, suc, Bool, true, false, cond, eqb, List, [], ◌∷◌, map, length, take, get_or, refl, sym, ap, ◌∙◌, subst, inl, inr, arith}
 use Rattle.std.specs.Prelude.{Option, Some, None, slice_get, slice_index, slice_index_or, count_by}
-use Rattle.std.specs.List.{filter, flat_map, list_any, sum_by}
+use Rattle.std.specs.List.{filter, flat_map, list_any, sum_by, range_with_len}
 use Rattle.std.specs.Option.{option_and_then, option_map, option_map_or}
 use Rattle.std.proofs.lemmas.Bool.{cases_Bool, cases_lt, eq-eqb}
 use Rattle.std.proofs.lemmas.List.{get_or_past, length-map}
 use Rattle.std.proofs.lemmas.List.Concat.{length-flat_map}
 use Rattle.std.proofs.lemmas.List.Sums.{sum_by-append, sum_by-cons}
+use Rattle.std.proofs.lemmas.List.FromFn.{length-range_with_len, length-map-range_with_len, get_or-map-range_with_len}
 use Rattle.std.proofs.lemmas.Option.{same_Some, slice_get-get_or, slice_get_past, slice_get_within}
+use Rattle.sanlp.specs.Access.{read_count}
 use Rattle.sanlp.specs.declared.nest.Nest.{Nest}
 use Rattle.sanlp.specs.declared.nest.Tag.{Tag}
-use Rattle.sanlp.specs.Cells.{count_up}
 use Rattle.sanlp.specs.Points.{points_of, vectors_of}
 use Rattle.sanlp.specs.Trace.{trace}
 use Rattle.sanlp.proofs.Each.{Each, each_flat_map, each_map, each_of}
-use Rattle.sanlp.proofs.Members.{In, at_in, each_in, in_flat_map}
-use Rattle.source_tree.specs.Sources.{read_count}
-use Rattle.source_tree.proofs.Numbered.{length-count_up, slice_get-count_up}
+use Rattle.sanlp.proofs.Members.{In, at_in, each_in, in_flat_map, in_range_with_len}
+use Rattle.sanlp.proofs.NestFacts.{points_length}
 use Rattle.reorder_slots.specs.declared.slots.SlotPlan.{SlotPlan}
 use Rattle.reorder_slots.specs.Slots.{gets_for, hold_of}
 use Rattle.channel_plan.specs.declared.plans.ChannelPlan.{ChannelPlan}
@@ -41,7 +41,7 @@ use Rattle.process_derive.specs.Derived.{channel_of, net, process_of}
 use Rattle.process_derive.specs.Scripts.{Usage, channel_from, gets_for_uses, gets_of, goes_between, point_events, puts_from, ref_of, script, slot_base, slots_of, usage, usage_from}
 use Rattle.process_derive.specs.Uses.{OnlyBelow, uses_before}
 use Rattle.process_derive.proofs.Counts.{before_more, of_other, of_own}
-use Rattle.process_derive.proofs.Lists.{get_counted, length_counted, take_all}
+use Rattle.process_derive.proofs.Lists.{take_all}
 use Rattle.process_derive.proofs.Numbers.{HasSlots, all_planned, count_processes, found_slots, gets_by, gets_here, gets_until, point_gets, script_at, used}
 use Rattle.process_derive.proofs.Slots.{hold_made}
 use Rattle.process_derive.proofs.Sums.{sum_filter, sum_joined, sum_less, sum_map, sum_one, sum_push, sum_risen, sum_same, sum_turned}
@@ -76,15 +76,15 @@ no_fire_put c (plan ∷ plans) p f =
       | inr own ↦ rw own (no_fire_put (suc c) plans p f)
     ]
 
-point_has_gets : (n : Nest) (p f : ℕ) → Each IsGet (flat_map gets_of (map (usage n p f) (count_up 0 (read_count n p))))
+point_has_gets : (n : Nest) (p f : ℕ) → Each IsGet (flat_map gets_of (map (usage n p f) (range_with_len 0 (read_count n p))))
 point_has_gets n p f =
-    let slots : List ℕ = count_up 0 (read_count n p) in
-    each_flat_map IsGet gets_of (map (usage n p f) slots) (each_map (λ u. Each IsGet (gets_of u)) (usage n p f) slots (each_of (λ k. Each IsGet (gets_of (usage n p f k))) slots (λ k. all_gets (usage n p f k))))
+    let reads : List ℕ = range_with_len 0 (read_count n p) in
+    each_flat_map IsGet gets_of (map (usage n p f) reads) (each_map (λ u. Each IsGet (gets_of u)) (usage n p f) reads (each_of (λ k. Each IsGet (gets_of (usage n p f k))) reads (λ k. all_gets (usage n p f k))))
 
 point_fires : (n : Nest) (p f : ℕ) → count_by is_fire (point_events n p f) ≡ 1
 point_fires n p f =
-    let gets : List Event = flat_map gets_of (map (usage n p f) (count_up 0 (read_count n p))) in
-    let refs : List Ref = map ref_of (map (usage n p f) (count_up 0 (read_count n p))) in
+    let gets : List Event = flat_map gets_of (map (usage n p f) (range_with_len 0 (read_count n p))) in
+    let refs : List Ref = map ref_of (map (usage n p f) (range_with_len 0 (read_count n p))) in
     let puts : List Event = puts_from 0 (plans_of n) p f in
     omega (arith, sum_by-append (λ e. cond (is_fire e) 1 0) gets (Fire refs ∷ puts), no_fires gets (point_has_gets n p f), count_cons is_fire (Fire refs) puts, no_fire_put 0 (plans_of n) p f)
 
@@ -94,20 +94,15 @@ sum_ones (x ∷ xs) = omega (arith, sum_by-cons (λ y. 1) x xs, sum_ones xs)
 
 script_fires : (n : Nest) (p : ℕ) → count_by is_fire (script n p) ≡ turn_count n p
 script_fires n p =
-    let fires : List ℕ = count_up 0 (turn_count n p) in
+    let fires : List ℕ = range_with_len 0 (turn_count n p) in
     sum_joined (λ e. cond (is_fire e) 1 0) (point_events n p) fires
     ∙ sum_same (λ f. count_by is_fire (point_events n p f)) (λ f. 1) fires (point_fires n p)
-    ∙ sum_ones fires ∙ length-count_up 0 (turn_count n p)
-
-points_length : (n : Nest) → length (points_of n) ≡ length n.statements
-unfolding points_of
-points_length n = length_counted (vectors_of (trace n)) 0 (length n.statements)
+    ∙ sum_ones fires ∙ length-range_with_len 0 (turn_count n p)
 
 turns_are : (n : Nest) (p : ℕ) → p < length n.statements → turns (points_of n) p ≡ turn_count n p
 unfolding points_of
 turns_are n p lt =
-    let front : 0 + p ≡ p = omega arith in
-    ap length (get_counted (vectors_of (trace n)) [] 0 (length n.statements) p lt ∙ ap (vectors_of (trace n)) front) ∙ sym (entries_length 0 (trace n) p)
+    ap length (get_or-map-range_with_len (vectors_of (trace n)) 0 (length n.statements) p p [] lt (omega arith)) ∙ sym (entries_length 0 (trace n) p)
 
 fires_are : (n : Nest) (p : ℕ) → count_by is_fire ((net_of (net n)).script p) ≡ turns (points_of n) p
 fires_are n p =
@@ -137,19 +132,16 @@ in_map : {X Y : Type 0} (f : X → Y) (xs : List X) (x : X) → In x xs → In (
 in_map f [] x h = h
 in_map f (y ∷ xs) x h = elim h [ inl e ↦ inl (ap f e) | inr l ↦ inr (in_map f xs x l) ]
 
-in_counted : (m k : ℕ) → k < m → In k (count_up 0 m)
-in_counted m k lt = at_in k (count_up 0 m) k (slice_get-count_up 0 m k lt ∙ (let front : 0 + k ≡ k = omega arith in ap Some front))
-
 plan_there : (n : Nest) (p k f : ℕ) (t : Tag) → p < length n.statements → k < read_count n p → t.process < length n.statements → slice_get (sources_at n p k) f ≡ Some (Some t)
     → In (plan_of n p k t.process) (plans_of n)
 unfolding plans_of
 plan_there n p k f t process read writer e =
     let w : ℕ = t.process in
     let from = any_at (is_from w) (sources_at n p k) f (Some t) e (eq-eqb w w refl) in
-    in_flat_map (λ p. flat_map (plans_at n p) (count_up 0 (read_count n p))) p (plan_of n p k w) (count_up 0 (length n.statements)) (in_counted (length n.statements) p process)
-    (in_flat_map (plans_at n p) k (plan_of n p k w) (count_up 0 (read_count n p)) (in_counted (read_count n p) k read)
+    in_flat_map (λ p. flat_map (plans_at n p) (range_with_len 0 (read_count n p))) p (plan_of n p k w) (range_with_len 0 (length n.statements)) (in_range_with_len 0 (length n.statements) p (omega arith) (omega arith))
+    (in_flat_map (plans_at n p) k (plan_of n p k w) (range_with_len 0 (read_count n p)) (in_range_with_len 0 (read_count n p) k (omega arith) (omega arith))
     (in_map (plan_of n p k) (writers_of (length n.statements) (sources_at n p k)) w
-    (in_filter (λ w. list_any (is_from w) (sources_at n p k)) (count_up 0 (length n.statements)) w (in_counted (length n.statements) w writer) from)))
+    (in_filter (λ w. list_any (is_from w) (sources_at n p k)) (range_with_len 0 (length n.statements)) w (in_range_with_len 0 (length n.statements) w (omega arith) (omega arith)) from)))
 
 not_first : (c : ℕ) (first : ChannelPlan) (plans : List ChannelPlan) (w p k : ℕ) → goes_between w p k first ≡ true → channel_from c (first ∷ plans) w p k ≡ None → ⊥
 not_first c first plans w p k here e =
@@ -179,9 +171,9 @@ gets_made : (n : Nest) (p k w q : ℕ) (o : Option (ℕ × ChannelPlan)) → cha
 gets_made n p k w q None e some h = absurd (some refl)
 gets_made n p k w q (Some found) e some h =
     let slots : SlotPlan = found.1.slots in
-    let made : length (map (λ m. Get found.0 (slot_base (plans_of n) p found.0 + slice_index slots.slot_of_get m)) (count_up (gets_for_uses slots q) (gets_for_uses slots (suc q) - gets_for_uses slots q)))
+    let made : length (map (λ m. Get found.0 (slot_base (plans_of n) p found.0 + slice_index slots.slot_of_get m)) (range_with_len (gets_for_uses slots q) (gets_for_uses slots (suc q) - gets_for_uses slots q)))
     ≡ gets_for_uses slots (suc q) - gets_for_uses slots q =
-    length_counted (λ m. Get found.0 (slot_base (plans_of n) p found.0 + slice_index slots.slot_of_get m)) (gets_for_uses slots q) (gets_for_uses slots (suc q) - gets_for_uses slots q) in
+    length-map-range_with_len (λ m. Get found.0 (slot_base (plans_of n) p found.0 + slice_index slots.slot_of_get m)) (gets_for_uses slots q) (gets_for_uses slots (suc q) - gets_for_uses slots q) in
     omega (arith, made, ap (λ s. gets_for_uses s q) h, ap (λ s. gets_for_uses s (suc q)) h)
 
 fire_makes : (n : Nest) (p k f : ℕ) (source : Option Tag) → p < length n.statements → k < read_count n p → slice_get (sources_at n p k) f ≡ Some source → OnlyBelow (length n.statements) source
@@ -190,7 +182,7 @@ fire_makes n p k f None process read e below =
     let sources : List (Option Tag) = sources_at n p k in
     let next : f + 1 ≡ suc f = omega arith in
     let same : gets_until n p k (suc f) ≤ gets_until n p k f =
-    sum_less (λ w. gets_by (uses_of (used n p k w)) (uses_before sources (suc f) w)) (λ w. gets_by (uses_of (used n p k w)) (uses_before sources f w)) (count_up 0 (length n.statements))
+    sum_less (λ w. gets_by (uses_of (used n p k w)) (uses_before sources (suc f) w)) (λ w. gets_by (uses_of (used n p k w)) (uses_before sources f w)) (range_with_len 0 (length n.statements))
     (λ w. (let q : uses_before sources (suc f) w ≡ uses_before sources f w = sym (ap (λ j. uses_before sources j w) next) ∙ before_more sources f w None e ∙ omega arith in
     omega (arith, ap (gets_by (uses_of (used n p k w))) q))) in
     omega (arith, same)
@@ -211,12 +203,12 @@ fire_makes n p k f (Some t) process read e below =
     (omega (arith, found, ap (gets_by (uses v)) here))
     (λ w ne. ap (gets_by (uses w)) (others w ne)) 0 (length n.statements)
 
-slot_makes : (n : Nest) (p k f : ℕ) → p < length n.statements → k < read_count n p → f ≤ turn_count n p → gets_until n p k f ≤ sum_by (λ g. length (gets_of (usage n p g k))) (count_up 0 f)
-slot_makes n p k zero process read le = sum_one (λ w. 0) 0 0 0 (length n.statements) (λ q e. refl) (omega arith)
-slot_makes n p k (suc f) process read le =
+read_makes : (n : Nest) (p k f : ℕ) → p < length n.statements → k < read_count n p → f ≤ turn_count n p → gets_until n p k f ≤ sum_by (λ g. length (gets_of (usage n p g k))) (range_with_len 0 f)
+read_makes n p k zero process read le = sum_one (λ w. 0) 0 0 0 (length n.statements) (λ q e. refl) (omega arith)
+read_makes n p k (suc f) process read le =
     let sources : List (Option Tag) = sources_at n p k in
     let here = slice_get-get_or sources f None (omega (arith, length-sources n p k)) in
-    omega (arith, sum_push (λ g. length (gets_of (usage n p g k))) f, slot_makes n p k f process read (omega arith), fire_makes n p k f (get_or sources f None) process read here (processes_below n p k f))
+    omega (arith, sum_push (λ g. length (gets_of (usage n p g k))) f, read_makes n p k f process read (omega arith), fire_makes n p k f (get_or sources f None) process read here (processes_below n p k f))
 
 -- the hold of a channel is no more than its Gets
 hold_by : (uses : List ℕ) (q : ℕ) → q ≡ length uses → hold_of uses ≤ gets_by uses q
@@ -237,14 +229,14 @@ all_used n p k w =
 abbrev weight : ℕ → ChannelPlan → ℕ
 weight p plan = cond (eqb plan.reader p) plan.slots.hold 0
 
-sum_counted : (f g : ℕ → ℕ) (a m : ℕ) → ((k : ℕ) → a ≤ k → k < a + m → f k ≤ g k) → sum_by f (count_up a m) ≤ sum_by g (count_up a m)
+sum_counted : (f g : ℕ → ℕ) (a m : ℕ) → ((k : ℕ) → a ≤ k → k < a + m → f k ≤ g k) → sum_by f (range_with_len a m) ≤ sum_by g (range_with_len a m)
 sum_counted f g a zero all = omega arith
 sum_counted f g a (suc m) all =
-    omega (arith, sum_by-cons f a (count_up (a + 1) m), sum_by-cons g a (count_up (a + 1) m), all a (omega arith) (omega arith), sum_counted f g (a + 1) m (λ k h l. all k (omega arith) (omega arith)))
+    omega (arith, sum_by-cons f a (range_with_len (a + 1) m), sum_by-cons g a (range_with_len (a + 1) m), all a (omega arith) (omega arith), sum_counted f g (a + 1) m (λ k h l. all k (omega arith) (omega arith)))
 
--- the slots of slot k are no more than the Gets for it
-slot_holds : (n : Nest) (p k : ℕ) → sum_by (weight p) (plans_at n p k) ≤ gets_until n p k (turn_count n p)
-slot_holds n p k =
+-- the slots of the channels to read k are no more than its Gets
+read_holds : (n : Nest) (p k : ℕ) → sum_by (weight p) (plans_at n p k) ≤ gets_until n p k (turn_count n p)
+read_holds n p k =
     let ws : List ℕ = writers_of (length n.statements) (sources_at n p k) in
     let hold : ℕ → ℕ = λ w. hold_of (uses_of (used n p k w)) in
     let own : (w : ℕ) → weight p (plan_of n p k w) ≤ hold w = λ w. omega (arith, ap (λ b. cond {A = ℕ} b (hold w) 0) (eq-eqb p p refl)) in
@@ -252,8 +244,8 @@ slot_holds n p k =
       arith,
       sum_map (weight p) (plan_of n p k) ws,
       sum_less (λ w. weight p (plan_of n p k w)) hold ws own,
-      sum_filter hold (λ w. list_any (is_from w) (sources_at n p k)) (count_up 0 (length n.statements)),
-      sum_less hold (λ w. gets_by (uses_of (used n p k w)) (uses_before (sources_at n p k) (turn_count n p) w)) (count_up 0 (length n.statements)) (λ w. hold_by (uses_of (used n p k w)) (uses_before (sources_at n p k) (turn_count n p) w) (all_used n p k w)),
+      sum_filter hold (λ w. list_any (is_from w) (sources_at n p k)) (range_with_len 0 (length n.statements)),
+      sum_less hold (λ w. gets_by (uses_of (used n p k w)) (uses_before (sources_at n p k) (turn_count n p) w)) (range_with_len 0 (length n.statements)) (λ w. hold_by (uses_of (used n p k w)) (uses_before (sources_at n p k) (turn_count n p) w) (all_used n p k w)),
     )
 
 none_held : (p q : ℕ) (plans : List ChannelPlan) → eqb q p ≡ false → Each (λ plan. plan.reader ≡ q) plans → sum_by (weight p) plans ≡ 0
@@ -262,41 +254,41 @@ none_held p q (plan ∷ plans) other h =
     let none : weight p plan ≡ 0 = ap (λ r. cond {A = ℕ} (eqb r p) plan.slots.hold 0) h.0 ∙ ap (λ b. cond {A = ℕ} b plan.slots.hold 0) other in
     omega (arith, sum_by-cons (weight p) plan plans, none, none_held p q plans other h.1)
 
-process_holds : (n : Nest) (p : ℕ) → slots_of (plans_of n) p ≤ sum_by (λ k. gets_until n p k (turn_count n p)) (count_up 0 (read_count n p))
+process_holds : (n : Nest) (p : ℕ) → slots_of (plans_of n) p ≤ sum_by (λ k. gets_until n p k (turn_count n p)) (range_with_len 0 (read_count n p))
 unfolding plans_of
 process_holds n p =
-    let all : ℕ → List ChannelPlan = λ q. flat_map (plans_at n q) (count_up 0 (read_count n q)) in
-    let bound : ℕ = sum_by (λ k. gets_until n p k (turn_count n p)) (count_up 0 (read_count n p)) in
-    subst (λ m. m ≤ bound) (sym (sum_joined (weight p) all (count_up 0 (length n.statements))))
+    let all : ℕ → List ChannelPlan = λ q. flat_map (plans_at n q) (range_with_len 0 (read_count n q)) in
+    let bound : ℕ = sum_by (λ k. gets_until n p k (turn_count n p)) (range_with_len 0 (read_count n p)) in
+    subst (λ m. m ≤ bound) (sym (sum_joined (weight p) all (range_with_len 0 (length n.statements))))
     (sum_one (λ q. sum_by (weight p) (all q)) p bound 0 (length n.statements)
-    (λ q other. none_held p q (all q) other (each_flat_map (λ plan. plan.reader ≡ q) (plans_at n q) (count_up 0 (read_count n q))
-    (each_of (λ k. Each (λ plan. plan.reader ≡ q) (plans_at n q k)) (count_up 0 (read_count n q)) (λ k. each_map (λ plan. plan.reader ≡ q) (plan_of n q k) (writers_of (length n.statements) (sources_at n q k))
+    (λ q other. none_held p q (all q) other (each_flat_map (λ plan. plan.reader ≡ q) (plans_at n q) (range_with_len 0 (read_count n q))
+    (each_of (λ k. Each (λ plan. plan.reader ≡ q) (plans_at n q k)) (range_with_len 0 (read_count n q)) (λ k. each_map (λ plan. plan.reader ≡ q) (plan_of n q k) (writers_of (length n.statements) (sources_at n q k))
     (each_of (λ w. q ≡ q) (writers_of (length n.statements) (sources_at n q k)) (λ w. refl))))))
-    (subst (λ m. m ≤ bound) (sym (sum_joined (weight p) (plans_at n p) (count_up 0 (read_count n p))))
-    (sum_less (λ k. sum_by (weight p) (plans_at n p k)) (λ k. gets_until n p k (turn_count n p)) (count_up 0 (read_count n p)) (slot_holds n p))))
+    (subst (λ m. m ≤ bound) (sym (sum_joined (weight p) (plans_at n p) (range_with_len 0 (read_count n p))))
+    (sum_less (λ k. sum_by (weight p) (plans_at n p k)) (λ k. gets_until n p k (turn_count n p)) (range_with_len 0 (read_count n p)) (read_holds n p))))
 
 point_counts : (n : Nest) (p f : ℕ) → point_gets n p f ≤ count_by is_any_get (point_events n p f)
 point_counts n p f =
-    let slots : List ℕ = count_up 0 (read_count n p) in
-    let usages : List (Option Usage) = map (usage n p f) slots in
+    let reads : List ℕ = range_with_len 0 (read_count n p) in
+    let usages : List (Option Usage) = map (usage n p f) reads in
     let gets : List Event = flat_map gets_of usages in
     omega (
       arith,
       sum_by-append (λ e. cond (is_any_get e) 1 0) gets (Fire (map ref_of usages) ∷ puts_from 0 (plans_of n) p f),
       all_count gets (point_has_gets n p f),
       length-flat_map gets_of usages,
-      sum_map (λ u. length (gets_of u)) (usage n p f) slots,
+      sum_map (λ u. length (gets_of u)) (usage n p f) reads,
     )
 
 script_holds : (n : Nest) (p : ℕ) → p < length n.statements → slots_of (plans_of n) p ≤ count_by is_any_get (script n p)
 script_holds n p lt =
-    let fires : List ℕ = count_up 0 (turn_count n p) in
-    let slots : List ℕ = count_up 0 (read_count n p) in
+    let fires : List ℕ = range_with_len 0 (turn_count n p) in
+    let reads : List ℕ = range_with_len 0 (read_count n p) in
     omega (
       arith,
       process_holds n p,
-      sum_counted (λ k. gets_until n p k (turn_count n p)) (λ k. sum_by (λ f. length (gets_of (usage n p f k))) fires) 0 (read_count n p) (λ k from below. slot_makes n p k (turn_count n p) lt (omega arith) (omega arith)),
-      sum_turned (λ f k. length (gets_of (usage n p f k))) fires slots,
+      sum_counted (λ k. gets_until n p k (turn_count n p)) (λ k. sum_by (λ f. length (gets_of (usage n p f k))) fires) 0 (read_count n p) (λ k from below. read_makes n p k (turn_count n p) lt (omega arith) (omega arith)),
+      sum_turned (λ f k. length (gets_of (usage n p f k))) fires reads,
       sum_less (point_gets n p) (λ f. count_by is_any_get (point_events n p f)) fires (point_counts n p),
       sum_joined (λ e. cond (is_any_get e) 1 0) (point_events n p) fires,
     )
@@ -305,7 +297,7 @@ slots_past : (n : Nest) (p : ℕ) → length n.statements ≤ p → (net_of (net
 unfolding net
 slots_past n p le =
     ap (λ (o : Option Process). option_map_or (λ process. process.slots) o 0)
-    (slice_get_past (map (process_of n) (count_up 0 (length n.statements))) p (omega (arith, length-map (count_up 0 (length n.statements)) (process_of n), length-count_up 0 (length n.statements))))
+    (slice_get_past (map (process_of n) (range_with_len 0 (length n.statements))) p (omega (arith, length-map-range_with_len (process_of n) 0 (length n.statements))))
 
 slots_few : (n : Nest) (p : ℕ) → (net_of (net n)).slots p ≤ count_by is_any_get ((net_of (net n)).script p)
 slots_few n p =

@@ -1,13 +1,12 @@
 -- Sums over lists and over numbers that are counted up.
 use Rattle.std.proofs.Common.{◌≡◌, ◌≢◌, ◌<◌, ◌≤◌, ◌+◌, ◌*◌, ℕ, zero, suc, Bool, true, false, cond, eqb, List, [], ◌∷◌, map, length, take, refl, sym, ap, ◌∙◌, inl, inr, arith, eqb-true}
 use Rattle.std.specs.Prelude.{Some, slice_get}
-use Rattle.std.specs.List.{filter, flat_map, sum_by}
+use Rattle.std.specs.List.{filter, flat_map, sum_by, range_with_len}
 use Rattle.std.proofs.lemmas.Bool.{cases_Bool, eq-eqb, ne_eqb}
 use Rattle.std.proofs.lemmas.List.Concat.{flat_map-cons}
-use Rattle.std.proofs.lemmas.List.Sums.{sum_by-append, sum_by-cons}
+use Rattle.std.proofs.lemmas.List.Sums.{sum_by-append, sum_by-cons, sum_by_push}
 use Rattle.std.proofs.lemmas.Option.{same_Some}
-use Rattle.sanlp.specs.Cells.{count_up}
-use Rattle.sanlp.proofs.Lists.{count_up-append}
+use Rattle.sanlp.proofs.Lists.{range_with_len_more}
 
 -- 1 where a test passes
 abbrev pub one_if : Bool → ℕ
@@ -42,19 +41,19 @@ sum_at f (y ∷ xs) zero x e = omega (arith, sum_by-cons f y xs, ap f (same_Some
 sum_at f (y ∷ xs) (suc k) x e = omega (arith, sum_by-cons f y (take k xs), sum_by-cons f y xs, sum_at f xs k x e)
 
 -- only the number p adds, and no more than b
-sum_past : (f : ℕ → ℕ) (p a m : ℕ) → ((q : ℕ) → eqb q p ≡ false → f q ≡ 0) → p < a → sum_by f (count_up a m) ≡ 0
+sum_past : (f : ℕ → ℕ) (p a m : ℕ) → ((q : ℕ) → eqb q p ≡ false → f q ≡ 0) → p < a → sum_by f (range_with_len a m) ≡ 0
 sum_past f p a zero none lt = refl
 sum_past f p a (suc m) none lt =
-    omega (arith, sum_by-cons f a (count_up (a + 1) m), none a (ne_eqb a p (λ e. omega arith)), sum_past f p (a + 1) m none (omega arith))
+    omega (arith, sum_by-cons f a (range_with_len (a + 1) m), none a (ne_eqb a p (λ e. omega arith)), sum_past f p (a + 1) m none (omega arith))
 
-pub sum_one : (f : ℕ → ℕ) (p b a m : ℕ) → ((q : ℕ) → eqb q p ≡ false → f q ≡ 0) → f p ≤ b → sum_by f (count_up a m) ≤ b
+pub sum_one : (f : ℕ → ℕ) (p b a m : ℕ) → ((q : ℕ) → eqb q p ≡ false → f q ≡ 0) → f p ≤ b → sum_by f (range_with_len a m) ≤ b
 sum_one f p b a zero none le = omega arith
 sum_one f p b a (suc m) none le =
     elim (cases_Bool (eqb a p)) [
       | inl here ↦
           let same = eqb-true a p here in
-          omega (arith, sum_by-cons f a (count_up (a + 1) m), ap f same, sum_past f p (a + 1) m none (omega (arith, same)))
-      | inr there ↦ omega (arith, sum_by-cons f a (count_up (a + 1) m), none a there, sum_one f p b (a + 1) m none le)
+          omega (arith, sum_by-cons f a (range_with_len (a + 1) m), ap f same, sum_past f p (a + 1) m none (omega (arith, same)))
+      | inr there ↦ omega (arith, sum_by-cons f a (range_with_len (a + 1) m), none a there, sum_one f p b (a + 1) m none le)
     ]
 
 pub sum_less : {X : Type 0} (f g : X → ℕ) (xs : List X) → ((x : X) → f x ≤ g x) → sum_by f xs ≤ sum_by g xs
@@ -83,24 +82,19 @@ sum_turned f (x ∷ xs) ys =
     ∙ sym (sum_added (f x) (λ y. sum_by (λ x. f x y) xs) ys)
     ∙ sum_same (λ y. f x y + sum_by (λ x. f x y) xs) (λ y. sum_by (λ x. f x y) (x ∷ xs)) ys (λ y. sym (sum_by-cons (λ x. f x y) x xs))
 
-pub sum_push : (f : ℕ → ℕ) (k : ℕ) → sum_by f (count_up 0 (suc k)) ≡ sum_by f (count_up 0 k) + f k
+pub sum_push : (f : ℕ → ℕ) (k : ℕ) → sum_by f (range_with_len 0 (suc k)) ≡ sum_by f (range_with_len 0 k) + f k
 sum_push f k =
     let more : suc k ≡ k + 1 = omega arith in
-    let front : 0 + k ≡ k = omega arith in
-    ap (λ m. sum_by f (count_up 0 m)) more
-    ∙ ap (sum_by f) (count_up-append 0 k 1)
-    ∙ sum_by-append f (count_up 0 k) (count_up (0 + k) 1)
-    ∙ ap (λ j. sum_by f (count_up 0 k) + sum_by f (j ∷ [])) front
-    ∙ ap (λ m. sum_by f (count_up 0 k) + m) (sum_by-cons f k [] ∙ omega arith)
+    ap (λ m. sum_by f (range_with_len 0 m)) more ∙ ap (sum_by f) (range_with_len_more 0 k k (omega arith)) ∙ sum_by_push f (range_with_len 0 k) k
 
-sum_agree : (f g : ℕ → ℕ) (a m : ℕ) → ((k : ℕ) → a ≤ k → f k ≡ g k) → sum_by f (count_up a m) ≡ sum_by g (count_up a m)
+sum_agree : (f g : ℕ → ℕ) (a m : ℕ) → ((k : ℕ) → a ≤ k → f k ≡ g k) → sum_by f (range_with_len a m) ≡ sum_by g (range_with_len a m)
 sum_agree f g a zero same = refl
 sum_agree f g a (suc m) same =
-    omega (arith, sum_by-cons f a (count_up (a + 1) m), sum_by-cons g a (count_up (a + 1) m), same a (omega arith), sum_agree f g (a + 1) m (λ k h. same k (omega arith)))
+    omega (arith, sum_by-cons f a (range_with_len (a + 1) m), sum_by-cons g a (range_with_len (a + 1) m), same a (omega arith), sum_agree f g (a + 1) m (λ k h. same k (omega arith)))
 
 -- a function that takes at least d more at i alone
 pub sum_raised : (f g : ℕ → ℕ) (i d : ℕ) → f i + d ≤ g i → ((k : ℕ) → k ≢ i → f k ≡ g k)
-    → (a m : ℕ) → a ≤ i → i < a + m → sum_by f (count_up a m) + d ≤ sum_by g (count_up a m)
+    → (a m : ℕ) → a ≤ i → i < a + m → sum_by f (range_with_len a m) + d ≤ sum_by g (range_with_len a m)
 sum_raised f g i d more same a zero le lt = absurd (omega arith)
 sum_raised f g i d more same a (suc m) le lt =
     elim (cases_Bool (eqb a i)) [
@@ -108,8 +102,8 @@ sum_raised f g i d more same a (suc m) le lt =
           let is = eqb-true a i here in
           omega (
             arith,
-            sum_by-cons f a (count_up (a + 1) m),
-            sum_by-cons g a (count_up (a + 1) m),
+            sum_by-cons f a (range_with_len (a + 1) m),
+            sum_by-cons g a (range_with_len (a + 1) m),
             ap f is,
             ap g is,
             more,
@@ -119,15 +113,15 @@ sum_raised f g i d more same a (suc m) le lt =
           let other : a ≢ i = λ e. (let bad : eqb a i ≡ true = eq-eqb a i e in absurd (cc)) in
           omega (
             arith,
-            sum_by-cons f a (count_up (a + 1) m),
-            sum_by-cons g a (count_up (a + 1) m),
+            sum_by-cons f a (range_with_len (a + 1) m),
+            sum_by-cons g a (range_with_len (a + 1) m),
             same a other,
             sum_raised f g i d more same (a + 1) m (omega (arith, other)) (omega arith),
           )
     ]
 
 -- a function that takes at most d more at i alone
-pub sum_risen : (f g : ℕ → ℕ) (i d : ℕ) → g i ≤ f i + d → ((k : ℕ) → k ≢ i → g k ≡ f k) → (a m : ℕ) → sum_by g (count_up a m) ≤ sum_by f (count_up a m) + d
+pub sum_risen : (f g : ℕ → ℕ) (i d : ℕ) → g i ≤ f i + d → ((k : ℕ) → k ≢ i → g k ≡ f k) → (a m : ℕ) → sum_by g (range_with_len a m) ≤ sum_by f (range_with_len a m) + d
 sum_risen f g i d more same a zero = omega arith
 sum_risen f g i d more same a (suc m) =
     elim (cases_Bool (eqb a i)) [
@@ -135,8 +129,8 @@ sum_risen f g i d more same a (suc m) =
           let is = eqb-true a i here in
           omega (
             arith,
-            sum_by-cons f a (count_up (a + 1) m),
-            sum_by-cons g a (count_up (a + 1) m),
+            sum_by-cons f a (range_with_len (a + 1) m),
+            sum_by-cons g a (range_with_len (a + 1) m),
             ap f is,
             ap g is,
             more,
@@ -144,5 +138,5 @@ sum_risen f g i d more same a (suc m) =
           )
       | inr there ↦
           let other : a ≢ i = λ e. (let bad : eqb a i ≡ true = eq-eqb a i e in absurd (cc)) in
-          omega (arith, sum_by-cons f a (count_up (a + 1) m), sum_by-cons g a (count_up (a + 1) m), same a other, sum_risen f g i d more same (a + 1) m)
+          omega (arith, sum_by-cons f a (range_with_len (a + 1) m), sum_by-cons g a (range_with_len (a + 1) m), same a other, sum_risen f g i d more same (a + 1) m)
     ]

@@ -1,4 +1,4 @@
--- What the fires use at the first so many slots.
+-- What the fires use for the first so many reads.
 use Rattle.std.proofs.Common.{◌≡◌, ◌≤◌, ◌+◌, ℕ, zero, suc, List, [], ◌∷◌, ◌++◌, map, length, take, refl, sym, ap, ◌∙◌, arith, add-one, append_assoc}
 use Rattle.std.specs.Prelude.{Option, Some, slice_get}
 use Rattle.std.specs.List.{flat_map}
@@ -25,7 +25,7 @@ usages_more plans uses i f list e =
     ∙ ap (λ xs. usages_at plans xs f) (take_next uses i list e)
     ∙ map-append (λ list. with_slots plans (option_and_then (λ found. found) (slice_get list f))) (take i uses) (list ∷ [])
 
--- one slot more
+-- one read more
 pub gets_more : (plans : List ChannelPlan) (uses : List (List (Option ChannelUse))) (i f : ℕ) (list : List (Option ChannelUse)) (found : Option ChannelUse) (first before after : List Event)
     → slice_get uses i ≡ Some list → found ≡ option_and_then (λ found. found) (slice_get list f)
     → before ≡ first ++ flat_map gets_of (usages_at plans (take i uses) f) → after ≡ before ++ gets_of (with_slots plans found)

@@ -7,20 +7,20 @@
 -- schedule is needed.
 use Rattle.std.proofs.Common.{◌≡◌, ◌<◌, ◌≤◌, ◌+◌, ◌-◌, ℕ, zero, suc, Bool, false, cond, eqb, List, [], ◌∷◌, ◌++◌, map, length, take, refl, sym, ap, ◌∙◌, subst, inl, inr, arith, eqb-true, append_assoc}
 use Rattle.std.specs.Prelude.{All, Option, Some, None, slice_get, slice_index, slice_index_or, count_by}
-use Rattle.std.specs.List.{filter, find, flat_map, list_any}
+use Rattle.std.specs.List.{filter, find, flat_map, list_any, range_with_len}
 use Rattle.std.specs.Option.{option_and_then, option_map, option_map_or}
 use Rattle.std.proofs.lemmas.Bool.{cases_Bool, cases_lt, eq-eqb}
 use Rattle.std.proofs.lemmas.List.{length-map}
 use Rattle.std.proofs.lemmas.List.Concat.{flat_map-cons}
 use Rattle.std.proofs.lemmas.List.Sums.{sum_by-cons}
+use Rattle.std.proofs.lemmas.List.FromFn.{length-map-range_with_len}
 use Rattle.std.proofs.lemmas.Option.{slice_get-map, slice_get_past, slice_get_within}
+use Rattle.sanlp.specs.Access.{read_count}
 use Rattle.sanlp.specs.declared.nest.Nest.{Nest}
 use Rattle.sanlp.specs.declared.nest.Tag.{Tag}
-use Rattle.sanlp.specs.Cells.{count_up}
-use Rattle.sanlp.proofs.Each.{Each, each_append, each_flat_map, each_map, each_of}
+use Rattle.sanlp.proofs.Each.{Each, each_append, each_flat_map, each_map, each_of, each_range_with_len}
 use Rattle.sanlp.proofs.Members.{at_in, each_in}
-use Rattle.source_tree.specs.Sources.{read_count}
-use Rattle.source_tree.proofs.Numbered.{length-count_up, slice_get-count_up}
+use Rattle.sanlp.proofs.Lists.{slice_get-map-range_with_len}
 use Rattle.reorder_slots.specs.declared.slots.SlotPlan.{SlotPlan}
 use Rattle.reorder_slots.specs.Slots.{gets_for}
 use Rattle.channel_plan.specs.declared.plans.ChannelPlan.{ChannelPlan}
@@ -117,18 +117,14 @@ slot_within n p slot u is lt =
     let counted : weight p is.plan ≡ is.plan.slots.hold = ap (λ b. cond b is.plan.slots.hold 0) (eq-eqb is.plan.reader p is.reader) in
     omega (arith, whole, counted, lt, is.base, ap (λ (s : SlotPlan). s.hold) is.same)
 
-each_counted : (P : ℕ → Type 0) (a m : ℕ) → ((k : ℕ) → a ≤ k → k < a + m → P k) → Each P (count_up a m)
-each_counted P a zero all = tt
-each_counted P a (suc m) all = (all a (omega arith) (omega arith), each_counted P (a + 1) m (λ k h l. all k (omega arith) (omega arith)))
-
 gets_are : (n : Nest) (p : ℕ) (u : Option Usage) → MayUse n p u → Each (IsEventOf n p) (gets_of u)
 gets_are n p None h = tt
 gets_are n p (Some u) is =
     let done : ℕ = gets_for_uses u.slots u.number in
     let needed : ℕ = gets_for_uses u.slots (suc u.number) in
     let most : needed ≡ gets_for (take (u.number + 1) is.uses) = ap (λ s. gets_for_uses s (suc u.number)) is.planned ∙ gets_here is.uses u.number is.within in
-    each_map (IsEventOf n p) (λ m. Get u.channel (u.base + slice_index u.slots.slot_of_get m)) (count_up done (needed - done))
-    (each_counted (λ m. IsEventOf n p (Get u.channel (u.base + slice_index u.slots.slot_of_get m))) done (needed - done)
+    each_map (IsEventOf n p) (λ m. Get u.channel (u.base + slice_index u.slots.slot_of_get m)) (range_with_len done (needed - done))
+    (each_range_with_len (λ m. IsEventOf n p (Get u.channel (u.base + slice_index u.slots.slot_of_get m))) done (needed - done)
     (λ m from below. (
       (is.plan, is.there, is.reader),
       slot_within n p (slice_index u.slots.slot_of_get m) u is
@@ -156,28 +152,28 @@ puts_are n front (plan ∷ rest) p f c e whole =
 
 point_are : (n : Nest) (p f : ℕ) → Each (IsEventOf n p) (point_events n p f)
 point_are n p f =
-    let slots : List ℕ = count_up 0 (read_count n p) in
-    let usages : List (Option Usage) = map (usage n p f) slots in
+    let reads : List ℕ = range_with_len 0 (read_count n p) in
+    let usages : List (Option Usage) = map (usage n p f) reads in
     each_append (IsEventOf n p) (flat_map gets_of usages) (Fire (map ref_of usages) ∷ puts_from 0 (plans_of n) p f)
-    (each_flat_map (IsEventOf n p) gets_of usages (each_map (λ u. Each (IsEventOf n p) (gets_of u)) (usage n p f) slots
-    (each_of (λ k. Each (IsEventOf n p) (gets_of (usage n p f k))) slots (λ k. gets_are n p (usage n p f k) (may_use n p f k))))) (
+    (each_flat_map (IsEventOf n p) gets_of usages (each_map (λ u. Each (IsEventOf n p) (gets_of u)) (usage n p f) reads
+    (each_of (λ k. Each (IsEventOf n p) (gets_of (usage n p f k))) reads (λ k. gets_are n p (usage n p f k) (may_use n p f k))))) (
       (
-        each_map (IsWithin (slots_of (plans_of n) p)) ref_of usages (each_map (λ u. IsWithin (slots_of (plans_of n) p) (ref_of u)) (usage n p f) slots
-            (each_of (λ k. IsWithin (slots_of (plans_of n) p) (ref_of (usage n p f k))) slots (λ k. ref_within n p (usage n p f k) (may_use n p f k)))),
-        length-map usages ref_of ∙ length-map slots (usage n p f) ∙ length-count_up 0 (read_count n p),
+        each_map (IsWithin (slots_of (plans_of n) p)) ref_of usages (each_map (λ u. IsWithin (slots_of (plans_of n) p) (ref_of u)) (usage n p f) reads
+            (each_of (λ k. IsWithin (slots_of (plans_of n) p) (ref_of (usage n p f k))) reads (λ k. ref_within n p (usage n p f k) (may_use n p f k)))),
+        length-map usages ref_of ∙ length-map-range_with_len (usage n p f) 0 (read_count n p),
       ),
       puts_are n [] (plans_of n) p f 0 refl refl,
     )
 
 script_are : (n : Nest) (p : ℕ) → Each (IsEventOf n p) (script n p)
 script_are n p =
-    each_flat_map (IsEventOf n p) (point_events n p) (count_up 0 (turn_count n p)) (each_of (λ f. Each (IsEventOf n p) (point_events n p f)) (count_up 0 (turn_count n p)) (point_are n p))
+    each_flat_map (IsEventOf n p) (point_events n p) (range_with_len 0 (turn_count n p)) (each_of (λ f. Each (IsEventOf n p) (point_events n p f)) (range_with_len 0 (turn_count n p)) (point_are n p))
 
 pub script_past : (n : Nest) (p : ℕ) → length n.statements ≤ p → (net_of (net n)).script p ≡ []
 unfolding net
 script_past n p le =
     ap (λ (o : Option Process). option_map_or (λ process. process.script) o [])
-    (slice_get_past (map (process_of n) (count_up 0 (length n.statements))) p (omega (arith, length-map (count_up 0 (length n.statements)) (process_of n), length-count_up 0 (length n.statements))))
+    (slice_get_past (map (process_of n) (range_with_len 0 (length n.statements))) p (omega (arith, length-map-range_with_len (process_of n) 0 (length n.statements))))
 
 -- each event of a script is one that its process may have
 pub event_is : (n : Nest) (p k : ℕ) (e : Event) → slice_get ((net_of (net n)).script p) k ≡ Some e → (p < length n.statements) × IsEventOf n p e
@@ -196,7 +192,7 @@ each_filter P test [] h = tt
 each_filter P test (x ∷ xs) h =
     elim (cases_Bool (test x)) [ inl kept ↦ rw kept ((h.0, each_filter P test xs h.1)) | inr left ↦ rw left (each_filter P test xs h.1) ]
 
--- a channel's processes exist, and its read slot is one of the reader's
+-- a channel's processes exist, and its read is one of the reader's
 pub record IsChannelOf (n : Nest) (plan : ChannelPlan) : Type 0 where
   pub writer : plan.writer < length n.statements
   pub reader : plan.reader < length n.statements
@@ -205,13 +201,13 @@ pub record IsChannelOf (n : Nest) (plan : ChannelPlan) : Type 0 where
 pub all_channels : (n : Nest) → Each (IsChannelOf n) (plans_of n)
 unfolding plans_of
 all_channels n =
-    each_flat_map (IsChannelOf n) (λ p. flat_map (plans_at n p) (count_up 0 (read_count n p))) (count_up 0 (length n.statements))
-    (each_counted (λ p. Each (IsChannelOf n) (flat_map (plans_at n p) (count_up 0 (read_count n p)))) 0 (length n.statements)
-    (λ p from below. each_flat_map (IsChannelOf n) (plans_at n p) (count_up 0 (read_count n p))
-    (each_counted (λ k. Each (IsChannelOf n) (plans_at n p k)) 0 (read_count n p)
+    each_flat_map (IsChannelOf n) (λ p. flat_map (plans_at n p) (range_with_len 0 (read_count n p))) (range_with_len 0 (length n.statements))
+    (each_range_with_len (λ p. Each (IsChannelOf n) (flat_map (plans_at n p) (range_with_len 0 (read_count n p)))) 0 (length n.statements)
+    (λ p from below. each_flat_map (IsChannelOf n) (plans_at n p) (range_with_len 0 (read_count n p))
+    (each_range_with_len (λ k. Each (IsChannelOf n) (plans_at n p k)) 0 (read_count n p)
     (λ k at under. each_map (IsChannelOf n) (plan_of n p k) (writers_of (length n.statements) (sources_at n p k))
-    (each_filter (λ w. IsChannelOf n (plan_of n p k w)) (λ w. list_any (is_from w) (sources_at n p k)) (count_up 0 (length n.statements))
-    (each_counted (λ w. IsChannelOf n (plan_of n p k w)) 0 (length n.statements)
+    (each_filter (λ w. IsChannelOf n (plan_of n p k w)) (λ w. list_any (is_from w) (sources_at n p k)) (range_with_len 0 (length n.statements))
+    (each_range_with_len (λ w. IsChannelOf n (plan_of n p k w)) 0 (length n.statements)
     (λ w since lt. record { writer = omega arith; reader = omega arith; read = omega arith })))))))
 
 pub item_at : {X : Type 0} (xs : List X) (k : ℕ) → k < length xs → (x : X) × (slice_get xs k ≡ Some x)
@@ -232,10 +228,7 @@ writer_at n c plan e = ap (λ (o : Option Channel). option_map_or (λ channel. c
 pub slots_there : (n : Nest) (p : ℕ) → p < length n.statements → (net_of (net n)).slots p ≡ slots_of (plans_of n) p
 unfolding net
 slots_there n p lt =
-    let front : 0 + p ≡ p = omega arith in
-    ap (λ (o : Option Process). option_map_or (λ process. process.slots) o 0) (slice_get-map (process_of n) (count_up 0 (length n.statements)) p
-    ∙ ap (option_map (process_of n)) (slice_get-count_up 0 (length n.statements) p lt))
-    ∙ ap (slots_of (plans_of n)) front
+    ap (λ (o : Option Process). option_map_or (λ process. process.slots) o 0) (slice_get-map-range_with_len (process_of n) 0 (length n.statements) p p lt (omega arith))
 
 channel_there : (n : Nest) (c : ℕ) → c < (net_of (net n)).channels → HasPlan n c (IsChannelOf n)
 channel_there n c lt =
@@ -252,7 +245,7 @@ IsGet (Put c) = ⊥
 pub all_gets : (u : Option Usage) → Each IsGet (gets_of u)
 all_gets None = tt
 all_gets (Some u) =
-    each_map IsGet (λ m. Get u.channel (u.base + slice_index u.slots.slot_of_get m)) (count_up (gets_for_uses u.slots u.number) (gets_for_uses u.slots (suc u.number) - gets_for_uses u.slots u.number))
+    each_map IsGet (λ m. Get u.channel (u.base + slice_index u.slots.slot_of_get m)) (range_with_len (gets_for_uses u.slots u.number) (gets_for_uses u.slots (suc u.number) - gets_for_uses u.slots u.number))
     (each_of (λ m. IsGet (Get u.channel (u.base + slice_index u.slots.slot_of_get m))) _ (λ m. tt))
 
 count_cons : (e : Event) (es : List Event) → count_by is_fire (e ∷ es) ≡ cond (is_fire e) 1 0 + count_by is_fire es
@@ -267,16 +260,16 @@ fired_first (Fire other ∷ gets) refs rest zero c h e = absurd h.0
 fired_first (Put d ∷ gets) refs rest zero c h e = absurd h.0
 fired_first (event ∷ gets) refs rest (suc k) c h e = omega (arith, count_cons event (take k (gets ++ Fire refs ∷ rest)), fired_first gets refs rest k c h.1 e)
 
-fired_before : (n : Nest) (p turns k c : ℕ) → slice_get (flat_map (point_events n p) (count_up 0 turns)) k ≡ Some (Put c)
-    → 0 < count_by is_fire (take k (flat_map (point_events n p) (count_up 0 turns)))
+fired_before : (n : Nest) (p turns k c : ℕ) → slice_get (flat_map (point_events n p) (range_with_len 0 turns)) k ≡ Some (Put c)
+    → 0 < count_by is_fire (take k (flat_map (point_events n p) (range_with_len 0 turns)))
 fired_before n p zero k c e = absurd (cc)
 fired_before n p (suc turns) k c e =
-    let slots : List ℕ = count_up 0 (read_count n p) in
-    let usages : List (Option Usage) = map (usage n p 0) slots in
-    let later : List Event = flat_map (point_events n p) (count_up (0 + 1) turns) in
-    let split : flat_map (point_events n p) (count_up 0 (suc turns)) ≡ flat_map gets_of usages ++ Fire (map ref_of usages) ∷ (puts_from 0 (plans_of n) p 0 ++ later) =
-    flat_map-cons (point_events n p) 0 (count_up (0 + 1) turns) ∙ append_assoc (flat_map gets_of usages) (Fire (map ref_of usages) ∷ puts_from 0 (plans_of n) p 0) later in
-    let gets = each_flat_map IsGet gets_of usages (each_map (λ u. Each IsGet (gets_of u)) (usage n p 0) slots (each_of (λ k. Each IsGet (gets_of (usage n p 0 k))) slots (λ k. all_gets (usage n p 0 k)))) in
+    let reads : List ℕ = range_with_len 0 (read_count n p) in
+    let usages : List (Option Usage) = map (usage n p 0) reads in
+    let later : List Event = flat_map (point_events n p) (range_with_len (0 + 1) turns) in
+    let split : flat_map (point_events n p) (range_with_len 0 (suc turns)) ≡ flat_map gets_of usages ++ Fire (map ref_of usages) ∷ (puts_from 0 (plans_of n) p 0 ++ later) =
+    flat_map-cons (point_events n p) 0 (range_with_len (0 + 1) turns) ∙ append_assoc (flat_map gets_of usages) (Fire (map ref_of usages) ∷ puts_from 0 (plans_of n) p 0) later in
+    let gets = each_flat_map IsGet gets_of usages (each_map (λ u. Each IsGet (gets_of u)) (usage n p 0) reads (each_of (λ k. Each IsGet (gets_of (usage n p 0 k))) reads (λ k. all_gets (usage n p 0 k)))) in
     subst (λ es. 0 < count_by is_fire (take k es)) (sym split)
     (fired_first (flat_map gets_of usages) (map ref_of usages) (puts_from 0 (plans_of n) p 0 ++ later) k c gets (ap (λ es. slice_get es k) (sym split) ∙ e))
 

@@ -1,7 +1,7 @@
 -- The scripts of worked processes, computed from the definitions.
 use Rattle.std.proofs.Common.{◌≡◌, ℕ, zero, suc, Bool, true, false, List, [], ◌∷◌, ◌++◌, refl}
 use Rattle.std.specs.Prelude.{Option, Some}
-use Rattle.std.specs.List.{flat_map}
+use Rattle.std.specs.List.{flat_map, range_with_len}
 use Rattle.channel_class.specs.declared.ChannelClass.{ChannelClass}
 use Rattle.channel_class.specs.declared.UseOrder.TheVariants.{InOrder, Reorder}
 use Rattle.channel_plan.specs.declared.plans.ChannelPlan.{ChannelPlan}
@@ -9,7 +9,6 @@ use Rattle.net_core.specs.declared.network.Event.{Event}
 use Rattle.net_core.specs.declared.network.Event.TheVariants.{Get, Fire, Put}
 use Rattle.net_core.specs.declared.refs.Ref.TheVariants.{Slot}
 use Rattle.sanlp.specs.declared.nest.Tag.{Tag}
-use Rattle.sanlp.specs.Cells.{count_up}
 use Rattle.process_derive.specs.Scripts.{gets_of, puts_from, ref_of, slots_of, usage_from}
 
 abbrev tag : ℕ → ℕ → Option Tag
@@ -30,10 +29,10 @@ in_turn writer reader is_token tokens gets slots = record {
   slots = record { gets_before = gets; slot_of_get = slots; slot_of_use = slots; hold = 1 };
 }
 
--- the events of the first so many points of process p, which has one read slot with these sources, from process w
+-- the events of the first so many points of process p, which has one read with these sources, from process w
 abbrev script_by : List ChannelPlan → List (Option Tag) → ℕ → (ℕ → ℕ) → ℕ → List Event
 script_by plans sources p w fires =
-    flat_map (λ f. gets_of (usage_from plans sources p 0 f (w f)) ++ Fire (ref_of (usage_from plans sources p 0 f (w f)) ∷ []) ∷ puts_from 0 plans p f) (count_up 0 fires)
+    flat_map (λ f. gets_of (usage_from plans sources p 0 f (w f)) ++ Fire (ref_of (usage_from plans sources p 0 f (w f)) ∷ []) ∷ puts_from 0 plans p f) (range_with_len 0 fires)
 
 -- for j < 2 for i < 2 b[j][i] = a[i][j]
 abbrev turned_plans : List ChannelPlan
@@ -103,5 +102,5 @@ branched_slots : slots_of branched_plans 3 ≡ 2
 branched_slots = refl
 
 -- a source puts each of its values to the channel that carries it
-branched_puts : flat_map (puts_from 0 branched_plans 0) (count_up 0 3) ≡ Put 0 ∷ Put 0 ∷ Put 1 ∷ []
+branched_puts : flat_map (puts_from 0 branched_plans 0) (range_with_len 0 3) ≡ Put 0 ∷ Put 0 ∷ Put 1 ∷ []
 branched_puts = refl

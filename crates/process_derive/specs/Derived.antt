@@ -1,12 +1,12 @@
 -- The process network of a nest (Compaan 2000, pn 2007).
 use Rattle.std.specs.Prelude.{ℕ, map, length}
+use Rattle.std.specs.List.{range_with_len}
 use Rattle.channel_plan.specs.declared.plans.ChannelPlan.{ChannelPlan}
 use Rattle.channel_plan.specs.Plans.{plans_of}
 use Rattle.net_core.specs.declared.network.Channel.{Channel}
 use Rattle.net_core.specs.declared.network.Network.{Network}
 use Rattle.net_core.specs.declared.network.Process.{Process}
 use Rattle.sanlp.specs.declared.nest.Nest.{Nest}
-use Rattle.sanlp.specs.Cells.{count_up}
 use Rattle.process_derive.specs.Scripts.{script, slots_of}
 
 -- a channel with the number of its tokens as its capacity
@@ -19,4 +19,7 @@ process_of n p = record { slots = slots_of (plans_of n) p; script = script n p }
 
 -- one process for each statement, and one channel for each dependence
 unfoldable pub net : Nest → Network
-net n = record { processes = map (process_of n) (count_up 0 (length n.statements)); channels = map channel_of (plans_of n) }
+net n = record {
+  processes = map (process_of n) (range_with_len 0 (length n.statements));
+  channels = map channel_of (plans_of n);
+}

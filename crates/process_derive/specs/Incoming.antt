@@ -14,7 +14,7 @@ incoming_from c base (plan ∷ plans) p =
     if plan.reader == p then record { channel = c; read = plan.read; writer = plan.writer; base = base } ∷ incoming_from (suc c) (base + plan.slots.hold) plans p
     else incoming_from (suc c) base plans p
 
--- whether an incoming channel is from process w to slot k
+-- whether an incoming channel is from process w to read k
 abbrev pub comes_from : ℕ → ℕ → Incoming → Bool
 comes_from w k channel = (channel.writer == w) && (channel.read == k)
 

@@ -1,6 +1,6 @@
 -- The script of a process: for each of its points, in order, the Gets of what it reads, one Fire, and the Puts of its tokens.
 use Rattle.std.specs.Prelude.{ℕ, zero, suc, ◌+◌, ◌-◌, Bool, false, ◌==◌, ◌&&◌, if◌then◌else◌, Option, Some, None, List, [], ◌∷◌, ◌++◌, map, take, length, slice_get, slice_index, slice_index_or}
-use Rattle.std.specs.List.{flat_map, sum_by}
+use Rattle.std.specs.List.{flat_map, sum_by, range_with_len}
 use Rattle.std.specs.Option.{option_map, option_and_then}
 use Rattle.channel_plan.specs.declared.plans.ChannelPlan.{ChannelPlan}
 use Rattle.channel_plan.specs.Plans.{plans_of, sources_at, turn_count}
@@ -10,10 +10,9 @@ use Rattle.net_core.specs.declared.network.Event.TheVariants.{Get, Fire, Put}
 use Rattle.net_core.specs.declared.refs.Ref.{Ref}
 use Rattle.net_core.specs.declared.refs.Ref.TheVariants.{Zero, Slot}
 use Rattle.reorder_slots.specs.declared.slots.SlotPlan.{SlotPlan}
+use Rattle.sanlp.specs.Access.{read_count}
 use Rattle.sanlp.specs.declared.nest.Nest.{Nest}
 use Rattle.sanlp.specs.declared.nest.Tag.{Tag}
-use Rattle.sanlp.specs.Cells.{count_up}
-use Rattle.source_tree.specs.Sources.{read_count}
 
 -- Slots
 
@@ -37,12 +36,12 @@ pub record Usage : Type 0 where
 abbrev pub goes_between : ℕ → ℕ → ℕ → ChannelPlan → Bool
 goes_between w p k plan = (plan.writer == w) && (plan.reader == p) && (plan.read == k)
 
--- the channel from process w to slot k of process p, and its number; the first of these channels has number c
+-- the channel from process w to read k of process p, and its number; the first of these channels has number c
 abbrev pub channel_from : ℕ → List ChannelPlan → ℕ → ℕ → ℕ → Option (ℕ × ChannelPlan)
 channel_from c [] w p k = None
 channel_from c (plan ∷ plans) w p k = if goes_between w p k plan then Some (c, plan) else channel_from (suc c) plans w p k
 
--- the use of the channel from process w by fire f of process p at slot k, whose sources are these
+-- the use of the channel from process w by fire f of process p for read k, whose sources are these
 abbrev pub usage_from : List ChannelPlan → List (Option Tag) → ℕ → ℕ → ℕ → ℕ → Option Usage
 usage_from plans sources p k f w =
     option_map (λ found. record {
@@ -52,7 +51,7 @@ usage_from plans sources p k f w =
       number = length (turns_used w (take f sources));
     }) (channel_from 0 plans w p k)
 
--- what fire f of process p uses at slot k, if its source is a point
+-- what fire f of process p uses for read k, if its source is a point
 abbrev pub usage : Nest → ℕ → ℕ → ℕ → Option Usage
 usage n p f k =
     option_and_then (λ source. option_and_then (λ t. usage_from (plans_of n) (sources_at n p k) p k f t.process) source) (slice_get (sources_at n p k) f)
@@ -69,7 +68,8 @@ abbrev pub gets_of : Option Usage → List Event
 gets_of None = []
 gets_of (Some u) =
     let done = gets_for_uses u.slots u.number in
-    map (λ m. Get u.channel (u.base + slice_index u.slots.slot_of_get m)) (count_up done (gets_for_uses u.slots (suc u.number) - done))
+    map (λ m. Get u.channel (u.base + slice_index u.slots.slot_of_get m))
+    (range_with_len done (gets_for_uses u.slots (suc u.number) - done))
 
 -- what a fire names for a use: Zero, or the slot in which it finds its token
 abbrev pub ref_of : Option Usage → Ref
@@ -82,12 +82,13 @@ puts_from c [] p f = []
 puts_from c (plan ∷ plans) p f =
     if (plan.writer == p) && slice_index_or plan.is_token f false then Put c ∷ puts_from (suc c) plans p f else puts_from (suc c) plans p f
 
--- the events of point f of process p: by read slot the Gets, one Fire with one reference for each slot, and by channel the Puts
+-- the events of point f of process p: by read the Gets, one Fire with one reference for each read, and by
+-- channel the Puts
 abbrev pub point_events : Nest → ℕ → ℕ → List Event
 point_events n p f =
-    let usages = map (usage n p f) (count_up 0 (read_count n p)) in
+    let usages = map (usage n p f) (range_with_len 0 (read_count n p)) in
     flat_map gets_of usages ++ Fire (map ref_of usages) ∷ puts_from 0 (plans_of n) p f
 
 -- the events of all points of process p, in order
 abbrev pub script : Nest → ℕ → List Event
-script n p = flat_map (point_events n p) (count_up 0 (turn_count n p))
+script n p = flat_map (point_events n p) (range_with_len 0 (turn_count n p))

@@ -1,6 +1,6 @@
--- The uses of the fires of one process, by read slot, and the events of its points.
+-- The uses of the fires of one process, by read, and the events of its points.
 use Rattle.std.specs.Prelude.{◌<◌, ◌^◌, ℕ, ◌+◌, Option, Some, None, List, [], ◌∷◌, ◌++◌, map, take, length, slice_get, slice_index, slice_index_or, slice_set}
-use Rattle.std.specs.List.{flat_map, find}
+use Rattle.std.specs.List.{flat_map, find, range_with_len}
 use Rattle.std.specs.Option.{option_map, option_map_or, option_and_then}
 use Rattle.channel_plan.specs.declared.plans.ChannelPlan.{ChannelPlan}
 use Rattle.channel_plan.specs.Tokens.{turns_used}
@@ -8,13 +8,12 @@ use Rattle.net_core.specs.declared.network.Event.{Event}
 use Rattle.net_core.specs.declared.network.Event.TheVariants.{Fire}
 use Rattle.reorder_slots.specs.declared.slots.SlotPlan.{SlotPlan}
 use Rattle.sanlp.specs.declared.nest.Tag.{Tag}
-use Rattle.sanlp.specs.Cells.{count_up}
 use Rattle.process_derive.specs.declared.incoming.Incoming.{Incoming}
 use Rattle.process_derive.specs.declared.uses.ChannelUse.{ChannelUse}
 use Rattle.process_derive.specs.Incoming.{comes_from, puts_to}
 use Rattle.process_derive.specs.Scripts.{Usage, gets_of, ref_of}
 
--- use number q of the channel from process w to slot k, if there is such a channel
+-- use number q of the channel from process w to read k, if there is such a channel
 abbrev pub use_from : List Incoming → ℕ → ℕ → ℕ → Option ChannelUse
 use_from incoming k w q =
     option_map (λ (found : Incoming). record { channel = found.channel; base = found.base; number = q }) (find (comes_from w k) incoming)
@@ -23,18 +22,20 @@ use_from incoming k w q =
 abbrev pub uses_before : List (Option Tag) → ℕ → ℕ → ℕ
 uses_before sources f w = length (turns_used w (take f sources))
 
--- what fire f uses at slot k, whose sources are these
+-- what fire f uses for read k, whose sources are these
 abbrev pub use_at : List Incoming → ℕ → List (Option Tag) → ℕ → Option ChannelUse
 use_at incoming k sources f =
     option_and_then (λ source. option_and_then (λ t. use_from incoming k t.process (uses_before sources f t.process)) source) (slice_get sources f)
 
--- what each fire uses at slot k
-abbrev pub slot_uses : List Incoming → ℕ → List (Option Tag) → List (Option ChannelUse)
-slot_uses incoming k sources = map (use_at incoming k sources) (count_up 0 (length sources))
+-- what each fire uses for read k
+abbrev pub read_uses : List Incoming → ℕ → List (Option Tag) → List (Option ChannelUse)
+read_uses incoming k sources = map (use_at incoming k sources) (range_with_len 0 (length sources))
 
--- what each fire uses, by slot
-abbrev pub uses_by_slot : List Incoming → List (List (Option Tag)) → List (List (Option ChannelUse))
-uses_by_slot incoming slots = map (λ k. slot_uses incoming k (slice_index_or slots k [])) (count_up 0 (length slots))
+-- what each fire uses, by read
+abbrev pub uses_by_read : List Incoming → List (List (Option Tag)) → List (List (Option ChannelUse))
+uses_by_read incoming sources =
+    map (λ k. read_uses incoming k (slice_index_or sources k []))
+    (range_with_len 0 (length sources))
 
 -- the plan of slots of channel c
 abbrev pub slots_at : List ChannelPlan → ℕ → SlotPlan
@@ -45,7 +46,7 @@ abbrev pub with_slots : List ChannelPlan → Option ChannelUse → Option Usage
 with_slots plans found =
     option_map (λ (u : ChannelUse). record { channel = u.channel; base = u.base; slots = slots_at plans u.channel; number = u.number }) found
 
--- what fire f uses, by slot
+-- what fire f uses, by read
 abbrev pub usages_at : List ChannelPlan → List (List (Option ChannelUse)) → ℕ → List (Option Usage)
 usages_at plans uses f = map (λ list. with_slots plans (option_and_then (λ found. found) (slice_get list f))) uses
 

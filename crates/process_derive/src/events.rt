@@ -1,8 +1,7 @@
 ghost use Rattle.std.specs.Prelude.{◌≡◌, ◌<◌, ◌≤◌, ◌++◌, All, Some, length, slice_index, IfOk, OnOk};
-ghost use Rattle.std.specs.List.{flat_map};
+ghost use Rattle.std.specs.List.{flat_map, range_with_len};
 ghost use Rattle.std.specs.Option.{option_and_then};
 ghost use Rattle.std.specs.Prelude.{slice_get};
-ghost use Rattle.sanlp.specs.Cells.{count_up};
 ghost use Rattle.process_derive.specs.Incoming.{carries, puts_to};
 ghost use Rattle.process_derive.specs.Scripts.{gets_for_uses, gets_of, ref_of};
 ghost use Rattle.process_derive.specs.Uses.{events_at, slots_at, with_slots, SlotsFit, UseFits};
@@ -56,7 +55,7 @@ fn slot_of(slots: &SlotPlan, found: ChannelUse) -> Ref
     Ref::Slot(found.base + number_at(slots.slot_of_use.as_slice(), found.number as usize))
 }
 
-// Adds the Gets of what a fire uses at a slot, and answers what it names there.
+// Adds the Gets of what a fire uses for a read, and answers what it names there.
 fn add_use(
     plans: &[ChannelPlan],
     found: Option<ChannelUse>,
@@ -103,14 +102,14 @@ pub(crate) fn add_puts(
     Ok(())
 }
 
-// What a fire uses at a slot, given what each fire uses there.
+// What a fire uses for a read, given what each fire uses for it.
 fn use_of(uses: &Items<Option<ChannelUse>>, turn: usize) -> Option<ChannelUse>
     ensures { result ≡ option_and_then (λ found. found) (slice_get uses.now turn) }
 {
     uses.get(turn).copied().flatten()
 }
 
-// Adds the events of a point: by read slot the Gets, one Fire, and by channel the Puts.
+// Adds the events of a point: by read the Gets, one Fire, and by channel the Puts.
 fn add_point(
     plans: &[ChannelPlan],
     uses: &[Items<Option<ChannelUse>>],
@@ -123,8 +122,8 @@ fn add_point(
     ensures { OnOk result (events.new.items ≡ events.old.items ++ events_at plans.now uses.now outgoing.now turn) }
 {
     let mut refs = Refs::empty();
-    for slot in uses {
-        refs.push(add_use(plans, use_of(slot, turn), events)?);
+    for of_read in uses {
+        refs.push(add_use(plans, use_of(of_read, turn), events)?);
     }
     events.push(Event::Fire { refs })?;
     add_puts(plans, outgoing, turn, events)
@@ -144,7 +143,7 @@ pub(crate) fn event_room(plans: &[ChannelPlan], process: u32, fires: usize) -> u
     room
 }
 
-/// The events of a process with so many points, in order, given what each fire uses by read slot, and the numbers of the
+/// The events of a process with so many points, in order, given what each fire uses by read, and the numbers of the
 /// channels that it writes. Room for so many events is reserved first.
 pub(crate) fn script_of(
     alloc: Global,
@@ -156,7 +155,8 @@ pub(crate) fn script_of(
 ) -> Result<Items<Event>, AllocError>
     requires few { length uses.now ≤ 8 }
     requires fit { All (All (UseFits plans.now)) uses.now }
-    ensures { IfOk result (λ script. script ≡ flat_map (events_at plans.now uses.now outgoing.now) (count_up 0 fires)) }
+    ensures { IfOk result (λ script.
+        script ≡ flat_map (events_at plans.now uses.now outgoing.now) (range_with_len 0 fires)) }
 {
     let mut events = Vec::with_capacity(alloc, room)?;
     for turn in 0..fires {

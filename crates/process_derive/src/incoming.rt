@@ -11,7 +11,7 @@ use std::alloc::{AllocError, Global};
 pub(crate) struct Incoming {
     /// Its number.
     pub channel: u32,
-    /// The number of the read slot.
+    /// The number of the read.
     pub read: u32,
     /// The process that writes.
     pub writer: u32,
@@ -62,7 +62,7 @@ pub(crate) fn incoming_channels(
     Ok(incoming)
 }
 
-/// The incoming channel from this writer to this read slot.
+/// The incoming channel from this writer to this read.
 pub(crate) fn channel_from(incoming: &[Incoming], writer: u32, read: u32) -> Option<Incoming>
     ensures { result ≡ find (comes_from writer read) incoming.now }
 {

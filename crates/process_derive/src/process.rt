@@ -1,9 +1,10 @@
 ghost use Rattle.std.specs.Prelude.{◌≡◌, ◌<◌, length, map, IfOk};
+ghost use Rattle.std.specs.List.{range_with_len};
 ghost use Rattle.channel_plan.specs.Plans.{plans_of, sources_at, turn_count};
-ghost use Rattle.loop_walk.specs.Counting.{SizeIsOk};
-ghost use Rattle.sanlp.specs.Cells.{count_up};
+ghost use Rattle.sanlp.specs.Access.{read_count};
+ghost use Rattle.sanlp.specs.Size.{SizeIsOk};
 ghost use Rattle.sanlp.specs.Points.{points_of};
-ghost use Rattle.source_tree.specs.Sources.{read_count, sources_of};
+ghost use Rattle.source_tree.specs.Sources.{sources_of};
 ghost use Rattle.process_derive.specs.Derived.{process_of};
 
 use crate::events::{event_room, script_of};
@@ -16,7 +17,7 @@ use sanlp::{Nest, Points, Tag};
 use source_tree::SourceTable;
 use std::alloc::{AllocError, Global};
 
-// The process of the statement of this number, which has so many points and these sources, by read slot.
+// The process of the statement of this number, which has so many points and these sources, by read.
 fn make_process(
     alloc: Global,
     nest: &Nest,
@@ -29,7 +30,8 @@ fn make_process(
     requires plans { plans.now ≡ plans_of nest.now }
     requires exists { number < length nest.now.statements }
     requires fires { fires ≡ turn_count nest.now number }
-    requires sources { sources.now ≡ map (sources_at nest.now number) (count_up 0 (read_count nest.now number)) }
+    requires sources { sources.now ≡ map (sources_at nest.now number)
+        (range_with_len 0 (read_count nest.now number)) }
     ensures { IfOk result (λ process. process ≡ process_of nest.now number) }
 {
     let incoming = incoming_channels(alloc, plans, number)?;
@@ -61,7 +63,8 @@ pub(crate) fn make_processes(
     requires points { points.now.of ≡ points_of nest.now }
     requires sources { sources.now.of ≡ sources_of nest.now }
     requires plans { plans.now ≡ plans_of nest.now }
-    ensures { IfOk result (λ processes. processes ≡ map (process_of nest.now) (count_up 0 (length nest.now.statements))) }
+    ensures { IfOk result (λ processes.
+        processes ≡ map (process_of nest.now) (range_with_len 0 (length nest.now.statements))) }
 {
     let mut processes = Vec::new(alloc);
     let mut rest = sources.of.as_slice();

@@ -54,7 +54,7 @@ fn tokens_are_put_to_their_channels(rt: HostRuntime) -> Result<(), Fail> {
 }
 
 #[test]
-fn channels_are_found_by_writer_and_slot(rt: HostRuntime) -> Result<(), Fail> {
+fn channels_are_found_by_writer_and_read(rt: HostRuntime) -> Result<(), Fail> {
     let incoming = [(4, 0, 1), (5, 1, 1), (6, 1, 2)].map(|(channel, read, writer)| Incoming {
         channel,
         read,

@@ -1,6 +1,6 @@
 ghost use Rattle.std.specs.Option.{option_and_then};
 ghost use Rattle.std.specs.Prelude.{◌≡◌, ◌<◌, ◌≤◌, ◌+◌, ◌^◌, ℕ, None, [], length, slice_index, slice_index_or, slice_set, vec_len, IfOk};
-ghost use Rattle.process_derive.specs.Uses.{counted, slot_uses, use_from, uses_by_slot, CountsBelow, OnlyBelow};
+ghost use Rattle.process_derive.specs.Uses.{counted, read_uses, use_from, uses_by_read, CountsBelow, OnlyBelow};
 
 use crate::incoming::{Incoming, channel_from};
 use plain_data::Items;
@@ -18,7 +18,7 @@ pub(crate) struct ChannelUse {
     pub number: u32,
 }
 
-// Use number so many of the channel from this writer to this read slot, if there is such a channel.
+// Use number so many of the channel from this writer to this read, if there is such a channel.
 fn use_number(incoming: &[Incoming], read: u32, writer: u32, number: u32) -> Option<ChannelUse>
     ensures { result ≡ use_from incoming.now read writer number }
 {
@@ -42,7 +42,7 @@ fn count_one(counts: &mut Vec<u32>, process: usize) -> u32
     count
 }
 
-// What a fire uses at a read slot that has this source, given how often the fires before it used a token of each process.
+// What a fire uses by a read that has this source, given how often the fires before it used a token of each process.
 // The use is counted.
 fn next_use(
     incoming: &[Incoming],
@@ -64,8 +64,8 @@ fn next_use(
     }
 }
 
-// What each fire uses at a read slot that has these sources, of so many processes.
-fn uses_of_slot(
+// What each fire uses by a read that has these sources, of so many processes.
+fn uses_of_read(
     alloc: Global,
     incoming: &[Incoming],
     read: u32,
@@ -74,7 +74,7 @@ fn uses_of_slot(
 ) -> Result<Items<Option<ChannelUse>>, AllocError>
     requires few { length sources.now < 2 ^ 32 }
     requires exist { (f : ℕ) → OnlyBelow processes (slice_index_or sources.now f None) }
-    ensures { IfOk result (λ uses. uses ≡ slot_uses incoming.now read sources.now) }
+    ensures { IfOk result (λ uses. uses ≡ read_uses incoming.now read sources.now) }
 {
     let mut uses = Vec::with_capacity(alloc, sources.len())?;
     let mut counts = vec![in alloc; 0; processes]?;
@@ -84,21 +84,21 @@ fn uses_of_slot(
     Ok(Items::from_vec(uses))
 }
 
-/// What each fire of a process uses, by read slot. Its read slots have these sources, of so many processes.
+/// What each fire of a process uses, by read. Its reads have these sources, of so many processes.
 pub(crate) fn uses_of(
     alloc: Global,
     incoming: &[Incoming],
     sources: &[Items<Option<Tag>>],
     processes: usize,
 ) -> Result<Vec<Items<Option<ChannelUse>>>, AllocError>
-    requires few_slots { length sources.now ≤ 8 }
+    requires few_reads { length sources.now ≤ 8 }
     requires few { (k : ℕ) → length (slice_index_or sources.now k []) < 2 ^ 32 }
     requires exist { (k f : ℕ) → OnlyBelow processes (slice_index_or (slice_index_or sources.now k []) f None) }
-    ensures { IfOk result (λ uses. uses.items ≡ uses_by_slot incoming.now sources.now) }
+    ensures { IfOk result (λ uses. uses.items ≡ uses_by_read incoming.now sources.now) }
 {
     let mut uses = Vec::new(alloc);
-    for (read, slot) in sources.iter().enumerate() {
-        uses.push(uses_of_slot(alloc, incoming, read as u32, slot.as_slice(), processes)?)?;
+    for (read, of_read) in sources.iter().enumerate() {
+        uses.push(uses_of_read(alloc, incoming, read as u32, of_read.as_slice(), processes)?)?;
     }
     Ok(uses)
 }

@@ -1,11 +1,11 @@
 -- Lists of lists, one of which grows.
 use Rattle.std.proofs.Common.{◌≡◌, ◌≢◌, ◌<◌, ◌≤◌, ◌+◌, ◌-◌, ℕ, zero, suc, List, [], ◌∷◌, ◌++◌, map, length, take, drop, set, get_or, refl, sym, ap, ◌∙◌, arith, add-one}
 use Rattle.std.specs.Prelude.{Option, Some, slice_get, replicate}
+use Rattle.std.specs.List.{range_with_len}
 use Rattle.std.proofs.lemmas.List.{get_or-append-add, length-map, length-set, map-append, set-append_right}
 use Rattle.std.proofs.lemmas.Option.{same_Some, slice_get_read}
 use Rattle.sanlp.specs.declared.nest.Tag.{Tag}
-use Rattle.sanlp.specs.Cells.{count_up}
-use Rattle.sanlp.proofs.Lists.{count_up-append, split_at}
+use Rattle.sanlp.proofs.Lists.{split_at, map-range_with_len_same}
 use Rattle.shadow_sweep.specs.LastWrites.{with_source, with_sources}
 
 pub take_next : {X : Type 0} (xs : List X) (k : ℕ) (x : X) → slice_get xs k ≡ Some x → take (suc k) xs ≡ take k xs ++ x ∷ []
@@ -28,41 +28,25 @@ pub map_same : {X Y : Type 0} (f g : X → Y) → ((x : X) → f x ≡ g x) → 
 map_same f g same [] = refl
 map_same f g same (x ∷ xs) = ap (λ y. y ∷ map f xs) (same x) ∙ ap (λ ys. g x ∷ ys) (map_same f g same xs)
 
--- two functions that agree from a on
-pub same_from : {X : Type 0} (f g : ℕ → X) (a m : ℕ) → ((k : ℕ) → a ≤ k → f k ≡ g k) → map f (count_up a m) ≡ map g (count_up a m)
-same_from f g a zero same = refl
-same_from f g a (suc m) same =
-    ap (λ x. x ∷ map f (count_up (a + 1) m)) (same a (omega arith))
-    ∙ ap (λ xs. g a ∷ xs) (same_from f g (a + 1) m (λ k h. same k (omega arith)))
-
 -- a function that takes one more at i alone
 pub set_counted : (f g : ℕ → ℕ) (i : ℕ) → g i ≡ f i + 1 → ((k : ℕ) → k ≢ i → f k ≡ g k)
-    → (a m j : ℕ) → a + j ≡ i → set (map f (count_up a m)) j (f i + 1) ≡ map g (count_up a m)
+    → (a m j : ℕ) → a + j ≡ i → set (map f (range_with_len a m)) j (f i + 1) ≡ map g (range_with_len a m)
 set_counted f g i more same a zero j e = refl
 set_counted f g i more same a (suc m) zero e =
     let here : i ≡ a = omega arith in
-    ap (λ x. x ∷ map f (count_up (a + 1) m)) (sym more ∙ ap g here)
-    ∙ ap (λ xs. g a ∷ xs) (same_from f g (a + 1) m (λ k h. same k (λ is. omega arith)))
+    ap (λ x. x ∷ map f (range_with_len (a + 1) m)) (sym more ∙ ap g here)
+    ∙ ap (λ xs. g a ∷ xs) (map-range_with_len_same f g (a + 1) m (λ k h l. same k (λ is. omega arith)))
 set_counted f g i more same a (suc m) (suc j) e =
-    ap (λ x. x ∷ set (map f (count_up (a + 1) m)) j (f i + 1)) (same a (λ is. omega arith))
+    ap (λ x. x ∷ set (map f (range_with_len (a + 1) m)) j (f i + 1)) (same a (λ is. omega arith))
     ∙ ap (λ xs. g a ∷ xs) (set_counted f g i more same (a + 1) m j (omega arith))
-
-pub get_counted : {X : Type 0} (f : ℕ → X) (d : X) (a m j : ℕ) → j < m → get_or (map f (count_up a m)) j d ≡ f (a + j)
-get_counted f d a zero j h = absurd (omega arith)
-get_counted f d a (suc m) zero h = let e : a ≡ a + 0 = omega arith in ap f e
-get_counted f d a (suc m) (suc j) h = get_counted f d (a + 1) m j (omega arith) ∙ (let e : a + 1 + j ≡ a + suc j = omega arith in ap f e)
-
-pub length_counted : {X : Type 0} (f : ℕ → X) (a m : ℕ) → length (map f (count_up a m)) ≡ m
-length_counted f a zero = refl
-length_counted f a (suc m) = ap suc (length_counted f (a + 1) m)
 
 -- what g says at the places of a list is what f says of its elements
 pub map_places : {X Y : Type 0} (g : ℕ → Y) (f : X → Y) (a : ℕ) (xs : List X) → ((k : ℕ) (x : X) → slice_get xs k ≡ Some x → g (a + k) ≡ f x)
-    → map g (count_up a (length xs)) ≡ map f xs
+    → map g (range_with_len a (length xs)) ≡ map f xs
 map_places g f a [] same = refl
 map_places g f a (x ∷ xs) same =
     let first : a ≡ a + 0 = omega arith in
-    ap (λ y. y ∷ map g (count_up (a + 1) (length xs))) (ap g first ∙ same 0 x refl)
+    ap (λ y. y ∷ map g (range_with_len (a + 1) (length xs))) (ap g first ∙ same 0 x refl)
     ∙ ap (λ ys. f x ∷ ys) (map_places g f (a + 1) xs (λ k y e. let later : a + 1 + k ≡ a + suc k = omega arith in ap g later ∙ same (suc k) y e))
 
 -- lists, each with one of these sources at its end
@@ -72,7 +56,7 @@ longer (list ∷ lists) [] = list ∷ lists
 longer (list ∷ lists) (source ∷ sources) = (list ++ source ∷ []) ∷ longer lists sources
 
 pub longer_counted : (f : ℕ → List (Option Tag)) (g : ℕ → Option Tag) (a m : ℕ)
-    → longer (map f (count_up a m)) (map g (count_up a m)) ≡ map (λ k. f k ++ g k ∷ []) (count_up a m)
+    → longer (map f (range_with_len a m)) (map g (range_with_len a m)) ≡ map (λ k. f k ++ g k ∷ []) (range_with_len a m)
 longer_counted f g a zero = refl
 longer_counted f g a (suc m) = ap (λ ls. (f a ++ g a ∷ []) ∷ ls) (longer_counted f g (a + 1) m)
 
@@ -120,17 +104,6 @@ length-with_sources lists i (source ∷ sources) = length-with_sources (with_sou
 pub replicate-append : {X : Type 0} (m n : ℕ) (x : X) → replicate m x ++ replicate n x ≡ replicate (m + n) x
 replicate-append zero n x = let e : n ≡ 0 + n = omega arith in ap (λ k. replicate k x) e
 replicate-append (suc m) n x = ap (λ xs. x ∷ xs) (replicate-append m n x) ∙ (let e : suc (m + n) ≡ suc m + n = omega arith in ap (λ k. replicate k x) e)
-
-pub counted_replicate : {X : Type 0} (f : ℕ → X) (x : X) (a m : ℕ) → ((k : ℕ) → f k ≡ x) → map f (count_up a m) ≡ replicate m x
-counted_replicate f x a zero same = refl
-counted_replicate f x a (suc m) same = ap (λ y. y ∷ map f (count_up (a + 1) m)) (same a) ∙ ap (λ xs. x ∷ xs) (counted_replicate f x (a + 1) m same)
-
-pub counted_push : {X : Type 0} (f : ℕ → X) (k : ℕ) → map f (count_up 0 (k + 1)) ≡ map f (count_up 0 k) ++ f k ∷ []
-counted_push f k =
-    let front : 0 + k ≡ k = omega arith in
-    ap (map f) (count_up-append 0 k 1)
-    ∙ map-append f (count_up 0 k) (count_up (0 + k) 1)
-    ∙ ap (λ j. map f (count_up 0 k) ++ f j ∷ []) front
 
 -- one read more
 pub sources_step : {X Y : Type 0} (w : Y → Option Tag) (c : X → Y) (lists before after : List (List (Option Tag))) (first i : ℕ) (xs : List X) (x : X) (source : Option Tag)

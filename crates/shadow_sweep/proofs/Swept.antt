@@ -7,18 +7,19 @@
 -- is another file's.
 use Rattle.std.proofs.Common.{◌≡◌, ◌≢◌, ◌<◌, ◌≤◌, ◌+◌, ◌-◌, ℕ, zero, suc, List, [], ◌∷◌, ◌++◌, map, length, take, drop, set, get_or, Bool, true, false, cond, refl, sym, ap, ◌∙◌, subst, arith, add_assoc, length-append, length-drop}
 use Rattle.std.specs.Prelude.{Option, Some, None, slice_get, replicate, ◌==◌}
-use Rattle.std.specs.List.{sum_by, count_by}
+use Rattle.std.specs.List.{sum_by, count_by, range_with_len}
 use Rattle.std.specs.Option.{option_and_then, option_map, option_map_or}
 use Rattle.std.proofs.lemmas.Bool.{eq-eqb, ne_eqb}
 use Rattle.std.proofs.lemmas.List.{length-map, map-append}
 use Rattle.std.proofs.lemmas.List.Sums.{count_by-le-length, sum_by-cons, sum_by_push}
+use Rattle.std.proofs.lemmas.List.FromFn.{length-map-range_with_len, get_or-map-range_with_len}
 use Rattle.std.proofs.lemmas.Option.{same_Some, slice_get_within}
 use Rattle.sanlp.specs.declared.nest.Nest.{Nest}
 use Rattle.sanlp.specs.declared.nest.Point.{Point}
 use Rattle.sanlp.specs.declared.nest.Statement.{Statement}
 use Rattle.sanlp.specs.declared.nest.Tag.{Tag}
 use Rattle.sanlp.specs.Access.{cell_at, reads_of, write_of}
-use Rattle.sanlp.specs.Cells.{Cell, count_up}
+use Rattle.sanlp.specs.Cells.{Cell}
 use Rattle.sanlp.specs.Laws.{entries_from, entries_of}
 use Rattle.sanlp.specs.Memory.{is_cell}
 use Rattle.sanlp.specs.Order.{IsPoint}
@@ -28,10 +29,11 @@ use Rattle.sanlp.specs.Trace.{trace}
 use Rattle.sanlp.specs.WellFormed.{depth_of}
 use Rattle.sanlp.specs.Writers.{last_before, writes}
 use Rattle.sanlp.proofs.Enumerates.{enumerates_domains}
-use Rattle.sanlp.proofs.Lists.{split_at}
+use Rattle.sanlp.proofs.Lists.{split_at, map-range_with_len_replicate}
+use Rattle.sanlp.proofs.NestFacts.{trace_within}
 use Rattle.source_tree.specs.Sources.{read_number, source_at, sources_from, sources_of}
 use Rattle.shadow_sweep.specs.LastWrites.{LastWrites, noted, no_writes, with_sources}
-use Rattle.shadow_sweep.proofs.Lists.{counted_replicate, drop_front, get_counted, length_counted, longer_counted, map_places, map_same, replicate-append, set_counted, sources_after, sources_in_front, take_all, take_next}
+use Rattle.shadow_sweep.proofs.Lists.{drop_front, longer_counted, map_places, map_same, replicate-append, set_counted, sources_after, sources_in_front, take_all, take_next}
 
 -- how many of the first t entries are of statement s
 abbrev pub turns_before : List Point → ℕ → ℕ → ℕ
@@ -45,11 +47,11 @@ tag_before n points t cell = option_and_then (tag_at points) (last_before n poin
 abbrev pub sources_before : Nest → List Point → ℕ → ℕ → List Statement → List (List (Option Tag))
 sources_before n points t p [] = []
 sources_before n points t p (s ∷ statements) =
-    map (λ k. map (source_at n points k) (entries_of (take t points) p)) (count_up 0 (length s.reads)) ++ sources_before n points t (p + 1) statements
+    map (λ k. map (source_at n points k) (entries_of (take t points) p)) (range_with_len 0 (length s.reads)) ++ sources_before n points t (p + 1) statements
 
 -- the turns, the last writes and the sources after the first t entries
 pub record IsSwept (n : Nest) (t : ℕ) (turns : List ℕ) (writes : LastWrites) (lists : List (List (Option Tag))) : Type 0 where
-  pub turns_are : turns ≡ map (turns_before (trace n) t) (count_up 0 (length n.statements))
+  pub turns_are : turns ≡ map (turns_before (trace n) t) (range_with_len 0 (length n.statements))
   pub writes_are : (cell : Cell) → writes cell ≡ tag_before n (trace n) t cell
   pub lists_are : lists ≡ sources_before n (trace n) t 0 n.statements
 
@@ -60,15 +62,15 @@ none_before n points p [] = refl
 none_before n points p (s ∷ statements) =
     ap (λ k. replicate k []) (sum_by-cons (λ s. length s.reads) s statements)
     ∙ sym (replicate-append (length s.reads) (sum_by (λ s. length s.reads) statements) [])
-    ∙ ap (λ ls. ls ++ replicate (sum_by (λ s. length s.reads) statements) []) (sym (counted_replicate (λ k. map (source_at n points k) []) [] 0 (length s.reads) (λ k. refl)))
-    ∙ ap (λ ls. map (λ k. map (source_at n points k) []) (count_up 0 (length s.reads)) ++ ls) (none_before n points (p + 1) statements)
+    ∙ ap (λ ls. ls ++ replicate (sum_by (λ s. length s.reads) statements) []) (sym (map-range_with_len_replicate (λ k. map (source_at n points k) []) [] 0 (length s.reads) (λ k. refl)))
+    ∙ ap (λ ls. map (λ k. map (source_at n points k) []) (range_with_len 0 (length s.reads)) ++ ls) (none_before n points (p + 1) statements)
 
 pub swept_none : (n : Nest) (turns : List ℕ) (writes : LastWrites) (lists : List (List (Option Tag)))
     → turns ≡ replicate (length n.statements) 0 → writes ≡ no_writes → lists ≡ replicate (sum_by (λ s. length s.reads) n.statements) []
     → IsSwept n 0 turns writes lists
 unfolding last_before
 swept_none n turns writes lists e f g = record {
-  turns_are = e ∙ sym (counted_replicate (turns_before (trace n) 0) 0 0 (length n.statements) (λ k. refl));
+  turns_are = e ∙ sym (map-range_with_len_replicate (turns_before (trace n) 0) 0 0 (length n.statements) (λ k. refl));
   writes_are = λ cell. ap (λ w. w cell) f;
   lists_are = g ∙ none_before n (trace n) 0 n.statements;
 }
@@ -78,8 +80,8 @@ all_before : (n : Nest) (points : List Point) (p : ℕ) (statements : List State
     → sources_before n points (length points) p statements ≡ sources_from n points p statements
 all_before n points p [] = refl
 all_before n points p (s ∷ statements) =
-    ap (λ seen. map (λ k. map (source_at n points k) (entries_of seen p)) (count_up 0 (length s.reads)) ++ sources_before n points (length points) (p + 1) statements) (take_all points)
-    ∙ ap (λ ls. map (λ k. map (source_at n points k) (entries_of points p)) (count_up 0 (length s.reads)) ++ ls) (all_before n points (p + 1) statements)
+    ap (λ seen. map (λ k. map (source_at n points k) (entries_of seen p)) (range_with_len 0 (length s.reads)) ++ sources_before n points (length points) (p + 1) statements) (take_all points)
+    ∙ ap (λ ls. map (λ k. map (source_at n points k) (entries_of points p)) (range_with_len 0 (length s.reads)) ++ ls) (all_before n points (p + 1) statements)
 
 pub swept_all : (n : Nest) (turns : List ℕ) (writes : LastWrites) (lists : List (List (Option Tag)))
     → IsSwept n (length (trace n)) turns writes lists → lists ≡ sources_of n
@@ -93,8 +95,8 @@ length-sources_before n points t p [] = refl
 length-sources_before n points t p (s ∷ statements) =
     omega (
       arith,
-      length-append (map (λ k. map (source_at n points k) (entries_of (take t points) p)) (count_up 0 (length s.reads))) (sources_before n points t (p + 1) statements),
-      length_counted (λ k. map (source_at n points k) (entries_of (take t points) p)) 0 (length s.reads),
+      length-append (map (λ k. map (source_at n points k) (entries_of (take t points) p)) (range_with_len 0 (length s.reads))) (sources_before n points t (p + 1) statements),
+      length-map-range_with_len (λ k. map (source_at n points k) (entries_of (take t points) p)) 0 (length s.reads),
       length-sources_before n points t (p + 1) statements,
       sum_by-cons (λ s. length s.reads) s statements,
     )
@@ -144,7 +146,7 @@ module _ (n : Nest) (points : List Point) (t : ℕ) (p : Point) (s : Statement) 
       ∙ sum_by_push (λ q. cond (q.statement == p.statement) 1 0) (take t points) p
       ∙ ap (λ b. turns_before points t p.statement + cond b 1 0) (eq-eqb p.statement p.statement refl)
 
-  turns_more : (m : ℕ) → set (map (turns_before points t) (count_up 0 m)) p.statement (turns_before points t p.statement + 1) ≡ map (turns_before points (suc t)) (count_up 0 m)
+  turns_more : (m : ℕ) → set (map (turns_before points t) (range_with_len 0 m)) p.statement (turns_before points t p.statement + 1) ≡ map (turns_before points (suc t)) (range_with_len 0 m)
   turns_more m = set_counted (turns_before points t) (turns_before points (suc t)) p.statement turn_of_this turn_of_other 0 m p.statement (omega arith)
 
   -- the last writes
@@ -173,10 +175,10 @@ module _ (n : Nest) (points : List Point) (t : ℕ) (p : Point) (s : Statement) 
       ∙ ap (λ o. option_and_then (tag_at points) (option_and_then (last_before n points t) o)) e
 
   sources_here : (last : LastWrites) → ((cell : Cell) → last cell ≡ tag_before n points t cell)
-      → map last (map (cell_at p.at) s.reads) ≡ map (λ k. source_at n points k t) (count_up 0 (length s.reads))
+      → map last (map (cell_at p.at) s.reads) ≡ map (λ k. source_at n points k t) (range_with_len 0 (length s.reads))
   sources_here last before =
       let cells : List Cell = map (cell_at p.at) s.reads in
-      sym (ap (λ m. map (λ k. source_at n points k t) (count_up 0 m)) (sym (length-map s.reads (cell_at p.at)))
+      sym (ap (λ m. map (λ k. source_at n points k t) (range_with_len 0 m)) (sym (length-map s.reads (cell_at p.at)))
       ∙ map_places (λ k. source_at n points k t) last 0 cells
       (λ k cell e. let front : 0 + k ≡ k = omega arith in ap (λ j. source_at n points j t) front ∙ source_here k cell e ∙ sym (before cell)))
 
@@ -195,9 +197,9 @@ module _ (n : Nest) (points : List Point) (t : ℕ) (p : Point) (s : Statement) 
       ∙ entries_more 0 (take t points) p q
       ∙ ap (λ b. cond b (entries_of (take t points) q ++ (0 + length (take t points)) ∷ []) (entries_of (take t points) q)) (ne_eqb p.statement q other)
 
-  -- the sources of the slots of statement q at these entries
+  -- the sources of the reads of statement q at these entries
   block : ℕ → List ℕ → List (List (Option Tag))
-  block m es = map (λ k. map (source_at n points k) es) (count_up 0 m)
+  block m es = map (λ k. map (source_at n points k) es) (range_with_len 0 m)
 
   later_stay : (q : ℕ) (statements : List Statement) → p.statement < q → sources_before n points t q statements ≡ sources_before n points (suc t) q statements
   unfolding block
@@ -207,27 +209,27 @@ module _ (n : Nest) (points : List Point) (t : ℕ) (p : Point) (s : Statement) 
       ∙ ap (λ ls. block (length x.reads) (entries_of (take (suc t) points) q) ++ ls) (later_stay (q + 1) statements (omega arith))
 
   sources_added : (q : ℕ) (statements : List Statement) (j : ℕ) → q + j ≡ p.statement → slice_get statements j ≡ Some s
-      → with_sources (sources_before n points t q statements) (sum_by (λ x. length x.reads) (take j statements) + 0) (map (λ k. source_at n points k t) (count_up 0 (length s.reads)))
+      → with_sources (sources_before n points t q statements) (sum_by (λ x. length x.reads) (take j statements) + 0) (map (λ k. source_at n points k t) (range_with_len 0 (length s.reads)))
       ≡ sources_before n points (suc t) q statements
   unfolding block
   sources_added q [] j e f = absurd (cc)
   sources_added q (x ∷ statements) zero e f =
       let m : ℕ = length x.reads in
-      let now : List (Option Tag) = map (λ k. source_at n points k t) (count_up 0 m) in
+      let now : List (Option Tag) = map (λ k. source_at n points k t) (range_with_len 0 m) in
       let es : List ℕ = entries_of (take t points) q in
       let rest : List (List (Option Tag)) = sources_before n points t (q + 1) statements in
       let this : q ≡ p.statement = omega arith in
-      ap (λ y. with_sources (block m es ++ rest) 0 (map (λ k. source_at n points k t) (count_up 0 (length y.reads)))) (sym (same_Some x s f))
+      ap (λ y. with_sources (block m es ++ rest) 0 (map (λ k. source_at n points k t) (range_with_len 0 (length y.reads)))) (sym (same_Some x s f))
       ∙ sources_in_front (block m es) rest now
-      (length_counted (λ k. map (source_at n points k) es) 0 m ∙ sym (length_counted (λ k. source_at n points k t) 0 m))
+      (length-map-range_with_len (λ k. map (source_at n points k) es) 0 m ∙ sym (length-map-range_with_len (λ k. source_at n points k t) 0 m))
       ∙ ap (λ ls. ls ++ rest)
       (longer_counted (λ k. map (source_at n points k) es) (λ k. source_at n points k t) 0 m
       ∙ map_same _ (λ k. map (source_at n points k) (entries_of (take (suc t) points) q))
-      (λ k. sym (ap (map (source_at n points k)) (entries_of_this q this) ∙ map-append (source_at n points k) es (t ∷ []))) (count_up 0 m))
+      (λ k. sym (ap (map (source_at n points k)) (entries_of_this q this) ∙ map-append (source_at n points k) es (t ∷ []))) (range_with_len 0 m))
       ∙ ap (λ ls. block m (entries_of (take (suc t) points) q) ++ ls) (later_stay (q + 1) statements (omega arith))
   sources_added q (x ∷ statements) (suc j) e f =
       let m : ℕ = length x.reads in
-      let now : List (Option Tag) = map (λ k. source_at n points k t) (count_up 0 (length s.reads)) in
+      let now : List (Option Tag) = map (λ k. source_at n points k t) (range_with_len 0 (length s.reads)) in
       let es : List ℕ = entries_of (take t points) q in
       let rest : List (List (Option Tag)) = sources_before n points t (q + 1) statements in
       let before : ℕ = sum_by (λ x. length x.reads) (take j statements) in
@@ -235,7 +237,7 @@ module _ (n : Nest) (points : List Point) (t : ℕ) (p : Point) (s : Statement) 
       ap (λ i. with_sources (block m es ++ rest) i now)
       (ap (λ w. w + 0) (sum_by-cons (λ x. length x.reads) x (take j statements))
       ∙ add_assoc m before 0
-      ∙ ap (λ w. w + (before + 0)) (sym (length_counted (λ k. map (source_at n points k) es) 0 m)))
+      ∙ ap (λ w. w + (before + 0)) (sym (length-map-range_with_len (λ k. map (source_at n points k) es) 0 m)))
       ∙ sources_after (block m es) rest (before + 0) now
       ∙ ap (λ es. block m es ++ with_sources rest (before + 0) now) (sym (entries_of_other q other))
       ∙ ap (λ ls. block m (entries_of (take (suc t) points) q) ++ ls) (sources_added (q + 1) statements j (omega arith) f)
@@ -244,10 +246,7 @@ module _ (n : Nest) (points : List Point) (t : ℕ) (p : Point) (s : Statement) 
 pub turn_is : (n : Nest) (t s : ℕ) (turns : List ℕ) (writes : LastWrites) (lists : List (List (Option Tag)))
     → IsSwept n t turns writes lists → s < length n.statements → get_or turns s 0 ≡ turns_before (trace n) t s
 turn_is n t s turns writes lists swept within =
-    let front : 0 + s ≡ s = omega arith in
-    ap (λ ts. get_or ts s 0) swept.turns_are
-    ∙ get_counted (turns_before (trace n) t) 0 0 (length n.statements) s within
-    ∙ ap (turns_before (trace n) t) front
+    ap (λ ts. get_or ts s 0) swept.turns_are ∙ get_or-map-range_with_len (turns_before (trace n) t) 0 (length n.statements) s s 0 within (omega arith)
 
 pub swept_more : (n : Nest) (t : ℕ) (p : Point) (s : Statement)
     (turns turns' : List ℕ) (writes writes' : LastWrites) (lists lists' : List (List (Option Tag)))
@@ -268,7 +267,7 @@ swept_more n t p s turns turns' writes writes' lists lists' here found swept e f
           ∙ ap (λ v. noted writes (option_map (cell_at p.at) s.write) (record { process = p.statement; turn = v }) cell) turn
           ∙ writes_more n points t p s here found writes swept.writes_are cell;
       lists_are = g ∙ ap (with_sources lists (read_number n p.statement 0)) (sources_here n points t p s here found writes swept.writes_are)
-          ∙ ap (λ ls. with_sources ls (read_number n p.statement 0) (map (λ k. source_at n points k t) (count_up 0 (length s.reads)))) swept.lists_are
+          ∙ ap (λ ls. with_sources ls (read_number n p.statement 0) (map (λ k. source_at n points k t) (range_with_len 0 (length s.reads)))) swept.lists_are
           ∙ sources_added n points t p s here found 0 n.statements p.statement first found;
     }
 
@@ -294,10 +293,6 @@ few_turns points t s = omega (arith, count_by-le-length (λ q. q.statement == s)
   length_take_le zero xs = omega arith
   length_take_le (suc t) [] = omega arith
   length_take_le (suc t) (x ∷ xs) = omega (arith, length_take_le t xs)
-
-pub trace_within_size : (n : Nest) → length (trace n) ≤ size n
-unfolding size
-trace_within_size n = omega arith
 
 -- A walk of which so many points are left.
 pub entry_is : (points left later : List Point) (p : Point) → drop (length points - length left) points ≡ left → left ≡ p ∷ later
@@ -328,7 +323,7 @@ module _ (n : Nest) (left later : List Point) (p : Point) (e : drop (length (tra
 
   module _ (turns : List ℕ) (writes : LastWrites) (lists : List (List (Option Tag))) (swept : IsSwept n (length (trace n) - length left) turns writes lists) where
     pub turn_exists : p.statement < length turns
-    turn_exists = omega (arith, statement_exists, ap length swept.turns_are, length_counted (turns_before (trace n) (length (trace n) - length left)) 0 (length n.statements))
+    turn_exists = omega (arith, statement_exists, ap length swept.turns_are, length-map-range_with_len (turns_before (trace n) (length (trace n) - length left)) 0 (length n.statements))
 
     pub turn_is_small : size n ≤ 2097152 → get_or turns p.statement 0 < 4294967295
     turn_is_small small =
@@ -336,7 +331,7 @@ module _ (n : Nest) (left later : List Point) (p : Point) (e : drop (length (tra
           arith,
           turn_is n (length (trace n) - length left) p.statement turns writes lists swept statement_exists,
           few_turns (trace n) (length (trace n) - length left) p.statement,
-          trace_within_size n,
+          trace_within n,
         )
 
     pub swept_later : (s : Statement) (turns' : List ℕ) (writes' : LastWrites) (lists' : List (List (Option Tag))) (turn first : ℕ)
@@ -352,8 +347,7 @@ module _ (n : Nest) (left later : List Point) (p : Point) (e : drop (length (tra
         (h ∙ ap (λ v. noted writes (option_map (cell_at p.at) s.write) (record { process = p.statement; turn = v })) same)
         (i ∙ ap (λ k. with_sources lists k (map writes (map (cell_at p.at) s.reads))) number))
 
-pub first_is : (n : Nest) (firsts : List ℕ) (s : ℕ) → firsts ≡ map (λ p. read_number n p 0) (count_up 0 (length n.statements)) → s < length n.statements
+pub first_is : (n : Nest) (firsts : List ℕ) (s : ℕ) → firsts ≡ map (λ p. read_number n p 0) (range_with_len 0 (length n.statements)) → s < length n.statements
     → get_or firsts s 0 ≡ read_number n s 0
 first_is n firsts s e h =
-    let front : 0 + s ≡ s = omega arith in
-    ap (λ xs. get_or xs s 0) e ∙ get_counted (λ p. read_number n p 0) 0 0 (length n.statements) s h ∙ ap (λ p. read_number n p 0) front
+    ap (λ xs. get_or xs s 0) e ∙ get_or-map-range_with_len (λ p. read_number n p 0) 0 (length n.statements) s s 0 h (omega arith)

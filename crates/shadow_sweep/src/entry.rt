@@ -41,9 +41,9 @@ fn add_sources(
     requires room { first + length reads.now ≤ vec_len lists.old }
     ensures { OnOk result (lists.new.items ≡ with_sources lists.old.items first (map (writes_in shadow.now) (map (cell_at at.now) reads.now))) }
 {
-    for (slot, access) in reads.iter().enumerate() {
+    for (read, access) in reads.iter().enumerate() {
         let source = shadow.get(alloc, access, at, small);
-        add_source(lists, first + slot, source)?;
+        add_source(lists, first + read, source)?;
     }
     Ok(())
 }

@@ -7,8 +7,6 @@ mod rows;
 mod shadow;
 mod sources;
 mod state;
-#[cfg(test)]
-mod tests;
 mod values;
 
 pub use sources::sweep;

@@ -1,7 +1,6 @@
 ghost use Rattle.std.specs.Prelude.{◌≡◌, ◌++◌, None, true, length, map, replicate, IsTrue, OnOk};
 ghost use Rattle.std.specs.List.{list_all};
 ghost use Rattle.affine_core.specs.Affine.{form_at};
-ghost use Rattle.sanlp.specs.Cells.{natural};
 ghost use Rattle.sanlp.specs.WellFormed.{form_fits};
 ghost use Rattle.loop_walk.specs.RowPlaces.{inside, place_after, place_from};
 ghost use Rattle.loop_walk.specs.SmallValues.{are_small_values};
@@ -10,7 +9,7 @@ ghost use Rattle.shadow_sweep.specs.Rows.{with_tag};
 use crate::values::form_value;
 use affine_core::{Form, Vector};
 use plain_data::Items;
-use sanlp::Tag;
+use sanlp::{Tag, natural_of};
 use std::alloc::{AllocError, Global};
 
 /// The greatest number of cells that are kept in rows, of all arrays together.
@@ -21,13 +20,6 @@ pub(crate) const ROW_LIMIT: usize = 4_194_304;
 pub(crate) struct Rows {
     pub(crate) extents: Items<i64>,
     pub(crate) tags: Items<Option<Tag>>,
-}
-
-// A number, or 0 where it is negative.
-fn natural_of(value: i64) -> usize
-    ensures { result ≡ natural value }
-{
-    if value < 0 { 0 } else { value as usize }
 }
 
 // A subscript as a number, if it is within its extent.

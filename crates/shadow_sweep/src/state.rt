@@ -1,6 +1,5 @@
-ghost use Rattle.std.specs.List.{sum_by};
+ghost use Rattle.std.specs.List.{sum_by, range_with_len};
 ghost use Rattle.std.specs.Prelude.{◌≡◌, ◌+◌, ◌<◌, [], ◌++◌, length, map, take, replicate, slice_index, slice_set, vec_len, IfOk, OnOk};
-ghost use Rattle.sanlp.specs.Cells.{count_up};
 ghost use Rattle.source_tree.specs.Sources.{read_number};
 
 use plain_data::Items;
@@ -22,7 +21,7 @@ fn add_lists(
     Ok(())
 }
 
-/// Adds an empty list for each read, in the order of reader and slot, with room for the sources of all fires. It answers
+/// Adds an empty list for each read, in the order of reader and read, with room for the sources of all fires. It answers
 /// for each statement the number of its first read.
 pub(crate) fn first_reads(
     alloc: Global,
@@ -31,7 +30,9 @@ pub(crate) fn first_reads(
     lists: &mut Vec<Items<Option<Tag>>>,
 ) -> Result<Vec<usize>, AllocError>
     requires { lists.old.items ≡ [] }
-    ensures firsts { IfOk result (λ firsts. firsts.items ≡ map (λ p. read_number nest.now p 0) (count_up 0 (length nest.now.statements))) }
+    ensures firsts { IfOk result (λ firsts.
+        firsts.items ≡ map (λ p. read_number nest.now p 0)
+        (range_with_len 0 (length nest.now.statements))) }
     ensures lists { OnOk result (lists.new.items ≡ replicate (sum_by (λ s. length s.reads) nest.now.statements) []) }
 {
     let mut firsts = Vec::new(alloc);

@@ -1,28 +1,18 @@
 -- The exact table by the numbers of its reads.
 use Rattle.std.proofs.Common.{◌≡◌, ◌<◌, ◌+◌, ℕ, zero, suc, List, [], ◌∷◌, ◌++◌, map, length, take, refl, sym, ap, ◌∙◌, arith, add_assoc}
 use Rattle.std.specs.Prelude.{Some, slice_get}
-use Rattle.std.specs.List.{sum_by}
+use Rattle.std.specs.List.{range_with_len, sum_by}
 use Rattle.std.specs.Option.{option_and_then, option_map, option_map_or}
-use Rattle.std.proofs.lemmas.List.{length-map}
+use Rattle.std.proofs.lemmas.List.FromFn.{length-map-range_with_len}
 use Rattle.std.proofs.lemmas.List.Sums.{sum_by-cons}
 use Rattle.std.proofs.lemmas.Option.{slice_get-map}
 use Rattle.sanlp.specs.declared.nest.Nest.{Nest}
 use Rattle.sanlp.specs.declared.nest.Point.{Point}
 use Rattle.sanlp.specs.declared.nest.Statement.{Statement}
-use Rattle.sanlp.specs.Cells.{count_up}
 use Rattle.sanlp.specs.Laws.{entries_of}
 use Rattle.sanlp.specs.Trace.{trace}
-use Rattle.sanlp.proofs.Lists.{slice_get-append_right}
+use Rattle.sanlp.proofs.Lists.{slice_get-append_right, slice_get-map-range_with_len}
 use Rattle.source_tree.specs.Sources.{GivesLastWriters, read_sources, source_at, sources_from, sources_of}
-
-pub length-count_up : (a n : ℕ) → length (count_up a n) ≡ n
-length-count_up a zero = refl
-length-count_up a (suc n) = ap suc (length-count_up (a + 1) n)
-
-pub slice_get-count_up : (a n k : ℕ) → k < n → slice_get (count_up a n) k ≡ Some (a + k)
-slice_get-count_up a zero k h = absurd (omega arith)
-slice_get-count_up a (suc n) zero h = let e : a ≡ a + 0 = omega arith in ap Some e
-slice_get-count_up a (suc n) (suc k) h = slice_get-count_up (a + 1) n k (omega arith) ∙ (let e : a + 1 + k ≡ a + suc k = omega arith in ap Some e)
 
 get_before : {X : Type 0} (xs ys : List X) (k : ℕ) (x : X) → slice_get xs k ≡ Some x → slice_get (xs ++ ys) k ≡ Some x
 get_before [] ys k x e = absurd (cc)
@@ -30,30 +20,28 @@ get_before (y ∷ xs) ys zero x e = e
 get_before (y ∷ xs) ys (suc k) x e = get_before xs ys k x e
 
 module _ (n : Nest) (points : List Point) where
-  -- the list of one read slot, among those of statements of which the first has number p
+  -- the list of one read, among those of statements of which the first has number p
   pub read_at : (p : ℕ) (statements : List Statement) (j k : ℕ)
       → k < option_map_or (λ s. length s.reads) (slice_get statements j) 0
       → slice_get (sources_from n points p statements) (sum_by (λ s. length s.reads) (take j statements) + k) ≡ Some (read_sources n points (p + j) k)
   read_at p [] j k h = absurd (omega arith)
   read_at p (s ∷ statements) zero k h =
-      let slots : List ℕ = count_up 0 (length s.reads) in
+      let reads : List ℕ = range_with_len 0 (length s.reads) in
       let front : 0 + k ≡ k = omega arith in
       let first : p ≡ p + 0 = omega arith in
-      ap (slice_get (map (read_sources n points p) slots ++ sources_from n points (p + 1) statements)) front
-      ∙ get_before (map (read_sources n points p) slots) _ k (read_sources n points p k)
-      (slice_get-map (read_sources n points p) slots k
-      ∙ ap (option_map (read_sources n points p)) (slice_get-count_up 0 (length s.reads) k h)
-      ∙ ap (λ i. Some (read_sources n points p i)) front)
+      ap (slice_get (map (read_sources n points p) reads ++ sources_from n points (p + 1) statements)) front
+      ∙ get_before (map (read_sources n points p) reads) _ k (read_sources n points p k)
+      (slice_get-map-range_with_len (read_sources n points p) 0 (length s.reads) k k h front)
       ∙ ap (λ q. Some (read_sources n points q k)) first
   read_at p (s ∷ statements) (suc j) k h =
-      let slots : List ℕ = count_up 0 (length s.reads) in
+      let reads : List ℕ = range_with_len 0 (length s.reads) in
       let before : ℕ = sum_by (λ s. length s.reads) (take j statements) in
       let later : p + 1 + j ≡ p + suc j = omega arith in
-      ap (slice_get (map (read_sources n points p) slots ++ sources_from n points (p + 1) statements))
+      ap (slice_get (map (read_sources n points p) reads ++ sources_from n points (p + 1) statements))
       (ap (λ w. w + k) (sum_by-cons (λ s. length s.reads) s (take j statements))
       ∙ add_assoc (length s.reads) before k
-      ∙ ap (λ w. w + (before + k)) (sym (length-map slots (read_sources n points p) ∙ length-count_up 0 (length s.reads))))
-      ∙ slice_get-append_right (map (read_sources n points p) slots) (sources_from n points (p + 1) statements) (before + k)
+      ∙ ap (λ w. w + (before + k)) (sym (length-map-range_with_len (read_sources n points p) 0 (length s.reads))))
+      ∙ slice_get-append_right (map (read_sources n points p) reads) (sources_from n points (p + 1) statements) (before + k)
       ∙ read_at (p + 1) statements j k h
       ∙ ap (λ q. Some (read_sources n points q k)) later
 

@@ -7,7 +7,7 @@ pub enum Origin {
     Sweep,
 }
 
-/// A certificate of a network: one origin for each read, in the order of reader and slot, and a schedule, which is a
+/// A certificate of a network: one origin for each read, in the order of reader and read, and a schedule, which is a
 /// list of process numbers.
 #[derive(Drop)]
 pub struct Cert {

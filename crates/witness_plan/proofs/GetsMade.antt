@@ -17,10 +17,10 @@ use Rattle.net_core.specs.Shape.{is_get}
 use Rattle.net_core.proofs.Counting.{count_cons}
 use Rattle.process_derive.specs.Scripts.{Usage, gets_for_uses, gets_of, point_events, puts_from, ref_of, usage}
 use Rattle.reorder_slots.specs.Slots.{gets_for}
+use Rattle.sanlp.specs.Access.{read_count}
 use Rattle.sanlp.specs.declared.nest.Nest.{Nest}
 use Rattle.sanlp.specs.declared.nest.Tag.{Tag}
 use Rattle.sanlp.specs.Cells.{count_up}
-use Rattle.source_tree.specs.Sources.{read_count}
 use Rattle.witness_plan.proofs.OwnChannels.{count-append}
 use Rattle.witness_plan.proofs.PointEvents.{events_before}
 use Rattle.witness_plan.proofs.TokensPut.{events_more}

@@ -11,7 +11,8 @@ use Rattle.std.proofs.lemmas.List.Sums.{sum_by-append}
 use Rattle.std.proofs.lemmas.Option.{slice_get-map, slice_get_past, slice_get_within}
 use Rattle.channel_plan.specs.declared.plans.ChannelPlan.{ChannelPlan}
 use Rattle.channel_plan.specs.Plans.{plans_of, turn_count}
-use Rattle.loop_walk.specs.Counting.{SizeIsOk}
+use Rattle.sanlp.specs.Access.{read_count}
+use Rattle.sanlp.specs.Size.{SizeIsOk, size}
 use Rattle.net_core.specs.declared.network.Event.{Event}
 use Rattle.net_core.specs.declared.network.Event.TheVariants.{Get, Fire, Put}
 use Rattle.net_core.specs.declared.network.Channel.{Channel}
@@ -25,9 +26,7 @@ use Rattle.sanlp.specs.declared.nest.Nest.{Nest}
 use Rattle.sanlp.specs.declared.nest.Point.{Point}
 use Rattle.sanlp.specs.Cells.{count_up}
 use Rattle.sanlp.specs.Laws.{entries_from}
-use Rattle.sanlp.specs.Size.{size}
 use Rattle.sanlp.specs.Trace.{trace}
-use Rattle.source_tree.specs.Sources.{read_count}
 use Rattle.witness_plan.specs.Traffic.{IsOwn, NamesOwnChannels}
 use Rattle.witness_plan.proofs.CountedLists.{found_below, length_between}
 use Rattle.witness_plan.proofs.Usages.{IsUse, all_flat_map, each_all, use_is}

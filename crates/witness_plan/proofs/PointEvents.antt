@@ -10,10 +10,10 @@ use Rattle.net_core.specs.declared.network.Event.{Event}
 use Rattle.net_core.specs.declared.network.Event.TheVariants.{Get, Fire, Put}
 use Rattle.net_core.specs.declared.refs.Ref.{Ref}
 use Rattle.process_derive.specs.Scripts.{Usage, gets_for_uses, gets_of, point_events, puts_from, ref_of, script, usage}
+use Rattle.sanlp.specs.Access.{read_count}
 use Rattle.sanlp.specs.declared.nest.Nest.{Nest}
 use Rattle.sanlp.specs.Cells.{count_up}
 use Rattle.sanlp.proofs.Lists.{count_up-append}
-use Rattle.source_tree.specs.Sources.{read_count}
 use Rattle.witness_plan.specs.Steps.{point_length, put_length}
 
 -- Gets in front

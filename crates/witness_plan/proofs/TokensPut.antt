@@ -12,10 +12,10 @@ use Rattle.net_core.specs.declared.network.Event.TheVariants.{Fire, Put}
 use Rattle.net_core.specs.Shape.{is_put}
 use Rattle.net_core.proofs.Counting.{count_cons}
 use Rattle.process_derive.specs.Scripts.{gets_of, point_events, puts_from, ref_of, usage}
+use Rattle.sanlp.specs.Access.{read_count}
 use Rattle.sanlp.specs.declared.nest.Nest.{Nest}
 use Rattle.sanlp.specs.Cells.{count_up}
 use Rattle.sanlp.proofs.Lists.{count_up-append}
-use Rattle.source_tree.specs.Sources.{read_count}
 use Rattle.witness_plan.proofs.CountedLists.{get_below}
 use Rattle.witness_plan.proofs.OwnChannels.{count-append}
 use Rattle.witness_plan.proofs.PointEvents.{events_before}

@@ -10,10 +10,10 @@ use Rattle.channel_plan.specs.declared.plans.ChannelPlan.{ChannelPlan}
 use Rattle.channel_plan.specs.Plans.{plan_of, plans_at, plans_of, sources_at}
 use Rattle.channel_plan.specs.Tokens.{turns_used, writers_of}
 use Rattle.process_derive.specs.Scripts.{Usage, channel_from, goes_between, slot_base, usage}
+use Rattle.sanlp.specs.Access.{read_count}
 use Rattle.sanlp.specs.declared.nest.Nest.{Nest}
 use Rattle.sanlp.specs.declared.nest.Tag.{Tag}
 use Rattle.sanlp.specs.Cells.{count_up}
-use Rattle.source_tree.specs.Sources.{read_count}
 
 -- Lists
 

@@ -19,9 +19,9 @@ use Rattle.net_core.proofs.Counting.{count_cons}
 use Rattle.process_derive.specs.Derived.{net, process_of}
 use Rattle.process_derive.specs.Scripts.{Usage, gets_for_uses, gets_of, point_events, puts_from, ref_of, slots_of, usage}
 use Rattle.reorder_slots.specs.declared.slots.SlotPlan.{SlotPlan}
+use Rattle.sanlp.specs.Access.{read_count}
 use Rattle.sanlp.specs.declared.nest.Nest.{Nest}
 use Rattle.sanlp.specs.Cells.{count_up}
-use Rattle.source_tree.specs.Sources.{read_count}
 use Rattle.witness_plan.specs.Traffic.{IsOwn}
 use Rattle.witness_plan.proofs.CountedLists.{found_below}
 use Rattle.witness_plan.proofs.GetsMade.{slots_are, some_uses, uses}

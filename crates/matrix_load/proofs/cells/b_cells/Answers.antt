@@ -1,7 +1,7 @@
 use Rattle.std.proofs.Common.{◌≡◌, ℤ, List, [], ◌∷◌, ◌++◌, ap, sym, ◌∙◌, arith, to_z, of_z, w64}
 use Rattle.std.proofs.lemmas.Int.{ints}
+use Rattle.std.proofs.lemmas.List.FromFn.{map-range_with_len_more}
 use Rattle.matrix_load.specs.Cells.{b_cell}
-use Rattle.matrix_load.proofs.Counts.{map-count_up-push}
 use Rattle.matrix_load.proofs.cells.b_cells.Goals as goal
 
 pub loop-number-preserved : goal.loop-number-preserved
@@ -11,4 +11,4 @@ loop-number-preserved c =
     c.in_ok-push.ensures.ok
     ∙ ap (λ (value : ℤ). c.loop-number.list ++ value ∷ []) (cell ∙ c.b_cell.ensures)
     ∙ ap (λ (list : List ℤ). list ++ b_cell number ∷ []) c.loop-number.invariant
-    ∙ sym (map-count_up-push b_cell number)
+    ∙ sym (map-range_with_len_more b_cell 0 number number (omega arith))

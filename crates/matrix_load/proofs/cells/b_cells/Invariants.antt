@@ -1,7 +1,7 @@
 use Rattle.std.proofs.Common.{◌≡◌, map}
-use Rattle.sanlp.specs.Cells.{count_up}
+use Rattle.std.specs.List.{range_with_len}
 use Rattle.matrix_load.specs.Cells.{b_cell}
 use Rattle.matrix_load.proofs.cells.b_cells.Given as goal
 
 abbrev pub invariant-loop-number : goal.invariant-loop-number
-invariant-loop-number l = l.list ≡ map b_cell (count_up 0 l.number)
+invariant-loop-number l = l.list ≡ map b_cell (range_with_len 0 l.number)

@@ -1,9 +1,10 @@
-use Rattle.std.proofs.Common.{◌≡◌, ◌∙◌, ◌++◌, ◌∷◌, [], ◌+◌, suc, length, slice_get, take, get_or, ap, sym, arith, add-one}
+use Rattle.std.proofs.Common.{◌≡◌, ◌∙◌, ◌++◌, ◌∷◌, [], ◌+◌, length, take, get_or, ap, sym, arith, add-one}
 use Rattle.std.proofs.Math.Seq.{take-suc}
 use Rattle.std.proofs.lemmas.List.{take_all}
 use Rattle.std.proofs.lemmas.Option.{get_or_from_slice_get, slice_get_within}
 use Rattle.node_automata.specs.Automata.{automata}
-use Rattle.node_automata.proofs.Places.{automata_length, points_length}
+use Rattle.node_automata.proofs.Places.{automata_length}
+use Rattle.sanlp.proofs.NestFacts.{points_length}
 use Rattle.node_automata.proofs.node.automata.Goals as goal
 
 pub loop-process-preserved : goal.loop-process-preserved

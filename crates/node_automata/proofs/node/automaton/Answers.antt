@@ -5,8 +5,9 @@ use Rattle.net_core.specs.declared.network.Process.{Process}
 use Rattle.net_core.specs.Machine.{net_of}
 use Rattle.net_core.proofs.Fresh.{item_found}
 use Rattle.sanlp.specs.Points.{points_of}
+use Rattle.sanlp.proofs.NestFacts.{points_length}
 use Rattle.node_automata.specs.Automata.{automaton_of}
-use Rattle.node_automata.proofs.Places.{made_at, points_length}
+use Rattle.node_automata.proofs.Places.{made_at}
 use Rattle.node_automata.proofs.node.automaton.Goals as goal
 
 pub statement-statement-requires : goal.statement-statement-requires

@@ -1,7 +1,7 @@
 use Rattle.std.proofs.Common.{◌≡◌, ◌∙◌, ◌+◌, ◌-◌, ◌++◌, ap, arith, map}
 use Rattle.std.specs.Prelude.{slice_index}
+use Rattle.std.specs.List.{range_with_len}
 use Rattle.net_core.specs.declared.network.Event.TheVariants.{Get}
-use Rattle.sanlp.specs.Cells.{count_up}
 use Rattle.process_derive.specs.Scripts.{gets_for_uses}
 use Rattle.process_derive.proofs.Lists.{counted_all, counted_more}
 use Rattle.process_derive.proofs.events.add_gets.Goals as goal
@@ -21,5 +21,5 @@ returns c =
     let needed : c.number_at-needed.result ≡ slice_index slots.gets_before c.args.found.number = c.number_at-needed.ensures ∙ ap (λ xs. slice_index xs c.args.found.number) c.as_slice.ensures in
     counted_all (λ m. Get c.args.found.channel (c.args.found.base + slice_index slots.slot_of_get m)) c.args.events.now.items c.loop-get.events.items
     c.gets_for-done.result c.loop-get.get c.number_at-needed.result c.loop-get.invariant.added (grind arith)
-    ∙ ap (λ k. c.args.events.now.items ++ map (λ m. Get c.args.found.channel (c.args.found.base + slice_index slots.slot_of_get m)) (count_up k (c.number_at-needed.result - k))) c.gets_for-done.ensures
-    ∙ ap (λ k. c.args.events.now.items ++ map (λ m. Get c.args.found.channel (c.args.found.base + slice_index slots.slot_of_get m)) (count_up (gets_for_uses slots c.args.found.number) (k - gets_for_uses slots c.args.found.number))) needed
+    ∙ ap (λ k. c.args.events.now.items ++ map (λ m. Get c.args.found.channel (c.args.found.base + slice_index slots.slot_of_get m)) (range_with_len k (c.number_at-needed.result - k))) c.gets_for-done.ensures
+    ∙ ap (λ k. c.args.events.now.items ++ map (λ m. Get c.args.found.channel (c.args.found.base + slice_index slots.slot_of_get m)) (range_with_len (gets_for_uses slots c.args.found.number) (k - gets_for_uses slots c.args.found.number))) needed

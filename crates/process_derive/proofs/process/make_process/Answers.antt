@@ -3,7 +3,7 @@ use Rattle.std.specs.Prelude.{None, [], slice_index_or}
 use Rattle.process_derive.specs.Scripts.{slots_of}
 use Rattle.process_derive.specs.Uses.{OnlyBelow}
 use Rattle.process_derive.proofs.Bounds.{few_entries, few_plans, few_slots}
-use Rattle.process_derive.proofs.Scripts.{few_slots_read, few_sources, few_uses, fits_as, script_same, sources_exist}
+use Rattle.process_derive.proofs.Scripts.{few_sources_read, few_sources, few_uses, fits_as, script_same, sources_exist}
 use Rattle.process_derive.proofs.process.make_process.Goals as goal
 
 pub incoming_channels-requires-clause-few : goal.incoming_channels-requires-clause-few
@@ -20,8 +20,8 @@ pub slot_count-requires : goal.slot_count-requires
 slot_count-requires c =
     omega (arith, ap (λ ps. slots_of ps c.args.number) c.requires.plans, few_slots c.args.nest.now c.args.number, few_entries c.args.nest.now c.requires.size)
 
-pub uses_of-requires-clause-few_slots : goal.uses_of-requires-clause-few_slots
-uses_of-requires-clause-few_slots c = few_slots_read c.args.nest.now c.args.number c.args.sources.now c.requires.sources
+pub uses_of-requires-clause-few_reads : goal.uses_of-requires-clause-few_reads
+uses_of-requires-clause-few_reads c = few_sources_read c.args.nest.now c.args.number c.args.sources.now c.requires.sources
 
 pub uses_of-requires-clause-few : goal.uses_of-requires-clause-few
 uses_of-requires-clause-few c = λ k. few_sources c.args.nest.now c.args.number k c.args.sources.now c.requires.size c.requires.sources
@@ -33,7 +33,7 @@ uses_of-requires-clause-exist c = λ k f.
 pub script_of-requires-clause-few : goal.script_of-requires-clause-few
 script_of-requires-clause-few c =
     few_uses c.as_slice.result.now c.args.sources.now c.as_slice-2.result.now (c.as_slice-2.ensures.value ∙ c.in_ok-uses.ensures)
-    (few_slots_read c.args.nest.now c.args.number c.args.sources.now c.requires.sources)
+    (few_sources_read c.args.nest.now c.args.number c.args.sources.now c.requires.sources)
 
 pub script_of-requires-clause-fit : goal.script_of-requires-clause-fit
 script_of-requires-clause-fit c =

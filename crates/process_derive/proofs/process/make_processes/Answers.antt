@@ -1,9 +1,9 @@
 use Rattle.std.proofs.Common.{◌≡◌, ◌∙◌, ◌++◌, ◌∷◌, [], refl, ap, sym, arith, length, map}
 use Rattle.std.specs.Prelude.{Some, slice_get}
+use Rattle.std.specs.List.{range_with_len}
 use Rattle.std.proofs.lemmas.Option.{slice_get_read}
-use Rattle.sanlp.specs.Cells.{count_up}
+use Rattle.std.proofs.lemmas.List.FromFn.{map-range_with_len_more}
 use Rattle.process_derive.specs.Derived.{process_of}
-use Rattle.process_derive.proofs.Lists.{counted_push}
 use Rattle.process_derive.proofs.Parts.{all_sources, later_sources, own_sources, points_there, reads_within, turns_there}
 use Rattle.process_derive.proofs.process.make_processes.Goals as goal
 
@@ -46,7 +46,7 @@ loop-number-preserved c =
     ap (λ xs. slice_get xs c.loop-number.number) (sym c.as_slice-statement-items.ensures) ∙ slice_get_read c.as_slice-statement-items.result.now _ c.loop-number.number s refl c.loop-number-test.true c.statement-item.is in
     record {
       made = c.in_ok-push.ensures.items ∙ ap (λ xs. xs ++ c.in_ok-make_process.field-0 ∷ []) c.loop-number.invariant.made
-          ∙ ap (λ process. map (process_of n) (count_up 0 c.loop-number.number) ++ process ∷ []) c.in_ok-make_process.ensures
-          ∙ sym (counted_push (process_of n) c.loop-number.number);
+          ∙ ap (λ process. map (process_of n) (range_with_len 0 c.loop-number.number) ++ process ∷ []) c.in_ok-make_process.ensures
+          ∙ sym (map-range_with_len_more (process_of n) 0 c.loop-number.number c.loop-number.number (omega arith));
       left = later_sources n c.loop-number.number c.len.result s c.loop-number.rest.now c.split_at.result.1.now here c.len.ensures c.loop-number.invariant.left c.split_at.ensures.back;
     }

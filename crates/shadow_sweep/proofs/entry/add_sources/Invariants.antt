@@ -4,6 +4,6 @@ use Rattle.shadow_sweep.specs.LastWrites.{with_sources}
 use Rattle.shadow_sweep.specs.Shadows.{writes_in}
 use Rattle.shadow_sweep.proofs.entry.add_sources.Given as goal
 
-abbrev pub invariant-loop-slot : goal.invariant-loop-slot
-invariant-loop-slot l =
-    l.lists.items ≡ with_sources l.initial.lists.items l.first (map (writes_in l.shadow) (map (cell_at l.at) (take l.slot l.reads)))
+abbrev pub invariant-loop-read : goal.invariant-loop-read
+invariant-loop-read l =
+    l.lists.items ≡ with_sources l.initial.lists.items l.first (map (writes_in l.shadow) (map (cell_at l.at) (take l.read l.reads)))

@@ -1,13 +1,13 @@
 use Rattle.std.proofs.Common.{◌≡◌, ◌-◌, ℕ, drop, length, arith, sym, ap, ◌∙◌, subst}
 use Rattle.std.specs.Prelude.{IsTrue, replicate}
 use Rattle.std.proofs.lemmas.List.{get_or_read}
+use Rattle.std.proofs.lemmas.List.FromFn.{length-map-range_with_len}
 use Rattle.sanlp.specs.Trace.{trace}
 use Rattle.loop_walk.specs.Execution.{statement_short}
 use Rattle.loop_walk.specs.Walks.{rest}
 use Rattle.loop_walk.proofs.ShortStatements.{short_statement}
 use Rattle.shadow_sweep.specs.Shadows.{writes_in}
 use Rattle.source_tree.specs.Sources.{read_number}
-use Rattle.shadow_sweep.proofs.Lists.{length_counted}
 use Rattle.shadow_sweep.proofs.Swept.{IsSwept, depth_is, first_is, left_later, reads_have_lists, statement_exists, swept_all, swept_later, swept_none, turn_exists, turn_is_small}
 use Rattle.shadow_sweep.proofs.sources.sweep.Goals as goal
 
@@ -50,7 +50,7 @@ index-first-requires c =
       arith,
       c.in_ok-firsts.firsts.ok.0,
       ap length c.in_ok-firsts.ensures.firsts,
-      length_counted (λ p. read_number n p 0) 0 (length n.statements),
+      length-map-range_with_len (λ p. read_number n p 0) 0 (length n.statements),
       statement_exists n (rest n c.loop-point.walk) _ c.in-Some.point c.loop-point.invariant.left c.in-Some.ensures.next,
     )
 
@@ -67,7 +67,7 @@ pass-requires-clause-room c =
     let n = c.args.nest.now in
     let s = c.statement-statement.result.now in
     let exists = statement_exists n (rest n c.loop-point.walk) _ c.in-Some.point c.loop-point.invariant.left c.in-Some.ensures.next in
-    let count = ap length c.in_ok-firsts.ensures.firsts ∙ length_counted (λ p. read_number n p 0) 0 (length n.statements) in
+    let count = ap length c.in_ok-firsts.ensures.firsts ∙ length-map-range_with_len (λ p. read_number n p 0) 0 (length n.statements) in
     let first = get_or_read c.in_ok-firsts.firsts.items _ _ (omega (arith, count, exists)) c.index-first.ensures 0 in
     omega (
       arith,
@@ -82,7 +82,7 @@ loop-point-preserved c =
     let n = c.args.nest.now in
     let s = c.statement-statement.result.now in
     let exists = statement_exists n (rest n c.loop-point.walk) _ c.in-Some.point c.loop-point.invariant.left c.in-Some.ensures.next in
-    let count = ap length c.in_ok-firsts.ensures.firsts ∙ length_counted (λ p. read_number n p 0) 0 (length n.statements) in
+    let count = ap length c.in_ok-firsts.ensures.firsts ∙ length-map-range_with_len (λ p. read_number n p 0) 0 (length n.statements) in
     let first = get_or_read c.in_ok-firsts.firsts.items _ _ (omega (arith, count, exists)) c.index-first.ensures 0 in
     record {
       walk = c.in-Some.ensures.walk;

@@ -1,5 +1,5 @@
 use Rattle.std.proofs.Common.{◌≡◌, length, map, arith, ap, ◌∙◌}
-use Rattle.sanlp.specs.Cells.{count_up}
+use Rattle.std.specs.List.{range_with_len}
 use Rattle.source_tree.specs.Sources.{read_number}
 use Rattle.shadow_sweep.proofs.Starts.{first_started, lists_started}
 use Rattle.shadow_sweep.proofs.state.first_reads.Goals as goal
@@ -15,4 +15,4 @@ loop-process-preserved c = record {
 pub returns-clause-firsts : goal.returns-clause-firsts
 returns-clause-firsts c =
     let all : c.loop-process.process ≡ length c.args.nest.now.statements = omega (arith, ap length c.as_slice-statement-items.ensures) in
-    c.loop-process.invariant.firsts ∙ ap (λ k. map (λ p. read_number c.args.nest.now p 0) (count_up 0 k)) all
+    c.loop-process.invariant.firsts ∙ ap (λ k. map (λ p. read_number c.args.nest.now p 0) (range_with_len 0 k)) all

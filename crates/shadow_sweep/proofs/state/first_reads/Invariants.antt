@@ -1,12 +1,11 @@
 use Rattle.std.proofs.Common.{◌≡◌, [], map, take, length}
 use Rattle.std.specs.Prelude.{replicate}
-use Rattle.std.specs.List.{sum_by}
-use Rattle.sanlp.specs.Cells.{count_up}
+use Rattle.std.specs.List.{sum_by, range_with_len}
 use Rattle.source_tree.specs.Sources.{read_number}
 use Rattle.shadow_sweep.proofs.state.first_reads.Given as goal
 
 abbrev pub invariant-loop-process : goal.invariant-loop-process
 invariant-loop-process l = record {
-  firsts : l.firsts.items ≡ map (λ p. read_number l.nest p 0) (count_up 0 l.process);
+  firsts : l.firsts.items ≡ map (λ p. read_number l.nest p 0) (range_with_len 0 l.process);
   lists : l.lists.items ≡ replicate (sum_by (λ s. length s.reads) (take l.process l.nest.statements)) [];
 }

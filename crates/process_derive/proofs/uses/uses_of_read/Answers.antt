@@ -1,10 +1,10 @@
 use Rattle.std.proofs.Common.{◌∙◌, ap, sym, subst, arith, length}
 use Rattle.std.specs.Prelude.{None, slice_index_or}
 use Rattle.std.proofs.lemmas.Option.{slice_get-get_or}
+use Rattle.std.proofs.lemmas.List.FromFn.{length-map-range_with_len}
 use Rattle.process_derive.specs.Uses.{OnlyBelow, uses_before}
 use Rattle.process_derive.proofs.Counts.{counts_few, counts_more, none_before, uses_more}
-use Rattle.process_derive.proofs.Lists.{length_counted}
-use Rattle.process_derive.proofs.uses.uses_of_slot.Goals as goal
+use Rattle.process_derive.proofs.uses.uses_of_read.Goals as goal
 
 pub loop-source-init : goal.loop-source-init
 loop-source-init c = record {
@@ -14,7 +14,7 @@ loop-source-init c = record {
 
 pub next_use-requires-clause-exists : goal.next_use-requires-clause-exists
 next_use-requires-clause-exists c =
-    let all = c.loop-source.counts.ok.0 ∙ ap length c.loop-source.invariant.counts ∙ length_counted (uses_before c.args.sources.now c.loop-source.source-index) 0 c.args.processes in
+    let all = c.loop-source.counts.ok.0 ∙ ap length c.loop-source.invariant.counts ∙ length-map-range_with_len (uses_before c.args.sources.now c.loop-source.source-index) 0 c.args.processes in
     subst (λ n. OnlyBelow n (slice_index_or c.args.sources.now c.loop-source.source-index None)) (sym all) (c.requires.exist c.loop-source.source-index)
 
 pub next_use-requires-clause-few : goal.next_use-requires-clause-few

@@ -1,5 +1,0 @@
-use Rattle.std.proofs.Common.{length}
-use Rattle.array_data.proofs.record.+capped_count.Given as goal
-
-abbrev pub decreases-capped_count : goal.decreases-capped_count
-decreases-capped_count l = length l.extents.now

@@ -1,5 +1,0 @@
-use Rattle.std.proofs.Common.{length}
-use Rattle.net_core.proofs.given.+capped_place.Given as goal
-
-abbrev pub decreases-capped_place : goal.decreases-capped_place
-decreases-capped_place l = length l.extents.now

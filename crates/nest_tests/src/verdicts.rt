@@ -1,0 +1,430 @@
+//! Tests of `net_checker::check`.
+ghost use Rattle.std.specs.Prelude.{IsTrue};
+ghost use Rattle.net_core.specs.Machine.{net_of};
+ghost use Rattle.net_core.specs.Shape.{FitsNumbers};
+
+use crate::bound::{self, nest};
+use affine_core::Vector;
+use channel_class::{ChannelClass, UseOrder};
+use loop_walk::{points, size};
+use net_checker::{Refusal, Seen, Verdict, Wanted, check};
+use net_core::{Channel, Event, Network, Process, Ref, Refs};
+use plain_data::Items;
+use sanlp::{Nest, Point};
+use source_tree::{Cert, Origin};
+use std::alloc::{AllocError, Global};
+use std::test::Fail;
+
+const IN_ORDER: ChannelClass = ChannelClass {
+    order: UseOrder::InOrder,
+    multiplicity: false,
+};
+
+const REPEATED: ChannelClass = ChannelClass {
+    order: UseOrder::InOrder,
+    multiplicity: true,
+};
+
+const REORDERED: ChannelClass = ChannelClass {
+    order: UseOrder::Reorder,
+    multiplicity: false,
+};
+
+// A network and its certificate. The words of a script are events: `g` with a channel and a slot is a Get, `f` with its
+// references a Fire, where `z` is `Zero`, and `p` with a channel a Put. A channel has its writer, reader, read and
+// capacity. A schedule has one digit for each entry.
+#[derive(Clone, Copy)]
+struct Row<'a> {
+    slots: &'a [u32],
+    scripts: &'a [&'a [u8]],
+    channels: &'a [(u32, u32, u32, u32)],
+    classes: &'a [ChannelClass],
+    sources: u32,
+    schedule: &'a [u8],
+}
+
+// Each turn sums, and hands the sum on to the next turn and to the copy.
+const SUM: &[u8] = b"fz p0 p1 g00 f0 p0 p1 g00 f0 p0 p1 g00 f0 p1";
+
+const COPY: &[u8] = b"g10 f0 p2 g10 f0 p2 g10 f0 p2 g10 f0 p2";
+
+const PRINT: &[u8] = b"g20 f0 g20 f0 g20 f0 g20 f0";
+
+const SUMS: Row = Row {
+    slots: &[1, 1, 1],
+    scripts: &[SUM, COPY, PRINT],
+    channels: &[(0, 0, 0, 3), (0, 1, 0, 4), (1, 2, 0, 4)],
+    classes: &[IN_ORDER, IN_ORDER, IN_ORDER],
+    sources: 3,
+    schedule: b"0001110000111000011100011122222222",
+};
+
+const DELAYED: Row = Row {
+    slots: &[1, 0, 1, 1],
+    scripts: &[
+        b"fz p2 g00 f0 p2 g00 f0 p2",
+        b"f p1 f p1 f p1",
+        b"g10 f0 p0 g10 f0 p0 g10 f0",
+        b"g20 f0 g20 f0 g20 f0",
+    ],
+    channels: &[(2, 0, 0, 2), (1, 2, 0, 3), (0, 3, 0, 3)],
+    classes: &[IN_ORDER, IN_ORDER, IN_ORDER],
+    sources: 3,
+    schedule: b"0011222000112220001122333333",
+};
+
+fn digit(byte: u8) -> u32 {
+    u32::from(byte.wrapping_sub(b'0'))
+}
+
+fn references(names: &[u8]) -> Refs {
+    let mut refs = Refs::empty();
+    for name in names {
+        if refs.len() < 8 {
+            refs.push(match name {
+                b'z' => Ref::Zero,
+                slot => Ref::Slot(digit(*slot)),
+            });
+        }
+    }
+    refs
+}
+
+fn event(word: &[u8]) -> Event {
+    match word {
+        [b'g', channel, slot] => Event::Get {
+            channel: digit(*channel),
+            slot: digit(*slot),
+        },
+        [b'p', channel] => Event::Put {
+            channel: digit(*channel),
+        },
+        [_, names @ ..] => Event::Fire {
+            refs: references(names),
+        },
+        [] => Event::Fire {
+            refs: Refs::empty(),
+        },
+    }
+}
+
+fn script(alloc: Global, text: &[u8]) -> Result<Items<Event>, AllocError> {
+    let mut script = Items::new(alloc);
+    for word in text.split(|byte| *byte == b' ') {
+        script.push(event(word))?;
+    }
+    Ok(script)
+}
+
+fn network(alloc: Global, row: &Row) -> Result<Network, AllocError> {
+    let mut processes = Items::new(alloc);
+    for (slots, text) in row.slots.iter().zip(row.scripts) {
+        processes.push(Process {
+            slots: *slots,
+            script: script(alloc, text)?,
+        })?;
+    }
+    let mut channels = Items::new(alloc);
+    for ((writer, reader, read, capacity), class) in row.channels.iter().zip(row.classes) {
+        channels.push(Channel {
+            writer: *writer,
+            reader: *reader,
+            read: *read,
+            capacity: *capacity,
+            class: *class,
+        })?;
+    }
+    Ok(Network {
+        processes,
+        channels,
+    })
+}
+
+fn certificate(alloc: Global, row: &Row) -> Result<Cert, AllocError> {
+    let mut sources = Items::new(alloc);
+    for _ in 0..row.sources {
+        sources.push(Origin::Sweep)?;
+    }
+    let mut schedule = Items::new(alloc);
+    for entry in row.schedule {
+        schedule.push(digit(*entry))?;
+    }
+    Ok(Cert { sources, schedule })
+}
+
+// Whether the numbers of a network are within their limits.
+fn numbers_fit(network: &Network) -> bool
+    ensures { IsTrue result → FitsNumbers (net_of network.now) }
+{
+    let mut events = 0usize;
+    for process in network.processes.as_slice() {
+        match events.checked_add(process.script.len()) {
+            Some(sum) => events = sum,
+            None => return false,
+        }
+    }
+    network.processes.len() < 1 << 32 && network.channels.len() < 1 << 32 && events < 1 << 32
+}
+
+// Whether the checker gives this verdict.
+fn gives(alloc: Global, nest: &Nest, row: Row, verdict: Verdict) -> Result<bool, AllocError> {
+    let network = network(alloc, &row)?;
+    if size(nest).is_err() || !numbers_fit(&network) {
+        return Ok(false);
+    }
+    let points = points(alloc, nest)?;
+    let cert = certificate(alloc, &row)?;
+    Ok(check(alloc, nest, &points, &network, &cert)? == verdict)
+}
+
+fn refuses(alloc: Global, nest: &Nest, row: Row, refusal: Refusal) -> Result<bool, AllocError> {
+    gives(alloc, nest, row, Verdict::Refused(refusal))
+}
+
+fn point(alloc: Global, statement: u32, turn: i64) -> Point {
+    let mut at = Vector::empty(alloc);
+    at.push(turn);
+    Point { statement, at }
+}
+
+#[test]
+fn the_networks_of_the_worked_nests_are_accepted(rt: HostRuntime) -> Result<(), Fail> {
+    let alloc = rt.alloc();
+    assert!(rt; gives(alloc, &nest(alloc, bound::SUMS)?, SUMS, Verdict::Accepted)?);
+    assert!(rt;
+        gives(
+            alloc,
+            &nest(alloc, bound::DELAYED)?,
+            DELAYED,
+            Verdict::Accepted
+        )?
+    );
+    Ok(())
+}
+
+#[test]
+fn the_shape_is_refused(rt: HostRuntime) -> Result<(), Fail> {
+    let alloc = rt.alloc();
+    let nest = nest(alloc, bound::SUMS)?;
+    // The whole network is told by the number of the nest's processes.
+    for row in [
+        Row {
+            slots: &[1, 1],
+            ..SUMS
+        },
+        Row { sources: 2, ..SUMS },
+        Row { sources: 4, ..SUMS },
+        Row {
+            channels: &[(0, 0, 0, 3), (3, 1, 0, 4), (1, 2, 0, 4)],
+            ..SUMS
+        },
+        Row {
+            channels: &[(0, 0, 0, 3), (0, 3, 0, 4), (1, 2, 0, 4)],
+            ..SUMS
+        },
+        Row {
+            channels: &[(0, 0, 0, 3), (0, 1, 1, 4), (1, 2, 0, 4)],
+            ..SUMS
+        },
+    ] {
+        assert!(rt; refuses(alloc, &nest, row, Refusal::Shape(3))?);
+    }
+    let two_slots = Row {
+        slots: &[1, 5, 5],
+        ..SUMS
+    };
+    let no_such_channel: &[u8] = b"g30 f0";
+    let no_such_put: &[u8] = b"f0 p3";
+    let other_reader: &[u8] = b"g00 f0";
+    let other_writer: &[u8] = b"f0 p0";
+    let no_such_slot: &[u8] = b"g21 f0";
+    for (row, process) in [
+        (two_slots, 1),
+        (
+            Row {
+                scripts: &[SUM, COPY, no_such_channel],
+                ..SUMS
+            },
+            2,
+        ),
+        (
+            Row {
+                scripts: &[SUM, COPY, no_such_put],
+                ..SUMS
+            },
+            2,
+        ),
+        (
+            Row {
+                scripts: &[SUM, other_reader, no_such_slot],
+                ..SUMS
+            },
+            1,
+        ),
+        (
+            Row {
+                scripts: &[SUM, other_writer, no_such_slot],
+                ..SUMS
+            },
+            1,
+        ),
+        (
+            Row {
+                scripts: &[SUM, COPY, no_such_slot],
+                ..SUMS
+            },
+            2,
+        ),
+    ] {
+        assert!(rt; refuses(alloc, &nest, row, Refusal::Shape(process))?);
+    }
+    Ok(())
+}
+
+#[test]
+fn the_fires_are_refused(rt: HostRuntime) -> Result<(), Fail> {
+    let alloc = rt.alloc();
+    let nest = nest(alloc, bound::SUMS)?;
+    let put_first: &[u8] = b"g00 p0 fz p0 p1 g00 f0 p0 p1 g00 f0 p0 p1 g00 f0 p1";
+    let one_more: &[u8] = b"g10 f0 p2 g10 f0 p2 g10 f0 p2 g10 f0 p2 f0";
+    let too_few: &[u8] = b"g10 f0 p2 g10 f0 p2 g10 f0 p2 g10 p2";
+    let two_references: &[u8] = b"g20 f0 g20 f00 g20 f0 g20 f0";
+    let no_reference: &[u8] = b"g20 f g20 f0 g20 f0 g20 f0";
+    let no_such_slot: &[u8] = b"g20 f0 g20 f0 g20 f0 g20 f1";
+    for (scripts, process, place) in [
+        ([put_first, COPY, no_reference], 0, 1),
+        ([SUM, one_more, PRINT], 1, 12),
+        ([SUM, too_few, no_reference], 1, 11),
+        ([SUM, COPY, two_references], 2, 3),
+        ([SUM, COPY, no_reference], 2, 1),
+        ([SUM, COPY, no_such_slot], 2, 7),
+    ] {
+        let row = Row {
+            scripts: &scripts,
+            ..SUMS
+        };
+        assert!(rt; refuses(alloc, &nest, row, Refusal::Fires(process, place))?);
+    }
+    Ok(())
+}
+
+#[test]
+fn the_schedule_is_refused(rt: HostRuntime) -> Result<(), Fail> {
+    let alloc = rt.alloc();
+    let nest = nest(alloc, bound::SUMS)?;
+    // No such process, an empty channel, and a process at its end; then entries that are left out.
+    for (schedule, refusal) in [
+        (&b"3"[..], Refusal::NotEnabled(0)),
+        (b"0001112220", Refusal::NotEnabled(8)),
+        (
+            b"00011100001110000111000111222222222",
+            Refusal::NotEnabled(34),
+        ),
+        (b"", Refusal::Unended(0)),
+        (b"00000000000000", Refusal::Unended(1)),
+        (b"000111000011100001110001112222222", Refusal::Unended(2)),
+    ] {
+        let row = Row { schedule, ..SUMS };
+        assert!(rt; refuses(alloc, &nest, row, refusal)?);
+    }
+    let narrow = Row {
+        channels: &[(0, 0, 0, 3), (0, 1, 0, 1), (1, 2, 0, 4)],
+        schedule: b"0000000",
+        ..SUMS
+    };
+    assert!(rt; refuses(alloc, &nest, narrow, Refusal::NotEnabled(6))?);
+    let no_room = Row {
+        channels: &[(0, 0, 0, 0), (0, 1, 0, 4), (1, 2, 0, 4)],
+        ..SUMS
+    };
+    assert!(rt; refuses(alloc, &nest, no_room, Refusal::NotEnabled(1))?);
+    Ok(())
+}
+
+#[test]
+fn a_token_that_nobody_uses_is_harmless(rt: HostRuntime) -> Result<(), Fail> {
+    let alloc = rt.alloc();
+    let nest = nest(alloc, bound::SUMS)?;
+    let one_more: &[u8] = b"fz p0 p1 g00 f0 p0 p1 g00 f0 p0 p1 g00 f0 p1 p1";
+    let row = Row {
+        scripts: &[one_more, COPY, PRINT],
+        schedule: b"00011100001110000111000111222222220",
+        ..SUMS
+    };
+    assert!(rt; gives(alloc, &nest, row, Verdict::Accepted)?);
+    Ok(())
+}
+
+#[test]
+fn references_that_name_another_point_are_refused(rt: HostRuntime) -> Result<(), Fail> {
+    let alloc = rt.alloc();
+    let nest = nest(alloc, bound::SUMS)?;
+    let zero: &[u8] = b"g10 fz p2 g10 f0 p2 g10 f0 p2 g10 f0 p2";
+    let row = Row {
+        scripts: &[SUM, zero, PRINT],
+        ..SUMS
+    };
+    let found = Refusal::Tag(4, Seen::Zero, Wanted::At(point(alloc, 0, 0)));
+    assert!(rt; refuses(alloc, &nest, row, found)?);
+    let empty: &[u8] = b"f0 p0 p1 g00 f0 p0 p1 g00 f0 p0 p1 g00 f0 p1";
+    let row = Row {
+        scripts: &[empty, COPY, PRINT],
+        ..SUMS
+    };
+    let found = Refusal::Tag(0, Seen::Empty, Wanted::Zero);
+    assert!(rt; refuses(alloc, &nest, row, found)?);
+    let late: &[u8] = b"f0 g10 p2 g10 f0 p2 g10 f0 p2 g10 f0 p2";
+    let row = Row {
+        scripts: &[SUM, late, PRINT],
+        ..SUMS
+    };
+    let found = Refusal::Tag(3, Seen::Empty, Wanted::At(point(alloc, 0, 0)));
+    assert!(rt; refuses(alloc, &nest, row, found)?);
+    let swapped: &[u8] = b"g10 g11 f1 p2 f0 p2 g10 f0 p2 g10 f0 p2";
+    let row = Row {
+        slots: &[1, 2, 1],
+        scripts: &[SUM, swapped, PRINT],
+        schedule: b"0000000111",
+        ..SUMS
+    };
+    let seen = Seen::At(point(alloc, 0, 1));
+    let found = Refusal::Tag(9, seen, Wanted::At(point(alloc, 0, 0)));
+    assert!(rt; refuses(alloc, &nest, row, found)?);
+    let early: &[u8] = b"g00 f0 p2 g00 f0 p2 f0 p2";
+    let row = Row {
+        scripts: &[
+            early,
+            b"f p1 f p1 f p1",
+            b"g10 f0 p0 g10 f0 p0 g10 f0",
+            b"g20 f0 g20 f0 g20 f0",
+        ],
+        schedule: b"1122200",
+        ..DELAYED
+    };
+    let found = Refusal::Tag(6, Seen::At(point(alloc, 2, 0)), Wanted::Zero);
+    assert!(rt; refuses(alloc, &bound::nest(alloc, bound::DELAYED)?, row, found)?);
+    Ok(())
+}
+
+#[test]
+fn classes_that_are_not_those_of_the_uses_are_refused(rt: HostRuntime) -> Result<(), Fail> {
+    let alloc = rt.alloc();
+    let nest = nest(alloc, bound::SUMS)?;
+    for (classes, channel, said) in [
+        ([IN_ORDER, IN_ORDER, REPEATED], 2, REPEATED),
+        ([IN_ORDER, REORDERED, REPEATED], 1, REORDERED),
+    ] {
+        let row = Row {
+            classes: &classes,
+            ..SUMS
+        };
+        let refusal = Refusal::Class(channel, said, IN_ORDER);
+        assert!(rt; refuses(alloc, &nest, row, refusal)?);
+        let cut_off = Row {
+            schedule: b"000",
+            ..row
+        };
+        assert!(rt; refuses(alloc, &nest, cut_off, Refusal::Unended(0))?);
+    }
+    Ok(())
+}

@@ -15,7 +15,8 @@ use Rattle.loop_grammar.specs.declared.tree.Tree.{Tree}
 use Rattle.loop_lex.specs.Tokens.{tokens}
 use Rattle.loop_lex.specs.declared.token.Token.{Token}
 use Rattle.loop_walk.proofs.SizeLaw.{size_of_ok}
-use Rattle.loop_walk.specs.Counting.{SizeIsOk, counted}
+use Rattle.sanlp.specs.Size.{SizeIsOk, size}
+use Rattle.loop_walk.specs.Counting.{counted}
 use Rattle.loop_class.specs.Declarations.{Declared, declare, declare_name, declared, nothing_declared}
 use Rattle.loop_class.specs.Names.{value_named}
 use Rattle.loop_grammar.specs.declared.tree.Declaration.{Declaration}
@@ -30,7 +31,6 @@ use Rattle.loop_walk.specs.declared.count.SizeError.{SizeError}
 use Rattle.net_checker.specs.Fits.{Fits}
 use Rattle.net_maker.specs.Certificates.{cert_of}
 use Rattle.sanlp.specs.declared.nest.Nest.{Nest}
-use Rattle.sanlp.specs.Size.{size}
 use Rattle.std.specs.Prelude.{Contains, IfOk}
 use Rattle.witness_plan.specs.declared.schedules.Policy.{Policy}
 use Rattle.witness_plan.specs.Schedules.{planned_network}

@@ -10,7 +10,8 @@ use Rattle.loop_grammar.specs.declared.tree.Tree.{Tree}
 use Rattle.loop_class.specs.Binding.{findings, IsBound}
 use Rattle.loop_class.specs.Reasons.{least_from}
 use Rattle.loop_class.specs.declared.error.BindError.{BindError}
-use Rattle.loop_walk.specs.Counting.{SizeIsOk, counted}
+use Rattle.sanlp.specs.Size.{SizeIsOk}
+use Rattle.loop_walk.specs.Counting.{counted}
 use Rattle.loop_walk.specs.declared.count.SizeError.{SizeError}
 use Rattle.command_line.specs.Bundle.{data_part, source_part}
 use Rattle.net_core.specs.declared.network.Network.{Network}

@@ -1,5 +1,5 @@
 ghost use Rattle.std.specs.Prelude.{◌≡◌, ◌≤◌, length, IfOk, IfErr, None, Some};
-ghost use Rattle.loop_walk.specs.Counting.{SizeIsOk};
+ghost use Rattle.sanlp.specs.Size.{SizeIsOk};
 ghost use Rattle.node_automata.specs.Automata.{automata as automata_of};
 ghost use Rattle.vhdl_text.specs.Refusal.{first_too_long};
 ghost use Rattle.witness_plan.specs.Schedules.{planned_network};

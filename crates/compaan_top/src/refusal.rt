@@ -166,6 +166,10 @@ pub(crate) fn bind_refusal(
             at_token(alloc, 7, b"class: WrongCount", source, tokens, token)
         }
         BindError::ElseForm(token) => at_token(alloc, 7, b"class: ElseForm", source, tokens, token),
+        BindError::StepMax(token) => at_token(alloc, 7, b"class: StepMax", source, tokens, token),
+        BindError::StepRange(token) => {
+            at_token(alloc, 7, b"class: StepRange", source, tokens, token)
+        }
         BindError::TooManyProcesses(token) => at_token(
             alloc,
             8,

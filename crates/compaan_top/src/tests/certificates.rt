@@ -113,7 +113,7 @@ fn changed(alloc: Global, changes: &[(usize, &[u8])]) -> Result<Vec<u8>, AllocEr
 }
 
 /// Has a certificate checked, and compares the status and the line.
-fn checks(
+pub(super) fn checks(
     rt: &(impl Abort + AllocGlobal + Threads + Wait + Sync),
     params: &[&str],
     source: &[u8],

@@ -1,5 +1,5 @@
 /// Sources with the values of their parameters and the texts of their networks.
-pub(crate) const NETWORKS: [(&[&str], &[u8], &[u8]); 9] = [
+pub(crate) const NETWORKS: [(&[&str], &[u8], &[u8]); 12] = [
     (
         &["N=3"],
         b"param N; in x[N]; out y[N]; for (i = 0; i < N; i++) y[i] = x[i] + 1;",
@@ -120,6 +120,53 @@ channel 2 from 1 to 3 read 0 tokens 2 capacity 2 hold 1 class inorder
 channel 3 from 2 to 3 read 0 tokens 1 capacity 1 hold 1 class inorder
 channel 4 from 3 to 4 read 0 tokens 3 capacity 3 hold 1 class inorder
 events 30
+end
+",
+    ),
+    // loops with steps
+    (
+        &["N=5"],
+        b"param N; in x[N]; out y[N]; for (i = 0; i < N; i += 2) y[i] = x[i];",
+        b"net 1
+process 0 source x fires 5 slots 0
+process 1 assign y fires 3 slots 1
+process 2 sink y fires 5 slots 1
+channel 0 from 0 to 1 read 0 tokens 3 capacity 3 hold 1 class inorder
+channel 1 from 1 to 2 read 0 tokens 3 capacity 3 hold 1 class inorder
+events 25
+end
+",
+    ),
+    (
+        &[],
+        b"in x[4]; out y[4]; for (i = 0; i < 2; i++) for (j = i; j < 4; j += 2) y[j] = x[j];",
+        b"net 1
+process 0 source x fires 4 slots 0
+process 1 assign y fires 4 slots 2
+process 2 sink y fires 4 slots 2
+channel 0 from 0 to 1 read 0 tokens 4 capacity 4 hold 2 class reorder
+channel 1 from 1 to 2 read 0 tokens 4 capacity 4 hold 2 class reorder
+events 28
+end
+",
+    ),
+    (
+        &["N=5"],
+        b"param N; inout s[N]; for (i = 1; i < N; i += 2) s[i] = 2 * s[i] - s[i - 1] - s[i + 1]; for (i = 0; i < N; i += 2) s[i] = 8 * s[i] + s[i - 1] + s[i + 1];",
+        b"net 1
+process 0 source s fires 5 slots 0
+process 1 assign s fires 2 slots 3
+process 2 assign s fires 3 slots 3
+process 3 sink s fires 5 slots 2
+channel 0 from 0 to 1 read 0 tokens 2 capacity 2 hold 1 class inorder
+channel 1 from 0 to 1 read 1 tokens 2 capacity 2 hold 1 class inorder
+channel 2 from 0 to 1 read 2 tokens 2 capacity 2 hold 1 class inorder
+channel 3 from 0 to 2 read 0 tokens 3 capacity 3 hold 1 class inorder
+channel 4 from 1 to 2 read 1 tokens 2 capacity 2 hold 1 class inorder
+channel 5 from 1 to 2 read 2 tokens 2 capacity 2 hold 1 class inorder
+channel 6 from 1 to 3 read 0 tokens 2 capacity 2 hold 1 class inorder
+channel 7 from 2 to 3 read 0 tokens 3 capacity 3 hold 1 class inorder
+events 51
 end
 ",
     ),

@@ -1,5 +1,5 @@
 ghost use Rattle.std.specs.Prelude.{◌≡◌, true, IfOk, IfSome};
-ghost use Rattle.loop_walk.specs.Counting.{SizeIsOk};
+ghost use Rattle.sanlp.specs.Size.{SizeIsOk};
 ghost use Rattle.net_core.specs.Held.{held_of, run_of, IsFor};
 ghost use Rattle.net_core.specs.Machine.{net_of, enabled};
 ghost use Rattle.net_core.specs.Rules.{AllKeepTo, value_limits};

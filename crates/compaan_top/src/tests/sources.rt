@@ -1,7 +1,8 @@
-ghost use Rattle.loop_walk.specs.Counting.{SizeIsOk};
+ghost use Rattle.sanlp.specs.Size.{SizeIsOk};
 
 use super::kernels::KERNELS;
 use super::networks::NETWORKS;
+use super::steps::STEPPED;
 use super::{PROGRAMS, words_of};
 use crate::source::nest_of;
 use affine_core::{Form, Vector};
@@ -153,6 +154,9 @@ fn the_sweep_finds_what_looking_back_finds(rt: HostRuntime) -> Result<(), Fail> 
         entries = entries.saturating_add(compare_sources(&rt, params, bundle)?);
     }
     for (params, bundle, _) in NETWORKS {
+        entries = entries.saturating_add(compare_sources(&rt, params, bundle)?);
+    }
+    for (params, bundle, _) in STEPPED {
         entries = entries.saturating_add(compare_sources(&rt, params, bundle)?);
     }
     for (params, bundle, _) in KERNELS {

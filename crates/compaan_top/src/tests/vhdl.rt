@@ -1,15 +1,20 @@
-use super::{Devices, SOUND, expect, expect_words, words_of};
-use crate::compaan;
-use io_edge::{MemSink, MemSource, Open};
-use std::alloc::Global;
-use std::process::Abort;
-use std::sync::Wait;
+use super::{Devices, SOUND, expect, written_by};
 use std::test::Fail;
-use std::thread::Threads;
 
 const INCREMENT: &[u8] = b"param N; in x[N]; out y[N]; for (i = 0; i < N; i++) y[i] = x[i] + 1;";
 
 const COUNTER: &[u8] = b"param N; var a; for (i = 0; i < N; i++) a = i;";
+
+/// A loop with a step, and what its node has of it: the turns of its points, and its variable.
+const EVERY_SECOND: &[u8] = b"var a; for (i = 1; i < 6; i += 2) a = i;";
+
+const TURNS: &[u8] = b"
+  constant v0 : words(0 to 3) := (0 => x\"0000000000000000\", 1 => x\"0000000000000001\", 2 => x\"0000000000000002\", 3 => x\"0000000000000000\");
+";
+
+const VARIABLE: &[u8] = b"
+            fired <= (signed'(x\"0000000000000001\") + mul(signed'(x\"0000000000000002\"), v0(arg(pc))));
+";
 
 /// The channels of the increment with N=1, and the ports of its source.
 const HEAD: &[u8] = b"-- compaan vhdl 1
@@ -152,47 +157,24 @@ fn has(text: &[u8], part: &[u8]) -> bool {
     false
 }
 
-/// What `vhdl` writes of a source.
-fn described(
-    rt: &(impl Abort + AllocGlobal + Threads + Wait + Sync),
-    params: &[&str],
-    source: &[u8],
-    room: usize,
-) -> Result<MemSink, Fail> {
-    let alloc = rt.alloc();
-    let words = words_of(alloc, "vhdl", params)?;
-    let mut input = MemSource::new(alloc, source, 16, &[])?;
-    let mut written = MemSink::new(alloc, room, 4_096, &[])?;
-    let mut complained = MemSink::new(alloc, 1_000, 4_096, &[])?;
-    let status = compaan(
-        rt,
-        alloc,
-        &words,
-        &mut input,
-        &mut written,
-        &mut complained,
-        &Open,
-    );
-    assert_eq!(rt; status, 0);
-    assert!(rt; complained.held().is_empty());
-    Ok(written)
-}
-
 #[test]
 fn nodes_are_described(rt: HostRuntime) -> Result<(), Fail> {
     for params in [["N=1", "--policy=seq"], ["N=1", "--policy=down"]] {
-        let written = described(&rt, &params, INCREMENT, 100_000)?;
+        let written = written_by(&rt, "vhdl", &params, INCREMENT, 100_000)?;
         assert!(rt; written.held().starts_with(HEAD));
         assert!(rt; has(written.held(), ASSIGNMENT));
         assert!(rt; has(written.held(), SINK));
         assert!(rt; written.held().ends_with(b"end architecture;\n"));
     }
+    let written = written_by(&rt, "vhdl", &[], EVERY_SECOND, 100_000)?;
+    assert!(rt; has(written.held(), TURNS));
+    assert!(rt; has(written.held(), VARIABLE));
     Ok(())
 }
 
 #[test]
 fn the_longest_script_is_described(rt: HostRuntime) -> Result<(), Fail> {
-    let written = described(&rt, &["N=65536"], COUNTER, 100_000_000)?;
+    let written = written_by(&rt, "vhdl", &["N=65536"], COUNTER, 100_000_000)?;
     assert!(rt;
         written
             .held()

@@ -221,6 +221,23 @@ def sobel(H, W, image):
     return {"edges": [known.get(it, 0) for it in itertools.product(range(H), range(W))]}
 
 
+def wavelet(N, s):
+    # Each of the two passes is a product with a matrix, and so is the whole.
+    def lifted(first, own):
+        def weight(i, j):
+            return own if i == j else abs(i - j) == 1
+
+        return [[weight(i, j) if i % 2 == first else int(i == j) for j in range(N)] for i in range(N)]
+
+    details = [[-it if i != j and i % 2 else it for j, it in enumerate(row)] for i, row in enumerate(lifted(1, 2))]
+    return {"s": flat(product(product(lifted(0, 8), details), [[it] for it in s]))}
+
+
+def block_peaks(N, B, x):
+    blocks = [x[b : b + B] for b in range(0, N, B)]
+    return {"y": [max(block) - it for block in blocks for it in block]}
+
+
 def pipeline_60(N, x):
     # thirty times 1 + z and thirty times 1 - z: the thirtieth power of 1 - z^2
     power = [1]

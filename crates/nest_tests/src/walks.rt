@@ -76,7 +76,7 @@ fn a_nest_grows_its_input(rt: HostRuntime) -> Result<(), Fail> {
 fn a_loop_with_a_step_counts_its_turns(rt: HostRuntime) -> Result<(), Fail> {
     let alloc = rt.alloc();
     // Of each source the turns, and the size, which counts each turn, its point, a source and a sink.
-    let cases: [(&[u8], i64, u64); 8] = [
+    let cases: [(&[u8], usize, u64); 8] = [
         (b"inout y; for (i = -7; i <= 2; i += 4) y = y + i;", 3, 8),
         (b"inout y; for (i = -7; i < 2; i += 4) y = y + i;", 3, 8),
         (b"inout y; for (i = -7; i <= 0; i += 4) y = y + i;", 2, 6),
@@ -108,13 +108,14 @@ fn a_loop_with_a_step_counts_its_turns(rt: HostRuntime) -> Result<(), Fail> {
             return Err(Fail::new("the size is refused"));
         };
         assert_eq!(rt; size, count);
-        let mut walk = Walk::new(alloc, &nest)?;
-        assert_eq!(rt; told(walk.next(&nest)), Some((0, None)));
-        for turn in 0..turns {
-            assert_eq!(rt; told(walk.next(&nest)), Some((1, Some(turn))));
+        let lists = points(alloc, &nest)?.of;
+        let Some(steps) = lists.get(1) else {
+            return Err(Fail::new("no points"));
+        };
+        assert_eq!(rt; steps.len(), turns);
+        for (at, turn) in steps.as_slice().iter().zip([0, 1, 2].iter()) {
+            assert!(rt; at.as_slice() == [*turn].as_slice());
         }
-        assert_eq!(rt; told(walk.next(&nest)), Some((2, None)));
-        assert_eq!(rt; told(walk.next(&nest)), None);
     }
     Ok(())
 }

@@ -32,13 +32,19 @@ form_sum f g = record { constant = f.constant +ℤ g.constant; coefs = sums f.co
 
 -- the form of a number, over so many variables
 abbrev pub constant_form : ℕ → ℤ → Form
-constant_form variables constant = record { constant = constant; coefs = replicate variables (pos 0) }
+constant_form variables constant =
+    record { constant = constant; coefs = replicate variables (pos 0) }
 
 -- the form of one of so many variables
 abbrev pub variable_form : ℕ → ℕ → Form
 variable_form variables v =
-    record { constant = pos 0; coefs = replicate v (pos 0) ++ pos 1 ∷ replicate (variables - (v + 1)) (pos 0) }
+    record {
+      constant = pos 0;
+      coefs = replicate v (pos 0) ++ pos 1
+          ∷ replicate (variables - (v + 1)) (pos 0);
+    }
 
 -- the same form over more variables
 abbrev pub widened_form : ℕ → Form → Form
-widened_form variables f = record f { coefs = f.coefs ++ replicate (variables - length f.coefs) (pos 0) }
+widened_form variables f =
+    record f { coefs = f.coefs ++ replicate (variables - length f.coefs) (pos 0) }

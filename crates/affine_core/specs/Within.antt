@@ -23,13 +23,15 @@ form_in_128_bits f = if form_fits_128_bits f then Some f else None
 
 -- a sum with one more product, unless one of the two leaves 128 bits
 abbrev pub sum_in_128_bits : ℤ → ℤ → ℤ → Option ℤ
-sum_in_128_bits sum c v = option_and_then (λ product. number_in_128_bits (sum +ℤ product)) (number_in_128_bits (c *ℤ v))
+sum_in_128_bits sum c v =
+    option_and_then (λ product. number_in_128_bits (sum +ℤ product)) (number_in_128_bits (c *ℤ v))
 
 -- the sum of products, unless a product or a partial sum leaves 128 bits
 abbrev pub combined_in_128_bits : ℤ → List ℤ → List ℤ → Option ℤ
 combined_in_128_bits sum [] at = Some sum
 combined_in_128_bits sum (c ∷ cs) [] = Some sum
-combined_in_128_bits sum (c ∷ cs) (v ∷ at) = option_and_then (λ next. combined_in_128_bits next cs at) (sum_in_128_bits sum c v)
+combined_in_128_bits sum (c ∷ cs) (v ∷ at) =
+    option_and_then (λ next. combined_in_128_bits next cs at) (sum_in_128_bits sum c v)
 
 -- the form's value, unless a product or a partial sum, taken constant first and then in variable order, leaves 128 bits
 abbrev pub value_in_128_bits : Form → List ℤ → Option ℤ
@@ -38,4 +40,5 @@ value_in_128_bits form at = combined_in_128_bits form.constant form.coefs at
 -- these numbers are within 128 bits and were added at the end of a list, or one of them is not
 abbrev pub Appends : {T E : Type 0} → Result T E → List ℤ → List ℤ → List ℤ → Type 0
 Appends r old new more =
-    MatchResult r (λ _. (list_all fits_128_bits more ≡ true) × (new ≡ old ++ more)) (λ _. list_all fits_128_bits more ≡ false)
+    MatchResult r (λ _. (list_all fits_128_bits more ≡ true) × (new ≡ old ++ more))
+    (λ _. list_all fits_128_bits more ≡ false)

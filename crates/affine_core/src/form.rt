@@ -84,7 +84,8 @@ impl Form {
     /// The form times a number. `Overflow` comes exactly where a product leaves 128 bits. It takes no memory.
     pub fn scale(&self, by: i128) -> Result<Form, Overflow>
         ensures exact { result_ok result ≡ form_in_128_bits (form_product by self.now) }
-        ensures values { IfOk result (λ f. (at : List ℤ) → form_at f at ≡ form_at self.now at *ℤ by) }
+        ensures values { IfOk result
+            (λ f. (at : List ℤ) → form_at f at ≡ form_at self.now at *ℤ by) }
     {
         let constant = product(self.constant, by)?;
         let mut coefs = Coefs::empty(self.coefs.allocator());
@@ -96,7 +97,8 @@ impl Form {
     pub fn add(&self, other: &Form) -> Result<Form, Overflow>
         requires { length self.now.coefs ≡ length other.now.coefs }
         ensures exact { result_ok result ≡ form_in_128_bits (form_sum self.now other.now) }
-        ensures values { IfOk result (λ f. (at : List ℤ) → form_at f at ≡ form_at self.now at +ℤ form_at other.now at) }
+        ensures values { IfOk result
+            (λ f. (at : List ℤ) → form_at f at ≡ form_at self.now at +ℤ form_at other.now at) }
     {
         let constant = sum(self.constant, other.constant)?;
         let mut coefs = Coefs::empty(self.coefs.allocator());

@@ -1,5 +1,5 @@
 -- Records that are judged in turn are judged as the definition of the inputs says.
-use Rattle.std.proofs.Common.{ℕ, zero, suc, ℤ, List, ◌≡◌, ◌≢◌, ◌⊎◌, ◌+◌, ◌<◌, ◌≤◌, ◌==◌, ◌∷◌, ◌++◌, [], Bool, true, false, cond, map, length, Option, Some, None, Result, Ok, Err, refl, sym, ◌∙◌, ap, arith, inl, inr, append_assoc}
+use Rattle.std.proofs.Common.{ℕ, zero, suc, ℤ, List, ◌≡◌, ◌≢◌, ◌⊎◌, ◌+◌, ◌<◌, ◌==◌, ◌∷◌, ◌++◌, [], Bool, true, false, cond, map, length, Option, Some, None, Result, Ok, Err, refl, sym, ◌∙◌, ap, arith, inl, inr, append_assoc}
 use Rattle.std.specs.Prelude.{IfOk, replicate, filter_map, find, is_some, is_none, ok_or, slice_get, slice_set, slice_index_or, option_map, if◌then◌else◌}
 use Rattle.std.specs.Option.{option_map_or, option_or}
 use Rattle.std.specs.List.{cons_option, position_from, range_with_len}
@@ -11,9 +11,10 @@ use Rattle.sanlp.specs.declared.nest.ArrayDecl.{ArrayDecl}
 use Rattle.sanlp.specs.Cells.{cell_count, is_input, input_count}
 use Rattle.sanlp.specs.WellFormed.{numbers_from}
 use Rattle.sanlp.proofs.Lists.{map-range_with_len_same, map-range_with_len_replicate}
+use Rattle.plain_data.specs.Answers.{IsUnlessMemory}
 use Rattle.array_data.specs.declared.error.DataError.{DataError}
-use Rattle.array_data.specs.declared.error.DataError.TheVariants.{UnknownArray, Twice, Missing, Count, NotANumber, Memory}
-use Rattle.array_data.specs.Data.{Gives, Record, array_named, field_fault, first_fault, lists_or_fault, name_of, record_fault, record_of, unless, value_fields, value_of, values_fault, values_in, wanted_count}
+use Rattle.array_data.specs.declared.error.DataError.TheVariants.{UnknownArray, Missing, NotANumber, Memory}
+use Rattle.array_data.specs.Data.{Record, array_named, field_fault, first_fault, lists_or_fault, name_of, record_fault, record_of, unless, value_fields, value_of, values_fault, values_in, wanted_count}
 use Rattle.array_data.specs.Judging.{Fits, Given, before, collected, given_by, placed, taken, values_from, values_taken}
 
 -- a result and a fault agree: there is a value of which P holds and no fault, or the same fault
@@ -45,16 +46,12 @@ agrees_then P Q (Err fault) None f h = h
 agrees_then P Q (Err fault) (Some other) f h = h
 
 -- an answer that tells a fault tells it of another result too
-pub gives_fault : {A B : Type 0} (fault : DataError) (r : Result A DataError) (s : Result B DataError) → (r ≡ Err fault → s ≡ Err fault) → Gives (Err fault) r → Gives (Err fault) s
-gives_fault (UnknownArray n) r s f h = f h
-gives_fault (Twice n) r s f h = f h
-gives_fault (Missing a) r s f h = f h
-gives_fault (Count n g w) r s f h = f h
-gives_fault (NotANumber n at) r s f h = f h
-gives_fault Memory r s f h = tt
+pub gives_fault : {A B : Type 0} (fault : DataError) (r : Result A DataError) (s : Result B DataError) → (r ≡ Err fault → s ≡ Err fault)
+    → IsUnlessMemory Memory (Err fault) r → IsUnlessMemory Memory (Err fault) s
+gives_fault fault r s f h = λ known. f (h known)
 
 -- what holds of the value that is wanted holds of the one that is given
-pub gives_if_ok : {A : Type 0} (P : A → Type 0) (r s : Result A DataError) → Gives r s → IfOk s P → IfOk r P
+pub gives_if_ok : {A : Type 0} (P : A → Type 0) (r s : Result A DataError) → IsUnlessMemory Memory r s → IfOk s P → IfOk r P
 gives_if_ok P (Ok value) s e h = rw e at h
 gives_if_ok P (Err fault) s e h = tt
 

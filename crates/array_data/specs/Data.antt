@@ -1,5 +1,5 @@
 -- Input values as CSV: each record is the name of an `in` or `inout` array, and then its values in row-major order.
-use Rattle.std.specs.Prelude.{◌≡◌, ℕ, ◌+◌, ◌-◌, ◌*◌, ◌==◌, ◌&&◌, ◌||◌, ℤ, pos, neg_ℤ, Bool, false, List, [], ◌∷◌, ◌++◌, map, length, take, drop, find, filter_map, fold, nat_le, not, is_some, is_none, bytes_eq, Option, Some, None, Result, Ok, Err, if◌then◌else◌, slice_get, slice_index_or}
+use Rattle.std.specs.Prelude.{ℕ, ◌+◌, ◌-◌, ◌*◌, ◌==◌, ◌&&◌, ◌||◌, ℤ, pos, neg_ℤ, Bool, false, List, [], ◌∷◌, ◌++◌, map, length, take, drop, find, filter_map, fold, nat_le, not, is_some, is_none, bytes_eq, Option, Some, None, Result, Ok, Err, if◌then◌else◌, slice_get, slice_index_or}
 use Rattle.std.specs.Char.{is_ascii_digit}
 use Rattle.std.specs.List.{list_all, prefix_len, suffix_len, position_from, range_with_len}
 use Rattle.std.specs.Option.{option_map, option_map_or, option_or}
@@ -10,7 +10,7 @@ use Rattle.sanlp.specs.declared.nest.Nest.{Nest}
 use Rattle.sanlp.specs.Cells.{cell_count, is_input}
 use Rattle.sanlp.specs.WellFormed.{input_numbers}
 use Rattle.array_data.specs.declared.error.DataError.{DataError}
-use Rattle.array_data.specs.declared.error.DataError.TheVariants.{UnknownArray, Twice, Missing, Count, NotANumber, Memory}
+use Rattle.array_data.specs.declared.error.DataError.TheVariants.{UnknownArray, Twice, Missing, Count, NotANumber}
 
 -- Records and fields
 
@@ -55,10 +55,14 @@ number_value digits = fold (λ value digit. value * 10 + (digit - 48)) 0 digits
 
 -- what digits are without a sign, up to 2 ^ 63 - 1, and behind a `-`, up to 2 ^ 63
 abbrev pub plain_value : List ℕ → Option ℤ
-plain_value digits = if is_digits digits && nat_le (number_value digits) 9223372036854775807 then Some (pos (number_value digits)) else None
+plain_value digits =
+    if is_digits digits && nat_le (number_value digits) 9223372036854775807
+    then Some (pos (number_value digits)) else None
 
 abbrev pub negated_value : List ℕ → Option ℤ
-negated_value digits = if is_digits digits && nat_le (number_value digits) 9223372036854775808 then Some (neg_ℤ (pos (number_value digits))) else None
+negated_value digits =
+    if is_digits digits && nat_le (number_value digits) 9223372036854775808
+    then Some (neg_ℤ (pos (number_value digits))) else None
 
 -- the value of a field, if it is one: an optional `-`, then decimal digits, within 64 signed bits
 abbrev pub value_of : List ℕ → Option ℤ
@@ -72,11 +76,13 @@ values_in row = filter_map value_of (value_fields row)
 
 -- the number of the `in` or `inout` array of this name
 abbrev pub array_named : List ArrayDecl → List ℕ → Option ℕ
-array_named arrays name = position_from (λ array. is_input array.kind && bytes_eq array.name name) 0 arrays
+array_named arrays name =
+    position_from (λ array. is_input array.kind && bytes_eq array.name name) 0 arrays
 
 -- the first record that names array a
 abbrev pub record_of : List ArrayDecl → List Record → ℕ → Option Record
-record_of arrays rows a = find (λ row. option_map_or (λ b. b == a) (array_named arrays (name_of row)) false) rows
+record_of arrays rows a =
+    find (λ row. option_map_or (λ b. b == a) (array_named arrays (name_of row)) false) rows
 
 -- how many values array a takes
 abbrev pub wanted_count : List ArrayDecl → ℕ → ℕ
@@ -84,7 +90,8 @@ wanted_count arrays a = option_map_or (λ array. cell_count array.extents) (slic
 
 -- the first field, from place `at` on, that is no value
 abbrev pub field_fault : ℕ → ℕ → List (List ℕ) → Option DataError
-field_fault number at fields = option_map (NotANumber number) (position_from (λ field. is_none (value_of field)) at fields)
+field_fault number at fields =
+    option_map (NotANumber number) (position_from (λ field. is_none (value_of field)) at fields)
 
 -- what is wrong with the values of a record that names array a, where `earlier` records stand before it
 abbrev pub values_fault : List ArrayDecl → List Record → Record → ℕ → Option DataError
@@ -98,12 +105,14 @@ values_fault arrays earlier row a =
 -- what is wrong with a record
 abbrev pub record_fault : List ArrayDecl → List Record → Record → Option DataError
 record_fault arrays earlier row =
-    option_map_or (values_fault arrays earlier row) (array_named arrays (name_of row)) (Some (UnknownArray (length earlier + 1)))
+    option_map_or (values_fault arrays earlier row) (array_named arrays (name_of row))
+    (Some (UnknownArray (length earlier + 1)))
 
 -- the first fault of the records behind the earlier ones
 abbrev pub first_fault : List ArrayDecl → List Record → List Record → Option DataError
 first_fault arrays earlier [] = None
-first_fault arrays earlier (row ∷ rows) = option_or (record_fault arrays earlier row) (first_fault arrays (earlier ++ row ∷ []) rows)
+first_fault arrays earlier (row ∷ rows) =
+    option_or (record_fault arrays earlier row) (first_fault arrays (earlier ++ row ∷ []) rows)
 
 -- the first `in` or `inout` array in declaration order that no record names
 abbrev pub missing_array : List ArrayDecl → List Record → Option ℕ
@@ -111,11 +120,14 @@ missing_array arrays rows = find (λ a. is_none (record_of arrays rows a)) (inpu
 
 -- why the records are refused, if they are
 abbrev pub fault_of : List ArrayDecl → List Record → Option DataError
-fault_of arrays rows = option_or (first_fault arrays [] rows) (option_map Missing (missing_array arrays rows))
+fault_of arrays rows =
+    option_or (first_fault arrays [] rows) (option_map Missing (missing_array arrays rows))
 
 -- the values of each array, and none for an array that is no input
 abbrev pub lists_of : List ArrayDecl → List Record → List (List ℤ)
-lists_of arrays rows = map (λ a. option_map_or values_in (record_of arrays rows a) []) (range_with_len 0 (length arrays))
+lists_of arrays rows =
+    map (λ a. option_map_or values_in (record_of arrays rows a) [])
+    (range_with_len 0 (length arrays))
 
 abbrev pub unless : {A : Type 0} → Option DataError → A → Result A DataError
 unless None value = Ok value
@@ -128,13 +140,3 @@ lists_or_fault arrays rows = unless (fault_of arrays rows) (lists_of arrays rows
 -- the inputs of a nest, or why the records are refused
 abbrev pub inputs_of : Nest → List Record → Result Inputs DataError
 inputs_of n rows = unless (fault_of n.arrays rows) (record { arrays = lists_of n.arrays rows })
-
--- an answer is what the definition says, unless memory ran out
-abbrev pub Gives : {A : Type 0} → Result A DataError → Result A DataError → Type 0
-Gives (Ok value) wanted = wanted ≡ Ok value
-Gives (Err Memory) wanted = Unit {0}
-Gives (Err (UnknownArray number)) wanted = wanted ≡ Err (UnknownArray number)
-Gives (Err (Twice number)) wanted = wanted ≡ Err (Twice number)
-Gives (Err (Missing array)) wanted = wanted ≡ Err (Missing array)
-Gives (Err (Count number got want)) wanted = wanted ≡ Err (Count number got want)
-Gives (Err (NotANumber number field)) wanted = wanted ≡ Err (NotANumber number field)

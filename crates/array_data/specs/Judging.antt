@@ -4,12 +4,14 @@ use Rattle.std.specs.Option.{option_map, option_map_or}
 use Rattle.std.specs.List.{range_with_len}
 use Rattle.sanlp.specs.declared.nest.ArrayDecl.{ArrayDecl}
 use Rattle.sanlp.specs.Cells.{cell_count, is_input}
+use Rattle.plain_data.specs.Answers.{IsUnlessMemory}
 use Rattle.array_data.specs.declared.error.DataError.{DataError}
 use Rattle.array_data.specs.declared.error.DataError.TheVariants.{UnknownArray, Twice, Missing, Count, NotANumber, Memory}
-use Rattle.array_data.specs.Data.{Gives, Record, array_named, first_fault, name_of, record_of, unless, value_fields, value_of, values_in, wanted_count}
+use Rattle.array_data.specs.Data.{Record, array_named, first_fault, name_of, record_of, unless, value_fields, value_of, values_in, wanted_count}
 
 -- the list with this value before it, if both are there
-abbrev pub before : {A : Type 0} → Result A DataError → Result (List A) DataError → Result (List A) DataError
+abbrev pub before : {A : Type 0} → Result A DataError → Result (List A) DataError
+    → Result (List A) DataError
 before (Ok value) (Ok values) = Ok (value ∷ values)
 before (Ok value) (Err fault) = Err fault
 before (Err fault) values = Err fault
@@ -17,7 +19,8 @@ before (Err fault) values = Err fault
 -- the values of the fields from place `at` on, or the first that is none
 abbrev pub values_from : ℕ → ℕ → List (List ℕ) → Result (List ℤ) DataError
 values_from number at [] = Ok []
-values_from number at (field ∷ fields) = before (ok_or (value_of field) (NotANumber number at)) (values_from number (at + 1) fields)
+values_from number at (field ∷ fields) =
+    before (ok_or (value_of field) (NotANumber number at)) (values_from number (at + 1) fields)
 
 -- the values of a record whose array has so many cells
 abbrev pub values_taken : ℕ → ℕ → Bool → Record → Result (List ℤ) DataError
@@ -29,7 +32,8 @@ values_taken cells number is_given row =
 -- a count that differs from the number of cells, of which `want` is told; past 64 bits it can't be told
 abbrev pub IsCountFault : ℕ → ℕ → ℕ → DataError → Type 0
 IsCountFault number got want Memory = Unit {0}
-IsCountFault number got want (Count n g w) = (want < 18446744073709551615) × (Count n g w ≡ Count number got want)
+IsCountFault number got want (Count n g w) =
+    (want < 18446744073709551615) × (Count n g w ≡ Count number got want)
 IsCountFault number got want (UnknownArray n) = ⊥
 IsCountFault number got want (Twice n) = ⊥
 IsCountFault number got want (Missing a) = ⊥
@@ -46,13 +50,15 @@ placed given a (Err fault) = Err fault
 -- the values so far after one more record
 abbrev pub taken : List ArrayDecl → ℕ → Record → Given → Result Given DataError
 taken arrays number row given =
-    option_map_or (λ a. placed given a (values_taken (wanted_count arrays a) number (is_some (slice_index_or given a None)) row))
+    option_map_or
+    (λ a. placed given a
+    (values_taken (wanted_count arrays a) number (is_some (slice_index_or given a None)) row))
     (array_named arrays (name_of row)) (Err (UnknownArray number))
 
 -- what a step answers and leaves is what the definition says, unless memory ran out
 abbrev pub Takes : Result Unit DataError → Given → Result Given DataError → Type 0
 Takes (Ok u) new wanted = wanted ≡ Ok new
-Takes (Err fault) new wanted = Gives (Err fault) wanted
+Takes (Err fault) new wanted = IsUnlessMemory Memory (Err fault) wanted
 
 -- the values of array a, which has none unless it is no input
 abbrev pub given_or_missing : ArrayDecl → ℕ → Option (List ℤ) → Result (List ℤ) DataError
@@ -63,7 +69,8 @@ given_or_missing array a None = if is_input array.kind then Err (Missing a) else
 abbrev pub collected : ℕ → List ArrayDecl → Given → Result (List (List ℤ)) DataError
 collected a [] given = Ok []
 collected a (array ∷ arrays) [] = Ok []
-collected a (array ∷ arrays) (values ∷ given) = before (given_or_missing array a values) (collected (a + 1) arrays given)
+collected a (array ∷ arrays) (values ∷ given) =
+    before (given_or_missing array a values) (collected (a + 1) arrays given)
 
 -- the array of this number is told to have no record; past 32 bits its number can't be told
 abbrev pub IsMissing : ℕ → DataError → Type 0
@@ -78,14 +85,18 @@ IsMissing a (NotANumber n f) = ⊥
 abbrev pub Fits : List ArrayDecl → Given → Type 0
 Fits [] given = Unit {0}
 Fits (array ∷ arrays) [] = ⊥
-Fits (array ∷ arrays) (Some values ∷ given) = (is_input array.kind ≡ true) × (length values ≡ cell_count array.extents) × Fits arrays given
+Fits (array ∷ arrays) (Some values ∷ given) =
+    (is_input array.kind ≡ true) × (length values ≡ cell_count array.extents) × Fits arrays given
 Fits (array ∷ arrays) (None ∷ given) = Fits arrays given
 
 -- the values of the record of each array that has one
 abbrev pub given_by : List ArrayDecl → List Record → Given
-given_by arrays rows = map (λ a. option_map values_in (record_of arrays rows a)) (range_with_len 0 (length arrays))
+given_by arrays rows =
+    map (λ a. option_map values_in (record_of arrays rows a)) (range_with_len 0 (length arrays))
 
 -- what the records give before it is known which arrays have none
 abbrev pub IsGivenBy : List ArrayDecl → List Record → Result Given DataError → Type 0
-IsGivenBy arrays rows (Ok given) = (first_fault arrays [] rows ≡ None) × (given ≡ given_by arrays rows) × Fits arrays given
-IsGivenBy arrays rows (Err fault) = Gives {A = Given} (Err fault) (unless (first_fault arrays [] rows) [])
+IsGivenBy arrays rows (Ok given) =
+    (first_fault arrays [] rows ≡ None) × (given ≡ given_by arrays rows) × Fits arrays given
+IsGivenBy arrays rows (Err fault) =
+    IsUnlessMemory {A = Given} Memory (Err fault) (unless (first_fault arrays [] rows) [])

@@ -3,7 +3,8 @@
 ghost use Rattle.std.specs.Prelude.{◌≡◌, None, IfOk, length, map, replicate};
 ghost use Rattle.sanlp.specs.Access.{HasInputLengths};
 ghost use Rattle.sanlp.specs.Cells.{input_count};
-ghost use Rattle.array_data.specs.Data.{Gives, inputs_of, lists_or_fault, records_of};
+ghost use Rattle.plain_data.specs.Answers.{IsUnlessMemory};
+ghost use Rattle.array_data.specs.Data.{inputs_of, lists_or_fault, records_of};
 ghost use Rattle.array_data.specs.Judging.{IsMissing, IsGivenBy, collected, given_or_missing};
 
 use crate::error::DataError;
@@ -65,7 +66,7 @@ fn values_or_missing(
     number: usize,
     given: Option<Items<i64>>,
 ) -> Result<Items<i64>, DataError>
-    ensures { Gives result (given_or_missing array.now number given) }
+    ensures { IsUnlessMemory DataError.Memory result (given_or_missing array.now number given) }
 {
     match given {
         Some(values) => Ok(values),
@@ -86,7 +87,7 @@ fn collect(
     given: Items<Option<Items<i64>>>,
 ) -> Result<Items<Items<i64>>, DataError>
     requires { length given ≡ length arrays.now }
-    ensures { Gives result (collected 0 arrays.now given) }
+    ensures { IsUnlessMemory DataError.Memory result (collected 0 arrays.now given) }
 {
     let mut lists = Items::new(alloc);
     for values in given.into_vec() {
@@ -102,7 +103,8 @@ pub(crate) fn read_arrays(
     arrays: &[ArrayDecl],
     bytes: &[u8],
 ) -> Result<Items<Items<i64>>, DataError>
-    ensures exact { Gives result (lists_or_fault arrays.now (records_of bytes.now)) }
+    ensures exact { IsUnlessMemory DataError.Memory result
+        (lists_or_fault arrays.now (records_of bytes.now)) }
     ensures lengths { IfOk result (λ lists. map length lists ≡ map input_count arrays.now) }
 {
     let given = read_records(alloc, arrays, bytes)?;
@@ -118,7 +120,8 @@ pub(crate) fn read_arrays(
 /// Records and fields are those of the crate `csv`: CR, LF and CR LF end a record, an empty line is none, a field that
 /// begins with a double quote is quoted, and a byte order mark before the first record is dropped.
 pub fn read_inputs(alloc: Global, nest: &Nest, bytes: &[u8]) -> Result<Inputs, DataError>
-    ensures exact { Gives result (inputs_of nest.now (records_of bytes.now)) }
+    ensures exact { IsUnlessMemory DataError.Memory result
+        (inputs_of nest.now (records_of bytes.now)) }
     ensures lengths { IfOk result (HasInputLengths nest.now) }
 {
     Ok(Inputs {

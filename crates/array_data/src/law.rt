@@ -6,5 +6,6 @@ ghost use Rattle.array_data.specs.Data.{records_of};
 
 /// The records of the data are read one after the other from its start to its end.
 pub fn records_reach_the_end(bytes: &[u8])
-    ensures { AreRecords default_config st.StartRecord (strip_bom bytes.now) (records_of bytes.now) }
+    ensures { AreRecords default_config st.StartRecord (strip_bom bytes.now)
+        (records_of bytes.now) }
 {}

@@ -3,7 +3,8 @@
 ghost use Rattle.std.specs.Prelude.{◌≡◌, ◌<◌, ◌&&◌, [], IfSome, bytes_eq, length, slice_index_or};
 ghost use Rattle.csv.specs.Records.{fields_of};
 ghost use Rattle.sanlp.specs.Cells.{cell_count, is_input};
-ghost use Rattle.array_data.specs.Data.{Gives, array_named as number_named, value_fields, without_blanks as trimmed};
+ghost use Rattle.plain_data.specs.Answers.{IsUnlessMemory};
+ghost use Rattle.array_data.specs.Data.{array_named as number_named, value_fields, without_blanks as trimmed};
 ghost use Rattle.array_data.specs.Judging.{IsCountFault, Takes, taken, values_from, values_taken};
 
 use crate::error::DataError;
@@ -44,7 +45,8 @@ fn field_at(row: &ByteRecord, at: usize) -> &[u8]
 
 // The values of the record of this number, or the first field that is none.
 fn read_values(alloc: Global, number: u64, row: &ByteRecord) -> Result<Items<i64>, DataError>
-    ensures { Gives result (values_from number 1 (value_fields (fields_of row.now))) }
+    ensures { IsUnlessMemory DataError.Memory result
+        (values_from number 1 (value_fields (fields_of row.now))) }
 {
     let mut values = Items::new(alloc);
     for at in 1..row.len() {
@@ -75,7 +77,8 @@ fn values_for(
     is_given: bool,
     row: &ByteRecord,
 ) -> Result<Items<i64>, DataError>
-    ensures { Gives result (values_taken (cell_count extents.now) number is_given (fields_of row.now)) }
+    ensures { IsUnlessMemory DataError.Memory result
+        (values_taken (cell_count extents.now) number is_given (fields_of row.now)) }
 {
     if is_given {
         return Err(DataError::Twice(number));

@@ -1,6 +1,6 @@
 -- Texts that are cut at a byte.
-use Rattle.std.proofs.Common.{◌≡◌, ◌⊎◌, inl, inr, ℕ, zero, suc, ◌+◌, ◌==◌, Bool, true, false, not, cond, Option, Some, None, option_map, List, [], ◌∷◌, ◌++◌, All, take, drop, length, refl, sym, ap, ◌∙◌, arith, ◌<◌, length-append}
-use Rattle.std.specs.List.{prefix_len, slice_split}
+use Rattle.std.proofs.Common.{◌≡◌, inl, inr, ℕ, ◌+◌, ◌==◌, false, not, cond, Option, Some, None, option_map, List, [], ◌∷◌, ◌++◌, All, take, drop, length, refl, sym, ap, ◌∙◌, arith, ◌<◌, length-append}
+use Rattle.std.specs.List.{prefix_len}
 use Rattle.std.proofs.Math.Numerals.{one-add}
 use Rattle.std.proofs.lemmas.Bool.{cases_Bool, eqb-true, eq-eqb}
 use Rattle.std.proofs.lemmas.List.Elements.{All-cons, All-head, All-tail}

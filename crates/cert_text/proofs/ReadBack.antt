@@ -1,8 +1,6 @@
 -- A text is read as the pair of which it is written, and as no other.
-use Rattle.std.proofs.Common.{◌≡◌, ℕ, zero, suc, ◌+◌, ◌<◌, ◌≤◌, List, [], ◌∷◌, ◌++◌, All, Result, Ok, Err, codes, length, append_assoc, append-nil, refl, sym, ap, subst, ◌∙◌, arith}
-use Rattle.std.specs.List.{flat_map, join_with_byte}
-use Rattle.net_core.specs.declared.network.Channel.{Channel}
-use Rattle.net_core.specs.declared.network.Event.{Event}
+use Rattle.std.proofs.Common.{◌≡◌, ℕ, List, [], ◌∷◌, ◌++◌, All, Result, Ok, Err, codes, length, append_assoc, append-nil, refl, sym, ap, subst, ◌∙◌, arith}
+use Rattle.std.specs.List.{flat_map}
 use Rattle.net_core.specs.declared.network.Network.{Network}
 use Rattle.net_core.specs.declared.network.Process.{Process}
 use Rattle.text_out.specs.Words.{line_text}
@@ -10,12 +8,11 @@ use Rattle.source_tree.specs.declared.cert.Cert.{Cert}
 use Rattle.source_tree.specs.declared.cert.Origin.{Origin}
 use Rattle.source_tree.specs.declared.cert.Origin.TheVariants.{Sweep}
 use Rattle.cert_text.specs.declared.error.CertError.{CertError}
-use Rattle.cert_text.specs.declared.places.ProcessHead.{ProcessHead}
 use Rattle.cert_text.specs.declared.places.Sizes.{Sizes}
 use Rattle.cert_text.specs.CertText.{AreInRange, ChannelIsInRange, EventIsInRange, IsInRange, ProcessIsInRange, cert_text, channel_text, end_text, entry_text, event_text, event_words, head_text, process_head, process_text, sizes_text, source_text}
 use Rattle.cert_text.specs.Places.{channel_line, entry_line, event_line, just, process_line, sizes_line, source_line}
 use Rattle.cert_text.specs.Reading.{Part, Place, certificate, followed_by, found, line, many, network, process, reading, text_end, whole_text}
-use Rattle.cert_text.proofs.Codecs.{Followed, IsCodec, ReadsTo, followed, line_codec, many_codec}
+use Rattle.cert_text.proofs.Codecs.{IsCodec, ReadsTo, followed, line_codec, many_codec}
 use Rattle.cert_text.proofs.Spellings.{HeadIsInRange, SizesAreInRange, channel_spelled, channel_words, entry_spelled, entry_words, event_spelled, head_spelled, head_words, just_spelled, sizes_spelled, sizes_words, source_spelled, source_words}
 
 -- The lines and lists

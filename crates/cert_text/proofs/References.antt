@@ -1,5 +1,5 @@
 -- The references of a fire, word by word.
-use Rattle.std.proofs.Common.{◌≡◌, ℕ, ◌+◌, ◌<◌, ◌≤◌, List, [], ◌∷◌, ◌++◌, Result, Ok, Err, append_assoc, append-nil, refl, sym, ap, ◌∙◌}
+use Rattle.std.proofs.Common.{◌≡◌, ℕ, List, [], ◌∷◌, ◌++◌, Result, Ok, Err, append_assoc, append-nil, refl, ap}
 use Rattle.net_core.specs.declared.refs.Ref.{Ref}
 use Rattle.cert_text.specs.declared.error.Fault.{Fault}
 use Rattle.cert_text.specs.declared.error.Fault.TheVariants.{Words, Range}

@@ -1,5 +1,5 @@
 -- The lines of each place are read as they are written.
-use Rattle.std.proofs.Common.{◌≡◌, ◌⊎◌, inl, inr, ℕ, ◌<◌, ◌≤◌, ◌==◌, Bool, true, false, nat_le, if◌then◌else◌, List, [], ◌∷◌, All, Result, Ok, Err, codes, decimal, map, length, refl, sym, ap, ◌∙◌, arith}
+use Rattle.std.proofs.Common.{◌≡◌, inl, inr, ℕ, ◌<◌, ◌≤◌, true, nat_le, if◌then◌else◌, List, [], ◌∷◌, Result, Ok, Err, codes, decimal, map, length, refl, ap, arith}
 use Rattle.std.specs.Prelude.{bytes_eq}
 use Rattle.std.specs.List.{join_with_byte, list_all}
 use Rattle.std.proofs.lemmas.Bool.{cases_Bool}
@@ -9,16 +9,15 @@ use Rattle.std.proofs.lemmas.Slice.Eq.{bytes_eq-Decides}
 use Rattle.net_core.specs.declared.network.Channel.{Channel}
 use Rattle.net_core.specs.declared.network.Event.{Event}
 use Rattle.net_core.specs.declared.network.Event.TheVariants.{Get, Fire, Put}
-use Rattle.net_core.specs.declared.refs.Ref.{Ref}
 use Rattle.net_text.specs.NetworkText.{class_word}
 use Rattle.source_tree.specs.declared.cert.Origin.{Origin}
 use Rattle.source_tree.specs.declared.cert.Origin.TheVariants.{Sweep}
 use Rattle.cert_text.specs.declared.error.Fault.{Fault}
-use Rattle.cert_text.specs.declared.error.Fault.TheVariants.{Words, Range}
+use Rattle.cert_text.specs.declared.error.Fault.TheVariants.{Words}
 use Rattle.cert_text.specs.declared.places.ProcessHead.{ProcessHead}
 use Rattle.cert_text.specs.declared.places.Sizes.{Sizes}
 use Rattle.cert_text.specs.CertText.{ChannelIsInRange, EventIsInRange, IsInRange, event_words, ref_word}
-use Rattle.cert_text.specs.Words.{both, class, made, number, references}
+use Rattle.cert_text.specs.Words.{both, class, number, references}
 use Rattle.cert_text.specs.Places.{channel_line, entry_line, event_line, fire_words, get_words, just, process_line, put_words, sizes_line, source_line}
 use Rattle.cert_text.proofs.Codecs.{IsSpelled, by_words}
 use Rattle.cert_text.proofs.Judged.{behind_keyword, both_ok, class_of_word, class_word_is_word, made_ok, references_of_words, ref_words_are_words, word_of_class, word_of_number, words_of_references}

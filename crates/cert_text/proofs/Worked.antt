@@ -1,18 +1,16 @@
 -- Worked texts, computed from the definitions.
-use Rattle.std.proofs.Common.{◌≡◌, Some, ℕ, List, [], ◌∷◌, ◌++◌, Bool, true, false, Result, Ok, Err, codes, refl}
+use Rattle.std.proofs.Common.{◌≡◌, Some, ℕ, List, [], ◌∷◌, ◌++◌, true, false, Ok, Err, codes, refl}
 use Rattle.std.specs.Fmt.{digits}
 use Rattle.channel_class.specs.declared.UseOrder.TheVariants.{InOrder, Reorder}
-use Rattle.net_core.specs.declared.refs.Ref.{Ref}
 use Rattle.net_core.specs.declared.refs.Ref.TheVariants.{Zero, Slot}
 use Rattle.net_core.specs.declared.network.Event.TheVariants.{Get, Fire, Put}
 use Rattle.net_core.specs.declared.network.Network.{Network}
 use Rattle.source_tree.specs.declared.cert.Cert.{Cert}
 use Rattle.source_tree.specs.declared.cert.Origin.TheVariants.{Sweep}
-use Rattle.cert_text.specs.declared.error.CertError.{CertError}
-use Rattle.cert_text.specs.declared.error.CertError.TheVariants.{Line, Number, Truncated, Memory}
+use Rattle.cert_text.specs.declared.error.CertError.TheVariants.{Line, Number, Truncated}
 use Rattle.cert_text.specs.declared.error.Fault.TheVariants.{Words, Range}
 use Rattle.cert_text.specs.CertText.{cert_text}
-use Rattle.cert_text.specs.Words.{class, number, reference, references, words_of}
+use Rattle.cert_text.specs.Words.{class, number, references, words_of}
 use Rattle.cert_text.specs.Places.{event_line}
 use Rattle.cert_text.specs.Reading.{first_line, many, reading}
 

@@ -31,7 +31,8 @@ event_text event = line_text (event_words event)
 
 -- a process with its numbers of slots and of events
 abbrev pub process_head : Process → List ℕ
-process_head process = line_text (codes "process" ∷ decimal process.slots ∷ decimal (length process.script) ∷ [])
+process_head process =
+    line_text (codes "process" ∷ decimal process.slots ∷ decimal (length process.script) ∷ [])
 
 -- the same, and then its events
 abbrev pub process_text : Process → List ℕ
@@ -42,7 +43,8 @@ process_text process = process_head process ++ flat_map event_text process.scrip
 -- a channel with its ends, the read that it serves, its capacity and its class
 abbrev pub channel_text : Channel → List ℕ
 channel_text channel = line_text (
-    codes "channel" ∷ decimal channel.writer ∷ decimal channel.reader ∷ decimal channel.read ∷ decimal channel.capacity
+    codes "channel" ∷ decimal channel.writer ∷ decimal channel.reader ∷ decimal channel.read
+    ∷ decimal channel.capacity
     ∷ class_word channel.class ∷ [])
 
 -- The certificate
@@ -63,7 +65,8 @@ head_text = line_text (codes "cert" ∷ codes "1" ∷ [])
 -- how many processes, channels, sources and entries follow
 abbrev pub sizes_text : Network → Cert → List ℕ
 sizes_text network cert = line_text (
-    codes "sizes" ∷ decimal (length network.processes) ∷ decimal (length network.channels) ∷ decimal (length cert.sources)
+    codes "sizes" ∷ decimal (length network.processes) ∷ decimal (length network.channels)
+    ∷ decimal (length cert.sources)
     ∷ decimal (length cert.schedule) ∷ [])
 
 abbrev pub end_text : List ℕ

@@ -20,7 +20,8 @@ just text words = if bytes_eq (join_with_byte 32 words) text then Ok tt else Err
 abbrev pub sizes_line : List (List ℕ) → Result Sizes Fault
 sizes_line (word ∷ processes ∷ channels ∷ sources ∷ entries ∷ []) =
     if bytes_eq word (codes "sizes")
-    then made (λ n. record { processes = n.0.0; channels = n.0.1; sources = n.1.0; entries = n.1.1 })
+    then made
+    (λ n. record { processes = n.0.0; channels = n.0.1; sources = n.1.0; entries = n.1.1 })
     (both (both (number processes) (number channels)) (both (number sources) (number entries)))
     else Err Words
 sizes_line words = Err Words
@@ -59,8 +60,10 @@ event_line (word ∷ words) =
 abbrev pub channel_line : List (List ℕ) → Result Channel Fault
 channel_line (word ∷ writer ∷ reader ∷ read ∷ capacity ∷ order ∷ []) =
     if bytes_eq word (codes "channel")
-    then made (λ n. record { writer = n.0.0.0; reader = n.0.0.1; read = n.0.1.0; capacity = n.0.1.1; class = n.1 })
-    (both (both (both (number writer) (number reader)) (both (number read) (number capacity))) (class order))
+    then made
+    (λ n. record { writer = n.0.0.0; reader = n.0.0.1; read = n.0.1.0; capacity = n.0.1.1; class = n.1 })
+    (both (both (both (number writer) (number reader)) (both (number read) (number capacity)))
+    (class order))
     else Err Words
 channel_line words = Err Words
 

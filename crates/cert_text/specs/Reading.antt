@@ -34,7 +34,8 @@ line_read n text (Err Words) = Err (Line n)
 line_read n text (Err Range) = Err (Number n)
 
 -- one line, whose words are judged; a text without a line feed ends before it
-abbrev pub cut_read : {A : Type 0} → (List (List ℕ) → Result A Fault) → ℕ → Option (List ℕ × List ℕ) → Result (A × Place) CertError
+abbrev pub cut_read : {A : Type 0} → (List (List ℕ) → Result A Fault) → ℕ → Option (List ℕ × List ℕ)
+    → Result (A × Place) CertError
 cut_read judge n None = Err Truncated
 cut_read judge n (Some cut) = line_read n cut.1 (judge (words_of cut.0))
 
@@ -42,14 +43,17 @@ abbrev pub line : {A : Type 0} → (List (List ℕ) → Result A Fault) → Part
 line judge at = cut_read judge at.line (first_line at.text)
 
 -- a part, and then one that goes by what it said
-abbrev pub followed_by : {A B : Type 0} → Result (A × Place) CertError → (A → Part B) → Result (B × Place) CertError
+abbrev pub followed_by : {A B : Type 0} → Result (A × Place) CertError → (A → Part B)
+    → Result (B × Place) CertError
 followed_by (Ok found) next = next found.0 found.1
 followed_by (Err refusal) next = Err refusal
 
 -- so many parts of one kind
 unfoldable pub many : {A : Type 0} → Part A → ℕ → Part (List A)
 many part zero at = Ok ([], at)
-many part (suc count) at = followed_by (part at) (λ value at. followed_by (many part count at) (λ values at. Ok (value ∷ values, at)))
+many part (suc count) at =
+    followed_by (part at)
+    (λ value at. followed_by (many part count at) (λ values at. Ok (value ∷ values, at)))
 
 -- a line of a process, and its events
 abbrev pub process : Part Process
@@ -107,14 +111,11 @@ reading text = found (whole_text (record { line = 1; text = text }))
 
 -- a place is stored as its line and its text
 abbrev pub place_code : Coded Place
-place_code = code_by (ℕ × List ℕ) (coded× coded_ℕ (coded_list coded_ℕ)) (λ at. (at.line, at.text)) (λ pair. record { line = pair.0; text = pair.1 }) (λ _. refl)
+place_code =
+    code_by (ℕ × List ℕ) (coded× coded_ℕ (coded_list coded_ℕ)) (λ at. (at.line, at.text))
+    (λ pair. record { line = pair.0; text = pair.1 }) (λ _. refl)
 
 -- what a part answers and the place that it leaves are what the definition says, unless memory ran out
 abbrev pub Reads : {A : Type 0} → Result A CertError → Place → Result (A × Place) CertError → Type 0
 Reads (Ok value) at wanted = wanted ≡ Ok (value, at)
 Reads (Err refusal) at wanted = refusal ≢ Memory → wanted ≡ Err refusal
-
--- an answer is what the definition says, unless memory ran out
-abbrev pub Gives : {A : Type 0} → Result A CertError → Result A CertError → Type 0
-Gives (Ok value) wanted = wanted ≡ Ok value
-Gives (Err refusal) wanted = refusal ≢ Memory → wanted ≡ Err refusal

@@ -15,7 +15,8 @@ use Rattle.cert_text.specs.declared.error.Fault.TheVariants.{Words, Range}
 abbrev pub cut_at : ℕ → List ℕ → Option (List ℕ × List ℕ)
 cut_at wanted [] = None
 cut_at wanted (byte ∷ bytes) =
-    if byte == wanted then Some ([], bytes) else option_map (λ cut. (byte ∷ cut.0, cut.1)) (cut_at wanted bytes)
+    if byte == wanted then Some ([], bytes)
+    else option_map (λ cut. (byte ∷ cut.0, cut.1)) (cut_at wanted bytes)
 
 -- the words of a line: what stands between its spaces
 abbrev pub words_of : List ℕ → List (List ℕ)
@@ -39,7 +40,9 @@ made f (Err fault) = Err fault
 
 -- decimal digits, at least one, and no zero before another
 abbrev pub is_numeral : List ℕ → Bool
-is_numeral word = not (length word == 0) && list_all is_ascii_digit word && (not (slice_index word 0 == 48) || (length word == 1))
+is_numeral word =
+    not (length word == 0) && list_all is_ascii_digit word
+    && (not (slice_index word 0 == 48) || (length word == 1))
 
 abbrev pub numeral_value : List ℕ → ℕ
 numeral_value digits = fold (λ value digit. value * 10 + (digit - 48)) 0 digits
@@ -52,7 +55,8 @@ is_negative (byte ∷ word) = (byte == 45) && is_numeral word && not (bytes_eq w
 -- a number within 0 to 4,294,967,295
 abbrev pub number : List ℕ → Result ℕ Fault
 number word =
-    if is_numeral word then (if nat_le (numeral_value word) 4294967295 then Ok (numeral_value word) else Err Range)
+    if is_numeral word
+    then (if nat_le (numeral_value word) 4294967295 then Ok (numeral_value word) else Err Range)
     else if is_negative word then Err Range
     else Err Words
 
@@ -65,12 +69,15 @@ reference word = if bytes_eq word (codes "z") then Ok Zero else made Slot (numbe
 -- each of these words
 abbrev pub references : List (List ℕ) → Result (List Ref) Fault
 references [] = Ok []
-references (word ∷ words) = made (λ refs. refs.0 ∷ refs.1) (both (reference word) (references words))
+references (word ∷ words) =
+    made (λ refs. refs.0 ∷ refs.1) (both (reference word) (references words))
 
 abbrev pub classes : List ChannelClass
 classes =
-    record { order = InOrder; multiplicity = false } ∷ record { order = InOrder; multiplicity = true }
-    ∷ record { order = Reorder; multiplicity = false } ∷ record { order = Reorder; multiplicity = true } ∷ []
+    record { order = InOrder; multiplicity = false }
+    ∷ record { order = InOrder; multiplicity = true }
+    ∷ record { order = Reorder; multiplicity = false }
+    ∷ record { order = Reorder; multiplicity = true } ∷ []
 
 -- the class that has this word
 abbrev pub class : List ℕ → Result ChannelClass Fault

@@ -44,8 +44,10 @@ impl<'a> Lines<'a> {
 
     /// Takes the next line, if it has a line feed.
     fn next(&mut self) -> Option<&'a [u8]>
-        ensures none { MatchOption result (first_line self.old.text ≡ None) (λ line. first_line self.old.text ≡ Some (line.now, self.new.text)) }
-        ensures number { MatchOption result (self.new ≡ self.old) (λ _. self.new.line ≡ self.old.line + 1) }
+        ensures none { MatchOption result (first_line self.old.text ≡ None)
+            (λ line. first_line self.old.text ≡ Some (line.now, self.new.text)) }
+        ensures number { MatchOption result (self.new ≡ self.old)
+            (λ _. self.new.line ≡ self.old.line + 1) }
     {
         match cut(self.rest, b'\n') {
             Some((line, rest)) => {

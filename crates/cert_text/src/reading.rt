@@ -4,7 +4,8 @@ ghost use Rattle.net_core.specs.Machine.{net_of};
 ghost use Rattle.net_core.specs.Shape.{FitsNumbers};
 ghost use Rattle.source_tree.specs.declared.cert.Cert.{Cert as AnyCert};
 ghost use Rattle.cert_text.specs.CertText.{AreInRange, cert_text};
-ghost use Rattle.cert_text.specs.Reading.{Gives, Reads, certificate as certificate_part, many, network as network_part, process as process_part, reading, whole_text};
+ghost use Rattle.plain_data.specs.Answers.{IsUnlessMemory};
+ghost use Rattle.cert_text.specs.Reading.{Reads, certificate as certificate_part, many, network as network_part, process as process_part, reading, whole_text};
 
 use crate::error::CertError;
 use crate::lines::Lines;
@@ -70,10 +71,11 @@ fn read_whole(alloc: Global, lines: &mut Lines) -> Result<(Network, Cert), CertE
 ///
 /// The lists grow with the lines that come, so a count that a text announces takes no memory by itself.
 pub fn read_cert(alloc: Global, bytes: &[u8]) -> Result<(Network, Cert), CertError>
-    ensures exact { Gives result (reading bytes.now) }
+    ensures exact { IsUnlessMemory CertError.Memory result (reading bytes.now) }
 
     // It answers a pair just where these bytes are its text.
-    ensures is_text { IfOk result (λ pair. (bytes.now ≡ cert_text pair.0 pair.1) × AreInRange pair.0 pair.1) }
+    ensures is_text { IfOk result
+        (λ pair. (bytes.now ≡ cert_text pair.0 pair.1) × AreInRange pair.0 pair.1) }
     ensures reads_text { (network : AnyNetwork) (cert : AnyCert) →
         AreInRange network cert → bytes.now ≡ cert_text network cert →
         MatchResult result (λ pair. pair ≡ (network, cert)) (λ error. error ≡ CertError.Memory) }

@@ -20,7 +20,8 @@ fn count_before(text: &[u8], wanted: u8) -> usize
 
 /// What stands before the first such byte, and what stands behind it.
 pub(crate) fn cut(text: &[u8], wanted: u8) -> Option<(&[u8], &[u8])>
-    ensures { MatchOption result (cut_at wanted text.now ≡ None) (λ parts. cut_at wanted text.now ≡ Some (parts.0.now, parts.1.now)) }
+    ensures { MatchOption result (cut_at wanted text.now ≡ None)
+        (λ parts. cut_at wanted text.now ≡ Some (parts.0.now, parts.1.now)) }
 {
     let (before, rest) = text.split_at(count_before(text, wanted));
     match rest.split_first() {
@@ -55,7 +56,8 @@ impl<'a> Words<'a> {
 
     /// Takes the next word.
     pub(crate) fn next(&mut self) -> Option<&'a [u8]>
-        ensures { MatchOption result ((self.old ≡ []) × (self.new ≡ [])) (λ word. self.old ≡ word.now ∷ self.new) }
+        ensures { MatchOption result ((self.old ≡ []) × (self.new ≡ []))
+            (λ word. self.old ≡ word.now ∷ self.new) }
     {
         let rest = self.rest?;
         match cut(rest, b' ') {

@@ -53,7 +53,8 @@ fn reference(reference: Ref) -> Word<'static>
 
 /// Writes references with a space before each.
 fn write_references<W: TextWriter>(refs: &[Ref], out: &mut W)
-    ensures { Wrote W.given out.old out.new (flat_map (λ reference. codes " " ++ ref_word reference) refs.now) }
+    ensures { Wrote W.given out.old out.new
+        (flat_map (λ reference. codes " " ++ ref_word reference) refs.now) }
 {
     for slot in refs {
         write_spaced(reference(*slot), out);
@@ -169,9 +170,11 @@ fn write_text<W: TextWriter>(network: &Network, cert: &Cert, out: &mut W)
 ///
 /// At `WriteFault` the sink holds what it held and a front of the text, and its count rose in this call.
 pub fn write_cert<K: Sink>(network: &Network, cert: &Cert, sink: &mut K) -> Result<(), WriteFault>
-    ensures ok { OnOk result (Appends (K.held sink.old) (K.held sink.new) (cert_text network.now cert.now)) }
+    ensures ok { OnOk result
+        (Appends (K.held sink.old) (K.held sink.new) (cert_text network.now cert.now)) }
     ensures quiet { OnOk result (K.faults sink.new ≡ K.faults sink.old) }
-    ensures front { OnErr result (AppendsFront (K.held sink.old) (K.held sink.new) (cert_text network.now cert.now)) }
+    ensures front { OnErr result
+        (AppendsFront (K.held sink.old) (K.held sink.new) (cert_text network.now cert.now)) }
     ensures cause { OnErr result (Rose (K.faults sink.old) (K.faults sink.new)) }
 {
     let mut out = Writer::new(sink);

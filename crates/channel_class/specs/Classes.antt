@@ -17,4 +17,5 @@ has_repeat (m ∷ uses) = list_any (λ n. m == n) uses || has_repeat uses
 
 -- in order exactly where the uses never fall, with multiplicity exactly where an index is repeated
 abbrev pub class_of : List ℕ → ChannelClass
-class_of uses = record { order = if never_falls uses then InOrder else Reorder; multiplicity = has_repeat uses }
+class_of uses =
+    record { order = if never_falls uses then InOrder else Reorder; multiplicity = has_repeat uses }

@@ -14,9 +14,11 @@ Refusal = List Form → Option Reason
 
 abbrev pub refusal_step : ℕ → Proof-F Refusal → Refusal
 refusal_step vars (Sum terms) rows = refusal_or sum_refusal (sum_of vars rows None terms)
-refusal_step vars (Cut d terms rest) rows = refusal_or (λ row. rest (rows ++ row ∷ [])) (cut_row vars rows d terms)
+refusal_step vars (Cut d terms rest) rows =
+    refusal_or (λ row. rest (rows ++ row ∷ [])) (cut_row vars rows d terms)
 refusal_step vars (Split form above below) rows =
-    refusal_or (λ other. option_or (above (rows ++ form ∷ [])) (below (rows ++ other ∷ []))) (split_row vars form)
+    refusal_or (λ other. option_or (above (rows ++ form ∷ [])) (below (rows ++ other ∷ [])))
+    (split_row vars form)
 
 -- what refuses the proof, for rows over this many variables
 unfoldable pub refusal : ℕ → Proof → Refusal
@@ -24,4 +26,5 @@ refusal vars = fold-Proof Refusal (refusal_step vars)
 
 -- what refuses a proof that the rows entail one more: that of the rows and its negation, added last
 abbrev pub entailment_refusal : ℕ → List Form → Form → Proof → Option Reason
-entailment_refusal vars rows row proof = refusal_or (λ other. refusal vars proof (rows ++ other ∷ [])) (split_row vars row)
+entailment_refusal vars rows row proof =
+    refusal_or (λ other. refusal vars proof (rows ++ other ∷ [])) (split_row vars row)

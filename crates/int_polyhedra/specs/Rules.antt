@@ -24,11 +24,14 @@ pub data Refutes (vars : ℕ) : List Form → Proof → Type 0 where
   by_sum : (rows : List Form) (proof : Proof) (terms : List Term) (sum : Form) → proof ≡ Sum terms
       → IsSumOf vars rows terms sum → IsContradictory sum
       → Refutes vars rows proof
-  by_cut : (rows : List Form) (proof : Proof) (divisor : ℤ) (terms : List Term) (rest : Proof) (sum : Form) → proof ≡ Cut divisor terms rest
-      → pos 1 ≤ℤ divisor → IsSumOf vars rows terms sum → All (λ c. unsigned_abs c % unsigned_abs divisor ≡ 0) sum.coefs
+  by_cut : (rows : List Form) (proof : Proof) (divisor : ℤ) (terms : List Term) (rest : Proof)
+      (sum : Form) → proof ≡ Cut divisor terms rest
+      → pos 1 ≤ℤ divisor → IsSumOf vars rows terms sum
+      → All (λ c. unsigned_abs c % unsigned_abs divisor ≡ 0) sum.coefs
       → Refutes vars (rows ++ quotient_row (unsigned_abs divisor) sum ∷ []) rest
       → Refutes vars rows proof
-  by_split : (rows : List Form) (proof : Proof) (form other : Form) (above below : Proof) → proof ≡ Split form above below
+  by_split : (rows : List Form) (proof : Proof) (form other : Form) (above below : Proof)
+      → proof ≡ Split form above below
       → length form.coefs ≡ vars → negation_of form ≡ Some other
       → Refutes vars (rows ++ form ∷ []) above → Refutes vars (rows ++ other ∷ []) below
       → Refutes vars rows proof

@@ -63,7 +63,8 @@ fn refute(proof: &Proof, alloc: Global, vars: usize, rows: &Rows) -> Result<(), 
 fn conclude(alloc: Global, vars: usize, rows: &Rows, terms: &[Term]) -> Result<(), Reason>
     requires short { vars ≤ 18 }
     requires over { AreOver vars (rows_of rows.now) }
-    ensures { result_err result ≡ refusal_or sum_refusal (sum_of vars (rows_of rows.now) None terms.now) }
+    ensures { result_err result
+        ≡ refusal_or sum_refusal (sum_of vars (rows_of rows.now) None terms.now) }
 {
     match sum_rows(alloc, vars, rows, None, terms) {
         Ok(row) => {
@@ -84,8 +85,10 @@ pub fn entails(system: &System, row: &Row, proof: &Proof) -> Result<(), Reason>
     requires short { system.now.vars ≤ 18 }
     requires over { AreOver system.now.vars system.now.rows }
     requires row_over { length row.now.coefs ≡ system.now.vars }
-    ensures exact { result_err result ≡ entailment_refusal system.now.vars system.now.rows row.now proof.now }
-    ensures follows { IsOk result ↔ ProvesEntailment system.now.vars system.now.rows row.now proof.now }
+    ensures exact { result_err result
+        ≡ entailment_refusal system.now.vars system.now.rows row.now proof.now }
+    ensures follows { IsOk result
+        ↔ ProvesEntailment system.now.vars system.now.rows row.now proof.now }
     ensures sound { OnOk result (Entails system.now.vars system.now.rows row.now) }
 {
     let vars = system.vars as usize;

@@ -13,7 +13,8 @@ pub enum Rows<'a> {
 
 /// The row of this number, or how far the number is past the last row.
 pub fn find<'a>(rows: &'a Rows<'a>, number: usize) -> Result<&'a Row, usize>
-    ensures { MatchResult result (λ row. slice_get (rows_of rows.now) number ≡ Some row.now) (λ past. number ≡ length (rows_of rows.now) + past) }
+    ensures { MatchResult result (λ row. slice_get (rows_of rows.now) number ≡ Some row.now)
+        (λ past. number ≡ length (rows_of rows.now) + past) }
 {
     match rows {
         Rows::Given(given) => {

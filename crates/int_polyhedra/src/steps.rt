@@ -178,7 +178,8 @@ pub fn cut(
 #[tactic(auto, using(crate::proofs::Variables::product_over, crate::proofs::Variables::length_zeros))]
 pub fn negation(row: &Row) -> Result<Row, Overflow>
     ensures exact { result_ok result ≡ negation_of row.now }
-    ensures opposite { IfOk result (λ other. (at : List ℤ) → (pos 0 ≤ℤ form_at other at) ↔ (form_at row.now at <ℤ pos 0)) }
+    ensures opposite { IfOk result
+        (λ other. (at : List ℤ) → (pos 0 ≤ℤ form_at other at) ↔ (form_at row.now at <ℤ pos 0)) }
 {
     let minus = row.scale(-1)?;
     let count = row.coefs.len();

@@ -18,7 +18,8 @@ pub record ReadCause {E : Type 0} (before now : ℕ) (result : Result ℕ E) : T
 
 -- the count of a sink round a write: it never falls, rises where the write failed or took nothing of a non-empty piece,
 -- and stays at every other write
-pub record WriteCause {E : Type 0} (before now : ℕ) (piece : List ℕ) (result : Result ℕ E) : Type 0 where
+pub record WriteCause {E : Type 0} (before now : ℕ) (piece : List ℕ)
+    (result : Result ℕ E) : Type 0 where
   pub later : before ≤ now
   pub failed : OnErr result (Rose before now)
   pub none : IfOk result (λ count. count ≡ 0 → 0 < length piece → Rose before now)
@@ -27,7 +28,8 @@ pub record WriteCause {E : Type 0} (before now : ℕ) (piece : List ℕ) (result
 
 -- the sink gained a front of these bytes
 abbrev pub AppendsFront : Option (List ℕ) → Option (List ℕ) → List ℕ → Type 0
-AppendsFront old new bytes = (count : ℕ) × (count ≤ length bytes) × Appends old new (take count bytes)
+AppendsFront old new bytes =
+    (count : ℕ) × (count ≤ length bytes) × Appends old new (take count bytes)
 
 -- the source lost so many bytes
 abbrev pub ConsumesLength : Option (List ℕ) → Option (List ℕ) → ℕ → Type 0
@@ -39,4 +41,5 @@ ConsumesAtMost old new most = (bytes : List ℕ) × (length bytes ≤ most) × C
 
 -- besides at most one read, each took at least one of the bytes that the source lost
 abbrev pub ReadsWithin : Option (List ℕ) → Option (List ℕ) → ℕ → ℕ → Type 0
-ReadsWithin old new before now = (bytes : List ℕ) × Consumes old new bytes × (now ≤ before + length bytes + 1)
+ReadsWithin old new before now =
+    (bytes : List ℕ) × Consumes old new bytes × (now ≤ before + length bytes + 1)

@@ -56,7 +56,8 @@ after_failed_write s = record s { calls = one_more s.calls; faults = one_more s.
 abbrev pub source_code : Coded SourceState
 source_code =
     code_by (List ℕ × (ℕ × (List ℕ × (ℕ × ℕ))))
-    (coded× (coded_list coded_ℕ) (coded× coded_ℕ (coded× (coded_list coded_ℕ) (coded× coded_ℕ coded_ℕ))))
+    (coded× (coded_list coded_ℕ)
+    (coded× coded_ℕ (coded× (coded_list coded_ℕ) (coded× coded_ℕ coded_ℕ))))
     (λ s. (s.left, (s.piece, (s.failing, (s.calls, s.faults)))))
     (λ p. record { left = p.0; piece = p.1.0; failing = p.1.1.0; calls = p.1.1.1.0; faults = p.1.1.1.1 })
     (λ _. refl)
@@ -64,7 +65,8 @@ source_code =
 abbrev pub sink_code : Coded SinkState
 sink_code =
     code_by (List ℕ × (ℕ × (ℕ × (List ℕ × (ℕ × ℕ)))))
-    (coded× (coded_list coded_ℕ) (coded× coded_ℕ (coded× coded_ℕ (coded× (coded_list coded_ℕ) (coded× coded_ℕ coded_ℕ)))))
+    (coded× (coded_list coded_ℕ)
+    (coded× coded_ℕ (coded× coded_ℕ (coded× (coded_list coded_ℕ) (coded× coded_ℕ coded_ℕ)))))
     (λ s. (s.held, (s.room, (s.piece, (s.failing, (s.calls, s.faults))))))
     (λ p. record {
       held = p.0;

@@ -29,7 +29,8 @@ pub fn read_all<S: Source>(
     source: &mut S,
     limit: usize,
 ) -> Result<Vec<u8>, ReadError>
-    ensures whole { IfOk result (λ bytes. Consumes (S.left source.old) (S.left source.new) bytes.items) }
+    ensures whole { IfOk result
+        (λ bytes. Consumes (S.left source.old) (S.left source.new) bytes.items) }
     ensures end { OnOk result (IsAtEnd (S.left source.new)) }
     ensures within { IfOk result (λ bytes. length bytes.items ≤ limit) }
 
@@ -42,9 +43,11 @@ pub fn read_all<S: Source>(
         ConsumesAtMost (S.left source.old) (S.left source.new) (limit + 1) }
 
     // Every read but the last took at least one byte.
-    ensures reads { ReadsWithin (S.left source.old) (S.left source.new) (S.reads source.old) (S.reads source.new) }
+    ensures reads { ReadsWithin (S.left source.old) (S.left source.new) (S.reads source.old)
+        (S.reads source.new) }
 
-    ensures cause { result ≡ Err ReadError.ReadFault → Rose (S.faults source.old) (S.faults source.new) }
+    ensures cause { result ≡ Err ReadError.ReadFault
+        → Rose (S.faults source.old) (S.faults source.new) }
     ensures quiet { result ≢ Err ReadError.ReadFault → S.faults source.new ≡ S.faults source.old }
 {
     let mut bytes = Vec::new(alloc);

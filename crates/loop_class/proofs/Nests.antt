@@ -1,16 +1,17 @@
 -- Where no reason stands in a tree, what is built of it is well formed.
 use Rattle.std.proofs.Common.{◌≡◌, ◌≤◌, ℕ, ◌+◌, ◌-◌, ℤ, List, [], ◌∷◌, ◌++◌, map, length, take, drop, replicate, refl, sym, ap, ◌∙◌, arith, subst}
 use Rattle.std.specs.Prelude.{IsTrue, nat_le}
-use Rattle.std.specs.List.{list_all, sum_by}
+use Rattle.std.specs.List.{list_all, range_with_len, sum_by}
 use Rattle.std.specs.Cmp.Derive.{both_true}
 use Rattle.std.proofs.lemmas.Bool.{le-leb}
 use Rattle.std.proofs.lemmas.List.{length-append, map-append}
+use Rattle.std.proofs.lemmas.List.FromFn.{length-range_with_len}
 use Rattle.std.proofs.Math.Seq.{take-append_seam, drop-append_seam}
 use Rattle.sanlp.specs.declared.nest.ArrayDecl.{ArrayDecl}
 use Rattle.sanlp.specs.declared.nest.Node.{Node}
 use Rattle.sanlp.specs.declared.nest.Role.TheVariants as role
 use Rattle.sanlp.specs.declared.nest.Statement.{Statement}
-use Rattle.sanlp.specs.Cells.{count_up, is_input, is_output}
+use Rattle.sanlp.specs.Cells.{is_input, is_output}
 use Rattle.sanlp.specs.WellFormed.{IsWellFormed, input_numbers, output_numbers, input_extents, output_extents, statement_fits, in_role, roles_of, all_forms_fit, all_loops, all_places, said_from, array_loops, between, framed}
 use Rattle.sanlp.proofs.Each.{Each, each_append, each_then}
 use Rattle.sanlp.proofs.Roles.{length_numbers}
@@ -20,7 +21,7 @@ use Rattle.loop_class.specs.Declarations.{Values, Declared, declared}
 use Rattle.loop_class.specs.Parts.{Made}
 use Rattle.loop_class.specs.Terminals.{sources_from, sinks_from, loop_count}
 use Rattle.loop_class.proofs.NestsArrays.{GivesArrays, FewExtents, declarations_sound}
-use Rattle.loop_class.proofs.NestsBody.{Numbered, numbered_append, length-count_up, placed_append, fit_append}
+use Rattle.loop_class.proofs.NestsBody.{Numbered, numbered_append, placed_append, fit_append}
 use Rattle.loop_class.proofs.NestsParts.{IsAssignment, GivesParts, all_well}
 use Rattle.loop_class.proofs.NestsTerminals.{InRole, few_where, length_loops, loops_numbered, loops_fit, sources_length, sinks_length, sources_roles, sinks_roles, sources_in_role, sinks_in_role, sources_placed, sinks_placed, sources_fit, sinks_fit, from_start}
 use Rattle.loop_class.proofs.NestsValues.{none_left, none_right, all_append}
@@ -132,10 +133,10 @@ module _ (d : Declared) (h : GivesArrays d) (made : Made)
       (loops_numbered made.next_loop (length inputs + length made.statements) outputs)))
 
   loop_total : length (all_loops body) ≡ numbered.count
-  loop_total = ap length numbered.loops ∙ length-count_up 0 numbered.count
+  loop_total = ap length numbered.loops ∙ length-range_with_len 0 numbered.count
 
-  in_order : all_loops body ≡ count_up 0 (length (all_loops body))
-  in_order = numbered.loops ∙ ap (count_up 0) (sym loop_total)
+  in_order : all_loops body ≡ range_with_len 0 (length (all_loops body))
+  in_order = numbered.loops ∙ ap (range_with_len 0) (sym loop_total)
 
   all_forms : IsTrue (all_forms_fit body 0)
   all_forms =

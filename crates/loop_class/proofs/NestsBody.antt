@@ -1,36 +1,33 @@
 -- The loops, the places of statements and the forms of parts of a body.
-use Rattle.std.proofs.Common.{◌≡◌, ◌<◌, ℕ, zero, suc, ◌+◌, ℤ, List, [], ◌∷◌, ◌++◌, map, length, Bool, refl, sym, ap, ◌∙◌, arith}
+use Rattle.std.proofs.Common.{◌≡◌, ◌<◌, ℕ, suc, ◌+◌, ℤ, List, [], ◌∷◌, ◌++◌, map, length, Bool, refl, sym, ap, ◌∙◌, arith}
 use Rattle.std.specs.Prelude.{IsTrue}
-use Rattle.std.specs.List.{list_all, flat_map}
+use Rattle.std.specs.List.{list_all, flat_map, range_with_len}
 use Rattle.std.specs.Cmp.Derive.{both_true}
 use Rattle.std.proofs.lemmas.Bool.{lt-ltb, and_parts}
 use Rattle.std.proofs.lemmas.List.{append-nil, map-append}
 use Rattle.std.proofs.lemmas.List.Concat.{flat_map-append}
+use Rattle.std.proofs.lemmas.List.FromFn.{length-range_with_len}
 use Rattle.affine_core.specs.declared.form.Form.{Form}
 use Rattle.affine_core.specs.Affine.{widened_form}
 use Rattle.sanlp.specs.declared.nest.Node.{Node}
 use Rattle.sanlp.specs.declared.nest.Node as node
 use Rattle.sanlp.specs.declared.nest.Statement.{Statement}
-use Rattle.sanlp.specs.Cells.{count_up}
-use Rattle.sanlp.specs.WellFormed.{Place, form_fits, forms_fit_step, forms_fit, all_forms_fit, loops_step, loops_of, all_loops, step_fits, bound_rows, places_step, places_of, all_places, said_from}
-use Rattle.sanlp.proofs.Folds.{fold_loop, fold_guard, fold_assign, fold_loop_at, fold_guard_at, fold_assign_at, fold_loop_at_both, fold_guard_at_both, fold_assign_at_both}
-use Rattle.sanlp.proofs.Lists.{count_up-append}
+use Rattle.sanlp.specs.WellFormed.{form_fits, forms_fit_step, forms_fit, all_forms_fit, loops_step, loops_of, all_loops, step_fits, bound_rows, places_of, all_places, said_from}
+use Rattle.sanlp.proofs.Domains.{places_loop, places_guard, places_assign}
+use Rattle.sanlp.proofs.Folds.{fold_loop, fold_guard, fold_assign, fold_loop_at, fold_guard_at, fold_assign_at}
+use Rattle.sanlp.proofs.Lists.{range_with_len-append}
 
 -- the loops of parts are numbered from one number up to another
 pub record Numbered (first next : ℕ) (parts : List Node) : Type 0 where
   pub count : ℕ
-  pub loops : all_loops parts ≡ count_up first count
+  pub loops : all_loops parts ≡ range_with_len first count
   pub ends : next ≡ first + count
 
 pub loops-append : (xs ys : List Node) → all_loops (xs ++ ys) ≡ all_loops xs ++ all_loops ys
 loops-append xs ys = ap (flat_map (λ part. part)) (map-append loops_of xs ys) ∙ flat_map-append (λ part. part) (map loops_of xs) (map loops_of ys)
 
-pub length-count_up : (a n : ℕ) → length (count_up a n) ≡ n
-length-count_up a zero = refl
-length-count_up a (suc n) = ap suc (length-count_up (a + 1) n)
-
 pub numbered_length : (first next : ℕ) (parts : List Node) → Numbered first next parts → next ≡ first + length (all_loops parts)
-numbered_length first next parts h = omega (arith, h.ends, ap length h.loops, length-count_up first h.count)
+numbered_length first next parts h = omega (arith, h.ends, ap length h.loops, length-range_with_len first h.count)
 
 pub numbered_none : (first : ℕ) → Numbered first first []
 numbered_none first = record { count = 0; loops = refl; ends = omega arith }
@@ -38,7 +35,7 @@ numbered_none first = record { count = 0; loops = refl; ends = omega arith }
 pub numbered_append : (first middle next : ℕ) (xs ys : List Node) → Numbered first middle xs → Numbered middle next ys → Numbered first next (xs ++ ys)
 numbered_append first middle next xs ys h k = record {
   count = h.count + k.count;
-  loops = loops-append xs ys ∙ (λ i. h.loops i ++ k.loops i) ∙ ap (λ m. count_up first h.count ++ count_up m k.count) h.ends ∙ sym (count_up-append first h.count k.count);
+  loops = loops-append xs ys ∙ (λ i. h.loops i ++ k.loops i) ∙ ap (λ m. range_with_len first h.count ++ range_with_len m k.count) h.ends ∙ sym (range_with_len-append first h.count k.count);
   ends = omega (arith, h.ends, k.ends);
 }
 
@@ -54,7 +51,7 @@ module _ (lower upper : List Form) (step : ℤ) (parts : List Node) where
       → all_places (node.Loop id lower upper step parts ∷ []) loops rows ≡ all_places parts (loops ++ id ∷ []) (rows ++ bound_rows (length loops) lower upper step)
   loop_places id loops rows =
       append-nil (places_of (node.Loop id lower upper step parts) loops rows)
-      ∙ fold_loop_at_both (List ℕ) (List Form) (List Place) places_step id lower upper step parts loops rows
+      ∙ places_loop id lower upper step parts loops rows
 
   pub loop_fits : (id d : ℕ) → d < 6 → 0 < length lower → 0 < length upper → IsTrue (list_all (form_fits d) lower) → IsTrue (list_all (form_fits d) upper)
       → IsTrue (step_fits lower step) → IsTrue (all_forms_fit parts (d + 1)) → IsTrue (all_forms_fit (node.Loop id lower upper step parts ∷ []) d)
@@ -72,9 +69,7 @@ module _ (rows : List Form) (parts : List Node) where
   }
 
   pub guard_places : (loops : List ℕ) (outer : List Form) → all_places (node.Guard rows parts ∷ []) loops outer ≡ all_places parts loops (outer ++ rows)
-  guard_places loops outer =
-      append-nil (places_of (node.Guard rows parts) loops outer)
-      ∙ fold_guard_at_both (List ℕ) (List Form) (List Place) places_step rows parts loops outer
+  guard_places loops outer = append-nil (places_of (node.Guard rows parts) loops outer) ∙ places_guard rows parts loops outer
 
   pub guard_fits : (d : ℕ) → IsTrue (list_all (form_fits d) rows) → IsTrue (all_forms_fit parts d) → IsTrue (all_forms_fit (node.Guard rows parts ∷ []) d)
   guard_fits d rows_fit inside = both_true (fold_guard_at ℕ Bool forms_fit_step rows parts d ∙ both_true rows_fit inside) refl
@@ -89,9 +84,7 @@ module _ (s : ℕ) where
 
   pub assign_places : (loops : List ℕ) (rows : List Form)
       → all_places (node.Assign s ∷ []) loops rows ≡ record { statement = s; loops = loops; rows = map (widened_form (length loops)) rows } ∷ []
-  assign_places loops rows =
-      append-nil (places_of (node.Assign s) loops rows)
-      ∙ fold_assign_at_both (List ℕ) (List Form) (List Place) places_step s loops rows
+  assign_places loops rows = append-nil (places_of (node.Assign s) loops rows) ∙ places_assign s loops rows
 
   pub assign_fits : (d : ℕ) → IsTrue (all_forms_fit (node.Assign s ∷ []) d)
   assign_fits d = both_true (fold_assign_at ℕ Bool forms_fit_step s d) refl

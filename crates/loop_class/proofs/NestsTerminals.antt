@@ -1,11 +1,12 @@
 -- Sources and sinks, and the loops round them.
 use Rattle.std.proofs.Common.{◌≡◌, ◌<◌, ◌≤◌, ℕ, zero, suc, ◌+◌, ◌-◌, ℤ, pos, ◌-ℤ◌, List, [], ◌∷◌, ◌++◌, map, length, take, replicate, Bool, true, false, cond, Some, None, refl, sym, ap, ◌∙◌, arith, subst, append_assoc}
 use Rattle.std.specs.Prelude.{IsTrue, ◌==◌, slice_get}
-use Rattle.std.specs.List.{list_all, sum_by}
+use Rattle.std.specs.List.{list_all, range_with_len, sum_by}
 use Rattle.std.specs.Option.{option_map_or}
 use Rattle.std.specs.Cmp.Derive.{both_true}
 use Rattle.std.proofs.lemmas.Bool.{and_parts, le-leb, eq-eqb}
 use Rattle.std.proofs.lemmas.List.{length-append, length-map, length-replicate, length_push, append-nil}
+use Rattle.std.proofs.lemmas.List.FromFn.{length-map-range_with_len, length-range_with_len}
 use Rattle.std.proofs.lemmas.List.Sums.{sum_by-cons}
 use Rattle.affine_core.specs.declared.form.Form.{Form}
 use Rattle.affine_core.specs.Affine.{variable_form}
@@ -19,9 +20,9 @@ use Rattle.sanlp.specs.declared.nest.Role.{Role}
 use Rattle.sanlp.specs.declared.nest.Role.TheVariants as role
 use Rattle.sanlp.specs.declared.nest.Statement.{Statement}
 use Rattle.sanlp.specs.Around.{loops_round}
-use Rattle.sanlp.specs.Cells.{natural, count_up, is_input, is_output}
+use Rattle.sanlp.specs.Cells.{natural, is_input, is_output}
 use Rattle.sanlp.specs.WellFormed.{is_moderate, form_fits, access_fits, statement_fits, in_role, own_cell, numbers_from, extents_where, input_extents, output_extents, all_forms_fit, all_places, said_from, array_loops, lower_row, upper_row}
-use Rattle.sanlp.proofs.Each.{Each, each_append, each_then, count_up_below}
+use Rattle.sanlp.proofs.Each.{Each, each_append, each_then, range_with_len_below}
 use Rattle.sanlp.proofs.Folds.{fold_read, fold_given}
 use Rattle.loop_class.specs.declared.affine.Affine.{Affine}
 use Rattle.loop_class.specs.declared.bounds.Bounds.{Bounds}
@@ -32,7 +33,7 @@ use Rattle.loop_class.specs.Terminals.{extent_rows, source_statement, sink_state
 use Rattle.loop_class.proofs.Moderate.{bound_last_number}
 use Rattle.loop_class.proofs.NestsForms.{over_zeros}
 use Rattle.loop_class.proofs.NestsSizes.{IsRow, AreBounds, lower_rows, upper_rows, row_deeper, loop_rows_are, all_fit}
-use Rattle.loop_class.proofs.NestsBody.{Numbered, numbered_none, numbered_append, numbered_loop, numbered_assign, loop_places, loop_fits, assign_places, assign_fits, placed_append, fit_append, length-count_up}
+use Rattle.loop_class.proofs.NestsBody.{Numbered, numbered_none, numbered_append, numbered_loop, numbered_assign, loop_places, loop_fits, assign_places, assign_fits, placed_append, fit_append}
 use Rattle.loop_class.proofs.NestsParts.{Shows, shows_append, shows_deeper, shows_loop}
 use Rattle.loop_class.proofs.NestsValues.{all_append}
 use Rattle.loop_class.proofs.NestsArrays.{FewExtents}
@@ -78,7 +79,7 @@ round_numbered id k (e ∷ extents) s =
 round_place : (id k n : ℕ) (extents : List ℤ) (s : ℕ) (loops : List ℕ) (forms : List Form) (rows : List Affine) → length loops ≡ k → k + length extents ≡ n → n ≤ 6
     → Each (λ e. IsTrue (is_limited_number e)) extents → Shows k forms rows
     → all_places (loops_round id k extents s ∷ []) loops forms
-    ≡ record { statement = s; loops = loops ++ count_up id (length extents); rows = map (form_over n) (rows ++ extent_rows k extents) } ∷ []
+    ≡ record { statement = s; loops = loops ++ range_with_len id (length extents); rows = map (form_over n) (rows ++ extent_rows k extents) } ∷ []
 round_place id k n [] s loops forms rows len all room limited shown =
     let same : n ≡ length loops = omega arith in
     assign_places s loops forms
@@ -100,7 +101,7 @@ round_place id k n (e ∷ extents) s loops forms rows len all room limited shown
     (omega (arith, length_push loops id)) (omega arith) room limited.1 inner
     ∙ (λ i. record {
       statement = s;
-      loops = append_assoc loops (id ∷ []) (count_up (id + 1) (length extents)) i;
+      loops = append_assoc loops (id ∷ []) (range_with_len (id + 1) (length extents)) i;
       rows = map (form_over n) (append_assoc rows more (extent_rows (k + 1) extents) i);
     } ∷ [])
 
@@ -144,12 +145,12 @@ variables_fit depth (v ∷ vs) h = both_true (variable_fits depth v h.0) (variab
 
 own_cell_fits : (arrays : List ArrayDecl) (depth a : ℕ) (array : ArrayDecl) → slice_get arrays a ≡ Some array → length array.extents ≡ depth → IsTrue (access_fits arrays depth (own_cell depth a))
 own_cell_fits arrays depth a array found count =
-    let len : length (map (variable_form depth) (count_up 0 depth)) ≡ length array.extents =
-    length-map (count_up 0 depth) (variable_form depth) ∙ length-count_up 0 depth ∙ sym count in
+    let len : length (map (variable_form depth) (range_with_len 0 depth)) ≡ length array.extents =
+    length-map-range_with_len (variable_form depth) 0 depth ∙ sym count in
     both_true
-    (ap (λ o. option_map_or (λ x. length (map (variable_form depth) (count_up 0 depth)) == length x.extents) o false) found
-    ∙ eq-eqb (length (map (variable_form depth) (count_up 0 depth))) (length array.extents) len)
-    (variables_fit depth (count_up 0 depth) (count_up_below 0 depth depth (omega arith)))
+    (ap (λ o. option_map_or (λ x. length (map (variable_form depth) (range_with_len 0 depth)) == length x.extents) o false) found
+    ∙ eq-eqb (length (map (variable_form depth) (range_with_len 0 depth))) (length array.extents) len)
+    (variables_fit depth (range_with_len 0 depth) (range_with_len_below 0 depth depth (omega arith)))
 
 -- a source and a sink inside these loops
 abbrev source_at : ℕ → ℕ → List ℕ → List Form → Statement
@@ -184,13 +185,13 @@ module _ (arrays : List ArrayDecl) (a l : ℕ) (array : ArrayDecl) (found : slic
   n = length array.extents
 
   abbrev loops : List ℕ
-  loops = count_up l n
+  loops = range_with_len l n
 
   abbrev rows : List Form
   rows = map (form_over n) (extent_rows 0 extents)
 
   len : length loops ≡ n
-  len = length-count_up l n
+  len = length-range_with_len l n
 
   few_rows : length rows ≤ 32
   few_rows = omega (arith, length-map (extent_rows 0 extents) (form_over n), extent_rows_count 0 extents, few.few)
@@ -214,10 +215,10 @@ abbrev pub InRole : Statement → Type 0
 InRole s = in_role s.role s ≡ s
 
 source_in_role : (a l : ℕ) (extents : List ℤ) → InRole (source_statement a l extents)
-source_in_role a l extents = ap (λ d. source_at a d (count_up l (length extents)) (map (form_over (length extents)) (extent_rows 0 extents))) (length-count_up l (length extents))
+source_in_role a l extents = ap (λ d. source_at a d (range_with_len l (length extents)) (map (form_over (length extents)) (extent_rows 0 extents))) (length-range_with_len l (length extents))
 
 sink_in_role : (a l : ℕ) (extents : List ℤ) → InRole (sink_statement a l extents)
-sink_in_role a l extents = ap (λ d. sink_at a d (count_up l (length extents)) (map (form_over (length extents)) (extent_rows 0 extents))) (length-count_up l (length extents))
+sink_in_role a l extents = ap (λ d. sink_at a d (range_with_len l (length extents)) (map (form_over (length extents)) (extent_rows 0 extents))) (length-range_with_len l (length extents))
 
 -- extents that are few and limited
 abbrev FewList : List ℤ → Type 0
@@ -307,7 +308,7 @@ shows_none e le room = refl
 
 -- the loops round a source or a sink, and what it says of them
 round_said : (l : ℕ) (e : List ℤ) (s : ℕ) → FewList e
-    → all_places (loops_round l 0 e s ∷ []) [] [] ≡ record { statement = s; loops = count_up l (length e); rows = map (form_over (length e)) (extent_rows 0 e) } ∷ []
+    → all_places (loops_round l 0 e s ∷ []) [] [] ≡ record { statement = s; loops = range_with_len l (length e); rows = map (form_over (length e)) (extent_rows 0 e) } ∷ []
 round_said l e s few = round_place l 0 (length e) e s [] [] [] refl (omega arith) few.0 (each_true is_limited_number e few.1) shows_none
 
 module _ (a l : ℕ) (arrays : List ArrayDecl) where

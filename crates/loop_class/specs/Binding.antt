@@ -16,15 +16,21 @@ use Rattle.loop_class.specs.Terminals.{sources_from, sinks_from, loop_count}
 
 -- the context of a whole source: no loops and no rows
 abbrev pub outer_context : Declared → Context
-outer_context d = record { scope = d.scope; loops = []; rows = []; sinks = length (output_extents d.arrays) }
+outer_context d =
+    record { scope = d.scope; loops = []; rows = []; sinks = length (output_extents d.arrays) }
 
--- The statements of a source after its declarations. The loops and the statements of the sources are numbered first.
+-- The statements of a source after its declarations. The loops and the statements of the sources
+-- are numbered first.
 abbrev pub body_made : Tree → Declared → Made
-body_made tree d = parts_made tree.parts (outer_context d) (loop_count (input_extents d.arrays)) (length (input_extents d.arrays))
+body_made tree d =
+    parts_made tree.parts (outer_context d) (loop_count (input_extents d.arrays))
+    (length (input_extents d.arrays))
 
 -- each reason that stands in a tree with these values of its parameters
 unfoldable pub findings : Tree → Values → List BindError
-findings tree params = let d = declared params tree.declarations in d.findings ++ (body_made tree d).findings
+findings tree params =
+    let d = declared params tree.declarations in
+    d.findings ++ (body_made tree d).findings
 
 -- the arrays, the statements and the body of a nest
 pub record Parts : Type 0 where
@@ -39,13 +45,18 @@ assembled arrays made =
     let outputs = output_extents arrays in
     record {
       arrays = arrays;
-      statements = sources_from 0 0 arrays ++ (made.statements ++ sinks_from 0 made.next_loop arrays);
-      body = array_loops 0 0 inputs ++ (made.nodes ++ array_loops made.next_loop (length inputs + length made.statements) outputs);
+      statements = sources_from 0 0 arrays
+          ++ (made.statements ++ sinks_from 0 made.next_loop arrays);
+      body = array_loops 0 0 inputs
+          ++ (made.nodes
+          ++ array_loops made.next_loop (length inputs + length made.statements) outputs);
     }
 
 -- The nest of a tree. It counts only where no reason stands in the tree.
 unfoldable pub nest_of : Tree → Values → Parts
-nest_of tree params = let d = declared params tree.declarations in assembled d.arrays (body_made tree d)
+nest_of tree params =
+    let d = declared params tree.declarations in
+    assembled d.arrays (body_made tree d)
 
 -- a nest is that of a tree with these values of its parameters
 pub record IsBound (tree : Tree) (params : Values) (n : Nest) : Type 0 where

@@ -1,4 +1,5 @@
--- The bounds of a loop: its step, its lower and upper forms, and each reason that stands in the step.
+-- The bounds of a loop: its step, its lower and upper forms, and each reason that stands in
+-- the step.
 use Rattle.std.specs.Prelude.{ℕ, ℤ, pos, int_lt, Bool, ◌&&◌, List, [], ◌∷◌, ◌++◌, nat_lt, Option, Some, None, if◌then◌else◌}
 use Rattle.std.specs.Option.{option_map}
 use Rattle.std.specs.Ordering.{int_eq}
@@ -18,7 +19,8 @@ use Rattle.loop_class.specs.Judging.{Scope, judged}
 use Rattle.loop_class.specs.Reasons.{found_if}
 use Rattle.loop_class.specs.Rows.{lower_forms, upper_forms}
 
--- The value of a step, if it has one. Only parameters and numbers are seen from a step, so its form is its constant.
+-- The value of a step, if it has one. Only parameters and numbers are seen from a step, so its form
+-- is its constant.
 abbrev pub step_value : Scope → Step → Option ℤ
 step_value scope One = Some (pos 1)
 step_value scope (By token value) = option_map (λ f. f.constant) (judged Extent scope value).form
@@ -27,13 +29,15 @@ step_value scope (By token value) = option_map (λ f. f.constant) (judged Extent
 abbrev pub step_reasons : ℕ → ℕ → Option ℤ → List BindError
 step_reasons token lower None = []
 step_reasons token lower (Some k) =
-    found_if (int_lt (pos 1) k && nat_lt 1 lower) (StepMax token) ++ found_if (int_lt k (pos 1)) (StepRange token)
+    found_if (int_lt (pos 1) k && nat_lt 1 lower) (StepMax token)
+    ++ found_if (int_lt k (pos 1)) (StepRange token)
 
 -- each reason that stands in the step of a loop with so many lower forms
 abbrev pub step_findings : Scope → ℕ → Step → List BindError
 step_findings scope lower One = []
 step_findings scope lower (By token value) =
-    (judged Extent scope value).findings ++ step_reasons token lower (step_value scope (By token value))
+    (judged Extent scope value).findings
+    ++ step_reasons token lower (step_value scope (By token value))
 
 -- a loop without bounds, which gives no rows
 abbrev pub unbounded : Bounds
@@ -67,7 +71,9 @@ abbrev pub step_of : Bounds → ℤ
 step_of (Range lower upper) = pos 1
 step_of (Progression first upper step) = step
 
--- what the source's variable of loop number v stands for: with a step above 1 for `first + step * turn`
+-- what the source's variable of loop number v stands for: with a step above 1 for
+-- `first + step * turn`
 abbrev pub variable_of : ℕ → Bounds → What
 variable_of v (Range lower upper) = what.Loop v
-variable_of v (Progression first upper step) = what.Progression (sum_form first (multiple_form step v))
+variable_of v (Progression first upper step) =
+    what.Progression (sum_form first (multiple_form step v))

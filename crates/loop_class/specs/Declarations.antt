@@ -1,4 +1,5 @@
--- Declarations: the names in scope, the arrays, the count of processes, and each reason that stands in them.
+-- Declarations: the names in scope, the arrays, the count of processes, and each reason that stands
+-- in them.
 use Rattle.std.specs.Prelude.{ℕ, ◌+◌, ℤ, pos, ◌&&◌, List, [], ◌∷◌, ◌++◌, map, length, nat_lt, nat_le, Option, Some, None, not, unwrap_or}
 use Rattle.std.specs.List.{fold}
 use Rattle.sanlp.specs.declared.nest.ArrayDecl.{ArrayDecl}
@@ -53,15 +54,18 @@ processes_of kind.Output = 1
 processes_of kind.Both = 2
 processes_of kind.Var = 0
 
--- what is wrong with an array besides its extents, where so many processes were counted before it and with it
+-- what is wrong with an array besides its extents, where so many processes were counted before it
+-- and with it
 abbrev pub own_findings : Scope → ℕ → ℕ → Named → List BindError
 own_findings scope before after array =
-    new_name_findings scope array.name ++ found_if (nat_le before 64 && nat_lt 64 after) (TooManyProcesses array.name.token)
+    new_name_findings scope array.name
+    ++ found_if (nat_le before 64 && nat_lt 64 after) (TooManyProcesses array.name.token)
     ++ found_if (nat_lt 6 (length array.extents)) (TooDeep array.name.token)
 
 abbrev pub array_findings : Declared → Kind → Named → List BindError
 array_findings d k array =
-    own_findings d.scope d.processes (d.processes + processes_of k) array ++ findings_of Extent d.scope array.extents
+    own_findings d.scope d.processes (d.processes + processes_of k) array
+    ++ findings_of Extent d.scope array.extents
 
 -- extents have no variable, so each is its constant
 abbrev pub extents_of : Scope → List Operand → List ℤ
@@ -71,7 +75,9 @@ abbrev pub declare_array : Kind → Declared → Named → Declared
 declare_array k d array =
     record {
       scope = with_name d.scope array.name.text (Array (length d.arrays) (length array.extents));
-      arrays = d.arrays ++ record { name = array.name.text; kind = k; extents = extents_of d.scope array.extents } ∷ [];
+      arrays = d.arrays
+          ++ record { name = array.name.text; kind = k; extents = extents_of d.scope array.extents }
+          ∷ [];
       processes = d.processes + processes_of k;
       findings = d.findings ++ array_findings d k array;
     }

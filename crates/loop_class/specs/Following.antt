@@ -1,4 +1,5 @@
--- What binding a part of a tree leaves: what it made comes to the end of what was there, and the least reason is kept.
+-- What binding a part of a tree leaves: what it made comes to the end of what was there, and the
+-- least reason is kept.
 use Rattle.std.specs.Prelude.{◌≡◌, ℕ, ◌+◌, List, [], ◌++◌, length, Option, None}
 use Rattle.wrap_expr.specs.declared.expr.Expr.{Expr}
 use Rattle.sanlp.specs.declared.nest.Access.{Access}
@@ -15,7 +16,8 @@ use Rattle.loop_class.specs.Parts.{Made}
 use Rattle.loop_class.specs.Reasons.{least_from}
 use Rattle.loop_class.specs.Values.{Valued}
 
-pub record Reads (e : Expr) (reads_old reads_new : List Access) (least_old least_new : Option BindError) (wanted : Valued) : Type 0 where
+pub record Reads (e : Expr) (reads_old reads_new : List Access)
+    (least_old least_new : Option BindError) (wanted : Valued) : Type 0 where
   pub expr : e ≡ wanted.expr
   pub reads : reads_new ≡ reads_old ++ wanted.reads
   pub least : least_new ≡ least_from least_old wanted.findings
@@ -24,9 +26,15 @@ abbrev pub next_statement : Progress → ℕ
 next_statement p = p.first + length p.statements
 
 abbrev pub advanced : Progress → Made → Progress
-advanced p made = record p { statements = p.statements ++ made.statements; next_loop = made.next_loop; least = least_from p.least made.findings }
+advanced p made =
+    record p {
+      statements = p.statements ++ made.statements;
+      next_loop = made.next_loop;
+      least = least_from p.least made.findings;
+    }
 
-pub record Makes (context_old context_new : Context) (old new : Progress) (nodes_old nodes_new : List Node) (made : Made) : Type 0 where
+pub record Makes (context_old context_new : Context) (old new : Progress)
+    (nodes_old nodes_new : List Node) (made : Made) : Type 0 where
   pub context : context_new ≡ context_old
   pub progress : new ≡ advanced old made
   pub nodes : nodes_new ≡ nodes_old ++ made.nodes

@@ -1,4 +1,5 @@
--- Affine forms over the loops round a place. There are at most six; a loop that isn't there has the coefficient 0.
+-- Affine forms over the loops round a place. There are at most six; a loop that isn't there has the
+-- coefficient 0.
 use Rattle.std.specs.Prelude.{ℕ, ℤ, pos, negsuc, ◌+ℤ◌, ◌-ℤ◌, ◌*ℤ◌, Bool, ◌&&◌, List, [], ◌∷◌, map, take, replicate, slice_set}
 use Rattle.std.specs.List.{list_all}
 use Rattle.std.specs.Ordering.{int_eq}
@@ -26,7 +27,8 @@ abbrev pub sum_form : Affine → Affine → Affine
 sum_form f g = record { constant = f.constant +ℤ g.constant; coefs = termwise ◌+ℤ◌ f.coefs g.coefs }
 
 abbrev pub difference_form : Affine → Affine → Affine
-difference_form f g = record { constant = f.constant -ℤ g.constant; coefs = termwise ◌-ℤ◌ f.coefs g.coefs }
+difference_form f g =
+    record { constant = f.constant -ℤ g.constant; coefs = termwise ◌-ℤ◌ f.coefs g.coefs }
 
 abbrev pub scaled_form : ℤ → Affine → Affine
 scaled_form k f = record { constant = k *ℤ f.constant; coefs = map (λ c. k *ℤ c) f.coefs }

@@ -32,7 +32,8 @@ faulty reason = record { form = None; findings = reason ∷ [] }
 
 -- the form, unless a number of it is too large
 abbrev pub limited : ℕ → Affine → Judged
-limited token f = if is_limited f then record { form = Some f; findings = [] } else faulty (Large token)
+limited token f =
+    if is_limited f then record { form = Some f; findings = [] } else faulty (Large token)
 
 abbrev pub after : List BindError → Judged → Judged
 after earlier j = record j { findings = earlier ++ j.findings }
@@ -65,7 +66,8 @@ negated token (Some f) = limited token (negated_form f)
 abbrev pub product : ℕ → Affine → Affine → Judged
 product token f g =
     if has_no_variable f then limited token (scaled_form f.constant g)
-    else (if has_no_variable g then limited token (scaled_form g.constant f) else faulty (NotAffine token))
+    else (if has_no_variable g then limited token (scaled_form g.constant f)
+    else faulty (NotAffine token))
 
 abbrev pub combined_forms : BinarySign → ℕ → Affine → Affine → Judged
 combined_forms Add token f g = limited token (sum_form f g)
@@ -80,7 +82,8 @@ combined sign token (Some f) None = formless
 abbrev pub judge_step : Place → Scope → Operand-F Judged → Judged
 judge_step place scope (Number value token) = limited token (constant_form value)
 judge_step place scope (Access name subscripts) =
-    after (all_findings subscripts) (named name.token (length subscripts == 0) (seen_from place (value_named scope name.text)))
+    after (all_findings subscripts)
+    (named name.token (length subscripts == 0) (seen_from place (value_named scope name.text)))
 judge_step place scope (Binary sign token left right) =
     after (left.findings ++ right.findings) (combined sign token left.form right.form)
 judge_step place scope (Neg token inner) = after inner.findings (negated token inner.form)
@@ -90,7 +93,8 @@ judge_step place scope (Max token list) = after (all_findings list) (faulty (Not
 unfoldable pub judged : Place → Scope → Operand → Judged
 judged place scope = fold-Operand Judged (judge_step place scope)
 
--- the form that an operand counts with. Where it has none a reason is found, and no nest comes of it.
+-- the form that an operand counts with. Where it has none a reason is found, and no nest comes
+-- of it.
 abbrev pub form_or_zero : Judged → Affine
 form_or_zero j = unwrap_or j.form (constant_form (pos 0))
 

@@ -9,7 +9,8 @@ value_named names name = lookup (bytes_eq name) names
 
 -- the names with one more at the end; a name that is there stays as it was
 abbrev pub with_name : {X : Type 0} → List (List ℕ × X) → List ℕ → X → List (List ℕ × X)
-with_name names name value = if is_some (value_named names name) then names else names ++ (name, value) ∷ []
+with_name names name value =
+    if is_some (value_named names name) then names else names ++ (name, value) ∷ []
 
 -- a name came to the end, or it was there and nothing changed
 abbrev pub Adds : {X : Type 0} → List (List ℕ × X) → List (List ℕ × X) → List ℕ → X → Bool → Type 0

@@ -1,4 +1,5 @@
--- Statements of a source: the parts of the body that they give, their statements, and each reason that stands in them.
+-- Statements of a source: the parts of the body that they give, their statements, and each reason
+-- that stands in them.
 use Rattle.std.specs.Prelude.{ℕ, ◌+◌, ◌==◌, List, [], ◌∷◌, ◌++◌, map, length, nat_lt, nat_le, Option, Some, None, not, is_some, if◌then◌else◌}
 use Rattle.std.specs.Str.{bytes_eq}
 use Rattle.sanlp.specs.declared.nest.Node.{Node}
@@ -27,7 +28,8 @@ use Rattle.loop_class.specs.Reasons.{found_if}
 use Rattle.loop_class.specs.Rows.{lower_forms, loop_rows, guard_rows, guard_findings, may_have_else, else_rows}
 use Rattle.loop_class.specs.Values.{valued, subscripts_over, access_findings}
 
--- what a part gives: nodes, statements in text order, the number of the next loop, and the reasons in it
+-- what a part gives: nodes, statements in text order, the number of the next loop, and the reasons
+-- in it
 pub record Made : Type 0 where
   pub nodes : List Node
   pub statements : List Statement
@@ -42,7 +44,13 @@ abbrev pub nothing : ℕ → Made
 nothing l = record { nodes = []; statements = []; next_loop = l; findings = [] }
 
 abbrev pub both : Made → Made → Made
-both a b = record { nodes = a.nodes ++ b.nodes; statements = a.statements ++ b.statements; next_loop = b.next_loop; findings = a.findings ++ b.findings }
+both a b =
+    record {
+      nodes = a.nodes ++ b.nodes;
+      statements = a.statements ++ b.statements;
+      next_loop = b.next_loop;
+      findings = a.findings ++ b.findings;
+    }
 
 -- parts in text order
 abbrev pub in_order : List Meaning → Meaning
@@ -55,11 +63,13 @@ depth_of c = length c.loops
 
 -- a name that is declared must be new
 abbrev pub new_name_findings : Scope → Name → List BindError
-new_name_findings scope name = found_if (is_some (value_named scope name.text)) (Duplicate name.token)
+new_name_findings scope name =
+    found_if (is_some (value_named scope name.text)) (Duplicate name.token)
 
 -- the second and the third part of a `for` name the variable of the first
 abbrev pub same_name_findings : Name → Name → List BindError
-same_name_findings first name = found_if (not (bytes_eq first.text name.text)) (UnknownName name.token)
+same_name_findings first name =
+    found_if (not (bytes_eq first.text name.text)) (UnknownName name.token)
 
 -- the context inside the loop of this number
 abbrev pub inside_loop : Context → List ℕ → ℕ → Bounds → Context
@@ -77,14 +87,16 @@ for_findings c name first second bound third step =
     ++ findings_of Body c.scope (upper_operands bound) ++ same_name_findings name third
     ++ step_findings c.scope (length (lower_forms c.scope first)) step
 
--- The body of a seventh nested loop isn't read: all that stands in it comes after the loop, which is too deep.
+-- The body of a seventh nested loop isn't read: all that stands in it comes after the loop, which
+-- is too deep.
 abbrev pub loop_body : Meaning → Context → List ℕ → Bounds → ℕ → ℕ → Made
 loop_body body c name bounds l s =
     if nat_lt (depth_of c) 6 then body (inside_loop c name l bounds) (l + 1) s else nothing (l + 1)
 
 abbrev pub loop_node : ℕ → ℕ → Bounds → List Node → Node
 loop_node depth l bounds body =
-    node.Loop l (map (form_over depth) (lower_of bounds)) (map (form_over depth) (upper_of bounds)) (step_of bounds) body
+    node.Loop l (map (form_over depth) (lower_of bounds)) (map (form_over depth) (upper_of bounds))
+    (step_of bounds) body
 
 abbrev pub loop_made : ℕ → ℕ → Bounds → List BindError → Made → Made
 loop_made depth l bounds header inside =
@@ -109,17 +121,19 @@ Otherwise = ℕ × Meaning
 abbrev pub else_made : List Comparison → Option Otherwise → Meaning
 else_made cond None c l s = nothing l
 else_made cond (Some other) c l s =
-    with_findings (found_if (not (may_have_else cond)) (ElseForm other.0)) (guarded other.1 (else_rows c.scope cond) c l s)
+    with_findings (found_if (not (may_have_else cond)) (ElseForm other.0))
+    (guarded other.1 (else_rows c.scope cond) c l s)
 
 abbrev pub array_number : Option What → ℕ
 array_number (Some (Array number extents)) = number
 array_number _ = 0
 
--- What is wrong with the target of an assignment. The count of processes passes 64 at the statement of number 64, where
--- the sinks are counted too.
+-- What is wrong with the target of an assignment. The count of processes passes 64 at the statement
+-- of number 64, where the sinks are counted too.
 abbrev pub target_findings : Context → ℕ → Name → ℕ → List BindError
 target_findings c s target count =
-    found_if (s + c.sinks == 64) (TooManyProcesses target.token) ++ found_if (nat_lt 32 (length c.rows)) (TooManyRows target.token)
+    found_if (s + c.sinks == 64) (TooManyProcesses target.token)
+    ++ found_if (nat_lt 32 (length c.rows)) (TooManyRows target.token)
     ++ access_findings target.token (value_named c.scope target.text) count
 
 -- an assignment as a statement: it has the loops and the rows round it
@@ -129,7 +143,10 @@ assign_statement c target subscripts right =
       role = role.Assign;
       loops = c.loops;
       rows = map (form_over (depth_of c)) c.rows;
-      write = Some (record { array = array_number (value_named c.scope target.text); subscripts = subscripts_over (depth_of c) c.scope subscripts });
+      write = Some (record {
+        array = array_number (value_named c.scope target.text);
+        subscripts = subscripts_over (depth_of c) c.scope subscripts;
+      });
       reads = (valued (depth_of c) c.scope right 0).reads;
       expr = (valued (depth_of c) c.scope right 0).expr;
     }
@@ -140,16 +157,20 @@ assign_made target subscripts right c l s =
       nodes = node.Assign s ∷ [];
       statements = assign_statement c target subscripts right ∷ [];
       next_loop = l;
-      findings = target_findings c s target (length subscripts) ++ (findings_of Body c.scope subscripts ++ (valued (depth_of c) c.scope right 0).findings);
+      findings = target_findings c s target (length subscripts)
+          ++ (findings_of Body c.scope subscripts
+          ++ (valued (depth_of c) c.scope right 0).findings);
     }
 
 abbrev pub part_step : Part-F Meaning Otherwise → Meaning
 part_step (For name first second inclusive bound third step body) c l s =
     let bounds = loop_bounds c.scope first inclusive bound step in
-    loop_made (depth_of c) l bounds (for_findings c name first second bound third step) (loop_body body c name.text bounds l s)
+    loop_made (depth_of c) l bounds (for_findings c name first second bound third step)
+    (loop_body body c name.text bounds l s)
 part_step (If cond body other) c l s =
     let yes = guarded body (guard_rows c.scope cond) c l s in
-    with_findings (guard_findings c.scope cond) (both yes (else_made cond other c yes.next_loop (s + length yes.statements)))
+    with_findings (guard_findings c.scope cond)
+    (both yes (else_made cond other c yes.next_loop (s + length yes.statements)))
 part_step (Assign target subscripts value) c l s = assign_made target subscripts value c l s
 part_step (Block parts) c l s = in_order parts c l s
 

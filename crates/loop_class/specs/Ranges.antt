@@ -27,4 +27,5 @@ has_small_forms (Progression first upper step) =
 
 -- an array that may have a source and a sink: it has at most 6 extents, and none is too large
 abbrev pub has_small_extents : ArrayDecl → Bool
-has_small_extents array = nat_le (length array.extents) 6 && list_all is_limited_number array.extents
+has_small_extents array =
+    nat_le (length array.extents) 6 && list_all is_limited_number array.extents

@@ -39,7 +39,9 @@ number_of (StepRange token) = 14
 
 -- the reason at the lesser place, and at one place that with the lesser number
 abbrev pub comes_first : BindError → BindError → Bool
-comes_first a b = nat_lt (place_of a) (place_of b) || ((place_of a == place_of b) && nat_lt (number_of a) (number_of b))
+comes_first a b =
+    nat_lt (place_of a) (place_of b)
+    || ((place_of a == place_of b) && nat_lt (number_of a) (number_of b))
 
 abbrev pub lesser : Option BindError → BindError → Option BindError
 lesser None found = Some found

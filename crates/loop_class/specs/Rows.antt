@@ -21,15 +21,18 @@ abbrev pub upper_forms : Scope → Bool → Operand → List Affine
 upper_forms scope true bound = forms_of Body scope (upper_operands bound)
 upper_forms scope false bound = map lowered_form (forms_of Body scope (upper_operands bound))
 
--- the row `upper - first - step * turn >= 0` of an upper form of loop number v, whose variable is the turn
+-- the row `upper - first - step * turn >= 0` of an upper form of loop number v, whose variable is
+-- the turn
 abbrev pub turn_row : ℕ → Affine → ℤ → Affine → Affine
 turn_row v first step upper = difference_form (difference_form upper first) (multiple_form step v)
 
--- The rows of loop number v. With step 1: `v - lower >= 0` for each lower form, then `upper - v >= 0` for each upper form.
--- With a step above 1: `turn >= 0`, then the row of each upper form.
+-- The rows of loop number v. With step 1: `v - lower >= 0` for each lower form, then
+-- `upper - v >= 0` for each upper form. With a step above 1: `turn >= 0`, then the row of each
+-- upper form.
 abbrev pub loop_rows : ℕ → Bounds → List Affine
 loop_rows v (Range lower upper) =
-    map (λ f. difference_form (loop_form v) f) lower ++ map (λ f. difference_form f (loop_form v)) upper
+    map (λ f. difference_form (loop_form v) f) lower
+    ++ map (λ f. difference_form f (loop_form v)) upper
 loop_rows v (Progression first upper step) = loop_form v ∷ map (turn_row v first step) upper
 
 -- the rows of `a sign b`
@@ -42,13 +45,15 @@ sign_rows Equal a b = difference_form a b ∷ difference_form b a ∷ []
 
 abbrev pub comparison_rows : Scope → CompareSign → Comparison → List Affine
 comparison_rows scope sign c =
-    sign_rows sign (form_or_zero (judged Body scope c.left)) (form_or_zero (judged Body scope c.right))
+    sign_rows sign (form_or_zero (judged Body scope c.left))
+    (form_or_zero (judged Body scope c.right))
 
 abbrev pub guard_rows : Scope → List Comparison → List Affine
 guard_rows scope cond = flat_map (λ c. comparison_rows scope c.sign c) cond
 
 abbrev pub guard_findings : Scope → List Comparison → List BindError
-guard_findings scope cond = flat_map (λ c. (judged Body scope c.left).findings ++ (judged Body scope c.right).findings) cond
+guard_findings scope cond =
+    flat_map (λ c. (judged Body scope c.left).findings ++ (judged Body scope c.right).findings) cond
 
 -- the sign of a comparison that holds where one with this sign doesn't; `==` has none and stays
 abbrev pub negated_sign : CompareSign → CompareSign

@@ -39,12 +39,14 @@ subscripts_over depth scope subscripts = map (form_over depth) (forms_of Body sc
 
 -- what is wrong with an access by its name and its number of subscripts
 abbrev pub access_findings : ℕ → Option What → ℕ → List BindError
-access_findings token (Some (Array number extents)) count = found_if (not (count == extents)) (WrongCount token)
+access_findings token (Some (Array number extents)) count =
+    found_if (not (count == extents)) (WrongCount token)
 access_findings token _ count = UnknownName token ∷ []
 
 -- what stands before with a multiple of this variable added, unless the coefficient is 0
 abbrev pub with_multiple : Expr → ℕ → ℤ → Expr
-with_multiple before v c = if int_eq c (pos 0) then before else expr.Add before (expr.Mul (Const c) (Var v))
+with_multiple before v c =
+    if int_eq c (pos 0) then before else expr.Add before (expr.Mul (Const c) (Var v))
 
 -- what stands before with these multiples of variables added, the first being variable v
 abbrev pub with_multiples : Expr → ℕ → List ℤ → Expr
@@ -55,8 +57,8 @@ with_multiples before v (c ∷ coefs) = with_multiples (with_multiple before v c
 abbrev pub form_expr : Form → Expr
 form_expr f = with_multiples (Const f.constant) 0 f.coefs
 
--- A name in a right side: an access is the next read. A loop variable and a parameter stand for their values, and the
--- variable of a loop of a step above 1 for its form.
+-- A name in a right side: an access is the next read. A loop variable and a parameter stand for
+-- their values, and the variable of a loop of a step above 1 for its form.
 abbrev pub name_value : ℕ → Scope → ℕ → Option What → List Operand → Value
 name_value depth scope token (Some (Array number extents)) subscripts slot =
     record {
@@ -66,7 +68,8 @@ name_value depth scope token (Some (Array number extents)) subscripts slot =
           ++ found_if (slot == 8) (TooManyReads token) ++ findings_of Body scope subscripts;
     }
 name_value depth scope token (Some (Loop v)) [] slot = without_reads (Var v) []
-name_value depth scope token (Some (Progression f)) [] slot = without_reads (form_expr (form_over depth f)) []
+name_value depth scope token (Some (Progression f)) [] slot =
+    without_reads (form_expr (form_over depth f)) []
 name_value depth scope token (Some (Parameter c)) [] slot = without_reads (Const c) []
 name_value depth scope token (Some (Loop v)) (s ∷ subscripts) slot =
     without_reads (Const (pos 0)) (UnknownName token ∷ findings_of Body scope (s ∷ subscripts))
@@ -87,12 +90,18 @@ extreme_expr Least = expr.Min
 extreme_expr Greatest = expr.Max
 
 abbrev pub joined : (Expr → Expr → Expr) → Valued → Valued → Valued
-joined op a b = record { expr = op a.expr b.expr; reads = a.reads ++ b.reads; findings = a.findings ++ b.findings }
+joined op a b =
+    record {
+      expr = op a.expr b.expr;
+      reads = a.reads ++ b.reads;
+      findings = a.findings ++ b.findings;
+    }
 
 -- values from the left: each is joined to what stands before it
 abbrev pub joined_all : (Expr → Expr → Expr) → ℕ → Valued → List Value → Valued
 joined_all op slot before [] = before
-joined_all op slot before (value ∷ values) = joined_all op slot (joined op before (value (slot + length before.reads))) values
+joined_all op slot before (value ∷ values) =
+    joined_all op slot (joined op before (value (slot + length before.reads))) values
 
 abbrev pub list_value : (Expr → Expr → Expr) → List Value → Value
 list_value op [] slot = without_reads (Const (pos 0)) []
@@ -108,9 +117,12 @@ value_step depth scope (Access name subscripts) slot =
     name_value depth scope name.token (value_named scope name.text) (map (λ p. p.0) subscripts) slot
 value_step depth scope (Binary sign token left right) slot =
     joined_all (binary_expr sign) slot (left.1 slot) (right.1 ∷ [])
-value_step depth scope (Neg token inner) slot = let v = inner.1 slot in record v { expr = expr.Neg v.expr }
-value_step depth scope (Min token list) slot = list_value (extreme_expr Least) (value_parts list) slot
-value_step depth scope (Max token list) slot = list_value (extreme_expr Greatest) (value_parts list) slot
+value_step depth scope (Neg token inner) slot =
+    let v = inner.1 slot in record v { expr = expr.Neg v.expr }
+value_step depth scope (Min token list) slot =
+    list_value (extreme_expr Least) (value_parts list) slot
+value_step depth scope (Max token list) slot =
+    list_value (extreme_expr Greatest) (value_parts list) slot
 
 unfoldable pub valued : ℕ → Scope → Operand → Value
 valued depth scope = para-Operand Value (value_step depth scope)

@@ -14,7 +14,8 @@ fn are_small(values: &[i64]) -> bool
     values.iter().all(|value| is_small(*value))
 }
 
-/// An affine form over the loops round a place. There are at most six; a loop that isn't there has the coefficient 0.
+/// An affine form over the loops round a place. There are at most six; a loop that isn't there has
+/// the coefficient 0.
 #[derive(Clone, Copy, Debug, PartialEq, Eq)]
 pub struct Affine {
     pub constant: i64,

@@ -100,8 +100,11 @@ fn assemble(
     next_loop: u32,
 ) -> Result<Whole, AllocError>
     requires { IsTrue (list_all has_small_extents arrays.now) }
-    ensures statements { IfOk result (λ w. w.statements ≡ sources_from 0 0 arrays.now ++ (assignments ++ sinks_from 0 next_loop arrays.now)) }
-    ensures body { IfOk result (λ w. w.body ≡ array_loops 0 0 (input_extents arrays.now) ++ (nodes ++ array_loops next_loop (length (input_extents arrays.now) + length assignments) (output_extents arrays.now))) }
+    ensures statements { IfOk result (λ w. w.statements ≡ sources_from 0 0 arrays.now
+        ++ (assignments ++ sinks_from 0 next_loop arrays.now)) }
+    ensures body { IfOk result (λ w. w.body ≡ array_loops 0 0 (input_extents arrays.now)
+        ++ (nodes ++ array_loops next_loop (length (input_extents arrays.now) + length assignments)
+        (output_extents arrays.now))) }
 {
     let mut statements = Items::new(alloc);
     let mut body = Items::new(alloc);
@@ -122,9 +125,9 @@ fn assemble(
 
 /// The nest of a tree, with values for its parameters. Values for other names are passed over.
 ///
-/// A reason that isn't `Memory` comes exactly where it stands in the tree at the least place, and at one place is the
-/// first of those that stand there. `Memory` is want of memory; a tree whose loops or statements pass 32 bits can't be
-/// held either.
+/// A reason that isn't `Memory` comes exactly where it stands in the tree at the least place, and
+/// at one place is the first of those that stand there. `Memory` is want of memory; a tree whose
+/// loops or statements pass 32 bits can't be held either.
 pub fn bind(
     alloc: Global,
     _bytes: &[u8],

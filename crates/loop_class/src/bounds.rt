@@ -62,7 +62,8 @@ impl Bounds {
         }
     }
 
-    /// What the source's variable stands for in the loop of this number, counted from the outermost.
+    /// What the source's variable stands for in the loop of this number, counted from
+    /// the outermost.
     pub fn variable(&self, number: u32) -> What
         requires { IsTrue (has_small_forms self.now) }
         ensures { result ≡ variable_of number self.now }
@@ -88,7 +89,8 @@ fn note_step(token: u32, lower: usize, step: i64, least: &mut Option<BindError>)
     }
 }
 
-/// The value of the step of a loop with so many lower forms, if it has one. Each reason that stands in it is noted.
+/// The value of the step of a loop with so many lower forms, if it has one. Each reason that stands
+/// in it is noted.
 pub(crate) fn read_step(
     scope: &Scope,
     step: &Step,
@@ -137,7 +139,8 @@ fn unbounded(alloc: Global) -> Bounds
     }
 }
 
-/// The bounds with a step of this value: none where there is no value, and none where it is below 1.
+/// The bounds with a step of this value: none where there is no value, and none where it is
+/// below 1.
 pub(crate) fn bounds_by(
     alloc: Global,
     step: Option<i64>,

@@ -4,8 +4,8 @@ use crate::scope::Scope;
 use plain_data::Items;
 use sanlp::Statement;
 
-/// What stands round a part: the names in scope, the loops and the rows, outermost first, and how many sinks follow the
-/// assignments.
+/// What stands round a part: the names in scope, the loops and the rows, outermost first, and how
+/// many sinks follow the assignments.
 #[derive(Drop)]
 pub struct Context {
     pub scope: Scope,
@@ -14,8 +14,8 @@ pub struct Context {
     pub sinks: u32,
 }
 
-/// What has been bound: the number of the first assignment, the assignments so far, the number of the next loop, and
-/// the least reason that was found.
+/// What has been bound: the number of the first assignment, the assignments so far, the number of
+/// the next loop, and the least reason that was found.
 #[derive(Drop)]
 pub struct Progress {
     pub first: u32,

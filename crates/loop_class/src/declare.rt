@@ -15,8 +15,8 @@ use plain_data::Items;
 use sanlp::{ArrayDecl, Kind};
 use std::alloc::{AllocError, Global};
 
-/// What has been declared: the names in scope, the arrays, how many processes they are, and the least reason that was
-/// found.
+/// What has been declared: the names in scope, the arrays, how many processes they are, and the
+/// least reason that was found.
 #[derive(Drop)]
 pub struct Table {
     pub scope: Scope,
@@ -31,7 +31,8 @@ fn declare_parameter(
     name: &Name,
     table: &mut Table,
 ) -> Result<(), AllocError>
-    ensures { OnOk result (Declares table.old table.new (declare_parameter params.now (seen table.old) name.now)) }
+    ensures { OnOk result (Declares table.old table.new
+        (declare_parameter params.now (seen table.old) name.now)) }
 {
     note_new_name(&table.scope, name, &mut table.least);
     let value = params.get(name.text.as_slice());
@@ -68,7 +69,8 @@ fn extents(
     least: &mut Option<BindError>,
 ) -> Result<Items<i64>, AllocError>
     ensures extents { IfOk result (λ extents. extents ≡ extents_of scope.now operands.now) }
-    ensures least { OnOk result (least.new ≡ least_from least.old (findings_of Place.Extent scope.now operands.now)) }
+    ensures least { OnOk result (least.new ≡ least_from least.old
+        (findings_of Place.Extent scope.now operands.now)) }
 {
     let mut extents = Items::new(alloc);
     for operand in operands {
@@ -78,7 +80,8 @@ fn extents(
     Ok(extents)
 }
 
-// Notes what is wrong with an array besides its extents, where so many processes were counted before it and with it.
+// Notes what is wrong with an array besides its extents, where so many processes were counted
+// before it and with it.
 fn note_array(scope: &Scope, before: u32, after: u32, array: &Named, least: &mut Option<BindError>)
     ensures { least.new ≡ least_from least.old (own_findings scope.now before after array.now) }
 {
@@ -97,7 +100,8 @@ fn declare_array(
     array: &Named,
     table: &mut Table,
 ) -> Result<(), AllocError>
-    ensures { OnOk result (Declares table.old table.new (declare_array kind (seen table.old) array.now)) }
+    ensures { OnOk result (Declares table.old table.new
+        (declare_array kind (seen table.old) array.now)) }
 {
     let before = table.processes;
     let after = before.checked_add(processes(kind)).ok_or(AllocError)?;
@@ -128,7 +132,8 @@ fn declare_name(
     named: &Named,
     table: &mut Table,
 ) -> Result<(), AllocError>
-    ensures { OnOk result (Declares table.old table.new (declare_name params.now word (seen table.old) named.now)) }
+    ensures { OnOk result (Declares table.old table.new
+        (declare_name params.now word (seen table.old) named.now)) }
 {
     match word {
         DeclWord::Param => declare_parameter(alloc, params, &named.name, table),
@@ -145,7 +150,8 @@ fn declare_names(
     declaration: &Declaration,
     table: &mut Table,
 ) -> Result<(), AllocError>
-    ensures { OnOk result (Declares table.old table.new (declare params.now (seen table.old) declaration.now)) }
+    ensures { OnOk result (Declares table.old table.new
+        (declare params.now (seen table.old) declaration.now)) }
 {
     for named in declaration.names.as_slice() {
         declare_name(alloc, params, declaration.word, named, table)?;

@@ -3,7 +3,8 @@ ghost use Rattle.loop_class.specs.Reasons.{place_of, number_of, comes_first, les
 
 use thiserror::Error;
 
-/// Why a tree with these values of its parameters is no nest. Each place is that of a token, counted from 0.
+/// Why a tree with these values of its parameters is no nest. Each place is that of a token,
+/// counted from 0.
 #[derive(Clone, Copy, Debug, PartialEq, Eq, Error)]
 pub enum BindError {
     /// The name isn't in scope, or isn't of the kind that its place wants.
@@ -36,7 +37,8 @@ pub enum BindError {
     /// The statement has more than 32 rows.
     #[error("token {0}: the statement has more than 32 rows")]
     TooManyRows(u32),
-    /// A number of the affine form there, or the parameter's value, is outside of 2,147,483,647 and its negative.
+    /// A number of the affine form there, or the parameter's value, is outside of 2,147,483,647 and
+    /// its negative.
     #[error("token {0}: a number outside of 2147483647 and its negative")]
     Large(u32),
     /// A step above 1 stands there, and the lower bound has more than one form.

@@ -65,8 +65,10 @@ fn find_form(
     alone: bool,
     least: &mut Option<BindError>,
 ) -> Option<Affine>
-    ensures form { result ≡ (named name.now.token alone (seen_from place (value_named scope.now name.now.text))).form }
-    ensures least { least.new ≡ least_from least.old (named name.now.token alone (seen_from place (value_named scope.now name.now.text))).findings }
+    ensures form { result ≡ (named name.now.token alone
+        (seen_from place (value_named scope.now name.now.text))).form }
+    ensures least { least.new ≡ least_from least.old (named name.now.token alone
+        (seen_from place (value_named scope.now name.now.text))).findings }
     ensures small { IfSome result (λ f. IsTrue (is_limited f)) }
 {
     let what = seen(place, scope.find(name.text.as_slice()));
@@ -132,7 +134,8 @@ fn combine(
     }
 }
 
-/// The form of an operand in an affine place, if it has one. Each reason that stands in it is noted.
+/// The form of an operand in an affine place, if it has one. Each reason that stands in it
+/// is noted.
 #[cycle(judge)]
 #[tactic(auto, using(crate::proofs::Operands::judged_number, crate::proofs::Operands::judged_access, crate::proofs::Operands::judged_binary, crate::proofs::Operands::judged_neg, crate::proofs::Operands::judged_min, crate::proofs::Operands::judged_max, crate::proofs::Operands::all_findings_of))]
 pub(crate) fn judge(
@@ -239,7 +242,8 @@ pub(crate) fn forms(
     least: &mut Option<BindError>,
 ) -> Result<Items<Affine>, AllocError>
     ensures forms { IfOk result (λ forms. forms ≡ forms_of place scope.now operands.now) }
-    ensures least { OnOk result (least.new ≡ least_from least.old (findings_of place scope.now operands.now)) }
+    ensures least { OnOk result (least.new ≡ least_from least.old
+        (findings_of place scope.now operands.now)) }
     ensures small { IfOk result (λ forms. IsTrue (list_all is_limited forms)) }
 {
     let mut forms = Items::new(alloc);

@@ -1,4 +1,5 @@
-//! Binding: a tree with values for its parameters becomes a nest, or the first reason why it doesn't.
+//! Binding: a tree with values for its parameters becomes a nest, or the first reason why
+//! it doesn't.
 #![tactic(auto)]
 
 mod affine;

@@ -46,7 +46,8 @@ impl<T: Copy> Names<T> {
         self.entries.get(name).copied()
     }
 
-    /// Puts a name at the end. It answers false and changes nothing exactly where the name is there.
+    /// Puts a name at the end. It answers false and changes nothing exactly where the name
+    /// is there.
     pub fn add(&mut self, alloc: Global, name: &[u8], value: T) -> Result<bool, AllocError>
         ensures ok { IfOk result (λ added. Adds self.old self.new name.now value added) }
         ensures err { OnErr result (self.new ≡ self.old) }

@@ -2,7 +2,8 @@ use crate::names::Names;
 use std::alloc::{AllocError, Global};
 use std::marker::Model;
 
-/// Values for parameters, which contracts see as the list of names with their values, in the order in which they came.
+/// Values for parameters, which contracts see as the list of names with their values, in the order
+/// in which they came.
 #[derive(Drop)]
 pub struct Params {
     values: Names<i64>,
@@ -31,8 +32,8 @@ impl Params {
         }
     }
 
-    /// Gives a name its value. It answers false and changes nothing exactly where the name has one. At want of memory
-    /// nothing has changed.
+    /// Gives a name its value. It answers false and changes nothing exactly where the name has one.
+    /// At want of memory nothing has changed.
     pub fn add(&mut self, name: &[u8], value: i64) -> Result<bool, AllocError>
         ensures ok { IfOk result (λ added. Adds self.old self.new name.now value added) }
         ensures err { OnErr result (self.new ≡ self.old) }

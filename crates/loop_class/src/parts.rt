@@ -56,8 +56,10 @@ fn read_head(
     step: &Step,
     least: &mut Option<BindError>,
 ) -> Result<Bounds, AllocError>
-    ensures bounds { IfOk result (λ bounds. bounds ≡ loop_bounds context.now.scope first.now inclusive bound.now step.now) }
-    ensures least { OnOk result (least.new ≡ least_from least.old (for_findings context.now name.now first.now second.now bound.now third.now step.now)) }
+    ensures bounds { IfOk result (λ bounds.
+        bounds ≡ loop_bounds context.now.scope first.now inclusive bound.now step.now) }
+    ensures least { OnOk result (least.new ≡ least_from least.old
+        (for_findings context.now name.now first.now second.now bound.now third.now step.now)) }
     ensures small { IfOk result (λ bounds. IsTrue (has_small_forms bounds)) }
 {
     note_new_name(&context.scope, name, least);
@@ -91,8 +93,13 @@ fn enter(
 ) -> Result<Reach, AllocError>
     requires shallow { length context.old.loops < 6 }
     requires small { IsTrue (has_small_forms bounds.now) }
-    ensures inside { OnOk result (context.new ≡ inside_loop context.old name.now.text number bounds.now) }
-    ensures reach { IfOk result (λ reach. reach ≡ record { names = length context.old.scope; loops = length context.old.loops; rows = length context.old.rows }) }
+    ensures inside { OnOk result (context.new
+        ≡ inside_loop context.old name.now.text number bounds.now) }
+    ensures reach { IfOk result (λ reach. reach ≡ record {
+      names = length context.old.scope;
+      loops = length context.old.loops;
+      rows = length context.old.rows;
+    }) }
 {
     let reach = Reach {
         names: context.scope.len(),
@@ -110,7 +117,11 @@ fn enter(
 // Leaves a loop: what it added to the context goes.
 #[inline(never)]
 fn leave(context: &mut Context, reach: Reach)
-    ensures { context.new ≡ record context.old { scope = take reach.names context.old.scope; loops = take reach.loops context.old.loops; rows = take reach.rows context.old.rows } }
+    ensures { context.new ≡ record context.old {
+      scope = take reach.names context.old.scope;
+      loops = take reach.loops context.old.loops;
+      rows = take reach.rows context.old.rows;
+    } }
 {
     context.scope.truncate(reach.names);
     context.loops.truncate(reach.loops);
@@ -165,7 +176,8 @@ fn push_guard(
     body: Items<Node>,
 ) -> Result<(), AllocError>
     requires { depth ≤ 6 }
-    ensures { OnOk result (nodes.new ≡ nodes.old ++ Node.Guard (map (form_over depth) rows.now) body ∷ []) }
+    ensures { OnOk result (nodes.new
+        ≡ nodes.old ++ Node.Guard (map (form_over depth) rows.now) body ∷ []) }
 {
     nodes.push(Node::Guard {
         rows: over_all(alloc, rows, depth)?,
@@ -183,7 +195,9 @@ pub(crate) fn bind_parts(
     nodes: &mut Items<Node>,
 ) -> Result<(), AllocError>
     requires { length context.old.loops ≤ 6 }
-    ensures { OnOk result (Makes context.old context.new progress.old progress.new nodes.old nodes.new (parts_made parts.now context.old progress.old.next_loop (next_statement progress.old))) }
+    ensures { OnOk result (Makes context.old context.new progress.old progress.new
+        nodes.old nodes.new
+        (parts_made parts.now context.old progress.old.next_loop (next_statement progress.old))) }
 {
     for part in parts {
         bind_part(alloc, part, context, progress, nodes)?;
@@ -200,7 +214,9 @@ fn bind_part(
     nodes: &mut Items<Node>,
 ) -> Result<(), AllocError>
     requires { length context.old.loops ≤ 6 }
-    ensures { OnOk result (Makes context.old context.new progress.old progress.new nodes.old nodes.new (part_made part.now context.old progress.old.next_loop (next_statement progress.old))) }
+    ensures { OnOk result (Makes context.old context.new progress.old progress.new
+        nodes.old nodes.new
+        (part_made part.now context.old progress.old.next_loop (next_statement progress.old))) }
 {
     match part {
         Part::For {
@@ -268,7 +284,11 @@ fn bind_loop(
 ) -> Result<(), AllocError>
     requires shallow { length context.old.loops ≤ 6 }
     requires small { IsTrue (has_small_forms bounds.now) }
-    ensures { OnOk result (Makes context.old context.new progress.old progress.new nodes.old nodes.new (loop_made (length context.old.loops) progress.old.next_loop bounds.now [] (loop_body (part_made body.now) context.old name.now.text bounds.now progress.old.next_loop (next_statement progress.old)))) }
+    ensures { OnOk result (Makes context.old context.new progress.old progress.new
+        nodes.old nodes.new
+        (loop_made (length context.old.loops) progress.old.next_loop bounds.now []
+        (loop_body (part_made body.now) context.old name.now.text bounds.now progress.old.next_loop
+        (next_statement progress.old)))) }
 {
     let id = progress.next_loop;
     progress.next_loop = next(id)?;
@@ -294,7 +314,10 @@ fn bind_guarded(
     nodes: &mut Items<Node>,
 ) -> Result<(), AllocError>
     requires { length context.old.loops ≤ 6 }
-    ensures { OnOk result (Makes context.old context.new progress.old progress.new nodes.old nodes.new (guarded (part_made body.now) rows.now context.old progress.old.next_loop (next_statement progress.old))) }
+    ensures { OnOk result (Makes context.old context.new progress.old progress.new
+        nodes.old nodes.new
+        (guarded (part_made body.now) rows.now context.old progress.old.next_loop
+        (next_statement progress.old))) }
 {
     let depth = context.loops.len();
     let reach = context.rows.len();
@@ -317,7 +340,10 @@ fn bind_other(
     nodes: &mut Items<Node>,
 ) -> Result<(), AllocError>
     requires { length context.old.loops ≤ 6 }
-    ensures { OnOk result (Makes context.old context.new progress.old progress.new nodes.old nodes.new (else_made cond.now (Some (other.now.token, part_made other.now.body)) context.old progress.old.next_loop (next_statement progress.old))) }
+    ensures { OnOk result (Makes context.old context.new progress.old progress.new
+        nodes.old nodes.new
+        (else_made cond.now (Some (other.now.token, part_made other.now.body)) context.old
+        progress.old.next_loop (next_statement progress.old))) }
 {
     if !allows_else(cond) {
         note(&mut progress.least, BindError::ElseForm(other.token));
@@ -352,7 +378,8 @@ fn note_target(
     count: usize,
     least: &mut Option<BindError>,
 )
-    ensures { least.new ≡ least_from least.old (target_findings context.now number target.now count) }
+    ensures { least.new
+        ≡ least_from least.old (target_findings context.now number target.now count) }
 {
     if number as u64 + context.sinks as u64 == 64 {
         note(least, BindError::TooManyProcesses(target.token));
@@ -372,7 +399,8 @@ fn number_of_next(progress: &Progress) -> Result<u32, AllocError>
     progress.first.checked_add(count).ok_or(AllocError)
 }
 
-// The statement of an assignment. Each reason that stands in its subscripts and its right side is noted.
+// The statement of an assignment. Each reason that stands in its subscripts and its right side
+// is noted.
 #[inline(never)]
 fn assignment(
     alloc: Global,
@@ -383,8 +411,11 @@ fn assignment(
     least: &mut Option<BindError>,
 ) -> Result<Statement, AllocError>
     requires { length context.now.loops ≤ 6 }
-    ensures statement { IfOk result (λ s. s ≡ assign_statement context.now target.now operands.now right.now) }
-    ensures least { OnOk result (least.new ≡ least_from least.old (findings_of Place.Body context.now.scope operands.now ++ (valued (length context.now.loops) context.now.scope right.now 0).findings)) }
+    ensures statement { IfOk result (λ s.
+        s ≡ assign_statement context.now target.now operands.now right.now) }
+    ensures least { OnOk result (least.new ≡ least_from least.old
+        (findings_of Place.Body context.now.scope operands.now
+        ++ (valued (length context.now.loops) context.now.scope right.now 0).findings)) }
 {
     let depth = context.loops.len();
     let what = context.scope.find(target.text.as_slice());
@@ -416,7 +447,10 @@ fn bind_assign(
     nodes: &mut Items<Node>,
 ) -> Result<(), AllocError>
     requires { length context.now.loops ≤ 6 }
-    ensures { OnOk result (Makes context.now context.now progress.old progress.new nodes.old nodes.new (assign_made target.now operands.now right.now context.now progress.old.next_loop (next_statement progress.old))) }
+    ensures { OnOk result (Makes context.now context.now progress.old progress.new
+        nodes.old nodes.new
+        (assign_made target.now operands.now right.now context.now progress.old.next_loop
+        (next_statement progress.old))) }
 {
     let number = number_of_next(progress)?;
     note_target(context, number, target, operands.len(), &mut progress.least);

@@ -25,7 +25,8 @@ pub(crate) fn lower(
     least: &mut Option<BindError>,
 ) -> Result<Items<Affine>, AllocError>
     ensures forms { IfOk result (λ forms. forms ≡ lower_forms scope.now first.now) }
-    ensures least { OnOk result (least.new ≡ least_from least.old (findings_of Place.Body scope.now (lower_operands first.now))) }
+    ensures least { OnOk result (least.new ≡ least_from least.old
+        (findings_of Place.Body scope.now (lower_operands first.now))) }
     ensures small { IfOk result (λ forms. IsTrue (list_all is_limited forms)) }
 {
     forms(alloc, scope, Place::Body, lower_parts(first), least)
@@ -55,7 +56,8 @@ pub(crate) fn upper(
     least: &mut Option<BindError>,
 ) -> Result<Items<Affine>, AllocError>
     ensures forms { IfOk result (λ forms. forms ≡ upper_forms scope.now inclusive bound.now) }
-    ensures least { OnOk result (least.new ≡ least_from least.old (findings_of Place.Body scope.now (upper_operands bound.now))) }
+    ensures least { OnOk result (least.new ≡ least_from least.old
+        (findings_of Place.Body scope.now (upper_operands bound.now))) }
     ensures small { IfOk result (λ forms. IsTrue (list_all is_bound_form forms)) }
 {
     let forms = forms(alloc, scope, Place::Body, upper_parts(bound), least)?;
@@ -65,7 +67,8 @@ pub(crate) fn upper(
     lower_all(alloc, forms.as_slice())
 }
 
-/// Adds the rows of a loop of step 1: its variable less each lower form, then each upper form less its variable.
+/// Adds the rows of a loop of step 1: its variable less each lower form, then each upper form less
+/// its variable.
 #[tactic(auto, using(crate::proofs::Moderate::moderate_form, crate::proofs::Moderate::moderate_bound))]
 pub(crate) fn push_range_rows(
     rows: &mut Items<Affine>,
@@ -87,8 +90,8 @@ pub(crate) fn push_range_rows(
     Ok(())
 }
 
-// Adds the rows of a loop of a step above 1: its turn, then each upper form less the lower form and the step's multiple
-// of the turn.
+// Adds the rows of a loop of a step above 1: its turn, then each upper form less the lower form and
+// the step's multiple of the turn.
 #[tactic(auto, using(crate::proofs::Moderate::moderate_form, crate::proofs::Moderate::moderate_bound, crate::proofs::Moderate::moderate_reach, crate::proofs::Moderate::limited_multiple))]
 fn push_turn_rows(
     rows: &mut Items<Affine>,
@@ -100,7 +103,8 @@ fn push_turn_rows(
     requires first { IsTrue (is_limited first.now) }
     requires upper { IsTrue (list_all is_bound_form upper.now) }
     requires step { IsTrue (is_limited_number step) }
-    ensures { OnOk result (rows.new ≡ rows.old ++ loop_rows number (Progression first.now upper.now step)) }
+    ensures { OnOk result (rows.new
+        ≡ rows.old ++ loop_rows number (Progression first.now upper.now step)) }
 {
     rows.push(Affine::variable(number))?;
     let taken = Affine::multiple(step, number);
@@ -173,7 +177,8 @@ pub(crate) fn guard(
     least: &mut Option<BindError>,
 ) -> Result<Items<Affine>, AllocError>
     ensures rows { IfOk result (λ rows. rows ≡ guard_rows scope.now cond.now) }
-    ensures least { OnOk result (least.new ≡ least_from least.old (guard_findings scope.now cond.now)) }
+    ensures least { OnOk result (least.new
+        ≡ least_from least.old (guard_findings scope.now cond.now)) }
 {
     let mut rows = Items::new(alloc);
     for comparison in cond {

@@ -1,8 +1,8 @@
 ghost use Rattle.std.specs.Prelude.{◌≡◌, ◌≤◌, ◌+◌, ◌++◌, ◌∷◌, [], IsTrue, IfOk, OnOk, ℤ, pos, ◌-ℤ◌, length, map, nat_le};
-ghost use Rattle.std.specs.List.{list_all};
+ghost use Rattle.std.specs.List.{list_all, range_with_len};
 ghost use Rattle.affine_core.specs.Affine.{constant_form};
 ghost use Rattle.sanlp.specs.Around.{loops_round};
-ghost use Rattle.sanlp.specs.Cells.{natural, count_up, is_input, is_output};
+ghost use Rattle.sanlp.specs.Cells.{natural};
 ghost use Rattle.sanlp.specs.WellFormed.{own_cell, input_extents, output_extents, array_loops};
 ghost use Rattle.loop_class.specs.Forms.{form_over, is_limited_number};
 ghost use Rattle.loop_class.specs.Ranges.{has_small_extents};
@@ -13,42 +13,23 @@ use crate::judge::over_all;
 use crate::rows::push_range_rows;
 use affine_core::Form;
 use plain_data::Items;
-use sanlp::{Access, ArrayDecl, Kind, Node, Role, Statement};
+use sanlp::{Access, ArrayDecl, Node, Role, Statement, natural_of};
 use std::alloc::{AllocError, Global};
 use wrap_expr::Expr;
-
-/// Whether an array of this kind has a source.
-pub(crate) fn has_source(kind: Kind) -> bool
-    ensures { result ≡ is_input kind }
-{
-    match kind {
-        Kind::Input | Kind::Both => true,
-        Kind::Output | Kind::Var => false,
-    }
-}
-
-/// Whether an array of this kind has a sink.
-pub(crate) fn has_sink(kind: Kind) -> bool
-    ensures { result ≡ is_output kind }
-{
-    match kind {
-        Kind::Output | Kind::Both => true,
-        Kind::Input | Kind::Var => false,
-    }
-}
 
 // The last value of a loop up to an extent, which counts as 0 where it is negative.
 fn last_value(extent: i64) -> i64
     ensures { result ≡ pos (natural extent) -ℤ pos 1 }
 {
-    extent.max(0) - 1
+    natural_of(extent) as i64 - 1
 }
 
 // The rows of one loop for each extent.
 fn rows_round(alloc: Global, extents: &[i64]) -> Result<Items<Form>, AllocError>
     requires few { length extents.now ≤ 6 }
     requires small { IsTrue (list_all is_limited_number extents.now) }
-    ensures { IfOk result (λ rows. rows ≡ map (form_over (length extents.now)) (extent_rows 0 extents.now)) }
+    ensures { IfOk result (λ rows.
+        rows ≡ map (form_over (length extents.now)) (extent_rows 0 extents.now)) }
 {
     let mut rows = Items::new(alloc);
     let lower = [Affine::constant(0)];
@@ -69,7 +50,7 @@ fn after_loops(first: u32, count: usize) -> Result<u32, AllocError>
 
 // So many loop numbers, from this one on.
 fn loops_from(alloc: Global, first: u32, count: usize) -> Result<Items<u32>, AllocError>
-    ensures { IfOk result (λ loops. loops ≡ count_up first count) }
+    ensures { IfOk result (λ loops. loops ≡ range_with_len first count) }
 {
     let mut loops = Items::new(alloc);
     for number in first..after_loops(first, count)? {
@@ -158,7 +139,7 @@ pub(crate) fn source_loops(arrays: &[ArrayDecl]) -> Result<u32, AllocError>
 {
     let mut count = 0;
     for array in arrays {
-        if has_source(array.kind) {
+        if array.kind.is_input() {
             count = after_loops(count, array.extents.len())?;
         }
     }
@@ -171,7 +152,7 @@ pub(crate) fn source_count(arrays: &[ArrayDecl]) -> Result<u32, AllocError>
 {
     let mut count: u32 = 0;
     for array in arrays {
-        if has_source(array.kind) {
+        if array.kind.is_input() {
             count = count.checked_add(1).ok_or(AllocError)?;
         }
     }
@@ -184,7 +165,7 @@ pub(crate) fn sink_count(arrays: &[ArrayDecl]) -> Result<u32, AllocError>
 {
     let mut count: u32 = 0;
     for array in arrays {
-        if has_sink(array.kind) {
+        if array.kind.is_output() {
             count = count.checked_add(1).ok_or(AllocError)?;
         }
     }
@@ -199,14 +180,15 @@ pub(crate) fn push_sources(
     body: &mut Items<Node>,
 ) -> Result<(), AllocError>
     requires { IsTrue (list_all has_small_extents arrays.now) }
-    ensures statements { OnOk result (statements.new ≡ statements.old ++ sources_from 0 0 arrays.now) }
+    ensures statements { OnOk result (statements.new
+        ≡ statements.old ++ sources_from 0 0 arrays.now) }
     ensures body { OnOk result (body.new ≡ body.old ++ array_loops 0 0 (input_extents arrays.now)) }
 {
     let mut number: u32 = 0;
     let mut next_loop: u32 = 0;
     let mut statement: u32 = 0;
     for array in arrays {
-        if has_source(array.kind) {
+        if array.kind.is_input() {
             let extents = array.extents.as_slice();
             statements.push(source(alloc, number, next_loop, extents)?)?;
             body.push(loops_of(alloc, next_loop, 0, extents, statement)?)?;
@@ -228,14 +210,16 @@ pub(crate) fn push_sinks(
     body: &mut Items<Node>,
 ) -> Result<(), AllocError>
     requires { IsTrue (list_all has_small_extents arrays.now) }
-    ensures statements { OnOk result (statements.new ≡ statements.old ++ sinks_from 0 first_loop arrays.now) }
-    ensures body { OnOk result (body.new ≡ body.old ++ array_loops first_loop first (output_extents arrays.now)) }
+    ensures statements { OnOk result (statements.new
+        ≡ statements.old ++ sinks_from 0 first_loop arrays.now) }
+    ensures body { OnOk result (body.new
+        ≡ body.old ++ array_loops first_loop first (output_extents arrays.now)) }
 {
     let mut number: u32 = 0;
     let mut next_loop = first_loop;
     let mut statement = first;
     for array in arrays {
-        if has_sink(array.kind) {
+        if array.kind.is_output() {
             let extents = array.extents.as_slice();
             statements.push(sink(alloc, number, next_loop, extents)?)?;
             body.push(loops_of(alloc, next_loop, 0, extents, statement)?)?;

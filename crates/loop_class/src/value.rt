@@ -34,7 +34,8 @@ pub(crate) fn subscripts(
 ) -> Result<Items<Form>, AllocError>
     requires { depth ≤ 6 }
     ensures forms { IfOk result (λ forms. forms ≡ subscripts_over depth scope.now operands.now) }
-    ensures least { OnOk result (least.new ≡ least_from least.old (findings_of Place.Body scope.now operands.now)) }
+    ensures least { OnOk result (least.new ≡ least_from least.old
+        (findings_of Place.Body scope.now operands.now)) }
 {
     let forms = forms(alloc, scope, Place::Body, operands, least)?;
     over_all(alloc, forms.as_slice(), depth)
@@ -73,7 +74,9 @@ fn read(
     least: &mut Option<BindError>,
 ) -> Result<Expr, AllocError>
     requires { depth ≤ 6 }
-    ensures { IfOk result (λ e. Reads e reads.old reads.new least.old least.new (name_value depth scope.now token (Some (What.Array array extents)) operands.now (length reads.old))) }
+    ensures { IfOk result (λ e. Reads e reads.old reads.new least.old least.new
+        (name_value depth scope.now token (Some (What.Array array extents)) operands.now
+        (length reads.old))) }
 {
     note_access(
         token,
@@ -134,7 +137,9 @@ fn name_expr(
     least: &mut Option<BindError>,
 ) -> Result<Expr, AllocError>
     requires { depth ≤ 6 }
-    ensures { IfOk result (λ e. Reads e reads.old reads.new least.old least.new (name_value depth scope.now name.now.token (value_named scope.now name.now.text) operands.now (length reads.old))) }
+    ensures { IfOk result (λ e. Reads e reads.old reads.new least.old least.new
+        (name_value depth scope.now name.now.token (value_named scope.now name.now.text)
+        operands.now (length reads.old))) }
 {
     match scope.find(name.text.as_slice()) {
         Some(What::Array(array, extents)) => read(
@@ -176,8 +181,8 @@ fn extreme_of(alloc: Global, which: Extreme, left: Expr, right: Expr) -> Result<
     })
 }
 
-/// The expression of an operand of a right side. Its reads come to the end of `reads`, and each reason that stands in
-/// it is noted.
+/// The expression of an operand of a right side. Its reads come to the end of `reads`, and each
+/// reason that stands in it is noted.
 #[cycle(value)]
 pub(crate) fn value(
     alloc: Global,
@@ -188,7 +193,8 @@ pub(crate) fn value(
     least: &mut Option<BindError>,
 ) -> Result<Expr, AllocError>
     requires { depth ≤ 6 }
-    ensures { IfOk result (λ e. Reads e reads.old reads.new least.old least.new (valued depth scope.now operand.now (length reads.old))) }
+    ensures { IfOk result (λ e. Reads e reads.old reads.new least.old least.new
+        (valued depth scope.now operand.now (length reads.old))) }
 {
     match operand {
         Operand::Number { value, .. } => Ok(Expr::Const(*value)),
@@ -254,7 +260,9 @@ fn value_all(
     least: &mut Option<BindError>,
 ) -> Result<Expr, AllocError>
     requires { depth ≤ 6 }
-    ensures { IfOk result (λ e. Reads e reads.old reads.new least.old least.new (list_value (extreme_expr which) (map (valued depth scope.now) operands.now) (length reads.old))) }
+    ensures { IfOk result (λ e. Reads e reads.old reads.new least.old least.new
+        (list_value (extreme_expr which) (map (valued depth scope.now) operands.now)
+        (length reads.old))) }
 {
     let Some((first, others)) = operands.split_first() else {
         return Ok(Expr::Const(0));

@@ -84,11 +84,13 @@ abbrev mutual
   factor_text (number n p) = (word.Number n, p) ∷ []
   factor_text (parentheses p e q) = (word.Open, p) ∷ (expr_text e ++ (word.Close, q) ∷ [])
   factor_text (access a) = access_text a
-  factor_text (choice c p q es r) = (word.Choice c, p) ∷ (word.Open, q) ∷ (exprs_text es ++ (word.Close, r) ∷ [])
+  factor_text (choice c p q es r) =
+      (word.Choice c, p) ∷ (word.Open, q) ∷ (exprs_text es ++ (word.Close, r) ∷ [])
 
   pub access_text : Access → List Tok
   access_text (name n) = name_token n ∷ []
-  access_text (subscript a p e q) = access_text a ++ (word.OpenSquare, p) ∷ (expr_text e ++ (word.CloseSquare, q) ∷ [])
+  access_text (subscript a p e q) =
+      access_text a ++ (word.OpenSquare, p) ∷ (expr_text e ++ (word.CloseSquare, q) ∷ [])
 
   pub exprs_text : Exprs → List Tok
   exprs_text (one e) = expr_text e
@@ -157,14 +159,17 @@ abbrev pub compared_text : Compared → List Tok
 compared_text (compared a s p b) = expr_text a ++ (word.Compare s, p) ∷ expr_text b
 
 abbrev pub compared_tree : Compared → Comparison
-compared_tree (compared a s p b) = record { left = expr_tree a; sign = s; token = p; right = expr_tree b }
+compared_tree (compared a s p b) =
+    record { left = expr_tree a; sign = s; token = p; right = expr_tree b }
 
 -- "if" "(" comparison { "&&" comparison } ")"
 pub data Guard : Type 0 where
   guard : ℕ → ℕ → Separated Compared → ℕ → Guard
 
 abbrev pub guard_text : Guard → List Tok
-guard_text (guard p q cond r) = (word.If, p) ∷ (word.Open, q) ∷ (separated_text word.And compared_text cond ++ (word.Close, r) ∷ [])
+guard_text (guard p q cond r) =
+    (word.If, p) ∷ (word.Open, q)
+    ∷ (separated_text word.And compared_text cond ++ (word.Close, r) ∷ [])
 
 abbrev pub guard_tree : Guard → List Comparison
 guard_tree (guard p q cond r) = separated_list compared_tree cond
@@ -202,12 +207,14 @@ int_text (Some p) = (word.Int, p) ∷ []
 
 -- "for" "(" [ "int" ] name "=" expr ";" name ( "<" | "<=" ) expr ";" step ")"
 pub data Header : Type 0 where
-  header : ℕ → ℕ → Option ℕ → Name → ℕ → Expr → ℕ → Name → Bool → ℕ → Expr → ℕ → Stepped → ℕ → Header
+  header : ℕ → ℕ → Option ℕ → Name → ℕ → Expr → ℕ → Name → Bool → ℕ → Expr → ℕ → Stepped → ℕ
+      → Header
 
 abbrev pub header_text : Header → List Tok
 header_text (header p q int n r first s second inclusive t bound u step v) =
     (word.For, p) ∷ (word.Open, q) ∷ (int_text int ++ name_token n ∷ (word.Assign, r) ∷
-    (expr_text first ++ (word.Semi, s) ∷ name_token second ∷ (word.Compare (bound_sign inclusive), t) ∷
+    (expr_text first ++ (word.Semi, s) ∷ name_token second
+    ∷ (word.Compare (bound_sign inclusive), t) ∷
     (expr_text bound ++ (word.Semi, u) ∷ (stepped_text step ++ (word.Close, v) ∷ []))))
 
 -- statement = for | if | assign | block
@@ -234,12 +241,15 @@ abbrev mutual
   pub statement_text : Statement → List Tok
   statement_text (loop h s) = header_text h ++ statement_text s
   statement_text (guarded g s) = guard_text g ++ statement_text s
-  statement_text (alternative g b p s) = guard_text g ++ (block_text b ++ (word.Else, p) ∷ statement_text s)
-  statement_text (assign a p e q) = access_text a ++ (word.Assign, p) ∷ (expr_text e ++ (word.Semi, q) ∷ [])
+  statement_text (alternative g b p s) =
+      guard_text g ++ (block_text b ++ (word.Else, p) ∷ statement_text s)
+  statement_text (assign a p e q) =
+      access_text a ++ (word.Assign, p) ∷ (expr_text e ++ (word.Semi, q) ∷ [])
   statement_text (block b) = block_text b
 
   pub block_text : Block → List Tok
-  block_text (braces p ss q) = (word.OpenCurly, p) ∷ (statements_text ss ++ (word.CloseCurly, q) ∷ [])
+  block_text (braces p ss q) =
+      (word.OpenCurly, p) ∷ (statements_text ss ++ (word.CloseCurly, q) ∷ [])
 
   pub statements_text : Statements → List Tok
   statements_text no_statement = []
@@ -248,13 +258,16 @@ abbrev mutual
 -- the tree keeps no `int`
 abbrev pub loop_part : Header → Part → Part
 loop_part (header p q int n r first s second inclusive t bound u step v) body =
-    part.For n (expr_tree first) second inclusive (expr_tree bound) (stepped_name step) (stepped_tree step) body
+    part.For n (expr_tree first) second inclusive (expr_tree bound) (stepped_name step)
+    (stepped_tree step) body
 
 abbrev mutual
   pub statement_tree : Statement → Part
   statement_tree (loop h s) = loop_part h (statement_tree s)
   statement_tree (guarded g s) = part.If (guard_tree g) (statement_tree s) None
-  statement_tree (alternative g b p s) = part.If (guard_tree g) (part.Block (block_parts b)) (Some (record { token = p; body = statement_tree s }))
+  statement_tree (alternative g b p s) =
+      part.If (guard_tree g) (part.Block (block_parts b))
+      (Some (record { token = p; body = statement_tree s }))
   statement_tree (assign a p e q) = part.Assign (accessed a) (subscripts a) (expr_tree e)
   statement_tree (block b) = part.Block (block_parts b)
 
@@ -289,8 +302,11 @@ abbrev pub parameter_text : Name → List Tok
 parameter_text n = name_token n ∷ []
 
 abbrev pub declared_text : Declared → List Tok
-declared_text (parameters p ns q) = (word.Declare Param, p) ∷ (separated_text word.Comma parameter_text ns ++ (word.Semi, q) ∷ [])
-declared_text (arrays w p declared q) = (word.Declare (array_word w), p) ∷ (separated_text word.Comma access_text declared ++ (word.Semi, q) ∷ [])
+declared_text (parameters p ns q) =
+    (word.Declare Param, p) ∷ (separated_text word.Comma parameter_text ns ++ (word.Semi, q) ∷ [])
+declared_text (arrays w p declared q) =
+    (word.Declare (array_word w), p)
+    ∷ (separated_text word.Comma access_text declared ++ (word.Semi, q) ∷ [])
 
 abbrev pub parameter : Name → Named
 parameter n = record { name = n; extents = [] }
@@ -300,7 +316,8 @@ array a = record { name = accessed a; extents = subscripts a }
 
 abbrev pub declared_tree : Declared → Declaration
 declared_tree (parameters p ns q) = record { word = Param; names = separated_list parameter ns }
-declared_tree (arrays w p declared q) = record { word = array_word w; names = separated_list array declared }
+declared_tree (arrays w p declared q) =
+    record { word = array_word w; names = separated_list array declared }
 
 -- ---- programs
 
@@ -324,7 +341,8 @@ abbrev pub program_text : Program → List Tok
 program_text (program ds ss) = declarations_text ds ++ statements_text ss
 
 abbrev pub program_tree : Program → Tree
-program_tree (program ds ss) = record { declarations = declaration_trees ds; parts = statement_trees ss }
+program_tree (program ds ss) =
+    record { declarations = declaration_trees ds; parts = statement_trees ss }
 
 -- ---- tokens
 

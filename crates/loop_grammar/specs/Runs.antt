@@ -23,9 +23,11 @@ tree_at s = finish s
 pub record Stuck (tokens : List Tok) (k : ℕ) : Type 0 where
   pub state : State
   pub before : state_after (take k tokens) ≡ Some state
-  pub there : ((t : Tok) × (slice_get tokens k ≡ Some t) × (next_state state t ≡ None)) ⊎ ((k ≡ length tokens) × (tree_at state ≡ None))
+  pub there : ((t : Tok) × (slice_get tokens k ≡ Some t) × (next_state state t ≡ None)) ⊎
+      ((k ≡ length tokens) × (tree_at state ≡ None))
 
 abbrev pub Ran : List ℕ → List Token → Result Tree ParseError → Type 0
-Ran bytes tokens (Ok tree) = (s : State) × (state_after (sentence bytes tokens) ≡ Some s) × (tree_at s ≡ Some tree)
+Ran bytes tokens (Ok tree) =
+    (s : State) × (state_after (sentence bytes tokens) ≡ Some s) × (tree_at s ≡ Some tree)
 Ran bytes tokens (Err Memory) = Unit {0}
 Ran bytes tokens (Err (Syntax k)) = Stuck (sentence bytes tokens) k

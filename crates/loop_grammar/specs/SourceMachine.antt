@@ -78,19 +78,27 @@ feed_for for_place.Int (word.Int, p) = Some (at_for for_place.Name)
 feed_for for_place.Int (word.Name text, p) = Some (at_for (for_place.Assign (name_of text p)))
 feed_for for_place.Name (word.Name text, p) = Some (at_for (for_place.Assign (name_of text p)))
 feed_for (for_place.Assign n) (word.Assign, p) = Some (begun (slot.First n))
-feed_for (for_place.Second n first) (word.Name text, p) = Some (at_for (for_place.Compare n first (name_of text p)))
-feed_for (for_place.Compare n first second) (word.Compare Less, p) = Some (begun (slot.Bound n first second false))
-feed_for (for_place.Compare n first second) (word.Compare LessEq, p) = Some (begun (slot.Bound n first second true))
-feed_for (for_place.Step bounds) (word.Name text, p) = Some (at_for (for_place.StepSign bounds (name_of text p)))
+feed_for (for_place.Second n first) (word.Name text, p) =
+    Some (at_for (for_place.Compare n first (name_of text p)))
+feed_for (for_place.Compare n first second) (word.Compare Less, p) =
+    Some (begun (slot.Bound n first second false))
+feed_for (for_place.Compare n first second) (word.Compare LessEq, p) =
+    Some (begun (slot.Bound n first second true))
+feed_for (for_place.Step bounds) (word.Name text, p) =
+    Some (at_for (for_place.StepSign bounds (name_of text p)))
 feed_for (for_place.Step bounds) (word.Increment, p) = Some (at_for (for_place.Third bounds))
-feed_for (for_place.StepSign bounds third) (word.Increment, p) = Some (at_for (for_place.Close bounds third))
-feed_for (for_place.StepSign bounds third) (word.AddAssign, p) = Some (begun (slot.Step bounds third p))
-feed_for (for_place.Third bounds) (word.Name text, p) = Some (at_for (for_place.Close bounds (name_of text p)))
+feed_for (for_place.StepSign bounds third) (word.Increment, p) =
+    Some (at_for (for_place.Close bounds third))
+feed_for (for_place.StepSign bounds third) (word.AddAssign, p) =
+    Some (begun (slot.Step bounds third p))
+feed_for (for_place.Third bounds) (word.Name text, p) =
+    Some (at_for (for_place.Close bounds (name_of text p)))
 feed_for _ _ = None
 
 -- after the step of a `for`: its body comes next, where its brackets end
 abbrev pub feed_step : Nesting → Bounds → Name → Step → Lexeme → Option State
-feed_step n bounds third step word.Close = Some (enclosed n (enclosing.For bounds third step), at place.Statement)
+feed_step n bounds third step word.Close =
+    Some (enclosed n (enclosing.For bounds third step), at place.Statement)
 feed_step n bounds third step _ = None
 
 abbrev pub feed_header : Nesting → ForPlace → Tok → Option State
@@ -100,7 +108,15 @@ feed_header n place t = option_map (λ w. (n, w)) (feed_for place t)
 -- ---- statements
 
 abbrev pub feed_begin : Nesting → Tok → Option State
-feed_begin n (word.OpenCurly, p) = Some (record n { enclosing = enclosing.Block n.parts ∷ n.enclosing; parts = [] }, at place.Statement)
+feed_begin n (word.OpenCurly, p) =
+    Some (
+      record n {
+        enclosing = enclosing.Block n.parts
+            ∷ n.enclosing;
+        parts = [];
+      },
+      at place.Statement,
+    )
 feed_begin n (word.For, p) = Some (n, at_for for_place.Open)
 feed_begin n (word.If, p) = Some (n, at place.If)
 feed_begin n (word.Name text, p) = Some (n, at (place.Target (name_of text p) []))
@@ -108,7 +124,8 @@ feed_begin n _ = None
 
 -- a `}`
 abbrev pub end_block : Nesting → List Enclosing → Option State
-end_block n (enclosing.Block outer ∷ k) = Some (record n { enclosing = k; parts = outer }, at (place.AfterBlock n.parts))
+end_block n (enclosing.Block outer ∷ k) =
+    Some (record n { enclosing = k; parts = outer }, at (place.AfterBlock n.parts))
 end_block n _ = None
 
 abbrev pub feed_statement : Nesting → Tok → Option State
@@ -125,13 +142,15 @@ landed [] parts v = ([], parts ++ v ∷ [])
 landed (enclosing.Block outer ∷ k) parts v = (enclosing.Block outer ∷ k, parts ++ v ∷ [])
 landed (enclosing.For bounds third step ∷ k) parts v = landed k parts (for_part bounds third step v)
 landed (enclosing.If cond ∷ k) parts v = landed k parts (part.If cond v None)
-landed (enclosing.Else cond block p ∷ k) parts v = landed k parts (part.If cond (part.Block block) (Some (record { token = p; body = v })))
+landed (enclosing.Else cond block p ∷ k) parts v =
+    landed k parts (part.If cond (part.Block block) (Some (record { token = p; body = v })))
 
 abbrev pub settled : Nesting → Part → Nesting
 settled n v = let r = landed n.enclosing n.parts v in record n { enclosing = r.0; parts = r.1 }
 
 abbrev pub else_begun : Nesting → List Enclosing → List Part → ℕ → Option State
-else_begun n (enclosing.If cond ∷ k) block p = Some (record n { enclosing = enclosing.Else cond block p ∷ k }, at place.Statement)
+else_begun n (enclosing.If cond ∷ k) block p =
+    Some (record n { enclosing = enclosing.Else cond block p ∷ k }, at place.Statement)
 else_begun n _ block p = None
 
 abbrev pub feed_after_block : Nesting → List Part → Tok → Option State
@@ -143,7 +162,8 @@ feed_if n (word.Open, p) = Some (n, begun (slot.Left []))
 feed_if n _ = None
 
 abbrev pub feed_target : Nesting → Name → List Operand → Tok → Option State
-feed_target n name subscripts (word.OpenSquare, p) = Some (n, begun (slot.Subscript name subscripts))
+feed_target n name subscripts (word.OpenSquare, p) =
+    Some (n, begun (slot.Subscript name subscripts))
 feed_target n name subscripts (word.Assign, p) = Some (n, begun (slot.Assigned name subscripts))
 feed_target n name subscripts _ = None
 
@@ -153,19 +173,31 @@ abbrev pub at_declare : DeclarePlace → Where
 at_declare p = at (place.Declaring p)
 
 abbrev pub declared : Nesting → DeclWord → List Named → State
-declared n w names = (record n { declarations = n.declarations ++ record { word = w; names = names } ∷ [] }, at place.Declaration)
+declared n w names = (
+  record n {
+    declarations = n.declarations
+        ++ record { word = w; names = names } ∷ [];
+  },
+  at place.Declaration,
+)
 
 abbrev pub named_of : Name → List Operand → Named
 named_of name extents = record { name = name; extents = extents }
 
 abbrev pub feed_declare : Nesting → DeclarePlace → Tok → Option State
-feed_declare n (declare.Parameter names) (word.Name text, p) = Some (n, at_declare (declare.AfterParameter (names ++ named_of (name_of text p) [] ∷ [])))
-feed_declare n (declare.AfterParameter names) (word.Comma, p) = Some (n, at_declare (declare.Parameter names))
+feed_declare n (declare.Parameter names) (word.Name text, p) =
+    Some (n, at_declare (declare.AfterParameter (names ++ named_of (name_of text p) [] ∷ [])))
+feed_declare n (declare.AfterParameter names) (word.Comma, p) =
+    Some (n, at_declare (declare.Parameter names))
 feed_declare n (declare.AfterParameter names) (word.Semi, p) = Some (declared n Param names)
-feed_declare n (declare.Array w names) (word.Name text, p) = Some (n, at_declare (declare.AfterArray w names (name_of text p) []))
-feed_declare n (declare.AfterArray w names name extents) (word.OpenSquare, p) = Some (n, begun (slot.Extent w names name extents))
-feed_declare n (declare.AfterArray w names name extents) (word.Comma, p) = Some (n, at_declare (declare.Array w (names ++ named_of name extents ∷ [])))
-feed_declare n (declare.AfterArray w names name extents) (word.Semi, p) = Some (declared n w (names ++ named_of name extents ∷ []))
+feed_declare n (declare.Array w names) (word.Name text, p) =
+    Some (n, at_declare (declare.AfterArray w names (name_of text p) []))
+feed_declare n (declare.AfterArray w names name extents) (word.OpenSquare, p) =
+    Some (n, begun (slot.Extent w names name extents))
+feed_declare n (declare.AfterArray w names name extents) (word.Comma, p) =
+    Some (n, at_declare (declare.Array w (names ++ named_of name extents ∷ [])))
+feed_declare n (declare.AfterArray w names name extents) (word.Semi, p) =
+    Some (declared n w (names ++ named_of name extents ∷ []))
 feed_declare n _ _ = None
 
 abbrev pub declare_place : DeclWord → DeclarePlace
@@ -180,7 +212,8 @@ feed_declaration n t = feed_statement n t
 -- ---- expressions
 
 abbrev pub comparison_of : Operand → CompareSign → ℕ → Operand → Comparison
-comparison_of left sign token right = record { left = left; sign = sign; token = token; right = right }
+comparison_of left sign token right =
+    record { left = left; sign = sign; token = token; right = right }
 
 -- after these comparisons of an `if`
 abbrev pub feed_comparison : Nesting → List Comparison → Lexeme → Option State
@@ -190,18 +223,28 @@ feed_comparison n cond _ = None
 
 -- after the value of an assignment
 abbrev pub feed_assigned : Nesting → Name → List Operand → Operand → Lexeme → Option State
-feed_assigned n name subscripts v word.Semi = Some (settled n (part.Assign name subscripts v), at place.Statement)
+feed_assigned n name subscripts v word.Semi =
+    Some (settled n (part.Assign name subscripts v), at place.Statement)
 feed_assigned n name subscripts v _ = None
 
 -- an expression is complete, and this token comes after it
 abbrev pub fill : Nesting → Slot → Operand → Tok → Option State
-fill n (slot.Extent w names name extents) v (word.CloseSquare, p) = Some (n, at_declare (declare.AfterArray w names name (extents ++ v ∷ [])))
+fill n (slot.Extent w names name extents) v (word.CloseSquare, p) =
+    Some (n, at_declare (declare.AfterArray w names name (extents ++ v ∷ [])))
 fill n (slot.First name) v (word.Semi, p) = Some (n, at_for (for_place.Second name v))
-fill n (slot.Bound name first second inclusive) v (word.Semi, p) = Some (n, at_for (for_place.Step (record { name = name; first = first; second = second; inclusive = inclusive; bound = v })))
+fill n (slot.Bound name first second inclusive) v (word.Semi, p) =
+    Some (
+      n,
+      at_for
+          (for_place.Step
+          (record { name = name; first = first; second = second; inclusive = inclusive; bound = v })),
+    )
 fill n (slot.Step bounds third token) v (w, p) = feed_step n bounds third (By token v) w
 fill n (slot.Left cond) v (word.Compare sign, p) = Some (n, begun (slot.Right cond v sign p))
-fill n (slot.Right cond left sign token) v (w, p) = feed_comparison n (cond ++ comparison_of left sign token v ∷ []) w
-fill n (slot.Subscript name subscripts) v (word.CloseSquare, p) = Some (n, at (place.Target name (subscripts ++ v ∷ [])))
+fill n (slot.Right cond left sign token) v (w, p) =
+    feed_comparison n (cond ++ comparison_of left sign token v ∷ []) w
+fill n (slot.Subscript name subscripts) v (word.CloseSquare, p) =
+    Some (n, at (place.Target name (subscripts ++ v ∷ [])))
 fill n (slot.Assigned name subscripts) v (w, p) = feed_assigned n name subscripts v w
 fill n _ v _ = None
 
@@ -224,7 +267,9 @@ within_again n s (Some e) = Some (n, within s e)
 
 -- outside all brackets of the expression such a token is none of its own
 abbrev pub feed_within : Nesting → Slot → expression.State → Tok → Option State
-feed_within n s e t = if expression.has_no_bracket e && ends_expression t.0 then filled n s (expression.finish e) t else within_again n s (expression.feed e t)
+feed_within n s e t =
+    if expression.has_no_bracket e && ends_expression t.0 then filled n s (expression.finish e) t
+    else within_again n s (expression.feed e t)
 
 -- ---- sources
 

@@ -58,7 +58,9 @@ pub(crate) fn feed_declare(
     word: Lexeme,
     token: u32,
 ) -> Result<Option<Reader>, AllocError>
-    ensures { IfOk result (λ after. feed_declare (inside_out nesting) place (word, token) ≡ option_map state_of after) }
+    ensures { IfOk result
+        (λ after. feed_declare (inside_out nesting) place (word, token)
+        ≡ option_map state_of after) }
 {
     match place {
         DeclarePlace::Parameter(names) => match word {
@@ -108,7 +110,10 @@ fn feed_array(
     extents: Items<Operand>,
     word: Lexeme,
 ) -> Result<Option<Reader>, AllocError>
-    ensures { IfOk result (λ after. (p : ℕ) → feed_declare (inside_out nesting) (DeclarePlace.AfterArray declared names name extents) (word, p) ≡ option_map state_of after) }
+    ensures { IfOk result
+        (λ after. (p : ℕ)
+        → feed_declare (inside_out nesting) (DeclarePlace.AfterArray declared names name extents)
+        (word, p) ≡ option_map state_of after) }
 {
     match word {
         Lexeme::OpenSquare => {
@@ -156,7 +161,8 @@ pub(crate) fn feed_declaration(
     word: Lexeme,
     token: u32,
 ) -> Result<Option<Reader>, AllocError>
-    ensures { IfOk result (λ after. feed_declaration (inside_out nesting) (word, token) ≡ option_map state_of after) }
+    ensures { IfOk result
+        (λ after. feed_declaration (inside_out nesting) (word, token) ≡ option_map state_of after) }
 {
     match word {
         Lexeme::Declare(word) => Ok(declaring(nesting, first_place(alloc, word))),

@@ -209,7 +209,9 @@ fn open(
     level: Level,
     bracket: Bracket,
 ) -> Result<Expression, AllocError>
-    ensures { IfOk result (λ e. state_of e ≡ (record { level = level; bracket = bracket } ∷ reverse outer, Reading.Factor fresh)) }
+    ensures { IfOk result
+        (λ e. state_of e
+        ≡ (record { level = level; bracket = bracket } ∷ reverse outer, Reading.Factor fresh)) }
 {
     Ok(Expression {
         outer: with_item(outer, Frame { level, bracket })?,
@@ -218,7 +220,8 @@ fn open(
 }
 
 fn negated_level(level: Level, token: u32) -> Result<Level, AllocError>
-    ensures { IfOk result (λ longer. longer ≡ record level { negations = level.negations ++ token ∷ [] }) }
+    ensures { IfOk result
+        (λ longer. longer ≡ record level { negations = level.negations ++ token ∷ [] }) }
 {
     let Level {
         sum,
@@ -240,7 +243,8 @@ fn feed_factor(
     word: Lexeme,
     token: u32,
 ) -> Result<Option<Expression>, AllocError>
-    ensures { IfOk result (λ after. feed_factor (reverse outer) level (word, token) ≡ option_map state_of after) }
+    ensures { IfOk result
+        (λ after. feed_factor (reverse outer) level (word, token) ≡ option_map state_of after) }
 {
     let reading = match word {
         Lexeme::Number(value) => {
@@ -361,7 +365,9 @@ fn sum_level(
     sign: BinarySign,
     token: u32,
 ) -> Result<Level, AllocError>
-    ensures { IfOk result (λ level. level ≡ level_with (Some (record { left = summed sum value; sign = sign; token = token })) None) }
+    ensures { IfOk result
+        (λ level. level
+        ≡ level_with (Some (record { left = summed sum value; sign = sign; token = token })) None) }
 {
     let left = add(alloc, sum, value)?;
     Ok(Level {
@@ -380,7 +386,8 @@ fn feed_term(
     word: Lexeme,
     token: u32,
 ) -> Result<Option<Expression>, AllocError>
-    ensures { IfOk result (λ after. feed_term (reverse outer) sum value (word, token) ≡ option_map state_of after) }
+    ensures { IfOk result
+        (λ after. feed_term (reverse outer) sum value (word, token) ≡ option_map state_of after) }
 {
     let level = match word {
         Lexeme::Times => product_level(alloc, sum, value, token),
@@ -416,7 +423,9 @@ fn feed_access(
     word: Lexeme,
     token: u32,
 ) -> Result<Option<Expression>, AllocError>
-    ensures { IfOk result (λ after. feed_access (reverse outer) level name subscripts (word, token) ≡ option_map state_of after) }
+    ensures { IfOk result
+        (λ after. feed_access (reverse outer) level name subscripts (word, token)
+        ≡ option_map state_of after) }
 {
     match word {
         Lexeme::OpenSquare => {
@@ -440,7 +449,9 @@ fn feed_arguments(
     token: u32,
     word: Lexeme,
 ) -> Result<Option<Expression>, AllocError>
-    ensures { IfOk result (λ after. (p : ℕ) → feed_arguments (reverse outer) level choice token (word, p) ≡ option_map state_of after) }
+    ensures { IfOk result
+        (λ after. (p : ℕ)
+        → feed_arguments (reverse outer) level choice token (word, p) ≡ option_map state_of after) }
 {
     match word {
         Lexeme::Open => {
@@ -463,7 +474,8 @@ pub(crate) fn feed(
     word: Lexeme,
     token: u32,
 ) -> Result<Option<Expression>, AllocError>
-    ensures { IfOk result (λ after. feed (state_of expression) (word, token) ≡ option_map state_of after) }
+    ensures { IfOk result
+        (λ after. feed (state_of expression) (word, token) ≡ option_map state_of after) }
 {
     let Expression { outer, reading } = expression;
     match reading {

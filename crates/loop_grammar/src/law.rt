@@ -7,5 +7,6 @@ ghost use Rattle.loop_grammar.specs.declared.tree.Tree.{Tree};
 
 /// Tokens have at most one tree.
 pub fn one_tree()
-    ensures { (bytes : List ℕ) (tokens : List Token) (a b : Tree) → IsTree bytes tokens a → IsTree bytes tokens b → a ≡ b }
+    ensures { (bytes : List ℕ) (tokens : List Token) (a b : Tree) → IsTree bytes tokens a
+        → IsTree bytes tokens b → a ≡ b }
 {}

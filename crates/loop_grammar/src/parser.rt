@@ -45,7 +45,8 @@ fn advance(
     word: Lexeme,
     token: u32,
 ) -> Result<Option<Boxed<Reader>>, AllocError>
-    ensures { IfOk result (λ after. next_state (state_of reader) (word, token) ≡ option_map state_of after) }
+    ensures { IfOk result
+        (λ after. next_state (state_of reader) (word, token) ≡ option_map state_of after) }
 {
     match feed(alloc, reader.into_inner(), word, token)? {
         Some(after) => Ok(Some(Boxed::new(alloc, after)?)),
@@ -83,7 +84,8 @@ fn run(alloc: Global, bytes: &[u8], tokens: &[Token]) -> Result<Tree, ParseError
 pub fn parse(alloc: Global, bytes: &[u8], tokens: &[Token]) -> Result<Tree, ParseError>
     requires { tokens_of bytes.now ≡ Ok tokens.now }
     ensures tree { IfOk result (IsTree bytes.now tokens.now) }
-    ensures only { (tree : Tree) → IsTree bytes.now tokens.now tree → MatchResult result (λ found. found ≡ tree) (λ error. error ≡ Memory) }
+    ensures only { (tree : Tree) → IsTree bytes.now tokens.now tree
+        → MatchResult result (λ found. found ≡ tree) (λ error. error ≡ Memory) }
     ensures place { IfErr result (IsPlace bytes.now tokens.now) }
 {
     run(alloc, bytes, tokens)

@@ -25,7 +25,9 @@ fn with_operand(list: Items<Operand>, item: Operand) -> Result<Items<Operand>, A
 
 /// The place after the `]` of an expression in a name's brackets.
 fn after_square(slot: Slot, value: Operand) -> Result<Option<Place>, AllocError>
-    ensures { IfOk result (λ place. (n : Nesting) (p : ℕ) → fill n slot value (Lexeme.CloseSquare, p) ≡ option_map (λ x. (n, at x)) place) }
+    ensures { IfOk result
+        (λ place. (n : Nesting) (p : ℕ)
+        → fill n slot value (Lexeme.CloseSquare, p) ≡ option_map (λ x. (n, at x)) place) }
 {
     match slot {
         Slot::Extent {
@@ -59,7 +61,8 @@ fn fill_slot(
     word: Lexeme,
     token: u32,
 ) -> Result<Option<Reader>, AllocError>
-    ensures { IfOk result (λ after. fill (inside_out nesting) slot value (word, token) ≡ option_map state_of after) }
+    ensures { IfOk result
+        (λ after. fill (inside_out nesting) slot value (word, token) ≡ option_map state_of after) }
 {
     let position = match slot {
         Slot::First(name) => match word {
@@ -148,7 +151,9 @@ fn feed_expression(
     word: Lexeme,
     token: u32,
 ) -> Result<Option<Reader>, AllocError>
-    ensures { IfOk result (λ after. feed_within (inside_out nesting) slot (expression_state expression) (word, token) ≡ option_map state_of after) }
+    ensures { IfOk result
+        (λ after. feed_within (inside_out nesting) slot (expression_state expression) (word, token)
+        ≡ option_map state_of after) }
 {
     if expression.has_no_bracket() && ends(&word) {
         match expression::finish(alloc, expression)? {
@@ -174,7 +179,8 @@ pub(crate) fn feed(
     word: Lexeme,
     token: u32,
 ) -> Result<Option<Reader>, AllocError>
-    ensures { IfOk result (λ after. next_state (state_of reader) (word, token) ≡ option_map state_of after) }
+    ensures { IfOk result
+        (λ after. next_state (state_of reader) (word, token) ≡ option_map state_of after) }
 {
     let Reader { nesting, position } = reader;
     match position {
@@ -192,7 +198,8 @@ fn feed_at(
     word: Lexeme,
     token: u32,
 ) -> Result<Option<Reader>, AllocError>
-    ensures { IfOk result (λ after. feed_at (inside_out nesting) place (word, token) ≡ option_map state_of after) }
+    ensures { IfOk result
+        (λ after. feed_at (inside_out nesting) place (word, token) ≡ option_map state_of after) }
 {
     match place {
         Place::Declaration => feed_declaration(alloc, nesting, word, token),

@@ -123,7 +123,9 @@ fn move_to(nesting: Nesting, place: Place) -> Reader
 
 /// A statement comes next, inside this one.
 fn enclose(nesting: Nesting, statement: Enclosing) -> Result<Reader, AllocError>
-    ensures { IfOk result (λ reader. state_of reader ≡ (enclosed (inside_out nesting) statement, at Place.Statement)) }
+    ensures { IfOk result
+        (λ reader. state_of reader
+        ≡ (enclosed (inside_out nesting) statement, at Place.Statement)) }
 {
     let Nesting {
         declarations,
@@ -150,7 +152,9 @@ pub(crate) fn feed_step(
     step: Step,
     word: Lexeme,
 ) -> Result<Option<Reader>, AllocError>
-    ensures { IfOk result (λ after. feed_step (inside_out nesting) bounds third step word ≡ option_map state_of after) }
+    ensures { IfOk result
+        (λ after. feed_step (inside_out nesting) bounds third step word
+        ≡ option_map state_of after) }
 {
     match word {
         Lexeme::Close => {
@@ -173,7 +177,9 @@ pub(crate) fn feed_header(
     word: Lexeme,
     token: u32,
 ) -> Result<Option<Reader>, AllocError>
-    ensures { IfOk result (λ after. feed_header (inside_out nesting) place (word, token) ≡ option_map state_of after) }
+    ensures { IfOk result
+        (λ after. feed_header (inside_out nesting) place (word, token)
+        ≡ option_map state_of after) }
 {
     match place {
         ForPlace::Close { bounds, third } => feed_step(nesting, bounds, third, Step::One, word),
@@ -186,7 +192,17 @@ pub(crate) fn feed_header(
 
 /// A block begins.
 fn open_block(alloc: Global, nesting: Nesting) -> Result<Reader, AllocError>
-    ensures { IfOk result (λ reader. state_of reader ≡ (record (inside_out nesting) { enclosing = Enclosing.Block nesting.parts ∷ reverse nesting.enclosing; parts = [] }, at Place.Statement)) }
+    ensures { IfOk result
+        (λ reader. state_of reader
+        ≡ (
+          record
+              (inside_out nesting) {
+                enclosing = Enclosing.Block nesting.parts
+                    ∷ reverse nesting.enclosing;
+                parts = [];
+              },
+          at Place.Statement,
+        )) }
 {
     let Nesting {
         declarations,
@@ -210,7 +226,8 @@ fn feed_begin(
     word: Lexeme,
     token: u32,
 ) -> Result<Option<Reader>, AllocError>
-    ensures { IfOk result (λ after. feed_begin (inside_out nesting) (word, token) ≡ option_map state_of after) }
+    ensures { IfOk result
+        (λ after. feed_begin (inside_out nesting) (word, token) ≡ option_map state_of after) }
 {
     let place = match word {
         Lexeme::OpenCurly => return Ok(Some(open_block(alloc, nesting)?)),
@@ -227,7 +244,8 @@ fn feed_begin(
 
 /// Goes on by a `}`.
 fn close_block(nesting: Nesting) -> Option<Reader>
-    ensures { end_block (inside_out nesting) (inside_out nesting).enclosing ≡ option_map state_of result }
+    ensures { end_block (inside_out nesting) (inside_out nesting).enclosing
+        ≡ option_map state_of result }
 {
     let Nesting {
         declarations,
@@ -255,7 +273,8 @@ pub(crate) fn feed_statement(
     word: Lexeme,
     token: u32,
 ) -> Result<Option<Reader>, AllocError>
-    ensures { IfOk result (λ after. feed_statement (inside_out nesting) (word, token) ≡ option_map state_of after) }
+    ensures { IfOk result
+        (λ after. feed_statement (inside_out nesting) (word, token) ≡ option_map state_of after) }
 {
     match word {
         Lexeme::CloseCurly => Ok(close_block(nesting)),
@@ -308,7 +327,9 @@ fn else_part(
     token: u32,
     other: Part,
 ) -> Result<Part, AllocError>
-    ensures { IfOk result (λ tree. tree ≡ part.If cond (part.Block block) (Some (record { token = token; body = other }))) }
+    ensures { IfOk result
+        (λ tree. tree
+        ≡ part.If cond (part.Block block) (Some (record { token = token; body = other }))) }
 {
     let body = Boxed::new(alloc, other)?;
     Ok(Part::If {
@@ -376,7 +397,9 @@ fn begin_else(
     block: Items<Part>,
     token: u32,
 ) -> Result<Option<Reader>, AllocError>
-    ensures { IfOk result (λ after. else_begun (inside_out nesting) (inside_out nesting).enclosing block token ≡ option_map state_of after) }
+    ensures { IfOk result
+        (λ after. else_begun (inside_out nesting) (inside_out nesting).enclosing block token
+        ≡ option_map state_of after) }
 {
     let Nesting {
         declarations,
@@ -405,7 +428,9 @@ pub(crate) fn feed_after_block(
     word: Lexeme,
     token: u32,
 ) -> Result<Option<Reader>, AllocError>
-    ensures { IfOk result (λ after. feed_after_block (inside_out nesting) block (word, token) ≡ option_map state_of after) }
+    ensures { IfOk result
+        (λ after. feed_after_block (inside_out nesting) block (word, token)
+        ≡ option_map state_of after) }
 {
     match word {
         Lexeme::Else => begin_else(nesting, block, token),
@@ -424,7 +449,8 @@ pub(crate) fn feed_target(
     subscripts: Items<Operand>,
     word: Lexeme,
 ) -> Option<Reader>
-    ensures { (p : ℕ) → feed_target (inside_out nesting) name subscripts (word, p) ≡ option_map state_of result }
+    ensures { (p : ℕ)
+        → feed_target (inside_out nesting) name subscripts (word, p) ≡ option_map state_of result }
 {
     let slot = match word {
         Lexeme::OpenSquare => Slot::Subscript { name, subscripts },
@@ -458,7 +484,9 @@ pub(crate) fn feed_comparison(
     comparison: Comparison,
     word: Lexeme,
 ) -> Result<Option<Reader>, AllocError>
-    ensures { IfOk result (λ after. feed_comparison (inside_out nesting) (cond ++ comparison ∷ []) word ≡ option_map state_of after) }
+    ensures { IfOk result
+        (λ after. feed_comparison (inside_out nesting) (cond ++ comparison ∷ []) word
+        ≡ option_map state_of after) }
 {
     let mut cond = cond;
     match word {
@@ -486,7 +514,9 @@ pub(crate) fn feed_assigned(
     value: Operand,
     word: Lexeme,
 ) -> Result<Option<Reader>, AllocError>
-    ensures { IfOk result (λ after. feed_assigned (inside_out nesting) name subscripts value word ≡ option_map state_of after) }
+    ensures { IfOk result
+        (λ after. feed_assigned (inside_out nesting) name subscripts value word
+        ≡ option_map state_of after) }
 {
     match word {
         Lexeme::Semi => {

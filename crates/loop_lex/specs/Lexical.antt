@@ -27,7 +27,8 @@ is_white_space _ = false
 
 -- `//` and then no line feed
 abbrev pub is_line_comment : List ℕ → Bool
-is_line_comment (a ∷ b ∷ body) = (a == 47) && ((b == 47) && list_all (λ c. not (is_line_feed c)) body)
+is_line_comment (a ∷ b ∷ body) =
+    (a == 47) && ((b == 47) && list_all (λ c. not (is_line_feed c)) body)
 is_line_comment _ = false
 
 abbrev pub is_empty : List ℕ → Bool
@@ -38,7 +39,8 @@ is_empty (b ∷ bs) = false
 abbrev pub ends_at_first_close : List ℕ → Bool
 ends_at_first_close [] = false
 ends_at_first_close (a ∷ []) = false
-ends_at_first_close (a ∷ b ∷ rest) = if (a == 42) && (b == 47) then is_empty rest else ends_at_first_close (b ∷ rest)
+ends_at_first_close (a ∷ b ∷ rest) =
+    if (a == 42) && (b == 47) then is_empty rest else ends_at_first_close (b ∷ rest)
 
 abbrev pub opens_comment : List ℕ → Bool
 opens_comment (a ∷ b ∷ rest) = (a == 47) && (b == 42)
@@ -56,7 +58,8 @@ is_word [] = false
 
 abbrev pub reserved_words : List (List ℕ)
 reserved_words =
-    codes "param" ∷ codes "in" ∷ codes "out" ∷ codes "inout" ∷ codes "var" ∷ codes "int" ∷ codes "for"
+    codes "param" ∷ codes "in" ∷ codes "out" ∷ codes "inout" ∷ codes "var" ∷ codes "int"
+    ∷ codes "for"
     ∷ codes "if" ∷ codes "else" ∷ codes "min" ∷ codes "max" ∷ []
 
 abbrev pub is_reserved : List ℕ → Bool

@@ -6,12 +6,13 @@ use Rattle.loop_lex.specs.declared.token.Token.{Token}
 use Rattle.loop_lex.specs.declared.token.TokenKind.{TokenKind}
 use Rattle.loop_lex.specs.declared.token.TokenKind.TheVariants.{Name, Number, Reserved, Sign}
 use Rattle.loop_lex.specs.declared.token.LexError.{LexError}
-use Rattle.loop_lex.specs.declared.token.LexError.TheVariants.{BadByte, OpenComment, LargeNumber, TooMany, Memory}
+use Rattle.loop_lex.specs.declared.token.LexError.TheVariants.{BadByte, OpenComment, LargeNumber, TooMany}
 
 -- the greatest n up to `most` for which the first n bytes are an input element, or 0
 unfoldable pub longest_up_to : ℕ → List ℕ → ℕ
 longest_up_to zero bytes = 0
-longest_up_to (suc most) bytes = if is_input_element (take (suc most) bytes) then suc most else longest_up_to most bytes
+longest_up_to (suc most) bytes =
+    if is_input_element (take (suc most) bytes) then suc most else longest_up_to most bytes
 
 -- the length of the longest input element at the front, or 0 where none stands there
 abbrev pub longest : List ℕ → ℕ
@@ -19,7 +20,9 @@ longest bytes = longest_up_to (length bytes) bytes
 
 -- the kind of a text that is a token
 abbrev pub kind_of : List ℕ → TokenKind
-kind_of text = if is_digits text then Number else (if is_word text then (if is_reserved text then Reserved else Name) else Sign)
+kind_of text =
+    if is_digits text then Number
+    else (if is_word text then (if is_reserved text then Reserved else Name) else Sign)
 
 -- why no input element stands at the front of the bytes, which begin at `at`
 abbrev pub refusal : ℕ → List ℕ → LexError
@@ -37,7 +40,8 @@ before token (Err error) = Err error
 -- The input element of n bytes at the front, which begins at `at`, and what stands behind it.
 -- `room` more tokens may come, and `behind` gives the tokens that follow where so many more may.
 -- Of two refusals at one place the one that is tested first decides.
-abbrev pub element : ℕ → ℕ → ℕ → List ℕ → (ℕ → Result (List Token) LexError) → Result (List Token) LexError
+abbrev pub element : ℕ → ℕ → ℕ → List ℕ → (ℕ → Result (List Token) LexError)
+    → Result (List Token) LexError
 element room at zero bytes behind = Err (refusal at bytes)
 element room at (suc n) bytes behind =
     let text = take (suc n) bytes in
@@ -62,14 +66,10 @@ token_limit = 8192
 abbrev pub tokens : List ℕ → Result (List Token) LexError
 tokens bytes = tokens_from token_limit 0 0 bytes
 
--- an answer is what the definition says, unless memory ran out
-abbrev pub Gives : Result (Vec Token) LexError → Result (List Token) LexError → Type 0
-Gives (Ok found) wanted = wanted ≡ Ok found.items
-Gives (Err Memory) wanted = Unit {0}
-Gives (Err (BadByte at)) wanted = wanted ≡ Err (BadByte at)
-Gives (Err (OpenComment at)) wanted = wanted ≡ Err (OpenComment at)
-Gives (Err (LargeNumber at)) wanted = wanted ≡ Err (LargeNumber at)
-Gives (Err (TooMany at)) wanted = wanted ≡ Err (TooMany at)
+-- the lexer's answer, with its tokens as a list
+abbrev pub answer_of : Result (Vec Token) LexError → Result (List Token) LexError
+answer_of (Ok found) = Ok found.items
+answer_of (Err error) = Err error
 
 -- the text of a token: its slice of the bytes
 abbrev pub text_of : List ℕ → Token → List ℕ

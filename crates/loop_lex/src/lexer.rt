@@ -1,7 +1,8 @@
 //! The lexer: it goes from one input element to the next.
 
 ghost use Rattle.std.specs.Prelude.{◌≡◌, ◌^◌, ◌<◌, ◌≤◌, ◌+◌, ◌-◌, [], ◌∷◌, ◌++◌, length, take, drop, Ok, Err};
-ghost use Rattle.loop_lex.specs.Tokens.{tokens, Gives};
+ghost use Rattle.plain_data.specs.Answers.{IsUnlessMemory};
+ghost use Rattle.loop_lex.specs.Tokens.{answer_of, tokens};
 
 use crate::scan::{Front, front_of};
 use crate::slice::is_large_number;
@@ -12,7 +13,7 @@ use std::alloc::Global;
 /// Otherwise the first place that is refused, and there the reason that `LexError` lists first.
 pub fn lex(alloc: Global, bytes: &[u8]) -> Result<Vec<Token>, LexError>
     requires { length bytes.now < 2 ^ 32 }
-    ensures { Gives result (tokens bytes.now) }
+    ensures { IsUnlessMemory LexError.Memory (answer_of result) (tokens bytes.now) }
 {
     let mut found = Vec::new(alloc);
     let mut at: usize = 0;

@@ -156,12 +156,30 @@ abbrev pub squared_phrase : Phrase → List Lexeme
 squared_phrase p = in_squares p.words
 
 abbrev pub phrase_step : layer.Operand-F Phrase → Phrase
-phrase_step (layer.Number value token) = record { rank = rank.Factor; words = word.Number value ∷ [] }
-phrase_step (layer.Access name subscripts) = record { rank = rank.Factor; words = word.Name name.text ∷ flat_map squared_phrase subscripts }
-phrase_step (layer.Binary sign token left right) = record { rank = binary_rank sign; words = phrase_at (binary_rank sign) left ++ binary_word sign ∷ phrase_at (right_rank sign) right }
-phrase_step (layer.Neg token inner) = record { rank = rank.Factor; words = word.Minus ∷ phrase_at rank.Factor inner }
-phrase_step (layer.Min token list) = record { rank = rank.Factor; words = word.Choice Min ∷ in_parentheses (joined word.Comma phrase_words list) }
-phrase_step (layer.Max token list) = record { rank = rank.Factor; words = word.Choice Max ∷ in_parentheses (joined word.Comma phrase_words list) }
+phrase_step (layer.Number value token) =
+    record { rank = rank.Factor; words = word.Number value ∷ [] }
+phrase_step (layer.Access name subscripts) =
+    record { rank = rank.Factor; words = word.Name name.text ∷ flat_map squared_phrase subscripts }
+phrase_step (layer.Binary sign token left right) =
+    record {
+      rank = binary_rank sign;
+      words = phrase_at (binary_rank sign) left ++ binary_word sign
+          ∷ phrase_at (right_rank sign) right;
+    }
+phrase_step (layer.Neg token inner) =
+    record { rank = rank.Factor; words = word.Minus ∷ phrase_at rank.Factor inner }
+phrase_step (layer.Min token list) =
+    record {
+      rank = rank.Factor;
+      words = word.Choice Min
+          ∷ in_parentheses (joined word.Comma phrase_words list);
+    }
+phrase_step (layer.Max token list) =
+    record {
+      rank = rank.Factor;
+      words = word.Choice Max
+          ∷ in_parentheses (joined word.Comma phrase_words list);
+    }
 
 unfoldable pub phrase_of : Operand → Phrase
 phrase_of = fold-Operand Phrase phrase_step
@@ -191,7 +209,10 @@ step_words third (By token value) = word.Name third.text ∷ word.AddAssign ∷ 
 
 abbrev pub header_words : Name → Operand → Name → Bool → Operand → Name → Step → List Lexeme
 header_words name first second inclusive bound third step =
-    word.For ∷ word.Open ∷ word.Name name.text ∷ word.Assign ∷ (expr_words first ++ word.Semi ∷ word.Name second.text ∷ word.Compare (bound_sign inclusive) ∷ (expr_words bound ++ word.Semi ∷ (step_words third step ++ word.Close ∷ [])))
+    word.For ∷ word.Open ∷ word.Name name.text ∷ word.Assign
+    ∷ (expr_words first ++ word.Semi ∷ word.Name second.text
+    ∷ word.Compare (bound_sign inclusive)
+    ∷ (expr_words bound ++ word.Semi ∷ (step_words third step ++ word.Close ∷ [])))
 
 abbrev pub guard_words : List Comparison → List Lexeme
 guard_words cond = word.If ∷ in_parentheses (joined word.And comparison_words cond)
@@ -200,13 +221,15 @@ abbrev pub in_braces : List Lexeme → List Lexeme
 in_braces words = word.OpenCurly ∷ (words ++ word.CloseCurly ∷ [])
 
 abbrev pub assign_words : Name → List Operand → Operand → List Lexeme
-assign_words target subscripts value = access_words target subscripts ++ word.Assign ∷ (expr_words value ++ word.Semi ∷ [])
+assign_words target subscripts value =
+    access_words target subscripts ++ word.Assign ∷ (expr_words value ++ word.Semi ∷ [])
 
 abbrev pub all_words : List (List Lexeme) → List Lexeme
 all_words list = flat_map (λ words. words) list
 
 abbrev pub part_step : part_layer.Part-F (List Lexeme) (List Lexeme) → List Lexeme
-part_step (part_layer.For name first second inclusive bound third step body) = header_words name first second inclusive bound third step ++ body
+part_step (part_layer.For name first second inclusive bound third step body) =
+    header_words name first second inclusive bound third step ++ body
 part_step (part_layer.If cond body None) = guard_words cond ++ body
 part_step (part_layer.If cond body (Some other)) = guard_words cond ++ (body ++ other)
 part_step (part_layer.Assign target subscripts value) = assign_words target subscripts value
@@ -232,7 +255,8 @@ abbrev pub named_words : Named → List Lexeme
 named_words n = access_words n.name n.extents
 
 abbrev pub declaration_words : Declaration → List Lexeme
-declaration_words d = word.Declare d.word ∷ (joined word.Comma named_words d.names ++ word.Semi ∷ [])
+declaration_words d =
+    word.Declare d.word ∷ (joined word.Comma named_words d.names ++ word.Semi ∷ [])
 
 abbrev pub tree_words : Tree → List Lexeme
 tree_words t = flat_map declaration_words t.declarations ++ parts_words t.parts

@@ -8,9 +8,11 @@ use Rattle.loop_print.specs.Numbers.{without_token_numbers}
 
 -- some source has this tree
 abbrev pub HasSource : Tree → Type 0
-HasSource tree = (source : List ℕ) × (found : List Token) × (tokens source ≡ Ok found) × IsTree source found tree
+HasSource tree =
+    (source : List ℕ) × (found : List Token) × (tokens source ≡ Ok found) × IsTree source found tree
 
 -- the text has tokens, and they have this tree, token numbers aside
 abbrev pub ReadsBackAs : List ℕ → Tree → Type 0
 ReadsBackAs text tree =
-    (found : List Token) × (again : Tree) × (tokens text ≡ Ok found) × IsTree text found again × (without_token_numbers again ≡ without_token_numbers tree)
+    (found : List Token) × (again : Tree) × (tokens text ≡ Ok found) × IsTree text found again
+    × (without_token_numbers again ≡ without_token_numbers tree)

@@ -178,7 +178,8 @@ fn asks_for_parentheses(place: Rank, own: Rank) -> bool
 /// Writes an operand, in parentheses where its place asks for them.
 #[cycle(print_operand)]
 fn print_at(out: &mut Vec<u8>, place: Rank, operand: &Operand) -> Result<(), AllocError>
-    ensures { OnOk result (Writes out.old.items out.new.items (phrase_at place (phrase_of operand.now))) }
+    ensures { OnOk result
+        (Writes out.old.items out.new.items (phrase_at place (phrase_of operand.now))) }
 {
     if asks_for_parentheses(place, rank_of(operand)) {
         put(out, Mark::Open)?;
@@ -221,7 +222,8 @@ fn print_operand(out: &mut Vec<u8>, operand: &Operand) -> Result<(), AllocError>
 /// Writes a name with its subscripts.
 #[cycle(print_operand)]
 fn print_access(out: &mut Vec<u8>, name: &Name, subscripts: &[Operand]) -> Result<(), AllocError>
-    ensures { OnOk result (Writes out.old.items out.new.items (access_words name.now subscripts.now)) }
+    ensures { OnOk result
+        (Writes out.old.items out.new.items (access_words name.now subscripts.now)) }
 {
     put_name(out, name)?;
     print_subscripts(out, subscripts)?;
@@ -231,7 +233,8 @@ fn print_access(out: &mut Vec<u8>, name: &Name, subscripts: &[Operand]) -> Resul
 /// Writes subscripts, each in its brackets.
 #[cycle(print_operand)]
 fn print_subscripts(out: &mut Vec<u8>, subscripts: &[Operand]) -> Result<(), AllocError>
-    ensures { OnOk result (Writes out.old.items out.new.items (flat_map subscript_words subscripts.now)) }
+    ensures { OnOk result
+        (Writes out.old.items out.new.items (flat_map subscript_words subscripts.now)) }
 {
     for subscript in subscripts {
         put(out, Mark::OpenSquare)?;
@@ -244,7 +247,9 @@ fn print_subscripts(out: &mut Vec<u8>, subscripts: &[Operand]) -> Result<(), All
 /// Writes `min` or `max` of these arguments.
 #[cycle(print_operand)]
 fn print_choice(out: &mut Vec<u8>, mark: Mark, list: &[Operand]) -> Result<(), AllocError>
-    ensures { OnOk result (Writes out.old.items out.new.items (mark_word mark ∷ in_parentheses (joined word.Comma expr_words list.now))) }
+    ensures { OnOk result
+        (Writes out.old.items out.new.items
+        (mark_word mark ∷ in_parentheses (joined word.Comma expr_words list.now))) }
 {
     put(out, mark)?;
     put(out, Mark::Open)?;
@@ -256,7 +261,8 @@ fn print_choice(out: &mut Vec<u8>, mark: Mark, list: &[Operand]) -> Result<(), A
 /// Writes arguments, with a comma between them.
 #[cycle(print_operand)]
 fn print_arguments(out: &mut Vec<u8>, list: &[Operand]) -> Result<(), AllocError>
-    ensures { OnOk result (Writes out.old.items out.new.items (joined word.Comma expr_words list.now)) }
+    ensures { OnOk result
+        (Writes out.old.items out.new.items (joined word.Comma expr_words list.now)) }
 {
     if let Some((first, others)) = list.split_first() {
         print_operand(out, first)?;
@@ -279,7 +285,8 @@ fn print_comparison(out: &mut Vec<u8>, comparison: &Comparison) -> Result<(), Al
 
 /// Writes comparisons, with `&&` between them.
 fn print_comparisons(out: &mut Vec<u8>, cond: &[Comparison]) -> Result<(), AllocError>
-    ensures { OnOk result (Writes out.old.items out.new.items (joined word.And comparison_words cond.now)) }
+    ensures { OnOk result
+        (Writes out.old.items out.new.items (joined word.And comparison_words cond.now)) }
 {
     if let Some((first, others)) = cond.split_first() {
         print_comparison(out, first)?;
@@ -338,7 +345,9 @@ fn print_header(
     third: &Name,
     step: &Step,
 ) -> Result<(), AllocError>
-    ensures { OnOk result (Writes out.old.items out.new.items (header_words name.now first.now second.now inclusive bound.now third.now step.now)) }
+    ensures { OnOk result
+        (Writes out.old.items out.new.items
+        (header_words name.now first.now second.now inclusive bound.now third.now step.now)) }
 {
     put(out, Mark::For)?;
     put(out, Mark::Open)?;
@@ -361,7 +370,8 @@ fn print_assign(
     subscripts: &[Operand],
     value: &Operand,
 ) -> Result<(), AllocError>
-    ensures { OnOk result (Writes out.old.items out.new.items (assign_words target.now subscripts.now value.now)) }
+    ensures { OnOk result
+        (Writes out.old.items out.new.items (assign_words target.now subscripts.now value.now)) }
 {
     print_access(out, target, subscripts)?;
     put(out, Mark::Assign)?;
@@ -443,7 +453,8 @@ fn print_named(out: &mut Vec<u8>, named: &Named) -> Result<(), AllocError>
 
 /// Writes what is declared, with a comma between.
 fn print_names(out: &mut Vec<u8>, names: &[Named]) -> Result<(), AllocError>
-    ensures { OnOk result (Writes out.old.items out.new.items (joined word.Comma named_words names.now)) }
+    ensures { OnOk result
+        (Writes out.old.items out.new.items (joined word.Comma named_words names.now)) }
 {
     if let Some((first, others)) = names.split_first() {
         print_named(out, first)?;
@@ -465,7 +476,8 @@ fn print_declaration(out: &mut Vec<u8>, declaration: &Declaration) -> Result<(),
 }
 
 fn print_declarations(out: &mut Vec<u8>, declarations: &[Declaration]) -> Result<(), AllocError>
-    ensures { OnOk result (Writes out.old.items out.new.items (flat_map declaration_words declarations.now)) }
+    ensures { OnOk result
+        (Writes out.old.items out.new.items (flat_map declaration_words declarations.now)) }
 {
     for declaration in declarations {
         print_declaration(out, declaration)?;

@@ -1,7 +1,8 @@
 -- Reading and binding the source can't be refused.
 use Rattle.std.proofs.Common.{◌≡◌, ◌≤◌, ℕ, List, [], refl, sym, ap, subst, ◌∙◌}
 use Rattle.std.specs.Prelude.{Ok, Err, None}
-use Rattle.loop_lex.specs.Tokens.{tokens, Gives}
+use Rattle.plain_data.specs.Answers.{IsUnlessMemory}
+use Rattle.loop_lex.specs.Tokens.{tokens}
 use Rattle.loop_lex.specs.declared.token.Token.{Token}
 use Rattle.loop_lex.specs.declared.token.LexError.{LexError}
 use Rattle.loop_lex.specs.declared.token.LexError.TheVariants as lexical
@@ -20,11 +21,12 @@ use Rattle.matrix_load.proofs.Sentence.{matrix_tokens, has_tokens}
 
 -- the tokens, the tree and the nest are there, so what is refused is want of memory
 
-pub lexed : (source : List ℕ) (e : LexError) → source ≡ matrix_product → Gives (Err e) (tokens source) → e ≡ lexical.Memory
-lexed source (lexical.BadByte at) same h = absurd (let ok = has_tokens in cc)
-lexed source (lexical.OpenComment at) same h = absurd (let ok = has_tokens in cc)
-lexed source (lexical.LargeNumber at) same h = absurd (let ok = has_tokens in cc)
-lexed source (lexical.TooMany at) same h = absurd (let ok = has_tokens in cc)
+pub lexed : (source : List ℕ) (e : LexError) → source ≡ matrix_product
+    → IsUnlessMemory lexical.Memory (Err e) (tokens source) → e ≡ lexical.Memory
+lexed source (lexical.BadByte at) same h = absurd (let ok = has_tokens in let no = h (λ e. cc) in cc)
+lexed source (lexical.OpenComment at) same h = absurd (let ok = has_tokens in let no = h (λ e. cc) in cc)
+lexed source (lexical.LargeNumber at) same h = absurd (let ok = has_tokens in let no = h (λ e. cc) in cc)
+lexed source (lexical.TooMany at) same h = absurd (let ok = has_tokens in let no = h (λ e. cc) in cc)
 lexed source lexical.Memory same h = refl
 
 same_tokens : (found : List Token) → tokens matrix_product ≡ Ok found → matrix_tokens ≡ found

@@ -10,7 +10,8 @@ use Rattle.sanlp.specs.declared.nest.Nest.{Nest}
 
 -- C is the product of A and B
 abbrev pub matrix_product : List ℕ
-matrix_product = codes "param N; in A[N][N], B[N][N]; out C[N][N]; for (i = 0; i < N; i++) for (j = 0; j < N; j++) { C[i][j] = 0; for (k = 0; k < N; k++) C[i][j] = C[i][j] + A[i][k] * B[k][j]; }"
+matrix_product =
+    codes "param N; in A[N][N], B[N][N]; out C[N][N]; for (i = 0; i < N; i++) for (j = 0; j < N; j++) { C[i][j] = 0; for (k = 0; k < N; k++) C[i][j] = C[i][j] + A[i][k] * B[k][j]; }"
 
 -- the number of rows of each matrix, and of columns
 abbrev pub size_given : ℕ → Values

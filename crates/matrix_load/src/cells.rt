@@ -63,7 +63,8 @@ fn matrix_cells(alloc: Global, count: u32) -> Result<Items<Items<i64>>, AllocErr
 pub fn matrix_inputs(alloc: Global, count: u32) -> Result<Inputs, AllocError>
     requires { count ≤ 2147483647 }
     ensures cells { IfOk result (λ inputs. inputs.arrays ≡ inputs_of count) }
-    ensures lengths { IfOk result (λ inputs. (nest : Nest) → IsMatrixNest count nest → HasInputLengths nest inputs) }
+    ensures lengths { IfOk result
+        (λ inputs. (nest : Nest) → IsMatrixNest count nest → HasInputLengths nest inputs) }
 {
     let arrays = matrix_cells(alloc, count)?;
     Ok(Inputs { arrays })

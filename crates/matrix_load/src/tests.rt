@@ -2,7 +2,8 @@ ghost use Rattle.std.specs.Prelude.{◌≤◌};
 
 use super::*;
 use io_edge::{MemSink, WriteFault};
-use loop_walk::{SizeError, interpret, points, size};
+use loop_run::interpret;
+use loop_walk::{SizeError, points, size};
 use std::alloc::Global;
 use std::test::Fail;
 

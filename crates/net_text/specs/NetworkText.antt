@@ -36,11 +36,13 @@ array_by_role (Sink array) statement = Some array
 -- the array's name; it is empty where there is no such array
 abbrev pub array_name : Nest → Statement → List ℕ
 array_name nest statement =
-    option_map_or (λ array. array.name) (option_and_then (slice_get nest.arrays) (array_by_role statement.role statement)) []
+    option_map_or (λ array. array.name)
+    (option_and_then (slice_get nest.arrays) (array_by_role statement.role statement)) []
 
 -- the kind of process p, and the name of its array; each is empty where there is no such statement
 abbrev pub kind_word : Nest → ℕ → List ℕ
-kind_word nest p = option_map_or (λ statement. role_word statement.role) (slice_get nest.statements p) []
+kind_word nest p =
+    option_map_or (λ statement. role_word statement.role) (slice_get nest.statements p) []
 
 abbrev pub name_word : Nest → ℕ → List ℕ
 name_word nest p = option_map_or (array_name nest) (slice_get nest.statements p) []
@@ -54,7 +56,8 @@ process_line nest p process = line_text (
 
 -- a line for each of these processes, the first having number 0
 abbrev pub process_lines : Nest → List Process → List ℕ
-process_lines nest processes = flat_map (λ numbered. process_line nest numbered.0 numbered.1) (enumerate_from 0 processes)
+process_lines nest processes =
+    flat_map (λ numbered. process_line nest numbered.0 numbered.1) (enumerate_from 0 processes)
 
 -- Channels
 
@@ -86,7 +89,8 @@ class_word class = order_word class.order ++ (if class.multiplicity then codes "
 -- channel c with its ends, the read that it serves, its tokens, its capacity, its hold and its class
 abbrev pub channel_line : Network → ℕ → Channel → List ℕ
 channel_line network c channel = line_text (
-    codes "channel" ∷ decimal c ∷ codes "from" ∷ decimal channel.writer ∷ codes "to" ∷ decimal channel.reader
+    codes "channel" ∷ decimal c ∷ codes "from" ∷ decimal channel.writer ∷ codes "to"
+    ∷ decimal channel.reader
     ∷ codes "read" ∷ decimal channel.read
     ∷ codes "tokens" ∷ decimal (put_count (net_of network) c)
     ∷ codes "capacity" ∷ decimal channel.capacity
@@ -95,7 +99,9 @@ channel_line network c channel = line_text (
 
 -- a line for each channel
 abbrev pub channel_lines : Network → List ℕ
-channel_lines network = flat_map (λ numbered. channel_line network numbered.0 numbered.1) (enumerate_from 0 network.channels)
+channel_lines network =
+    flat_map (λ numbered. channel_line network numbered.0 numbered.1)
+    (enumerate_from 0 network.channels)
 
 -- The text
 

@@ -62,7 +62,8 @@ pub(crate) fn hold(script: &[Event], channel: usize) -> u64
 
 /// The least and the greatest of some numbers and one more.
 fn widened(range: Option<(u32, u32)>, slot: u32) -> (u32, u32)
-    ensures { MatchOption range (result ≡ (slot, slot)) (λ range. result ≡ (min range.0 slot, max range.1 slot)) }
+    ensures { MatchOption range (result ≡ (slot, slot))
+        (λ range. result ≡ (min range.0 slot, max range.1 slot)) }
 {
     match range {
         Some((least, greatest)) => (least.min(slot), greatest.max(slot)),

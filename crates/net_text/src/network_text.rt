@@ -173,9 +173,11 @@ pub fn write_net<K: Sink>(
 ) -> Result<(), WriteFault>
     requires points { points.now.of ≡ points_of nest.now }
     requires numbers { FitsNumbers (net_of network.now) }
-    ensures ok { OnOk result (Appends (K.held sink.old) (K.held sink.new) (net_text nest.now network.now)) }
+    ensures ok { OnOk result
+        (Appends (K.held sink.old) (K.held sink.new) (net_text nest.now network.now)) }
     ensures quiet { OnOk result (K.faults sink.new ≡ K.faults sink.old) }
-    ensures front { OnErr result (AppendsFront (K.held sink.old) (K.held sink.new) (net_text nest.now network.now)) }
+    ensures front { OnErr result
+        (AppendsFront (K.held sink.old) (K.held sink.new) (net_text nest.now network.now)) }
     ensures cause { OnErr result (Rose (K.faults sink.old) (K.faults sink.new)) }
 {
     let mut out = Writer::new(sink);

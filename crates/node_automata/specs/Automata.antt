@@ -32,4 +32,6 @@ automaton_of nest network p statement = record {
 
 -- the automata of all processes, in order
 abbrev pub automata : Nest → Network → List NodeAuto
-automata nest network = map (λ numbered. automaton_of nest network numbered.0 numbered.1) (enumerate_from 0 nest.statements)
+automata nest network =
+    map (λ numbered. automaton_of nest network numbered.0 numbered.1)
+    (enumerate_from 0 nest.statements)

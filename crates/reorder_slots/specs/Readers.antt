@@ -7,7 +7,8 @@ use Rattle.reorder_slots.specs.declared.reader.Reader.{Reader}
 
 -- a slot was made, and its token has no use numbered q or more
 abbrev pub is_free : List ℕ → ℕ → List ℕ → ℕ → Bool
-is_free uses q slots slot = nat_lt slot (length slots) && not (is_wanted uses q (slice_index slots slot))
+is_free uses q slots slot =
+    nat_lt slot (length slots) && not (is_wanted uses q (slice_index slots slot))
 
 -- The reader has what is held, and its free slots are those that are free before use q.
 pub record Keeps (uses : List ℕ) (q : ℕ) (held : Held) (reader : Reader) : Type 0 where
@@ -17,15 +18,21 @@ pub record Keeps (uses : List ℕ) (q : ℕ) (held : Held) (reader : Reader) : T
 
 -- Each slot has the token of the last Get that took it, and each token with a use numbered q or more is in its Get's slot.
 pub record KeepsTokens (uses : List ℕ) (q : ℕ) (held : Held) : Type 0 where
-  pub made : (token : ℕ) → token < length held.slot_of_get → slice_index held.slot_of_get token < length held.slots
-  pub got : (slot : ℕ) → slot < length held.slots → slice_index held.slots slot < length held.slot_of_get
-  pub taken : (slot : ℕ) → slot < length held.slots → slice_index held.slot_of_get (slice_index held.slots slot) ≡ slot
-  pub latest : (token : ℕ) → token < length held.slot_of_get → token ≤ slice_index held.slots (slice_index held.slot_of_get token)
-  pub found : (token : ℕ) → token < length held.slot_of_get → IsTrue (is_wanted uses q token) → slice_index held.slots (slice_index held.slot_of_get token) ≡ token
+  pub made : (token : ℕ) → token < length held.slot_of_get
+      → slice_index held.slot_of_get token < length held.slots
+  pub got : (slot : ℕ) → slot < length held.slots
+      → slice_index held.slots slot < length held.slot_of_get
+  pub taken : (slot : ℕ) → slot < length held.slots
+      → slice_index held.slot_of_get (slice_index held.slots slot) ≡ slot
+  pub latest : (token : ℕ) → token < length held.slot_of_get
+      → token ≤ slice_index held.slots (slice_index held.slot_of_get token)
+  pub found : (token : ℕ) → token < length held.slot_of_get → IsTrue (is_wanted uses q token)
+      → slice_index held.slots (slice_index held.slot_of_get token) ≡ token
 
 -- each token from the first up to the last has a use numbered q or more
 abbrev pub AreWanted : List ℕ → ℕ → ℕ → ℕ → Type 0
-AreWanted uses q first last = (token : ℕ) → first ≤ token → token ≤ last → IsTrue (is_wanted uses q token)
+AreWanted uses q first last = (token : ℕ) → first ≤ token → token ≤ last
+    → IsTrue (is_wanted uses q token)
 
 -- One Get keeps what is held, where its token has a use to come.
 abbrev pub KeepsThroughGet : Reader → Reader → Type 0

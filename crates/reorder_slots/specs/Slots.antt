@@ -23,7 +23,8 @@ nothing_held = record { slots = []; slot_of_get = [] }
 -- the lowest slot that is free before use q: its token has no use numbered q or more; else a new one
 abbrev pub lowest_free : List ℕ → ℕ → List ℕ → ℕ
 lowest_free uses q [] = 0
-lowest_free uses q (token ∷ slots) = if is_wanted uses q token then suc (lowest_free uses q slots) else 0
+lowest_free uses q (token ∷ slots) =
+    if is_wanted uses q token then suc (lowest_free uses q slots) else 0
 
 -- the slots with this token in one of them, or in a new one
 abbrev pub filled : List ℕ → ℕ → ℕ → List ℕ
@@ -33,7 +34,11 @@ filled slots slot token = take slot slots ++ token ∷ drop (slot + 1) slots
 abbrev pub after_get : List ℕ → ℕ → Held → Held
 after_get uses q held =
     let slot = lowest_free uses q held.slots in
-    record { slots = filled held.slots slot (length held.slot_of_get); slot_of_get = held.slot_of_get ++ slot ∷ [] }
+    record {
+      slots = filled held.slots slot
+          (length held.slot_of_get);
+      slot_of_get = held.slot_of_get ++ slot ∷ [];
+    }
 
 -- so many Gets before use q
 abbrev pub after_gets : List ℕ → ℕ → ℕ → Held → Held
@@ -70,15 +75,18 @@ hold_of uses = length (held_in_the_end uses).slots
 -- Each use finds its token in the slot that is named for it.
 abbrev pub FindsItsToken : List ℕ → Type 0
 FindsItsToken uses =
-    (q token slot : ℕ) → slice_get uses q ≡ Some token → slice_get (slots_of_uses uses) q ≡ Some slot
+    (q token slot : ℕ) → slice_get uses q ≡ Some token
+    → slice_get (slots_of_uses uses) q ≡ Some slot
     → slice_get (held_after uses (q + 1)).slots slot ≡ Some token
 
 -- Between the Get of a token and a use of it no other Get takes its slot.
 abbrev pub KeepsUntilUsed : List ℕ → Type 0
 KeepsUntilUsed uses =
-    (q token get : ℕ) → slice_get uses q ≡ Some token → token < get → get < gets_for (take (q + 1) uses)
+    (q token get : ℕ) → slice_get uses q ≡ Some token → token < get
+    → get < gets_for (take (q + 1) uses)
     → slice_get (slots_of_gets uses) get ≢ slice_get (slots_of_gets uses) token
 
 -- the uses name every token below their greatest
 abbrev pub NamesAllBelow : List ℕ → Type 0
-NamesAllBelow uses = (token : ℕ) → token < gets_for uses → IsTrue (list_any (λ named. named == token) uses)
+NamesAllBelow uses = (token : ℕ) → token < gets_for uses
+    → IsTrue (list_any (λ named. named == token) uses)

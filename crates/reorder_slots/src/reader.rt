@@ -42,10 +42,13 @@ impl Reader {
     fn take_slot(&mut self) -> u32
         requires { self.old.hold < 4294967295 }
         ensures gets { self.new.slot_of_get.items ≡ self.old.slot_of_get.items }
-        ensures lowest { (slot : ℕ) → slot < result → IsTrue (not (contains nat_cmp self.old.free slot)) }
+        ensures lowest { (slot : ℕ) → slot < result
+            → IsTrue (not (contains nat_cmp self.old.free slot)) }
         ensures free_or_new { (IsTrue (contains nat_cmp self.old.free result) × (self.new.hold ≡ self.old.hold))
             ⊎ ((result ≡ self.old.hold) × (self.new.hold ≡ self.old.hold + 1)) }
-        ensures taken { (slot : ℕ) → contains nat_cmp self.new.free slot ≡ (not (slot == result) && contains nat_cmp self.old.free slot) }
+        ensures taken { (slot : ℕ)
+            → contains nat_cmp self.new.free slot
+            ≡ (not (slot == result) && contains nat_cmp self.old.free slot) }
     {
         match self.free.pop_first() {
             Some(slot) => slot,
@@ -60,7 +63,8 @@ impl Reader {
     // One Get.
     fn get(&mut self) -> Result<(), AllocError>
         requires { self.old.hold < 4294967295 }
-        ensures len { OnOk result (vec_len self.new.slot_of_get ≡ vec_len self.old.slot_of_get + 1) }
+        ensures len { OnOk result
+            (vec_len self.new.slot_of_get ≡ vec_len self.old.slot_of_get + 1) }
         ensures hold { OnOk result (self.new.hold ≤ self.old.hold + 1) }
         ensures kept { OnOk result (KeepsThroughGet self.old self.new) }
     {

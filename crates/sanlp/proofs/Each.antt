@@ -1,6 +1,7 @@
 -- What holds of each element of a list.
 use Rattle.std.proofs.Common.{◌<◌, ◌≤◌, ℕ, zero, suc, ◌+◌, List, [], ◌∷◌, ◌++◌, map, arith}
-use Rattle.std.specs.List.{flat_map, range_with_len}
+use Rattle.std.proofs.lemmas.List.Elements.{All-cons, All-head, All-nil, All-tail}
+use Rattle.std.specs.List.{All, flat_map, range_with_len}
 
 abbrev pub Each : {X : Type 0} → (X → Type 0) → List X → Type 0
 Each P [] = Unit {0}
@@ -50,6 +51,11 @@ range_with_len_above a b n h = each_range_with_len (λ k. b ≤ k) a n (λ k l r
 pub range_with_len_below : (a n b : ℕ) → a + n ≤ b → Each (λ k. k < b) (range_with_len a n)
 range_with_len_below a n b h = each_range_with_len (λ k. k < b) a n (λ k l r. omega arith)
 
--- by the name that crates above have for it
-pub count_up_below : (a n b : ℕ) → a + n ≤ b → Each (λ k. k < b) (range_with_len a n)
-count_up_below = range_with_len_below
+-- std's form of the same
+pub each_from_all : {X : Type 0} (P : X → Type 0) (xs : List X) → All P xs → Each P xs
+each_from_all P [] h = tt
+each_from_all P (x ∷ xs) h = (All-head P x xs h, each_from_all P xs (All-tail P x xs h))
+
+pub all_from_each : {X : Type 0} (P : X → Type 0) (xs : List X) → Each P xs → All P xs
+all_from_each P [] h = All-nil P
+all_from_each P (x ∷ xs) h = All-cons P x xs h.0 (all_from_each P xs h.1)

@@ -11,6 +11,7 @@ pub mod Intervals
 pub mod LastWriter
 pub mod Lists
 pub mod Members
+pub mod ModerateForms
 pub mod NestFacts
 pub mod Ordered
 pub mod Outputs

@@ -26,10 +26,6 @@ range_with_len-append a (suc m) n =
     let f : a + 1 + m ≡ a + suc m = omega arith in
     ap (range_with_len a) e ∙ ap (λ ks. a ∷ ks) (range_with_len-append (a + 1) m n ∙ ap (λ b. range_with_len (a + 1) m ++ range_with_len b n) f)
 
--- by the name that crates above have for it
-pub count_up-append : (a m n : ℕ) → range_with_len a (m + n) ≡ range_with_len a m ++ range_with_len (a + m) n
-count_up-append = range_with_len-append
-
 -- one number more
 pub range_with_len_more : (a n j : ℕ) → a + n ≡ j → range_with_len a (n + 1) ≡ range_with_len a n ++ j ∷ []
 range_with_len_more a n j e = range_with_len-append a n 1 ∙ ap (λ k. range_with_len a n ++ k ∷ []) e

@@ -94,10 +94,6 @@ pub range_with_len_ascends : (a n : ℕ) → Pairwise (λ j k. j < k) (range_wit
 range_with_len_ascends a zero = tt
 range_with_len_ascends a (suc n) = (each_then (λ k. a + 1 ≤ k) (λ k. a < k) (range_with_len (a + 1) n) (λ k h. omega arith) (range_with_len_above (a + 1) (a + 1) n (omega arith)), range_with_len_ascends (a + 1) n)
 
--- by the name that crates above have for it
-pub count_up_ascends : (a n : ℕ) → Pairwise (λ j k. j < k) (range_with_len a n)
-count_up_ascends = range_with_len_ascends
-
 pub in_range_with_len : (a n k : ℕ) → a ≤ k → k < a + n → In k (range_with_len a n)
 in_range_with_len a zero k h l = absurd (omega arith)
 in_range_with_len a (suc n) k h l = elim (cases_lt a k) [ inl lt ↦ inr (in_range_with_len (a + 1) n k (omega arith) (omega arith)) | inr le ↦ inl (omega arith) ]

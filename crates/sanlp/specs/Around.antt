@@ -10,4 +10,5 @@ abbrev pub loops_round : ℕ → ℕ → List ℤ → ℕ → Node
 loops_round id k [] s = Assign s
 loops_round id k (e ∷ extents) s =
     let last = constant_form k (pos (natural e) -ℤ pos 1) in
-    Loop id (constant_form k (pos 0) ∷ []) (last ∷ []) (pos 1) (loops_round (id + 1) (k + 1) extents s ∷ [])
+    Loop id (constant_form k (pos 0) ∷ []) (last ∷ []) (pos 1)
+    (loops_round (id + 1) (k + 1) extents s ∷ [])

@@ -1,6 +1,6 @@
 -- The cells of declared arrays. This file names no `Nest`.
 use Rattle.std.specs.Prelude.{ℕ, zero, suc, ◌+◌, ◌*◌, ℤ, pos, negsuc, ◌+ℤ◌, List, [], ◌∷◌, map, Bool, true, false, if◌then◌else◌}
-use Rattle.std.specs.List.{flat_map, range_with_len}
+use Rattle.std.specs.List.{flat_map}
 use Rattle.sanlp.specs.declared.nest.ArrayDecl.{ArrayDecl}
 use Rattle.sanlp.specs.declared.nest.Kind.{Kind}
 use Rattle.sanlp.specs.declared.nest.Kind.TheVariants.{Input, Output, Both, Var}
@@ -19,10 +19,6 @@ abbrev pub counted : ℤ → ℕ → List ℤ
 counted a zero = []
 counted a (suc n) = a ∷ counted (a +ℤ pos 1) n
 
--- std's numbers from a on, by the name that crates above have for them
-abbrev pub count_up : ℕ → ℕ → List ℕ
-count_up = range_with_len
-
 -- how many cells an array with these extents has
 abbrev pub cell_count : List ℤ → ℕ
 cell_count [] = 1
@@ -31,7 +27,8 @@ cell_count (e ∷ extents) = natural e * cell_count extents
 -- the subscripts of an array's cells in row-major order
 abbrev pub all_subscripts : List ℤ → List (List ℤ)
 all_subscripts [] = [] ∷ []
-all_subscripts (e ∷ extents) = flat_map (λ v. map (λ at. v ∷ at) (all_subscripts extents)) (counted (pos 0) (natural e))
+all_subscripts (e ∷ extents) =
+    flat_map (λ v. map (λ at. v ∷ at) (all_subscripts extents)) (counted (pos 0) (natural e))
 
 -- the place of a cell in row-major order
 abbrev pub place_of : List ℤ → List ℤ → ℕ

@@ -27,7 +27,9 @@ PrecedesWithin (suc c) less (v ∷ at) (w ∷ bt) = (v <ℤ w) ⊎ ((v ≡ w) ×
 
 -- One point precedes another: by the values of the loops that both statements share, and then by the statements' numbers.
 abbrev pub Precedes : Nest → Point → Point → Type 0
-Precedes n p q = PrecedesWithin (common_loops (loops_round_point n p) (loops_round_point n q)) (nat_lt p.statement q.statement) p.at q.at
+Precedes n p q =
+    PrecedesWithin (common_loops (loops_round_point n p) (loops_round_point n q))
+    (nat_lt p.statement q.statement) p.at q.at
 
 -- a statement of the nest with as many values as it has loops
 abbrev pub HasDepth : Nest → Point → Type 0
@@ -44,6 +46,9 @@ pub record IsPoint (n : Nest) (p : Point) : Type 0 where
 pub record EnumeratesDomains (n : Nest) (points : List Point) : Type 0 where
   pub entry : (t : ℕ) (p : Point) → slice_get points t ≡ Some p → IsPoint n p
   pub point : (p : Point) → IsPoint n p → (t : ℕ) × (slice_get points t ≡ Some p)
-  pub once : (t u : ℕ) (p : Point) → slice_get points t ≡ Some p → slice_get points u ≡ Some p → t ≡ u
-  pub later : (t u : ℕ) (p q : Point) → slice_get points t ≡ Some p → slice_get points u ≡ Some q → t < u → Precedes n p q
-  pub earlier : (t u : ℕ) (p q : Point) → slice_get points t ≡ Some p → slice_get points u ≡ Some q → Precedes n p q → t < u
+  pub once : (t u : ℕ) (p : Point) → slice_get points t ≡ Some p → slice_get points u ≡ Some p
+      → t ≡ u
+  pub later : (t u : ℕ) (p q : Point) → slice_get points t ≡ Some p → slice_get points u ≡ Some q
+      → t < u → Precedes n p q
+  pub earlier : (t u : ℕ) (p q : Point) → slice_get points t ≡ Some p → slice_get points u ≡ Some q
+      → Precedes n p q → t < u

@@ -6,4 +6,10 @@ use Rattle.sanlp.specs.declared.nest.Tag.{Tag}
 
 -- the tag of entry t: its process, and how many earlier entries are of that process
 abbrev pub tag_at : List Point → ℕ → Option Tag
-tag_at points t = option_map (λ p. record { process = p.statement; turn = count_by (λ q. q.statement == p.statement) (take t points) }) (slice_get points t)
+tag_at points t =
+    option_map
+    (λ p. record {
+      process = p.statement;
+      turn = count_by (λ q. q.statement == p.statement)
+          (take t points);
+    }) (slice_get points t)

@@ -33,12 +33,14 @@ all_differ (name ∷ names) = not (list_any (pointwise nat_eq name) names) && al
 abbrev pub numbers_from : (ArrayDecl → Bool) → ℕ → List ArrayDecl → List ℕ
 numbers_from passes a [] = []
 numbers_from passes a (array ∷ arrays) =
-    if passes array then a ∷ numbers_from passes (a + 1) arrays else numbers_from passes (a + 1) arrays
+    if passes array then a ∷ numbers_from passes (a + 1) arrays
+    else numbers_from passes (a + 1) arrays
 
 abbrev pub extents_where : (ArrayDecl → Bool) → List ArrayDecl → List (List ℤ)
 extents_where passes [] = []
 extents_where passes (array ∷ arrays) =
-    if passes array then array.extents ∷ extents_where passes arrays else extents_where passes arrays
+    if passes array then array.extents ∷ extents_where passes arrays
+    else extents_where passes arrays
 
 -- the input arrays and the output arrays in declaration order: their numbers and their extents
 abbrev pub input_numbers : List ArrayDecl → List ℕ
@@ -107,7 +109,8 @@ statement_fits arrays s =
 
 -- the cell of array a whose subscripts are the loop values
 abbrev pub own_cell : ℕ → ℕ → Access
-own_cell depth a = record { array = a; subscripts = map (variable_form depth) (range_with_len 0 depth) }
+own_cell depth a =
+    record { array = a; subscripts = map (variable_form depth) (range_with_len 0 depth) }
 
 -- A statement with the accesses and the expression of its role: a source reads nothing and writes the
 -- input value to its own cell, and a sink writes nothing and reads its own cell. An assignment may have
@@ -241,7 +244,8 @@ framed arrays statements body =
     ++ array_loops (length (all_loops body) - sum_by length outputs)
     (length statements - length outputs) outputs)
 
-pub record IsWellFormed (arrays : List ArrayDecl) (statements : List Statement) (body : List Node) : Type 0 where
+pub record IsWellFormed (arrays : List ArrayDecl) (statements : List Statement)
+    (body : List Node) : Type 0 where
   pub few_statements : length statements ≤ 64
   pub names_differ : IsTrue (all_differ (map (λ array. array.name) arrays))
   pub few_extents : IsTrue (list_all (λ array. nat_le (length array.extents) 6) arrays)

@@ -38,7 +38,8 @@ last_writer n t k = option_and_then (last_before n (trace n) t) (cell_read n (tr
 
 -- what a cell holds where its last writer is known: that entry's value, or 0 where there is none
 abbrev pub value_or_zero : List ℤ → Option ℕ → ℤ
-value_or_zero values writer = unwrap_or (option_map (λ u. slice_index_or values u (pos 0)) writer) (pos 0)
+value_or_zero values writer =
+    unwrap_or (option_map (λ u. slice_index_or values u (pos 0)) writer) (pos 0)
 
 -- The values of the first t entries: each is the expression at the entry's iteration vector, where each read has the
 -- value of its last writer, or 0 where there is none.
@@ -46,7 +47,9 @@ unfoldable pub values_before : Nest → Inputs → List Point → ℕ → List �
 values_before n d points zero = []
 values_before n d points (suc t) =
     let values = values_before n d points t in
-    values ++ option_map_or (λ p. result_of n d p (λ cell. value_or_zero values (last_before n points t cell))) (slice_get points t) (pos 0) ∷ []
+    values ++ option_map_or
+    (λ p. result_of n d p (λ cell. value_or_zero values (last_before n points t cell)))
+    (slice_get points t) (pos 0) ∷ []
 
 -- the value of entry t
 unfoldable pub value_at : Nest → Inputs → List Point → ℕ → ℤ

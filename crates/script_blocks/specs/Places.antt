@@ -16,15 +16,18 @@ abbrev pub left_of_turns : {T : Type 0} → Frame → Left T → List (BlockPart
 left_of_turns f inner body = inner body ++ repeated f.later (parts_expansion body)
 
 abbrev pub left_of_repeat : {T : Type 0} → Frame → Left T → ℕ → List (BlockPart T) → List T
-left_of_repeat f inner count body = if f.inside then left_of_turns f inner body else repeated count (parts_expansion body)
+left_of_repeat f inner count body =
+    if f.inside then left_of_turns f inner body else repeated count (parts_expansion body)
 
 -- an item that was entered is done
-abbrev pub left_inside : {T : Type 0} → Frame → Left T → BlockPart-F T (BlockPart T) (Blocks T) → List T
+abbrev pub left_inside : {T : Type 0} → Frame → Left T → BlockPart-F T (BlockPart T) (Blocks T)
+    → List T
 left_inside f inner (Item x) = []
 left_inside f inner (Repeat count body) = left_of_turns f inner body.parts
 
 abbrev pub left_of_part : {T : Type 0} → Frame → Left T → BlockPart T → List T
-left_of_part {T} f inner part = if f.inside then left_inside f inner (out-BlockPart T part) else part_expansion part
+left_of_part {T} f inner part =
+    if f.inside then left_inside f inner (out-BlockPart T part) else part_expansion part
 
 -- the part that the cursor is at, and the later ones
 abbrev pub left_of_parts : {T : Type 0} → Frame → Left T → List (BlockPart T) → List T

@@ -52,7 +52,8 @@ impl<T> Blocks<T> {
 
     /// The length of the expansion, or `None` exactly where it passes 2^62. It takes no memory.
     pub fn expanded_len(&self) -> Option<u64>
-        ensures { SomeIff result (length (expansion self.now) ≤ 2 ^ 62) (length (expansion self.now)) }
+        ensures { SomeIff result (length (expansion self.now) ≤ 2 ^ 62)
+            (length (expansion self.now)) }
     {
         let length = capped_len(self.parts.as_slice());
         if length < LENGTH_CAP {

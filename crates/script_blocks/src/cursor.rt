@@ -102,7 +102,8 @@ fn begin_turn<T>(later: u32, body: &[BlockPart<T>], frame: &mut Frame, deeper: &
     requires { 0 < length deeper.old }
     ensures frame { frame.new ≡ record frame.old { inside = true; later = later } }
     ensures body { left deeper.new body.now ≡ parts_expansion body.now }
-    ensures turns { left_of_turns frame.new (left deeper.new) body.now ≡ repeated (later + 1) (parts_expansion body.now) }
+    ensures turns { left_of_turns frame.new (left deeper.new) body.now
+        ≡ repeated (later + 1) (parts_expansion body.now) }
 {
     frame.inside = true;
     frame.later = later;

@@ -35,7 +35,8 @@ pub fn fold<T: Copy + Eq>(alloc: Global, items: &[T]) -> Result<Blocks<T>, Alloc
 // Adds these items as they are.
 #[tactic(auto, using(crate::proofs::Nestings::with_item))]
 fn push_items<T: Copy>(items: &[T], parts: &mut Items<BlockPart<T>>) -> Result<(), AllocError>
-    ensures expansion { OnOk result (parts_expansion parts.new ≡ parts_expansion parts.old ++ items.now) }
+    ensures expansion { OnOk result
+        (parts_expansion parts.new ≡ parts_expansion parts.old ++ items.now) }
     ensures shallow { OnOk result (parts_nesting parts.new ≡ parts_nesting parts.old) }
     ensures proper { OnOk result (are_proper parts.new ≡ are_proper parts.old) }
 {
@@ -58,7 +59,8 @@ fn build<'a, T: Copy + Eq>(
     requires same { (a b : T) → T.eq a b ≡ true → a ≡ b }
     requires shallow { parts_nesting parts.old ≤ depth }
     requires proper { IsTrue (are_proper parts.old) }
-    ensures expansion { IfOk result (λ rest. parts_expansion parts.old ++ items.now ≡ parts_expansion parts.new ++ rest.now) }
+    ensures expansion { IfOk result
+        (λ rest. parts_expansion parts.old ++ items.now ≡ parts_expansion parts.new ++ rest.now) }
     ensures shallow { OnOk result (parts_nesting parts.new ≤ depth) }
     ensures proper { OnOk result (IsTrue (are_proper parts.new)) }
 {
@@ -81,7 +83,8 @@ fn build_symbol<'a, T: Copy + Eq>(
     requires same { (a b : T) → T.eq a b ≡ true → a ≡ b }
     requires shallow { parts_nesting parts.old ≤ depth }
     requires proper { IsTrue (are_proper parts.old) }
-    ensures expansion { IfOk result (λ rest. parts_expansion parts.old ++ items.now ≡ parts_expansion parts.new ++ rest.now) }
+    ensures expansion { IfOk result
+        (λ rest. parts_expansion parts.old ++ items.now ≡ parts_expansion parts.new ++ rest.now) }
     ensures shallow { OnOk result (parts_nesting parts.new ≤ depth) }
     ensures proper { OnOk result (IsTrue (are_proper parts.new)) }
 {
@@ -102,7 +105,8 @@ fn build_item<'a, T: Copy>(
     items: &'a [T],
     parts: &mut Items<BlockPart<T>>,
 ) -> Result<&'a [T], AllocError>
-    ensures expansion { IfOk result (λ rest. parts_expansion parts.old ++ items.now ≡ parts_expansion parts.new ++ rest.now) }
+    ensures expansion { IfOk result
+        (λ rest. parts_expansion parts.old ++ items.now ≡ parts_expansion parts.new ++ rest.now) }
     ensures shallow { OnOk result (parts_nesting parts.new ≡ parts_nesting parts.old) }
     ensures proper { OnOk result (are_proper parts.new ≡ are_proper parts.old) }
 {
@@ -126,7 +130,8 @@ fn build_repeat<'a, T: Copy + Eq>(
     requires same { (a b : T) → T.eq a b ≡ true → a ≡ b }
     requires shallow { parts_nesting parts.old ≤ depth + 1 }
     requires proper { IsTrue (are_proper parts.old) }
-    ensures expansion { IfOk result (λ rest. parts_expansion parts.old ++ items.now ≡ parts_expansion parts.new ++ rest.now) }
+    ensures expansion { IfOk result
+        (λ rest. parts_expansion parts.old ++ items.now ≡ parts_expansion parts.new ++ rest.now) }
     ensures shallow { OnOk result (parts_nesting parts.new ≤ depth + 1) }
     ensures proper { OnOk result (IsTrue (are_proper parts.new)) }
 {

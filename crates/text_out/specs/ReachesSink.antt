@@ -30,6 +30,8 @@ front-prop None now text = Unit-prop
 front-prop (Some xs) None text = λ p. absurd p
 front-prop (Some xs) (Some ys) text = same_list-prop ys (xs ++ take (length ys - length xs) text)
 
-pub ReachesSink-prop : (failed : Bool) (held now : Option (List ℕ)) (faults count : ℕ) (text : List ℕ) → IsProp (ReachesSink failed held now faults count text)
-ReachesSink-prop false held now faults count text = ×_prop (appends-prop held now text) (Coded-set coded_ℕ count faults)
+pub ReachesSink-prop : (failed : Bool) (held now : Option (List ℕ)) (faults count : ℕ)
+    (text : List ℕ) → IsProp (ReachesSink failed held now faults count text)
+ReachesSink-prop false held now faults count text =
+    ×_prop (appends-prop held now text) (Coded-set coded_ℕ count faults)
 ReachesSink-prop true held now faults count text = ×_prop (front-prop held now text) le_prop

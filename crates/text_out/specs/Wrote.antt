@@ -15,4 +15,5 @@ pub record Given : Type 0 where
 
 -- the writer was given this text, behind the text that it had been given
 abbrev pub Wrote : {W : Type 0} → (W → Given) → W → W → List ℕ → Type 0
-Wrote given old new text = ((given new).start ≡ (given old).start) × ((given new).text ≡ (given old).text ++ text)
+Wrote given old new text =
+    ((given new).start ≡ (given old).start) × ((given new).text ≡ (given old).text ++ text)

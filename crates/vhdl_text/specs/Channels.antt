@@ -27,24 +27,29 @@ ports_out c = concat (
 
 -- the node takes from an incoming channel while its next event is a Get of it
 abbrev pub take_line : ℕ → List ℕ
-take_line c = concat (codes "  c" ∷ decimal c ∷ codes "_take <= '1' when op(pc) = 1 and arg(pc) = " ∷ decimal c ∷ codes " else '0';\n" ∷ [])
+take_line c =
+    concat (codes "  c" ∷ decimal c ∷ codes "_take <= '1' when op(pc) = 1 and arg(pc) = "
+    ∷ decimal c ∷ codes " else '0';\n" ∷ [])
 
 -- it gives the value that was fired last to an outgoing channel while its next event is a Put to it
 abbrev pub give_lines : ℕ → List ℕ
 give_lines c = concat (
     codes "  c" ∷ decimal c ∷ codes "_data <= fired;\n"
-    ∷ codes "  c" ∷ decimal c ∷ codes "_give <= '1' when op(pc) = 3 and arg(pc) = " ∷ decimal c ∷ codes " else '0';\n" ∷ [])
+    ∷ codes "  c" ∷ decimal c ∷ codes "_give <= '1' when op(pc) = 3 and arg(pc) = " ∷ decimal c
+    ∷ codes " else '0';\n" ∷ [])
 
 -- a Get waits until its channel is valid, and a Put until its channel is ready
 abbrev pub receive_lines : Bool → ℕ → List ℕ
 receive_lines own c = concat (
-    codes "            if arg(pc) = " ∷ decimal c ∷ codes " and c" ∷ decimal c ∷ codes "_valid = '1' then\n"
+    codes "            if arg(pc) = " ∷ decimal c ∷ codes " and c" ∷ decimal c
+    ∷ codes "_valid = '1' then\n"
     ∷ codes "              slot(dst(pc)) <= c" ∷ decimal c ∷ data_in own ∷ codes ";\n"
     ∷ codes "              pc <= pc + 1;\n            end if;\n" ∷ [])
 
 abbrev pub send_lines : ℕ → List ℕ
 send_lines c = concat (
-    codes "            if arg(pc) = " ∷ decimal c ∷ codes " and c" ∷ decimal c ∷ codes "_ready = '1' then\n"
+    codes "            if arg(pc) = " ∷ decimal c ∷ codes " and c" ∷ decimal c
+    ∷ codes "_ready = '1' then\n"
     ∷ codes "              pc <= pc + 1;\n            end if;\n" ∷ [])
 
 abbrev pub part_text : Part → Bool → ℕ → List ℕ

@@ -78,19 +78,24 @@ entry numbered = concat (decimal numbered.0 ∷ codes " => " ∷ numbered.1 ∷ 
 
 -- all values, each with its index
 abbrev pub aggregate : List (List ℕ) → List ℕ
-aggregate values = concat (codes "(" ∷ join_by entry (codes ", ") (enumerate_from 0 values) ∷ codes ")" ∷ [])
+aggregate values =
+    concat (codes "(" ∷ join_by entry (codes ", ") (enumerate_from 0 values) ∷ codes ")" ∷ [])
 
 -- a constant with its name, the type of its values, the values and one more behind them
 abbrev pub constant_text : List ℕ → List ℕ → List (List ℕ) → List ℕ → List ℕ
 constant_text name type values last = concat (
-    codes "  constant " ∷ name ∷ codes " : " ∷ type ∷ codes "(0 to " ∷ decimal (length values) ∷ codes ") := "
+    codes "  constant " ∷ name ∷ codes " : " ∷ type ∷ codes "(0 to " ∷ decimal (length values)
+    ∷ codes ") := "
     ∷ aggregate (values ++ last ∷ []) ∷ codes ";\n" ∷ [])
 
 abbrev pub event_constant : Column → NodeAuto → List ℕ
-event_constant column a = constant_text (name_of column) (codes "codes") (column_values column a.events) (last_of column)
+event_constant column a =
+    constant_text (name_of column) (codes "codes") (column_values column a.events) (last_of column)
 
 abbrev pub variable_constant : ℕ → NodeAuto → List ℕ
-variable_constant n a = constant_text (codes "v" ++ decimal n) (codes "words") (variable_values n a.values) (literal (pos 0))
+variable_constant n a =
+    constant_text (codes "v" ++ decimal n) (codes "words") (variable_values n a.values)
+    (literal (pos 0))
 
 -- one for each read, and one for each loop
 abbrev pub read_constants : NodeAuto → List ℕ

@@ -13,7 +13,8 @@ use Rattle.vhdl_text.specs.VhdlText.{entity_head, fired_line, least_text, most_t
 -- what comes before the entries, of which there are so many
 abbrev pub head_text : List ℕ → List ℕ → ℕ → List ℕ
 head_text name type count =
-    concat (codes "  constant " ∷ name ∷ codes " : " ∷ type ∷ codes "(0 to " ∷ decimal count ∷ codes ") := (" ∷ [])
+    concat (codes "  constant " ∷ name ∷ codes " : " ∷ type ∷ codes "(0 to " ∷ decimal count
+    ∷ codes ") := (" ∷ [])
 
 -- an entry that another follows
 abbrev pub entry_comma : ℕ × List ℕ → List ℕ
@@ -53,7 +54,8 @@ event_entry (Read k) i f event = read_entry k f event
 
 abbrev pub event_entries : Column → ℕ → ℕ → List Event → List ℕ
 event_entries column i f [] = []
-event_entries column i f (event ∷ events) = event_entry column i f event ++ event_entries column (i + 1) (fires_after f event) events
+event_entries column i f (event ∷ events) =
+    event_entry column i f event ++ event_entries column (i + 1) (fires_after f event) events
 
 -- Nodes
 

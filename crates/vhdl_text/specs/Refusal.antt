@@ -16,13 +16,15 @@ abbrev pub first_too_long : List NodeAuto → Option NodeAuto
 first_too_long autos = find is_too_long autos
 
 -- The script of this automaton is too long: that was answered, and nothing was written.
-pub record IsRefused (result : Result (Unit {0}) VhdlError) (held_before held_now : Option (List ℕ)) (faults_before faults_now : ℕ) (a : NodeAuto) : Type 0 where
+pub record IsRefused (result : Result (Unit {0}) VhdlError) (held_before held_now : Option (List ℕ))
+    (faults_before faults_now : ℕ) (a : NodeAuto) : Type 0 where
   pub answer : result ≡ Err (ScriptTooLong a.process (length a.events))
   pub held : held_now ≡ held_before
   pub faults : faults_now ≡ faults_before
 
 -- The whole text was appended, or a front of it and the sink's count rose.
-pub record IsWritten (result : Result (Unit {0}) VhdlError) (held_before held_now : Option (List ℕ)) (faults_before faults_now : ℕ) (text : List ℕ) : Type 0 where
+pub record IsWritten (result : Result (Unit {0}) VhdlError) (held_before held_now : Option (List ℕ))
+    (faults_before faults_now : ℕ) (text : List ℕ) : Type 0 where
   pub ok : OnOk result (Appends held_before held_now text)
   pub quiet : OnOk result (faults_now ≡ faults_before)
   pub error : IfErr result (λ error. error ≡ WriteFault)

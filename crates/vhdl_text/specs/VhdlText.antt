@@ -17,13 +17,16 @@ use Rattle.vhdl_text.specs.Expressions.{expr_text}
 abbrev pub entity_head : ℕ → List ℕ
 entity_head p = concat (
     codes "library ieee;\nuse ieee.std_logic_1164.all;\nuse ieee.numeric_std.all;\n"
-    ∷ codes "entity node_" ∷ decimal p ∷ codes " is\n  port (\n    clk : in std_logic;\n    rst : in std_logic;\n" ∷ [])
+    ∷ codes "entity node_" ∷ decimal p
+    ∷ codes " is\n  port (\n    clk : in std_logic;\n    rst : in std_logic;\n" ∷ [])
 
 -- a source is given values, and a sink gives them out
 abbrev pub role_ports : Role → List ℕ
-role_ports (role.Source array) = codes "    given : in signed(63 downto 0);\n    given_take : out std_logic;\n"
+role_ports (role.Source array) =
+    codes "    given : in signed(63 downto 0);\n    given_take : out std_logic;\n"
 role_ports role.Assign = []
-role_ports (role.Sink array) = codes "    result : out signed(63 downto 0);\n    result_give : out std_logic;\n"
+role_ports (role.Sink array) =
+    codes "    result : out signed(63 downto 0);\n    result_give : out std_logic;\n"
 
 abbrev pub entity_end : List ℕ
 entity_end = codes "    done : out std_logic\n  );\nend entity;\n"
@@ -96,7 +99,8 @@ gave_high role.Assign = []
 gave_high (role.Sink array) = codes "            gave <= '1';\n"
 
 abbrev pub process_end : List ℕ
-process_end = codes "          when others =>\n            null;\n        end case;\n      end if;\n    end if;\n  end process;\nend architecture;\n"
+process_end =
+    codes "          when others =>\n            null;\n        end case;\n      end if;\n    end if;\n  end process;\nend architecture;\n"
 
 -- The node of a process, with an empty line before it
 abbrev pub node_text : NodeAuto → List ℕ
@@ -121,7 +125,8 @@ node_text a = concat (
 -- channel c with its ends and its capacity
 abbrev pub channel_line : ℕ × Channel → List ℕ
 channel_line numbered = concat (
-    codes "-- channel " ∷ decimal numbered.0 ∷ codes " node_" ∷ decimal numbered.1.writer ∷ codes " node_" ∷ decimal numbered.1.reader
+    codes "-- channel " ∷ decimal numbered.0 ∷ codes " node_" ∷ decimal numbered.1.writer
+    ∷ codes " node_" ∷ decimal numbered.1.reader
     ∷ codes " capacity " ∷ decimal numbered.1.capacity ∷ codes "\n" ∷ [])
 
 -- one for each of these channels, the first having number 0
@@ -130,4 +135,5 @@ channel_lines channels = flat_map channel_line (enumerate_from 0 channels)
 
 -- the version of the text, a line for each channel, and the nodes
 abbrev pub vhdl_text : Network → List NodeAuto → List ℕ
-vhdl_text network autos = codes "-- compaan vhdl 1\n" ++ (channel_lines network.channels ++ flat_map node_text autos)
+vhdl_text network autos =
+    codes "-- compaan vhdl 1\n" ++ (channel_lines network.channels ++ flat_map node_text autos)

@@ -217,7 +217,8 @@ fn value_at(at: &Vector, number: u32) -> i64
 
 /// Writes the entry of a loop's value at a point, which another follows.
 fn write_point_entry<W: TextWriter>(index: usize, number: u32, at: &Vector, out: &mut W)
-    ensures { Wrote W.given out.old out.new (entry_comma (index, literal (slice_index_or at.now number (pos 0)))) }
+    ensures { Wrote W.given out.old out.new
+        (entry_comma (index, literal (slice_index_or at.now number (pos 0)))) }
 {
     write_entry(
         index as u64,
@@ -235,7 +236,8 @@ fn write_point_entries<W: TextWriter>(number: u32, values: &[Vector], out: &mut 
 }
 
 fn write_variable_head<W: TextWriter>(number: u32, count: u64, out: &mut W)
-    ensures { Wrote W.given out.old out.new (head_text (codes "v" ++ decimal number) (codes "words") count) }
+    ensures { Wrote W.given out.old out.new
+        (head_text (codes "v" ++ decimal number) (codes "words") count) }
 {
     out.put(b"  constant v");
     write_number(number, out);

@@ -8,7 +8,8 @@ use crate::expr::Expr;
 /// memory, and its stack grows with the depth of the expression.
 pub fn eval(expr: &Expr, at: &[i64], reads: &[i64], given: i64) -> i64
     requires { UsesOnly (length at.now) (length reads.now) expr.now }
-    ensures { result ≡ value_of expr.now (record { at = at.now; reads = reads.now; given = given }) }
+    ensures { result
+        ≡ value_of expr.now (record { at = at.now; reads = reads.now; given = given }) }
 {
     match expr {
         Expr::Const(value) => *value,

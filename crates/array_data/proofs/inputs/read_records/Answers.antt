@@ -5,8 +5,10 @@ use Rattle.csv.specs.Reading.{Reached, default_config, strip_bom}
 use Rattle.csv.specs.Records.{fields_of}
 use Rattle.csv.specs.declared.parser.State.TheVariants as st
 use Rattle.csv.proofs.ReadFacts.{rows-end, rows-more}
-use Rattle.array_data.specs.Data.{Gives, first_fault, records_of, unless}
+use Rattle.array_data.specs.Data.{first_fault, records_of, unless}
+use Rattle.plain_data.specs.Answers.{IsUnlessMemory}
 use Rattle.array_data.specs.declared.error.DataError.{DataError}
+use Rattle.array_data.specs.declared.error.DataError.TheVariants.{Memory}
 use Rattle.array_data.specs.Judging.{Given, taken}
 use Rattle.array_data.proofs.Judged.{first_refused, gives_fault, length-given, more_given, none_given}
 use Rattle.array_data.proofs.Records.{reached_all, reached_length, reached_more}
@@ -54,7 +56,7 @@ returns-in_err-take_record c =
     let fault = c.in_err-take_record.field-0.0 in
     let arrays = c.args.arrays.now in
     let step = taken arrays (length seen + 1) row c.loop-row.given in
-    let told : Gives {A = Given} (Err fault) step = rw inv.8 at c.in_err-take_record.ensures in
+    let told : IsUnlessMemory {A = Given} Memory (Err fault) step = rw inv.8 at c.in_err-take_record.ensures in
     let all : Result Given DataError = unless (first_fault arrays [] (records_of c.args.bytes.now)) [] in
     let first : step ≡ Err fault → all ≡ Err fault = λ e. rw (rest.1, first_refused arrays seen row rest.0 c.loop-row.given fault inv.9 e) refl in
     let answer = err_from_is_err_and c.from_residual-in_err-take_record.result c.from_residual-in_err-take_record.ensures.1 in

@@ -1,16 +1,18 @@
-use Rattle.std.proofs.Common.{◌≡◌, ◌≤◌, ap, sym, ◌∙◌, length}
+use Rattle.std.proofs.Common.{◌≡◌, ap, ◌∙◌}
 use Rattle.net_core.specs.Machine.{net_of}
 use Rattle.net_core.specs.Shape.{FitsNumbers}
 use Rattle.net_core.specs.declared.network.Network.{Network}
 use Rattle.source_tree.specs.declared.cert.Cert.{Cert}
+use Rattle.cert_text.specs.declared.error.CertError.TheVariants.{Memory}
 use Rattle.cert_text.specs.CertText.{AreInRange, cert_text}
-use Rattle.cert_text.specs.Reading.{Gives, reading, whole_text}
+use Rattle.plain_data.specs.Answers.{IsUnlessMemory}
+use Rattle.cert_text.specs.Reading.{reading, whole_text}
 use Rattle.cert_text.proofs.Found.{answer_found, answer_of_text, if_answered}
 use Rattle.cert_text.proofs.Lengths.{few_events}
 use Rattle.cert_text.proofs.ReadBack.{is_its_text, reads_back}
 use Rattle.cert_text.proofs.reading.read_cert.Goals as goal
 
-exact : (c : goal.After-read_whole) → Gives c.read_whole.result (reading c.args.bytes.now)
+exact : (c : goal.After-read_whole) → IsUnlessMemory Memory c.read_whole.result (reading c.args.bytes.now)
 unfolding reading
 exact c = answer_found c.read_whole.result c.read_whole.new.lines (whole_text (record { line = 1; text = c.args.bytes.now })) (rw c.new-lines.ensures at c.read_whole.ensures)
 

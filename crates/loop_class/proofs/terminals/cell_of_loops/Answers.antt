@@ -1,6 +1,10 @@
-use Rattle.loop_class.proofs.ListLemmas.{variables_more}
+use Rattle.std.proofs.Common.{◌++◌, ◌∷◌, [], sym, ◌∙◌, arith}
+use Rattle.std.proofs.lemmas.List.FromFn.{map-range_with_len_more}
+use Rattle.affine_core.specs.Affine.{variable_form}
 use Rattle.loop_class.proofs.terminals.cell_of_loops.Goals as goal
 
 pub loop-number-preserved : goal.loop-number-preserved
 loop-number-preserved c =
-    variables_more c.args.depth c.loop-number.number c.variable.result c.loop-number.subscripts c.push.new.self c.loop-number.invariant c.variable.ensures.form c.in_ok-push.ensures.ok
+    let number = c.loop-number.number in
+    c.in_ok-push.ensures.ok ∙ (λ i. c.loop-number.invariant i ++ c.variable.ensures.form i ∷ [])
+    ∙ sym (map-range_with_len_more (variable_form c.args.depth) 0 number number (omega arith))

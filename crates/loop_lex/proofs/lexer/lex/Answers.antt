@@ -10,10 +10,10 @@ pub loop-at-preserved-in-Separator : goal.loop-at-preserved-in-Separator
 loop-at-preserved-in-Separator c = goes_past c.loop-at.found.items _ c.loop-at.at c.in-Separator.length c.args.bytes.now (tokens c.args.bytes.now) c.loop-at.invariant (rw c.split_at.ensures.back at c.in-Separator.ensures)
 
 pub returns-then-is_large_number : goal.returns-then-is_large_number
-returns-then-is_large_number c = is_large_there c.loop-at.found.items (token_limit - length c.loop-at.found.items) c.loop-at.at c.in-Token.length c.args.bytes.now (tokens c.args.bytes.now) c.loop-at.invariant (rw c.split_at.ensures.back at c.in-Token.ensures).0 (rw (c.split_at-in-Token.ensures.front, c.split_at.ensures.back) at (sym c.is_large_number.ensures ∙ c.if-is_large_number.true))
+returns-then-is_large_number c = λ known. is_large_there c.loop-at.found.items (token_limit - length c.loop-at.found.items) c.loop-at.at c.in-Token.length c.args.bytes.now (tokens c.args.bytes.now) c.loop-at.invariant (rw c.split_at.ensures.back at c.in-Token.ensures).0 (rw (c.split_at-in-Token.ensures.front, c.split_at.ensures.back) at (sym c.is_large_number.ensures ∙ c.if-is_large_number.true))
 
 pub returns-then-len-ge-MAX_TOKENS : goal.returns-then-len-ge-MAX_TOKENS
-returns-then-len-ge-MAX_TOKENS c = is_full_there c.loop-at.found.items (token_limit - length c.loop-at.found.items) c.loop-at.at c.in-Token.length c.args.bytes.now (tokens c.args.bytes.now) c.loop-at.invariant (rw c.split_at.ensures.back at c.in-Token.ensures).0 (rw (c.split_at-in-Token.ensures.front, c.split_at.ensures.back) at (sym c.is_large_number.ensures ∙ c.if-is_large_number.false)) (omega arith)
+returns-then-len-ge-MAX_TOKENS c = λ known. is_full_there c.loop-at.found.items (token_limit - length c.loop-at.found.items) c.loop-at.at c.in-Token.length c.args.bytes.now (tokens c.args.bytes.now) c.loop-at.invariant (rw c.split_at.ensures.back at c.in-Token.ensures).0 (rw (c.split_at-in-Token.ensures.front, c.split_at.ensures.back) at (sym c.is_large_number.ensures ∙ c.if-is_large_number.false)) (omega arith)
 
 pub loop-at-preserved : goal.loop-at-preserved
 loop-at-preserved c =
@@ -30,10 +30,10 @@ loop-at-preserved c =
     rw items (takes_token c.loop-at.found.items (token_limit - length c.loop-at.found.items) at n bytes (tokens bytes) c.loop-at.invariant (token_limit - length (c.loop-at.found.items ++ token_at at (take n (drop at bytes)) ∷ [])) (rw items at room) long small)
 
 pub returns-in-OpenComment : goal.returns-in-OpenComment
-returns-in-OpenComment c = is_refused c.loop-at.found.items (token_limit - length c.loop-at.found.items) c.loop-at.at c.args.bytes.now (tokens c.args.bytes.now) c.loop-at.invariant c.loop-at-test.true (rw c.split_at.ensures.back at c.in-OpenComment.ensures).0 ∙ rw (rw c.split_at.ensures.back at c.in-OpenComment.ensures).1 refl
+returns-in-OpenComment c = λ known. is_refused c.loop-at.found.items (token_limit - length c.loop-at.found.items) c.loop-at.at c.args.bytes.now (tokens c.args.bytes.now) c.loop-at.invariant c.loop-at-test.true (rw c.split_at.ensures.back at c.in-OpenComment.ensures).0 ∙ rw (rw c.split_at.ensures.back at c.in-OpenComment.ensures).1 refl
 
 pub returns-in-Unknown : goal.returns-in-Unknown
-returns-in-Unknown c = is_refused c.loop-at.found.items (token_limit - length c.loop-at.found.items) c.loop-at.at c.args.bytes.now (tokens c.args.bytes.now) c.loop-at.invariant c.loop-at-test.true (rw c.split_at.ensures.back at c.in-Unknown.ensures).0 ∙ rw (rw c.split_at.ensures.back at c.in-Unknown.ensures).1 refl
+returns-in-Unknown c = λ known. is_refused c.loop-at.found.items (token_limit - length c.loop-at.found.items) c.loop-at.at c.args.bytes.now (tokens c.args.bytes.now) c.loop-at.invariant c.loop-at-test.true (rw c.split_at.ensures.back at c.in-Unknown.ensures).0 ∙ rw (rw c.split_at.ensures.back at c.in-Unknown.ensures).1 refl
 
 pub returns : goal.returns
 returns c = is_done c.loop-at.found.items (token_limit - length c.loop-at.found.items) c.loop-at.at c.args.bytes.now (tokens c.args.bytes.now) c.loop-at.invariant c.loop-at-test.false

@@ -45,18 +45,30 @@ module _ (From To : RattleType) (h : From.Denot → To.Denot) where
   box_places : Alike From To h → Alike (box_of From) (box_of To) (λ b. holding b (h b.value))
   unfolding part_of
   box_places alike = record {
-    mir_same = λ i. (box_of (one_value From (alike.mir_same i) (λ _. ftrue) (λ _ _. nothing) gnil)).mir;
-    own_same = λ b i. (box_of (one_value From (alike.mir_same i) (alike.own_same b.value i) (alike.shr_same b.value i) gnil)).own_val (holding b tt);
-    shr_same = λ b i. (box_of (one_value From (alike.mir_same i) (alike.own_same b.value i) (alike.shr_same b.value i) gnil)).shr_at (holding b tt);
+    mir_same =
+        λ i. (box_of (one_value From (alike.mir_same i) (λ _. ftrue) (λ _ _. nothing) gnil)).mir;
+    own_same =
+        λ b i. (box_of
+        (one_value From (alike.mir_same i) (alike.own_same b.value i)
+        (alike.shr_same b.value i) gnil)).own_val (holding b tt);
+    shr_same =
+        λ b i. (box_of
+        (one_value From (alike.mir_same i) (alike.own_same b.value i)
+        (alike.shr_same b.value i) gnil)).shr_at (holding b tt);
   }
 
-  pub the_places : Alike From To h → Alike (Seen.the_row From) (Seen.the_row To) ((the_former this).map From.Denot To.Denot h)
+  pub the_places : Alike From To h
+      → Alike (Seen.the_row From) (Seen.the_row To) ((the_former this).map From.Denot To.Denot h)
   the_places alike =
       view_places stored this view (λ X Y k u. refl) (λ X u. refl) From.Denot To.Denot h
       (Seen.the_row From).coded (Seen.the_row To).coded
-      (invariant From.Denot) (invariant To.Denot) (λ u p q. refl) (λ u p q. refl) (λ u e. tt) (λ u e. tt)
+      (invariant From.Denot) (invariant To.Denot) (λ u p q. refl) (λ u p q. refl) (λ u e. tt)
+      (λ u e. tt)
       (over (Stored.the_row From)) (over (Stored.the_row To))
-      (struct_places (Stored.the_type From) (Stored.the_type To) ((λ b. holding b (h b.value)), tt) _ (λ value. refl) refl (laid _ _ _ (box_places alike), tt))
+      (struct_places (Stored.the_type From) (Stored.the_type To)
+      ((λ b. holding b (h b.value)), tt) _ (λ value. refl) refl
+      (laid _ _ _ (box_places alike), tt))
 
-  pub the_codes_placed : Recodes From To h → Recodes (Seen.the_row From) (Seen.the_row To) ((the_former this).map From.Denot To.Denot h)
+  pub the_codes_placed : Recodes From To h
+      → Recodes (Seen.the_row From) (Seen.the_row To) ((the_former this).map From.Denot To.Denot h)
   the_codes_placed same value = same value

@@ -31,22 +31,29 @@ the_empty = []
 abbrev pub the_items : (X : Type 0) → List X → List X
 the_items X items = items
 
-pub the_items_listed : (X : Type 0) (items : List X) → listed _ (children (the_former this) X items) ≡ the_items X items
+pub the_items_listed : (X : Type 0) (items : List X)
+    → listed _ (children (the_former this) X items) ≡ the_items X items
 the_items_listed X items = list-listed X items
 
 -- the stored fields: one vector
 abbrev stored : Former {0}
-stored = via (vec.the_former this Global) Inside (λ X inside. inside.items) (λ X items. record { items = items }) (λ X inside. refl) (λ X items. refl)
+stored = via (vec.the_former this Global) Inside (λ X inside. inside.items)
+    (λ X items. record { items = items }) (λ X inside. refl) (λ X items. refl)
 
 module _ (From To : RattleType) (h : From.Denot → To.Denot) where
-  pub the_places : Alike From To h → Alike (Seen.the_row From) (Seen.the_row To) ((the_former this).map From.Denot To.Denot h)
+  pub the_places : Alike From To h
+      → Alike (Seen.the_row From) (Seen.the_row To) ((the_former this).map From.Denot To.Denot h)
   the_places alike =
       let inner = vec.the_places global.the_row ghosts From To h alike in
       view_places stored (list this) view (λ X Y k u. refl) (λ X u. refl) From.Denot To.Denot h
       (Seen.the_row From).coded (Seen.the_row To).coded
-      (invariant From.Denot) (invariant To.Denot) (λ u p q. refl) (λ u p q. refl) (λ u e. tt) (λ u e. tt)
+      (invariant From.Denot) (invariant To.Denot) (λ u p q. refl) (λ u p q. refl) (λ u e. tt)
+      (λ u e. tt)
       (over (Stored.the_row From)) (over (Stored.the_row To))
-      (struct_places (Stored.the_type From) (Stored.the_type To) (vec.mapped h, tt) _ (λ items. refl) refl (laid _ _ _ inner, tt))
+      (struct_places (Stored.the_type From) (Stored.the_type To) (vec.mapped h, tt) _
+      (λ items. refl) refl (laid _ _ _ inner, tt))
 
-  pub the_codes_placed : Recodes From To h → Recodes (Seen.the_row From) (Seen.the_row To) ((the_former this).map From.Denot To.Denot h)
-  the_codes_placed same items = sym (code_map From.coded.code To.coded.code h (λ x. sym (same x)) items)
+  pub the_codes_placed : Recodes From To h
+      → Recodes (Seen.the_row From) (Seen.the_row To) ((the_former this).map From.Denot To.Denot h)
+  the_codes_placed same items =
+      sym (code_map From.coded.code To.coded.code h (λ x. sym (same x)) items)

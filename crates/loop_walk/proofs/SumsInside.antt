@@ -1,13 +1,9 @@
 -- A sum of products that stays within 128 bits does so product by product, from place to place.
 use Rattle.std.proofs.Common.{◌≡◌, ◌<◌, ◌+◌, ℕ, zero, suc, ℤ, pos, negsuc, ◌+ℤ◌, ◌*ℤ◌, List, [], ◌∷◌, length, drop, refl, sym, ap, ap₂, ◌∙◌, arith, subst}
-use Rattle.std.specs.Prelude.{Option, Some, None, slice_index_or, IsTrue, true, ◌^◌, ◌&&◌, ◌==◌, FitsSigned}
+use Rattle.std.specs.Prelude.{Option, Some, None, slice_index_or, true, ◌^◌, FitsSigned}
 use mir.Syntax.{w128}
-use Rattle.std.specs.List.{list_all}
-use Rattle.std.proofs.lemmas.Bool.{and_parts, ltb-true}
+use Rattle.std.proofs.lemmas.Bool.{ltb-true}
 use Rattle.std.proofs.lemmas.Option.{cond_some}
-use Rattle.std.proofs.lemmas.Bool.Decides.{nat_tests}
-use Rattle.affine_core.specs.declared.form.Form.{Form}
-use Rattle.sanlp.specs.WellFormed.{form_fits, is_moderate}
 use Rattle.std.specs.Option.{option_and_then}
 use Rattle.affine_core.specs.Within.{combined_in_128_bits, fits_128_bits, number_in_128_bits, sum_in_128_bits}
 use Rattle.affine_core.proofs.Linear.{sum_in_128_bits_is}
@@ -48,26 +44,6 @@ pub next_rest : (sum z : ℤ) (coefs values : List ℤ) (place : ℕ) → combin
 next_rest sum z coefs values place left within there =
     let e : suc place ≡ place + 1 = omega arith in
     subst (λ (n : ℕ). combined_in_128_bits (sum +ℤ (slice_index_or coefs place (pos 0) *ℤ slice_index_or values place (pos 0))) (drop n coefs) (drop n values) ≡ Some z) e (next_both sum z coefs values place left within there).1
-
-same_number : (m n : ℕ) → IsTrue (m == n) → m ≡ n
-same_number m n h = grind (arith, nat_tests)
-
-pub as_many : (form : Form) (at : List ℤ) → IsTrue (form_fits (length at) form) → length form.coefs ≡ length at
-as_many form at fits =
-    let tests = and_parts (length form.coefs == length at && is_moderate form.constant) (list_all is_moderate form.coefs) fits in
-    same_number _ _ (and_parts (length form.coefs == length at) (is_moderate form.constant) tests.0).0
-
-all_at : (coefs : List ℤ) (place : ℕ) → IsTrue (list_all is_moderate coefs) → place < length coefs → IsTrue (is_moderate (slice_index_or coefs place (pos 0)))
-all_at [] place all within = absurd (omega arith)
-all_at (coef ∷ coefs) zero all within = (and_parts (is_moderate coef) (list_all is_moderate coefs) all).0
-all_at (coef ∷ coefs) (suc place) all within = all_at coefs place (and_parts (is_moderate coef) (list_all is_moderate coefs) all).1 (omega arith)
-
--- each coefficient of a form of a nest
-pub moderate_at : (form : Form) (depth : ℕ) (coefs : List ℤ) (place : ℕ) → IsTrue (form_fits depth form) → coefs ≡ form.coefs → place < length coefs
-    → IsTrue (is_moderate (slice_index_or coefs place (pos 0)))
-moderate_at form depth coefs place fits same within =
-    let tests = and_parts (length form.coefs == depth && is_moderate form.constant) (list_all is_moderate form.coefs) fits in
-    all_at coefs place (ap (list_all is_moderate) same ∙ tests.1) within
 
 fits_signed : (z : ℤ) → fits_128_bits z ≡ true → FitsSigned w128 z
 fits_signed (pos n) h = record { sfits = ltb-true n (2 ^ 127) h }

@@ -16,9 +16,9 @@ use Rattle.sanlp.proofs.Intervals.{interval_step, interval_end}
 use Rattle.loop_walk.specs.declared.walk.Frame.{Frame}
 use Rattle.sanlp.specs.Size.{is_loop_value, node_within}
 use Rattle.loop_walk.specs.Counting.{IsLoopRange}
-use Rattle.loop_walk.specs.Execution.{parts_within, turns_within}
+use Rattle.loop_walk.specs.EnteredLoops.{parts_within, turns_within}
 use Rattle.loop_walk.specs.Walking.{Left, Valid, left, left_inside, left_of_node, left_of_parts, left_of_turns, inside_valid, node_room, node_valid, parts_room, parts_valid, room_step, turns_valid, valid}
-use Rattle.loop_walk.proofs.RunLemmas.{between_within, loop_fits, loop_turns_within, turn_within}
+use Rattle.loop_walk.proofs.EnteredLoops.{between_within, loop_fits, loop_turns_within, turn_within}
 
 -- before the first part of a body
 abbrev start : Frame

@@ -16,7 +16,8 @@ abbrev pub are_loop_values : List ℤ → Bool
 are_loop_values values = list_all is_loop_value values
 
 -- the values of a loop whose forms are within the limit run from the first to the last
-pub record IsLoopRange (lower upper : List Form) (step : ℤ) (at : List ℤ) (first last : ℤ) : Type 0 where
+pub record IsLoopRange (lower upper : List Form) (step : ℤ) (at : List ℤ)
+    (first last : ℤ) : Type 0 where
   pub within : loop_within lower upper at ≡ true
   pub values : loop_values lower upper step at ≡ interval first last
   pub first_within : IsTrue (is_loop_value first)
@@ -66,7 +67,8 @@ abbrev pub count_step : Node-F (List ℤ → Count) → List ℤ → Count
 count_step (Loop id lower upper step body) at count =
     if loop_within lower upper at then counted_turns body at (loop_values lower upper step at) count
     else Err (LoopValue id)
-count_step (Guard rows body) at count = if all_hold rows at then counted_parts body at count else Ok count
+count_step (Guard rows body) at count =
+    if all_hold rows at then counted_parts body at count else Ok count
 count_step (Assign s) at count = one_more count
 
 abbrev pub counted_node : Node → List ℤ → Count

@@ -1,12 +1,5 @@
-pub mod CellMap
 pub mod Counting
-pub mod Execution
-pub mod LinePlaces
-pub mod Narrow
-pub mod Outputs
+pub mod EnteredLoops
 pub mod PointLists
-pub mod RowPlaces
-pub mod Rows
-pub mod SmallValues
 pub mod Walking
 pub mod Walks

@@ -9,7 +9,7 @@ use Rattle.sanlp.specs.Loops.{interval}
 use Rattle.sanlp.specs.Trace.{PointsAt, all_points, trace_node, turn_points}
 use Rattle.loop_walk.specs.declared.walk.Frame.{Frame}
 use Rattle.sanlp.specs.Size.{is_loop_value, node_within}
-use Rattle.loop_walk.specs.Execution.{parts_within, turns_within}
+use Rattle.loop_walk.specs.EnteredLoops.{parts_within, turns_within}
 
 -- what is left of a body, at the values of the loops round it
 abbrev pub Left : Type 0
@@ -17,7 +17,9 @@ Left = List Node → List ℤ → List Point
 
 -- the turn that the loop is in, of which `inner` is left, and the later ones
 abbrev pub left_of_turns : Frame → Left → List Node → PointsAt
-left_of_turns f inner body at = inner body (at ++ f.value ∷ []) ++ turn_points (all_points (map trace_node body)) (interval (f.value +ℤ pos 1) f.last) at
+left_of_turns f inner body at =
+    inner body (at ++ f.value ∷ [])
+    ++ turn_points (all_points (map trace_node body)) (interval (f.value +ℤ pos 1) f.last) at
 
 -- an assignment that was entered is done
 abbrev pub left_inside : Frame → Left → Node-F Node → PointsAt
@@ -26,12 +28,14 @@ left_inside f inner (Guard rows body) at = inner body at
 left_inside f inner (Assign s) at = []
 
 abbrev pub left_of_node : Frame → Left → Node → PointsAt
-left_of_node f inner node at = if f.inside then left_inside f inner (out-Node node) at else trace_node node at
+left_of_node f inner node at =
+    if f.inside then left_inside f inner (out-Node node) at else trace_node node at
 
 -- the part that the walk is at, and the later ones
 abbrev pub left_of_parts : Frame → Left → List Node → PointsAt
 left_of_parts f inner [] at = []
-left_of_parts f inner (node ∷ others) at = left_of_node f inner node at ++ all_points (map trace_node others) at
+left_of_parts f inner (node ∷ others) at =
+    left_of_node f inner node at ++ all_points (map trace_node others) at
 
 -- one frame for each body that the walk is in, outermost first
 abbrev pub left : List Frame → Left
@@ -53,7 +57,8 @@ inside_valid f inner (Guard rows body) at = inner body at
 inside_valid f inner (Assign s) at = true
 
 abbrev pub node_valid : Frame → Valid → Node → List ℤ → Bool
-node_valid f inner node at = if f.inside then inside_valid f inner (out-Node node) at else node_within node at
+node_valid f inner node at =
+    if f.inside then inside_valid f inner (out-Node node) at else node_within node at
 
 abbrev pub parts_valid : Frame → Valid → List Node → List ℤ → Bool
 parts_valid f inner [] at = true

@@ -6,7 +6,6 @@ ghost use Rattle.affine_core.specs.Affine.{form_at};
 ghost use Rattle.affine_core.specs.Within.{sum_in_128_bits};
 ghost use Rattle.sanlp.specs.Loops.{all_hold, greatest, interval, least, turns_up_to};
 ghost use Rattle.sanlp.specs.WellFormed.{form_fits, is_moderate};
-ghost use Rattle.loop_walk.specs.SmallValues.{are_small_values};
 ghost use Rattle.sanlp.specs.Size.{all_within, is_loop_value, loop_within};
 ghost use Rattle.loop_walk.specs.Counting.{IsLoopRange, are_loop_values};
 
@@ -16,16 +15,16 @@ use affine_core::Form;
 /// The greatest absolute value of a form of an entered loop.
 const LOOP_VALUE_LIMIT: i128 = 4_611_686_018_427_387_904;
 
-/// A coefficient in 64 bits.
-pub(crate) fn moderate(coef: i128) -> i64
+// A coefficient in 64 bits.
+fn moderate(coef: i128) -> i64
     requires { IsTrue (is_moderate coef) }
     ensures { result ≡ coef }
 {
     coef as i64
 }
 
-/// Adds a product to a sum, where neither leaves 128 bits.
-pub(crate) fn add_product(sum: i128, coef: i64, value: i64) -> i128
+// Adds a product to a sum, where neither leaves 128 bits.
+fn add_product(sum: i128, coef: i64, value: i64) -> i128
     requires { sum_in_128_bits sum coef value ≡ Some (sum +ℤ (coef *ℤ value)) }
     ensures { result ≡ sum +ℤ (coef *ℤ value) }
 {
@@ -33,7 +32,7 @@ pub(crate) fn add_product(sum: i128, coef: i64, value: i64) -> i128
 }
 
 // The value of a form. Its coefficients and the loop values are so small that no sum leaves 128 bits.
-#[tactic(auto, using(crate::proofs::SumsInside::as_many))]
+#[tactic(auto, using(sanlp::proofs::ModerateForms::as_many))]
 pub(crate) fn form_value(form: &Form, at: &LoopValues) -> i128
     requires { IsTrue (form_fits (length at.now) form.now) }
     ensures { result ≡ form_at form.now at.now }
@@ -48,17 +47,8 @@ pub(crate) fn form_value(form: &Form, at: &LoopValues) -> i128
     sum
 }
 
-/// Adds a product to a sum, where both are so small that the sum has 64 bits.
-pub(crate) fn add_small_product(sum: i64, coef: i64, value: i64) -> i64
-    requires product { unsigned_abs (coef *ℤ value) ≤ 576460752303423488 }
-    requires sum { unsigned_abs sum ≤ 4000000000000000000 }
-    ensures { result ≡ sum +ℤ (coef *ℤ value) }
-{
-    sum + coef * value
-}
-
 // The greatest value of these forms, or 0 where there is none.
-pub(crate) fn greatest_of(forms: &[Form], at: &LoopValues) -> i128
+fn greatest_of(forms: &[Form], at: &LoopValues) -> i128
     requires { IsTrue (list_all (form_fits (length at.now)) forms.now) }
     ensures { result ≡ greatest (map (λ form. form_at form at.now) forms.now) }
 {
@@ -73,7 +63,7 @@ pub(crate) fn greatest_of(forms: &[Form], at: &LoopValues) -> i128
 }
 
 // The least value of these forms, or 0 where there is none.
-pub(crate) fn least_of(forms: &[Form], at: &LoopValues) -> i128
+fn least_of(forms: &[Form], at: &LoopValues) -> i128
     requires { IsTrue (list_all (form_fits (length at.now)) forms.now) }
     ensures { result ≡ least (map (λ form. form_at form at.now) forms.now) }
 {
@@ -88,7 +78,7 @@ pub(crate) fn least_of(forms: &[Form], at: &LoopValues) -> i128
 }
 
 // Whether the value of each form lies within the limit of loop values.
-pub(crate) fn all_forms_within(forms: &[Form], at: &LoopValues) -> bool
+fn all_forms_within(forms: &[Form], at: &LoopValues) -> bool
     requires { IsTrue (list_all (form_fits (length at.now)) forms.now) }
     ensures { result ≡ all_within forms.now at.now }
 {
@@ -101,8 +91,8 @@ pub(crate) fn all_forms_within(forms: &[Form], at: &LoopValues) -> bool
     true
 }
 
-// Whether every row holds: its form is at least 0.
-pub(crate) fn rows_hold(rows: &[Form], at: &LoopValues) -> bool
+/// Whether every row holds: its form is at least 0.
+pub fn rows_hold(rows: &[Form], at: &LoopValues) -> bool
     requires { IsTrue (list_all (form_fits (length at.now)) rows.now) }
     ensures { result ≡ all_hold rows.now at.now }
 {
@@ -158,13 +148,8 @@ fn range_of(first: i64, last: i64, step: i64) -> (i64, i64)
     }
 }
 
-// The first and the last value of a loop, or `None` where one of its forms has a value outside the limit of loop values.
-pub(crate) fn loop_range(
-    lower: &[Form],
-    upper: &[Form],
-    step: i64,
-    at: &LoopValues,
-) -> Option<(i64, i64)>
+/// The first and the last value of a loop, or `None` where one of its forms has a value outside the limit of loop values.
+pub fn loop_range(lower: &[Form], upper: &[Form], step: i64, at: &LoopValues) -> Option<(i64, i64)>
     requires lower_fit { IsTrue (list_all (form_fits (length at.now)) lower.now) }
     requires upper_fit { IsTrue (list_all (form_fits (length at.now)) upper.now) }
     requires step { pos 1 ≤ℤ step }

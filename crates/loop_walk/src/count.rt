@@ -4,7 +4,7 @@ ghost use Rattle.sanlp.specs.Cells.{natural};
 ghost use Rattle.sanlp.specs.Loops.{interval};
 ghost use Rattle.sanlp.specs.WellFormed.{all_forms_fit, forms_fit};
 ghost use Rattle.sanlp.specs.Size.{size, size_limit, SizeIsOk, is_loop_value};
-ghost use Rattle.loop_walk.specs.Execution.{parts_within};
+ghost use Rattle.loop_walk.specs.EnteredLoops.{parts_within};
 ghost use Rattle.loop_walk.specs.declared.count.SizeError.TheVariants.{Limit};
 ghost use Rattle.loop_walk.specs.Counting.{are_loop_values, capped, counted, counted_node, counted_parts, counted_turn, counted_turns, is_assignment, one_more};
 
@@ -152,7 +152,8 @@ fn count_turns(
     requires first_within { IsTrue (is_loop_value first) }
     requires last_within { IsTrue (is_loop_value last) }
     requires fit { IsTrue (all_forms_fit parts.now (length at.now + 1)) }
-    ensures { result ≡ counted_turns (map counted_node parts.now) at.now (interval first last) count }
+    ensures { result
+        ≡ counted_turns (map counted_node parts.now) at.now (interval first last) count }
 {
     if count <= SIZE_LIMIT && are_assignments(parts) {
         return count_equal_turns(turns_of(first, last), 1 + parts.len() as u64, count);

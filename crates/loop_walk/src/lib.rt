@@ -1,24 +1,16 @@
-//! The walk over a nest: its size, its trace, and the arrays that it computes.
+//! The walk over a nest: its size and its trace.
 #![tactic(auto)]
 
-mod along;
 mod bounds;
-mod cells;
 mod count;
-mod execute;
-mod lines;
-mod narrow_access;
-mod narrow_form;
-mod outputs;
 mod parts;
-mod places;
 mod process_points;
-mod run;
 mod vector;
 mod walk;
 
+pub use bounds::{loop_range, rows_hold};
 pub use count::{SizeError, size};
-pub use narrow_access::{NarrowAccess, NarrowStatement, narrow_statements};
+pub use parts::only_assignment;
 pub use process_points::points;
-pub use run::interpret;
+pub use vector::LoopValues;
 pub use walk::Walk;

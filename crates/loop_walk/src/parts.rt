@@ -4,7 +4,7 @@ ghost use Rattle.sanlp.specs.declared.nest.Node.TheVariants.{Assign};
 use sanlp::Node;
 
 /// The number of the statement in a body that has one part, which is an assignment.
-pub(crate) fn only_assignment(parts: &[Node]) -> Option<u32>
+pub fn only_assignment(parts: &[Node]) -> Option<u32>
     ensures { IfSome result (λ s. parts.now ≡ Assign s ∷ []) }
 {
     if parts.len() != 1 {

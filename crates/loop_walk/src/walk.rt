@@ -6,7 +6,7 @@ ghost use Rattle.sanlp.specs.WellFormed.{all_forms_fit, form_fits, forms_fit};
 ghost use Rattle.sanlp.specs.declared.nest.Node.TheVariants.{Assign};
 ghost use Rattle.sanlp.specs.declared.nest.Node.TheViews.{Loop, Guard};
 ghost use Rattle.sanlp.specs.Trace.{all_points, trace_node, turn_points};
-ghost use Rattle.loop_walk.specs.Execution.{parts_within};
+ghost use Rattle.loop_walk.specs.EnteredLoops.{parts_within};
 ghost use Rattle.loop_walk.specs.Walking.{left, left_of_node, left_of_parts, left_of_turns, node_room, node_valid, parts_room, parts_valid, turns_valid, valid};
 
 use crate::bounds::{loop_range, rows_hold};
@@ -77,14 +77,19 @@ fn enter_loop(
     requires lower_fit { IsTrue (list_all (form_fits (length at.now)) lower.now) }
     requires upper_fit { IsTrue (list_all (form_fits (length at.now)) upper.now) }
     requires step { pos 1 ≤ℤ step }
-    requires valid { IsTrue (node_valid frame.old (valid deeper.old) (Loop id lower.now upper.now step body.now) at.now) }
+    requires valid { IsTrue
+        (node_valid frame.old (valid deeper.old)
+        (Loop id lower.now upper.now step body.now) at.now) }
     ensures part { frame.new.part ≡ frame.old.part }
     ensures entered { OnTrue result (frame.new.inside ≡ true) }
     ensures turns { OnTrue result
         (left_of_node frame.old (left deeper.old) (Loop id lower.now upper.now step body.now) at.now
         ≡ left_of_turns frame.new (left deeper.new) body.now at.now) }
-    ensures valid { OnTrue result (IsTrue (turns_valid frame.new (valid deeper.new) body.now at.now)) }
-    ensures empty { OnFalse result (left_of_node frame.old (left deeper.old) (Loop id lower.now upper.now step body.now) at.now ≡ []) }
+    ensures valid { OnTrue result
+        (IsTrue (turns_valid frame.new (valid deeper.new) body.now at.now)) }
+    ensures empty { OnFalse result
+        (left_of_node frame.old (left deeper.old) (Loop id lower.now upper.now step body.now) at.now
+        ≡ []) }
 {
     if frame.inside {
         return true;
@@ -112,13 +117,15 @@ fn enter_guard(
 ) -> bool
     requires room { 0 < length deeper.old }
     requires fit { IsTrue (list_all (form_fits (length at.now)) rows.now) }
-    requires valid { IsTrue (node_valid frame.old (valid deeper.old) (Guard rows.now body.now) at.now) }
+    requires valid { IsTrue
+        (node_valid frame.old (valid deeper.old) (Guard rows.now body.now) at.now) }
     ensures part { frame.new.part ≡ frame.old.part }
     ensures entered { OnTrue result (frame.new.inside ≡ true) }
     ensures body { OnTrue result
         (left_of_node frame.old (left deeper.old) (Guard rows.now body.now) at.now ≡ left deeper.new body.now at.now) }
     ensures valid { OnTrue result (IsTrue (valid deeper.new body.now at.now)) }
-    ensures empty { OnFalse result (left_of_node frame.old (left deeper.old) (Guard rows.now body.now) at.now ≡ []) }
+    ensures empty { OnFalse result
+        (left_of_node frame.old (left deeper.old) (Guard rows.now body.now) at.now ≡ []) }
 {
     if frame.inside {
         return true;
@@ -182,7 +189,8 @@ fn next_of_assignment(
         (left_of_turns frame.old (left deeper.now) body.now at.now ≡ [])
         (λ point. left_of_turns frame.old (left deeper.now) body.now at.now
         ≡ point ∷ left_of_turns frame.new (left deeper.now) body.now at.now) }
-    ensures valid { OnSome result (IsTrue (turns_valid frame.new (valid deeper.now) body.now at.now)) }
+    ensures valid { OnSome result
+        (IsTrue (turns_valid frame.new (valid deeper.now) body.now at.now)) }
 {
     if frame.value >= frame.last {
         return None;
@@ -220,13 +228,15 @@ fn next_part(
 ) -> Option<Point>
     requires fit { IsTrue (all_forms_fit parts.now (length at.now)) }
     requires room { IsTrue (list_all (λ part. part (length deeper.old)) (map node_room parts.now)) }
-    requires valid { IsTrue (parts_valid frame.old (valid deeper.old) (drop frame.old.part parts.now) at.now) }
+    requires valid { IsTrue
+        (parts_valid frame.old (valid deeper.old) (drop frame.old.part parts.now) at.now) }
     ensures next { MatchOption result
         ((left_of_parts frame.old (left deeper.old) (drop frame.old.part parts.now) at.now ≡ [])
         × (left_of_parts frame.new (left deeper.new) (drop frame.new.part parts.now) at.now ≡ []))
         (λ point. left_of_parts frame.old (left deeper.old) (drop frame.old.part parts.now) at.now
         ≡ point ∷ left_of_parts frame.new (left deeper.new) (drop frame.new.part parts.now) at.now) }
-    ensures valid { IsTrue (parts_valid frame.new (valid deeper.new) (drop frame.new.part parts.now) at.now) }
+    ensures valid { IsTrue
+        (parts_valid frame.new (valid deeper.new) (drop frame.new.part parts.now) at.now) }
 {
     while frame.part < parts.len() {
         let point = next_of_node(alloc, &parts[frame.part], at, frame, deeper);
@@ -256,7 +266,8 @@ fn next_of_node(
         (left_of_node frame.old (left deeper.old) node.now at.now ≡ [])
         (λ point. left_of_node frame.old (left deeper.old) node.now at.now
         ≡ point ∷ left_of_node frame.new (left deeper.new) node.now at.now) }
-    ensures valid { OnSome result (IsTrue (node_valid frame.new (valid deeper.new) node.now at.now)) }
+    ensures valid { OnSome result
+        (IsTrue (node_valid frame.new (valid deeper.new) node.now at.now)) }
 {
     match node {
         Node::Loop {
@@ -319,7 +330,8 @@ fn next_of_turns(
         (left_of_turns frame.old (left deeper.old) body.now at.now ≡ [])
         (λ point. left_of_turns frame.old (left deeper.old) body.now at.now
         ≡ point ∷ left_of_turns frame.new (left deeper.new) body.now at.now) }
-    ensures valid { OnSome result (IsTrue (turns_valid frame.new (valid deeper.new) body.now at.now)) }
+    ensures valid { OnSome result
+        (IsTrue (turns_valid frame.new (valid deeper.new) body.now at.now)) }
 {
     if let Some(statement) = entered_assignment(body, deeper) {
         return next_of_assignment(alloc, statement, body, at, frame, deeper);

@@ -1,7 +1,8 @@
-//! Tests of `loop_walk`: size, walk, points and interpreter.
+//! Tests of `loop_walk` and `loop_run`: size, walk, points and interpreter.
 
 use crate::bound::nest;
-use loop_walk::{Walk, interpret, points, size};
+use loop_run::interpret;
+use loop_walk::{Walk, points, size};
 use plain_data::Items;
 use sanlp::{Inputs, Point};
 use std::alloc::{AllocError, Global};

@@ -1,4 +1,1 @@
 pub mod LastWrites
-pub mod Rows
-pub mod Shadows
-pub mod Vectors

@@ -4,8 +4,8 @@ ghost use Rattle.sanlp.specs.Size.{SizeIsOk};
 ghost use Rattle.source_tree.specs.Sources.{sources_of};
 
 use crate::entry::pass;
-use crate::shadow::Shadow;
 use crate::state::{first_reads, next_turn};
+use cell_rows::{Cells, narrow_statements};
 use loop_walk::Walk;
 use plain_data::Items;
 use sanlp::{Nest, Points, Tag};
@@ -23,23 +23,18 @@ pub fn sweep(alloc: Global, nest: &Nest, points: &Points) -> Result<SourceTable,
     let mut lists = Vec::new(alloc);
     let firsts = first_reads(alloc, nest, points, &mut lists)?;
     let mut turns = vec![in alloc; 0; nest.statements.len()]?;
-    let mut shadow = Shadow::new(alloc, nest.arrays.as_slice())?;
+    let narrow = narrow_statements(alloc, nest)?;
+    let accesses = narrow.as_slice();
+    let mut cells = Cells::new(alloc, nest.arrays.as_slice())?;
     let mut walk = Walk::new(alloc, nest)?;
     while let Some(point) = walk.next(nest) {
         let process = point.statement;
         let turn = next_turn(&mut turns, process as usize);
-        let statement = nest.statement(process);
+        let statement = &accesses[process as usize];
+        let at = point.at.as_slice();
         let first = firsts[process as usize];
         let tag = Tag { process, turn };
-        pass(
-            alloc,
-            statement,
-            &point.at,
-            tag,
-            first,
-            &mut shadow,
-            &mut lists,
-        )?;
+        pass(alloc, statement, at, tag, first, &mut cells, &mut lists)?;
     }
     Ok(SourceTable {
         of: Items::from_vec(lists),

@@ -33,7 +33,8 @@ pub(crate) fn first_reads(
     ensures firsts { IfOk result (λ firsts.
         firsts.items ≡ map (λ p. read_number nest.now p 0)
         (range_with_len 0 (length nest.now.statements))) }
-    ensures lists { OnOk result (lists.new.items ≡ replicate (sum_by (λ s. length s.reads) nest.now.statements) []) }
+    ensures lists { OnOk result
+        (lists.new.items ≡ replicate (sum_by (λ s. length s.reads) nest.now.statements) []) }
 {
     let mut firsts = Vec::new(alloc);
     for (process, statement) in nest.statements.as_slice().iter().enumerate() {
@@ -49,7 +50,8 @@ pub(crate) fn next_turn(turns: &mut Vec<u32>, process: usize) -> u32
     requires exists { process < vec_len turns.old }
     requires few { slice_index turns.old.items process < 4294967295 }
     ensures turn { result ≡ slice_index turns.old.items process }
-    ensures counted { turns.new.items ≡ slice_set turns.old.items process (slice_index turns.old.items process + 1) }
+    ensures counted { turns.new.items
+        ≡ slice_set turns.old.items process (slice_index turns.old.items process + 1) }
 {
     let turn = turns[process];
     turns[process] = turn + 1;

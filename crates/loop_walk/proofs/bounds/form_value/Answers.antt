@@ -3,7 +3,8 @@ use mir.Syntax.{w64, w128}
 use Rattle.std.proofs.lemmas.Int.{to_z-of_z}
 use Rattle.affine_core.specs.Affine.{form_at}
 use Rattle.loop_walk.proofs.SmallForms.{value_is_in}
-use Rattle.loop_walk.proofs.SumsInside.{as_many, moderate_at, next_product, next_rest}
+use Rattle.sanlp.proofs.ModerateForms.{as_many, moderate_at}
+use Rattle.loop_walk.proofs.SumsInside.{next_product, next_rest}
 use Rattle.loop_walk.proofs.bounds.form_value.Goals as goal
 
 pub loop-place-init : goal.loop-place-init

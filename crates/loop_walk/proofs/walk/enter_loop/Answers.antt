@@ -6,7 +6,7 @@ use Rattle.std.proofs.lemmas.Int.{to_z-of_z, ints}
 use Rattle.sanlp.specs.declared.nest.Node.TheViews.{Loop}
 use Rattle.sanlp.specs.Loops.{interval}
 use Rattle.sanlp.specs.Trace.{all_points, trace_node, turn_points}
-use Rattle.loop_walk.specs.Execution.{parts_within}
+use Rattle.loop_walk.specs.EnteredLoops.{parts_within}
 use Rattle.loop_walk.specs.Walking.{left, valid}
 use Rattle.loop_walk.proofs.WalkLemmas.{left_outside, points_of_turns, turns_are_within, within_outside}
 use Rattle.loop_walk.proofs.walk.enter_loop.Goals as goal

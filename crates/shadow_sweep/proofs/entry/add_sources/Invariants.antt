@@ -1,9 +1,8 @@
 use Rattle.std.proofs.Common.{◌≡◌, map, take}
 use Rattle.sanlp.specs.Access.{cell_at}
-use Rattle.shadow_sweep.specs.LastWrites.{with_sources}
-use Rattle.shadow_sweep.specs.Shadows.{writes_in}
+use Rattle.shadow_sweep.specs.LastWrites.{with_sources, writes_in}
 use Rattle.shadow_sweep.proofs.entry.add_sources.Given as goal
 
 abbrev pub invariant-loop-read : goal.invariant-loop-read
 invariant-loop-read l =
-    l.lists.items ≡ with_sources l.initial.lists.items l.first (map (writes_in l.shadow) (map (cell_at l.at) (take l.read l.reads)))
+    l.lists.items ≡ with_sources l.initial.lists.items l.first (map (writes_in l.cells) (map (cell_at l.at) (take l.read l.reads)))

@@ -1,14 +1,15 @@
-use Rattle.std.proofs.Common.{◌≡◌, ◌-◌, ℕ, drop, length, arith, sym, ap, ◌∙◌, subst}
-use Rattle.std.specs.Prelude.{IsTrue, replicate}
-use Rattle.std.proofs.lemmas.List.{get_or_read}
+use Rattle.std.proofs.Common.{◌≡◌, ◌-◌, drop, length, arith, sym, ap, ◌∙◌, subst}
+use Rattle.std.specs.Prelude.{replicate}
+use Rattle.std.proofs.lemmas.List.{get_or_read, length-map}
 use Rattle.std.proofs.lemmas.List.FromFn.{length-map-range_with_len}
 use Rattle.sanlp.specs.Trace.{trace}
-use Rattle.loop_walk.specs.Execution.{statement_short}
 use Rattle.loop_walk.specs.Walks.{rest}
-use Rattle.loop_walk.proofs.ShortStatements.{short_statement}
-use Rattle.shadow_sweep.specs.Shadows.{writes_in}
+use Rattle.cell_rows.specs.Narrow.{narrowed}
+use Rattle.cell_rows.specs.declared.narrow_access.NarrowStatement.{NarrowStatement}
+use Rattle.shadow_sweep.specs.LastWrites.{writes_in}
 use Rattle.source_tree.specs.Sources.{read_number}
-use Rattle.shadow_sweep.proofs.Swept.{IsSwept, depth_is, first_is, left_later, reads_have_lists, statement_exists, swept_all, swept_later, swept_none, turn_exists, turn_is_small}
+use Rattle.shadow_sweep.proofs.Accesses.{accesses_of, reads_are, reads_fit, write_fits, write_is}
+use Rattle.shadow_sweep.proofs.Swept.{IsSwept, first_is, left_later, reads_have_lists, statement_exists, swept_all, swept_later, swept_none, turn_exists, turn_is_small}
 use Rattle.shadow_sweep.proofs.sources.sweep.Goals as goal
 
 pub loop-point-init : goal.loop-point-init
@@ -18,10 +19,10 @@ loop-point-init c =
     record {
       walk = c.in_ok-walk.ensures.walk;
       left = ap (λ k. drop k (trace n)) started ∙ sym c.in_ok-walk.ensures.rest;
-      swept = subst (λ t. IsSwept n t c.in_ok-turns.turns.items (writes_in c.in_ok-shadow.shadow) c.first_reads.new.lists.items) (sym started)
-          (swept_none n c.in_ok-turns.turns.items (writes_in c.in_ok-shadow.shadow) c.first_reads.new.lists.items
+      swept = subst (λ t. IsSwept n t c.in_ok-turns.turns.items (writes_in c.in_ok-cells.cells) c.first_reads.new.lists.items) (sym started)
+          (swept_none n c.in_ok-turns.turns.items (writes_in c.in_ok-cells.cells) c.first_reads.new.lists.items
           (c.in_ok-turns.ensures.items_if_clones_equal (λ y h. h) ∙ ap (λ k. replicate k 0) c.len.ensures)
-          c.in_ok-shadow.ensures c.in_ok-firsts.ensures.lists);
+          c.in_ok-cells.ensures c.in_ok-firsts.ensures.lists);
     }
 
 pub next_turn-turn-requires-clause-exists : goal.next_turn-turn-requires-clause-exists
@@ -38,10 +39,14 @@ next_turn-turn-requires-clause-few c =
     let n = c.args.nest.now in
     turn_is_small n (rest n c.loop-point.walk) _ c.in-Some.point c.loop-point.invariant.left c.in-Some.ensures.next _ _ _ c.loop-point.invariant.swept c.requires.sized.size_within
 
-pub statement-statement-requires : goal.statement-statement-requires
-statement-statement-requires c =
+pub bounds-accesses-process : goal.bounds-accesses-process
+bounds-accesses-process c =
     let n = c.args.nest.now in
-    statement_exists n (rest n c.loop-point.walk) _ c.in-Some.point c.loop-point.invariant.left c.in-Some.ensures.next
+    omega (
+      arith,
+      ap length (c.as_slice-accesses.ensures ∙ c.in_ok-narrow.ensures) ∙ length-map n.statements narrowed,
+      statement_exists n (rest n c.loop-point.walk) _ c.in-Some.point c.loop-point.invariant.left c.in-Some.ensures.next,
+    )
 
 pub index-first-requires : goal.index-first-requires
 index-first-requires c =
@@ -54,18 +59,25 @@ index-first-requires c =
       statement_exists n (rest n c.loop-point.walk) _ c.in-Some.point c.loop-point.invariant.left c.in-Some.ensures.next,
     )
 
-pub pass-requires-clause-fits : goal.pass-requires-clause-fits
-pass-requires-clause-fits c =
+pub pass-requires-clause-reads_fit : goal.pass-requires-clause-reads_fit
+pass-requires-clause-reads_fit c =
     let n = c.args.nest.now in
-    let s = c.statement-statement.result.now in
-    subst (λ (depth : ℕ). IsTrue (statement_short depth s))
-    (depth_is n (rest n c.loop-point.walk) _ c.in-Some.point c.loop-point.invariant.left c.in-Some.ensures.next s c.statement-statement.ensures.value)
-    (short_statement n.arrays n.well_formed.few_extents s c.statement-statement.ensures.fits)
+    let here = accesses_of n (rest n c.loop-point.walk) _ c.in-Some.point c.loop-point.invariant.left c.in-Some.ensures.next
+    c.as_slice-accesses.result.now c.index-accesses-process.result (c.as_slice-accesses.ensures ∙ c.in_ok-narrow.ensures) c.index-accesses-process.is in
+    reads_fit n c.in-Some.point c.index-accesses-process.result c.as_slice-at.result.now here c.as_slice-at.ensures.value
+
+pub pass-requires-clause-write_fits : goal.pass-requires-clause-write_fits
+pass-requires-clause-write_fits c =
+    let n = c.args.nest.now in
+    let here = accesses_of n (rest n c.loop-point.walk) _ c.in-Some.point c.loop-point.invariant.left c.in-Some.ensures.next
+    c.as_slice-accesses.result.now c.index-accesses-process.result (c.as_slice-accesses.ensures ∙ c.in_ok-narrow.ensures) c.index-accesses-process.is in
+    write_fits n c.in-Some.point c.index-accesses-process.result c.as_slice-at.result.now here c.as_slice-at.ensures.value
 
 pub pass-requires-clause-room : goal.pass-requires-clause-room
 pass-requires-clause-room c =
     let n = c.args.nest.now in
-    let s = c.statement-statement.result.now in
+    let here = accesses_of n (rest n c.loop-point.walk) _ c.in-Some.point c.loop-point.invariant.left c.in-Some.ensures.next
+    c.as_slice-accesses.result.now c.index-accesses-process.result (c.as_slice-accesses.ensures ∙ c.in_ok-narrow.ensures) c.index-accesses-process.is in
     let exists = statement_exists n (rest n c.loop-point.walk) _ c.in-Some.point c.loop-point.invariant.left c.in-Some.ensures.next in
     let count = ap length c.in_ok-firsts.ensures.firsts ∙ length-map-range_with_len (λ p. read_number n p 0) 0 (length n.statements) in
     let first = get_or_read c.in_ok-firsts.firsts.items _ _ (omega (arith, count, exists)) c.index-first.ensures 0 in
@@ -74,23 +86,29 @@ pass-requires-clause-room c =
       c.loop-point.lists.ok.0,
       first,
       first_is n c.in_ok-firsts.firsts.items c.in-Some.point.statement c.in_ok-firsts.ensures.firsts exists,
-      reads_have_lists n _ c.in-Some.point s _ _ _ c.statement-statement.ensures.value c.loop-point.invariant.swept,
+      ap (λ (accesses : NarrowStatement). length accesses.reads) here.same,
+      reads_have_lists n _ c.in-Some.point here.statement _ _ _ here.found c.loop-point.invariant.swept,
     )
 
 pub loop-point-preserved : goal.loop-point-preserved
 loop-point-preserved c =
     let n = c.args.nest.now in
-    let s = c.statement-statement.result.now in
+    let here = accesses_of n (rest n c.loop-point.walk) _ c.in-Some.point c.loop-point.invariant.left c.in-Some.ensures.next
+    c.as_slice-accesses.result.now c.index-accesses-process.result (c.as_slice-accesses.ensures ∙ c.in_ok-narrow.ensures) c.index-accesses-process.is in
     let exists = statement_exists n (rest n c.loop-point.walk) _ c.in-Some.point c.loop-point.invariant.left c.in-Some.ensures.next in
     let count = ap length c.in_ok-firsts.ensures.firsts ∙ length-map-range_with_len (λ p. read_number n p 0) 0 (length n.statements) in
     let first = get_or_read c.in_ok-firsts.firsts.items _ _ (omega (arith, count, exists)) c.index-first.ensures 0 in
+    let same = c.as_slice-at.ensures.value in
     record {
       walk = c.in-Some.ensures.walk;
       left = left_later (trace n) (rest n c.loop-point.walk) _ c.in-Some.point c.loop-point.invariant.left c.in-Some.ensures.next;
-      swept = swept_later n (rest n c.loop-point.walk) _ c.in-Some.point c.loop-point.invariant.left c.in-Some.ensures.next _ _ _ c.loop-point.invariant.swept s _ _ _
-          c.next_turn-turn.result c.index-first.result.now c.statement-statement.ensures.value c.next_turn-turn.ensures.turn
+      swept = swept_later n (rest n c.loop-point.walk) _ c.in-Some.point c.loop-point.invariant.left c.in-Some.ensures.next _ _ _ c.loop-point.invariant.swept here.statement _ _ _
+          c.next_turn-turn.result c.index-first.result.now here.found c.next_turn-turn.ensures.turn
           (first ∙ first_is n c.in_ok-firsts.firsts.items c.in-Some.point.statement c.in_ok-firsts.ensures.firsts exists)
-          c.next_turn-turn.ensures.counted c.in_ok-pass.ensures.write c.in_ok-pass.ensures.sources;
+          c.next_turn-turn.ensures.counted
+          (c.in_ok-pass.ensures.write ∙ write_is n c.in-Some.point c.index-accesses-process.result c.as_slice-at.result.now here same (writes_in c.loop-point.cells) _)
+          (c.in_ok-pass.ensures.sources
+          ∙ reads_are n c.in-Some.point c.index-accesses-process.result c.as_slice-at.result.now here same c.loop-point.lists.items c.index-first.result.now (writes_in c.loop-point.cells));
     }
 
 pub returns : goal.returns
@@ -98,5 +116,5 @@ returns c =
     let n = c.args.nest.now in
     let whole : length (trace n) - length (rest n c.loop-point.walk) ≡ length (trace n) = omega (arith, ap length c.in_default.ensures.next.0) in
     c.from_vec.ensures
-    ∙ swept_all n c.loop-point.turns.items (writes_in c.loop-point.shadow) c.loop-point.lists.items
-    (subst (λ t. IsSwept n t c.loop-point.turns.items (writes_in c.loop-point.shadow) c.loop-point.lists.items) whole c.loop-point.invariant.swept)
+    ∙ swept_all n c.loop-point.turns.items (writes_in c.loop-point.cells) c.loop-point.lists.items
+    (subst (λ t. IsSwept n t c.loop-point.turns.items (writes_in c.loop-point.cells) c.loop-point.lists.items) whole c.loop-point.invariant.swept)

@@ -1,7 +1,7 @@
 use Rattle.std.proofs.Common.{◌≡◌, ◌-◌, drop, length}
 use Rattle.sanlp.specs.Trace.{trace}
 use Rattle.loop_walk.specs.Walks.{IsWalkOf, rest}
-use Rattle.shadow_sweep.specs.Shadows.{writes_in}
+use Rattle.shadow_sweep.specs.LastWrites.{writes_in}
 use Rattle.shadow_sweep.proofs.Swept.{IsSwept}
 use Rattle.shadow_sweep.proofs.sources.sweep.Given as goal
 
@@ -9,7 +9,7 @@ abbrev pub invariant-loop-point : goal.invariant-loop-point
 invariant-loop-point l = record {
   walk : IsWalkOf l.nest l.walk;
   left : drop (length (trace l.nest) - length (rest l.nest l.walk)) (trace l.nest) ≡ rest l.nest l.walk;
-  swept : IsSwept l.nest (length (trace l.nest) - length (rest l.nest l.walk)) l.turns.items (writes_in l.shadow) l.lists.items;
+  swept : IsSwept l.nest (length (trace l.nest) - length (rest l.nest l.walk)) l.turns.items (writes_in l.cells) l.lists.items;
 }
 
 abbrev pub decreases-loop-point : goal.decreases-loop-point

@@ -1,0 +1,4 @@
+pub mod CellMemory
+pub mod Execution
+pub mod LinePlaces
+pub mod Outputs

@@ -1,0 +1,64 @@
+-- The places of accesses along a loop: they change evenly. Each cell that has one has it by `place_of`.
+use Rattle.std.specs.Prelude.{◌≡◌, ℕ, ◌<◌, ◌≤◌, ℤ, pos, ◌+ℤ◌, ◌-ℤ◌, ◌*ℤ◌, ◌≤ℤ◌, List, [], ◌∷◌, ◌++◌, Option, Some, length, unsigned_abs, slice_index_or, IsTrue}
+use Rattle.sanlp.specs.declared.nest.Access.{Access}
+use Rattle.sanlp.specs.Access.{cell_at}
+use Rattle.sanlp.specs.Cells.{Cell, natural}
+use Rattle.cell_rows.specs.declared.narrow_access.NarrowStatement.{NarrowStatement}
+use Rattle.cell_rows.specs.RowPlaces.{row_limit}
+use Rattle.cell_rows.specs.SmallValues.{is_small_value}
+use Rattle.loop_run.specs.declared.along.Lines.{Lines}
+use Rattle.loop_run.specs.declared.lines.Line.{Line}
+
+-- the places of cells
+abbrev pub Places : Type 0
+Places = Cell → Option ℕ
+
+-- the place at a turn, counted from 0
+abbrev pub place_along : Line → ℤ → ℕ
+place_along line turn = natural (pos line.place +ℤ (turn *ℤ line.step))
+
+-- the numbers of a line are so small that its places have 64 bits
+pub record IsShortLine (line : Line) : Type 0 where
+  pub place : line.place < row_limit
+  pub step : unsigned_abs line.step ≤ row_limit
+
+-- the cell of an access at each value of a loop has the place of the line
+pub record IsLineOf (place_of : Places) (at : List ℤ) (first last : ℤ) (access : Access)
+    (line : Line) : Type 0 where
+  pub short : IsShortLine line
+  pub places : (v : ℤ) → first ≤ℤ v → v ≤ℤ last
+      → place_of (cell_at (at ++ v ∷ []) access) ≡ Some (place_along line (v -ℤ first))
+
+-- at one turn
+pub record IsPlacedBy (place_of : Places) (at : List ℤ) (turn : ℤ) (access : Access)
+    (line : Line) : Type 0 where
+  pub short : IsShortLine line
+  pub place : place_of (cell_at at access) ≡ Some (place_along line turn)
+
+-- the same of the first n of these accesses and lines
+abbrev pub AreLinesOf : Places → List ℤ → ℤ → ℤ → List Access → List Line → ℕ → Type 0
+AreLinesOf place_of at first last accesses lines n =
+    (i : ℕ) → i < n → (access : Access) → access ≡ slice_index_or accesses i access
+    → (line : Line) → line ≡ slice_index_or lines i line
+    → IsLineOf place_of at first last access line
+
+abbrev pub ArePlacedBy : Places → List ℤ → ℤ → List Access → List Line → ℕ → Type 0
+ArePlacedBy place_of at turn accesses lines n =
+    (i : ℕ) → i < n → (access : Access) → access ≡ slice_index_or accesses i access
+    → (line : Line) → line ≡ slice_index_or lines i line → IsPlacedBy place_of at turn access line
+
+-- the lines of a statement's accesses along a loop
+pub record AreStatementLines (place_of : Places) (at : List ℤ) (first last : ℤ)
+    (accesses : NarrowStatement) (lines : Lines) : Type 0 where
+  pub first_small : IsTrue (is_small_value first)
+  pub last_small : IsTrue (is_small_value last)
+  pub reads : AreLinesOf place_of at first last accesses.reads lines.reads (length accesses.reads)
+  pub write : (access : Access) → accesses.write ≡ Some access
+      → IsLineOf place_of at first last access lines.write
+
+-- at one turn
+pub record IsStatementPlaced (place_of : Places) (at : List ℤ) (turn : ℤ)
+    (accesses : NarrowStatement) (lines : Lines) : Type 0 where
+  pub reads : ArePlacedBy place_of at turn accesses.reads lines.reads (length accesses.reads)
+  pub write : (access : Access) → accesses.write ≡ Some access
+      → IsPlacedBy place_of at turn access lines.write

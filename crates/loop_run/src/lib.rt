@@ -1,0 +1,10 @@
+//! The interpreter of a nest: the arrays that it computes.
+#![tactic(auto)]
+
+mod along;
+mod execute;
+mod lines;
+mod outputs;
+mod run;
+
+pub use run::interpret;

@@ -1,0 +1,105 @@
+ghost use Rattle.std.specs.Prelude.{◌≡◌, ◌≤◌, ◌<◌, ◌+◌, ◌≤ℤ◌, ◌<ℤ◌, ◌+ℤ◌, ◌-ℤ◌, pos, [], ◌∷◌, ◌++◌, length, unsigned_abs, IfSome, IsTrue, Some};
+ghost use Rattle.sanlp.specs.Access.{cell_at};
+ghost use Rattle.sanlp.specs.Size.{is_loop_value};
+ghost use Rattle.cell_rows.specs.CellMap.{places_in};
+ghost use Rattle.cell_rows.specs.RowPlaces.{row_limit};
+ghost use Rattle.cell_rows.specs.ShortAccesses.{access_short};
+ghost use Rattle.loop_run.specs.LinePlaces.{IsLineOf, IsShortLine, place_along};
+
+use cell_rows::{Cells, NarrowAccess, are_small};
+use loop_walk::LoopValues;
+use sanlp::natural_of;
+
+/// The places of an access along a loop, which change evenly: the place at the first turn, and the step to the next.
+#[derive(Clone, Copy)]
+pub(crate) struct Line {
+    place: usize,
+    step: i64,
+}
+
+/// The line where there is no access.
+pub(crate) const NO_LINE: Line = Line { place: 0, step: 0 };
+
+/// The place at a turn.
+pub(crate) fn place_at(line: Line, turn: i64) -> usize
+    requires short { IsShortLine line }
+    requires turn { unsigned_abs turn ≤ 268435456 }
+    ensures { result ≡ place_along line turn }
+{
+    natural_of(line.place as i64 + turn * line.step)
+}
+
+// The place in rows of an access's cell, with one loop more.
+fn place_inside(
+    cells: &Cells<i64>,
+    access: &NarrowAccess,
+    at: &LoopValues,
+    value: i64,
+) -> Option<usize>
+    requires shallow { length at.now < 6 }
+    requires fits { IsTrue (access_short (length at.now + 1) access.now) }
+    requires within { IsTrue (is_loop_value value) }
+    ensures { result ≡ places_in cells.now (cell_at (at.now ++ value ∷ []) access.now) }
+{
+    let inner = at.extended(value);
+    let values = inner.as_slice();
+    cells.place(access, values, are_small(values))
+}
+
+// The place at the second turn, or at the last where there is no second.
+fn second_place(
+    cells: &Cells<i64>,
+    access: &NarrowAccess,
+    at: &LoopValues,
+    first: i64,
+    last: i64,
+    end: usize,
+) -> Option<usize>
+    requires shallow { length at.now < 6 }
+    requires fits { IsTrue (access_short (length at.now + 1) access.now) }
+    requires first_within { IsTrue (is_loop_value first) }
+    requires last_within { IsTrue (is_loop_value last) }
+    ensures second { let next_at = at.now ++ (first +ℤ pos 1) ∷ [] in
+        IfSome result (λ next. first <ℤ last → places_in cells.now (cell_at next_at access.now) ≡ Some next) }
+    ensures none { IfSome result (λ next. last ≤ℤ first → next ≡ end) }
+{
+    if first < last {
+        place_inside(cells, access, at, first + 1)
+    } else {
+        Some(end)
+    }
+}
+
+// The line with this place at the first turn and that at the next.
+fn line_through(place: usize, next: usize) -> Line
+    requires place { place < row_limit }
+    requires next { next < row_limit }
+    ensures line { result ≡ record { place = place; step = pos next -ℤ pos place } }
+    ensures short { IsShortLine result }
+{
+    Line {
+        place,
+        step: next as i64 - place as i64,
+    }
+}
+
+/// The places of an access along a loop, if its first and its last cell have places in rows.
+pub(crate) fn line_of(
+    cells: &Cells<i64>,
+    access: &NarrowAccess,
+    at: &LoopValues,
+    first: i64,
+    last: i64,
+) -> Option<Line>
+    requires shallow { length at.now < 6 }
+    requires fits { IsTrue (access_short (length at.now + 1) access.now) }
+    requires first_within { IsTrue (is_loop_value first) }
+    requires last_within { IsTrue (is_loop_value last) }
+    requires turns { first ≤ℤ last }
+    ensures { IfSome result (IsLineOf (places_in cells.now) at.now first last access.now) }
+{
+    let place = place_inside(cells, access, at, first)?;
+    let end = place_inside(cells, access, at, last)?;
+    let next = second_place(cells, access, at, first, last, end)?;
+    Some(line_through(place, next))
+}

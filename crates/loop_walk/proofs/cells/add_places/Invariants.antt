@@ -1,5 +1,0 @@
-use Rattle.std.proofs.Common.{◌≡◌, ◌++◌, None, replicate}
-use Rattle.loop_walk.proofs.cells.add_places.Given as goal
-
-abbrev pub invariant-loop : goal.invariant-loop
-invariant-loop l = l.values ≡ l.fn.values ++ replicate l.counter None

@@ -1,6 +1,0 @@
-use Rattle.std.proofs.Common.{◌≡◌, map, take}
-use Rattle.affine_core.specs.Affine.{form_at}
-use Rattle.shadow_sweep.proofs.cell.cell_of.Given as goal
-
-abbrev pub invariant-loop-form : goal.invariant-loop-form
-invariant-loop-form l = l.subscripts ≡ map (λ form. form_at form l.at) (take l.form-index l.form-items)

@@ -1,6 +1,6 @@
 -- The network that a nest is compiled to, with its certificate, fits the nest and can be read from its text.
 use Rattle.std.proofs.Common.{◌≡◌, ℕ, zero, suc, ◌+◌, ◌<◌, ◌≤◌, ◌^◌, max, Option, Some, None, List, [], ◌∷◌, length, map, take, slice_get, refl, ap, arith}
-use Rattle.std.specs.List.{fold}
+use Rattle.std.specs.List.{fold, range_with_len}
 use Rattle.std.specs.Option.{option_map_or}
 use Rattle.std.proofs.lemmas.List.{length-replicate, length-take}
 use Rattle.std.proofs.lemmas.List.Sums.{count_by-le-length}
@@ -11,7 +11,7 @@ use Rattle.sanlp.specs.Size.{SizeIsOk}
 use Rattle.net_checker.specs.Fits.{Fits}
 use Rattle.net_checker.specs.Shapes.{read_total}
 use Rattle.net_core.proofs.Ready.{script_short}
-use Rattle.net_core.specs.Cuts.{Cut, cut_after}
+use Rattle.net_core.specs.Cuts.{Cut, cut_after, opening}
 use Rattle.net_core.specs.declared.network.Channel.{Channel}
 use Rattle.net_core.specs.Machine.{Net, net_of}
 use Rattle.net_core.specs.Shape.{FitsNumbers, is_put}
@@ -19,24 +19,23 @@ use Rattle.net_maker.proofs.Fitting.{fits_with}
 use Rattle.net_maker.proofs.Numbers.{numbers_stay}
 use Rattle.net_maker.specs.Certificates.{cert_of}
 use Rattle.process_derive.proofs.Numbers.{numbers_fit}
+use Rattle.process_derive.proofs.Wired.{is_wired}
 use Rattle.process_derive.proofs.Shaped.{fits_nest}
 use Rattle.process_derive.specs.Derived.{net}
 use Rattle.sanlp.proofs.Each.{Each, each_map, each_of}
-use Rattle.sanlp.specs.Cells.{count_up}
 use Rattle.sanlp.specs.declared.nest.Nest.{Nest}
 use Rattle.source_tree.specs.declared.cert.Origin.TheVariants.{Sweep}
 use Rattle.witness_plan.proofs.OtherCapacities.{net_kept, wired_kept}
 use Rattle.witness_plan.proofs.Planned.{ends_all}
-use Rattle.witness_plan.proofs.Wired.{wired}
 use Rattle.witness_plan.specs.declared.schedules.Policy.{Policy}
 use Rattle.witness_plan.specs.Schedules.{planned_network, schedule}
-use Rattle.witness_plan.specs.Sequential.{capacities, channels_with, greatest_length, opening, queue_length}
+use Rattle.witness_plan.specs.Sequential.{capacities, channels_with, greatest_length, queue_length}
 use Rattle.cert_ranges.proofs.Ranges.{in_range}
 
 pub planned_fits : (n : Nest) (policy : Policy) → Fits n (planned_network n policy) (cert_of n policy)
 planned_fits n policy =
     fits_with n (net n) (capacities (net n) (schedule n policy)) (cert_of n policy) (fits_nest n) (names_last_writers n) (has_classes_of_uses n)
-    (net_kept (net n) (capacities (net n) (schedule n policy))) (wired_kept (net n) (capacities (net n) (schedule n policy)) (wired n))
+    (net_kept (net n) (capacities (net n) (schedule n policy))) (wired_kept (net n) (capacities (net n) (schedule n policy)) (is_wired n))
     (length-replicate (read_total n) Sweep) (ends_all n policy)
 
 -- Capacities
@@ -72,10 +71,10 @@ planned_small n policy sized c =
     let m : Net = net_of (net n) in
     let run : List ℕ = schedule n policy in
     let one : (d : ℕ) → greatest_length m run d ≤ 4294967295 = λ d.
-    greatest_within (λ k. queue_length m (cut_after opening (take k run)) d) 4294967295 0 (count_up 0 (length run + 1))
-    (λ k. omega (arith, queue_within m (cut_after opening (take k run)) d, script_short m (wired n) (numbers_fit n sized) (m.writer d))) (omega arith) in
+    greatest_within (λ k. queue_length m (cut_after opening (take k run)) d) 4294967295 0 (range_with_len 0 (length run + 1))
+    (λ k. omega (arith, queue_within m (cut_after opening (take k run)) d, script_short m (is_wired n) (numbers_fit n sized) (m.writer d))) (omega arith) in
     let all : Each (λ room. room ≤ 4294967295) (capacities (net n) run) =
-    each_map (λ room. room ≤ 4294967295) (greatest_length m run) (count_up 0 (length (net n).channels)) (each_of (λ d. greatest_length m run d ≤ 4294967295) (count_up 0 (length (net n).channels)) one) in
+    each_map (λ room. room ≤ 4294967295) (greatest_length m run) (range_with_len 0 (length (net n).channels)) (each_of (λ d. greatest_length m run d ≤ 4294967295) (range_with_len 0 (length (net n).channels)) one) in
     omega (
       arith,
       capacity_at (planned_network n policy).channels c 4294967295 (slice_get (planned_network n policy).channels c) refl

@@ -17,5 +17,6 @@ pub fn planned_network_fits()
 /// Where the size of the nest is within its limit, each number of that network and certificate is within 32 bits, and each
 /// fire has at most eight references. So they are read from their text.
 pub fn planned_network_is_in_range()
-    ensures { (n : Nest) (policy : Policy) → SizeIsOk n → AreInRange (planned_network n policy) (cert_of n policy) }
+    ensures { (n : Nest) (policy : Policy) → SizeIsOk n
+        → AreInRange (planned_network n policy) (cert_of n policy) }
 {}

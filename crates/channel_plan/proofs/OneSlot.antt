@@ -5,29 +5,19 @@
 -- So both sides are the same question on the uses, for each channel by itself. Nothing is said here of how many slots a
 -- channel out of order needs.
 use Rattle.std.proofs.Common.{◌≡◌, ◌<◌, ◌==◌, ℕ, List, [], ◌∷◌, ◌||◌, Bool, true, false, cond, Some, None, length, refl, arith, IsTrue, ◌↔◌}
-use Rattle.std.specs.Prelude.{Option, map}
+use Rattle.std.specs.Prelude.{Option}
 use Rattle.std.specs.List.{All, cons_option, flat_map, list_any, range_with_len}
 use Rattle.std.proofs.lemmas.List.{length-map}
-use Rattle.std.proofs.lemmas.List.Elements.{All-cons, All-head, All-nil, All-tail, filter_passes}
+use Rattle.std.proofs.lemmas.List.Elements.{filter_passes}
 use Rattle.channel_class.specs.Classes.{never_falls}
-use Rattle.channel_class.specs.declared.UseOrder.{UseOrder}
 use Rattle.channel_class.specs.declared.UseOrder.TheVariants.{InOrder, Reorder}
 use Rattle.reorder_slots.proofs.Laws.{one_slot}
 use Rattle.sanlp.specs.Access.{read_count}
 use Rattle.sanlp.specs.declared.nest.Nest.{Nest}
 use Rattle.sanlp.specs.declared.nest.Tag.{Tag}
-use Rattle.sanlp.proofs.Each.{Each, each_flat_map, each_map, each_of, each_then}
-use Rattle.channel_plan.specs.declared.plans.ChannelPlan.{ChannelPlan}
+use Rattle.sanlp.proofs.Each.{Each, all_from_each, each_flat_map, each_from_all, each_map, each_of, each_then}
 use Rattle.channel_plan.specs.Plans.{HasOneSlotInOrder, plan_of, plans_at, plans_of, sources_at}
 use Rattle.channel_plan.specs.Tokens.{is_from, tokens_below, turns_used, uses_of, writers_of}
-
-all_from_each : {X : Type 0} (P : X → Type 0) (xs : List X) → Each P xs → All P xs
-all_from_each P [] h = All-nil P
-all_from_each P (x ∷ xs) h = All-cons P x xs h.0 (all_from_each P xs h.1)
-
-each_from_all : {X : Type 0} (P : X → Type 0) (xs : List X) → All P xs → Each P xs
-each_from_all P [] h = tt
-each_from_all P (x ∷ xs) h = (All-head P x xs h, each_from_all P xs (All-tail P x xs h))
 
 some_used : (b rest : Bool) (turn : ℕ) (used : List ℕ) → (b || rest) ≡ true → (rest ≡ true → 0 < length used)
     → 0 < length (cons_option (cond b (Some turn) None) used)

@@ -58,8 +58,8 @@ few_uses turns used few within =
     (All-weaker (λ turn. turn < turns) (λ turn. tokens_below used turn < 4294967295) (λ turn below. omega (arith, below_turn used turn)) used within)
 
 -- Each number below a use is a use.
-one_more : (used : List ℕ) (turn : ℕ) → tokens_below used (turn + 1) ≡ tokens_below used turn + cond (is_used used turn) 1 0
-one_more used turn = ap (count_by (is_used used)) (range_with_len_more 0 turn turn (omega arith)) ∙ sum_by_push (λ k. cond (is_used used k) 1 0) (range_with_len 0 turn) turn
+pub tokens_more : (used : List ℕ) (turn : ℕ) → tokens_below used (turn + 1) ≡ tokens_below used turn + cond (is_used used turn) 1 0
+tokens_more used turn = ap (count_by (is_used used)) (range_with_len_more 0 turn turn (omega arith)) ∙ sum_by_push (λ k. cond (is_used used k) 1 0) (range_with_len 0 turn) turn
 
 -- some used turn has this number
 abbrev IsNumbered : List ℕ → ℕ → Type 0
@@ -69,7 +69,7 @@ numbered_below : (used : List ℕ) (token turn : ℕ) → token < tokens_below u
 numbered_below used token zero h = absurd (omega (arith, below_turn used 0))
 numbered_below used token (suc turn) h =
     let next : suc turn ≡ turn + 1 = omega arith in
-    let more = ap (tokens_below used) next ∙ one_more used turn in
+    let more = ap (tokens_below used) next ∙ tokens_more used turn in
     elim (cases_Bool (is_used used turn)) [
       | inl hit ↦
           let counted = more ∙ ap (λ c. tokens_below used turn + c) (cond-true (is_used used turn) 1 0 hit) in
@@ -107,6 +107,6 @@ number_named number (first ∷ used) turn token h e =
 pub names_all_below : (used : List ℕ) → NamesAllBelow (uses_of used)
 names_all_below used token h =
     let user = use_from (tokens_below used) used token h in
-    let counted = one_more used user.0 ∙ ap (λ c. tokens_below used user.0 + c) (cond-true (is_used used user.0) 1 0 user.1) in
+    let counted = tokens_more used user.0 ∙ ap (λ c. tokens_below used user.0 + c) (cond-true (is_used used user.0) 1 0 user.1) in
     let named = numbered_below used token (user.0 + 1) (omega (arith, counted, user.2)) in
     number_named (tokens_below used) used named.0 token named.1 named.2

@@ -18,7 +18,8 @@ turns_used w sources = filter_map (turn_of w) sources
 
 -- the processes, of so many, of which some source is a point, ascending
 abbrev pub writers_of : ℕ → List (Option Tag) → List ℕ
-writers_of processes sources = filter (λ w. list_any (is_from w) sources) (range_with_len 0 processes)
+writers_of processes sources =
+    filter (λ w. list_any (is_from w) sources) (range_with_len 0 processes)
 
 -- a turn of the writer is a token where some fire of the reader names it
 abbrev pub is_used : List ℕ → ℕ → Bool

@@ -54,7 +54,8 @@ fn add_channels_of(
 ) -> Result<(), AllocError>
     requires few { AreFew turns.now }
     requires among { All (IsTurnAmong turns.now) sources.now }
-    ensures { OnOk result (plans.new.items ≡ plans.old.items ++ channels_of turns.now reader read sources.now) }
+    ensures { OnOk result
+        (plans.new.items ≡ plans.old.items ++ channels_of turns.now reader read sources.now) }
 {
     let writers = writers_of(alloc, turns, sources)?;
     for writer in &writers {
@@ -75,7 +76,8 @@ pub(crate) fn add_channels_to(
     requires few { AreFew turns.now }
     requires reads { length reads.now < 4294967296 }
     requires among { All (All (IsTurnAmong turns.now)) reads.now }
-    ensures { OnOk result (plans.new.items ≡ plans.old.items ++ channels_to turns.now reader reads.now) }
+    ensures { OnOk result
+        (plans.new.items ≡ plans.old.items ++ channels_to turns.now reader reads.now) }
 {
     for (read, sources) in reads.iter().enumerate() {
         add_channels_of(alloc, turns, reader, read as u32, sources.as_slice(), plans)?;

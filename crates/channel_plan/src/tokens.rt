@@ -98,7 +98,9 @@ pub(crate) fn uses_of(
 ) -> Result<Vec<u32>, AllocError>
     requires few { length is_token.now < 4294967296 }
     requires within { All (λ turn. turn < length is_token.now) used.items }
-    ensures { IfOk result (λ uses. uses.items ≡ map (λ turn. count_by (λ mark. mark) (take turn is_token.now)) used.items) }
+    ensures { IfOk result
+        (λ uses. uses.items
+        ≡ map (λ turn. count_by (λ mark. mark) (take turn is_token.now)) used.items) }
 {
     let numbers = token_numbers(alloc, is_token)?;
     let mut uses = Vec::with_capacity(alloc, used.len())?;

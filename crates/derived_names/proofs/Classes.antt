@@ -5,13 +5,12 @@
 -- Gets that they name. By induction on the reader's points both lists grow alike: a fire adds what its reference at
 -- the channel's read names, which is the token of its use (FoundTokens), and its references at other reads, or to
 -- other writers, add nothing.
-use Rattle.std.proofs.Common.{◌≡◌, ℕ, zero, suc, ◌+◌, ◌<◌, ◌≤◌, cond, Option, Some, None, List, [], ◌∷◌, ◌++◌, length, map, take, drop, slice_get, get_or, refl, sym, ap, ◌∙◌, inl, inr, arith, append_assoc}
+use Rattle.std.proofs.Common.{◌≡◌, ℕ, zero, suc, ◌+◌, ◌<◌, ◌≤◌, cond, Option, Some, None, List, [], ◌∷◌, ◌++◌, length, map, take, drop, slice_get, get_or, refl, sym, ap, ◌∙◌, inl, inr, arith, add-one, append_assoc}
 use Rattle.std.specs.Prelude.{slice_index}
-use Rattle.std.specs.List.{flat_map}
+use Rattle.std.specs.List.{flat_map, range_with_len}
 use Rattle.std.specs.Option.{option_map_or}
 use Rattle.std.proofs.lemmas.Bool.{cases_eq, eq-eqb, ne_eqb}
-use Rattle.std.proofs.lemmas.List.{append-nil, drop_at, length-append, length-map}
-use Rattle.std.proofs.lemmas.List.Concat.{flat_map-append}
+use Rattle.std.proofs.lemmas.List.{drop_at, length-append, length-map}
 use Rattle.std.proofs.lemmas.List.Folds.{flat_map-map}
 use Rattle.std.proofs.lemmas.Option.{slice_get_within}
 use Rattle.channel_class.specs.Classes.{class_of}
@@ -27,15 +26,15 @@ use Rattle.net_core.specs.Uses.{use_in, use_of, uses, uses_before}
 use Rattle.process_derive.specs.Derived.{channel_of, net}
 use Rattle.process_derive.specs.Scripts.{Usage, puts_from, ref_of, usage}
 use Rattle.process_derive.proofs.Numbers.{script_at}
-use Rattle.process_derive.proofs.Wired.{channel_at, item_at}
+use Rattle.process_derive.proofs.Wired.{channel_at, item_at, reader_at}
 use Rattle.sanlp.specs.Access.{read_count}
 use Rattle.sanlp.specs.declared.nest.Nest.{Nest}
 use Rattle.sanlp.specs.declared.nest.Tag.{Tag}
-use Rattle.sanlp.specs.Cells.{count_up}
+use Rattle.sanlp.proofs.Lists.{flat_map-range_with_len_more}
 use Rattle.derived_names.proofs.Fires.{no_fire_behind, no_fire_first}
 use Rattle.derived_names.proofs.FoundTokens.{finds_token, points_after, script_splits}
 use Rattle.derived_names.proofs.Gets.{before_fire, events_before, events_split, exists, point_gets, point_refs, source_at_fire}
-use Rattle.derived_names.proofs.Lists.{count_up_more, drop_next, one_joined}
+use Rattle.derived_names.proofs.Lists.{drop_next, one_joined}
 use Rattle.derived_names.proofs.Names.{token_is}
 use Rattle.derived_names.proofs.UsesOfFires.{no_use, source_same, turns_read, use_here, use_is, used_where}
 use Rattle.derived_names.proofs.UsesAlong.{fire_adds, passed}
@@ -55,9 +54,9 @@ none_of n p k f c u fire h ne =
     ∙ ap (λ b. cond b (token ∷ []) []) (ne_eqb u.channel c ne)
 
 module _ (n : Nest) (p k w c : ℕ) (found : slice_get (plans_of n) c ≡ Some (plan_of n p k w)) where
-  other_slot : (f j : ℕ) → f < turn_count n p → (j ≡ k → ⊥) → (o : Option Usage) → usage n p f j ≡ o → use_of c (latest_gets (net_of (net n)) p (length (before_fire n p f))) (ref_of o) ≡ []
-  other_slot f j fire ne None h = refl
-  other_slot f j fire ne (Some u) h = none_of n p j f c u fire h (λ same. ne (used_where n p k w c f j u found (use_is n p j f u h) same).0)
+  other_read : (f j : ℕ) → f < turn_count n p → (j ≡ k → ⊥) → (o : Option Usage) → usage n p f j ≡ o → use_of c (latest_gets (net_of (net n)) p (length (before_fire n p f))) (ref_of o) ≡ []
+  other_read f j fire ne None h = refl
+  other_read f j fire ne (Some u) h = none_of n p j f c u fire h (λ same. ne (used_where n p k w c f j u found (use_is n p j f u h) same).0)
 
   other_source : (f : ℕ) (t : Tag) → f < turn_count n p → slice_get (sources_at n p k) f ≡ Some (Some t) → (t.process ≡ w → ⊥) → (o : Option Usage) → usage n p f k ≡ o
       → use_of c (latest_gets (net_of (net n)) p (length (before_fire n p f))) (ref_of o) ≡ []
@@ -66,10 +65,10 @@ module _ (n : Nest) (p k w c : ℕ) (found : slice_get (plans_of n) c ≡ Some (
       let is = use_is n p k f u h in
       none_of n p k f c u fire h (λ same. ne (ap (λ (x : Tag). x.process) (sym (source_same n p k f u is t e)) ∙ (used_where n p k w c f k u found is same).1))
 
-  this_slot : (f : ℕ) → f < turn_count n p → (source : Option Tag) → slice_get (sources_at n p k) f ≡ Some source
+  this_read : (f : ℕ) → f < turn_count n p → (source : Option Tag) → slice_get (sources_at n p k) f ≡ Some source
       → use_of c (latest_gets (net_of (net n)) p (length (before_fire n p f))) (ref_of (usage n p f k)) ≡ token_named (turns_read n p k w) w source
-  this_slot f fire None e = ap (λ (o : Option Usage). use_of c (latest_gets (net_of (net n)) p (length (before_fire n p f))) (ref_of o)) (no_use n p k f e)
-  this_slot f fire (Some t) e =
+  this_read f fire None e = ap (λ (o : Option Usage). use_of c (latest_gets (net_of (net n)) p (length (before_fire n p f))) (ref_of o)) (no_use n p k f e)
+  this_read f fire (Some t) e =
       let slots = latest_gets (net_of (net n)) p (length (before_fire n p f)) in
       let used : List ℕ = turns_read n p k w in
       let number : ℕ = length (turns_used w (take f (sources_at n p k))) in
@@ -88,19 +87,19 @@ module _ (n : Nest) (p k w c : ℕ) (found : slice_get (plans_of n) c ≡ Some (
       → flat_map (use_of c (latest_gets (net_of (net n)) p (length (before_fire n p f)))) (point_refs n p f) ≡ named_by_fire (turns_read n p k w) w (sources_at n p k) f
   fire_uses f fire =
       let slots = latest_gets (net_of (net n)) p (length (before_fire n p f)) in
-      let numbers : List ℕ = count_up 0 (read_count n p) in
+      let numbers : List ℕ = range_with_len 0 (read_count n p) in
       let source = source_at_fire n p k w c found f fire in
       let read = (exists n p k w c found).read in
       flat_map-map (use_of c slots) ref_of (map (usage n p f) numbers)
       ∙ flat_map-map (λ u. use_of c slots (ref_of u)) (usage n p f) numbers
-      ∙ one_joined (λ j. use_of c slots (ref_of (usage n p f j))) k (λ j ne. other_slot f j fire ne (usage n p f j) refl) 0 (read_count n p) (omega arith) (omega arith)
-      ∙ this_slot f fire source.0 source.1
+      ∙ one_joined (λ j. use_of c slots (ref_of (usage n p f j))) k (λ j ne. other_read f j fire ne (usage n p f j) refl) 0 (read_count n p) (omega arith) (omega arith)
+      ∙ this_read f fire source.0 source.1
       ∙ sym (ap (λ o. option_map_or (token_named (turns_read n p k w) w) o []) source.1)
 
   -- Uses of points
 
   points_use : (f : ℕ) → f ≤ turn_count n p
-      → uses_before (net_of (net n)) c p (length (events_before n p f)) ≡ flat_map (named_by_fire (turns_read n p k w) w (sources_at n p k)) (count_up 0 f)
+      → uses_before (net_of (net n)) c p (length (events_before n p f)) ≡ flat_map (named_by_fire (turns_read n p k w) w (sources_at n p k)) (range_with_len 0 f)
   points_use zero le = refl
   points_use (suc f) le =
       let network = net_of (net n) in
@@ -124,10 +123,10 @@ module _ (n : Nest) (p k w c : ℕ) (found : slice_get (plans_of n) c ≡ Some (
       ∙ ap (λ us. uses_before network c p at ++ us) (fire_uses f fire)
       ∙ ap (λ us. us ++ name f) (ap (uses_before network c p) (length-append before gets) ∙ passed network c p (length before) gets (Fire (point_refs n p f) ∷ behind) first (no_fire_first n p f))
       ∙ ap (λ us. us ++ name f) (points_use f (omega arith))
-      ∙ sym (ap (flat_map name) (count_up_more f) ∙ flat_map-append name (count_up 0 f) (f ∷ []) ∙ ap (λ us. flat_map name (count_up 0 f) ++ us) (append-nil (name f)))
+      ∙ sym (ap (λ k. flat_map name (range_with_len 0 k)) (sym (add-one f)) ∙ flat_map-range_with_len_more name 0 f f (omega arith))
 
   reader_is : (net_of (net n)).reader c ≡ p
-  reader_is = ap (λ (o : Option Channel). option_map_or (λ channel. channel.reader) o 0) (channel_at n c (plan_of n p k w) found)
+  reader_is = reader_at n c (plan_of n p k w) found
 
   uses_are : uses (net_of (net n)) c ≡ uses_of (turns_read n p k w)
   uses_are =

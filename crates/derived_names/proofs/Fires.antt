@@ -1,9 +1,9 @@
 -- The fires of a script: one for each point.
-use Rattle.std.proofs.Common.{◌≡◌, ℕ, zero, suc, ◌+◌, ◌-◌, ◌<◌, false, cond, Some, List, [], ◌∷◌, ◌++◌, length, map, slice_get, count_by, refl, sym, ap, ◌∙◌, inl, inr, arith}
+use Rattle.std.proofs.Common.{◌≡◌, ℕ, zero, suc, ◌+◌, ◌-◌, ◌<◌, false, Some, List, [], ◌∷◌, ◌++◌, length, map, slice_get, count_by, refl, sym, ap, ◌∙◌, inl, inr, arith}
 use Rattle.std.specs.Prelude.{slice_index_or, ◌==◌, ◌&&◌}
+use Rattle.std.specs.List.{range_with_len}
 use Rattle.std.proofs.lemmas.Bool.{cases_Bool, cases_lt}
 use Rattle.std.proofs.lemmas.List.{length-append}
-use Rattle.std.proofs.lemmas.List.Sums.{sum_by-append}
 use Rattle.channel_plan.specs.declared.plans.ChannelPlan.{ChannelPlan}
 use Rattle.channel_plan.specs.Plans.{plans_of, turn_count}
 use Rattle.net_core.specs.declared.network.Event.{Event}
@@ -11,14 +11,13 @@ use Rattle.net_core.specs.declared.network.Event.TheVariants.{Get, Fire, Put}
 use Rattle.net_core.specs.declared.refs.Ref.{Ref}
 use Rattle.net_core.specs.Machine.{net_of}
 use Rattle.net_core.specs.Shape.{fires, is_fire}
-use Rattle.net_core.proofs.Counting.{count_cons}
+use Rattle.net_core.proofs.Counting.{count-append, count_cons}
 use Rattle.process_derive.specs.Derived.{net}
 use Rattle.process_derive.specs.Scripts.{gets_of, point_events, puts_from, usage}
 use Rattle.process_derive.proofs.Numbers.{script_at}
 use Rattle.process_derive.proofs.Wired.{IsGet, all_gets, event_is}
 use Rattle.sanlp.specs.Access.{read_count}
 use Rattle.sanlp.specs.declared.nest.Nest.{Nest}
-use Rattle.sanlp.specs.Cells.{count_up}
 use Rattle.sanlp.proofs.Each.{Each, each_flat_map, each_map, each_of, each_then}
 use Rattle.sanlp.proofs.Lists.{slice_get-append_right}
 use Rattle.sanlp.proofs.Members.{at_in, each_in}
@@ -38,9 +37,9 @@ get_is_none (Put c) h = absurd h
 
 pub no_fire_first : (n : Nest) (p f : ℕ) → Each IsNoFire (point_gets n p f)
 no_fire_first n p f =
-    let slots : List ℕ = count_up 0 (read_count n p) in
-    each_flat_map IsNoFire gets_of (map (usage n p f) slots) (each_map (λ u. Each IsNoFire (gets_of u)) (usage n p f) slots
-    (each_of (λ k. Each IsNoFire (gets_of (usage n p f k))) slots (λ k. each_then IsGet IsNoFire (gets_of (usage n p f k)) get_is_none (all_gets (usage n p f k)))))
+    let reads : List ℕ = range_with_len 0 (read_count n p) in
+    each_flat_map IsNoFire gets_of (map (usage n p f) reads) (each_map (λ u. Each IsNoFire (gets_of u)) (usage n p f) reads
+    (each_of (λ k. Each IsNoFire (gets_of (usage n p f k))) reads (λ k. each_then IsGet IsNoFire (gets_of (usage n p f k)) get_is_none (all_gets (usage n p f k)))))
 
 pub no_fire_behind : (c : ℕ) (plans : List ChannelPlan) (p f : ℕ) → Each IsNoFire (puts_from c plans p f)
 no_fire_behind c [] p f = tt
@@ -58,9 +57,6 @@ none_fired (Get c slot ∷ es) h = omega (arith, count_cons is_fire (Get c slot)
 none_fired (Fire refs ∷ es) h = absurd h.0
 none_fired (Put c ∷ es) h = omega (arith, count_cons is_fire (Put c) es, none_fired es h.1)
 
-count-append : (xs ys : List Event) → count_by is_fire (xs ++ ys) ≡ count_by is_fire xs + count_by is_fire ys
-count-append xs ys = sum_by-append (λ e. cond (is_fire e) 1 0) xs ys
-
 fired_by : (n : Nest) (p f : ℕ) → count_by is_fire (events_before n p f) ≡ f
 fired_by n p zero = refl
 fired_by n p (suc f) =
@@ -68,8 +64,8 @@ fired_by n p (suc f) =
     omega (
       arith,
       ap (count_by is_fire) (events_split n p f),
-      count-append (before_fire n p f) (Fire (point_refs n p f) ∷ puts),
-      count-append (events_before n p f) (point_gets n p f),
+      count-append is_fire (before_fire n p f) (Fire (point_refs n p f) ∷ puts),
+      count-append is_fire (events_before n p f) (point_gets n p f),
       fired_by n p f,
       none_fired (point_gets n p f) (no_fire_first n p f),
       count_cons is_fire (Fire (point_refs n p f)) puts,
@@ -78,7 +74,7 @@ fired_by n p (suc f) =
 
 fired_before : (n : Nest) (p f : ℕ) → count_by is_fire (before_fire n p f) ≡ f
 fired_before n p f =
-    omega (arith, count-append (events_before n p f) (point_gets n p f), fired_by n p f, none_fired (point_gets n p f) (no_fire_first n p f))
+    omega (arith, count-append is_fire (events_before n p f) (point_gets n p f), fired_by n p f, none_fired (point_gets n p f) (no_fire_first n p f))
 
 -- Where
 

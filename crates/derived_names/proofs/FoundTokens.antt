@@ -6,7 +6,7 @@
 -- from splitting the script at it.
 use Rattle.std.proofs.Common.{◌≡◌, ℕ, zero, suc, ◌+◌, ◌-◌, ◌<◌, ◌≤◌, cond, Some, List, [], ◌∷◌, ◌++◌, length, take, slice_get, get_or, count_by, refl, sym, ap, ◌∙◌, inl, inr, arith, append_assoc}
 use Rattle.std.specs.Prelude.{slice_index, ◌==◌}
-use Rattle.std.specs.List.{flat_map}
+use Rattle.std.specs.List.{flat_map, range_with_len}
 use Rattle.std.proofs.lemmas.Bool.{cases_lt, eq-eqb}
 use Rattle.std.proofs.lemmas.List.{get_or-map, take_at}
 use Rattle.std.proofs.lemmas.List.Concat.{flat_map-append}
@@ -33,8 +33,7 @@ use Rattle.reorder_slots.proofs.Laws.{keeps_until_used}
 use Rattle.reorder_slots.proofs.Uses.{named_before}
 use Rattle.sanlp.specs.declared.nest.Nest.{Nest}
 use Rattle.sanlp.specs.declared.nest.Tag.{Tag}
-use Rattle.sanlp.specs.Cells.{count_up}
-use Rattle.sanlp.proofs.Lists.{count_up-append}
+use Rattle.sanlp.proofs.Lists.{range_with_len-append}
 use Rattle.derived_names.proofs.Gets.{before_fire, events_before, events_split, exists, few_uses, fire_count, place, point_refs, slot_is, uses_made, uses_next}
 use Rattle.derived_names.proofs.Latest.{IsLastInto, latest}
 use Rattle.derived_names.proofs.UsesOfFires.{turns_read}
@@ -72,14 +71,14 @@ apart plans p c d i j x y at there own too ne inside within same =
 
 -- the events of the points behind point f
 abbrev pub points_after : Nest → ℕ → ℕ → List Event
-points_after n p f = flat_map (point_events n p) (count_up (0 + suc f) (turn_count n p - suc f))
+points_after n p f = flat_map (point_events n p) (range_with_len (0 + suc f) (turn_count n p - suc f))
 
 pub script_past : (n : Nest) (p f : ℕ) → f < turn_count n p → script n p ≡ events_before n p (suc f) ++ points_after n p f
 script_past n p f lt =
     let whole : turn_count n p ≡ suc f + (turn_count n p - suc f) = omega arith in
-    ap (λ m. flat_map (point_events n p) (count_up 0 m)) whole
-    ∙ ap (flat_map (point_events n p)) (count_up-append 0 (suc f) (turn_count n p - suc f))
-    ∙ flat_map-append (point_events n p) (count_up 0 (suc f)) (count_up (0 + suc f) (turn_count n p - suc f))
+    ap (λ m. flat_map (point_events n p) (range_with_len 0 m)) whole
+    ∙ ap (flat_map (point_events n p)) (range_with_len-append 0 (suc f) (turn_count n p - suc f))
+    ∙ flat_map-append (point_events n p) (range_with_len 0 (suc f)) (range_with_len (0 + suc f) (turn_count n p - suc f))
 
 pub script_splits : (n : Nest) (p f : ℕ) → f < turn_count n p
     → script n p ≡ before_fire n p f ++ (Fire (point_refs n p f) ∷ (puts_from 0 (plans_of n) p f ++ points_after n p f))

@@ -6,12 +6,12 @@
 -- wants, at the one read that the channel is for, and none where its source is of another process. So at a fire all
 -- Gets of its token are made and no more than that. It is about scripts alone; that a Get finds a token in the queue
 -- is witness_plan's.
-use Rattle.std.proofs.Common.{◌≡◌, ℕ, zero, suc, ◌+◌, ◌-◌, ◌<◌, ◌≤◌, Bool, true, false, cond, Option, Some, None, List, [], ◌∷◌, ◌++◌, length, map, take, slice_get, count_by, refl, sym, ap, ◌∙◌, inl, inr, arith, append_assoc}
+use Rattle.std.proofs.Common.{◌≡◌, ℕ, zero, suc, ◌+◌, ◌-◌, ◌<◌, ◌≤◌, Bool, true, false, cond, Option, Some, None, List, [], ◌∷◌, ◌++◌, length, map, take, slice_get, count_by, refl, sym, ap, ◌∙◌, inl, inr, arith, add-one, append_assoc}
 use Rattle.std.specs.Prelude.{slice_index, slice_index_or, ◌==◌, ◌&&◌}
-use Rattle.std.specs.List.{cons_option, flat_map}
+use Rattle.std.specs.List.{cons_option, flat_map, range_with_len}
 use Rattle.std.proofs.lemmas.Bool.{cases_Bool, cases_eq, eq-eqb, ne_eqb}
 use Rattle.std.proofs.lemmas.List.{append-nil, length-map, map-append}
-use Rattle.std.proofs.lemmas.List.Concat.{flat_map-append, flat_map-cons}
+use Rattle.std.proofs.lemmas.List.Concat.{flat_map-cons}
 use Rattle.std.proofs.lemmas.List.Folds.{flat_map-map}
 use Rattle.std.proofs.lemmas.List.FromFn.{length-map-range_with_len}
 use Rattle.std.proofs.lemmas.Option.{same_Some, slice_get_within}
@@ -35,10 +35,9 @@ use Rattle.reorder_slots.proofs.Gets.{more_gets}
 use Rattle.sanlp.specs.Access.{read_count}
 use Rattle.sanlp.specs.declared.nest.Nest.{Nest}
 use Rattle.sanlp.specs.declared.nest.Tag.{Tag}
-use Rattle.sanlp.specs.Cells.{count_up}
-use Rattle.sanlp.proofs.Lists.{count_up-append, slice_get-map-range_with_len}
+use Rattle.sanlp.proofs.Lists.{flat_map-range_with_len_more, range_with_len-append, slice_get-map-range_with_len}
 use Rattle.sanlp.proofs.Members.{at_in, each_in}
-use Rattle.derived_names.proofs.Lists.{count_up_more, one_joined}
+use Rattle.derived_names.proofs.Lists.{one_joined}
 use Rattle.derived_names.proofs.UsesOfFires.{no_use, source_same, turns_read, use_here, use_is, used_where}
 
 -- Slots that are got
@@ -118,7 +117,7 @@ got_mapped c d slot (m ∷ ms) =
 got_other : (c : ℕ) (u : Usage) → (c ≡ u.channel → ⊥) → slots_got c (gets_of (Some u)) ≡ []
 got_other c u ne =
     let done = gets_for_uses u.slots u.number in
-    let ms = count_up done (gets_for_uses u.slots (suc u.number) - done) in
+    let ms = range_with_len done (gets_for_uses u.slots (suc u.number) - done) in
     let slot : ℕ → ℕ = λ m. u.base + slice_index u.slots.slot_of_get m in
     got_mapped c u.channel slot ms ∙ ap (λ b. cond b (map slot ms) []) (ne_eqb c u.channel ne)
 
@@ -138,27 +137,25 @@ got_joined c f (x ∷ xs) =
 
 -- the Gets of a point, and its events up to its fire
 abbrev pub point_gets : Nest → ℕ → ℕ → List Event
-point_gets n p f = flat_map gets_of (map (usage n p f) (count_up 0 (read_count n p)))
+point_gets n p f = flat_map gets_of (map (usage n p f) (range_with_len 0 (read_count n p)))
 
 abbrev pub point_refs : Nest → ℕ → ℕ → List Ref
-point_refs n p f = map ref_of (map (usage n p f) (count_up 0 (read_count n p)))
+point_refs n p f = map ref_of (map (usage n p f) (range_with_len 0 (read_count n p)))
 
 abbrev pub events_before : Nest → ℕ → ℕ → List Event
-events_before n p f = flat_map (point_events n p) (count_up 0 f)
+events_before n p f = flat_map (point_events n p) (range_with_len 0 f)
 
 abbrev pub before_fire : Nest → ℕ → ℕ → List Event
 before_fire n p f = events_before n p f ++ point_gets n p f
 
 pub events_more : (n : Nest) (p f : ℕ) → events_before n p (suc f) ≡ events_before n p f ++ point_events n p f
 events_more n p f =
-    ap (flat_map (point_events n p)) (count_up_more f)
-    ∙ flat_map-append (point_events n p) (count_up 0 f) (f ∷ [])
-    ∙ ap (λ es. events_before n p f ++ es) (append-nil (point_events n p f))
+    ap (events_before n p) (sym (add-one f)) ∙ flat_map-range_with_len_more (point_events n p) 0 f f (omega arith)
 
 pub events_split : (n : Nest) (p f : ℕ) → events_before n p (suc f) ≡ before_fire n p f ++ (Fire (point_refs n p f) ∷ puts_from 0 (plans_of n) p f)
 events_split n p f = events_more n p f ∙ sym (append_assoc (events_before n p f) (point_gets n p f) (Fire (point_refs n p f) ∷ puts_from 0 (plans_of n) p f))
 
--- The channel from process w to slot k of process p
+-- The channel from process w to read k of process p
 module _ (n : Nest) (p k w c : ℕ) (found : slice_get (plans_of n) c ≡ Some (plan_of n p k w)) where
   -- the tokens that are used, in order
   abbrev pub used : List ℕ
@@ -209,10 +206,10 @@ module _ (n : Nest) (p k w c : ℕ) (found : slice_get (plans_of n) c ≡ Some (
   gets_so_far zero le = refl
   gets_so_far (suc q) le = let next : q + 1 ≡ suc q = omega arith in gets_here used q (omega arith) ∙ ap (λ i. gets_for (take i used)) next
 
-  none_got : (f : ℕ) → uses_made (suc f) ≡ uses_made f → [] ≡ map place (count_up (gets_made f) (gets_made (suc f) - gets_made f))
+  none_got : (f : ℕ) → uses_made (suc f) ≡ uses_made f → [] ≡ map place (range_with_len (gets_made f) (gets_made (suc f) - gets_made f))
   none_got f same =
       let none : gets_made (suc f) - gets_made f ≡ 0 = omega (arith, ap (λ q. gets_for (take q used)) same) in
-      sym (ap (λ m. map place (count_up (gets_made f) m)) none)
+      sym (ap (λ m. map place (range_with_len (gets_made f) m)) none)
 
   other_source : (f : ℕ) (t : Tag) → slice_get (sources_at n p k) f ≡ Some (Some t) → (t.process ≡ w → ⊥) → (o : Option Usage) → usage n p f k ≡ o → slots_got c (gets_of o) ≡ []
   other_source f t e ne None is = refl
@@ -222,7 +219,7 @@ module _ (n : Nest) (p k w c : ℕ) (found : slice_get (plans_of n) c ≡ Some (
       got_other c u (λ same. ne (ap (λ (x : Tag). x.process) (sym source) ∙ (used_where n p k w c f k u found of (sym same)).1))
 
   source_got : (f : ℕ) (source : Option Tag) → slice_get (sources_at n p k) f ≡ Some source
-      → slots_got c (gets_of (usage n p f k)) ≡ map place (count_up (gets_made f) (gets_made (suc f) - gets_made f))
+      → slots_got c (gets_of (usage n p f k)) ≡ map place (range_with_len (gets_made f) (gets_made (suc f) - gets_made f))
   source_got f None e = ap (λ o. slots_got c (gets_of o)) (no_use n p k f e) ∙ none_got f (uses_same f None e refl)
   source_got f (Some t) e =
       elim (cases_eq t.process w) [
@@ -233,20 +230,20 @@ module _ (n : Nest) (p k w c : ℕ) (found : slice_get (plans_of n) c ≡ Some (
             let needed : gets_for_uses (slot_plan used) (suc q) ≡ gets_made (suc f) = gets_so_far (suc q) (omega (arith, few_uses (suc f))) ∙ ap (λ i. gets_for (take i used)) (sym next) in
             let from : ℕ = gets_for_uses (slot_plan used) q in
             ap (λ o. slots_got c (gets_of o)) (use_here n p k w c f t found e same)
-            ∙ got_mapped c c place (count_up from (gets_for_uses (slot_plan used) (suc q) - from))
-            ∙ ap (λ b. cond b (map place (count_up from (gets_for_uses (slot_plan used) (suc q) - from))) []) (eq-eqb c c refl)
-            ∙ ap (λ m. map place (count_up from (m - from))) needed
-            ∙ ap (λ a. map place (count_up a (gets_made (suc f) - a))) done
+            ∙ got_mapped c c place (range_with_len from (gets_for_uses (slot_plan used) (suc q) - from))
+            ∙ ap (λ b. cond b (map place (range_with_len from (gets_for_uses (slot_plan used) (suc q) - from))) []) (eq-eqb c c refl)
+            ∙ ap (λ m. map place (range_with_len from (m - from))) needed
+            ∙ ap (λ a. map place (range_with_len a (gets_made (suc f) - a))) done
         | inr other ↦ other_source f t e other (usage n p f k) refl ∙ none_got f (uses_same f (Some t) e (of_other w t other))
       ]
 
-  other_slot : (f j : ℕ) → (j ≡ k → ⊥) → (o : Option Usage) → usage n p f j ≡ o → slots_got c (gets_of o) ≡ []
-  other_slot f j ne None is = refl
-  other_slot f j ne (Some u) is = got_other c u (λ same. ne (used_where n p k w c f j u found (use_is n p j f u is) (sym same)).0)
+  other_read : (f j : ℕ) → (j ≡ k → ⊥) → (o : Option Usage) → usage n p f j ≡ o → slots_got c (gets_of o) ≡ []
+  other_read f j ne None is = refl
+  other_read f j ne (Some u) is = got_other c u (λ same. ne (used_where n p k w c f j u found (use_is n p j f u is) (sym same)).0)
 
-  point_got : (f : ℕ) → f < turn_count n p → slots_got c (point_events n p f) ≡ map place (count_up (gets_made f) (gets_made (suc f) - gets_made f))
+  point_got : (f : ℕ) → f < turn_count n p → slots_got c (point_events n p f) ≡ map place (range_with_len (gets_made f) (gets_made (suc f) - gets_made f))
   point_got f lt =
-      let numbers = count_up 0 (read_count n p) in
+      let numbers = range_with_len 0 (read_count n p) in
       let source = source_at_fire f lt in
       let there = exists.read in
       got-append c (point_gets n p f) (Fire (point_refs n p f) ∷ puts_from 0 (plans_of n) p f)
@@ -254,11 +251,11 @@ module _ (n : Nest) (p k w c : ℕ) (found : slice_get (plans_of n) c ≡ Some (
       ∙ append-nil (slots_got c (point_gets n p f))
       ∙ ap (slots_got c) (flat_map-map gets_of (usage n p f) numbers)
       ∙ got_joined c (λ j. gets_of (usage n p f j)) numbers
-      ∙ one_joined (λ j. slots_got c (gets_of (usage n p f j))) k (λ j ne. other_slot f j ne (usage n p f j) refl) 0 (read_count n p) (omega arith) (omega arith)
+      ∙ one_joined (λ j. slots_got c (gets_of (usage n p f j))) k (λ j ne. other_read f j ne (usage n p f j) refl) 0 (read_count n p) (omega arith) (omega arith)
       ∙ source_got f source.0 source.1
 
   -- the Gets of the first points take the slots of the first Gets
-  pub points_got : (f : ℕ) → f ≤ turn_count n p → slots_got c (events_before n p f) ≡ map place (count_up 0 (gets_made f))
+  pub points_got : (f : ℕ) → f ≤ turn_count n p → slots_got c (events_before n p f) ≡ map place (range_with_len 0 (gets_made f))
   points_got zero le = refl
   points_got (suc f) le =
       let before = points_got f (omega arith) in
@@ -267,14 +264,14 @@ module _ (n : Nest) (p k w c : ℕ) (found : slice_get (plans_of n) c ≡ Some (
       ap (slots_got c) (events_more n p f)
       ∙ got-append c (events_before n p f) (point_events n p f)
       ∙ ap (λ xs. xs ++ slots_got c (point_events n p f)) before
-      ∙ ap (λ xs. map place (count_up 0 (gets_made f)) ++ xs) (point_got f (omega arith))
-      ∙ ap (λ a. map place (count_up 0 (gets_made f)) ++ map place (count_up a (gets_made (suc f) - gets_made f))) (sym front)
-      ∙ sym (map-append place (count_up 0 (gets_made f)) (count_up (0 + gets_made f) (gets_made (suc f) - gets_made f)))
-      ∙ ap (map place) (sym (count_up-append 0 (gets_made f) (gets_made (suc f) - gets_made f)))
-      ∙ ap (λ m. map place (count_up 0 m)) whole
+      ∙ ap (λ xs. map place (range_with_len 0 (gets_made f)) ++ xs) (point_got f (omega arith))
+      ∙ ap (λ a. map place (range_with_len 0 (gets_made f)) ++ map place (range_with_len a (gets_made (suc f) - gets_made f))) (sym front)
+      ∙ sym (map-append place (range_with_len 0 (gets_made f)) (range_with_len (0 + gets_made f) (gets_made (suc f) - gets_made f)))
+      ∙ ap (map place) (sym (range_with_len-append 0 (gets_made f) (gets_made (suc f) - gets_made f)))
+      ∙ ap (λ m. map place (range_with_len 0 m)) whole
 
   -- and so do those up to a fire
-  pub fire_got : (f : ℕ) → f < turn_count n p → slots_got c (before_fire n p f) ≡ map place (count_up 0 (gets_made (suc f)))
+  pub fire_got : (f : ℕ) → f < turn_count n p → slots_got c (before_fire n p f) ≡ map place (range_with_len 0 (gets_made (suc f)))
   fire_got f lt =
       sym (ap (slots_got c) (events_split n p f)
       ∙ got-append c (before_fire n p f) (Fire (point_refs n p f) ∷ puts_from 0 (plans_of n) p f)
@@ -292,11 +289,11 @@ module _ (n : Nest) (p k w c : ℕ) (found : slice_get (plans_of n) c ≡ Some (
   slot_is i slot e =
       let events = (net_of (net n)).script p in
       let m : ℕ = count_by (is_get c) (take i events) in
-      let all : slots_got c events ≡ map place (count_up 0 (gets_made (turn_count n p))) = ap (slots_got c) (script_at n p exists.reader) ∙ points_got (turn_count n p) (omega arith) in
-      let at : slice_get (map place (count_up 0 (gets_made (turn_count n p)))) m ≡ Some slot = ap (λ xs. slice_get xs m) (sym all) ∙ got_at c events i slot e in
+      let all : slots_got c events ≡ map place (range_with_len 0 (gets_made (turn_count n p))) = ap (slots_got c) (script_at n p exists.reader) ∙ points_got (turn_count n p) (omega arith) in
+      let at : slice_get (map place (range_with_len 0 (gets_made (turn_count n p)))) m ≡ Some slot = ap (λ xs. slice_get xs m) (sym all) ∙ got_at c events i slot e in
       let within : m < gets_made (turn_count n p) =
-      omega (arith, slice_get_within (map place (count_up 0 (gets_made (turn_count n p)))) m slot at, length-map-range_with_len place 0 (gets_made (turn_count n p))) in
+      omega (arith, slice_get_within (map place (range_with_len 0 (gets_made (turn_count n p)))) m slot at, length-map-range_with_len place 0 (gets_made (turn_count n p))) in
       let front : 0 + m ≡ m = omega arith in
-      let here : slice_get (map place (count_up 0 (gets_made (turn_count n p)))) m ≡ Some (place m) =
+      let here : slice_get (map place (range_with_len 0 (gets_made (turn_count n p)))) m ≡ Some (place m) =
       slice_get-map-range_with_len place 0 (gets_made (turn_count n p)) m m within front in
       (within, same_Some slot (place m) (sym at ∙ here))

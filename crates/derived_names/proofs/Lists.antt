@@ -1,35 +1,27 @@
 -- Joined lists of which one part alone has items, lists with one item replaced, and what follows a front.
 use Rattle.std.proofs.Common.{◌≡◌, ℕ, zero, suc, ◌+◌, ◌<◌, ◌≤◌, Some, List, [], ◌∷◌, ◌++◌, length, drop, slice_get, refl, ap, ◌∙◌, inl, inr, arith}
 use Rattle.std.specs.Prelude.{slice_set}
-use Rattle.std.specs.List.{flat_map}
+use Rattle.std.specs.List.{flat_map, range_with_len}
 use Rattle.std.proofs.lemmas.Bool.{cases_eq}
 use Rattle.std.proofs.lemmas.List.{append-nil}
 use Rattle.std.proofs.lemmas.List.Concat.{flat_map-cons}
-use Rattle.sanlp.specs.Cells.{count_up}
-use Rattle.sanlp.proofs.Lists.{count_up-append}
 
 -- One part alone has items
 
-none_joined : {X : Type 0} (f : ℕ → List X) (k : ℕ) → ((j : ℕ) → (j ≡ k → ⊥) → f j ≡ []) → (a m : ℕ) → k < a → flat_map f (count_up a m) ≡ []
+none_joined : {X : Type 0} (f : ℕ → List X) (k : ℕ) → ((j : ℕ) → (j ≡ k → ⊥) → f j ≡ []) → (a m : ℕ) → k < a → flat_map f (range_with_len a m) ≡ []
 none_joined f k other a zero lt = refl
 none_joined f k other a (suc m) lt =
-    flat_map-cons f a (count_up (a + 1) m) ∙ ap (λ xs. xs ++ flat_map f (count_up (a + 1) m)) (other a (λ e. omega arith)) ∙ none_joined f k other (a + 1) m (omega arith)
+    flat_map-cons f a (range_with_len (a + 1) m) ∙ ap (λ xs. xs ++ flat_map f (range_with_len (a + 1) m)) (other a (λ e. omega arith)) ∙ none_joined f k other (a + 1) m (omega arith)
 
-pub one_joined : {X : Type 0} (f : ℕ → List X) (k : ℕ) → ((j : ℕ) → (j ≡ k → ⊥) → f j ≡ []) → (a m : ℕ) → a ≤ k → k < a + m → flat_map f (count_up a m) ≡ f k
+pub one_joined : {X : Type 0} (f : ℕ → List X) (k : ℕ) → ((j : ℕ) → (j ≡ k → ⊥) → f j ≡ []) → (a m : ℕ) → a ≤ k → k < a + m → flat_map f (range_with_len a m) ≡ f k
 one_joined f k other a zero le lt = absurd (omega arith)
 one_joined f k other a (suc m) le lt =
     elim (cases_eq a k) [
       | inl same ↦
-          flat_map-cons f a (count_up (a + 1) m) ∙ ap (λ xs. f a ++ xs) (none_joined f k other (a + 1) m (omega arith)) ∙ append-nil (f a) ∙ ap f same
+          flat_map-cons f a (range_with_len (a + 1) m) ∙ ap (λ xs. f a ++ xs) (none_joined f k other (a + 1) m (omega arith)) ∙ append-nil (f a) ∙ ap f same
       | inr ne ↦
-          flat_map-cons f a (count_up (a + 1) m) ∙ ap (λ xs. xs ++ flat_map f (count_up (a + 1) m)) (other a ne) ∙ one_joined f k other (a + 1) m (omega arith) (omega arith)
+          flat_map-cons f a (range_with_len (a + 1) m) ∙ ap (λ xs. xs ++ flat_map f (range_with_len (a + 1) m)) (other a ne) ∙ one_joined f k other (a + 1) m (omega arith) (omega arith)
     ]
-
-pub count_up_more : (g : ℕ) → count_up 0 (suc g) ≡ count_up 0 g ++ g ∷ []
-count_up_more g =
-    let next : suc g ≡ g + 1 = omega arith in
-    let front : 0 + g ≡ g = omega arith in
-    ap (count_up 0) next ∙ count_up-append 0 g 1 ∙ ap (λ a. count_up 0 g ++ a ∷ []) front
 
 -- One item replaced
 

@@ -7,6 +7,7 @@
 -- and whatever order it runs in.
 use Rattle.std.proofs.Common.{◌≡◌, ℕ, ◌+◌, ◌<◌, Option, Some, None, List, length, map, take, slice_get, get_or, refl, sym, ap, ◌∙◌, arith}
 use Rattle.std.specs.Prelude.{slice_index}
+use Rattle.std.specs.List.{range_with_len}
 use Rattle.std.specs.Option.{option_and_then, option_map}
 use Rattle.std.proofs.lemmas.List.{length-map}
 use Rattle.std.proofs.lemmas.List.FromFn.{length-map-range_with_len}
@@ -24,7 +25,6 @@ use Rattle.reorder_slots.specs.Slots.{slots_of_uses}
 use Rattle.sanlp.specs.Access.{read_count}
 use Rattle.sanlp.specs.declared.nest.Nest.{Nest}
 use Rattle.sanlp.specs.declared.nest.Tag.{Tag}
-use Rattle.sanlp.specs.Cells.{count_up}
 use Rattle.sanlp.specs.Laws.{entries_of}
 use Rattle.sanlp.specs.Tags.{tag_at}
 use Rattle.sanlp.specs.Trace.{trace}
@@ -71,7 +71,7 @@ reference_names n p f k process fire read (Some t) e =
 
 reference_at : (n : Nest) (p f k : ℕ) (r : Ref) → slice_get (point_refs n p f) k ≡ Some r → (k < read_count n p) × (r ≡ ref_of (usage n p f k))
 reference_at n p f k r e =
-    let numbers : List ℕ = count_up 0 (read_count n p) in
+    let numbers : List ℕ = range_with_len 0 (read_count n p) in
     let usages : List (Option Usage) = map (usage n p f) numbers in
     let front : 0 + k ≡ k = omega arith in
     let within : k < read_count n p = omega (arith, slice_get_within (map ref_of usages) k r e, length-map usages ref_of, length-map-range_with_len (usage n p f) 0 (read_count n p)) in
@@ -81,12 +81,12 @@ reference_at n p f k r e =
     (within, same_Some r (ref_of (usage n p f k)) (sym e ∙ here))
 
 pub names_last_writers : (n : Nest) → NamesLastWriters n (net_of (net n))
-names_last_writers n p k refs e slot r at =
+names_last_writers n p k refs e read r at =
     let network = net_of (net n) in
     let is = fire_is n p k refs e in
     let f : ℕ = is.point in
-    let reference = reference_at n p f slot r (ap (λ rs. slice_get rs slot) (sym is.references) ∙ at) in
+    let reference = reference_at n p f read r (ap (λ rs. slice_get rs read) (sym is.references) ∙ at) in
     ap (name_at network p k) reference.1
-    ∙ ap (λ i. name_at network p i (ref_of (usage n p f slot))) is.place
-    ∙ reference_names n p f slot is.process is.fire reference.0 (source_tag n p f slot) (source_is_tag n p f slot is.fire)
-    ∙ ap (λ g. name_of_source (source_tag n p g slot)) (sym is.turn)
+    ∙ ap (λ i. name_at network p i (ref_of (usage n p f read))) is.place
+    ∙ reference_names n p f read is.process is.fire reference.0 (source_tag n p f read) (source_is_tag n p f read is.fire)
+    ∙ ap (λ g. name_of_source (source_tag n p g read)) (sym is.turn)

@@ -6,8 +6,8 @@
 -- state of the machine occurs.
 use Rattle.std.proofs.Common.{◌≡◌, ◌<◌, ◌+◌, ℕ, zero, suc, pred, Bool, true, false, cond, eqb, ◌&&◌, List, [], ◌∷◌, ◌++◌, map, length, take, get_or, refl, sym, ap, ◌∙◌, inl, inr, arith, append_assoc, length-append}
 use Rattle.std.specs.Prelude.{Option, Some, slice_get, slice_index_or, count_by}
-use Rattle.std.specs.List.{filter, flat_map}
-use Rattle.std.specs.Option.{option_map, option_map_or}
+use Rattle.std.specs.List.{filter, flat_map, range_with_len}
+use Rattle.std.specs.Option.{option_map}
 use Rattle.std.proofs.lemmas.Bool.{cases_Bool, eq-eqb, ne_eqb}
 use Rattle.std.proofs.lemmas.List.{append-nil}
 use Rattle.std.proofs.lemmas.List.Concat.{flat_map-cons}
@@ -17,14 +17,12 @@ use Rattle.std.proofs.lemmas.Option.{same_Some, slice_get-map}
 use Rattle.sanlp.specs.Access.{read_count}
 use Rattle.sanlp.specs.declared.nest.Nest.{Nest}
 use Rattle.sanlp.specs.declared.nest.Tag.{Tag}
-use Rattle.sanlp.specs.Cells.{count_up}
 use Rattle.sanlp.proofs.Each.{Each, each_flat_map, each_map, each_of}
 use Rattle.sanlp.proofs.Members.{at_in, each_in}
 use Rattle.channel_plan.specs.declared.plans.ChannelPlan.{ChannelPlan}
 use Rattle.channel_plan.specs.Plans.{plan_of, plans_of, sources_at, turn_count}
 use Rattle.channel_plan.specs.Tokens.{is_used, tokens_among, tokens_below, turns_used}
 use Rattle.channel_plan.proofs.Counts.{same_filter_from}
-use Rattle.net_core.specs.declared.network.Channel.{Channel}
 use Rattle.net_core.specs.declared.network.Event.{Event}
 use Rattle.net_core.specs.declared.network.Event.TheVariants.{Get, Fire, Put}
 use Rattle.net_core.specs.declared.refs.Ref.{Ref}
@@ -35,7 +33,7 @@ use Rattle.process_derive.specs.Derived.{net}
 use Rattle.process_derive.specs.Scripts.{Usage, gets_of, point_events, puts_from, ref_of, script, usage}
 use Rattle.process_derive.proofs.Channels.{get_middle}
 use Rattle.process_derive.proofs.Numbers.{script_at}
-use Rattle.process_derive.proofs.Wired.{IsChannelOf, IsGet, all_channels, all_gets, channel_at}
+use Rattle.process_derive.proofs.Wired.{IsChannelOf, IsGet, all_channels, all_gets, writer_at}
 
 -- The tokens in a list of events
 
@@ -141,40 +139,37 @@ one_put c d (suc j) w done f (first ∷ plans) plan rest e number own =
 abbrev marked : ChannelPlan → ℕ → Bool
 marked plan f = slice_index_or plan.is_token f false
 
-point_has_gets : (n : Nest) (p f : ℕ) → Each IsGet (flat_map gets_of (map (usage n p f) (count_up 0 (read_count n p))))
+point_has_gets : (n : Nest) (p f : ℕ) → Each IsGet (flat_map gets_of (map (usage n p f) (range_with_len 0 (read_count n p))))
 point_has_gets n p f =
-    let slots : List ℕ = count_up 0 (read_count n p) in
-    each_flat_map IsGet gets_of (map (usage n p f) slots) (each_map (λ u. Each IsGet (gets_of u)) (usage n p f) slots (each_of (λ k. Each IsGet (gets_of (usage n p f k))) slots (λ k. all_gets (usage n p f k))))
+    let reads : List ℕ = range_with_len 0 (read_count n p) in
+    each_flat_map IsGet gets_of (map (usage n p f) reads) (each_map (λ u. Each IsGet (gets_of u)) (usage n p f) reads (each_of (λ k. Each IsGet (gets_of (usage n p f k))) reads (λ k. all_gets (usage n p f k))))
 
 points_put : (n : Nest) (c w a m : ℕ) (plan : ChannelPlan) → slice_get (plans_of n) c ≡ Some plan → plan.writer ≡ w
-    → tokens_in c w a (flat_map (point_events n w) (count_up a m)) ≡ map (tag w) (filter (marked plan) (count_up a m))
+    → tokens_in c w a (flat_map (point_events n w) (range_with_len a m)) ≡ map (tag w) (filter (marked plan) (range_with_len a m))
 points_put n c w a zero plan e own = refl
 points_put n c w a (suc m) plan e own =
-    let usages : List (Option Usage) = map (usage n w a) (count_up 0 (read_count n w)) in
+    let usages : List (Option Usage) = map (usage n w a) (range_with_len 0 (read_count n w)) in
     let gets : List Event = flat_map gets_of usages in
     let refs : List Ref = map ref_of usages in
     let puts : List Event = puts_from 0 (plans_of n) w a in
-    let later : List Event = flat_map (point_events n w) (count_up (a + 1) m) in
+    let later : List Event = flat_map (point_events n w) (range_with_len (a + 1) m) in
     let next : suc a ≡ a + 1 = omega arith in
     let number : 0 + c ≡ c = omega arith in
-    let rest : tokens_in c w (suc a) later ≡ map (tag w) (filter (marked plan) (count_up (a + 1) m)) =
+    let rest : tokens_in c w (suc a) later ≡ map (tag w) (filter (marked plan) (range_with_len (a + 1) m)) =
     ap (λ k. tokens_in c w k later) next ∙ points_put n c w (a + 1) m plan e own in
-    ap (tokens_in c w a) (flat_map-cons (point_events n w) a (count_up (a + 1) m) ∙ append_assoc gets (Fire refs ∷ puts) later)
+    ap (tokens_in c w a) (flat_map-cons (point_events n w) a (range_with_len (a + 1) m) ∙ append_assoc gets (Fire refs ∷ puts) later)
     ∙ none_got c w a gets (Fire refs ∷ (puts ++ later)) (point_has_gets n w a)
     ∙ one_put c 0 c w (suc a) a (plans_of n) plan later e number own
     ∙ ap (λ ts. cond (marked plan a) (tag w a ∷ ts) ts) rest
     ∙ kept (marked plan a) where
-      kept : (b : Bool) → cond b (tag w a ∷ map (tag w) (filter (marked plan) (count_up (a + 1) m))) (map (tag w) (filter (marked plan) (count_up (a + 1) m)))
-          ≡ map (tag w) (cond b (a ∷ filter (marked plan) (count_up (a + 1) m)) (filter (marked plan) (count_up (a + 1) m)))
+      kept : (b : Bool) → cond b (tag w a ∷ map (tag w) (filter (marked plan) (range_with_len (a + 1) m))) (map (tag w) (filter (marked plan) (range_with_len (a + 1) m)))
+          ≡ map (tag w) (cond b (a ∷ filter (marked plan) (range_with_len (a + 1) m)) (filter (marked plan) (range_with_len (a + 1) m)))
       kept true = refl
       kept false = refl
 
-writer_at : (n : Nest) (c : ℕ) (plan : ChannelPlan) → slice_get (plans_of n) c ≡ Some plan → (net_of (net n)).writer c ≡ plan.writer
-writer_at n c plan e = ap (λ (o : Option Channel). option_map_or (λ channel. channel.writer) o 0) (channel_at n c plan e)
-
 -- the tokens of a channel are the turns of its writer that its plan marks, in order
 pub tokens_are : (n : Nest) (c : ℕ) (plan : ChannelPlan) → slice_get (plans_of n) c ≡ Some plan
-    → tokens (net_of (net n)) c ≡ map (tag plan.writer) (filter (λ f. slice_index_or plan.is_token f false) (count_up 0 (turn_count n plan.writer)))
+    → tokens (net_of (net n)) c ≡ map (tag plan.writer) (filter (λ f. slice_index_or plan.is_token f false) (range_with_len 0 (turn_count n plan.writer)))
 tokens_are n c plan e =
     let w : ℕ = plan.writer in
     let writer : (net_of (net n)).writer c ≡ w = writer_at n c plan e in
@@ -186,7 +181,7 @@ tokens_are n c plan e =
 
 -- The number of a token
 
-found_at : (test : ℕ → Bool) (a m j : ℕ) → j < m → test (a + j) ≡ true → slice_get (filter test (count_up a m)) (count_by test (count_up a j)) ≡ Some (a + j)
+found_at : (test : ℕ → Bool) (a m j : ℕ) → j < m → test (a + j) ≡ true → slice_get (filter test (range_with_len a m)) (count_by test (range_with_len a j)) ≡ Some (a + j)
 found_at test a zero j lt passes = absurd (omega arith)
 found_at test a (suc m) zero lt passes =
     let first : a ≡ a + 0 = omega arith in
@@ -194,18 +189,18 @@ found_at test a (suc m) zero lt passes =
     rw here (ap Some first)
 found_at test a (suc m) (suc j) lt passes =
     let later : a + suc j ≡ a + 1 + j = omega arith in
-    let rest : slice_get (filter test (count_up (a + 1) m)) (count_by test (count_up (a + 1) j)) ≡ Some (a + suc j) =
+    let rest : slice_get (filter test (range_with_len (a + 1) m)) (count_by test (range_with_len (a + 1) j)) ≡ Some (a + suc j) =
     found_at test (a + 1) m j (omega arith) (ap test (sym later) ∙ passes) ∙ ap Some (sym later) in
-    ap (slice_get (filter test (count_up a (suc m)))) (sum_by-cons (λ k. cond (test k) 1 0) a (count_up (a + 1) j))
+    ap (slice_get (filter test (range_with_len a (suc m)))) (sum_by-cons (λ k. cond (test k) 1 0) a (range_with_len (a + 1) j))
     ∙ shifted (test a) ∙ rest where
-      shifted : (b : Bool) → slice_get (cond b (a ∷ filter test (count_up (a + 1) m)) (filter test (count_up (a + 1) m))) (cond b 1 0 + count_by test (count_up (a + 1) j))
-          ≡ slice_get (filter test (count_up (a + 1) m)) (count_by test (count_up (a + 1) j))
+      shifted : (b : Bool) → slice_get (cond b (a ∷ filter test (range_with_len (a + 1) m)) (filter test (range_with_len (a + 1) m))) (cond b 1 0 + count_by test (range_with_len (a + 1) j))
+          ≡ slice_get (filter test (range_with_len (a + 1) m)) (count_by test (range_with_len (a + 1) j))
       shifted true =
-          let more : 1 + count_by test (count_up (a + 1) j) ≡ suc (count_by test (count_up (a + 1) j)) = omega arith in
-          ap (slice_get (a ∷ filter test (count_up (a + 1) m))) more
+          let more : 1 + count_by test (range_with_len (a + 1) j) ≡ suc (count_by test (range_with_len (a + 1) j)) = omega arith in
+          ap (slice_get (a ∷ filter test (range_with_len (a + 1) m))) more
       shifted false =
-          let same : 0 + count_by test (count_up (a + 1) j) ≡ count_by test (count_up (a + 1) j) = omega arith in
-          ap (slice_get (filter test (count_up (a + 1) m))) same
+          let same : 0 + count_by test (range_with_len (a + 1) j) ≡ count_by test (range_with_len (a + 1) j) = omega arith in
+          ap (slice_get (filter test (range_with_len (a + 1) m))) same
 
 -- a turn that is used is the token of its number
 pub token_of_turn : (n : Nest) (p k w c turn : ℕ) → slice_get (plans_of n) c ≡ Some (plan_of n p k w)
@@ -215,11 +210,11 @@ token_of_turn n p k w c turn e lt is =
     let used : List ℕ = turns_used w (sources_at n p k) in
     let turns : ℕ = turn_count n w in
     let front : 0 + turn ≡ turn = omega arith in
-    let marks : filter (λ f. slice_index_or (tokens_among turns used) f false) (count_up 0 turns) ≡ filter (is_used used) (count_up 0 turns) =
+    let marks : filter (λ f. slice_index_or (tokens_among turns used) f false) (range_with_len 0 turns) ≡ filter (is_used used) (range_with_len 0 turns) =
     same_filter_from (λ f. slice_index_or (tokens_among turns used) f false) (is_used used) 0 turns (λ f from below. get_or-map-range_with_len (is_used used) 0 turns f f false (omega arith) (omega arith)) in
-    let all : tokens (net_of (net n)) c ≡ map (tag w) (filter (is_used used) (count_up 0 turns)) = tokens_are n c (plan_of n p k w) e ∙ ap (map (tag w)) marks in
-    let token : slice_get (filter (is_used used) (count_up 0 turns)) (tokens_below used turn) ≡ Some turn =
+    let all : tokens (net_of (net n)) c ≡ map (tag w) (filter (is_used used) (range_with_len 0 turns)) = tokens_are n c (plan_of n p k w) e ∙ ap (map (tag w)) marks in
+    let token : slice_get (filter (is_used used) (range_with_len 0 turns)) (tokens_below used turn) ≡ Some turn =
     found_at (is_used used) 0 turns turn lt (ap (is_used used) front ∙ is) ∙ ap Some front in
     ap (λ ts. slice_get ts (tokens_below used turn)) all
-    ∙ slice_get-map (tag w) (filter (is_used used) (count_up 0 turns)) (tokens_below used turn)
+    ∙ slice_get-map (tag w) (filter (is_used used) (range_with_len 0 turns)) (tokens_below used turn)
     ∙ ap (option_map (tag w)) token

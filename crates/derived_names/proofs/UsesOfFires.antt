@@ -1,4 +1,4 @@
--- What a fire uses at a read slot: the channel from the process of its source.
+-- What a fire uses at a read: the channel from the process of its source.
 use Rattle.std.proofs.Common.{◌≡◌, ℕ, Option, Some, None, List, length, take, slice_get, refl, sym, ap, ◌∙◌}
 use Rattle.std.specs.Option.{option_and_then, option_map}
 use Rattle.std.proofs.lemmas.Option.{same_Some}
@@ -10,11 +10,11 @@ use Rattle.sanlp.specs.declared.nest.Nest.{Nest}
 use Rattle.sanlp.specs.declared.nest.Tag.{Tag}
 use Rattle.derived_names.proofs.UsesOfReads.{found_between, found_by_ends}
 
--- the turns of process w that slot k of process p reads
+-- the turns of process w that read k of process p reads
 abbrev pub turns_read : Nest → ℕ → ℕ → ℕ → List ℕ
 turns_read n p k w = turns_used w (sources_at n p k)
 
--- the use of channel c, from process w to slot k of process p, by fire f
+-- the use of channel c, from process w to read k of process p, by fire f
 abbrev pub use_by : Nest → ℕ → ℕ → ℕ → ℕ → ℕ → Usage
 use_by n p k w c f = record {
   channel = c;
@@ -70,7 +70,7 @@ use_here n p k w c f t there e same =
 pub no_use : (n : Nest) (p k f : ℕ) → slice_get (sources_at n p k) f ≡ Some None → usage n p f k ≡ None
 no_use n p k f e = ap (option_and_then (λ source. option_and_then (λ (t : Tag). usage_from (plans_of n) (sources_at n p k) p k f t.process) source)) e
 
--- of channel c, from process w to slot k of process p, all uses are at slot k, and of turns of process w
+-- of channel c, from process w to read k of process p, all uses are at read k, and of turns of process w
 pub used_where : (n : Nest) (p k w c f j : ℕ) (u : Usage) → slice_get (plans_of n) c ≡ Some (plan_of n p k w) → (is : IsUse n p j f u) → u.channel ≡ c
     → (j ≡ k) × (is.source.process ≡ w)
 used_where n p k w c f j u there is same =

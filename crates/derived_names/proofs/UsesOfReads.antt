@@ -1,7 +1,7 @@
 -- The uses of a channel fire by fire, and the channel of each source.
 use Rattle.std.proofs.Common.{◌≡◌, ◌<◌, ◌+◌, ℕ, zero, suc, Bool, true, cond, eqb, ◌&&◌, List, [], ◌∷◌, ◌++◌, map, length, take, refl, sym, ap, ◌∙◌, subst, inl, inr, arith, add-one, eqb-true}
 use Rattle.std.specs.Prelude.{Option, Some, None, slice_get}
-use Rattle.std.specs.List.{cons_option, filter, flat_map, list_any}
+use Rattle.std.specs.List.{cons_option, filter, flat_map, list_any, range_with_len}
 use Rattle.std.specs.Option.{option_map, option_map_or}
 use Rattle.std.proofs.lemmas.Bool.{and_parts, cases_Bool, eq-eqb, or_cases}
 use Rattle.std.proofs.lemmas.List.{append-nil, map-append}
@@ -10,9 +10,8 @@ use Rattle.std.proofs.lemmas.Option.{same_Some, slice_get-map}
 use Rattle.sanlp.specs.Access.{read_count}
 use Rattle.sanlp.specs.declared.nest.Nest.{Nest}
 use Rattle.sanlp.specs.declared.nest.Tag.{Tag}
-use Rattle.sanlp.specs.Cells.{count_up}
 use Rattle.sanlp.proofs.Each.{Each, each_flat_map, each_map, each_of}
-use Rattle.sanlp.proofs.Members.{In, Pairwise, at_in, count_up_ascends, each_in, in_at, in_flat_map, pairwise_flat_map, in_range_with_len}
+use Rattle.sanlp.proofs.Members.{In, Pairwise, at_in, each_in, in_at, in_flat_map, in_range_with_len, pairwise_flat_map, range_with_len_ascends}
 use Rattle.sanlp.proofs.Lists.{flat_map-range_with_len_more}
 use Rattle.channel_plan.specs.declared.plans.ChannelPlan.{ChannelPlan}
 use Rattle.channel_plan.specs.Plans.{plan_of, plans_at, plans_of, sources_at, turn_count}
@@ -59,17 +58,17 @@ named_next used w sources f (Some source) e =
 
 -- what the first so many fires name
 pub named_before : (used : List ℕ) (w : ℕ) (sources : List (Option Tag)) (f : ℕ)
-    → flat_map (named_by_fire used w sources) (count_up 0 f) ≡ map (tokens_below used) (turns_used w (take f sources))
+    → flat_map (named_by_fire used w sources) (range_with_len 0 f) ≡ map (tokens_below used) (turns_used w (take f sources))
 named_before used w sources zero = refl
 named_before used w sources (suc f) =
-    ap (λ k. flat_map (named_by_fire used w sources) (count_up 0 k)) (sym (add-one f))
+    ap (λ k. flat_map (named_by_fire used w sources) (range_with_len 0 k)) (sym (add-one f))
     ∙ flat_map-range_with_len_more (named_by_fire used w sources) 0 f f (omega arith)
     ∙ ap (λ xs. xs ++ named_by_fire used w sources f) (named_before used w sources f)
     ∙ named_next used w sources f (slice_get sources f) refl
 
 -- all fires together name the uses
 pub named_by_all : (n : Nest) (p k w : ℕ)
-    → flat_map (named_by_fire (turns_used w (sources_at n p k)) w (sources_at n p k)) (count_up 0 (turn_count n p)) ≡ uses_of (turns_used w (sources_at n p k))
+    → flat_map (named_by_fire (turns_used w (sources_at n p k)) w (sources_at n p k)) (range_with_len 0 (turn_count n p)) ≡ uses_of (turns_used w (sources_at n p k))
 named_by_all n p k w =
     let sources : List (Option Tag) = sources_at n p k in
     let used : List ℕ = turns_used w sources in
@@ -140,10 +139,10 @@ each_then_map P Q f (x ∷ xs) then h = (then x h.0, each_then_map P Q f xs then
 pub plans_are : (n : Nest) → Each (IsPlanOf n) (plans_of n)
 unfolding plans_of
 plans_are n =
-    each_flat_map (IsPlanOf n) (λ p. flat_map (plans_at n p) (count_up 0 (read_count n p))) (count_up 0 (length n.statements))
-    (each_of _ (count_up 0 (length n.statements)) (λ p. each_flat_map (IsPlanOf n) (plans_at n p) (count_up 0 (read_count n p))
-    (each_of _ (count_up 0 (read_count n p)) (λ k. each_then_map (λ w. list_any (is_from w) (sources_at n p k) ≡ true) (IsPlanOf n) (plan_of n p k) (writers_of (length n.statements) (sources_at n p k))
-    (λ w h. record { plan_is = refl; is_read = h }) (each_passes (λ w. list_any (is_from w) (sources_at n p k)) (count_up 0 (length n.statements)))))))
+    each_flat_map (IsPlanOf n) (λ p. flat_map (plans_at n p) (range_with_len 0 (read_count n p))) (range_with_len 0 (length n.statements))
+    (each_of _ (range_with_len 0 (length n.statements)) (λ p. each_flat_map (IsPlanOf n) (plans_at n p) (range_with_len 0 (read_count n p))
+    (each_of _ (range_with_len 0 (read_count n p)) (λ k. each_then_map (λ w. list_any (is_from w) (sources_at n p k) ≡ true) (IsPlanOf n) (plan_of n p k) (writers_of (length n.statements) (sources_at n p k))
+    (λ w h. record { plan_is = refl; is_read = h }) (each_passes (λ w. list_any (is_from w) (sources_at n p k)) (range_with_len 0 (length n.statements)))))))
 
 -- no two channels go from one process to one read
 abbrev Differ : ChannelPlan → ChannelPlan → Type 0
@@ -168,20 +167,20 @@ read_by n p k =
     each_map (λ plan. (plan.reader ≡ p) × (plan.read ≡ k)) (plan_of n p k) (writers_of (length n.statements) (sources_at n p k))
     (each_of _ (writers_of (length n.statements) (sources_at n p k)) (λ w. (refl, refl)))
 
-read_in : (n : Nest) (p : ℕ) → Each (λ plan. plan.reader ≡ p) (flat_map (plans_at n p) (count_up 0 (read_count n p)))
+read_in : (n : Nest) (p : ℕ) → Each (λ plan. plan.reader ≡ p) (flat_map (plans_at n p) (range_with_len 0 (read_count n p)))
 read_in n p =
-    each_flat_map (λ plan. plan.reader ≡ p) (plans_at n p) (count_up 0 (read_count n p))
-    (each_of _ (count_up 0 (read_count n p)) (λ k. each_map (λ plan. plan.reader ≡ p) (plan_of n p k) (writers_of (length n.statements) (sources_at n p k))
+    each_flat_map (λ plan. plan.reader ≡ p) (plans_at n p) (range_with_len 0 (read_count n p))
+    (each_of _ (range_with_len 0 (read_count n p)) (λ k. each_map (λ plan. plan.reader ≡ p) (plan_of n p k) (writers_of (length n.statements) (sources_at n p k))
     (each_of _ (writers_of (length n.statements) (sources_at n p k)) (λ w. refl))))
 
 pub plans_differ : (n : Nest) → Pairwise Differ (plans_of n)
 unfolding plans_of
 plans_differ n =
     let processes : ℕ = length n.statements in
-    pairwise_flat_map (λ p q. p < q) Differ (λ p. flat_map (plans_at n p) (count_up 0 (read_count n p))) (count_up 0 processes) (count_up_ascends 0 processes)
-    (λ p there. pairwise_flat_map (λ j k. j < k) Differ (plans_at n p) (count_up 0 (read_count n p)) (count_up_ascends 0 (read_count n p))
+    pairwise_flat_map (λ p q. p < q) Differ (λ p. flat_map (plans_at n p) (range_with_len 0 (read_count n p))) (range_with_len 0 processes) (range_with_len_ascends 0 processes)
+    (λ p there. pairwise_flat_map (λ j k. j < k) Differ (plans_at n p) (range_with_len 0 (read_count n p)) (range_with_len_ascends 0 (read_count n p))
     (λ k here. pairwise_map (λ v w. v < w) Differ (plan_of n p k) (writers_of processes (sources_at n p k)) (λ v w lt reader read writer. omega (arith, lt, writer))
-    (pairwise_filter (λ v w. v < w) (λ w. list_any (is_from w) (sources_at n p k)) (count_up 0 processes) (count_up_ascends 0 processes)))
+    (pairwise_filter (λ v w. v < w) (λ w. list_any (is_from w) (sources_at n p k)) (range_with_len 0 processes) (range_with_len_ascends 0 processes)))
     (λ j k first second lt a b in_a in_b reader read writer.
     omega (
       arith,
@@ -195,8 +194,8 @@ plans_differ n =
       arith,
       lt,
       reader,
-      each_in (λ (plan : ChannelPlan). plan.reader ≡ p) a (flat_map (plans_at n p) (count_up 0 (read_count n p))) (read_in n p) in_a,
-      each_in (λ (plan : ChannelPlan). plan.reader ≡ q) b (flat_map (plans_at n q) (count_up 0 (read_count n q))) (read_in n q) in_b,
+      each_in (λ (plan : ChannelPlan). plan.reader ≡ p) a (flat_map (plans_at n p) (range_with_len 0 (read_count n p))) (read_in n p) in_a,
+      each_in (λ (plan : ChannelPlan). plan.reader ≡ q) b (flat_map (plans_at n q) (range_with_len 0 (read_count n q))) (read_in n q) in_b,
     ))
 
 -- a channel with these ends
@@ -273,7 +272,7 @@ in_filter test (y ∷ xs) x h k =
       | inr l ↦ (let later = in_filter test xs x l k in elim (cases_Bool (test y)) [ inl a ↦ rw a (inr later) | inr a ↦ rw a later ])
     ]
 
-in_map : {X Y : Type 0} (f : X → Y) (xs : List X) (x : X) → In x xs → In (f x) (map f xs)
+pub in_map : {X Y : Type 0} (f : X → Y) (xs : List X) (x : X) → In x xs → In (f x) (map f xs)
 in_map f [] x h = h
 in_map f (y ∷ xs) x h = elim h [ inl e ↦ inl (ap f e) | inr l ↦ inr (in_map f xs x l) ]
 
@@ -281,10 +280,10 @@ plan_there : (n : Nest) (p k w : ℕ) → p < length n.statements → k < read_c
     → In (plan_of n p k w) (plans_of n)
 unfolding plans_of
 plan_there n p k w process read writer from =
-    in_flat_map (λ p. flat_map (plans_at n p) (count_up 0 (read_count n p))) p (plan_of n p k w) (count_up 0 (length n.statements)) (in_range_with_len 0 (length n.statements) p (omega arith) (omega arith))
-    (in_flat_map (plans_at n p) k (plan_of n p k w) (count_up 0 (read_count n p)) (in_range_with_len 0 (read_count n p) k (omega arith) (omega arith))
+    in_flat_map (λ p. flat_map (plans_at n p) (range_with_len 0 (read_count n p))) p (plan_of n p k w) (range_with_len 0 (length n.statements)) (in_range_with_len 0 (length n.statements) p (omega arith) (omega arith))
+    (in_flat_map (plans_at n p) k (plan_of n p k w) (range_with_len 0 (read_count n p)) (in_range_with_len 0 (read_count n p) k (omega arith) (omega arith))
     (in_map (plan_of n p k) (writers_of (length n.statements) (sources_at n p k)) w
-    (in_filter (λ w. list_any (is_from w) (sources_at n p k)) (count_up 0 (length n.statements)) w (in_range_with_len 0 (length n.statements) w (omega arith) (omega arith)) from)))
+    (in_filter (λ w. list_any (is_from w) (sources_at n p k)) (range_with_len 0 (length n.statements)) w (in_range_with_len 0 (length n.statements) w (omega arith) (omega arith)) from)))
 
 any_found : {X : Type 0} (test : X → Bool) (xs : List X) → list_any test xs ≡ true → (f : ℕ) × (x : X) × (slice_get xs f ≡ Some x) × (test x ≡ true)
 any_found test [] e = absurd (cc)

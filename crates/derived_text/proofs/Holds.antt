@@ -1,14 +1,13 @@
 -- The slots that the Gets of a channel name are all that the channel holds.
 use Rattle.std.proofs.Common.{◌≡◌, ◌<◌, ◌≤◌, ◌+◌, ◌-◌, ℕ, true, eqb, List, [], ◌∷◌, map, length, take, refl, sym, ap, ◌∙◌, subst, inl, inr, arith}
 use Rattle.std.specs.Prelude.{Option, Some, None, slice_get, slice_index}
-use Rattle.std.specs.List.{flat_map, list_any}
+use Rattle.std.specs.List.{flat_map, list_any, range_with_len}
 use Rattle.std.specs.Option.{option_map_or}
 use Rattle.std.proofs.lemmas.Bool.{cases_Bool}
 use Rattle.std.proofs.lemmas.List.{length-map}
 use Rattle.sanlp.specs.declared.nest.Nest.{Nest}
 use Rattle.sanlp.specs.declared.nest.Tag.{Tag}
-use Rattle.sanlp.specs.Cells.{count_up}
-use Rattle.sanlp.proofs.Each.{Each, count_up_below, each_map, each_of, each_then}
+use Rattle.sanlp.proofs.Each.{Each, each_map, each_of, each_range_with_len}
 use Rattle.sanlp.proofs.Members.{In, at_in, each_in, in_range_with_len}
 use Rattle.reorder_slots.specs.Slots.{Held, gets_for, held_after, hold_of, slots_of_gets}
 use Rattle.reorder_slots.specs.Readers.{KeepsTokens}
@@ -28,35 +27,31 @@ use Rattle.process_derive.proofs.Numbers.{script_at}
 use Rattle.process_derive.proofs.Tags.{length-sources}
 use Rattle.process_derive.proofs.Wired.{channel_at}
 use Rattle.derived_names.proofs.Gets.{exists, points_got, slots_got}
-use Rattle.derived_names.proofs.UsesOfReads.{IsPlanOf, plan_at, plans_are}
+use Rattle.derived_names.proofs.UsesOfReads.{IsPlanOf, in_map, plan_at, plans_are}
 use Rattle.net_text.specs.NetworkText.{hold, slot_got, span}
 use Rattle.derived_text.proofs.Spans.{span_is}
 
 -- The slots that are held
 
-in_map : (f : ℕ → ℕ) (xs : List ℕ) (x : ℕ) → In x xs → In (f x) (map f xs)
-in_map f [] x h = h
-in_map f (y ∷ xs) x h = elim h [ inl e ↦ inl (ap f e) | inr later ↦ inr (in_map f xs x later) ]
-
 -- the Gets for all uses name each slot that is held, and no other
-slots_span : (uses : List ℕ) (base : ℕ) → 0 < length uses → span (map (λ m. base + slice_index (slots_of_gets uses) m) (count_up 0 (gets_for uses))) ≡ hold_of uses
+slots_span : (uses : List ℕ) (base : ℕ) → 0 < length uses → span (map (λ m. base + slice_index (slots_of_gets uses) m) (range_with_len 0 (gets_for uses))) ≡ hold_of uses
 slots_span uses base some =
     let held : Held = held_after uses (length uses) in
     let keeps : KeepsTokens uses (length uses) held = KeepsTokens-held uses (length uses) in
     let gets : ℕ = gets_for uses in
     let count : length held.slot_of_get ≡ gets = length-held uses (length uses) ∙ ap gets_for (take_all uses) in
     let slot : ℕ → ℕ = λ m. base + slice_index held.slot_of_get m in
-    let all : List ℕ = map slot (count_up 0 gets) in
+    let all : List ℕ = map slot (range_with_len 0 gets) in
     let made : 0 < hold_of uses = omega (arith, keeps.made 0 (omega (arith, count, named_below uses 0 some))) in
     let last : ℕ = hold_of uses - 1 in
     let there : (s : ℕ) → s < hold_of uses → In (base + s) all = λ s lt.
     let m : ℕ = slice_index held.slots s in
-    subst (λ k. In (base + k) all) (keeps.taken s lt) (in_map slot (count_up 0 gets) m (in_range_with_len 0 gets m (omega arith) (omega (arith, count, keeps.got s lt))))
+    subst (λ k. In (base + k) all) (keeps.taken s lt) (in_map slot (range_with_len 0 gets) m (in_range_with_len 0 gets m (omega arith) (omega (arith, count, keeps.got s lt))))
     in
-    let above : Each (λ x. base ≤ x) all = each_map (λ x. base ≤ x) slot (count_up 0 gets) (each_of (λ m. base ≤ slot m) (count_up 0 gets) (λ m. omega arith)) in
+    let above : Each (λ x. base ≤ x) all = each_map (λ x. base ≤ x) slot (range_with_len 0 gets) (each_of (λ m. base ≤ slot m) (range_with_len 0 gets) (λ m. omega arith)) in
     let below : Each (λ x. x ≤ base + last) all =
-    each_map (λ x. x ≤ base + last) slot (count_up 0 gets)
-    (each_then (λ m. m < gets) (λ m. slot m ≤ base + last) (count_up 0 gets) (λ m lt. omega (arith, keeps.made m (omega (arith, count)))) (count_up_below 0 gets gets (omega arith))) in
+    each_map (λ x. x ≤ base + last) slot (range_with_len 0 gets)
+    (each_range_with_len (λ m. slot m ≤ base + last) 0 gets (λ m first lt. omega (arith, keeps.made m (omega (arith, count))))) in
     let front : base + 0 ≡ base = omega arith in
     omega (arith, span_is all base (base + last) above below (subst (λ k. In k all) front (there 0 made)) (there last (omega arith)))
 
@@ -100,7 +95,7 @@ planned n p k w c there read =
     ∙ take_all uses in
     ap (λ es. span (flat_map (slot_got c) es)) events
     ∙ ap span (got_by c (script n p) ∙ points_got n p k w c there turns (omega arith))
-    ∙ ap (λ xs. span (map (λ m. base + slice_index (slots_of_gets uses) m) (count_up 0 (gets_for xs)))) every
+    ∙ ap (λ xs. span (map (λ m. base + slice_index (slots_of_gets uses) m) (range_with_len 0 (gets_for xs)))) every
     ∙ slots_span uses base (omega (arith, count, some_turn w sources read))
 
 -- what the text tells as a channel's hold is the hold of its plan

@@ -1,12 +1,11 @@
 -- The Puts of a channel of a nest's network are as many as the tokens of its plan.
 use Rattle.std.proofs.Common.{◌≡◌, ℕ, false, List, length, sym, ap, ◌∙◌, arith}
 use Rattle.std.specs.Prelude.{Some, slice_get, slice_index_or, count_by}
-use Rattle.std.specs.List.{filter}
+use Rattle.std.specs.List.{filter, range_with_len}
 use Rattle.std.proofs.lemmas.List.{length-map}
 use Rattle.std.proofs.lemmas.List.Sums.{length-filter}
 use Rattle.std.proofs.lemmas.List.FromFn.{get_or-map-range_with_len}
 use Rattle.sanlp.specs.declared.nest.Nest.{Nest}
-use Rattle.sanlp.specs.Cells.{count_up}
 use Rattle.channel_plan.specs.declared.plans.ChannelPlan.{ChannelPlan}
 use Rattle.channel_plan.specs.Plans.{plan_of, plans_of, sources_at, turn_count}
 use Rattle.channel_plan.specs.Tokens.{is_used, tokens_among, tokens_below, turns_used}
@@ -32,14 +31,14 @@ planned : (n : Nest) (p k w c : ℕ) → slice_get (plans_of n) c ≡ Some (plan
 planned n p k w c e =
     let used : List ℕ = turns_used w (sources_at n p k) in
     let turns : ℕ = turn_count n w in
-    let marked : List ℕ = filter (λ f. slice_index_or (tokens_among turns used) f false) (count_up 0 turns) in
-    let marks : marked ≡ filter (is_used used) (count_up 0 turns) =
+    let marked : List ℕ = filter (λ f. slice_index_or (tokens_among turns used) f false) (range_with_len 0 turns) in
+    let marks : marked ≡ filter (is_used used) (range_with_len 0 turns) =
     same_filter_from (λ f. slice_index_or (tokens_among turns used) f false) (is_used used) 0 turns (λ f from below. get_or-map-range_with_len (is_used used) 0 turns f f false (omega arith) (omega arith)) in
     puts_are_tokens (net_of (net n)) c
     ∙ ap length (tokens_are n c (plan_of n p k w) e)
     ∙ length-map marked (tag w)
     ∙ ap length marks
-    ∙ length-filter (is_used used) (count_up 0 turns)
+    ∙ length-filter (is_used used) (range_with_len 0 turns)
 
 -- a channel has as many Puts as its plan says
 pub puts_planned : (n : Nest) (c : ℕ) (plan : ChannelPlan) → slice_get (plans_of n) c ≡ Some plan → put_count (net_of (net n)) c ≡ plan.tokens

@@ -16,18 +16,23 @@ use sanlp::Nest;
 /// What the text of a nest's network says of a channel is what its plan says: the number of its tokens, its hold and its
 /// class.
 pub fn text_tells_the_plans(nest: &Nest)
-    ensures tokens { (c : ℕ) (plan : ChannelPlan) → slice_get (plans_of nest.now) c ≡ Some plan → put_count (net_of (net nest.now)) c ≡ plan.tokens }
-    ensures hold { (c : ℕ) (plan : ChannelPlan) → slice_get (plans_of nest.now) c ≡ Some plan → hold (net_of (net nest.now)) c ≡ plan.slots.hold }
+    ensures tokens { (c : ℕ) (plan : ChannelPlan) → slice_get (plans_of nest.now) c ≡ Some plan
+        → put_count (net_of (net nest.now)) c ≡ plan.tokens }
+    ensures hold { (c : ℕ) (plan : ChannelPlan) → slice_get (plans_of nest.now) c ≡ Some plan
+        → hold (net_of (net nest.now)) c ≡ plan.slots.hold }
     ensures class { (c : ℕ) (plan : ChannelPlan) → slice_get (plans_of nest.now) c ≡ Some plan
         → option_map (λ (channel : Channel). channel.class) (slice_get (net nest.now).channels c) ≡ Some plan.class }
 {}
 
 /// The text says the same of the network with other capacities, as with those of the sequential schedule.
 pub fn other_capacities_tell_the_plans(nest: &Nest)
-    ensures tokens { (capacities : List ℕ) (c : ℕ) (plan : ChannelPlan) → slice_get (plans_of nest.now) c ≡ Some plan
+    ensures tokens { (capacities : List ℕ) (c : ℕ) (plan : ChannelPlan)
+        → slice_get (plans_of nest.now) c ≡ Some plan
         → put_count (net_of (with_capacities (net nest.now) capacities)) c ≡ plan.tokens }
-    ensures hold { (capacities : List ℕ) (c : ℕ) (plan : ChannelPlan) → slice_get (plans_of nest.now) c ≡ Some plan
+    ensures hold { (capacities : List ℕ) (c : ℕ) (plan : ChannelPlan)
+        → slice_get (plans_of nest.now) c ≡ Some plan
         → hold (net_of (with_capacities (net nest.now) capacities)) c ≡ plan.slots.hold }
-    ensures class { (capacities : List ℕ) (c : ℕ) (plan : ChannelPlan) → slice_get (plans_of nest.now) c ≡ Some plan
+    ensures class { (capacities : List ℕ) (c : ℕ) (plan : ChannelPlan)
+        → slice_get (plans_of nest.now) c ≡ Some plan
         → option_map (λ (channel : Channel). channel.class) (slice_get (with_capacities (net nest.now) capacities).channels c) ≡ Some plan.class }
 {}

@@ -6,7 +6,7 @@
 -- (`none_entries`). In the end every process is at its script's end, so every fire of every script was passed, which
 -- is why one schedule tells of all references. Names don't depend on the order, so whether any of them is wrong is the
 -- same for every such schedule.
-use Rattle.std.proofs.Common.{◌≡◌, ℕ, zero, suc, ◌+◌, ◌<◌, ◌≤◌, true, false, cond, ltb, eqb, Option, Some, None, List, [], ◌∷◌, length, slice_get, refl, sym, ap, ap₂, ◌∙◌, inl, inr, arith, eqb-true, eq-eqb}
+use Rattle.std.proofs.Common.{◌≡◌, ℕ, suc, ◌<◌, ◌≤◌, true, cond, ltb, eqb, Option, Some, None, List, [], ◌∷◌, length, slice_get, refl, sym, ap, ap₂, ◌∙◌, inl, inr, arith, eqb-true, eq-eqb}
 use Rattle.std.proofs.lemmas.Bool.{and_parts, and_from, cases_Bool, cases_lt, cases_eq, ltb-false, le-ltb}
 use Rattle.std.proofs.lemmas.Option.{slice_get_within}
 use Rattle.std.specs.Option.{option_or}
@@ -17,7 +17,7 @@ use Rattle.net_core.specs.declared.network.Event.{Event}
 use Rattle.net_core.specs.declared.network.Event.TheVariants.{Get, Fire, Put}
 use Rattle.net_core.specs.declared.network.Network.{Network}
 use Rattle.net_core.specs.declared.refs.Ref.{Ref}
-use Rattle.net_core.specs.Cuts.{Cut, enabled_at, advanced, cut_after, IsCutRun}
+use Rattle.net_core.specs.Cuts.{Cut, enabled_at, advanced, cut_after, opening, IsCutRun}
 use Rattle.net_core.specs.Machine.{Net, net_of, start}
 use Rattle.net_core.specs.Names.{Name, name_at}
 use Rattle.net_core.specs.Names.Name.{zero_name, empty_name, token_name}
@@ -28,9 +28,8 @@ use Rattle.net_core.specs.Sound.{source_tag, name_of_source, NamesLastWriters}
 use Rattle.net_core.proofs.CutOrder.{advanced_here, advanced_there}
 use Rattle.net_core.proofs.Positions.{run_cut, cut_run, run_ends, start_counted, cut_inside}
 use Rattle.net_checker.specs.declared.verdict.Refusal.TheVariants as refusal
-use Rattle.net_checker.specs.declared.verdict.Refusal.{Refusal}
 use Rattle.net_checker.specs.Choice.{first_below}
-use Rattle.net_checker.specs.Entries.{is_wanted, seen_of, wanted_of, name_refusal, reference_refusal, event_refusal, entry_refusal, entries_refusal, opening, unended, schedule_refusal}
+use Rattle.net_checker.specs.Entries.{is_wanted, seen_of, wanted_of, reference_refusal, event_refusal, entry_refusal, entries_refusal, unended, schedule_refusal}
 use Rattle.net_checker.proofs.Choices.{or_none, first_none, none_first}
 use Rattle.net_checker.proofs.Lists.{passes_where_none, fails_where_none}
 
@@ -56,7 +55,7 @@ module _ (n : Nest) (net : Net) where
   -- where place k of p's script is a fire, each reference names what its read wants
   abbrev NamesWanted : ℕ → ℕ → Type 0
   NamesWanted p k =
-      (refs : List Ref) → slice_get (net.script p) k ≡ Some (Fire refs) → (slot : ℕ) (r : Ref) → slice_get refs slot ≡ Some r → name_at net p k r ≡ name_of_source (source_tag n p (fires net p k) slot)
+      (refs : List Ref) → slice_get (net.script p) k ≡ Some (Fire refs) → (read : ℕ) (r : Ref) → slice_get refs read ≡ Some r → name_at net p k r ≡ name_of_source (source_tag n p (fires net p k) read)
 
   none_reference : (i p k j : ℕ) (o : Option Ref) (r : Ref) → o ≡ Some r → reference_refusal n net i p k j o ≡ None → name_at net p k r ≡ name_of_source (source_tag n p (fires net p k) j)
   none_reference i p k j None r is h = cc
@@ -67,13 +66,13 @@ module _ (n : Nest) (net : Net) where
       rw (← same) (wanted_name name source (passes_where_none (is_wanted name source) (refusal.Tag i (seen_of (points_of n) name) (wanted_of (points_of n) source)) h))
 
   none_event : (i p k : ℕ) (o : Option Event) → slice_get (net.script p) k ≡ o → event_refusal n net i p k o ≡ None → NamesWanted p k
-  none_event i p k None at h refs is slot r there = cc
-  none_event i p k (Some (Get c s)) at h refs is slot r there = cc
-  none_event i p k (Some (Put c)) at h refs is slot r there = cc
-  none_event i p k (Some (Fire refs')) at h refs is slot r there =
+  none_event i p k None at h refs is read r there = cc
+  none_event i p k (Some (Get c s)) at h refs is read r there = cc
+  none_event i p k (Some (Put c)) at h refs is read r there = cc
+  none_event i p k (Some (Fire refs')) at h refs is read r there =
       let same : refs' ≡ refs = fire_same refs' refs (sym at ∙ is) in
-      let there' : slice_get refs' slot ≡ Some r = rw same there in
-      none_reference i p k slot (slice_get refs' slot) r there' (none_first (λ j. reference_refusal n net i p k j (slice_get refs' j)) (length refs') h slot (slice_get_within refs' slot r there'))
+      let there' : slice_get refs' read ≡ Some r = rw same there in
+      none_reference i p k read (slice_get refs' read) r there' (none_first (λ j. reference_refusal n net i p k j (slice_get refs' j)) (length refs') h read (slice_get_within refs' read r there'))
     where
       fire_same : (a b : List Ref) → ◌≡◌ {A = Option Event} (Some (Fire a)) (Some (Fire b)) → a ≡ b
       fire_same a b e = cc

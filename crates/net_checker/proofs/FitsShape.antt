@@ -5,17 +5,16 @@
 -- below the points, so there are never more fires than points (`fires_bounded`, by induction on the place), and the
 -- test at the script's end says that there are no fewer. `first` tells the least process; that it is the least is a
 -- matter of Choices and not of this file.
-use Rattle.std.proofs.Common.{◌≡◌, ℕ, zero, suc, ◌+◌, ◌<◌, ◌≤◌, ℤ, Bool, true, false, cond, eqb, ltb, leb, ◌&&◌, Option, Some, None, List, [], ◌∷◌, length, map, take, slice_get, get_or, count_by, refl, sym, ap, ◌∙◌, inl, inr, arith, ltb-true, lt-ltb, eqb-true, eq-eqb}
-use Rattle.std.proofs.lemmas.Bool.{and_parts, and_from, cases_lt, cases_Bool, le-ltb, leb-true, le-leb, ltb-false, cond-true, cond-false}
-use Rattle.std.proofs.lemmas.List.{length-map}
+use Rattle.std.proofs.Common.{◌≡◌, ℕ, zero, suc, ◌<◌, ◌≤◌, true, false, cond, eqb, ltb, leb, ◌&&◌, Option, Some, None, List, [], ◌∷◌, length, take, slice_get, count_by, refl, sym, ap, ◌∙◌, inl, inr, arith, ltb-true, lt-ltb, eqb-true, eq-eqb}
+use Rattle.std.proofs.lemmas.Bool.{and_parts, and_from, cases_lt, le-ltb, leb-true, le-leb, ltb-false}
+use Rattle.std.proofs.lemmas.List.{get_or_past}
 use Rattle.std.proofs.lemmas.List.Elements.{All-nil, All-cons, All-head, All-tail}
+use Rattle.std.proofs.lemmas.List.FromFn.{length-map-range_with_len}
 use Rattle.std.proofs.lemmas.List.Sums.{sum_by-take-le}
 use Rattle.std.proofs.lemmas.Option.{slice_get_past, slice_get_within}
 use Rattle.std.specs.List.{list_all, All}
-use Rattle.std.specs.Option.{option_or, option_map_or}
 use Rattle.sanlp.specs.Access.{read_count}
 use Rattle.sanlp.specs.declared.nest.Nest.{Nest}
-use Rattle.sanlp.specs.Cells.{count_up}
 use Rattle.sanlp.specs.Points.{points_of, vectors_of}
 use Rattle.sanlp.specs.Trace.{trace}
 use Rattle.source_tree.specs.declared.cert.Cert.{Cert}
@@ -26,31 +25,21 @@ use Rattle.net_core.specs.declared.network.Network.{Network}
 use Rattle.net_core.specs.declared.refs.Ref.{Ref}
 use Rattle.net_core.specs.declared.refs.Ref.TheVariants.{Zero, Slot}
 use Rattle.net_core.specs.Machine.{Net, net_of}
-use Rattle.net_core.specs.Shape.{fires, is_fire, is_any_get, turns, IsWithin, IsWired, IsShaped}
+use Rattle.net_core.specs.Shape.{fires, is_fire, is_any_get, turns, IsWithin, IsWired}
 use Rattle.net_core.specs.Sound.{FitsNest}
 use Rattle.net_core.proofs.Counting.{count_next}
-use Rattle.net_checker.specs.declared.verdict.Refusal.{Refusal}
 use Rattle.net_checker.specs.declared.verdict.Refusal.TheVariants as refusal
 use Rattle.net_checker.specs.Choice.{first_below}
-use Rattle.net_checker.specs.Shapes.{read_total, channel_agrees, agrees, is_own_event, keeps_shape, process_shape, shape_refusal}
+use Rattle.net_checker.specs.Shapes.{read_total, channel_agrees, agrees, is_own_event, process_shape, shape_refusal}
 use Rattle.net_checker.specs.Firings.{is_within, may_stand, event_firing, process_firing, firing_refusal}
 use Rattle.net_checker.proofs.Choices.{or_none, first_none, none_first}
 use Rattle.net_checker.proofs.Lists.{passes_where_none, fails_where_none, item_at, all_at, each_all}
 
 -- Numbers of a nest's points
 
-length_up : (a many : ℕ) → length (count_up a many) ≡ many
-length_up a zero = refl
-length_up a (suc many) = ap suc (length_up (a + 1) many)
-
 pub points_length : (n : Nest) → length (points_of n) ≡ length n.statements
 unfolding points_of
-points_length n = length-map (count_up 0 (length n.statements)) (vectors_of (trace n)) ∙ length_up 0 (length n.statements)
-
-get_or_past : {X : Type 0} (xs : List X) (k : ℕ) (d : X) → length xs ≤ k → get_or xs k d ≡ d
-get_or_past [] k d le = refl
-get_or_past (x ∷ xs) zero d le = absurd (omega arith)
-get_or_past (x ∷ xs) (suc k) d le = get_or_past xs k d (omega arith)
+points_length n = length-map-range_with_len (vectors_of (trace n)) 0 (length n.statements)
 
 turns_past : (n : Nest) (p : ℕ) → length n.statements ≤ p → turns (points_of n) p ≡ 0
 turns_past n p le = ap length (get_or_past (points_of n) p [] (omega (arith, points_length n)))

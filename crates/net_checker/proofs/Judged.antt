@@ -1,5 +1,5 @@
 -- A fire is judged by the slots of the state and the table of sources.
-use Rattle.std.proofs.Common.{◌≡◌, ℕ, zero, suc, ◌+◌, ◌<◌, ◌≤◌, ℤ, true, Option, Some, None, List, length, take, slice_get, refl, sym, ap, ap₂, ◌∙◌, inl, inr, arith, add-zero}
+use Rattle.std.proofs.Common.{◌≡◌, ℕ, zero, suc, ◌+◌, ◌<◌, ◌≤◌, ℤ, true, Option, Some, None, List, length, take, slice_get, refl, sym, ap, ap₂, ◌∙◌, inl, inr, arith}
 use Rattle.std.specs.List.{sum_by}
 use Rattle.std.specs.Option.{option_or, option_and_then}
 use Rattle.sanlp.specs.Access.{read_count}
@@ -10,20 +10,20 @@ use Rattle.sanlp.specs.Points.{points_of}
 use Rattle.sanlp.specs.Tags.{tag_at}
 use Rattle.sanlp.specs.Trace.{trace}
 use Rattle.sanlp.specs.Writers.{last_writer}
-use Rattle.source_tree.specs.Sources.{sources_of, read_number, entry_of, GivesLastWriters}
+use Rattle.source_tree.specs.Sources.{sources_of}
 use Rattle.source_tree.proofs.Numbered.{gives_last_writers}
 use Rattle.net_core.specs.declared.network.Event.TheVariants.{Fire}
 use Rattle.net_core.specs.declared.network.Network.{Network}
 use Rattle.net_core.specs.declared.refs.Ref.{Ref}
 use Rattle.net_core.specs.Cuts.{positions, IsCounted}
-use Rattle.net_core.specs.Machine.{Net, State, net_of, next, enabled}
-use Rattle.net_core.specs.Names.{name_of, name_at, slot_names, IsNamed}
+use Rattle.net_core.specs.Machine.{State, net_of, next, enabled}
+use Rattle.net_core.specs.Names.{name_of, slot_names, IsNamed}
 use Rattle.net_core.specs.Shape.{fires, turns}
 use Rattle.net_core.specs.Sound.{source_tag, FitsNest}
 use Rattle.net_core.proofs.Valued.{entry_count}
 use Rattle.net_checker.specs.declared.verdict.Refusal.{Refusal}
 use Rattle.net_checker.specs.Choice.{first_from, first_below}
-use Rattle.net_checker.specs.Entries.{name_refusal, reference_refusal, event_refusal, entry_refusal}
+use Rattle.net_checker.specs.Entries.{name_refusal, reference_refusal, entry_refusal}
 use Rattle.net_checker.specs.Lookups.{source_in, refused_reference}
 use Rattle.std.proofs.lemmas.Bool.{cases_lt}
 use Rattle.std.proofs.lemmas.Option.{slice_get_within}

@@ -1,8 +1,8 @@
 -- The uses of the channels, as a walk over each process's script collects them.
-use Rattle.std.proofs.Common.{◌≡◌, ℕ, zero, suc, ◌+◌, ◌<◌, ◌≤◌, ◌^◌, Bool, true, false, cond, eqb, Option, Some, None, List, [], ◌∷◌, ◌++◌, length, take, slice_get, get_or, count_by, refl, sym, ap, ap₂, ◌∙◌, inl, inr, ◌⊎◌, arith, add-zero, add-one, append-nil, append_assoc, eqb-true, eq-eqb, ne_eqb}
+use Rattle.std.proofs.Common.{◌≡◌, ℕ, zero, suc, ◌+◌, ◌<◌, ◌≤◌, ◌^◌, Bool, false, cond, eqb, Option, Some, None, List, [], ◌∷◌, ◌++◌, length, take, slice_get, get_or, count_by, refl, sym, ap, ap₂, ◌∙◌, inl, inr, ◌⊎◌, arith, add-one, append-nil, append_assoc, eq-eqb, ne_eqb}
 use Rattle.std.specs.Prelude.{slice_set, replicate}
 use Rattle.std.specs.List.{flat_map}
-use Rattle.std.proofs.lemmas.Bool.{cases_Bool, cases_eq, cases_lt, cond-true, cond-false}
+use Rattle.std.proofs.lemmas.Bool.{cases_eq, cases_lt, cond-true, cond-false}
 use Rattle.std.proofs.lemmas.List.{length-set, get_or-set_same, get_or-set_other, get_or_past}
 use Rattle.std.proofs.lemmas.List.Sums.{count_by-le-length, sum_by-take-le}
 use Rattle.std.proofs.lemmas.Option.{slice_get_within}
@@ -12,7 +12,7 @@ use Rattle.net_core.specs.declared.refs.Ref.{Ref}
 use Rattle.net_core.specs.declared.refs.Ref.TheVariants.{Zero, Slot}
 use Rattle.net_core.specs.Machine.{Net}
 use Rattle.net_core.specs.Names.{with_get, latest_gets}
-use Rattle.net_core.specs.Shape.{is_get, events_below, FitsNumbers, IsWired}
+use Rattle.net_core.specs.Shape.{is_get, FitsNumbers, IsWired}
 use Rattle.net_core.specs.Uses.{use_in, use_of, uses_of, uses_before, uses}
 use Rattle.net_core.proofs.Counting.{count_next, count_cons}
 use Rattle.net_checker.proofs.Found.{script_short}

@@ -1,12 +1,12 @@
 -- The uses that a fire adds to the channels' lists.
-use Rattle.std.proofs.Common.{◌≡◌, ℕ, zero, suc, ◌+◌, ◌<◌, cond, eqb, true, false, Option, Some, None, List, [], ◌∷◌, ◌++◌, length, take, slice_get, get_or, refl, sym, ap, ◌∙◌, inl, inr, arith, append-nil, append_assoc, eq-eqb, ne_eqb}
+use Rattle.std.proofs.Common.{◌≡◌, ℕ, zero, suc, ◌<◌, Option, Some, List, [], ◌∷◌, ◌++◌, length, take, slice_get, get_or, refl, sym, ap, ◌∙◌, inl, inr, arith, append-nil, append_assoc, eq-eqb, ne_eqb}
 use Rattle.std.specs.Prelude.{slice_set}
 use Rattle.std.specs.List.{flat_map}
 use Rattle.std.proofs.lemmas.Bool.{cases_eq}
 use Rattle.std.proofs.lemmas.List.{get_or-set_same, get_or-set_other}
 use Rattle.net_core.specs.declared.refs.Ref.{Ref}
-use Rattle.net_core.specs.declared.refs.Ref.TheVariants.{Zero, Slot}
-use Rattle.net_core.specs.Uses.{use_in, use_of}
+use Rattle.net_core.specs.declared.refs.Ref.TheVariants.{Slot}
+use Rattle.net_core.specs.Uses.{use_of}
 
 flat_map_next : {X A : Type 0} (f : X → List A) (xs : List X) (i : ℕ) (x : X) → slice_get xs i ≡ Some x → flat_map f (take (suc i) xs) ≡ flat_map f (take i xs) ++ f x
 flat_map_next f [] i x h = cc

@@ -9,7 +9,7 @@ use Rattle.net_core.specs.Sound.{IsSound}
 use Rattle.net_core.proofs.Soundness.{is_sound}
 use Rattle.net_checker.specs.declared.verdict.Refusal.{Refusal}
 use Rattle.net_checker.specs.declared.verdict.Verdict.{Verdict}
-use Rattle.net_checker.specs.declared.verdict.Verdict.TheVariants.{Accepted, Refused}
+use Rattle.net_checker.specs.declared.verdict.Verdict.TheVariants.{Accepted}
 use Rattle.net_checker.specs.Shapes.{shape_refusal}
 use Rattle.net_checker.specs.Firings.{firing_refusal}
 use Rattle.net_checker.specs.Entries.{schedule_refusal}

@@ -4,28 +4,26 @@
 -- it names, what the definition would still refuse from these positions on is what it would refuse of the whole
 -- schedule, and i events were made. An entry that isn't refused is enabled, so the machine steps and all of it holds
 -- again. Since events are fewer than 2^32, so are the entries that are ever judged, however long the schedule is.
-use Rattle.std.proofs.Common.{◌≡◌, ℕ, zero, suc, ◌+◌, ◌<◌, ◌≤◌, ◌^◌, true, false, cond, ltb, Option, Some, None, List, [], ◌∷◌, length, map, drop, take, slice_get, option_map, refl, sym, ap, ap₂, ◌∙◌, subst, add-one, drop_of_length-le, inl, inr, arith, lt-ltb}
+use Rattle.std.proofs.Common.{◌≡◌, ℕ, zero, suc, ◌+◌, ◌<◌, ◌≤◌, ◌^◌, true, false, cond, Option, Some, None, List, [], ◌∷◌, length, map, drop, slice_get, option_map, refl, sym, ap, ◌∙◌, subst, drop_of_length-le, inl, inr, arith, lt-ltb}
 use Rattle.std.proofs.lemmas.Bool.{cases_Bool, cases_lt, cases_eq, le-ltb}
 use Rattle.std.specs.Option.{option_or}
 use Rattle.sanlp.specs.declared.nest.Nest.{Nest}
 use Rattle.sanlp.specs.declared.nest.Tag.{Tag}
 use Rattle.net_core.specs.declared.network.Event.{Event}
-use Rattle.net_core.specs.declared.network.Event.TheVariants.{Get, Fire, Put}
 use Rattle.net_core.specs.declared.network.Network.{Network}
-use Rattle.net_core.specs.declared.refs.Ref.{Ref}
-use Rattle.net_core.specs.Cuts.{Cut, enabled_at, advanced, cut_after, positions, IsCounted}
+use Rattle.net_core.specs.Cuts.{Cut, advanced, cut_after, opening, positions, IsCounted}
 use Rattle.net_core.specs.Held.{Held, IsFor, IsLeastUnended}
 use Rattle.net_core.specs.Machine.{Net, State, net_of, start, next, enabled, step, HasEnded}
-use Rattle.net_core.specs.Names.{slot_names, GivesValues, IsNamed}
+use Rattle.net_core.specs.Names.{GivesValues, IsNamed}
 use Rattle.net_core.specs.Rules.{tags}
-use Rattle.net_core.specs.Shape.{fires, events_below, IsWired}
+use Rattle.net_core.specs.Shape.{events_below}
 use Rattle.net_core.proofs.CutOrder.{advanced_here, advanced_there}
 use Rattle.net_core.proofs.Naming.{named_run, start_named}
 use Rattle.net_core.proofs.Positions.{enabled_as_cut, enabled_inside, positions_step}
 use Rattle.net_checker.specs.declared.verdict.Refusal.{Refusal}
 use Rattle.net_checker.specs.declared.verdict.Refusal.TheVariants as refusal
 use Rattle.net_checker.specs.Choice.{first_below}
-use Rattle.net_checker.specs.Entries.{reference_refusal, event_refusal, entry_refusal, entries_refusal, opening, unended, schedule_refusal}
+use Rattle.net_checker.specs.Entries.{event_refusal, entry_refusal, entries_refusal, unended, schedule_refusal}
 use Rattle.net_checker.proofs.Choices.{first_found, first_none}
 
 -- the list from k on begins with the item there

@@ -32,8 +32,11 @@ used_class network c = class_of (uses (net_of network) c)
 abbrev pub channel_refusal : Network → ℕ → Option Channel → Option Refusal
 channel_refusal network c None = None
 channel_refusal network c (Some channel) =
-    if same_class channel.class (used_class network c) then None else Some (refusal.Class c channel.class (used_class network c))
+    if same_class channel.class (used_class network c) then None
+    else Some (refusal.Class c channel.class (used_class network c))
 
 -- the first channel whose class isn't that of its uses
 unfoldable pub class_refusal : Network → Option Refusal
-class_refusal network = first_below (λ c. channel_refusal network c (slice_get network.channels c)) (length network.channels)
+class_refusal network =
+    first_below (λ c. channel_refusal network c (slice_get network.channels c))
+    (length network.channels)

@@ -9,7 +9,7 @@ use Rattle.net_core.specs.declared.network.Event.{Event}
 use Rattle.net_core.specs.declared.network.Event.TheVariants.{Get, Fire, Put}
 use Rattle.net_core.specs.declared.network.Network.{Network}
 use Rattle.net_core.specs.declared.refs.Ref.{Ref}
-use Rattle.net_core.specs.Cuts.{Cut, enabled_at, advanced, cut_after}
+use Rattle.net_core.specs.Cuts.{Cut, enabled_at, advanced, cut_after, opening}
 use Rattle.net_core.specs.Machine.{Net, net_of}
 use Rattle.net_core.specs.Names.{Name, name_at}
 use Rattle.net_core.specs.Names.Name.{zero_name, empty_name, token_name}
@@ -49,40 +49,44 @@ is_wanted (token_name t) (Some s) = (t.process == s.process) && (t.turn == s.tur
 
 -- why this name is refused at entry i, where the read has this source
 abbrev pub name_refusal : List (List (List ℤ)) → ℕ → Name → Option Tag → Option Refusal
-name_refusal points i name source = if is_wanted name source then None else Some (refusal.Tag i (seen_of points name) (wanted_of points source))
+name_refusal points i name source =
+    if is_wanted name source then None
+    else Some (refusal.Tag i (seen_of points name) (wanted_of points source))
 
 -- why reference j of the fire at place k of p's script is refused at entry i
 abbrev pub reference_refusal : Nest → Net → ℕ → ℕ → ℕ → ℕ → Option Ref → Option Refusal
 reference_refusal n net i p k j None = None
-reference_refusal n net i p k j (Some r) = name_refusal (points_of n) i (name_at net p k r) (source_tag n p (fires net p k) j)
+reference_refusal n net i p k j (Some r) =
+    name_refusal (points_of n) i (name_at net p k r) (source_tag n p (fires net p k) j)
 
 -- where entry i is a fire, its first reference that doesn't name what its read wants
 abbrev pub event_refusal : Nest → Net → ℕ → ℕ → ℕ → Option Event → Option Refusal
 event_refusal n net i p k None = None
 event_refusal n net i p k (Some (Get c slot)) = None
-event_refusal n net i p k (Some (Fire refs)) = first_below (λ j. reference_refusal n net i p k j (slice_get refs j)) (length refs)
+event_refusal n net i p k (Some (Fire refs)) =
+    first_below (λ j. reference_refusal n net i p k j (slice_get refs j)) (length refs)
 event_refusal n net i p k (Some (Put c)) = None
 
 -- why entry i, which is p, is refused at this cut: p isn't enabled, or it is a fire that is refused
 abbrev pub entry_refusal : Nest → Net → Cut → ℕ → ℕ → Option Refusal
 entry_refusal n net cut i p =
-    if enabled_at net cut p then event_refusal n net i p (cut p) (slice_get (net.script p) (cut p)) else Some (refusal.NotEnabled i)
+    if enabled_at net cut p then event_refusal n net i p (cut p) (slice_get (net.script p) (cut p))
+    else Some (refusal.NotEnabled i)
 
 -- the first of these entries that is refused; the first entry is number i, and stands at this cut
 abbrev pub entries_refusal : Nest → Net → Cut → ℕ → List ℕ → Option Refusal
 entries_refusal n net cut i [] = None
 entries_refusal n net cut i (p ∷ schedule) =
-    option_or (entry_refusal n net cut i p) (entries_refusal n net (advanced cut p) (suc i) schedule)
-
--- every process at its script's beginning
-abbrev pub opening : Cut
-opening = λ p. 0
+    option_or (entry_refusal n net cut i p)
+    (entries_refusal n net (advanced cut p) (suc i) schedule)
 
 abbrev pub unended : Net → Cut → ℕ → Option Refusal
-unended net cut p = if nat_lt (cut p) (length (net.script p)) then Some (refusal.Unended p) else None
+unended net cut p =
+    if nat_lt (cut p) (length (net.script p)) then Some (refusal.Unended p) else None
 
 -- the first entry that is refused, and else the least process that isn't at its script's end
 unfoldable pub schedule_refusal : Nest → Network → List ℕ → Option Refusal
 schedule_refusal n network schedule =
     let net = net_of network in
-    option_or (entries_refusal n net opening 0 schedule) (first_below (unended net (cut_after opening schedule)) (length network.processes))
+    option_or (entries_refusal n net opening 0 schedule)
+    (first_below (unended net (cut_after opening schedule)) (length network.processes))

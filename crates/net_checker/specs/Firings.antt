@@ -25,19 +25,26 @@ is_within slots (Slot k) = nat_lt k slots
 -- and no reference to a slot that isn't there.
 abbrev pub may_stand : Nest → Net → ℕ → ℕ → Event → Bool
 may_stand n net p before (Get c slot) = true
-may_stand n net p before (Fire refs) = nat_lt before (turns (points_of n) p) && (length refs == read_count n p) && list_all (is_within (net.slots p)) refs
+may_stand n net p before (Fire refs) =
+    nat_lt before (turns (points_of n) p) && (length refs == read_count n p)
+    && list_all (is_within (net.slots p)) refs
 may_stand n net p before (Put c) = nat_lt 0 before
 
 abbrev pub event_firing : Nest → Net → ℕ → ℕ → Option Event → Option Refusal
 event_firing n net p k None = None
-event_firing n net p k (Some e) = if may_stand n net p (fires net p k) e then None else Some (refusal.Fires p k)
+event_firing n net p k (Some e) =
+    if may_stand n net p (fires net p k) e then None else Some (refusal.Fires p k)
 
 -- the first event of p that may not stand there, or the end of a script with fewer fires than points
 abbrev pub process_firing : Nest → Net → ℕ → Option Refusal
 process_firing n net p =
-    option_or (first_below (λ k. event_firing n net p k (slice_get (net.script p) k)) (length (net.script p)))
-    (if nat_lt (count_by is_fire (net.script p)) (turns (points_of n) p) then Some (refusal.Fires p (length (net.script p))) else None)
+    option_or
+    (first_below (λ k. event_firing n net p k (slice_get (net.script p) k))
+    (length (net.script p)))
+    (if nat_lt (count_by is_fire (net.script p)) (turns (points_of n) p)
+    then Some (refusal.Fires p (length (net.script p))) else None)
 
 -- the least process whose fires aren't those of the nest's points, and where
 unfoldable pub firing_refusal : Nest → Network → Option Refusal
-firing_refusal n network = first_below (process_firing n (net_of network)) (length network.processes)
+firing_refusal n network =
+    first_below (process_firing n (net_of network)) (length network.processes)

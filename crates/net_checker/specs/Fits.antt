@@ -30,12 +30,15 @@ pub record Fits (n : Nest) (network : Network) (cert : Cert) : Type 0 where
   -- every reference of every fire names what its read wants
   pub names : NamesLastWriters n (net_of network)
   -- each channel has the class of its uses
-  pub classes : (c : ℕ) (channel : Channel) → slice_get network.channels c ≡ Some channel → channel.class ≡ class_of (uses (net_of network) c)
+  pub classes : (c : ℕ) (channel : Channel) → slice_get network.channels c ≡ Some channel
+      → channel.class ≡ class_of (uses (net_of network) c)
 
 -- what is wrong first, if anything is
 abbrev pub first : Nest → Network → Cert → Option Refusal
 first n network cert =
-    option_or (shape_refusal n network cert) (option_or (firing_refusal n network) (option_or (schedule_refusal n network cert.schedule) (class_refusal network)))
+    option_or (shape_refusal n network cert)
+    (option_or (firing_refusal n network)
+    (option_or (schedule_refusal n network cert.schedule) (class_refusal network)))
 
 abbrev pub verdict_of : Option Refusal → Verdict
 verdict_of None = Accepted

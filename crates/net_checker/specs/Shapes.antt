@@ -22,12 +22,14 @@ read_total n = sum_by (λ s. length s.reads) n.statements
 -- a channel's writer and reader are statements of the nest, and its read is one of its reader's
 abbrev pub channel_agrees : Nest → Channel → Bool
 channel_agrees n channel =
-    nat_lt channel.writer (length n.statements) && nat_lt channel.reader (length n.statements) && nat_lt channel.read (read_count n channel.reader)
+    nat_lt channel.writer (length n.statements) && nat_lt channel.reader (length n.statements)
+    && nat_lt channel.read (read_count n channel.reader)
 
 -- there are as many processes as statements and as many sources as reads, and every channel agrees
 abbrev pub agrees : Nest → Network → Cert → Bool
 agrees n network cert =
-    (length network.processes == length n.statements) && (length cert.sources == read_total n) && list_all (channel_agrees n) network.channels
+    (length network.processes == length n.statements) && (length cert.sources == read_total n)
+    && list_all (channel_agrees n) network.channels
 
 -- An event of process p names a channel that is there, of which p is the reader or the writer, and a slot of p.
 abbrev pub is_own_event : Net → ℕ → Event → Bool
@@ -37,7 +39,9 @@ is_own_event n p (Put c) = nat_lt c n.channels && (n.writer c == p)
 
 -- every event is the process's own, and it has no more slots than Gets
 abbrev pub keeps_shape : Net → ℕ → Bool
-keeps_shape n p = list_all (is_own_event n p) (n.script p) && nat_le (n.slots p) (count_by is_any_get (n.script p))
+keeps_shape n p =
+    list_all (is_own_event n p) (n.script p)
+    && nat_le (n.slots p) (count_by is_any_get (n.script p))
 
 abbrev pub process_shape : Net → ℕ → Option Refusal
 process_shape n p = if keeps_shape n p then None else Some (refusal.Shape p)

@@ -57,9 +57,12 @@ pub fn check(
     requires size { SizeIsOk nest.now }
     requires points { points.now.of ≡ points_of nest.now }
     requires numbers { FitsNumbers (net_of network.now) }
-    ensures exact { IfOk result (λ verdict. verdict ≡ verdict_of (first nest.now network.now cert.now)) }
-    ensures fits { IfOk result (λ verdict. (verdict ≡ Verdict.Accepted) ↔ Fits nest.now network.now cert.now) }
-    ensures sound { IfOk result (λ verdict. verdict ≡ Verdict.Accepted → IsSound nest.now network.now) }
+    ensures exact { IfOk result
+        (λ verdict. verdict ≡ verdict_of (first nest.now network.now cert.now)) }
+    ensures fits { IfOk result
+        (λ verdict. (verdict ≡ Verdict.Accepted) ↔ Fits nest.now network.now cert.now) }
+    ensures sound { IfOk result
+        (λ verdict. verdict ≡ Verdict.Accepted → IsSound nest.now network.now) }
 {
     match first_refusal(alloc, nest, points, network, cert)? {
         Some(refusal) => Ok(Verdict::Refused(refusal)),

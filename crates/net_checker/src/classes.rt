@@ -18,7 +18,8 @@ fn add_use(
     slots: &[Option<(u32, u32)>],
     uses: &mut [Items<u32>],
 ) -> Result<(), AllocError>
-    requires { (k : ℕ) (got : ℕ × ℕ) → slice_get slots.now k ≡ Some (Some got) → got.0 < length uses.old }
+    requires { (k : ℕ) (got : ℕ × ℕ) → slice_get slots.now k ≡ Some (Some got)
+        → got.0 < length uses.old }
     ensures { OnOk result ((c : ℕ) → c < length uses.old
         → slice_index_or uses.new c [] ≡ slice_index_or uses.old c [] ++ use_of c slots.now reference) }
 {
@@ -37,7 +38,8 @@ fn add_fire(
     slots: &[Option<(u32, u32)>],
     uses: &mut [Items<u32>],
 ) -> Result<(), AllocError>
-    requires { (k : ℕ) (got : ℕ × ℕ) → slice_get slots.now k ≡ Some (Some got) → got.0 < length uses.old }
+    requires { (k : ℕ) (got : ℕ × ℕ) → slice_get slots.now k ≡ Some (Some got)
+        → got.0 < length uses.old }
     ensures { OnOk result ((c : ℕ) → c < length uses.old
         → slice_index_or uses.new c [] ≡ slice_index_or uses.old c [] ++ flat_map (use_of c slots.now) refs.now) }
 {
@@ -60,7 +62,8 @@ fn add_events(
     requires slots { slots.old ≡ replicate ((net_of network.now).slots process) None }
     requires gets { length gets.old ≡ length network.now.channels }
     requires uses { length uses.old ≡ length network.now.channels }
-    requires fresh { (c : ℕ) → (net_of network.now).reader c ≡ process → slice_index gets.old c ≡ 0 }
+    requires fresh { (c : ℕ) → (net_of network.now).reader c ≡ process
+        → slice_index gets.old c ≡ 0 }
     ensures gets { OnOk result ((c : ℕ) → c < length network.now.channels
         → slice_index gets.new c ≡ slice_index gets.old c + count_by (is_get c) ((net_of network.now).script process)) }
     ensures uses { OnOk result ((c : ℕ) → c < length network.now.channels
@@ -92,7 +95,8 @@ fn add_script(
     requires numbers { FitsNumbers (net_of network.now) }
     requires gets { length gets.old ≡ length network.now.channels }
     requires uses { length uses.old ≡ length network.now.channels }
-    requires fresh { (c : ℕ) → (net_of network.now).reader c ≡ process → slice_index gets.old c ≡ 0 }
+    requires fresh { (c : ℕ) → (net_of network.now).reader c ≡ process
+        → slice_index gets.old c ≡ 0 }
     ensures gets { OnOk result ((c : ℕ) → c < length network.now.channels
         → slice_index gets.new c ≡ slice_index gets.old c + count_by (is_get c) ((net_of network.now).script process)) }
     ensures uses { OnOk result ((c : ℕ) → c < length network.now.channels
@@ -118,7 +122,9 @@ fn channel_uses(alloc: Global, network: &Network) -> Result<Vec<Items<u32>>, All
     requires wired { IsWired (net_of network.now) }
     requires numbers { FitsNumbers (net_of network.now) }
     ensures length { IfOk result (λ lists. length lists.items ≡ length network.now.channels) }
-    ensures uses { IfOk result (λ lists. (c : ℕ) → c < length network.now.channels → slice_index_or lists.items c [] ≡ uses (net_of network.now) c) }
+    ensures uses { IfOk result
+        (λ lists. (c : ℕ) → c < length network.now.channels
+        → slice_index_or lists.items c [] ≡ uses (net_of network.now) c) }
 {
     let mut uses = empty_lists(alloc, network.channels.len())?;
     let mut gets = vec![in alloc; 0; network.channels.len()]?;
@@ -142,7 +148,8 @@ fn first_other_class(
 ) -> Result<Option<Refusal>, AllocError>
     requires channels { length network.now.channels < 2 ^ 32 }
     requires length { length lists.now ≡ length network.now.channels }
-    requires uses { (c : ℕ) → c < length network.now.channels → slice_index_or lists.now c [] ≡ uses (net_of network.now) c }
+    requires uses { (c : ℕ) → c < length network.now.channels
+        → slice_index_or lists.now c [] ≡ uses (net_of network.now) c }
     ensures { IfOk result (λ refusal. refusal ≡ class_refusal network.now) }
 {
     for (at, channel) in network.channels.as_slice().iter().enumerate() {

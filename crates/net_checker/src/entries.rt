@@ -105,7 +105,9 @@ fn judge_reference(
     slots: &[Option<Tag>],
     reference: &Ref,
 ) -> Option<Refusal>
-    ensures { result ≡ name_refusal points.now.of entry (name_of slots.now reference.now) (source_in table.now.of read turn) }
+    ensures { result
+        ≡ name_refusal points.now.of entry (name_of slots.now reference.now)
+        (source_in table.now.of read turn) }
 {
     let source = source_in(table, read, turn);
     if is_wanted(slots, *reference, source) {
@@ -126,11 +128,16 @@ fn judge_fire(
     refs: &Refs,
 ) -> Option<Refusal>
     requires { first_read + length refs.now < 2 ^ 64 }
-    ensures { result ≡ first_below (λ j. refused_reference points.now.of table.now.of first_read turn slots.now entry j (slice_get refs.now j)) (length refs.now) }
+    ensures { result
+        ≡ first_below
+        (λ j. refused_reference points.now.of table.now.of first_read turn slots.now entry j
+        (slice_get refs.now j)) (length refs.now) }
 {
-    for (slot, reference) in refs.as_slice().iter().enumerate() {
-        let read = first_read + slot;
-        if let Some(refusal) = judge_reference(points, table, read, turn, entry, slots, reference) {
+    for (read, reference) in refs.as_slice().iter().enumerate() {
+        let number = first_read + read;
+        if let Some(refusal) = judge_reference(
+            points, table, number, turn, entry, slots, reference,
+        ) {
             return Some(refusal);
         }
     }
@@ -152,7 +159,8 @@ fn judge(
     requires table { table.now.of ≡ sources_of nest.now }
     requires state { IsFor (net_of network.now) (held_of state.now) }
     requires named { IsNamed (net_of network.now) (λ t. t) (run_of state.now) }
-    ensures { result ≡ entry_refusal nest.now (net_of network.now) (positions (run_of state.now)) entry process }
+    ensures { result
+        ≡ entry_refusal nest.now (net_of network.now) (positions (run_of state.now)) entry process }
 {
     if !enabled(state, network, process) {
         return Some(Refusal::NotEnabled(entry));
@@ -188,7 +196,8 @@ pub(crate) fn schedule_refusal(
     requires fits { FitsNest nest.now network.now }
     requires numbers { FitsNumbers (net_of network.now) }
     requires table { table.now.of ≡ sources_of nest.now }
-    ensures { IfOk result (λ refusal. refusal ≡ schedule_refusal nest.now network.now schedule.now) }
+    ensures { IfOk result
+        (λ refusal. refusal ≡ schedule_refusal nest.now network.now schedule.now) }
 {
     let mut state = start(alloc, network, points)?;
     for (entry, process) in schedule.iter().enumerate() {

@@ -9,10 +9,12 @@ ghost use Rattle.net_checker.specs.Fits.{Fits, first};
 
 /// Nothing is wrong first exactly where the network and the certificate fit the nest.
 pub fn accepts_what_fits()
-    ensures { (n : Nest) (network : Network) (cert : Cert) → (first n network cert ≡ None) ↔ Fits n network cert }
+    ensures { (n : Nest) (network : Network) (cert : Cert)
+        → (first n network cert ≡ None) ↔ Fits n network cert }
 {}
 
 /// A network that fits the nest with some certificate is sound for it.
 pub fn is_sound()
-    ensures { (n : Nest) (network : Network) (cert : Cert) → Fits n network cert → IsSound n network }
+    ensures { (n : Nest) (network : Network) (cert : Cert) → Fits n network cert
+        → IsSound n network }
 {}

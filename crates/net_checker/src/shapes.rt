@@ -53,7 +53,9 @@ fn is_own_event(network: &Network, process: u32, event: &Event) -> bool
 }
 
 fn events_are_own(network: &Network, process: u32) -> bool
-    ensures { result ≡ list_all (is_own_event (net_of network.now) process) ((net_of network.now).script process) }
+    ensures { result
+        ≡ list_all (is_own_event (net_of network.now) process)
+        ((net_of network.now).script process) }
 {
     script_of(network, process)
         .iter()

@@ -1,11 +1,14 @@
 -- Counts over the first events of a script, and functions that were changed at one place.
-use Rattle.std.proofs.Common.{◌≡◌, ℕ, zero, suc, ◌+◌, ◌<◌, ◌≤◌, Bool, true, cond, eqb, Some, None, List, [], ◌∷◌, take, slice_get, count_by, refl, arith, ne_eqb, eq-eqb}
+use Rattle.std.proofs.Common.{◌≡◌, ℕ, zero, suc, ◌+◌, ◌<◌, ◌≤◌, Bool, true, cond, eqb, Some, None, List, [], ◌∷◌, ◌++◌, take, slice_get, count_by, refl, arith, ne_eqb, eq-eqb}
 use Rattle.std.proofs.lemmas.Bool.{cond-true, cond-false}
-use Rattle.std.proofs.lemmas.List.Sums.{sum_by-cons}
+use Rattle.std.proofs.lemmas.List.Sums.{sum_by-append, sum_by-cons}
 use Rattle.net_core.specs.Machine.{replaced}
 
 pub count_cons : {X : Type 0} (q : X → Bool) (x : X) (xs : List X) → count_by q (x ∷ xs) ≡ cond (q x) 1 0 + count_by q xs
 count_cons q x xs = sum_by-cons (λ y. cond (q y) 1 0) x xs
+
+pub count-append : {X : Type 0} (q : X → Bool) (xs ys : List X) → count_by q (xs ++ ys) ≡ count_by q xs + count_by q ys
+count-append q xs ys = sum_by-append (λ y. cond (q y) 1 0) xs ys
 
 pub count_next : {X : Type 0} (q : X → Bool) (xs : List X) (i : ℕ) (e : X) → slice_get xs i ≡ Some e → count_by q (take (suc i) xs) ≡ count_by q (take i xs) + cond (q e) 1 0
 count_next q [] i e h = cc

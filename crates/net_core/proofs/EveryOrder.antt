@@ -11,7 +11,7 @@ use Rattle.net_core.specs.declared.network.Event.{Event}
 use Rattle.net_core.specs.declared.network.Event.TheVariants.{Get, Fire, Put}
 use Rattle.net_core.specs.Machine.{Net, State, Rule, start, next, can_come, enabled, last_of, queue_after, after_event, step, after, IsRun, HasEnded, IsStuck}
 use Rattle.net_core.specs.Shape.{IsWired, events_below}
-use Rattle.net_core.specs.Cuts.{Cut, enabled_at, advanced, cut_after, IsCutRun, IsLegal, positions}
+use Rattle.net_core.specs.Cuts.{Cut, opening, enabled_at, advanced, cut_after, IsCutRun, IsLegal, positions}
 use Rattle.net_core.specs.Orders.{EndsAll, EndsAlways, StopsAlike}
 use Rattle.net_core.proofs.CutOrder.{advanced_here, advanced_there, beyond, within, beyond_runs, beyond_ends, within_runs, within_ends, no_further}
 use Rattle.net_core.proofs.TwoSteps.{shrinks}
@@ -59,7 +59,7 @@ unfolding sum_below
 sum_ends n k h zero = refl
 sum_ends n k h (suc m) = omega (arith, sum_ends n k h m, h m)
 
-sum_zero : (m : ℕ) → sum_below (λ p. 0) m ≡ 0
+sum_zero : (m : ℕ) → sum_below opening m ≡ 0
 unfolding sum_below
 sum_zero zero = refl
 sum_zero (suc m) = omega (arith, sum_zero m)
@@ -91,36 +91,34 @@ ends : {T : Type 0} (n : Net) (rule : Rule T) (wired : IsWired n) (all : List �
 ends n rule wired all run ended ps pre =
     let s = after n rule (start n) ps in
     let c : Cut = positions s in
-    let zero_cut : Cut = λ p. 0 in
-    let qs = beyond zero_cut c all in
+    let qs = beyond opening c all in
     let top : (q : ℕ) → c q ≡ max 0 (c q) = λ q. omega arith in
     let counted = run_counted n rule wired ps (start n) (start_counted n) pre in
-    let cut = beyond_runs n wired all zero_cut c c top (run_cut n rule wired all (start n) (start_counted n) run) in
+    let cut = beyond_runs n wired all opening c c top (run_cut n rule wired all (start n) (start_counted n) run) in
     let goes_on : IsRun n rule s qs = cut_run n rule wired qs s counted cut in
     let inside : (q : ℕ) → c q ≤ length (n.script q) =
-    λ q. subst (λ k. k q ≤ length (n.script q)) (sym (run_ends n rule ps (start n) pre)) (cut_inside n ps zero_cut (run_cut n rule wired ps (start n) (start_counted n) pre) (λ r. omega arith) q) in
-    let full : (q : ℕ) → cut_after zero_cut all q ≡ length (n.script q) =
+    λ q. subst (λ k. k q ≤ length (n.script q)) (sym (run_ends n rule ps (start n) pre)) (cut_inside n ps opening (run_cut n rule wired ps (start n) (start_counted n) pre) (λ r. omega arith) q) in
+    let full : (q : ℕ) → cut_after opening all q ≡ length (n.script q) =
     λ q. sym (ap (λ k. k q) (run_ends n rule all (start n) run)) ∙ ended q in (
       qs,
       goes_on,
       λ q.
-          let there = ap (λ k. k q) (run_ends n rule qs s goes_on) ∙ beyond_ends all zero_cut c c top q in
+          let there = ap (λ k. k q) (run_ends n rule qs s goes_on) ∙ beyond_ends all opening c c top q in
           omega (arith, inside q, full q),
     )
 
 cuts : {T : Type 0} (n : Net) (rule : Rule T) (wired : IsWired n) (all : List ℕ) → IsRun n rule (start n) all → HasEnded n (after n rule (start n) all) → (k : Cut) → IsLegal n k → (ps : List ℕ) × IsRun n rule (start n) ps × ((p : ℕ) → positions (after n rule (start n) ps) p ≡ k p)
 cuts n rule wired all run ended k legal =
-    let zero_cut : Cut = λ p. 0 in
-    let ps = within zero_cut k all in
-    let bottom : (q : ℕ) → zero_cut q ≡ min 0 (k q) = λ q. omega arith in
-    let cut = within_runs n wired all zero_cut k zero_cut legal bottom (run_cut n rule wired all (start n) (start_counted n) run) in
+    let ps = within opening k all in
+    let bottom : (q : ℕ) → opening q ≡ min 0 (k q) = λ q. omega arith in
+    let cut = within_runs n wired all opening k opening legal bottom (run_cut n rule wired all (start n) (start_counted n) run) in
     let goes_there : IsRun n rule (start n) ps = cut_run n rule wired ps (start n) (start_counted n) cut in
-    let full : (q : ℕ) → cut_after zero_cut all q ≡ length (n.script q) =
+    let full : (q : ℕ) → cut_after opening all q ≡ length (n.script q) =
     λ q. sym (ap (λ c. c q) (run_ends n rule all (start n) run)) ∙ ended q in (
       ps,
       goes_there,
       λ q.
-          let there = ap (λ c. c q) (run_ends n rule ps (start n) goes_there) ∙ within_ends all zero_cut k zero_cut bottom q in
+          let there = ap (λ c. c q) (run_ends n rule ps (start n) goes_there) ∙ within_ends all opening k opening bottom q in
           omega (arith, legal.inside q, full q),
     )
 
@@ -130,10 +128,9 @@ goes_on_or_ended n rule s (p ∷ qs) run ended = inr (p, run.0)
 
 run_events : {T : Type 0} (n : Net) (rule : Rule T) (wired : IsWired n) (ps : List ℕ) → IsRun n rule (start n) ps → HasEnded n (after n rule (start n) ps) → length ps ≡ events_below n n.processes
 run_events n rule wired ps run ended =
-    let zero_cut : Cut = λ p. 0 in
-    let full : (q : ℕ) → cut_after zero_cut ps q ≡ length (n.script q) =
+    let full : (q : ℕ) → cut_after opening ps q ≡ length (n.script q) =
     λ q. sym (ap (λ c. c q) (run_ends n rule ps (start n) run)) ∙ ended q in
-    omega (arith, run_length n wired ps zero_cut (run_cut n rule wired ps (start n) (start_counted n) run), sum_ends n (cut_after zero_cut ps) full n.processes, sum_zero n.processes)
+    omega (arith, run_length n wired ps opening (run_cut n rule wired ps (start n) (start_counted n) run), sum_ends n (cut_after opening ps) full n.processes, sum_zero n.processes)
 
 -- the law on orders: one run that ends all tells of every run
 pub ends_always : {T : Type 0} (n : Net) (rule : Rule T) → IsWired n → (all : List ℕ) → IsRun n rule (start n) all → HasEnded n (after n rule (start n) all) → EndsAlways n rule
@@ -163,11 +160,10 @@ same_ends n rule other wired run whole =
 
 stuck_below : {T : Type 0} (n : Net) (rule : Rule T) (wired : IsWired n) (ps qs : List ℕ) → IsRun n rule (start n) ps → IsRun n rule (start n) qs → IsStuck n (after n rule (start n) qs) → (p : ℕ) → positions (after n rule (start n) ps) p ≤ positions (after n rule (start n) qs) p
 stuck_below n rule wired ps qs run run' stuck p =
-    let zero_cut : Cut = λ r. 0 in
     let t = after n rule (start n) qs in
     let counted = run_counted n rule wired qs (start n) (start_counted n) run' in
     let shut : (q : ℕ) → enabled_at n (positions t) q ≡ false = λ q. sym (enabled_as_cut n t counted q) ∙ stuck q in
-    let low = no_further n wired ps zero_cut (positions t) (λ q. omega arith) shut (run_cut n rule wired ps (start n) (start_counted n) run) p in
+    let low = no_further n wired ps opening (positions t) (λ q. omega arith) shut (run_cut n rule wired ps (start n) (start_counted n) run) p in
     subst (λ k. k p ≤ positions t p) (sym (run_ends n rule ps (start n) run)) low
 
 -- two runs that can't go on stand at the same positions

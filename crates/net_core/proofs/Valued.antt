@@ -202,14 +202,14 @@ module _ (n : Nest) (d : Inputs) where
   look : ℕ → Cell → ℤ
   look t cell = unwrap_or (option_map (value_at n d (trace n)) (last_before n (trace n) t cell)) (pos 0)
 
-  source_value : (p f slot t : ℕ) (point : Point) (cell : Cell) → entry_at n (tag p f) ≡ Some t → slice_get (trace n) t ≡ Some point → slice_get (reads_of n point) slot ≡ Some cell
-      → unwrap_or (option_map (tag_value n d) (source_tag n p f slot)) (pos 0) ≡ look t cell
+  source_value : (p f read t : ℕ) (point : Point) (cell : Cell) → entry_at n (tag p f) ≡ Some t → slice_get (trace n) t ≡ Some point → slice_get (reads_of n point) read ≡ Some cell
+      → unwrap_or (option_map (tag_value n d) (source_tag n p f read)) (pos 0) ≡ look t cell
   unfolding look
-  source_value p f slot t point cell entry is reads =
-      let cell_is : cell_read n (trace n) t slot ≡ Some cell = ap (option_and_then (λ (q : Point). slice_get (reads_of n q) slot)) is ∙ reads in
-      let writer : last_writer n t slot ≡ last_before n (trace n) t cell = ap (option_and_then (last_before n (trace n) t)) cell_is in
-      let source : source_tag n p f slot ≡ option_and_then (tag_at (trace n)) (last_before n (trace n) t cell) =
-      ap (λ o. option_and_then (tag_at (trace n)) (option_and_then (λ u. last_writer n u slot) o)) entry ∙ ap (option_and_then (tag_at (trace n))) writer in
+  source_value p f read t point cell entry is reads =
+      let cell_is : cell_read n (trace n) t read ≡ Some cell = ap (option_and_then (λ (q : Point). slice_get (reads_of n q) read)) is ∙ reads in
+      let writer : last_writer n t read ≡ last_before n (trace n) t cell = ap (option_and_then (last_before n (trace n) t)) cell_is in
+      let source : source_tag n p f read ≡ option_and_then (tag_at (trace n)) (last_before n (trace n) t cell) =
+      ap (λ o. option_and_then (tag_at (trace n)) (option_and_then (λ u. last_writer n u read) o)) entry ∙ ap (option_and_then (tag_at (trace n))) writer in
       ap (λ o. unwrap_or (option_map (tag_value n d) o) (pos 0)) source
       ∙ writer_value t _ (last_before n (trace n) t cell) (slice_get_within (trace n) t point is) (is_last_writer n (trace n) t cell)
 

@@ -8,6 +8,10 @@ use Rattle.net_core.specs.Shape.{is_get, is_put, fires}
 abbrev pub Cut : Type 0
 Cut = ℕ → ℕ
 
+-- every process at its script's beginning
+abbrev pub opening : Cut
+opening = λ p. 0
+
 abbrev pub positions : {T : Type 0} → State T → Cut
 positions s = λ p. (s.local p).position
 

@@ -13,7 +13,10 @@ use Rattle.net_core.specs.Cuts.{IsCounted}
 
 -- the machine's part of what is held for a process; a process that isn't there has nothing
 abbrev pub local_at : {T : Type 0} → List (Local T) → ℕ → machine.Local T
-local_at locals p = option_map_or (λ l. record { position = l.position; slots = l.slots.items; kept = l.kept.items }) (slice_get locals p) (record { position = 0; slots = []; kept = [] })
+local_at locals p =
+    option_map_or
+    (λ l. record { position = l.position; slots = l.slots.items; kept = l.kept.items })
+    (slice_get locals p) (record { position = 0; slots = []; kept = [] })
 
 abbrev pub Queues : Type 0 → Type 0
 Queues T = List (VecDeque T Global)
@@ -53,7 +56,9 @@ run_of s = (held_of s).run
 
 -- the same numbers of processes and channels, and the same room
 abbrev pub SameRoom : {T : Type 0} → Held T → Held T → Type 0
-SameRoom a b = (b.processes ≡ a.processes) × (b.channels ≡ a.channels) × (b.kept_room ≡ a.kept_room) × (b.queue_room ≡ a.queue_room)
+SameRoom a b =
+    (b.processes ≡ a.processes) × (b.channels ≡ a.channels) × (b.kept_room ≡ a.kept_room)
+    × (b.queue_room ≡ a.queue_room)
 
 -- What every state has that steps of this network have reached, with the room for all that is to come.
 pub record IsFor {T : Type 0} (n : Net) (h : Held T) : Type 0 where
@@ -74,12 +79,14 @@ IsReached h = (n : Net) × IsFor n h
 -- a process isn't at its script's end, and each lower one is
 abbrev pub IsLeastUnended : {T : Type 0} → Net → State T → ℕ → Type 0
 IsLeastUnended n s p =
-    ((s.local p).position < length (n.script p)) × ((q : ℕ) → q < p → (s.local q).position ≡ length (n.script q))
+    ((s.local p).position < length (n.script p))
+    × ((q : ℕ) → q < p → (s.local q).position ≡ length (n.script q))
 
 -- the first so many processes stand at their scripts' beginnings, with room for all that they fire
 pub record AreFresh {T : Type 0} (n : Net) (locals : List (Local T)) (many : ℕ) : Type 0 where
   pub number : length locals ≡ many
-  pub fresh : (p : ℕ) → p < many → local_at locals p ≡ record { position = 0; slots = replicate (n.slots p) None; kept = [] }
+  pub fresh : (p : ℕ) → p < many
+      → local_at locals p ≡ record { position = 0; slots = replicate (n.slots p) None; kept = [] }
   pub room : (p : ℕ) → p < many → kept_room locals p ≡ count_by is_fire (n.script p)
 
 -- the first so many queues are empty, with room for all that they may hold

@@ -43,7 +43,10 @@ pub record State (T : Type 0) : Type 0 where
 
 -- every process stands at its script's beginning with empty slots, and every queue is empty
 abbrev pub start : {T : Type 0} → Net → State T
-start n = record { local = λ p. record { position = 0; slots = replicate (n.slots p) None; kept = [] }; queue = λ c. [] }
+start n = record {
+  local = λ p. record { position = 0; slots = replicate (n.slots p) None; kept = [] };
+  queue = λ c. [];
+}
 
 -- the event that a process makes next
 abbrev pub next : {T : Type 0} → Net → State T → ℕ → Option Event
@@ -79,10 +82,12 @@ last_of (x ∷ []) = x ∷ []
 last_of (x ∷ (y ∷ kept)) = last_of (y ∷ kept)
 
 abbrev pub after_get : {T : Type 0} → Local T → ℕ → Option T → Local T
-after_get l slot token = record { position = suc l.position; slots = slice_set l.slots slot token; kept = l.kept }
+after_get l slot token =
+    record { position = suc l.position; slots = slice_set l.slots slot token; kept = l.kept }
 
 abbrev pub after_fire : {T : Type 0} → Local T → T → Local T
-after_fire l value = record { position = suc l.position; slots = l.slots; kept = l.kept ++ value ∷ [] }
+after_fire l value =
+    record { position = suc l.position; slots = l.slots; kept = l.kept ++ value ∷ [] }
 
 abbrev pub after_put : {T : Type 0} → Local T → Local T
 after_put l = record { position = suc l.position; slots = l.slots; kept = l.kept }

@@ -20,12 +20,14 @@ abbrev pub with_token : Net → ℕ → ℕ → Option Event → List Tag → Li
 with_token n c k None tokens = tokens
 with_token n c k (Some (Get channel slot)) tokens = tokens
 with_token n c k (Some (Fire refs)) tokens = tokens
-with_token n c k (Some (Put channel)) tokens = if c == channel then tokens ++ tag (n.writer c) (pred (fires n (n.writer c) k)) ∷ [] else tokens
+with_token n c k (Some (Put channel)) tokens =
+    if c == channel then tokens ++ tag (n.writer c) (pred (fires n (n.writer c) k)) ∷ [] else tokens
 
 -- the tokens of channel c that its writer puts before place k of its script
 abbrev pub tokens_before : Net → ℕ → ℕ → List Tag
 tokens_before n c zero = []
-tokens_before n c (suc k) = with_token n c k (slice_get (n.script (n.writer c)) k) (tokens_before n c k)
+tokens_before n c (suc k) =
+    with_token n c k (slice_get (n.script (n.writer c)) k) (tokens_before n c k)
 
 abbrev pub tokens : Net → ℕ → List Tag
 tokens n c = tokens_before n c (length (n.script (n.writer c)))
@@ -35,7 +37,8 @@ tokens n c = tokens_before n c (length (n.script (n.writer c)))
 -- the m-th Get of channel c, counted from 0, puts the pair (c, m) into its slot; k is its place in the script of p
 abbrev pub with_get : Net → ℕ → ℕ → Option Event → List (Option (ℕ × ℕ)) → List (Option (ℕ × ℕ))
 with_get n p k None slots = slots
-with_get n p k (Some (Get c slot)) slots = slice_set slots slot (Some (c, count_by (is_get c) (take k (n.script p))))
+with_get n p k (Some (Get c slot)) slots =
+    slice_set slots slot (Some (c, count_by (is_get c) (take k (n.script p))))
 with_get n p k (Some (Fire refs)) slots = slots
 with_get n p k (Some (Put c)) slots = slots
 
@@ -96,4 +99,6 @@ pub record IsLocalNamed {T : Type 0} (n : Net) (v : Tag → T) (p : ℕ) (l : Lo
 -- each process holds the values of what it names, and each queue those of the tokens that were put and not got
 pub record IsNamed {T : Type 0} (n : Net) (v : Tag → T) (s : State T) : Type 0 where
   pub locals : (p : ℕ) → IsLocalNamed n v p (s.local p)
-  pub queues : (c : ℕ) → s.queue c ≡ map v (drop (gets_at n (positions s) c) (tokens_before n c (positions s (n.writer c))))
+  pub queues : (c : ℕ)
+      → s.queue c
+      ≡ map v (drop (gets_at n (positions s) c) (tokens_before n c (positions s (n.writer c))))

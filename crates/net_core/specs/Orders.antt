@@ -26,15 +26,21 @@ EndsAll n rule run = IsRun n rule (start n) run × HasEnded n (reached n rule ru
 -- Every order of events ends all.
 pub record EndsAlways {T : Type 0} (n : Net) (rule : Rule T) : Type 0 where
   -- a state that a run reaches has ended, or some process may go on
-  pub goes_on : (run : List ℕ) → IsRun n rule (start n) run → HasEnded n (reached n rule run) ⊎ ((p : ℕ) × (enabled n (reached n rule run) p ≡ true))
+  pub goes_on : (run : List ℕ) → IsRun n rule (start n) run
+      → HasEnded n (reached n rule run) ⊎ ((p : ℕ) × (enabled n (reached n rule run) p ≡ true))
   -- and it can go on until all have ended
-  pub ends : (run : List ℕ) → IsRun n rule (start n) run → (rest : List ℕ) × IsRun n rule (reached n rule run) rest × HasEnded n (after n rule (reached n rule run) rest)
+  pub ends : (run : List ℕ) → IsRun n rule (start n) run
+      → (rest : List ℕ) × IsRun n rule (reached n rule run) rest
+      × HasEnded n (after n rule (reached n rule run) rest)
   -- no queue is longer than its channel's capacity
-  pub fits : (run : List ℕ) → IsRun n rule (start n) run → (c : ℕ) → length ((reached n rule run).queue c) ≤ n.capacity c
+  pub fits : (run : List ℕ) → IsRun n rule (start n) run → (c : ℕ)
+      → length ((reached n rule run).queue c) ≤ n.capacity c
   -- a run that ends all has as many events as the scripts together
   pub events : (run : List ℕ) → EndsAll n rule run → length run ≡ events_below n n.processes
   -- the law of cuts: a legal cut has the positions of a state that a run reaches
-  pub cuts : (k : Cut) → IsLegal n k → (run : List ℕ) × IsRun n rule (start n) run × ((p : ℕ) → positions (reached n rule run) p ≡ k p)
+  pub cuts : (k : Cut) → IsLegal n k
+      → (run : List ℕ) × IsRun n rule (start n) run
+      × ((p : ℕ) → positions (reached n rule run) p ≡ k p)
 
 -- two runs that can't go on have the same positions
 abbrev pub StopsAlike : {T : Type 0} → Net → Rule T → Type 0

@@ -27,7 +27,8 @@ KeepsTo (Some limits) turn references = (turn < limits.fires) × (references ≡
 -- every fire of the network keeps to a rule's limits
 abbrev pub AllKeepTo : Net → (ℕ → Option Limits) → Type 0
 AllKeepTo n limits =
-    (p k : ℕ) (refs : List Ref) → slice_get (n.script p) k ≡ Some (Fire refs) → KeepsTo (limits p) (fires n p k) (length refs)
+    (p k : ℕ) (refs : List Ref) → slice_get (n.script p) k ≡ Some (Fire refs)
+    → KeepsTo (limits p) (fires n p k) (length refs)
 
 -- each fire gives its tag
 abbrev pub tags : Rule Tag
@@ -46,7 +47,15 @@ vector_at points p turn = slice_index_or (slice_index_or points p []) turn []
 abbrev pub values : Nest → Inputs → Rule ℤ
 values n d p turn refs slots =
     let at = vector_at (points_of n) p turn in
-    option_map_or (λ statement. value_of statement.expr (record { at = at; reads = map (read_slot slots) refs; given = given_at n d statement.role at })) (slice_get n.statements p) (pos 0)
+    option_map_or
+    (λ statement. value_of statement.expr
+    (record {
+      at = at;
+      reads = map
+          (read_slot slots) refs;
+      given = given_at n d statement.role at;
+    }))
+    (slice_get n.statements p) (pos 0)
 
 -- the numbers of the nest's points and reads
 abbrev pub value_limits : Nest → ℕ → Option Limits

@@ -52,7 +52,8 @@ pub record IsWired (n : Net) : Type 0 where
   pub put_writer : (p k c : ℕ) → slice_get (n.script p) k ≡ Some (Put c) → n.writer c ≡ p
   -- no Put stands before its process's first fire
   pub put_fired : (p k c : ℕ) → slice_get (n.script p) k ≡ Some (Put c) → 0 < fires n p k
-  pub reference_slots : (p k : ℕ) (refs : List Ref) → slice_get (n.script p) k ≡ Some (Fire refs) → All (IsWithin (n.slots p)) refs
+  pub reference_slots : (p k : ℕ) (refs : List Ref) → slice_get (n.script p) k ≡ Some (Fire refs)
+      → All (IsWithin (n.slots p)) refs
 
 -- how many points process p has
 abbrev pub turns : List (List (List ℤ)) → ℕ → ℕ

@@ -37,7 +37,9 @@ tag_value n d t = value_at n d (trace n) (slice_index_or (entries_of (trace n) t
 -- the tag of the last writer of what a process has as this read at this turn, or none
 abbrev pub source_tag : Nest → ℕ → ℕ → ℕ → Option Tag
 source_tag n p turn read =
-    option_and_then (tag_at (trace n)) (option_and_then (λ t. last_writer n t read) (entry_at n (record { process = p; turn = turn })))
+    option_and_then (tag_at (trace n))
+    (option_and_then (λ t. last_writer n t read)
+    (entry_at n (record { process = p; turn = turn })))
 
 -- a read without a last writer wants Zero
 abbrev pub name_of_source : Option Tag → Name
@@ -48,24 +50,30 @@ name_of_source (Some t) = token_name t
 abbrev pub NamesLastWriters : Nest → Net → Type 0
 NamesLastWriters n net =
     (p k : ℕ) (refs : List Ref) → slice_get (net.script p) k ≡ Some (Fire refs)
-    → (read : ℕ) (r : Ref) → slice_get refs read ≡ Some r → name_at net p k r ≡ name_of_source (source_tag n p (fires net p k) read)
+    → (read : ℕ) (r : Ref) → slice_get refs read ≡ Some r
+    → name_at net p k r ≡ name_of_source (source_tag n p (fires net p k) read)
 
 -- the lists that the sinks have kept, one for each declared array, empty where it is no output; the first sink is process s
 abbrev pub sink_lists_from : (ℕ → List ℤ) → ℕ → List ArrayDecl → List (List ℤ)
 sink_lists_from kept s [] = []
 sink_lists_from kept s (array ∷ declared) =
-    if is_output array.kind then kept s ∷ sink_lists_from kept (s + 1) declared else [] ∷ sink_lists_from kept s declared
+    if is_output array.kind then kept s ∷ sink_lists_from kept (s + 1) declared
+    else [] ∷ sink_lists_from kept s declared
 
 abbrev pub sink_lists : Nest → State ℤ → List (List ℤ)
-sink_lists n s = sink_lists_from (λ p. (s.local p).kept) (length n.statements - length (output_numbers n.arrays)) n.arrays
+sink_lists n s =
+    sink_lists_from (λ p. (s.local p).kept)
+    (length n.statements - length (output_numbers n.arrays)) n.arrays
 
 -- the network's shape is that of the nest's points and reads
 pub record FitsNest (n : Nest) (network : Network) : Type 0 where
   pub shaped : IsShaped (net_of network) (points_of n)
   -- every fire has one reference for each read of its statement
-  pub references : (p k : ℕ) (refs : List Ref) → slice_get ((net_of network).script p) k ≡ Some (Fire refs) → length refs ≡ read_count n p
+  pub references : (p k : ℕ) (refs : List Ref)
+      → slice_get ((net_of network).script p) k ≡ Some (Fire refs) → length refs ≡ read_count n p
   -- the read of every channel exists
-  pub reads : (c : ℕ) (channel : Channel) → slice_get network.channels c ≡ Some channel → channel.read < read_count n channel.reader
+  pub reads : (c : ℕ) (channel : Channel) → slice_get network.channels c ≡ Some channel
+      → channel.read < read_count n channel.reader
 
 -- The network is sound for the nest: in every order of events it computes what the nest computes.
 pub record IsSound (n : Nest) (network : Network) : Type 0 where
@@ -74,7 +82,9 @@ pub record IsSound (n : Nest) (network : Network) : Type 0 where
   pub ends : (d : Inputs) → EndsAlways (net_of network) (values n d)
   -- once ended, each sink has kept the values of its points in order
   pub kept : (d : Inputs) (run : List ℕ) → EndsAll (net_of network) (values n d) run
-      → (s a : ℕ) → HasRole n s (Sink a) → ((reached (net_of network) (values n d) run).local s).kept ≡ values_of n d s
+      → (s a : ℕ) → HasRole n s (Sink a)
+      → ((reached (net_of network) (values n d) run).local s).kept ≡ values_of n d s
   -- and these lists are the arrays after the nest
-  pub arrays : (d : Inputs) (run : List ℕ) → EndsAll (net_of network) (values n d) run → sink_lists n (reached (net_of network) (values n d) run) ≡ arrays n d
+  pub arrays : (d : Inputs) (run : List ℕ) → EndsAll (net_of network) (values n d) run
+      → sink_lists n (reached (net_of network) (values n d) run) ≡ arrays n d
   pub names : NamesLastWriters n (net_of network)

@@ -27,7 +27,8 @@ uses_of c slots (Some (Put channel)) = []
 -- the uses of channel c before place k of p's script
 abbrev pub uses_before : Net → ℕ → ℕ → ℕ → List ℕ
 uses_before n c p zero = []
-uses_before n c p (suc k) = uses_before n c p k ++ uses_of c (latest_gets n p k) (slice_get (n.script p) k)
+uses_before n c p (suc k) =
+    uses_before n c p k ++ uses_of c (latest_gets n p k) (slice_get (n.script p) k)
 
 -- for each reference of the reader's fires in order that names a token of channel c, which Get took the token
 abbrev pub uses : Net → ℕ → List ℕ

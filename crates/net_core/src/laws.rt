@@ -34,18 +34,23 @@ pub fn two_steps<T: Copy>()
 /// Every order of events: a run of a network is one whatever its fires give. Where one run ends all, every run can go on
 /// until all have ended. Two runs that can't go on have the same positions.
 pub fn every_order<T: Copy, U: Copy>()
-    ensures same { (n : Net) (rule : Rule T) (other : Rule U) (run : List ℕ) → IsWired n → IsRun n rule (start n) run → IsRun n other (start n) run }
-    ensures alike { (n : Net) (rule : Rule T) (other : Rule U) (run : List ℕ) → IsWired n → IsRun n rule (start n) run
+    ensures same { (n : Net) (rule : Rule T) (other : Rule U) (run : List ℕ) → IsWired n
+        → IsRun n rule (start n) run → IsRun n other (start n) run }
+    ensures alike { (n : Net) (rule : Rule T) (other : Rule U) (run : List ℕ) → IsWired n
+        → IsRun n rule (start n) run
         → (p : ℕ) → positions (reached n other run) p ≡ positions (reached n rule run) p }
-    ensures ends { (n : Net) (rule : Rule T) (other : Rule U) (run : List ℕ) → IsWired n → EndsAll n rule run → EndsAlways n other }
+    ensures ends { (n : Net) (rule : Rule T) (other : Rule U) (run : List ℕ) → IsWired n
+        → EndsAll n rule run → EndsAlways n other }
     ensures stops { (n : Net) (rule : Rule T) → IsWired n → StopsAlike n rule }
 {}
 
 /// In every state that a run reaches, each slot, each kept value and each token in a queue is the value of the tag that it
 /// names. Where all have ended, each process has kept the values of its fires in order.
 pub fn names<T: Copy>()
-    ensures named { (n : Net) (rule : Rule T) (v : Tag → T) (run : List ℕ) → IsWired n → GivesValues n rule v → IsRun n rule (start n) run → IsNamed n v (reached n rule run) }
-    ensures kept { (n : Net) (rule : Rule T) (v : Tag → T) (run : List ℕ) → IsWired n → GivesValues n rule v → EndsAll n rule run
+    ensures named { (n : Net) (rule : Rule T) (v : Tag → T) (run : List ℕ) → IsWired n
+        → GivesValues n rule v → IsRun n rule (start n) run → IsNamed n v (reached n rule run) }
+    ensures kept { (n : Net) (rule : Rule T) (v : Tag → T) (run : List ℕ) → IsWired n
+        → GivesValues n rule v → EndsAll n rule run
         → (p : ℕ) → ((reached n rule run).local p).kept ≡ fired v p (fires n p (length (n.script p))) }
 {}
 
@@ -59,7 +64,9 @@ pub fn tags_name()
 /// of its references names the last writer of what is read there, and one run over tags ends all, the network is sound for
 /// the nest: in every order of events it computes what the nest computes.
 pub fn sound()
-    ensures limits { (nest : Nest) (network : Network) → FitsNest nest network → AllKeepTo (net_of network) (value_limits nest) }
-    ensures sound { (nest : Nest) (network : Network) (run : List ℕ) → FitsNest nest network → NamesLastWriters nest (net_of network)
+    ensures limits { (nest : Nest) (network : Network) → FitsNest nest network
+        → AllKeepTo (net_of network) (value_limits nest) }
+    ensures sound { (nest : Nest) (network : Network) (run : List ℕ) → FitsNest nest network
+        → NamesLastWriters nest (net_of network)
         → EndsAll (net_of network) tags run → IsSound nest network }
 {}

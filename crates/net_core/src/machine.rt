@@ -76,7 +76,9 @@ impl<T: Copy> State<T> {
         requires token { 0 < length ((run_of self.old).queue channel) }
         requires position { ((run_of self.old).local process).position + 1 < 2 ^ 32 }
         requires slot { slot < length ((run_of self.old).local process).slots }
-        ensures run { (rule : Rule T) → run_of self.new ≡ after_event rule (run_of self.old) process (Some (Event.Get channel slot)) }
+        ensures run { (rule : Rule T)
+            → run_of self.new
+            ≡ after_event rule (run_of self.old) process (Some (Event.Get channel slot)) }
         ensures room { SameRoom (held_of self.old) (held_of self.new) }
     {
         if let Some(token) = self.queues[channel].pop_front() {
@@ -88,10 +90,14 @@ impl<T: Copy> State<T> {
         requires process { process < (held_of self.old).processes }
         requires position { ((run_of self.old).local process).position + 1 < 2 ^ 32 }
         requires turn { length ((run_of self.old).local process).kept < 2 ^ 32 }
-        requires reserved { length ((run_of self.old).local process).kept < (held_of self.old).kept_room process }
-        requires limits { KeepsTo (F.limits rule.now process) (length ((run_of self.old).local process).kept) (length refs.now) }
+        requires reserved { length ((run_of self.old).local process).kept
+            < (held_of self.old).kept_room process }
+        requires limits { KeepsTo (F.limits rule.now process)
+            (length ((run_of self.old).local process).kept) (length refs.now) }
         requires slots { All (IsWithin (length ((run_of self.old).local process).slots)) refs.now }
-        ensures run { run_of self.new ≡ after_event (F.meaning rule.now) (run_of self.old) process (Some (Event.Fire refs.now)) }
+        ensures run { run_of self.new
+            ≡ after_event (F.meaning rule.now) (run_of self.old) process
+            (Some (Event.Fire refs.now)) }
         ensures room { SameRoom (held_of self.old) (held_of self.new) }
     {
         let local = &mut self.locals[process as usize];
@@ -105,8 +111,11 @@ impl<T: Copy> State<T> {
         requires channel { channel < (held_of self.old).channels }
         requires fired { 0 < length ((run_of self.old).local process).kept }
         requires position { ((run_of self.old).local process).position + 1 < 2 ^ 32 }
-        requires reserved { length ((run_of self.old).queue channel) < (held_of self.old).queue_room channel }
-        ensures run { (rule : Rule T) → run_of self.new ≡ after_event rule (run_of self.old) process (Some (Event.Put channel)) }
+        requires reserved { length ((run_of self.old).queue channel)
+            < (held_of self.old).queue_room channel }
+        ensures run { (rule : Rule T)
+            → run_of self.new
+            ≡ after_event rule (run_of self.old) process (Some (Event.Put channel)) }
         ensures room { SameRoom (held_of self.old) (held_of self.new) }
     {
         let local = &mut self.locals[process];
@@ -160,7 +169,8 @@ pub fn step<T: Copy, F: Firing<T>>(state: &mut State<T>, network: &Network, rule
     requires state { IsFor (net_of network.now) (held_of state.old) }
     requires limits { AllKeepTo (net_of network.now) (F.limits rule.now) }
     requires enabled { enabled (net_of network.now) (run_of state.old) process ≡ true }
-    ensures run { run_of state.new ≡ step (net_of network.now) (F.meaning rule.now) (run_of state.old) process }
+    ensures run { run_of state.new
+        ≡ step (net_of network.now) (F.meaning rule.now) (run_of state.old) process }
     ensures state { IsFor (net_of network.now) (held_of state.new) }
 {
     let at = process as usize;

@@ -53,7 +53,8 @@ fn fresh_locals<T: Copy>(
     points: &Points,
 ) -> Result<Vec<Local<T>>, AllocError>
     requires { IsShaped (net_of network.now) points.now.of }
-    ensures { IfOk result (λ locals. AreFresh (net_of network.now) locals.items (length network.now.processes)) }
+    ensures { IfOk result
+        (λ locals. AreFresh (net_of network.now) locals.items (length network.now.processes)) }
 {
     let mut locals = Vec::new(alloc);
     for (at, process) in network.processes.as_slice().iter().enumerate() {
@@ -65,9 +66,12 @@ fn fresh_locals<T: Copy>(
 
 // Adds to each channel's count how often a script puts to it.
 fn count_puts(script: &[Event], counts: &mut [u32])
-    requires channels { (k c : ℕ) → slice_get script.now k ≡ Some (Event.Put c) → c < length counts.old }
-    requires room { (c : ℕ) → c < length counts.old → slice_index counts.old c + count_by (is_put c) script.now < 2 ^ 32 }
-    ensures { (c : ℕ) → c < length counts.old → slice_index counts.new c ≡ slice_index counts.old c + count_by (is_put c) script.now }
+    requires channels { (k c : ℕ) → slice_get script.now k ≡ Some (Event.Put c)
+        → c < length counts.old }
+    requires room { (c : ℕ) → c < length counts.old
+        → slice_index counts.old c + count_by (is_put c) script.now < 2 ^ 32 }
+    ensures { (c : ℕ) → c < length counts.old
+        → slice_index counts.new c ≡ slice_index counts.old c + count_by (is_put c) script.now }
 {
     for event in script {
         if let Event::Put { channel } = event {
@@ -81,7 +85,9 @@ fn put_counts(alloc: Global, network: &Network) -> Result<Vec<u32>, AllocError>
     requires wired { IsWired (net_of network.now) }
     requires numbers { FitsNumbers (net_of network.now) }
     ensures length { IfOk result (λ counts. length counts.items ≡ length network.now.channels) }
-    ensures counts { IfOk result (λ counts. (c : ℕ) → c < length network.now.channels → slice_index counts.items c ≡ put_count (net_of network.now) c) }
+    ensures counts { IfOk result
+        (λ counts. (c : ℕ) → c < length network.now.channels
+        → slice_index counts.items c ≡ put_count (net_of network.now) c) }
 {
     let mut counts = vec![in alloc; 0; network.channels.len()]?;
     for process in network.processes.as_slice() {
@@ -93,7 +99,8 @@ fn put_counts(alloc: Global, network: &Network) -> Result<Vec<u32>, AllocError>
 fn empty_queues<T: Copy>(alloc: Global, network: &Network) -> Result<Vec<VecDeque<T>>, AllocError>
     requires wired { IsWired (net_of network.now) }
     requires numbers { FitsNumbers (net_of network.now) }
-    ensures { IfOk result (λ queues. AreEmpty (net_of network.now) queues.items (length network.now.channels)) }
+    ensures { IfOk result
+        (λ queues. AreEmpty (net_of network.now) queues.items (length network.now.channels)) }
 {
     let counts = put_counts(alloc, network)?;
     let mut queues = Vec::new(alloc);

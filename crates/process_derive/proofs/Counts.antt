@@ -22,7 +22,7 @@ before_more sources i w source e =
     ∙ ap length (filter_map-append (turn_of w) (take i sources) (source ∷ []))
     ∙ length-append (turns_used w (take i sources)) (cons_option (turn_of w source) [])
 
-few_kept : (o : Option ℕ) (xs : List ℕ) → length (cons_option o xs) ≤ suc (length xs)
+pub few_kept : (o : Option ℕ) (xs : List ℕ) → length (cons_option o xs) ≤ suc (length xs)
 few_kept None xs = omega arith
 few_kept (Some x) xs = omega arith
 

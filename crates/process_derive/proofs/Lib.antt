@@ -4,11 +4,14 @@ pub mod Counts
 pub mod Channels
 pub mod Tags
 pub mod Slots
+pub mod Sums
+pub mod Shares
 pub mod Bounds
+pub mod Puts
+pub mod Numbers
+pub mod Holds
 pub mod Scripts
 pub mod Parts
 pub mod Worked
-pub mod Sums
-pub mod Numbers
 pub mod Wired
 pub mod Shaped

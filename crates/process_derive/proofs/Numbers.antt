@@ -1,26 +1,21 @@
 -- The network's numbers are below 2 ^ 32: its processes, its channels and its events.
 --
--- Events are bounded by the length L of the trace. The Gets of one read, over all its writers, are at most the turns
--- of all processes, so at most L, counted fire by fire (`read_gets`): 8 L for each of 64 processes. A point has one
--- Fire and at most one Put for each read of each process, so 513 L for all points together. These 1,025 for each entry
--- of the trace are some sixty times what there can be: one Fire, and for each of at most eight uses at most one Get
--- and one Put.
-use Rattle.std.proofs.Common.{◌≡◌, ◌≢◌, ◌<◌, ◌≤◌, ◌+◌, ◌-◌, ◌*◌, ℕ, zero, suc, false, cond, eqb, List, [], ◌∷◌, map, length, take, get_or, refl, sym, ap, ◌∙◌, subst, inl, inr, arith, eqb-true, length-append}
-use Rattle.std.specs.Prelude.{Option, Some, None, slice_get, slice_index, slice_index_or}
-use Rattle.std.specs.List.{cons_option, flat_map, list_any, range_with_len, sum_by}
+-- Events are bounded by the length L of the trace. A point has one Fire. The Gets of one read, over all its writers,
+-- are at most its uses, so at most the points of its process, counted fire by fire (`read_gets`). The Puts of a channel
+-- are its tokens, and each token has a use (`Puts.antt`). A process has at most eight reads, so all Gets and all Puts
+-- are at most 8 L each, and all events at most 17 L.
+use Rattle.std.proofs.Common.{◌≡◌, ◌≢◌, ◌<◌, ◌≤◌, ◌+◌, ◌-◌, ◌*◌, ℕ, zero, suc, eqb, List, [], ◌∷◌, map, length, take, get_or, refl, sym, ap, ◌∙◌, subst, inl, inr, arith, eqb-true, length-append}
+use Rattle.std.specs.Prelude.{Option, Some, None, slice_get, slice_index}
+use Rattle.std.specs.List.{cons_option, flat_map, range_with_len, sum_by}
 use Rattle.std.specs.Option.{option_and_then, option_map, option_map_or}
-use Rattle.std.proofs.lemmas.Bool.{cases_Bool, ne_eqb}
+use Rattle.std.proofs.lemmas.Bool.{cases_Bool}
 use Rattle.std.proofs.lemmas.List.{length-map}
 use Rattle.std.proofs.lemmas.List.Concat.{length-flat_map}
 use Rattle.std.proofs.lemmas.List.FromFn.{get_or-map-range_with_len, length-range_with_len, length-map-range_with_len}
-use Rattle.std.proofs.lemmas.List.Sums.{sum_by-cons}
-use Rattle.std.proofs.lemmas.Nat.{mul-le}
 use Rattle.std.proofs.lemmas.Option.{slice_get-get_or}
 use Rattle.sanlp.specs.Access.{read_count}
 use Rattle.sanlp.specs.declared.nest.Nest.{Nest}
-use Rattle.sanlp.specs.declared.nest.Point.{Point}
 use Rattle.sanlp.specs.declared.nest.Tag.{Tag}
-use Rattle.sanlp.specs.Points.{vectors_of}
 use Rattle.sanlp.specs.Trace.{trace}
 use Rattle.sanlp.proofs.Each.{Each, each_flat_map, each_map, each_of}
 use Rattle.sanlp.proofs.Lists.{slice_get-map-range_with_len}
@@ -30,35 +25,22 @@ use Rattle.reorder_slots.specs.declared.slots.SlotPlan.{SlotPlan}
 use Rattle.reorder_slots.specs.Slots.{gets_for}
 use Rattle.channel_plan.specs.declared.plans.ChannelPlan.{ChannelPlan}
 use Rattle.channel_plan.specs.Plans.{plan_of, plans_at, plans_of, slot_plan, sources_at, turn_count}
-use Rattle.channel_plan.specs.Tokens.{is_from, tokens_below, turn_of, turns_used, uses_of, writers_of}
+use Rattle.channel_plan.specs.Tokens.{tokens_below, turn_of, turns_used, uses_of, writers_of}
 use Rattle.net_core.specs.declared.network.Event.TheVariants.{Get, Fire}
 use Rattle.net_core.specs.declared.network.Process.{Process}
 use Rattle.net_core.specs.Machine.{net_of}
 use Rattle.net_core.specs.Shape.{FitsNumbers, events_below}
-use Rattle.net_core.proofs.Entries.{entries_length}
 use Rattle.process_derive.specs.Derived.{channel_of, net, process_of}
+use Rattle.process_derive.specs.Few.{HasFewEvents}
 use Rattle.process_derive.specs.Scripts.{Usage, channel_from, gets_for_uses, gets_of, point_events, puts_from, ref_of, script, slot_base, usage, usage_from}
 use Rattle.process_derive.specs.Uses.{OnlyBelow, uses_before}
-use Rattle.process_derive.proofs.Bounds.{few_entries, few_plans, few_tokens}
+use Rattle.process_derive.proofs.Bounds.{few_entries, few_plans}
 use Rattle.process_derive.proofs.Counts.{before_more, of_other, of_own}
+use Rattle.process_derive.proofs.Puts.{all_puts, point_puts, process_puts}
+use Rattle.process_derive.proofs.Shares.{all_turns, uses_within, used, uses_shared}
 use Rattle.process_derive.proofs.Slots.{each_take, few_gets}
-use Rattle.process_derive.proofs.Sums.{one_if, sum_added, sum_filter, sum_joined, sum_less, sum_map, sum_one, sum_push, sum_raised, sum_risen, sum_turned, sum_within}
+use Rattle.process_derive.proofs.Sums.{sum_added, sum_less, sum_map, sum_push, sum_raised, sum_turned, sum_within}
 use Rattle.process_derive.proofs.Tags.{length-sources, processes_below}
-
--- The turns of all processes are no more than the entries of the trace.
-
-turns_of_all : (points : List Point) (m : ℕ) → sum_by (λ w. length (vectors_of points w)) (range_with_len 0 m) ≤ length points
-turns_of_all [] m = sum_one (λ w. 0) 0 0 0 m (λ q e. refl) (omega arith)
-turns_of_all (p ∷ points) m =
-    let f : ℕ → ℕ = λ w. length (vectors_of points w) in
-    let g : ℕ → ℕ = λ w. length (vectors_of (p ∷ points) w) in
-    let own : g p.statement ≤ f p.statement + 1 = elim (cases_Bool (eqb p.statement p.statement)) [ inl h ↦ rw h (omega arith) | inr h ↦ rw h (omega arith) ] in
-    let other : (k : ℕ) → k ≢ p.statement → g k ≡ f k = λ k ne. rw (ne_eqb p.statement k (λ e. ne (sym e))) refl in
-    omega (arith, sum_risen f g p.statement 1 own other 0 m, turns_of_all points m)
-
-all_turns : (n : Nest) (m : ℕ) → sum_by (turn_count n) (range_with_len 0 m) ≤ length (trace n)
-all_turns n m =
-    omega (arith, sum_less (turn_count n) (λ w. length (vectors_of (trace n) w)) (range_with_len 0 m) (λ w. omega (arith, entries_length 0 (trace n) w)), turns_of_all (trace n) m)
 
 -- The Gets of a channel before its uses
 
@@ -98,10 +80,7 @@ gets_few uses limit (suc q) h =
 
 -- The channel that is found has the slots of its uses
 
-abbrev pub used : Nest → ℕ → ℕ → ℕ → List ℕ
-used n p k w = turns_used w (sources_at n p k)
-
-abbrev IsPlanned : Nest → ChannelPlan → Type 0
+abbrev pub IsPlanned : Nest → ChannelPlan → Type 0
 IsPlanned n plan = plan.slots ≡ slot_plan (uses_of (used n plan.reader plan.read plan.writer))
 
 pub all_planned : (n : Nest) → Each (IsPlanned n) (plans_of n)
@@ -197,57 +176,23 @@ read_gets n p k (suc f) le =
     let here = slice_get-get_or sources f None (omega (arith, length-sources n p k)) in
     omega (arith, sum_push (λ g. length (gets_of (usage n p g k))) f, read_gets n p k f (omega arith), fire_gets n p k f (get_or sources f None) here (processes_below n p k f))
 
-until_few : (n : Nest) (p k f : ℕ) → gets_until n p k f ≤ length (trace n)
+pub until_few : (n : Nest) (p k f : ℕ) → gets_until n p k f ≤ turn_count n p
 until_few n p k f =
+    let before : ℕ → ℕ = λ w. uses_before (sources_at n p k) f w in
     omega (
       arith,
-      all_turns n (length n.statements),
-      sum_less (λ w. gets_by (uses_of (used n p k w)) (uses_before (sources_at n p k) f w)) (turn_count n) (range_with_len 0 (length n.statements))
-          (λ w. gets_few (uses_of (used n p k w)) (turn_count n w) (uses_before (sources_at n p k) f w) (few_tokens n p k w)),
+      uses_shared n p k (length n.statements),
+      sum_less (λ w. gets_by (uses_of (used n p k w)) (before w)) (λ w. length (used n p k w))
+          (range_with_len 0 (length n.statements))
+          (λ w. gets_few (uses_of (used n p k w)) (length (used n p k w)) (before w) (uses_within (used n p k w))),
     )
-
--- The Puts of one point
-
-abbrev writes : ℕ → ChannelPlan → ℕ
-writes p plan = cond (eqb plan.writer p) 1 0
-
-puts_few : (c : ℕ) (plans : List ChannelPlan) (p f : ℕ) → length (puts_from c plans p f) ≤ sum_by (writes p) plans
-puts_few c [] p f = omega arith
-puts_few c (plan ∷ plans) p f =
-    subst (λ k. length (puts_from c (plan ∷ plans) p f) ≤ k) (sym (sum_by-cons (writes p) plan plans))
-    (elim (cases_Bool (eqb plan.writer p)) [
-      | inl own ↦ elim (cases_Bool (slice_index_or plan.is_token f false)) [
-        | inl token ↦ rw (own, token) (omega (arith, puts_few (suc c) plans p f))
-        | inr token ↦ rw (own, token) (omega (arith, puts_few (suc c) plans p f))
-      ]
-      | inr own ↦ rw own (omega (arith, puts_few (suc c) plans p f))
-    ])
-
-one_writer : (n : Nest) (p q k : ℕ) → sum_by (writes p) (plans_at n q k) ≤ 1
-one_writer n p q k =
-    let ws : List ℕ = writers_of (length n.statements) (sources_at n q k) in
-    omega (
-      arith,
-      sum_map (writes p) (plan_of n q k) ws,
-      sum_filter (λ w. cond (eqb w p) 1 0) (λ w. list_any (is_from w) (sources_at n q k)) (range_with_len 0 (length n.statements)),
-      sum_one (λ w. cond (eqb w p) 1 0) p 1 0 (length n.statements) (λ w other. ap one_if other) (elim (cases_Bool (eqb p p)) [ inl h ↦ rw h (omega arith) | inr h ↦ rw h (omega arith) ]),
-    )
-
-few_written : (n : Nest) (p : ℕ) → sum_by (writes p) (plans_of n) ≤ 64 * (8 * 1)
-unfolding plans_of
-few_written n p =
-    subst (λ k. k ≤ 64 * (8 * 1)) (sym (sum_joined (writes p) (λ q. flat_map (plans_at n q) (range_with_len 0 (read_count n q))) (range_with_len 0 (length n.statements))))
-    (sum_within (λ q. sum_by (writes p) (flat_map (plans_at n q) (range_with_len 0 (read_count n q)))) (8 * 1) 64 (range_with_len 0 (length n.statements))
-    (λ q. subst (λ k. k ≤ 8 * 1) (sym (sum_joined (writes p) (plans_at n q) (range_with_len 0 (read_count n q))))
-    (sum_within (λ k. sum_by (writes p) (plans_at n q k)) 1 8 (range_with_len 0 (read_count n q)) (one_writer n p q) (omega (arith, length-range_with_len 0 (read_count n q), few_read_count n q))))
-    (omega (arith, length-range_with_len 0 (length n.statements), few_statements n)))
 
 -- The events of one process
 
 abbrev pub point_gets : Nest → ℕ → ℕ → ℕ
 point_gets n p f = sum_by (λ k. length (gets_of (usage n p f k))) (range_with_len 0 (read_count n p))
 
-point_few : (n : Nest) (p f : ℕ) → length (point_events n p f) ≤ point_gets n p f + 513
+point_few : (n : Nest) (p f : ℕ) → length (point_events n p f) ≤ point_gets n p f + point_puts n p f + 1
 point_few n p f =
     let usages : List (Option Usage) = map (usage n p f) (range_with_len 0 (read_count n p)) in
     omega (
@@ -255,27 +200,30 @@ point_few n p f =
       length-append (flat_map gets_of usages) (Fire (map ref_of usages) ∷ puts_from 0 (plans_of n) p f),
       length-flat_map gets_of usages,
       sum_map (λ u. length (gets_of u)) (usage n p f) (range_with_len 0 (read_count n p)),
-      puts_few 0 (plans_of n) p f,
-      few_written n p,
     )
 
-process_gets : (n : Nest) (p : ℕ) → sum_by (point_gets n p) (range_with_len 0 (turn_count n p)) ≤ 8 * length (trace n)
+process_gets : (n : Nest) (p : ℕ) → sum_by (point_gets n p) (range_with_len 0 (turn_count n p)) ≤ 8 * turn_count n p
 process_gets n p =
-    subst (λ k. k ≤ 8 * length (trace n)) (sym (sum_turned (λ f k. length (gets_of (usage n p f k))) (range_with_len 0 (turn_count n p)) (range_with_len 0 (read_count n p))))
-    (sum_within (λ k. sum_by (λ f. length (gets_of (usage n p f k))) (range_with_len 0 (turn_count n p))) (length (trace n)) 8 (range_with_len 0 (read_count n p))
-    (λ k. omega (arith, read_gets n p k (turn_count n p) (omega arith), until_few n p k (turn_count n p)))
+    let turns : ℕ = turn_count n p in
+    let fires : List ℕ = range_with_len 0 turns in
+    let reads : List ℕ = range_with_len 0 (read_count n p) in
+    subst (λ k. k ≤ 8 * turns) (sym (sum_turned (λ f k. length (gets_of (usage n p f k))) fires reads))
+    (sum_within (λ k. sum_by (λ f. length (gets_of (usage n p f k))) fires) turns 8 reads
+    (λ k. omega (arith, read_gets n p k turns (omega arith), until_few n p k turns))
     (omega (arith, length-range_with_len 0 (read_count n p), few_read_count n p)))
 
-script_few : (n : Nest) (p : ℕ) → length (script n p) ≤ 8 * length (trace n) + 513 * turn_count n p
+script_few : (n : Nest) (p : ℕ) → length (script n p) ≤ 9 * turn_count n p + process_puts n p
 script_few n p =
     let fires : List ℕ = range_with_len 0 (turn_count n p) in
     omega (
       arith,
       length-flat_map (point_events n p) fires,
-      sum_less (λ f. length (point_events n p f)) (λ f. point_gets n p f + 513) fires (point_few n p),
-      sum_added (point_gets n p) (λ f. 513) fires,
+      sum_less (λ f. length (point_events n p f)) (λ f. point_gets n p f + point_puts n p f + 1) fires (point_few n p),
+      sum_added (λ f. point_gets n p f + point_puts n p f) (λ f. 1) fires,
+      sum_added (point_gets n p) (point_puts n p) fires,
       process_gets n p,
-      sum_within (λ f. 513) 513 (turn_count n p) fires (λ f. omega arith) (omega (arith, length-range_with_len 0 (turn_count n p))),
+      sum_within (λ f. 1) 1 (turn_count n p) fires (λ f. omega arith)
+          (omega (arith, length-range_with_len 0 (turn_count n p))),
     )
 
 -- The network
@@ -285,10 +233,19 @@ unfolding net
 script_at n p lt =
     ap (λ (o : Option Process). option_map_or (λ process. process.script) o []) (slice_get-map-range_with_len (process_of n) 0 (length n.statements) p p lt (omega arith))
 
-events_few : (n : Nest) (m : ℕ) → m ≤ length n.statements → events_below (net_of (net n)) m ≤ m * (8 * length (trace n)) + 513 * sum_by (turn_count n) (range_with_len 0 m)
+events_few : (n : Nest) (m : ℕ) → m ≤ length n.statements
+    → events_below (net_of (net n)) m
+    ≤ 9 * sum_by (turn_count n) (range_with_len 0 m) + sum_by (process_puts n) (range_with_len 0 m)
 events_few n zero le = omega arith
 events_few n (suc m) le =
-    omega (arith, events_few n m (omega arith), ap length (script_at n m (omega arith)), script_few n m, sum_push (turn_count n) m)
+    omega (
+      arith,
+      events_few n m (omega arith),
+      ap length (script_at n m (omega arith)),
+      script_few n m,
+      sum_push (turn_count n) m,
+      sum_push (process_puts n) m,
+    )
 
 pub count_processes : (n : Nest) → (net_of (net n)).processes ≡ length n.statements
 unfolding net
@@ -298,15 +255,21 @@ pub count_channels : (n : Nest) → (net_of (net n)).channels ≡ length (plans_
 unfolding net
 count_channels n = length-map (plans_of n) channel_of
 
+pub has_few_events : (n : Nest) → HasFewEvents n
+has_few_events n =
+    omega (
+      arith,
+      ap (events_below (net_of (net n))) (count_processes n),
+      events_few n (length n.statements) (omega arith),
+      all_turns n (length n.statements),
+      all_puts n (length n.statements),
+    )
+
 pub numbers_fit : (n : Nest) → SizeIsOk n → FitsNumbers (net_of (net n))
 numbers_fit n ok =
-    let count = count_processes n in
-    let bound = events_few n (length n.statements) (omega arith) in
-    let turns = all_turns n (length n.statements) in
-    let few = few_entries n ok in
-    let most : length n.statements * (8 * length (trace n)) ≤ 64 * (8 * length (trace n)) = mul-le (length n.statements) (8 * length (trace n)) 64 (8 * length (trace n)) (few_statements n) (omega arith) in
+    let events : events_below (net_of (net n)) (net_of (net n)).processes ≤ 17 * length (trace n) = has_few_events n in
     record {
-      processes = omega (arith, count, few_statements n);
+      processes = omega (arith, count_processes n, few_statements n);
       channels = omega (arith, count_channels n, few_plans n);
-      events = omega (arith, ap (events_below (net_of (net n))) count, bound, turns, few, most);
+      events = omega (arith, events, few_entries n ok);
     }

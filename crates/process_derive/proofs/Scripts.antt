@@ -1,5 +1,5 @@
 -- The events that are made point by point are the script of the process.
-use Rattle.std.proofs.Common.{◌≡◌, ◌<◌, ◌≤◌, ◌+◌, ◌^◌, ℕ, zero, suc, List, [], ◌∷◌, ◌++◌, map, length, get_or, refl, sym, ap, ◌∙◌, subst, arith}
+use Rattle.std.proofs.Common.{◌≡◌, ◌<◌, ◌≤◌, ◌^◌, ℕ, zero, suc, List, [], ◌∷◌, ◌++◌, map, length, get_or, refl, sym, ap, ◌∙◌, subst, arith}
 use Rattle.std.specs.Prelude.{All, Option, Some, None, slice_get, slice_index_or}
 use Rattle.std.specs.List.{find, flat_map, range_with_len}
 use Rattle.std.specs.Option.{option_and_then, option_map, option_map_or}
@@ -21,8 +21,9 @@ use Rattle.process_derive.specs.declared.uses.ChannelUse.{ChannelUse}
 use Rattle.process_derive.specs.Incoming.{comes_from, incoming_from, outgoing_from, puts_to}
 use Rattle.process_derive.specs.Scripts.{Usage, channel_from, gets_of, point_events, ref_of, script, slot_base, usage, usage_from}
 use Rattle.process_derive.specs.Uses.{OnlyBelow, SlotsFit, UseFits, events_at, read_uses, slots_at, usages_at, use_at, use_from, uses_before, uses_by_read, with_slots}
-use Rattle.process_derive.proofs.Bounds.{few_entries, slots_fit}
+use Rattle.process_derive.proofs.Bounds.{few_entries}
 use Rattle.process_derive.proofs.Channels.{AreSame, found_same, puts_same}
+use Rattle.process_derive.proofs.Holds.{slots_fit}
 use Rattle.process_derive.proofs.Tags.{few_turns, length-sources, processes_below}
 
 slots_there : (plans : List ChannelPlan) (c : ℕ) (plan : ChannelPlan) → slice_get plans c ≡ Some plan → slots_at plans c ≡ plan.slots

@@ -1,11 +1,11 @@
 -- The network of a nest has the shape of the nest's points and reads.
 --
 -- One point has one Fire, so there are as many fires as points. That no process has more slots than Gets is the longer
--- part: a channel's hold is no more than the Gets that all its uses want, and all of these are made, which is counted
--- fire by fire (`read_makes`): a fire adds to one writer's channel what its use wants, and nothing to the others. The
--- sums over fires and over reads are then exchanged. The channel of each source exists (`plan_there`), else a use
--- would make no Get.
-use Rattle.std.proofs.Common.{◌≡◌, ◌≢◌, ◌<◌, ◌≤◌, ◌+◌, ◌-◌, ℕ, zero, suc, Bool, true, false, cond, eqb, List, [], ◌∷◌, map, length, take, get_or, refl, sym, ap, ◌∙◌, subst, inl, inr, arith}
+-- part: a channel's hold is no more than the Gets that all its uses want (`Holds.antt`), and all of these are made,
+-- which is counted fire by fire (`read_makes`): a fire adds to one writer's channel what its use wants, and nothing to
+-- the others. The sums over fires and over reads are then exchanged. The channel of each source exists (`plan_there`),
+-- else a use would make no Get.
+use Rattle.std.proofs.Common.{◌≡◌, ◌≢◌, ◌<◌, ◌≤◌, ◌+◌, ◌-◌, ◌*◌, ℕ, zero, suc, Bool, true, false, cond, eqb, List, [], ◌∷◌, map, length, get_or, refl, sym, ap, ◌∙◌, subst, inl, inr, arith}
 use Rattle.std.specs.Prelude.{Option, Some, None, slice_get, slice_index, slice_index_or, count_by}
 use Rattle.std.specs.List.{filter, flat_map, list_any, sum_by, range_with_len}
 use Rattle.std.specs.Option.{option_and_then, option_map, option_map_or}
@@ -24,10 +24,9 @@ use Rattle.sanlp.proofs.Each.{Each, each_flat_map, each_map, each_of}
 use Rattle.sanlp.proofs.Members.{In, at_in, each_in, in_flat_map, in_range_with_len}
 use Rattle.sanlp.proofs.NestFacts.{points_length}
 use Rattle.reorder_slots.specs.declared.slots.SlotPlan.{SlotPlan}
-use Rattle.reorder_slots.specs.Slots.{gets_for, hold_of}
 use Rattle.channel_plan.specs.declared.plans.ChannelPlan.{ChannelPlan}
 use Rattle.channel_plan.specs.Plans.{plan_of, plans_at, plans_of, sources_at, turn_count}
-use Rattle.channel_plan.specs.Tokens.{is_from, tokens_below, turns_used, uses_of, writers_of}
+use Rattle.channel_plan.specs.Tokens.{is_from, uses_of, writers_of}
 use Rattle.net_core.specs.declared.network.Channel.{Channel}
 use Rattle.net_core.specs.declared.network.Event.{Event}
 use Rattle.net_core.specs.declared.network.Event.TheVariants.{Get, Fire, Put}
@@ -38,13 +37,14 @@ use Rattle.net_core.specs.Shape.{IsShaped, is_any_get, is_fire, turns}
 use Rattle.net_core.specs.Sound.{FitsNest}
 use Rattle.net_core.proofs.Entries.{entries_length}
 use Rattle.process_derive.specs.Derived.{channel_of, net, process_of}
+use Rattle.process_derive.specs.Few.{HasFewSlots}
 use Rattle.process_derive.specs.Scripts.{Usage, channel_from, gets_for_uses, gets_of, goes_between, point_events, puts_from, ref_of, script, slot_base, slots_of, usage, usage_from}
 use Rattle.process_derive.specs.Uses.{OnlyBelow, uses_before}
 use Rattle.process_derive.proofs.Counts.{before_more, of_other, of_own}
-use Rattle.process_derive.proofs.Lists.{take_all}
-use Rattle.process_derive.proofs.Numbers.{HasSlots, all_planned, count_processes, found_slots, gets_by, gets_here, gets_until, point_gets, script_at, used}
-use Rattle.process_derive.proofs.Slots.{hold_made}
-use Rattle.process_derive.proofs.Sums.{sum_filter, sum_joined, sum_less, sum_map, sum_one, sum_push, sum_risen, sum_same, sum_turned}
+use Rattle.process_derive.proofs.Holds.{few_slots, process_holds}
+use Rattle.process_derive.proofs.Numbers.{HasSlots, all_planned, count_processes, found_slots, gets_by, gets_until, point_gets, script_at}
+use Rattle.process_derive.proofs.Shares.{all_turns, used}
+use Rattle.process_derive.proofs.Sums.{sum_counted, sum_joined, sum_less, sum_map, sum_one, sum_push, sum_risen, sum_same, sum_scaled, sum_turned}
 use Rattle.process_derive.proofs.Tags.{length-sources, processes_below}
 use Rattle.process_derive.proofs.Wired.{IsChannelOf, IsGet, all_channels, all_gets, channel_at, event_is, is_wired, item_at, script_past, slots_there}
 
@@ -210,63 +210,6 @@ read_makes n p k (suc f) process read le =
     let here = slice_get-get_or sources f None (omega (arith, length-sources n p k)) in
     omega (arith, sum_push (λ g. length (gets_of (usage n p g k))) f, read_makes n p k f process read (omega arith), fire_makes n p k f (get_or sources f None) process read here (processes_below n p k f))
 
--- the hold of a channel is no more than its Gets
-hold_by : (uses : List ℕ) (q : ℕ) → q ≡ length uses → hold_of uses ≤ gets_by uses q
-hold_by uses zero e = omega (arith, hold_made uses 0 (none_of uses (sym e))) where
-  none_of : (uses : List ℕ) → length uses ≡ 0 → gets_for uses ≤ 0
-  none_of [] e = omega arith
-  none_of (token ∷ uses) e = absurd (omega arith)
-hold_by uses (suc q) e =
-    let next : q + 1 ≡ length uses = omega (arith, e) in
-    let whole : take (q + 1) uses ≡ uses = ap (λ k. take k uses) next ∙ take_all uses in
-    omega (arith, hold_made uses (gets_for uses) (omega arith), gets_here uses q (omega (arith, e)), ap gets_for whole)
-
-all_used : (n : Nest) (p k w : ℕ) → uses_before (sources_at n p k) (turn_count n p) w ≡ length (uses_of (used n p k w))
-all_used n p k w =
-    let sources : List (Option Tag) = sources_at n p k in
-    ap (λ m. length (turns_used w (take m sources))) (sym (length-sources n p k)) ∙ ap (λ xs. length (turns_used w xs)) (take_all sources) ∙ sym (length-map (used n p k w) (tokens_below (used n p k w)))
-
-abbrev weight : ℕ → ChannelPlan → ℕ
-weight p plan = cond (eqb plan.reader p) plan.slots.hold 0
-
-sum_counted : (f g : ℕ → ℕ) (a m : ℕ) → ((k : ℕ) → a ≤ k → k < a + m → f k ≤ g k) → sum_by f (range_with_len a m) ≤ sum_by g (range_with_len a m)
-sum_counted f g a zero all = omega arith
-sum_counted f g a (suc m) all =
-    omega (arith, sum_by-cons f a (range_with_len (a + 1) m), sum_by-cons g a (range_with_len (a + 1) m), all a (omega arith) (omega arith), sum_counted f g (a + 1) m (λ k h l. all k (omega arith) (omega arith)))
-
--- the slots of the channels to read k are no more than its Gets
-read_holds : (n : Nest) (p k : ℕ) → sum_by (weight p) (plans_at n p k) ≤ gets_until n p k (turn_count n p)
-read_holds n p k =
-    let ws : List ℕ = writers_of (length n.statements) (sources_at n p k) in
-    let hold : ℕ → ℕ = λ w. hold_of (uses_of (used n p k w)) in
-    let own : (w : ℕ) → weight p (plan_of n p k w) ≤ hold w = λ w. omega (arith, ap (λ b. cond {A = ℕ} b (hold w) 0) (eq-eqb p p refl)) in
-    omega (
-      arith,
-      sum_map (weight p) (plan_of n p k) ws,
-      sum_less (λ w. weight p (plan_of n p k w)) hold ws own,
-      sum_filter hold (λ w. list_any (is_from w) (sources_at n p k)) (range_with_len 0 (length n.statements)),
-      sum_less hold (λ w. gets_by (uses_of (used n p k w)) (uses_before (sources_at n p k) (turn_count n p) w)) (range_with_len 0 (length n.statements)) (λ w. hold_by (uses_of (used n p k w)) (uses_before (sources_at n p k) (turn_count n p) w) (all_used n p k w)),
-    )
-
-none_held : (p q : ℕ) (plans : List ChannelPlan) → eqb q p ≡ false → Each (λ plan. plan.reader ≡ q) plans → sum_by (weight p) plans ≡ 0
-none_held p q [] other h = refl
-none_held p q (plan ∷ plans) other h =
-    let none : weight p plan ≡ 0 = ap (λ r. cond {A = ℕ} (eqb r p) plan.slots.hold 0) h.0 ∙ ap (λ b. cond {A = ℕ} b plan.slots.hold 0) other in
-    omega (arith, sum_by-cons (weight p) plan plans, none, none_held p q plans other h.1)
-
-process_holds : (n : Nest) (p : ℕ) → slots_of (plans_of n) p ≤ sum_by (λ k. gets_until n p k (turn_count n p)) (range_with_len 0 (read_count n p))
-unfolding plans_of
-process_holds n p =
-    let all : ℕ → List ChannelPlan = λ q. flat_map (plans_at n q) (range_with_len 0 (read_count n q)) in
-    let bound : ℕ = sum_by (λ k. gets_until n p k (turn_count n p)) (range_with_len 0 (read_count n p)) in
-    subst (λ m. m ≤ bound) (sym (sum_joined (weight p) all (range_with_len 0 (length n.statements))))
-    (sum_one (λ q. sum_by (weight p) (all q)) p bound 0 (length n.statements)
-    (λ q other. none_held p q (all q) other (each_flat_map (λ plan. plan.reader ≡ q) (plans_at n q) (range_with_len 0 (read_count n q))
-    (each_of (λ k. Each (λ plan. plan.reader ≡ q) (plans_at n q k)) (range_with_len 0 (read_count n q)) (λ k. each_map (λ plan. plan.reader ≡ q) (plan_of n q k) (writers_of (length n.statements) (sources_at n q k))
-    (each_of (λ w. q ≡ q) (writers_of (length n.statements) (sources_at n q k)) (λ w. refl))))))
-    (subst (λ m. m ≤ bound) (sym (sum_joined (weight p) (plans_at n p) (range_with_len 0 (read_count n p))))
-    (sum_less (λ k. sum_by (weight p) (plans_at n p k)) (λ k. gets_until n p k (turn_count n p)) (range_with_len 0 (read_count n p)) (read_holds n p))))
-
 point_counts : (n : Nest) (p f : ℕ) → point_gets n p f ≤ count_by is_any_get (point_events n p f)
 point_counts n p f =
     let reads : List ℕ = range_with_len 0 (read_count n p) in
@@ -280,6 +223,7 @@ point_counts n p f =
       sum_map (λ u. length (gets_of u)) (usage n p f) reads,
     )
 
+-- no process has more slots than Gets
 script_holds : (n : Nest) (p : ℕ) → p < length n.statements → slots_of (plans_of n) p ≤ count_by is_any_get (script n p)
 script_holds n p lt =
     let fires : List ℕ = range_with_len 0 (turn_count n p) in
@@ -305,6 +249,20 @@ slots_few n p =
       | inl lt ↦ omega (arith, slots_there n p lt, script_holds n p lt, ap (count_by is_any_get) (script_at n p lt))
       | inr le ↦ omega (arith, slots_past n p le)
     ]
+
+all_slots : (n : Nest) → sum_by (λ process. process.slots) (net n).processes ≤ 8 * length (trace n)
+unfolding net
+all_slots n =
+    let processes : List ℕ = range_with_len 0 (length n.statements) in
+    omega (
+      arith,
+      sum_map (λ (process : Process). process.slots) (process_of n) processes,
+      sum_scaled 8 (slots_of (plans_of n)) (turn_count n) processes (few_slots n),
+      all_turns n (length n.statements),
+    )
+
+pub has_few_slots : (n : Nest) → HasFewSlots n
+has_few_slots n = record { of_each = slots_few n; of_all = all_slots n }
 
 is_shaped : (n : Nest) → IsShaped (net_of (net n)) (points_of n)
 is_shaped n = record {

@@ -74,9 +74,8 @@ each_take limit zero uses h = tt
 each_take limit (suc q) [] h = tt
 each_take limit (suc q) (token ∷ uses) h = (h.0, each_take limit q uses h.1)
 
--- The hold of a plan of slots is at most this number, and no slot is numbered past the hold.
-pub record IsHeldIn (limit : ℕ) (slots : SlotPlan) : Type 0 where
-  pub hold : slots.hold ≤ limit
+-- No slot is numbered past the hold of a plan of slots.
+pub record IsHeld (slots : SlotPlan) : Type 0 where
   pub gets : (m : ℕ) → get_or slots.slot_of_get m 0 ≤ slots.hold
   pub uses : (q : ℕ) → get_or slots.slot_of_use q 0 ≤ slots.hold
 
@@ -85,15 +84,10 @@ read_uses gets [] q b all = omega arith
 read_uses gets (token ∷ uses) zero b all = all token
 read_uses gets (token ∷ uses) (suc q) b all = read_uses gets uses q b all
 
-pub plan_within : (uses : List ℕ) (limit : ℕ) → Each (λ token. token < limit) uses → IsHeldIn limit (slot_plan uses)
-plan_within uses limit h =
+pub plan_held : (uses : List ℕ) → IsHeld (slot_plan uses)
+plan_held uses =
     let inside = inside_after uses (length uses) in
-    let few = few_after uses limit (λ q. few_gets (take q uses) limit (each_take limit q uses h)) (length uses) in
-    record {
-      hold = omega (arith, inside.few, few);
-      gets = λ m. inside.gets m;
-      uses = λ q. read_uses (slots_of_gets uses) uses q (hold_of uses) inside.gets;
-    }
+    record { gets = λ m. inside.gets m; uses = λ q. read_uses (slots_of_gets uses) uses q (hold_of uses) inside.gets }
 
 -- each Get has a slot below the hold
 

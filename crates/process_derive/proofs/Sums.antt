@@ -1,5 +1,5 @@
 -- Sums over lists and over numbers that are counted up.
-use Rattle.std.proofs.Common.{◌≡◌, ◌≢◌, ◌<◌, ◌≤◌, ◌+◌, ◌*◌, ℕ, zero, suc, Bool, true, false, cond, eqb, List, [], ◌∷◌, map, length, take, refl, sym, ap, ◌∙◌, inl, inr, arith, eqb-true}
+use Rattle.std.proofs.Common.{◌≡◌, ◌≢◌, ◌<◌, ◌≤◌, ◌+◌, ◌*◌, ℕ, zero, suc, Bool, true, false, cond, eqb, List, [], ◌∷◌, map, length, take, refl, sym, ap, ◌∙◌, inl, inr, arith, eqb-true, mul-add}
 use Rattle.std.specs.Prelude.{Some, slice_get}
 use Rattle.std.specs.List.{filter, flat_map, sum_by, range_with_len}
 use Rattle.std.proofs.lemmas.Bool.{cases_Bool, eq-eqb, ne_eqb}
@@ -60,13 +60,33 @@ pub sum_less : {X : Type 0} (f g : X → ℕ) (xs : List X) → ((x : X) → f x
 sum_less f g [] all = omega arith
 sum_less f g (x ∷ xs) all = omega (arith, sum_by-cons f x xs, sum_by-cons g x xs, all x, sum_less f g xs all)
 
+pub sum_scaled : {X : Type 0} (c : ℕ) (f g : X → ℕ) (xs : List X) → ((x : X) → f x ≤ c * g x)
+    → sum_by f xs ≤ c * sum_by g xs
+sum_scaled c f g [] all = omega arith
+sum_scaled c f g (x ∷ xs) all =
+    let whole = ap (λ k. c * k) (sum_by-cons g x xs) ∙ mul-add c (g x) (sum_by g xs) in
+    omega (arith, sum_by-cons f x xs, whole, all x, sum_scaled c f g xs all)
+
+-- the numbers from a on, below a + m
+pub sum_counted : (f g : ℕ → ℕ) (a m : ℕ) → ((k : ℕ) → a ≤ k → k < a + m → f k ≤ g k)
+    → sum_by f (range_with_len a m) ≤ sum_by g (range_with_len a m)
+sum_counted f g a zero all = omega arith
+sum_counted f g a (suc m) all =
+    omega (
+      arith,
+      sum_by-cons f a (range_with_len (a + 1) m),
+      sum_by-cons g a (range_with_len (a + 1) m),
+      all a (omega arith) (omega arith),
+      sum_counted f g (a + 1) m (λ k h l. all k (omega arith) (omega arith)),
+    )
+
 pub sum_added : {X : Type 0} (f g : X → ℕ) (xs : List X) → sum_by (λ x. f x + g x) xs ≡ sum_by f xs + sum_by g xs
 sum_added f g [] = refl
 sum_added f g (x ∷ xs) =
     let more = sum_added f g xs in
     omega (arith, sum_by-cons (λ x. f x + g x) x xs, sum_by-cons f x xs, sum_by-cons g x xs)
 
-sum_none : {X : Type 0} (xs : List X) → sum_by (λ x. 0) xs ≡ 0
+pub sum_none : {X : Type 0} (xs : List X) → sum_by (λ x. 0) xs ≡ 0
 sum_none [] = refl
 sum_none (x ∷ xs) = omega (arith, sum_by-cons (λ y. 0) x xs, sum_none xs)
 

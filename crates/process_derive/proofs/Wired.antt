@@ -18,7 +18,7 @@ use Rattle.std.proofs.lemmas.Option.{slice_get-map, slice_get_past, slice_get_wi
 use Rattle.sanlp.specs.Access.{read_count}
 use Rattle.sanlp.specs.declared.nest.Nest.{Nest}
 use Rattle.sanlp.specs.declared.nest.Tag.{Tag}
-use Rattle.sanlp.proofs.Each.{Each, each_append, each_flat_map, each_map, each_of, each_range_with_len}
+use Rattle.sanlp.proofs.Each.{Each, all_from_each, each_append, each_flat_map, each_map, each_of, each_range_with_len}
 use Rattle.sanlp.proofs.Members.{at_in, each_in}
 use Rattle.sanlp.proofs.Lists.{slice_get-map-range_with_len}
 use Rattle.reorder_slots.specs.declared.slots.SlotPlan.{SlotPlan}
@@ -40,8 +40,9 @@ use Rattle.process_derive.specs.Uses.{uses_before}
 use Rattle.process_derive.specs.Incoming.{comes_from, incoming_from}
 use Rattle.process_derive.proofs.Channels.{AreSame, get_middle, longer}
 use Rattle.process_derive.proofs.Counts.{before_more, of_own}
-use Rattle.process_derive.proofs.Numbers.{HasSlots, all_planned, before_within, count_channels, count_processes, found_slots, gets_here, script_at, used}
+use Rattle.process_derive.proofs.Numbers.{HasSlots, all_planned, before_within, count_channels, count_processes, found_slots, gets_here, script_at}
 use Rattle.process_derive.proofs.Scripts.{channel_same}
+use Rattle.process_derive.proofs.Shares.{used}
 use Rattle.process_derive.proofs.Slots.{gets_inside, uses_inside}
 use Rattle.process_derive.proofs.Sums.{sum_at}
 
@@ -219,10 +220,10 @@ pub channel_at : (n : Nest) (c : ℕ) (plan : ChannelPlan) → slice_get (plans_
 unfolding net
 channel_at n c plan e = slice_get-map channel_of (plans_of n) c ∙ ap (option_map channel_of) e
 
-reader_at : (n : Nest) (c : ℕ) (plan : ChannelPlan) → slice_get (plans_of n) c ≡ Some plan → (net_of (net n)).reader c ≡ plan.reader
+pub reader_at : (n : Nest) (c : ℕ) (plan : ChannelPlan) → slice_get (plans_of n) c ≡ Some plan → (net_of (net n)).reader c ≡ plan.reader
 reader_at n c plan e = ap (λ (o : Option Channel). option_map_or (λ channel. channel.reader) o 0) (channel_at n c plan e)
 
-writer_at : (n : Nest) (c : ℕ) (plan : ChannelPlan) → slice_get (plans_of n) c ≡ Some plan → (net_of (net n)).writer c ≡ plan.writer
+pub writer_at : (n : Nest) (c : ℕ) (plan : ChannelPlan) → slice_get (plans_of n) c ≡ Some plan → (net_of (net n)).writer c ≡ plan.writer
 writer_at n c plan e = ap (λ (o : Option Channel). option_map_or (λ channel. channel.writer) o 0) (channel_at n c plan e)
 
 pub slots_there : (n : Nest) (p : ℕ) → p < length n.statements → (net_of (net n)).slots p ≡ slots_of (plans_of n) p
@@ -273,11 +274,6 @@ fired_before n p (suc turns) k c e =
     subst (λ es. 0 < count_by is_fire (take k es)) (sym split)
     (fired_first (flat_map gets_of usages) (map ref_of usages) (puts_from 0 (plans_of n) p 0 ++ later) k c gets (ap (λ es. slice_get es k) (sym split) ∙ e))
 
-all_from_each : (slots : ℕ) (refs : List Ref) → Each (IsWithin slots) refs → All (IsWithin slots) refs
-all_from_each slots [] h k d lt = absurd (omega arith)
-all_from_each slots (r ∷ refs) h zero d lt = h.0
-all_from_each slots (r ∷ refs) h (suc k) d lt = all_from_each slots refs h.1 k d (omega arith)
-
 pub is_wired : (n : Nest) → IsWired (net_of (net n))
 is_wired n = record {
   bounded = λ p le. script_past n p (omega (arith, count_processes n));
@@ -292,5 +288,5 @@ is_wired n = record {
       let there = script_at n p lt in
       subst (λ es. 0 < count_by is_fire (take k es)) (sym there) (fired_before n p (turn_count n p) k c (ap (λ es. slice_get es k) (sym there) ∙ e)));
   reference_slots = λ p k refs e. (let h = event_is n p k (Fire refs) e in
-      subst (λ s. All (IsWithin s) refs) (sym (slots_there n p h.0)) (all_from_each (slots_of (plans_of n) p) refs h.1.0));
+      subst (λ s. All (IsWithin s) refs) (sym (slots_there n p h.0)) (all_from_each (IsWithin (slots_of (plans_of n) p)) refs h.1.0));
 }

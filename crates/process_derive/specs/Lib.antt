@@ -2,3 +2,4 @@ pub mod Scripts
 pub mod Derived
 pub mod Incoming
 pub mod Uses
+pub mod Few

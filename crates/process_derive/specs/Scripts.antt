@@ -39,7 +39,8 @@ goes_between w p k plan = (plan.writer == w) && (plan.reader == p) && (plan.read
 -- the channel from process w to read k of process p, and its number; the first of these channels has number c
 abbrev pub channel_from : ℕ → List ChannelPlan → ℕ → ℕ → ℕ → Option (ℕ × ChannelPlan)
 channel_from c [] w p k = None
-channel_from c (plan ∷ plans) w p k = if goes_between w p k plan then Some (c, plan) else channel_from (suc c) plans w p k
+channel_from c (plan ∷ plans) w p k =
+    if goes_between w p k plan then Some (c, plan) else channel_from (suc c) plans w p k
 
 -- the use of the channel from process w by fire f of process p for read k, whose sources are these
 abbrev pub usage_from : List ChannelPlan → List (Option Tag) → ℕ → ℕ → ℕ → ℕ → Option Usage
@@ -54,7 +55,10 @@ usage_from plans sources p k f w =
 -- what fire f of process p uses for read k, if its source is a point
 abbrev pub usage : Nest → ℕ → ℕ → ℕ → Option Usage
 usage n p f k =
-    option_and_then (λ source. option_and_then (λ t. usage_from (plans_of n) (sources_at n p k) p k f t.process) source) (slice_get (sources_at n p k) f)
+    option_and_then
+    (λ source. option_and_then
+    (λ t. usage_from (plans_of n) (sources_at n p k) p k f t.process) source)
+    (slice_get (sources_at n p k) f)
 
 -- Events
 
@@ -80,7 +84,8 @@ ref_of (Some u) = Slot (u.base + slice_index u.slots.slot_of_use u.number)
 abbrev pub puts_from : ℕ → List ChannelPlan → ℕ → ℕ → List Event
 puts_from c [] p f = []
 puts_from c (plan ∷ plans) p f =
-    if (plan.writer == p) && slice_index_or plan.is_token f false then Put c ∷ puts_from (suc c) plans p f else puts_from (suc c) plans p f
+    if (plan.writer == p) && slice_index_or plan.is_token f false
+    then Put c ∷ puts_from (suc c) plans p f else puts_from (suc c) plans p f
 
 -- the events of point f of process p: by read the Gets, one Fire with one reference for each read, and by
 -- channel the Puts

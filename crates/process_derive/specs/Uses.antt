@@ -16,7 +16,9 @@ use Rattle.process_derive.specs.Scripts.{Usage, gets_of, ref_of}
 -- use number q of the channel from process w to read k, if there is such a channel
 abbrev pub use_from : List Incoming → ℕ → ℕ → ℕ → Option ChannelUse
 use_from incoming k w q =
-    option_map (λ (found : Incoming). record { channel = found.channel; base = found.base; number = q }) (find (comes_from w k) incoming)
+    option_map
+    (λ (found : Incoming). record { channel = found.channel; base = found.base; number = q })
+    (find (comes_from w k) incoming)
 
 -- how often the fires before fire f use a token of process w
 abbrev pub uses_before : List (Option Tag) → ℕ → ℕ → ℕ
@@ -25,7 +27,10 @@ uses_before sources f w = length (turns_used w (take f sources))
 -- what fire f uses for read k, whose sources are these
 abbrev pub use_at : List Incoming → ℕ → List (Option Tag) → ℕ → Option ChannelUse
 use_at incoming k sources f =
-    option_and_then (λ source. option_and_then (λ t. use_from incoming k t.process (uses_before sources f t.process)) source) (slice_get sources f)
+    option_and_then
+    (λ source. option_and_then
+    (λ t. use_from incoming k t.process (uses_before sources f t.process)) source)
+    (slice_get sources f)
 
 -- what each fire uses for read k
 abbrev pub read_uses : List Incoming → ℕ → List (Option Tag) → List (Option ChannelUse)
@@ -39,21 +44,26 @@ uses_by_read incoming sources =
 
 -- the plan of slots of channel c
 abbrev pub slots_at : List ChannelPlan → ℕ → SlotPlan
-slots_at plans c = option_map_or (λ plan. plan.slots) (slice_get plans c) (record { gets_before = []; slot_of_get = []; slot_of_use = []; hold = 0 })
+slots_at plans c =
+    option_map_or (λ plan. plan.slots) (slice_get plans c)
+    (record { gets_before = []; slot_of_get = []; slot_of_use = []; hold = 0 })
 
 -- a use with the plan of its channel's slots
 abbrev pub with_slots : List ChannelPlan → Option ChannelUse → Option Usage
 with_slots plans found =
-    option_map (λ (u : ChannelUse). record { channel = u.channel; base = u.base; slots = slots_at plans u.channel; number = u.number }) found
+    option_map
+    (λ (u : ChannelUse). record { channel = u.channel; base = u.base; slots = slots_at plans u.channel; number = u.number }) found
 
 -- what fire f uses, by read
 abbrev pub usages_at : List ChannelPlan → List (List (Option ChannelUse)) → ℕ → List (Option Usage)
-usages_at plans uses f = map (λ list. with_slots plans (option_and_then (λ found. found) (slice_get list f))) uses
+usages_at plans uses f =
+    map (λ list. with_slots plans (option_and_then (λ found. found) (slice_get list f))) uses
 
 -- the events of the point of fire f
 abbrev pub events_at : List ChannelPlan → List (List (Option ChannelUse)) → List ℕ → ℕ → List Event
 events_at plans uses outgoing f =
-    flat_map gets_of (usages_at plans uses f) ++ Fire (map ref_of (usages_at plans uses f)) ∷ puts_to plans outgoing f
+    flat_map gets_of (usages_at plans uses f) ++ Fire (map ref_of (usages_at plans uses f))
+    ∷ puts_to plans outgoing f
 
 -- The numbers of a plan's slots, behind so many others, are below 2 ^ 32.
 pub record SlotsFit (base : ℕ) (slots : SlotPlan) : Type 0 where

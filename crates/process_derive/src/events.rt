@@ -33,7 +33,11 @@ fn gets_for(slots: &SlotPlan, uses: u32) -> u32
 // Adds the Gets that a use adds: those behind the Gets of the uses before it.
 fn add_gets(slots: &SlotPlan, found: ChannelUse, events: &mut Vec<Event>) -> Result<(), AllocError>
     requires { SlotsFit found.base slots.now }
-    ensures { OnOk result (events.new.items ≡ events.old.items ++ gets_of (Some (record { channel = found.channel; base = found.base; slots = slots.now; number = found.number }))) }
+    ensures { OnOk result
+        (events.new.items
+        ≡ events.old.items
+        ++ gets_of
+        (Some (record { channel = found.channel; base = found.base; slots = slots.now; number = found.number }))) }
 {
     let done = gets_for(slots, found.number);
     let needed = number_at(slots.gets_before.as_slice(), found.number as usize);
@@ -50,7 +54,9 @@ fn add_gets(slots: &SlotPlan, found: ChannelUse, events: &mut Vec<Event>) -> Res
 // The slot in which a use finds its token.
 fn slot_of(slots: &SlotPlan, found: ChannelUse) -> Ref
     requires { SlotsFit found.base slots.now }
-    ensures { result ≡ ref_of (Some (record { channel = found.channel; base = found.base; slots = slots.now; number = found.number })) }
+    ensures { result
+        ≡ ref_of (Some
+        (record { channel = found.channel; base = found.base; slots = slots.now; number = found.number })) }
 {
     Ref::Slot(found.base + number_at(slots.slot_of_use.as_slice(), found.number as usize))
 }
@@ -62,7 +68,8 @@ fn add_use(
     events: &mut Vec<Event>,
 ) -> Result<Ref, AllocError>
     requires { UseFits plans.now found }
-    ensures gets { OnOk result (events.new.items ≡ events.old.items ++ gets_of (with_slots plans.now found)) }
+    ensures gets { OnOk result
+        (events.new.items ≡ events.old.items ++ gets_of (with_slots plans.now found)) }
     ensures named { IfOk result (λ named. named ≡ ref_of (with_slots plans.now found)) }
 {
     match found {
@@ -92,7 +99,8 @@ pub(crate) fn add_puts(
     turn: usize,
     events: &mut Vec<Event>,
 ) -> Result<(), AllocError>
-    ensures { OnOk result (events.new.items ≡ events.old.items ++ puts_to plans.now outgoing.now turn) }
+    ensures { OnOk result
+        (events.new.items ≡ events.old.items ++ puts_to plans.now outgoing.now turn) }
 {
     for channel in outgoing {
         if is_token(plans, turn, *channel) {
@@ -119,7 +127,8 @@ fn add_point(
 ) -> Result<(), AllocError>
     requires few { length uses.now ≤ 8 }
     requires fit { All (All (UseFits plans.now)) uses.now }
-    ensures { OnOk result (events.new.items ≡ events.old.items ++ events_at plans.now uses.now outgoing.now turn) }
+    ensures { OnOk result
+        (events.new.items ≡ events.old.items ++ events_at plans.now uses.now outgoing.now turn) }
 {
     let mut refs = Refs::empty();
     for of_read in uses {

@@ -8,7 +8,7 @@ mod network;
 mod process;
 mod uses;
 
-pub use law::{fits_nest, numbers_fit};
+pub use law::{few_events, few_slots, fits_nest, numbers_fit};
 pub use network::derive;
 
 #[cfg(test)]

@@ -35,7 +35,8 @@ fn count_one(counts: &mut Vec<u32>, process: usize) -> u32
     requires exists { process < vec_len counts.old }
     requires few { slice_index counts.old.items process < 4294967295 }
     ensures count { result ≡ slice_index counts.old.items process }
-    ensures raised { counts.new.items ≡ slice_set counts.old.items process (slice_index counts.old.items process + 1) }
+    ensures raised { counts.new.items
+        ≡ slice_set counts.old.items process (slice_index counts.old.items process + 1) }
 {
     let count = counts[process];
     counts[process] = count + 1;
@@ -52,7 +53,10 @@ fn next_use(
 ) -> Option<ChannelUse>
     requires exists { OnlyBelow (vec_len counts.old) source }
     requires few { CountsBelow 4294967295 counts.old.items source }
-    ensures found { result ≡ option_and_then (λ t. use_from incoming.now read t.process (slice_index counts.old.items t.process)) source }
+    ensures found { result
+        ≡ option_and_then
+        (λ t. use_from incoming.now read t.process
+        (slice_index counts.old.items t.process)) source }
     ensures counted { counts.new.items ≡ counted counts.old.items source }
 {
     match source {
@@ -93,7 +97,8 @@ pub(crate) fn uses_of(
 ) -> Result<Vec<Items<Option<ChannelUse>>>, AllocError>
     requires few_reads { length sources.now ≤ 8 }
     requires few { (k : ℕ) → length (slice_index_or sources.now k []) < 2 ^ 32 }
-    requires exist { (k f : ℕ) → OnlyBelow processes (slice_index_or (slice_index_or sources.now k []) f None) }
+    requires exist { (k f : ℕ)
+        → OnlyBelow processes (slice_index_or (slice_index_or sources.now k []) f None) }
     ensures { IfOk result (λ uses. uses.items ≡ uses_by_read incoming.now sources.now) }
 {
     let mut uses = Vec::new(alloc);

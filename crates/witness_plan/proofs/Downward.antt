@@ -11,14 +11,13 @@ use Rattle.std.proofs.lemmas.List.{take_all}
 use Rattle.std.proofs.lemmas.Option.{slice_get_past}
 use Rattle.net_core.specs.declared.network.Event.{Event}
 use Rattle.net_core.specs.declared.network.Event.TheVariants.{Get, Fire, Put}
-use Rattle.net_core.specs.Cuts.{Cut, IsCutRun, advanced, cut_after, enabled_at, gets_at, puts_at}
+use Rattle.net_core.specs.Cuts.{Cut, IsCutRun, advanced, cut_after, enabled_at, gets_at, opening, puts_at}
 use Rattle.net_core.specs.Machine.{Net}
 use Rattle.net_core.specs.Shape.{IsWired, events_below, is_put}
 use Rattle.net_core.proofs.CutOrder.{advanced_here, advanced_there, gets_mono, no_further}
 use Rattle.net_core.proofs.Positions.{cut_inside, puts_advanced}
 use Rattle.witness_plan.specs.Progress.{bound_after}
 use Rattle.witness_plan.specs.Schedules.{IsDownward, could_come_at, downward_from, downward_schedule, highest_ready, is_ready}
-use Rattle.witness_plan.specs.Sequential.{opening}
 use Rattle.witness_plan.proofs.NeverFull.{could_come, never_full, ready_comes}
 use Rattle.witness_plan.proofs.OtherCapacities.{wired_at}
 

@@ -1,12 +1,12 @@
 -- A reader has made no more Gets of a channel than its uses so far want.
-use Rattle.std.proofs.Common.{◌≡◌, ℕ, zero, suc, ◌+◌, ◌-◌, ◌<◌, ◌≤◌, Bool, true, false, cond, Option, Some, None, List, [], ◌∷◌, length, map, take, drop, slice_get, count_by, refl, sym, ap, ◌∙◌, inl, inr, arith, length-append}
+use Rattle.std.proofs.Common.{◌≡◌, ℕ, zero, suc, ◌+◌, ◌-◌, ◌<◌, ◌≤◌, Bool, true, false, cond, Option, Some, None, List, [], ◌∷◌, length, map, take, drop, slice_get, count_by, refl, sym, ap, ◌∙◌, inl, inr, arith, add-one}
 use Rattle.std.specs.Prelude.{slice_index, slice_index_or, ◌==◌, ◌&&◌}
-use Rattle.std.specs.List.{cons_option, flat_map}
+use Rattle.std.specs.List.{cons_option, flat_map, range_with_len}
 use Rattle.std.proofs.lemmas.Bool.{cases_Bool, cases_eq, eq-eqb, ne_eqb}
 use Rattle.std.proofs.lemmas.List.{length-map, take_at, take-append-drop}
 use Rattle.std.proofs.lemmas.List.Elements.{filter_map-append}
 use Rattle.std.proofs.lemmas.List.Folds.{flat_map-map}
-use Rattle.std.proofs.lemmas.List.FromFn.{get_or-map-range_with_len}
+use Rattle.std.proofs.lemmas.List.FromFn.{length-range_with_len}
 use Rattle.std.proofs.lemmas.Option.{same_Some}
 use Rattle.channel_plan.specs.declared.plans.ChannelPlan.{ChannelPlan}
 use Rattle.channel_plan.specs.Plans.{plans_of, slot_plan, sources_at}
@@ -14,42 +14,29 @@ use Rattle.channel_plan.specs.Tokens.{tokens_below, turn_of, turns_used, uses_of
 use Rattle.net_core.specs.declared.network.Event.{Event}
 use Rattle.net_core.specs.declared.network.Event.TheVariants.{Get, Fire, Put}
 use Rattle.net_core.specs.Shape.{is_get}
-use Rattle.net_core.proofs.Counting.{count_cons}
+use Rattle.net_core.proofs.Counting.{count-append, count_cons}
 use Rattle.process_derive.specs.Scripts.{Usage, gets_for_uses, gets_of, point_events, puts_from, ref_of, usage}
+use Rattle.process_derive.proofs.Counts.{before_more, of_own}
+use Rattle.process_derive.proofs.Numbers.{before_within, gets_here}
 use Rattle.reorder_slots.specs.Slots.{gets_for}
+use Rattle.reorder_slots.proofs.Gets.{more_gets}
 use Rattle.sanlp.specs.Access.{read_count}
 use Rattle.sanlp.specs.declared.nest.Nest.{Nest}
 use Rattle.sanlp.specs.declared.nest.Tag.{Tag}
-use Rattle.sanlp.specs.Cells.{count_up}
-use Rattle.witness_plan.proofs.OwnChannels.{count-append}
 use Rattle.witness_plan.proofs.PointEvents.{events_before}
 use Rattle.witness_plan.proofs.TokensPut.{events_more}
 use Rattle.witness_plan.proofs.Usages.{plan_is, use_is}
 
 -- Gets for uses
 
-pub gets_for_mono : (uses : List ℕ) (a b : ℕ) → a ≤ b → gets_for (take a uses) ≤ gets_for (take b uses)
-gets_for_mono uses zero b le = omega arith
-gets_for_mono [] (suc a) zero le = omega arith
-gets_for_mono [] (suc a) (suc b) le = omega arith
-gets_for_mono (x ∷ uses) (suc a) zero le = absurd (omega arith)
-gets_for_mono (x ∷ uses) (suc a) (suc b) le = omega (arith, gets_for_mono uses a b (omega arith))
-
 next_gets : (uses : List ℕ) (q : ℕ) → q < length uses → gets_for_uses (slot_plan uses) (suc q) ≡ gets_for (take (suc q) uses)
-next_gets uses q lt =
-    let front : 0 + q ≡ q = omega arith in
-    let next : q + 1 ≡ suc q = omega arith in
-    get_or-map-range_with_len (λ i. gets_for (take (i + 1) uses)) 0 (length uses) q q 0 lt front ∙ ap (λ i. gets_for (take i uses)) next
+next_gets uses q lt = gets_here uses q lt ∙ ap (λ i. gets_for (take i uses)) (add-one q)
 
 gets_so_far : (uses : List ℕ) (q : ℕ) → q ≤ length uses → gets_for_uses (slot_plan uses) q ≡ gets_for (take q uses)
 gets_so_far uses zero le = refl
 gets_so_far uses (suc q) le = next_gets uses q (omega arith)
 
 -- Counts of Gets
-
-length_count_up : (a m : ℕ) → length (count_up a m) ≡ m
-length_count_up a zero = refl
-length_count_up a (suc m) = ap suc (length_count_up (a + 1) m)
 
 no_gets : (b : Bool) → cond {A = ℕ} b 0 0 ≡ 0
 no_gets true = refl
@@ -69,16 +56,16 @@ gets_counted c d slot (m ∷ ms) =
 gets_of_other : (c : ℕ) (u : Usage) → (c ≡ u.channel → ⊥) → count_by (is_get c) (gets_of (Some u)) ≡ 0
 gets_of_other c u other =
     let done = gets_for_uses u.slots u.number in
-    let ms = count_up done (gets_for_uses u.slots (suc u.number) - done) in
+    let ms = range_with_len done (gets_for_uses u.slots (suc u.number) - done) in
     gets_counted c u.channel (λ m. u.base + slice_index u.slots.slot_of_get m) ms ∙ ap (λ b. cond b (length ms) 0) (ne_eqb c u.channel other)
 
 gets_of_this : (c : ℕ) (u : Usage) → c ≡ u.channel → count_by (is_get c) (gets_of (Some u)) ≡ gets_for_uses u.slots (suc u.number) - gets_for_uses u.slots u.number
 gets_of_this c u same =
     let done = gets_for_uses u.slots u.number in
-    let ms = count_up done (gets_for_uses u.slots (suc u.number) - done) in
+    let ms = range_with_len done (gets_for_uses u.slots (suc u.number) - done) in
     gets_counted c u.channel (λ m. u.base + slice_index u.slots.slot_of_get m) ms
     ∙ ap (λ b. cond b (length ms) 0) (eq-eqb c u.channel same)
-    ∙ length_count_up done (gets_for_uses u.slots (suc u.number) - done)
+    ∙ length-range_with_len done (gets_for_uses u.slots (suc u.number) - done)
 
 no_get_behind : (c b : ℕ) (plans : List ChannelPlan) (p f : ℕ) → count_by (is_get c) (puts_from b plans p f) ≡ 0
 no_get_behind c b [] p f = refl
@@ -88,20 +75,20 @@ no_get_behind c b (plan ∷ plans) p f =
       | inr none ↦ rw none (no_get_behind c (suc b) plans p f)
     ]
 
--- where one slot alone has Gets of the channel
-none_past : (slot : ℕ → List Event) (c k : ℕ) → ((j : ℕ) → (j ≡ k → ⊥) → count_by (is_get c) (slot j) ≡ 0) → (a m : ℕ) → k < a → count_by (is_get c) (flat_map slot (count_up a m)) ≡ 0
-none_past slot c k other a zero lt = refl
-none_past slot c k other a (suc m) lt =
-    omega (arith, count-append (is_get c) (slot a) (flat_map slot (count_up (a + 1) m)), other a (λ e. omega arith), none_past slot c k other (a + 1) m (omega arith))
+-- where one read alone has Gets of the channel
+none_past : (gets : ℕ → List Event) (c k : ℕ) → ((j : ℕ) → (j ≡ k → ⊥) → count_by (is_get c) (gets j) ≡ 0) → (a m : ℕ) → k < a → count_by (is_get c) (flat_map gets (range_with_len a m)) ≡ 0
+none_past gets c k other a zero lt = refl
+none_past gets c k other a (suc m) lt =
+    omega (arith, count-append (is_get c) (gets a) (flat_map gets (range_with_len (a + 1) m)), other a (λ e. omega arith), none_past gets c k other (a + 1) m (omega arith))
 
-one_slot : (slot : ℕ → List Event) (c k most : ℕ) → ((j : ℕ) → (j ≡ k → ⊥) → count_by (is_get c) (slot j) ≡ 0) → count_by (is_get c) (slot k) ≤ most
-    → (a m : ℕ) → count_by (is_get c) (flat_map slot (count_up a m)) ≤ most
-one_slot slot c k most other this a zero = omega arith
-one_slot slot c k most other this a (suc m) =
-    let counted = count-append (is_get c) (slot a) (flat_map slot (count_up (a + 1) m)) in
-    let later = one_slot slot c k most other this (a + 1) m in
+one_read : (gets : ℕ → List Event) (c k most : ℕ) → ((j : ℕ) → (j ≡ k → ⊥) → count_by (is_get c) (gets j) ≡ 0) → count_by (is_get c) (gets k) ≤ most
+    → (a m : ℕ) → count_by (is_get c) (flat_map gets (range_with_len a m)) ≤ most
+one_read gets c k most other this a zero = omega arith
+one_read gets c k most other this a (suc m) =
+    let counted = count-append (is_get c) (gets a) (flat_map gets (range_with_len (a + 1) m)) in
+    let later = one_read gets c k most other this (a + 1) m in
     elim (cases_eq a k) [
-      | inl same ↦ omega (arith, counted, none_past slot c k other (a + 1) m (omega arith), ap (λ j. count_by (is_get c) (slot j)) same)
+      | inl same ↦ omega (arith, counted, none_past gets c k other (a + 1) m (omega arith), ap (λ j. count_by (is_get c) (gets j)) same)
       | inr ne ↦ omega (arith, counted, other a ne)
     ]
 
@@ -114,14 +101,6 @@ turns_first w sources g =
     ap (take (length first)) (ap (turns_used w) (sym (take-append-drop g sources)) ∙ filter_map-append (turn_of w) (take g sources) (drop g sources))
     ∙ take_at first (turns_used w (drop g sources)) (length first) refl
 
-few_turns : (w : ℕ) (sources : List (Option Tag)) (g : ℕ) → length (turns_used w (take g sources)) ≤ length (turns_used w sources)
-few_turns w sources g =
-    let whole = ap length (ap (turns_used w) (sym (take-append-drop g sources)) ∙ filter_map-append (turn_of w) (take g sources) (drop g sources)) in
-    omega (arith, whole, length-append (turns_used w (take g sources)) (turns_used w (drop g sources)))
-
-abbrev with_turn : Option ℕ → List ℕ → List ℕ
-with_turn o turns = cons_option o turns
-
 turns_mono : (w : ℕ) (sources : List (Option Tag)) (g : ℕ) → length (turns_used w (take g sources)) ≤ length (turns_used w (take (suc g) sources))
 turns_mono w [] zero = omega arith
 turns_mono w [] (suc g) = omega arith
@@ -129,23 +108,9 @@ turns_mono w (x ∷ sources) zero = omega arith
 turns_mono w (x ∷ sources) (suc g) = go (turn_of w x) (turns_mono w sources g)
   where
     go : (o : Option ℕ) → length (turns_used w (take g sources)) ≤ length (turns_used w (take (suc g) sources))
-        → length (with_turn o (turns_used w (take g sources))) ≤ length (with_turn o (turns_used w (take (suc g) sources)))
+        → length (cons_option o (turns_used w (take g sources))) ≤ length (cons_option o (turns_used w (take (suc g) sources)))
     go None le = le
     go (Some t) le = omega arith
-
-named_here : (w : ℕ) (sources : List (Option Tag)) (g : ℕ) (t : Tag) → slice_get sources g ≡ Some (Some t) → t.process ≡ w
-    → length (turns_used w (take (suc g) sources)) ≡ suc (length (turns_used w (take g sources)))
-named_here w [] g t is same = cc
-named_here w (x ∷ sources) zero t is same =
-    let here : x ≡ Some t = cc in
-    let turn : turn_of w x ≡ Some t.turn = ap (turn_of w) here ∙ ap (λ b. cond b (Some t.turn) None) (eq-eqb t.process w same) in
-    ap (λ o. length (with_turn o [])) turn
-named_here w (x ∷ sources) (suc g) t is same = go (turn_of w x) (named_here w sources g t is same)
-  where
-    go : (o : Option ℕ) → length (turns_used w (take (suc g) sources)) ≡ suc (length (turns_used w (take g sources)))
-        → length (with_turn o (turns_used w (take (suc g) sources))) ≡ suc (length (with_turn o (turns_used w (take g sources))))
-    go None e = e
-    go (Some t) e = ap suc e
 
 -- The Gets of a channel
 
@@ -161,29 +126,29 @@ module _ (n : Nest) (c : ℕ) (plan : ChannelPlan) (found : slice_get (plans_of 
   uses_made g = length (turns_used plan.writer (take g (sources_at n plan.reader plan.read)))
 
   few_uses : (g : ℕ) → uses_made g ≤ length uses
-  few_uses g = omega (arith, few_turns plan.writer sources g, length-map (turns_used plan.writer sources) (tokens_below (turns_used plan.writer sources)))
+  few_uses g = omega (arith, before_within sources g plan.writer, length-map (turns_used plan.writer sources) (tokens_below (turns_used plan.writer sources)))
+
+  next_use : (g : ℕ) (t : Tag) → slice_get sources g ≡ Some (Some t) → t.process ≡ plan.writer → uses_made (suc g) ≡ suc (uses_made g)
+  next_use g t is same =
+      omega (arith, ap uses_made (add-one g), before_more sources g plan.writer (Some t) is, ap length (of_own plan.writer t same))
 
   wanted_more : (g : ℕ) → gets_for (take (uses_made g) uses) ≤ gets_for (take (uses_made (suc g)) uses)
-  wanted_more g = gets_for_mono uses (uses_made g) (uses_made (suc g)) (turns_mono plan.writer sources g)
+  wanted_more g = more_gets uses (uses_made g) (uses_made (suc g)) (turns_mono plan.writer sources g)
 
-  -- a channel that some fire uses has uses
-  pub some_uses : (g : ℕ) (source : Tag) → slice_get (sources_at n plan.reader plan.read) g ≡ Some (Some source) → source.process ≡ plan.writer → 0 < length uses
-  some_uses g source at same = omega (arith, few_uses (suc g), named_here plan.writer sources g source at same)
-
-  pub slots_are : plan.slots ≡ slot_plan uses
+  slots_are : plan.slots ≡ slot_plan uses
   slots_are = ap (λ (x : ChannelPlan). x.slots) (plan_is n c plan found)
 
-  -- at another slot there is no Get of the channel
-  slot_other : (g j : ℕ) → (j ≡ plan.read → ⊥) → (o : Option Usage) → usage n plan.reader g j ≡ o → count_by (is_get c) (gets_of o) ≡ 0
-  slot_other g j ne None is = refl
-  slot_other g j ne (Some u) is =
+  -- at another read there is no Get of the channel
+  read_other : (g j : ℕ) → (j ≡ plan.read → ⊥) → (o : Option Usage) → usage n plan.reader g j ≡ o → count_by (is_get c) (gets_of o) ≡ 0
+  read_other g j ne None is = refl
+  read_other g j ne (Some u) is =
       let of = use_is n plan.reader g j u is in
       gets_of_other c u (λ same. ne (sym of.read ∙ ap (λ (x : ChannelPlan). x.read) (same_Some of.plan plan (sym of.is ∙ ap (slice_get (plans_of n)) (sym same) ∙ found))))
 
-  slot_this : (g : ℕ) → (o : Option Usage) → usage n plan.reader g plan.read ≡ o
+  read_this : (g : ℕ) → (o : Option Usage) → usage n plan.reader g plan.read ≡ o
       → count_by (is_get c) (gets_of o) ≤ gets_for (take (uses_made (suc g)) uses) - gets_for (take (uses_made g) uses)
-  slot_this g None is = omega arith
-  slot_this g (Some u) is =
+  read_this g None is = omega arith
+  read_this g (Some u) is =
       let of = use_is n plan.reader g plan.read u is in
       elim (cases_eq c u.channel) [
         | inl same ↦
@@ -191,7 +156,7 @@ module _ (n : Nest) (c : ℕ) (plan : ChannelPlan) (found : slice_get (plans_of 
             let writer : of.source.process ≡ plan.writer = sym of.writer ∙ ap (λ (x : ChannelPlan). x.writer) this in
             let slots : u.slots ≡ slot_plan uses = of.slots ∙ ap (λ (x : ChannelPlan). x.slots) this ∙ slots_are in
             let number : u.number ≡ uses_made g = of.number ∙ ap (λ w. length (turns_used w (take g sources))) writer in
-            let next : uses_made (suc g) ≡ suc (uses_made g) = named_here plan.writer sources g of.source of.at writer in
+            let next : uses_made (suc g) ≡ suc (uses_made g) = next_use g of.source of.at writer in
             let few : uses_made g < length uses = omega (arith, few_uses (suc g)) in
             let new = ap (λ s. gets_for_uses s (suc u.number)) slots ∙ ap (λ q. gets_for_uses (slot_plan uses) (suc q)) number
             ∙ next_gets uses (uses_made g) few ∙ ap (λ q. gets_for (take q uses)) (sym next) in
@@ -203,18 +168,18 @@ module _ (n : Nest) (c : ℕ) (plan : ChannelPlan) (found : slice_get (plans_of 
   point_gets : (g : ℕ) → count_by (is_get c) (point_events n plan.reader g) + gets_for (take (uses_made g) uses) ≤ gets_for (take (uses_made (suc g)) uses)
   point_gets g =
       let p = plan.reader in
-      let numbers = count_up 0 (read_count n p) in
+      let numbers = range_with_len 0 (read_count n p) in
       let usages = map (usage n p g) numbers in
       let puts = puts_from 0 (plans_of n) p g in
-      let slots = ap (count_by (is_get c)) (flat_map-map gets_of (usage n p g) numbers) in
-      let few = one_slot (λ j. gets_of (usage n p g j)) c plan.read (gets_for (take (uses_made (suc g)) uses) - gets_for (take (uses_made g) uses))
-      (λ j ne. slot_other g j ne (usage n p g j) refl) (slot_this g (usage n p g plan.read) refl) 0 (read_count n p) in
+      let reads = ap (count_by (is_get c)) (flat_map-map gets_of (usage n p g) numbers) in
+      let few = one_read (λ j. gets_of (usage n p g j)) c plan.read (gets_for (take (uses_made (suc g)) uses) - gets_for (take (uses_made g) uses))
+      (λ j ne. read_other g j ne (usage n p g j) refl) (read_this g (usage n p g plan.read) refl) 0 (read_count n p) in
       omega (
         arith,
         count-append (is_get c) (flat_map gets_of usages) (Fire (map ref_of usages) ∷ puts),
         count_cons (is_get c) (Fire (map ref_of usages)) puts,
         no_get_behind c 0 (plans_of n) p g,
-        slots,
+        reads,
         few,
         wanted_more g,
       )

@@ -1,32 +1,25 @@
 -- The schedule that follows the trace, after the first entries.
-use Rattle.std.proofs.Common.{◌≡◌, ℕ, zero, suc, ◌+◌, ◌<◌, ◌≤◌, Some, cond, List, [], ◌∷◌, ◌++◌, length, take, replicate, slice_get, refl, sym, ap, ◌∙◌, inl, inr, arith, length-append}
+use Rattle.std.proofs.Common.{◌≡◌, ℕ, zero, suc, ◌+◌, ◌≤◌, Some, cond, List, [], ◌∷◌, ◌++◌, length, take, replicate, slice_get, refl, sym, ap, ◌∙◌, inl, inr, arith, length-append}
 use Rattle.std.specs.Prelude.{◌==◌, count_by}
-use Rattle.std.specs.List.{filter_map, flat_map}
+use Rattle.std.specs.List.{filter_map, flat_map, range_with_len}
 use Rattle.std.specs.Option.{option_map}
 use Rattle.std.proofs.lemmas.Bool.{cases_eq, eq-eqb, ne_eqb}
 use Rattle.std.proofs.lemmas.List.{append-nil}
 use Rattle.std.proofs.lemmas.List.Concat.{flat_map-append}
 use Rattle.std.proofs.lemmas.List.Elements.{filter_map-append}
 use Rattle.net_core.specs.declared.network.Event.{Event}
-use Rattle.net_core.specs.Cuts.{cut_after}
+use Rattle.net_core.specs.Cuts.{cut_after, opening}
 use Rattle.net_core.proofs.Counting.{count_next}
+use Rattle.process_derive.proofs.Wired.{item_at}
 use Rattle.sanlp.specs.declared.nest.Point.{Point}
 use Rattle.sanlp.specs.declared.nest.Tag.{Tag}
-use Rattle.sanlp.specs.Cells.{count_up}
 use Rattle.sanlp.specs.Tags.{tag_at}
-use Rattle.sanlp.proofs.Lists.{count_up-append}
-use Rattle.witness_plan.specs.Sequential.{opening}
+use Rattle.sanlp.proofs.Lists.{flat_map-range_with_len_more, range_with_len_more}
 use Rattle.witness_plan.proofs.AlongCuts.{cut_after-append, cut_here, cut_there}
 
 -- how many of the first t entries are of process p
 abbrev pub turns_before : List Point → ℕ → ℕ → ℕ
 turns_before points t p = count_by (λ q. q.statement == p) (take t points)
-
--- there is a point at each place below the length
-pub point_at : (points : List Point) (t : ℕ) → t < length points → (p : Point) × (slice_get points t ≡ Some p)
-point_at [] t lt = absurd (omega arith)
-point_at (p ∷ points) zero lt = (p, refl)
-point_at (p ∷ points) (suc t) lt = point_at points t (omega arith)
 
 module _ (events : ℕ → ℕ → List Event) (points : List Point) where
   -- the process of a point, once for each of its events
@@ -35,34 +28,29 @@ module _ (events : ℕ → ℕ → List Event) (points : List Point) where
 
   -- the schedule of the first t entries
   abbrev pub until : ℕ → List ℕ
-  until t = flat_map of_point (filter_map (tag_at points) (count_up 0 t))
+  until t = flat_map of_point (filter_map (tag_at points) (range_with_len 0 t))
 
   pub until_more : (t : ℕ) (p : Point) → slice_get points t ≡ Some p
       → until (suc t) ≡ until t ++ replicate (length (events p.statement (turns_before points t p.statement))) p.statement
   until_more t p is =
       let next : suc t ≡ t + 1 = omega arith in
-      let front : 0 + t ≡ t = omega arith in
       let tag : Tag = record { process = p.statement; turn = turns_before points t p.statement } in
       let here : tag_at points t ≡ Some tag = ap (option_map (λ q. record { process = q.statement; turn = turns_before points t q.statement })) is in
-      let one : filter_map (tag_at points) (count_up t 1) ≡ tag ∷ [] = rw here refl in
+      let one : filter_map (tag_at points) (t ∷ []) ≡ tag ∷ [] = rw here refl in
       ap until next
-      ∙ ap (λ ts. flat_map of_point (filter_map (tag_at points) ts)) (count_up-append 0 t 1)
-      ∙ ap (flat_map of_point) (filter_map-append (tag_at points) (count_up 0 t) (count_up (0 + t) 1))
-      ∙ ap (λ a. flat_map of_point (filter_map (tag_at points) (count_up 0 t) ++ filter_map (tag_at points) (count_up a 1))) front
-      ∙ ap (λ ts. flat_map of_point (filter_map (tag_at points) (count_up 0 t) ++ ts)) one
-      ∙ flat_map-append of_point (filter_map (tag_at points) (count_up 0 t)) (tag ∷ [])
+      ∙ ap (λ ts. flat_map of_point (filter_map (tag_at points) ts)) (range_with_len_more 0 t t (omega arith))
+      ∙ ap (flat_map of_point) (filter_map-append (tag_at points) (range_with_len 0 t) (t ∷ []))
+      ∙ ap (λ ts. flat_map of_point (filter_map (tag_at points) (range_with_len 0 t) ++ ts)) one
+      ∙ flat_map-append of_point (filter_map (tag_at points) (range_with_len 0 t)) (tag ∷ [])
       ∙ ap (λ ps. until t ++ ps) (append-nil (of_point tag))
 
   -- where a process stands after so many of its points
   abbrev stand : ℕ → ℕ → ℕ
-  stand p f = length (flat_map (events p) (count_up 0 f))
+  stand p f = length (flat_map (events p) (range_with_len 0 f))
 
   stand_more : (p f : ℕ) → stand p (f + 1) ≡ stand p f + length (events p f)
   stand_more p f =
-      let front : 0 + f ≡ f = omega arith in
-      ap length (ap (flat_map (events p)) (count_up-append 0 f 1) ∙ flat_map-append (events p) (count_up 0 f) (count_up (0 + f) 1))
-      ∙ length-append (flat_map (events p) (count_up 0 f)) (flat_map (events p) (count_up (0 + f) 1))
-      ∙ ap (λ xs. stand p f + length xs) (ap (λ a. flat_map (events p) (count_up a 1)) front ∙ append-nil (events p f))
+      ap length (flat_map-range_with_len_more (events p) 0 f f (omega arith)) ∙ length-append (flat_map (events p) (range_with_len 0 f)) (events p f)
 
   cut_until : (t q : ℕ) (p : Point) → slice_get points t ≡ Some p → cut_after opening (until (suc t)) q
       ≡ cut_after (cut_after opening (until t)) (replicate (length (events p.statement (turns_before points t p.statement))) p.statement) q
@@ -98,5 +86,5 @@ module _ (events : ℕ → ℕ → List Event) (points : List Point) where
   pub stands : (t q : ℕ) → t ≤ length points → cut_after opening (until t) q ≡ stand q (turns_before points t q)
   stands zero q le = refl
   stands (suc t) q le =
-      let p = point_at points t (omega arith) in
+      let p = item_at points t (omega arith) in
       stands_more t q p.0 p.1 (stands t q (omega arith))

@@ -8,12 +8,13 @@
 use Rattle.std.proofs.Common.{◌≡◌, ℕ, zero, suc, ◌+◌, ◌<◌, ◌≤◌, true, cond, Option, Some, None, List, [], ◌∷◌, ◌++◌, length, take, slice_get, count_by, get_or, refl, sym, ap, ◌∙◌, subst, arith, append_assoc, append-nil, lt-ltb, eq-eqb}
 use Rattle.std.specs.Option.{option_map_or}
 use Rattle.std.proofs.lemmas.List.{take_all}
+use Rattle.std.proofs.lemmas.List.FromFn.{get_or-map-range_with_len, length-map-range_with_len}
 use Rattle.std.proofs.lemmas.Option.{slice_get_within}
 use Rattle.net_core.specs.declared.network.Channel.{Channel}
 use Rattle.net_core.specs.declared.network.Event.{Event}
 use Rattle.net_core.specs.declared.network.Event.TheVariants.{Get, Fire, Put}
 use Rattle.net_core.specs.declared.network.Network.{Network}
-use Rattle.net_core.specs.Cuts.{Cut, IsCutRun, advanced, can_come_at, cut_after, enabled_at, gets_at, puts_at}
+use Rattle.net_core.specs.Cuts.{Cut, IsCutRun, advanced, can_come_at, cut_after, enabled_at, gets_at, opening, puts_at}
 use Rattle.net_core.specs.Machine.{IsRun, Net, State, net_of, start, step}
 use Rattle.net_core.specs.Orders.{EndsAll, reached}
 use Rattle.net_core.specs.Rules.{tags}
@@ -22,9 +23,8 @@ use Rattle.net_core.proofs.Counting.{count_past}
 use Rattle.net_core.proofs.Positions.{cut_run, gets_advanced, puts_advanced, run_counted, run_ends, start_counted}
 use Rattle.sanlp.specs.declared.nest.Tag.{Tag}
 use Rattle.witness_plan.specs.Schedules.{could_come_at, is_ready}
-use Rattle.witness_plan.specs.Sequential.{capacities, channels_with, greatest_length, opening, queue_length, with_capacities}
+use Rattle.witness_plan.specs.Sequential.{capacities, channels_with, greatest_length, queue_length, with_capacities}
 use Rattle.witness_plan.proofs.AlongCuts.{cut_after-append}
-use Rattle.witness_plan.proofs.CountedLists.{get_below, length_between}
 use Rattle.witness_plan.proofs.NotedTraffic.{greatest_more, now_within}
 use Rattle.witness_plan.proofs.OtherCapacities.{net_kept, reader_kept, wired_kept, writer_kept}
 
@@ -126,8 +126,8 @@ module _ (network : Network) (schedule : List ℕ) (wired : IsWired (net_of netw
 
   capacity_is : (c : ℕ) → c < (net_of network).channels → fitted.capacity c ≡ greatest_length (net_of network) schedule c
   capacity_is c lt =
-      capacity_given network.channels (capacities network schedule) c lt (omega (arith, lt, length_between (greatest_length (net_of network) schedule) 0 (length network.channels)))
-      ∙ get_below (greatest_length (net_of network) schedule) 0 (length network.channels) c lt
+      capacity_given network.channels (capacities network schedule) c lt (omega (arith, lt, length-map-range_with_len (greatest_length (net_of network) schedule) 0 (length network.channels)))
+      ∙ get_or-map-range_with_len (greatest_length (net_of network) schedule) 0 (length network.channels) c c 0 lt (omega arith)
 
   -- each entry of the schedule is enabled in turn
   fitted_runs : IsCutRun fitted opening schedule

@@ -6,9 +6,8 @@ use Rattle.std.proofs.lemmas.Option.{slice_get_read}
 use Rattle.net_core.specs.declared.network.Event.{Event}
 use Rattle.net_core.specs.declared.network.Network.{Network}
 use Rattle.net_core.specs.declared.network.Process.{Process}
-use Rattle.net_core.specs.Cuts.{cut_after}
+use Rattle.net_core.specs.Cuts.{cut_after, opening}
 use Rattle.net_core.specs.Machine.{net_of}
-use Rattle.witness_plan.specs.Sequential.{opening}
 use Rattle.witness_plan.specs.Steps.{point_length}
 use Rattle.witness_plan.proofs.AlongCuts.{cut_after-append, cut_here}
 

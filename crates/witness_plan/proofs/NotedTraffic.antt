@@ -1,23 +1,23 @@
 -- What is counted along a schedule, after one event more.
 use Rattle.std.proofs.Common.{◌≡◌, ℕ, ◌+◌, ◌-◌, ◌<◌, ◌≤◌, ◌^◌, max, true, false, cond, Some, List, [], ◌∷◌, ◌++◌, map, set, length, take, slice_get, get_or, count_by, refl, sym, ap, ◌∙◌, subst, arith, length-append}
-use Rattle.std.specs.List.{fold}
+use Rattle.std.specs.List.{fold, range_with_len}
 use Rattle.std.proofs.lemmas.Bool.{eq-eqb, ne_eqb, eqb-true}
-use Rattle.std.proofs.lemmas.List.{length-take-le, map-append, take-append-le, take_all}
+use Rattle.std.proofs.lemmas.List.{length-take-le, take-append-le, take_all}
+use Rattle.std.proofs.lemmas.List.FromFn.{get_or-map-range_with_len, length-map-range_with_len, map-range_with_len_more}
 use Rattle.std.proofs.lemmas.List.Sums.{count_by-le-length, fold-append}
 use Rattle.std.proofs.lemmas.Option.{get_or_from_slice_get, slice_get_within}
 use Rattle.net_core.specs.declared.network.Event.{Event}
 use Rattle.net_core.specs.declared.network.Event.TheVariants.{Get, Fire, Put}
-use Rattle.net_core.specs.Cuts.{Cut, advanced, cut_after, gets_at, puts_at}
+use Rattle.net_core.specs.Cuts.{Cut, advanced, cut_after, gets_at, opening, puts_at}
 use Rattle.net_core.specs.Machine.{Net}
 use Rattle.net_core.specs.Shape.{is_get, is_put, put_count}
 use Rattle.net_core.proofs.Counting.{count_past}
-use Rattle.sanlp.specs.Cells.{count_up}
-use Rattle.sanlp.proofs.Lists.{count_up-append}
+use Rattle.sanlp.proofs.Lists.{map-range_with_len_same}
 use Rattle.witness_plan.specs.declared.traffic.Traffic.{Traffic}
-use Rattle.witness_plan.specs.Sequential.{greatest_length, opening, queue_length}
+use Rattle.witness_plan.specs.Sequential.{greatest_length, queue_length}
 use Rattle.witness_plan.specs.Traffic.{CanBeNoted, IsOwn, NamesOwnChannels, after_get, after_put, no_traffic, noted, traffic_along, traffic_of}
 use Rattle.witness_plan.proofs.AlongCuts.{cut_after-append, gets_more, puts_more}
-use Rattle.witness_plan.proofs.CountedLists.{get_below, length_between, same_between, set_between}
+use Rattle.witness_plan.proofs.CountedLists.{set_at}
 
 -- The greatest length
 
@@ -31,21 +31,18 @@ queued_before net schedule p c k le = ap (λ s. queue_length net (cut_after open
 queued_all : (net : Net) (schedule : List ℕ) (c : ℕ) → queued net schedule c (length schedule) ≡ queue_length net (cut_after opening schedule) c
 queued_all net schedule c = ap (λ s. queue_length net (cut_after opening s) c) (take_all (length schedule) schedule (omega arith))
 
-one_more : (f : ℕ → ℕ) (m : ℕ) → fold max 0 (map f (count_up 0 (m + 1))) ≡ max (fold max 0 (map f (count_up 0 m))) (f m)
+one_more : (f : ℕ → ℕ) (m : ℕ) → fold max 0 (map f (range_with_len 0 (m + 1))) ≡ max (fold max 0 (map f (range_with_len 0 m))) (f m)
 one_more f m =
-    let front : 0 + m ≡ m = omega arith in
-    ap (fold max 0) (ap (map f) (count_up-append 0 m 1) ∙ map-append f (count_up 0 m) (count_up (0 + m) 1))
-    ∙ fold-append max 0 (map f (count_up 0 m)) (f (0 + m) ∷ [])
-    ∙ ap (λ j. max (fold max 0 (map f (count_up 0 m))) (f j)) front
+    ap (fold max 0) (map-range_with_len_more f 0 m m (omega arith)) ∙ fold-append max 0 (map f (range_with_len 0 m)) (f m ∷ [])
 
 pub greatest_more : (net : Net) (schedule : List ℕ) (p c : ℕ)
     → greatest_length net (schedule ++ p ∷ []) c ≡ max (greatest_length net schedule c) (queue_length net (advanced (cut_after opening schedule) p) c)
 greatest_more net schedule p c =
     let long : length (schedule ++ p ∷ []) ≡ length schedule + 1 = length-append schedule (p ∷ []) in
-    ap (λ m. fold max 0 (map (queued net (schedule ++ p ∷ []) c) (count_up 0 (m + 1)))) long
+    ap (λ m. fold max 0 (map (queued net (schedule ++ p ∷ []) c) (range_with_len 0 (m + 1)))) long
     ∙ one_more (queued net (schedule ++ p ∷ []) c) (length schedule + 1)
     ∙ ap (λ xs. max (fold max 0 xs) (queued net (schedule ++ p ∷ []) c (length schedule + 1)))
-    (same_between (queued net (schedule ++ p ∷ []) c) (queued net schedule c) 0 (length schedule + 1) (λ k h l. queued_before net schedule p c k (omega arith)))
+    (map-range_with_len_same (queued net (schedule ++ p ∷ []) c) (queued net schedule c) 0 (length schedule + 1) (λ k h l. queued_before net schedule p c k (omega arith)))
     ∙ ap (max (greatest_length net schedule c))
     (ap (queued net (schedule ++ p ∷ []) c) (sym long) ∙ queued_all net (schedule ++ p ∷ []) c
     ∙ ap (λ k. queue_length net k c) (cut_after-append opening schedule (p ∷ [])))
@@ -124,21 +121,19 @@ pub noted_along : (net : Net) (schedule : List ℕ) (p : ℕ) (e : Event) → sl
 noted_along net schedule p (Get d slot) is own =
     let f = traffic_of net schedule in
     let g = traffic_of net (schedule ++ p ∷ []) in
-    let front : 0 + d ≡ d = omega arith in
-    ap (λ t. set (map f (count_up 0 net.channels)) d (after_get t)) (get_below f no_traffic net.channels d own.0)
-    ∙ set_between f g 0 net.channels d (after_get (f d)) own.0
-    (ap g front ∙ traffic_got net schedule p (Get d slot) is own d refl (eq-eqb d d refl))
-    (λ k ne. traffic_other net schedule p (Get d slot) is own k refl (ne_eqb k d (λ same. ne (omega arith))))
+    ap (λ t. set (map f (range_with_len 0 net.channels)) d (after_get t)) (get_or-map-range_with_len f 0 net.channels d d no_traffic own.0 (omega arith))
+    ∙ set_at f g net.channels d (after_get (f d)) own.0
+    (traffic_got net schedule p (Get d slot) is own d refl (eq-eqb d d refl))
+    (λ k ne. traffic_other net schedule p (Get d slot) is own k refl (ne_eqb k d ne))
 noted_along net schedule p (Fire refs) is own =
-    same_between (traffic_of net schedule) (traffic_of net (schedule ++ p ∷ [])) 0 net.channels (λ k h l. traffic_other net schedule p (Fire refs) is own k refl refl)
+    map-range_with_len_same (traffic_of net schedule) (traffic_of net (schedule ++ p ∷ [])) 0 net.channels (λ k h l. traffic_other net schedule p (Fire refs) is own k refl refl)
 noted_along net schedule p (Put d) is own =
     let f = traffic_of net schedule in
     let g = traffic_of net (schedule ++ p ∷ []) in
-    let front : 0 + d ≡ d = omega arith in
-    ap (λ t. set (map f (count_up 0 net.channels)) d (after_put t)) (get_below f no_traffic net.channels d own.0)
-    ∙ set_between f g 0 net.channels d (after_put (f d)) own.0
-    (ap g front ∙ traffic_put net schedule p (Put d) is own d (eq-eqb d d refl) refl)
-    (λ k ne. traffic_other net schedule p (Put d) is own k (ne_eqb k d (λ same. ne (omega arith))) refl)
+    ap (λ t. set (map f (range_with_len 0 net.channels)) d (after_put t)) (get_or-map-range_with_len f 0 net.channels d d no_traffic own.0 (omega arith))
+    ∙ set_at f g net.channels d (after_put (f d)) own.0
+    (traffic_put net schedule p (Put d) is own d (eq-eqb d d refl) refl)
+    (λ k ne. traffic_other net schedule p (Put d) is own k (ne_eqb k d ne) refl)
 
 -- the event that a process makes next is its own
 pub own_event : (net : Net) (channels : NamesOwnChannels net) (p k : ℕ) (e : Event) → slice_get (net.script p) k ≡ Some e → IsOwn net p e
@@ -170,13 +165,13 @@ pub can_be_noted : (net : Net) (channels : NamesOwnChannels net) (schedule : Lis
     → slice_get (net.script p) (cut_after opening schedule p) ≡ Some e → IsOwn net p e → length (net.script p) < 2 ^ 64
     → CanBeNoted (traffic_along net schedule) e
 can_be_noted net channels schedule p (Get d slot) is own short = (
-  omega (arith, own.0, length_between (traffic_of net schedule) 0 net.channels),
-  (let here : get_or (traffic_along net schedule) d no_traffic ≡ traffic_of net schedule d = get_below (traffic_of net schedule) no_traffic net.channels d own.0 in
+  omega (arith, own.0, length-map-range_with_len (traffic_of net schedule) 0 net.channels),
+  (let here : get_or (traffic_along net schedule) d no_traffic ≡ traffic_of net schedule d = get_or-map-range_with_len (traffic_of net schedule) 0 net.channels d d no_traffic own.0 (omega arith) in
       rw here (few_gets net channels (cut_after opening schedule) p d (Get d slot) is own.1 short)),
 )
 can_be_noted net channels schedule p (Fire refs) is own short = tt
 can_be_noted net channels schedule p (Put d) is own short = (
-  omega (arith, own.0, length_between (traffic_of net schedule) 0 net.channels),
-  (let here : get_or (traffic_along net schedule) d no_traffic ≡ traffic_of net schedule d = get_below (traffic_of net schedule) no_traffic net.channels d own.0 in
+  omega (arith, own.0, length-map-range_with_len (traffic_of net schedule) 0 net.channels),
+  (let here : get_or (traffic_along net schedule) d no_traffic ≡ traffic_of net schedule d = get_or-map-range_with_len (traffic_of net schedule) 0 net.channels d d no_traffic own.0 (omega arith) in
       rw here (more_puts net channels (cut_after opening schedule) p d (Put d) is own.1 own.0 (eq-eqb d d refl))),
 )

@@ -1,7 +1,7 @@
 -- Where the events of a point end in a script.
 use Rattle.std.proofs.Common.{◌≡◌, ℕ, zero, suc, ◌+◌, ◌-◌, ◌<◌, ◌≤◌, true, false, cond, Option, Some, None, List, [], ◌∷◌, ◌++◌, length, map, drop, refl, ap, ◌∙◌, arith, append_assoc, length-append}
 use Rattle.std.specs.Prelude.{slice_index, slice_index_or, ◌==◌, ◌&&◌}
-use Rattle.std.specs.List.{flat_map}
+use Rattle.std.specs.List.{flat_map, range_with_len}
 use Rattle.std.proofs.lemmas.List.{drop_at}
 use Rattle.std.proofs.lemmas.List.Concat.{flat_map-append}
 use Rattle.channel_plan.specs.declared.plans.ChannelPlan.{ChannelPlan}
@@ -12,8 +12,7 @@ use Rattle.net_core.specs.declared.refs.Ref.{Ref}
 use Rattle.process_derive.specs.Scripts.{Usage, gets_for_uses, gets_of, point_events, puts_from, ref_of, script, usage}
 use Rattle.sanlp.specs.Access.{read_count}
 use Rattle.sanlp.specs.declared.nest.Nest.{Nest}
-use Rattle.sanlp.specs.Cells.{count_up}
-use Rattle.sanlp.proofs.Lists.{count_up-append}
+use Rattle.sanlp.proofs.Lists.{range_with_len-append}
 use Rattle.witness_plan.specs.Steps.{point_length, put_length}
 
 -- Gets in front
@@ -26,7 +25,7 @@ gets_of_passed : (o : Option Usage) (es : List Event) → point_length (gets_of 
 gets_of_passed None es = omega arith
 gets_of_passed (Some u) es =
     let done = gets_for_uses u.slots u.number in
-    gets_passed u.channel (λ m. u.base + slice_index u.slots.slot_of_get m) (count_up done (gets_for_uses u.slots (suc u.number) - done)) es
+    gets_passed u.channel (λ m. u.base + slice_index u.slots.slot_of_get m) (range_with_len done (gets_for_uses u.slots (suc u.number) - done)) es
 
 all_gets_passed : (us : List (Option Usage)) (es : List Event) → point_length (flat_map gets_of us ++ es) ≡ length (flat_map gets_of us) + point_length es
 all_gets_passed [] es = omega arith
@@ -42,7 +41,7 @@ gets_of_before : (o : Option Usage) (es : List Event) → put_length es ≡ 0 �
 gets_of_before None es h = h
 gets_of_before (Some u) es h =
     let done = gets_for_uses u.slots u.number in
-    gets_before u.channel (λ m. u.base + slice_index u.slots.slot_of_get m) (count_up done (gets_for_uses u.slots (suc u.number) - done)) es h
+    gets_before u.channel (λ m. u.base + slice_index u.slots.slot_of_get m) (range_with_len done (gets_for_uses u.slots (suc u.number) - done)) es h
 
 all_gets_before : (us : List (Option Usage)) (es : List Event) → put_length es ≡ 0 → put_length (flat_map gets_of us ++ es) ≡ 0
 all_gets_before [] es h = h
@@ -71,43 +70,43 @@ parts_passed us refs plans p f es h =
 -- a point ends where what follows begins with no Put
 pub point_passed : (n : Nest) (p f : ℕ) (es : List Event) → put_length es ≡ 0 → point_length (point_events n p f ++ es) ≡ length (point_events n p f)
 point_passed n p f es h =
-    let usages = map (usage n p f) (count_up 0 (read_count n p)) in
+    let usages = map (usage n p f) (range_with_len 0 (read_count n p)) in
     parts_passed usages (map ref_of usages) (plans_of n) p f es h
 
 -- a point begins with no Put
 point_begins : (n : Nest) (p f : ℕ) (es : List Event) → put_length (point_events n p f ++ es) ≡ 0
 point_begins n p f es =
-    let usages = map (usage n p f) (count_up 0 (read_count n p)) in
+    let usages = map (usage n p f) (range_with_len 0 (read_count n p)) in
     ap put_length (append_assoc (flat_map gets_of usages) (Fire (map ref_of usages) ∷ puts_from 0 (plans_of n) p f) es)
     ∙ all_gets_before usages (Fire (map ref_of usages) ∷ (puts_from 0 (plans_of n) p f ++ es)) refl
 
-points_begin : (n : Nest) (p a m : ℕ) → put_length (flat_map (point_events n p) (count_up a m)) ≡ 0
+points_begin : (n : Nest) (p a m : ℕ) → put_length (flat_map (point_events n p) (range_with_len a m)) ≡ 0
 points_begin n p a zero = refl
-points_begin n p a (suc m) = point_begins n p a (flat_map (point_events n p) (count_up (a + 1) m))
+points_begin n p a (suc m) = point_begins n p a (flat_map (point_events n p) (range_with_len (a + 1) m))
 
 -- Scripts
 
 -- the events of the first so many points of process p
 abbrev pub events_before : Nest → ℕ → ℕ → List Event
-events_before n p f = flat_map (point_events n p) (count_up 0 f)
+events_before n p f = flat_map (point_events n p) (range_with_len 0 f)
 
-split_script : (n : Nest) (p f m : ℕ) → events_before n p (f + suc m) ≡ events_before n p f ++ (point_events n p f ++ flat_map (point_events n p) (count_up (f + 1) m))
+split_script : (n : Nest) (p f m : ℕ) → events_before n p (f + suc m) ≡ events_before n p f ++ (point_events n p f ++ flat_map (point_events n p) (range_with_len (f + 1) m))
 split_script n p f m =
     let front : 0 + f ≡ f = omega arith in
-    ap (flat_map (point_events n p)) (count_up-append 0 f (suc m))
-    ∙ flat_map-append (point_events n p) (count_up 0 f) (count_up (0 + f) (suc m))
-    ∙ ap (λ a. events_before n p f ++ flat_map (point_events n p) (count_up a (suc m))) front
+    ap (flat_map (point_events n p)) (range_with_len-append 0 f (suc m))
+    ∙ flat_map-append (point_events n p) (range_with_len 0 f) (range_with_len (0 + f) (suc m))
+    ∙ ap (λ a. events_before n p f ++ flat_map (point_events n p) (range_with_len a (suc m))) front
 
 pub script_splits : (n : Nest) (p f : ℕ) → f < turn_count n p
-    → script n p ≡ events_before n p f ++ (point_events n p f ++ flat_map (point_events n p) (count_up (f + 1) (turn_count n p - f - 1)))
+    → script n p ≡ events_before n p f ++ (point_events n p f ++ flat_map (point_events n p) (range_with_len (f + 1) (turn_count n p - f - 1)))
 script_splits n p f lt =
     let whole : turn_count n p ≡ f + suc (turn_count n p - f - 1) = omega arith in
-    ap (λ m. flat_map (point_events n p) (count_up 0 m)) whole ∙ split_script n p f (turn_count n p - f - 1)
+    ap (λ m. flat_map (point_events n p) (range_with_len 0 m)) whole ∙ split_script n p f (turn_count n p - f - 1)
 
 -- behind the points before it a point is found
 pub point_found : (n : Nest) (p f : ℕ) → f < turn_count n p → point_length (drop (length (events_before n p f)) (script n p)) ≡ length (point_events n p f)
 point_found n p f lt =
-    let later = flat_map (point_events n p) (count_up (f + 1) (turn_count n p - f - 1)) in
+    let later = flat_map (point_events n p) (range_with_len (f + 1) (turn_count n p - f - 1)) in
     ap point_length
     (ap (drop (length (events_before n p f))) (script_splits n p f lt)
     ∙ drop_at (events_before n p f) (point_events n p f ++ later) (length (events_before n p f)) refl)
@@ -115,5 +114,5 @@ point_found n p f lt =
 
 pub point_inside : (n : Nest) (p f : ℕ) → f < turn_count n p → length (events_before n p f) ≤ length (script n p)
 point_inside n p f lt =
-    let later = flat_map (point_events n p) (count_up (f + 1) (turn_count n p - f - 1)) in
+    let later = flat_map (point_events n p) (range_with_len (f + 1) (turn_count n p - f - 1)) in
     omega (arith, ap length (script_splits n p f lt), length-append (events_before n p f) (point_events n p f ++ later))

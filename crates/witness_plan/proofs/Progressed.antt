@@ -1,39 +1,40 @@
 -- How far a network has come, at first and after one event more.
-use Rattle.std.proofs.Common.{◌≡◌, ℕ, suc, ◌+◌, ◌<◌, ◌^◌, Some, List, [], ◌∷◌, ◌++◌, length, map, set, replicate, slice_get, get_or, refl, sym, ap, ◌∙◌, subst, arith}
+use Rattle.std.proofs.Common.{◌≡◌, ℕ, suc, ◌<◌, ◌^◌, Some, List, [], ◌∷◌, ◌++◌, length, map, set, replicate, slice_get, get_or, refl, sym, ap, ◌∙◌, subst, arith}
+use Rattle.std.specs.List.{range_with_len}
 use Rattle.std.proofs.lemmas.List.{get_or_read}
+use Rattle.std.proofs.lemmas.List.FromFn.{get_or-map-range_with_len, length-map-range_with_len}
 use Rattle.std.proofs.lemmas.Option.{slice_get_read}
 use Rattle.net_core.specs.declared.network.Event.{Event}
-use Rattle.net_core.specs.Cuts.{advanced, cut_after}
+use Rattle.net_core.specs.Cuts.{advanced, cut_after, opening}
 use Rattle.net_core.specs.Machine.{Net}
 use Rattle.net_core.proofs.CutOrder.{advanced_here, advanced_there}
-use Rattle.sanlp.specs.Cells.{count_up}
+use Rattle.sanlp.proofs.Lists.{map-range_with_len_replicate}
 use Rattle.witness_plan.specs.declared.progress.Progress.{Progress}
 use Rattle.witness_plan.specs.declared.traffic.Traffic.{Traffic}
 use Rattle.witness_plan.specs.Progress.{IsProgress}
-use Rattle.witness_plan.specs.Sequential.{opening}
 use Rattle.witness_plan.specs.Traffic.{CanBeNoted, NamesOwnChannels, no_traffic, noted, traffic_along, traffic_of}
 use Rattle.witness_plan.proofs.AlongCuts.{cut_after-append}
-use Rattle.witness_plan.proofs.CountedLists.{get_below, length_between, set_between}
+use Rattle.witness_plan.proofs.CountedLists.{set_at}
 use Rattle.witness_plan.proofs.NotedTraffic.{can_be_noted, noted_along, own_event}
-use Rattle.witness_plan.proofs.Sequenced.{all_zero, traffic_none}
+use Rattle.witness_plan.proofs.Sequenced.{traffic_none}
 
 pub progress_none : (net : Net) (progress : Progress) → progress.schedule ≡ [] → progress.positions.items ≡ replicate net.processes 0
     → progress.traffic.items ≡ replicate net.channels no_traffic → IsProgress net progress
 progress_none net progress e f g = record {
-  positions = f ∙ all_zero opening 0 net.processes (λ k. refl) ∙ ap (λ s. map (cut_after opening s) (count_up 0 net.processes)) (sym e);
+  positions = f ∙ sym (map-range_with_len_replicate opening 0 0 net.processes (λ k. refl)) ∙ ap (λ s. map (cut_after opening s) (range_with_len 0 net.processes)) (sym e);
   traffic = traffic_none net progress.schedule progress.traffic.items e g;
 }
 
-pub positions_long : (net : Net) (schedule positions : List ℕ) → positions ≡ map (cut_after opening schedule) (count_up 0 net.processes) → length positions ≡ net.processes
-positions_long net schedule positions is = ap length is ∙ length_between (cut_after opening schedule) 0 net.processes
+pub positions_long : (net : Net) (schedule positions : List ℕ) → positions ≡ map (cut_after opening schedule) (range_with_len 0 net.processes) → length positions ≡ net.processes
+positions_long net schedule positions is = ap length is ∙ length-map-range_with_len (cut_after opening schedule) 0 net.processes
 
 -- where a process stands
-pub position_read : (net : Net) (schedule positions : List ℕ) (p at : ℕ) → positions ≡ map (cut_after opening schedule) (count_up 0 net.processes) → p < net.processes
+pub position_read : (net : Net) (schedule positions : List ℕ) (p at : ℕ) → positions ≡ map (cut_after opening schedule) (range_with_len 0 net.processes) → p < net.processes
     → at ≡ get_or positions p at → at ≡ cut_after opening schedule p
 position_read net schedule positions p at is lt read =
     let long = positions_long net schedule positions is in
     let there : p < length positions = omega arith in
-    get_or_read positions p at there read 0 ∙ ap (λ ps. get_or ps p 0) is ∙ get_below (cut_after opening schedule) 0 net.processes p lt
+    get_or_read positions p at there read 0 ∙ ap (λ ps. get_or ps p 0) is ∙ get_or-map-range_with_len (cut_after opening schedule) 0 net.processes p p 0 lt (omega arith)
 
 -- the event that stands there in its script
 pub event_read : (script read : List Event) (k at : ℕ) (e : Event) → read ≡ script → at ≡ k → k < length script → e ≡ get_or read at e → slice_get script k ≡ Some e
@@ -45,21 +46,20 @@ event_read script read k at e same stands inside is =
 pub traffic_read : (net : Net) (schedule : List ℕ) (traffic : List Traffic) (c : ℕ) → traffic ≡ traffic_along net schedule → c < net.channels
     → get_or traffic c no_traffic ≡ traffic_of net schedule c
 traffic_read net schedule traffic c is lt =
-    ap (λ ts. get_or ts c no_traffic) is ∙ get_below (traffic_of net schedule) no_traffic net.channels c lt
+    ap (λ ts. get_or ts c no_traffic) is ∙ get_or-map-range_with_len (traffic_of net schedule) 0 net.channels c c no_traffic lt (omega arith)
 
 pub traffic_long : (net : Net) (schedule : List ℕ) (traffic : List Traffic) → traffic ≡ traffic_along net schedule → length traffic ≡ net.channels
-traffic_long net schedule traffic is = ap length is ∙ length_between (traffic_of net schedule) 0 net.channels
+traffic_long net schedule traffic is = ap length is ∙ length-map-range_with_len (traffic_of net schedule) 0 net.channels
 
 -- the positions after one event more
-pub positions_more : (net : Net) (schedule more positions : List ℕ) (p : ℕ) → positions ≡ map (cut_after opening schedule) (count_up 0 net.processes) → p < net.processes
-    → more ≡ schedule ++ p ∷ [] → set positions p (suc (cut_after opening schedule p)) ≡ map (cut_after opening more) (count_up 0 net.processes)
+pub positions_more : (net : Net) (schedule more positions : List ℕ) (p : ℕ) → positions ≡ map (cut_after opening schedule) (range_with_len 0 net.processes) → p < net.processes
+    → more ≡ schedule ++ p ∷ [] → set positions p (suc (cut_after opening schedule p)) ≡ map (cut_after opening more) (range_with_len 0 net.processes)
 positions_more net schedule more positions p is lt grown =
     let next : cut_after opening more ≡ advanced (cut_after opening schedule) p = ap (cut_after opening) grown ∙ cut_after-append opening schedule (p ∷ []) in
-    let front : 0 + p ≡ p = omega arith in
     ap (λ ps. set ps p (suc (cut_after opening schedule p))) is
-    ∙ set_between (cut_after opening schedule) (cut_after opening more) 0 net.processes p (suc (cut_after opening schedule p)) lt
-    (ap (cut_after opening more) front ∙ ap (λ k. k p) next ∙ advanced_here (cut_after opening schedule) p p refl)
-    (λ q ne. sym (ap (λ k. k q) next ∙ advanced_there (cut_after opening schedule) p q (λ same. ne (same ∙ sym front))))
+    ∙ set_at (cut_after opening schedule) (cut_after opening more) net.processes p (suc (cut_after opening schedule p)) lt
+    (ap (λ k. k p) next ∙ advanced_here (cut_after opening schedule) p p refl)
+    (λ q ne. sym (ap (λ k. k q) next ∙ advanced_there (cut_after opening schedule) p q ne))
 
 -- the counts of the channels after one event more
 pub traffic_more : (net : Net) (channels : NamesOwnChannels net) (schedule more : List ℕ) (traffic : List Traffic) (p : ℕ) (e : Event) → traffic ≡ traffic_along net schedule

@@ -1,52 +1,46 @@
 -- What the sequential schedule has after the first entries of the trace, and one entry more.
 use Rattle.std.proofs.Common.{◌≡◌, ℕ, zero, suc, ◌+◌, ◌-◌, ◌<◌, ◌≤◌, Some, List, [], ◌∷◌, ◌++◌, length, map, set, drop, replicate, slice_get, get_or, refl, sym, ap, ◌∙◌, arith}
+use Rattle.std.specs.List.{range_with_len}
 use Rattle.std.proofs.lemmas.List.{length-drop}
+use Rattle.std.proofs.lemmas.List.FromFn.{get_or-map-range_with_len, length-map-range_with_len}
 use Rattle.std.proofs.lemmas.Option.{slice_get_within}
 use Rattle.channel_plan.specs.Plans.{turn_count}
 use Rattle.net_core.specs.declared.network.Network.{Network}
-use Rattle.net_core.specs.Cuts.{cut_after}
+use Rattle.net_core.specs.Cuts.{cut_after, opening}
 use Rattle.net_core.specs.Machine.{Net, net_of}
 use Rattle.net_core.proofs.Entries.{turn_of_entry}
 use Rattle.process_derive.specs.Derived.{net}
 use Rattle.process_derive.specs.Scripts.{point_events, script}
+use Rattle.process_derive.proofs.Numbers.{count_processes, script_at}
 use Rattle.sanlp.specs.declared.nest.Nest.{Nest}
 use Rattle.sanlp.specs.declared.nest.Point.{Point}
-use Rattle.sanlp.specs.Cells.{count_up}
 use Rattle.sanlp.specs.Laws.{entries_of}
 use Rattle.sanlp.specs.Trace.{trace}
 use Rattle.sanlp.proofs.Enumerates.{enumerates_domains}
-use Rattle.witness_plan.specs.Sequential.{capacities, opening, sequential_schedule}
+use Rattle.sanlp.proofs.Lists.{map-range_with_len_replicate}
+use Rattle.witness_plan.specs.Sequential.{capacities, sequential_schedule}
 use Rattle.witness_plan.specs.Steps.{point_length}
 use Rattle.witness_plan.specs.Traffic.{no_traffic, traffic_along, traffic_of}
 use Rattle.witness_plan.specs.declared.traffic.Traffic.{Traffic}
 use Rattle.witness_plan.proofs.AlongCuts.{cut_after-append, cut_here, cut_there}
-use Rattle.witness_plan.proofs.CountedLists.{get_below, length_between, set_between}
+use Rattle.witness_plan.proofs.CountedLists.{set_at}
 use Rattle.witness_plan.proofs.InTraceOrder.{stands, turns_before, until, until_more}
-use Rattle.witness_plan.proofs.OwnChannels.{process_count, script_there}
 use Rattle.witness_plan.proofs.PointEvents.{events_before, point_found, point_inside}
 
 -- the schedule and the positions after the first t entries
 pub record IsSequenced (n : Nest) (t : ℕ) (schedule positions : List ℕ) : Type 0 where
   pub schedule_is : schedule ≡ until (point_events n) (trace n) t
-  pub positions_are : positions ≡ map (cut_after opening schedule) (count_up 0 (length n.statements))
-
-pub all_zero : (f : ℕ → ℕ) (a m : ℕ) → ((k : ℕ) → f k ≡ 0) → replicate m 0 ≡ map f (count_up a m)
-all_zero f a zero h = refl
-all_zero f a (suc m) h = ap (λ x. x ∷ replicate m 0) (sym (h a)) ∙ ap (λ xs. f a ∷ xs) (all_zero f (a + 1) m h)
+  pub positions_are : positions ≡ map (cut_after opening schedule) (range_with_len 0 (length n.statements))
 
 pub sequenced_none : (n : Nest) (schedule positions : List ℕ) → schedule ≡ [] → positions ≡ replicate (length n.statements) 0 → IsSequenced n 0 schedule positions
 sequenced_none n schedule positions e f = record {
   schedule_is = e;
-  positions_are = f ∙ all_zero opening 0 (length n.statements) (λ k. refl) ∙ ap (λ s. map (cut_after opening s) (count_up 0 (length n.statements))) (sym e);
+  positions_are = f ∙ sym (map-range_with_len_replicate opening 0 0 (length n.statements) (λ k. refl)) ∙ ap (λ s. map (cut_after opening s) (range_with_len 0 (length n.statements))) (sym e);
 }
 
 -- no channel has had an event at first
-all_none : (f : ℕ → Traffic) (a m : ℕ) → ((k : ℕ) → f k ≡ no_traffic) → replicate m no_traffic ≡ map f (count_up a m)
-all_none f a zero h = refl
-all_none f a (suc m) h = ap (λ x. x ∷ replicate m no_traffic) (sym (h a)) ∙ ap (λ xs. f a ∷ xs) (all_none f (a + 1) m h)
-
 pub traffic_none : (network : Net) (schedule : List ℕ) (traffic : List Traffic) → schedule ≡ [] → traffic ≡ replicate network.channels no_traffic → traffic ≡ traffic_along network schedule
-traffic_none network schedule traffic e f = f ∙ all_none (traffic_of network []) 0 network.channels (λ k. refl) ∙ ap (traffic_along network) (sym e)
+traffic_none network schedule traffic e f = f ∙ sym (map-range_with_len_replicate (traffic_of network []) no_traffic 0 network.channels (λ k. refl)) ∙ ap (traffic_along network) (sym e)
 
 -- Lists of what is left
 
@@ -83,10 +77,10 @@ module _ (n : Nest) (left later : List Point) (p : Point) (e : drop (length (tra
     pub position_is : get_or positions p.statement 0 ≡ cut_after opening schedule p.statement
     position_is =
         ap (λ ps. get_or ps p.statement 0) sequenced.positions_are
-        ∙ get_below (cut_after opening schedule) 0 (length n.statements) p.statement statement_exists
+        ∙ get_or-map-range_with_len (cut_after opening schedule) 0 (length n.statements) p.statement p.statement 0 statement_exists (omega arith)
 
     pub position_exists : p.statement < length positions
-    position_exists = omega (arith, ap length sequenced.positions_are, length_between (cut_after opening schedule) 0 (length n.statements), statement_exists)
+    position_exists = omega (arith, ap length sequenced.positions_are, length-map-range_with_len (cut_after opening schedule) 0 (length n.statements), statement_exists)
 
     -- the process has made the events of its earlier points
     stands_here : cut_after opening schedule p.statement ≡ length (events_before n p.statement turn)
@@ -96,10 +90,12 @@ module _ (n : Nest) (left later : List Point) (p : Point) (e : drop (length (tra
 
     module _ (network : Network) (derived : network ≡ net n) where
       script_is : (net_of network).script p.statement ≡ script n p.statement
-      script_is = ap (λ x. (net_of x).script p.statement) derived ∙ script_there n p.statement statement_exists
+      script_is = ap (λ x. (net_of x).script p.statement) derived ∙ script_at n p.statement statement_exists
 
       pub process_exists : p.statement < length network.processes
-      process_exists = omega (arith, ap (λ (x : Network). length x.processes) derived, process_count n, statement_exists)
+      process_exists =
+          let count : length (net n).processes ≡ length n.statements = count_processes n in
+          omega (arith, ap (λ (x : Network). length x.processes) derived, count, statement_exists)
 
       pub stands_inside : cut_after opening schedule p.statement ≤ length ((net_of network).script p.statement)
       stands_inside = omega (arith, stands_here, ap length script_is, point_inside n p.statement turn turn_exists)
@@ -122,16 +118,15 @@ module _ (n : Nest) (left later : List Point) (p : Point) (e : drop (length (tra
           let grown : schedule' ≡ schedule ++ replicate m p.statement = more ∙ ap (λ j. schedule ++ replicate j p.statement) made in
           let cut : cut_after opening schedule' ≡ cut_after (cut_after opening schedule) (replicate m p.statement) =
           ap (cut_after opening) grown ∙ cut_after-append opening schedule (replicate m p.statement) in
-          let front : 0 + p.statement ≡ p.statement = omega arith in
           record {
             schedule_is = grown ∙ ap (λ s. s ++ replicate m p.statement) sequenced.schedule_is
                 ∙ sym (until_more (point_events n) (trace n) (length (trace n) - length left) p here)
                 ∙ ap (until (point_events n) (trace n)) (sym next_time);
             positions_are = moved ∙ ap (λ ps. set ps p.statement end) sequenced.positions_are
-                ∙ set_between (cut_after opening schedule) (cut_after opening schedule') 0 (length n.statements) p.statement end statement_exists
-                (ap (cut_after opening schedule') front ∙ ap (λ c. c p.statement) cut ∙ cut_here (cut_after opening schedule) m p.statement
+                ∙ set_at (cut_after opening schedule) (cut_after opening schedule') (length n.statements) p.statement end statement_exists
+                (ap (λ c. c p.statement) cut ∙ cut_here (cut_after opening schedule) m p.statement
                 ∙ ap (λ j. j + m) (sym at) ∙ ap (λ j. k + j) (sym made) ∙ sym ends)
-                (λ q ne. sym (ap (λ c. c q) cut ∙ cut_there (cut_after opening schedule) m p.statement q (λ same. ne (same ∙ sym front))));
+                (λ q ne. sym (ap (λ c. c q) cut ∙ cut_there (cut_after opening schedule) m p.statement q ne));
           }
 
 -- the whole trace
@@ -147,4 +142,4 @@ map-map f g (x ∷ xs) = ap (λ ys. f (g x) ∷ ys) (map-map f g xs)
 pub capacities_are : (network : Network) (schedule : List ℕ) (traffic : List Traffic) (lengths : List ℕ) → lengths ≡ map (λ t. t.greatest) traffic
     → traffic ≡ traffic_along (net_of network) schedule → lengths ≡ capacities network schedule
 capacities_are network schedule traffic lengths e f =
-    e ∙ ap (map (λ t. t.greatest)) f ∙ map-map (λ (t : Traffic). t.greatest) (traffic_of (net_of network) schedule) (count_up 0 (length network.channels))
+    e ∙ ap (map (λ t. t.greatest)) f ∙ map-map (λ (t : Traffic). t.greatest) (traffic_of (net_of network) schedule) (range_with_len 0 (length network.channels))

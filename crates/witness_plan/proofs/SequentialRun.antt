@@ -7,43 +7,41 @@
 -- their tokens. The capacities that such a run needs are NeverFull's.
 use Rattle.std.proofs.Common.{◌≡◌, ℕ, zero, suc, ◌+◌, ◌-◌, ◌<◌, ◌≤◌, true, cond, Some, List, [], ◌∷◌, ◌++◌, length, take, drop, replicate, slice_get, count_by, refl, sym, ap, ◌∙◌, subst, inl, inr, arith, length-append, lt-ltb}
 use Rattle.std.specs.Prelude.{◌==◌}
-use Rattle.std.specs.List.{flat_map}
+use Rattle.std.specs.List.{flat_map, range_with_len}
 use Rattle.std.proofs.lemmas.Bool.{cases_eq, cases_lt, eq-eqb, ne_eqb}
 use Rattle.std.proofs.lemmas.List.{take_at, take-append-drop, take_all}
 use Rattle.std.proofs.lemmas.List.Concat.{flat_map-append}
 use Rattle.std.proofs.lemmas.Option.{slice_get_within}
-use Rattle.channel_plan.specs.declared.plans.ChannelPlan.{ChannelPlan}
 use Rattle.channel_plan.specs.Plans.{plans_of, sources_at, turn_count}
 use Rattle.channel_plan.specs.Tokens.{tokens_below, turns_used}
 use Rattle.net_core.specs.declared.network.Event.{Event}
 use Rattle.net_core.specs.declared.network.Event.TheVariants.{Get, Fire, Put}
-use Rattle.net_core.specs.Cuts.{Cut, IsCutRun, advanced, cut_after, enabled_at, gets_at, puts_at}
+use Rattle.net_core.specs.Cuts.{Cut, IsCutRun, advanced, cut_after, enabled_at, gets_at, opening, puts_at}
 use Rattle.net_core.specs.Machine.{Net, net_of}
 use Rattle.net_core.specs.Shape.{is_get, is_put}
-use Rattle.net_core.proofs.Counting.{count_mono, count_next}
+use Rattle.net_core.proofs.Counting.{count-append, count_mono, count_next}
 use Rattle.net_core.proofs.CutOrder.{advanced_here}
 use Rattle.process_derive.specs.Derived.{net}
 use Rattle.process_derive.specs.Scripts.{point_events, script}
+use Rattle.process_derive.proofs.Numbers.{count_channels, script_at}
+use Rattle.process_derive.proofs.Wired.{is_wired, item_at, reader_at, script_past, writer_at}
 use Rattle.sanlp.specs.declared.nest.Nest.{Nest}
 use Rattle.sanlp.specs.declared.nest.Point.{Point}
-use Rattle.sanlp.specs.Cells.{count_up}
 use Rattle.sanlp.specs.Laws.{entries_from}
 use Rattle.sanlp.specs.Trace.{trace}
 use Rattle.sanlp.proofs.Enumerates.{enumerates_domains}
-use Rattle.sanlp.proofs.Lists.{count_up-append}
+use Rattle.sanlp.proofs.Lists.{range_with_len-append}
 use Rattle.witness_plan.specs.Schedules.{could_come_at, is_ready}
-use Rattle.witness_plan.specs.Sequential.{opening, sequential_schedule}
+use Rattle.witness_plan.specs.Sequential.{sequential_schedule}
 use Rattle.witness_plan.specs.Traffic.{IsOwn}
 use Rattle.witness_plan.proofs.AlongCuts.{cut_here, cut_there, gets_more}
 use Rattle.witness_plan.proofs.GetsMade.{gets_made}
-use Rattle.witness_plan.proofs.InTraceOrder.{point_at, stands, turns_before, until, until_more}
+use Rattle.witness_plan.proofs.InTraceOrder.{stands, turns_before, until, until_more}
 use Rattle.witness_plan.proofs.NeverFull.{never_full, ready_comes}
-use Rattle.witness_plan.proofs.OwnChannels.{channel_count, count-append, reader_is, script_own, script_past, script_there, writer_is}
+use Rattle.witness_plan.proofs.OwnChannels.{wired_own}
 use Rattle.witness_plan.proofs.PointEvents.{events_before}
 use Rattle.witness_plan.proofs.SourcesBefore.{entries_count, wanted_are_tokens}
 use Rattle.witness_plan.proofs.TokensPut.{events_more, tokens_put}
-use Rattle.witness_plan.proofs.Usages.{all_at}
-use Rattle.witness_plan.proofs.Wired.{wired}
 
 -- Runs on cuts
 
@@ -73,29 +71,29 @@ low_statement n i q is = let at = (enumerates_domains n).entry i q is in slice_g
 script_is : (n : Nest) (p : ℕ) → (net_of (net n)).script p ≡ script n p
 script_is n p =
     elim (cases_lt p (length n.statements)) [
-      | inl lt ↦ script_there n p lt
+      | inl lt ↦ script_at n p lt
       | inr le ↦
           let none : turn_count n p ≡ 0 = ap length (none_of 0 (trace n) p (λ i q is. (let low = low_statement n i q is in omega arith))) in
-          script_past n p le ∙ ap (λ m. flat_map (point_events n p) (count_up 0 m)) (sym none)
+          script_past n p le ∙ ap (λ m. flat_map (point_events n p) (range_with_len 0 m)) (sym none)
     ]
 
-script_front : (n : Nest) (p f : ℕ) → f ≤ turn_count n p → script n p ≡ events_before n p f ++ flat_map (point_events n p) (count_up f (turn_count n p - f))
+script_front : (n : Nest) (p f : ℕ) → f ≤ turn_count n p → script n p ≡ events_before n p f ++ flat_map (point_events n p) (range_with_len f (turn_count n p - f))
 script_front n p f le =
     let whole : turn_count n p ≡ f + (turn_count n p - f) = omega arith in
     let front : 0 + f ≡ f = omega arith in
-    ap (λ m. flat_map (point_events n p) (count_up 0 m)) whole
-    ∙ ap (flat_map (point_events n p)) (count_up-append 0 f (turn_count n p - f))
-    ∙ flat_map-append (point_events n p) (count_up 0 f) (count_up (0 + f) (turn_count n p - f))
-    ∙ ap (λ a. events_before n p f ++ flat_map (point_events n p) (count_up a (turn_count n p - f))) front
+    ap (λ m. flat_map (point_events n p) (range_with_len 0 m)) whole
+    ∙ ap (flat_map (point_events n p)) (range_with_len-append 0 f (turn_count n p - f))
+    ∙ flat_map-append (point_events n p) (range_with_len 0 f) (range_with_len (0 + f) (turn_count n p - f))
+    ∙ ap (λ a. events_before n p f ++ flat_map (point_events n p) (range_with_len a (turn_count n p - f))) front
 
 take_front : (n : Nest) (p f : ℕ) → f ≤ turn_count n p → take (length (events_before n p f)) ((net_of (net n)).script p) ≡ events_before n p f
 take_front n p f le =
     ap (take (length (events_before n p f))) (script_is n p ∙ script_front n p f le)
-    ∙ take_at (events_before n p f) (flat_map (point_events n p) (count_up f (turn_count n p - f))) (length (events_before n p f)) refl
+    ∙ take_at (events_before n p f) (flat_map (point_events n p) (range_with_len f (turn_count n p - f))) (length (events_before n p f)) refl
 
 length_front : (n : Nest) (p f : ℕ) → f ≤ turn_count n p → length (events_before n p f) ≤ length ((net_of (net n)).script p)
 length_front n p f le =
-    omega (arith, ap length (script_is n p ∙ script_front n p f le), length-append (events_before n p f) (flat_map (point_events n p) (count_up f (turn_count n p - f))))
+    omega (arith, ap length (script_is n p ∙ script_front n p f le), length-append (events_before n p f) (flat_map (point_events n p) (range_with_len f (turn_count n p - f))))
 
 few_turns : (n : Nest) (t p : ℕ) → turns_before (trace n) t p ≤ turn_count n p
 few_turns n t p =
@@ -118,17 +116,6 @@ module _ (n : Nest) where
   schedule_is = refl
 
 -- One entry of the trace
-
--- there is an event at each place below the length
-event_at : (events : List Event) (k : ℕ) → k < length events → (e : Event) × (slice_get events k ≡ Some e)
-event_at [] k lt = absurd (omega arith)
-event_at (e ∷ events) zero lt = (e, refl)
-event_at (e ∷ events) (suc k) lt = event_at events k (omega arith)
-
-plan_at : (plans : List ChannelPlan) (k : ℕ) → k < length plans → (plan : ChannelPlan) × (slice_get plans k ≡ Some plan)
-plan_at [] k lt = absurd (omega arith)
-plan_at (x ∷ plans) zero lt = (x, refl)
-plan_at (x ∷ plans) (suc k) lt = plan_at plans k (omega arith)
 
 module _ (n : Nest) (t : ℕ) (q : Point) (here : slice_get (trace n) t ≡ Some q) where
   abbrev m : Net
@@ -191,10 +178,10 @@ module _ (n : Nest) (t : ℕ) (q : Point) (here : slice_get (trace n) t ≡ Some
     -- the token of a Get was put before
     token_there : (d slot : ℕ) → slice_get (m.script q.statement) (c q.statement) ≡ Some (Get d slot) → IsOwn m q.statement (Get d slot) → gets_at m c d < puts_at m c d
     token_there d slot is own =
-        let plan = plan_at (plans_of n) d (omega (arith, own.0, channel_count n)) in
+        let plan = item_at (plans_of n) d (omega (arith, own.0, count_channels n)) in
         let w = plan.0.writer in
         let b = turns_before (trace n) t w in
-        let reader : plan.0.reader ≡ q.statement = sym (reader_is n d plan.0 plan.1) ∙ own.1 in
+        let reader : plan.0.reader ≡ q.statement = sym (reader_at n d plan.0 plan.1) ∙ own.1 in
         let used = turns_used w (sources_at n plan.0.reader plan.0.read) in
         let wanted : count_by (is_get d) (events_before n plan.0.reader (turns_before (trace n) (suc t) plan.0.reader)) ≤ tokens_below used b =
         (
@@ -209,7 +196,7 @@ module _ (n : Nest) (t : ℕ) (q : Point) (here : slice_get (trace n) t ≡ Some
         let put : tokens_below used b ≤ puts_at m k d =
         (
         let puts = tokens_put n d plan.0 plan.1 b (few_turns n t w) in
-        let writer = ap (λ r. count_by (is_put d) (take (k r) (m.script r))) (writer_is n d plan.0 plan.1) in
+        let writer = ap (λ r. count_by (is_put d) (take (k r) (m.script r))) (writer_at n d plan.0 plan.1) in
         let front = ap (λ i. count_by (is_put d) (take i (m.script w))) (stand w) ∙ ap (count_by (is_put d)) (take_front n w b (few_turns n t w)) in
         omega arith
         ) in
@@ -242,20 +229,20 @@ module _ (n : Nest) where
 
     ready : is_ready derived cut q.statement ≡ true
     ready =
-        let event = event_at (derived.script q.statement) (cut q.statement) (inside n t q here j lt) in
-        let own = all_at (IsOwn derived q.statement) (derived.script q.statement) (cut q.statement) event.0 (script_own n q.statement) event.1 in
+        let event = item_at (derived.script q.statement) (cut q.statement) (inside n t q here j lt) in
+        let own = wired_own derived (is_wired n) q.statement (cut q.statement) event.0 event.1 in
         ap (could_come_at derived cut) event.1 ∙ could_come event.0 event.1 own
 
   runs_until : (t : ℕ) → t ≤ length (trace n) → IsCutRun (never_full derived) opening (before n t)
   runs_until zero le = tt
   runs_until (suc t) le =
-      let q = point_at (trace n) t (omega arith) in
+      let q = item_at (trace n) t (omega arith) in
       let p = q.0.statement in
       let many = length (point_events n p (turns_before (trace n) t p)) in
       subst (IsCutRun (never_full derived) opening) (sym (until_more (point_events n) (trace n) t q.0 q.1))
       (run_append (never_full derived) opening (before n t) (replicate many p) (runs_until t (omega arith))
       (run_of_one (never_full derived) (cut_after opening (before n t)) p many
-      (λ j lt. ready_comes derived (wired n) (cut_after (cut_after opening (before n t)) (replicate j p)) p (ready t q.0 q.1 j lt))))
+      (λ j lt. ready_comes derived (is_wired n) (cut_after (cut_after opening (before n t)) (replicate j p)) p (ready t q.0 q.1 j lt))))
 
   -- each entry of the schedule is ready in turn
   pub sequential_runs : IsCutRun (never_full (net_of (net n))) opening (sequential_schedule n)

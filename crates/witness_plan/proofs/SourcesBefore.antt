@@ -15,12 +15,13 @@ use Rattle.std.proofs.lemmas.List.Elements.{All-cons, All-head, All-nil, All-tai
 use Rattle.std.proofs.lemmas.Option.{slice_get-get_or}
 use Rattle.channel_plan.specs.Plans.{sources_at}
 use Rattle.channel_plan.specs.Tokens.{is_used, tokens_below, turn_of, turns_used, uses_of}
+use Rattle.channel_plan.proofs.Uses.{tokens_more}
 use Rattle.net_core.proofs.Counting.{count_cons, count_mono, count_next}
 use Rattle.reorder_slots.specs.Slots.{gets_for}
 use Rattle.sanlp.specs.declared.nest.Nest.{Nest}
 use Rattle.sanlp.specs.declared.nest.Point.{Point}
 use Rattle.sanlp.specs.declared.nest.Tag.{Tag}
-use Rattle.sanlp.specs.Cells.{Cell, count_up}
+use Rattle.sanlp.specs.Cells.{Cell}
 use Rattle.sanlp.specs.Laws.{entries_from, entries_of}
 use Rattle.sanlp.specs.Tags.{tag_at}
 use Rattle.sanlp.specs.Trace.{trace}
@@ -28,8 +29,6 @@ use Rattle.sanlp.specs.Writers.{cell_read, greatest_below, last_before, writes_a
 use Rattle.source_tree.specs.Sources.{source_at}
 use Rattle.witness_plan.proofs.GetsMade.{turns_first}
 use Rattle.witness_plan.proofs.InTraceOrder.{turns_before}
-use Rattle.witness_plan.proofs.OwnChannels.{count-append}
-use Rattle.witness_plan.proofs.TokensPut.{count_up_more}
 use Rattle.witness_plan.proofs.Usages.{chained, mapped}
 
 -- Sources
@@ -165,22 +164,17 @@ use_of turn (x ∷ used) (suc k) is =
     or_true true = refl
     or_true false = refl
 
-tokens_next : (used : List ℕ) (g : ℕ) → tokens_below used (suc g) ≡ tokens_below used g + cond (is_used used g) 1 0
-tokens_next used g =
-    let last = count_cons (is_used used) g [] in
-    ap (count_by (is_used used)) (count_up_more g) ∙ count-append (is_used used) (count_up 0 g) (g ∷ []) ∙ omega arith
-
 tokens_mono : (used : List ℕ) (g more : ℕ) → tokens_below used g ≤ tokens_below used (g + more)
 tokens_mono used g zero = let same : g + 0 ≡ g = omega arith in omega (arith, ap (tokens_below used) same)
 tokens_mono used g (suc more) =
-    let next : g + suc more ≡ suc (g + more) = omega arith in
-    omega (arith, tokens_mono used g more, ap (tokens_below used) next, tokens_next used (g + more))
+    let next : g + suc more ≡ g + more + 1 = omega arith in
+    omega (arith, tokens_mono used g more, ap (tokens_below used) next, tokens_more used (g + more))
 
 -- a token below the turns so far is one of their tokens
 token_below : (used : List ℕ) (turn most : ℕ) → turn < most → is_used used turn ≡ true → tokens_below used turn + 1 ≤ tokens_below used most
 token_below used turn most lt named =
-    let whole : suc turn + (most - suc turn) ≡ most = omega arith in
-    omega (arith, tokens_next used turn, ap (λ b. cond {A = ℕ} b 1 0) named, tokens_mono used (suc turn) (most - suc turn), ap (tokens_below used) whole)
+    let whole : turn + 1 + (most - (turn + 1)) ≡ most = omega arith in
+    omega (arith, tokens_more used turn, ap (λ b. cond {A = ℕ} b 1 0) named, tokens_mono used (turn + 1) (most - (turn + 1)), ap (tokens_below used) whole)
 
 gets_low : (used : List ℕ) (most : ℕ) (turns : List ℕ) → All (λ turn. turn < most) turns → All (λ turn. is_used used turn ≡ true) turns
     → gets_for (map (tokens_below used) turns) ≤ tokens_below used most

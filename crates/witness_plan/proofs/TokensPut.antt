@@ -1,37 +1,26 @@
 -- A writer has put the tokens of a channel that its points so far are.
-use Rattle.std.proofs.Common.{◌≡◌, ℕ, zero, suc, ◌+◌, ◌<◌, ◌≤◌, true, false, cond, Some, List, [], ◌∷◌, ◌++◌, map, slice_get, get_or, count_by, refl, ap, ◌∙◌, subst, inl, inr, arith}
+use Rattle.std.proofs.Common.{◌≡◌, ℕ, zero, suc, ◌+◌, ◌<◌, ◌≤◌, true, false, cond, Some, List, [], ◌∷◌, ◌++◌, map, slice_get, get_or, count_by, refl, sym, ap, ◌∙◌, subst, inl, inr, arith, add-one}
 use Rattle.std.specs.Prelude.{slice_index_or, ◌==◌, ◌&&◌}
-use Rattle.std.specs.List.{flat_map}
+use Rattle.std.specs.List.{flat_map, range_with_len}
 use Rattle.std.proofs.lemmas.Bool.{and_from, cases_Bool, eq-eqb}
-use Rattle.std.proofs.lemmas.List.{append-nil}
-use Rattle.std.proofs.lemmas.List.Concat.{flat_map-append}
+use Rattle.std.proofs.lemmas.List.FromFn.{get_or-map-range_with_len}
 use Rattle.channel_plan.specs.declared.plans.ChannelPlan.{ChannelPlan}
 use Rattle.channel_plan.specs.Plans.{plans_of, sources_at, turn_count}
 use Rattle.channel_plan.specs.Tokens.{is_used, tokens_below, turns_used}
+use Rattle.channel_plan.proofs.Uses.{tokens_more}
 use Rattle.net_core.specs.declared.network.Event.TheVariants.{Fire, Put}
 use Rattle.net_core.specs.Shape.{is_put}
-use Rattle.net_core.proofs.Counting.{count_cons}
+use Rattle.net_core.proofs.Counting.{count-append, count_cons}
 use Rattle.process_derive.specs.Scripts.{gets_of, point_events, puts_from, ref_of, usage}
 use Rattle.sanlp.specs.Access.{read_count}
 use Rattle.sanlp.specs.declared.nest.Nest.{Nest}
-use Rattle.sanlp.specs.Cells.{count_up}
-use Rattle.sanlp.proofs.Lists.{count_up-append}
-use Rattle.witness_plan.proofs.CountedLists.{get_below}
-use Rattle.witness_plan.proofs.OwnChannels.{count-append}
+use Rattle.sanlp.proofs.Lists.{flat_map-range_with_len_more}
 use Rattle.witness_plan.proofs.PointEvents.{events_before}
 use Rattle.witness_plan.proofs.Usages.{plan_is}
 
-pub count_up_more : (g : ℕ) → count_up 0 (suc g) ≡ count_up 0 g ++ g ∷ []
-count_up_more g =
-    let next : suc g ≡ g + 1 = omega arith in
-    let front : 0 + g ≡ g = omega arith in
-    ap (count_up 0) next ∙ count_up-append 0 g 1 ∙ ap (λ a. count_up 0 g ++ a ∷ []) front
-
 pub events_more : (n : Nest) (p g : ℕ) → events_before n p (suc g) ≡ events_before n p g ++ point_events n p g
 events_more n p g =
-    ap (flat_map (point_events n p)) (count_up_more g)
-    ∙ flat_map-append (point_events n p) (count_up 0 g) (g ∷ [])
-    ∙ ap (λ es. events_before n p g ++ es) (append-nil (point_events n p g))
+    ap (events_before n p) (sym (add-one g)) ∙ flat_map-range_with_len_more (point_events n p) 0 g g (omega arith)
 
 -- a channel of which the point is a token has a Put
 put_there : (c : ℕ) (plans : List ChannelPlan) (j : ℕ) (plan : ChannelPlan) (w g : ℕ) → slice_get plans j ≡ Some plan
@@ -59,10 +48,10 @@ module _ (n : Nest) (c : ℕ) (plan : ChannelPlan) (found : slice_get (plans_of 
   token_put : (g : ℕ) → g < turn_count n plan.writer → is_used used g ≡ true → 1 ≤ count_by (is_put c) (point_events n plan.writer g)
   token_put g lt token =
       let w = plan.writer in
-      let usages = map (usage n w g) (count_up 0 (read_count n w)) in
+      let usages = map (usage n w g) (range_with_len 0 (read_count n w)) in
       let puts = puts_from 0 (plans_of n) w g in
       let here : get_or plan.is_token g false ≡ true =
-      ap (λ (x : ChannelPlan). get_or x.is_token g false) (plan_is n c plan found) ∙ get_below (is_used used) false (turn_count n w) g lt ∙ token in
+      ap (λ (x : ChannelPlan). get_or x.is_token g false) (plan_is n c plan found) ∙ get_or-map-range_with_len (is_used used) 0 (turn_count n w) g g false lt (omega arith) ∙ token in
       let front : 0 + c ≡ c = omega arith in
       let one : 1 ≤ count_by (is_put c) puts =
       subst (λ d. 1 ≤ count_by (is_put d) puts) front
@@ -74,18 +63,14 @@ module _ (n : Nest) (c : ℕ) (plan : ChannelPlan) (found : slice_get (plans_of 
         one,
       )
 
-  tokens_more : (g : ℕ) → tokens_below used (suc g) ≡ tokens_below used g + cond (is_used used g) 1 0
-  tokens_more g =
-      let last = count_cons (is_used used) g [] in
-      ap (count_by (is_used used)) (count_up_more g) ∙ count-append (is_used used) (count_up 0 g) (g ∷ []) ∙ omega arith
-
   -- the points so far have put their tokens
   pub tokens_put : (g : ℕ) → g ≤ turn_count n plan.writer → tokens_below used g ≤ count_by (is_put c) (events_before n plan.writer g)
   tokens_put zero le = omega arith
   tokens_put (suc g) le =
       let before = tokens_put g (omega arith) in
+      let counted = ap (tokens_below used) (sym (add-one g)) ∙ tokens_more used g in
       let more = ap (count_by (is_put c)) (events_more n plan.writer g) ∙ count-append (is_put c) (events_before n plan.writer g) (point_events n plan.writer g) in
       elim (cases_Bool (is_used used g)) [
-        | inl token ↦ omega (arith, tokens_more g, ap (λ b. cond {A = ℕ} b 1 0) token, token_put g (omega arith) token)
-        | inr other ↦ omega (arith, tokens_more g, ap (λ b. cond {A = ℕ} b 1 0) other)
+        | inl token ↦ omega (arith, counted, ap (λ b. cond {A = ℕ} b 1 0) token, token_put g (omega arith) token)
+        | inr other ↦ omega (arith, counted, ap (λ b. cond {A = ℕ} b 1 0) other)
       ]

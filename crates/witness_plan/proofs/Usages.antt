@@ -1,7 +1,7 @@
--- The uses of channels: each use of a fire is of a channel of the nest, which goes to that fire's process and slot.
+-- The uses of channels: each use of a fire is of a channel of the nest, which goes to that fire's process and read.
 use Rattle.std.proofs.Common.{◌≡◌, ℕ, suc, ◌+◌, true, false, cond, Option, Some, None, List, [], ◌∷◌, length, take, slice_get, refl, sym, ap, ◌∙◌, subst, inl, inr, arith}
 use Rattle.std.specs.Prelude.{All, ◌==◌}
-use Rattle.std.specs.List.{flat_map}
+use Rattle.std.specs.List.{flat_map, range_with_len}
 use Rattle.std.specs.Option.{option_and_then, option_map}
 use Rattle.std.proofs.lemmas.Bool.{and_parts, cases_Bool, eqb-true}
 use Rattle.std.proofs.lemmas.List.Elements.{All-append, All-cons, All-map, All-nil}
@@ -9,23 +9,22 @@ use Rattle.std.proofs.lemmas.Option.{get_or_from_slice_get, slice_get_within}
 use Rattle.channel_plan.specs.declared.plans.ChannelPlan.{ChannelPlan}
 use Rattle.channel_plan.specs.Plans.{plan_of, plans_at, plans_of, sources_at}
 use Rattle.channel_plan.specs.Tokens.{turns_used, writers_of}
-use Rattle.process_derive.specs.Scripts.{Usage, channel_from, goes_between, slot_base, usage}
+use Rattle.process_derive.specs.Scripts.{Usage, channel_from, goes_between, usage}
 use Rattle.sanlp.specs.Access.{read_count}
 use Rattle.sanlp.specs.declared.nest.Nest.{Nest}
 use Rattle.sanlp.specs.declared.nest.Tag.{Tag}
-use Rattle.sanlp.specs.Cells.{count_up}
 
 -- Lists
 
-pub all_flat_map : {X Y : Type 0} (P : Y → Type 0) (f : X → List Y) → ((x : X) → All P (f x)) → (xs : List X) → All P (flat_map f xs)
+all_flat_map : {X Y : Type 0} (P : Y → Type 0) (f : X → List Y) → ((x : X) → All P (f x)) → (xs : List X) → All P (flat_map f xs)
 all_flat_map P f each [] = All-nil P
 all_flat_map P f each (x ∷ xs) = All-append P (f x) (flat_map f xs) (each x) (all_flat_map P f each xs)
 
-pub each_all : {X : Type 0} (P : X → Type 0) → ((x : X) → P x) → (xs : List X) → All P xs
+each_all : {X : Type 0} (P : X → Type 0) → ((x : X) → P x) → (xs : List X) → All P xs
 each_all P each [] = All-nil P
 each_all P each (x ∷ xs) = All-cons P x xs (each x) (each_all P each xs)
 
-pub all_at : {X : Type 0} (P : X → Type 0) (xs : List X) (k : ℕ) (x : X) → All P xs → slice_get xs k ≡ Some x → P x
+all_at : {X : Type 0} (P : X → Type 0) (xs : List X) (k : ℕ) (x : X) → All P xs → slice_get xs k ≡ Some x → P x
 all_at P xs k x all is = subst P (get_or_from_slice_get xs k x x is) (all k x (slice_get_within xs k x is))
 
 -- Channels
@@ -66,24 +65,22 @@ plan_is n c plan is = all_at (IsPlan n) (plans_of n) c plan every is
   where
     every : All (IsPlan n) (plans_of n)
     every =
-        all_flat_map (IsPlan n) (λ p. flat_map (plans_at n p) (count_up 0 (read_count n p)))
+        all_flat_map (IsPlan n) (λ p. flat_map (plans_at n p) (range_with_len 0 (read_count n p)))
         (λ p. all_flat_map (IsPlan n) (plans_at n p) (λ k. All-map (IsPlan n) (plan_of n p k) (writers_of (length n.statements) (sources_at n p k))
-        (each_all (λ w. IsPlan n (plan_of n p k w)) (λ w. refl) (writers_of (length n.statements) (sources_at n p k)))) (count_up 0 (read_count n p)))
-        (count_up 0 (length n.statements))
+        (each_all (λ w. IsPlan n (plan_of n p k w)) (λ w. refl) (writers_of (length n.statements) (sources_at n p k)))) (range_with_len 0 (read_count n p)))
+        (range_with_len 0 (length n.statements))
 
 -- Uses
 
--- a fire's use at a slot: its source, its channel, and its number
+-- a fire's use at a read: its source, its channel, and its number
 pub record IsUse (n : Nest) (p f k : ℕ) (u : Usage) : Type 0 where
   pub source : Tag
   pub at : slice_get (sources_at n p k) f ≡ Some (Some source)
   pub plan : ChannelPlan
   pub is : slice_get (plans_of n) u.channel ≡ Some plan
-  pub reader : plan.reader ≡ p
   pub read : plan.read ≡ k
   pub writer : plan.writer ≡ source.process
   pub slots : u.slots ≡ plan.slots
-  pub base : u.base ≡ slot_base (plans_of n) p u.channel
   pub number : u.number ≡ length (turns_used source.process (take f (sources_at n p k)))
 
 pub mapped : {A B : Type 0} (f : A → B) (o : Option A) (y : B) → option_map f o ≡ Some y → (x : A) × (o ≡ Some x) × (y ≡ f x)
@@ -111,10 +108,8 @@ use_is n p f k u h =
       at = outer.1 ∙ ap Some inner.1;
       plan = found.0.1;
       is = ap (slice_get plans) channel ∙ is.is;
-      reader = eqb-true found.0.1.reader p ends.1;
       read = eqb-true found.0.1.read k between.1;
       writer = eqb-true found.0.1.writer w ends.0;
       slots = ap (λ (x : Usage). x.slots) found.2;
-      base = ap (λ (x : Usage). x.base) found.2 ∙ ap (slot_base plans p) (sym (ap (λ (x : Usage). x.channel) found.2));
       number = ap (λ (x : Usage). x.number) found.2;
     }

@@ -6,10 +6,10 @@ use Rattle.net_core.specs.declared.network.Event.{Event}
 use Rattle.net_core.specs.declared.network.Event.TheVariants.{Get, Fire, Put}
 use Rattle.net_core.specs.declared.network.Network.{Network}
 use Rattle.net_core.specs.declared.refs.Ref.TheVariants.{Zero, Slot}
-use Rattle.net_core.specs.Cuts.{cut_after}
+use Rattle.net_core.specs.Cuts.{cut_after, opening}
 use Rattle.net_core.specs.Machine.{net_of}
 use Rattle.witness_plan.specs.Schedules.{downward_schedule, highest_ready}
-use Rattle.witness_plan.specs.Sequential.{capacities, opening, with_capacities}
+use Rattle.witness_plan.specs.Sequential.{capacities, with_capacities}
 use Rattle.witness_plan.specs.Steps.{point_length}
 
 values : List Event

@@ -11,5 +11,6 @@ hand_on = record {
   processes =
       record { slots = 0; script = Fire [] ∷ Put 0 ∷ [] }
       ∷ record { slots = 1; script = Get 0 0 ∷ Fire (Slot 0 ∷ []) ∷ [] } ∷ [];
-  channels = record { writer = 0; reader = 1; read = 0; capacity = 1; class = record { order = InOrder; multiplicity = false } } ∷ [];
+  channels =
+      record { writer = 0; reader = 1; read = 0; capacity = 1; class = record { order = InOrder; multiplicity = false } } ∷ [];
 }

@@ -1,17 +1,17 @@
 -- How far a network has come along a schedule.
 use Rattle.std.specs.Prelude.{◌≡◌, ℕ, suc, max, map}
+use Rattle.std.specs.List.{range_with_len}
 use Rattle.net_core.specs.declared.network.Event.{Event}
 use Rattle.net_core.specs.declared.network.Event.TheVariants.{Get, Fire, Put}
-use Rattle.net_core.specs.Cuts.{cut_after}
+use Rattle.net_core.specs.Cuts.{cut_after, opening}
 use Rattle.net_core.specs.Machine.{Net}
-use Rattle.sanlp.specs.Cells.{count_up}
 use Rattle.witness_plan.specs.declared.progress.Progress.{Progress}
-use Rattle.witness_plan.specs.Sequential.{opening}
 use Rattle.witness_plan.specs.Traffic.{traffic_along}
 
 -- the positions of the processes and the counts of the channels are those along the schedule so far
 pub record IsProgress (net : Net) (progress : Progress) : Type 0 where
-  pub positions : progress.positions.items ≡ map (cut_after opening progress.schedule) (count_up 0 net.processes)
+  pub positions : progress.positions.items
+      ≡ map (cut_after opening progress.schedule) (range_with_len 0 net.processes)
   pub traffic : progress.traffic.items ≡ traffic_along net progress.schedule
 
 -- the number past process p and, at a Put, past the channel's reader

@@ -1,11 +1,10 @@
 ghost use Rattle.std.specs.Prelude.{◌≡◌, ◌<◌, ◌≤◌, ◌^◌, [], ◌∷◌, ◌++◌, max, length, slice_get, Some, IfOk, OnOk};
 ghost use Rattle.std.specs.Option.{option_copied};
-ghost use Rattle.net_core.specs.Cuts.{cut_after};
+ghost use Rattle.net_core.specs.Cuts.{cut_after, opening};
 ghost use Rattle.net_core.specs.Machine.{net_of};
 ghost use Rattle.net_core.specs.Shape.{IsWired};
 ghost use Rattle.witness_plan.specs.Progress.{IsProgress, bound_after};
 ghost use Rattle.witness_plan.specs.Schedules.{highest_ready, is_ready};
-ghost use Rattle.witness_plan.specs.Sequential.{opening};
 ghost use Rattle.witness_plan.specs.Traffic.{IsOwn, NamesOwnChannels};
 
 use crate::traffic::{Traffic, note_event};
@@ -38,7 +37,9 @@ impl Progress {
     fn next_event<'a>(&self, network: &'a Network, process: u32) -> Option<&'a Event>
         requires progress { IsProgress (net_of network.now) self.now }
         requires process { process < length network.now.processes }
-        ensures { option_copied result ≡ slice_get ((net_of network.now).script process) (cut_after opening self.now.schedule process) }
+        ensures { option_copied result
+            ≡ slice_get ((net_of network.now).script process)
+            (cut_after opening self.now.schedule process) }
     {
         let at = process as usize;
         let script = &network.processes.as_slice()[at].script;
@@ -50,7 +51,8 @@ impl Progress {
         requires progress { IsProgress (net_of network.now) self.now }
         requires channels { NamesOwnChannels (net_of network.now) }
         requires process { process < length network.now.processes }
-        ensures { result ≡ is_ready (net_of network.now) (cut_after opening self.now.schedule) process }
+        ensures { result
+            ≡ is_ready (net_of network.now) (cut_after opening self.now.schedule) process }
     {
         match self.next_event(network, process) {
             Some(Event::Get { channel, .. }) => self.traffic[*channel as usize].has_token(),
@@ -64,7 +66,8 @@ impl Progress {
         requires progress { IsProgress (net_of network.now) self.now }
         requires channels { NamesOwnChannels (net_of network.now) }
         requires below { below ≤ length network.now.processes }
-        ensures { result ≡ highest_ready (net_of network.now) (cut_after opening self.now.schedule) below }
+        ensures { result
+            ≡ highest_ready (net_of network.now) (cut_after opening self.now.schedule) below }
     {
         let mut process = below;
         while process > 0 {
@@ -85,8 +88,11 @@ impl Progress {
         requires progress { IsProgress (net_of network.now) self.old }
         requires channels { NamesOwnChannels (net_of network.now) }
         requires process { process < length network.now.processes }
-        requires left { cut_after opening self.old.schedule process < length ((net_of network.now).script process) }
-        ensures event { IfOk result (λ event. slice_get ((net_of network.now).script process) (cut_after opening self.old.schedule process) ≡ Some event) }
+        requires left { cut_after opening self.old.schedule process
+            < length ((net_of network.now).script process) }
+        ensures event { IfOk result
+            (λ event. slice_get ((net_of network.now).script process)
+            (cut_after opening self.old.schedule process) ≡ Some event) }
         ensures schedule { OnOk result (self.new.schedule ≡ self.old.schedule ++ process ∷ []) }
         ensures progress { OnOk result (IsProgress (net_of network.now) self.new) }
     {

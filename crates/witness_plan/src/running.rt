@@ -16,7 +16,8 @@ pub fn run_by<T: Copy, F: Firing<T>>(
     requires state { IsFor (net_of network.now) (held_of state.old) }
     requires limits { AllKeepTo (net_of network.now) (F.limits rule.now) }
     requires run { IsRun (net_of network.now) (F.meaning rule.now) (run_of state.old) schedule.now }
-    ensures run { run_of state.new ≡ after (net_of network.now) (F.meaning rule.now) (run_of state.old) schedule.now }
+    ensures run { run_of state.new
+        ≡ after (net_of network.now) (F.meaning rule.now) (run_of state.old) schedule.now }
     ensures state { IsFor (net_of network.now) (held_of state.new) }
 {
     for process in schedule {

@@ -44,7 +44,8 @@ fn sequential(alloc: Global, nest: &Nest, network: &Network) -> Result<Witness, 
     requires size { SizeIsOk nest.now }
     requires network { network.now ≡ net nest.now }
     ensures schedule { IfOk result (λ witness. witness.schedule ≡ sequential_schedule nest.now) }
-    ensures capacities { IfOk result (λ witness. witness.capacities ≡ capacities network.now (sequential_schedule nest.now)) }
+    ensures capacities { IfOk result
+        (λ witness. witness.capacities ≡ capacities network.now (sequential_schedule nest.now)) }
 {
     let mut schedule = Items::new(alloc);
     let mut positions = vec![in alloc; 0; network.processes.len()]?;
@@ -69,8 +70,11 @@ fn downward(alloc: Global, network: &Network) -> Result<Witness, AllocError>
     requires wired { IsWired (net_of network.now) }
     requires channels { NamesOwnChannels (net_of network.now) }
     requires few { length network.now.processes < 2 ^ 32 }
-    ensures schedule { IfOk result (λ witness. witness.schedule ≡ downward_schedule (net_of network.now)) }
-    ensures capacities { IfOk result (λ witness. witness.capacities ≡ capacities network.now (downward_schedule (net_of network.now))) }
+    ensures schedule { IfOk result
+        (λ witness. witness.schedule ≡ downward_schedule (net_of network.now)) }
+    ensures capacities { IfOk result
+        (λ witness. witness.capacities
+        ≡ capacities network.now (downward_schedule (net_of network.now))) }
 {
     let mut progress = Progress::new(alloc, network)?;
     let mut below = network.processes.len() as u32;
@@ -98,8 +102,11 @@ pub fn plan(
     requires points { points.now.of ≡ points_of nest.now }
     requires network { network.now ≡ net nest.now }
     ensures schedule { IfOk result (λ witness. witness.schedule ≡ schedule nest.now policy) }
-    ensures capacities { IfOk result (λ witness. witness.capacities ≡ capacities network.now (schedule nest.now policy)) }
-    ensures run { IfOk result (λ witness. EndsAll (net_of (with_capacities network.now witness.capacities)) tags witness.schedule) }
+    ensures capacities { IfOk result
+        (λ witness. witness.capacities ≡ capacities network.now (schedule nest.now policy)) }
+    ensures run { IfOk result
+        (λ witness. EndsAll
+        (net_of (with_capacities network.now witness.capacities)) tags witness.schedule) }
 {
     schedule_runs(nest);
     numbers_fit(nest);

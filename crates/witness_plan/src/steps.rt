@@ -1,7 +1,6 @@
 ghost use Rattle.std.specs.Prelude.{◌≡◌, ◌<◌, ◌≤◌, ◌+◌, ◌++◌, drop, length, replicate, IfOk, OnOk};
-ghost use Rattle.net_core.specs.Cuts.{cut_after};
+ghost use Rattle.net_core.specs.Cuts.{cut_after, opening};
 ghost use Rattle.net_core.specs.Machine.{net_of};
-ghost use Rattle.witness_plan.specs.Sequential.{opening};
 ghost use Rattle.witness_plan.specs.Steps.{point_length, put_length};
 ghost use Rattle.witness_plan.specs.Traffic.{NamesOwnChannels, traffic_along};
 
@@ -51,8 +50,13 @@ pub(crate) fn make_point(
     requires position { position ≡ cut_after opening schedule.old process }
     requires inside { position ≤ length ((net_of network.now).script process) }
     requires traffic { traffic.old ≡ traffic_along (net_of network.now) schedule.old }
-    ensures position { IfOk result (λ end. end ≡ position + point_length (drop position ((net_of network.now).script process))) }
-    ensures schedule { OnOk result (schedule.new ≡ schedule.old ++ replicate (point_length (drop position ((net_of network.now).script process))) process) }
+    ensures position { IfOk result
+        (λ end. end
+        ≡ position + point_length (drop position ((net_of network.now).script process))) }
+    ensures schedule { OnOk result
+        (schedule.new
+        ≡ schedule.old
+        ++ replicate (point_length (drop position ((net_of network.now).script process))) process) }
     ensures traffic { OnOk result (traffic.new ≡ traffic_along (net_of network.now) schedule.new) }
 {
     let script = network.processes.as_slice()[process as usize]

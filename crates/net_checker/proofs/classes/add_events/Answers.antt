@@ -1,11 +1,10 @@
-use Rattle.std.proofs.Common.{◌≡◌, Some, List, [], ◌++◌, slice_get, get_or, length, refl, sym, ap, ◌∙◌, arith}
+use Rattle.std.proofs.Common.{Some, List, [], ◌++◌, slice_get, get_or, refl, sym, ap, ◌∙◌, arith}
 use Rattle.std.specs.List.{flat_map}
 use Rattle.net_core.specs.declared.refs.Ref.{Ref}
 use Rattle.net_core.specs.Uses.{use_of}
-use Rattle.net_core.specs.declared.network.Event.TheVariants.{Get, Fire, Put}
 use Rattle.net_core.specs.Machine.{net_of}
 use Rattle.net_checker.proofs.Lists.{read_at}
-use Rattle.net_checker.proofs.Used.{collected_as, collected_fire, collected_get, collected_put, get_number, get_short, slots_got, slots_length}
+use Rattle.net_checker.proofs.Used.{collected_as, collected_fire, collected_get, collected_put, get_number, get_short, slots_got}
 use Rattle.net_checker.proofs.classes.add_events.Goals as goal
 use Rattle.net_checker.proofs.classes.add_events.Goals.{in-Get, in-Fire+in_ok-add_fire-in-Fire, in-Put}
 

@@ -1,4 +1,4 @@
-use Rattle.std.proofs.Common.{◌≡◌, ◌<◌, false, [], length, get_or, ap, sym, ◌∙◌, arith, below_more}
+use Rattle.std.proofs.Common.{◌≡◌, ◌<◌, false, length, get_or, ap, sym, ◌∙◌, arith, below_more}
 use Rattle.channel_class.specs.Classes.{class_of}
 use Rattle.channel_class.specs.declared.UseOrder.TheVariants.{InOrder}
 use Rattle.net_core.specs.declared.network.Channel.{Channel}

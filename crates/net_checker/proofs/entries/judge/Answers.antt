@@ -1,6 +1,5 @@
 use Rattle.std.proofs.Common.{Some, length, ap, sym, ◌∙◌, arith}
 use Rattle.net_core.specs.Held.{run_of}
-use Rattle.net_core.specs.Machine.{net_of}
 use Rattle.net_checker.proofs.Judged.{enabled_there, few_references, fire_judged}
 use Rattle.net_checker.proofs.Numbers.{few_statements}
 use Rattle.net_checker.proofs.entries.judge.Goals as goal

@@ -4,26 +4,26 @@ use Rattle.net_checker.proofs.Judged.{reference_judged, reference_found, referen
 use Rattle.net_checker.proofs.Lists.{read_or}
 use Rattle.net_checker.proofs.entries.judge_fire.Goals as goal
 
-pub overflow_add-read : goal.overflow_add-read
-overflow_add-read c = omega (arith, ap length c.as_slice-reference-items.ensures)
+pub overflow_add-number : goal.overflow_add-number
+overflow_add-number c = omega (arith, ap length c.as_slice-reference-items.ensures)
 
 pub returns-in-Some : goal.returns-in-Some
 returns-in-Some c =
     let refs = c.args.refs.now in
     let items = c.as_slice-reference-items.result.now in
-    let r = get_or items c.loop-slot.slot Zero in
-    let is = read_or refs items c.loop-slot.slot Zero c.as_slice-reference-items.ensures (omega arith) in
-    reference_found c.args.points.now.of c.args.table.now.of c.args.first_read c.args.turn c.args.slots.now c.args.entry refs c.loop-slot.slot r c.in-Some.refusal is c.loop-slot.invariant (sym c.judge_reference.ensures ∙ c.in-Some.is)
+    let r = get_or items c.loop-read.read Zero in
+    let is = read_or refs items c.loop-read.read Zero c.as_slice-reference-items.ensures (omega arith) in
+    reference_found c.args.points.now.of c.args.table.now.of c.args.first_read c.args.turn c.args.slots.now c.args.entry refs c.loop-read.read r c.in-Some.refusal is c.loop-read.invariant (sym c.judge_reference.ensures ∙ c.in-Some.is)
 
-pub loop-slot-preserved : goal.loop-slot-preserved
-loop-slot-preserved c =
+pub loop-read-preserved : goal.loop-read-preserved
+loop-read-preserved c =
     let refs = c.args.refs.now in
     let items = c.as_slice-reference-items.result.now in
-    let r = get_or items c.loop-slot.slot Zero in
-    let is = read_or refs items c.loop-slot.slot Zero c.as_slice-reference-items.ensures (omega arith) in
-    below_more _ _ c.loop-slot.invariant (sym (reference_judged c.args.points.now.of c.args.table.now.of c.args.first_read c.args.turn c.args.slots.now c.args.entry refs c.loop-slot.slot r is) ∙ sym c.judge_reference.ensures ∙ c.in_default.is)
+    let r = get_or items c.loop-read.read Zero in
+    let is = read_or refs items c.loop-read.read Zero c.as_slice-reference-items.ensures (omega arith) in
+    below_more _ _ c.loop-read.invariant (sym (reference_judged c.args.points.now.of c.args.table.now.of c.args.first_read c.args.turn c.args.slots.now c.args.entry refs c.loop-read.read r is) ∙ sym c.judge_reference.ensures ∙ c.in_default.is)
 
 pub returns : goal.returns
 returns c =
     let many = ap length c.as_slice-reference-items.ensures in
-    references_fine c.args.points.now.of c.args.table.now.of c.args.first_read c.args.turn c.args.slots.now c.args.entry c.args.refs.now (λ k lt. c.loop-slot.invariant k (omega arith))
+    references_fine c.args.points.now.of c.args.table.now.of c.args.first_read c.args.turn c.args.slots.now c.args.entry c.args.refs.now (λ k lt. c.loop-read.invariant k (omega arith))

@@ -1,4 +1,4 @@
-use Rattle.std.proofs.Common.{◌≡◌, ◌<◌, ℕ, ℤ, List, Some, None, length, slice_get, refl, sym, ap, ◌∙◌, arith, add-one, below_more}
+use Rattle.std.proofs.Common.{ℤ, List, Some, length, slice_get, sym, ap, ◌∙◌, arith, below_more}
 use Rattle.net_core.specs.Machine.{net_of}
 use Rattle.net_core.specs.Shape.{turns}
 use Rattle.net_checker.specs.declared.verdict.Refusal.TheVariants.{Fires}

@@ -1,4 +1,4 @@
-use Rattle.std.proofs.Common.{◌≡◌, length, take, ap, ◌∙◌}
+use Rattle.std.proofs.Common.{length, take, ap, ◌∙◌}
 use Rattle.std.specs.List.{sum_by}
 use Rattle.sanlp.specs.declared.nest.Statement.{Statement}
 use Rattle.net_checker.proofs.FitsShape.{take_all}

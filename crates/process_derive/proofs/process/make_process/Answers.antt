@@ -2,7 +2,8 @@ use Rattle.std.proofs.Common.{◌∙◌, ap, sym, subst, arith, length}
 use Rattle.std.specs.Prelude.{None, [], slice_index_or}
 use Rattle.process_derive.specs.Scripts.{slots_of}
 use Rattle.process_derive.specs.Uses.{OnlyBelow}
-use Rattle.process_derive.proofs.Bounds.{few_entries, few_plans, few_slots}
+use Rattle.process_derive.proofs.Bounds.{few_plans}
+use Rattle.process_derive.proofs.Holds.{slots_within}
 use Rattle.process_derive.proofs.Scripts.{few_sources_read, few_sources, few_uses, fits_as, script_same, sources_exist}
 use Rattle.process_derive.proofs.process.make_process.Goals as goal
 
@@ -14,11 +15,19 @@ outgoing_channels-requires c = omega (arith, ap length c.requires.plans, few_pla
 
 pub incoming_channels-requires-clause-slots : goal.incoming_channels-requires-clause-slots
 incoming_channels-requires-clause-slots c =
-    omega (arith, ap (λ ps. slots_of ps c.args.number) c.requires.plans, few_slots c.args.nest.now c.args.number, few_entries c.args.nest.now c.requires.size)
+    omega (
+      arith,
+      ap (λ ps. slots_of ps c.args.number) c.requires.plans,
+      slots_within c.args.nest.now c.args.number c.requires.size,
+    )
 
 pub slot_count-requires : goal.slot_count-requires
 slot_count-requires c =
-    omega (arith, ap (λ ps. slots_of ps c.args.number) c.requires.plans, few_slots c.args.nest.now c.args.number, few_entries c.args.nest.now c.requires.size)
+    omega (
+      arith,
+      ap (λ ps. slots_of ps c.args.number) c.requires.plans,
+      slots_within c.args.nest.now c.args.number c.requires.size,
+    )
 
 pub uses_of-requires-clause-few_reads : goal.uses_of-requires-clause-few_reads
 uses_of-requires-clause-few_reads c = few_sources_read c.args.nest.now c.args.number c.args.sources.now c.requires.sources

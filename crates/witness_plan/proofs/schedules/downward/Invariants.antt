@@ -1,7 +1,6 @@
-use Rattle.net_core.specs.Cuts.{cut_after}
+use Rattle.net_core.specs.Cuts.{cut_after, opening}
 use Rattle.net_core.specs.Machine.{net_of}
 use Rattle.witness_plan.specs.Progress.{IsProgress}
-use Rattle.witness_plan.specs.Sequential.{opening}
 use Rattle.witness_plan.proofs.Descent.{IsDescent}
 use Rattle.witness_plan.proofs.Downward.{events_left}
 use Rattle.witness_plan.proofs.schedules.downward.Given as goal

@@ -3,9 +3,10 @@ use Rattle.std.proofs.lemmas.List.{get_or_read, take_at}
 use Rattle.sanlp.specs.Trace.{trace}
 use Rattle.loop_walk.specs.Walks.{rest}
 use Rattle.net_core.specs.Machine.{net_of}
+use Rattle.process_derive.proofs.Numbers.{count_processes}
 use Rattle.witness_plan.specs.Sequential.{capacities}
 use Rattle.witness_plan.specs.Traffic.{NamesOwnChannels, no_traffic}
-use Rattle.witness_plan.proofs.OwnChannels.{names_own, process_count}
+use Rattle.witness_plan.proofs.OwnChannels.{names_own}
 use Rattle.witness_plan.proofs.Sequenced.{IsSequenced, capacities_are, left_later, position_exists, position_is, process_exists, sequenced_all, sequenced_more, sequenced_none, stands_inside, traffic_none}
 use Rattle.witness_plan.proofs.schedules.sequential.Goals as goal
 
@@ -13,7 +14,7 @@ pub loop-point-init : goal.loop-point-init
 loop-point-init c =
     let n = c.args.nest.now in
     let started : length (trace n) - length (rest n c.in_ok-walk.walk) ≡ 0 = omega (arith, ap length c.in_ok-walk.ensures.rest) in
-    let count = c.len.ensures ∙ ap (λ network. length network.processes) c.requires.network ∙ process_count n in
+    let count = c.len.ensures ∙ ap (λ network. length network.processes) c.requires.network ∙ count_processes n in
     record {
       walk = c.in_ok-walk.ensures.walk;
       left = ap (λ k. drop k (trace n)) started ∙ sym c.in_ok-walk.ensures.rest;

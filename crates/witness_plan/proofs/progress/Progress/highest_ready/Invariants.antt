@@ -1,8 +1,7 @@
 use Rattle.std.proofs.Common.{◌≡◌, ◌≤◌, length}
-use Rattle.net_core.specs.Cuts.{cut_after}
+use Rattle.net_core.specs.Cuts.{cut_after, opening}
 use Rattle.net_core.specs.Machine.{net_of}
 use Rattle.witness_plan.specs.Schedules.{highest_ready}
-use Rattle.witness_plan.specs.Sequential.{opening}
 use Rattle.witness_plan.proofs.progress.Progress.highest_ready.Given as goal
 
 abbrev pub invariant-loop-process : goal.invariant-loop-process

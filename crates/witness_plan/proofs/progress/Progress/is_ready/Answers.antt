@@ -1,11 +1,10 @@
 use Rattle.std.proofs.Common.{◌<◌, Some, length, sym, ap, ◌∙◌, arith}
 use Rattle.std.specs.Prelude.{nat_lt}
 use Rattle.std.proofs.lemmas.List.{get_or_read}
-use Rattle.net_core.specs.Cuts.{cut_after}
+use Rattle.net_core.specs.Cuts.{cut_after, opening}
 use Rattle.net_core.specs.Machine.{net_of}
 use Rattle.witness_plan.specs.declared.traffic.Traffic.{Traffic}
 use Rattle.witness_plan.specs.Schedules.{could_come_at}
-use Rattle.witness_plan.specs.Sequential.{opening}
 use Rattle.witness_plan.specs.Traffic.{no_traffic}
 use Rattle.witness_plan.proofs.NotedTraffic.{own_event}
 use Rattle.witness_plan.proofs.Progressed.{traffic_long, traffic_read}

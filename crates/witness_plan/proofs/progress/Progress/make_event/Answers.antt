@@ -1,8 +1,7 @@
 use Rattle.std.proofs.Common.{◌≡◌, ◌+◌, ◌<◌, ◌^◌, suc, drop, length, set, ap, ◌∙◌, arith}
 use Rattle.std.proofs.lemmas.List.{take_at}
-use Rattle.net_core.specs.Cuts.{cut_after}
+use Rattle.net_core.specs.Cuts.{cut_after, opening}
 use Rattle.net_core.specs.Machine.{net_of}
-use Rattle.witness_plan.specs.Sequential.{opening}
 use Rattle.witness_plan.specs.Traffic.{noted}
 use Rattle.witness_plan.proofs.NextEvents.{script_is}
 use Rattle.witness_plan.proofs.Progressed.{event_read, position_read, positions_long, positions_more, traffic_can, traffic_more}

@@ -28,10 +28,14 @@ Ports = ℕ → Option Port
 -- The ports of a process through which nothing has gone: it gets from the channels that it reads, and puts to those that
 -- it writes.
 abbrev pub incoming : (ℕ → List ℤ) → Network → ℕ → Ports
-incoming streams network p c = option_and_then (λ channel. if channel.reader == p then Some (fresh (streams c)) else None) (slice_get network.channels c)
+incoming streams network p c =
+    option_and_then (λ channel. if channel.reader == p then Some (fresh (streams c)) else None)
+    (slice_get network.channels c)
 
 abbrev pub outgoing : (ℕ → List ℤ) → Network → ℕ → Ports
-outgoing streams network p c = option_and_then (λ channel. if channel.writer == p then Some (fresh (streams c)) else None) (slice_get network.channels c)
+outgoing streams network p c =
+    option_and_then (λ channel. if channel.writer == p then Some (fresh (streams c)) else None)
+    (slice_get network.channels c)
 
 -- the Gets and Puts of a script, in order
 abbrev pub calls_of : List Event → List Call
@@ -44,15 +48,20 @@ calls_of (Put c ∷ events) = Called.Put c ∷ calls_of events
 abbrev pub CanTurn : (ℕ → Option Limits) → ℕ → Event → Ports → Ports → Store → Type 0
 CanTurn limits p (Get c slot) from to s = CanGet (from c) × (slot < length s.slots)
 CanTurn limits p (Fire refs) from to s =
-    KeepsTo (limits p) (length s.kept) (length refs) × All (IsWithin (length s.slots)) refs × (length s.kept < s.space) × (length s.kept < 2 ^ 32)
-CanTurn limits p (Put c) from to s = (0 < length s.kept) × ((x : ℤ) → last_of s.kept ≡ x ∷ [] → IsNext (to c) x)
+    KeepsTo (limits p) (length s.kept) (length refs) × All (IsWithin (length s.slots)) refs
+    × (length s.kept < s.space) × (length s.kept < 2 ^ 32)
+CanTurn limits p (Put c) from to s =
+    (0 < length s.kept) × ((x : ℤ) → last_of s.kept ≡ x ∷ [] → IsNext (to c) x)
 
 -- What one event of process p does: a Get takes the next value of its channel into its slot, a Fire keeps what the rule
 -- gives, and a Put puts the value that was fired last.
 abbrev pub Turns : Rule ℤ → ℕ → Event → Ports → Ports → Store → Ports → Ports → Store → Type 0
 Turns rule p (Get c slot) from to s from' to' s' =
-    (x : ℤ) × IsNext (from c) x × ((d : ℕ) → from' d ≡ grown_at from c x d) × ((d : ℕ) → to' d ≡ to d) × (s' ≡ filled s slot x)
+    (x : ℤ) × IsNext (from c) x × ((d : ℕ) → from' d ≡ grown_at from c x d)
+    × ((d : ℕ) → to' d ≡ to d) × (s' ≡ filled s slot x)
 Turns rule p (Fire refs) from to s from' to' s' =
-    ((d : ℕ) → from' d ≡ from d) × ((d : ℕ) → to' d ≡ to d) × (s' ≡ kept_also s (rule p (length s.kept) refs s.slots))
+    ((d : ℕ) → from' d ≡ from d) × ((d : ℕ) → to' d ≡ to d)
+    × (s' ≡ kept_also s (rule p (length s.kept) refs s.slots))
 Turns rule p (Put c) from to s from' to' s' =
-    (x : ℤ) × (last_of s.kept ≡ x ∷ []) × ((d : ℕ) → from' d ≡ from d) × ((d : ℕ) → to' d ≡ grown_at to c x d) × (s' ≡ s)
+    (x : ℤ) × (last_of s.kept ≡ x ∷ []) × ((d : ℕ) → from' d ≡ from d)
+    × ((d : ℕ) → to' d ≡ grown_at to c x d) × (s' ≡ s)

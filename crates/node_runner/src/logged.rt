@@ -99,8 +99,14 @@ impl LogEnds {
         streams: &[Vec<i64>],
     ) -> Result<LogEnds, AllocError>
         requires { length streams.now ≡ length network.now.channels }
-        ensures from { IfOk result (λ ends. (c : ℕ) → ⟦<LogEnds as Ends>⟧.from ends c ≡ incoming (nth_stream streams.now) network.now process c) }
-        ensures to { IfOk result (λ ends. (c : ℕ) → ⟦<LogEnds as Ends>⟧.to ends c ≡ outgoing (nth_stream streams.now) network.now process c) }
+        ensures from { IfOk result
+            (λ ends. (c : ℕ)
+            → ⟦<LogEnds as Ends>⟧.from ends c
+            ≡ incoming (nth_stream streams.now) network.now process c) }
+        ensures to { IfOk result
+            (λ ends. (c : ℕ)
+            → ⟦<LogEnds as Ends>⟧.to ends c
+            ≡ outgoing (nth_stream streams.now) network.now process c) }
         ensures calls { IfOk result (λ ends. ⟦<LogEnds as Ends>⟧.calls ends ≡ []) }
     {
         let count = value_count(streams).ok_or(AllocError)?;

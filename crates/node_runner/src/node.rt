@@ -26,9 +26,12 @@ fn turn<R: Wait, E: Ends, G: Gate>(
     ends: &mut E,
     gate: &G,
 )
-    requires { CanTurn (value_limits rule.now.nest.now) process event.now (E.from ends.old) (E.to ends.old) room.old }
-    ensures turned { Turns (values rule.now.nest.now rule.now.inputs.now) process event.now (E.from ends.old) (E.to ends.old) room.old (E.from ends.new) (E.to ends.new) room.new }
-    ensures told { E.tells ≡ true → E.calls ends.new ≡ E.calls ends.old ++ calls_of (event.now ∷ []) }
+    requires { CanTurn (value_limits rule.now.nest.now) process event.now (E.from ends.old)
+        (E.to ends.old) room.old }
+    ensures turned { Turns (values rule.now.nest.now rule.now.inputs.now) process event.now
+        (E.from ends.old) (E.to ends.old) room.old (E.from ends.new) (E.to ends.new) room.new }
+    ensures told { E.tells ≡ true
+        → E.calls ends.new ≡ E.calls ends.old ++ calls_of (event.now ∷ []) }
 {
     match event {
         Event::Get { channel, slot } => {
@@ -66,12 +69,21 @@ pub fn run_node<R: Wait, E: Ends, G: Gate>(
     requires sound { IsSound nest.now network.now }
     requires process { process < length network.now.processes }
     requires room { room.old ≡ fresh_store (net_of network.now) process }
-    requires incoming { (c : ℕ) → E.from ends.old c ≡ incoming (stream nest.now network.now inputs.now) network.now process c }
-    requires outgoing { (c : ℕ) → E.to ends.old c ≡ outgoing (stream nest.now network.now inputs.now) network.now process c }
-    ensures got { (c : ℕ) → E.from ends.new c ≡ advanced (E.from ends.old c) (count_by (is_get c) ((net_of network.now).script process)) }
-    ensures put { (c : ℕ) → E.to ends.new c ≡ advanced (E.to ends.old c) (count_by (is_put c) ((net_of network.now).script process)) }
+    requires incoming { (c : ℕ)
+        → E.from ends.old c
+        ≡ incoming (stream nest.now network.now inputs.now) network.now process c }
+    requires outgoing { (c : ℕ)
+        → E.to ends.old c
+        ≡ outgoing (stream nest.now network.now inputs.now) network.now process c }
+    ensures got { (c : ℕ)
+        → E.from ends.new c
+        ≡ advanced (E.from ends.old c) (count_by (is_get c) ((net_of network.now).script process)) }
+    ensures put { (c : ℕ)
+        → E.to ends.new c
+        ≡ advanced (E.to ends.old c) (count_by (is_put c) ((net_of network.now).script process)) }
     ensures kept { room.new.kept ≡ values_of nest.now inputs.now process }
-    ensures told { E.tells ≡ true → E.calls ends.new ≡ E.calls ends.old ++ calls_of ((net_of network.now).script process) }
+    ensures told { E.tells ≡ true
+        → E.calls ends.new ≡ E.calls ends.old ++ calls_of ((net_of network.now).script process) }
 {
     let rule = Values {
         nest,

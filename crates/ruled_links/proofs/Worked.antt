@@ -1,7 +1,8 @@
 -- Worked rows of the definitions.
 use Rattle.std.proofs.Common.{◌≡◌, ◌==◌, ℕ, List, [], ◌∷◌, refl, arith}
 use Rattle.std.specs.Prelude.{ℤ, pos, Option, Some, None, if◌then◌else◌}
-use Rattle.ruled_links.specs.Ports.{Port, port, fresh, stream_at}
+use Rattle.atomic_table.specs.Seated.{TableId}
+use Rattle.ruled_links.specs.Ports.{Port, port, fresh, link_end, AreOfOneLine, stream_at}
 use Rattle.ruled_links.specs.Channels.{IsNext, grown_at, advanced}
 use Rattle.ruled_links.specs.Rule.{put_view, get_view, IsPair}
 
@@ -26,6 +27,11 @@ two_values = refl
 
 stream_of_channel_1 : stream_at ([] ∷ one_two_three ∷ []) 1 ≡ one_two_three
 stream_of_channel_1 = refl
+
+-- what has gone through an end says nothing of its line
+one_line : (line : TableId)
+    → AreOfOneLine (link_end line (port one_two_three (pos 1 ∷ [])) 1) (link_end line (fresh one_two_three) 1)
+one_line line = refl
 
 -- two were put and one of them got, so one is held
 one_is_held : IsPair (pos 2 ∷ []) (put_view one_two_three 1 (pos 1 ∷ pos 2 ∷ []) ∷ get_view one_two_three 1 (pos 1 ∷ []) ∷ [])

@@ -1,5 +1,6 @@
 -- What a contract sees of one end of a link.
-use Rattle.std.specs.Prelude.{ℕ, ℤ, List, [], ◌∷◌, ◌++◌, slice_index_or}
+use Rattle.std.specs.Prelude.{◌≡◌, ℕ, ℤ, List, [], ◌∷◌, ◌++◌, slice_index_or}
+use Rattle.atomic_table.specs.Seated.{TableId}
 
 -- a stream, and how much of it has gone through
 pub record Port : Type 0 where
@@ -17,13 +18,19 @@ fresh stream = port stream []
 abbrev pub moved_by : Port → ℤ → Port
 moved_by p x = port p.stream (p.moved ++ x ∷ [])
 
--- one end: what has gone through it, and how many values its link holds
+-- one end: its line, which is the channel of values that it is an end of; what has gone through it; and how many values
+-- its link holds
 pub record LinkEnd : Type 0 where
+  pub line : TableId
   pub port : Port
   pub capacity : ℕ
 
-abbrev pub link_end : Port → ℕ → LinkEnd
-link_end port capacity = record { port = port; capacity = capacity }
+abbrev pub link_end : TableId → Port → ℕ → LinkEnd
+link_end line port capacity = record { line = line; port = port; capacity = capacity }
+
+-- both are ends of the same line, so what is put into the one comes out of the other
+abbrev pub AreOfOneLine : LinkEnd → LinkEnd → Type 0
+AreOfOneLine put get = put.line ≡ get.line
 
 -- the stream of a channel; a channel that isn't there has none
 abbrev pub stream_at : List (List ℤ) → ℕ → List ℤ

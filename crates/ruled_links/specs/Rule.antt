@@ -1,6 +1,12 @@
 -- The rule of a link: what holds at every moment of the values in the channel, oldest first, and of the views of its passes.
 use Rattle.std.specs.Prelude.{◌≡◌, ◌≤◌, ◌⊎◌, ℕ, ℤ, true, false, List, [], ◌∷◌, ◌++◌, length}
+use Rattle.atomic_table.specs.Seated.{TableId}
+use Rattle.crossbeam_channel.specs.declared.flavors.array.Rows.{Rows}
 use Rattle.ruled_links.specs.declared.rule.View.{View}
+
+-- which channel it is: the table by which its sends and receives take turns, which no other one has
+abbrev pub line_of : {S D Q M K L A : Type 0} → Rows S D Q M K L A → TableId
+line_of channel = channel.stamps.shared.table_id
 
 abbrev pub IsPrefix : List ℤ → List ℤ → Type 0
 IsPrefix xs ys = (rest : List ℤ) × (ys ≡ xs ++ rest)
@@ -10,10 +16,12 @@ abbrev pub opening : View
 opening = record { puts = true; split = false; stream = []; moved = []; capacity = 0 }
 
 abbrev pub put_view : List ℤ → ℕ → List ℤ → View
-put_view stream capacity put = record { puts = true; split = true; stream = stream; moved = put; capacity = capacity }
+put_view stream capacity put =
+    record { puts = true; split = true; stream = stream; moved = put; capacity = capacity }
 
 abbrev pub get_view : List ℤ → ℕ → List ℤ → View
-get_view stream capacity got = record { puts = false; split = true; stream = stream; moved = got; capacity = capacity }
+get_view stream capacity got =
+    record { puts = false; split = true; stream = stream; moved = got; capacity = capacity }
 
 -- nothing was split off: there is one pass, and the channel is empty
 pub record IsAlone (held : List ℤ) (views : List View) : Type 0 where

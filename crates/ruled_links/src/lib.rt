@@ -5,7 +5,7 @@
 #![tactic(auto)]
 
 ghost use Rattle.std.specs.Prelude.{◌≡◌, ◌<◌, ℤ, List, length, IfOk};
-ghost use Rattle.ruled_links.specs.Ports.{fresh, link_end, stream_at};
+ghost use Rattle.ruled_links.specs.Ports.{AreOfOneLine, fresh, link_end, stream_at};
 
 mod ends;
 mod ports;
@@ -32,7 +32,7 @@ impl Plan for Brand {
     ghost streams = { [] };
 }
 
-/// The two ends of a link whose stream is the one of this channel in the plan. Nothing has gone through them.
+/// The two ends of one link, whose stream is the one of this channel in the plan. Nothing has gone through them.
 pub fn link<P: Plan>(
     alloc: Global,
     capacity: u32,
@@ -40,7 +40,10 @@ pub fn link<P: Plan>(
 ) -> Result<(PutEnd, GetEnd), AllocError>
     requires room { 0 < capacity }
     requires channel { channel < length P.streams }
-    ensures { IfOk result (λ ends. (ends.0 ≡ link_end (fresh (stream_at P.streams channel)) capacity) × (ends.1 ≡ link_end (fresh (stream_at P.streams channel)) capacity)) }
+    ensures fresh { IfOk result
+        (λ ends. (ends.0 ≡ link_end ends.0.line (fresh (stream_at P.streams channel)) capacity)
+        × (ends.1 ≡ link_end ends.1.line (fresh (stream_at P.streams channel)) capacity)) }
+    ensures line { IfOk result (λ ends. AreOfOneLine ends.0 ends.1) }
 {
     linked::<Brand>(alloc, capacity, channel)
 }

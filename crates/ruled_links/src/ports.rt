@@ -1,5 +1,5 @@
 ghost use Rattle.std.specs.Prelude.{◌≡◌, ◌<◌, length, IfOk, Some, slice_get};
-ghost use Rattle.ruled_links.specs.Ports.{fresh, link_end, moved_by};
+ghost use Rattle.ruled_links.specs.Ports.{AreOfOneLine, fresh, link_end, moved_by};
 
 use crate::rule::{InStep, Named, Received, Sent, Stream, View};
 use crossbeam_channel::{Pass, RuledReceiver, RuledSender, bounded_with};
@@ -20,13 +20,17 @@ impl Model for PutEnd {
     ghost use Rattle.crossbeam_channel.specs.Claims.{view as known_by, IsSeatAt};
     ghost use Rattle.crossbeam_channel.specs.Ends.{sends_on, ruled_capacity};
     ghost use Rattle.ruled_links.specs.Ports.{LinkEnd, link_end, port};
-    ghost use Rattle.ruled_links.specs.Rule.{put_view};
+    ghost use Rattle.ruled_links.specs.Rule.{line_of, put_view};
 
     ghost Value = { LinkEnd };
 
-    ghost view = { λ e. link_end (port (known_by e.pass).stream (known_by e.pass).moved) (known_by e.pass).capacity };
+    ghost view = { λ e. link_end (line_of (sends_on e.line))
+        (port (known_by e.pass).stream (known_by e.pass).moved) (known_by e.pass).capacity };
 
-    ghost invariant = { λ e. IsSeatAt (sends_on e.line) e.pass × (known_by e.pass ≡ put_view (known_by e.pass).stream (ruled_capacity (sends_on e.line)) (known_by e.pass).moved) };
+    ghost invariant = { λ e. IsSeatAt (sends_on e.line) e.pass
+        × (known_by e.pass
+        ≡ put_view (known_by e.pass).stream (ruled_capacity (sends_on e.line))
+        (known_by e.pass).moved) };
 }
 
 /// The end of a link that values are got from.
@@ -41,13 +45,17 @@ impl Model for GetEnd {
     ghost use Rattle.crossbeam_channel.specs.Claims.{view as known_by, IsSeatAt};
     ghost use Rattle.crossbeam_channel.specs.Ends.{receives_on, ruled_capacity};
     ghost use Rattle.ruled_links.specs.Ports.{LinkEnd, link_end, port};
-    ghost use Rattle.ruled_links.specs.Rule.{get_view};
+    ghost use Rattle.ruled_links.specs.Rule.{line_of, get_view};
 
     ghost Value = { LinkEnd };
 
-    ghost view = { λ e. link_end (port (known_by e.pass).stream (known_by e.pass).moved) (known_by e.pass).capacity };
+    ghost view = { λ e. link_end (line_of (receives_on e.line))
+        (port (known_by e.pass).stream (known_by e.pass).moved) (known_by e.pass).capacity };
 
-    ghost invariant = { λ e. IsSeatAt (receives_on e.line) e.pass × (known_by e.pass ≡ get_view (known_by e.pass).stream (ruled_capacity (receives_on e.line)) (known_by e.pass).moved) };
+    ghost invariant = { λ e. IsSeatAt (receives_on e.line) e.pass
+        × (known_by e.pass
+        ≡ get_view (known_by e.pass).stream (ruled_capacity (receives_on e.line))
+        (known_by e.pass).moved) };
 }
 
 // The two ends of a new link. The channel is given so that a caller can pick its stream.
@@ -58,7 +66,10 @@ pub(crate) fn linked<S: Stream>(
 ) -> Result<(PutEnd, GetEnd), AllocError>
     requires room { 0 < capacity }
     requires capacity { capacity ≡ S.capacity }
-    ensures { IfOk result (λ ends. (ends.0 ≡ link_end (fresh S.values) capacity) × (ends.1 ≡ link_end (fresh S.values) capacity)) }
+    ensures fresh { IfOk result
+        (λ ends. (ends.0 ≡ link_end ends.0.line (fresh S.values) capacity)
+        × (ends.1 ≡ link_end ends.1.line (fresh S.values) capacity)) }
+    ensures line { IfOk result (λ ends. AreOfOneLine ends.0 ends.1) }
 {
     let (sender, receiver, mut pass) = bounded_with::<i64, View, InStep, Global>(
         alloc,
@@ -80,7 +91,8 @@ impl PutEnd {
     /// Where the channel answers that the other end is gone, it tries again.
     pub fn put<R: Wait>(&mut self, rt: &R, value: i64)
         requires { slice_get self.old.port.stream (length self.old.port.moved) ≡ Some value }
-        ensures { self.new ≡ link_end (moved_by self.old.port value) self.old.capacity }
+        ensures { self.new
+            ≡ link_end self.old.line (moved_by self.old.port value) self.old.capacity }
     {
         for _ in rt.forever() {
             if self
@@ -104,7 +116,8 @@ impl GetEnd {
     pub fn get<R: Wait>(&mut self, rt: &R) -> i64
         requires { length self.old.port.moved < length self.old.port.stream }
         ensures next { slice_get self.old.port.stream (length self.old.port.moved) ≡ Some result }
-        ensures moved { self.new ≡ link_end (moved_by self.old.port result) self.old.capacity }
+        ensures moved { self.new
+            ≡ link_end self.old.line (moved_by self.old.port result) self.old.capacity }
     {
         for _ in rt.forever() {
             if let Ok(value) = self.line.recv_as::<Received, R>(rt, &mut self.pass) {

@@ -9,7 +9,9 @@ use std::test::*;
 // A link whose stream is the list.
 fn link_of(alloc: Global, capacity: u32, xs: &[i64]) -> Result<(PutEnd, GetEnd), AllocError>
     requires { 0 < capacity }
-    ensures { IfOk result (λ ends. (ends.0 ≡ link_end (fresh xs.now) capacity) × (ends.1 ≡ link_end (fresh xs.now) capacity)) }
+    ensures { IfOk result
+        (λ ends. (ends.0 ≡ link_end ends.0.line (fresh xs.now) capacity)
+        × (ends.1 ≡ link_end ends.0.line (fresh xs.now) capacity)) }
 {
     planned::<Brand>(alloc, capacity, xs)
 }
@@ -21,7 +23,9 @@ fn planned<P: Plan>(
 ) -> Result<(PutEnd, GetEnd), AllocError>
     requires plan { P.streams ≡ xs.now ∷ [] }
     requires capacity { 0 < capacity }
-    ensures { IfOk result (λ ends. (ends.0 ≡ link_end (fresh xs.now) capacity) × (ends.1 ≡ link_end (fresh xs.now) capacity)) }
+    ensures { IfOk result
+        (λ ends. (ends.0 ≡ link_end ends.0.line (fresh xs.now) capacity)
+        × (ends.1 ≡ link_end ends.0.line (fresh xs.now) capacity)) }
 {
     let _count = xs.len();
     link::<P>(alloc, capacity, 0)

@@ -1,11 +1,12 @@
 -- Rooms and lists of a bench, and the lists that are gathered.
-use Rattle.std.proofs.Common.{◌≡◌, ◌<◌, ◌≤◌, ◌+◌, ◌-◌, ⊎_elim, ℕ, zero, suc, ℤ, true, false, cond, List, [], ◌∷◌, ◌++◌, length, map, replicate, drop, slice_get, get_or, Some, vec_capacity, refl, sym, ap, ◌∙◌, subst, arith, length-append, append_assoc, drop-cons, add-one}
+use Rattle.std.proofs.Common.{◌≡◌, ◌<◌, ◌≤◌, ◌+◌, ◌-◌, ⊎_elim, ℕ, suc, ℤ, true, false, cond, List, [], ◌∷◌, ◌++◌, length, map, replicate, drop, slice_get, get_or, Some, vec_capacity, sym, ap, ◌∙◌, subst, arith, length-append, append_assoc, drop-cons, add-one}
 use Rattle.std.specs.declared.vec.Vec.{Vec}
 use Rattle.std.specs.Global.{Global}
 use Rattle.std.proofs.lemmas.List.{length-map}
+use Rattle.std.proofs.lemmas.List.FromFn.{length-map-range_with_len}
 use Rattle.sanlp.specs.declared.nest.ArrayDecl.{ArrayDecl}
 use Rattle.sanlp.specs.declared.nest.Nest.{Nest}
-use Rattle.sanlp.specs.Cells.{is_output, count_up}
+use Rattle.sanlp.specs.Cells.{is_output}
 use Rattle.sanlp.specs.Points.{points_of, vectors_of}
 use Rattle.sanlp.specs.Trace.{trace}
 use Rattle.sanlp.specs.declared.nest.Role.TheVariants as role
@@ -31,14 +32,10 @@ fresh_more network k rooms rooms' room fresh grown is =
     } in
     subst (AreFreshRooms network (k + 1)) (sym grown) more
 
-length_up : (a many : ℕ) → length (count_up a many) ≡ many
-length_up a zero = refl
-length_up a (suc many) = ap suc (length_up (a + 1) many)
-
 -- there is one list of points for each statement
 pub points_length : (n : Nest) → length (points_of n) ≡ length n.statements
 unfolding points_of
-points_length n = length-map (count_up 0 (length n.statements)) (vectors_of (trace n)) ∙ length_up 0 (length n.statements)
+points_length n = length-map-range_with_len (vectors_of (trace n)) 0 (length n.statements)
 
 -- there are no more printed arrays than statements
 pub few_outputs : (n : Nest) → length (output_numbers n.arrays) ≤ length n.statements

@@ -1,23 +1,22 @@
 -- The ends of all processes are made channel by channel.
-use Rattle.std.proofs.Common.{◌≡◌, ◌==◌, ◌<◌, ◌≤◌, ◌⊎◌, inl, inr, ⊎_elim, ℕ, zero, suc, ◌+◌, Bool, true, false, cond, max, ℤ, Option, Some, None, List, [], ◌∷◌, length, map, slice_get, get_or, option_map, refl, sym, ap, ◌∙◌, subst, arith, length-set, zero-add, add-zero, eq-eqb, ne_eqb, lt-ltb}
+use Rattle.std.proofs.Common.{◌≡◌, ◌==◌, ◌<◌, ◌≤◌, ◌⊎◌, inl, inr, ⊎_elim, ℕ, zero, suc, ◌+◌, Bool, true, false, cond, max, ℤ, Option, Some, None, List, [], ◌∷◌, length, slice_get, get_or, option_map, refl, sym, ap, ◌∙◌, subst, arith, length-set, zero-add, eq-eqb, ne_eqb, lt-ltb}
 use Rattle.std.specs.Prelude.{slice_index_or, slice_set, nat_lt}
 use Rattle.std.specs.Option.{option_map_or, option_and_then}
 use Rattle.std.proofs.lemmas.Bool.{cases_eq, cases_lt, le-ltb}
-use Rattle.std.proofs.lemmas.List.{length-map}
+use Rattle.std.proofs.lemmas.List.FromFn.{get_or-map-range_with_len, length-map-range_with_len}
 use Rattle.std.proofs.lemmas.Option.{slice_get_read, slice_get_within, slice_get-get_or}
 use Rattle.sanlp.specs.declared.nest.Inputs.{Inputs}
 use Rattle.sanlp.specs.declared.nest.Nest.{Nest}
-use Rattle.sanlp.specs.Cells.{count_up}
 use Rattle.net_core.specs.declared.network.Channel.{Channel}
 use Rattle.net_core.specs.declared.network.Network.{Network}
 use Rattle.net_core.specs.Machine.{net_of}
 use Rattle.net_core.specs.Shape.{IsWired}
-use Rattle.ruled_links.specs.Ports.{LinkEnd, link_end, fresh, stream_at}
+use Rattle.ruled_links.specs.Ports.{Port, LinkEnd, link_end, fresh, AreOfOneLine, stream_at}
 use Rattle.node_runner.specs.Nodes.{Ports, stream, incoming, outgoing}
 use Rattle.node_runner.proofs.LogLemmas.{incoming_past, outgoing_past}
 use Rattle.thread_runner.specs.declared.ends.NodeEnds.{NodeEnds}
 use Rattle.thread_runner.specs.Runs.{AreEndsOf}
-use Rattle.thread_runner.specs.Made.{port_at, all_streams, AreOfCapacity, AreOfCapacities, AreMade, IsPlaced}
+use Rattle.thread_runner.specs.Made.{port_at, all_streams, AreOfCapacity, AreOfCapacities, AreJoined, AreMade, IsPlaced}
 
 -- Lists of which one item was set
 
@@ -138,24 +137,74 @@ row_holds network true old new k end is room before c x h =
     (λ (a : (k ≡ c → ⊥) × (slice_get old c ≡ Some (Some x))). before c x a.1)
     (one_set old k (Some end) c (Some x) (ap (λ l. slice_get l c) (sym is) ∙ h))
 
-module _ (nest : Nest) (network : Network) (d : Inputs) where
-  incoming_at : (p c : ℕ) (channel : Channel) (capacity : ℕ) (end : LinkEnd) → slice_get network.channels c ≡ Some channel → end ≡ link_end (fresh (stream nest network d c)) capacity
-      → incoming (stream nest network d) network p c ≡ cond (channel.reader == p) (Some end.port) None
-  incoming_at p c channel capacity end found is =
-      ap (λ o. option_and_then (λ (ch : Channel). cond (ch.reader == p) (Some (fresh (stream nest network d c))) None) o) found
-      ∙ ap (λ (e : LinkEnd). cond (channel.reader == p) (Some e.port) None) (sym is)
+-- The ends of a channel are joined
 
-  outgoing_at : (p c : ℕ) (channel : Channel) (capacity : ℕ) (end : LinkEnd) → slice_get network.channels c ≡ Some channel → end ≡ link_end (fresh (stream nest network d c)) capacity
+none_some : {X : Type 0} (x : X) → None ≡ Some x → ⊥
+none_some x e = cc
+
+none_yet : (ends : List (Option LinkEnd)) (k : ℕ) (port : Option Port) → port_at ends k ≡ cond (nat_lt k k) port None → slice_index_or ends k None ≡ None
+none_yet ends k port is = no_port (slice_index_or ends k None) (is ∙ ap (λ b. cond b port None) (le-ltb k k (omega arith)))
+  where
+    no_port : (o : Option LinkEnd) → option_map (λ (e : LinkEnd). e.port) o ≡ None → o ≡ None
+    no_port None e = refl
+    no_port (Some x) e = absurd (cc)
+
+-- an end at channel c is the one that was just set, or it was there before
+end_from : (b : Bool) (old new : List (Option LinkEnd)) (k c : ℕ) (end x : LinkEnd) → new ≡ cond b (slice_set old k (Some end)) old → k < length old
+    → slice_index_or old k None ≡ None → slice_index_or new c None ≡ Some x → ((c ≡ k) × (end ≡ x)) ⊎ ((c ≡ k → ⊥) × (slice_index_or old c None ≡ Some x))
+end_from b old new k c end x is long none here =
+    elim (cases_eq c k) [
+      | inl same ↦ inl (same, at_k b is (ap (λ i. slice_index_or new i None) (sym same) ∙ here))
+      | inr other ↦ inr (other, off_k b is other)
+    ]
+  where
+    at_k : (b : Bool) → new ≡ cond b (slice_set old k (Some end)) old → slice_index_or new k None ≡ Some x → end ≡ x
+    at_k true is at = same_some end x (sym (set_here old k (Some end) None long) ∙ sym (ap (λ l. slice_index_or l k None) is) ∙ at)
+    at_k false is at = absurd (none_some x (sym none ∙ sym (ap (λ l. slice_index_or l k None) is) ∙ at))
+
+    off_k : (b : Bool) → new ≡ cond b (slice_set old k (Some end)) old → (c ≡ k → ⊥) → slice_index_or old c None ≡ Some x
+    off_k true is other = sym (set_off old k c (Some end) None other) ∙ sym (ap (λ l. slice_index_or l c None) is) ∙ here
+    off_k false is other = sym (ap (λ l. slice_index_or l c None) is) ∙ here
+
+module _ (nest : Nest) (network : Network) (d : Inputs) where
+  incoming_at : (p c : ℕ) (channel : Channel) (end : LinkEnd) → slice_get network.channels c ≡ Some channel → end.port ≡ fresh (stream nest network d c)
+      → incoming (stream nest network d) network p c ≡ cond (channel.reader == p) (Some end.port) None
+  incoming_at p c channel end found is =
+      ap (λ o. option_and_then (λ (ch : Channel). cond (ch.reader == p) (Some (fresh (stream nest network d c))) None) o) found
+      ∙ ap (λ port. cond (channel.reader == p) (Some port) None) (sym is)
+
+  outgoing_at : (p c : ℕ) (channel : Channel) (end : LinkEnd) → slice_get network.channels c ≡ Some channel → end.port ≡ fresh (stream nest network d c)
       → outgoing (stream nest network d) network p c ≡ cond (channel.writer == p) (Some end.port) None
-  outgoing_at p c channel capacity end found is =
+  outgoing_at p c channel end found is =
       ap (λ o. option_and_then (λ (ch : Channel). cond (ch.writer == p) (Some (fresh (stream nest network d c))) None) o) found
-      ∙ ap (λ (e : LinkEnd). cond (channel.writer == p) (Some e.port) None) (sym is)
+      ∙ ap (λ port. cond (channel.writer == p) (Some port) None) (sym is)
+
+  joined_more : (k w r : ℕ) (put get : LinkEnd) (old new : List NodeEnds) → k < length network.channels → AreOfOneLine put get
+      → AreMade nest network d k old → IsPlaced k w r put get old new → AreJoined new
+  joined_more k w r put get old new lt one made place c p q put' get' puts gets =
+      let a = place.rows p puts.0 puts.1 in
+      let b = place.rows q gets.0 gets.1 in
+      let of_p = made.rows p a.0 a.1 in
+      let of_q = made.rows q b.0 b.1 in
+      ⊎_elim
+      (λ (x : (c ≡ k) × (put ≡ put')).
+      ⊎_elim
+      (λ (y : (c ≡ k) × (get ≡ get')). ap (λ (e : LinkEnd). e.line) (sym x.1) ∙ one ∙ ap (λ (e : LinkEnd). e.line) y.1)
+      (λ (y : (c ≡ k → ⊥) × (slice_index_or b.0.gets.items c None ≡ Some get')). absurd (y.0 x.0))
+      (end_from (r == q) b.0.gets.items gets.0.gets.items k c get get' b.2.1 (omega (arith, lt, of_q.gets_number)) (none_yet b.0.gets.items k _ (of_q.gets k)) gets.2))
+      (λ (x : (c ≡ k → ⊥) × (slice_index_or a.0.puts.items c None ≡ Some put')).
+      ⊎_elim
+      (λ (y : (c ≡ k) × (get ≡ get')). absurd (x.0 y.0))
+      (λ (y : (c ≡ k → ⊥) × (slice_index_or b.0.gets.items c None ≡ Some get')). made.joined c p q put' get' (a.0, a.1, x.1) (b.0, b.1, y.1))
+      (end_from (r == q) b.0.gets.items gets.0.gets.items k c get get' b.2.1 (omega (arith, lt, of_q.gets_number)) (none_yet b.0.gets.items k _ (of_q.gets k)) gets.2))
+      (end_from (w == p) a.0.puts.items puts.0.puts.items k c put put' a.2.0 (omega (arith, lt, of_p.puts_number)) (none_yet a.0.puts.items k _ (of_p.puts k)) puts.2)
 
   pub made_more : (k : ℕ) (channel : Channel) (values : List ℤ) (capacity : ℕ) (put get : LinkEnd) (old new : List NodeEnds) → slice_get network.channels k ≡ Some channel → values ≡ stream nest network d k → capacity ≡ max channel.capacity 1
-      → put ≡ link_end (fresh values) capacity → get ≡ link_end (fresh values) capacity
+      → put ≡ link_end put.line (fresh values) capacity → get ≡ link_end get.line (fresh values) capacity → AreOfOneLine put get
       → AreMade nest network d k old → IsPlaced k channel.writer channel.reader put get old new → AreMade nest network d (k + 1) new
-  made_more k channel values capacity put get old new found values_are room put_is get_is made place = record {
+  made_more k channel values capacity put get old new found values_are room put_is get_is one made place = record {
     number = place.number ∙ made.number;
+    joined = joined_more k channel.writer channel.reader put get old new (slice_get_within network.channels k channel found) one made place;
     rows = λ p e h.
         let w = place.rows p e h in
         let r = made.rows p w.0 w.1 in
@@ -166,8 +215,8 @@ module _ (nest : Nest) (network : Network) (d : Inputs) where
           puts_hold = row_holds network (channel.writer == p) w.0.puts.items e.puts.items k put w.2.0 (ap (λ (x : LinkEnd). x.capacity) put_is ∙ room_is) r.puts_hold;
           gets_number = row_number (channel.reader == p) w.0.gets.items e.gets.items k (Some get) w.2.1 ∙ r.gets_number;
           puts_number = row_number (channel.writer == p) w.0.puts.items e.puts.items k (Some put) w.2.0 ∙ r.puts_number;
-          gets = row_port (channel.reader == p) w.0.gets.items e.gets.items k get (incoming (stream nest network d) network p) w.2.1 (omega (arith, lt, r.gets_number)) r.gets (incoming_at p k channel capacity get found (get_is ∙ ap (λ l. link_end (fresh l) capacity) values_are));
-          puts = row_port (channel.writer == p) w.0.puts.items e.puts.items k put (outgoing (stream nest network d) network p) w.2.0 (omega (arith, lt, r.puts_number)) r.puts (outgoing_at p k channel capacity put found (put_is ∙ ap (λ l. link_end (fresh l) capacity) values_are));
+          gets = row_port (channel.reader == p) w.0.gets.items e.gets.items k get (incoming (stream nest network d) network p) w.2.1 (omega (arith, lt, r.gets_number)) r.gets (incoming_at p k channel get found (ap (λ (x : LinkEnd). x.port) get_is ∙ ap fresh values_are));
+          puts = row_port (channel.writer == p) w.0.puts.items e.puts.items k put (outgoing (stream nest network d) network p) w.2.0 (omega (arith, lt, r.puts_number)) r.puts (outgoing_at p k channel put found (ap (λ (x : LinkEnd). x.port) put_is ∙ ap fresh values_are));
         };
   }
 
@@ -194,22 +243,11 @@ module _ (nest : Nest) (network : Network) (d : Inputs) where
 
   -- The plan's streams
 
-  map_up : {X : Type 0} (f : ℕ → X) (other : X) (a n i : ℕ) → i < n → get_or (map f (count_up a n)) i other ≡ f (a + i)
-  map_up f other a zero i lt = absurd (omega arith)
-  map_up f other a (suc n) zero lt = ap f (sym (add-zero a))
-  map_up f other a (suc n) (suc i) lt =
-      let there : (a + 1) + i ≡ a + suc i = omega arith in
-      map_up f other (a + 1) n i (omega arith) ∙ ap f there
-
-  length_up : (a n : ℕ) → length (count_up a n) ≡ n
-  length_up a zero = refl
-  length_up a (suc n) = ap suc (length_up (a + 1) n)
-
   pub streams_number : length (all_streams nest network d) ≡ length network.channels
-  streams_number = length-map (count_up 0 (length network.channels)) (stream nest network d) ∙ length_up 0 (length network.channels)
+  streams_number = length-map-range_with_len (stream nest network d) 0 (length network.channels)
 
   pub stream_is : (c : ℕ) → c < length network.channels → stream_at (all_streams nest network d) c ≡ stream nest network d c
-  stream_is c lt = map_up (stream nest network d) [] 0 (length network.channels) c lt ∙ ap (stream nest network d) (zero-add c)
+  stream_is c lt = get_or-map-range_with_len (stream nest network d) 0 (length network.channels) c c [] lt (zero-add c)
 
 -- a channel that the code reads, with its writer and its reader
 pub channel_read : (network : Network) (channels : List Channel) (other : Channel) (c : ℕ) → channels ≡ network.channels → c < length channels → slice_get network.channels c ≡ Some (get_or channels c other)

@@ -20,13 +20,15 @@ kept_in rooms p = option_map_or (λ room. room.kept) (slice_get rooms p) []
 -- a fresh room for each of so many processes, in order
 pub record AreFreshRooms (network : Network) (many : ℕ) (rooms : List Store) : Type 0 where
   pub number : length rooms ≡ many
-  pub each : (p : ℕ) (room : Store) → slice_get rooms p ≡ Some room → room ≡ fresh_store (net_of network) p
+  pub each : (p : ℕ) (room : Store) → slice_get rooms p ≡ Some room
+      → room ≡ fresh_store (net_of network) p
 
 -- Each list is empty. The first has room for the values of the last process before `past`, the next for those of the one
 -- before it, and so on.
 abbrev pub HaveSpace : (ℕ → ℕ) → ℕ → List (Vec ℤ Global) → Type 0
 HaveSpace values past lists =
-    (i : ℕ) (list : Vec ℤ Global) → slice_get lists i ≡ Some list → (list.items ≡ []) × ((p : ℕ) → p + i + 1 ≡ past → values p ≤ vec_capacity list)
+    (i : ℕ) (list : Vec ℤ Global) → slice_get lists i ≡ Some list
+    → (list.items ≡ []) × ((p : ℕ) → p + i + 1 ≡ past → values p ≤ vec_capacity list)
 
 -- no process has begun, and there is room for all that the processes keep and all that is answered
 pub record IsFreshBench (nest : Nest) (network : Network) (bench : Bench) : Type 0 where

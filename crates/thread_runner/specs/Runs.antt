@@ -13,17 +13,20 @@ use Rattle.node_runner.specs.Nodes.{Ports, stream, incoming, outgoing}
 
 -- Process p's ends, through which nothing has gone: it gets from the channels that it reads and puts to those that it
 -- writes, and their streams are the values of their tokens.
-pub record IsEndsOf (nest : Nest) (network : Network) (d : Inputs) (p : ℕ) (from to : Ports) : Type 0 where
+pub record IsEndsOf (nest : Nest) (network : Network) (d : Inputs) (p : ℕ)
+    (from to : Ports) : Type 0 where
   pub incoming : (c : ℕ) → from c ≡ incoming (stream nest network d) network p c
   pub outgoing : (c : ℕ) → to c ≡ outgoing (stream nest network d) network p c
 
 -- one for each process, in order
-pub record AreEndsOf {E : Type 0} (from to : E → Ports) (nest : Nest) (network : Network) (d : Inputs) (ends : List E) : Type 0 where
+pub record AreEndsOf {E : Type 0} (from to : E → Ports) (nest : Nest) (network : Network)
+    (d : Inputs) (ends : List E) : Type 0 where
   pub number : length ends ≡ length network.processes
   pub each : (p : ℕ) (e : E) → slice_get ends p ≡ Some e → IsEndsOf nest network d p (from e) (to e)
 
 -- process p may work in this room with these ends
-pub record MayWork {E : Type 0} (from to : E → Ports) (nest : Nest) (points : List (List (List ℤ))) (d : Inputs) (network : Network) (p : ℕ) (room : Store) (ends : E) : Type 0 where
+pub record MayWork {E : Type 0} (from to : E → Ports) (nest : Nest) (points : List (List (List ℤ)))
+    (d : Inputs) (network : Network) (p : ℕ) (room : Store) (ends : E) : Type 0 where
   pub points_are : points ≡ points_of nest
   pub numbers : FitsNumbers (net_of network)
   pub sound : IsSound nest network
@@ -32,15 +35,19 @@ pub record MayWork {E : Type 0} (from to : E → Ports) (nest : Nest) (points : 
   pub ends_are : IsEndsOf nest network d p (from ends) (to ends)
 
 -- the first processes may work in these rooms with these ends
-pub record MayStart {E : Type 0} (from to : E → Ports) (nest : Nest) (points : List (List (List ℤ))) (d : Inputs) (network : Network) (rooms : List Store) (ends : List E) : Type 0 where
+pub record MayStart {E : Type 0} (from to : E → Ports) (nest : Nest) (points : List (List (List ℤ)))
+    (d : Inputs) (network : Network) (rooms : List Store) (ends : List E) : Type 0 where
   pub points_are : points ≡ points_of nest
   pub numbers : FitsNumbers (net_of network)
   pub sound : IsSound nest network
   pub there : length rooms ≤ length network.processes
   pub same : length ends ≡ length rooms
-  pub rooms_are : (p : ℕ) (room : Store) → slice_get rooms p ≡ Some room → room ≡ fresh_store (net_of network) p
-  pub ends_are : (p : ℕ) (e : E) → slice_get ends p ≡ Some e → IsEndsOf nest network d p (from e) (to e)
+  pub rooms_are : (p : ℕ) (room : Store) → slice_get rooms p ≡ Some room
+      → room ≡ fresh_store (net_of network) p
+  pub ends_are : (p : ℕ) (e : E) → slice_get ends p ≡ Some e
+      → IsEndsOf nest network d p (from e) (to e)
 
 -- each process has kept the values of its points
 abbrev pub HaveKept : Nest → Inputs → List Store → Type 0
-HaveKept nest d rooms = (p : ℕ) (room : Store) → slice_get rooms p ≡ Some room → room.kept ≡ values_of nest d p
+HaveKept nest d rooms = (p : ℕ) (room : Store) → slice_get rooms p ≡ Some room
+    → room.kept ≡ values_of nest d p

@@ -54,7 +54,8 @@ impl Bench {
 fn fresh_rooms(alloc: Global, network: &Network, points: &Points) -> Result<Vec<Room>, AllocError>
     requires shaped { IsShaped (net_of network.now) points.now.of }
     requires numbers { FitsNumbers (net_of network.now) }
-    ensures { IfOk result (λ rooms. AreFreshRooms network.now (length network.now.processes) rooms.items) }
+    ensures { IfOk result
+        (λ rooms. AreFreshRooms network.now (length network.now.processes) rooms.items) }
 {
     let mut rooms = Vec::new(alloc);
     for process in 0..network.processes.len() {
@@ -86,8 +87,10 @@ fn output_count(arrays: &[ArrayDecl]) -> usize
 // An empty list for each sink, with room for a value for each of its points. The last sink's comes first.
 fn empty_lists(alloc: Global, nest: &Nest, points: &Points) -> Result<Vec<Vec<i64>>, AllocError>
     requires { points.now.of ≡ points_of nest.now }
-    ensures number { IfOk result (λ lists. length lists.items ≡ length (output_numbers nest.now.arrays)) }
-    ensures space { IfOk result (λ lists. HaveSpace (turns (points_of nest.now)) (length nest.now.statements) lists.items) }
+    ensures number { IfOk result
+        (λ lists. length lists.items ≡ length (output_numbers nest.now.arrays)) }
+    ensures space { IfOk result
+        (λ lists. HaveSpace (turns (points_of nest.now)) (length nest.now.statements) lists.items) }
 {
     let mut lists = Vec::new(alloc);
     let mut sink = nest.statements.len();
@@ -162,11 +165,15 @@ pub(crate) fn gathered<K: Keeper>(
     mut lists: Vec<Vec<i64>>,
     mut arrays: Vec<Items<i64>>,
 ) -> Arrays
-    requires processes { (K.processes keeper.now ≡ length nest.now.statements) × (length nest.now.statements < 2 ^ 32) }
+    requires processes { (K.processes keeper.now ≡ length nest.now.statements)
+        × (length nest.now.statements < 2 ^ 32) }
     requires values { (p : ℕ) → length (K.values keeper.now p) ≤ turns (points_of nest.now) p }
-    requires lists { (length lists.items ≡ length (output_numbers nest.now.arrays)) × HaveSpace (turns (points_of nest.now)) (length nest.now.statements) lists.items }
+    requires lists { (length lists.items ≡ length (output_numbers nest.now.arrays))
+        × HaveSpace (turns (points_of nest.now)) (length nest.now.statements) lists.items }
     requires arrays { (arrays.items ≡ []) × (length nest.now.arrays ≤ vec_capacity arrays) }
-    ensures { result.arrays ≡ sink_lists_from (K.values keeper.now) (length nest.now.statements - length (output_numbers nest.now.arrays)) nest.now.arrays }
+    ensures { result.arrays
+        ≡ sink_lists_from (K.values keeper.now)
+        (length nest.now.statements - length (output_numbers nest.now.arrays)) nest.now.arrays }
 {
     let mut sink = nest.statements.len() - output_count(nest.arrays.as_slice());
     for array in nest.arrays.as_slice() {

@@ -4,7 +4,7 @@ ghost use Rattle.net_core.specs.Machine.{net_of};
 ghost use Rattle.net_core.specs.Shape.{FitsNumbers};
 ghost use Rattle.net_core.specs.Sound.{IsSound};
 ghost use Rattle.node_runner.specs.Nodes.{stream};
-ghost use Rattle.thread_runner.specs.Made.{AreBlank, IsBlank, AreMade, AreOfCapacities, IsPlaced, all_streams};
+ghost use Rattle.thread_runner.specs.Made.{AreBlank, IsBlank, AreJoined, AreMade, AreOfCapacities, IsPlaced, all_streams};
 ghost use Rattle.thread_runner.specs.Runs.{AreEndsOf};
 ghost use Rattle.thread_runner.specs.declared.ends.NodeEnds.{NodeEnds};
 
@@ -51,7 +51,8 @@ impl Ends for NodeEnds {
 
 /// One link for each channel, whose stream is that of the channel's tokens. It holds as many values as the channel's capacity,
 /// and one where that is 0, since then no value goes through. There is one answer for each process, in order,
-/// which gets from the process's incoming channels and puts to its outgoing ones.
+/// which gets from the process's incoming channels and puts to its outgoing ones. A channel's writer and its reader hold the two
+/// ends of its one link.
 pub fn make_ends(
     alloc: Global,
     nest: &Nest,
@@ -61,8 +62,11 @@ pub fn make_ends(
 ) -> Result<Vec<NodeEnds>, AllocError>
     requires numbers { FitsNumbers (net_of network.now) }
     requires sound { IsSound nest.now network.now }
-    ensures ends { IfOk result (λ ends. AreEndsOf ⟦<NodeEnds as Ends>⟧.from ⟦<NodeEnds as Ends>⟧.to nest.now network.now inputs.now ends.items) }
+    ensures ends { IfOk result
+        (λ ends. AreEndsOf ⟦<NodeEnds as Ends>⟧.from ⟦<NodeEnds as Ends>⟧.to nest.now network.now
+        inputs.now ends.items) }
     ensures capacities { IfOk result (λ ends. AreOfCapacities network.now ends.items) }
+    ensures joined { IfOk result (λ ends. AreJoined ends.items) }
 {
     made::<Brand>(alloc, nest, inputs, network)
 }
@@ -77,8 +81,11 @@ fn made<P: Plan>(
     requires plan { P.streams ≡ all_streams nest.now network.now inputs.now }
     requires numbers { FitsNumbers (net_of network.now) }
     requires sound { IsSound nest.now network.now }
-    ensures ends { IfOk result (λ ends. AreEndsOf ⟦<NodeEnds as Ends>⟧.from ⟦<NodeEnds as Ends>⟧.to nest.now network.now inputs.now ends.items) }
+    ensures ends { IfOk result
+        (λ ends. AreEndsOf ⟦<NodeEnds as Ends>⟧.from ⟦<NodeEnds as Ends>⟧.to nest.now network.now
+        inputs.now ends.items) }
     ensures capacities { IfOk result (λ ends. AreOfCapacities network.now ends.items) }
+    ensures joined { IfOk result (λ ends. AreJoined ends.items) }
 {
     let channels = network.channels.as_slice();
     let mut ends = blanks(alloc, network.processes.len(), channels.len())?;
@@ -108,7 +115,8 @@ fn place(
 )
     requires writer { writer < vec_len ends.old }
     requires reader { reader < vec_len ends.old }
-    requires rows { (p : ℕ) (e : NodeEnds) → slice_get ends.old.items p ≡ Some e → (at < length e.gets.items) × (at < length e.puts.items) }
+    requires rows { (p : ℕ) (e : NodeEnds) → slice_get ends.old.items p ≡ Some e
+        → (at < length e.gets.items) × (at < length e.puts.items) }
     ensures { IsPlaced at writer reader put get ends.old.items ends.new.items }
 {
     set_put(&mut ends[writer], at, put);

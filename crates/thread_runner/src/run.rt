@@ -38,7 +38,8 @@ fn answer<K: Keeper>(
     requires sound { IsSound nest.now network.now }
     requires processes { K.processes keeper.now ≡ length nest.now.statements }
     requires values { (p : ℕ) → K.values keeper.now p ≡ values_of nest.now inputs.now p }
-    requires lists { (length lists.items ≡ length (output_numbers nest.now.arrays)) × HaveSpace (turns (points_of nest.now)) (length nest.now.statements) lists.items }
+    requires lists { (length lists.items ≡ length (output_numbers nest.now.arrays))
+        × HaveSpace (turns (points_of nest.now)) (length nest.now.statements) lists.items }
     requires outputs { (outputs.items ≡ []) × (length nest.now.arrays ≤ vec_capacity outputs) }
     ensures { result.arrays ≡ arrays nest.now inputs.now }
 {

@@ -64,7 +64,9 @@ fn work<R: Wait, E: Ends, G: Gate>(
     gate: &G,
 ) -> Back<E>
     requires { MayWork E.from E.to task.nest.now task.points.now.of task.inputs.now task.network.now task.process room ends }
-    ensures { result.ran ≡ true → result.room.kept ≡ values_of task.entry.nest.now task.entry.inputs.now task.entry.process }
+    ensures { result.ran ≡ true
+        → result.room.kept
+        ≡ values_of task.entry.nest.now task.entry.inputs.now task.entry.process }
 {
     if !is_go(rt, signal) {
         return Back {
@@ -103,13 +105,17 @@ fn launch<'s, S, R: Threads + Wait + Sync, E: Ends + Send + Drop + 's, G: Gate +
     ends: E,
 ) -> Result<PromisedHandle<Back<E>, Task<'s>>, Back<E>>
     requires { MayWork E.from E.to task.nest.now task.points.now.of task.inputs.now task.network.now task.process room ends }
-    ensures { MatchResult result (λ worker. worker.promise ≡ task.entry) (λ back. back.ran ≡ true → back.room.kept ≡ values_of task.entry.nest.now task.entry.inputs.now task.entry.process) }
+    ensures { MatchResult result (λ worker. worker.promise ≡ task.entry)
+        (λ back. back.ran ≡ true
+        → back.room.kept ≡ values_of task.entry.nest.now task.entry.inputs.now task.entry.process) }
 {
     match scope.spawn_with(
         task,
         move || -> Back<E>
             requires { MayWork E.from E.to task.nest.now task.points.now.of task.inputs.now task.network.now task.process room ends }
-            ensures { result.ran ≡ true → result.room.kept ≡ values_of task.entry.nest.now task.entry.inputs.now task.entry.process }
+            ensures { result.ran ≡ true
+                → result.room.kept
+                ≡ values_of task.entry.nest.now task.entry.inputs.now task.entry.process }
         { work(rt, task, room, ends, signal, gate) },
     ) {
         Ok(worker) => Ok(worker),
@@ -135,7 +141,8 @@ fn start<'s, S, R: Threads + Wait + Sync, E: Ends + Send + Drop + 's, G: Gate + 
 ) -> (Vec<Room>, Vec<E>, bool)
     requires { MayStart E.from E.to nest.now points.now.of inputs.now network.now rooms.items ends.items }
     ensures len { (vec_len result.0 ≡ vec_len rooms) × (vec_len result.1 ≡ vec_len ends) }
-    ensures capacity { (vec_capacity result.0 ≡ vec_capacity rooms) × (vec_capacity result.1 ≡ vec_capacity ends) }
+    ensures capacity { (vec_capacity result.0 ≡ vec_capacity rooms)
+        × (vec_capacity result.1 ≡ vec_capacity ends) }
     ensures kept { result.2 ≡ true → HaveKept nest.now inputs.now result.0.items }
 {
     let Some(room) = rooms.pop() else {
@@ -193,7 +200,8 @@ pub(crate) fn run_workers<R: Threads + Wait + Sync, E: Ends + Send + Drop, G: Ga
         |scope| -> (Vec<Room>, Vec<E>, bool)
             requires { MayStart E.from E.to nest.now points.now.of inputs.now network.now rooms.items ends.items }
             ensures len { vec_len result.0 ≡ vec_len rooms }
-            ensures kept { result.2 ≡ true → HaveKept nest.entry.now inputs.entry.now result.0.items }
+            ensures kept { result.2 ≡ true
+                → HaveKept nest.entry.now inputs.entry.now result.0.items }
         {
             start(
                 scope, rt, nest, points, inputs, network, word, gate, rooms, ends,

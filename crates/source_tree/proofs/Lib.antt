@@ -1,2 +1,4 @@
 pub mod Numbered
 pub mod Worked
+pub mod Walked
+pub mod Given

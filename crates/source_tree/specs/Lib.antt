@@ -1,1 +1,8 @@
 pub mod Sources
+pub mod Gives
+pub mod Walk
+pub mod Rows
+pub mod Places
+pub mod Systems
+pub mod Checked
+pub mod Exact

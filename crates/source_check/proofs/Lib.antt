@@ -1,0 +1,11 @@
+pub mod Exactness
+pub mod Leaves
+pub mod Levels
+pub mod Lists
+pub mod Made
+pub mod Making
+pub mod Orders
+pub mod Quotients
+pub mod Readers
+pub mod Values
+pub mod Verdicts

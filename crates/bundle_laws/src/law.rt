@@ -9,9 +9,12 @@ ghost use Rattle.bundle_laws.specs.Certified.{certified, with_line_end};
 
 /// A source without a separator, two separators and a certificate are a bundle with these two parts and without data.
 pub fn certified_bundle_has_its_parts()
-    ensures source { (source text : List ℕ) → after_separator (with_line_end source) ≡ None → source_part (certified source text) ≡ with_line_end source }
-    ensures between { (source text : List ℕ) → after_separator (with_line_end source) ≡ None → data_part (certified source text) ≡ [] }
-    ensures certificate { (source text : List ℕ) → after_separator (with_line_end source) ≡ None → certificate_part (certified source text) ≡ Some text }
+    ensures source { (source text : List ℕ) → after_separator (with_line_end source) ≡ None
+        → source_part (certified source text) ≡ with_line_end source }
+    ensures between { (source text : List ℕ) → after_separator (with_line_end source) ≡ None
+        → data_part (certified source text) ≡ [] }
+    ensures certificate { (source text : List ℕ) → after_separator (with_line_end source) ≡ None
+        → certificate_part (certified source text) ≡ Some text }
 {}
 
 /// The source part of a bundle has no separator.
@@ -21,11 +24,13 @@ pub fn source_part_has_no_separator()
 
 /// A line end behind a source without a separator makes none, where the source has tokens.
 pub fn line_end_makes_no_separator()
-    ensures { (source : List ℕ) (found : List Token) → after_separator source ≡ None → tokens source ≡ Ok found → after_separator (with_line_end source) ≡ None }
+    ensures { (source : List ℕ) (found : List Token) → after_separator source ≡ None
+        → tokens source ≡ Ok found → after_separator (with_line_end source) ≡ None }
 {}
 
 /// A line end behind a source changes neither its tokens nor what they are to the grammar.
 pub fn line_end_changes_no_token()
     ensures tokens { (source : List ℕ) → tokens (with_line_end source) ≡ tokens source }
-    ensures sentence { (source : List ℕ) (found : List Token) → tokens source ≡ Ok found → sentence (with_line_end source) found ≡ sentence source found }
+    ensures sentence { (source : List ℕ) (found : List Token) → tokens source ≡ Ok found
+        → sentence (with_line_end source) found ≡ sentence source found }
 {}

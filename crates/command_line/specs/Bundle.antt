@@ -12,11 +12,13 @@ with_byte byte (line ∷ lines) = (byte ∷ line) ∷ lines
 -- the lines of these bytes, each with the LF that ends it
 abbrev pub lines_of : List ℕ → List (List ℕ)
 lines_of [] = []
-lines_of (byte ∷ bytes) = if byte == 10 then (byte ∷ []) ∷ lines_of bytes else with_byte byte (lines_of bytes)
+lines_of (byte ∷ bytes) =
+    if byte == 10 then (byte ∷ []) ∷ lines_of bytes else with_byte byte (lines_of bytes)
 
 -- `%%`, ended by LF, by CR LF or by the end of the bytes
 abbrev pub is_separator : List ℕ → Bool
-is_separator line = bytes_eq line (codes "%%\n") || (bytes_eq line (codes "%%\r\n") || bytes_eq line (codes "%%"))
+is_separator line =
+    bytes_eq line (codes "%%\n") || (bytes_eq line (codes "%%\r\n") || bytes_eq line (codes "%%"))
 
 -- what stands before the first separator of these lines, and what stands after it if there is one
 abbrev pub lines_before : List (List ℕ) → List ℕ

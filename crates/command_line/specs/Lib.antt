@@ -1,4 +1,3 @@
 pub mod Bundle
-pub mod Complaint
 pub mod Matches
 pub mod Words

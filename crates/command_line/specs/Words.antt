@@ -54,7 +54,8 @@ abbrev mutual
   split_words (word ∷ words) =
       if is_end_of_options word then Some (record { items = words; policies = [] })
       else (if is_policy_option word then split_value words
-      else (if has_policy_value word then option_map (with_policy (policy_value word)) (split_words words)
+      else (if has_policy_value word
+      then option_map (with_policy (policy_value word)) (split_words words)
       else (if is_option word then None
       else option_map (with_item word) (split_words words))))
 
@@ -66,7 +67,8 @@ abbrev mutual
 -- the number that 1 to 18 decimal digits write
 abbrev pub number_of : Text → Option ℕ
 number_of digits =
-    if nat_le 1 (length digits) && (nat_le (length digits) 18 && list_all is_ascii_digit digits) then Some (digits_value 10 digits)
+    if nat_le 1 (length digits) && (nat_le (length digits) 18 && list_all is_ascii_digit digits)
+    then Some (digits_value 10 digits)
     else None
 
 -- the number that 1 to 18 decimal digits write, after an optional `-`
@@ -84,14 +86,17 @@ Param = Text × ℤ
 abbrev pub param_of : Text → Option Param
 param_of item =
     if is_name (before_first (λ byte. byte == 61) item)
-    then option_map (λ value. (before_first (λ byte. byte == 61) item, value)) (value_of (after_first (λ byte. byte == 61) item))
+    then option_map (λ value. (before_first (λ byte. byte == 61) item, value))
+    (value_of (after_first (λ byte. byte == 61) item))
     else None
 
 -- the parameters with those of the items after them, or None where an item gives none or a name stands twice
 abbrev pub params_with : List Param → List Text → Option (List Param)
 params_with params [] = Some params
 params_with params (item ∷ items) =
-    option_and_then (λ param. if is_some (value_named params param.0) then None else params_with (params ++ param ∷ []) items) (param_of item)
+    option_and_then
+    (λ param. if is_some (value_named params param.0) then None
+    else params_with (params ++ param ∷ []) items) (param_of item)
 
 abbrev pub command_of : Text → Option Command
 command_of word =
@@ -118,13 +123,16 @@ policy_of (value ∷ other ∷ values) = None
 
 -- `load` is followed by one number
 abbrev pub load_order : Policy → List Text → Option Order
-load_order policy (word ∷ []) = option_map (λ count. record { command = Load; policy = policy; params = []; load = count }) (number_of word)
+load_order policy (word ∷ []) =
+    option_map (λ count. record { command = Load; policy = policy; params = []; load = count })
+    (number_of word)
 load_order policy _ = None
 
 -- another command is followed by items
 abbrev pub params_order : Policy → Command → List Text → Option Order
 params_order policy command items =
-    option_map (λ params. record { command = command; policy = policy; params = params; load = 0 }) (params_with [] items)
+    option_map (λ params. record { command = command; policy = policy; params = params; load = 0 })
+    (params_with [] items)
 
 -- the order of a command that is followed by these words
 abbrev pub order_with : Policy → Command → List Text → Option Order
@@ -133,10 +141,12 @@ order_with policy command words = params_order policy command words
 
 abbrev pub order_of_items : Policy → List Text → Option Order
 order_of_items policy [] = None
-order_of_items policy (word ∷ words) = option_and_then (λ command. order_with policy command words) (command_of word)
+order_of_items policy (word ∷ words) =
+    option_and_then (λ command. order_with policy command words) (command_of word)
 
 abbrev pub order_of_split : Split → Option Order
-order_of_split split = option_and_then (λ policy. order_of_items policy split.items) (policy_of split.policies)
+order_of_split split =
+    option_and_then (λ policy. order_of_items policy split.items) (policy_of split.policies)
 
 -- what the words order, or None where they are refused
 abbrev pub order_of : List Text → Option Order

@@ -1,4 +1,4 @@
-use crate::{Command, WordsError, complaint_line, parts_of, read_words};
+use crate::{Command, WordsError, parts_of, read_words};
 use std::alloc::{AllocError, Global};
 use std::test::Fail;
 use witness_plan::Policy;
@@ -211,18 +211,4 @@ fn separators_are_whole_lines(rt: HostRuntime) {
             _ => panic!(rt; "certificate of {bundle:?}"),
         }
     }
-}
-
-#[test]
-fn lines_write_their_numbers(rt: HostRuntime) -> Result<(), Fail> {
-    let line = complaint_line(rt.alloc(), b"limit: Size", &[2097153])?;
-    assert_eq!(rt; line.as_slice(), b"limit: Size 2097153\n".as_slice());
-    let line = complaint_line(rt.alloc(), b"data: Count", &[1, 0, u64::MAX])?;
-    assert_eq!(rt;
-        line.as_slice(),
-        b"data: Count 1 0 18446744073709551615\n".as_slice()
-    );
-    let line = complaint_line(rt.alloc(), b"bundle: TooLong", &[])?;
-    assert_eq!(rt; line.as_slice(), b"bundle: TooLong\n".as_slice());
-    Ok(())
 }

@@ -78,8 +78,12 @@ impl From<clap::Error> for WordsError {
 
 /// The words as `clap` reads them: the option `--policy`, which takes one value, and the items.
 fn matches_of<'a>(alloc: Global, words: &'a [String]) -> Result<ArgMatches<'a>, clap::Error>
-    ensures ok { IfOk result (λ matches. order_of (map string_bytes words.entry.now) ≡ order_of_split (split_found (found_of matches))) }
-    ensures refused { IfErr result (λ error. kind_of error ≢ OutOfMemory → order_of (map string_bytes words.entry.now) ≡ None) }
+    ensures ok { IfOk result
+        (λ matches. order_of (map string_bytes words.entry.now)
+        ≡ order_of_split (split_found (found_of matches))) }
+    ensures refused { IfErr result
+        (λ error. kind_of error ≢ OutOfMemory
+        → order_of (map string_bytes words.entry.now) ≡ None) }
 {
     let policy = Arg::new(alloc, "policy")
         .long("policy")
@@ -157,8 +161,11 @@ fn param_of(item: &[u8]) -> Option<(&[u8], i64)>
 }
 
 fn add_param(params: &mut Params, item: &[u8]) -> Result<(), WordsError>
-    ensures ok { OnOk result ((items : List (List ℕ)) → params_with params.old (item.now ∷ items) ≡ params_with params.new items) }
-    ensures refused { IsErrOf result WordsError.Words → (items : List (List ℕ)) → params_with params.old (item.now ∷ items) ≡ None }
+    ensures ok { OnOk result
+        ((items : List (List ℕ))
+        → params_with params.old (item.now ∷ items) ≡ params_with params.new items) }
+    ensures refused { IsErrOf result WordsError.Words → (items : List (List ℕ))
+        → params_with params.old (item.now ∷ items) ≡ None }
 {
     let Some((name, value)) = param_of(item) else {
         return Err(WordsError::Words);
@@ -170,8 +177,10 @@ fn add_param(params: &mut Params, item: &[u8]) -> Result<(), WordsError>
 }
 
 fn params_of(alloc: Global, items: &[&str]) -> Result<Params, WordsError>
-    ensures ok { IfOk result (λ params. params_with [] (map (λ item. item.now) items.now) ≡ Some params) }
-    ensures refused { IsErrOf result WordsError.Words → params_with [] (map (λ item. item.now) items.now) ≡ None }
+    ensures ok { IfOk result
+        (λ params. params_with [] (map (λ item. item.now) items.now) ≡ Some params) }
+    ensures refused { IsErrOf result WordsError.Words
+        → params_with [] (map (λ item. item.now) items.now) ≡ None }
 {
     let mut params = Params::empty(alloc);
     for item in items {
@@ -244,8 +253,10 @@ fn params_order(
     command: Command,
     items: &[&str],
 ) -> Result<Order, WordsError>
-    ensures ok { IfOk result (λ order. params_order policy command (map (λ item. item.now) items.now) ≡ Some order) }
-    ensures refused { IsErrOf result WordsError.Words → params_order policy command (map (λ item. item.now) items.now) ≡ None }
+    ensures ok { IfOk result
+        (λ order. params_order policy command (map (λ item. item.now) items.now) ≡ Some order) }
+    ensures refused { IsErrOf result WordsError.Words
+        → params_order policy command (map (λ item. item.now) items.now) ≡ None }
 {
     Ok(Order {
         command,
@@ -256,8 +267,10 @@ fn params_order(
 }
 
 fn order_of_items(alloc: Global, policy: Policy, items: &[&str]) -> Result<Order, WordsError>
-    ensures ok { IfOk result (λ order. order_of_items policy (map (λ item. item.now) items.now) ≡ Some order) }
-    ensures refused { IsErrOf result WordsError.Words → order_of_items policy (map (λ item. item.now) items.now) ≡ None }
+    ensures ok { IfOk result
+        (λ order. order_of_items policy (map (λ item. item.now) items.now) ≡ Some order) }
+    ensures refused { IsErrOf result WordsError.Words
+        → order_of_items policy (map (λ item. item.now) items.now) ≡ None }
 {
     let [word, rest @ ..] = items else {
         return Err(WordsError::Words);
@@ -279,7 +292,8 @@ fn order_of_items(alloc: Global, policy: Policy, items: &[&str]) -> Result<Order
 /// is an optional `-` and 1 to 18 decimal digits, and the number is 1 to 18 decimal digits.
 pub fn read_words(alloc: Global, words: &[String]) -> Result<Order, WordsError>
     ensures ok { IfOk result (λ order. order_of (map string_bytes words.now) ≡ Some order) }
-    ensures refused { IsErrOf result WordsError.Words → order_of (map string_bytes words.now) ≡ None }
+    ensures refused { IsErrOf result WordsError.Words
+        → order_of (map string_bytes words.now) ≡ None }
 {
     let matches = matches_of(alloc, words)?;
     let Some(policy) = policy_of(&matches) else {

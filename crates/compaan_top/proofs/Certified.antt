@@ -39,6 +39,7 @@ use Rattle.compaan_top.specs.Commands.{reads_of}
 use Rattle.compaan_top.specs.Headline.{AcceptsWhatFits, HasFittingCertificate, SaysAccepted}
 use Rattle.compaan_top.specs.Outcome.{Outcome, IsOutcome, Performs, outcome_of, words_refused, bundle_refused, performed}
 use Rattle.compaan_top.specs.Printing.{Prints, certificate_text, source_refused, printed}
+use Rattle.compaan_top.specs.Refusals.{refusal_status}
 use Rattle.compaan_top.specs.Replies.{Reply}
 use Rattle.compaan_top.specs.Source as sized
 use Rattle.compaan_top.specs.Source.{Gives, GivesWithinSize, no_tokens, no_tree, not_bound, bound}
@@ -182,7 +183,7 @@ total_of source params nest (sized.within_size m total gives counts) e =
 
 prints_written : (order : Order) (bundle : List ℕ) {answer : Result Reply Refusal} → Prints (certificate_text order.policy) order.params bundle answer → (outcome_of answer).status ≡ 0
     → HasWritten order.params order.policy bundle (outcome_of answer).output
-prints_written order bundle (source_refused refusal gives) zero = absurd (not_zero refusal.status (sized_refused (source_part bundle) order.params gives) zero)
+prints_written order bundle (source_refused refusal gives) zero = absurd (not_zero (refusal_status refusal) (sized_refused (source_part bundle) order.params gives) zero)
 prints_written order bundle (printed nest gives) zero =
     let made : HasTotal (source_part bundle) order.params nest = total_of (source_part bundle) order.params nest gives refl in
     record { nest = nest; total = made.total; binding = binding_of (source_part bundle) order.params nest made.gives refl; counts = made.counts; is = refl }

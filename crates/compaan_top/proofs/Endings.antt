@@ -10,6 +10,7 @@ use Rattle.compaan_top.specs.Answers.{Change, IsQuiet, HasFault, IsRead, ReadsFo
 use Rattle.compaan_top.specs.Commands.{Reads, source_alone, source_and_data, source_and_certificate, nothing, read_by, reads_of, WaitsForNobody}
 use Rattle.compaan_top.specs.Judging.{Judges}
 use Rattle.compaan_top.specs.Load.{Loads}
+use Rattle.compaan_top.specs.Refusals.{refusal_line, refusal_status}
 use Rattle.compaan_top.specs.Replies.{Reply}
 use Rattle.compaan_top.specs.Outcome.{IsOutcome, outcome_of, bundle_limit, Performs, words_refused, bundle_refused, performed}
 use Rattle.compaan_top.specs.Planned.{as_reply, reply_of, IsOrdered, IsPlanned, ReadsBundle, ReadsAndJudges}
@@ -38,13 +39,13 @@ answer_cut_short wanted input output held faults reply quiet judged front fault 
     cut_short judged.0 (outcome_of (Ok reply)) quiet judged.1 judged.2 (record { written = front; complained = AppendsFront-nil held; cause = inl fault })
 
 pub refusal_written : (wanted : Option Order) (input complaint : Change) (held : Option (List ℕ)) (faults : ℕ) (refusal : Refusal)
-    → IsQuiet input → ReadsAndJudges wanted input (Err refusal) → Appends complaint.old complaint.new refusal.line → IsQuiet complaint
-    → Ends wanted input (kept held faults) complaint refusal.status
+    → IsQuiet input → ReadsAndJudges wanted input (Err refusal) → Appends complaint.old complaint.new (refusal_line refusal) → IsQuiet complaint
+    → Ends wanted input (kept held faults) complaint (refusal_status refusal)
 refusal_written wanted input complaint held faults refusal quiet judged appends calm =
     written judged.0 (outcome_of (Err refusal)) quiet judged.1 judged.2 (record { written = Appends-nil held; complained = appends; output_quiet = refl; complaint_quiet = calm })
 
 pub refusal_cut_short : (wanted : Option Order) (input complaint : Change) (held : Option (List ℕ)) (faults : ℕ) (refusal : Refusal)
-    → IsQuiet input → ReadsAndJudges wanted input (Err refusal) → AppendsFront complaint.old complaint.new refusal.line → HasFault complaint
+    → IsQuiet input → ReadsAndJudges wanted input (Err refusal) → AppendsFront complaint.old complaint.new (refusal_line refusal) → HasFault complaint
     → Ends wanted input (kept held faults) complaint 4
 refusal_cut_short wanted input complaint held faults refusal quiet judged front fault =
     cut_short judged.0 (outcome_of (Err refusal)) quiet judged.1 judged.2 (record { written = AppendsFront-nil held; complained = front; cause = inr fault })

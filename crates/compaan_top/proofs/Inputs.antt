@@ -1,6 +1,6 @@
 -- The inputs that a data part gives, from what reading them comes to, and the number of the lists of values.
-use Rattle.std.proofs.Common.{◌≡◌, ℕ, suc, ◌+◌, List, [], ◌∷◌, length, Some, Result, Err, refl, ap}
-use Rattle.array_data.specs.Data.{Gives, inputs_of, records_of}
+use Rattle.std.proofs.Common.{◌≡◌, ◌≢◌, ℕ, suc, ◌+◌, List, [], ◌∷◌, length, Some, Result, Err, refl, ap}
+use Rattle.array_data.specs.Data.{inputs_of, records_of}
 use Rattle.array_data.specs.declared.error.DataError.{DataError}
 use Rattle.array_data.specs.declared.error.DataError.TheVariants.{UnknownArray, Twice, Missing, Count, NotANumber, Memory}
 use Rattle.sanlp.specs.Memory.{Memory as CellMemory}
@@ -12,20 +12,20 @@ use Rattle.compaan_top.specs.Refusals.{data_refusal}
 use Rattle.compaan_top.specs.Run.{IsInputs}
 use Rattle.compaan_top.specs.declared.refusal.Refusal.{Refusal}
 
--- a fault that is told as a refusal is the one that the records have
-fault_is : (list : List ArrayDecl) (wanted : Result Inputs DataError) (fault : DataError) (refusal : Refusal)
-    → Gives (Err fault) wanted → data_refusal list fault ≡ Some refusal → wanted ≡ Err fault
-fault_is list wanted (UnknownArray number) refusal gives told = gives
-fault_is list wanted (Twice number) refusal gives told = gives
-fault_is list wanted (Missing array) refusal gives told = gives
-fault_is list wanted (Count number got want) refusal gives told = gives
-fault_is list wanted (NotANumber number field) refusal gives told = gives
-fault_is list wanted Memory refusal gives told = cc
+-- a fault that is told isn't want of memory
+told_fault : (list : List ArrayDecl) (fault : DataError) (refusal : Refusal) → data_refusal list fault ≡ Some refusal
+    → fault ≢ Memory
+told_fault list (UnknownArray number) refusal told = λ is. cc
+told_fault list (Twice number) refusal told = λ is. cc
+told_fault list (Missing array) refusal told = λ is. cc
+told_fault list (Count number got want) refusal told = λ is. cc
+told_fault list (NotANumber number field) refusal told = λ is. cc
+told_fault list Memory refusal told = λ is. cc
 
 pub inputs_refused : (n : Nest) (bytes : List ℕ) (fault : DataError) (refusal : Refusal)
-    → Gives (Err fault) (inputs_of n (records_of bytes)) → data_refusal n.arrays fault ≡ Some refusal → IsInputs n bytes (Err refusal)
-inputs_refused n bytes fault refusal gives told =
-    (fault, fault_is n.arrays (inputs_of n (records_of bytes)) fault refusal gives told, told)
+    → (fault ≢ Memory → inputs_of n (records_of bytes) ≡ Err fault) → data_refusal n.arrays fault ≡ Some refusal
+    → IsInputs n bytes (Err refusal)
+inputs_refused n bytes fault refusal gives told = (fault, gives (told_fault n.arrays fault refusal told), told)
 
 length-arrays_from : (m : CellMemory) (a : ℕ) (list : List ArrayDecl) → length (arrays_from m a list) ≡ length list
 length-arrays_from m a [] = refl

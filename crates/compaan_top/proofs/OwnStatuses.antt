@@ -26,7 +26,7 @@ use Rattle.compaan_top.specs.Load.{Loads}
 use Rattle.compaan_top.specs.Outcome.{Outcome, IsOutcome, outcome_of, Performs, words_refused, bundle_refused, performed}
 use Rattle.compaan_top.specs.Printing as print
 use Rattle.compaan_top.specs.Printing.{Prints, certificate_text, network_text}
-use Rattle.compaan_top.specs.Refusals.{byte_of, lex_refusal, bind_refusal}
+use Rattle.compaan_top.specs.Refusals.{byte_of, lex_refusal, bind_refusal, refusal_status}
 use Rattle.compaan_top.specs.Replies.{Reply}
 use Rattle.compaan_top.specs.Run.{Runs, IsInputs, source_refused, data_refused, answered}
 use Rattle.compaan_top.specs.Source as sized
@@ -38,17 +38,17 @@ use Rattle.compaan_top.proofs.Statuses.{data_status, same_value, size_status}
 abbrev pub IsOfSource : ℕ → Type 0
 IsOfSource status = (status ≡ 6) ⊎ ((status ≡ 7) ⊎ (status ≡ 8))
 
-refused_of : (made r : Refusal) → Some made ≡ Some r → IsOfSource made.status → IsOfSource r.status
-refused_of made r e own = subst (λ (t : Refusal). IsOfSource t.status) (same_value made r e) own
+refused_of : (made r : Refusal) → Some made ≡ Some r → IsOfSource (refusal_status made) → IsOfSource (refusal_status r)
+refused_of made r e own = subst (λ (t : Refusal). IsOfSource (refusal_status t)) (same_value made r e) own
 
-lex_status : (e : LexError) (r : Refusal) → lex_refusal e ≡ Some r → IsOfSource r.status
+lex_status : (e : LexError) (r : Refusal) → lex_refusal e ≡ Some r → IsOfSource (refusal_status r)
 lex_status (lexical.BadByte at) r made = refused_of _ r made (inl refl)
 lex_status (lexical.OpenComment at) r made = refused_of _ r made (inl refl)
 lex_status (lexical.LargeNumber at) r made = refused_of _ r made (inl refl)
 lex_status (lexical.TooMany at) r made = refused_of _ r made (inl refl)
 lex_status lexical.Memory r made = cc
 
-bind_status : (at : ℕ → ℕ) (e : BindError) (r : Refusal) → bind_refusal at e ≡ Some r → IsOfSource r.status
+bind_status : (at : ℕ → ℕ) (e : BindError) (r : Refusal) → bind_refusal at e ≡ Some r → IsOfSource (refusal_status r)
 bind_status at (binding.UnknownName t) r made = refused_of _ r made (inr (inl refl))
 bind_status at (binding.Duplicate t) r made = refused_of _ r made (inr (inl refl))
 bind_status at (binding.Unbound t) r made = refused_of _ r made (inr (inl refl))
@@ -66,7 +66,7 @@ bind_status at binding.Memory r made = cc
 
 abbrev pub IsRefusedByStatus : {A : Type 0} → Result A Refusal → Type 0
 IsRefusedByStatus (Ok x) = Unit {0}
-IsRefusedByStatus (Err r) = IsOfSource r.status
+IsRefusedByStatus (Err r) = IsOfSource (refusal_status r)
 
 gives_refused : (source : List ℕ) (params : List (List ℕ × ℤ)) {x : Result Nest Refusal} → Gives source params x → IsRefusedByStatus x
 gives_refused source params (no_tokens e r lexed made) = lex_status e r made
@@ -88,16 +88,16 @@ among list status six seven eight (inr (inr e)) = subst (λ (s : ℕ). is_among 
 abbrev HasStatus : Reads → Result Reply Refusal → Type 0
 HasStatus reads x = is_among (command_statuses reads) (outcome_of x).status ≡ true
 
-inputs_status : (bytes : List ℕ) (n : Nest) (r : Refusal) → IsInputs n bytes (Err r) → is_among (command_statuses source_and_data) r.status ≡ true
+inputs_status : (bytes : List ℕ) (n : Nest) (r : Refusal) → IsInputs n bytes (Err r) → is_among (command_statuses source_and_data) (refusal_status r) ≡ true
 inputs_status bytes n r i = rw (data_status n.arrays i.0 r i.2) refl
 
 runs_own : (params : List (List ℕ × ℤ)) (bundle : List ℕ) {x : Result Reply Refusal} → Runs params bundle x → HasStatus source_and_data x
-runs_own params bundle (source_refused r g) = among (command_statuses source_and_data) r.status refl refl refl (sized_refused (source_part bundle) params g)
+runs_own params bundle (source_refused r g) = among (command_statuses source_and_data) (refusal_status r) refl refl refl (sized_refused (source_part bundle) params g)
 runs_own params bundle (data_refused n r g i) = inputs_status (data_part bundle) n r i
 runs_own params bundle (answered n d g i) = refl
 
 prints_own : (text : Nest → List ℕ) (params : List (List ℕ × ℤ)) (bundle : List ℕ) {x : Result Reply Refusal} → Prints text params bundle x → HasStatus source_alone x
-prints_own text params bundle (print.source_refused r g) = among (command_statuses source_alone) r.status refl refl refl (sized_refused (source_part bundle) params g)
+prints_own text params bundle (print.source_refused r g) = among (command_statuses source_alone) (refusal_status r) refl refl refl (sized_refused (source_part bundle) params g)
 prints_own text params bundle (print.printed n g) = refl
 
 verdict_own : (found : Option NetRefusal) → is_among (command_statuses source_and_certificate) (verdict_reply (verdict_of found)).status ≡ true
@@ -106,12 +106,12 @@ verdict_own (Some refusal) = refl
 
 checks_own : (params : List (List ℕ × ℤ)) (bundle : List ℕ) {x : Result Reply Refusal} → Checks params bundle x → HasStatus source_and_certificate x
 checks_own params bundle (check.part_missing none) = refl
-checks_own params bundle (check.source_refused part r there g) = among (command_statuses source_and_certificate) r.status refl refl refl (sized_refused (source_part bundle) params g)
+checks_own params bundle (check.source_refused part r there g) = among (command_statuses source_and_certificate) (refusal_status r) refl refl refl (sized_refused (source_part bundle) params g)
 checks_own params bundle (check.unread part n e text there g read told) = refl
 checks_own params bundle (check.judged part n network cert there g read) = verdict_own (first n network cert)
 
 describes_own : (policy : Policy) (params : List (List ℕ × ℤ)) (bundle : List ℕ) {x : Result Reply Refusal} → Describes policy params bundle x → HasStatus source_alone x
-describes_own policy params bundle (describe.source_refused r g) = among (command_statuses source_alone) r.status refl refl refl (sized_refused (source_part bundle) params g)
+describes_own policy params bundle (describe.source_refused r g) = among (command_statuses source_alone) (refusal_status r) refl refl refl (sized_refused (source_part bundle) params g)
 describes_own policy params bundle (describe.script_refused n a g k) = refl
 describes_own policy params bundle (describe.described n g k) = refl
 

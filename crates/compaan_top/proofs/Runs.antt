@@ -2,6 +2,7 @@
 use Rattle.std.proofs.Common.{◌≡◌, ℕ, ℤ, List, Result, Ok, Err, sym, subst}
 use Rattle.command_line.specs.Bundle.{source_part, data_part}
 use Rattle.sanlp.specs.Meaning.{arrays}
+use Rattle.sanlp.specs.Size.{SizeIsOk}
 use Rattle.sanlp.specs.declared.nest.Arrays.{Arrays}
 use Rattle.sanlp.specs.declared.nest.Inputs.{Inputs}
 use Rattle.sanlp.specs.declared.nest.Nest.{Nest}
@@ -11,7 +12,7 @@ use Rattle.compaan_top.specs.Planned.{as_reply}
 use Rattle.compaan_top.specs.Replies.{done}
 use Rattle.compaan_top.specs.Run.{IsInputs, Runs, source_refused, data_refused, answered}
 use Rattle.compaan_top.specs.Source.{GivesWithinSize}
-use Rattle.compaan_top.specs.Steps.{HasSizedNest, IsPrepared}
+use Rattle.compaan_top.specs.Steps.{HasInputs, HasSizedNest, IsPrepared}
 use Rattle.compaan_top.specs.declared.answer.Answer.{Answer}
 use Rattle.compaan_top.specs.declared.refusal.Stop.{Stop}
 use Rattle.compaan_top.specs.declared.refusal.Stop.TheVariants.{Refused, ReadFault, Memory}
@@ -29,19 +30,16 @@ prepared_without_nest params bundle source (Refused refusal) is step = source_re
 prepared_without_nest params bundle source ReadFault is step = step
 prepared_without_nest params bundle source Memory is step = tt
 
-pub prepared_without_inputs : (params : List (List ℕ × ℤ)) (bundle source bytes : List ℕ) (nest : Nest) (stop : Stop)
-    → source ≡ source_part bundle → bytes ≡ data_part bundle → GivesWithinSize source params (Ok nest)
-    → Judges (IsInputs nest bytes) (Err stop) → JudgesPrepared params bundle (Err stop)
-prepared_without_inputs params bundle source bytes nest (Refused refusal) is bytes_are gives step =
-    data_refused nest refusal (nest_is params bundle source (Ok nest) is gives) (subst (λ (b : List ℕ). IsInputs nest b (Err refusal)) bytes_are step)
-prepared_without_inputs params bundle source bytes nest ReadFault is bytes_are gives step = step
-prepared_without_inputs params bundle source bytes nest Memory is bytes_are gives step = tt
-
-pub prepared_from : (params : List (List ℕ × ℤ)) (bundle source bytes : List ℕ) (nest : Nest) (inputs : Inputs)
+pub prepared_from : (params : List (List ℕ × ℤ)) (bundle source bytes : List ℕ) (nest : Nest) (answer : Result (Nest × Inputs) Stop)
     → source ≡ source_part bundle → bytes ≡ data_part bundle → HasSizedNest source params (Ok nest)
-    → IsInputs nest bytes (Ok inputs) → IsPrepared params bundle (Ok (nest, inputs))
-prepared_from params bundle source bytes nest inputs is bytes_are sized records =
-    (nest_is params bundle source (Ok nest) is sized.0, subst (λ (b : List ℕ). IsInputs nest b (Ok inputs)) bytes_are records, sized.1)
+    → Judges (HasInputs nest bytes) answer → JudgesPrepared params bundle answer
+prepared_from params bundle source bytes nest (Ok made) is bytes_are sized has =
+    subst (λ (n : Nest). GivesWithinSize (source_part bundle) params (Ok n) × IsInputs n (data_part bundle) (Ok made.1) × SizeIsOk n) (sym has.0)
+    (nest_is params bundle source (Ok nest) is sized.0, subst (λ (b : List ℕ). IsInputs nest b (Ok made.1)) bytes_are has.1, sized.1)
+prepared_from params bundle source bytes nest (Err (Refused refusal)) is bytes_are sized has =
+    data_refused nest refusal (nest_is params bundle source (Ok nest) is sized.0) (subst (λ (b : List ℕ). IsInputs nest b (Err refusal)) bytes_are has)
+prepared_from params bundle source bytes nest (Err ReadFault) is bytes_are sized has = has
+prepared_from params bundle source bytes nest (Err Memory) is bytes_are sized has = tt
 
 -- what refuses the nest or its inputs refuses the run
 pub unprepared : (params : List (List ℕ × ℤ)) (bundle : List ℕ) (stop : Stop) → JudgesPrepared params bundle (Err stop) → JudgesRun params bundle (Err stop)

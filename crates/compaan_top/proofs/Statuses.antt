@@ -59,7 +59,7 @@ use Rattle.compaan_top.specs.Printing as print
 use Rattle.compaan_top.specs.Printing.{Prints, certificate_text, network_text}
 use Rattle.compaan_top.specs.Outcome.{Outcome, IsOutcome, outcome_of, Performs, words_refused, bundle_refused, performed}
 use Rattle.compaan_top.specs.Replies.{Reply}
-use Rattle.compaan_top.specs.Refusals.{byte_of, lex_refusal, bind_refusal, size_refusal, data_refusal}
+use Rattle.compaan_top.specs.Refusals.{byte_of, lex_refusal, bind_refusal, size_refusal, data_refusal, refusal_status}
 use Rattle.compaan_top.specs.Run.{Runs, IsInputs, source_refused, data_refused, answered}
 use Rattle.compaan_top.specs.Source as sized
 use Rattle.compaan_top.specs.Source.{Gives, GivesWithinSize, no_tokens, no_tree, not_bound, bound}
@@ -85,7 +85,7 @@ no_place list place tree stops derived =
 -- both are nests of the same parts, or both are refusals of one status
 abbrev pub Alike : Result Nest Refusal → Result Nest Refusal → Type 0
 Alike (Ok n) (Ok m) = (n.arrays ≡ m.arrays) × (n.statements ≡ m.statements) × (n.body ≡ m.body)
-Alike (Err r) (Err s) = r.status ≡ s.status
+Alike (Err r) (Err s) = refusal_status r ≡ refusal_status s
 Alike (Ok n) (Err s) = ⊥
 Alike (Err r) (Ok m) = ⊥
 
@@ -98,8 +98,8 @@ same_error source a b x y = cc
 no_both : (source : List ℕ) (a : LexError) (b : List Token) → tokens source ≡ Err a → tokens source ≡ Ok b → ⊥
 no_both source a b x y = cc
 
-same_refusal : (a b : Option Refusal) (r s : Refusal) → a ≡ Some r → b ≡ Some s → a ≡ b → r.status ≡ s.status
-same_refusal a b r s x y e = ap (λ (t : Refusal). t.status) (same_value r s (sym x ∙ e ∙ y))
+same_refusal : (a b : Option Refusal) (r s : Refusal) → a ≡ Some r → b ≡ Some s → a ≡ b → refusal_status r ≡ refusal_status s
+same_refusal a b r s x y e = ap refusal_status (same_value r s (sym x ∙ e ∙ y))
 
 -- no tokens of one list have a tree and a refused place
 no_tree_at_place : (source : List ℕ) (a b : List Token) (place : ℕ) (tree : Tree) → tokens source ≡ Ok a → tokens source ≡ Ok b
@@ -196,7 +196,7 @@ same_counted : (n m : Nest) → n.body ≡ m.body → counted n ≡ counted m
 unfolding counted
 same_counted n m e = ap (λ (body : List Node). counted_parts (map counted_node body) [] 0) e
 
-pub size_status : (e : SizeError) → (size_refusal e).status ≡ 8
+pub size_status : (e : SizeError) → refusal_status (size_refusal e) ≡ 8
 size_status (Limit count) = refl
 size_status (LoopValue loop) = refl
 
@@ -219,12 +219,12 @@ sized_alike one source params (sized.within_size n t g c) (sized.within_size m u
 abbrev pub SameStatus : Result Reply Refusal → Result Reply Refusal → Type 0
 SameStatus x y = (outcome_of x).status ≡ (outcome_of y).status
 
-pub data_status : (list : List ArrayDecl) (fault : DataError) (r : Refusal) → data_refusal list fault ≡ Some r → r.status ≡ 9
-data_status list (UnknownArray number) r told = ap (λ (t : Refusal). t.status) (sym (same_value _ r told))
-data_status list (Twice number) r told = ap (λ (t : Refusal). t.status) (sym (same_value _ r told))
-data_status list (Missing array) r told = ap (λ (t : Refusal). t.status) (sym (same_value _ r told))
-data_status list (Count number got want) r told = ap (λ (t : Refusal). t.status) (sym (same_value _ r told))
-data_status list (NotANumber number field) r told = ap (λ (t : Refusal). t.status) (sym (same_value _ r told))
+pub data_status : (list : List ArrayDecl) (fault : DataError) (r : Refusal) → data_refusal list fault ≡ Some r → refusal_status r ≡ 9
+data_status list (UnknownArray number) r told = ap refusal_status (sym (same_value _ r told))
+data_status list (Twice number) r told = ap refusal_status (sym (same_value _ r told))
+data_status list (Missing array) r told = ap refusal_status (sym (same_value _ r told))
+data_status list (Count number got want) r told = ap refusal_status (sym (same_value _ r told))
+data_status list (NotANumber number field) r told = ap refusal_status (sym (same_value _ r told))
 data_status list Memory r told = cc
 
 -- the arrays decide what the records give
@@ -233,7 +233,7 @@ same_inputs n m rows e = ap (λ (list : List ArrayDecl). unless (fault_of list r
 
 abbrev BothRefused : Result Inputs Refusal → Result Inputs Refusal → Type 0
 BothRefused (Ok d) (Ok e) = Unit {0}
-BothRefused (Err r) (Err s) = r.status ≡ s.status
+BothRefused (Err r) (Err s) = refusal_status r ≡ refusal_status s
 BothRefused (Ok d) (Err s) = ⊥
 BothRefused (Err r) (Ok e) = ⊥
 

@@ -18,6 +18,7 @@ use Rattle.compaan_top.specs.Answers.{Change, Ends, IsRead, ReadsFor, ReadsTo, n
 use Rattle.compaan_top.specs.Checking.{Checks, verdict_reply, part_missing, source_refused, unread, judged}
 use Rattle.compaan_top.specs.Headline.{AcceptsWhatFits, HasFittingCertificate, HasSoundCertificate, accepted}
 use Rattle.compaan_top.specs.Outcome.{Outcome, IsOutcome, Performs, bundle_limit, outcome_of, words_refused, bundle_refused, performed}
+use Rattle.compaan_top.specs.Refusals.{refusal_status}
 use Rattle.compaan_top.specs.Replies.{Reply}
 use Rattle.compaan_top.specs.declared.refusal.Refusal.{Refusal}
 use Rattle.compaan_top.specs.Commands.{reads_of}
@@ -74,7 +75,7 @@ pub checks_vouched : NothingWrongFits → ReadsItsText → (params : List (List 
     → Checks params bundle answer → (outcome_of answer).status ≡ 0 → HasFittingCertificate params bundle
 checks_vouched fitting reads params bundle (part_missing none) is = absurd (five_is_not_zero is)
 checks_vouched fitting reads params bundle (source_refused part refusal there gives) is =
-    absurd (not_zero refusal.status (sized_refused (source_part bundle) params gives) is)
+    absurd (not_zero (refusal_status refusal) (sized_refused (source_part bundle) params gives) is)
 checks_vouched fitting reads params bundle (unread part nest error text there gives read told) is = absurd (one_is_not_zero is)
 checks_vouched fitting reads params bundle (judged part nest network cert there gives read) is =
     let is_text = reads part network cert read in

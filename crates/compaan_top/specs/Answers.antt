@@ -14,7 +14,8 @@ pub record Change : Type 0 where
   pub faults_new : ℕ
 
 abbrev pub change : Option (List ℕ) → Option (List ℕ) → ℕ → ℕ → Change
-change old new faults_old faults_new = record { old = old; new = new; faults_old = faults_old; faults_new = faults_new }
+change old new faults_old faults_new =
+    record { old = old; new = new; faults_old = faults_old; faults_new = faults_new }
 
 abbrev pub IsQuiet : Change → Type 0
 IsQuiet change = change.faults_new ≡ change.faults_old
@@ -77,11 +78,15 @@ pub record WritesFront (outcome : Outcome) (output complaint : Change) : Type 0 
 -- want of memory or since the source had a fault, or it wrote the outcome of the order and the bundle, or a sink had a fault
 -- while it did.
 pub data Ends (wanted : Option Order) (input output complaint : Change) : ℕ → Type 0 where
-  no_memory : IsQuiet input → TakesAtMost input (most_taken (read_by wanted)) → WritesNothing output complaint
+  no_memory : IsQuiet input → TakesAtMost input (most_taken (read_by wanted))
+      → WritesNothing output complaint
       → Ends wanted input output complaint 10
-  read_fault : (order : Order) → wanted ≡ Some order → reads_of order.command ≢ nothing → HasFault input → TakesAtMost input bundle_limit
+  read_fault : (order : Order) → wanted ≡ Some order → reads_of order.command ≢ nothing
+      → HasFault input → TakesAtMost input bundle_limit
       → WritesNothing output complaint → Ends wanted input output complaint 3
-  written : (bundle : List ℕ) (outcome : Outcome) → IsQuiet input → IsRead wanted input bundle → IsOutcome wanted bundle outcome
+  written : (bundle : List ℕ) (outcome : Outcome) → IsQuiet input → IsRead wanted input bundle
+      → IsOutcome wanted bundle outcome
       → WritesAll outcome output complaint → Ends wanted input output complaint outcome.status
-  cut_short : (bundle : List ℕ) (outcome : Outcome) → IsQuiet input → IsRead wanted input bundle → IsOutcome wanted bundle outcome
+  cut_short : (bundle : List ℕ) (outcome : Outcome) → IsQuiet input → IsRead wanted input bundle
+      → IsOutcome wanted bundle outcome
       → WritesFront outcome output complaint → Ends wanted input output complaint 4

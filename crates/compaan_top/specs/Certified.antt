@@ -28,7 +28,8 @@ pub record HasParameter (tree : Tree) (name : List ℕ) : Type 0 where
 -- each parameter that the source declares has one value in both lists, or none in either
 abbrev pub AgreeOn : List ℕ → List (List ℕ × ℤ) → List (List ℕ × ℤ) → Type 0
 AgreeOn source a b =
-    (found : List Token) (tree : Tree) (name : List ℕ) → tokens source ≡ Ok found → IsTree source found tree
+    (found : List Token) (tree : Tree) (name : List ℕ) → tokens source ≡ Ok found
+    → IsTree source found tree
     → HasParameter tree name → value_named a name ≡ value_named b name
 
 -- an order to `cert` comes to this outcome on a bundle, and the certificate was written
@@ -44,7 +45,8 @@ pub record HasCertificate (bundle other text : List ℕ) : Type 0 where
 
 -- an order to `check` comes to `accepted` on a bundle within the limit
 abbrev pub Accepts : Order → List ℕ → Type 0
-Accepts order bundle = order.command ≡ Check → length bundle ≤ bundle_limit → (outcome : Outcome) → IsOutcome (Some order) bundle outcome → outcome ≡ accepted
+Accepts order bundle = order.command ≡ Check → length bundle ≤ bundle_limit → (outcome : Outcome)
+    → IsOutcome (Some order) bundle outcome → outcome ≡ accepted
 
 -- a call with an order, and how it ended
 pub record Call : Type 0 where

@@ -18,10 +18,15 @@ abbrev pub planned_automata : Policy → Nest → List NodeAuto
 planned_automata policy nest = automata nest (planned_network nest policy)
 
 -- The source gives no nest within the limit, a process has too long a script, or the VHDL text is written.
-pub data Describes (policy : Policy) (params : List (List ℕ × ℤ)) (bundle : List ℕ) : Result Reply Refusal → Type 0 where
+pub data Describes (policy : Policy) (params : List (List ℕ × ℤ))
+    (bundle : List ℕ) : Result Reply Refusal → Type 0 where
   source_refused : (refusal : Refusal) → GivesWithinSize (source_part bundle) params (Err refusal)
       → Describes policy params bundle (Err refusal)
-  script_refused : (nest : Nest) (auto : NodeAuto) → GivesWithinSize (source_part bundle) params (Ok nest)
-      → first_too_long (planned_automata policy nest) ≡ Some auto → Describes policy params bundle (Err (script_refusal auto))
-  described : (nest : Nest) → GivesWithinSize (source_part bundle) params (Ok nest) → first_too_long (planned_automata policy nest) ≡ None
-      → Describes policy params bundle (Ok (done (vhdl_text (planned_network nest policy) (planned_automata policy nest))))
+  script_refused : (nest : Nest) (auto : NodeAuto)
+      → GivesWithinSize (source_part bundle) params (Ok nest)
+      → first_too_long (planned_automata policy nest) ≡ Some auto
+      → Describes policy params bundle (Err (script_refusal auto))
+  described : (nest : Nest) → GivesWithinSize (source_part bundle) params (Ok nest)
+      → first_too_long (planned_automata policy nest) ≡ None
+      → Describes policy params bundle
+      (Ok (done (vhdl_text (planned_network nest policy) (planned_automata policy nest))))

@@ -48,4 +48,5 @@ SaysAccepted output status = (status ≡ 0) × Appends output.old output.new acc
 abbrev pub AcceptsWhatFits : Option Order → List ℕ → Type 0
 AcceptsWhatFits wanted bundle =
     (order : Order) → wanted ≡ Some order → order.command ≡ Check → length bundle ≤ bundle_limit
-    → (outcome : Outcome) → IsOutcome wanted bundle outcome → (outcome ≡ accepted) ↔ HasFittingCertificate order.params bundle
+    → (outcome : Outcome) → IsOutcome wanted bundle outcome
+    → (outcome ≡ accepted) ↔ HasFittingCertificate order.params bundle

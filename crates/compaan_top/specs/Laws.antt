@@ -20,7 +20,8 @@ use Rattle.compaan_top.specs.Source.{Gives}
 
 -- the order and the bundle determine the status
 abbrev pub DetermineStatus : Option Order → List ℕ → Type 0
-DetermineStatus wanted bundle = (a b : Outcome) → IsOutcome wanted bundle a → IsOutcome wanted bundle b → a.status ≡ b.status
+DetermineStatus wanted bundle = (a b : Outcome) → IsOutcome wanted bundle a
+    → IsOutcome wanted bundle b → a.status ≡ b.status
 
 -- the statuses of what a command comes to
 abbrev pub command_statuses : Reads → List ℕ
@@ -35,7 +36,8 @@ outcome_statuses None = 2 ∷ []
 outcome_statuses (Some order) = command_statuses (reads_of order.command)
 
 abbrev pub HaveOwnStatuses : Option Order → List ℕ → Type 0
-HaveOwnStatuses wanted bundle = (outcome : Outcome) → IsOutcome wanted bundle outcome → is_among (outcome_statuses wanted) outcome.status ≡ true
+HaveOwnStatuses wanted bundle = (outcome : Outcome) → IsOutcome wanted bundle outcome
+    → is_among (outcome_statuses wanted) outcome.status ≡ true
 
 -- a failed read has a status where something is read
 abbrev pub read_statuses : Reads → List ℕ
@@ -55,7 +57,8 @@ HasStatusOf wanted status = is_among (call_statuses wanted) status ≡ true
 abbrev pub HasParts : Reads → Nest → List ℕ → Inputs → Type 0
 HasParts source_alone nest bundle inputs = Unit {0}
 HasParts source_and_data nest bundle inputs = IsInputs nest (data_part bundle) (Ok inputs)
-HasParts source_and_certificate nest bundle inputs = (part : List ℕ) × (certificate_part bundle ≡ Some part)
+HasParts source_and_certificate nest bundle inputs =
+    (part : List ℕ) × (certificate_part bundle ≡ Some part)
 HasParts nothing nest bundle inputs = Unit {0}
 
 -- The nest that an order is about: that of the bundle's source, and for `load`, which reads nothing, the product of matrices
@@ -63,7 +66,8 @@ HasParts nothing nest bundle inputs = Unit {0}
 abbrev pub IsNestFor : Reads → Order → List ℕ → Nest → Type 0
 IsNestFor source_alone order bundle nest = Gives (source_part bundle) order.params (Ok nest)
 IsNestFor source_and_data order bundle nest = Gives (source_part bundle) order.params (Ok nest)
-IsNestFor source_and_certificate order bundle nest = Gives (source_part bundle) order.params (Ok nest)
+IsNestFor source_and_certificate order bundle nest =
+    Gives (source_part bundle) order.params (Ok nest)
 IsNestFor nothing order bundle nest = (order.load ≤ load_limit) × IsMatrixNest order.load nest
 
 -- the nest is within the command's own limit: for `vhdl` no script is too long

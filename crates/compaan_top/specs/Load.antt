@@ -28,12 +28,16 @@ product_cells lists = slice_index_or lists 2 []
 -- the summary of a run of this network of a nest
 abbrev pub run_summary : Network → Nest → Inputs → List ℕ
 run_summary network nest inputs =
-    summary_text (length (trace nest)) (length network.channels) (event_count network) (wrapping_sum (product_cells (arrays nest inputs)))
+    summary_text (length (trace nest)) (length network.channels) (event_count network)
+    (wrapping_sum (product_cells (arrays nest inputs)))
 
 -- There are too many rows, the nest is too large, or its network is run and the summary written.
 pub data Loads (policy : Policy) (rows : ℕ) : Result Reply Refusal → Type 0 where
   too_large : load_limit < rows → Loads policy rows (Err too_many_rows)
-  size_refused : (nest : Nest) (error : SizeError) → rows ≤ load_limit → IsMatrixNest rows nest → counted nest ≡ Err error
+  size_refused : (nest : Nest) (error : SizeError) → rows ≤ load_limit → IsMatrixNest rows nest
+      → counted nest ≡ Err error
       → Loads policy rows (Err (size_refusal error))
-  summed : (nest : Nest) (total : ℕ) (inputs : Inputs) → rows ≤ load_limit → IsMatrixNest rows nest → counted nest ≡ Ok total
-      → inputs.arrays ≡ matrix_inputs rows → Loads policy rows (Ok (done (run_summary (planned_network nest policy) nest inputs)))
+  summed : (nest : Nest) (total : ℕ) (inputs : Inputs) → rows ≤ load_limit → IsMatrixNest rows nest
+      → counted nest ≡ Ok total
+      → inputs.arrays ≡ matrix_inputs rows
+      → Loads policy rows (Ok (done (run_summary (planned_network nest policy) nest inputs)))

@@ -9,10 +9,11 @@ use Rattle.compaan_top.specs.Commands.{nothing, reads_of}
 use Rattle.compaan_top.specs.Describing.{Describes}
 use Rattle.compaan_top.specs.Load.{Loads}
 use Rattle.compaan_top.specs.Printing.{Prints, certificate_text, network_text}
-use Rattle.compaan_top.specs.Refusals.{usage, too_long}
+use Rattle.compaan_top.specs.Refusals.{refusal_line, refusal_status}
 use Rattle.compaan_top.specs.Replies.{Reply}
 use Rattle.compaan_top.specs.Run.{Runs}
 use Rattle.compaan_top.specs.declared.refusal.Refusal.{Refusal}
+use Rattle.compaan_top.specs.declared.refusal.Refusal.TheVariants.{Usage, TooLong}
 
 -- a status, what is written on the output, and what on the complaint sink
 pub record Outcome : Type 0 where
@@ -23,7 +24,8 @@ pub record Outcome : Type 0 where
 -- what a command comes to: the reply that it writes, or why it is refused
 abbrev pub outcome_of : Result Reply Refusal → Outcome
 outcome_of (Ok reply) = record { status = reply.status; output = reply.text; complaint = [] }
-outcome_of (Err refusal) = record { status = refusal.status; output = []; complaint = refusal.line }
+outcome_of (Err refusal) =
+    record { status = refusal_status refusal; output = []; complaint = refusal_line refusal }
 
 -- the most bytes that a bundle has
 abbrev pub bundle_limit : ℕ
@@ -41,8 +43,10 @@ Performs Load order = λ bundle. Loads order.policy order.load
 
 -- The words are refused, the bundle is too long, or the command is performed.
 pub data IsOutcome (wanted : Option Order) (bundle : List ℕ) : Outcome → Type 0 where
-  words_refused : wanted ≡ None → IsOutcome wanted bundle (outcome_of (Err usage))
-  bundle_refused : (order : Order) → wanted ≡ Some order → reads_of order.command ≢ nothing → bundle_limit < length bundle
-      → IsOutcome wanted bundle (outcome_of (Err too_long))
-  performed : (order : Order) (answer : Result Reply Refusal) → wanted ≡ Some order → length bundle ≤ bundle_limit
+  words_refused : wanted ≡ None → IsOutcome wanted bundle (outcome_of (Err Usage))
+  bundle_refused : (order : Order) → wanted ≡ Some order → reads_of order.command ≢ nothing
+      → bundle_limit < length bundle
+      → IsOutcome wanted bundle (outcome_of (Err TooLong))
+  performed : (order : Order) (answer : Result Reply Refusal) → wanted ≡ Some order
+      → length bundle ≤ bundle_limit
       → Performs order.command order bundle answer → IsOutcome wanted bundle (outcome_of answer)

@@ -5,16 +5,18 @@ use Rattle.array_data.specs.Answer.{answer_text}
 use Rattle.cert_text.specs.CertText.{cert_text}
 use Rattle.command_line.specs.declared.words.Order.{Order}
 use Rattle.compaan_top.specs.Answers.{Change, IsQuiet, HasFault, IsRead, ReadsTo, TakesAtMost, most_taken}
+use Rattle.compaan_top.specs.Checking.{refused, verdict_reply}
 use Rattle.compaan_top.specs.Commands.{nothing, read_by, reads_of}
 use Rattle.compaan_top.specs.Outcome.{IsOutcome, outcome_of, bundle_limit}
-use Rattle.compaan_top.specs.Refusals.{usage, too_long}
 use Rattle.compaan_top.specs.Replies.{Reply, done}
 use Rattle.compaan_top.specs.declared.answer.Answer.{Answer}
-use Rattle.compaan_top.specs.declared.answer.Answer.TheVariants.{Arrays, Network, Certificate, Verdict, Summary, Nodes}
+use Rattle.compaan_top.specs.declared.answer.Answer.TheVariants.{Arrays, Network, Certificate, Verdict, Unread, Summary, Nodes}
 use Rattle.matrix_load.specs.Summary.{summary_text}
 use Rattle.net_text.specs.NetworkText.{net_text}
+use Rattle.verdict_text.specs.VerdictText.{unread_line}
 use Rattle.vhdl_text.specs.VhdlText.{vhdl_text}
 use Rattle.compaan_top.specs.declared.refusal.Refusal.{Refusal}
+use Rattle.compaan_top.specs.declared.refusal.Refusal.TheVariants.{Usage, TooLong}
 use Rattle.compaan_top.specs.declared.refusal.Stop.{Stop}
 use Rattle.compaan_top.specs.declared.refusal.Stop.TheVariants.{Refused, ReadFault, Memory}
 
@@ -23,9 +25,11 @@ abbrev pub reply_of : Answer → Reply
 reply_of (Arrays answer) = done (answer_text answer.nest.arrays answer.arrays.arrays)
 reply_of (Network answer) = done (net_text answer.nest answer.network)
 reply_of (Certificate answer) = done (cert_text answer.network answer.cert)
-reply_of (Verdict answer) = record { status = answer.status; text = answer.line }
+reply_of (Verdict verdict) = verdict_reply verdict
+reply_of (Unread error) = refused (unread_line error)
 reply_of (Nodes answer) = done (vhdl_text answer.network answer.autos)
-reply_of (Summary answer) = done (summary_text answer.points answer.channels answer.events answer.sum)
+reply_of (Summary answer) =
+    done (summary_text answer.points answer.channels answer.events answer.sum)
 
 abbrev pub as_reply : Result Answer Refusal → Result Reply Refusal
 as_reply (Ok answer) = Ok (reply_of answer)
@@ -33,21 +37,29 @@ as_reply (Err refusal) = Err refusal
 
 abbrev pub IsOrdered : Option Order → Result Order Refusal → Type 0
 IsOrdered wanted (Ok order) = wanted ≡ Some order
-IsOrdered wanted (Err refusal) = (wanted ≡ None) × (refusal ≡ usage)
+IsOrdered wanted (Err refusal) = (wanted ≡ None) × (refusal ≡ Usage)
 
 abbrev pub ReadsBundle : Change → Result (Vec ℕ) Stop → Type 0
-ReadsBundle input (Ok bundle) = IsQuiet input × ReadsTo input bundle.items × (length bundle.items ≤ bundle_limit)
-ReadsBundle input (Err (Refused refusal)) = IsQuiet input × (refusal ≡ too_long) × (bundle : List ℕ) × ReadsTo input bundle × (bundle_limit < length bundle)
+ReadsBundle input (Ok bundle) =
+    IsQuiet input × ReadsTo input bundle.items × (length bundle.items ≤ bundle_limit)
+ReadsBundle input (Err (Refused refusal)) =
+    IsQuiet input × (refusal ≡ TooLong) × (bundle : List ℕ) × ReadsTo input bundle
+    × (bundle_limit < length bundle)
 ReadsBundle input (Err ReadFault) = HasFault input × TakesAtMost input bundle_limit
 ReadsBundle input (Err Memory) = IsQuiet input × TakesAtMost input (bundle_limit + 1)
 
 -- the input was read, and the answer is that of the order and of what was read
 abbrev pub ReadsAndJudges : Option Order → Change → Result Reply Refusal → Type 0
-ReadsAndJudges wanted input answer = (bundle : List ℕ) × IsRead wanted input bundle × IsOutcome wanted bundle (outcome_of answer)
+ReadsAndJudges wanted input answer =
+    (bundle : List ℕ) × IsRead wanted input bundle × IsOutcome wanted bundle (outcome_of answer)
 
 abbrev pub IsPlanned : Option Order → Change → Result Answer Stop → Type 0
-IsPlanned wanted input (Ok answer) = IsQuiet input × ReadsAndJudges wanted input (Ok (reply_of answer))
-IsPlanned wanted input (Err (Refused refusal)) = IsQuiet input × ReadsAndJudges wanted input (Err refusal)
+IsPlanned wanted input (Ok answer) =
+    IsQuiet input × ReadsAndJudges wanted input (Ok (reply_of answer))
+IsPlanned wanted input (Err (Refused refusal)) =
+    IsQuiet input × ReadsAndJudges wanted input (Err refusal)
 IsPlanned wanted input (Err ReadFault) =
-    (order : Order) × (wanted ≡ Some order) × (reads_of order.command ≢ nothing) × HasFault input × TakesAtMost input bundle_limit
-IsPlanned wanted input (Err Memory) = IsQuiet input × TakesAtMost input (most_taken (read_by wanted))
+    (order : Order) × (wanted ≡ Some order) × (reads_of order.command ≢ nothing) × HasFault input
+    × TakesAtMost input bundle_limit
+IsPlanned wanted input (Err Memory) =
+    IsQuiet input × TakesAtMost input (most_taken (read_by wanted))

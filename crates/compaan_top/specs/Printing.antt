@@ -21,7 +21,9 @@ abbrev pub certificate_text : Policy → Nest → List ℕ
 certificate_text policy nest = cert_text (planned_network nest policy) (cert_of nest policy)
 
 -- The source gives no nest within the limit, or the text of the nest is written.
-pub data Prints (text : Nest → List ℕ) (params : List (List ℕ × ℤ)) (bundle : List ℕ) : Result Reply Refusal → Type 0 where
+pub data Prints (text : Nest → List ℕ) (params : List (List ℕ × ℤ))
+    (bundle : List ℕ) : Result Reply Refusal → Type 0 where
   source_refused : (refusal : Refusal) → GivesWithinSize (source_part bundle) params (Err refusal)
       → Prints text params bundle (Err refusal)
-  printed : (nest : Nest) → GivesWithinSize (source_part bundle) params (Ok nest) → Prints text params bundle (Ok (done (text nest)))
+  printed : (nest : Nest) → GivesWithinSize (source_part bundle) params (Ok nest)
+      → Prints text params bundle (Ok (done (text nest)))

@@ -16,12 +16,16 @@ use Rattle.compaan_top.specs.declared.refusal.Refusal.{Refusal}
 abbrev pub IsInputs : Nest → List ℕ → Result Inputs Refusal → Type 0
 IsInputs nest bytes (Ok inputs) = inputs_of nest (records_of bytes) ≡ Ok inputs
 IsInputs nest bytes (Err refusal) =
-    (fault : DataError) × (inputs_of nest (records_of bytes) ≡ Err fault) × (data_refusal nest.arrays fault ≡ Some refusal)
+    (fault : DataError) × (inputs_of nest (records_of bytes) ≡ Err fault)
+    × (data_refusal nest.arrays fault ≡ Some refusal)
 
 -- The source gives no nest within the limit, the data part is refused, or the answer text is written.
 pub data Runs (params : List (List ℕ × ℤ)) (bundle : List ℕ) : Result Reply Refusal → Type 0 where
-  source_refused : (refusal : Refusal) → GivesWithinSize (source_part bundle) params (Err refusal) → Runs params bundle (Err refusal)
-  data_refused : (nest : Nest) (refusal : Refusal) → GivesWithinSize (source_part bundle) params (Ok nest)
+  source_refused : (refusal : Refusal) → GivesWithinSize (source_part bundle) params (Err refusal)
+      → Runs params bundle (Err refusal)
+  data_refused : (nest : Nest) (refusal : Refusal)
+      → GivesWithinSize (source_part bundle) params (Ok nest)
       → IsInputs nest (data_part bundle) (Err refusal) → Runs params bundle (Err refusal)
   answered : (nest : Nest) (inputs : Inputs) → GivesWithinSize (source_part bundle) params (Ok nest)
-      → IsInputs nest (data_part bundle) (Ok inputs) → Runs params bundle (Ok (done (answer_text nest.arrays (arrays nest inputs))))
+      → IsInputs nest (data_part bundle) (Ok inputs)
+      → Runs params bundle (Ok (done (answer_text nest.arrays (arrays nest inputs))))

@@ -18,21 +18,29 @@ use Rattle.compaan_top.specs.declared.refusal.Refusal.{Refusal}
 -- A source with values for its parameters gives a nest, or is refused: it has no tokens, its tokens have no tree, the
 -- tree can't be bound, or it is bound to a nest.
 pub data Gives (source : List ℕ) (params : List (List ℕ × ℤ)) : Result Nest Refusal → Type 0 where
-  no_tokens : (error : LexError) (refusal : Refusal) → tokens source ≡ Err error → lex_refusal error ≡ Some refusal
+  no_tokens : (error : LexError) (refusal : Refusal) → tokens source ≡ Err error
+      → lex_refusal error ≡ Some refusal
       → Gives source params (Err refusal)
-  no_tree : (found : List Token) (place : ℕ) → tokens source ≡ Ok found → Stops (sentence source found) place
+  no_tree : (found : List Token) (place : ℕ) → tokens source ≡ Ok found
+      → Stops (sentence source found) place
       → Gives source params (Err (syntax_refusal (byte_of source found place)))
-  not_bound : (found : List Token) (tree : Tree) (reason : BindError) (refusal : Refusal) → tokens source ≡ Ok found
+  not_bound : (found : List Token) (tree : Tree) (reason : BindError) (refusal : Refusal)
+      → tokens source ≡ Ok found
       → IsTree source found tree → least_from None (findings tree params) ≡ Some reason
-      → bind_refusal (byte_of source found) reason ≡ Some refusal → Gives source params (Err refusal)
-  bound : (found : List Token) (tree : Tree) (nest : Nest) → tokens source ≡ Ok found → IsTree source found tree → IsBound tree params nest
+      → bind_refusal (byte_of source found) reason ≡ Some refusal
+      → Gives source params (Err refusal)
+  bound : (found : List Token) (tree : Tree) (nest : Nest) → tokens source ≡ Ok found
+      → IsTree source found tree → IsBound tree params nest
       → Gives source params (Ok nest)
 
 -- A source with values for its parameters gives a nest within the limit on its size, or is refused: it gives no nest, the nest
 -- is too large, or it is within the limit.
-pub data GivesWithinSize (source : List ℕ) (params : List (List ℕ × ℤ)) : Result Nest Refusal → Type 0 where
-  source_refused : (refusal : Refusal) → Gives source params (Err refusal) → GivesWithinSize source params (Err refusal)
-  size_refused : (nest : Nest) (error : SizeError) → Gives source params (Ok nest) → counted nest ≡ Err error
+pub data GivesWithinSize (source : List ℕ) (params : List (List ℕ × ℤ)) : Result Nest Refusal
+    → Type 0 where
+  source_refused : (refusal : Refusal) → Gives source params (Err refusal)
+      → GivesWithinSize source params (Err refusal)
+  size_refused : (nest : Nest) (error : SizeError) → Gives source params (Ok nest)
+      → counted nest ≡ Err error
       → GivesWithinSize source params (Err (size_refusal error))
   within_size : (nest : Nest) (total : ℕ) → Gives source params (Ok nest) → counted nest ≡ Ok total
       → GivesWithinSize source params (Ok nest)

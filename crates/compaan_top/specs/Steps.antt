@@ -13,6 +13,7 @@ use Rattle.loop_class.specs.declared.error.BindError.{BindError}
 use Rattle.sanlp.specs.Size.{SizeIsOk}
 use Rattle.loop_walk.specs.Counting.{counted}
 use Rattle.loop_walk.specs.declared.count.SizeError.{SizeError}
+use Rattle.cert_text.specs.declared.error.CertError.{CertError}
 use Rattle.command_line.specs.Bundle.{data_part, source_part}
 use Rattle.net_core.specs.declared.network.Network.{Network}
 use Rattle.node_automata.specs.declared.node.NodeAuto.{NodeAuto}
@@ -21,39 +22,61 @@ use Rattle.sanlp.specs.declared.nest.Nest.{Nest}
 use Rattle.compaan_top.specs.Refusals.{byte_of, lex_refusal, syntax_refusal, bind_refusal, script_refusal, size_refusal}
 use Rattle.compaan_top.specs.Run.{IsInputs, Runs}
 use Rattle.compaan_top.specs.Source.{GivesWithinSize}
+use Rattle.verdict_text.specs.VerdictText.{unread_line, unread_text}
 use Rattle.vhdl_text.specs.Refusal.{first_too_long}
+use Rattle.compaan_top.specs.declared.answer.Answer.{Answer}
+use Rattle.compaan_top.specs.declared.answer.Answer.TheVariants.{Unread}
 use Rattle.compaan_top.specs.declared.answer.NodesAnswer.{NodesAnswer}
 use Rattle.compaan_top.specs.declared.refusal.Refusal.{Refusal}
 
 abbrev pub HasTokens : List ℕ → Result (Vec Token) Refusal → Type 0
 HasTokens source (Ok found) = tokens source ≡ Ok found.items
-HasTokens source (Err refusal) = (error : LexError) × (tokens source ≡ Err error) × (lex_refusal error ≡ Some refusal)
+HasTokens source (Err refusal) =
+    (error : LexError) × (tokens source ≡ Err error) × (lex_refusal error ≡ Some refusal)
 
 abbrev pub HasTree : List ℕ → List Token → Result Tree Refusal → Type 0
 HasTree source found (Ok tree) = IsTree source found tree
-HasTree source found (Err refusal) = (place : ℕ) × Stops (sentence source found) place × (refusal ≡ syntax_refusal (byte_of source found place))
+HasTree source found (Err refusal) =
+    (place : ℕ) × Stops (sentence source found) place
+    × (refusal ≡ syntax_refusal (byte_of source found place))
 
 abbrev pub HasNest : List ℕ → List Token → Tree → List (List ℕ × ℤ) → Result Nest Refusal → Type 0
 HasNest source found tree params (Ok nest) = IsBound tree params nest
 HasNest source found tree params (Err refusal) =
-    (reason : BindError) × (least_from None (findings tree params) ≡ Some reason) × (bind_refusal (byte_of source found) reason ≡ Some refusal)
+    (reason : BindError) × (least_from None (findings tree params) ≡ Some reason)
+    × (bind_refusal (byte_of source found) reason ≡ Some refusal)
 
 abbrev pub HasSize : Nest → Result ℕ Refusal → Type 0
 HasSize nest (Ok total) = (counted nest ≡ Ok total) × SizeIsOk nest
-HasSize nest (Err refusal) = (error : SizeError) × (counted nest ≡ Err error) × (refusal ≡ size_refusal error)
+HasSize nest (Err refusal) =
+    (error : SizeError) × (counted nest ≡ Err error) × (refusal ≡ size_refusal error)
 
 -- the nest of a source, or why it has none within the limit on its size
 abbrev pub HasSizedNest : List ℕ → List (List ℕ × ℤ) → Result Nest Refusal → Type 0
 HasSizedNest source params (Ok nest) = GivesWithinSize source params (Ok nest) × SizeIsOk nest
 HasSizedNest source params (Err refusal) = GivesWithinSize source params (Err refusal)
 
+-- the nest with the inputs that a data part gives it, or why it has none
+abbrev pub HasInputs : Nest → List ℕ → Result (Nest × Inputs) Refusal → Type 0
+HasInputs nest bytes (Ok made) = (made.0 ≡ nest) × IsInputs nest bytes (Ok made.1)
+HasInputs nest bytes (Err refusal) = IsInputs nest bytes (Err refusal)
+
 -- the nest and the inputs of a bundle, or why it has none
 abbrev pub IsPrepared : List (List ℕ × ℤ) → List ℕ → Result (Nest × Inputs) Refusal → Type 0
 IsPrepared params bundle (Ok made) =
-    GivesWithinSize (source_part bundle) params (Ok made.0) × IsInputs made.0 (data_part bundle) (Ok made.1) × SizeIsOk made.0
+    GivesWithinSize (source_part bundle) params (Ok made.0)
+    × IsInputs made.0 (data_part bundle) (Ok made.1) × SizeIsOk made.0
 IsPrepared params bundle (Err refusal) = Runs params bundle (Err refusal)
 
 -- the automata are to be written with their network, or a script is too long
 abbrev pub HasNodes : Network → List NodeAuto → Result NodesAnswer Refusal → Type 0
-HasNodes network autos (Ok answer) = (answer.network ≡ network) × (answer.autos ≡ autos) × (first_too_long autos ≡ None)
-HasNodes network autos (Err refusal) = (auto : NodeAuto) × (first_too_long autos ≡ Some auto) × (refusal ≡ script_refusal auto)
+HasNodes network autos (Ok answer) =
+    (answer.network ≡ network) × (answer.autos ≡ autos) × (first_too_long autos ≡ None)
+HasNodes network autos (Err refusal) =
+    (auto : NodeAuto) × (first_too_long autos ≡ Some auto) × (refusal ≡ script_refusal auto)
+
+-- the error is told, which isn't want of memory
+abbrev pub TellsError : CertError → Result Answer Refusal → Type 0
+TellsError error (Ok answer) =
+    (answer ≡ Unread error) × (unread_text error ≡ Some (unread_line error))
+TellsError error (Err refusal) = ⊥

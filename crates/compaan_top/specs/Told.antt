@@ -17,7 +17,8 @@ abbrev pub IsAnswered : ℕ → Type 0
 IsAnswered status = (status ≢ 3) × (status ≢ 4) × (status ≢ 10)
 
 -- the call wrote, with its status, what the order and the bundle come to
-pub record ComesTo (wanted : Option Order) (bundle : List ℕ) (output complaint : Change) (status : ℕ) : Type 0 where
+pub record ComesTo (wanted : Option Order) (bundle : List ℕ) (output complaint : Change)
+    (status : ℕ) : Type 0 where
   pub outcome : Outcome
   pub is : IsOutcome wanted bundle outcome
   pub has_status : status ≡ outcome.status

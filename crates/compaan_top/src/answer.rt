@@ -4,7 +4,9 @@ ghost use Rattle.sanlp.specs.Points.{points_of};
 ghost use Rattle.net_core.specs.Machine.{net_of};
 ghost use Rattle.net_core.specs.Shape.{FitsNumbers};
 
+use cert_text::CertError;
 use matrix_load::Summary;
+use net_checker::Verdict;
 use net_core::Network;
 use node_automata::NodeAuto;
 use plain_data::Items;
@@ -36,13 +38,6 @@ pub(crate) struct CertificateAnswer {
     pub(crate) cert: Cert,
 }
 
-/// What the checker says, and the status that goes with it.
-#[derive(Drop)]
-pub(crate) struct VerdictAnswer {
-    pub(crate) status: u8,
-    pub(crate) line: Items<u8>,
-}
-
 /// A network with the automata of its processes, none of which has too long a script.
 #[derive(Drop)]
 pub(crate) struct NodesAnswer {
@@ -57,7 +52,10 @@ pub(crate) enum Answer {
     Arrays(ArrayAnswer),
     Network(NetworkAnswer),
     Certificate(CertificateAnswer),
-    Verdict(VerdictAnswer),
+    /// What the checker says of a certificate.
+    Verdict(Verdict),
+    /// Why a certificate can't be read. It isn't want of memory.
+    Unread(CertError),
     Summary(Summary),
     Nodes(NodesAnswer),
 }

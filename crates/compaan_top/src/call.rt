@@ -13,15 +13,16 @@ ghost use Rattle.compaan_top.specs.Told.{ComesTo, IsAnswered, IsTold};
 
 use crate::answer::Answer;
 use crate::check::check_certificate;
+use crate::complaint::{refusal_status, write_refusal};
 use crate::describing::describe_network;
 use crate::law::{status_is_determined, what_fits_is_accepted, what_is_accepted_fits};
 use crate::load::load;
 use crate::printing::{print_certificate, print_network};
-use crate::refusal::{Stop, too_long, usage};
+use crate::refusal::{Refusal, Stop};
 use crate::run::{run_by_interpreter, run_by_network};
 use crate::writing::{status_of, write_text};
 use command_line::{Command, Order, WordsError, read_words};
-use io_edge::{Gate, ReadError, Sink, Source, read_all, write_all};
+use io_edge::{Gate, ReadError, Sink, Source, read_all};
 use net_checker::is_sound;
 use std::alloc::Global;
 use std::sync::Wait;
@@ -35,17 +36,19 @@ fn order_of(alloc: Global, words: &[String]) -> Result<Order, Stop>
 {
     match read_words(alloc, words) {
         Ok(order) => Ok(order),
-        Err(WordsError::Words) => Err(Stop::Refused(usage(alloc)?)),
+        Err(WordsError::Words) => Err(Stop::Refused(Refusal::Usage)),
         Err(WordsError::Memory) => Err(Stop::Memory),
     }
 }
 
 fn bundle_of<S: Source>(alloc: Global, input: &mut S) -> Result<Vec<u8>, Stop>
-    ensures { ReadsBundle (change (S.left input.old) (S.left input.new) (S.faults input.old) (S.faults input.new)) result }
+    ensures { ReadsBundle
+        (change (S.left input.old) (S.left input.new) (S.faults input.old)
+        (S.faults input.new)) result }
 {
     match read_all(alloc, input, BUNDLE_LIMIT) {
         Ok(bundle) => Ok(bundle),
-        Err(ReadError::TooLong) => Err(Stop::Refused(too_long(alloc)?)),
+        Err(ReadError::TooLong) => Err(Stop::Refused(Refusal::TooLong)),
         Err(ReadError::ReadFault) => Err(Stop::ReadFault),
         Err(ReadError::Memory) => Err(Stop::Memory),
     }
@@ -55,7 +58,8 @@ fn bundle_of<S: Source>(alloc: Global, input: &mut S) -> Result<Vec<u8>, Stop>
 fn perform(alloc: Global, order: &Order, bundle: &[u8]) -> Result<Answer, Stop>
     requires command { WaitsForNobody order.now.command }
     requires bundle { length bundle.now ≤ bundle_limit }
-    ensures { Judges (λ answer. Performs order.now.command order.now bundle.now (as_reply answer)) result }
+    ensures { Judges
+        (λ answer. Performs order.now.command order.now bundle.now (as_reply answer)) result }
 {
     match order.command {
         Command::Run | Command::Load => unreachable!(),
@@ -70,7 +74,9 @@ fn perform(alloc: Global, order: &Order, bundle: &[u8]) -> Result<Answer, Stop>
 // Reads and works, and writes nothing.
 fn plan<S: Source>(alloc: Global, order: &Order, input: &mut S) -> Result<Answer, Stop>
     requires { WaitsForNobody order.now.command }
-    ensures { IsPlanned (Some order.now) (change (S.left input.old) (S.left input.new) (S.faults input.old) (S.faults input.new)) result }
+    ensures { IsPlanned (Some order.now)
+        (change (S.left input.old) (S.left input.new) (S.faults input.old)
+        (S.faults input.new)) result }
 {
     let bundle = bundle_of(alloc, input)?;
     perform(alloc, order, &bundle)
@@ -85,7 +91,9 @@ fn plan_run<R: Threads + Wait + Sync, S: Source, G: Gate + Sync>(
     gate: &G,
 ) -> Result<Answer, Stop>
     requires { order.now.command ≡ command.Run }
-    ensures { IsPlanned (Some order.now) (change (S.left input.old) (S.left input.new) (S.faults input.old) (S.faults input.new)) result }
+    ensures { IsPlanned (Some order.now)
+        (change (S.left input.old) (S.left input.new) (S.faults input.old)
+        (S.faults input.new)) result }
 {
     let bundle = bundle_of(alloc, input)?;
     run_by_network(rt, alloc, order.policy, &order.params, &bundle, gate)
@@ -99,14 +107,16 @@ fn plan_load<R: Threads + Wait + Sync, G: Gate + Sync>(
     gate: &G,
 ) -> Result<Answer, Stop>
     requires { order.now.command ≡ command.Load }
-    ensures { (left : Option (List ℕ)) (faults : ℕ) → IsPlanned (Some order.now) (change left left faults faults) result }
+    ensures { (left : Option (List ℕ)) (faults : ℕ)
+        → IsPlanned (Some order.now) (change left left faults faults) result }
 {
     load(rt, alloc, order.policy, order.load, gate)
 }
 
 // Writes what was planned, and gives the status.
 fn finish<K: Sink, E: Sink>(planned: Result<Answer, Stop>, output: &mut K, complaint: &mut E) -> u8
-    ensures { (wanted : Option WordOrder) (input : Change) → IsPlanned wanted input planned → Ends wanted input
+    ensures { (wanted : Option WordOrder) (input : Change) → IsPlanned wanted input planned
+        → Ends wanted input
         (change (K.held output.old) (K.held output.new) (K.faults output.old) (K.faults output.new))
         (change (E.held complaint.old) (E.held complaint.new) (E.faults complaint.old) (E.faults complaint.new))
         result }
@@ -116,8 +126,8 @@ fn finish<K: Sink, E: Sink>(planned: Result<Answer, Stop>, output: &mut K, compl
             Ok(()) => status_of(&answer),
             Err(_) => 4,
         },
-        Err(Stop::Refused(refusal)) => match write_all(complaint, refusal.line.as_slice()) {
-            Ok(()) => refusal.status,
+        Err(Stop::Refused(refusal)) => match write_refusal(&refusal, complaint) {
+            Ok(()) => refusal_status(&refusal),
             Err(_) => 4,
         },
         Err(Stop::ReadFault) => 3,
@@ -148,12 +158,14 @@ pub fn quiet<S: Source, K: Sink, E: Sink>(
     ensures accepts { order.now.command ≡ command.Check → result ≡ 0 → (bundle : List ℕ)
         × ReadsTo (change (S.left input.old) (S.left input.new) (S.faults input.old) (S.faults input.new)) bundle
         × HasSoundCertificate order.now.params bundle }
-    ensures comes { (bundle : List ℕ) → IsTold (reads_of order.now.command) (S.left input.old) bundle → IsAnswered result
+    ensures comes { (bundle : List ℕ)
+        → IsTold (reads_of order.now.command) (S.left input.old) bundle → IsAnswered result
         → ComesTo (Some order.now) bundle
         (change (K.held output.old) (K.held output.new) (K.faults output.old) (K.faults output.new))
         (change (E.held complaint.old) (E.held complaint.new) (E.faults complaint.old) (E.faults complaint.new))
         result }
-    ensures completes { (bundle : List ℕ) → IsTold (reads_of order.now.command) (S.left input.old) bundle
+    ensures completes { (bundle : List ℕ)
+        → IsTold (reads_of order.now.command) (S.left input.old) bundle
         → (valid : IsValid (Some order.now) bundle) → IsAnswered result
         → IsDone (reads_of valid.order.command) result }
     ensures accepted { order.now.command ≡ command.Check

@@ -41,11 +41,11 @@ fn nodes_of(
 }
 
 // What is to be written of them, where no script is too long.
-fn described(alloc: Global, network: Network, autos: Vec<NodeAuto>) -> Result<NodesAnswer, Stop>
+fn described(network: Network, autos: Vec<NodeAuto>) -> Result<NodesAnswer, Stop>
     ensures { Judges (HasNodes network autos.items) result }
 {
     if let Some(auto) = too_long(&autos) {
-        return Err(Stop::Refused(script_refusal(alloc, auto)?));
+        return Err(Stop::Refused(script_refusal(auto)));
     }
     Ok(NodesAnswer {
         network,
@@ -66,5 +66,5 @@ pub(crate) fn describe_network(
     let parts = parts_of(bundle);
     let nest = sized_nest(alloc, parts.source, params)?;
     let (network, autos) = nodes_of(alloc, policy, &nest)?;
-    Ok(Answer::Nodes(described(alloc, network, autos)?))
+    Ok(Answer::Nodes(described(network, autos)?))
 }

@@ -38,7 +38,8 @@ pub fn status_is_determined()
 /// A call ends with one of the statuses that its order has, or with that of a failed write, of want of memory, or, where the
 /// order reads something, of a failed read.
 pub fn calls_have_their_statuses()
-    ensures { (wanted : Option Order) (input output complaint : Change) (status : ℕ) → Ends wanted input output complaint status
+    ensures { (wanted : Option Order) (input output complaint : Change) (status : ℕ)
+        → Ends wanted input output complaint status
         → HasStatusOf wanted status }
 {}
 
@@ -79,7 +80,8 @@ pub fn what_cert_writes_is_accepted()
 
 /// Where `check` comes to status 0, the bundle has a fitting certificate.
 pub(crate) fn what_is_accepted_fits()
-    ensures { (params : List (List ℕ × ℤ)) (bundle : List ℕ) (answer : Result Reply Refusal) → Checks params bundle answer
+    ensures { (params : List (List ℕ × ℤ)) (bundle : List ℕ) (answer : Result Reply Refusal)
+        → Checks params bundle answer
         → (outcome_of answer).status ≡ 0 → HasFittingCertificate params bundle }
 {
     accepts_what_fits();

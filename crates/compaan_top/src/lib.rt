@@ -4,6 +4,7 @@
 mod answer;
 mod call;
 mod check;
+mod complaint;
 mod describing;
 mod law;
 mod load;

@@ -73,11 +73,11 @@ pub(crate) fn load<R: Threads + Wait + Sync, G: Gate + Sync>(
     ensures { Judges (λ answer. Loads policy rows (as_reply answer)) result }
 {
     if rows > LOAD_LIMIT {
-        return Err(Stop::Refused(too_many_rows(alloc)?));
+        return Err(Stop::Refused(too_many_rows()));
     }
     let count = rows as u32;
     let nest = matrix_nest(alloc, count)?;
-    size_of(alloc, &nest)?;
+    size_of(&nest)?;
     let inputs = matrix_inputs(alloc, count)?;
     let points = trace_length(alloc, &nest)?;
     let run = run_by_threads(rt, alloc, &nest, &inputs, policy, gate)?;

@@ -22,7 +22,8 @@ pub(crate) fn print_network(
     bundle: &[u8],
 ) -> Result<Answer, Stop>
     requires { length bundle.now ≤ bundle_limit }
-    ensures { Judges (λ answer. Prints (network_text policy) params.now bundle.now (as_reply answer)) result }
+    ensures { Judges
+        (λ answer. Prints (network_text policy) params.now bundle.now (as_reply answer)) result }
 {
     let parts = parts_of(bundle);
     let nest = sized_nest(alloc, parts.source, params)?;
@@ -43,7 +44,9 @@ pub(crate) fn print_certificate(
     bundle: &[u8],
 ) -> Result<Answer, Stop>
     requires { length bundle.now ≤ bundle_limit }
-    ensures { Judges (λ answer. Prints (certificate_text policy) params.now bundle.now (as_reply answer)) result }
+    ensures { Judges
+        (λ answer. Prints (certificate_text policy) params.now bundle.now
+        (as_reply answer)) result }
 {
     let parts = parts_of(bundle);
     let nest = sized_nest(alloc, parts.source, params)?;

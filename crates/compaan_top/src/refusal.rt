@@ -1,22 +1,78 @@
-ghost use Rattle.std.specs.Prelude.{◌≡◌, [], ◌∷◌, ◌++◌, IfOk, Some, codes};
-ghost use Rattle.compaan_top.specs.Refusals.{bind_refusal, byte_of, data_refusal, lex_refusal, name_of, no_part, refusal_with, script_refusal, size_refusal, syntax_refusal, too_long, too_many_rows, usage};
+ghost use Rattle.std.specs.Prelude.{◌≡◌};
+ghost use Rattle.compaan_top.specs.Refusals.{bind_refusal, byte_of, data_refusal, lex_refusal, script_refusal, size_refusal, syntax_refusal, too_many_rows};
 ghost use Rattle.compaan_top.specs.declared.refusal.Stop.TheVariants.{Memory};
 
 use array_data::DataError;
-use command_line::complaint_line;
 use loop_class::BindError;
 use loop_lex::{LexError, Token};
 use loop_walk::SizeError;
 use node_automata::NodeAuto;
 use plain_data::Items;
 use sanlp::ArrayDecl;
-use std::alloc::{AllocError, Global};
+use std::alloc::AllocError;
 
-/// Why the program refuses what it was given: the status, and the line that says it.
+/// What is wrong with the text of a source.
+#[derive(Clone, Copy)]
+pub(crate) enum TextReason {
+    BadByte,
+    OpenComment,
+    LargeNumber,
+    TooMany,
+    Syntax,
+}
+
+/// Why a source is outside of the class of programs.
+#[derive(Clone, Copy)]
+pub(crate) enum ClassReason {
+    UnknownName,
+    Duplicate,
+    Unbound,
+    NotAffine,
+    WrongCount,
+    ElseForm,
+    StepMax,
+    StepRange,
+}
+
+/// Which limit a nest passes.
+#[derive(Clone, Copy)]
+pub(crate) enum LimitReason {
+    TooManyProcesses,
+    TooDeep,
+    TooManyReads,
+    TooManyRows,
+    Large,
+    Size,
+    LoopValue,
+}
+
+/// Why the program refuses what it was given.
 #[derive(Drop)]
-pub(crate) struct Refusal {
-    pub(crate) status: u8,
-    pub(crate) line: Items<u8>,
+pub(crate) enum Refusal {
+    /// The words are refused.
+    Usage,
+    /// The bundle has too many bytes.
+    TooLong,
+    /// `check` wants a certificate part, which stands behind a second separator.
+    NoPart,
+    /// The source has no tree. The byte says where.
+    Text(TextReason, u64),
+    /// The tree is no nest. A token starts at the byte.
+    Class(ClassReason, u64),
+    /// A limit is passed. The number is the byte at which a token starts, the count of the size, or that of a loop.
+    Limit(LimitReason, u64),
+    /// The process of this number has a script of so many events, which is too long for VHDL.
+    Script(u32, u64),
+    /// This record names no array.
+    UnknownArray(u64),
+    /// This record names the array of an earlier one.
+    Twice(u64),
+    /// No record names the array of this number among these.
+    Missing(Items<ArrayDecl>, u32),
+    /// This record has so many values, and its array so many cells.
+    Count(u64, u64, u64),
+    /// In this record this field is no value.
+    NotANumber(u64, u64),
 }
 
 /// Why there is nothing to write on the output.
@@ -37,54 +93,17 @@ impl From<AllocError> for Stop {
     }
 }
 
-fn refusal_with(
-    alloc: Global,
-    status: u8,
-    text: &[u8],
-    numbers: &[u64],
-) -> Result<Refusal, AllocError>
-    ensures { IfOk result (λ made. made ≡ refusal_with status text.now numbers.now) }
+/// The matrices of `load` have too many rows: so has their parameter, whose name starts at the source's byte 6.
+pub(crate) fn too_many_rows() -> Refusal
+    ensures { result ≡ too_many_rows }
 {
-    Ok(Refusal {
-        status,
-        line: Items::from_vec(complaint_line(alloc, text, numbers)?),
-    })
+    Refusal::Limit(LimitReason::Large, 6)
 }
 
-pub(crate) fn usage(alloc: Global) -> Result<Refusal, AllocError>
-    ensures { IfOk result (λ made. made ≡ usage) }
+pub(crate) fn script_refusal(auto: &NodeAuto) -> Refusal
+    ensures { result ≡ script_refusal auto.now }
 {
-    refusal_with(
-        alloc,
-        2,
-        b"usage: compaan COMMAND [--policy seq|down] [NAME=VALUE]...",
-        &[],
-    )
-}
-
-pub(crate) fn too_long(alloc: Global) -> Result<Refusal, AllocError>
-    ensures { IfOk result (λ made. made ≡ too_long) }
-{
-    refusal_with(alloc, 5, b"bundle: TooLong", &[])
-}
-
-pub(crate) fn no_part(alloc: Global) -> Result<Refusal, AllocError>
-    ensures { IfOk result (λ made. made ≡ no_part) }
-{
-    refusal_with(alloc, 5, b"bundle: NoPart", &[])
-}
-
-pub(crate) fn too_many_rows(alloc: Global) -> Result<Refusal, AllocError>
-    ensures { IfOk result (λ made. made ≡ too_many_rows) }
-{
-    refusal_with(alloc, 8, b"limit: Large", &[6])
-}
-
-pub(crate) fn script_refusal(alloc: Global, auto: &NodeAuto) -> Result<Refusal, AllocError>
-    ensures { IfOk result (λ made. made ≡ script_refusal auto.now) }
-{
-    let numbers = [u64::from(auto.process), auto.events.len() as u64];
-    refusal_with(alloc, 8, b"limit: Script", &numbers)
+    Refusal::Script(auto.process, auto.events.len() as u64)
 }
 
 /// The byte at which the token of this number starts, or the length of the source for the place at the end.
@@ -97,146 +116,102 @@ fn byte_of(source: &[u8], tokens: &[Token], number: u32) -> u64
     }
 }
 
-pub(crate) fn lex_refusal(alloc: Global, error: LexError) -> Result<Refusal, AllocError>
-    ensures { IfOk result (λ made. lex_refusal error ≡ Some made) }
+/// The refusal of an error of lexing, or `None` for want of memory.
+pub(crate) fn lex_refusal(error: LexError) -> Option<Refusal>
+    ensures { result ≡ lex_refusal error }
 {
     match error {
-        LexError::BadByte(byte) => refusal_with(alloc, 6, b"text: BadByte", &[u64::from(byte)]),
-        LexError::OpenComment(byte) => refusal_with(
-            alloc,
-            6,
-            b"text: OpenComment",
-            &[u64::from(byte)],
-        ),
-        LexError::LargeNumber(byte) => refusal_with(
-            alloc,
-            6,
-            b"text: LargeNumber",
-            &[u64::from(byte)],
-        ),
-        LexError::TooMany(byte) => refusal_with(alloc, 6, b"text: TooMany", &[u64::from(byte)]),
-        LexError::Memory => Err(AllocError),
+        LexError::BadByte(byte) => Some(Refusal::Text(TextReason::BadByte, u64::from(byte))),
+        LexError::OpenComment(byte) => {
+            Some(Refusal::Text(TextReason::OpenComment, u64::from(byte)))
+        }
+        LexError::LargeNumber(byte) => {
+            Some(Refusal::Text(TextReason::LargeNumber, u64::from(byte)))
+        }
+        LexError::TooMany(byte) => Some(Refusal::Text(TextReason::TooMany, u64::from(byte))),
+        LexError::Memory => None,
     }
 }
 
-pub(crate) fn syntax_refusal(
-    alloc: Global,
-    source: &[u8],
-    tokens: &[Token],
-    place: u32,
-) -> Result<Refusal, AllocError>
-    ensures { IfOk result (λ made. made ≡ syntax_refusal (byte_of source.now tokens.now place)) }
+pub(crate) fn syntax_refusal(source: &[u8], tokens: &[Token], place: u32) -> Refusal
+    ensures { result ≡ syntax_refusal (byte_of source.now tokens.now place) }
 {
-    refusal_with(alloc, 6, b"text: Syntax", &[byte_of(source, tokens, place)])
+    Refusal::Text(TextReason::Syntax, byte_of(source, tokens, place))
 }
 
-fn at_token(
-    alloc: Global,
-    status: u8,
-    text: &[u8],
-    source: &[u8],
-    tokens: &[Token],
-    number: u32,
-) -> Result<Refusal, AllocError>
-    ensures { IfOk result (λ made. made ≡ refusal_with status text.now (byte_of source.now tokens.now number ∷ [])) }
+/// The refusal of a reason of binding, or `None` for want of memory.
+pub(crate) fn bind_refusal(source: &[u8], tokens: &[Token], reason: BindError) -> Option<Refusal>
+    ensures { result ≡ bind_refusal (byte_of source.now tokens.now) reason }
 {
-    refusal_with(alloc, status, text, &[byte_of(source, tokens, number)])
-}
-
-pub(crate) fn bind_refusal(
-    alloc: Global,
-    source: &[u8],
-    tokens: &[Token],
-    reason: BindError,
-) -> Result<Refusal, AllocError>
-    ensures { IfOk result (λ made. bind_refusal (byte_of source.now tokens.now) reason ≡ Some made) }
-{
-    match reason {
+    let refusal = match reason {
         BindError::UnknownName(token) => {
-            at_token(alloc, 7, b"class: UnknownName", source, tokens, token)
+            Refusal::Class(ClassReason::UnknownName, byte_of(source, tokens, token))
         }
         BindError::Duplicate(token) => {
-            at_token(alloc, 7, b"class: Duplicate", source, tokens, token)
+            Refusal::Class(ClassReason::Duplicate, byte_of(source, tokens, token))
         }
-        BindError::Unbound(token) => at_token(alloc, 7, b"class: Unbound", source, tokens, token),
+        BindError::Unbound(token) => {
+            Refusal::Class(ClassReason::Unbound, byte_of(source, tokens, token))
+        }
         BindError::NotAffine(token) => {
-            at_token(alloc, 7, b"class: NotAffine", source, tokens, token)
+            Refusal::Class(ClassReason::NotAffine, byte_of(source, tokens, token))
         }
         BindError::WrongCount(token) => {
-            at_token(alloc, 7, b"class: WrongCount", source, tokens, token)
+            Refusal::Class(ClassReason::WrongCount, byte_of(source, tokens, token))
         }
-        BindError::ElseForm(token) => at_token(alloc, 7, b"class: ElseForm", source, tokens, token),
-        BindError::StepMax(token) => at_token(alloc, 7, b"class: StepMax", source, tokens, token),
+        BindError::ElseForm(token) => {
+            Refusal::Class(ClassReason::ElseForm, byte_of(source, tokens, token))
+        }
+        BindError::StepMax(token) => {
+            Refusal::Class(ClassReason::StepMax, byte_of(source, tokens, token))
+        }
         BindError::StepRange(token) => {
-            at_token(alloc, 7, b"class: StepRange", source, tokens, token)
+            Refusal::Class(ClassReason::StepRange, byte_of(source, tokens, token))
         }
-        BindError::TooManyProcesses(token) => at_token(
-            alloc,
-            8,
-            b"limit: TooManyProcesses",
-            source,
-            tokens,
-            token,
-        ),
-        BindError::TooDeep(token) => at_token(alloc, 8, b"limit: TooDeep", source, tokens, token),
+        BindError::TooManyProcesses(token) => {
+            Refusal::Limit(
+                LimitReason::TooManyProcesses,
+                byte_of(source, tokens, token),
+            )
+        }
+        BindError::TooDeep(token) => {
+            Refusal::Limit(LimitReason::TooDeep, byte_of(source, tokens, token))
+        }
         BindError::TooManyReads(token) => {
-            at_token(alloc, 8, b"limit: TooManyReads", source, tokens, token)
+            Refusal::Limit(LimitReason::TooManyReads, byte_of(source, tokens, token))
         }
         BindError::TooManyRows(token) => {
-            at_token(alloc, 8, b"limit: TooManyRows", source, tokens, token)
+            Refusal::Limit(LimitReason::TooManyRows, byte_of(source, tokens, token))
         }
-        BindError::Large(token) => at_token(alloc, 8, b"limit: Large", source, tokens, token),
-        BindError::Memory => Err(AllocError),
-    }
+        BindError::Large(token) => {
+            Refusal::Limit(LimitReason::Large, byte_of(source, tokens, token))
+        }
+        BindError::Memory => return None,
+    };
+    Some(refusal)
 }
 
-pub(crate) fn size_refusal(alloc: Global, error: SizeError) -> Result<Refusal, AllocError>
-    ensures { IfOk result (λ made. made ≡ size_refusal error) }
+pub(crate) fn size_refusal(error: SizeError) -> Refusal
+    ensures { result ≡ size_refusal error }
 {
     match error {
-        SizeError::Limit(count) => refusal_with(alloc, 8, b"limit: Size", &[count]),
+        SizeError::Limit(count) => Refusal::Limit(LimitReason::Size, count),
         SizeError::LoopValue(number) => {
-            refusal_with(alloc, 8, b"limit: LoopValue", &[u64::from(number)])
+            Refusal::Limit(LimitReason::LoopValue, u64::from(number))
         }
     }
 }
 
-fn name_of(arrays: &[ArrayDecl], number: u32) -> &[u8]
-    ensures { result.now ≡ name_of arrays.now number }
-{
-    match arrays.get(number as usize) {
-        Some(array) => array.name.as_slice(),
-        None => &[],
-    }
-}
-
-fn missing_refusal(alloc: Global, name: &[u8]) -> Result<Refusal, AllocError>
-    ensures { IfOk result (λ made. made ≡ refusal_with 9 (codes "data: Missing " ++ name.now) []) }
-{
-    let mut text = Vec::from_slice(alloc, b"data: Missing ")?;
-    text.extend_from_slice(name)?;
-    refusal_with(alloc, 9, &text, &[])
-}
-
-pub(crate) fn data_refusal(
-    alloc: Global,
-    arrays: &[ArrayDecl],
-    fault: DataError,
-) -> Result<Refusal, AllocError>
-    ensures { IfOk result (λ made. data_refusal arrays.now fault ≡ Some made) }
+/// The refusal of a fault of the data for these arrays, or `None` for want of memory.
+pub(crate) fn data_refusal(arrays: Items<ArrayDecl>, fault: DataError) -> Option<Refusal>
+    ensures { result ≡ data_refusal arrays fault }
 {
     match fault {
-        DataError::UnknownArray(number) => {
-            refusal_with(alloc, 9, b"data: UnknownArray", &[number])
-        }
-        DataError::Twice(number) => refusal_with(alloc, 9, b"data: Twice", &[number]),
-        DataError::Missing(array) => missing_refusal(alloc, name_of(arrays, array)),
-        DataError::Count(number, got, want) => {
-            refusal_with(alloc, 9, b"data: Count", &[number, got, want])
-        }
-        DataError::NotANumber(number, field) => {
-            refusal_with(alloc, 9, b"data: NotANumber", &[number, field])
-        }
-        DataError::Memory => Err(AllocError),
+        DataError::UnknownArray(number) => Some(Refusal::UnknownArray(number)),
+        DataError::Twice(number) => Some(Refusal::Twice(number)),
+        DataError::Missing(array) => Some(Refusal::Missing(arrays, array)),
+        DataError::Count(number, got, want) => Some(Refusal::Count(number, got, want)),
+        DataError::NotANumber(number, field) => Some(Refusal::NotANumber(number, field)),
+        DataError::Memory => None,
     }
 }

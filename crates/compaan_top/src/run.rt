@@ -1,10 +1,10 @@
-ghost use Rattle.std.specs.Prelude.{◌≡◌, ◌≤◌, length};
+ghost use Rattle.std.specs.Prelude.{◌≤◌, length};
 ghost use Rattle.sanlp.specs.Meaning.{arrays};
 ghost use Rattle.compaan_top.specs.Judging.{Judges};
 ghost use Rattle.compaan_top.specs.Outcome.{bundle_limit};
 ghost use Rattle.compaan_top.specs.Planned.{as_reply};
-ghost use Rattle.compaan_top.specs.Run.{IsInputs, Runs};
-ghost use Rattle.compaan_top.specs.Steps.{IsPrepared};
+ghost use Rattle.compaan_top.specs.Run.{Runs};
+ghost use Rattle.compaan_top.specs.Steps.{HasInputs, IsPrepared};
 
 use crate::answer::{Answer, ArrayAnswer};
 use crate::network_run::run_by_threads;
@@ -14,20 +14,23 @@ use array_data::read_inputs;
 use command_line::parts_of;
 use io_edge::Gate;
 use loop_class::Params;
-use loop_walk::interpret;
+use loop_run::interpret;
 use sanlp::{Inputs, Nest};
 use std::alloc::Global;
 use std::sync::Wait;
 use std::thread::Threads;
 use witness_plan::Policy;
 
-/// The inputs of a nest, from the data part of a bundle.
-fn inputs_of(alloc: Global, nest: &Nest, bytes: &[u8]) -> Result<Inputs, Stop>
-    ensures { Judges (IsInputs nest.now bytes.now) result }
+/// A nest with its inputs, from the data part of a bundle.
+fn with_inputs(alloc: Global, nest: Nest, bytes: &[u8]) -> Result<(Nest, Inputs), Stop>
+    ensures { Judges (HasInputs nest bytes.now) result }
 {
-    match read_inputs(alloc, nest, bytes) {
-        Ok(inputs) => Ok(inputs),
-        Err(fault) => { Err(Stop::Refused(data_refusal(alloc, nest.arrays.as_slice(), fault)?)) }
+    match read_inputs(alloc, &nest, bytes) {
+        Ok(inputs) => Ok((nest, inputs)),
+        Err(fault) => match data_refusal(nest.arrays, fault) {
+            Some(refusal) => Err(Stop::Refused(refusal)),
+            None => Err(Stop::Memory),
+        },
     }
 }
 
@@ -38,8 +41,7 @@ fn prepared(alloc: Global, params: &Params, bundle: &[u8]) -> Result<(Nest, Inpu
 {
     let parts = parts_of(bundle);
     let nest = sized_nest(alloc, parts.source, params)?;
-    let inputs = inputs_of(alloc, &nest, parts.data)?;
-    Ok((nest, inputs))
+    with_inputs(alloc, nest, parts.data)
 }
 
 /// What the loops of a bundle's source compute, by the interpreter.

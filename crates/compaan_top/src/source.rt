@@ -18,7 +18,10 @@ fn tokens_of(alloc: Global, source: &[u8]) -> Result<Vec<Token>, Stop>
 {
     match lex(alloc, source) {
         Ok(found) => Ok(found),
-        Err(error) => Err(Stop::Refused(lex_refusal(alloc, error)?)),
+        Err(error) => match lex_refusal(error) {
+            Some(refusal) => Err(Stop::Refused(refusal)),
+            None => Err(Stop::Memory),
+        },
     }
 }
 
@@ -28,9 +31,9 @@ fn tree_of(alloc: Global, source: &[u8], found: &[Token]) -> Result<Tree, Stop>
 {
     match parse(alloc, source, found) {
         Ok(tree) => Ok(tree),
-        Err(ParseError::Syntax(place)) => Err(Stop::Refused(syntax_refusal(
-            alloc, source, found, place,
-        )?)),
+        Err(ParseError::Syntax(place)) => {
+            Err(Stop::Refused(syntax_refusal(source, found, place)))
+        }
         Err(ParseError::Memory) => Err(Stop::Memory),
     }
 }
@@ -46,7 +49,10 @@ fn bound(
 {
     match bind(alloc, source, found, tree, params) {
         Ok(nest) => Ok(nest),
-        Err(reason) => Err(Stop::Refused(bind_refusal(alloc, source, found, reason)?)),
+        Err(reason) => match bind_refusal(source, found, reason) {
+            Some(refusal) => Err(Stop::Refused(refusal)),
+            None => Err(Stop::Memory),
+        },
     }
 }
 
@@ -61,12 +67,12 @@ pub(crate) fn nest_of(alloc: Global, source: &[u8], params: &Params) -> Result<N
     bound(alloc, source, found, &tree, params)
 }
 
-pub(crate) fn size_of(alloc: Global, nest: &Nest) -> Result<u64, Stop>
+pub(crate) fn size_of(nest: &Nest) -> Result<u64, Stop>
     ensures { Judges (HasSize nest.now) result }
 {
     match size(nest) {
         Ok(total) => Ok(total),
-        Err(error) => Err(Stop::Refused(size_refusal(alloc, error)?)),
+        Err(error) => Err(Stop::Refused(size_refusal(error))),
     }
 }
 
@@ -76,6 +82,6 @@ pub(crate) fn sized_nest(alloc: Global, source: &[u8], params: &Params) -> Resul
     ensures { Judges (HasSizedNest source.now params.now) result }
 {
     let nest = nest_of(alloc, source, params)?;
-    size_of(alloc, &nest)?;
+    size_of(&nest)?;
     Ok(nest)
 }

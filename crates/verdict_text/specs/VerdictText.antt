@@ -1,5 +1,5 @@
 -- The line that the checker's answer is told by.
-use Rattle.std.specs.Prelude.{ℕ, ℤ, List, [], ◌∷◌, ◌++◌, Option, Some, None, codes, decimal, map}
+use Rattle.std.specs.Prelude.{ℕ, ℤ, List, [], ◌∷◌, ◌++◌, Option, Some, None, codes, decimal, map, unwrap_or}
 use Rattle.std.specs.Fmt.{signed_decimal}
 use Rattle.std.specs.List.{join_with_byte}
 use Rattle.cert_text.specs.declared.error.CertError.{CertError}
@@ -40,9 +40,11 @@ abbrev pub refusal_words : Refusal → List (List ℕ)
 refusal_words (Shape process) = codes "Shape" ∷ decimal process ∷ []
 refusal_words (Fires process place) = codes "Fires" ∷ decimal process ∷ decimal place ∷ []
 refusal_words (NotEnabled entry) = codes "NotEnabled" ∷ decimal entry ∷ []
-refusal_words (Tag entry found want) = codes "Tag" ∷ decimal entry ∷ seen_word found ∷ wanted_word want ∷ []
+refusal_words (Tag entry found want) =
+    codes "Tag" ∷ decimal entry ∷ seen_word found ∷ wanted_word want ∷ []
 refusal_words (Unended process) = codes "Unended" ∷ decimal process ∷ []
-refusal_words (Class channel said is) = codes "Class" ∷ decimal channel ∷ class_word said ∷ class_word is ∷ []
+refusal_words (Class channel said is) =
+    codes "Class" ∷ decimal channel ∷ class_word said ∷ class_word is ∷ []
 
 abbrev pub refused_line : List (List ℕ) → List ℕ
 refused_line words = line_text (codes "refused" ∷ words)
@@ -58,3 +60,7 @@ unread_text (error.Line line) = Some (refused_line (codes "Line" ∷ decimal lin
 unread_text (error.Number line) = Some (refused_line (codes "Number" ∷ decimal line ∷ []))
 unread_text error.Truncated = Some (refused_line (codes "Truncated" ∷ []))
 unread_text error.Memory = None
+
+-- what is written of it: nothing where there is no such reason
+abbrev pub unread_line : CertError → List ℕ
+unread_line error = unwrap_or (unread_text error) []

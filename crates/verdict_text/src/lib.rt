@@ -1,8 +1,8 @@
 //! The lines that the checker's answers are told by.
 #![tactic(auto)]
 
-mod line;
 #[cfg(test)]
 mod tests;
+mod writing;
 
-pub use line::{unread_line, verdict_line};
+pub use writing::{write_unread, write_verdict};

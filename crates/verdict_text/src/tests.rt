@@ -1,7 +1,8 @@
-use crate::{unread_line, verdict_line};
+use crate::{write_unread, write_verdict};
 use affine_core::Vector;
 use cert_text::CertError;
 use channel_class::{ChannelClass, UseOrder};
+use io_edge::MemSink;
 use net_checker::{Refusal, Seen, Verdict, Wanted};
 use sanlp::Point;
 use std::alloc::Global;
@@ -68,8 +69,9 @@ fn verdicts_are_told(rt: HostRuntime) -> Result<(), Fail> {
             b"refused Class 1 inorder+ reorder\n",
         ),
     ] {
-        let told = verdict_line(alloc, &verdict)?;
-        assert!(rt; told.as_slice() == line, "{line:?}");
+        let mut sink = MemSink::new(alloc, 100, 100, &[])?;
+        assert_eq!(rt; write_verdict(&verdict, &mut sink), Ok(()), "{line:?}");
+        assert!(rt; sink.held() == line, "{line:?}");
     }
     Ok(())
 }
@@ -81,9 +83,11 @@ fn texts_that_are_none_are_told(rt: HostRuntime) -> Result<(), Fail> {
         (CertError::Line(24), b"refused Line 24\n".as_slice()),
         (CertError::Number(2), b"refused Number 2\n"),
         (CertError::Truncated, b"refused Truncated\n"),
+        (CertError::Memory, b""),
     ] {
-        let told = unread_line(alloc, error)?;
-        assert!(rt; told.as_slice() == line, "{line:?}");
+        let mut sink = MemSink::new(alloc, 100, 100, &[])?;
+        assert_eq!(rt; write_unread(error, &mut sink), Ok(()), "{line:?}");
+        assert!(rt; sink.held() == line, "{line:?}");
     }
     Ok(())
 }

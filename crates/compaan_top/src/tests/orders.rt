@@ -11,7 +11,8 @@ use crate::source::sized_nest;
 use array_data::read_inputs;
 use command_line::parts_of;
 use loop_class::Params;
-use loop_walk::{interpret, points};
+use loop_run::interpret;
+use loop_walk::points;
 use net_checker::{Verdict, check};
 use net_core::{Network, State, Values, enabled, ended, kept, sound, start, step};
 use net_maker::compile;
@@ -105,7 +106,8 @@ fn asked(order: Order, place: u32, many: u32, first: u32) -> u32 {
 /// The first process in the order that may go on.
 fn chosen(state: &State<i64>, network: &Network, order: Order, first: u32) -> Option<u32>
     requires { IsFor (net_of network.now) (held_of state.now) }
-    ensures { IfSome result (λ process. enabled (net_of network.now) (run_of state.now) process ≡ true) }
+    ensures { IfSome result
+        (λ process. enabled (net_of network.now) (run_of state.now) process ≡ true) }
 {
     let many = network.processes.len() as u32;
     for place in 0..many {

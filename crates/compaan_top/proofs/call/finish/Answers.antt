@@ -12,15 +12,15 @@ returns-in-Ok g c = λ wanted input planned.
     let p = rw c.in-Ok.is at planned in
     answer_cut_short wanted input _ _ _ (reply_of c.in-Ok.answer) p.0 p.1 c.in-Err.ensures.front c.in-Err.ensures.cause
 
-pub returns-in-Ok-write_all : goal.returns-in-Ok-write_all
-returns-in-Ok-write_all g c = λ wanted input planned.
+pub returns-in-Ok-write_refusal : goal.returns-in-Ok-write_refusal
+returns-in-Ok-write_refusal g c = λ wanted input planned.
     let p = rw (c.in-Err-Refused.is, c.in-Err-Refused.field-0-is) at planned in
-    refusal_written wanted input _ _ _ c.in-Err-Refused.refusal p.0 p.1 (rw c.as_slice.ensures at c.in-Ok-write_all.ensures.ok) c.in-Ok-write_all.ensures.quiet
+    rw c.refusal_status.ensures (refusal_written wanted input _ _ _ c.in-Err-Refused.refusal p.0 p.1 c.in-Ok-write_refusal.ensures.ok c.in-Ok-write_refusal.ensures.quiet)
 
 pub returns-in-Err-Refused : goal.returns-in-Err-Refused
 returns-in-Err-Refused g c = λ wanted input planned.
     let p = rw (c.in-Err-Refused.is, c.in-Err-Refused.field-0-is) at planned in
-    refusal_cut_short wanted input _ _ _ c.in-Err-Refused.refusal p.0 p.1 (rw c.as_slice.ensures at c.in-Err-write_all.ensures.front) c.in-Err-write_all.ensures.cause
+    refusal_cut_short wanted input _ _ _ c.in-Err-Refused.refusal p.0 p.1 c.in-Err-write_refusal.ensures.front c.in-Err-write_refusal.ensures.cause
 
 pub returns-in-Err-ReadFault : goal.returns-in-Err-ReadFault
 returns-in-Err-ReadFault g c = λ wanted input planned. ends_at_fault wanted input _ _ _ _ (rw (c.in-Err-ReadFault.is, c.in-Err-ReadFault.field-0-is) at planned)

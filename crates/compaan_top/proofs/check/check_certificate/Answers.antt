@@ -1,16 +1,16 @@
-use Rattle.std.proofs.Common.{arith, ◌∙◌, ◌≤◌, length, Some, sym, ap}
+use Rattle.std.proofs.Common.{arith, ◌≤◌, length, sym}
 use Rattle.std.proofs.lemmas.Result.{err_from_is_err_and}
+use Rattle.compaan_top.specs.Checking.{part_missing}
 use Rattle.compaan_top.proofs.Parts.{part_within}
-use Rattle.compaan_top.proofs.Checked.{checks_judged, checks_unread, checks_without_nest, checks_without_part}
+use Rattle.compaan_top.proofs.Checked.{checks_judged, checks_unread, checks_without_nest}
 use Rattle.compaan_top.proofs.check.check_certificate.Goals as goal
 
 pub returns-in_default : goal.returns-in_default
-returns-in_default c = checks_without_part c.args.params.now c.args.bundle.now c.in_ok-no_part.field-0
-    (sym (rw c.in_default.is at c.parts_of-parts.ensures.certificate)) c.in_ok-no_part.ensures
+returns-in_default c = part_missing (sym (rw c.in_default.is at c.parts_of-parts.ensures.certificate))
 
 pub returns-in_err-nest : goal.returns-in_err-nest
 returns-in_err-nest c =
-    let stop = err_from_is_err_and c.from_residual-in_err-nest.result c.from_residual-in_err-nest.ensures.1 in
+    let stop = err_from_is_err_and c.from_residual.result c.from_residual.ensures.1 in
     rw (stop.1, stop.2) (checks_without_nest c.args.params.now c.args.bundle.now c.parts_of-parts.result.source.now c.in-Some.part.now _ c.parts_of-parts.ensures.source
     (sym (rw c.in-Some.is at c.parts_of-parts.ensures.certificate)) c.in_err-nest.ensures)
 
@@ -23,10 +23,11 @@ verdict_on-requires-clause-numbers c =
 pub returns-in-Ok : goal.returns-in-Ok
 returns-in-Ok c =
     checks_judged c.args.params.now c.args.bundle.now c.parts_of-parts.result.source.now c.in-Some.part.now c.in_ok-nest.nest c.in-Ok.network c.in-Ok.cert _ c.parts_of-parts.ensures.source
-    (sym (rw c.in-Some.is at c.parts_of-parts.ensures.certificate)) c.in_ok-nest.ensures.0 c.in-Ok.ensures.exact c.in_ok-answer-in-Ok.ensures
+    (sym (rw c.in-Some.is at c.parts_of-parts.ensures.certificate)) c.in_ok-nest.ensures.0 c.in-Ok.ensures.exact c.in_ok-verdict-in-Ok.ensures
 
 pub returns : goal.returns
 returns c =
-    checks_unread c.args.params.now c.args.bundle.now c.parts_of-parts.result.source.now c.in-Some.part.now c.in_ok-nest.nest c.in-Err.error _ c.parts_of-parts.ensures.source
-    (sym (rw c.in-Some.is at c.parts_of-parts.ensures.certificate)) c.in_ok-nest.ensures.0 c.in-Err.ensures.exact
-    (c.in_ok-unread_line-in-Err.ensures ∙ ap Some (sym c.from_vec.ensures))
+    checks_unread c.args.params.now c.args.bundle.now c.parts_of-parts.result.source.now c.in-Some.part.now
+    c.in_ok-nest.nest c.in-Err.error c.unread.result c.parts_of-parts.ensures.source
+    (sym (rw c.in-Some.is at c.parts_of-parts.ensures.certificate)) c.in_ok-nest.ensures.0
+    c.in-Err.ensures.exact c.unread.ensures

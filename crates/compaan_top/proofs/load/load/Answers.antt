@@ -6,7 +6,7 @@ use Rattle.compaan_top.proofs.load.load.Goals as goal
 
 pub returns-then-rows-gt-LOAD_LIMIT : goal.returns-then-rows-gt-LOAD_LIMIT
 returns-then-rows-gt-LOAD_LIMIT g c =
-    loads_too_many c.args.policy c.args.rows c.in_ok-too_many_rows.field-0 (omega (arith, c.if-rows-gt-LOAD_LIMIT.true)) c.in_ok-too_many_rows.ensures
+    loads_too_many c.args.policy c.args.rows c.too_many_rows.result (omega (arith, c.if-rows-gt-LOAD_LIMIT.true)) c.too_many_rows.ensures
 
 pub returns-in_err-size_of : goal.returns-in_err-size_of
 returns-in_err-size_of g c =

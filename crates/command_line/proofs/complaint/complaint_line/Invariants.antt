@@ -1,6 +1,0 @@
-use Rattle.std.proofs.Common.{◌≡◌, ◌∷◌, ◌++◌, decimal, take}
-use Rattle.std.specs.List.{flat_map}
-use Rattle.command_line.proofs.complaint.complaint_line.Given as goal
-
-abbrev pub invariant-loop-number : goal.invariant-loop-number
-invariant-loop-number l = l.line.items ≡ l.text ++ flat_map (λ number. 32 ∷ decimal number) (take l.number-index l.numbers)

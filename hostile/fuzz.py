@@ -1,0 +1,528 @@
+#!/usr/bin/env python3
+"""Random programs over the whole language, and damaged bundles, run by the built program and by a Python meaning of its own.
+
+usage: hostile/fuzz.py [--seed SEED] [--count COUNT] [--jobs JOBS] [--minutes MINUTES] [--keep FOLDER] [--only NUMBER] [--space GB] [--compaan PROGRAM]
+
+Each of COUNT programs is run by `run` and by `seq`, whose answer or refusal must be what meaning.py says. What `cert` writes must be
+accepted by `check` and by meaning.py. Of each fourth program `net` must tell the same processes and channels, and of others `vhdl`
+must be written. Then one part of
+its bundle is damaged: bytes, tokens, numbers, lines or whole parts. A command on the damaged bundle must come to the status, the
+output and the complaint that meaning.py says. A run that ends by a signal, takes too long or takes more than 2 GB is a difference
+too. Prints one line for each difference, keeps its bundle and words in FOLDER, and fails where there is one. The same seed makes
+the same inputs, whatever COUNT and JOBS are. It is a test, outside the proof.
+"""
+import collections
+import concurrent.futures
+import os
+import random
+import re
+import shlex
+import sys
+import time
+
+sys.dont_write_bytecode = True
+import asking
+import meaning
+
+MOST_KILOBYTES = 2 << 20
+MOST_SECONDS = 120
+COMMANDS = ("run", "seq", "net", "cert", "check", "vhdl")
+EXTREMES = [2**63 - 1, 2**62, 2**32, 2**31, 2**31 - 1, 10**18, 3037000500, 255]
+LIMITS = [b"0", b"1", b"-1", b"2147483647", b"2147483648", b"4294967295", b"4294967296", b"9223372036854775807", b"9223372036854775808",
+          b"18446744073709551616", b"00", b"007", b"2097152", b"2097153", b"99999999999999999999999999", b"64", b"65", b"8", b"9"]
+
+
+# ------------------------------------------------------------------------------------------------------------ programs
+
+
+class Source:
+    """A random program, with data for it and values for its parameters."""
+
+    def __init__(self, pick):
+        self.pick = pick
+        self.names = iter(pick.sample(["N", "M", "K", "x", "y", "z", "t", "s", "A", "B", "_c", "image2", "Params", "minimum", "iffy", "outer"], 16))
+        self.params = {next(self.names): pick.choice([0, 1, 2, 3, 4, 5, 6, -2]) for _ in range(pick.randint(0, 3))}
+        self.arrays = []
+        cells = pick.choice([12, 40, 90])
+        declared = []
+        for _ in range(pick.randint(1, 5)):
+            kind, name = pick.choice(["in", "in", "out", "out", "inout", "var"]), next(self.names)
+            extents, most = [], cells
+            for _ in range(pick.choice([0, 0, 1, 1, 1, 2, 2, 3, pick.randint(0, 6)])):
+                text, value = self.extent(most)
+                extents.append(text)
+                most //= max(1, value)
+            self.arrays.append((name, kind, extents))
+            declared.append(f"{kind} {name}{''.join(f'[{it}]' for it in extents)};")
+        if self.params and pick.random() < 0.8:
+            declared.insert(0, f"param {', '.join(self.params)};")
+        else:
+            declared = [f"param {it};" for it in self.params] + declared
+        if not any(kind != "in" for _, kind, _ in self.arrays) or pick.random() < 0.2:
+            self.arrays.append((next(self.names), "out", []))
+            declared.append(f"out {self.arrays[-1][0]};")
+        self.left = pick.randint(1, 9)
+        self.depth_most = pick.choice([2, 3, 3, 4, 6])
+        self.turns = {2: 14, 3: 8, 4: 5, 6: 3}[self.depth_most]
+        body = [self.statement([], 0) for _ in range(pick.randint(1, 4))]
+        if pick.random() < 0.02:
+            body.append(self.far())
+        text = " ".join(declared + body)
+        self.source = self.scattered(text) if pick.random() < 0.5 else (text + pick.choice(["", "\n"])).encode()
+        self.words = [f"{name}={value}" for name, value in self.params.items()]
+
+    def extent(self, most):
+        pick = self.pick
+        value = pick.randint(0, max(1, min(6, most)))
+        fitting = [it for it, given in self.params.items() if 0 <= given <= most]
+        if fitting and pick.random() < 0.5:
+            name = pick.choice(fitting)
+            return pick.choice([f"{name}", f"{name} + 0", f"1 * {name}", f"({name})", f"- -{name}", f"{name} - 1"]), self.params[name]
+        return pick.choice([f"{value}", f"0{value}", f"{value} + 1 - 1", f"-(-{value})"] + ["-1"] * (pick.random() < 0.1)), value
+
+    def atom(self, inside):
+        """An affine factor without a variable, as often as not."""
+        pick = self.pick
+        names = [*self.params] or ["1"]
+        return pick.choice([str(pick.randint(0, 7)), pick.choice(names), f"({pick.choice(names)} - {pick.randint(0, 3)})", f"-{pick.choice(names)}"])
+
+    def affine(self, inside, near=False):
+        """An affine expression. `near` keeps it small."""
+        pick = self.pick
+        parts = [str(pick.randint(0, 6))] if pick.random() < 0.7 or not inside else []
+        for name in inside:
+            if pick.random() < (0.25 if near else 0.5):
+                parts.append(pick.choice([name, name, f"{pick.randint(0, 3)} * {name}", f"({name} - {pick.randint(0, 4)})", f"-{name}", f"{name} * {self.atom(inside)}", f"({name} - {name}) * {name}"]))
+        if self.params and pick.random() < 0.4:
+            parts.append(self.atom(inside))
+        pick.shuffle(parts)
+        text = parts[0] if parts else self.atom(inside)
+        for it in parts[1:]:
+            text += pick.choice([" + ", " - "]) + it
+        return f"({text})" if pick.random() < 0.1 else text
+
+    def subscript(self, inside):
+        if inside and self.pick.random() < 0.75:
+            return self.pick.choice(inside) + self.pick.choice(["", "", "", " + 1", " - 1", " - 2"])
+        return self.affine(inside)
+
+    def access(self, inside, written=False):
+        name, _, extents = self.pick.choice(self.arrays[: self.pick.choice([1, 2, len(self.arrays)])])
+        return name + "".join(f"[{self.subscript(inside)}]" for _ in extents)
+
+    def value(self, inside, reads, depth=0):
+        """A right side with at most so many reads."""
+        pick = self.pick
+        if reads > 1 or depth < 3 and pick.random() < 0.3:
+            count = pick.choice([2, 2, 2, 1, 3, 4])
+            shares = [reads // count + (it < reads % count) for it in range(count)]
+            parts = [self.value(inside, it, depth + 1) for it in shares]
+            if pick.random() < 0.3:
+                return f"{pick.choice(['min', 'max'])}({', '.join(parts)})"
+            text = parts[0]
+            for it in parts[1:]:
+                sign = pick.choice([" + ", " - ", " * ", " * "])
+                text = f"({text}){sign}({it})" if sign == " * " or pick.random() < 0.3 else f"{text}{sign}{it}"
+            return f"-({text})" if pick.random() < 0.1 else text
+        if reads == 1 and pick.random() < 0.9:
+            return self.access(inside)
+        return pick.choice([*inside * 2, *self.params, str(pick.randint(0, 9)), str(pick.choice(EXTREMES)), f"-{pick.choice(EXTREMES)}", f"- - {pick.randint(1, 9)}"])
+
+    def assignment(self, inside):
+        self.left -= 1
+        return f"{self.access(inside)} = {self.value(inside, self.pick.choice([0, 1, 1, 2, 2, 3, 4, 8]))};"
+
+    def comparison(self, inside, signs):
+        return f"{self.affine(inside)} {self.pick.choice(signs)} {self.affine(inside)}"
+
+    def guard(self, inside, depth):
+        pick = self.pick
+        if pick.random() < 0.4:
+            head = f"if ({self.comparison(inside, ['<', '<=', '>', '>='])}) "
+            text = head + "{ " + self.statement(inside, depth) + " } else " + self.statement(inside, depth)
+            return text
+        tests = [self.comparison(inside, ["<", "<=", ">", ">=", "=="]) for _ in range(pick.choice([1, 1, 2, 3]))]
+        return f"if ({' && '.join(tests)}) {self.statement(inside, depth)}"
+
+    def loop(self, inside, depth):
+        pick = self.pick
+        name = pick.choice([it for it in ("i", "j", "k", "l", "i2", "_", "p", "q", "r") if it not in inside and it not in self.params])
+        lower = self.affine(inside, True)
+        upper = f"{lower} + {pick.randint(0, self.turns)}" if pick.random() < 0.85 else self.affine(inside, True)
+        step = pick.choice([f"{name}++", f"++{name}", f"{name} += 1", f"{name} += {pick.randint(1, 4)}"])
+        positive = [it for it, value in self.params.items() if value > 0]
+        if positive and pick.random() < 0.2:
+            step = f"{name} += " + pick.choice(["{0}", "2 * {0} - 1", "{0} + 3", "({0})"]).format(pick.choice(positive))
+        elif pick.random() < 0.02:
+            step = f"{name} += {pick.choice([2147483647, 1000, 65536])}"
+        if "+=" not in step and pick.random() < 0.3:
+            lower = f"max({', '.join([lower, *(self.affine(inside, True) + ' - 3' for _ in range(pick.randint(0, 2)))])})"
+        if pick.random() < 0.3:
+            upper = f"min({', '.join([upper, *(self.affine(inside, True) + f' + {2 * self.turns}' for _ in range(pick.randint(0, 2)))])})"
+        head = f"for ({pick.choice(['', 'int '])}{name} = {lower}; {name} {pick.choice(['<', '<='])} {upper}; {step}) "
+        return head + self.statement([*inside, name], depth + 1)
+
+    def statement(self, inside, depth):
+        pick, kind = self.pick, self.pick.random()
+        if self.left <= 0:
+            return "{}"
+        if depth < self.depth_most and kind < (0.9, 0.6, 0.45, 0.4, 0.5, 0.6)[depth]:
+            return self.loop(inside, depth)
+        if kind < 0.65 and depth:
+            return self.guard(inside, depth)
+        count = pick.choice([1, 1, 2])
+        parts = [self.assignment(inside), *(self.statement(inside, depth) for _ in range(count - 1))]
+        return "{ " + " ".join(parts) + " }" if count > 1 or pick.random() < 0.2 else parts[0]
+
+    def far(self):
+        """Loops whose bounds are near their limit, within it or not."""
+        pick, array = self.pick, self.pick.choice(self.arrays)
+        cell = array[0] + "[0]" * len(array[2])
+        a, b = pick.choice(["2147483647", "2147483646", "-2147483647", "1"]), pick.choice(["2147483647", "2", "-2147483647"])
+        return (f"for (far1 = {a}; far1 <= {a}; far1++) for (far2 = {b} * far1; far2 <= {b} * far1; far2++) "
+                f"for (far3 = {pick.choice(['2 * far2', 'far2', '-far2', '3 * far2'])}; far3 < 1; far3 += 2147483647) {cell} = far2;")
+
+    def scattered(self, text):
+        """The same tokens with other white space and comments between them."""
+        pick = self.pick
+        tokens = [it[1] for it in meaning.tokens_of(text.encode())]
+        gaps = [b" ", b" ", b"\n", b"\r\n", b"\t", b"  ", b"/* \xff*%/ */", b"/**/", b"// ; } \x00\n", b" \n\n "]
+        return b"".join(it + pick.choice(gaps) for it in tokens)
+
+    def data(self):
+        """The records of the given arrays, in some order and form."""
+        pick = self.pick
+        try:
+            arrays = meaning.Program(self.source, self.params).arrays
+        except meaning.Refused:
+            return b""
+        lines = []
+        for array in arrays:
+            if not array.is_given:
+                continue
+            count = 1
+            for extent in array.extents:
+                count *= extent
+            values = [str(pick.choice([pick.randint(-9, 9), pick.randint(-9, 9), pick.randint(-(2**63), 2**63 - 1), -(2**63), 2**63 - 1])) for _ in range(count)]
+            if pick.random() < 0.2:
+                values = [pick.choice([it, f'"{it}"', f" {it}", f"\t{it} ", it.replace("-", "-00"), f'"{it[:1]}"{it[1:]}']) for it in values]
+            lines.append(",".join([pick.choice([array.name, array.name, f" {array.name}", f'"{array.name}"']), *values]))
+        pick.shuffle(lines)
+        end = pick.choice(["\n", "\n", "\r\n", "\r", "\n\n"])
+        text = "".join(it + end for it in lines)
+        return (pick.choice(["", "", "", "\ufeff", "\n"]) + (text if pick.random() < 0.8 else text[: len(text) - len(end)] if text else "")).encode()
+
+
+# -------------------------------------------------------------------------------------------------------------- damage
+
+
+def changed_bytes(pick, text):
+    text = bytearray(text)
+    for _ in range(pick.choice([1, 1, 2, 5])):
+        at = pick.randrange(len(text) + 1)
+        kind = pick.random()
+        if kind < 0.4 and at < len(text):
+            text[at] = pick.choice([text[at] ^ 1 << pick.randrange(8), pick.randrange(256), pick.choice(b"();{}[]=<>+-*&/,%\n \"0z")])
+        elif kind < 0.6 and at < len(text):
+            del text[at : at + pick.choice([1, 1, 2, 8])]
+        else:
+            text[at:at] = bytes([pick.choice([pick.randrange(256), *b"();{}[]=<>+-*&/,%\n\r \"019fgpz"])])
+    return bytes(text)
+
+
+def changed_tokens(pick, text, pattern=rb"[A-Za-z_0-9]+|\s+|."):
+    parts = re.findall(pattern, text, re.S)
+    for _ in range(pick.choice([1, 1, 2])):
+        if len(parts) < 2:
+            break
+        a, b = pick.randrange(len(parts)), pick.randrange(len(parts))
+        kind = pick.random()
+        if kind < 0.3:
+            parts[a], parts[b] = parts[b], parts[a]
+        elif kind < 0.5:
+            parts[a] = parts[b]
+        elif kind < 0.7:
+            del parts[a]
+        elif kind < 0.85:
+            parts.insert(a, parts[b])
+        else:
+            parts.insert(a, pick.choice([b" else ", b" if (0 < 1) ", b" min(", b" int ", b" ++ ", b" += ", b"; ", b" {", b"} ", b" param ", b" 3 ", b" var q;", b" (i)"]))
+    return b"".join(parts)
+
+
+def changed_numbers(pick, text):
+    places = [it.span() for it in re.finditer(rb"-?[0-9]+", text)]
+    for start, end in sorted(pick.sample(places, min(len(places), pick.choice([1, 1, 1, 2, 3]))), reverse=True):
+        value = int(text[start:end])
+        new = pick.choice([pick.choice(LIMITS), str(value + 1).encode(), str(value - 1).encode(), str(value * 2).encode(), str(-value).encode()])
+        text = text[:start] + new + text[end:]
+    return text
+
+
+def changed_lines(pick, text):
+    lines = text.splitlines(True)
+    for _ in range(pick.choice([1, 1, 2, 4])):
+        if not lines:
+            break
+        a, b = pick.randrange(len(lines)), pick.randrange(len(lines))
+        kind = pick.random()
+        if kind < 0.4:
+            lines[a], lines[b] = lines[b], lines[a]
+        elif kind < 0.6:
+            del lines[a]
+        elif kind < 0.8:
+            lines.insert(a, lines[b])
+        elif kind < 0.9:
+            del lines[a:]
+        elif a + 1 < len(lines):
+            lines[a], lines[a + 1] = lines[a + 1], lines[a]
+    return b"".join(lines)
+
+
+def changed_counts(pick, text):
+    """A certificate that announces other numbers than it has."""
+    lines = text.splitlines(True)
+    heads = [at for at, it in enumerate(lines) if it.startswith((b"sizes", b"process", b"channel"))]
+    if heads:
+        at = pick.choice(heads)
+        lines[at] = changed_numbers(pick, lines[at])
+    return b"".join(lines)
+
+
+def changed_schedule(pick, text):
+    """Entries of the schedule that change their places."""
+    lines = text.splitlines(True)
+    entries = [at for at, it in enumerate(lines) if re.fullmatch(rb"[0-9]+\n", it)]
+    for _ in range(pick.choice([1, 1, 2, 8])):
+        if len(entries) > 1:
+            at = pick.randrange(len(entries) - 1)
+            a, b = entries[at], pick.choice([entries[at + 1], pick.choice(entries)])
+            lines[a], lines[b] = lines[b], lines[a]
+    return b"".join(lines)
+
+
+def changed_classes(pick, text):
+    words = [b"inorder", b"inorder+", b"reorder", b"reorder+"]
+    return re.sub(rb"(?:in|re)order\+?(?=\n)", lambda it: pick.choice([it.group(), *words]), text, count=pick.choice([1, 2, 99]))
+
+
+DAMAGES = {
+    "source: bytes": (0, changed_bytes), "source: tokens": (0, changed_tokens), "source: numbers": (0, changed_numbers),
+    "data: bytes": (1, changed_bytes), "data: fields": (1, lambda pick, text: changed_tokens(pick, text, rb"[^,\n]+|.")),
+    "data: numbers": (1, changed_numbers), "data: lines": (1, changed_lines),
+    "certificate: bytes": (2, changed_bytes), "certificate: lines": (2, changed_lines), "certificate: numbers": (2, changed_numbers),
+    "certificate: words": (2, lambda pick, text: changed_tokens(pick, text, rb"[^ \n]+|.")),
+    "certificate: counts": (2, changed_counts), "certificate: schedule": (2, changed_schedule), "certificate: classes": (2, changed_classes),
+}
+WHOLE = ["parts exchanged", "a part of another program", "bundle: bytes", "bundle: cut", "values of parameters", "words"]
+
+
+def changed_words(pick, command, words):
+    """Other words: a command and what stands behind it."""
+    words = [command, *words]
+    for _ in range(pick.choice([1, 1, 2, 3])):
+        at = pick.randrange(len(words) + 1)
+        new = pick.choice(["--", "-", "", "--policy", "--policy=", "--policy=seq", "--policy=down", "--policy=Seq", "seq", "down", "--help", "-x", "--pol=seq", "load", "run", "walk", "Run",
+                           "N", "N=", "=3", "N=3", "N=-3", "N=--3", "N=+3", "N=3.0", "N= 3", "N=0x3", "N=123456789012345678", "N=1234567890123456789", "N=000000000000000003", "N=\u0663", "in=3", "min=3",
+                           "max=1", "param=2", "_=4", "9a=4", "a-b=4", "\u00e9=4", "N=3=4", "N=\udcff", "K=2", "5", "101", "2147483648", "0", "000000000000000002", "999999999999999999", "1000000000000000000"])
+        kind = pick.random()
+        if kind < 0.5 or not words:
+            words.insert(at, new)
+        elif kind < 0.7:
+            words[at % len(words)] = new
+        elif kind < 0.85:
+            words.insert(at, words[at % len(words)])
+        else:
+            pick.shuffle(words)
+    if pick.random() < 0.1:
+        words = ["load", pick.choice(["0", "1", "2", "3", "007", "101", "2147483647", "2147483648", "-1", "x"]), *words[2:]]
+    return words or ["--"]
+
+
+def damaged(pick, parts, words, other):
+    """A damaged bundle: what was done, the command that is to meet it, its words and its bytes."""
+    parts = [part if part.endswith(b"\n") or not part else part + b"\n" for part in parts]
+    kind = pick.choice([*DAMAGES, *WHOLE])
+    command = pick.choice(COMMANDS)
+    if kind in DAMAGES:
+        number, change = DAMAGES[kind]
+        parts[number] = change(pick, parts[number])
+        if pick.random() < 0.9:
+            command = (pick.choice(COMMANDS), pick.choice(["run", "seq"]), "check")[number]
+        if number == 0 and command == "check" and pick.random() < 0.5:
+            command = "run"
+    if kind == "parts exchanged":
+        pick.shuffle(parts)
+    if kind == "a part of another program":
+        number = pick.randrange(3)
+        parts[number] = other()[number]
+        command = (pick.choice(["run", "check"]), "run", "check")[number]
+    if kind == "values of parameters":
+        words = [re.sub("=.*", "=" + pick.choice(["-1", "7", "2147483647", "2147483648", "-2147483648", "999999999999999999", "-0", "0003"]), it) if pick.random() < 0.5 else it for it in words]
+        if words and pick.random() < 0.3:
+            del words[pick.randrange(len(words))]
+    bundle = asking.bundled(*parts)
+    if kind == "words":
+        command, *words = changed_words(pick, command, words)
+    if kind == "bundle: bytes":
+        bundle = changed_bytes(pick, bundle)
+    if kind == "bundle: cut":
+        bundle = bundle[: pick.randrange(len(bundle) + 1)]
+    return kind, command, words, bundle
+
+
+# ------------------------------------------------------------------------------------------------------------- the runs
+
+
+class Job:
+    """The inputs of some numbers, run and compared."""
+
+    def __init__(self, program, seed, keep):
+        self.program, self.seed, self.keep = program, seed, keep
+        self.counts = collections.Counter()
+        self.differences = 0
+        self.kilobytes = self.seconds = 0
+
+    def run(self, number, command, words, bundle, policy=()):
+        end = asking.ask(self.program, [command, *words, *policy], bundle, MOST_SECONDS)
+        self.counts["runs"] += 1
+        self.kilobytes, self.seconds = max(self.kilobytes, end.kilobytes), max(self.seconds, end.cpu)
+        if end.hung or end.status < 0 or end.kilobytes > MOST_KILOBYTES:
+            why = "took too long" if end.hung else f"ended by signal {-end.status}" if end.status < 0 else f"took {end.kilobytes} kB"
+            self.differ(number, command, words, bundle, why, "")
+        return end
+
+    def differ(self, number, command, words, bundle, got, wanted):
+        name = f"{self.seed}-{number}-{command if command in COMMANDS else 'words'}-{self.differences}"
+        os.makedirs(self.keep, exist_ok=True)
+        with open(os.path.join(self.keep, name + ".bundle"), "wb") as file:
+            file.write(bundle)
+        with open(os.path.join(self.keep, name + ".words"), "w", errors="surrogateescape") as file:
+            file.write(shlex.join([command, *words]) + "\n")
+        self.differences += 1
+        print(f"{name}: {str(got)[:300]} for {str(wanted)[:300]}", flush=True)
+
+    def wanted(self, words, bundle):
+        """What these words and this bundle come to, or None where that can't be judged here."""
+        try:
+            return meaning.outcome(words, bundle)
+        except (SyntaxError, MemoryError, RecursionError) as error:
+            self.counts["not judged, " + type(error).__name__] += 1
+            return None
+
+    def compare(self, number, command, words, bundle, wanted, policy=()):
+        """Runs a command and compares it with what is wanted. Returns how it ended."""
+        end = self.run(number, command, words, bundle, policy)
+        if wanted is None:
+            return end
+        is_own = wanted[1] is None and end.status == 0 and end.output and not end.complaint
+        is_long = command == "vhdl" and wanted[0] == 0 and end.complaint.startswith(b"limit: Script ")
+        if not is_own and not is_long and end[:3] != wanted:
+            self.differ(number, command, words, bundle, end[:3], wanted)
+        self.counts["compared"] += 1
+        return end
+
+    def program_of(self, number):
+        pick = random.Random(f"{self.seed}:{number}")
+        source = Source(pick)
+        return pick, source, source.data()
+
+    def one(self, number):
+        pick, source, data = self.program_of(number)
+        words = source.words
+        policy = pick.choice([[], ["--policy=seq"], ["--policy", "down"], ["--policy=down"]])
+        bundle = asking.bundled(source.source, data)
+        answer = self.wanted(["run", *words, *policy], bundle)
+        ends = {command: self.compare(number, command, words, bundle, answer, policy) for command in ("run", "seq")}
+        self.counts[f"programs, status {ends['run'].status}"] += 1
+        # the other commands pass over the data
+        done = (0, None, b"") if answer and answer[0] in (0, 9) else answer
+        cert = self.compare(number, "cert", words, bundle, done, policy)
+        net = number % 4 == 0 and self.compare(number, "net", words, bundle, done, policy)
+        if number % 4 == 2:
+            self.compare(number, "vhdl", words, bundle, done, policy)
+        if cert.status == 0:
+            checked = asking.bundled(source.source, data) if pick.random() < 0.5 else asking.bundled(source.source, b"")
+            checked = checked + (b"%%\n" if checked.count(b"%%\n") < 2 else b"") + cert.output
+            if self.wanted(["check", *words], checked) != (0, b"accepted\n", b""):
+                self.differ(number, "cert", words, checked, "a certificate that meaning.py refuses", "one that it accepts")
+            self.compare(number, "check", words, checked, (0, b"accepted\n", b""))
+            if net:
+                self.same_network(number, words, bundle, net.output, cert.output)
+        self.damage(pick, number, source, data, cert.output)
+
+    def same_network(self, number, words, bundle, net, cert):
+        """The processes and channels of `net` are those of `cert`."""
+        try:
+            processes, channels, _, schedule = meaning.certificate_of(cert)
+        except meaning.Unread as reason:
+            self.differ(number, "cert", words, bundle, reason, "a certificate")
+            return
+        lines = [it.split() for it in net.decode().splitlines()]
+        puts = collections.Counter(it[1] for _, script in processes for it in script if it[0] == "p")
+        wanted = [["process", str(p), str(sum(it[0] == "f" for it in script)), str(slots)] for p, (slots, script) in enumerate(processes)]
+        wanted += [["channel", *map(str, (c, writer, reader, read, puts[c], capacity)), meaning.CLASS_WORDS[its]] for c, (writer, reader, read, capacity, its) in enumerate(channels)]
+        wanted += [["events", str(len(schedule))]]
+        got = []
+        for it in lines:
+            if it[0] == "process":
+                got.append(["process", it[1], it[it.index("fires") + 1], it[it.index("slots") + 1]])
+            elif it[0] == "channel":
+                got.append(["channel", it[1], *(it[it.index(name) + 1] for name in ("from", "to", "read", "tokens", "capacity", "class"))])
+            elif it[0] == "events":
+                got.append(it)
+        if got != wanted:
+            self.differ(number, "net", words, bundle, got, wanted)
+
+    def damage(self, pick, number, source, data, cert):
+        def other():
+            _, source, data = self.program_of(number + 1)
+            return [source.source, data, cert[: len(cert) // 2]]
+
+        kind, command, words, bundle = damaged(pick, [source.source, data, cert], source.words, other)
+        self.counts["damaged, " + kind] += 1
+        end = self.compare(number, command, words, bundle, self.wanted([command, *words], bundle))
+        self.counts[f"damaged, by {command if command in COMMANDS else 'other words'}, status {end.status}"] += 1
+
+
+def run_numbers(program, seed, keep, space, numbers):
+    if space:
+        asking.keep_below(space)
+    sys.setrecursionlimit(20000)
+    job = Job(program, seed, keep)
+    for number in numbers:
+        job.one(number)
+    return job.counts, job.differences, job.kilobytes, job.seconds, len(numbers)
+
+
+def main():
+    given = asking.words(__doc__, seed=(1, "the seed"), count=(300, "how many programs, and as many damaged bundles"), jobs=(2, "how many run side by side"), minutes=(0, "after so many no more are begun; 0 sets no limit"),
+                         keep=("hostile-kept", "where a difference's bundle is kept"), only=(-1, "this input alone"), space=(4, "how many GB of address space a run has at most; 0 sets no limit"))
+    numbers = range(given.count) if given.only < 0 else [given.only]
+    chunks = iter([numbers[at : at + 20] for at in range(0, len(numbers), 20)])
+    counts, differences, kilobytes, seconds, done = collections.Counter(), 0, 0, 0, 0
+    start = time.time()
+    asking.starter()
+    with concurrent.futures.ProcessPoolExecutor(given.jobs) as pool:
+        under_way = set()
+        while True:
+            is_time = not given.minutes or time.time() - start < given.minutes * 60
+            while is_time and len(under_way) < 2 * given.jobs and (chunk := next(chunks, None)) is not None:
+                under_way.add(pool.submit(run_numbers, given.compaan, given.seed, given.keep, given.space, chunk))
+            if not under_way:
+                break
+            ended, under_way = concurrent.futures.wait(under_way, return_when=concurrent.futures.FIRST_COMPLETED)
+            for it in ended:
+                found = it.result()
+                counts.update(found[0])
+                differences += found[1]
+                kilobytes, seconds = max(kilobytes, found[2]), max(seconds, found[3])
+                done += found[4]
+    asking.table(["What", "Count"], sorted(counts.items()))
+    print(f"seed {given.seed}: {done} programs and {done} damaged bundles, {counts['runs']} runs in {time.time() - start:.0f} s, "
+          f"the longest {seconds:.1f} s of processors, the largest {kilobytes / 1024:.0f} MB, {counts['compared']} compared, {differences} different")
+    return 1 if differences else 0
+
+
+if __name__ == "__main__":
+    sys.exit(main())

@@ -1,0 +1,390 @@
+#!/usr/bin/env python3
+"""The built program at its limits: depth, size, certificates of tens of millions of lines, large data, refused starts of threads.
+
+usage: hostile/limits.py [--only SECTION] [--space GB] [--compaan PROGRAM]
+
+Every run has a stack of 8 MB, 4 GB of address space and a time limit. Times are those of processors. Each section prints a table:
+
+  deep      sources at the limit of 8,192 tokens, nested as deep as they can be, by each command, with the least stack that serves
+  size      programs at the limit on the size, by each command
+  lines     `check` of certificates of 64 MiB, each of one kind of line
+  announce  certificates that announce much and bring little
+  bundle    sources and data of 64 MiB
+  threads   64 processes where the system refuses to start more than so many threads, and on two processors
+
+A run that ends by a signal, that isn't done in its time, or that ends otherwise than is wanted is told behind the tables, and makes the
+script fail. `threads` wants to be root, to run the program as a user of its own. It is a test, outside the proof.
+"""
+import collections
+import os
+import resource
+import shutil
+import sys
+import tempfile
+
+sys.dont_write_bytecode = True
+import asking
+import meaning
+
+BAD = []
+SECONDS = 300
+BUNDLE = meaning.BUNDLE_LIMIT
+KILO = 1 << 10
+# The greatest memory that is wanted of `check`, in kilobytes.
+MOST_OF_CHECK = 1 << 20
+
+
+def with_limits(space):
+    resource.setrlimit(resource.RLIMIT_STACK, (8 << 20, resource.getrlimit(resource.RLIMIT_STACK)[1]))
+    if space:
+        asking.keep_below(space)
+
+
+def ask(program, words, bundle, stack=0, limit=SECONDS):
+    """A run, with a stack of so many kilobytes where that is said."""
+    before = ["sh", "-c", f'ulimit -S -s {stack} && exec "$@"', "sh"] if stack else []
+    return asking.ask(program, words, bundle, limit, before=before)
+
+
+def told(end):
+    """How a run ended, in a few words."""
+    if end.hung:
+        return "not done in its time"
+    text = (end.complaint or end.output).decode(errors="replace").strip().partition("\n")[0]
+    return f"{end.status}, `{text[:40]}`" if text else str(end.status)
+
+
+def megabytes(end):
+    return f"{end.kilobytes / KILO:.1f}"
+
+
+def judge(name, end, wanted=None, kilobytes=None):
+    """Whether a run is as wanted, which is told where it isn't."""
+    is_well = not end.hung and end.status >= 0 and (wanted is None or end[:3] == wanted) and (kilobytes is None or end.kilobytes <= kilobytes)
+    if not is_well:
+        BAD.append(f"{name}: {told(end)}, {end.cpu:.1f} s, {megabytes(end)} MB, where {told(asking.End(*wanted, 0, 0, 0, False)) if wanted else 'any answer'} is wanted"
+                   + (f", in {kilobytes / KILO:.0f} MB" if kilobytes else ""))
+    return is_well
+
+
+# ---------------------------------------------------------------------------------------------------------------- deep
+
+
+def nested(before, middle, after, count):
+    return before * count + middle + after * count
+
+
+def deep_sources():
+    """A name, a source and what `run` writes, or the complaint with its status."""
+    yield "8,190 (", "(" * 8190, (6, "text: Syntax 0")
+    yield "8,192 {", "{" * 8192 + "\n", (6, "text: Syntax 8193")
+    yield "a right side in 4,000 ()", "out a; a = " + nested("(", "1", ")", 4000) + ";", "a,1\n"
+    yield "a right side behind 8,182 -", "out a; a = " + "-" * 8182 + "1;", "a,1\n"
+    yield "a right side in 2,720 -( )", "out a; a = " + nested("-(", "1", ")", 2720) + ";", "a,1\n"
+    yield "a sum of 4,000 terms", "out a; a = 1" + "+1" * 3999 + ";", "a,4000\n"
+    yield "a sum in 2,000 () to the right", "out a; a = " + nested("1+(", "1", ")", 2000) + ";", "a,2001\n"
+    yield "a product of 4,000 factors", "out a; a = 3" + "*1" * 3999 + ";", "a,3\n"
+    yield "2,000 max round each other", "out a; a = " + nested("max(", "4", ")", 2000) + ";", "a,4\n"
+    yield "1,600 max of two round each other", "out a; a = " + nested("max(", "4", ",5)", 1600) + ";", "a,5\n"
+    yield "1,600 max of two, the second the deeper", "out a; a = " + nested("max(5,", "4", ")", 1600) + ";", "a,5\n"
+    yield "a max of 4,000", "out a; a = max(1" + ",1" * 3999 + ");", "a,1\n"
+    yield "a subscript behind 8,000 -", "out a[1]; a[" + "-" * 8000 + "0] = 7;", "a,7\n"
+    yield "a subscript in 4,000 ()", "out a[1]; a[" + nested("(", "0", ")", 4000) + "] = 7;", "a,7\n"
+    yield "a subscript of 4,000 terms", "out a[1]; a[0" + "+0" * 3999 + "] = 5;", "a,5\n"
+    yield "a subscript in 2,000 () to the right", "out a[1]; a[" + nested("0+(", "0", ")", 2000) + "] = 5;", "a,5\n"
+    yield "a subscript that doubles 4,000 times 0", "out a[1]; a[0" + "*2" * 3999 + "] = 5;", "a,5\n"
+    yield "1,300 subscripts in each other", "var a[1]; a[" + nested("a[", "0", "]", 1300) + "] = 1;", (7, "class: NotAffine 12")
+    yield "2,700 subscripts that aren't closed", "var a[1]; a[" + "a[" * 2700 + "\n", (6, "text: Syntax 5413")
+    yield "an extent in 4,000 ()", "out a[" + nested("(", "2", ")", 4000) + "];", "a,0,0\n"
+    yield "a bound in 3,900 ()", "out a; for (i = 0; i < " + nested("(", "2", ")", 3900) + "; i++) a = i;", "a,1\n"
+    yield "a step in 3,900 ()", "out a; for (i = 0; i < 9; i += " + nested("(", "2", ")", 3900) + ") a = i;", "a,8\n"
+    yield "a guard in 3,900 ()", "out a; if (0 < " + nested("(", "2", ")", 3900) + ") a = 1;", "a,1\n"
+    yield "a bound that is the min of 4,000", "out a; for (i = 0; i < min(3" + ",3" * 3900 + "); i++) {}", "a,0\n"
+    yield "4,000 blocks in each other", nested("{", "", "}", 4000), ""
+    yield "4,000 blocks in a loop", "for (i = 0; i < 3; i++) " + nested("{", "", "}", 4000), ""
+    yield "4,000 blocks behind each other", "{}" * 4000, ""
+    yield "1,300 guards round nothing", "for (i = 0; i < 3; i++) " + "if(i<2)" * 1300 + "{}", ""
+    yield "1,360 guards round an assignment", "out a; " + "if(1<2)" * 1360 + "a = 3;", (8, "limit: TooManyRows 9527")
+    yield "800 else behind each other", "for (i = 0; i < 3; i++) " + "if (i < 2) {} else " * 800 + "{}", ""
+    yield "700 else in each other", "for (i = 0; i < 3; i++) " + nested("if (i < 2) {", "", "} else {}", 700), ""
+    yield "a guard of 2,000 comparisons", "if (0 < 1" + "&& 0 < 1" * 2000 + ") {}", ""
+    yield "470 loops in each other", nested("for(i=0;i<1;i++)", "{}", "", 470), (7, "class: Duplicate 20")
+    yield "6 loops in each other, and 60 times", "out a; " + ("".join(f"for ({it}=0;{it}<2;{it}++)" for it in "ijklmn") + "{}") * 60, "a,0\n"
+    yield "4,000 arrays", "var " + ",".join(f"v{it}" for it in range(4000)) + ";", ""
+    yield "4,000 parameters that have no value", "param " + ",".join(f"v{it}" for it in range(4000)) + ";", (7, "class: Unbound 6")
+    yield "64 processes of 8 reads", "out a; " + ("a = " + "+".join("a" * 8) + ";") * 63, "a,0\n"
+
+
+def least_stack(program, words, bundle, end):
+    """The least stack, in kilobytes, by which a run ends as it does by the whole. Below it the program ends by a signal."""
+    low, high = 16, 8192
+    while high > low * 1.1 and high - low > 16:
+        middle = (low + high) // 2
+        is_same = ask(program, words, bundle, middle, 30)[:3] == end[:3]
+        low, high = (low, middle) if is_same else (middle, high)
+    return high
+
+
+def deep(program):
+    rows = []
+    for name, source, wanted in deep_sources():
+        source = source.encode()
+        row, worst = [name], (0, None)
+        cert = ask(program, ["cert"], source)
+        for command in ("run", "seq", "net", "cert", "check", "vhdl"):
+            bundle = asking.bundled(source, b"\n", cert.output) if command == "check" else source
+            end = ask(program, [command], bundle)
+            if isinstance(wanted, tuple):
+                may = (wanted[0], b"", wanted[1].encode() + b"\n")
+            else:
+                may = (0, {"run": wanted, "seq": wanted, "check": "accepted\n"}.get(command, end.output.decode()).encode(), b"")
+            row.append("as wanted" if judge(f"{name}, {command}", end, may) else told(end))
+            worst = max(worst, (least_stack(program, [command], bundle, end), command))
+            row[-1] += f", {end.cpu:.2f} s" if end.cpu >= 0.1 else ""
+        rows.append([*row, f"{worst[0]} kB, {worst[1]}"])
+        print(rows[-1], file=sys.stderr, flush=True)
+    asking.table(["Source", "run", "seq", "net", "cert", "check", "vhdl", "Least stack"], rows)
+
+
+# ---------------------------------------------------------------------------------------------------------------- size
+
+
+def sized():
+    """A name, a source, its data and its words."""
+    product = asking.example("matrix_product")[0]
+    for n in (30, 100):
+        cells = ",".join(str((7 * k + 3) % 11 - 5) for k in range(n * n))
+        yield f"the product of {n} by {n} matrices", product, f"A,{cells}\nB,{cells}\n".encode(), [f"N={n}"]
+    counter = b"param N; out a; for (i = 0; i < N; i++) a = i;"
+    yield "a counter of 1,048,575 turns", counter, b"", ["N=1048575"]
+    yield "a chain of 1,048,575 turns", counter.replace(b"a = i", b"a = a + i"), b"", ["N=1048575"]
+    reversal = b"param N; in x[N]; out y[N]; for (i = 0; i < N; i++) y[N - 1 - i] = x[i];"
+    yield "349,525 cells, given back to front", reversal, b"x" + b",7" * 349525 + b"\n", ["N=349525"]
+    yield "262,144 cells outside their extents", b"param N; var a[1]; for (i = 0; i < N; i++) a[3000 * i + 7] = i;", b"", ["N=262144"]
+    yield "8 reads of a cell, 262,144 times", b"param N; out a; for (i = 0; i < N; i++) a = a+a+a+a+a+a+a+a+i;", b"", ["N=262144"]
+    yield "62 stages of a pipeline", *pipeline(62, 16384)
+    yield "one turn too many", counter, b"", ["N=1048577"]
+
+
+def pipeline(stages, items):
+    text = "param N; in x[N]; out y[N]; var " + ", ".join(f"s{it}[N]" for it in range(stages)) + ";\n"
+    text += "".join(f"for (i = 0; i < N; i++) {'y' if it == stages - 1 else f's{it}'}[i] = {'x' if it == 0 else f's{it - 1}'}[i] + {it};\n" for it in range(stages))
+    return text.encode(), ("x" + ",1" * items + "\n").encode(), [f"N={items}"]
+
+
+def size(program):
+    rows = []
+    for name, source, data, words in sized():
+        bundle = asking.bundled(source, data)
+        cert = ask(program, ["cert", *words], source)
+        for command in ("run", "seq", "net", "cert", "check", "vhdl"):
+            whole = asking.bundled(source, b"\n", cert.output) if command == "check" else bundle
+            if len(whole) > BUNDLE:
+                rows.append([name, command, f"a bundle of {len(whole)} bytes is too long", "", ""])
+                continue
+            end = ask(program, [command, *words], whole)
+            judge(f"{name}, {command}", end)
+            size_of = f", {len(end.output)} bytes" if command in ("net", "cert", "vhdl") else ""
+            rows.append([name, command, told(end) + size_of, f"{end.cpu:.2f}", megabytes(end)])
+            print(rows[-1], file=sys.stderr, flush=True)
+    asking.table(["Program", "Command", "Status, first line", "s", "MB"], rows)
+
+
+# --------------------------------------------------------------------------------------------------------------- lines
+
+
+def filled(before, line, after, most=BUNDLE):
+    """A text of so many lines as go into a bundle, whose count stands in the text before and isn't longer than eight digits."""
+    count = (most - len(before) - len(after) - 100) // len(line)
+    return count, before.replace(b"COUNT", str(count).encode()) + line * count + after
+
+
+def line_texts(share):
+    """A name, a certificate and what `check` answers to it, for the source `out y;`, which has one process with one read."""
+    most = BUNDLE // share - 40
+    end = b"sweep\nend\n"
+    yield "f", *filled(b"cert 1\nsizes 1 0 1 0\nprocess 0 COUNT\n", b"f\n", end, most), b"refused Fires 0 0\n"
+    yield "f z", *filled(b"cert 1\nsizes 1 0 1 0\nprocess 0 COUNT\n", b"f z\n", end, most), b"refused Fires 0 1\n"
+    yield "f z z z z z z z z", *filled(b"cert 1\nsizes 1 0 1 0\nprocess 0 COUNT\n", b"f z z z z z z z z\n", end, most), b"refused Fires 0 0\n"
+    yield "p 0", *filled(b"cert 1\nsizes 1 0 1 0\nprocess 0 COUNT\n", b"p 0\n", end, most), b"refused Shape 0\n"
+    yield "g 0 0", *filled(b"cert 1\nsizes 1 0 1 0\nprocess 0 COUNT\n", b"g 0 0\n", end, most), b"refused Shape 0\n"
+    yield "process 0 0", *filled(b"cert 1\nsizes COUNT 0 1 0\n", b"process 0 0\n", end, most), b"refused Shape 1\n"
+    yield "channel 0 0 0 0 inorder", *filled(b"cert 1\nsizes 0 COUNT 0 0\n", b"channel 0 0 0 0 inorder\n", b"end\n", most), b"refused Shape 1\n"
+    yield "channel 0 0 0 1 inorder, of one process", *filled(b"cert 1\nsizes 1 COUNT 1 1\nprocess 0 1\nf z\n", b"channel 0 0 0 1 inorder\n", b"sweep\n0\nend\n", most), b"accepted\n"
+    yield "sweep", *filled(b"cert 1\nsizes 1 0 COUNT 0\nprocess 0 1\nf z\n", b"sweep\n", b"end\n", most), b"refused Shape 1\n"
+    yield "0, of the schedule", *filled(b"cert 1\nsizes 1 0 1 COUNT\nprocess 0 1\nf z\nsweep\n", b"0\n", b"end\n", most), b"refused NotEnabled 1\n"
+    yield "empty lines", *filled(b"cert 1\nsizes 1 0 1 0\nprocess 0 COUNT\n", b"\n", end, most), b"refused Line 4\n"
+    yield "one line of 64 MiB", 1, b"cert 1\nsizes 1 0 1 0\nprocess 0 1\nf" + b" z" * (most // 2 - 40), b"refused Truncated\n"
+    yield "one ended line of 64 MiB", 1, b"cert 1\nsizes 1 0 1 0\nprocess 0 1\nf" + b" z" * (most // 2 - 40) + b"\n", b"refused Line 4\n"
+    yield "a number of 64 MiB", 1, b"cert 1\nsizes 1 0 1 0\nprocess 0 1" + b"0" * (most - 80) + b"\n", b"refused Number 3\n"
+
+
+def lines(program):
+    rows = []
+    for share in (16, 1):
+        for name, count, text, answer in line_texts(share):
+            end = ask(program, ["check"], b"out y;\n%%\n%%\n" + text)
+            wanted = 0 if answer == b"accepted\n" else 1
+            judge(f"{count} lines `{name}`", end, (wanted, answer, b""), MOST_OF_CHECK)
+            each = f"{(end.kilobytes - 2500) * KILO / count:.0f}" if count > 1 else ""
+            rows.append([name, count, f"{len(text) / KILO**2:.0f}", told(end), f"{end.cpu:.2f}", megabytes(end), each])
+            print(rows[-1], file=sys.stderr, flush=True)
+    asking.table(["Line", "Lines", "MiB", "Answer", "s", "MB", "Bytes a line"], rows)
+
+
+# ------------------------------------------------------------------------------------------------------------ announce
+
+
+def announcing():
+    most = b"4294967295"
+    heads = [b"sizes %s 0 1 0\n", b"sizes 1 %s 1 0\n", b"sizes 1 0 %s 0\n", b"sizes 1 0 1 %s\n", b"sizes %s %s %s %s\n"]
+    for head in heads:
+        text = b"cert 1\n" + head.replace(b"%s", most)
+        for more in (b"", b"process 0 1\nf z\n", b"process %s 1\nf z\n" % most, b"process 0 %s\n" % most, b"process 0 %s\nf z\n" % most, b"process 0 1\nf z\nchannel %s %s %s %s inorder\n" % ((most,) * 4),
+                     b"process 0 1\nf z\nsweep\n0\nend\n", b"process 0 1\nf z\nsweep\n%s\nend\n" % most, b"process 0 2\nf z\ng %s %s\nsweep\nend\n" % (most, most), b"process 0 2\nf %s\np %s\nsweep\n0\n0\nend\n" % (most, most)):
+            yield text + more
+    for more in (b"process %s 1\nf z\nsweep\n0\nend\n" % most, b"process 0 1\nf %s\nsweep\n0\nend\n" % most, b"process 0 2\nf z\np %s\nsweep\n0\nend\n" % most):
+        yield b"cert 1\nsizes 1 0 1 1\n" + more
+    yield b"cert 1\nsizes 1 1 1 1\nprocess 0 1\nf z\nchannel 0 0 0 %s inorder\nsweep\n0\nend\n" % most
+    yield b"cert 1\nsizes 1 1 1 3\nprocess 1 3\nf z\np 0\ng 0 0\nchannel 0 0 0 %s inorder\nsweep\n0\n0\n0\nend\n" % most
+
+
+def announce(program):
+    ends, statuses = [], collections.Counter()
+    for text in announcing():
+        bundle = b"out y;\n%%\n%%\n" + text
+        wanted = meaning.outcome(["check"], bundle)
+        end = ask(program, ["check"], bundle)
+        judge(f"announcing {text!r}", end, wanted, 16 << 10)
+        statuses[told(end)] += 1
+        ends.append(end)
+    rows = [[told_so, count] for told_so, count in sorted(statuses.items())]
+    asking.table(["Answer", f"Certificates, of {len(ends)}"], rows)
+    print(f"\nthe longest {max(it.cpu for it in ends):.2f} s, the largest {max(it.kilobytes for it in ends) / KILO:.1f} MB")
+
+
+# -------------------------------------------------------------------------------------------------------------- bundle
+
+
+def bundles():
+    """A name, a command, a bundle and what comes of it."""
+    def to_limit(before, piece, after=b"", over=0):
+        count = (BUNDLE - len(before) - len(after) + over) // len(piece)
+        return before + piece * count + after
+
+    yield "spaces", "run", to_limit(b"", b" "), (0, b"", b"")
+    yield "spaces, and one more", "run", b" " * (BUNDLE + 1), (5, b"", b"bundle: TooLong\n")
+    yield "one comment", "run", to_limit(b"/*", b"*", b"/"), (0, b"", b"")
+    yield "comments", "run", to_limit(b"", b"/**/"), (0, b"", b"")
+    yield "a comment that isn't closed", "run", to_limit(b"/*", b"* "), (6, b"", b"text: OpenComment 0\n")
+    yield "one name", "run", to_limit(b"var ", b"a", b";"), (0, b"", b"")
+    yield "one number, of zeros", "run", to_limit(b"out y; y = ", b"0", b"1;"), (0, b"y,1\n", b"")
+    yield "one number, of nines", "run", to_limit(b"out y; y = ", b"9", b";"), (6, b"", b"text: LargeNumber 11\n")
+    yield "tokens", "run", to_limit(b"", b"{"), (6, b"", b"text: TooMany 8192\n")
+    yield "separators", "check", to_limit(b"out y;\n", b"%%\n"), (1, b"refused Line 1\n", b"")
+    head = b"in x; out y; y = x;\n%%\n"
+    yield "a record of empty fields", "run", to_limit(head + b"x", b","), None
+    yield "a record of values", "run", to_limit(head + b"x", b",1"), None
+    yield "records of one byte", "run", to_limit(head, b"x\n"), (9, b"", b"data: Count 1 0 1\n")
+    yield "empty lines", "run", to_limit(head, b"\n", b"x,3\n"), (0, b"y,3\n", b"")
+    yield "one quoted field", "run", to_limit(head + b'x,"', b'""'), (9, b"", b"data: NotANumber 1 1\n")
+    yield "a value of zeros", "run", to_limit(head + b"x,", b"0", b"5\n"), (0, b"y,5\n", b"")
+    yield "a value of nines", "run", to_limit(head + b"x,", b"9", b"\n"), (9, b"", b"data: NotANumber 1 1\n")
+    yield "a name of an array", "run", to_limit(head, b"x", b",3\n"), (9, b"", b"data: UnknownArray 1\n")
+    yield "the right record, and then others", "run", to_limit(head + b"x,3\n", b"z\n"), (9, b"", b"data: UnknownArray 2\n")
+    # 1,048,575 cells stand for a size of 2,097,150
+    cells = 1_048_575
+    yield "1,048,575 values", "seq", b"in x[1048575];\n%%\nx" + b",-9223372036854775808" * cells + b"\n", (0, b"", b"")
+    yield "1,048,575 values", "run", b"in x[1048575];\n%%\nx" + b",-9223372036854775808" * cells + b"\n", (0, b"", b"")
+
+
+def bundle(program):
+    rows = []
+    for name, command, text, wanted in bundles():
+        if wanted is None:
+            fields = text.count(b",")
+            wanted = 9, b"", b"data: Count 1 %d 1\n" % fields
+        end = ask(program, [command], text)
+        judge(f"a bundle of {name}, {command}", end, wanted)
+        rows.append([name, command, f"{len(text) / KILO**2:.0f}", told(end), f"{end.cpu:.2f}", megabytes(end)])
+        print(rows[-1], file=sys.stderr, flush=True)
+    asking.table(["Bundle of", "Command", "MiB", "Status, first line", "s", "MB"], rows)
+
+
+# ------------------------------------------------------------------------------------------------------------- threads
+
+
+def threads(program):
+    source, data, words = pipeline(62, 20)
+    bundle = asking.bundled(source, data)
+    plain = asking.ask(program, ["run", *words], bundle)
+    judge("64 processes", plain, asking.ask(program, ["seq", *words], bundle)[:3])
+    rows = [["no limit, 20 items", told(plain)[:20], f"{plain.cpu:.2f}", megabytes(plain)]]
+    source, data, long_words = pipeline(62, 16384)
+    for count in (1, 2, 4):
+        cpus = sorted(os.sched_getaffinity(0))
+        if len(cpus) < count:
+            continue
+        os.sched_setaffinity(0, cpus[:count])
+        for name, given, text in (("20 items", words, bundle), ("16,384 items", long_words, asking.bundled(source, data))):
+            wanted = asking.ask(program, ["seq", *given], text, SECONDS)
+            end = asking.ask(program, ["run", *given], text, SECONDS)
+            judge(f"64 processes on {count} processors, {name}", end, wanted[:3])
+            rows.append([f"{count} processors, {name}", told(end)[:20], f"{end.cpu:.2f}", megabytes(end)])
+            print(rows[-1], file=sys.stderr, flush=True)
+        os.sched_setaffinity(0, cpus)
+    asking.table(["64 processes, by `run`", "Status, first bytes", "s", "MB"], rows)
+    print()
+    setpriv = shutil.which("setpriv")
+    if os.geteuid() != 0 or not setpriv:
+        print("not root, or no setpriv: no start of a thread was refused")
+        return
+    rows = []
+    with tempfile.TemporaryDirectory() as folder:
+        os.chmod(folder, 0o755)
+        copy = os.path.join(folder, "compaan")
+        shutil.copy(program, copy)
+        os.chmod(copy, 0o755)
+        user = "58273"
+        before = [setpriv, f"--reuid={user}", f"--regid={user}", "--clear-groups", "--no-new-privs", "--bounding-set=-all", "--inh-caps=-all"]
+        old = resource.getrlimit(resource.RLIMIT_NPROC)
+        for limit in [*range(1, 67), 80]:
+            statuses, seconds = collections.Counter(), 0
+            for _ in range(5):
+                resource.setrlimit(resource.RLIMIT_NPROC, (limit, old[1]))
+                end = asking.ask(copy, ["run", *words], bundle, 30, before=before)
+                resource.setrlimit(resource.RLIMIT_NPROC, old)
+                # where a start is refused the network goes along its schedule, in one thread
+                is_well = judge(f"64 processes under a limit of {limit} tasks", end, plain[:3])
+                statuses["hung" if end.hung else f"{end.status}, {'the same answer' if is_well else 'not as wanted'}"] += 1
+                seconds = max(seconds, end.seconds)
+            rows.append([limit, ", ".join(f"{count} x {it}" for it, count in sorted(statuses.items())), f"{seconds:.2f}"])
+            print(rows[-1], file=sys.stderr, flush=True)
+    groups = []
+    for limit, statuses, seconds in rows:
+        if groups and groups[-1][2] == statuses:
+            groups[-1][1], groups[-1][3] = limit, max(groups[-1][3], float(seconds))
+        else:
+            groups.append([limit, limit, statuses, float(seconds)])
+    asking.table(["Tasks that are allowed", "Statuses of 5 runs each", "The longest, s"], [[f"{a} to {b}" if a < b else a, statuses, f"{seconds:.2f}"] for a, b, statuses, seconds in groups])
+
+
+SECTIONS = {"deep": deep, "size": size, "lines": lines, "announce": announce, "bundle": bundle, "threads": threads}
+
+
+def main():
+    given = asking.words(__doc__, only=("", "this section alone: " + ", ".join(SECTIONS)), space=(4, "how many GB of address space a run has at most; 0 sets no limit"))
+    with_limits(given.space)
+    for name, section in SECTIONS.items():
+        if given.only in ("", name):
+            print(f"\n## {name}\n")
+            section(given.compaan)
+    print()
+    for line in BAD:
+        print(line)
+    print(f"{len(BAD)} not as wanted")
+    return 1 if BAD else 0
+
+
+if __name__ == "__main__":
+    sys.exit(main())

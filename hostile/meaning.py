@@ -1,0 +1,881 @@
+"""What a bundle comes to by `run`, `seq` and `check`, computed without compaan, from docs/LANGUAGE.md, COMMANDS.md and CERTIFICATES.md.
+
+A source is turned into Python and run there: memory is a dictionary, numbers are Python's, wrapped to 64 bits where a value is kept
+or compared. A refusal is worked out with its place. It is a test's other side, and outside the proof.
+"""
+import re
+import sys
+
+# numbers of any length, and trees of any depth that the stack of a thread holds
+sys.set_int_max_str_digits(0)
+BUNDLE_LIMIT = 67_108_864
+SIZE_LIMIT = 2_097_152
+TOKEN_LIMIT = 8192
+LARGE = 2_147_483_647
+LOOP_VALUE = 1 << 62
+HALF, MASK = 1 << 63, (1 << 64) - 1
+RESERVED = set(b"param in out inout var int for if else min max".split())
+# Of several reasons at one place the first in this order is told.
+REASONS = "UnknownName Duplicate Unbound NotAffine WrongCount ElseForm TooManyProcesses TooDeep TooManyReads TooManyRows Large StepMax StepRange".split()
+LIMITS = {"TooManyProcesses", "TooDeep", "TooManyReads", "TooManyRows", "Large"}
+
+
+class Refused(Exception):
+    """A refusal, with its status and its line."""
+
+    def __init__(self, status, line):
+        super().__init__(line)
+        self.status, self.line = status, line
+
+
+def wrap(value):
+    return ((value + HALF) & MASK) - HALF
+
+
+# ------------------------------------------------------------------------------------------------------------- the bundle
+
+
+def parts_of(bundle):
+    """The source, and the data and the certificate, each None where it is missing."""
+    if len(bundle) > BUNDLE_LIMIT:
+        raise Refused(5, "bundle: TooLong")
+    found, rest = [], bundle
+    for _ in range(2):
+        cut = re.search(rb"(?:\A|(?<=\n))%%(?:\r?\n|\Z)", rest)
+        if not cut:
+            break
+        found.append(rest[: cut.start()])
+        rest = rest[cut.end() :]
+    found.append(rest)
+    return [*found, None, None][:3]
+
+
+# ------------------------------------------------------------------------------------------------------------- the tokens
+
+SPACE = re.compile(rb"[ \t\n\r]+|//[^\n]*|/\*.*?\*/", re.S)
+TOKEN = re.compile(rb"([A-Za-z_][A-Za-z_0-9]*)|([0-9]+)|(<=|>=|==|\+\+|\+=|&&|[()\[\]{};,=<>+\-*])")
+
+
+def tokens_of(source):
+    """The tokens: kind, text and place. The kind of a sign or a reserved word is its text."""
+    found, at = [], 0
+    while at < len(source):
+        space = SPACE.match(source, at)
+        if space:
+            at = space.end()
+            continue
+        token = TOKEN.match(source, at)
+        if not token:
+            raise Refused(6, f"text: {'OpenComment' if source.startswith(b'/*', at) else 'BadByte'} {at}")
+        word, digits, sign = token.groups()
+        if digits and int(digits) > HALF - 1:
+            raise Refused(6, f"text: LargeNumber {at}")
+        if len(found) == TOKEN_LIMIT:
+            raise Refused(6, f"text: TooMany {at}")
+        kind = ("reserved " + word.decode() if word in RESERVED else "name") if word else "number" if digits else sign.decode()
+        found.append((kind, token.group(), at))
+        at = token.end()
+    return found
+
+
+# ------------------------------------------------------------------------------------------------------------ the grammar
+
+
+class Parser:
+    """The tree of the tokens. The first token that can't stand where it does is refused."""
+
+    def __init__(self, source):
+        self.tokens = tokens_of(source) + [("end", b"", len(source))]
+        self.at = 0
+
+    def kind(self):
+        return self.tokens[self.at][0]
+
+    def fail(self):
+        raise Refused(6, f"text: Syntax {self.tokens[self.at][2]}")
+
+    def take(self, *kinds):
+        """The next token, which is of one of these kinds."""
+        token = self.tokens[self.at]
+        if token[0] not in kinds:
+            self.fail()
+        self.at += 1
+        return token
+
+    def has(self, kind):
+        """Takes the next token if it is of this kind."""
+        if self.kind() == kind:
+            self.at += 1
+            return True
+        return False
+
+    def name(self):
+        _, text, at = self.take("name")
+        return text.decode(), at
+
+    def program(self):
+        declarations, statements = [], []
+        while self.kind() in ("reserved param", "reserved in", "reserved out", "reserved inout", "reserved var"):
+            word = self.take(self.kind())[1].decode()
+            names = [self.declared(word)]
+            while self.has(","):
+                names.append(self.declared(word))
+            self.take(";")
+            declarations.append((word, names))
+        while self.kind() != "end":
+            statements.append(self.statement())
+        return declarations, statements
+
+    def declared(self, word):
+        name = self.name()
+        return name, [] if word == "param" else self.subscripts()
+
+    def subscripts(self):
+        found = []
+        while self.has("["):
+            found.append(self.sum())
+            self.take("]")
+        return found
+
+    def statement(self):
+        if self.has("reserved for"):
+            return self.loop()
+        if self.has("reserved if"):
+            return self.guard()
+        if self.kind() == "{":
+            return self.block()
+        name, subscripts = self.name(), self.subscripts()
+        self.take("=")
+        value = self.sum()
+        self.take(";")
+        return "set", name, subscripts, value
+
+    def block(self):
+        self.take("{")
+        found = []
+        while not self.has("}"):
+            found.append(self.statement())
+        return "block", found
+
+    def loop(self):
+        self.take("(")
+        self.has("reserved int")
+        first = self.name()
+        self.take("=")
+        lower = self.sum()
+        self.take(";")
+        second = self.name()
+        inclusive = self.take("<", "<=")[0] == "<="
+        upper = self.sum()
+        self.take(";")
+        step = None
+        if self.has("++"):
+            third = self.name()
+        else:
+            third = self.name()
+            sign, _, at = self.take("++", "+=")
+            if sign == "+=":
+                step = at, self.sum()
+        self.take(")")
+        return "for", first, lower, second, inclusive, upper, third, step, self.statement()
+
+    def guard(self):
+        self.take("(")
+        conditions = [self.comparison()]
+        while self.has("&&"):
+            conditions.append(self.comparison())
+        self.take(")")
+        is_block = self.kind() == "{"
+        body, other = self.statement(), None
+        if is_block and self.kind() == "reserved else":
+            at = self.take("reserved else")[2]
+            other = at, self.statement()
+        return "if", conditions, body, other
+
+    def comparison(self):
+        left = self.sum()
+        sign = self.take("<", "<=", ">", ">=", "==")[0]
+        return left, sign, self.sum()
+
+    def sum(self):
+        left = self.product()
+        while self.kind() in "+-":
+            sign, _, at = self.take("+", "-")
+            left = "two", sign, at, left, self.product()
+        return left
+
+    def product(self):
+        left = self.factor()
+        while self.kind() == "*":
+            at = self.take("*")[2]
+            left = "two", "*", at, left, self.factor()
+        return left
+
+    def factor(self):
+        kind, text, at = self.take("-", "number", "(", "name", "reserved min", "reserved max")
+        if kind == "-":
+            return "minus", at, self.factor()
+        if kind == "number":
+            return "number", at, int(text)
+        if kind == "(":
+            inner = self.sum()
+            self.take(")")
+            return inner
+        if kind == "name":
+            return "name", at, text.decode(), self.subscripts()
+        self.take("(")
+        found = [self.sum()]
+        while self.has(","):
+            found.append(self.sum())
+        self.take(")")
+        return found[0] if len(found) == 1 else (kind[-3:], at, found)
+
+
+# ------------------------------------------------------------------------------------------------------------ the binding
+
+NO_VARIABLE = (0,) * 6
+
+
+class Array:
+    def __init__(self, number, name, kind, extents, subscripts):
+        self.number, self.name, self.kind, self.extents, self.subscripts = number, name, kind, extents, subscripts
+        self.is_given, self.is_printed = kind in ("in", "inout"), kind in ("out", "inout")
+
+
+class Program:
+    """A source with values for its parameters, as a function of Python."""
+
+    def __init__(self, source, values):
+        declarations, statements = Parser(source).program()
+        self.found, self.values, self.scope, self.arrays, processes = [], values, {}, [], 0
+        for word, names in declarations:
+            for (name, at), extents in names:
+                if name in self.scope:
+                    self.blame("Duplicate", at)
+                if word == "param":
+                    if name not in values:
+                        self.blame("Unbound", at)
+                    elif abs(values[name]) > LARGE:
+                        self.blame("Large", at)
+                    self.scope.setdefault(name, ("param", values.get(name, 0)))
+                    continue
+                forms = [self.form(it, True) or (0, NO_VARIABLE) for it in extents]
+                added = {"in": 1, "out": 1, "inout": 2, "var": 0}[word]
+                if processes <= 64 < processes + added:
+                    self.blame("TooManyProcesses", at)
+                processes += added
+                if len(extents) > 6:
+                    self.blame("TooDeep", at)
+                array = Array(len(self.arrays), name, word, [max(0, it[0]) for it in forms], len(extents))
+                self.arrays.append(array)
+                self.scope.setdefault(name, ("array", array))
+        given = [it for it in self.arrays if it.is_given]
+        self.sinks = sum(it.is_printed for it in self.arrays)
+        self.next_loop = sum(len(it.extents) for it in given)
+        self.first = self.next_statement = len(given)
+        # for each process how many reads it has
+        self.reads = [0] * self.first
+        self.code = {"values": [], "trace": []}
+        self.rows = 0
+        self.depth = 0
+        self.turns = []
+        for it in statements:
+            self.statement(it, "  ")
+        self.reads += [1] * self.sinks
+        if self.found:
+            at, _, reason = min(self.found)
+            raise Refused(8 if reason in LIMITS else 7, f"{'limit' if reason in LIMITS else 'class'}: {reason} {at}")
+
+    def blame(self, reason, at):
+        self.found.append((at, REASONS.index(reason), reason))
+
+    def limited(self, at, form):
+        if abs(form[0]) > LARGE or any(abs(it) > LARGE for it in form[1]):
+            self.blame("Large", at)
+            return None
+        return form
+
+    def form(self, tree, is_extent=False):
+        """The affine form of a place: a constant and six coefficients, or None where a reason was found."""
+        kind, at = tree[0], tree[1]
+        if kind == "number":
+            return self.limited(at, (tree[2], NO_VARIABLE))
+        if kind == "minus":
+            inner = self.form(tree[2], is_extent)
+            return inner and self.limited(at, (-inner[0], tuple(-it for it in inner[1])))
+        if kind == "name":
+            _, _, name, subscripts = tree
+            for it in subscripts:
+                self.form(it, is_extent)
+            what, value = self.scope.get(name, (None, None))
+            if is_extent and what != "param":
+                what = None
+            if what == "array":
+                self.blame("NotAffine", at)
+            elif what is None or subscripts:
+                self.blame("UnknownName", at)
+            else:
+                return self.limited(at, (value, NO_VARIABLE) if what == "param" else value)
+            return None
+        if kind == "two":
+            _, sign, at, left, right = tree
+            a, b = self.form(left, is_extent), self.form(right, is_extent)
+            if a is None or b is None:
+                return None
+            if sign == "*":
+                if any(a[1]) and any(b[1]):
+                    self.blame("NotAffine", at)
+                    return None
+                by, of = (b, a) if any(a[1]) else (a, b)
+                return self.limited(at, (by[0] * of[0], tuple(by[0] * it for it in of[1])))
+            by = 1 if sign == "+" else -1
+            return self.limited(at, (a[0] + by * b[0], tuple(x + by * y for x, y in zip(a[1], b[1]))))
+        for it in tree[2]:
+            self.form(it, is_extent)
+        self.blame("NotAffine", at)
+        return None
+
+    # Python's text of a place. A loop's variable has its value there, whatever its step.
+
+    def affine(self, tree):
+        kind = tree[0]
+        if kind == "number":
+            return str(tree[2])
+        if kind == "minus":
+            return f"(-{self.affine(tree[2])})"
+        if kind == "name":
+            what, value = self.scope.get(tree[2], (None, None))
+            return f"({value})" if what == "param" else f"v_{tree[2]}"
+        if kind == "two":
+            return f"({self.affine(tree[3])}{tree[1]}{self.affine(tree[4])})"
+        return "0"
+
+    def value(self, tree, reads):
+        """Python's text of a right side. Its reads are added to the list."""
+        kind, at = tree[0], tree[1]
+        if kind == "number":
+            return str(tree[2])
+        if kind == "minus":
+            return f"(-{self.value(tree[2], reads)})"
+        if kind == "name":
+            _, _, name, subscripts = tree
+            what, value = self.scope.get(name, (None, None))
+            if what == "array":
+                if len(subscripts) != value.subscripts:
+                    self.blame("WrongCount", at)
+                if len(reads) == 8:
+                    self.blame("TooManyReads", at)
+                for it in subscripts:
+                    self.form(it)
+                cell = self.cell(value.number, subscripts)
+                reads.append(cell)
+                return f"G({cell},0)"
+            if what is None or subscripts:
+                self.blame("UnknownName", at)
+                for it in subscripts:
+                    self.form(it)
+                return "0"
+            return f"({value})" if what == "param" else f"v_{name}"
+        if kind == "two":
+            return f"({self.value(tree[3], reads)}{tree[1]}{self.value(tree[4], reads)})"
+        return f"{kind}({','.join(f'W({self.value(it, reads)})' for it in tree[2])})"
+
+    def cell(self, number, subscripts):
+        return "(" + ",".join([str(number), *map(self.affine, subscripts)]) + ",)"
+
+    def emit(self, text, *kinds):
+        for kind in kinds or self.code:
+            self.code[kind].append(text)
+
+    def statement(self, tree, indent):
+        kind = tree[0]
+        if kind == "block":
+            for it in tree[1]:
+                self.statement(it, indent)
+        elif kind == "for":
+            self.loop(tree, indent)
+        elif kind == "if":
+            self.guard(tree, indent)
+        else:
+            self.assign(tree, indent)
+
+    def loop(self, tree, indent):
+        _, (name, at), lower, (second, second_at), inclusive, upper, (third, third_at), step, body = tree
+        number, self.next_loop = self.next_loop, self.next_loop + 1
+        if name in self.scope:
+            self.blame("Duplicate", at)
+        if self.depth >= 6:
+            self.blame("TooDeep", at)
+        lowers = lower[2] if lower[0] == "max" else [lower]
+        uppers = upper[2] if upper[0] == "min" else [upper]
+        forms = [self.form(it) or (0, NO_VARIABLE) for it in lowers]
+        for it in uppers:
+            self.form(it)
+        for other, other_at in ((second, second_at), (third, third_at)):
+            if other != name:
+                self.blame("UnknownName", other_at)
+        by = 1
+        if step:
+            by_form = self.form(step[1], True)
+            by = by_form[0] if by_form else 1
+            if by < 1:
+                self.blame("StepRange", step[0])
+            if by > 1 and len(lowers) > 1:
+                self.blame("StepMax", step[0])
+        if self.depth >= 6:
+            return
+        at_least, at_most = ",".join(map(self.affine, lowers)), ",".join(f"{self.affine(it)}{'' if inclusive else '-1'}" for it in uppers)
+        d = len(indent)
+        self.emit(f"{indent}a{d}=({at_least},);b{d}=({at_most},)")
+        self.emit(f"{indent}if max(a{d})>Q or min(a{d})<-Q or max(b{d})>Q or min(b{d})<-Q: raise Refused(8,'limit: LoopValue {number}')")
+        turn = f"v_{name}"
+        if by > 1:
+            turn = f"t{d}"
+            self.emit(f"{indent}for {turn},v_{name} in enumerate(range(max(a{d}),min(b{d})+1,{by})):")
+        else:
+            self.emit(f"{indent}for v_{name} in range(max(a{d}),min(b{d})+1):")
+        self.emit(f"{indent} n+=1")
+        self.emit(f"{indent} if n>L: raise Refused(8,'limit: Size {SIZE_LIMIT + 1}')")
+        is_new = name not in self.scope
+        if is_new:
+            coefficients = tuple(by if it == self.depth else 0 for it in range(6))
+            start = forms[0] if by > 1 else (0, NO_VARIABLE)
+            self.scope[name] = "loop", (start[0], tuple(x + y for x, y in zip(start[1], coefficients)))
+        more = 1 + len(uppers) if by > 1 else len(lowers) + len(uppers)
+        self.rows += more
+        self.depth += 1
+        self.turns.append(turn)
+        self.statement(body, indent + " ")
+        self.turns.pop()
+        self.depth -= 1
+        self.rows -= more
+        if is_new:
+            del self.scope[name]
+
+    def guard(self, tree, indent):
+        _, conditions, body, other = tree
+        for left, _, right in conditions:
+            self.form(left)
+            self.form(right)
+        test = " and ".join(f"{self.affine(left)}{sign}{self.affine(right)}" for left, sign, right in conditions)
+        more = sum(2 if sign == "==" else 1 for _, sign, _ in conditions)
+        self.emit(f"{indent}if {test}:")
+        self.emit(f"{indent} pass")
+        self.rows += more
+        self.statement(body, indent + " ")
+        self.rows -= more
+        if other:
+            if len(conditions) > 1 or conditions[0][1] == "==":
+                self.blame("ElseForm", other[0])
+            self.emit(f"{indent}else:")
+            self.emit(f"{indent} pass")
+            self.rows += more
+            self.statement(other[1], indent + " ")
+            self.rows -= more
+
+    def assign(self, tree, indent):
+        _, (name, at), subscripts, value = tree
+        number, self.next_statement = self.next_statement, self.next_statement + 1
+        what, array = self.scope.get(name, (None, None))
+        if number + self.sinks == 64:
+            self.blame("TooManyProcesses", at)
+        if self.rows > 32:
+            self.blame("TooManyRows", at)
+        if what != "array":
+            self.blame("UnknownName", at)
+        elif len(subscripts) != array.subscripts:
+            self.blame("WrongCount", at)
+        for it in subscripts:
+            self.form(it)
+        reads = []
+        text = self.value(value, reads)
+        target = self.cell(array.number if what == "array" else 0, subscripts)
+        self.reads.append(len(reads))
+        self.emit(f"{indent}n+=1")
+        self.emit(f"{indent}if n>L: raise Refused(8,'limit: Size {SIZE_LIMIT + 1}')")
+        self.emit(f"{indent}M[{target}]=W({text})", "values")
+        self.emit(f"{indent}S[{number}].append(({''.join(f'G({it}),' for it in reads)}))", "trace")
+        self.emit(f"{indent}M[{target}]=({number},len(P[{number}]))", "trace")
+        self.emit(f"{indent}P[{number}].append(({''.join(it + ',' for it in self.turns)}))", "trace")
+
+    # Runs
+
+    def walk(self, kind, memory, points, sources, size):
+        text = "\n".join(["def body(M,P,S,n):", "  G=M.get", *self.code[kind], "  return n"])
+        known = {"Refused": Refused, "W": wrap, "L": SIZE_LIMIT, "Q": LOOP_VALUE}
+        exec(compile(text, "source", "exec"), known)
+        return known["body"](memory, points, sources, size)
+
+    def size_of(self, array):
+        """The size of an array's loops, or a number above the limit."""
+        size, turns = 0, 1
+        for extent in array.extents:
+            turns = min(turns * extent, SIZE_LIMIT + 1)
+            size += turns
+        return size + turns
+
+    def counted(self, size, arrays):
+        for it in arrays:
+            size += self.size_of(it)
+            if size > SIZE_LIMIT:
+                raise Refused(8, f"limit: Size {SIZE_LIMIT + 1}")
+        return size
+
+    def outputs(self, given):
+        """The values of each printed array, where these are given, by number."""
+        memory = {}
+        size = self.counted(0, [it for it in self.arrays if it.is_given])
+        for it in self.arrays:
+            if it.number in given:
+                memory.update(((it.number, *at), value) for at, value in zip(cells_of(it.extents), given[it.number]))
+        size = self.walk("values", memory, None, None, size)
+        printed = [it for it in self.arrays if it.is_printed]
+        self.counted(size, printed)
+        return [(it.name, [memory.get((it.number, *at), 0) for at in cells_of(it.extents)]) for it in printed]
+
+    def trace(self):
+        """For each process its points, and for each of them the last writer of each read, as (process, turn) or None."""
+        memory = {}
+        processes = len(self.reads)
+        points, sources = [[] for _ in range(processes)], [[] for _ in range(processes)]
+        size = self.counted(0, [it for it in self.arrays if it.is_given])
+        for number, it in enumerate(it for it in self.arrays if it.is_given):
+            for turn, at in enumerate(cells_of(it.extents)):
+                memory[(it.number, *at)] = number, turn
+                points[number].append(at)
+                sources[number].append(())
+        size = self.walk("trace", memory, points, sources, size)
+        printed = [it for it in self.arrays if it.is_printed]
+        self.counted(size, printed)
+        for number, it in enumerate(printed, processes - len(printed)):
+            for at in cells_of(it.extents):
+                points[number].append(at)
+                sources[number].append((memory.get((it.number, *at)),))
+        return points, sources
+
+
+def cells_of(extents):
+    """The cells in row-major order."""
+    found = [()]
+    for extent in extents:
+        found = [(*at, k) for at in found for k in range(extent)]
+    return found
+
+
+# --------------------------------------------------------------------------------------------------------------- the data
+
+
+def records_of(data):
+    """The records of the data, each as its fields."""
+    if data.startswith(b"\xef\xbb\xbf"):
+        data = data[3:]
+    found, record, field, state = [], [], bytearray(), "record"
+    for byte in data:
+        if state == "record":
+            if byte in b"\r\n":
+                continue
+            record, state = [], "field"
+        if state == "field":
+            field = bytearray()
+            if byte == 34:
+                state = "quoted"
+                continue
+            state = "plain"
+        if state == "closed":
+            if byte == 34:
+                field.append(34)
+                state = "quoted"
+                continue
+            state = "plain"
+        if state == "quoted":
+            if byte == 34:
+                state = "closed"
+            else:
+                field.append(byte)
+        elif byte == 44:
+            record.append(bytes(field))
+            state = "field"
+            field = bytearray()
+        elif byte in b"\r\n":
+            found.append([*record, bytes(field)])
+            state = "record"
+        else:
+            field.append(byte)
+    if state != "record":
+        found.append([*record, bytes(field) if state != "field" else b""])
+    return [[it.strip(b" \t") for it in record] for record in found]
+
+
+def inputs_of(arrays, data):
+    """The values of each given array, by its number."""
+    given = {it.name.encode(): it for it in reversed(arrays) if it.is_given}
+    found = {}
+    for number, (name, *fields) in enumerate(records_of(data), 1):
+        if name not in given:
+            raise Refused(9, f"data: UnknownArray {number}")
+        array = given[name]
+        if array.number in found:
+            raise Refused(9, f"data: Twice {number}")
+        wanted = 1
+        for extent in array.extents:
+            wanted *= extent
+        if len(fields) != wanted:
+            raise Refused(9, f"data: Count {number} {len(fields)} {wanted}")
+        values = []
+        for place, field in enumerate(fields, 1):
+            value = int(field) if re.fullmatch(rb"-?[0-9]+", field) else None
+            if value is None or not -HALF <= value < HALF:
+                raise Refused(9, f"data: NotANumber {number} {place}")
+            values.append(value)
+        found[array.number] = values
+    for it in arrays:
+        if it.is_given and it.number not in found:
+            raise Refused(9, f"data: Missing {it.name}")
+    return found
+
+
+# -------------------------------------------------------------------------------------------------------- the certificate
+
+
+class Unread(Exception):
+    """Why a certificate is refused: what follows `refused `."""
+
+
+CLASSES = {b"inorder": (False, False), b"inorder+": (False, True), b"reorder": (True, False), b"reorder+": (True, True)}
+CLASS_WORDS = {value: word.decode() for word, value in CLASSES.items()}
+
+
+class Lines:
+    """The lines of a certificate, with what is wrong with one."""
+
+    def __init__(self, text):
+        self.text, self.at, self.line = text, 0, 0
+
+    def next(self):
+        end = self.text.find(b"\n", self.at)
+        if end < 0:
+            raise Unread("Truncated")
+        line, self.at = self.text[self.at : end], end + 1
+        self.line += 1
+        return line.split(b" ")
+
+    def wrong(self):
+        raise Unread(f"Line {self.line}")
+
+    def numbers(self, words, more=()):
+        """The numbers of these words. The words that `more` holds stand for themselves."""
+        found, is_out = [], False
+        for word in words:
+            if word in more:
+                found.append(word)
+            elif re.fullmatch(rb"0|[1-9][0-9]*", word):
+                found.append(int(word) if len(word) < 20 else 1 << 64)
+                is_out = is_out or found[-1] > 4_294_967_295
+            elif re.fullmatch(rb"-[1-9][0-9]*", word):
+                is_out = True
+            else:
+                self.wrong()
+        if is_out:
+            raise Unread(f"Number {self.line}")
+        return found
+
+    def shaped(self, word, count):
+        """A line of this word and so many more."""
+        words = self.next()
+        if words[0] != word or len(words) != count + 1:
+            self.wrong()
+        return words[1:]
+
+
+def certificate_of(text):
+    """Processes as (slots, events), channels as (writer, reader, read, capacity, class), the count of sources, and the schedule."""
+    lines = Lines(text)
+    if lines.next() != [b"cert", b"1"]:
+        lines.wrong()
+    counts = lines.numbers(lines.shaped(b"sizes", 4))
+    processes, channels, schedule = [], [], []
+    for _ in range(counts[0]):
+        slots, events = lines.numbers(lines.shaped(b"process", 2))
+        script = []
+        for _ in range(events):
+            words = lines.next()
+            if words[0] == b"f" and len(words) <= 9:
+                script.append(("f", lines.numbers(words[1:], (b"z",))))
+            elif words[0] == b"g" and len(words) == 3:
+                script.append(("g", *lines.numbers(words[1:])))
+            elif words[0] == b"p" and len(words) == 2:
+                script.append(("p", *lines.numbers(words[1:])))
+            else:
+                lines.wrong()
+        processes.append((slots, script))
+    for _ in range(counts[1]):
+        words = lines.shaped(b"channel", 5)
+        if words[4] not in CLASSES:
+            lines.wrong()
+        channels.append((*lines.numbers(words[:4]), CLASSES[words[4]]))
+    for _ in range(counts[2]):
+        if lines.next() != [b"sweep"]:
+            lines.wrong()
+    for _ in range(counts[3]):
+        words = lines.next()
+        if len(words) != 1:
+            lines.wrong()
+        schedule += lines.numbers(words)
+    if lines.next() != [b"end"]:
+        lines.wrong()
+    if lines.at < len(text):
+        lines.next()
+        lines.wrong()
+    return processes, channels, counts[2], schedule
+
+
+def judge(program, certificate):
+    """Raises what is wrong first with a certificate that could be read, if anything is."""
+    processes, channels, table, schedule = certificate
+    points, sources = program.trace()
+    reads, count = program.reads, len(program.reads)
+    agrees = len(processes) == count and table == sum(reads)
+    if not agrees or any(writer >= count or reader >= count or read >= reads[reader] for writer, reader, read, _, _ in channels):
+        raise Unread(f"Shape {count}")
+    for p, (slots, script) in enumerate(processes):
+        gets = sum(it[0] == "g" for it in script)
+        for it in script:
+            if it[0] == "g" and not (it[1] < len(channels) and channels[it[1]][1] == p and it[2] < slots):
+                raise Unread(f"Shape {p}")
+            if it[0] == "p" and not (it[1] < len(channels) and channels[it[1]][0] == p):
+                raise Unread(f"Shape {p}")
+        if slots > gets:
+            raise Unread(f"Shape {p}")
+    for p, (slots, script) in enumerate(processes):
+        fires = 0
+        for k, it in enumerate(script):
+            if it[0] == "f":
+                if fires >= len(points[p]) or len(it[1]) != reads[p] or any(r != b"z" and r >= slots for r in it[1]):
+                    raise Unread(f"Fires {p} {k}")
+                fires += 1
+            elif it[0] == "p" and not fires:
+                raise Unread(f"Fires {p} {k}")
+        if fires < len(points[p]):
+            raise Unread(f"Fires {p} {len(script)}")
+    queues, taken = [[] for _ in channels], [0] * len(channels)
+    at, fires = [0] * count, [0] * count
+    kept, uses = [{} for _ in range(count)], [[] for _ in channels]
+
+    def told(tag):
+        return f"{tag[0]}({','.join(map(str, points[tag[0]][tag[1]]))})" if tag else "zero"
+
+    for e, p in enumerate(schedule):
+        script = processes[p][1] if p < count else ()
+        if p >= count or at[p] >= len(script):
+            raise Unread(f"NotEnabled {e}")
+        event = script[at[p]]
+        if event[0] == "g":
+            c = event[1]
+            if taken[c] == len(queues[c]):
+                raise Unread(f"NotEnabled {e}")
+            kept[p][event[2]] = queues[c][taken[c]], c, taken[c]
+            taken[c] += 1
+        elif event[0] == "p":
+            c = event[1]
+            if len(queues[c]) - taken[c] >= channels[c][3]:
+                raise Unread(f"NotEnabled {e}")
+            queues[c].append((p, fires[p] - 1))
+        else:
+            for r, wanted in zip(event[1], sources[p][fires[p]]):
+                if r != b"z" and r not in kept[p]:
+                    raise Unread(f"Tag {e} empty {told(wanted)}")
+                found = None if r == b"z" else kept[p][r][0]
+                if found != wanted:
+                    raise Unread(f"Tag {e} {told(found)} {told(wanted)}")
+                if r != b"z":
+                    uses[kept[p][r][1]].append(kept[p][r][2])
+            fires[p] += 1
+        at[p] += 1
+    for p in range(count):
+        if at[p] < len(processes[p][1]):
+            raise Unread(f"Unended {p}")
+    for c, channel in enumerate(channels):
+        is_class = any(a > b for a, b in zip(uses[c], uses[c][1:])), len(set(uses[c])) < len(uses[c])
+        if channel[4] != is_class:
+            raise Unread(f"Class {c} {CLASS_WORDS[channel[4]]} {CLASS_WORDS[is_class]}")
+
+
+# ------------------------------------------------------------------------------------------------------------ the commands
+
+
+USAGE = b"usage: compaan COMMAND [--policy seq|down] [NAME=VALUE]...\n"
+
+
+def order_of(words):
+    """The command, the values of parameters and the number behind `load`, or None where the words are refused."""
+    items, policies, rest = [], [], list(words)
+    while rest:
+        word = rest.pop(0)
+        if word == "--":
+            items += rest
+            break
+        if word == "--policy":
+            if not rest:
+                return None
+            policies.append(rest.pop(0))
+        elif word.startswith("--policy="):
+            policies.append(word[9:])
+        elif len(word) > 1 and word[0] == "-":
+            return None
+        else:
+            items.append(word)
+    if len(policies) > 1 or any(it not in ("seq", "down") for it in policies) or not items:
+        return None
+    command, *items = items
+    if command == "load":
+        return (command, {}, int(items[0])) if len(items) == 1 and re.fullmatch("[0-9]{1,18}", items[0]) else None
+    values = {}
+    for item in items:
+        name, _, value = item.partition("=")
+        is_name = re.fullmatch("[A-Za-z_][A-Za-z_0-9]*", name) and name.encode() not in RESERVED
+        if not is_name or name in values or not re.fullmatch("-?[0-9]{1,18}", value):
+            return None
+        values[name] = int(value)
+    return (command, values, 0) if command in ("run", "seq", "net", "cert", "check", "vhdl") else None
+
+
+def outcome(words, bundle):
+    """What `run`, `seq` and `check` come to, and every refused call: status, output and complaint. The answer of another command
+    isn't known: (0, None, b""). A byte of a word that is no UTF-8 stands as Python has it, as a lone surrogate."""
+    if any("\udc80" <= letter <= "\udcff" for word in words for letter in word):
+        return 11, b"", b""
+    order = order_of(words)
+    if order is None:
+        return 2, b"", USAGE
+    command, values, count = order
+    try:
+        if command == "load":
+            if count > LARGE:
+                raise Refused(8, "limit: Large 6")
+            if count > 100:
+                raise Refused(8, f"limit: Size {SIZE_LIMIT + 1}")
+            return 0, None, b""
+        source, data, certificate = parts_of(bundle)
+        if command == "check" and certificate is None:
+            raise Refused(5, "bundle: NoPart")
+        program = Program(source, values)
+        if command in ("run", "seq"):
+            fault, given = None, {}
+            try:
+                given = inputs_of(program.arrays, data or b"")
+            except Refused as refused:
+                fault = refused
+            answer = program.outputs(given)
+            if fault:
+                raise fault
+            lines = (",".join([name, *map(str, cells)]) + "\n" for name, cells in answer)
+            return 0, "".join(lines).encode(), b""
+        program.outputs({})
+        if command != "check":
+            return 0, None, b""
+        judge(program, certificate_of(certificate))
+        return 0, b"accepted\n", b""
+    except Unread as reason:
+        return 1, f"refused {reason}\n".encode(), b""
+    except Refused as refused:
+        return refused.status, b"", refused.line.encode() + b"\n"

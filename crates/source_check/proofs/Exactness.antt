@@ -98,7 +98,7 @@ module _ (n : Nest) (points : List Point) (follows : IsTrace n points) (r : Occu
         more = h.more ++ q ∷ [];
         starts = ap (λ v. v ++ q ∷ []) h.starts ∙ append_assoc x h.more (q ∷ []);
         within = within_append (length (v ++ q ∷ [])) c.rows rows (all_within_wider (length v) (length (v ++ q ∷ [])) longer c.rows h.within) w;
-        met = met_append c.rows rows (v ++ q ∷ []) (met_more c.rows v (q ∷ []) h.within h.met) m
+        met = met_append c.rows rows (v ++ q ∷ []) (met_more c.rows v (q ∷ []) h.within h.met) m;
       }
 
   checked_is_last : (c : Context) (tree : Tree) → IsCheckedIn n r every c tree → (v : List ℤ) → HoldsAt c v → IsLast (gives tree v)
@@ -109,10 +109,10 @@ module _ (n : Nest) (points : List Point) (follows : IsTrace n points) (r : Occu
       (λ met. checked_is_last (test_yes c form) above first v (more_hold c v (Take form ∷ []) h (short, tt) (met, tt)))
       (λ lt. checked_is_last (test_no c form) below second v (more_hold c v (below_zero (Take form) ∷ []) h ((short, omega arith), tt)
       ((let m : pos 0 ≤ℤ row_at (below_zero (Take form)) v = omega (arith, ints, lt) in m), tt)))) where
-      go : (p : Bool) → int_le (pos 0) (form_at form v) ≡ p → (pos 0 ≤ℤ form_at form v → IsLast (gives above v)) → (form_at form v <ℤ pos 0 → IsLast (gives below v))
-          → IsLast (cond p (gives above v) (gives below v))
-      go true e first second = first (le_where (pos 0) (form_at form v) e)
-      go false e first second = second (lt_where (pos 0) (form_at form v) e)
+        go : (p : Bool) → int_le (pos 0) (form_at form v) ≡ p → (pos 0 ≤ℤ form_at form v → IsLast (gives above v)) → (form_at form v <ℤ pos 0 → IsLast (gives below v))
+            → IsLast (cond p (gives above v) (gives below v))
+        go true e first second = first (le_where (pos 0) (form_at form v) e)
+        go false e first second = second (lt_where (pos 0) (form_at form v) e)
   checked_is_last _ _ (at_divides c tree form d above below is over two few first second) v h =
       let full : length form.coefs ≡ length v = over ∙ sym h.vars in
       let q : ℤ = quotient form d v in
@@ -122,11 +122,11 @@ module _ (n : Nest) (points : List Point) (follows : IsTrace n points) (r : Occu
       (one_hold c v q (divided_rows c.vars form d) h (divided_within form d c.vars v full (sym h.vars) two) (divided_met form d c.vars v full (sym h.vars) two e)))
       (λ e. checked_is_last (divides_no c form d) below second (v ++ q ∷ [])
       (one_hold c v q (undivided_rows c.vars form d) h (undivided_within form d c.vars v full (sym h.vars) two) (undivided_met form d c.vars v full (sym h.vars) two e)))) where
-      go : (p : Bool) → (unsigned_abs (form_at form v) % unsigned_abs d == 0) ≡ p → (unsigned_abs (form_at form v) % unsigned_abs d ≡ 0 → IsLast (gives above (v ++ quotient form d v ∷ [])))
-          → ((unsigned_abs (form_at form v) % unsigned_abs d ≡ 0 → ⊥) → IsLast (gives below (v ++ quotient form d v ∷ [])))
-          → IsLast (cond p (gives above (v ++ quotient form d v ∷ [])) (gives below (v ++ quotient form d v ∷ [])))
-      go true e first second = first (equal_where (unsigned_abs (form_at form v) % unsigned_abs d) 0 e)
-      go false e first second = second (not_equal_where (unsigned_abs (form_at form v) % unsigned_abs d) 0 e)
+        go : (p : Bool) → (unsigned_abs (form_at form v) % unsigned_abs d == 0) ≡ p → (unsigned_abs (form_at form v) % unsigned_abs d ≡ 0 → IsLast (gives above (v ++ quotient form d v ∷ [])))
+            → ((unsigned_abs (form_at form v) % unsigned_abs d ≡ 0 → ⊥) → IsLast (gives below (v ++ quotient form d v ∷ [])))
+            → IsLast (cond p (gives above (v ++ quotient form d v ∷ [])) (gives below (v ++ quotient form d v ∷ [])))
+        go true e first second = first (equal_where (unsigned_abs (form_at form v) % unsigned_abs d) 0 e)
+        go false e first second = second (not_equal_where (unsigned_abs (form_at form v) % unsigned_abs d) 0 e)
   checked_is_last _ _ (at_writer c tree s place proofs w is named_is may deep have refuted) v h =
       subst IsLast (sym (gives_writer v tree s place proofs is))
       (named_parts n r s w named_is
@@ -148,7 +148,7 @@ module _ (n : Nest) (points : List Point) (follows : IsTrace n points) (r : Occu
         more = [];
         starts = sym (append-nil x);
         within = taken_within (length x) r.statement.rows (subst (λ m. AreShort m r.statement.rows) (sym here.deep) (over_short (length r.statement.loops) r.statement.rows reads.rows_over));
-        met = taken_met r.statement.rows x here.holds
+        met = taken_met r.statement.rows x here.holds;
       }
 
   -- the cell that the entry reads

@@ -109,7 +109,7 @@ module _ (n : Nest) (points : List Point) (follows : IsTrace n points) (r : Occu
       = cells_met u.access.subscripts r.access.subscripts place at (ap (values u.access.subscripts) j_is ∙ same ∙ sym (read_is c v h j)) in
       let shared : AreMet (with_write_at r c u).rows at
       = met_append c.rows _ at (met_more c.rows v j h.within h.met)
-        (met_append (domain_rows u.statement.rows place) (cell_rows u.access.subscripts r.access.subscripts place) at domain cells) in
+      (met_append (domain_rows u.statement.rows place) (cell_rows u.access.subscripts r.access.subscripts place) at domain cells) in
       let system : List RowExpr → List RowExpr → RowSystem = λ p q. with_rows (with_write_at r c u) (p ++ q) in
       let levels : List (List RowExpr) = before_rows u.number u.statement place r.number r.statement (reader_place r) in
       let by_level : Each (λ p. Each IsEmpty (map (system p) (further u))) levels
@@ -184,10 +184,12 @@ module _ (n : Nest) (points : List Point) (follows : IsTrace n points) (r : Occu
 
     in_domain : (rows : List Form) → Each IsEmpty (map (λ row. with_rows c (below_zero (at_place row y) ∷ [])) rows) → AllHold rows point
     in_domain [] each = tt
-    in_domain (row ∷ rows) each =
-        (by_lt_z (form_at row point) (pos 0)
-        (λ lt. absurd (each.0.none v h.vars (met_append c.rows (below_zero (at_place row y) ∷ []) v h.met (omega (arith, ints, lt, row_at_place row y v), tt))))
-        (λ ge. ge), in_domain rows each.1)
+    in_domain (row ∷ rows) each = (
+      by_lt_z (form_at row point) (pos 0)
+          (λ lt. absurd (each.0.none v h.vars (met_append c.rows (below_zero (at_place row y) ∷ []) v h.met (omega (arith, ints, lt, row_at_place row y v), tt))))
+          (λ ge. ge),
+      in_domain rows each.1,
+    )
 
     is_point : IsPointAt n w.number w.statement point
     is_point = record { is = is; deep = length_values y v ∙ deep; holds = in_domain w.statement.rows outside_part } where
@@ -248,28 +250,29 @@ module _ (n : Nest) (points : List Point) (follows : IsTrace n points) (r : Occu
         let e = follows.point w.number w.statement point is_point in
         let u : ℕ = e.0 in
         let p : Point = record { statement = w.number; at = point } in
-        let reading : Point = record { statement = r.number; at = x } in
-        (u,
-        greatest_some (writes_at n points cell) t u
-        (follows.earlier u t p reading w.statement r.statement e.1 at_t is_point here is_before)
-        (ap (λ o. option_map_or (λ p. writes n p cell) o false) e.1
-        ∙ ap (λ o. option_map_or (λ written. is_cell written cell) (option_and_then (λ (s : Statement). option_map (cell_at point) s.write) o) false) is
-        ∙ ap (λ o. option_map_or (λ written. is_cell written cell) (option_map (cell_at point) o) false) write_is
-        ∙ where_cell (cell_at point w.access) cell array cell_is)
-        (λ z above below. false_where (writes_at n points cell z)
-        (λ yes_. writer_before z below yes_
-        (λ o j here_z point_z same before among.
-        no_other c v further o j h
-        (among (λ o. Each IsEmpty (write_systems r every c further o))
-        (each_from_flat IsEmpty (write_systems r every c further) (array_writes n r) between_part))
-        point_z same before
-        (λ P each use_it.
-        let q : Point = record { statement = o.number; at = j } in
-        let later : IsBefore w.number w.statement point o.number o.statement j = follows.later u z p q w.statement o.statement e.1 here_z is_point point_z above in
-        let y_is : values y (v ++ j) ≡ point = values_more y v j short in
-        let j_is : values (writer_place c o) (v ++ j) ≡ j = other_is c v h o j point_z.deep in
-        some_level ⊥ P (common_loops w.statement.loops o.statement.loops) (nat_lt w.number o.number) y (writer_place c o) (v ++ j) each
-        (subst (λ a. PrecedesWithin (common_loops w.statement.loops o.statement.loops) (nat_lt w.number o.number) a (values (writer_place c o) (v ++ j))) (sym y_is)
-        (subst (λ b. PrecedesWithin (common_loops w.statement.loops o.statement.loops) (nat_lt w.number o.number) point b) (sym j_is) later))
-        use_it)))),
-        e.1)
+        let reading : Point = record { statement = r.number; at = x } in (
+          u,
+          greatest_some (writes_at n points cell) t u
+              (follows.earlier u t p reading w.statement r.statement e.1 at_t is_point here is_before)
+              (ap (λ o. option_map_or (λ p. writes n p cell) o false) e.1
+              ∙ ap (λ o. option_map_or (λ written. is_cell written cell) (option_and_then (λ (s : Statement). option_map (cell_at point) s.write) o) false) is
+              ∙ ap (λ o. option_map_or (λ written. is_cell written cell) (option_map (cell_at point) o) false) write_is
+              ∙ where_cell (cell_at point w.access) cell array cell_is)
+              (λ z above below. false_where (writes_at n points cell z)
+              (λ yes_. writer_before z below yes_
+              (λ o j here_z point_z same before among.
+              no_other c v further o j h
+              (among (λ o. Each IsEmpty (write_systems r every c further o))
+              (each_from_flat IsEmpty (write_systems r every c further) (array_writes n r) between_part))
+              point_z same before
+              (λ P each use_it.
+              let q : Point = record { statement = o.number; at = j } in
+              let later : IsBefore w.number w.statement point o.number o.statement j = follows.later u z p q w.statement o.statement e.1 here_z is_point point_z above in
+              let y_is : values y (v ++ j) ≡ point = values_more y v j short in
+              let j_is : values (writer_place c o) (v ++ j) ≡ j = other_is c v h o j point_z.deep in
+              some_level ⊥ P (common_loops w.statement.loops o.statement.loops) (nat_lt w.number o.number) y (writer_place c o) (v ++ j) each
+              (subst (λ a. PrecedesWithin (common_loops w.statement.loops o.statement.loops) (nat_lt w.number o.number) a (values (writer_place c o) (v ++ j))) (sym y_is)
+              (subst (λ b. PrecedesWithin (common_loops w.statement.loops o.statement.loops) (nat_lt w.number o.number) point b) (sym j_is) later))
+              use_it)))),
+          e.1,
+        )

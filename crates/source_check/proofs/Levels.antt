@@ -37,11 +37,11 @@ levels_step c m less a b as_ bs = ap (λ rest. with_rows c (earlier a b ∷ []) 
 pub levels_refusal : (leaf k : ℕ) (c : Context) (m : ℕ) (less : Bool) (a b : Form) (as_ bs : List Form) (p : Proof) (proofs : List Proof)
     → proofs_refusal leaf k (map (with_rows c) (order_rows (suc m) less (a ∷ as_) (b ∷ bs))) (p ∷ proofs)
     ≡ proof_rule leaf k (refusal_of (system_with (made_system c.vars c.rows) (row_form c.vars (earlier a b))) p)
-      (proofs_refusal leaf (k + 1) (map (with_rows (more_rows c (equal_rows (Take a) (Take b)))) (order_rows m less as_ bs)) proofs)
+    (proofs_refusal leaf (k + 1) (map (with_rows (more_rows c (equal_rows (Take a) (Take b)))) (order_rows m less as_ bs)) proofs)
 levels_refusal leaf k c m less a b as_ bs p proofs =
     ap (λ systems. proofs_refusal leaf k systems (p ∷ proofs)) (levels_step c m less a b as_ bs)
     ∙ ap (λ s. proof_rule leaf k (refusal_of s p) (proofs_refusal leaf (k + 1) (map (with_rows (more_rows c (equal_rows (Take a) (Take b)))) (order_rows m less as_ bs)) proofs))
-      (sym (system_more c.vars c.rows (earlier a b)))
+    (sym (system_more c.vars c.rows (earlier a b)))
 
 -- each level of one order with each level of another
 abbrev pub both_orders : Context → List (List RowExpr) → List (List RowExpr) → List RowSystem
@@ -57,7 +57,7 @@ deeper : (c : Context) (rows p : List RowExpr) (qs : List (List RowExpr)) → ma
 deeper c rows p [] = refl
 deeper c rows p (q ∷ qs) =
     ap (λ (es : List RowExpr). record { vars = c.vars; rows = es } ∷ map (λ q. with_rows c ((rows ++ p) ++ q)) qs)
-      (ap (λ es. c.rows ++ es) (append_assoc rows p q) ∙ sym (append_assoc c.rows rows (p ++ q)))
+    (ap (λ es. c.rows ++ es) (append_assoc rows p q) ∙ sym (append_assoc c.rows rows (p ++ q)))
     ∙ ap (λ rest. with_rows (more_rows c rows) (p ++ q) ∷ rest) (deeper c rows p qs)
 
 both_deeper : (c : Context) (rows : List RowExpr) (ps qs : List (List RowExpr)) → both_orders c (map (λ o. rows ++ o) ps) qs ≡ both_orders (more_rows c rows) ps qs

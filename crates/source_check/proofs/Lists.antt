@@ -61,7 +61,7 @@ greatest_some passes (suc t) u lt e h = elim (cases_lt u t) [
   | inl l ↦ ap (λ b. cond b (Some t) (greatest_below passes t)) (h t l (omega arith)) ∙ greatest_some passes t u l e (λ w a b. h w a (omega arith))
   | inr g ↦ let same : u ≡ t = omega arith in
       ap (λ b. cond b (Some t) (greatest_below passes t)) (ap passes (sym same) ∙ e) ∙ ap Some (sym same)
-  ]
+]
 
 pub false_where : (b : Bool) → (b ≡ true → ⊥) → b ≡ false
 false_where true h = absurd (h refl)

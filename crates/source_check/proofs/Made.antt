@@ -40,7 +40,7 @@ take_made vars form f true e is =
     subst (IsMade vars (Take form)) (same_Some (widened_form vars form) f is)
     (record {
       over = widened_over vars form (le_where (length form.coefs) vars e);
-      same = λ at. widened_at vars form at
+      same = λ at. widened_at vars form at;
     })
 
 pub made_is : (vars : ℕ) (e : RowExpr) (f : Form) → row_form vars e ≡ Some f → IsMade vars e f
@@ -55,7 +55,7 @@ made_is vars (Plus a b) f is =
     subst (IsMade vars (Plus a b)) (form_in_128_bits_is (form_sum left right) f sum)
     (record {
       over = length_sums left.coefs right.coefs even ∙ l.over;
-      same = λ at. sum_at left right at even ∙ ap (λ z. z +ℤ form_at right at) (l.same at) ∙ ap (λ z. row_at a at +ℤ z) (r.same at)
+      same = λ at. sum_at left right at even ∙ ap (λ z. z +ℤ form_at right at) (l.same at) ∙ ap (λ z. row_at a at +ℤ z) (r.same at);
     })))
 made_is vars (Times k e) f is =
     option_and_then_some (λ form. form_in_128_bits (form_product k form)) (row_form vars e) f is
@@ -64,7 +64,7 @@ made_is vars (Times k e) f is =
     subst (IsMade vars (Times k e)) (form_in_128_bits_is (form_product k form) f product)
     (record {
       over = length_map (λ c. c *ℤ k) form.coefs ∙ m.over;
-      same = λ at. product_at k form at ∙ *ℤ_comm (form_at form at) k ∙ ap (λ z. k *ℤ z) (m.same at)
+      same = λ at. product_at k form at ∙ *ℤ_comm (form_at form at) k ∙ ap (λ z. k *ℤ z) (m.same at);
     }))
 
 pub all_made_is : (vars : ℕ) (es : List RowExpr) (rows : List Form) → row_forms vars es ≡ Some rows → AreOver vars rows × ((at : List ℤ) → AreMet es at → Meets rows at)
@@ -76,9 +76,10 @@ all_made_is vars (e ∷ es) rows is =
     (λ rest is_rest whole.
     let m = made_is vars e row is_row in
     let more = all_made_is vars es rest is_rest in
-    subst (λ rows. AreOver vars rows × ((at : List ℤ) → AreMet (e ∷ es) at → Meets rows at)) (same_Some (row ∷ rest) rows whole)
-    (both_and (length row.coefs == vars) (all_over vars rest) (eq-eqb (length row.coefs) vars m.over) more.0,
-    λ at met. All-cons (λ row. pos 0 ≤ℤ form_at row at) row rest (subst (λ z. pos 0 ≤ℤ z) (sym (m.same at)) met.0) (more.1 at met.1))))
+    subst (λ rows. AreOver vars rows × ((at : List ℤ) → AreMet (e ∷ es) at → Meets rows at)) (same_Some (row ∷ rest) rows whole) (
+      both_and (length row.coefs == vars) (all_over vars rest) (eq-eqb (length row.coefs) vars m.over) more.0,
+      λ at met. All-cons (λ row. pos 0 ≤ℤ form_at row at) row rest (subst (λ z. pos 0 ≤ℤ z) (sym (m.same at)) met.0) (more.1 at met.1),
+    )))
 
 refuted_is_empty : (s : RowSystem) (p : Proof) → IsRefuted s p → IsEmpty s
 refuted_is_empty s p h =

@@ -59,7 +59,7 @@ plus_terms_made vars e (c ∷ cs) (form ∷ place) h =
     let b = and_both (nat_le (length form.coefs) vars) (are_short vars place) h in
     plus_terms_made vars (Plus e (Times c (Take form))) cs place b.1
     ∙ ap (λ o. option_and_then (λ s. added_terms vars s cs place) (option_and_then (λ left. option_and_then (λ right. form_in_128_bits (form_sum left right)) (option_and_then (λ f. form_in_128_bits (form_product c f)) o)) (row_form vars e)))
-      (take_is vars form (nat_le (length form.coefs) vars) b.0)
+    (take_is vars form (nat_le (length form.coefs) vars) b.0)
     ∙ then_assoc (λ left. added_term vars left c form) (λ s. added_terms vars s cs place) (row_form vars e)
 
 pub number_made : (vars : ℕ) (k : ℤ) → row_form vars (number k) ≡ Some (constant_form vars k)
@@ -106,13 +106,13 @@ forms_more vars [] e = one (row_form vars e) where
 forms_more vars (x ∷ es) e =
     ap (λ rest. option_and_then (λ row. option_and_then (λ rest. Some (row ∷ rest)) rest) (row_form vars x)) (forms_more vars es e)
     ∙ swap (row_form vars x) (row_forms vars es) (row_form vars e) where
-  swap : (first : Option Form) (rest : Option (List Form)) (last : Option Form)
-      → option_and_then (λ row. option_and_then (λ rest. Some (row ∷ rest)) (option_and_then (λ rows. option_map (λ row. rows ++ row ∷ []) last) rest)) first
-      ≡ option_and_then (λ rows. option_map (λ row. rows ++ row ∷ []) last) (option_and_then (λ row. option_and_then (λ rest. Some (row ∷ rest)) rest) first)
-  swap None rest last = refl
-  swap (Some row) None last = refl
-  swap (Some row) (Some rest) None = refl
-  swap (Some row) (Some rest) (Some r) = refl
+      swap : (first : Option Form) (rest : Option (List Form)) (last : Option Form)
+          → option_and_then (λ row. option_and_then (λ rest. Some (row ∷ rest)) (option_and_then (λ rows. option_map (λ row. rows ++ row ∷ []) last) rest)) first
+          ≡ option_and_then (λ rows. option_map (λ row. rows ++ row ∷ []) last) (option_and_then (λ row. option_and_then (λ rest. Some (row ∷ rest)) rest) first)
+      swap None rest last = refl
+      swap (Some row) None last = refl
+      swap (Some row) (Some rest) None = refl
+      swap (Some row) (Some rest) (Some r) = refl
 
 pub system_more : (vars : ℕ) (es : List RowExpr) (e : RowExpr) → system_with (made_system vars es) (row_form vars e) ≡ made_system vars (es ++ e ∷ [])
 system_more vars es e =

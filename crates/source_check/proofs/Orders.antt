@@ -29,7 +29,7 @@ some_level C P (suc c) less (a ∷ fs) (b ∷ gs) at each before go = elim befor
   | inr more ↦ some_level C (λ rows. P (equal_rows (Take a) (Take b) ++ rows)) c less fs gs at
       (each_from_map P (λ rows. equal_rows (Take a) (Take b) ++ rows) (order_rows c less fs gs) each.1) more.1
       (λ rows p met. go (equal_rows (Take a) (Take b) ++ rows) p (met_append (equal_rows (Take a) (Take b)) rows at (equal_met (Take a) (Take b) at more.0) met))
-  ]
+]
 
 -- the first c values are equal
 abbrev pub SameTo : ℕ → List ℤ → List ℤ → Type 0

@@ -28,11 +28,11 @@ floor_below (negsuc n) d h no_ = elim (cases_lt 0 (suc n % d)) [
       let a : ℕ = n / d in
       let b : ℕ = suc n / d in
       elim (cases_lt a b) [
-      | inl l ↦ let m : suc a ≤ b = omega arith in omega (arith, ints, mul-le-mul_left d m)
-      | inr ge ↦ let m : b ≤ a = omega arith in omega (arith, ints, mul-le-mul_left d m)
+        | inl l ↦ let m : suc a ≤ b = omega arith in omega (arith, ints, mul-le-mul_left d m)
+        | inr ge ↦ let m : b ≤ a = omega arith in omega (arith, ints, mul-le-mul_left d m)
       ]
   | inr ge ↦ absurd (no_ (omega arith))
-  ]
+]
 
 divisor_is : (d : ℤ) → pos 2 ≤ℤ d → (d ≡ pos (unsigned_abs d)) × (0 < unsigned_abs d)
 divisor_is (pos n) h = (refl, omega (arith, ints))

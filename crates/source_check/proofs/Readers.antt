@@ -100,7 +100,7 @@ is_reader n s k r e =
       is = here;
       writes = λ u st access is w same. same_subscripts n.arrays (depth_of st) (depth_of r.statement) access r.access (write_fits_at n u st access is w) read_fits same;
       rows_over = forms_over (depth_of r.statement) r.statement.rows fits.rows_fit;
-      reads_over = subscripts_of n.arrays (depth_of r.statement) r.access read_fits (λ array is many over. over)
+      reads_over = subscripts_of n.arrays (depth_of r.statement) r.access read_fits (λ array is many over. over);
     })
 
 -- the write of a statement that writes the array
@@ -205,5 +205,5 @@ is_trace n points h = record {
   entry = λ t p is. (let q = h.entry t p is in (q.statement, record { is = q.found; deep = q.deep; holds = each_holds q.statement.rows p.at q.holds }));
   point = λ u s at p. h.point (record { statement = u; at = at }) (record { statement = s; found = p.is; deep = p.deep; holds = holds_each s.rows at p.holds });
   later = λ t v p q sp sq is is' pp pq lt. to_before n p q sp sq pp.is pq.is (h.later t v p q is is' lt);
-  earlier = λ t v p q sp sq is is' pp pq before. h.earlier t v p q is is' (from_before n p q sp sq pp.is pq.is before)
+  earlier = λ t v p q sp sq is is' pp pq before. h.earlier t v p q is is' (from_before n p q sp sq pp.is pq.is before);
 }

@@ -164,21 +164,23 @@ module _ (n : Nest) (r : Occurrence) where
   checked_ends : (c : Context) (tree : Tree) → IsCheckedIn n r every c tree → (leaf : ℕ) → (m : ℕ) × (check_from n r tree leaf c ≡ Ok m)
   checked_ends _ _ (at_test c tree form above below is over first second) leaf =
       let a = checked_ends (test_yes c form) above first leaf in
-      let b = checked_ends (test_no c form) below second a.0 in
-      (b.0,
-      check_test leaf c tree form above below is
-      ∙ ap (λ t. cond t (then_leaves (check_from n r above leaf (test_yes c form)) (λ next. check_from n r below next (test_no c form))) (Err (rule.BadForm leaf))) (eq-eqb (length form.coefs) c.vars over)
-      ∙ ap (λ o. then_leaves o (λ next. check_from n r below next (test_no c form))) a.1 ∙ b.1)
+      let b = checked_ends (test_no c form) below second a.0 in (
+        b.0,
+        check_test leaf c tree form above below is
+            ∙ ap (λ t. cond t (then_leaves (check_from n r above leaf (test_yes c form)) (λ next. check_from n r below next (test_no c form))) (Err (rule.BadForm leaf))) (eq-eqb (length form.coefs) c.vars over)
+            ∙ ap (λ o. then_leaves o (λ next. check_from n r below next (test_no c form))) a.1 ∙ b.1,
+      )
   checked_ends _ _ (at_divides c tree form d above below is over two few first second) leaf =
       let a = checked_ends (divides_yes c form d) above first leaf in
       let b = checked_ends (divides_no c form d) below second a.0 in
       let fits : ((length form.coefs == c.vars) && divisor_fits r c d) ≡ true
       = both_and (length form.coefs == c.vars) (divisor_fits r c d) (eq-eqb (length form.coefs) c.vars over)
-        (both_and (int_le (pos 2) d) (nat_lt c.vars (length r.statement.loops + 6)) (where_le (pos 2) d two) (where_lt c.vars (length r.statement.loops + 6) few)) in
-      (b.0,
-      check_divides leaf c tree form d above below is
-      ∙ ap (λ t. cond t (then_leaves (check_from n r above leaf (divides_yes c form d)) (λ next. check_from n r below next (divides_no c form d))) (Err (rule.BadForm leaf))) fits
-      ∙ ap (λ o. then_leaves o (λ next. check_from n r below next (divides_no c form d))) a.1 ∙ b.1)
+      (both_and (int_le (pos 2) d) (nat_lt c.vars (length r.statement.loops + 6)) (where_le (pos 2) d two) (where_lt c.vars (length r.statement.loops + 6) few)) in (
+        b.0,
+        check_divides leaf c tree form d above below is
+            ∙ ap (λ t. cond t (then_leaves (check_from n r above leaf (divides_yes c form d)) (λ next. check_from n r below next (divides_no c form d))) (Err (rule.BadForm leaf))) fits
+            ∙ ap (λ o. then_leaves o (λ next. check_from n r below next (divides_no c form d))) a.1 ∙ b.1,
+      )
   checked_ends _ _ (at_writer c tree s place proofs w is named_is may deep have refuted) leaf =
       (next_leaf leaf, check_writer leaf c tree s place proofs is ∙ ap (leaf_end leaf) (writer_is_none leaf c s place proofs w named_is deep have refuted))
   checked_ends _ _ (at_zero c tree proofs is refuted) leaf =
@@ -249,9 +251,10 @@ module _ (n : Nest) (r : Occurrence) where
 
   pub accepted_is_checked : (tree : Tree) → (verdict n r tree ≡ Accepted) ↔ IsCheckedIn n r every (root_context r) tree
   unfolding IsSo
-  accepted_is_checked tree =
-      (λ e. go (check_from n r tree 0 (root_context r)) refl e,
-      λ h. ap verdict_of (checked_ends (root_context r) tree h 0).1) where
-        go : (o : Result ℕ Rule) → check_from n r tree 0 (root_context r) ≡ o → verdict_of o ≡ Accepted → IsCheckedIn n r every (root_context r) tree
-        go (Ok m) is e = ends_checked tree 0 m (root_context r) is
-        go (Err x) is e = absurd (let f : Refused x ≡ Accepted = e in cc)
+  accepted_is_checked tree = (
+    λ e. go (check_from n r tree 0 (root_context r)) refl e,
+    λ h. ap verdict_of (checked_ends (root_context r) tree h 0).1,
+  ) where
+    go : (o : Result ℕ Rule) → check_from n r tree 0 (root_context r) ≡ o → verdict_of o ≡ Accepted → IsCheckedIn n r every (root_context r) tree
+    go (Ok m) is e = ends_checked tree 0 m (root_context r) is
+    go (Err x) is e = absurd (let f : Refused x ≡ Accepted = e in cc)

@@ -26,10 +26,13 @@ capped_product (suc a) b most cap h =
     elim (cases_lt b cap) [ inl lt ↦ capped_within (suc a) b most cap h (omega arith) | inr le ↦ capped_past a b most cap h (omega arith) ]
 
 -- the length of a repeat, up to a cap
-pub capped_repeat : {T : Type 0} (count : ℕ) (body : Blocks T) (part : BlockPart T) (inner most cap : ℕ) → cap ≤ most → part ≡ Repeat count body
+pub capped_repeat : {T : Type 0} (count : ℕ) (body : Blocks T) (part : BlockPart T) (inner most cap : ℕ) → cap ≤ most
+    → part ≡ Repeat count body
     → inner ≡ min (length (parts_expansion body.parts)) cap
     → min (min (count * inner) most) cap ≡ min (length (part_expansion part)) cap
 capped_repeat count body part inner most cap h is inner_is =
     ap (λ n. min (min (count * n) most) cap) inner_is
     ∙ capped_product count (length (parts_expansion body.parts)) most cap h
-    ∙ ap (λ n. min n cap) (sym (ap (λ p. length (part_expansion p)) is ∙ ap length (expansion_repeat count body) ∙ length-repeated count (parts_expansion body.parts)))
+    ∙ ap (λ n. min n cap)
+    (sym (ap (λ p. length (part_expansion p)) is ∙ ap length (expansion_repeat count body)
+    ∙ length-repeated count (parts_expansion body.parts)))

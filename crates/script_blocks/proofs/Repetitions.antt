@@ -1,5 +1,5 @@
 -- So many copies of a list.
-use Rattle.std.proofs.Common.{◌≡◌, ◌+◌, ◌-◌, ◌*◌, ◌≢◌, ℕ, zero, suc, List, [], ◌∷◌, ◌++◌, length, refl, sym, ap, ◌∙◌, arith, add-one, append_assoc}
+use Rattle.std.proofs.Common.{◌≡◌, ◌+◌, ◌-◌, ◌*◌, ◌≢◌, ℕ, zero, suc, List, [], ◌++◌, length, refl, sym, ap, ◌∙◌, arith, add-one, append_assoc}
 use Rattle.std.proofs.lemmas.List.{append-nil, length-append}
 use Rattle.script_blocks.specs.Expansion.{repeated}
 
@@ -35,7 +35,8 @@ once xs others = ap (λ ys. ys ++ others) (sym (repeated_once xs))
 pub once_more : {T : Type 0} (n : ℕ) (all xs others rest : List T) → all ≡ repeated n xs ++ others → others ≡ xs ++ rest
     → all ≡ repeated (n + 1) xs ++ rest
 once_more n all xs others rest before next =
-    before ∙ ap (λ ys. repeated n xs ++ ys) next ∙ sym (append_assoc (repeated n xs) xs rest) ∙ ap (λ ys. ys ++ rest) (sym (repeated_more n xs))
+    before ∙ ap (λ ys. repeated n xs ++ ys) next ∙ sym (append_assoc (repeated n xs) xs rest)
+    ∙ ap (λ ys. ys ++ rest) (sym (repeated_more n xs))
 
 pub repeated_nothing : {T : Type 0} (n : ℕ) → repeated {T = T} n [] ≡ []
 repeated_nothing zero = repeated_none []

@@ -1,5 +1,5 @@
 -- Steps of a cursor, over plain variables.
-use Rattle.std.proofs.Common.{◌≡◌, ◌+◌, ◌-◌, ◌<◌, ◌≢◌, ℕ, zero, suc, Bool, true, false, cond, List, [], ◌∷◌, ◌++◌, drop, set, length, get_or, refl, sym, ap, ◌∙◌, arith, add-one, append_assoc}
+use Rattle.std.proofs.Common.{◌≡◌, ◌+◌, ◌<◌, ◌≢◌, ℕ, zero, suc, Bool, true, false, cond, List, [], ◌∷◌, ◌++◌, drop, set, length, get_or, refl, sym, ap, ◌∙◌, arith, add-one}
 use Rattle.std.specs.Prelude.{MatchOption, Option, Some, None, slice_get, is_some}
 use Rattle.std.proofs.lemmas.Bool.{false≢true}
 use Rattle.std.proofs.lemmas.List.{append-nil}
@@ -28,7 +28,8 @@ pub left_of_repeat_is : {T : Type 0} (f : Frame) (inner : Left T) (count : ℕ) 
     → left_of_part f inner (Repeat count body) ≡ left_of_repeat f inner count body.parts
 left_of_repeat_is {T} f inner count body =
     by_inside f.inside where
-      by_inside : (b : Bool) → cond b (left_inside f inner (out-BlockPart T (Repeat count body))) (part_expansion (Repeat count body))
+      by_inside : (b : Bool)
+          → cond b (left_inside f inner (out-BlockPart T (Repeat count body))) (part_expansion (Repeat count body))
           ≡ cond b (left_of_turns f inner body.parts) (repeated count (parts_expansion body.parts))
       by_inside true = ap (left_inside f inner) (outs-Repeat count body)
       by_inside false = expansion_repeat count body
@@ -45,9 +46,11 @@ left_from_part f inner (p ∷ parts) (suc i) part lt e =
     ∙ ap (λ n. left_of_part f inner part ++ parts_expansion (drop n (p ∷ parts))) more
 
 -- a step that gives an item of the part that the cursor is at
-pub step_found : {T : Type 0} (result : Option T) (f after : Frame) (inner inner_after : Left T) (parts : List (BlockPart T)) (part : BlockPart T) (all : List T)
+pub step_found : {T : Type 0} (result : Option T) (f after : Frame) (inner inner_after : Left T)
+    (parts : List (BlockPart T)) (part : BlockPart T) (all : List T)
     → f.part < length parts → part ≡ get_or parts f.part part → after.part ≡ f.part
-    → MatchOption result (left_of_part f inner part ≡ []) (λ item. left_of_part f inner part ≡ item ∷ left_of_part after inner_after part)
+    → MatchOption result (left_of_part f inner part ≡ [])
+    (λ item. left_of_part f inner part ≡ item ∷ left_of_part after inner_after part)
     → is_some result ≡ true → left_of_parts f inner (drop f.part parts) ≡ all
     → MatchOption result
     ((all ≡ []) × (left_of_parts after inner_after (drop after.part parts) ≡ []))
@@ -83,12 +86,14 @@ module _ {T : Type 0} (f : Frame) (inner : Left T) (parts : List (BlockPart T)) 
       ∙ first_of_other (left_of_part f inner part) (parts_expansion (drop (i + 1) parts)) none
 
 -- the first item after the part that the cursor is at, where that part has none
-pub peek_later : {T : Type 0} (f : Frame) (frames deeper : List Frame) (parts : List (BlockPart T)) (part : BlockPart T) (item : Option T)
+pub peek_later : {T : Type 0} (f : Frame) (frames deeper : List Frame) (parts : List (BlockPart T)) (part : BlockPart T)
+    (item : Option T)
     → frames ≡ f ∷ deeper → f.part < length parts → part ≡ get_or parts f.part part
     → item ≡ slice_get (left_of_part f (left deeper) part) 0 → is_some item ≡ false
     → slice_get (parts_expansion (drop (f.part + 1) parts)) 0 ≡ slice_get (left frames parts) 0
 peek_later f frames deeper parts part item is lt e item_is none =
-    sym (ap (λ fs. slice_get (left fs parts) 0) is ∙ first_later f (left deeper) parts f.part part lt e (sym (ap is_some item_is) ∙ none))
+    sym (ap (λ fs. slice_get (left fs parts) 0) is
+    ∙ first_later f (left deeper) parts f.part part lt e (sym (ap is_some item_is) ∙ none))
 
 -- a repetition that has just begun, and the later ones
 pub turn_begun : {T : Type 0} (f : Frame) (inner : Left T) (body : List (BlockPart T)) (later : ℕ) → f.later ≡ later
@@ -100,7 +105,8 @@ turn_begun f inner body later is begun =
     ∙ ap (λ n. repeated n (parts_expansion body)) (sym (add-one later))
 
 -- where a repetition has nothing from its beginning on, none is left
-pub turns_empty : {T : Type 0} (f : Frame) (inner : Left T) (body : List (BlockPart T)) → inner body ≡ [] → inner body ≡ parts_expansion body
+pub turns_empty : {T : Type 0} (f : Frame) (inner : Left T) (body : List (BlockPart T)) → inner body ≡ []
+    → inner body ≡ parts_expansion body
     → left_of_turns f inner body ≡ []
 turns_empty f inner body none begun =
     ap (λ xs. xs ++ repeated f.later (parts_expansion body)) none
@@ -111,7 +117,8 @@ pub turns_later : {T : Type 0} (f : Frame) (inner : Left T) (body : List (BlockP
     → left_of_turns f inner body ≡ repeated f.later (parts_expansion body)
 turns_later f inner body none = ap (λ xs. xs ++ repeated f.later (parts_expansion body)) none
 
-pub turns_item : {T : Type 0} (f : Frame) (inner after : Left T) (body : List (BlockPart T)) (item : T) → inner body ≡ item ∷ after body
+pub turns_item : {T : Type 0} (f : Frame) (inner after : Left T) (body : List (BlockPart T)) (item : T)
+    → inner body ≡ item ∷ after body
     → left_of_turns f inner body ≡ item ∷ left_of_turns f after body
 turns_item f inner after body item e = ap (λ xs. xs ++ repeated f.later (parts_expansion body)) e
 
@@ -121,23 +128,28 @@ inside_is f inner count body e = ap (λ b. cond b (left_of_turns f inner body) (
 
 pub outside_is : {T : Type 0} (f : Frame) (inner : Left T) (count : ℕ) (body : List (BlockPart T)) → f.inside ≡ false
     → left_of_repeat f inner count body ≡ repeated count (parts_expansion body)
-outside_is f inner count body e = ap (λ b. cond b (left_of_turns f inner body) (repeated count (parts_expansion body))) e
+outside_is f inner count body e =
+    ap (λ b. cond b (left_of_turns f inner body) (repeated count (parts_expansion body))) e
 
 pub ruleset turns = (inside_is, outside_is, turns_empty, turns_later, turns_item, repeated_none)
 
 -- the next item of the repetition that the cursor is in, or of a later one
 module _ {T : Type 0} (f : Frame) (inner : Left T) (body : List (BlockPart T)) where
-  pub first_of_turn : is_some (slice_get (inner body) 0) ≡ true → slice_get (left_of_turns f inner body) 0 ≡ slice_get (inner body) 0
+  pub first_of_turn : is_some (slice_get (inner body) 0) ≡ true
+      → slice_get (left_of_turns f inner body) 0 ≡ slice_get (inner body) 0
   first_of_turn some = first_of_front (inner body) (repeated f.later (parts_expansion body)) some
 
   pub first_of_last_turn : f.later ≡ 0 → slice_get (left_of_turns f inner body) 0 ≡ slice_get (inner body) 0
   first_of_last_turn e =
-      ap (λ xs. slice_get (inner body ++ xs) 0) (ap (λ n. repeated n (parts_expansion body)) e ∙ repeated_none (parts_expansion body))
+      ap (λ xs. slice_get (inner body ++ xs) 0)
+      (ap (λ n. repeated n (parts_expansion body)) e ∙ repeated_none (parts_expansion body))
       ∙ ap (λ xs. slice_get xs 0) (append-nil (inner body))
 
   pub first_of_later_turn : is_some (slice_get (inner body) 0) ≡ false → f.later ≢ 0
       → slice_get (left_of_turns f inner body) 0 ≡ slice_get (parts_expansion body) 0
   first_of_later_turn none some =
-      first_of_other (inner body) (repeated f.later (parts_expansion body)) none ∙ first_repeated f.later (parts_expansion body) some
+      first_of_other (inner body) (repeated f.later (parts_expansion body)) none
+      ∙ first_repeated f.later (parts_expansion body) some
 
-pub ruleset peeks = (left_of_repeat_is, inside_is, first_here, first_later, first_of_turn, first_of_last_turn, first_of_later_turn)
+pub ruleset peeks =
+    (left_of_repeat_is, inside_is, first_here, first_later, first_of_turn, first_of_last_turn, first_of_later_turn)

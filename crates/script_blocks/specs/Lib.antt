@@ -3,3 +3,4 @@ pub mod Nodes
 pub mod Nesting
 pub mod Places
 pub mod Cursors
+pub mod Scripts

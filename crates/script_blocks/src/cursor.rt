@@ -17,15 +17,15 @@ pub(crate) struct Frame {
     later: u32,
 }
 
-// Before the first of a list of parts.
-const START: Frame = Frame {
+/// Before the first of a list of parts.
+pub(crate) const START: Frame = Frame {
     part: 0,
     inside: false,
     later: 0,
 };
 
-// Puts the first frame before these parts.
-fn restart<T>(parts: &[BlockPart<T>], frames: &mut [Frame])
+/// Puts the first frame before these parts.
+pub(crate) fn restart<T>(parts: &[BlockPart<T>], frames: &mut [Frame])
     requires { 0 < length frames.old }
     ensures { left frames.new parts.now ≡ parts_expansion parts.now }
 {
@@ -33,9 +33,9 @@ fn restart<T>(parts: &[BlockPart<T>], frames: &mut [Frame])
     frames[0] = START;
 }
 
-// The next item of these parts.
+/// The next item of these parts.
 #[cycle(next)]
-fn next_in<T: Copy>(parts: &[BlockPart<T>], frames: &mut [Frame]) -> Option<T>
+pub(crate) fn next_in<T: Copy>(parts: &[BlockPart<T>], frames: &mut [Frame]) -> Option<T>
     requires { parts_nesting parts.now < length frames.old }
     ensures { MatchOption result
         ((left frames.old parts.now ≡ []) × (left frames.new parts.now ≡ []))
@@ -193,10 +193,10 @@ fn first_of_part<T: Copy>(part: &BlockPart<T>) -> Option<T>
     }
 }
 
-// The next item of these parts, where the frames stay as they are.
+/// The next item of these parts, where the frames stay as they are.
 #[cycle(peek)]
 #[tactic(auto, using(crate::proofs::Walks::peeks))]
-fn peek_in<T: Copy>(parts: &[BlockPart<T>], frames: &[Frame]) -> Option<T>
+pub(crate) fn peek_in<T: Copy>(parts: &[BlockPart<T>], frames: &[Frame]) -> Option<T>
     ensures { result ≡ slice_get (left frames.now parts.now) 0 }
 {
     let (frame, deeper) = frames.split_first()?;

@@ -1,14 +1,16 @@
-//! Scripts as repeat blocks: lists in which stretches that repeat are folded, with a cursor over what they stand for.
+//! Scripts as repeat blocks: lists in which stretches that repeat are folded, with cursors over what they stand for.
 #![tactic(auto)]
 
 mod blocks;
 mod cursor;
 mod folding;
+mod script;
 mod search;
 
 pub use blocks::{BlockPart, Blocks};
 pub use cursor::Cursor;
 pub use folding::fold;
+pub use script::{Script, ScriptCursor, ScriptItems};
 
 #[cfg(test)]
 mod tests;

@@ -1,4 +1,4 @@
-use crate::{BlockPart, Blocks, Cursor, fold};
+use crate::{BlockPart, Blocks, Cursor, Script, ScriptCursor, fold};
 use plain_data::Items;
 use std::alloc::{AllocError, Global};
 use std::test::Fail;
@@ -192,5 +192,41 @@ fn a_cursor_goes_deep(rt: HostRuntime) -> Result<(), Fail> {
     let deep = nest(alloc, 2_000, 1, item(alloc, 3)?)?;
     assert_eq!(rt; deep.nodes(), 2_001);
     assert!(rt; gives(alloc, &deep, &[3])?);
+    Ok(())
+}
+
+#[test]
+fn a_script_gives_its_items_folded_or_not(rt: HostRuntime) -> Result<(), Fail> {
+    let alloc = rt.alloc();
+    let items = [1u32, 2, 2, 3, 1, 2, 2, 3, 4];
+    let folded = Script::folded(alloc, &items)?;
+    let flat = Script::of_items(alloc, &items)?;
+    assert!(rt; folded.blocks().nodes() < flat.blocks().nodes());
+    let shared = folded.share()?;
+    drop(folded);
+    assert_eq!(rt; shared.len(), 9);
+    assert!(rt; !shared.is_empty());
+    let mut cursor = ScriptCursor::new(&shared)?;
+    drop(shared);
+    for item in flat.iter() {
+        assert_eq!(rt; cursor.peek(), Some(item));
+        assert_eq!(rt; cursor.next(), Some(item));
+    }
+    assert_eq!(rt; cursor.next(), None);
+    assert_eq!(rt; cursor.peek(), None);
+    Ok(())
+}
+
+#[test]
+fn items_tell_the_next_one(rt: HostRuntime) -> Result<(), Fail> {
+    let script = Script::folded(rt.alloc(), &[5u32, 5, 5, 6])?;
+    let mut items = script.iter();
+    assert_eq!(rt; items.peek(), Some(5));
+    assert_eq!(rt; items.next(), Some(5));
+    assert_eq!(rt; items.next(), Some(5));
+    assert_eq!(rt; items.next(), Some(5));
+    assert_eq!(rt; items.peek(), Some(6));
+    assert_eq!(rt; items.next(), Some(6));
+    assert_eq!(rt; items.peek(), None);
     Ok(())
 }

@@ -12,7 +12,8 @@ next_from_part-next_of_part-item-requires g t c κs within =
 
 pub next_from_part-returns-then-is_some : goal.next_from_part-returns-then-is_some
 next_from_part-returns-then-is_some g t c =
-    step_found c.next_of_part-item.result c.loop-frame.frame c.next_of_part-item.new.frame (left c.loop-frame.deeper) (left c.next_of_part-item.new.deeper)
+    step_found c.next_of_part-item.result c.loop-frame.frame c.next_of_part-item.new.frame (left c.loop-frame.deeper)
+    (left c.next_of_part-item.new.deeper)
     c.args.parts.now c.index-parts-frame.result
     (left_of_parts c.args.frame.now (left c.args.deeper.now) (drop c.args.frame.now.part c.args.parts.now))
     c.loop-frame-test.true c.index-parts-frame.is c.next_of_part-item.ensures.part c.next_of_part-item.ensures.next

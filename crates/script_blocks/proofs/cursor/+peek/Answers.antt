@@ -7,7 +7,8 @@ use Rattle.script_blocks.proofs.cursor.+peek.Goals as goal
 
 pub peek_in-returns : goal.peek_in-returns
 peek_in-returns g t c =
-    let frames : c.args.frames.now ≡ c.in_ok-frame.frame.now ∷ c.in_ok-frame.deeper.now = cc (c.in_ok-frame.ensures.cases.0) in
+    let frames : c.args.frames.now ≡ c.in_ok-frame.frame.now ∷ c.in_ok-frame.deeper.now =
+    cc (c.in_ok-frame.ensures.cases.0) in
     c.first_in.ensures
     ∙ ap (λ ps. slice_get (parts_expansion ps) 0) (take_rest c.args.parts.now (c.in_ok-frame.frame.now.part + 1))
     ∙ peek_later c.in_ok-frame.frame.now c.args.frames.now c.in_ok-frame.deeper.now c.args.parts.now c.index-parts-frame.result c.peek_of_part-item.result

@@ -8,7 +8,8 @@ use Rattle.script_blocks.proofs.folding.+build.Goals as goal
 
 pub build_repeat-returns-clause-expansion : goal.build_repeat-returns-clause-expansion
 build_repeat-returns-clause-expansion g t c =
-    repeat_expands c.args.parts.now c.push.new.self c.build.new.parts c.repetitions-times.result.0 (record { parts = c.build.new.parts })
+    repeat_expands c.args.parts.now c.push.new.self c.build.new.parts c.repetitions-times.result.0
+    (record { parts = c.build.new.parts })
     c.in_ok-push.ensures.ok refl
     c.args.items.now c.without_end-first.result.now c.in_ok-others.others.now c.repetitions-times.result.1.now
     (ap (λ ps. parts_expansion ps ++ c.args.items.now) (sym c.new-body.ensures) ∙ c.in_ok-others.ensures.expansion)
@@ -17,11 +18,13 @@ build_repeat-returns-clause-expansion g t c =
 pub build_repeat-returns-clause-shallow : goal.build_repeat-returns-clause-shallow
 build_repeat-returns-clause-shallow g t c =
     subst (λ ps. parts_nesting ps ≤ c.args.depth + 1) (sym c.in_ok-push.ensures.ok)
-    (nesting_with_repeat c.args.parts.now c.repetitions-times.result.0 (record { parts = c.build.new.parts }) c.args.depth
+    (nesting_with_repeat c.args.parts.now c.repetitions-times.result.0
+    (record { parts = c.build.new.parts }) c.args.depth
     c.requires.shallow c.in_ok-others.ensures.shallow)
 
 pub build_repeat-returns-clause-proper : goal.build_repeat-returns-clause-proper
 build_repeat-returns-clause-proper g t c =
     subst (λ ps. IsTrue (are_proper ps)) (sym c.in_ok-push.ensures.ok)
     (proper_with_repeat c.args.parts.now c.repetitions-times.result.0 (record { parts = c.build.new.parts })
-    c.requires.proper (omega arith) (not_empty c.build.new.parts c.is_empty.result c.is_empty.ensures c.if-is_empty.false) c.in_ok-others.ensures.proper)
+    c.requires.proper (omega arith)
+    (not_empty c.build.new.parts c.is_empty.result c.is_empty.ensures c.if-is_empty.false) c.in_ok-others.ensures.proper)

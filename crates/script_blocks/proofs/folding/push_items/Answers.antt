@@ -9,6 +9,8 @@ pub loop-item-preserved : goal.loop-item-preserved
 loop-item-preserved g c = (
   ap parts_expansion c.in_ok-push.ensures.ok
       ∙ items_added c.loop-item.parts c.args.parts.now c.args.items.now c.loop-item.item-index c.item-item.result c.loop-item-test.true c.item-item.is c.loop-item.invariant.0,
-  ap parts_nesting c.in_ok-push.ensures.ok ∙ nesting_with_item c.loop-item.parts c.item-item.result ∙ c.loop-item.invariant.1,
-  ap are_proper c.in_ok-push.ensures.ok ∙ proper_with_item c.loop-item.parts c.item-item.result ∙ c.loop-item.invariant.2,
+  ap parts_nesting c.in_ok-push.ensures.ok ∙ nesting_with_item c.loop-item.parts c.item-item.result
+      ∙ c.loop-item.invariant.1,
+  ap are_proper c.in_ok-push.ensures.ok ∙ proper_with_item c.loop-item.parts c.item-item.result
+      ∙ c.loop-item.invariant.2,
 )

@@ -1,0 +1,28 @@
+-- What a loop over a script has had of it and what is left, which make the script together.
+use Rattle.std.proofs.Common.{◌≡◌, ◌<◌, ℕ, suc, Some, List, [], ◌∷◌, ◌++◌, length, slice_get, refl, sym, ap, ◌∙◌, arith, append_assoc, append-nil, length-append}
+
+behind_front : {X : Type 0} (front : List X) (x : X) (later : List X)
+    → slice_get (front ++ x ∷ later) (length front) ≡ Some x
+behind_front [] x later = refl
+behind_front (y ∷ front) x later = behind_front front x later
+
+module _ {X : Type 0} (all had left : List X) (whole : had ++ left ≡ all) where
+  module _ (x : X) (later : List X) (next : left ≡ x ∷ later) where
+    -- the next item stands at the place that is the number of those before it
+    pub next_item : slice_get all (length had) ≡ Some x
+    next_item =
+        sym (ap (λ xs. slice_get xs (length had)) (ap (λ xs. had ++ xs) (sym next) ∙ whole)) ∙ behind_front had x later
+
+    pub next_inside : length had < length all
+    next_inside = omega (arith, ap length whole, length-append had left, ap length next)
+
+    -- one item more
+    pub had_more : (had ++ x ∷ []) ++ later ≡ all
+    had_more = append_assoc had (x ∷ []) later ∙ ap (λ xs. had ++ xs) (sym next) ∙ whole
+
+  -- at the end
+  pub had_all : left ≡ [] → had ≡ all
+  had_all none = sym (append-nil had) ∙ ap (λ xs. had ++ xs) (sym none) ∙ whole
+
+pub one_longer : {X : Type 0} (had : List X) (x : X) → length (had ++ x ∷ []) ≡ suc (length had)
+one_longer had x = omega (arith, length-append had (x ∷ []))

@@ -34,13 +34,16 @@ use Rattle.cert_ranges.proofs.Ranges.{in_range}
 
 pub planned_fits : (n : Nest) (policy : Policy) → Fits n (planned_network n policy) (cert_of n policy)
 planned_fits n policy =
-    fits_with n (net n) (capacities (net n) (schedule n policy)) (cert_of n policy) (fits_nest n) (names_last_writers n) (has_classes_of_uses n)
-    (net_kept (net n) (capacities (net n) (schedule n policy))) (wired_kept (net n) (capacities (net n) (schedule n policy)) (is_wired n))
+    fits_with n (net n) (capacities (net n) (schedule n policy)) (cert_of n policy) (fits_nest n) (names_last_writers n)
+    (has_classes_of_uses n)
+    (net_kept (net n) (capacities (net n) (schedule n policy)))
+    (wired_kept (net n) (capacities (net n) (schedule n policy)) (is_wired n))
     (length-replicate (read_total n) Sweep) (ends_all n policy)
 
 -- Capacities
 
-greatest_within : (f : ℕ → ℕ) (limit first : ℕ) (ks : List ℕ) → ((k : ℕ) → f k ≤ limit) → first ≤ limit → fold max first (map f ks) ≤ limit
+greatest_within : (f : ℕ → ℕ) (limit first : ℕ) (ks : List ℕ) → ((k : ℕ) → f k ≤ limit) → first ≤ limit
+    → fold max first (map f ks) ≤ limit
 greatest_within f limit first [] all le = le
 greatest_within f limit first (k ∷ ks) all le = greatest_within f limit (max first (f k)) ks all (omega (arith, all k))
 
@@ -55,36 +58,46 @@ capacity_within [] rooms limit each c channel there = cc
 capacity_within (x ∷ channels) [] limit each zero channel there =
     let same : (let changed : Channel = record x { capacity = 0 } in changed) ≡ channel = cc in
     omega (arith, ap (λ (y : Channel). y.capacity) same)
-capacity_within (x ∷ channels) [] limit each (suc c) channel there = capacity_within channels [] limit each c channel there
+capacity_within (x ∷ channels) [] limit each (suc c) channel there =
+    capacity_within channels [] limit each c channel there
 capacity_within (x ∷ channels) (room ∷ rooms) limit each zero channel there =
     let same : (let changed : Channel = record x { capacity = room } in changed) ≡ channel = cc in
     omega (arith, ap (λ (y : Channel). y.capacity) same, each.0)
-capacity_within (x ∷ channels) (room ∷ rooms) limit each (suc c) channel there = capacity_within channels rooms limit each.1 c channel there
+capacity_within (x ∷ channels) (room ∷ rooms) limit each (suc c) channel there =
+    capacity_within channels rooms limit each.1 c channel there
 
-capacity_at : (channels : List Channel) (c limit : ℕ) (o : Option Channel) → slice_get channels c ≡ o → ((channel : Channel) → slice_get channels c ≡ Some channel → channel.capacity ≤ limit)
+capacity_at : (channels : List Channel) (c limit : ℕ) (o : Option Channel) → slice_get channels c ≡ o
+    → ((channel : Channel) → slice_get channels c ≡ Some channel → channel.capacity ≤ limit)
     → option_map_or (λ (channel : Channel). channel.capacity) o 0 ≤ limit
 capacity_at channels c limit None is all = omega arith
 capacity_at channels c limit (Some channel) is all = all channel is
 
-planned_small : (n : Nest) (policy : Policy) → SizeIsOk n → (c : ℕ) → (net_of (planned_network n policy)).capacity c < 2 ^ 32
+planned_small : (n : Nest) (policy : Policy) → SizeIsOk n → (c : ℕ)
+    → (net_of (planned_network n policy)).capacity c < 2 ^ 32
 planned_small n policy sized c =
     let m : Net = net_of (net n) in
     let run : List ℕ = schedule n policy in
     let one : (d : ℕ) → greatest_length m run d ≤ 4294967295 = λ d.
-    greatest_within (λ k. queue_length m (cut_after opening (take k run)) d) 4294967295 0 (range_with_len 0 (length run + 1))
+    greatest_within (λ k. queue_length m (cut_after opening (take k run)) d) 4294967295 0
+    (range_with_len 0 (length run + 1))
     (λ k. omega (arith, queue_within m (cut_after opening (take k run)) d, script_short m (is_wired n) (numbers_fit n sized) (m.writer d))) (omega arith) in
     let all : Each (λ room. room ≤ 4294967295) (capacities (net n) run) =
-    each_map (λ room. room ≤ 4294967295) (greatest_length m run) (range_with_len 0 (length (net n).channels)) (each_of (λ d. greatest_length m run d ≤ 4294967295) (range_with_len 0 (length (net n).channels)) one) in
+    each_map (λ room. room ≤ 4294967295) (greatest_length m run) (range_with_len 0 (length (net n).channels))
+    (each_of (λ d. greatest_length m run d ≤ 4294967295) (range_with_len 0 (length (net n).channels)) one) in
     omega (
       arith,
-      capacity_at (planned_network n policy).channels c 4294967295 (slice_get (planned_network n policy).channels c) refl
+      capacity_at (planned_network n policy).channels c 4294967295
+          (slice_get (planned_network n policy).channels c) refl
           (capacity_within (net n).channels (capacities (net n) run) 4294967295 all c),
     )
 
 planned_few : (n : Nest) (policy : Policy) → SizeIsOk n → FitsNumbers (net_of (planned_network n policy))
 planned_few n policy sized =
-    numbers_stay (net_of (net n)) (net_of (planned_network n policy)) (net_of (planned_network n policy)).capacity (net_kept (net n) (capacities (net n) (schedule n policy))) (numbers_fit n sized)
+    numbers_stay (net_of (net n)) (net_of (planned_network n policy)) (net_of (planned_network n policy)).capacity
+    (net_kept (net n) (capacities (net n) (schedule n policy))) (numbers_fit n sized)
 
-pub planned_in_range : (n : Nest) (policy : Policy) → SizeIsOk n → AreInRange (planned_network n policy) (cert_of n policy)
+pub planned_in_range : (n : Nest) (policy : Policy) → SizeIsOk n
+    → AreInRange (planned_network n policy) (cert_of n policy)
 planned_in_range n policy sized =
-    in_range n (planned_network n policy) (cert_of n policy) (planned_fits n policy) (planned_few n policy sized) (planned_small n policy sized)
+    in_range n (planned_network n policy) (cert_of n policy) (planned_fits n policy) (planned_few n policy sized)
+    (planned_small n policy sized)

@@ -33,24 +33,28 @@ all_found P xs each k d lt = each k (get_or xs k d) (slice_get-get_or xs k d lt)
 -- the reads of all statements are few
 few_read_total : (n : Nest) → read_total n ≤ 512
 few_read_total n =
-    subst (λ statements. sum_by (λ s. length s.reads) statements ≤ 512) (take_all (length n.statements) n.statements (omega arith)) (few_before n (length n.statements))
+    subst (λ statements. sum_by (λ s. length s.reads) statements ≤ 512)
+    (take_all (length n.statements) n.statements (omega arith)) (few_before n (length n.statements))
 
 ref_in_range : (slots : ℕ) (r : Ref) → slots < 2 ^ 32 → IsWithin slots r → RefIsInRange r
 ref_in_range slots Zero few within = tt
 ref_in_range slots (Slot k) few within = omega (arith, few, within)
 
 -- a process that may go on is there
-enabled_there : {T : Type 0} (net : Net) → IsWired net → (s : State T) (p : ℕ) (o : Option Event) → next net s p ≡ o → can_come net s o ≡ true → p < net.processes
+enabled_there : {T : Type 0} (net : Net) → IsWired net → (s : State T) (p : ℕ) (o : Option Event) → next net s p ≡ o
+    → can_come net s o ≡ true → p < net.processes
 enabled_there net wired s p None is m = cc
 enabled_there net wired s p (Some e) is m = process_there net wired p (s.local p).position e is
 
-entries_in_range : {T : Type 0} (net : Net) (rule : Rule T) → IsWired net → FitsNumbers net → (s : State T) (run : List ℕ) → IsRun net rule s run → All IsInRange run
+entries_in_range : {T : Type 0} (net : Net) (rule : Rule T) → IsWired net → FitsNumbers net
+    → (s : State T) (run : List ℕ) → IsRun net rule s run → All IsInRange run
 entries_in_range net rule wired few s [] goes = All-nil IsInRange
 entries_in_range net rule wired few s (p ∷ run) goes =
     All-cons IsInRange p run (omega (arith, enabled_there net wired s p (next net s p) refl goes.0, few.processes))
     (entries_in_range net rule wired few (step net rule s p) run goes.1)
 
-module _ (n : Nest) (network : Network) (cert : Cert) (fits : Fits n network cert) (few : FitsNumbers (net_of network)) where
+module _ (n : Nest) (network : Network) (cert : Cert) (fits : Fits n network cert)
+    (few : FitsNumbers (net_of network)) where
   wired : IsWired (net_of network)
   wired = fits.shape.shaped.wired
 
@@ -58,32 +62,44 @@ module _ (n : Nest) (network : Network) (cert : Cert) (fits : Fits n network cer
   short p = script_short (net_of network) wired few p
 
   few_slots : (p : ℕ) → (net_of network).slots p < 2 ^ 32
-  few_slots p = omega (arith, fits.shape.shaped.few_slots p, count_by-le-length is_any_get ((net_of network).script p), short p)
+  few_slots p =
+      omega (arith, fits.shape.shaped.few_slots p, count_by-le-length is_any_get ((net_of network).script p), short p)
 
   event_in_range : (p k : ℕ) (e : Event) → slice_get ((net_of network).script p) k ≡ Some e → EventIsInRange e
-  event_in_range p k (Get c slot) is = (omega (arith, wired.get_channel p k c slot is, few.channels), omega (arith, wired.get_slot p k c slot is, few_slots p))
+  event_in_range p k (Get c slot) is =
+      (omega (arith, wired.get_channel p k c slot is, few.channels), omega (arith, wired.get_slot p k c slot is, few_slots p))
   event_in_range p k (Fire refs) is = (
     omega (arith, fits.shape.references p k refs is, few_read_count n p),
-    λ i d lt. ref_in_range ((net_of network).slots p) (get_or refs i d) (few_slots p) (wired.reference_slots p k refs is i d lt),
+    λ i d lt. ref_in_range ((net_of network).slots p) (get_or refs i d) (few_slots p)
+        (wired.reference_slots p k refs is i d lt),
   )
   event_in_range p k (Put c) is = omega (arith, wired.put_channel p k c is, few.channels)
 
-  process_in_range : (p : ℕ) (process : Process) → slice_get network.processes p ≡ Some process → ProcessIsInRange process
+  process_in_range : (p : ℕ) (process : Process) → slice_get network.processes p ≡ Some process
+      → ProcessIsInRange process
   process_in_range p process there =
-      let script : (net_of network).script p ≡ process.script = ap (λ (o : Option Process). option_map_or (λ process. process.script) o []) there in
-      let slots : (net_of network).slots p ≡ process.slots = ap (λ (o : Option Process). option_map_or (λ process. process.slots) o 0) there in
+      let script : (net_of network).script p ≡ process.script =
+      ap (λ (o : Option Process). option_map_or (λ process. process.script) o []) there in
+      let slots : (net_of network).slots p ≡ process.slots =
+      ap (λ (o : Option Process). option_map_or (λ process. process.slots) o 0) there in
       record {
         slots = omega (arith, slots, few_slots p);
         count = omega (arith, ap length script, short p);
-        events = all_found EventIsInRange process.script (λ k e is. event_in_range p k e (ap (λ es. slice_get es k) script ∙ is));
+        events =
+            all_found EventIsInRange process.script
+            (λ k e is. event_in_range p k e (ap (λ es. slice_get es k) script ∙ is));
       }
 
-  channel_in_range : ((c : ℕ) → (net_of network).capacity c < 2 ^ 32) → (c : ℕ) (channel : Channel) → slice_get network.channels c ≡ Some channel → ChannelIsInRange channel
+  channel_in_range : ((c : ℕ) → (net_of network).capacity c < 2 ^ 32) → (c : ℕ) (channel : Channel)
+      → slice_get network.channels c ≡ Some channel → ChannelIsInRange channel
   channel_in_range small c channel there =
       let within : c < (net_of network).channels = slice_get_within network.channels c channel there in
-      let writer : (net_of network).writer c ≡ channel.writer = ap (λ (o : Option Channel). option_map_or (λ channel. channel.writer) o 0) there in
-      let reader : (net_of network).reader c ≡ channel.reader = ap (λ (o : Option Channel). option_map_or (λ channel. channel.reader) o 0) there in
-      let capacity : (net_of network).capacity c ≡ channel.capacity = ap (λ (o : Option Channel). option_map_or (λ channel. channel.capacity) o 0) there in
+      let writer : (net_of network).writer c ≡ channel.writer =
+      ap (λ (o : Option Channel). option_map_or (λ channel. channel.writer) o 0) there in
+      let reader : (net_of network).reader c ≡ channel.reader =
+      ap (λ (o : Option Channel). option_map_or (λ channel. channel.reader) o 0) there in
+      let capacity : (net_of network).capacity c ≡ channel.capacity =
+      ap (λ (o : Option Channel). option_map_or (λ channel. channel.capacity) o 0) there in
       record {
         writer = omega (arith, writer, wired.writers c within, few.processes);
         reader = omega (arith, reader, wired.readers c within, few.processes);
@@ -96,7 +112,8 @@ module _ (n : Nest) (network : Network) (cert : Cert) (fits : Fits n network cer
     process_count = omega (arith, few.processes);
     channel_count = omega (arith, few.channels);
     source_count = omega (arith, fits.sources, few_read_total n);
-    entry_count = omega (arith, (ends_always (net_of network) tags wired cert.schedule fits.ends.0 fits.ends.1).events cert.schedule fits.ends, few.events);
+    entry_count =
+        omega (arith, (ends_always (net_of network) tags wired cert.schedule fits.ends.0 fits.ends.1).events cert.schedule fits.ends, few.events);
     processes = all_found ProcessIsInRange network.processes process_in_range;
     channels = all_found ChannelIsInRange network.channels (channel_in_range small);
     schedule = entries_in_range (net_of network) tags wired few _ cert.schedule fits.ends.0;

@@ -13,14 +13,17 @@ use Rattle.cert_text.proofs.Cuts.{cut_of_parts, is_cut}
 use Rattle.cert_text.proofs.Spelled.{is_word, line_lacks, words_joined}
 
 -- Of each value that P holds of these are the words, and nothing else is read from them.
-pub record IsSpelled {A : Type 0} (judge : List (List ℕ) → Result A Fault) (words : A → List (List ℕ)) (P : A → Type 0) : Type 0 where
+pub record IsSpelled {A : Type 0} (judge : List (List ℕ) → Result A Fault) (words : A → List (List ℕ))
+    (P : A → Type 0) : Type 0 where
   pub some : (x : A) → 0 < length (words x)
   pub spelled : (x : A) → P x → list_all is_word (words x) ≡ true
   pub back : (x : A) → P x → judge (words x) ≡ Ok x
-  pub forth : (read : List (List ℕ)) (x : A) → judge read ≡ Ok x → (join_with_byte 32 read ≡ join_with_byte 32 (words x)) × P x
+  pub forth : (read : List (List ℕ)) (x : A) → judge read ≡ Ok x
+      → (join_with_byte 32 read ≡ join_with_byte 32 (words x)) × P x
 
 -- the same where the words themselves are no others
-pub by_words : {A : Type 0} (judge : List (List ℕ) → Result A Fault) (words : A → List (List ℕ)) (P : A → Type 0) (some : (x : A) → 0 < length (words x))
+pub by_words : {A : Type 0} (judge : List (List ℕ) → Result A Fault) (words : A → List (List ℕ)) (P : A → Type 0)
+    (some : (x : A) → 0 < length (words x))
     (spelled : (x : A) → P x → list_all is_word (words x) ≡ true) (back : (x : A) → P x → judge (words x) ≡ Ok x)
     (forth : (read : List (List ℕ)) (x : A) → judge read ≡ Ok x → (read ≡ words x) × P x) → IsSpelled judge words P
 by_words judge words P some spelled back forth = record {
@@ -42,16 +45,20 @@ pub record IsCodec {A : Type 0} (part : Part A) (text : A → List ℕ) (P : A �
 
 -- Lines
 
-line_back : {A : Type 0} (judge : List (List ℕ) → Result A Fault) (words : List (List ℕ)) (x : A) (n : ℕ) (rest : List ℕ) → 0 < length words → list_all is_word words ≡ true
-    → judge words ≡ Ok x → line judge (record { line = n; text = line_text words ++ rest }) ≡ Ok (x, record { line = n + 1; text = rest })
+line_back : {A : Type 0} (judge : List (List ℕ) → Result A Fault) (words : List (List ℕ)) (x : A) (n : ℕ)
+    (rest : List ℕ) → 0 < length words → list_all is_word words ≡ true
+    → judge words ≡ Ok x
+    → line judge (record { line = n; text = line_text words ++ rest }) ≡ Ok (x, record { line = n + 1; text = rest })
 line_back judge [] x n rest some spelled e = absurd (omega arith)
 line_back judge (word ∷ words) x n rest some spelled e =
     let joined = join_with_byte 32 (word ∷ words) in
     let whole : line_text (word ∷ words) ++ rest ≡ joined ++ 10 ∷ rest = append_assoc joined (10 ∷ []) rest in
-    let cut : first_line (line_text (word ∷ words) ++ rest) ≡ Some (joined, rest) = ap first_line whole ∙ cut_of_parts 10 joined rest (line_lacks (word ∷ words) spelled) in
+    let cut : first_line (line_text (word ∷ words) ++ rest) ≡ Some (joined, rest) =
+    ap first_line whole ∙ cut_of_parts 10 joined rest (line_lacks (word ∷ words) spelled) in
     rw (cut, words_joined word words spelled, e) refl
 
-cut_forth : {A : Type 0} (judge : List (List ℕ) → Result A Fault) (n : ℕ) (o : Option (List ℕ × List ℕ)) (x : A) (next : Place) → cut_read judge n o ≡ Ok (x, next)
+cut_forth : {A : Type 0} (judge : List (List ℕ) → Result A Fault) (n : ℕ) (o : Option (List ℕ × List ℕ)) (x : A)
+    (next : Place) → cut_read judge n o ≡ Ok (x, next)
     → (cut : List ℕ × List ℕ) × (o ≡ Some cut) × (cut.1 ≡ next.text) × (judge (words_of cut.0) ≡ Ok x)
 cut_forth judge n None x next e = absurd (cc e)
 cut_forth judge n (Some cut) x next e = let k = told (judge (words_of cut.0)) e in (cut, refl, k.0, k.1)
@@ -63,7 +70,8 @@ cut_forth judge n (Some cut) x next e = let k = told (judge (words_of cut.0)) e 
     told (Err Words) e = absurd (cc e)
     told (Err Range) e = absurd (cc e)
 
-pub line_codec : {A : Type 0} (judge : List (List ℕ) → Result A Fault) (words : A → List (List ℕ)) (P : A → Type 0) → IsSpelled judge words P
+pub line_codec : {A : Type 0} (judge : List (List ℕ) → Result A Fault) (words : A → List (List ℕ)) (P : A → Type 0)
+    → IsSpelled judge words P
     → IsCodec (line judge) (λ x. line_text (words x)) P
 line_codec judge words P k = record {
   back = λ x n rest p. record { line = n + 1; reads = line_back judge (words x) x n rest (k.some x) (k.spelled x p) (k.back x p) };
@@ -74,40 +82,49 @@ line_codec judge words P k = record {
       let said = k.forth (words_of cut.0) x found.3 in
       let joined : cut.0 ≡ join_with_byte 32 (words x) = sym (join_with_byte-slice_split 32 cut.0) ∙ said.0 in
       let before : cut.0 ++ 10 ∷ cut.1 ≡ line_text (words x) ++ next.text =
-      ap (λ (front : List ℕ). front ++ 10 ∷ cut.1) joined ∙ sym (append_assoc (join_with_byte 32 (words x)) (10 ∷ []) cut.1) ∙ ap (λ (rest : List ℕ). line_text (words x) ++ rest) found.2 in
+      ap (λ (front : List ℕ). front ++ 10 ∷ cut.1) joined
+      ∙ sym (append_assoc (join_with_byte 32 (words x)) (10 ∷ []) cut.1)
+      ∙ ap (λ (rest : List ℕ). line_text (words x) ++ rest) found.2 in
       (parts.parts ∙ before, said.1);
 }
 
 -- Parts that follow one another
 
 -- what a part said before another
-pub record Followed {A B : Type 0} (read : Result (A × Place) CertError) (next : A → Part B) (y : B) (end : Place) : Type 0 where
+pub record Followed {A B : Type 0} (read : Result (A × Place) CertError) (next : A → Part B) (y : B)
+    (end : Place) : Type 0 where
   pub value : A
   pub between : Place
   pub first : read ≡ Ok (value, between)
   pub second : next value between ≡ Ok (y, end)
 
-pub followed : {A B : Type 0} (read : Result (A × Place) CertError) (next : A → Part B) (y : B) (end : Place) → followed_by read next ≡ Ok (y, end) → Followed read next y end
+pub followed : {A B : Type 0} (read : Result (A × Place) CertError) (next : A → Part B) (y : B) (end : Place)
+    → followed_by read next ≡ Ok (y, end) → Followed read next y end
 followed (Ok found) next y end e = record { value = found.0; between = found.1; first = refl; second = e }
 followed (Err refusal) next y end e = absurd (cc e)
 
 -- So many parts
 
-many_back : {A : Type 0} (part : Part A) (text : A → List ℕ) (P : A → Type 0) → IsCodec part text P → (xs : List A) (n : ℕ) (rest : List ℕ) → All P xs
+many_back : {A : Type 0} (part : Part A) (text : A → List ℕ) (P : A → Type 0) → IsCodec part text P
+    → (xs : List A) (n : ℕ) (rest : List ℕ) → All P xs
     → ReadsTo (many part (length xs)) n (flat_map text xs ++ rest) xs rest
 unfolding many
 many_back part text P k [] n rest all = record { line = n; reads = refl }
 many_back part text P k (x ∷ xs) n rest all =
     let first = k.back x n (flat_map text xs ++ rest) (All-head P x xs all) in
     let more = many_back part text P k xs first.line rest (All-tail P x xs all) in
-    let whole : flat_map text (x ∷ xs) ++ rest ≡ text x ++ (flat_map text xs ++ rest) = append_assoc (text x) (flat_map text xs) rest in
+    let whole : flat_map text (x ∷ xs) ++ rest ≡ text x ++ (flat_map text xs ++ rest) =
+    append_assoc (text x) (flat_map text xs) rest in
     record { line = more.line; reads = rw (whole, first.reads, more.reads) refl }
 
-moved : {A : Type 0} (text : A → List ℕ) (P : A → Type 0) (count : ℕ) (all : List ℕ) (xs ys : List A) (at next : Place) → xs ≡ ys → at ≡ next
-    → (all ≡ flat_map text xs ++ at.text) × ((length xs ≡ count) × All P xs) → (all ≡ flat_map text ys ++ next.text) × ((length ys ≡ count) × All P ys)
+moved : {A : Type 0} (text : A → List ℕ) (P : A → Type 0) (count : ℕ) (all : List ℕ) (xs ys : List A) (at next : Place)
+    → xs ≡ ys → at ≡ next
+    → (all ≡ flat_map text xs ++ at.text) × ((length xs ≡ count) × All P xs)
+    → (all ≡ flat_map text ys ++ next.text) × ((length ys ≡ count) × All P ys)
 moved text P count all xs ys at next same here h = rw (← same, ← here) h
 
-many_forth : {A : Type 0} (part : Part A) (text : A → List ℕ) (P : A → Type 0) → IsCodec part text P → (count : ℕ) (at next : Place) (xs : List A)
+many_forth : {A : Type 0} (part : Part A) (text : A → List ℕ) (P : A → Type 0) → IsCodec part text P
+    → (count : ℕ) (at next : Place) (xs : List A)
     → many part count at ≡ Ok (xs, next) → (at.text ≡ flat_map text xs ++ next.text) × ((length xs ≡ count) × All P xs)
 unfolding many
 many_forth part text P k zero at next xs e =
@@ -116,7 +133,9 @@ many_forth part text P k zero at next xs e =
     let here : at ≡ next = ap (λ (p : List _ × Place). p.1) same in
     moved text P 0 at.text [] xs at next none here (refl, (refl, All-nil P))
 many_forth part text P k (suc count) at next xs e =
-    let one = followed (part at) (λ value at. followed_by (many part count at) (λ values at. Ok (value ∷ values, at))) xs next e in
+    let one =
+    followed (part at)
+    (λ value at. followed_by (many part count at) (λ values at. Ok (value ∷ values, at))) xs next e in
     let two = followed (many part count one.between) (λ values at. Ok (one.value ∷ values, at)) xs next one.second in
     let here = k.forth at one.between one.value one.first in
     let more = many_forth part text P k count one.between two.between two.value two.first in
@@ -126,8 +145,10 @@ many_forth part text P k (suc count) at next xs e =
     let end : two.between ≡ next = ap (λ (p : List _ × Place). p.1) same in
     let count_is : length (one.value ∷ two.value) ≡ suc count = ap suc more.1.0 in
     let whole : at.text ≡ flat_map text (one.value ∷ two.value) ++ two.between.text =
-    here.0 ∙ ap (λ (rest : List ℕ). text one.value ++ rest) more.0 ∙ sym (append_assoc (text one.value) (flat_map text two.value) two.between.text) in
-    moved text P (suc count) at.text (one.value ∷ two.value) xs two.between next list end (whole, (count_is, All-cons P one.value two.value here.1 more.1.1))
+    here.0 ∙ ap (λ (rest : List ℕ). text one.value ++ rest) more.0
+    ∙ sym (append_assoc (text one.value) (flat_map text two.value) two.between.text) in
+    moved text P (suc count) at.text (one.value ∷ two.value) xs two.between next list end
+    (whole, (count_is, All-cons P one.value two.value here.1 more.1.1))
 
 -- so many values, each with its text
 pub many_codec : {A : Type 0} (part : Part A) (text : A → List ℕ) (P : A → Type 0) → IsCodec part text P → (count : ℕ)

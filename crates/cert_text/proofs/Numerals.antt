@@ -27,7 +27,9 @@ no_leading_zero (suc n) small =
 
 decimal_is_numeral : (n : ℕ) → n < 2 ^ 64 → is_numeral (decimal n) ≡ true
 decimal_is_numeral n small =
-    and_from _ _ (and_from _ _ (not_empty (length (decimal n)) (decimal_nonempty n small)) (digits_decimal digits n small)) (no_leading_zero n small)
+    and_from _ _
+    (and_from _ _ (not_empty (length (decimal n)) (decimal_nonempty n small)) (digits_decimal digits n small))
+    (no_leading_zero n small)
 
 within : (n : ℕ) → IsInRange n → nat_le n 4294967295 ≡ true
 within n few = grind (arith, nat_tests)
@@ -38,7 +40,8 @@ number_of_decimal n few =
     let small : n < 2 ^ 64 = omega arith in
     rw (decimal_is_numeral n small, digits_value-decimal digits n small, within n few) refl
 
-one_digit : (word : List ℕ) → (not (get_or word 0 0 == 48) || (length word == 1)) ≡ true → get_or word 0 0 ≡ 48 → length word ≡ 1
+one_digit : (word : List ℕ) → (not (get_or word 0 0 == 48) || (length word == 1)) ≡ true → get_or word 0 0 ≡ 48
+    → length word ≡ 1
 one_digit word test zero_first =
     let here : (get_or word 0 0 == 48) ≡ true = eq-eqb (get_or word 0 0) 48 zero_first in
     let only : (length word == 1) ≡ true = rw here at test in
@@ -61,12 +64,14 @@ decimal_of_number word n e = elim (cases_Bool (is_numeral word)) [
         let front = and_parts _ _ parts.0 in
         let range = in_range (numeral_value word) few in
         let small : numeral_value word < 2 ^ 64 = omega arith in
-        let written = decimal-digits_value digits word front.1 (some_digits (length word) front.0) (one_digit word parts.1) small in
+        let written =
+        decimal-digits_value digits word front.1 (some_digits (length word) front.0) (one_digit word parts.1) small in
         rw (← value) (sym written, range)
     | inr many ↦ let read : ◌≡◌ {A = Result ℕ Fault} (Err Range) (Ok n) = rw (numeral, many) at e in absurd (cc read)
   ]
   | inr other ↦ elim (cases_Bool (is_negative word)) [
-    | inl negative ↦ let read : ◌≡◌ {A = Result ℕ Fault} (Err Range) (Ok n) = rw (other, negative) at e in absurd (cc read)
+    | inl negative ↦ let read : ◌≡◌ {A = Result ℕ Fault} (Err Range) (Ok n) =
+        rw (other, negative) at e in absurd (cc read)
     | inr wrong ↦ let read : ◌≡◌ {A = Result ℕ Fault} (Err Words) (Ok n) = rw (other, wrong) at e in absurd (cc read)
   ]
 ]

@@ -29,7 +29,8 @@ join_one (Err Range) (Err Range) (Err Words) = refl
 join_one (Err Range) (Err Range) (Err Range) = refl
 
 pub one_more : (refs : Result (List Ref) Fault) (word : List ℕ) (words : List (List ℕ))
-    → all_behind (made (λ pair. pair.0 ++ pair.1 ∷ []) (both refs (reference word))) words ≡ all_behind refs (word ∷ words)
+    → all_behind (made (λ pair. pair.0 ++ pair.1 ∷ []) (both refs (reference word))) words
+    ≡ all_behind refs (word ∷ words)
 one_more refs word words = join_one refs (reference word) (references words)
 
 pub none_more : (refs : Result (List Ref) Fault) → all_behind refs [] ≡ refs

@@ -23,10 +23,14 @@ no_line_feed : (byte : ℕ) → not ((byte == 32) || (byte == 10)) ≡ true → 
 no_line_feed byte e = grind (arith, nat_tests)
 
 lacks_space : (word : List ℕ) → is_word word ≡ true → Lacks 32 word
-lacks_space word e = All-weaker (λ byte. not ((byte == 32) || (byte == 10)) ≡ true) (λ byte. (byte == 32) ≡ false) no_space word (AllPass-from_list_all (λ byte. not ((byte == 32) || (byte == 10))) word e)
+lacks_space word e =
+    All-weaker (λ byte. not ((byte == 32) || (byte == 10)) ≡ true) (λ byte. (byte == 32) ≡ false) no_space word
+    (AllPass-from_list_all (λ byte. not ((byte == 32) || (byte == 10))) word e)
 
 lacks_line_feed : (word : List ℕ) → is_word word ≡ true → Lacks 10 word
-lacks_line_feed word e = All-weaker (λ byte. not ((byte == 32) || (byte == 10)) ≡ true) (λ byte. (byte == 10) ≡ false) no_line_feed word (AllPass-from_list_all (λ byte. not ((byte == 32) || (byte == 10))) word e)
+lacks_line_feed word e =
+    All-weaker (λ byte. not ((byte == 32) || (byte == 10)) ≡ true) (λ byte. (byte == 10) ≡ false) no_line_feed word
+    (AllPass-from_list_all (λ byte. not ((byte == 32) || (byte == 10))) word e)
 
 digit_in_word : (byte : ℕ) → is_ascii_digit byte ≡ true → not ((byte == 32) || (byte == 10)) ≡ true
 digit_in_word byte e = grind (arith, nat_tests)
@@ -34,11 +38,13 @@ digit_in_word byte e = grind (arith, nat_tests)
 pub decimal_is_word : (n : ℕ) → n < 2 ^ 64 → is_word (decimal n) ≡ true
 decimal_is_word n small =
     list_all-from_AllPass (λ byte. not ((byte == 32) || (byte == 10))) (decimal n)
-    (All-weaker (λ byte. is_ascii_digit byte ≡ true) (λ byte. not ((byte == 32) || (byte == 10)) ≡ true) digit_in_word (decimal n)
+    (All-weaker (λ byte. is_ascii_digit byte ≡ true) (λ byte. not ((byte == 32) || (byte == 10)) ≡ true) digit_in_word
+    (decimal n)
     (AllPass-from_list_all is_ascii_digit (decimal n) (digits_decimal digits n small)))
 
 -- words that are joined are the words of their line
-pub words_joined : (word : List ℕ) (words : List (List ℕ)) → list_all is_word (word ∷ words) ≡ true → words_of (join_with_byte 32 (word ∷ words)) ≡ word ∷ words
+pub words_joined : (word : List ℕ) (words : List (List ℕ)) → list_all is_word (word ∷ words) ≡ true
+    → words_of (join_with_byte 32 (word ∷ words)) ≡ word ∷ words
 words_joined word [] e = slice_split_none (λ byte. byte == 32) word (lacks_space word (and_parts _ _ e).0)
 words_joined word (other ∷ words) e =
     let parts = and_parts (is_word word) (list_all is_word (other ∷ words)) e in
@@ -50,5 +56,7 @@ line_lacks [] e = λ k d within. absurd (omega arith)
 line_lacks (word ∷ []) e = lacks_line_feed word (and_parts _ _ e).0
 line_lacks (word ∷ (other ∷ words)) e =
     let parts = and_parts (is_word word) (list_all is_word (other ∷ words)) e in
-    All-append (λ byte. (byte == 10) ≡ false) word (32 ∷ join_with_byte 32 (other ∷ words)) (lacks_line_feed word parts.0)
-    (All-cons (λ byte. (byte == 10) ≡ false) 32 (join_with_byte 32 (other ∷ words)) refl (line_lacks (other ∷ words) parts.1))
+    All-append (λ byte. (byte == 10) ≡ false) word (32 ∷ join_with_byte 32 (other ∷ words))
+    (lacks_line_feed word parts.0)
+    (All-cons (λ byte. (byte == 10) ≡ false) 32 (join_with_byte 32 (other ∷ words)) refl
+    (line_lacks (other ∷ words) parts.1))

@@ -25,10 +25,12 @@ use Rattle.cert_text.proofs.Numerals.{decimal_of_number, number_of_decimal}
 use Rattle.cert_text.proofs.Spelled.{is_word}
 
 -- what holds of a value holds of the one that it is
-of_equal : {A : Type 0} (words : A → List (List ℕ)) (P : A → Type 0) (read : List (List ℕ)) (x y : A) → x ≡ y → (read ≡ words x) × P x → (read ≡ words y) × P y
+of_equal : {A : Type 0} (words : A → List (List ℕ)) (P : A → Type 0) (read : List (List ℕ)) (x y : A) → x ≡ y
+    → (read ≡ words x) × P x → (read ≡ words y) × P y
 of_equal words P read x y same h = rw (← same) h
 
-same_words : (word other : List ℕ) (words others : List (List ℕ)) → word ≡ other → words ≡ others → word ∷ words ≡ other ∷ others
+same_words : (word other : List ℕ) (words others : List (List ℕ)) → word ≡ other → words ≡ others
+    → word ∷ words ≡ other ∷ others
 same_words word other words others first rest = cc
 
 -- Sizes
@@ -43,8 +45,10 @@ pub record SizesAreInRange (s : Sizes) : Type 0 where
   pub entries : IsInRange s.entries
 
 -- two numbers that are read together
-two_numbers : (v w : List ℕ) (p : ℕ × ℕ) → both (number v) (number w) ≡ Ok p → ((v ≡ decimal p.0) × IsInRange p.0) × ((w ≡ decimal p.1) × IsInRange p.1)
-two_numbers v w p e = let k = both_ok (number v) (number w) p e in (decimal_of_number v p.0 k.0, decimal_of_number w p.1 k.1)
+two_numbers : (v w : List ℕ) (p : ℕ × ℕ) → both (number v) (number w) ≡ Ok p
+    → ((v ≡ decimal p.0) × IsInRange p.0) × ((w ≡ decimal p.1) × IsInRange p.1)
+two_numbers v w p e =
+    let k = both_ok (number v) (number w) p e in (decimal_of_number v p.0 k.0, decimal_of_number w p.1 k.1)
 
 sizes_forth : (read : List (List ℕ)) (s : Sizes) → sizes_line read ≡ Ok s → (read ≡ sizes_words s) × SizesAreInRange s
 sizes_forth [] s e = absurd (cc e)
@@ -59,9 +63,13 @@ sizes_forth (w ∷ (a ∷ (b ∷ (c ∷ (d ∷ []))))) s e =
     let first = two_numbers a b k.0.0 halves.0 in
     let second = two_numbers c d k.0.1 halves.1 in
     let sizes : record { processes = k.0.0.0; channels = k.0.0.1; sources = k.0.1.0; entries = k.0.1.1 } ≡ s = k.2 in
-    let words : w ∷ (a ∷ (b ∷ (c ∷ (d ∷ [])))) ≡ sizes_words (record { processes = k.0.0.0; channels = k.0.0.1; sources = k.0.1.0; entries = k.0.1.1 }) =
-    same_words _ _ _ _ said.0 (same_words _ _ _ _ first.0.0 (same_words _ _ _ _ first.1.0 (same_words _ _ _ _ second.0.0 (same_words _ _ _ _ second.1.0 refl)))) in
-    of_equal sizes_words SizesAreInRange (w ∷ (a ∷ (b ∷ (c ∷ (d ∷ []))))) _ s sizes (words, record { processes = first.0.1; channels = first.1.1; sources = second.0.1; entries = second.1.1 })
+    let words : w ∷ (a ∷ (b ∷ (c ∷ (d ∷ []))))
+    ≡ sizes_words (record { processes = k.0.0.0; channels = k.0.0.1; sources = k.0.1.0; entries = k.0.1.1 }) =
+    same_words _ _ _ _ said.0
+    (same_words _ _ _ _ first.0.0
+    (same_words _ _ _ _ first.1.0 (same_words _ _ _ _ second.0.0 (same_words _ _ _ _ second.1.0 refl)))) in
+    of_equal sizes_words SizesAreInRange (w ∷ (a ∷ (b ∷ (c ∷ (d ∷ []))))) _ s sizes
+    (words, record { processes = first.0.1; channels = first.1.1; sources = second.0.1; entries = second.1.1 })
 sizes_forth (w ∷ (a ∷ (b ∷ (c ∷ (d ∷ (f ∷ more)))))) s e = absurd (cc e)
 
 pub sizes_spelled : IsSpelled sizes_line sizes_words SizesAreInRange
@@ -78,7 +86,8 @@ head_words h = codes "process" ∷ decimal h.slots ∷ decimal h.events ∷ []
 abbrev pub HeadIsInRange : ProcessHead → Type 0
 HeadIsInRange h = IsInRange h.slots × IsInRange h.events
 
-head_forth : (read : List (List ℕ)) (h : ProcessHead) → process_line read ≡ Ok h → (read ≡ head_words h) × HeadIsInRange h
+head_forth : (read : List (List ℕ)) (h : ProcessHead) → process_line read ≡ Ok h
+    → (read ≡ head_words h) × HeadIsInRange h
 head_forth [] h e = absurd (cc e)
 head_forth (w ∷ []) h e = absurd (cc e)
 head_forth (w ∷ (a ∷ [])) h e = absurd (cc e)
@@ -87,7 +96,8 @@ head_forth (w ∷ (a ∷ (b ∷ []))) h e =
     let k = made_ok _ (both (number a) (number b)) h said.1 in
     let two = two_numbers a b k.0 k.1 in
     let head : record { slots = k.0.0; events = k.0.1 } ≡ h = k.2 in
-    let words : w ∷ (a ∷ (b ∷ [])) ≡ head_words (record { slots = k.0.0; events = k.0.1 }) = same_words _ _ _ _ said.0 (same_words _ _ _ _ two.0.0 (same_words _ _ _ _ two.1.0 refl)) in
+    let words : w ∷ (a ∷ (b ∷ [])) ≡ head_words (record { slots = k.0.0; events = k.0.1 }) =
+    same_words _ _ _ _ said.0 (same_words _ _ _ _ two.0.0 (same_words _ _ _ _ two.1.0 refl)) in
     of_equal head_words HeadIsInRange (w ∷ (a ∷ (b ∷ []))) _ h head (words, (two.0.1, two.1.1))
 head_forth (w ∷ (a ∷ (b ∷ (c ∷ more)))) h e = absurd (cc e)
 
@@ -99,14 +109,16 @@ head_spelled = by_words process_line head_words HeadIsInRange (λ h. omega arith
 
 -- Events
 
-get_forth : (words : List (List ℕ)) (e : Event) → get_words words ≡ Ok e → (codes "g" ∷ words ≡ event_words e) × EventIsInRange e
+get_forth : (words : List (List ℕ)) (e : Event) → get_words words ≡ Ok e
+    → (codes "g" ∷ words ≡ event_words e) × EventIsInRange e
 get_forth [] e said = absurd (cc said)
 get_forth (a ∷ []) e said = absurd (cc said)
 get_forth (a ∷ (b ∷ [])) e said =
     let k = made_ok (λ (n : ℕ × ℕ). Get n.0 n.1) (both (number a) (number b)) e said in
     let two = two_numbers a b k.0 k.1 in
     let event : Get k.0.0 k.0.1 ≡ e = k.2 in
-    let words : codes "g" ∷ (a ∷ (b ∷ [])) ≡ event_words (Get k.0.0 k.0.1) = same_words _ _ _ _ refl (same_words _ _ _ _ two.0.0 (same_words _ _ _ _ two.1.0 refl)) in
+    let words : codes "g" ∷ (a ∷ (b ∷ [])) ≡ event_words (Get k.0.0 k.0.1) =
+    same_words _ _ _ _ refl (same_words _ _ _ _ two.0.0 (same_words _ _ _ _ two.1.0 refl)) in
     of_equal event_words EventIsInRange (codes "g" ∷ (a ∷ (b ∷ []))) _ e event (words, (two.0.1, two.1.1))
 get_forth (a ∷ (b ∷ (c ∷ more))) e said = absurd (cc said)
 
@@ -116,19 +128,22 @@ few_words n test = grind (arith, nat_tests)
 few_test : (n : ℕ) → n ≤ 8 → nat_le n 8 ≡ true
 few_test n few = grind (arith, nat_tests)
 
-fire_forth : (words : List (List ℕ)) (e : Event) → fire_words words ≡ Ok e → (codes "f" ∷ words ≡ event_words e) × EventIsInRange e
+fire_forth : (words : List (List ℕ)) (e : Event) → fire_words words ≡ Ok e
+    → (codes "f" ∷ words ≡ event_words e) × EventIsInRange e
 fire_forth words e said = elim (cases_Bool (nat_le (length words) 8)) [
   | inl few ↦
       let k = made_ok Fire (references words) e (rw few at said) in
       let refs = words_of_references words k.0 k.1 in
       let event : Fire k.0 ≡ e = k.2 in
-      let count : length k.0 ≤ 8 = omega (arith, few_words (length words) few, ap length refs.0, length-map k.0 ref_word) in
+      let count : length k.0 ≤ 8 =
+      omega (arith, few_words (length words) few, ap length refs.0, length-map k.0 ref_word) in
       let same : codes "f" ∷ words ≡ event_words (Fire k.0) = ap (λ (ws : List (List ℕ)). codes "f" ∷ ws) refs.0 in
       of_equal event_words EventIsInRange (codes "f" ∷ words) _ e event (same, (count, refs.1))
   | inr many ↦ let f : ◌≡◌ {A = Result Event Fault} (Err Words) (Ok e) = rw many at said in absurd (cc f)
 ]
 
-put_forth : (words : List (List ℕ)) (e : Event) → put_words words ≡ Ok e → (codes "p" ∷ words ≡ event_words e) × EventIsInRange e
+put_forth : (words : List (List ℕ)) (e : Event) → put_words words ≡ Ok e
+    → (codes "p" ∷ words ≡ event_words e) × EventIsInRange e
 put_forth [] e said = absurd (cc said)
 put_forth (a ∷ []) e said =
     let k = made_ok Put (number a) e said in
@@ -138,7 +153,8 @@ put_forth (a ∷ []) e said =
     of_equal event_words EventIsInRange (codes "p" ∷ (a ∷ [])) _ e event (words, n.1)
 put_forth (a ∷ (b ∷ more)) e said = absurd (cc said)
 
-first_is : (word wanted : List ℕ) (words : List (List ℕ)) (e : Event) → bytes_eq word wanted ≡ true → (wanted ∷ words ≡ event_words e) × EventIsInRange e
+first_is : (word wanted : List ℕ) (words : List (List ℕ)) (e : Event) → bytes_eq word wanted ≡ true
+    → (wanted ∷ words ≡ event_words e) × EventIsInRange e
     → (word ∷ words ≡ event_words e) × EventIsInRange e
 first_is word wanted words e same h = rw ((bytes_eq-Decides word wanted).0 same) h
 
@@ -150,7 +166,8 @@ event_forth (word ∷ words) e said = elim (cases_Bool (bytes_eq word (codes "g"
     | inl f ↦ first_is word (codes "f") words e f (fire_forth words e (rw (no_g, f) at said))
     | inr no_f ↦ elim (cases_Bool (bytes_eq word (codes "p"))) [
       | inl p ↦ first_is word (codes "p") words e p (put_forth words e (rw (no_g, no_f, p) at said))
-      | inr no_p ↦ let wrong : ◌≡◌ {A = Result Event Fault} (Err Words) (Ok e) = rw (no_g, no_f, no_p) at said in absurd (cc wrong)
+      | inr no_p ↦ let wrong : ◌≡◌ {A = Result Event Fault} (Err Words) (Ok e) =
+          rw (no_g, no_f, no_p) at said in absurd (cc wrong)
     ]
   ]
 ]
@@ -178,9 +195,11 @@ event_spelled = by_words event_line event_words EventIsInRange event_some event_
 -- Channels
 
 abbrev pub channel_words : Channel → List (List ℕ)
-channel_words c = codes "channel" ∷ decimal c.writer ∷ decimal c.reader ∷ decimal c.read ∷ decimal c.capacity ∷ class_word c.class ∷ []
+channel_words c =
+    codes "channel" ∷ decimal c.writer ∷ decimal c.reader ∷ decimal c.read ∷ decimal c.capacity ∷ class_word c.class ∷ []
 
-channel_forth : (read : List (List ℕ)) (c : Channel) → channel_line read ≡ Ok c → (read ≡ channel_words c) × ChannelIsInRange c
+channel_forth : (read : List (List ℕ)) (c : Channel) → channel_line read ≡ Ok c
+    → (read ≡ channel_words c) × ChannelIsInRange c
 channel_forth [] s e = absurd (cc e)
 channel_forth (w ∷ []) s e = absurd (cc e)
 channel_forth (w ∷ (a ∷ [])) s e = absurd (cc e)
@@ -196,10 +215,16 @@ channel_forth (w ∷ (a ∷ (b ∷ (c ∷ (d ∷ (o ∷ [])))))) s e =
     let second = two_numbers c d k.0.0.1 halves.1 in
     let last = word_of_class o k.0.1 parts.1 in
     let n = k.0 in
-    let channel : record { writer = n.0.0.0; reader = n.0.0.1; read = n.0.1.0; capacity = n.0.1.1; class = n.1 } ≡ s = k.2 in
-    let words : w ∷ (a ∷ (b ∷ (c ∷ (d ∷ (o ∷ []))))) ≡ channel_words (record { writer = n.0.0.0; reader = n.0.0.1; read = n.0.1.0; capacity = n.0.1.1; class = n.1 }) =
-    same_words _ _ _ _ said.0 (same_words _ _ _ _ first.0.0 (same_words _ _ _ _ first.1.0 (same_words _ _ _ _ second.0.0 (same_words _ _ _ _ second.1.0 (same_words _ _ _ _ last refl))))) in
-    of_equal channel_words ChannelIsInRange (w ∷ (a ∷ (b ∷ (c ∷ (d ∷ (o ∷ [])))))) _ s channel (words, record { writer = first.0.1; reader = first.1.1; read = second.0.1; capacity = second.1.1 })
+    let channel : record { writer = n.0.0.0; reader = n.0.0.1; read = n.0.1.0; capacity = n.0.1.1; class = n.1 } ≡ s =
+    k.2 in
+    let words : w ∷ (a ∷ (b ∷ (c ∷ (d ∷ (o ∷ [])))))
+    ≡ channel_words (record { writer = n.0.0.0; reader = n.0.0.1; read = n.0.1.0; capacity = n.0.1.1; class = n.1 }) =
+    same_words _ _ _ _ said.0
+    (same_words _ _ _ _ first.0.0
+    (same_words _ _ _ _ first.1.0
+    (same_words _ _ _ _ second.0.0 (same_words _ _ _ _ second.1.0 (same_words _ _ _ _ last refl))))) in
+    of_equal channel_words ChannelIsInRange (w ∷ (a ∷ (b ∷ (c ∷ (d ∷ (o ∷ [])))))) _ s channel
+    (words, record { writer = first.0.1; reader = first.1.1; read = second.0.1; capacity = second.1.1 })
 channel_forth (w ∷ (a ∷ (b ∷ (c ∷ (d ∷ (o ∷ (f ∷ more))))))) s e = absurd (cc e)
 
 pub channel_spelled : IsSpelled channel_line channel_words ChannelIsInRange
@@ -213,7 +238,8 @@ channel_spelled = by_words channel_line channel_words ChannelIsInRange (λ c. om
 abbrev pub entry_words : ℕ → List (List ℕ)
 entry_words process = decimal process ∷ []
 
-entry_forth : (read : List (List ℕ)) (process : ℕ) → entry_line read ≡ Ok process → (read ≡ entry_words process) × IsInRange process
+entry_forth : (read : List (List ℕ)) (process : ℕ) → entry_line read ≡ Ok process
+    → (read ≡ entry_words process) × IsInRange process
 entry_forth [] process e = absurd (cc e)
 entry_forth (a ∷ []) process e = let n = decimal_of_number a process e in (ap (λ (word : List ℕ). word ∷ []) n.0, n.1)
 entry_forth (a ∷ (b ∷ more)) process e = absurd (cc e)
@@ -226,7 +252,8 @@ entry_spelled = by_words entry_line entry_words IsInRange (λ process. omega ari
 
 -- Lines of one text
 
-pub just_spelled : (words : List (List ℕ)) → 0 < length words → list_all is_word words ≡ true → IsSpelled (just (join_with_byte 32 words)) (λ (u : Unit). words) (λ u. Unit {0})
+pub just_spelled : (words : List (List ℕ)) → 0 < length words → list_all is_word words ≡ true
+    → IsSpelled (just (join_with_byte 32 words)) (λ (u : Unit). words) (λ u. Unit {0})
 just_spelled words some spelled = record {
   some = λ u. some;
   spelled = λ u k. spelled;
@@ -234,10 +261,12 @@ just_spelled words some spelled = record {
   forth = λ read u e. (just_forth (join_with_byte 32 read) (join_with_byte 32 words) u e, tt);
 }
   where
-    just_back : (text : List ℕ) (u : Unit) → ◌≡◌ {A = Result Unit Fault} (if bytes_eq text text then Ok tt else Err Words) (Ok u)
+    just_back : (text : List ℕ) (u : Unit)
+        → ◌≡◌ {A = Result Unit Fault} (if bytes_eq text text then Ok tt else Err Words) (Ok u)
     just_back text u = rw ((bytes_eq-Decides text text).1 refl) refl
 
-    just_forth : (read text : List ℕ) (u : Unit) → ◌≡◌ {A = Result Unit Fault} (if bytes_eq read text then Ok tt else Err Words) (Ok u) → read ≡ text
+    just_forth : (read text : List ℕ) (u : Unit)
+        → ◌≡◌ {A = Result Unit Fault} (if bytes_eq read text then Ok tt else Err Words) (Ok u) → read ≡ text
     just_forth read text u e = (behind_keyword read text (Ok tt) u e).0
 
 abbrev pub source_words : Origin → List (List ℕ)
@@ -257,6 +286,8 @@ source_spelled =
     sweep_back : (origin : Origin) → source_line (source_words origin) ≡ Ok origin
     sweep_back Sweep = refl
 
-    sweep_forth : IsSpelled (just (join_with_byte 32 (codes "sweep" ∷ []))) (λ (u : Unit). codes "sweep" ∷ []) (λ u. Unit {0}) → (read : List (List ℕ)) (origin : Origin) → source_line read ≡ Ok origin
+    sweep_forth : IsSpelled (just (join_with_byte 32 (codes "sweep" ∷ []))) (λ (u : Unit). codes "sweep" ∷ [])
+        (λ u. Unit {0}) → (read : List (List ℕ)) (origin : Origin) → source_line read ≡ Ok origin
         → join_with_byte 32 read ≡ join_with_byte 32 (source_words origin)
-    sweep_forth k read Sweep e = let said = made_ok (λ (u : Unit). Sweep) (just (codes "sweep") read) Sweep e in (k.forth read said.0 said.1).0
+    sweep_forth k read Sweep e =
+        let said = made_ok (λ (u : Unit). Sweep) (just (codes "sweep") read) Sweep e in (k.forth read said.0 said.1).0

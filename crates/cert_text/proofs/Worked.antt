@@ -32,7 +32,8 @@ running_cert = record { sources = Sweep ∷ Sweep ∷ []; schedule = 0 ∷ 0 ∷
 
 -- its processes, channels and sources as text
 abbrev pub running_parts : List ℕ
-running_parts = codes "process 0 2\nf\np 0\nprocess 1 3\ng 0 0\nf 0\np 1\nprocess 1 2\ng 1 0\nf 0\nchannel 0 1 0 1 inorder\nchannel 1 2 0 1 inorder\nsweep\nsweep\n"
+running_parts =
+    codes "process 0 2\nf\np 0\nprocess 1 3\ng 0 0\nf 0\np 1\nprocess 1 2\ng 1 0\nf 0\nchannel 0 1 0 1 inorder\nchannel 1 2 0 1 inorder\nsweep\nsweep\n"
 
 abbrev pub running_schedule : List ℕ
 running_schedule = codes "0\n0\n1\n1\n1\n2\n2\n"
@@ -50,15 +51,19 @@ running_is_read = refl
 
 -- Refusals of texts like it, by their lines
 
-another_version : reading (codes "cert 3\nsizes 3 2 2 7\n" ++ (running_parts ++ (running_schedule ++ codes "end\n"))) ≡ Err (Line 1)
+another_version : reading (codes "cert 3\nsizes 3 2 2 7\n" ++ (running_parts ++ (running_schedule ++ codes "end\n")))
+    ≡ Err (Line 1)
 unfolding many reading
 another_version = refl
 
-large_size : reading (codes "cert 1\nsizes 3 2 2 4294967296\n" ++ (running_parts ++ (running_schedule ++ codes "end\n"))) ≡ Err (Number 2)
+large_size : reading
+    (codes "cert 1\nsizes 3 2 2 4294967296\n" ++ (running_parts ++ (running_schedule ++ codes "end\n")))
+    ≡ Err (Number 2)
 unfolding many reading
 large_size = refl
 
-too_few_entries : reading (codes "cert 1\nsizes 3 2 2 4294967295\n" ++ (running_parts ++ (running_schedule ++ codes "end\n"))) ≡ Err (Line 24)
+too_few_entries : reading
+    (codes "cert 1\nsizes 3 2 2 4294967295\n" ++ (running_parts ++ (running_schedule ++ codes "end\n"))) ≡ Err (Line 24)
 unfolding many reading
 too_few_entries = refl
 
@@ -66,7 +71,8 @@ no_end : reading (codes "cert 1\nsizes 3 2 2 7\n" ++ (running_parts ++ running_s
 unfolding many reading
 no_end = refl
 
-open_end : reading (codes "cert 1\nsizes 3 2 2 7\n" ++ (running_parts ++ (running_schedule ++ codes "end"))) ≡ Err Truncated
+open_end : reading (codes "cert 1\nsizes 3 2 2 7\n" ++ (running_parts ++ (running_schedule ++ codes "end")))
+    ≡ Err Truncated
 unfolding many reading
 open_end = refl
 
@@ -88,7 +94,8 @@ empty_line : reading (codes "\n") ≡ Err (Line 1)
 unfolding many reading
 empty_line = refl
 
-empty_network : reading (codes "cert 1\nsizes 0 0 0 0\nend\n") ≡ Ok (record { processes = []; channels = [] }, record { sources = []; schedule = [] })
+empty_network : reading (codes "cert 1\nsizes 0 0 0 0\nend\n")
+    ≡ Ok (record { processes = []; channels = [] }, record { sources = []; schedule = [] })
 unfolding many reading
 empty_network = refl
 
@@ -127,13 +134,16 @@ past_the_greatest = refl
 below_zero : number (codes "-5") ≡ Err Range
 below_zero = refl
 
-misspelled : (number (codes "-0") ≡ Err Words) × (number (codes "00") ≡ Err Words) × (number (codes "+1") ≡ Err Words) × (number (codes "01") ≡ Err Words) × (number [] ≡ Err Words) × (number (codes "-") ≡ Err Words) × (number (codes "1a") ≡ Err Words) × (number (codes "--1") ≡ Err Words) × (number (codes "-01") ≡ Err Words)
+misspelled : (number (codes "-0") ≡ Err Words) × (number (codes "00") ≡ Err Words) × (number (codes "+1") ≡ Err Words)
+    × (number (codes "01") ≡ Err Words) × (number [] ≡ Err Words) × (number (codes "-") ≡ Err Words)
+    × (number (codes "1a") ≡ Err Words) × (number (codes "--1") ≡ Err Words) × (number (codes "-01") ≡ Err Words)
 misspelled = (refl, refl, refl, refl, refl, refl, refl, refl, refl)
 
 slots_and_none : references (codes "z" ∷ codes "7" ∷ []) ≡ Ok (Zero ∷ Slot 7 ∷ [])
 slots_and_none = refl
 
-eight_references : event_line (words_of (codes "f 0 1 2 3 4 5 6 z")) ≡ Ok (Fire (Slot 0 ∷ Slot 1 ∷ Slot 2 ∷ Slot 3 ∷ Slot 4 ∷ Slot 5 ∷ Slot 6 ∷ Zero ∷ []))
+eight_references : event_line (words_of (codes "f 0 1 2 3 4 5 6 z"))
+    ≡ Ok (Fire (Slot 0 ∷ Slot 1 ∷ Slot 2 ∷ Slot 3 ∷ Slot 4 ∷ Slot 5 ∷ Slot 6 ∷ Zero ∷ []))
 eight_references = refl
 
 nine_references : event_line (words_of (codes "f 0 1 2 3 4 5 6 7 -5")) ≡ Err Words
@@ -143,5 +153,6 @@ a_wrong_reference_behind_a_large_one : event_line (words_of (codes "f 4294967296
 a_wrong_reference_behind_a_large_one = refl
 
 four_classes : (class (codes "inorder") ≡ Ok (record { order = InOrder; multiplicity = false }))
-    × (class (codes "reorder+") ≡ Ok (record { order = Reorder; multiplicity = true })) × (class (codes "inorder++") ≡ Err Words)
+    × (class (codes "reorder+") ≡ Ok (record { order = Reorder; multiplicity = true }))
+    × (class (codes "inorder++") ≡ Err Words)
 four_classes = (refl, refl, refl)

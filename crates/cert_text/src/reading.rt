@@ -10,8 +10,9 @@ ghost use Rattle.cert_text.specs.Reading.{Reads, certificate as certificate_part
 use crate::error::CertError;
 use crate::lines::Lines;
 use crate::places::{ProcessHead, Sizes};
-use net_core::{Network, Process};
+use net_core::{Event, Network, Process};
 use plain_data::Items;
+use script_blocks::Script;
 use source_tree::Cert;
 use std::alloc::Global;
 
@@ -19,10 +20,10 @@ fn read_process(alloc: Global, lines: &mut Lines) -> Result<Process, CertError>
     ensures { Reads result lines.new (process_part lines.old) }
 {
     let head: ProcessHead = lines.read()?;
-    let script = lines.read_many(alloc, head.events)?;
+    let events: Items<Event> = lines.read_many(alloc, head.events)?;
     Ok(Process {
         slots: head.slots,
-        script,
+        script: Script::of_items(alloc, events.as_slice())?,
     })
 }
 

@@ -1,8 +1,11 @@
+ghost use Rattle.std.specs.Prelude.{◌<◌, ◌^◌, length};
+
 use crate::{CertError, read_cert, write_cert};
 use channel_class::{ChannelClass, UseOrder};
 use io_edge::{MemSink, WriteFault};
 use net_core::{Channel, Event, Network, Process, Ref, Refs};
 use plain_data::Items;
+use script_blocks::Script;
 use source_tree::{Cert, Origin};
 use std::alloc::{AllocError, Global};
 use std::test::Fail;
@@ -53,10 +56,12 @@ fn fire() -> Event {
     Event::Fire { refs }
 }
 
-fn process(alloc: Global, slots: u32, script: &[Event]) -> Result<Process, AllocError> {
+fn process(alloc: Global, slots: u32, script: &[Event]) -> Result<Process, AllocError>
+    requires { length script.now < 2 ^ 32 }
+{
     Ok(Process {
         slots,
-        script: Items::from_slice(alloc, script)?,
+        script: Script::of_items(alloc, script)?,
     })
 }
 
@@ -161,7 +166,7 @@ fn with_line(alloc: Global, number: usize, line: &[u8]) -> Result<Vec<u8>, Alloc
 
 fn is_process(process: Option<&Process>, slots: u32, script: &[Event]) -> bool {
     match process {
-        Some(process) => process.slots == slots && process.script.as_slice() == script,
+        Some(process) => process.slots == slots && process.script.iter().eq(script.iter().copied()),
         None => false,
     }
 }

@@ -9,6 +9,7 @@ ghost use Rattle.cert_text.specs.CertText.{cert_text, channel_text as text_of_ch
 use io_edge::{Sink, WriteFault};
 use net_core::{Channel, Event, Network, Process, Ref, Refs};
 use net_text::class_word;
+use script_blocks::Script;
 use source_tree::{Cert, Origin};
 use text_out::{TextWriter, Word, Writer, write_line, write_spaced};
 
@@ -85,6 +86,15 @@ impl WriteLines for Event {
     }
 }
 
+/// Writes the line of each event of a script.
+fn write_script<W: TextWriter>(script: &Script<Event>, out: &mut W)
+    ensures { Wrote W.given out.old out.new (flat_map event_text script.now) }
+{
+    for event in script.iter() {
+        event.write_lines(out);
+    }
+}
+
 /// Writes the first line of a process.
 fn write_process_head<W: TextWriter>(process: &Process, out: &mut W)
     ensures { Wrote W.given out.old out.new (process_head process.now) }
@@ -92,7 +102,7 @@ fn write_process_head<W: TextWriter>(process: &Process, out: &mut W)
     let words = [
         Word::Text(b"process"),
         number(process.slots),
-        count(process.script.len()),
+        number(process.script.len()),
     ];
     write_line(&words, out);
 }
@@ -102,7 +112,7 @@ impl WriteLines for Process {
 
     fn write_lines<W: TextWriter>(&self, out: &mut W) {
         write_process_head(self, out);
-        write_each(self.script.as_slice(), out);
+        write_script(&self.script, out);
     }
 }
 

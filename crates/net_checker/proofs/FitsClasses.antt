@@ -26,7 +26,8 @@ bool_same false false h = refl
 pub class_same : (a b : ChannelClass) → same_class a b ≡ true → a ≡ b
 class_same a b h =
     let parts = and_parts (same_order a.order b.order) (same_bool a.multiplicity b.multiplicity) h in
-    ap₂ (λ o m. record { order = o; multiplicity = m }) (order_same a.order b.order parts.0) (bool_same a.multiplicity b.multiplicity parts.1)
+    ap₂ (λ o m. record { order = o; multiplicity = m }) (order_same a.order b.order parts.0)
+    (bool_same a.multiplicity b.multiplicity parts.1)
 
 order_itself : (a : UseOrder) → same_order a a ≡ true
 order_itself InOrder = refl
@@ -41,27 +42,37 @@ class_itself a = and_from _ _ (order_itself a.order) (bool_itself a.multiplicity
 
 -- each channel has the class of its uses
 abbrev pub HaveClasses : Network → Type 0
-HaveClasses network = (c : ℕ) (channel : Channel) → slice_get network.channels c ≡ Some channel → channel.class ≡ used_class network c
+HaveClasses network =
+    (c : ℕ) (channel : Channel) → slice_get network.channels c ≡ Some channel → channel.class ≡ used_class network c
 
-none_class : (network : Network) (c : ℕ) (o : Option Channel) (channel : Channel) → o ≡ Some channel → channel_refusal network c o ≡ None → channel.class ≡ used_class network c
+none_class : (network : Network) (c : ℕ) (o : Option Channel) (channel : Channel) → o ≡ Some channel
+    → channel_refusal network c o ≡ None → channel.class ≡ used_class network c
 none_class network c None channel is h = cc
 none_class network c (Some x) channel is h =
     let same : x ≡ channel = cc in
-    rw (← same) (class_same x.class (used_class network c) (passes_where_none (same_class x.class (used_class network c)) (refusal.Class c x.class (used_class network c)) h))
+    rw (← same) (class_same x.class (used_class network c)
+    (passes_where_none (same_class x.class (used_class network c))
+    (refusal.Class c x.class (used_class network c)) h))
 
 pub none_classes : (network : Network) → class_refusal network ≡ None → HaveClasses network
 unfolding class_refusal
 none_classes network h c channel is =
-    none_class network c (slice_get network.channels c) channel is (none_first (λ c. channel_refusal network c (slice_get network.channels c)) (length network.channels) h c (slice_get_within network.channels c channel is))
+    none_class network c (slice_get network.channels c) channel is
+    (none_first (λ c. channel_refusal network c (slice_get network.channels c)) (length network.channels) h c
+    (slice_get_within network.channels c channel is))
 
-class_none : (network : Network) (c : ℕ) (o : Option Channel) → ((channel : Channel) → o ≡ Some channel → channel.class ≡ used_class network c) → channel_refusal network c o ≡ None
+class_none : (network : Network) (c : ℕ) (o : Option Channel)
+    → ((channel : Channel) → o ≡ Some channel → channel.class ≡ used_class network c)
+    → channel_refusal network c o ≡ None
 class_none network c None h = refl
 class_none network c (Some x) h =
     let is = h x refl in
-    let passes : same_class x.class (used_class network c) ≡ true = ap (λ a. same_class a (used_class network c)) is ∙ class_itself (used_class network c) in
+    let passes : same_class x.class (used_class network c) ≡ true =
+    ap (λ a. same_class a (used_class network c)) is ∙ class_itself (used_class network c) in
     ap (λ b. cond b None (Some (refusal.Class c x.class (used_class network c)))) passes
 
 pub classes_none : (network : Network) → HaveClasses network → class_refusal network ≡ None
 unfolding class_refusal
 classes_none network have =
-    first_none (λ c. channel_refusal network c (slice_get network.channels c)) (length network.channels) (λ c lt. class_none network c (slice_get network.channels c) (have c))
+    first_none (λ c. channel_refusal network c (slice_get network.channels c)) (length network.channels)
+    (λ c lt. class_none network c (slice_get network.channels c) (have c))

@@ -55,62 +55,85 @@ module _ (n : Nest) (net : Net) where
   -- where place k of p's script is a fire, each reference names what its read wants
   abbrev NamesWanted : ℕ → ℕ → Type 0
   NamesWanted p k =
-      (refs : List Ref) → slice_get (net.script p) k ≡ Some (Fire refs) → (read : ℕ) (r : Ref) → slice_get refs read ≡ Some r → name_at net p k r ≡ name_of_source (source_tag n p (fires net p k) read)
+      (refs : List Ref) → slice_get (net.script p) k ≡ Some (Fire refs) → (read : ℕ) (r : Ref)
+      → slice_get refs read ≡ Some r → name_at net p k r ≡ name_of_source (source_tag n p (fires net p k) read)
 
-  none_reference : (i p k j : ℕ) (o : Option Ref) (r : Ref) → o ≡ Some r → reference_refusal n net i p k j o ≡ None → name_at net p k r ≡ name_of_source (source_tag n p (fires net p k) j)
+  none_reference : (i p k j : ℕ) (o : Option Ref) (r : Ref) → o ≡ Some r → reference_refusal n net i p k j o ≡ None
+      → name_at net p k r ≡ name_of_source (source_tag n p (fires net p k) j)
   none_reference i p k j None r is h = cc
   none_reference i p k j (Some s) r is h =
       let same : s ≡ r = cc in
       let source = source_tag n p (fires net p k) j in
       let name = name_at net p k s in
-      rw (← same) (wanted_name name source (passes_where_none (is_wanted name source) (refusal.Tag i (seen_of (points_of n) name) (wanted_of (points_of n) source)) h))
+      rw (← same) (wanted_name name source
+      (passes_where_none (is_wanted name source)
+      (refusal.Tag i (seen_of (points_of n) name) (wanted_of (points_of n) source)) h))
 
-  none_event : (i p k : ℕ) (o : Option Event) → slice_get (net.script p) k ≡ o → event_refusal n net i p k o ≡ None → NamesWanted p k
+  none_event : (i p k : ℕ) (o : Option Event) → slice_get (net.script p) k ≡ o → event_refusal n net i p k o ≡ None
+      → NamesWanted p k
   none_event i p k None at h refs is read r there = cc
   none_event i p k (Some (Get c s)) at h refs is read r there = cc
   none_event i p k (Some (Put c)) at h refs is read r there = cc
   none_event i p k (Some (Fire refs')) at h refs is read r there =
       let same : refs' ≡ refs = fire_same refs' refs (sym at ∙ is) in
       let there' : slice_get refs' read ≡ Some r = rw same there in
-      none_reference i p k read (slice_get refs' read) r there' (none_first (λ j. reference_refusal n net i p k j (slice_get refs' j)) (length refs') h read (slice_get_within refs' read r there'))
+      none_reference i p k read (slice_get refs' read) r there'
+      (none_first (λ j. reference_refusal n net i p k j (slice_get refs' j)) (length refs') h read
+      (slice_get_within refs' read r there'))
     where
       fire_same : (a b : List Ref) → ◌≡◌ {A = Option Event} (Some (Fire a)) (Some (Fire b)) → a ≡ b
       fire_same a b e = cc
 
-  reference_none : (i p k j : ℕ) (o : Option Ref) → ((r : Ref) → o ≡ Some r → name_at net p k r ≡ name_of_source (source_tag n p (fires net p k) j)) → reference_refusal n net i p k j o ≡ None
+  reference_none : (i p k j : ℕ) (o : Option Ref)
+      → ((r : Ref) → o ≡ Some r → name_at net p k r ≡ name_of_source (source_tag n p (fires net p k) j))
+      → reference_refusal n net i p k j o ≡ None
   reference_none i p k j None h = refl
   reference_none i p k j (Some r) h =
       let source = source_tag n p (fires net p k) j in
       let named : name_at net p k r ≡ name_of_source source = h r refl in
-      let passes : is_wanted (name_at net p k r) source ≡ true = ap (λ name. is_wanted name source) named ∙ wanted_itself source in
-      ap (λ b. cond b None (Some (refusal.Tag i (seen_of (points_of n) (name_at net p k r)) (wanted_of (points_of n) source)))) passes
+      let passes : is_wanted (name_at net p k r) source ≡ true =
+      ap (λ name. is_wanted name source) named ∙ wanted_itself source in
+      ap (λ b. cond b None
+      (Some (refusal.Tag i (seen_of (points_of n) (name_at net p k r)) (wanted_of (points_of n) source)))) passes
 
-  event_none : NamesLastWriters n net → (i p k : ℕ) (o : Option Event) → slice_get (net.script p) k ≡ o → event_refusal n net i p k o ≡ None
+  event_none : NamesLastWriters n net → (i p k : ℕ) (o : Option Event) → slice_get (net.script p) k ≡ o
+      → event_refusal n net i p k o ≡ None
   event_none names i p k None at = refl
   event_none names i p k (Some (Get c s)) at = refl
   event_none names i p k (Some (Put c)) at = refl
   event_none names i p k (Some (Fire refs)) at =
-      first_none (λ j. reference_refusal n net i p k j (slice_get refs j)) (length refs) (λ j lt. reference_none i p k j (slice_get refs j) (names p k refs at j))
+      first_none (λ j. reference_refusal n net i p k j (slice_get refs j)) (length refs)
+      (λ j lt. reference_none i p k j (slice_get refs j) (names p k refs at j))
 
-  none_entry : (k : Cut) (i p : ℕ) → entry_refusal n net k i p ≡ None → (enabled_at net k p ≡ true) × NamesWanted p (k p)
+  none_entry : (k : Cut) (i p : ℕ) → entry_refusal n net k i p ≡ None
+      → (enabled_at net k p ≡ true) × NamesWanted p (k p)
   none_entry k i p h =
       elim (cases_Bool (enabled_at net k p)) [
         | inl on ↦
-            let e : event_refusal n net i p (k p) (slice_get (net.script p) (k p)) ≡ None = sym (ap (λ b. cond b (event_refusal n net i p (k p) (slice_get (net.script p) (k p))) (Some (refusal.NotEnabled i))) on) ∙ h in
+            let e : event_refusal n net i p (k p) (slice_get (net.script p) (k p)) ≡ None =
+            sym (ap (λ b.
+            cond b (event_refusal n net i p (k p) (slice_get (net.script p) (k p)))
+            (Some (refusal.NotEnabled i))) on) ∙ h in
             (on, none_event i p (k p) (slice_get (net.script p) (k p)) refl e)
         | inr off ↦
-            let wrong : Some (refusal.NotEnabled i) ≡ None = sym (ap (λ b. cond b (event_refusal n net i p (k p) (slice_get (net.script p) (k p))) (Some (refusal.NotEnabled i))) off) ∙ h in
+            let wrong : Some (refusal.NotEnabled i) ≡ None =
+            sym (ap (λ b.
+            cond b (event_refusal n net i p (k p) (slice_get (net.script p) (k p)))
+            (Some (refusal.NotEnabled i))) off) ∙ h in
             cc
       ]
 
-  entry_none : NamesLastWriters n net → (k : Cut) (i p : ℕ) → enabled_at net k p ≡ true → entry_refusal n net k i p ≡ None
+  entry_none : NamesLastWriters n net → (k : Cut) (i p : ℕ) → enabled_at net k p ≡ true
+      → entry_refusal n net k i p ≡ None
   entry_none names k i p on =
-      ap (λ b. cond b (event_refusal n net i p (k p) (slice_get (net.script p) (k p))) (Some (refusal.NotEnabled i))) on ∙ event_none names i p (k p) (slice_get (net.script p) (k p)) refl
+      ap (λ b. cond b (event_refusal n net i p (k p) (slice_get (net.script p) (k p))) (Some (refusal.NotEnabled i))) on
+      ∙ event_none names i p (k p) (slice_get (net.script p) (k p)) refl
 
 -- The whole schedule
 
 -- a place that a cut passes with p's event is p's, or one that the rest passes
-passed : (n : Nest) (net : Net) (k : Cut) (p q j : ℕ) → k q ≤ j → NamesWanted n net p (k p) → (advanced k p q ≤ j → NamesWanted n net q j) → NamesWanted n net q j
+passed : (n : Nest) (net : Net) (k : Cut) (p q j : ℕ) → k q ≤ j → NamesWanted n net p (k p)
+    → (advanced k p q ≤ j → NamesWanted n net q j) → NamesWanted n net q j
 passed n net k p q j low here rest =
     elim (cases_lt j (advanced k p q)) [
       | inr later ↦ rest later
@@ -124,7 +147,8 @@ passed n net k p q j low here rest =
     ]
 
 -- no entry is refused: it is a run, and each fire that it passes names what it wants
-none_entries : (n : Nest) (net : Net) (ps : List ℕ) (k : Cut) (i : ℕ) → entries_refusal n net k i ps ≡ None → IsCutRun net k ps × ((q j : ℕ) → k q ≤ j → j < cut_after k ps q → NamesWanted n net q j)
+none_entries : (n : Nest) (net : Net) (ps : List ℕ) (k : Cut) (i : ℕ) → entries_refusal n net k i ps ≡ None
+    → IsCutRun net k ps × ((q j : ℕ) → k q ≤ j → j < cut_after k ps q → NamesWanted n net q j)
 none_entries n net [] k i h = (tt, λ q j low high. absurd (omega arith))
 none_entries n net (p ∷ ps) k i h =
     let parts = or_none (entry_refusal n net k i p) (entries_refusal n net (advanced k p) (suc i) ps) h in
@@ -132,10 +156,12 @@ none_entries n net (p ∷ ps) k i h =
     let rest = none_entries n net ps (advanced k p) (suc i) parts.1 in
     ((here.0, rest.0), λ q j low high. passed n net k p q j low here.1 (λ later. rest.1 q j later high))
 
-entries_none : (n : Nest) (net : Net) → NamesLastWriters n net → (ps : List ℕ) (k : Cut) (i : ℕ) → IsCutRun net k ps → entries_refusal n net k i ps ≡ None
+entries_none : (n : Nest) (net : Net) → NamesLastWriters n net → (ps : List ℕ) (k : Cut) (i : ℕ) → IsCutRun net k ps
+    → entries_refusal n net k i ps ≡ None
 entries_none n net names [] k i run = refl
 entries_none n net names (p ∷ ps) k i run =
-    ap (λ o. option_or o (entries_refusal n net (advanced k p) (suc i) ps)) (entry_none n net names k i p run.0) ∙ entries_none n net names ps (advanced k p) (suc i) run.1
+    ap (λ o. option_or o (entries_refusal n net (advanced k p) (suc i) ps)) (entry_none n net names k i p run.0)
+    ∙ entries_none n net names ps (advanced k p) (suc i) run.1
 
 module _ (n : Nest) (network : Network) (schedule : List ℕ) (wired : IsWired (net_of network)) where
   abbrev net : Net
@@ -145,7 +171,8 @@ module _ (n : Nest) (network : Network) (schedule : List ℕ) (wired : IsWired (
   unfolding schedule_refusal
   none_ends h =
       let cut = cut_after opening schedule in
-      let parts = or_none (entries_refusal n net opening 0 schedule) (first_below (unended net cut) (length network.processes)) h in
+      let parts =
+      or_none (entries_refusal n net opening 0 schedule) (first_below (unended net cut) (length network.processes)) h in
       let walked = none_entries n net schedule opening 0 parts.0 in
       let run = cut_run net tags wired schedule (start net) (start_counted net) walked.0 in
       let full : (q : ℕ) → cut q ≡ length (net.script q) =
@@ -154,7 +181,9 @@ module _ (n : Nest) (network : Network) (schedule : List ℕ) (wired : IsWired (
       elim (cases_lt q (length network.processes)) [
         | inl lt ↦
             let none = none_first (unended net cut) (length network.processes) parts.1 q lt in
-            let low = ltb-false (cut q) (length (net.script q)) (fails_where_none (ltb (cut q) (length (net.script q))) (refusal.Unended q) none) in
+            let low =
+            ltb-false (cut q) (length (net.script q))
+            (fails_where_none (ltb (cut q) (length (net.script q))) (refusal.Unended q) none) in
             omega arith
         | inr past ↦ omega (arith, ap length (wired.bounded q past))
       ] in
@@ -168,5 +197,8 @@ module _ (n : Nest) (network : Network) (schedule : List ℕ) (wired : IsWired (
       let full : (q : ℕ) → cut q ≡ length (net.script q) =
       λ q. sym (ap (λ k. k q) (run_ends net tags schedule (start net) ends.0)) ∙ ends.1 q in
       let all : first_below (unended net cut) (length network.processes) ≡ None =
-      first_none (unended net cut) (length network.processes) (λ q lt. ap (λ b. cond b (Some (refusal.Unended q)) None) (le-ltb (cut q) (length (net.script q)) (omega (arith, full q)))) in
-      ap (λ o. option_or o (first_below (unended net cut) (length network.processes))) (entries_none n net names schedule opening 0 run) ∙ all
+      first_none (unended net cut) (length network.processes)
+      (λ q lt. ap (λ b. cond b (Some (refusal.Unended q)) None)
+      (le-ltb (cut q) (length (net.script q)) (omega (arith, full q)))) in
+      ap (λ o. option_or o (first_below (unended net cut) (length network.processes)))
+      (entries_none n net names schedule opening 0 run) ∙ all

@@ -55,7 +55,8 @@ take_all (x ∷ xs) = ap (λ ys. x ∷ ys) (take_all xs)
 
 -- every event may stand where it does
 abbrev AllMayStand : Nest → Net → ℕ → Type 0
-AllMayStand n net p = (k : ℕ) (e : Event) → slice_get (net.script p) k ≡ Some e → may_stand n net p (fires net p k) e ≡ true
+AllMayStand n net p =
+    (k : ℕ) (e : Event) → slice_get (net.script p) k ≡ Some e → may_stand n net p (fires net p k) e ≡ true
 
 -- what a fire that may stand keeps to
 pub record StandsAsFire (n : Nest) (net : Net) (p before : ℕ) (refs : List Ref) : Type 0 where
@@ -63,7 +64,8 @@ pub record StandsAsFire (n : Nest) (net : Net) (p before : ℕ) (refs : List Ref
   pub references : length refs ≡ read_count n p
   pub slots : list_all (is_within (net.slots p)) refs ≡ true
 
-fire_stands : (n : Nest) (net : Net) (p before : ℕ) (refs : List Ref) → may_stand n net p before (Fire refs) ≡ true → StandsAsFire n net p before refs
+fire_stands : (n : Nest) (net : Net) (p before : ℕ) (refs : List Ref) → may_stand n net p before (Fire refs) ≡ true
+    → StandsAsFire n net p before refs
 fire_stands n net p before refs may =
     let a = ltb before (turns (points_of n) p) in
     let b = eqb (length refs) (read_count n p) in
@@ -72,19 +74,23 @@ fire_stands n net p before refs may =
     let inner = and_parts a b outer.0 in
     record { turn = ltb-true _ _ inner.0; references = eqb-true _ _ inner.1; slots = outer.1 }
 
-stands_fire : (n : Nest) (net : Net) (p before : ℕ) (refs : List Ref) → StandsAsFire n net p before refs → may_stand n net p before (Fire refs) ≡ true
+stands_fire : (n : Nest) (net : Net) (p before : ℕ) (refs : List Ref) → StandsAsFire n net p before refs
+    → may_stand n net p before (Fire refs) ≡ true
 stands_fire n net p before refs h =
     and_from _ _ (and_from _ _ (lt-ltb _ _ h.turn) (eq-eqb _ _ h.references)) h.slots
 
 -- so there are no more fires than points
-fires_step : (n : Nest) (net : Net) (p k : ℕ) (e : Event) → slice_get (net.script p) k ≡ Some e → may_stand n net p (fires net p k) e ≡ true → fires net p k ≤ turns (points_of n) p → fires net p (suc k) ≤ turns (points_of n) p
+fires_step : (n : Nest) (net : Net) (p k : ℕ) (e : Event) → slice_get (net.script p) k ≡ Some e
+    → may_stand n net p (fires net p k) e ≡ true → fires net p k ≤ turns (points_of n) p
+    → fires net p (suc k) ≤ turns (points_of n) p
 fires_step n net p k (Get c slot) is may before = omega (arith, count_next is_fire (net.script p) k (Get c slot) is)
 fires_step n net p k (Put c) is may before = omega (arith, count_next is_fire (net.script p) k (Put c) is)
 fires_step n net p k (Fire refs) is may before =
     let stands = fire_stands n net p (fires net p k) refs may in
     omega (arith, count_next is_fire (net.script p) k (Fire refs) is, stands.turn)
 
-fires_bounded : (n : Nest) (net : Net) (p : ℕ) → AllMayStand n net p → (k : ℕ) → k ≤ length (net.script p) → fires net p k ≤ turns (points_of n) p
+fires_bounded : (n : Nest) (net : Net) (p : ℕ) → AllMayStand n net p → (k : ℕ) → k ≤ length (net.script p)
+    → fires net p k ≤ turns (points_of n) p
 fires_bounded n net p stand zero le = omega arith
 fires_bounded n net p stand (suc k) le =
     let item = item_at (net.script p) k (omega arith) in
@@ -95,7 +101,8 @@ pub record FiresRightly (n : Nest) (net : Net) (p : ℕ) : Type 0 where
   pub stand : AllMayStand n net p
   pub turns : count_by is_fire (net.script p) ≡ turns (points_of n) p
 
-none_stands : (n : Nest) (net : Net) (p k : ℕ) (o : Option Event) (e : Event) → o ≡ Some e → event_firing n net p k o ≡ None → may_stand n net p (fires net p k) e ≡ true
+none_stands : (n : Nest) (net : Net) (p k : ℕ) (o : Option Event) (e : Event) → o ≡ Some e
+    → event_firing n net p k o ≡ None → may_stand n net p (fires net p k) e ≡ true
 none_stands n net p k None e is h = cc
 none_stands n net p k (Some d) e is h =
     let same : d ≡ e = cc in
@@ -105,15 +112,22 @@ pub none_fires : (n : Nest) (net : Net) (p : ℕ) → process_firing n net p ≡
 none_fires n net p h =
     let script = net.script p in
     let short = ltb (count_by is_fire script) (turns (points_of n) p) in
-    let parts = or_none (first_below (λ k. event_firing n net p k (slice_get script k)) (length script)) (cond short (Some (refusal.Fires p (length script))) None) h in
+    let parts =
+    or_none (first_below (λ k. event_firing n net p k (slice_get script k)) (length script))
+    (cond short (Some (refusal.Fires p (length script))) None) h in
     let stand : AllMayStand n net p =
-    λ k e is. none_stands n net p k (slice_get script k) e is (none_first (λ k. event_firing n net p k (slice_get script k)) (length script) parts.0 k (slice_get_within script k e is)) in
-    let high : turns (points_of n) p ≤ count_by is_fire script = ltb-false _ _ (fails_where_none short (refusal.Fires p (length script)) parts.1) in
-    let low : fires net p (length script) ≤ turns (points_of n) p = fires_bounded n net p stand (length script) (omega arith) in
+    λ k e is. none_stands n net p k (slice_get script k) e is
+    (none_first (λ k. event_firing n net p k (slice_get script k)) (length script) parts.0 k
+    (slice_get_within script k e is)) in
+    let high : turns (points_of n) p ≤ count_by is_fire script =
+    ltb-false _ _ (fails_where_none short (refusal.Fires p (length script)) parts.1) in
+    let low : fires net p (length script) ≤ turns (points_of n) p =
+    fires_bounded n net p stand (length script) (omega arith) in
     let all : fires net p (length script) ≡ count_by is_fire script = ap (count_by is_fire) (take_all script) in
     record { stand = stand; turns = omega arith }
 
-event_stands : (n : Nest) (net : Net) (p k : ℕ) (o : Option Event) → ((e : Event) → o ≡ Some e → may_stand n net p (fires net p k) e ≡ true) → event_firing n net p k o ≡ None
+event_stands : (n : Nest) (net : Net) (p k : ℕ) (o : Option Event)
+    → ((e : Event) → o ≡ Some e → may_stand n net p (fires net p k) e ≡ true) → event_firing n net p k o ≡ None
 event_stands n net p k None h = refl
 event_stands n net p k (Some e) h = rw (h e refl) refl
 
@@ -122,7 +136,8 @@ fires_none n net p right =
     let script = net.script p in
     let each : first_below (λ k. event_firing n net p k (slice_get script k)) (length script) ≡ None =
     first_none _ _ (λ k lt. event_stands n net p k (slice_get script k) (right.stand k)) in
-    let long : ltb (count_by is_fire script) (turns (points_of n) p) ≡ false = le-ltb _ _ (omega (arith, right.turns)) in
+    let long : ltb (count_by is_fire script) (turns (points_of n) p) ≡ false =
+    le-ltb _ _ (omega (arith, right.turns)) in
     rw (each, long) refl
 
 -- The shape of one process
@@ -168,7 +183,8 @@ own_put net p c h =
 pub record Agrees (n : Nest) (network : Network) (cert : Cert) : Type 0 where
   pub processes : length network.processes ≡ length n.statements
   pub sources : length cert.sources ≡ read_total n
-  pub channels : (c : ℕ) (channel : Channel) → slice_get network.channels c ≡ Some channel → channel_agrees n channel ≡ true
+  pub channels : (c : ℕ) (channel : Channel) → slice_get network.channels c ≡ Some channel
+      → channel_agrees n channel ≡ true
 
 agrees_parts : (n : Nest) (network : Network) (cert : Cert) → agrees n network cert ≡ true → Agrees n network cert
 agrees_parts n network cert h =
@@ -184,7 +200,8 @@ agrees_parts n network cert h =
 
 parts_agree : (n : Nest) (network : Network) (cert : Cert) → Agrees n network cert → agrees n network cert ≡ true
 parts_agree n network cert h =
-    and_from _ _ (and_from _ _ (eq-eqb _ _ h.processes) (eq-eqb _ _ h.sources)) (each_all (channel_agrees n) network.channels h.channels)
+    and_from _ _ (and_from _ _ (eq-eqb _ _ h.processes) (eq-eqb _ _ h.sources))
+    (each_all (channel_agrees n) network.channels h.channels)
 
 pub record ChannelAgrees (n : Nest) (channel : Channel) : Type 0 where
   pub writer : channel.writer < length n.statements
@@ -224,18 +241,28 @@ module _ (n : Nest) (network : Network) where
   no_slots : (p : ℕ) → length network.processes ≤ p → net.slots p ≡ 0
   no_slots p le = rw (slice_get_past network.processes p le) refl
 
-  wired : (cert : Cert) → Agrees n network cert → ((p : ℕ) → p < length network.processes → KeepsShape net p) → ((p : ℕ) → p < length network.processes → FiresRightly n net p) → IsWired net
+  wired : (cert : Cert) → Agrees n network cert → ((p : ℕ) → p < length network.processes → KeepsShape net p)
+      → ((p : ℕ) → p < length network.processes → FiresRightly n net p) → IsWired net
   wired cert agree shapes rights = record {
     bounded = no_script;
-    writers = λ c lt. (let ch = item_at network.channels c lt in let w = (channel_parts n ch.0 (agree.channels c ch.0 ch.1)).writer in let e : net.writer c ≡ ch.0.writer = rw ch.1 refl in omega (arith, agree.processes));
-    readers = λ c lt. (let ch = item_at network.channels c lt in let r = (channel_parts n ch.0 (agree.channels c ch.0 ch.1)).reader in let e : net.reader c ≡ ch.0.reader = rw ch.1 refl in omega (arith, agree.processes));
+    writers =
+        λ c lt. (let ch = item_at network.channels c lt in let w =
+        (channel_parts n ch.0 (agree.channels c ch.0 ch.1)).writer in let e : net.writer c
+        ≡ ch.0.writer = rw ch.1 refl in omega (arith, agree.processes));
+    readers =
+        λ c lt. (let ch = item_at network.channels c lt in let r =
+        (channel_parts n ch.0 (agree.channels c ch.0 ch.1)).reader in let e : net.reader c
+        ≡ ch.0.reader = rw ch.1 refl in omega (arith, agree.processes));
     get_channel = λ p k c slot is. (get p k c slot is).channel;
     get_reader = λ p k c slot is. (get p k c slot is).reader;
     get_slot = λ p k c slot is. (get p k c slot is).within;
     put_channel = λ p k c is. (put p k c is).0;
     put_writer = λ p k c is. (put p k c is).1;
     put_fired = λ p k c is. ltb-true _ _ ((rights p (there p k (Put c) is)).stand k (Put c) is);
-    reference_slots = λ p k refs is. refs_within p (net.slots p) refs ((fire_stands n net p (fires net p k) refs ((rights p (there p k (Fire refs) is)).stand k (Fire refs) is)).slots);
+    reference_slots =
+        λ p k refs is. refs_within p (net.slots p) refs
+        ((fire_stands n net p (fires net p k) refs
+        ((rights p (there p k (Fire refs) is)).stand k (Fire refs) is)).slots);
   }
     where
       -- an event is one of a process that is there
@@ -261,7 +288,8 @@ module _ (n : Nest) (network : Network) where
           All-cons (IsWithin slots) r refs (within_true slots r parts.0) (refs_within p slots refs parts.1)
 
   -- the network fits the nest where nothing is wrong with its shape and its fires
-  fits : (cert : Cert) → Agrees n network cert → ((p : ℕ) → p < length network.processes → KeepsShape net p) → ((p : ℕ) → p < length network.processes → FiresRightly n net p) → FitsNest n network
+  fits : (cert : Cert) → Agrees n network cert → ((p : ℕ) → p < length network.processes → KeepsShape net p)
+      → ((p : ℕ) → p < length network.processes → FiresRightly n net p) → FitsNest n network
   fits cert agree shapes rights = record {
     shaped = record {
       processes = agree.processes ∙ sym (points_length n);
@@ -270,13 +298,16 @@ module _ (n : Nest) (network : Network) where
         | inl lt ↦ (rights p lt).turns
         | inr past ↦ ap (count_by is_fire) (no_script p past) ∙ sym (turns_past n p (omega (arith, agree.processes)))
       ];
-      few_slots = λ p. elim (cases_lt p (length network.processes)) [ inl lt ↦ (shapes p lt).few_slots | inr past ↦ omega (arith, no_slots p past) ];
+      few_slots =
+          λ p. elim (cases_lt p
+          (length network.processes)) [ inl lt ↦ (shapes p lt).few_slots | inr past ↦ omega (arith, no_slots p past) ];
     };
     references = λ p k refs is. (stands p k refs is).references;
     reads = λ c channel is. (channel_parts n channel (agree.channels c channel is)).read;
   }
     where
-      stands : (p k : ℕ) (refs : List Ref) → slice_get (net.script p) k ≡ Some (Fire refs) → StandsAsFire n net p (fires net p k) refs
+      stands : (p k : ℕ) (refs : List Ref) → slice_get (net.script p) k ≡ Some (Fire refs)
+          → StandsAsFire n net p (fires net p k) refs
       stands p k refs is =
           elim (cases_lt p (length network.processes)) [
             | inl lt ↦ fire_stands n net p (fires net p k) refs ((rights p lt).stand k (Fire refs) is)
@@ -305,10 +336,12 @@ module _ (n : Nest) (network : Network) where
             read = fit.reads c channel is;
           }
 
-  own_event : FitsNest n network → (p k : ℕ) (e : Event) → slice_get (net.script p) k ≡ Some e → is_own_event net p e ≡ true
+  own_event : FitsNest n network → (p k : ℕ) (e : Event) → slice_get (net.script p) k ≡ Some e
+      → is_own_event net p e ≡ true
   own_event fit p k (Get c slot) is =
       let w = fit.shaped.wired in
-      and_from _ _ (and_from _ _ (lt-ltb _ _ (w.get_channel p k c slot is)) (eq-eqb _ _ (w.get_reader p k c slot is))) (lt-ltb _ _ (w.get_slot p k c slot is))
+      and_from _ _ (and_from _ _ (lt-ltb _ _ (w.get_channel p k c slot is)) (eq-eqb _ _ (w.get_reader p k c slot is)))
+      (lt-ltb _ _ (w.get_slot p k c slot is))
   own_event fit p k (Fire refs) is = refl
   own_event fit p k (Put c) is =
       let w = fit.shaped.wired in
@@ -318,11 +351,13 @@ module _ (n : Nest) (network : Network) where
   fits_shapes fit p = record { own = own_event fit p; few_slots = fit.shaped.few_slots p }
 
   -- a fire has a point left
-  pub turn_left : FitsNest n network → (p k : ℕ) (refs : List Ref) → slice_get (net.script p) k ≡ Some (Fire refs) → fires net p k < turns (points_of n) p
+  pub turn_left : FitsNest n network → (p k : ℕ) (refs : List Ref) → slice_get (net.script p) k ≡ Some (Fire refs)
+      → fires net p k < turns (points_of n) p
   turn_left fit p k refs is =
       omega (arith, fit.shaped.turns p, count_next is_fire (net.script p) k (Fire refs) is, count_take (net.script p) (suc k))
 
-  event_may_stand : FitsNest n network → (p k : ℕ) (e : Event) → slice_get (net.script p) k ≡ Some e → may_stand n net p (fires net p k) e ≡ true
+  event_may_stand : FitsNest n network → (p k : ℕ) (e : Event) → slice_get (net.script p) k ≡ Some e
+      → may_stand n net p (fires net p k) e ≡ true
   event_may_stand fit p k (Get c slot) is = refl
   event_may_stand fit p k (Put c) is = lt-ltb _ _ (fit.shaped.wired.put_fired p k c is)
   event_may_stand fit p k (Fire refs) is =
@@ -332,30 +367,37 @@ module _ (n : Nest) (network : Network) where
       slots : (refs : List Ref) → All (IsWithin (net.slots p)) refs → list_all (is_within (net.slots p)) refs ≡ true
       slots [] h = refl
       slots (r ∷ refs) h =
-          and_from _ _ (true_within (net.slots p) r (All-head (IsWithin (net.slots p)) r refs h)) (slots refs (All-tail (IsWithin (net.slots p)) r refs h))
+          and_from _ _ (true_within (net.slots p) r (All-head (IsWithin (net.slots p)) r refs h))
+          (slots refs (All-tail (IsWithin (net.slots p)) r refs h))
 
   fits_fires : FitsNest n network → (p : ℕ) → FiresRightly n net p
   fits_fires fit p = record { stand = event_may_stand fit p; turns = fit.shaped.turns p }
 
   -- nothing is wrong with shape and fires: the network fits the nest
-  pub none_fits : (cert : Cert) → shape_refusal n network cert ≡ None → firing_refusal n network ≡ None → FitsNest n network × (length cert.sources ≡ read_total n)
+  pub none_fits : (cert : Cert) → shape_refusal n network cert ≡ None → firing_refusal n network ≡ None
+      → FitsNest n network × (length cert.sources ≡ read_total n)
   unfolding shape_refusal firing_refusal
   none_fits cert h g =
       let whole = cond (agrees n network cert) None (Some (refusal.Shape (length n.statements))) in
       let parts = or_none whole (first_below (process_shape net) (length network.processes)) h in
-      let agree = agrees_parts n network cert (passes_where_none (agrees n network cert) (refusal.Shape (length n.statements)) parts.0) in
+      let agree =
+      agrees_parts n network cert
+      (passes_where_none (agrees n network cert) (refusal.Shape (length n.statements)) parts.0) in
       let shapes : (p : ℕ) → p < length network.processes → KeepsShape net p =
       λ p lt. none_shape net p (none_first (process_shape net) (length network.processes) parts.1 p lt) in
       let rights : (p : ℕ) → p < length network.processes → FiresRightly n net p =
       λ p lt. none_fires n net p (none_first (process_firing n net) (length network.processes) g p lt) in
       (fits cert agree shapes rights, agree.sources)
 
-  pub fits_no_shape : (cert : Cert) → FitsNest n network → length cert.sources ≡ read_total n → shape_refusal n network cert ≡ None
+  pub fits_no_shape : (cert : Cert) → FitsNest n network → length cert.sources ≡ read_total n
+      → shape_refusal n network cert ≡ None
   unfolding shape_refusal
   fits_no_shape cert fit sources =
       let agree = parts_agree n network cert (fits_agree cert fit sources) in
-      rw agree (first_none (process_shape net) (length network.processes) (λ p lt. shape_none net p (fits_shapes fit p)))
+      rw agree (first_none (process_shape net) (length network.processes)
+      (λ p lt. shape_none net p (fits_shapes fit p)))
 
   pub fits_no_firing : FitsNest n network → firing_refusal n network ≡ None
   unfolding firing_refusal
-  fits_no_firing fit = first_none (process_firing n net) (length network.processes) (λ p lt. fires_none n net p (fits_fires fit p))
+  fits_no_firing fit =
+      first_none (process_firing n net) (length network.processes) (λ p lt. fires_none n net p (fits_fires fit p))

@@ -32,7 +32,9 @@ first_fits n network cert h =
 pub fits_first : (n : Nest) (network : Network) (cert : Cert) → Fits n network cert → first n network cert ≡ None
 fits_first n network cert fits =
     let later = option_or (schedule_refusal n network cert.schedule) (class_refusal network) in
-    ap (λ o. option_or o (option_or (firing_refusal n network) later)) (fits_no_shape n network cert fits.shape fits.sources)
+    ap (λ o. option_or o (option_or (firing_refusal n network) later))
+    (fits_no_shape n network cert fits.shape fits.sources)
     ∙ ap (λ o. option_or o later) (fits_no_firing n network fits.shape)
-    ∙ ap (λ o. option_or o (class_refusal network)) (ends_none n network cert.schedule fits.shape.shaped.wired fits.ends fits.names)
+    ∙ ap (λ o. option_or o (class_refusal network))
+    (ends_none n network cert.schedule fits.shape.shaped.wired fits.ends fits.names)
     ∙ classes_none network fits.classes

@@ -20,20 +20,23 @@ item_at [] k lt = absurd (omega arith)
 item_at (x ∷ xs) zero lt = (x, refl)
 item_at (x ∷ xs) (suc k) lt = item_at xs k (omega arith)
 
-pub all_at : {X : Type 0} (p : X → Bool) (xs : List X) (k : ℕ) (x : X) → list_all p xs ≡ true → slice_get xs k ≡ Some x → p x ≡ true
+pub all_at : {X : Type 0} (p : X → Bool) (xs : List X) (k : ℕ) (x : X) → list_all p xs ≡ true → slice_get xs k ≡ Some x
+    → p x ≡ true
 all_at p [] k x h is = cc
 all_at p (y ∷ xs) zero x h is =
     let same : y ≡ x = cc in
     rw (← same) ((and_parts (p y) (list_all p xs) h).0)
 all_at p (y ∷ xs) (suc k) x h is = all_at p xs k x ((and_parts (p y) (list_all p xs) h).1) is
 
-pub each_all : {X : Type 0} (p : X → Bool) (xs : List X) → ((k : ℕ) (x : X) → slice_get xs k ≡ Some x → p x ≡ true) → list_all p xs ≡ true
+pub each_all : {X : Type 0} (p : X → Bool) (xs : List X) → ((k : ℕ) (x : X) → slice_get xs k ≡ Some x → p x ≡ true)
+    → list_all p xs ≡ true
 each_all p [] each = refl
 each_all p (x ∷ xs) each =
     and_from (p x) (list_all p xs) (each 0 x refl) (each_all p xs (λ k y is. each (suc k) y is))
 
 -- what is read at a place of a list
-pub read_at : {X : Type 0} (xs ys : List X) (k : ℕ) (x : X) → ys ≡ xs → k < length ys → x ≡ get_or ys k x → slice_get xs k ≡ Some x
+pub read_at : {X : Type 0} (xs ys : List X) (k : ℕ) (x : X) → ys ≡ xs → k < length ys → x ≡ get_or ys k x
+    → slice_get xs k ≡ Some x
 read_at xs ys k x same lt is =
     ap (λ zs. slice_get zs k) (sym same) ∙ slice_get-get_or ys k x lt ∙ ap Some (sym is)
 
@@ -46,16 +49,20 @@ item_where_some : {X : Type 0} (xs : List X) (k : ℕ) (d x : X) → Some x ≡ 
 item_where_some xs k d x h = get_or_from_slice_get xs k x d (sym h)
 
 -- the iteration vector of a turn, where the lists have one, and where they have none
-pub vector_found : (points : List (List (List ℤ))) (p t : ℕ) (v : List (List ℤ)) (a : List ℤ) → Some v ≡ slice_get points p → Some a ≡ slice_get v t → a ≡ vector_at points p t
+pub vector_found : (points : List (List (List ℤ))) (p t : ℕ) (v : List (List ℤ)) (a : List ℤ)
+    → Some v ≡ slice_get points p → Some a ≡ slice_get v t → a ≡ vector_at points p t
 vector_found points p t v a h g =
     sym (ap (λ (list : List (List ℤ)). get_or list t []) (item_where_some points p [] v h) ∙ item_where_some v t [] a g)
 
-pub vector_past : (points : List (List (List ℤ))) (p t : ℕ) (v : List (List ℤ)) → Some v ≡ slice_get points p → None ≡ slice_get v t → [] ≡ vector_at points p t
+pub vector_past : (points : List (List (List ℤ))) (p t : ℕ) (v : List (List ℤ)) → Some v ≡ slice_get points p
+    → None ≡ slice_get v t → [] ≡ vector_at points p t
 vector_past points p t v h g =
-    sym (ap (λ (list : List (List ℤ)). get_or list t []) (item_where_some points p [] v h) ∙ default_where_none v t [] g)
+    sym (ap (λ (list : List (List ℤ)). get_or list t []) (item_where_some points p [] v h)
+    ∙ default_where_none v t [] g)
 
 pub vectors_past : (points : List (List (List ℤ))) (p t : ℕ) → None ≡ slice_get points p → [] ≡ vector_at points p t
 vectors_past points p t h = sym (ap (λ (list : List (List ℤ)). get_or list t []) (default_where_none points p [] h))
 
-pub read_or : {X : Type 0} (xs ys : List X) (k : ℕ) (d : X) → ys ≡ xs → k < length ys → slice_get xs k ≡ Some (get_or ys k d)
+pub read_or : {X : Type 0} (xs ys : List X) (k : ℕ) (d : X) → ys ≡ xs → k < length ys
+    → slice_get xs k ≡ Some (get_or ys k d)
 read_or xs ys k d same lt = ap (λ zs. slice_get zs k) (sym same) ∙ slice_get-get_or ys k d lt

@@ -19,10 +19,13 @@ pub few_statements : (n : Nest) → length n.statements ≤ 64
 few_statements n = n.well_formed.few_statements
 
 -- the sum of the reads takes one more statement
-pub reads_more : (statements : List Statement) (k : ℕ) (s : Statement) → slice_get statements k ≡ Some s → sum_by (λ x. length x.reads) (take (k + 1) statements) ≡ sum_by (λ x. length x.reads) (take k statements) + length s.reads
+pub reads_more : (statements : List Statement) (k : ℕ) (s : Statement) → slice_get statements k ≡ Some s
+    → sum_by (λ x. length x.reads) (take (k + 1) statements)
+    ≡ sum_by (λ x. length x.reads) (take k statements) + length s.reads
 reads_more statements k s is =
     sum_by_more (λ x. length x.reads) statements k s (slice_get_within statements k s is)
-    ∙ ap (λ (x : Statement). sum_by (λ x. length x.reads) (take k statements) + length x.reads) (get_or_from_slice_get statements k s s is)
+    ∙ ap (λ (x : Statement). sum_by (λ x. length x.reads) (take k statements) + length x.reads)
+    (get_or_from_slice_get statements k s s is)
 
 -- and a statement at most 8 reads
 pub few_reads : (arrays : List ArrayDecl) (s : Statement) → IsTrue (statement_fits arrays s) → length s.reads ≤ 8
@@ -36,9 +39,11 @@ few_reads arrays s h =
     let last = and_parts (leb (depth_of s) 6) (leb (length s.reads) 8) few.0 in
     leb-true _ _ last.1
 
-reads_of_one : (n : Nest) (p : ℕ) (o : Option Statement) → slice_get n.statements p ≡ o → option_map_or (λ (s : Statement). length s.reads) o 0 ≤ 8
+reads_of_one : (n : Nest) (p : ℕ) (o : Option Statement) → slice_get n.statements p ≡ o
+    → option_map_or (λ (s : Statement). length s.reads) o 0 ≤ 8
 reads_of_one n p None is = omega arith
-reads_of_one n p (Some s) is = few_reads n.arrays s (all_at (statement_fits n.arrays) n.statements p s n.well_formed.statements_fit is)
+reads_of_one n p (Some s) is =
+    few_reads n.arrays s (all_at (statement_fits n.arrays) n.statements p s n.well_formed.statements_fit is)
 
 pub few_read_count : (n : Nest) (p : ℕ) → read_count n p ≤ 8
 few_read_count n p = reads_of_one n p (slice_get n.statements p) refl

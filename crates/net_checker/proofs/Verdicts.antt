@@ -21,25 +21,37 @@ module _ (n : Nest) (network : Network) (cert : Cert) where
   -- the first reason that there is, in order
   pub shape_first : (x : Refusal) → shape_refusal n network cert ≡ Some x → Some x ≡ first n network cert
   shape_first x is =
-      sym (ap (λ o. option_or o (option_or (firing_refusal n network) (option_or (schedule_refusal n network cert.schedule) (class_refusal network)))) is)
+      sym (ap (λ o.
+      option_or o (option_or (firing_refusal n network)
+      (option_or (schedule_refusal n network cert.schedule) (class_refusal network)))) is)
 
-  pub shape_passed : shape_refusal n network cert ≡ None → option_or (firing_refusal n network) (option_or (schedule_refusal n network cert.schedule) (class_refusal network)) ≡ first n network cert
+  pub shape_passed : shape_refusal n network cert ≡ None
+      → option_or (firing_refusal n network)
+      (option_or (schedule_refusal n network cert.schedule) (class_refusal network)) ≡ first n network cert
   shape_passed is =
-      sym (ap (λ o. option_or o (option_or (firing_refusal n network) (option_or (schedule_refusal n network cert.schedule) (class_refusal network)))) is)
+      sym (ap (λ o.
+      option_or o (option_or (firing_refusal n network)
+      (option_or (schedule_refusal n network cert.schedule) (class_refusal network)))) is)
 
-  pub firing_first : (x : Refusal) → shape_refusal n network cert ≡ None → firing_refusal n network ≡ Some x → Some x ≡ first n network cert
+  pub firing_first : (x : Refusal) → shape_refusal n network cert ≡ None → firing_refusal n network ≡ Some x
+      → Some x ≡ first n network cert
   firing_first x shape is =
-      sym (ap (λ o. option_or o (option_or (schedule_refusal n network cert.schedule) (class_refusal network))) is) ∙ shape_passed shape
+      sym (ap (λ o. option_or o (option_or (schedule_refusal n network cert.schedule) (class_refusal network))) is)
+      ∙ shape_passed shape
 
-  pub firing_passed : shape_refusal n network cert ≡ None → firing_refusal n network ≡ None → option_or (schedule_refusal n network cert.schedule) (class_refusal network) ≡ first n network cert
+  pub firing_passed : shape_refusal n network cert ≡ None → firing_refusal n network ≡ None
+      → option_or (schedule_refusal n network cert.schedule) (class_refusal network) ≡ first n network cert
   firing_passed shape firing =
-      sym (ap (λ o. option_or o (option_or (schedule_refusal n network cert.schedule) (class_refusal network))) firing) ∙ shape_passed shape
+      sym (ap (λ o. option_or o (option_or (schedule_refusal n network cert.schedule) (class_refusal network))) firing)
+      ∙ shape_passed shape
 
-  pub schedule_first : (x : Refusal) → shape_refusal n network cert ≡ None → firing_refusal n network ≡ None → schedule_refusal n network cert.schedule ≡ Some x → Some x ≡ first n network cert
+  pub schedule_first : (x : Refusal) → shape_refusal n network cert ≡ None → firing_refusal n network ≡ None
+      → schedule_refusal n network cert.schedule ≡ Some x → Some x ≡ first n network cert
   schedule_first x shape firing is =
       sym (ap (λ o. option_or o (class_refusal network)) is) ∙ firing_passed shape firing
 
-  pub class_first : shape_refusal n network cert ≡ None → firing_refusal n network ≡ None → schedule_refusal n network cert.schedule ≡ None → class_refusal network ≡ first n network cert
+  pub class_first : shape_refusal n network cert ≡ None → firing_refusal n network ≡ None
+      → schedule_refusal n network cert.schedule ≡ None → class_refusal network ≡ first n network cert
   class_first shape firing schedule =
       sym (ap (λ o. option_or o (class_refusal network)) schedule) ∙ firing_passed shape firing
 

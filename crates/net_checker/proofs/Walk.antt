@@ -71,16 +71,20 @@ made_within n k inside (suc m) = omega (arith, made_within n k inside m, inside 
 -- Entries
 
 module _ (n : Nest) (net : Net) (s : State Tag) (counted : IsCounted net s) (p i : ℕ) where
-  entry_on : enabled net s p ≡ true → entry_refusal n net (positions s) i p ≡ event_refusal n net i p (positions s p) (next net s p)
+  entry_on : enabled net s p ≡ true
+      → entry_refusal n net (positions s) i p ≡ event_refusal n net i p (positions s p) (next net s p)
   entry_on on =
-      ap (λ b. cond b (event_refusal n net i p (positions s p) (next net s p)) (Some (refusal.NotEnabled i))) (sym (enabled_as_cut net s counted p) ∙ on)
+      ap (λ b. cond b (event_refusal n net i p (positions s p) (next net s p)) (Some (refusal.NotEnabled i)))
+      (sym (enabled_as_cut net s counted p) ∙ on)
 
   pub entry_off : enabled net s p ≡ false → Some (refusal.NotEnabled i) ≡ entry_refusal n net (positions s) i p
   entry_off off =
-      sym (ap (λ b. cond b (event_refusal n net i p (positions s p) (next net s p)) (Some (refusal.NotEnabled i))) (sym (enabled_as_cut net s counted p) ∙ off))
+      sym (ap (λ b. cond b (event_refusal n net i p (positions s p) (next net s p)) (Some (refusal.NotEnabled i)))
+      (sym (enabled_as_cut net s counted p) ∙ off))
 
   -- an enabled event is judged
-  pub entry_event : (e : Event) → enabled net s p ≡ true → next net s p ≡ Some e → entry_refusal n net (positions s) i p ≡ event_refusal n net i p (positions s p) (Some e)
+  pub entry_event : (e : Event) → enabled net s p ≡ true → next net s p ≡ Some e
+      → entry_refusal n net (positions s) i p ≡ event_refusal n net i p (positions s p) (Some e)
   entry_event e on is = entry_on on ∙ ap (event_refusal n net i p (positions s p)) is
 
   -- an entry that isn't refused is enabled
@@ -106,15 +110,19 @@ tags_give : (net : Net) → GivesValues net tags (λ t. t)
 tags_give net p k refs is = refl
 
 -- the number of an entry is small
-pub entry_short : (n : Nest) (net : Net) (schedule : List ℕ) (h : Held Tag) (i : ℕ) → IsWalked n net schedule h i → i < 2 ^ 32
+pub entry_short : (n : Nest) (net : Net) (schedule : List ℕ) (h : Held Tag) (i : ℕ) → IsWalked n net schedule h i
+    → i < 2 ^ 32
 entry_short n net schedule h i w =
     omega (arith, w.made, w.state.numbers.events, made_within net (positions h.run) w.state.inside net.processes)
 
 -- the walk goes on past an entry that isn't refused
-pub walked_more : (n : Nest) (net : Net) (schedule : List ℕ) (h h' : Held Tag) (i p : ℕ) → IsWalked n net schedule h i → slice_get schedule i ≡ Some p → entry_refusal n net (positions h.run) i p ≡ None → h'.run ≡ step net tags h.run p → IsFor net h' → IsWalked n net schedule h' (suc i)
+pub walked_more : (n : Nest) (net : Net) (schedule : List ℕ) (h h' : Held Tag) (i p : ℕ) → IsWalked n net schedule h i
+    → slice_get schedule i ≡ Some p → entry_refusal n net (positions h.run) i p ≡ None → h'.run ≡ step net tags h.run p
+    → IsFor net h' → IsWalked n net schedule h' (suc i)
 walked_more n net schedule h h' i p w at fine run state =
     let on = enabled_where_none n net h.run w.state.counted p i fine in
-    let moves : positions h'.run ≡ advanced (positions h.run) p = ap positions run ∙ positions_step net tags h.run p on in
+    let moves : positions h'.run ≡ advanced (positions h.run) p =
+    ap positions run ∙ positions_step net tags h.run p on in
     let there : p < net.processes =
     elim (cases_lt p net.processes) [
       | inl lt ↦ lt
@@ -124,13 +132,20 @@ walked_more n net schedule h h' i p w at fine run state =
     ] in
     record {
       state = state;
-      named = subst (IsNamed net (λ t. t)) (sym run) (named_run net tags w.state.wired (λ t. t) (tags_give net) (p ∷ []) h.run w.state.counted w.named (on, tt));
-      walk = ap (λ k. entries_refusal n net k (suc i) (drop (suc i) schedule)) moves ∙ sym (ap (λ o. option_or o (entries_refusal n net (advanced (positions h.run) p) (suc i) (drop (suc i) schedule))) fine) ∙ sym (ap (entries_refusal n net (positions h.run) i) (drop_at schedule i p at)) ∙ w.walk;
-      ends = ap (λ k. cut_after k (drop (suc i) schedule)) moves ∙ sym (ap (cut_after (positions h.run)) (drop_at schedule i p at)) ∙ w.ends;
-      made = ap (λ k. events_made k net.processes) moves ∙ made_advanced (positions h.run) p net.processes there ∙ ap suc w.made;
+      named = subst (IsNamed net (λ t. t)) (sym run)
+          (named_run net tags w.state.wired (λ t. t) (tags_give net) (p ∷ []) h.run w.state.counted w.named (on, tt));
+      walk = ap (λ k. entries_refusal n net k (suc i) (drop (suc i) schedule)) moves
+          ∙ sym (ap (λ o.
+          option_or o (entries_refusal n net (advanced (positions h.run) p) (suc i) (drop (suc i) schedule))) fine)
+          ∙ sym (ap (entries_refusal n net (positions h.run) i) (drop_at schedule i p at)) ∙ w.walk;
+      ends = ap (λ k. cut_after k (drop (suc i) schedule)) moves
+          ∙ sym (ap (cut_after (positions h.run)) (drop_at schedule i p at)) ∙ w.ends;
+      made = ap (λ k. events_made k net.processes) moves ∙ made_advanced (positions h.run) p net.processes there
+          ∙ ap suc w.made;
     }
 
-pub walked_start : (n : Nest) (net : Net) (schedule : List ℕ) (h : Held Tag) → h.run ≡ start net → IsFor net h → IsWalked n net schedule h 0
+pub walked_start : (n : Nest) (net : Net) (schedule : List ℕ) (h : Held Tag) → h.run ≡ start net → IsFor net h
+    → IsWalked n net schedule h 0
 walked_start n net schedule h run state = record {
   state = state;
   named = subst (IsNamed net (λ t. t)) (sym run) (start_named net (λ t. t));
@@ -139,28 +154,38 @@ walked_start n net schedule h run state = record {
   made = ap (λ s. events_made (positions s) net.processes) run ∙ made_none net.processes;
 }
 
-module _ (n : Nest) (network : Network) (schedule : List ℕ) (h : Held Tag) (i : ℕ) (w : IsWalked n (net_of network) schedule h i) where
+module _ (n : Nest) (network : Network) (schedule : List ℕ) (h : Held Tag) (i : ℕ)
+    (w : IsWalked n (net_of network) schedule h i) where
   -- an entry is refused
-  pub entry_found : (p : ℕ) (x : Refusal) → slice_get schedule i ≡ Some p → entry_refusal n (net_of network) (positions h.run) i p ≡ Some x → Some x ≡ schedule_refusal n network schedule
+  pub entry_found : (p : ℕ) (x : Refusal) → slice_get schedule i ≡ Some p
+      → entry_refusal n (net_of network) (positions h.run) i p ≡ Some x → Some x ≡ schedule_refusal n network schedule
   unfolding schedule_refusal
   entry_found p x at is =
       let net = net_of network in
       let later = entries_refusal n net (advanced (positions h.run) p) (suc i) (drop (suc i) schedule) in
       let walk : entries_refusal n net opening 0 schedule ≡ Some x =
-      sym w.walk ∙ ap (entries_refusal n net (positions h.run) i) (drop_at schedule i p at) ∙ ap (λ o. option_or o later) is in
-      sym (ap (λ o. option_or o (first_below (unended net (cut_after opening schedule)) (length network.processes))) walk)
+      sym w.walk ∙ ap (entries_refusal n net (positions h.run) i) (drop_at schedule i p at)
+      ∙ ap (λ o. option_or o later) is in
+      sym (ap (λ o.
+      option_or o (first_below (unended net (cut_after opening schedule)) (length network.processes))) walk)
 
   -- at the schedule's end what is wrong is a process that hasn't ended
-  at_end : length schedule ≤ i → first_below (unended (net_of network) (positions h.run)) (length network.processes) ≡ schedule_refusal n network schedule
+  at_end : length schedule ≤ i
+      → first_below (unended (net_of network) (positions h.run)) (length network.processes)
+      ≡ schedule_refusal n network schedule
   unfolding schedule_refusal
   at_end le =
       let net = net_of network in
       let none : drop i schedule ≡ [] = drop_of_length-le schedule le in
-      let walk : entries_refusal n net opening 0 schedule ≡ None = sym w.walk ∙ ap (entries_refusal n net (positions h.run) i) none in
+      let walk : entries_refusal n net opening 0 schedule ≡ None =
+      sym w.walk ∙ ap (entries_refusal n net (positions h.run) i) none in
       let there : cut_after opening schedule ≡ positions h.run = sym w.ends ∙ ap (cut_after (positions h.run)) none in
-      sym (ap (λ o. option_or o (first_below (unended net (cut_after opening schedule)) (length network.processes))) walk ∙ ap (λ k. first_below (unended net k) (length network.processes)) there)
+      sym (ap (λ o.
+      option_or o (first_below (unended net (cut_after opening schedule)) (length network.processes))) walk
+      ∙ ap (λ k. first_below (unended net k) (length network.processes)) there)
 
-  pub unended_found : (p : ℕ) → length schedule ≤ i → IsLeastUnended (net_of network) h.run p → Some (refusal.Unended p) ≡ schedule_refusal n network schedule
+  pub unended_found : (p : ℕ) → length schedule ≤ i → IsLeastUnended (net_of network) h.run p
+      → Some (refusal.Unended p) ≡ schedule_refusal n network schedule
   unended_found p le least =
       let net = net_of network in
       let k = positions h.run in
@@ -169,12 +194,17 @@ module _ (n : Nest) (network : Network) (schedule : List ℕ) (h : Held Tag) (i 
         | inl lt ↦ lt
         | inr past ↦ absurd (omega (arith, least.0, ap length (w.state.wired.bounded p past)))
       ] in
-      sym (first_found (unended net k) (length network.processes) p (refusal.Unended p) (λ q lt. ap (λ b. cond b (Some (refusal.Unended q)) None) (le-ltb (k q) (length (net.script q)) (omega (arith, least.1 q lt)))) there (ap (λ b. cond b (Some (refusal.Unended p)) None) (lt-ltb (k p) (length (net.script p)) least.0)))
+      sym (first_found (unended net k) (length network.processes) p (refusal.Unended p)
+      (λ q lt. ap (λ b. cond b (Some (refusal.Unended q)) None)
+      (le-ltb (k q) (length (net.script q)) (omega (arith, least.1 q lt)))) there
+      (ap (λ b. cond b (Some (refusal.Unended p)) None) (lt-ltb (k p) (length (net.script p)) least.0)))
       ∙ at_end le
 
   pub all_ended : length schedule ≤ i → HasEnded (net_of network) h.run → None ≡ schedule_refusal n network schedule
   all_ended le ended =
       let net = net_of network in
       let k = positions h.run in
-      sym (first_none (unended net k) (length network.processes) (λ q lt. ap (λ b. cond b (Some (refusal.Unended q)) None) (le-ltb (k q) (length (net.script q)) (omega (arith, ended q)))))
+      sym (first_none (unended net k) (length network.processes)
+      (λ q lt. ap (λ b. cond b (Some (refusal.Unended q)) None)
+      (le-ltb (k q) (length (net.script q)) (omega (arith, ended q)))))
       ∙ at_end le

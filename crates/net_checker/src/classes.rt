@@ -59,6 +59,7 @@ fn add_events(
 ) -> Result<(), AllocError>
     requires wired { IsWired (net_of network.now) }
     requires numbers { FitsNumbers (net_of network.now) }
+    requires process { process < length network.now.processes }
     requires slots { slots.old ≡ replicate ((net_of network.now).slots process) None }
     requires gets { length gets.old ≡ length network.now.channels }
     requires uses { length uses.old ≡ length network.now.channels }
@@ -69,12 +70,12 @@ fn add_events(
     ensures uses { OnOk result ((c : ℕ) → c < length network.now.channels
         → slice_index_or uses.new c [] ≡ slice_index_or uses.old c [] ++ uses_before (net_of network.now) c process (length ((net_of network.now).script process))) }
 {
-    for event in script_of(network, process) {
+    for event in script_of(network, process).iter() {
         match event {
             Event::Get { channel, slot } => {
-                let get = gets[*channel as usize];
-                slots[*slot as usize] = Some((*channel, get));
-                gets[*channel as usize] = get + 1;
+                let get = gets[channel as usize];
+                slots[slot as usize] = Some((channel, get));
+                gets[channel as usize] = get + 1;
             }
             Event::Fire { refs } => add_fire(refs.as_slice(), slots, uses)?,
             Event::Put { .. } => {}
@@ -93,6 +94,7 @@ fn add_script(
 ) -> Result<(), AllocError>
     requires wired { IsWired (net_of network.now) }
     requires numbers { FitsNumbers (net_of network.now) }
+    requires process { process < length network.now.processes }
     requires gets { length gets.old ≡ length network.now.channels }
     requires uses { length uses.old ≡ length network.now.channels }
     requires fresh { (c : ℕ) → (net_of network.now).reader c ≡ process

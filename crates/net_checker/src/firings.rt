@@ -60,21 +60,23 @@ fn is_fire(event: &Event) -> bool
 // Where the fires of a process go wrong, if they do.
 fn process_firing(nest: &Nest, points: &Points, network: &Network, process: u32) -> Option<Refusal>
     requires points { points.now.of ≡ points_of nest.now }
+    requires process { process < length network.now.processes }
     requires short { length ((net_of network.now).script process) < 2 ^ 32 }
     ensures { result ≡ process_firing nest.now (net_of network.now) process }
 {
-    let script = script_of(network, process);
+    let mut place = 0;
     let mut fired = 0;
-    for (place, event) in script.iter().enumerate() {
-        if !may_stand(nest, points, network, process, fired, event) {
-            return Some(Refusal::Fires(process, place as u32));
+    for event in script_of(network, process).iter() {
+        if !may_stand(nest, points, network, process, fired, &event) {
+            return Some(Refusal::Fires(process, place));
         }
-        if is_fire(event) {
+        if is_fire(&event) {
             fired += 1;
         }
+        place += 1;
     }
     if fired < turns_of(points, process) {
-        return Some(Refusal::Fires(process, script.len() as u32));
+        return Some(Refusal::Fires(process, place));
     }
     None
 }

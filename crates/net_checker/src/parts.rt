@@ -1,4 +1,4 @@
-ghost use Rattle.std.specs.Prelude.{◌≡◌, ◌≤◌, ◌*◌, take, length};
+ghost use Rattle.std.specs.Prelude.{◌≡◌, ◌<◌, ◌≤◌, ◌*◌, take, length};
 ghost use Rattle.std.specs.List.{sum_by};
 ghost use Rattle.net_core.specs.Machine.{net_of};
 ghost use Rattle.net_core.specs.Shape.{turns};
@@ -7,15 +7,14 @@ ghost use Rattle.sanlp.specs.Access.{read_count};
 
 use net_core::{Event, Network};
 use sanlp::{Nest, Points};
+use script_blocks::Script;
 
-// The script of a process. A process that isn't there has no event.
-pub(crate) fn script_of(network: &Network, process: u32) -> &[Event]
+// The script of a process.
+pub(crate) fn script_of(network: &Network, process: u32) -> &Script<Event>
+    requires { process < length network.now.processes }
     ensures { result.now ≡ (net_of network.now).script process }
 {
-    match network.processes.get(process as usize) {
-        Some(process) => process.script.as_slice(),
-        None => &[],
-    }
+    &network.processes.as_slice()[process as usize].script
 }
 
 // The number of a process's slots. A process that isn't there has none.

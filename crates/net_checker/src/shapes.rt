@@ -8,6 +8,7 @@ use crate::parts::{read_total, reads_of, script_of, slots_of};
 use crate::verdict::Refusal;
 use net_core::{Channel, Event, Network};
 use sanlp::Nest;
+use script_blocks::Script;
 use source_tree::Cert;
 
 // Whether a channel's ends are statements, and its read one of its reader's.
@@ -52,14 +53,15 @@ fn is_own_event(network: &Network, process: u32, event: &Event) -> bool
     }
 }
 
-fn events_are_own(network: &Network, process: u32) -> bool
-    ensures { result
-        ≡ list_all (is_own_event (net_of network.now) process)
-        ((net_of network.now).script process) }
+fn events_are_own(network: &Network, process: u32, script: &Script<Event>) -> bool
+    ensures { result ≡ list_all (is_own_event (net_of network.now) process) script.now }
 {
-    script_of(network, process)
-        .iter()
-        .all(|event| is_own_event(network, process, event))
+    for event in script.iter() {
+        if !is_own_event(network, process, &event) {
+            return false;
+        }
+    }
+    true
 }
 
 fn is_get(event: &Event) -> bool
@@ -68,7 +70,7 @@ fn is_get(event: &Event) -> bool
     matches!(event, Event::Get { .. })
 }
 
-fn get_count(script: &[Event]) -> usize
+fn get_count(script: &Script<Event>) -> usize
     ensures { result ≡ count_by is_any_get script.now }
 {
     script.iter().filter(|event| is_get(event)).count()
@@ -76,10 +78,12 @@ fn get_count(script: &[Event]) -> usize
 
 // Whether all events are the process's own, and it has no more slots than Gets.
 fn keeps_shape(network: &Network, process: u32) -> bool
+    requires { process < length network.now.processes }
     ensures { result ≡ keeps_shape (net_of network.now) process }
 {
     let slots = slots_of(network, process) as usize;
-    events_are_own(network, process) && slots <= get_count(script_of(network, process))
+    let script = script_of(network, process);
+    events_are_own(network, process, script) && slots <= get_count(script)
 }
 
 // What is wrong with the shape, if anything is.

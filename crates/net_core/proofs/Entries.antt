@@ -15,7 +15,8 @@ pub record EntryAt (t : ℕ) (points : List Point) (s f u : ℕ) : Type 0 where
   pub process : point.statement ≡ s
   pub vector : slice_get (vectors_of points s) f ≡ Some point.at
 
-pub entries_length : (t : ℕ) (points : List Point) (s : ℕ) → length (entries_from t points s) ≡ length (vectors_of points s)
+pub entries_length : (t : ℕ) (points : List Point) (s : ℕ)
+    → length (entries_from t points s) ≡ length (vectors_of points s)
 entries_length t [] s = refl
 entries_length t (p ∷ points) s =
     elim (cases_Bool (eqb p.statement s)) [
@@ -24,8 +25,10 @@ entries_length t (p ∷ points) s =
     ]
 
 -- the entries from a point of process s on
-head_entry : (t : ℕ) (p : Point) (points : List Point) (s f u : ℕ) → eqb p.statement s ≡ true → slice_get (t ∷ entries_from (t + 1) points s) f ≡ Some u
-    → ((g : ℕ) → slice_get (entries_from (t + 1) points s) g ≡ Some u → EntryAt (t + 1) points s g u) → EntryAt t (p ∷ points) s f u
+head_entry : (t : ℕ) (p : Point) (points : List Point) (s f u : ℕ) → eqb p.statement s ≡ true
+    → slice_get (t ∷ entries_from (t + 1) points s) f ≡ Some u
+    → ((g : ℕ) → slice_get (entries_from (t + 1) points s) g ≡ Some u → EntryAt (t + 1) points s g u)
+    → EntryAt t (p ∷ points) s f u
 head_entry t p points s zero u here h rest =
     let same : t ≡ u = cc in
     record {
@@ -47,7 +50,8 @@ head_entry t p points s (suc f) u here h rest =
       vector = rw here e.vector;
     }
 
-pub entry_at_turn : (t : ℕ) (points : List Point) (s f u : ℕ) → slice_get (entries_from t points s) f ≡ Some u → EntryAt t points s f u
+pub entry_at_turn : (t : ℕ) (points : List Point) (s f u : ℕ) → slice_get (entries_from t points s) f ≡ Some u
+    → EntryAt t points s f u
 entry_at_turn t [] s f u h = cc
 entry_at_turn t (p ∷ points) s f u h =
     elim (cases_Bool (eqb p.statement s)) [
@@ -69,11 +73,13 @@ entry_at_turn t (p ∷ points) s f u h =
 
 -- an entry is that of its process which its number among them says
 pub turn_of_entry : (t : ℕ) (points : List Point) (i : ℕ) (p : Point) → slice_get points i ≡ Some p
-    → slice_get (entries_from t points p.statement) (count_by (λ q. eqb q.statement p.statement) (take i points)) ≡ Some (t + i)
+    → slice_get (entries_from t points p.statement) (count_by (λ q. eqb q.statement p.statement) (take i points))
+    ≡ Some (t + i)
 turn_of_entry t [] i p h = cc
 turn_of_entry t (x ∷ points) zero p h =
     let same : x ≡ p = cc in
-    let here : eqb x.statement p.statement ≡ true = eq-eqb x.statement p.statement (ap (λ (q : Point). q.statement) same) in
+    let here : eqb x.statement p.statement ≡ true =
+    eq-eqb x.statement p.statement (ap (λ (q : Point). q.statement) same) in
     rw here (ap Some (sym (add-zero t)))
 turn_of_entry t (x ∷ points) (suc i) p h =
     let rest = turn_of_entry (t + 1) points i p h in
@@ -81,11 +87,15 @@ turn_of_entry t (x ∷ points) (suc i) p h =
     let counted = count_cons (λ (q : Point). eqb q.statement p.statement) x (take i points) in
     elim (cases_Bool (eqb x.statement p.statement)) [
       | inl here ↦
-          let one : count_by (λ (q : Point). eqb q.statement p.statement) (x ∷ take i points) ≡ suc (count_by (λ (q : Point). eqb q.statement p.statement) (take i points)) =
-          counted ∙ ap (λ c. c + count_by (λ (q : Point). eqb q.statement p.statement) (take i points)) (cond-true (eqb x.statement p.statement) 1 0 here) ∙ omega arith in
+          let one : count_by (λ (q : Point). eqb q.statement p.statement) (x ∷ take i points)
+          ≡ suc (count_by (λ (q : Point). eqb q.statement p.statement) (take i points)) =
+          counted ∙ ap (λ c. c + count_by (λ (q : Point). eqb q.statement p.statement) (take i points))
+          (cond-true (eqb x.statement p.statement) 1 0 here) ∙ omega arith in
           rw (one, here) (rest ∙ ap Some there)
       | inr other ↦
-          let none : count_by (λ (q : Point). eqb q.statement p.statement) (x ∷ take i points) ≡ count_by (λ (q : Point). eqb q.statement p.statement) (take i points) =
-          counted ∙ ap (λ c. c + count_by (λ (q : Point). eqb q.statement p.statement) (take i points)) (cond-false (eqb x.statement p.statement) 1 0 other) ∙ omega arith in
+          let none : count_by (λ (q : Point). eqb q.statement p.statement) (x ∷ take i points)
+          ≡ count_by (λ (q : Point). eqb q.statement p.statement) (take i points) =
+          counted ∙ ap (λ c. c + count_by (λ (q : Point). eqb q.statement p.statement) (take i points))
+          (cond-false (eqb x.statement p.statement) 1 0 other) ∙ omega arith in
           rw (none, other) (rest ∙ ap Some there)
     ]

@@ -44,7 +44,8 @@ sum_advanced k p (suc m) lt =
     cases_below p m lt d = elim (cases_lt p m) [ inl l ↦ l | inr g ↦ absurd (d (omega arith)) ]
 
 -- a run is as long as its positions moved
-run_length : (n : Net) → IsWired n → (ps : List ℕ) (k : Cut) → IsCutRun n k ps → sum_below (cut_after k ps) n.processes ≡ sum_below k n.processes + length ps
+run_length : (n : Net) → IsWired n → (ps : List ℕ) (k : Cut) → IsCutRun n k ps
+    → sum_below (cut_after k ps) n.processes ≡ sum_below k n.processes + length ps
 run_length n wired [] k run = omega arith
 run_length n wired (p ∷ ps) k run =
     elim (cases_lt p n.processes) [
@@ -64,7 +65,8 @@ unfolding sum_below
 sum_zero zero = refl
 sum_zero (suc m) = omega (arith, sum_zero m)
 
-fits_event : {T : Type 0} (n : Net) (s : State T) (kept : List T) (e : Event) → can_come n s (Some e) ≡ true → (c : ℕ) → length (s.queue c) ≤ n.capacity c → length (queue_after kept e c (s.queue c)) ≤ n.capacity c
+fits_event : {T : Type 0} (n : Net) (s : State T) (kept : List T) (e : Event) → can_come n s (Some e) ≡ true → (c : ℕ)
+    → length (s.queue c) ≤ n.capacity c → length (queue_after kept e c (s.queue c)) ≤ n.capacity c
 fits_event n s kept (Get d slot) m c le =
     omega (arith, shrinks kept (Get d slot) c (s.queue c) (λ t. cc))
 fits_event n s kept (Fire refs) m c le = le
@@ -77,17 +79,22 @@ fits_event n s kept (Put d) m c le =
       | inr f ↦ rw f le
     ]
 
-fits_make : {T : Type 0} (n : Net) (rule : Rule T) (s : State T) (p : ℕ) (o : Option Event) → can_come n s o ≡ true → (c : ℕ) → length (s.queue c) ≤ n.capacity c → length ((after_event rule s p o).queue c) ≤ n.capacity c
+fits_make : {T : Type 0} (n : Net) (rule : Rule T) (s : State T) (p : ℕ) (o : Option Event) → can_come n s o ≡ true
+    → (c : ℕ) → length (s.queue c) ≤ n.capacity c → length ((after_event rule s p o).queue c) ≤ n.capacity c
 fits_make n rule s p None m c le = le
 fits_make n rule s p (Some e) m c le = fits_event n s (s.local p).kept e m c le
 
-fits_run : {T : Type 0} (n : Net) (rule : Rule T) (ps : List ℕ) (s : State T) → IsRun n rule s ps → (c : ℕ) → length (s.queue c) ≤ n.capacity c → length ((after n rule s ps).queue c) ≤ n.capacity c
+fits_run : {T : Type 0} (n : Net) (rule : Rule T) (ps : List ℕ) (s : State T) → IsRun n rule s ps → (c : ℕ)
+    → length (s.queue c) ≤ n.capacity c → length ((after n rule s ps).queue c) ≤ n.capacity c
 fits_run n rule [] s run c le = le
 fits_run n rule (p ∷ ps) s run c le =
     fits_run n rule ps (step n rule s p) run.1 c (fits_make n rule s p (next n s p) run.0 c le)
 
 -- from where a run leads, what the full run does past it is a run that ends all
-ends : {T : Type 0} (n : Net) (rule : Rule T) (wired : IsWired n) (all : List ℕ) → IsRun n rule (start n) all → HasEnded n (after n rule (start n) all) → (ps : List ℕ) → IsRun n rule (start n) ps → (qs : List ℕ) × IsRun n rule (after n rule (start n) ps) qs × HasEnded n (after n rule (after n rule (start n) ps) qs)
+ends : {T : Type 0} (n : Net) (rule : Rule T) (wired : IsWired n) (all : List ℕ) → IsRun n rule (start n) all
+    → HasEnded n (after n rule (start n) all) → (ps : List ℕ) → IsRun n rule (start n) ps
+    → (qs : List ℕ) × IsRun n rule (after n rule (start n) ps) qs
+    × HasEnded n (after n rule (after n rule (start n) ps) qs)
 ends n rule wired all run ended ps pre =
     let s = after n rule (start n) ps in
     let c : Cut = positions s in
@@ -97,7 +104,8 @@ ends n rule wired all run ended ps pre =
     let cut = beyond_runs n wired all opening c c top (run_cut n rule wired all (start n) (start_counted n) run) in
     let goes_on : IsRun n rule s qs = cut_run n rule wired qs s counted cut in
     let inside : (q : ℕ) → c q ≤ length (n.script q) =
-    λ q. subst (λ k. k q ≤ length (n.script q)) (sym (run_ends n rule ps (start n) pre)) (cut_inside n ps opening (run_cut n rule wired ps (start n) (start_counted n) pre) (λ r. omega arith) q) in
+    λ q. subst (λ k. k q ≤ length (n.script q)) (sym (run_ends n rule ps (start n) pre))
+    (cut_inside n ps opening (run_cut n rule wired ps (start n) (start_counted n) pre) (λ r. omega arith) q) in
     let full : (q : ℕ) → cut_after opening all q ≡ length (n.script q) =
     λ q. sym (ap (λ k. k q) (run_ends n rule all (start n) run)) ∙ ended q in (
       qs,
@@ -107,33 +115,40 @@ ends n rule wired all run ended ps pre =
           omega (arith, inside q, full q),
     )
 
-cuts : {T : Type 0} (n : Net) (rule : Rule T) (wired : IsWired n) (all : List ℕ) → IsRun n rule (start n) all → HasEnded n (after n rule (start n) all) → (k : Cut) → IsLegal n k → (ps : List ℕ) × IsRun n rule (start n) ps × ((p : ℕ) → positions (after n rule (start n) ps) p ≡ k p)
+cuts : {T : Type 0} (n : Net) (rule : Rule T) (wired : IsWired n) (all : List ℕ) → IsRun n rule (start n) all
+    → HasEnded n (after n rule (start n) all) → (k : Cut) → IsLegal n k
+    → (ps : List ℕ) × IsRun n rule (start n) ps × ((p : ℕ) → positions (after n rule (start n) ps) p ≡ k p)
 cuts n rule wired all run ended k legal =
     let ps = within opening k all in
     let bottom : (q : ℕ) → opening q ≡ min 0 (k q) = λ q. omega arith in
-    let cut = within_runs n wired all opening k opening legal bottom (run_cut n rule wired all (start n) (start_counted n) run) in
+    let cut =
+    within_runs n wired all opening k opening legal bottom (run_cut n rule wired all (start n) (start_counted n) run) in
     let goes_there : IsRun n rule (start n) ps = cut_run n rule wired ps (start n) (start_counted n) cut in
     let full : (q : ℕ) → cut_after opening all q ≡ length (n.script q) =
     λ q. sym (ap (λ c. c q) (run_ends n rule all (start n) run)) ∙ ended q in (
       ps,
       goes_there,
       λ q.
-          let there = ap (λ c. c q) (run_ends n rule ps (start n) goes_there) ∙ within_ends all opening k opening bottom q in
+          let there =
+          ap (λ c. c q) (run_ends n rule ps (start n) goes_there) ∙ within_ends all opening k opening bottom q in
           omega (arith, legal.inside q, full q),
     )
 
-goes_on_or_ended : {T : Type 0} (n : Net) (rule : Rule T) (s : State T) (qs : List ℕ) → IsRun n rule s qs → HasEnded n (after n rule s qs) → HasEnded n s ⊎ ((p : ℕ) × (enabled n s p ≡ true))
+goes_on_or_ended : {T : Type 0} (n : Net) (rule : Rule T) (s : State T) (qs : List ℕ) → IsRun n rule s qs
+    → HasEnded n (after n rule s qs) → HasEnded n s ⊎ ((p : ℕ) × (enabled n s p ≡ true))
 goes_on_or_ended n rule s [] run ended = inl ended
 goes_on_or_ended n rule s (p ∷ qs) run ended = inr (p, run.0)
 
-run_events : {T : Type 0} (n : Net) (rule : Rule T) (wired : IsWired n) (ps : List ℕ) → IsRun n rule (start n) ps → HasEnded n (after n rule (start n) ps) → length ps ≡ events_below n n.processes
+run_events : {T : Type 0} (n : Net) (rule : Rule T) (wired : IsWired n) (ps : List ℕ) → IsRun n rule (start n) ps
+    → HasEnded n (after n rule (start n) ps) → length ps ≡ events_below n n.processes
 run_events n rule wired ps run ended =
     let full : (q : ℕ) → cut_after opening ps q ≡ length (n.script q) =
     λ q. sym (ap (λ c. c q) (run_ends n rule ps (start n) run)) ∙ ended q in
     omega (arith, run_length n wired ps opening (run_cut n rule wired ps (start n) (start_counted n) run), sum_ends n (cut_after opening ps) full n.processes, sum_zero n.processes)
 
 -- the law on orders: one run that ends all tells of every run
-pub ends_always : {T : Type 0} (n : Net) (rule : Rule T) → IsWired n → (all : List ℕ) → IsRun n rule (start n) all → HasEnded n (after n rule (start n) all) → EndsAlways n rule
+pub ends_always : {T : Type 0} (n : Net) (rule : Rule T) → IsWired n → (all : List ℕ) → IsRun n rule (start n) all
+    → HasEnded n (after n rule (start n) all) → EndsAlways n rule
 ends_always n rule wired all run ended =
     record {
       goes_on = λ ps pre.
@@ -146,24 +161,33 @@ ends_always n rule wired all run ended =
     }
 
 -- a run is one whatever its fires give, and it leads to the same positions
-pub same_run : {T U : Type 0} (n : Net) (rule : Rule T) (other : Rule U) → IsWired n → (run : List ℕ) → IsRun n rule (start n) run → IsRun n other (start n) run
+pub same_run : {T U : Type 0} (n : Net) (rule : Rule T) (other : Rule U) → IsWired n → (run : List ℕ)
+    → IsRun n rule (start n) run → IsRun n other (start n) run
 same_run n rule other wired run is =
     cut_run n other wired run (start n) (start_counted n) (run_cut n rule wired run (start n) (start_counted n) is)
 
-pub same_positions : {T U : Type 0} (n : Net) (rule : Rule T) (other : Rule U) → IsWired n → (run : List ℕ) → IsRun n rule (start n) run → (p : ℕ) → positions (after n other (start n) run) p ≡ positions (after n rule (start n) run) p
+pub same_positions : {T U : Type 0} (n : Net) (rule : Rule T) (other : Rule U) → IsWired n → (run : List ℕ)
+    → IsRun n rule (start n) run → (p : ℕ)
+    → positions (after n other (start n) run) p ≡ positions (after n rule (start n) run) p
 same_positions n rule other wired run is p =
-    ap (λ k. k p) (run_ends n other run (start n) (same_run n rule other wired run is)) ∙ sym (ap (λ k. k p) (run_ends n rule run (start n) is))
+    ap (λ k. k p) (run_ends n other run (start n) (same_run n rule other wired run is))
+    ∙ sym (ap (λ k. k p) (run_ends n rule run (start n) is))
 
-pub same_ends : {T U : Type 0} (n : Net) (rule : Rule T) (other : Rule U) → IsWired n → (run : List ℕ) → EndsAll n rule run → EndsAll n other run
+pub same_ends : {T U : Type 0} (n : Net) (rule : Rule T) (other : Rule U) → IsWired n → (run : List ℕ)
+    → EndsAll n rule run → EndsAll n other run
 same_ends n rule other wired run whole =
     (same_run n rule other wired run whole.0, λ p. same_positions n rule other wired run whole.0 p ∙ whole.1 p)
 
-stuck_below : {T : Type 0} (n : Net) (rule : Rule T) (wired : IsWired n) (ps qs : List ℕ) → IsRun n rule (start n) ps → IsRun n rule (start n) qs → IsStuck n (after n rule (start n) qs) → (p : ℕ) → positions (after n rule (start n) ps) p ≤ positions (after n rule (start n) qs) p
+stuck_below : {T : Type 0} (n : Net) (rule : Rule T) (wired : IsWired n) (ps qs : List ℕ) → IsRun n rule (start n) ps
+    → IsRun n rule (start n) qs → IsStuck n (after n rule (start n) qs) → (p : ℕ)
+    → positions (after n rule (start n) ps) p ≤ positions (after n rule (start n) qs) p
 stuck_below n rule wired ps qs run run' stuck p =
     let t = after n rule (start n) qs in
     let counted = run_counted n rule wired qs (start n) (start_counted n) run' in
     let shut : (q : ℕ) → enabled_at n (positions t) q ≡ false = λ q. sym (enabled_as_cut n t counted q) ∙ stuck q in
-    let low = no_further n wired ps opening (positions t) (λ q. omega arith) shut (run_cut n rule wired ps (start n) (start_counted n) run) p in
+    let low =
+    no_further n wired ps opening (positions t) (λ q. omega arith) shut
+    (run_cut n rule wired ps (start n) (start_counted n) run) p in
     subst (λ k. k p ≤ positions t p) (sym (run_ends n rule ps (start n) run)) low
 
 -- two runs that can't go on stand at the same positions

@@ -1,5 +1,5 @@
 -- The opening state is made piece by piece.
-use Rattle.std.proofs.Common.{◌≡◌, ℕ, zero, suc, ◌+◌, ◌<◌, ◌≤◌, ℤ, min, Some, None, List, [], ◌∷◌, ◌++◌, length, take, drop, replicate, slice_get, count_by, get_or, vec_capacity, refl, sym, ap, ◌∙◌, subst, inl, inr, arith, length-append, take_all, drop_of_length-le, append-nil}
+use Rattle.std.proofs.Common.{◌≡◌, ℕ, zero, suc, ◌+◌, ◌<◌, ◌≤◌, ℤ, min, Some, None, List, [], ◌∷◌, ◌++◌, length, take, drop, replicate, slice_get, count_by, get_or, refl, sym, ap, ◌∙◌, subst, inl, inr, arith, length-append, take_all, drop_of_length-le, append-nil}
 use mathlib.Core.Path.{fun_ext}
 use Rattle.std.specs.VecDeque.{deque_capacity}
 use Rattle.std.specs.declared.collections.VecDeque.{VecDeque}
@@ -15,11 +15,13 @@ use Rattle.net_core.specs.Machine as machine
 use Rattle.net_core.specs.Machine.{Net, State, net_of, start}
 use Rattle.net_core.specs.Shape.{is_any_get, is_fire, put_count, IsShaped, FitsNumbers}
 use Rattle.net_core.specs.Cuts.{IsCounted}
-use Rattle.net_core.specs.Held.{Queues, held, local_at, queue_at, IsFor, AreFresh, AreEmpty}
+use Rattle.net_core.specs.Held.{Queues, held, fresh_local, left_at, local_at, queue_at, IsFor, AreFresh, AreEmpty}
+use Rattle.net_core.specs.Rooms.{local_of}
 use Rattle.net_core.proofs.Naming.{get_append}
 use Rattle.net_core.proofs.Positions.{start_counted}
 
-pub item_found : {X : Type 0} (xs ys : List X) (i : ℕ) (x : X) → ys ≡ xs → i < length ys → x ≡ get_or ys i x → slice_get xs i ≡ Some x
+pub item_found : {X : Type 0} (xs ys : List X) (i : ℕ) (x : X) → ys ≡ xs → i < length ys → x ≡ get_or ys i x
+    → slice_get xs i ≡ Some x
 item_found xs ys i x same lt is = ap (λ zs. slice_get zs i) (sym same) ∙ slice_get_read ys (length ys) i x refl lt is
 
 get_last : {X : Type 0} (xs : List X) (x : X) (i : ℕ) → i ≡ length xs → slice_get (xs ++ x ∷ []) i ≡ Some x
@@ -29,61 +31,63 @@ get_last (y ∷ xs) x zero e = absurd (omega arith)
 get_last (y ∷ xs) x (suc i) e = get_last xs x i (omega arith)
 
 -- what was written through a slice of the whole list
-pub written_back : {X : Type 0} (new items : List X) (len : ℕ) → len ≡ length items → length new ≡ length items → take len (new ++ drop (length new) items) ≡ new
+pub written_back : {X : Type 0} (new items : List X) (len : ℕ) → len ≡ length items → length new ≡ length items
+    → take len (new ++ drop (length new) items) ≡ new
 written_back new items len e f =
-    ap (λ rest. take len (new ++ rest)) (drop_of_length-le items (omega arith)) ∙ ap (take len) (append-nil new) ∙ take_all len new (omega arith)
+    ap (λ rest. take len (new ++ rest)) (drop_of_length-le items (omega arith)) ∙ ap (take len) (append-nil new)
+    ∙ take_all len new (omega arith)
 
 module _ {T : Type 0} (n : Net) where
-  pub fresh_more : (locals more : List (Local T)) (x : Local T) (at : ℕ) → AreFresh n locals at → more ≡ locals ++ x ∷ []
-      → x.position ≡ 0 → x.slots.items ≡ replicate (n.slots at) None → x.kept.items ≡ [] → vec_capacity x.kept ≡ count_by is_fire (n.script at) → AreFresh n more (at + 1)
-  fresh_more locals more x at fresh grown position slots kept room =
-      let made : ◌≡◌ {A = machine.Local T} (record { position = x.position; slots = x.slots.items; kept = x.kept.items }) (record { position = 0; slots = replicate (n.slots at) None; kept = [] }) =
-      λ i. record { position = position i; slots = slots i; kept = kept i } in
+  pub fresh_more : (locals more : List (Local T)) (x : Local T) (at : ℕ) → AreFresh n locals at
+      → more ≡ locals ++ x ∷ []
+      → x ≡ fresh_local n at → AreFresh n more (at + 1)
+  fresh_more locals more x at fresh grown made =
       subst (λ list. AreFresh n list (at + 1)) (sym grown) (
       record {
         number = length-append locals (x ∷ []) ∙ ap (λ k. k + 1) fresh.number;
         fresh = λ p lt. elim (cases_eq p at) [
-          | inl same ↦
-              ap (λ o. option_map_or (λ (l : Local T). record { position = l.position; slots = l.slots.items; kept = l.kept.items }) o (record { position = 0; slots = []; kept = [] })) (get_last locals x p (same ∙ sym fresh.number))
-              ∙ made ∙ ap (λ q. record { position = 0; slots = replicate (n.slots q) None; kept = [] }) (sym same)
+          | inl same ↦ get_last locals x p (same ∙ sym fresh.number) ∙ ap Some (made ∙ ap (fresh_local n) (sym same))
           | inr other ↦
               let lower : p < at = omega arith in
-              ap (λ o. option_map_or (λ (l : Local T). record { position = l.position; slots = l.slots.items; kept = l.kept.items }) o (record { position = 0; slots = []; kept = [] })) (get_append locals (x ∷ []) p (omega (arith, fresh.number)))
-              ∙ fresh.fresh p lower
-        ];
-        room = λ p lt. elim (cases_eq p at) [
-          | inl same ↦
-              ap (λ o. option_map_or (λ (l : Local T). vec_capacity l.kept) o 0) (get_last locals x p (same ∙ sym fresh.number)) ∙ room ∙ ap (λ q. count_by is_fire (n.script q)) (sym same)
-          | inr other ↦
-              let lower : p < at = omega arith in
-              ap (λ o. option_map_or (λ (l : Local T). vec_capacity l.kept) o 0) (get_append locals (x ∷ []) p (omega (arith, fresh.number))) ∙ fresh.room p lower
+              get_append locals (x ∷ []) p (omega (arith, fresh.number)) ∙ fresh.fresh p lower
         ];
       }
       )
 
-  pub empty_more : (queues more : Queues T) (x : VecDeque T Global) (at : ℕ) → AreEmpty n queues at → more ≡ queues ++ x ∷ []
+  pub empty_more : (queues more : Queues T) (x : VecDeque T Global) (at : ℕ) → AreEmpty n queues at
+      → more ≡ queues ++ x ∷ []
       → x.items ≡ [] → deque_capacity x ≡ min (n.capacity at) (put_count n at) → AreEmpty n more (at + 1)
   empty_more queues more x at empty grown items room =
       subst (λ list. AreEmpty n list (at + 1)) (sym grown) (
       record {
         number = length-append queues (x ∷ []) ∙ ap (λ k. k + 1) empty.number;
         empty = λ c lt. elim (cases_eq c at) [
-          | inl same ↦ ap (λ o. option_map_or (λ (q : VecDeque T Global). q.items) o []) (get_last queues x c (same ∙ sym empty.number)) ∙ items
+          | inl same ↦ ap (λ o. option_map_or (λ (q : VecDeque T Global). q.items) o [])
+              (get_last queues x c (same ∙ sym empty.number)) ∙ items
           | inr other ↦
               let lower : c < at = omega arith in
-              ap (λ o. option_map_or (λ (q : VecDeque T Global). q.items) o []) (get_append queues (x ∷ []) c (omega (arith, empty.number))) ∙ empty.empty c lower
+              ap (λ o. option_map_or (λ (q : VecDeque T Global). q.items) o [])
+              (get_append queues (x ∷ []) c (omega (arith, empty.number))) ∙ empty.empty c lower
         ];
         room = λ c lt. elim (cases_eq c at) [
           | inl same ↦
-              ap (λ o. option_map_or (λ (q : VecDeque T Global). deque_capacity q) o 0) (get_last queues x c (same ∙ sym empty.number)) ∙ room ∙ ap (λ d. min (n.capacity d) (put_count n d)) (sym same)
+              ap (λ o. option_map_or (λ (q : VecDeque T Global). deque_capacity q) o 0)
+              (get_last queues x c (same ∙ sym empty.number)) ∙ room
+              ∙ ap (λ d. min (n.capacity d) (put_count n d)) (sym same)
           | inr other ↦
               let lower : c < at = omega arith in
-              ap (λ o. option_map_or (λ (q : VecDeque T Global). deque_capacity q) o 0) (get_append queues (x ∷ []) c (omega (arith, empty.number))) ∙ empty.room c lower
+              ap (λ o. option_map_or (λ (q : VecDeque T Global). deque_capacity q) o 0)
+              (get_append queues (x ∷ []) c (omega (arith, empty.number))) ∙ empty.room c lower
         ];
       }
       )
 
-  run_is_start : (points : List (List (List ℤ))) (locals : List (Local T)) (queues : Queues T) → IsShaped n points → AreFresh n locals n.processes → AreEmpty n queues n.channels → (held locals queues).run ≡ start n
+  -- what a process has that isn't there
+  abbrev none_local : machine.Local T
+  none_local = record { position = 0; slots = []; kept = [] }
+
+  run_is_start : (points : List (List (List ℤ))) (locals : List (Local T)) (queues : Queues T) → IsShaped n points
+      → AreFresh n locals n.processes → AreEmpty n queues n.channels → (held locals queues).run ≡ start n
   run_is_start points locals queues shaped fresh empty =
       let ls = fun_ext local_is in
       let qs = fun_ext queue_is in
@@ -92,11 +96,14 @@ module _ {T : Type 0} (n : Net) where
       local_is : (p : ℕ) → local_at locals p ≡ record { position = 0; slots = replicate (n.slots p) None; kept = [] }
       local_is p =
           elim (cases_lt p n.processes) [
-            | inl lt ↦ fresh.fresh p lt
+            | inl lt ↦ ap (λ o. option_map_or (λ (l : Local T). local_of l.position l.room) o none_local)
+                (fresh.fresh p lt)
             | inr past ↦
-                let no_gets : count_by is_any_get (n.script p) ≡ 0 = ap (count_by is_any_get) (shaped.wired.bounded p past) in
+                let no_gets : count_by is_any_get (n.script p) ≡ 0 =
+                ap (count_by is_any_get) (shaped.wired.bounded p past) in
                 let none : n.slots p ≡ 0 = omega (arith, shaped.few_slots p) in
-                ap (λ o. option_map_or (λ (l : Local T). record { position = l.position; slots = l.slots.items; kept = l.kept.items }) o (record { position = 0; slots = []; kept = [] })) (slice_get_past locals p (omega (arith, fresh.number)))
+                ap (λ o. option_map_or (λ (l : Local T). local_of l.position l.room) o none_local)
+                (slice_get_past locals p (omega (arith, fresh.number)))
                 ∙ ap (λ k. record { position = 0; slots = replicate k None; kept = [] }) (sym none)
           ]
 
@@ -104,14 +111,29 @@ module _ {T : Type 0} (n : Net) where
       queue_is c =
           elim (cases_lt c n.channels) [
             | inl lt ↦ empty.empty c lt
-            | inr past ↦ ap (λ o. option_map_or (λ (q : VecDeque T Global). q.items) o []) (slice_get_past queues c (omega (arith, empty.number)))
+            | inr past ↦ ap (λ o. option_map_or (λ (q : VecDeque T Global). q.items) o [])
+                (slice_get_past queues c (omega (arith, empty.number)))
           ]
 
-  pub start_is_for : (points : List (List (List ℤ))) (locals : List (Local T)) (queues : Queues T) → IsShaped n points → FitsNumbers n → ((c : ℕ) → n.channels ≤ c → n.capacity c ≡ 0)
+  left_is : (points : List (List (List ℤ))) (locals : List (Local T)) → IsShaped n points
+      → AreFresh n locals n.processes → (p : ℕ) → left_at locals p ≡ n.script p
+  left_is points locals shaped fresh p =
+      elim (cases_lt p n.processes) [
+        | inl lt ↦ ap (λ o. option_map_or (λ (l : Local T). l.room.left) o []) (fresh.fresh p lt)
+        | inr past ↦
+            ap (λ o. option_map_or (λ (l : Local T). l.room.left) o [])
+            (slice_get_past locals p (omega (arith, fresh.number)))
+            ∙ sym (shaped.wired.bounded p past)
+      ]
+
+  pub start_is_for : (points : List (List (List ℤ))) (locals : List (Local T)) (queues : Queues T) → IsShaped n points
+      → FitsNumbers n → ((c : ℕ) → n.channels ≤ c → n.capacity c ≡ 0)
       → AreFresh n locals n.processes → AreEmpty n queues n.channels → IsFor n (held locals queues)
   start_is_for points locals queues shaped numbers no_room fresh empty =
       let run = run_is_start points locals queues shaped fresh empty in
-      let at_start : (p : ℕ) → local_at locals p ≡ record { position = 0; slots = replicate (n.slots p) None; kept = [] } = λ p. ap (λ (s : State T). s.local p) run in
+      let at_start : (p : ℕ)
+      → local_at locals p ≡ record { position = 0; slots = replicate (n.slots p) None; kept = [] } =
+      λ p. ap (λ (s : State T). s.local p) run in
       record {
         wired = shaped.wired;
         numbers = numbers;
@@ -119,29 +141,38 @@ module _ {T : Type 0} (n : Net) where
         channels = empty.number;
         counted = subst (IsCounted n) (sym run) (start_counted n);
         inside = λ p. (let e = ap (λ (l : machine.Local T). l.position) (at_start p) in omega arith);
+        left = λ p. left_is points locals shaped fresh p
+            ∙ ap (λ (l : machine.Local T). drop l.position (n.script p)) (sym (at_start p));
         slots = λ p. ap (λ (l : machine.Local T). length l.slots) (at_start p) ∙ length-replicate (n.slots p) None;
         kept_room = λ p. elim (cases_lt p n.processes) [
-          | inl lt ↦ fresh.room p lt
+          | inl lt ↦ ap (λ o. option_map_or (λ (l : Local T). l.room.space) o 0) (fresh.fresh p lt)
           | inr past ↦
-              ap (λ o. option_map_or (λ (l : Local T). vec_capacity l.kept) o 0) (slice_get_past locals p (omega (arith, fresh.number)))
+              ap (λ o. option_map_or (λ (l : Local T). l.room.space) o 0)
+              (slice_get_past locals p (omega (arith, fresh.number)))
               ∙ sym (ap (count_by is_fire) (shaped.wired.bounded p past))
         ];
         queue_room = λ c. elim (cases_lt c n.channels) [
           | inl lt ↦ empty.room c lt
           | inr past ↦
               let none : min (n.capacity c) (put_count n c) ≡ 0 = omega (arith, no_room c past) in
-              ap (λ o. option_map_or (λ (q : VecDeque T Global). deque_capacity q) o 0) (slice_get_past queues c (omega (arith, empty.number))) ∙ sym none
+              ap (λ o. option_map_or (λ (q : VecDeque T Global). deque_capacity q) o 0)
+              (slice_get_past queues c (omega (arith, empty.number))) ∙ sym none
         ];
       }
 
 -- a channel that isn't there has no room
 pub no_capacity : (network : Network) (c : ℕ) → length network.channels ≤ c → (net_of network).capacity c ≡ 0
-no_capacity network c past = ap (λ o. option_map_or (λ (channel : Channel). channel.capacity) o 0) (slice_get_past network.channels c past)
+no_capacity network c past =
+    ap (λ o. option_map_or (λ (channel : Channel). channel.capacity) o 0) (slice_get_past network.channels c past)
 
 -- the room that a queue is made with
-pub queue_room_is : (network : Network) (items : List Channel) (c : ℕ) (d : Channel) (room puts : ℕ) → items ≡ network.channels → c < length items
-    → room ≡ min puts (get_or items c d).capacity → puts ≡ put_count (net_of network) c → room ≡ min ((net_of network).capacity c) (put_count (net_of network) c)
+pub queue_room_is : (network : Network) (items : List Channel) (c : ℕ) (d : Channel) (room puts : ℕ)
+    → items ≡ network.channels → c < length items
+    → room ≡ min puts (get_or items c d).capacity → puts ≡ put_count (net_of network) c
+    → room ≡ min ((net_of network).capacity c) (put_count (net_of network) c)
 queue_room_is network items c d room puts same lt made counted =
-    let found : slice_get network.channels c ≡ Some (get_or items c d) = ap (λ list. slice_get list c) (sym same) ∙ slice_get-get_or items c d lt in
-    let capacity : (net_of network).capacity c ≡ (get_or items c d).capacity = ap (λ o. option_map_or (λ (channel : Channel). channel.capacity) o 0) found in
+    let found : slice_get network.channels c ≡ Some (get_or items c d) =
+    ap (λ list. slice_get list c) (sym same) ∙ slice_get-get_or items c d lt in
+    let capacity : (net_of network).capacity c ≡ (get_or items c d).capacity =
+    ap (λ o. option_map_or (λ (channel : Channel). channel.capacity) o 0) found in
     omega arith

@@ -28,14 +28,16 @@ use Rattle.net_core.proofs.Positions.{gets_advanced, positions_after, counted_af
 -- The tokens of a channel
 
 with_token_length : (n : Net) (c k : ℕ) (o : Option Event) (ts : List Tag) → slice_get (n.script (n.writer c)) k ≡ o
-    → length ts ≡ count_by (is_put c) (take k (n.script (n.writer c))) → length (with_token n c k o ts) ≡ count_by (is_put c) (take (suc k) (n.script (n.writer c)))
+    → length ts ≡ count_by (is_put c) (take k (n.script (n.writer c)))
+    → length (with_token n c k o ts) ≡ count_by (is_put c) (take (suc k) (n.script (n.writer c)))
 with_token_length n c k None ts is h = h ∙ sym (count_none (is_put c) (n.script (n.writer c)) k is)
 with_token_length n c k (Some (Get d slot)) ts is h =
     omega (arith, count_next (is_put c) (n.script (n.writer c)) k (Get d slot) is)
 with_token_length n c k (Some (Fire refs)) ts is h =
     omega (arith, count_next (is_put c) (n.script (n.writer c)) k (Fire refs) is)
 with_token_length n c k (Some (Put d)) ts is h =
-    let more : count_by (is_put c) (take (suc k) (n.script (n.writer c))) ≡ count_by (is_put c) (take k (n.script (n.writer c))) + cond (eqb c d) 1 0 =
+    let more : count_by (is_put c) (take (suc k) (n.script (n.writer c)))
+    ≡ count_by (is_put c) (take k (n.script (n.writer c))) + cond (eqb c d) 1 0 =
     count_next (is_put c) (n.script (n.writer c)) k (Put d) is in
     elim (cases_Bool (eqb c d)) [
       | inl t ↦
@@ -47,7 +49,8 @@ with_token_length n c k (Some (Put d)) ts is h =
     ]
 
 -- there are as many tokens as Puts
-pub tokens_length : (n : Net) (c k : ℕ) → length (tokens_before n c k) ≡ count_by (is_put c) (take k (n.script (n.writer c)))
+pub tokens_length : (n : Net) (c k : ℕ)
+    → length (tokens_before n c k) ≡ count_by (is_put c) (take k (n.script (n.writer c)))
 tokens_length n c zero = refl
 tokens_length n c (suc k) =
     with_token_length n c k (slice_get (n.script (n.writer c)) k) (tokens_before n c k) refl (tokens_length n c k)
@@ -71,11 +74,13 @@ with_token_keeps n c k (Some (Put d)) ts m h =
 
 -- a token stands at its place from its Put on
 token_stays : (n : Net) (c k d m : ℕ) → m < length (tokens_before n c k)
-    → (slice_get (tokens_before n c (d + k)) m ≡ slice_get (tokens_before n c k) m) × (m < length (tokens_before n c (d + k)))
+    → (slice_get (tokens_before n c (d + k)) m ≡ slice_get (tokens_before n c k) m)
+    × (m < length (tokens_before n c (d + k)))
 token_stays n c k zero m h = rw (zero-add k) (refl, h)
 token_stays n c k (suc d) m h =
     let before = token_stays n c k d m h in
-    let more = with_token_keeps n c (d + k) (slice_get (n.script (n.writer c)) (d + k)) (tokens_before n c (d + k)) m before.1 in
+    let more =
+    with_token_keeps n c (d + k) (slice_get (n.script (n.writer c)) (d + k)) (tokens_before n c (d + k)) m before.1 in
     rw (suc-add d k) (more.0 ∙ before.0, more.1)
 
 -- past the script's end nothing is put
@@ -83,11 +88,13 @@ tokens_past : (n : Net) (c d : ℕ) → tokens_before n c (d + length (n.script 
 tokens_past n c zero = rw (zero-add (length (n.script (n.writer c)))) refl
 tokens_past n c (suc d) =
     let len = length (n.script (n.writer c)) in
-    let past : slice_get (n.script (n.writer c)) (d + len) ≡ None = slice_get_past (n.script (n.writer c)) (d + len) (omega arith) in
+    let past : slice_get (n.script (n.writer c)) (d + len) ≡ None =
+    slice_get_past (n.script (n.writer c)) (d + len) (omega arith) in
     rw (suc-add d len) (ap (λ o. with_token n c (d + len) o (tokens_before n c (d + len))) past ∙ tokens_past n c d)
 
 -- a token that was put by place k is that of the whole list
-pub token_full : (n : Net) (c k m : ℕ) → m < length (tokens_before n c k) → slice_get (tokens n c) m ≡ slice_get (tokens_before n c k) m
+pub token_full : (n : Net) (c k m : ℕ) → m < length (tokens_before n c k)
+    → slice_get (tokens n c) m ≡ slice_get (tokens_before n c k) m
 token_full n c k m h =
     let len = length (n.script (n.writer c)) in
     elim (cases_lt len k) [
@@ -100,8 +107,12 @@ token_full n c k m h =
     ]
 
 -- the tokens that the writer has put, after an event of p
-tokens_advanced : (n : Net) (wired : IsWired n) (k : Cut) (p : ℕ) (e : Event) (c : ℕ) → slice_get (n.script p) (k p) ≡ Some e
-    → tokens_before n c (advanced k p (n.writer c)) ≡ cond (is_put c e) (tokens_before n c (k (n.writer c)) ++ tag (n.writer c) (pred (fires n (n.writer c) (k (n.writer c)))) ∷ []) (tokens_before n c (k (n.writer c)))
+tokens_advanced : (n : Net) (wired : IsWired n) (k : Cut) (p : ℕ) (e : Event) (c : ℕ)
+    → slice_get (n.script p) (k p) ≡ Some e
+    → tokens_before n c (advanced k p (n.writer c))
+    ≡ cond (is_put c e)
+    (tokens_before n c (k (n.writer c)) ++ tag (n.writer c) (pred (fires n (n.writer c) (k (n.writer c)))) ∷ [])
+    (tokens_before n c (k (n.writer c)))
 tokens_advanced n wired k p e c is =
     elim (cases_eq (n.writer c) p) [
       | inl r ↦
@@ -116,7 +127,9 @@ tokens_advanced n wired k p e c is =
           ]
     ]
   where
-    as_cond : (e : Event) (ts : List Tag) → with_token n c (k (n.writer c)) (Some e) ts ≡ cond (is_put c e) (ts ++ tag (n.writer c) (pred (fires n (n.writer c) (k (n.writer c)))) ∷ []) ts
+    as_cond : (e : Event) (ts : List Tag)
+        → with_token n c (k (n.writer c)) (Some e) ts
+        ≡ cond (is_put c e) (ts ++ tag (n.writer c) (pred (fires n (n.writer c) (k (n.writer c)))) ∷ []) ts
     as_cond (Get d slot) ts = refl
     as_cond (Fire refs) ts = refl
     as_cond (Put d) ts = refl
@@ -128,24 +141,30 @@ name_slots n slots = map (option_and_then (token_at n)) slots
 
 -- the slots' names after the event at place k
 names_after_get : (n : Net) (p k c slot : ℕ) → slice_get (n.script p) k ≡ Some (Get c slot)
-    → slot_names n p (suc k) ≡ slice_set (slot_names n p k) slot (token_at n (c, count_by (is_get c) (take k (n.script p))))
+    → slot_names n p (suc k)
+    ≡ slice_set (slot_names n p k) slot (token_at n (c, count_by (is_get c) (take k (n.script p))))
 names_after_get n p k c slot is =
     ap (λ o. name_slots n (with_get n p k o (latest_gets n p k))) is
-    ∙ map-set (option_and_then (token_at n)) (latest_gets n p k) slot (Some (c, count_by (is_get c) (take k (n.script p))))
+    ∙ map-set (option_and_then (token_at n)) (latest_gets n p k) slot
+    (Some (c, count_by (is_get c) (take k (n.script p))))
 
-names_after_fire : (n : Net) (p k : ℕ) (refs : List Ref) → slice_get (n.script p) k ≡ Some (Fire refs) → slot_names n p (suc k) ≡ slot_names n p k
+names_after_fire : (n : Net) (p k : ℕ) (refs : List Ref) → slice_get (n.script p) k ≡ Some (Fire refs)
+    → slot_names n p (suc k) ≡ slot_names n p k
 names_after_fire n p k refs is = ap (λ o. name_slots n (with_get n p k o (latest_gets n p k))) is
 
-names_after_put : (n : Net) (p k c : ℕ) → slice_get (n.script p) k ≡ Some (Put c) → slot_names n p (suc k) ≡ slot_names n p k
+names_after_put : (n : Net) (p k c : ℕ) → slice_get (n.script p) k ≡ Some (Put c)
+    → slot_names n p (suc k) ≡ slot_names n p k
 names_after_put n p k c is = ap (λ o. name_slots n (with_get n p k o (latest_gets n p k))) is
 
 module _ {T : Type 0} (n : Net) (v : Tag → T) (p : ℕ) (l : Local T) (named : IsLocalNamed n v p l) where
   -- a Get that takes the value of its token
   pub named_get : (c slot : ℕ) (x : Option T) → slice_get (n.script p) l.position ≡ Some (Get c slot)
-      → x ≡ option_map v (token_at n (c, count_by (is_get c) (take l.position (n.script p)))) → IsLocalNamed n v p (after_get l slot x)
+      → x ≡ option_map v (token_at n (c, count_by (is_get c) (take l.position (n.script p))))
+      → IsLocalNamed n v p (after_get l slot x)
   named_get c slot x is value =
       let t = token_at n (c, count_by (is_get c) (take l.position (n.script p))) in
-      let same : fires n p (suc l.position) ≡ fires n p l.position = omega (arith, count_next is_fire (n.script p) l.position (Get c slot) is) in
+      let same : fires n p (suc l.position) ≡ fires n p l.position =
+      omega (arith, count_next is_fire (n.script p) l.position (Get c slot) is) in
       record {
         slots =
             ap₂ (λ xs y. slice_set xs slot y) named.slots value
@@ -159,7 +178,8 @@ module _ {T : Type 0} (n : Net) (v : Tag → T) (p : ℕ) (l : Local T) (named :
       → x ≡ v (tag p (fires n p l.position)) → IsLocalNamed n v p (after_fire l x)
   named_fire refs x is value =
       let turn = fires n p l.position in
-      let more : fires n p (suc l.position) ≡ suc turn = omega (arith, count_next is_fire (n.script p) l.position (Fire refs) is) in
+      let more : fires n p (suc l.position) ≡ suc turn =
+      omega (arith, count_next is_fire (n.script p) l.position (Fire refs) is) in
       record {
         slots = named.slots ∙ ap (map (option_map v)) (sym (names_after_fire n p l.position refs is));
         kept = ap₂ (λ xs y. xs ++ y ∷ []) named.kept value ∙ ap (fired v p) (sym more);
@@ -167,7 +187,8 @@ module _ {T : Type 0} (n : Net) (v : Tag → T) (p : ℕ) (l : Local T) (named :
 
   pub named_put : (c : ℕ) → slice_get (n.script p) l.position ≡ Some (Put c) → IsLocalNamed n v p (after_put l)
   named_put c is =
-      let same : fires n p (suc l.position) ≡ fires n p l.position = omega (arith, count_next is_fire (n.script p) l.position (Put c) is) in
+      let same : fires n p (suc l.position) ≡ fires n p l.position =
+      omega (arith, count_next is_fire (n.script p) l.position (Put c) is) in
       record {
         slots = named.slots ∙ ap (map (option_map v)) (sym (names_after_put n p l.position c is));
         kept = named.kept ∙ ap (fired v p) (sym same);
@@ -175,7 +196,8 @@ module _ {T : Type 0} (n : Net) (v : Tag → T) (p : ℕ) (l : Local T) (named :
 
 -- What a state holds
 
-front_map_drop : {X T : Type 0} (v : X → T) (g : ℕ) (xs : List X) → front (map v (drop g xs)) ≡ option_map v (slice_get xs g)
+front_map_drop : {X T : Type 0} (v : X → T) (g : ℕ) (xs : List X)
+    → front (map v (drop g xs)) ≡ option_map v (slice_get xs g)
 front_map_drop v zero [] = refl
 front_map_drop v (suc g) [] = refl
 front_map_drop v zero (x ∷ xs) = refl
@@ -193,7 +215,8 @@ last_fired v p (suc f) h = last_push (fired v p f) (v (tag p f))
 
 module _ {T : Type 0} (n : Net) (rule : Rule T) (wired : IsWired n) (v : Tag → T) (gives : GivesValues n rule v) where
   -- a process after its event
-  named_local : (s : State T) (p : ℕ) (e : Event) → IsCounted n s → IsNamed n v s → next n s p ≡ Some e → can_come n s (Some e) ≡ true
+  named_local : (s : State T) (p : ℕ) (e : Event) → IsCounted n s → IsNamed n v s → next n s p ≡ Some e
+      → can_come n s (Some e) ≡ true
       → IsLocalNamed n v p (local_after rule p (s.local p) s.queue e)
   named_local s p (Get c slot) h named is m =
       let k = positions s in
@@ -203,7 +226,8 @@ module _ {T : Type 0} (n : Net) (rule : Rule T) (wired : IsWired n) (v : Tag →
       let here : g ≡ count_by (is_get c) (take (k p) (n.script p)) = rw r refl in
       let room : g < length ts = omega (arith, h.queues c, ltb-true _ _ m, tokens_length n c (k (n.writer c))) in
       let token : front (s.queue c) ≡ option_map v (token_at n (c, count_by (is_get c) (take (k p) (n.script p)))) =
-      ap front (named.queues c) ∙ front_map_drop v g ts ∙ ap (option_map v) (sym (token_full n c (k (n.writer c)) g room) ∙ ap (slice_get (tokens n c)) here) in
+      ap front (named.queues c) ∙ front_map_drop v g ts
+      ∙ ap (option_map v) (sym (token_full n c (k (n.writer c)) g room) ∙ ap (slice_get (tokens n c)) here) in
       named_get n v p (s.local p) (named.locals p) c slot (front (s.queue c)) is token
   named_local s p (Fire refs) h named is m =
       let l = s.local p in
@@ -213,8 +237,14 @@ module _ {T : Type 0} (n : Net) (rule : Rule T) (wired : IsWired n) (v : Tag →
   named_local s p (Put c) h named is m = named_put n v p (s.local p) (named.locals p) c is
 
   -- a queue after an event
-  named_queue : (s : State T) (p : ℕ) (e : Event) (c : ℕ) → IsCounted n s → IsNamed n v s → next n s p ≡ Some e → can_come n s (Some e) ≡ true
-      → queue_after (s.local p).kept e c (s.queue c) ≡ map v (drop (gets_at n (positions s) c + cond (is_get c e) 1 0) (cond (is_put c e) (tokens_before n c (positions s (n.writer c)) ++ tag (n.writer c) (pred (fires n (n.writer c) (positions s (n.writer c)))) ∷ []) (tokens_before n c (positions s (n.writer c)))))
+  named_queue : (s : State T) (p : ℕ) (e : Event) (c : ℕ) → IsCounted n s → IsNamed n v s → next n s p ≡ Some e
+      → can_come n s (Some e) ≡ true
+      → queue_after (s.local p).kept e c (s.queue c)
+      ≡ map v (drop (gets_at n (positions s) c + cond (is_get c e) 1 0)
+      (cond (is_put c e)
+      (tokens_before n c (positions s (n.writer c))
+      ++ tag (n.writer c) (pred (fires n (n.writer c) (positions s (n.writer c)))) ∷ [])
+      (tokens_before n c (positions s (n.writer c)))))
   named_queue s p (Get d slot) c h named is m =
       let g = gets_at n (positions s) c in
       let ts = tokens_before n c (positions s (n.writer c)) in
@@ -239,7 +269,8 @@ module _ {T : Type 0} (n : Net) (rule : Rule T) (wired : IsWired n) (v : Tag →
         | inr f ↦ rw (f, add-zero g) (named.queues c)
       ]
 
-  named_after : (s : State T) (p : ℕ) (e : Event) → IsCounted n s → IsNamed n v s → next n s p ≡ Some e → can_come n s (Some e) ≡ true → IsNamed n v (after_event rule s p (Some e))
+  named_after : (s : State T) (p : ℕ) (e : Event) → IsCounted n s → IsNamed n v s → next n s p ≡ Some e
+      → can_come n s (Some e) ≡ true → IsNamed n v (after_event rule s p (Some e))
   named_after s p e h named is m = record { locals = locals_at; queues = queues_at } where
     locals_at : (q : ℕ) → IsLocalNamed n v q ((after_event rule s p (Some e)).local q)
     locals_at q =
@@ -254,19 +285,28 @@ module _ {T : Type 0} (n : Net) (rule : Rule T) (wired : IsWired n) (v : Tag →
               rw l (named.locals q)
         ]
 
-    queues_at : (c : ℕ) → (after_event rule s p (Some e)).queue c ≡ map v (drop (gets_at n (positions (after_event rule s p (Some e))) c) (tokens_before n c (positions (after_event rule s p (Some e)) (n.writer c))))
+    queues_at : (c : ℕ)
+        → (after_event rule s p (Some e)).queue c
+        ≡ map v (drop (gets_at n (positions (after_event rule s p (Some e))) c)
+        (tokens_before n c (positions (after_event rule s p (Some e)) (n.writer c))))
     queues_at c =
-        named_queue s p e c h named is m ∙ sym (ap (λ k. map v (drop (gets_at n k c) (tokens_before n c (k (n.writer c))))) (positions_after rule s p e) ∙ ap₂ (λ g ts. map v (drop g ts)) (gets_advanced n wired (positions s) p e c is) (tokens_advanced n wired (positions s) p e c is))
+        named_queue s p e c h named is m
+        ∙ sym (ap (λ k. map v (drop (gets_at n k c) (tokens_before n c (k (n.writer c))))) (positions_after rule s p e)
+        ∙ ap₂ (λ g ts. map v (drop g ts)) (gets_advanced n wired (positions s) p e c is)
+        (tokens_advanced n wired (positions s) p e c is))
 
-  named_step : (s : State T) (p : ℕ) (o : Option Event) → IsCounted n s → IsNamed n v s → next n s p ≡ o → can_come n s o ≡ true → IsNamed n v (after_event rule s p o)
+  named_step : (s : State T) (p : ℕ) (o : Option Event) → IsCounted n s → IsNamed n v s → next n s p ≡ o
+      → can_come n s o ≡ true → IsNamed n v (after_event rule s p o)
   named_step s p None h named is m = named
   named_step s p (Some e) h named is m = named_after s p e h named is m
 
   -- from a state that holds the values of what it names, a run leads to such states
-  pub named_run : (run : List ℕ) (s : State T) → IsCounted n s → IsNamed n v s → IsRun n rule s run → IsNamed n v (after n rule s run)
+  pub named_run : (run : List ℕ) (s : State T) → IsCounted n s → IsNamed n v s → IsRun n rule s run
+      → IsNamed n v (after n rule s run)
   named_run [] s h named is = named
   named_run (p ∷ run) s h named is =
-      named_run run (step n rule s p) (counted_after_step n rule wired s p h is.0) (named_step s p (next n s p) h named refl is.0) is.1
+      named_run run (step n rule s p) (counted_after_step n rule wired s p h is.0)
+      (named_step s p (next n s p) h named refl is.0) is.1
 
 map_nothing : {X T : Type 0} (v : X → T) (k : ℕ) → replicate k None ≡ map (option_map v) (replicate k None)
 map_nothing v zero = refl
@@ -278,16 +318,20 @@ no_names n (suc k) = ap (λ xs. None ∷ xs) (no_names n k)
 
 pub start_named : {T : Type 0} (n : Net) (v : Tag → T) → IsNamed n v (start n)
 start_named n v = record {
-  locals = λ p. record { slots = map_nothing v (n.slots p) ∙ ap (map (option_map v)) (sym (no_names n (n.slots p))); kept = refl };
+  locals =
+      λ p. record { slots = map_nothing v (n.slots p) ∙ ap (map (option_map v)) (sym (no_names n (n.slots p))); kept = refl };
   queues = λ c. refl;
 }
 
 -- at every state that a run reaches, each place holds the value of what it names
-pub every_run_named : {T : Type 0} (n : Net) (rule : Rule T) (wired : IsWired n) (v : Tag → T) (run : List ℕ) → GivesValues n rule v → IsRun n rule (start n) run → IsNamed n v (after n rule (start n) run)
-every_run_named n rule wired v run gives is = named_run n rule wired v gives run (start n) (start_counted n) (start_named n v) is
+pub every_run_named : {T : Type 0} (n : Net) (rule : Rule T) (wired : IsWired n) (v : Tag → T) (run : List ℕ)
+    → GivesValues n rule v → IsRun n rule (start n) run → IsNamed n v (after n rule (start n) run)
+every_run_named n rule wired v run gives is =
+    named_run n rule wired v gives run (start n) (start_counted n) (start_named n v) is
 
 -- once ended, each process has kept the values of its fires
-pub ended_kept : {T : Type 0} (n : Net) (rule : Rule T) (wired : IsWired n) (v : Tag → T) (run : List ℕ) → GivesValues n rule v → IsRun n rule (start n) run → HasEnded n (after n rule (start n) run)
+pub ended_kept : {T : Type 0} (n : Net) (rule : Rule T) (wired : IsWired n) (v : Tag → T) (run : List ℕ)
+    → GivesValues n rule v → IsRun n rule (start n) run → HasEnded n (after n rule (start n) run)
     → (p : ℕ) → ((after n rule (start n) run).local p).kept ≡ fired v p (fires n p (length (n.script p)))
 ended_kept n rule wired v run gives is ended p =
     ((every_run_named n rule wired v run gives is).locals p).kept ∙ ap (λ k. fired v p (fires n p k)) (ended p)
@@ -301,4 +345,5 @@ map_same (Some t ∷ xs) = ap (λ ys. Some t ∷ ys) (map_same xs)
 pub tags_named : (n : Net) (wired : IsWired n) (run : List ℕ) → IsRun n tags (start n) run → (p : ℕ)
     → ((after n tags (start n) run).local p).slots ≡ slot_names n p ((after n tags (start n) run).local p).position
 tags_named n wired run is p =
-    ((every_run_named n tags wired (λ t. t) run (λ q k refs at. refl) is).locals p).slots ∙ map_same (slot_names n p ((after n tags (start n) run).local p).position)
+    ((every_run_named n tags wired (λ t. t) run (λ q k refs at. refl) is).locals p).slots
+    ∙ map_same (slot_names n p ((after n tags (start n) run).local p).position)

@@ -14,10 +14,12 @@ pub IsPadded-empty : IsPadded 0 (pad 8 [])
 unfolding pad
 IsPadded-empty = (omega arith, refl, refl)
 
-pub IsPadded-push : (len : ℕ) (at : List Ref) (r : Ref) → IsPadded len at → len < 8 → IsPadded (len + 1) (slice_set at len r)
+pub IsPadded-push : (len : ℕ) (at : List Ref) (r : Ref) → IsPadded len at → len < 8
+    → IsPadded (len + 1) (slice_set at len r)
 IsPadded-push len at r h lt =
     let n : length (take len at) ≡ len = omega (arith, length-take len at, h.0, h.1) in
-    let more : take (len + 1) (slice_set at len r) ≡ take len at ++ r ∷ [] = take_more_set at len r (omega (arith, h.1)) in
+    let more : take (len + 1) (slice_set at len r) ≡ take len at ++ r ∷ [] =
+    take_more_set at len r (omega (arith, h.1)) in
     let set_at : slice_set (pad 8 (take len at)) (length (take len at)) r ≡ slice_set at len r =
     ap₂ (λ xs i. slice_set xs i r) h.2 n in (
       omega arith,

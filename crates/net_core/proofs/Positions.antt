@@ -18,7 +18,8 @@ use Rattle.net_core.proofs.Counting.{count_next, replaced_same, replaced_other}
 use Rattle.net_core.proofs.CutOrder.{advanced_here, advanced_there}
 use Rattle.net_core.proofs.TwoSteps.{get_reader, put_writer}
 
-pub gets_advanced : (n : Net) (wired : IsWired n) (k : Cut) (p : ℕ) (e : Event) (c : ℕ) → slice_get (n.script p) (k p) ≡ Some e → gets_at n (advanced k p) c ≡ gets_at n k c + cond (is_get c e) 1 0
+pub gets_advanced : (n : Net) (wired : IsWired n) (k : Cut) (p : ℕ) (e : Event) (c : ℕ)
+    → slice_get (n.script p) (k p) ≡ Some e → gets_at n (advanced k p) c ≡ gets_at n k c + cond (is_get c e) 1 0
 gets_advanced n wired k p e c is =
     elim (cases_eq (n.reader c) p) [
       | inl r ↦
@@ -33,7 +34,8 @@ gets_advanced n wired k p e c is =
           ]
     ]
 
-pub puts_advanced : (n : Net) (wired : IsWired n) (k : Cut) (p : ℕ) (e : Event) (c : ℕ) → slice_get (n.script p) (k p) ≡ Some e → puts_at n (advanced k p) c ≡ puts_at n k c + cond (is_put c e) 1 0
+pub puts_advanced : (n : Net) (wired : IsWired n) (k : Cut) (p : ℕ) (e : Event) (c : ℕ)
+    → slice_get (n.script p) (k p) ≡ Some e → puts_at n (advanced k p) c ≡ puts_at n k c + cond (is_put c e) 1 0
 puts_advanced n wired k p e c is =
     elim (cases_eq (n.writer c) p) [
       | inl r ↦
@@ -48,26 +50,32 @@ puts_advanced n wired k p e c is =
           ]
     ]
 
-pub local_after_position : {T : Type 0} (rule : Rule T) (p : ℕ) (l : Local T) (queue : ℕ → List T) (e : Event) → (local_after rule p l queue e).position ≡ suc l.position
+pub local_after_position : {T : Type 0} (rule : Rule T) (p : ℕ) (l : Local T) (queue : ℕ → List T) (e : Event)
+    → (local_after rule p l queue e).position ≡ suc l.position
 local_after_position rule p l queue (Get c slot) = refl
 local_after_position rule p l queue (Fire refs) = refl
 local_after_position rule p l queue (Put c) = refl
 
 -- one step moves one position by one
-pub positions_after : {T : Type 0} (rule : Rule T) (s : State T) (p : ℕ) (e : Event) → positions (after_event rule s p (Some e)) ≡ advanced (positions s) p
+pub positions_after : {T : Type 0} (rule : Rule T) (s : State T) (p : ℕ) (e : Event)
+    → positions (after_event rule s p (Some e)) ≡ advanced (positions s) p
 positions_after rule s p e = fun_ext at_q
   where
     at_q : (q : ℕ) → positions (after_event rule s p (Some e)) q ≡ advanced (positions s) p q
     at_q q =
         elim (cases_eq q p) [
           | inl is ↦
-              ap (λ l. l.position) (replaced_same s.local p (local_after rule p (s.local p) s.queue e) q is) ∙ local_after_position rule p (s.local p) s.queue e ∙ sym (replaced_same (positions s) p (suc (s.local p).position) q is)
+              ap (λ l. l.position) (replaced_same s.local p (local_after rule p (s.local p) s.queue e) q is)
+              ∙ local_after_position rule p (s.local p) s.queue e
+              ∙ sym (replaced_same (positions s) p (suc (s.local p).position) q is)
           | inr d ↦
-              ap (λ l. l.position) (replaced_other s.local p (local_after rule p (s.local p) s.queue e) q d) ∙ sym (advanced_there (positions s) p q d)
+              ap (λ l. l.position) (replaced_other s.local p (local_after rule p (s.local p) s.queue e) q d)
+              ∙ sym (advanced_there (positions s) p q d)
         ]
 
 -- an event that may come is one that the cut allows, and the other way round
-can_come_as_cut : {T : Type 0} (n : Net) (s : State T) → IsCounted n s → (o : Option Event) → can_come n s o ≡ can_come_at n (positions s) o
+can_come_as_cut : {T : Type 0} (n : Net) (s : State T) → IsCounted n s → (o : Option Event)
+    → can_come n s o ≡ can_come_at n (positions s) o
 can_come_as_cut n s h None = refl
 can_come_as_cut n s h (Some (Get c slot)) =
     elim (cases_lt 0 (length (s.queue c))) [
@@ -81,7 +89,8 @@ can_come_as_cut n s h (Some (Put c)) =
       | inr le ↦ le-ltb _ _ le ∙ sym (le-ltb _ _ (omega (arith, h.queues c)))
     ]
 
-pub enabled_as_cut : {T : Type 0} (n : Net) (s : State T) → IsCounted n s → (p : ℕ) → enabled n s p ≡ enabled_at n (positions s) p
+pub enabled_as_cut : {T : Type 0} (n : Net) (s : State T) → IsCounted n s → (p : ℕ)
+    → enabled n s p ≡ enabled_at n (positions s) p
 enabled_as_cut n s h p = can_come_as_cut n s h (next n s p)
 
 last_one : {T : Type 0} (xs : List T) → 0 < length xs → length (last_of xs) ≡ 1
@@ -95,7 +104,9 @@ last_short (x ∷ []) = omega arith
 last_short (x ∷ (y ∷ ys)) = last_short (y ∷ ys)
 
 -- how an event changes the length of a queue
-length_queue_after : {T : Type 0} (n : Net) (s : State T) (kept : List T) (e : Event) (c : ℕ) → can_come n s (Some e) ≡ true → (is_put c e ≡ true → 0 < length kept) → length (queue_after kept e c (s.queue c)) + cond (is_get c e) 1 0 ≡ length (s.queue c) + cond (is_put c e) 1 0
+length_queue_after : {T : Type 0} (n : Net) (s : State T) (kept : List T) (e : Event) (c : ℕ)
+    → can_come n s (Some e) ≡ true → (is_put c e ≡ true → 0 < length kept)
+    → length (queue_after kept e c (s.queue c)) + cond (is_get c e) 1 0 ≡ length (s.queue c) + cond (is_put c e) 1 0
 length_queue_after n s kept (Get d slot) c h some =
     elim (cases_Bool (eqb c d)) [
       | inl t ↦
@@ -111,17 +122,22 @@ length_queue_after n s kept (Put d) c h some =
       | inr f ↦ rw f refl
     ]
 
-local_after_kept : {T : Type 0} (rule : Rule T) (p : ℕ) (l : Local T) (queue : ℕ → List T) (e : Event) → length (local_after rule p l queue e).kept ≡ length l.kept + cond (is_fire e) 1 0
+local_after_kept : {T : Type 0} (rule : Rule T) (p : ℕ) (l : Local T) (queue : ℕ → List T) (e : Event)
+    → length (local_after rule p l queue e).kept ≡ length l.kept + cond (is_fire e) 1 0
 local_after_kept rule p l queue (Get c slot) = omega arith
 local_after_kept rule p l queue (Fire refs) = length-append l.kept (rule p (length l.kept) refs l.slots ∷ [])
 local_after_kept rule p l queue (Put c) = omega arith
 
-pub put_fired : (n : Net) (wired : IsWired n) (p k c : ℕ) (e : Event) → slice_get (n.script p) k ≡ Some e → is_put c e ≡ true → 0 < count_by is_fire (take k (n.script p))
+pub put_fired : (n : Net) (wired : IsWired n) (p k c : ℕ) (e : Event) → slice_get (n.script p) k ≡ Some e
+    → is_put c e ≡ true → 0 < count_by is_fire (take k (n.script p))
 put_fired n wired p k c (Get ch slot) is t = cc
 put_fired n wired p k c (Fire refs) is t = cc
 put_fired n wired p k c (Put ch) is t = wired.put_fired p k ch is
 
-counted_queue : {T : Type 0} (n : Net) (rule : Rule T) (wired : IsWired n) (s : State T) (p : ℕ) (e : Event) → IsCounted n s → next n s p ≡ Some e → can_come n s (Some e) ≡ true → (c : ℕ) → length ((after_event rule s p (Some e)).queue c) + gets_at n (positions (after_event rule s p (Some e))) c ≡ puts_at n (positions (after_event rule s p (Some e))) c
+counted_queue : {T : Type 0} (n : Net) (rule : Rule T) (wired : IsWired n) (s : State T) (p : ℕ) (e : Event)
+    → IsCounted n s → next n s p ≡ Some e → can_come n s (Some e) ≡ true → (c : ℕ)
+    → length ((after_event rule s p (Some e)).queue c) + gets_at n (positions (after_event rule s p (Some e))) c
+    ≡ puts_at n (positions (after_event rule s p (Some e))) c
 counted_queue n rule wired s p e h is may_e c =
     let g = ap (λ k. gets_at n k c) (positions_after rule s p e) ∙ gets_advanced n wired (positions s) p e c is in
     let u = ap (λ k. puts_at n k c) (positions_after rule s p e) ∙ puts_advanced n wired (positions s) p e c is in
@@ -129,7 +145,10 @@ counted_queue n rule wired s p e h is may_e c =
     let before = h.queues c in
     omega arith
 
-counted_kept : {T : Type 0} (n : Net) (rule : Rule T) (s : State T) (p : ℕ) (e : Event) → IsCounted n s → next n s p ≡ Some e → (q : ℕ) → length ((after_event rule s p (Some e)).local q).kept ≡ count_by is_fire (take ((after_event rule s p (Some e)).local q).position (n.script q))
+counted_kept : {T : Type 0} (n : Net) (rule : Rule T) (s : State T) (p : ℕ) (e : Event) → IsCounted n s
+    → next n s p ≡ Some e → (q : ℕ)
+    → length ((after_event rule s p (Some e)).local q).kept
+    ≡ count_by is_fire (take ((after_event rule s p (Some e)).local q).position (n.script q))
 counted_kept n rule s p e h is q =
     let x = local_after rule p (s.local p) s.queue e in
     elim (cases_eq q p) [
@@ -138,28 +157,35 @@ counted_kept n rule s p e h is q =
           let long : length x.kept ≡ count_by is_fire (take x.position (n.script p)) =
           rw (local_after_position rule p (s.local p) s.queue e)
           (
-          local_after_kept rule p (s.local p) s.queue e ∙ ap (λ a. a + cond (is_fire e) 1 0) (h.kept p) ∙ sym (count_next is_fire (n.script p) (s.local p).position e is)
+          local_after_kept rule p (s.local p) s.queue e ∙ ap (λ a. a + cond (is_fire e) 1 0) (h.kept p)
+          ∙ sym (count_next is_fire (n.script p) (s.local p).position e is)
           ) in
           rw (l, same) long
-      | inr d ↦ let l : (after_event rule s p (Some e)).local q ≡ s.local q = replaced_other s.local p x q d in rw l (h.kept q)
+      | inr d ↦ let l : (after_event rule s p (Some e)).local q ≡ s.local q =
+          replaced_other s.local p x q d in rw l (h.kept q)
     ]
 
-pub counted_step : {T : Type 0} (n : Net) (rule : Rule T) (wired : IsWired n) (s : State T) (p : ℕ) → IsCounted n s → (o : Option Event) → next n s p ≡ o → can_come n s o ≡ true → IsCounted n (after_event rule s p o)
+pub counted_step : {T : Type 0} (n : Net) (rule : Rule T) (wired : IsWired n) (s : State T) (p : ℕ) → IsCounted n s
+    → (o : Option Event) → next n s p ≡ o → can_come n s o ≡ true → IsCounted n (after_event rule s p o)
 counted_step n rule wired s p h None is m = h
 counted_step n rule wired s p h (Some e) is m =
     record { queues = counted_queue n rule wired s p e h is m; kept = counted_kept n rule s p e h is }
 
-pub counted_after_step : {T : Type 0} (n : Net) (rule : Rule T) (wired : IsWired n) (s : State T) (p : ℕ) → IsCounted n s → enabled n s p ≡ true → IsCounted n (step n rule s p)
+pub counted_after_step : {T : Type 0} (n : Net) (rule : Rule T) (wired : IsWired n) (s : State T) (p : ℕ)
+    → IsCounted n s → enabled n s p ≡ true → IsCounted n (step n rule s p)
 counted_after_step n rule wired s p h m = counted_step n rule wired s p h (next n s p) refl m
 
-positions_of : {T : Type 0} (n : Net) (rule : Rule T) (s : State T) (p : ℕ) (o : Option Event) → can_come n s o ≡ true → positions (after_event rule s p o) ≡ advanced (positions s) p
+positions_of : {T : Type 0} (n : Net) (rule : Rule T) (s : State T) (p : ℕ) (o : Option Event) → can_come n s o ≡ true
+    → positions (after_event rule s p o) ≡ advanced (positions s) p
 positions_of n rule s p None m = cc
 positions_of n rule s p (Some e) m = positions_after rule s p e
 
-pub positions_step : {T : Type 0} (n : Net) (rule : Rule T) (s : State T) (p : ℕ) → enabled n s p ≡ true → positions (step n rule s p) ≡ advanced (positions s) p
+pub positions_step : {T : Type 0} (n : Net) (rule : Rule T) (s : State T) (p : ℕ) → enabled n s p ≡ true
+    → positions (step n rule s p) ≡ advanced (positions s) p
 positions_step n rule s p m = positions_of n rule s p (next n s p) m
 
-pub run_cut : {T : Type 0} (n : Net) (rule : Rule T) (wired : IsWired n) (ps : List ℕ) (s : State T) → IsCounted n s → IsRun n rule s ps → IsCutRun n (positions s) ps
+pub run_cut : {T : Type 0} (n : Net) (rule : Rule T) (wired : IsWired n) (ps : List ℕ) (s : State T) → IsCounted n s
+    → IsRun n rule s ps → IsCutRun n (positions s) ps
 run_cut n rule wired [] s h run = tt
 run_cut n rule wired (p ∷ ps) s h run =
     let rest = run_cut n rule wired ps (step n rule s p) (counted_after_step n rule wired s p h run.0) run.1 in (
@@ -167,7 +193,8 @@ run_cut n rule wired (p ∷ ps) s h run =
       subst (λ k. IsCutRun n k ps) (positions_step n rule s p run.0) rest,
     )
 
-pub cut_run : {T : Type 0} (n : Net) (rule : Rule T) (wired : IsWired n) (ps : List ℕ) (s : State T) → IsCounted n s → IsCutRun n (positions s) ps → IsRun n rule s ps
+pub cut_run : {T : Type 0} (n : Net) (rule : Rule T) (wired : IsWired n) (ps : List ℕ) (s : State T) → IsCounted n s
+    → IsCutRun n (positions s) ps → IsRun n rule s ps
 cut_run n rule wired [] s h run = tt
 cut_run n rule wired (p ∷ ps) s h run =
     let on : enabled n s p ≡ true = enabled_as_cut n s h p ∙ run.0 in
@@ -175,12 +202,14 @@ cut_run n rule wired (p ∷ ps) s h run =
     subst (λ k. IsCutRun n k ps) (sym (positions_step n rule s p on)) run.1 in
     (on, cut_run n rule wired ps (step n rule s p) (counted_after_step n rule wired s p h on) rest)
 
-pub run_counted : {T : Type 0} (n : Net) (rule : Rule T) (wired : IsWired n) (ps : List ℕ) (s : State T) → IsCounted n s → IsRun n rule s ps → IsCounted n (after n rule s ps)
+pub run_counted : {T : Type 0} (n : Net) (rule : Rule T) (wired : IsWired n) (ps : List ℕ) (s : State T) → IsCounted n s
+    → IsRun n rule s ps → IsCounted n (after n rule s ps)
 run_counted n rule wired [] s h run = h
 run_counted n rule wired (p ∷ ps) s h run =
     run_counted n rule wired ps (step n rule s p) (counted_after_step n rule wired s p h run.0) run.1
 
-pub run_ends : {T : Type 0} (n : Net) (rule : Rule T) (ps : List ℕ) (s : State T) → IsRun n rule s ps → positions (after n rule s ps) ≡ cut_after (positions s) ps
+pub run_ends : {T : Type 0} (n : Net) (rule : Rule T) (ps : List ℕ) (s : State T) → IsRun n rule s ps
+    → positions (after n rule s ps) ≡ cut_after (positions s) ps
 run_ends n rule [] s run = refl
 run_ends n rule (p ∷ ps) s run =
     run_ends n rule ps (step n rule s p) run.1 ∙ ap (λ k. cut_after k ps) (positions_step n rule s p run.0)
@@ -199,7 +228,8 @@ enabled_inside n k p g =
           cc
     ]
 
-pub cut_inside : (n : Net) (ps : List ℕ) (k : Cut) → IsCutRun n k ps → ((q : ℕ) → k q ≤ length (n.script q)) → (q : ℕ) → cut_after k ps q ≤ length (n.script q)
+pub cut_inside : (n : Net) (ps : List ℕ) (k : Cut) → IsCutRun n k ps → ((q : ℕ) → k q ≤ length (n.script q)) → (q : ℕ)
+    → cut_after k ps q ≤ length (n.script q)
 cut_inside n [] k run le q = le q
 cut_inside n (p ∷ ps) k run le q = cut_inside n ps (advanced k p) run.1 below q
   where

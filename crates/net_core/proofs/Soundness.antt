@@ -24,7 +24,8 @@ use Rattle.net_core.proofs.EveryOrder.{ends_always, same_ends}
 use Rattle.net_core.proofs.Naming.{ended_kept}
 use Rattle.net_core.proofs.Valued.{gives_values, all_fired_values}
 
-sinks_alike : (n : Nest) (d : Inputs) (s : ℕ) (declared : List ArrayDecl) → sink_lists_from (values_of n d) s declared ≡ sink_values_from n d s declared
+sinks_alike : (n : Nest) (d : Inputs) (s : ℕ) (declared : List ArrayDecl)
+    → sink_lists_from (values_of n d) s declared ≡ sink_values_from n d s declared
 sinks_alike n d s [] = refl
 sinks_alike n d s (array ∷ declared) =
     elim (cases_Bool (is_output array.kind)) [
@@ -34,9 +35,11 @@ sinks_alike n d s (array ∷ declared) =
 
 module _ (n : Nest) (network : Network) (fits : FitsNest n network) (names : NamesLastWriters n (net_of network)) where
   -- in an ended state each process has kept the values of its entries
-  kept_values : (d : Inputs) (run : List ℕ) → EndsAll (net_of network) (values n d) run → (s : ℕ) → ((reached (net_of network) (values n d) run).local s).kept ≡ values_of n d s
+  kept_values : (d : Inputs) (run : List ℕ) → EndsAll (net_of network) (values n d) run → (s : ℕ)
+      → ((reached (net_of network) (values n d) run).local s).kept ≡ values_of n d s
   kept_values d run whole s =
-      ended_kept (net_of network) (values n d) fits.shaped.wired (tag_value n d) run (gives_values n network fits names d) whole.0 whole.1 s
+      ended_kept (net_of network) (values n d) fits.shaped.wired (tag_value n d) run
+      (gives_values n network fits names d) whole.0 whole.1 s
       ∙ all_fired_values n network fits d s
 
   pub is_sound : (run : List ℕ) → EndsAll (net_of network) tags run → IsSound n network
@@ -47,6 +50,9 @@ module _ (n : Nest) (network : Network) (fits : FitsNest n network) (names : Nam
         ends_always (net_of network) (values n d) fits.shaped.wired run ends.0 ends.1;
     kept = λ d ended all s a role. kept_values d ended all s;
     arrays = λ d ended all.
-        ap (λ kept. sink_lists_from kept (length n.statements - length (output_numbers n.arrays)) n.arrays) (fun_ext (kept_values d ended all)) ∙ sinks_alike n d (length n.statements - length (output_numbers n.arrays)) n.arrays ∙ sym (arrays_are_sink_values n d);
+        ap (λ kept. sink_lists_from kept (length n.statements - length (output_numbers n.arrays)) n.arrays)
+        (fun_ext (kept_values d ended all))
+        ∙ sinks_alike n d (length n.statements - length (output_numbers n.arrays)) n.arrays
+        ∙ sym (arrays_are_sink_values n d);
     names = names;
   }

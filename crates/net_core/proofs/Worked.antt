@@ -18,11 +18,13 @@ source = Fire [] ∷ Put 0 ∷ Fire [] ∷ Put 0 ∷ Fire [] ∷ Put 0 ∷ Fire 
 
 turned : List Event
 turned =
-    Get 0 0 ∷ Fire (Slot 0 ∷ []) ∷ Put 1 ∷ Get 0 0 ∷ Get 0 1 ∷ Fire (Slot 1 ∷ []) ∷ Put 1 ∷ Fire (Slot 0 ∷ []) ∷ Put 1 ∷ Get 0 0 ∷ Fire (Slot 0 ∷ []) ∷ Put 1 ∷ []
+    Get 0 0 ∷ Fire (Slot 0 ∷ []) ∷ Put 1 ∷ Get 0 0 ∷ Get 0 1 ∷ Fire (Slot 1 ∷ []) ∷ Put 1 ∷ Fire
+    (Slot 0 ∷ []) ∷ Put 1 ∷ Get 0 0 ∷ Fire (Slot 0 ∷ []) ∷ Put 1 ∷ []
 
 sink : List Event
 sink =
-    Get 1 0 ∷ Fire (Slot 0 ∷ []) ∷ Get 1 0 ∷ Fire (Slot 0 ∷ []) ∷ Get 1 0 ∷ Fire (Slot 0 ∷ []) ∷ Get 1 0 ∷ Fire (Slot 0 ∷ []) ∷ []
+    Get 1 0 ∷ Fire (Slot 0 ∷ []) ∷ Get 1 0 ∷ Fire (Slot 0 ∷ []) ∷ Get 1 0 ∷ Fire (Slot 0 ∷ []) ∷ Get 1 0 ∷ Fire
+    (Slot 0 ∷ []) ∷ []
 
 corner : Net
 unfolding source turned sink

@@ -7,6 +7,7 @@ pub mod Cuts
 pub mod Orders
 pub mod Names
 pub mod Uses
+pub mod Rooms
 pub mod Rules
 pub mod Held
 pub mod Sound

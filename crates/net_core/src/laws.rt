@@ -1,14 +1,16 @@
-ghost use Rattle.std.specs.Prelude.{◌≡◌, ℕ, List, length, true};
+ghost use Rattle.std.specs.Prelude.{◌≡◌, ◌+◌, ℕ, List, length, true};
 ghost use Rattle.net_core.specs.declared.refs.Ref.{Ref};
 ghost use Rattle.net_core.specs.declared.network.Event.{Event};
 ghost use Rattle.sanlp.specs.declared.nest.Tag.{Tag};
 ghost use Rattle.sanlp.specs.declared.nest.Nest.{Nest};
 ghost use Rattle.net_core.specs.declared.network.Network.{Network};
-ghost use Rattle.net_core.specs.Machine.{Net, Rule, net_of, start, IsRun};
-ghost use Rattle.net_core.specs.Rules.{AllKeepTo, tags, value_limits};
-ghost use Rattle.net_core.specs.Sound.{FitsNest, IsSound, NamesLastWriters};
+ghost use Rattle.sanlp.specs.declared.nest.Inputs.{Inputs};
+ghost use Rattle.sanlp.specs.Meaning.{arrays};
+ghost use Rattle.net_core.specs.Machine.{Net, Rule, net_of, enabled, start, IsRun};
+ghost use Rattle.net_core.specs.Rules.{AllKeepTo, tags, values, value_limits};
+ghost use Rattle.net_core.specs.Sound.{FitsNest, IsSound, NamesLastWriters, sink_lists};
 ghost use Rattle.net_core.specs.Shape.{IsWired, fires};
-ghost use Rattle.net_core.specs.Cuts.{positions};
+ghost use Rattle.net_core.specs.Cuts.{positions, opening, cut_after, enabled_at, gets_at, puts_at};
 ghost use Rattle.net_core.specs.Names.{GivesValues, IsNamed, fired, slot_names};
 ghost use Rattle.net_core.specs.Orders.{reached, EndsAll, EndsAlways, StaysEnabled, StepsCommute, StopsAlike};
 
@@ -29,6 +31,18 @@ pub fn equal_is_same()
 pub fn two_steps<T: Copy>()
     ensures stays { (n : Net) (rule : Rule T) → IsWired n → StaysEnabled n rule }
     ensures commute { (n : Net) (rule : Rule T) → IsWired n → StepsCommute n rule }
+{}
+
+/// Along a run the machine goes as the cuts do: its positions are the cut's, which process may go on is a matter of the cut
+/// alone, and a queue holds as many tokens as were put less those that were got.
+pub fn cuts<T: Copy>()
+    ensures positions { (n : Net) (rule : Rule T) (run : List ℕ) → IsRun n rule (start n) run
+        → (p : ℕ) → positions (reached n rule run) p ≡ cut_after opening run p }
+    ensures enabled { (n : Net) (rule : Rule T) (run : List ℕ) → IsWired n → IsRun n rule (start n) run
+        → (p : ℕ) → enabled n (reached n rule run) p ≡ enabled_at n (cut_after opening run) p }
+    ensures queues { (n : Net) (rule : Rule T) (run : List ℕ) → IsWired n → IsRun n rule (start n) run
+        → (c : ℕ) → length ((reached n rule run).queue c) + gets_at n (cut_after opening run) c
+        ≡ puts_at n (cut_after opening run) c }
 {}
 
 /// Every order of events: a run of a network is one whatever its fires give. Where one run ends all, every run can go on
@@ -69,4 +83,13 @@ pub fn sound()
     ensures sound { (nest : Nest) (network : Network) (run : List ℕ) → FitsNest nest network
         → NamesLastWriters nest (net_of network)
         → EndsAll (net_of network) tags run → IsSound nest network }
+{}
+
+/// Where a network has the shape of a nest and each of its references names the last writer of what is read there, each run
+/// over values that ends all leaves in the sinks the arrays after the nest, whatever the inputs.
+pub fn sinks_keep_arrays()
+    ensures { (nest : Nest) (network : Network) (d : Inputs) (run : List ℕ) → FitsNest nest network
+        → NamesLastWriters nest (net_of network)
+        → EndsAll (net_of network) (values nest d) run
+        → sink_lists nest (reached (net_of network) (values nest d) run) ≡ arrays nest d }
 {}

@@ -1,23 +1,25 @@
-ghost use Rattle.std.specs.Prelude.{◌≡◌, ◌<◌, ◌+◌, ◌^◌, ℕ, [], ◌∷◌, ◌++◌, length, vec_len, vec_capacity, slice_set, All, Some, true, IsTrue, ◌↔◌, IfSome, IfNone};
+ghost use Rattle.std.specs.Prelude.{◌≡◌, ◌<◌, ◌+◌, ◌^◌, ℕ, [], ◌∷◌, length, All, Some, true, IsTrue, ◌↔◌, IfSome, IfNone};
 ghost use Rattle.net_core.specs.Machine.{Rule, net_of, last_of, next, enabled, step, after_event, HasEnded};
 ghost use Rattle.net_core.specs.Shape.{IsWithin};
+ghost use Rattle.net_core.specs.Rooms.{passed, filled, kept_also};
 ghost use Rattle.net_core.specs.Rules.{KeepsTo, AllKeepTo};
-ghost use Rattle.net_core.specs.Held.{held_of, run_of, IsFor, IsReached, SameRoom, IsLeastUnended};
+ghost use Rattle.net_core.specs.Held.{held_of, run_of, IsFor, IsReached, HasPassed, IsLeastUnended};
 
 use crate::firing::Firing;
 use crate::network::{Event, Network};
 use crate::refs::Refs;
+use crate::room::Room;
 use std::collections::VecDeque;
 
-// What one process has: how many events it has made, its slots, and what it fired.
+// What one process has: how many events it has made, and its room.
 #[derive(Drop)]
 pub(crate) struct Local<T> {
     pub(crate) position: u32,
-    pub(crate) slots: Vec<Option<T>>,
-    pub(crate) kept: Vec<T>,
+    pub(crate) room: Room<T>,
 }
 
-/// A state of the machine: for each process its position, its slots and what it fired, and for each channel its queue.
+/// A state of the machine: for each process its position, what is left of its script, its slots and what it fired, and for
+/// each channel its queue.
 #[derive(Drop)]
 pub struct State<T> {
     pub(crate) locals: Vec<Local<T>>,
@@ -25,47 +27,36 @@ pub struct State<T> {
 }
 
 impl<T: Copy> Local<T> {
+    // One event further: a Put, or the end of another event.
+    fn pass(&mut self)
+        requires { self.old.position + 1 < 2 ^ 32 }
+        ensures position { self.new.position ≡ self.old.position + 1 }
+        ensures room { self.new.room ≡ passed self.old.room }
+    {
+        self.room.pass();
+        self.position += 1;
+    }
+
     // A Get: the token goes to the slot.
     fn fill(&mut self, slot: usize, token: T)
         requires position { self.old.position + 1 < 2 ^ 32 }
-        requires slot { slot < vec_len self.old.slots }
+        requires slot { slot < length self.old.room.slots }
         ensures position { self.new.position ≡ self.old.position + 1 }
-        ensures slots { self.new.slots.items ≡ slice_set self.old.slots.items slot (Some token) }
-        ensures kept { self.new.kept ≡ self.old.kept }
+        ensures room { self.new.room ≡ passed (filled self.old.room slot token) }
     {
-        self.slots[slot] = Some(token);
-        self.position += 1;
+        self.room.fill(slot, token);
+        self.pass();
     }
 
     // A Fire: the value is kept. It takes no memory.
     fn keep(&mut self, value: T)
         requires position { self.old.position + 1 < 2 ^ 32 }
-        requires reserved { vec_len self.old.kept < vec_capacity self.old.kept }
+        requires reserved { length self.old.room.kept < self.old.room.space }
         ensures position { self.new.position ≡ self.old.position + 1 }
-        ensures slots { self.new.slots ≡ self.old.slots }
-        ensures kept { self.new.kept.items ≡ self.old.kept.items ++ value ∷ [] }
-        ensures room { vec_capacity self.new.kept ≡ vec_capacity self.old.kept }
+        ensures room { self.new.room ≡ passed (kept_also self.old.room value) }
     {
-        self.kept.push_reserved(value);
-        self.position += 1;
-    }
-
-    // The value that was fired last.
-    fn last(&self) -> T
-        requires { 0 < vec_len self.now.kept }
-        ensures { last_of self.now.kept.items ≡ result ∷ [] }
-    {
-        self.kept[self.kept.len() - 1]
-    }
-
-    // A Put.
-    fn pass(&mut self)
-        requires { self.old.position + 1 < 2 ^ 32 }
-        ensures position { self.new.position ≡ self.old.position + 1 }
-        ensures slots { self.new.slots ≡ self.old.slots }
-        ensures kept { self.new.kept ≡ self.old.kept }
-    {
-        self.position += 1;
+        self.room.keep(value);
+        self.pass();
     }
 }
 
@@ -79,7 +70,7 @@ impl<T: Copy> State<T> {
         ensures run { (rule : Rule T)
             → run_of self.new
             ≡ after_event rule (run_of self.old) process (Some (Event.Get channel slot)) }
-        ensures room { SameRoom (held_of self.old) (held_of self.new) }
+        ensures passed { HasPassed process (held_of self.old) (held_of self.new) }
     {
         if let Some(token) = self.queues[channel].pop_front() {
             self.locals[process].fill(slot, token);
@@ -98,11 +89,11 @@ impl<T: Copy> State<T> {
         ensures run { run_of self.new
             ≡ after_event (F.meaning rule.now) (run_of self.old) process
             (Some (Event.Fire refs.now)) }
-        ensures room { SameRoom (held_of self.old) (held_of self.new) }
+        ensures passed { HasPassed process (held_of self.old) (held_of self.new) }
     {
         let local = &mut self.locals[process as usize];
-        let turn = local.kept.len() as u32;
-        let value = rule.fire(process, turn, refs, &local.slots);
+        let turn = local.room.kept().len() as u32;
+        let value = rule.fire(process, turn, refs, local.room.slots());
         local.keep(value);
     }
 
@@ -116,12 +107,24 @@ impl<T: Copy> State<T> {
         ensures run { (rule : Rule T)
             → run_of self.new
             ≡ after_event rule (run_of self.old) process (Some (Event.Put channel)) }
-        ensures room { SameRoom (held_of self.old) (held_of self.new) }
+        ensures passed { HasPassed process (held_of self.old) (held_of self.new) }
     {
         let local = &mut self.locals[process];
-        let value = local.last();
+        let value = local.room.last();
         local.pass();
         self.queues[channel].push_back_reserved(value);
+    }
+}
+
+// The next event of a process, if it has one.
+fn upcoming<T: Copy>(state: &State<T>, network: &Network, process: u32) -> Option<Event>
+    requires { IsFor (net_of network.now) (held_of state.now) }
+    ensures { result ≡ next (net_of network.now) (run_of state.now) process }
+{
+    let _ = network;
+    match state.locals.get(process as usize) {
+        Some(local) => local.room.upcoming(),
+        None => None,
     }
 }
 
@@ -131,20 +134,16 @@ pub fn enabled<T: Copy>(state: &State<T>, network: &Network, process: u32) -> bo
     requires { IsFor (net_of network.now) (held_of state.now) }
     ensures { result ≡ enabled (net_of network.now) (run_of state.now) process }
 {
-    let Some(found) = network.processes.get(process as usize) else {
-        return false;
-    };
-    let local = &state.locals[process as usize];
-    match found.script.get(local.position as usize) {
+    match upcoming(state, network, process) {
         None => false,
-        Some(Event::Get { channel, .. }) => match state.queues.get(*channel as usize) {
+        Some(Event::Get { channel, .. }) => match state.queues.get(channel as usize) {
             None => false,
             Some(queue) => queue.len() > 0,
         },
         Some(Event::Fire { .. }) => true,
         Some(Event::Put { channel }) => match (
-            state.queues.get(*channel as usize),
-            network.channels.get(*channel as usize),
+            state.queues.get(channel as usize),
+            network.channels.get(channel as usize),
         ) {
             (Some(queue), Some(channel)) => queue.len() < channel.capacity as usize,
             _ => false,
@@ -158,10 +157,10 @@ pub fn next<T: Copy>(state: &State<T>, network: &Network, process: u32) -> Event
     requires enabled { enabled (net_of network.now) (run_of state.now) process ≡ true }
     ensures { next (net_of network.now) (run_of state.now) process ≡ Some result }
 {
-    let position = state.locals[process as usize].position as usize;
-    network.processes.as_slice()[process as usize]
-        .script
-        .as_slice()[position]
+    match upcoming(state, network, process) {
+        Some(event) => event,
+        None => unreachable!(),
+    }
 }
 
 /// One event of an enabled process, where a fire gives what the rule does. It takes no memory, and the time of one event.
@@ -189,7 +188,7 @@ pub fn unended<T: Copy>(state: &State<T>, network: &Network) -> Option<u32>
 {
     for at in 0..network.processes.len() {
         let script = &network.processes.as_slice()[at].script;
-        if (state.locals[at].position as usize) < script.len() {
+        if state.locals[at].position < script.len() {
             return Some(at as u32);
         }
     }
@@ -209,7 +208,7 @@ pub fn kept<T: Copy>(state: &State<T>, process: u32) -> &[T]
     requires { process < (held_of state.now).processes }
     ensures { result.now ≡ ((run_of state.now).local process).kept }
 {
-    &state.locals[process as usize].kept
+    state.locals[process as usize].room.kept()
 }
 
 /// How many events a process has made.
@@ -225,7 +224,7 @@ pub fn slots<T: Copy>(state: &State<T>, process: u32) -> &[Option<T>]
     requires { process < (held_of state.now).processes }
     ensures { result.now ≡ ((run_of state.now).local process).slots }
 {
-    &state.locals[process as usize].slots
+    state.locals[process as usize].room.slots()
 }
 
 // The length of a queue that is short.

@@ -1,6 +1,7 @@
 use crate::refs::Refs;
 use channel_class::ChannelClass;
 use plain_data::Items;
+use script_blocks::Script;
 
 /// One event of a process.
 #[derive(Clone, Copy, Debug, PartialEq, Eq)]
@@ -17,7 +18,7 @@ pub enum Event {
 #[derive(Drop)]
 pub struct Process {
     pub slots: u32,
-    pub script: Items<Event>,
+    pub script: Script<Event>,
 }
 
 /// A channel with one writer and one reader. It carries what the reader uses for its read of number `read`, and its

@@ -1,17 +1,18 @@
-ghost use Rattle.std.specs.Prelude.{◌≡◌, ◌<◌, ◌≤◌, ◌+◌, ◌^◌, ℕ, [], length, min, replicate, vec_capacity, slice_index, count_by, IfOk, slice_get, Some, None};
-ghost use Rattle.std.specs.VecDeque.{deque_capacity};
+ghost use Rattle.std.specs.Prelude.{◌≡◌, ◌<◌, ◌≤◌, ◌+◌, ◌^◌, ℕ, length, slice_index, count_by, IfOk, slice_get, Some};
 ghost use Rattle.net_core.specs.Machine.{net_of, start};
-ghost use Rattle.net_core.specs.Shape.{is_put, turns, put_count, IsWired, IsShaped, FitsNumbers};
+ghost use Rattle.net_core.specs.Shape.{is_put, put_count, IsWired, IsShaped, FitsNumbers};
 ghost use Rattle.net_core.specs.Held.{held_of, run_of, IsFor, AreFresh, AreEmpty};
 
 use crate::machine::{Local, State};
-use crate::network::{Event, Network, Process};
+use crate::network::{Event, Network};
+use crate::room::Room;
 use sanlp::Points;
+use script_blocks::Script;
 use std::alloc::{AllocError, Global};
 use std::collections::VecDeque;
 
-/// The opening state. It has the room for all that is to come: each queue for the lesser of its capacity and its number
-/// of Puts, and each kept list for its process's points.
+/// The opening state, with a cursor for each process. It has the room for all that is to come: each queue for the lesser of
+/// its capacity and its number of Puts, and each kept list for its process's points.
 pub fn start<T: Copy>(
     alloc: Global,
     network: &Network,
@@ -27,45 +28,26 @@ pub fn start<T: Copy>(
     Ok(State { locals, queues })
 }
 
-// A process at its script's beginning, with room for as many values as it has points.
-fn fresh_local<T: Copy>(
-    alloc: Global,
-    process: &Process,
-    points: usize,
-) -> Result<Local<T>, AllocError>
-    ensures position { IfOk result (λ local. local.position ≡ 0) }
-    ensures slots { IfOk result (λ local. local.slots.items ≡ replicate process.now.slots None) }
-    ensures kept { IfOk result (λ local. local.kept.items ≡ []) }
-    ensures room { IfOk result (λ local. vec_capacity local.kept ≡ points) }
-{
-    let slots = vec![in alloc; None; process.slots as usize]?;
-    let kept = Vec::with_capacity(alloc, points)?;
-    Ok(Local {
-        position: 0,
-        slots,
-        kept,
-    })
-}
-
 fn fresh_locals<T: Copy>(
     alloc: Global,
     network: &Network,
     points: &Points,
 ) -> Result<Vec<Local<T>>, AllocError>
-    requires { IsShaped (net_of network.now) points.now.of }
+    requires shaped { IsShaped (net_of network.now) points.now.of }
+    requires numbers { FitsNumbers (net_of network.now) }
     ensures { IfOk result
         (λ locals. AreFresh (net_of network.now) locals.items (length network.now.processes)) }
 {
     let mut locals = Vec::new(alloc);
-    for (at, process) in network.processes.as_slice().iter().enumerate() {
-        let local = fresh_local(alloc, process, points.of.as_slice()[at].len())?;
-        locals.push(local)?;
+    for at in 0..network.processes.len() {
+        let room = Room::new(alloc, network, points, at as u32)?;
+        locals.push(Local { position: 0, room })?;
     }
     Ok(locals)
 }
 
 // Adds to each channel's count how often a script puts to it.
-fn count_puts(script: &[Event], counts: &mut [u32])
+fn count_puts(script: &Script<Event>, counts: &mut [u32])
     requires channels { (k c : ℕ) → slice_get script.now k ≡ Some (Event.Put c)
         → c < length counts.old }
     requires room { (c : ℕ) → c < length counts.old
@@ -73,9 +55,9 @@ fn count_puts(script: &[Event], counts: &mut [u32])
     ensures { (c : ℕ) → c < length counts.old
         → slice_index counts.new c ≡ slice_index counts.old c + count_by (is_put c) script.now }
 {
-    for event in script {
+    for event in script.iter() {
         if let Event::Put { channel } = event {
-            counts[*channel as usize] += 1;
+            counts[channel as usize] += 1;
         }
     }
 }
@@ -91,7 +73,7 @@ fn put_counts(alloc: Global, network: &Network) -> Result<Vec<u32>, AllocError>
 {
     let mut counts = vec![in alloc; 0; network.channels.len()]?;
     for process in network.processes.as_slice() {
-        count_puts(process.script.as_slice(), &mut counts);
+        count_puts(&process.script, &mut counts);
     }
     Ok(counts)
 }

@@ -53,7 +53,8 @@ module _ (n : Net) (room : ℕ → ℕ) where
   along_same : (c p k : ℕ) → uses_before (record n { capacity = room }) c p k ≡ uses_before n c p k
   along_same c p zero = refl
   along_same c p (suc k) =
-      ap (λ us. us ++ uses_of c (latest_gets (record n { capacity = room }) p k) (slice_get (n.script p) k)) (along_same c p k)
+      ap (λ us. us ++ uses_of c (latest_gets (record n { capacity = room }) p k) (slice_get (n.script p) k))
+      (along_same c p k)
       ∙ ap (λ slots. uses_before n c p k ++ uses_of c slots (slice_get (n.script p) k)) (latest_same p k)
 
   pub names_stay : (nest : Nest) → NamesLastWriters nest n → NamesLastWriters nest (record n { capacity = room })
@@ -65,7 +66,8 @@ module _ (n : Net) (room : ℕ → ℕ) where
 -- Channels
 
 -- each channel is as before but for its capacity
-pub channel_kept : (channels : List Channel) (capacities : List ℕ) (c : ℕ) (channel : Channel) → slice_get (channels_with channels capacities) c ≡ Some channel
+pub channel_kept : (channels : List Channel) (capacities : List ℕ) (c : ℕ) (channel : Channel)
+    → slice_get (channels_with channels capacities) c ≡ Some channel
     → (x : Channel) × (slice_get channels c ≡ Some x) × (channel ≡ record x { capacity = channel.capacity })
 channel_kept [] capacities c channel e = cc
 channel_kept (x ∷ channels) [] zero channel e =
@@ -80,26 +82,35 @@ channel_kept (x ∷ channels) (m ∷ capacities) (suc c) channel e = channel_kep
 -- The network of a nest
 
 abbrev pub HasClasses : Network → Type 0
-HasClasses network = (c : ℕ) (channel : Channel) → slice_get network.channels c ≡ Some channel → channel.class ≡ class_of (uses (net_of network) c)
+HasClasses network =
+    (c : ℕ) (channel : Channel) → slice_get network.channels c ≡ Some channel
+    → channel.class ≡ class_of (uses (net_of network) c)
 
 abbrev pub KeepsRest : Network → List ℕ → Type 0
-KeepsRest network capacities = net_of (with_capacities network capacities) ≡ record (net_of network) { capacity = (net_of (with_capacities network capacities)).capacity }
+KeepsRest network capacities =
+    net_of (with_capacities network capacities)
+    ≡ record (net_of network) { capacity = (net_of (with_capacities network capacities)).capacity }
 
-shape_stays : (nest : Nest) (network : Network) (capacities : List ℕ) → IsWired (net_of (with_capacities network capacities)) → FitsNest nest network
+shape_stays : (nest : Nest) (network : Network) (capacities : List ℕ)
+    → IsWired (net_of (with_capacities network capacities)) → FitsNest nest network
     → FitsNest nest (with_capacities network capacities)
 shape_stays nest network capacities wired fits = record {
-  shaped = record { processes = fits.shaped.processes; wired = wired; turns = fits.shaped.turns; few_slots = fits.shaped.few_slots };
+  shaped =
+      record { processes = fits.shaped.processes; wired = wired; turns = fits.shaped.turns; few_slots = fits.shaped.few_slots };
   references = fits.references;
   reads = λ c channel e. (let kept = channel_kept network.channels capacities c channel e in
       subst (λ (x : Channel). x.read < read_count nest x.reader) (sym kept.2) (fits.reads c kept.0 kept.1));
 }
 
-classes_stay : (network : Network) (capacities : List ℕ) → KeepsRest network capacities → HasClasses network → HasClasses (with_capacities network capacities)
+classes_stay : (network : Network) (capacities : List ℕ) → KeepsRest network capacities → HasClasses network
+    → HasClasses (with_capacities network capacities)
 classes_stay network capacities same classes c channel e =
     let kept = channel_kept network.channels capacities c channel e in
     ap (λ (x : Channel). x.class) kept.2
     ∙ classes c kept.0 kept.1
-    ∙ ap class_of (sym (ap (λ (n : Net). uses n c) same ∙ uses_stay (net_of network) (net_of (with_capacities network capacities)).capacity c))
+    ∙ ap class_of
+    (sym (ap (λ (n : Net). uses n c) same
+    ∙ uses_stay (net_of network) (net_of (with_capacities network capacities)).capacity c))
 
 -- where the network fits but for its schedule, it does with capacities and a schedule that ends all
 pub fits_with : (nest : Nest) (network : Network) (capacities : List ℕ) (cert : Cert)
@@ -111,6 +122,7 @@ fits_with nest network capacities cert fits names classes same wired sources end
   shape = shape_stays nest network capacities wired fits;
   sources = sources;
   ends = ends;
-  names = subst (NamesLastWriters nest) (sym same) (names_stay (net_of network) (net_of (with_capacities network capacities)).capacity nest names);
+  names = subst (NamesLastWriters nest) (sym same)
+      (names_stay (net_of network) (net_of (with_capacities network capacities)).capacity nest names);
   classes = classes_stay network capacities same classes;
 }

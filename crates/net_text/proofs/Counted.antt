@@ -10,4 +10,5 @@ use Rattle.net_core.specs.Shape.{events_below}
 pub events_next : (network : Network) (i : ℕ) (process : Process) → slice_get network.processes i ≡ Some process
     → events_below (net_of network) (suc i) ≡ events_below (net_of network) i + length process.script
 events_next network i process found =
-    ap (λ (script : List _). events_below (net_of network) i + length script) (ap (λ o. option_map_or (λ (process : Process). process.script) o []) found)
+    ap (λ (script : List _). events_below (net_of network) i + length script)
+    (ap (λ o. option_map_or (λ (process : Process). process.script) o []) found)

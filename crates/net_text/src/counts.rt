@@ -6,6 +6,7 @@ ghost use Rattle.net_text.specs.NetworkText.{slot_got, span, event_count as coun
 
 use net_core::{Event, Network};
 use sanlp::Points;
+use script_blocks::Script;
 
 /// How often a process fires.
 pub(crate) fn fire_count(points: &Points, process: usize) -> usize
@@ -17,45 +18,57 @@ pub(crate) fn fire_count(points: &Points, process: usize) -> usize
     }
 }
 
-/// The script of the process of this number, or no event where there is none.
-pub(crate) fn script_of(network: &Network, process: u32) -> &[Event]
-    ensures { result.now ≡ (net_of network.now).script process }
+/// Whether an event puts to a channel.
+fn is_put(event: &Event, channel: usize) -> bool
+    ensures { result ≡ is_put channel event.now }
 {
-    match network.processes.get(process as usize) {
-        Some(process) => process.script.as_slice(),
-        None => &[],
+    match event {
+        Event::Put { channel: put } => channel == *put as usize,
+        Event::Get { .. } | Event::Fire { .. } => false,
     }
 }
 
 /// How often a script puts to a channel.
-pub(crate) fn put_count(script: &[Event], channel: usize) -> usize
+fn puts_in(script: &Script<Event>, channel: usize) -> usize
     ensures { result ≡ count_by (is_put channel) script.now }
 {
-    let mut count = 0;
-    for event in script {
-        if let Event::Put { channel: put } = event
-            && *put as usize == channel
-        {
-            count += 1;
-        }
+    script.iter().filter(|event| is_put(event, channel)).count()
+}
+
+/// How often a process puts to a channel.
+pub(crate) fn put_count(network: &Network, process: u32, channel: usize) -> usize
+    ensures { result ≡ count_by (is_put channel) ((net_of network.now).script process) }
+{
+    match network.processes.get(process as usize) {
+        Some(process) => puts_in(&process.script, channel),
+        None => 0,
     }
-    count
 }
 
 /// How many slots there are from the least to the greatest to which a script gets from a channel.
-pub(crate) fn hold(script: &[Event], channel: usize) -> u64
+fn hold_in(script: &Script<Event>, channel: usize) -> u64
     ensures { result ≡ span (flat_map (slot_got channel) script.now) }
 {
     let mut range = None;
-    for event in script {
+    for event in script.iter() {
         if let Event::Get { channel: got, slot } = event
-            && *got as usize == channel
+            && got as usize == channel
         {
-            range = Some(widened(range, *slot));
+            range = Some(widened(range, slot));
         }
     }
     match range {
         Some((least, greatest)) => count_between(least, greatest),
+        None => 0,
+    }
+}
+
+/// How many slots there are from the least to the greatest to which a process gets from a channel.
+pub(crate) fn hold(network: &Network, process: u32, channel: usize) -> u64
+    ensures { result ≡ span (flat_map (slot_got channel) ((net_of network.now).script process)) }
+{
+    match network.processes.get(process as usize) {
+        Some(process) => hold_in(&process.script, channel),
         None => 0,
     }
 }
@@ -86,7 +99,7 @@ pub fn event_count(network: &Network) -> u64
 {
     let mut count = 0;
     for process in network.processes.as_slice() {
-        count += process.script.len() as u64;
+        count += u64::from(process.script.len());
     }
     count
 }

@@ -7,7 +7,7 @@ ghost use Rattle.net_core.specs.Shape.{FitsNumbers};
 ghost use Rattle.text_out.specs.Wrote.{Wrote};
 ghost use Rattle.net_text.specs.NetworkText.{role_word as word_of_role, array_by_role, array_name as name_of_array, kind_word as word_of_kind, name_word as word_of_name, class_word as word_of_class, process_line, process_lines, channel_line, channel_lines, net_text};
 
-use crate::counts::{event_count, fire_count, hold, put_count, script_of};
+use crate::counts::{event_count, fire_count, hold, put_count};
 use channel_class::{ChannelClass, UseOrder};
 use io_edge::{Sink, WriteFault};
 use net_core::{Channel, Network, Process};
@@ -127,11 +127,11 @@ fn write_channel<W: TextWriter>(network: &Network, number: usize, channel: &Chan
         Word::Text(b"read"),
         Word::Number(u64::from(channel.read)),
         Word::Text(b"tokens"),
-        Word::Number(put_count(script_of(network, channel.writer), number) as u64),
+        Word::Number(put_count(network, channel.writer, number) as u64),
         Word::Text(b"capacity"),
         Word::Number(u64::from(channel.capacity)),
         Word::Text(b"hold"),
-        Word::Number(hold(script_of(network, channel.reader), number)),
+        Word::Number(hold(network, channel.reader, number)),
         Word::Text(b"class"),
         Word::Text(class_word(channel.class)),
     ];

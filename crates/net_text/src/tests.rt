@@ -5,6 +5,7 @@ use io_edge::{MemSink, WriteFault};
 use net_core::{Channel, Event, Network, Process, Refs};
 use plain_data::Items;
 use sanlp::{Nest, Points};
+use script_blocks::Script;
 use std::alloc::{AllocError, Global};
 use std::test::Fail;
 use text_out::Writer;
@@ -44,7 +45,7 @@ fn network(alloc: Global) -> Result<Network, AllocError> {
     let mut processes = Items::new(alloc);
     processes.push(Process {
         slots: 1,
-        script: Items::from_slice(
+        script: Script::of_items(
             alloc,
             &[
                 fire(),
@@ -61,7 +62,7 @@ fn network(alloc: Global) -> Result<Network, AllocError> {
     })?;
     processes.push(Process {
         slots: 4,
-        script: Items::from_slice(
+        script: Script::of_items(
             alloc,
             &[
                 get(0, 2),

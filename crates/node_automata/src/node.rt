@@ -9,6 +9,7 @@ use affine_core::Vector;
 use net_core::{Event, Network};
 use plain_data::Items;
 use sanlp::{Nest, Points, Role};
+use script_blocks::Script;
 use std::alloc::{AllocError, Global};
 use wrap_expr::Expr;
 
@@ -84,6 +85,14 @@ fn copied_vectors(alloc: Global, vectors: &[Vector]) -> Result<Items<Vector>, Al
     Ok(copies)
 }
 
+/// The events of a script, one by one.
+fn expanded(alloc: Global, script: &Script<Event>) -> Result<Items<Event>, AllocError>
+    ensures { IfOk result (λ events. events ≡ script.now) }
+{
+    let events = script.iter().collect(alloc)?;
+    Ok(Items::from_vec(events))
+}
+
 /// The automaton of a process: its events are the process's script, and its values the process's points.
 pub fn automaton(
     alloc: Global,
@@ -103,7 +112,7 @@ pub fn automaton(
     let body = &network.processes.as_slice()[at];
     let gets = channels_in(alloc, network, process)?;
     let puts = channels_out(alloc, network, process)?;
-    let events = Items::from_slice(alloc, body.script.as_slice())?;
+    let events = expanded(alloc, &body.script)?;
     let values = copied_vectors(alloc, points.of.as_slice()[at].as_slice())?;
     let expr = copied(alloc, &statement.expr)?;
     Ok(NodeAuto {

@@ -21,7 +21,8 @@ last_at : {X : Type 0} (xs : List X) (x : X) → slice_get (xs ++ x ∷ []) (len
 last_at [] x = refl
 last_at (y ∷ xs) x = last_at xs x
 
-with_token_keeps : (n : Net) (c k : ℕ) (o : Option Event) (ts : List Tag) (m : ℕ) (t : Tag) → slice_get ts m ≡ Some t → slice_get (with_token n c k o ts) m ≡ Some t
+with_token_keeps : (n : Net) (c k : ℕ) (o : Option Event) (ts : List Tag) (m : ℕ) (t : Tag) → slice_get ts m ≡ Some t
+    → slice_get (with_token n c k o ts) m ≡ Some t
 with_token_keeps n c k None ts m t at = at
 with_token_keeps n c k (Some (Get d slot)) ts m t at = at
 with_token_keeps n c k (Some (Fire refs)) ts m t at = at
@@ -33,21 +34,26 @@ with_token_keeps n c k (Some (Put d)) ts m t at =
 
 -- a Put's token stands behind those of the Puts before, from its Put on
 put_stays : (n : Net) (c k more : ℕ) → slice_get (n.script (n.writer c)) k ≡ Some (Put c)
-    → slice_get (tokens_before n c (more + suc k)) (length (tokens_before n c k)) ≡ Some (tag (n.writer c) (pred (fires n (n.writer c) k)))
+    → slice_get (tokens_before n c (more + suc k)) (length (tokens_before n c k))
+    ≡ Some (tag (n.writer c) (pred (fires n (n.writer c) k)))
 put_stays n c k zero is =
     let ts = tokens_before n c k in
     let new = tag (n.writer c) (pred (fires n (n.writer c) k)) in
     let itself : (c == c) ≡ true = eq-eqb c c refl in
-    let put : tokens_before n c (suc k) ≡ ts ++ new ∷ [] = ap (λ o. with_token n c k o ts) is ∙ ap (λ b. cond b (ts ++ new ∷ []) ts) itself in
+    let put : tokens_before n c (suc k) ≡ ts ++ new ∷ [] =
+    ap (λ o. with_token n c k o ts) is ∙ ap (λ b. cond b (ts ++ new ∷ []) ts) itself in
     rw (zero-add (suc k)) (ap (λ l. slice_get l (length ts)) put ∙ last_at ts new)
 put_stays n c k (suc more) is =
     rw (suc-add more (suc k))
     (
-    with_token_keeps n c (more + suc k) (slice_get (n.script (n.writer c)) (more + suc k)) (tokens_before n c (more + suc k)) (length (tokens_before n c k)) (tag (n.writer c) (pred (fires n (n.writer c) k))) (put_stays n c k more is)
+    with_token_keeps n c (more + suc k) (slice_get (n.script (n.writer c)) (more + suc k))
+    (tokens_before n c (more + suc k)) (length (tokens_before n c k))
+    (tag (n.writer c) (pred (fires n (n.writer c) k))) (put_stays n c k more is)
     )
 
 pub token_of_put : (n : Net) (c k : ℕ) → slice_get (n.script (n.writer c)) k ≡ Some (Put c)
-    → slice_get (tokens n c) (count_by (is_put c) (take k (n.script (n.writer c)))) ≡ Some (tag (n.writer c) (pred (fires n (n.writer c) k)))
+    → slice_get (tokens n c) (count_by (is_put c) (take k (n.script (n.writer c))))
+    ≡ Some (tag (n.writer c) (pred (fires n (n.writer c) k)))
 token_of_put n c k is =
     let len = length (n.script (n.writer c)) in
     let lt = slice_get_within (n.script (n.writer c)) k (Put c) is in
@@ -65,8 +71,11 @@ enough_tokens nest network d sound c =
     let all = (sound.ends d).ends [] tt in
     let end = after n rule (start n) all.0 in
     let counted = run_counted n rule sound.fits.shaped.wired all.0 (start n) (start_counted n) all.1 in
-    let got : count_by (is_get c) (take (positions end (n.reader c)) (n.script (n.reader c))) ≡ count_by (is_get c) (n.script (n.reader c)) =
-    ap (λ k. count_by (is_get c) (take k (n.script (n.reader c)))) (all.2 (n.reader c)) ∙ ap (count_by (is_get c)) (take_all (length (n.script (n.reader c))) (n.script (n.reader c)) (omega arith)) in
+    let got : count_by (is_get c) (take (positions end (n.reader c)) (n.script (n.reader c)))
+    ≡ count_by (is_get c) (n.script (n.reader c)) =
+    ap (λ k. count_by (is_get c) (take k (n.script (n.reader c)))) (all.2 (n.reader c))
+    ∙ ap (count_by (is_get c)) (take_all (length (n.script (n.reader c))) (n.script (n.reader c)) (omega arith)) in
     let put : count_by (is_put c) (take (positions end (n.writer c)) (n.script (n.writer c))) ≡ length (tokens n c) =
-    ap (λ k. count_by (is_put c) (take k (n.script (n.writer c)))) (all.2 (n.writer c)) ∙ sym (tokens_length n c (length (n.script (n.writer c)))) in
+    ap (λ k. count_by (is_put c) (take k (n.script (n.writer c)))) (all.2 (n.writer c))
+    ∙ sym (tokens_length n c (length (n.script (n.writer c)))) in
     omega (arith, counted.queues c, got, put)

@@ -1,3 +1,2 @@
-pub mod Rooms
 pub mod Nodes
 pub mod Logs

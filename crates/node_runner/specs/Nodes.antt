@@ -8,6 +8,7 @@ use Rattle.net_core.specs.declared.network.Event.TheVariants.{Get, Fire, Put}
 use Rattle.net_core.specs.declared.network.Network.{Network}
 use Rattle.net_core.specs.Machine.{Rule, net_of, last_of}
 use Rattle.net_core.specs.Names.{tokens}
+use Rattle.net_core.specs.Rooms.{Store, filled, kept_also}
 use Rattle.net_core.specs.Rules.{Limits, KeepsTo}
 use Rattle.net_core.specs.Shape.{IsWithin}
 use Rattle.net_core.specs.Sound.{tag_value}
@@ -15,7 +16,6 @@ use Rattle.ruled_links.specs.Ports.{Port, fresh}
 use Rattle.ruled_links.specs.Channels.{CanGet, IsNext, grown_at}
 use Rattle.ruled_links.specs.declared.ends.Call.{Call}
 use Rattle.ruled_links.specs.declared.ends.Call.TheVariants as Called
-use Rattle.node_runner.specs.Rooms.{Store, filled, kept_also}
 
 -- the stream of a channel: the values of its tokens, in order
 abbrev pub stream : Nest → Network → Inputs → ℕ → List ℤ
@@ -45,7 +45,7 @@ calls_of (Fire refs ∷ events) = calls_of events
 calls_of (Put c ∷ events) = Called.Put c ∷ calls_of events
 
 -- what one event of process p needs of its ports and its store
-abbrev pub CanTurn : (ℕ → Option Limits) → ℕ → Event → Ports → Ports → Store → Type 0
+abbrev pub CanTurn : (ℕ → Option Limits) → ℕ → Event → Ports → Ports → Store ℤ → Type 0
 CanTurn limits p (Get c slot) from to s = CanGet (from c) × (slot < length s.slots)
 CanTurn limits p (Fire refs) from to s =
     KeepsTo (limits p) (length s.kept) (length refs) × All (IsWithin (length s.slots)) refs
@@ -55,7 +55,7 @@ CanTurn limits p (Put c) from to s =
 
 -- What one event of process p does: a Get takes the next value of its channel into its slot, a Fire keeps what the rule
 -- gives, and a Put puts the value that was fired last.
-abbrev pub Turns : Rule ℤ → ℕ → Event → Ports → Ports → Store → Ports → Ports → Store → Type 0
+abbrev pub Turns : Rule ℤ → ℕ → Event → Ports → Ports → Store ℤ → Ports → Ports → Store ℤ → Type 0
 Turns rule p (Get c slot) from to s from' to' s' =
     (x : ℤ) × IsNext (from c) x × ((d : ℕ) → from' d ≡ grown_at from c x d)
     × ((d : ℕ) → to' d ≡ to d) × (s' ≡ filled s slot x)

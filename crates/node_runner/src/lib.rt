@@ -6,8 +6,6 @@
 
 mod logged;
 mod node;
-mod room;
 
 pub use logged::LogEnds;
 pub use node::run_node;
-pub use room::Room;

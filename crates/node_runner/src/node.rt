@@ -2,16 +2,15 @@ ghost use Rattle.std.specs.Prelude.{◌≡◌, ◌<◌, ◌++◌, ◌∷◌, [],
 ghost use Rattle.sanlp.specs.Laws.{values_of};
 ghost use Rattle.sanlp.specs.Points.{points_of};
 ghost use Rattle.net_core.specs.Machine.{net_of};
+ghost use Rattle.net_core.specs.Rooms.{fresh_store};
 ghost use Rattle.net_core.specs.Rules.{values, value_limits};
 ghost use Rattle.net_core.specs.Shape.{is_get, is_put, FitsNumbers};
 ghost use Rattle.net_core.specs.Sound.{IsSound};
 ghost use Rattle.ruled_links.specs.Channels.{advanced};
-ghost use Rattle.node_runner.specs.Rooms.{fresh_store};
 ghost use Rattle.node_runner.specs.Nodes.{stream, incoming, outgoing, calls_of, CanTurn, Turns};
 
-use crate::room::Room;
 use io_edge::Gate;
-use net_core::{Event, Firing, Network, Values};
+use net_core::{Event, Firing, Network, Room, Values};
 use ruled_links::Ends;
 use sanlp::{Inputs, Nest, Points};
 use std::sync::Wait;
@@ -22,7 +21,7 @@ fn turn<R: Wait, E: Ends, G: Gate>(
     rule: &Values,
     event: &Event,
     process: u32,
-    room: &mut Room,
+    room: &mut Room<i64>,
     ends: &mut E,
     gate: &G,
 )
@@ -51,8 +50,8 @@ fn turn<R: Wait, E: Ends, G: Gate>(
     }
 }
 
-/// Does the whole script of one process through its ends. Before each put it tells the gate. It waits only in the ends, and
-/// takes no memory.
+/// Does the whole script of one process through its ends, from a fresh room. Before each put it tells the gate. It waits
+/// only in the ends, and takes no memory.
 pub fn run_node<R: Wait, E: Ends, G: Gate>(
     rt: &R,
     nest: &Nest,
@@ -60,7 +59,7 @@ pub fn run_node<R: Wait, E: Ends, G: Gate>(
     inputs: &Inputs,
     network: &Network,
     process: u32,
-    room: &mut Room,
+    room: &mut Room<i64>,
     ends: &mut E,
     gate: &G,
 )
@@ -90,8 +89,8 @@ pub fn run_node<R: Wait, E: Ends, G: Gate>(
         points,
         inputs,
     };
-    let script = &network.processes.as_slice()[process as usize].script;
-    for event in script.as_slice() {
-        turn(rt, &rule, event, process, room, ends, gate);
+    let _ = network;
+    while let Some(event) = room.pass() {
+        turn(rt, &rule, &event, process, room, ends, gate);
     }
 }

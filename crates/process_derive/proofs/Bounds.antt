@@ -27,13 +27,17 @@ few_at : (n : Nest) (p : ℕ) → length (flat_map (plans_at n p) (range_with_le
 few_at n p =
     subst (λ k. k ≤ 8 * 64) (sym (length-flat_map (plans_at n p) (range_with_len 0 (read_count n p))))
     (sum_within (λ k. length (plans_at n p k)) 64 8 (range_with_len 0 (read_count n p))
-    (λ k. subst (λ m. m ≤ 64) (sym (length-map (writers_of (length n.statements) (sources_at n p k)) (plan_of n p k))) (few_writers n p k))
+    (λ k. subst (λ m. m ≤ 64) (sym (length-map (writers_of (length n.statements) (sources_at n p k)) (plan_of n p k)))
+    (few_writers n p k))
     (omega (arith, length-range_with_len 0 (read_count n p), few_read_count n p)))
 
 -- there are at most 64 * 8 * 64 channels
 pub few_plans : (n : Nest) → length (plans_of n) ≤ 64 * (8 * 64)
 unfolding plans_of
 few_plans n =
-    subst (λ k. k ≤ 64 * (8 * 64)) (sym (length-flat_map (λ p. flat_map (plans_at n p) (range_with_len 0 (read_count n p))) (range_with_len 0 (length n.statements))))
-    (sum_within (λ p. length (flat_map (plans_at n p) (range_with_len 0 (read_count n p)))) (8 * 64) 64 (range_with_len 0 (length n.statements)) (few_at n)
+    subst (λ k. k ≤ 64 * (8 * 64))
+    (sym (length-flat_map (λ p. flat_map (plans_at n p) (range_with_len 0 (read_count n p)))
+    (range_with_len 0 (length n.statements))))
+    (sum_within (λ p. length (flat_map (plans_at n p) (range_with_len 0 (read_count n p)))) (8 * 64) 64
+    (range_with_len 0 (length n.statements)) (few_at n)
     (omega (arith, length-range_with_len 0 (length n.statements), few_statements n)))

@@ -39,7 +39,8 @@ pub before_few : (sources : List (Option Tag)) (i w : ℕ) → uses_before sourc
 before_few sources i w = omega (arith, few_used w (take i sources), length_take_le i sources)
 
 -- no fire stands before the first
-pub none_before : (sources : List (Option Tag)) (processes : ℕ) → replicate processes 0 ≡ map (uses_before sources 0) (range_with_len 0 processes)
+pub none_before : (sources : List (Option Tag)) (processes : ℕ)
+    → replicate processes 0 ≡ map (uses_before sources 0) (range_with_len 0 processes)
 none_before sources processes = sym (map-range_with_len_replicate (uses_before sources 0) 0 0 processes (λ w. refl))
 
 pub of_own : (w : ℕ) (t : Tag) → t.process ≡ w → cons_option (turn_of w (Some t)) [] ≡ t.turn ∷ []
@@ -49,45 +50,66 @@ pub of_other : (w : ℕ) (t : Tag) → (t.process ≡ w → ⊥) → cons_option
 of_other w t e = ap (λ b. cons_option (cond b (Some t.turn) None) []) (ne_eqb t.process w e)
 
 -- one fire more
-pub counts_more : (sources : List (Option Tag)) (i processes : ℕ) (source : Option Tag) (counts : List ℕ) → slice_get sources i ≡ Some source → OnlyBelow processes source
+pub counts_more : (sources : List (Option Tag)) (i processes : ℕ) (source : Option Tag) (counts : List ℕ)
+    → slice_get sources i ≡ Some source → OnlyBelow processes source
     → counts ≡ map (uses_before sources i) (range_with_len 0 processes)
     → counted counts source ≡ map (uses_before sources (i + 1)) (range_with_len 0 processes)
 counts_more sources i processes None counts e below was =
-    was ∙ map-range_with_len_same (uses_before sources i) (uses_before sources (i + 1)) 0 processes (λ w h l. sym (before_more sources i w None e ∙ omega arith))
+    was ∙ map-range_with_len_same (uses_before sources i) (uses_before sources (i + 1)) 0 processes
+    (λ w h l. sym (before_more sources i w None e ∙ omega arith))
 counts_more sources i processes (Some t) counts e below was =
     let f : ℕ → ℕ = uses_before sources i in
     let g : ℕ → ℕ = uses_before sources (i + 1) in
     let p = t.process in
-    let here : get_or counts p 0 ≡ f p = ap (λ xs. get_or xs p 0) was ∙ get_or-map-range_with_len f 0 processes p p 0 below (omega arith) in
+    let here : get_or counts p 0 ≡ f p =
+    ap (λ xs. get_or xs p 0) was ∙ get_or-map-range_with_len f 0 processes p p 0 below (omega arith) in
     ap (λ n. set counts p (n + 1)) here
     ∙ ap (λ xs. set xs p (f p + 1)) was
     ∙ set_counted f g p (before_more sources i p (Some t) e ∙ ap (λ xs. f p + length xs) (of_own p t refl))
-    (λ w other. sym (before_more sources i w (Some t) e ∙ ap (λ xs. f w + length xs) (of_other w t (λ same. other (sym same))) ∙ omega arith))
+    (λ w other. sym
+    (before_more sources i w (Some t) e ∙ ap (λ xs. f w + length xs) (of_other w t (λ same. other (sym same)))
+    ∙ omega arith))
     0 processes p (omega arith)
 
-pub counts_few : (sources : List (Option Tag)) (i processes limit : ℕ) (source : Option Tag) (counts : List ℕ) → OnlyBelow processes source → i < limit
+pub counts_few : (sources : List (Option Tag)) (i processes limit : ℕ) (source : Option Tag) (counts : List ℕ)
+    → OnlyBelow processes source → i < limit
     → counts ≡ map (uses_before sources i) (range_with_len 0 processes) → CountsBelow limit counts source
 counts_few sources i processes limit None counts below few was = tt
 counts_few sources i processes limit (Some t) counts below few was =
-    let here : get_or counts t.process 0 ≡ uses_before sources i t.process = ap (λ xs. get_or xs t.process 0) was ∙ get_or-map-range_with_len (uses_before sources i) 0 processes t.process t.process 0 below (omega arith) in
+    let here : get_or counts t.process 0 ≡ uses_before sources i t.process =
+    ap (λ xs. get_or xs t.process 0) was
+    ∙ get_or-map-range_with_len (uses_before sources i) 0 processes t.process t.process 0 below (omega arith) in
     omega (arith, here, before_few sources i t.process)
 
 -- what fire i uses, from the counts before it
-pub used_here : (incoming : List Incoming) (k : ℕ) (sources : List (Option Tag)) (i processes : ℕ) (source : Option Tag) (counts : List ℕ) → slice_get sources i ≡ Some source → OnlyBelow processes source
+pub used_here : (incoming : List Incoming) (k : ℕ) (sources : List (Option Tag)) (i processes : ℕ) (source : Option Tag)
+    (counts : List ℕ) → slice_get sources i ≡ Some source → OnlyBelow processes source
     → counts ≡ map (uses_before sources i) (range_with_len 0 processes)
-    → option_and_then (λ t. use_from incoming k t.process (get_or counts t.process 0)) source ≡ use_at incoming k sources i
+    → option_and_then (λ t. use_from incoming k t.process (get_or counts t.process 0)) source
+    ≡ use_at incoming k sources i
 used_here incoming k sources i processes None counts e below was =
-    sym (ap (λ o. option_and_then (λ source. option_and_then (λ t. use_from incoming k t.process (uses_before sources i t.process)) source) o) e)
+    sym (ap (λ o.
+    option_and_then
+    (λ source. option_and_then
+    (λ t. use_from incoming k t.process (uses_before sources i t.process)) source) o) e)
 used_here incoming k sources i processes (Some t) counts e below was =
-    ap (use_from incoming k t.process) (ap (λ xs. get_or xs t.process 0) was ∙ get_or-map-range_with_len (uses_before sources i) 0 processes t.process t.process 0 below (omega arith))
-    ∙ sym (ap (λ o. option_and_then (λ source. option_and_then (λ t. use_from incoming k t.process (uses_before sources i t.process)) source) o) e)
+    ap (use_from incoming k t.process)
+    (ap (λ xs. get_or xs t.process 0) was
+    ∙ get_or-map-range_with_len (uses_before sources i) 0 processes t.process t.process 0 below (omega arith))
+    ∙ sym (ap (λ o.
+    option_and_then
+    (λ source. option_and_then
+    (λ t. use_from incoming k t.process (uses_before sources i t.process)) source) o) e)
 
-pub uses_more : (incoming : List Incoming) (k : ℕ) (sources : List (Option Tag)) (i processes : ℕ) (source : Option Tag) (counts : List ℕ) (found : Option ChannelUse) (before after : List (Option ChannelUse))
-    → slice_get sources i ≡ Some source → OnlyBelow processes source → counts ≡ map (uses_before sources i) (range_with_len 0 processes)
+pub uses_more : (incoming : List Incoming) (k : ℕ) (sources : List (Option Tag)) (i processes : ℕ) (source : Option Tag)
+    (counts : List ℕ) (found : Option ChannelUse) (before after : List (Option ChannelUse))
+    → slice_get sources i ≡ Some source → OnlyBelow processes source
+    → counts ≡ map (uses_before sources i) (range_with_len 0 processes)
     → found ≡ option_and_then (λ t. use_from incoming k t.process (get_or counts t.process 0)) source
     → before ≡ map (use_at incoming k sources) (range_with_len 0 i) → after ≡ before ++ found ∷ []
     → after ≡ map (use_at incoming k sources) (range_with_len 0 (i + 1))
 uses_more incoming k sources i processes source counts found before after e below counts_are is was g =
     g ∙ ap (λ xs. xs ++ found ∷ []) was
-    ∙ ap (λ o. map (use_at incoming k sources) (range_with_len 0 i) ++ o ∷ []) (is ∙ used_here incoming k sources i processes source counts e below counts_are)
+    ∙ ap (λ o. map (use_at incoming k sources) (range_with_len 0 i) ++ o ∷ [])
+    (is ∙ used_here incoming k sources i processes source counts e below counts_are)
     ∙ sym (map-range_with_len_more (use_at incoming k sources) 0 i i (omega arith))

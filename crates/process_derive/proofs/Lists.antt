@@ -6,7 +6,8 @@ use Rattle.std.proofs.lemmas.Option.{same_Some}
 use Rattle.std.proofs.lemmas.List.FromFn.{map-range_with_len_more}
 use Rattle.sanlp.proofs.Lists.{map-range_with_len_same}
 
-pub take_next : {X : Type 0} (xs : List X) (k : ℕ) (x : X) → slice_get xs k ≡ Some x → take (suc k) xs ≡ take k xs ++ x ∷ []
+pub take_next : {X : Type 0} (xs : List X) (k : ℕ) (x : X) → slice_get xs k ≡ Some x
+    → take (suc k) xs ≡ take k xs ++ x ∷ []
 take_next [] k x e = absurd (cc)
 take_next (y ∷ xs) zero x e = ap (λ z. z ∷ []) (same_Some y x e)
 take_next (y ∷ xs) (suc k) x e = ap (λ zs. y ∷ zs) (take_next xs k x e)
@@ -33,14 +34,16 @@ set_counted f g i more same a (suc m) (suc j) e =
     ∙ ap (λ xs. g a ∷ xs) (set_counted f g i more same (a + 1) m j (omega arith))
 
 -- one number more
-pub counted_from : {X : Type 0} (f : ℕ → X) (a k : ℕ) → a ≤ k → map f (range_with_len a (k + 1 - a)) ≡ map f (range_with_len a (k - a)) ++ f k ∷ []
+pub counted_from : {X : Type 0} (f : ℕ → X) (a k : ℕ) → a ≤ k
+    → map f (range_with_len a (k + 1 - a)) ≡ map f (range_with_len a (k - a)) ++ f k ∷ []
 counted_from f a k le =
     let more : k + 1 - a ≡ k - a + 1 = omega arith in
     let there : a + (k - a) ≡ k = omega arith in
     ap (λ m. map f (range_with_len a m)) more ∙ map-range_with_len_more f a (k - a) k there
 
 pub counted_more : {X : Type 0} (f : ℕ → X) (first before after : List X) (a k : ℕ) (x : X) → a ≤ k → x ≡ f k
-    → before ≡ first ++ map f (range_with_len a (k - a)) → after ≡ before ++ x ∷ [] → after ≡ first ++ map f (range_with_len a (k + 1 - a))
+    → before ≡ first ++ map f (range_with_len a (k - a)) → after ≡ before ++ x ∷ []
+    → after ≡ first ++ map f (range_with_len a (k + 1 - a))
 counted_more f first before after a k x le is was e =
     e ∙ ap (λ xs. xs ++ x ∷ []) was
     ∙ append_assoc first (map f (range_with_len a (k - a))) (x ∷ [])
@@ -48,5 +51,6 @@ counted_more f first before after a k x le is was e =
     ∙ ap (λ xs. first ++ xs) (sym (counted_from f a k le))
 
 pub counted_all : {X : Type 0} (f : ℕ → X) (first before : List X) (a k b : ℕ)
-    → before ≡ first ++ map f (range_with_len a (k - a)) → k - a ≡ b - a → before ≡ first ++ map f (range_with_len a (b - a))
+    → before ≡ first ++ map f (range_with_len a (k - a)) → k - a ≡ b - a
+    → before ≡ first ++ map f (range_with_len a (b - a))
 counted_all f first before a k b was e = was ∙ ap (λ m. first ++ map f (range_with_len a m)) e

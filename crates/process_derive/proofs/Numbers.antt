@@ -48,7 +48,8 @@ abbrev pub gets_by : List ℕ → ℕ → ℕ
 gets_by uses q = gets_for_uses (slot_plan uses) q
 
 pub gets_here : (uses : List ℕ) (q : ℕ) → q < length uses → gets_by uses (suc q) ≡ gets_for (take (q + 1) uses)
-gets_here uses q lt = get_or-map-range_with_len (λ q. gets_for (take (q + 1) uses)) 0 (length uses) q q 0 lt (omega arith)
+gets_here uses q lt =
+    get_or-map-range_with_len (λ q. gets_for (take (q + 1) uses)) 0 (length uses) q q 0 lt (omega arith)
 
 gets_grow : (uses : List ℕ) (q : ℕ) → gets_for (take q uses) ≤ gets_for (take (suc q) uses)
 gets_grow uses zero = omega arith
@@ -68,7 +69,8 @@ gets_rise uses (suc q) lt =
       (let later : suc (suc q) ≡ suc q + 1 = omega arith in ap (λ k. gets_for (take k uses)) later),
     )
 
-read_few : (f : ℕ → ℕ) (limit : ℕ) → ((q : ℕ) → f q ≤ limit) → (a m q : ℕ) → get_or (map f (range_with_len a m)) q 0 ≤ limit
+read_few : (f : ℕ → ℕ) (limit : ℕ) → ((q : ℕ) → f q ≤ limit) → (a m q : ℕ)
+    → get_or (map f (range_with_len a m)) q 0 ≤ limit
 read_few f limit all a zero q = omega arith
 read_few f limit all a (suc m) zero = all a
 read_few f limit all a (suc m) (suc q) = read_few f limit all (a + 1) m q
@@ -76,7 +78,8 @@ read_few f limit all a (suc m) (suc q) = read_few f limit all (a + 1) m q
 gets_few : (uses : List ℕ) (limit q : ℕ) → Each (λ token. token < limit) uses → gets_by uses q ≤ limit
 gets_few uses limit zero h = omega arith
 gets_few uses limit (suc q) h =
-    read_few (λ q. gets_for (take (q + 1) uses)) limit (λ q. few_gets (take (q + 1) uses) limit (each_take limit (q + 1) uses h)) 0 (length uses) q
+    read_few (λ q. gets_for (take (q + 1) uses)) limit
+    (λ q. few_gets (take (q + 1) uses) limit (each_take limit (q + 1) uses h)) 0 (length uses) q
 
 -- The channel that is found has the slots of its uses
 
@@ -86,16 +89,20 @@ IsPlanned n plan = plan.slots ≡ slot_plan (uses_of (used n plan.reader plan.re
 pub all_planned : (n : Nest) → Each (IsPlanned n) (plans_of n)
 unfolding plans_of
 all_planned n =
-    each_flat_map (IsPlanned n) (λ p. flat_map (plans_at n p) (range_with_len 0 (read_count n p))) (range_with_len 0 (length n.statements))
-    (each_of _ (range_with_len 0 (length n.statements)) (λ p. each_flat_map (IsPlanned n) (plans_at n p) (range_with_len 0 (read_count n p))
-    (each_of _ (range_with_len 0 (read_count n p)) (λ k. each_map (IsPlanned n) (plan_of n p k) (writers_of (length n.statements) (sources_at n p k))
+    each_flat_map (IsPlanned n) (λ p. flat_map (plans_at n p) (range_with_len 0 (read_count n p)))
+    (range_with_len 0 (length n.statements))
+    (each_of _ (range_with_len 0 (length n.statements))
+    (λ p. each_flat_map (IsPlanned n) (plans_at n p) (range_with_len 0 (read_count n p))
+    (each_of _ (range_with_len 0 (read_count n p))
+    (λ k. each_map (IsPlanned n) (plan_of n p k) (writers_of (length n.statements) (sources_at n p k))
     (each_of _ (writers_of (length n.statements) (sources_at n p k)) (λ w. refl))))))
 
 abbrev pub HasSlots : Nest → ℕ → ℕ → ℕ → Option (ℕ × ChannelPlan) → Type 0
 HasSlots n p k w None = Unit {0}
 HasSlots n p k w (Some found) = found.1.slots ≡ slot_plan (uses_of (used n p k w))
 
-pub found_slots : (n : Nest) (p k w c : ℕ) (plans : List ChannelPlan) → Each (IsPlanned n) plans → HasSlots n p k w (channel_from c plans w p k)
+pub found_slots : (n : Nest) (p k w c : ℕ) (plans : List ChannelPlan) → Each (IsPlanned n) plans
+    → HasSlots n p k w (channel_from c plans w p k)
 found_slots n p k w c [] h = tt
 found_slots n p k w c (plan ∷ plans) h =
     elim (cases_Bool (eqb plan.writer w)) [
@@ -117,39 +124,54 @@ found_slots n p k w c (plan ∷ plans) h =
 -- The Gets of one use
 
 gets_of_one : (n : Nest) (p k w q : ℕ) (plans : List ChannelPlan) (r : Option (ℕ × ChannelPlan)) → HasSlots n p k w r
-    → length (gets_of (option_map (λ (found : ℕ × ChannelPlan). record { channel = found.0; base = slot_base plans p found.0; slots = found.1.slots; number = q }) r))
+    → length (gets_of
+    (option_map (λ (found : ℕ × ChannelPlan).
+    record { channel = found.0; base = slot_base plans p found.0; slots = found.1.slots; number = q }) r))
     ≤ gets_by (uses_of (used n p k w)) (suc q) - gets_by (uses_of (used n p k w)) q
 gets_of_one n p k w q plans None h = omega arith
 gets_of_one n p k w q plans (Some found) h =
     let slots : SlotPlan = found.1.slots in
-    let made : length (map (λ m. Get found.0 (slot_base plans p found.0 + slice_index slots.slot_of_get m)) (range_with_len (gets_for_uses slots q) (gets_for_uses slots (suc q) - gets_for_uses slots q)))
+    let made : length
+    (map (λ m. Get found.0 (slot_base plans p found.0 + slice_index slots.slot_of_get m))
+    (range_with_len (gets_for_uses slots q) (gets_for_uses slots (suc q) - gets_for_uses slots q)))
     ≡ gets_for_uses slots (suc q) - gets_for_uses slots q =
-    length-map-range_with_len (λ m. Get found.0 (slot_base plans p found.0 + slice_index slots.slot_of_get m)) (gets_for_uses slots q) (gets_for_uses slots (suc q) - gets_for_uses slots q) in
+    length-map-range_with_len (λ m. Get found.0 (slot_base plans p found.0 + slice_index slots.slot_of_get m))
+    (gets_for_uses slots q) (gets_for_uses slots (suc q) - gets_for_uses slots q) in
     omega (arith, made, ap (λ s. gets_for_uses s q) h, ap (λ s. gets_for_uses s (suc q)) h)
 
 -- the Gets for read k that stand before fire f, over all writers
 abbrev pub gets_until : Nest → ℕ → ℕ → ℕ → ℕ
-gets_until n p k f = sum_by (λ w. gets_by (uses_of (used n p k w)) (uses_before (sources_at n p k) f w)) (range_with_len 0 (length n.statements))
+gets_until n p k f =
+    sum_by (λ w. gets_by (uses_of (used n p k w)) (uses_before (sources_at n p k) f w))
+    (range_with_len 0 (length n.statements))
 
-kept_more : (o : Option ℕ) (xs ys : List ℕ) → length xs ≤ length ys → length (cons_option o xs) ≤ length (cons_option o ys)
+kept_more : (o : Option ℕ) (xs ys : List ℕ) → length xs ≤ length ys
+    → length (cons_option o xs) ≤ length (cons_option o ys)
 kept_more None xs ys h = h
 kept_more (Some x) xs ys h = omega (arith, h)
 
 pub before_within : (sources : List (Option Tag)) (f w : ℕ) → uses_before sources f w ≤ length (turns_used w sources)
 before_within sources zero w = omega arith
 before_within [] (suc f) w = omega arith
-before_within (source ∷ sources) (suc f) w = kept_more (turn_of w source) (turns_used w (take f sources)) (turns_used w sources) (before_within sources f w)
+before_within (source ∷ sources) (suc f) w =
+    kept_more (turn_of w source) (turns_used w (take f sources)) (turns_used w sources) (before_within sources f w)
 
-fire_gets : (n : Nest) (p k f : ℕ) (source : Option Tag) → slice_get (sources_at n p k) f ≡ Some source → OnlyBelow (length n.statements) source
+fire_gets : (n : Nest) (p k f : ℕ) (source : Option Tag) → slice_get (sources_at n p k) f ≡ Some source
+    → OnlyBelow (length n.statements) source
     → gets_until n p k f + length (gets_of (usage n p f k)) ≤ gets_until n p k (suc f)
 fire_gets n p k f None e below =
     let sources : List (Option Tag) = sources_at n p k in
     let none : length (gets_of (usage n p f k)) ≡ 0 =
-    ap (λ o. length (gets_of (option_and_then (λ source. option_and_then (λ (t : Tag). usage_from (plans_of n) sources p k f t.process) source) o))) e in
+    ap (λ o. length
+    (gets_of (option_and_then
+    (λ source. option_and_then (λ (t : Tag). usage_from (plans_of n) sources p k f t.process) source) o))) e in
     let next : f + 1 ≡ suc f = omega arith in
     let same : gets_until n p k f ≤ gets_until n p k (suc f) =
-    sum_less (λ w. gets_by (uses_of (used n p k w)) (uses_before sources f w)) (λ w. gets_by (uses_of (used n p k w)) (uses_before sources (suc f) w)) (range_with_len 0 (length n.statements))
-    (λ w. (let q : uses_before sources f w ≡ uses_before sources (suc f) w = omega (arith, before_more sources f w None e, ap (λ j. uses_before sources j w) next) in
+    sum_less (λ w. gets_by (uses_of (used n p k w)) (uses_before sources f w))
+    (λ w. gets_by (uses_of (used n p k w)) (uses_before sources (suc f) w)) (range_with_len 0 (length n.statements))
+    (λ w. (let q : uses_before sources f w
+    ≡ uses_before sources (suc f) w = omega
+    (arith, before_more sources f w None e, ap (λ j. uses_before sources j w) next) in
     omega (arith, ap (gets_by (uses_of (used n p k w))) q))) in
     omega (arith, none, same)
 fire_gets n p k f (Some t) e below =
@@ -158,18 +180,29 @@ fire_gets n p k f (Some t) e below =
     let q : ℕ = uses_before sources f v in
     let uses : ℕ → List ℕ = λ w. uses_of (used n p k w) in
     let next : f + 1 ≡ suc f = omega arith in
-    let here : uses_before sources (suc f) v ≡ suc q = sym (ap (λ j. uses_before sources j v) next) ∙ before_more sources f v (Some t) e ∙ ap (λ xs. q + length xs) (of_own v t refl) ∙ omega arith in
+    let here : uses_before sources (suc f) v ≡ suc q =
+    sym (ap (λ j. uses_before sources j v) next) ∙ before_more sources f v (Some t) e
+    ∙ ap (λ xs. q + length xs) (of_own v t refl) ∙ omega arith in
     let others : (w : ℕ) → w ≢ v → uses_before sources f w ≡ uses_before sources (suc f) w = λ w ne.
-    sym (sym (ap (λ j. uses_before sources j w) next) ∙ before_more sources f w (Some t) e ∙ ap (λ xs. uses_before sources f w + length xs) (of_other w t (λ same. ne (sym same))) ∙ omega arith) in
+    sym (sym (ap (λ j. uses_before sources j w) next) ∙ before_more sources f w (Some t) e
+    ∙ ap (λ xs. uses_before sources f w + length xs) (of_other w t (λ same. ne (sym same))) ∙ omega arith) in
     let found : length (gets_of (usage n p f k)) ≤ gets_by (uses v) (suc q) - gets_by (uses v) q =
-    subst (λ o. length (gets_of (option_and_then (λ source. option_and_then (λ (t : Tag). usage_from (plans_of n) sources p k f t.process) source) o)) ≤ gets_by (uses v) (suc q) - gets_by (uses v) q) (sym e)
-    (gets_of_one n p k v q (plans_of n) (channel_from 0 (plans_of n) v p k) (found_slots n p k v 0 (plans_of n) (all_planned n))) in
-    let within : q < length (uses v) = omega (arith, here, before_within sources (suc f) v, length-map (used n p k v) (tokens_below (used n p k v))) in
-    sum_raised (λ w. gets_by (uses w) (uses_before sources f w)) (λ w. gets_by (uses w) (uses_before sources (suc f) w)) v (length (gets_of (usage n p f k)))
+    subst (λ o. length
+    (gets_of (option_and_then
+    (λ source. option_and_then
+    (λ (t : Tag). usage_from (plans_of n) sources p k f t.process) source) o)) ≤ gets_by (uses v)
+    (suc q) - gets_by (uses v) q) (sym e)
+    (gets_of_one n p k v q (plans_of n) (channel_from 0 (plans_of n) v p k)
+    (found_slots n p k v 0 (plans_of n) (all_planned n))) in
+    let within : q < length (uses v) =
+    omega (arith, here, before_within sources (suc f) v, length-map (used n p k v) (tokens_below (used n p k v))) in
+    sum_raised (λ w. gets_by (uses w) (uses_before sources f w))
+    (λ w. gets_by (uses w) (uses_before sources (suc f) w)) v (length (gets_of (usage n p f k)))
     (omega (arith, found, gets_rise (uses v) q within, ap (gets_by (uses v)) here))
     (λ w ne. ap (gets_by (uses w)) (others w ne)) 0 (length n.statements) (omega arith) (omega (arith, below))
 
-read_gets : (n : Nest) (p k f : ℕ) → f ≤ turn_count n p → sum_by (λ g. length (gets_of (usage n p g k))) (range_with_len 0 f) ≤ gets_until n p k f
+read_gets : (n : Nest) (p k f : ℕ) → f ≤ turn_count n p
+    → sum_by (λ g. length (gets_of (usage n p g k))) (range_with_len 0 f) ≤ gets_until n p k f
 read_gets n p k zero le = omega arith
 read_gets n p k (suc f) le =
     let sources : List (Option Tag) = sources_at n p k in
@@ -231,7 +264,8 @@ script_few n p =
 pub script_at : (n : Nest) (p : ℕ) → p < length n.statements → (net_of (net n)).script p ≡ script n p
 unfolding net
 script_at n p lt =
-    ap (λ (o : Option Process). option_map_or (λ process. process.script) o []) (slice_get-map-range_with_len (process_of n) 0 (length n.statements) p p lt (omega arith))
+    ap (λ (o : Option Process). option_map_or (λ process. process.script) o [])
+    (slice_get-map-range_with_len (process_of n) 0 (length n.statements) p p lt (omega arith))
 
 events_few : (n : Nest) (m : ℕ) → m ≤ length n.statements
     → events_below (net_of (net n)) m

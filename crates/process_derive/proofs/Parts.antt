@@ -31,49 +31,64 @@ rest_from n p = sources_from n (trace n) p (drop p n.statements)
 abbrev sources_of_reads : Nest → ℕ → ℕ → List (List (Option Tag))
 sources_of_reads n p reads = map (sources_at n p) (range_with_len 0 reads)
 
-next_rest : (n : Nest) (p : ℕ) (s : Statement) → slice_get n.statements p ≡ Some s → rest_from n p ≡ sources_of_reads n p (length s.reads) ++ rest_from n (p + 1)
+next_rest : (n : Nest) (p : ℕ) (s : Statement) → slice_get n.statements p ≡ Some s
+    → rest_from n p ≡ sources_of_reads n p (length s.reads) ++ rest_from n (p + 1)
 next_rest n p s e =
     ap (sources_from n (trace n) p) (drop_at n.statements p s e)
-    ∙ ap (λ k. sources_of_reads n p (length s.reads) ++ sources_from n (trace n) (p + 1) (drop k n.statements)) (sym (add-one p))
+    ∙ ap (λ k. sources_of_reads n p (length s.reads) ++ sources_from n (trace n) (p + 1) (drop k n.statements))
+    (sym (add-one p))
 
-pub reads_within : (n : Nest) (p reads : ℕ) (s : Statement) (rest : List (List (Option Tag))) → slice_get n.statements p ≡ Some s → reads ≡ length s.reads
+pub reads_within : (n : Nest) (p reads : ℕ) (s : Statement) (rest : List (List (Option Tag)))
+    → slice_get n.statements p ≡ Some s → reads ≡ length s.reads
     → rest ≡ rest_from n p → reads ≤ length rest
 reads_within n p reads s rest e counts is =
     omega (arith, ap length is, ap length (next_rest n p s e), length-append (sources_of_reads n p (length s.reads)) (rest_from n (p + 1)), length-map-range_with_len (sources_at n p) 0 (length s.reads))
 
-pub own_sources : (n : Nest) (p reads : ℕ) (s : Statement) (rest own : List (List (Option Tag))) → slice_get n.statements p ≡ Some s → reads ≡ length s.reads
+pub own_sources : (n : Nest) (p reads : ℕ) (s : Statement) (rest own : List (List (Option Tag)))
+    → slice_get n.statements p ≡ Some s → reads ≡ length s.reads
     → rest ≡ rest_from n p → own ≡ take reads rest → own ≡ sources_of_reads n p (read_count n p)
 own_sources n p reads s rest own e counts is f =
     f ∙ ap (take reads) (is ∙ next_rest n p s e)
-    ∙ take_at (sources_of_reads n p (length s.reads)) (rest_from n (p + 1)) reads (length-map-range_with_len (sources_at n p) 0 (length s.reads) ∙ sym counts)
+    ∙ take_at (sources_of_reads n p (length s.reads)) (rest_from n (p + 1)) reads
+    (length-map-range_with_len (sources_at n p) 0 (length s.reads) ∙ sym counts)
     ∙ ap (λ o. sources_of_reads n p (option_map_or (λ (t : Statement). length t.reads) o 0)) (sym e)
 
-pub later_sources : (n : Nest) (p reads : ℕ) (s : Statement) (rest later : List (List (Option Tag))) → slice_get n.statements p ≡ Some s → reads ≡ length s.reads
+pub later_sources : (n : Nest) (p reads : ℕ) (s : Statement) (rest later : List (List (Option Tag)))
+    → slice_get n.statements p ≡ Some s → reads ≡ length s.reads
     → rest ≡ rest_from n p → later ≡ drop reads rest → later ≡ rest_from n (p + 1)
 later_sources n p reads s rest later e counts is f =
     f ∙ ap (drop reads) (is ∙ next_rest n p s e)
-    ∙ drop_front (sources_of_reads n p (length s.reads)) (rest_from n (p + 1)) reads (length-map-range_with_len (sources_at n p) 0 (length s.reads) ∙ sym counts)
+    ∙ drop_front (sources_of_reads n p (length s.reads)) (rest_from n (p + 1)) reads
+    (length-map-range_with_len (sources_at n p) 0 (length s.reads) ∙ sym counts)
 
-pub all_sources : (n : Nest) (rest table : List (List (Option Tag))) → rest ≡ table → table ≡ sources_of n → rest ≡ rest_from n 0
+pub all_sources : (n : Nest) (rest table : List (List (Option Tag))) → rest ≡ table → table ≡ sources_of n
+    → rest ≡ rest_from n 0
 unfolding sources_of
 all_sources n rest table e f = e ∙ f
 
-pub points_there : (n : Nest) (p : ℕ) (points : List (List (List ℤ))) → points ≡ points_of n → p < length n.statements → p < length points
+pub points_there : (n : Nest) (p : ℕ) (points : List (List (List ℤ))) → points ≡ points_of n → p < length n.statements
+    → p < length points
 unfolding points_of
-points_there n p points e lt = omega (arith, ap length e, length-map-range_with_len (vectors_of (trace n)) 0 (length n.statements))
+points_there n p points e lt =
+    omega (arith, ap length e, length-map-range_with_len (vectors_of (trace n)) 0 (length n.statements))
 
-pub turns_there : (n : Nest) (p fires : ℕ) (points : List (List (List ℤ))) (vectors : List (List ℤ)) → points ≡ points_of n → p < length n.statements
+pub turns_there : (n : Nest) (p fires : ℕ) (points : List (List (List ℤ))) (vectors : List (List ℤ))
+    → points ≡ points_of n → p < length n.statements
     → vectors ≡ get_or points p vectors → fires ≡ length vectors → fires ≡ turn_count n p
 unfolding points_of
 turns_there n p fires points vectors e lt is counts =
-    counts ∙ ap length (is ∙ ap (λ ps. get_or ps p vectors) e ∙ get_or-map-range_with_len (vectors_of (trace n)) 0 (length n.statements) p p vectors lt (omega arith))
+    counts ∙ ap length
+    (is ∙ ap (λ ps. get_or ps p vectors) e
+    ∙ get_or-map-range_with_len (vectors_of (trace n)) 0 (length n.statements) p p vectors lt (omega arith))
     ∙ sym (entries_length 0 (trace n) p)
 
 -- the network of these processes and channels
 pub net_made : (n : Nest) (processes : List Process) (channels : List Channel) (plans : List ChannelPlan)
-    → processes ≡ map (process_of n) (range_with_len 0 (length n.statements)) → channels ≡ map channel_of plans → plans ≡ plans_of n
+    → processes ≡ map (process_of n) (range_with_len 0 (length n.statements)) → channels ≡ map channel_of plans
+    → plans ≡ plans_of n
     → record { processes = processes; channels = channels } ≡ net n
 unfolding net
 net_made n processes channels plans e f g =
     let make : List Process → List Channel → Network = λ ps cs. record { processes = ps; channels = cs } in
-    ap (λ ps. make ps channels) e ∙ ap (make (map (process_of n) (range_with_len 0 (length n.statements)))) (f ∙ ap (map channel_of) g)
+    ap (λ ps. make ps channels) e
+    ∙ ap (make (map (process_of n) (range_with_len 0 (length n.statements)))) (f ∙ ap (map channel_of) g)

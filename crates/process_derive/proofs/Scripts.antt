@@ -26,50 +26,74 @@ use Rattle.process_derive.proofs.Channels.{AreSame, found_same, puts_same}
 use Rattle.process_derive.proofs.Holds.{slots_fit}
 use Rattle.process_derive.proofs.Tags.{few_turns, length-sources, processes_below}
 
-slots_there : (plans : List ChannelPlan) (c : ℕ) (plan : ChannelPlan) → slice_get plans c ≡ Some plan → slots_at plans c ≡ plan.slots
-slots_there plans c plan e = ap (λ o. option_map_or (λ plan. plan.slots) o (record { gets_before = []; slot_of_get = []; slot_of_use = []; hold = 0 })) e
+slots_there : (plans : List ChannelPlan) (c : ℕ) (plan : ChannelPlan) → slice_get plans c ≡ Some plan
+    → slots_at plans c ≡ plan.slots
+slots_there plans c plan e =
+    ap (λ o. option_map_or (λ plan. plan.slots) o
+    (record { gets_before = []; slot_of_get = []; slot_of_use = []; hold = 0 })) e
 
 -- a use of the channel that is found, with its plan of slots
-named_same : (plans : List ChannelPlan) (p q : ℕ) (i : Option Incoming) (r : Option (ℕ × ChannelPlan)) → AreSame plans p i r
-    → with_slots plans (option_map (λ (found : Incoming). record { channel = found.channel; base = found.base; number = q }) i)
-    ≡ option_map (λ (found : ℕ × ChannelPlan). record { channel = found.0; base = slot_base plans p found.0; slots = found.1.slots; number = q }) r
+named_same : (plans : List ChannelPlan) (p q : ℕ) (i : Option Incoming) (r : Option (ℕ × ChannelPlan))
+    → AreSame plans p i r
+    → with_slots plans
+    (option_map (λ (found : Incoming). record { channel = found.channel; base = found.base; number = q }) i)
+    ≡ option_map
+    (λ (found : ℕ × ChannelPlan).
+    record { channel = found.0; base = slot_base plans p found.0; slots = found.1.slots; number = q }) r
 named_same plans p q None None h = refl
 named_same plans p q None (Some r) h = absurd h
 named_same plans p q (Some i) None h = absurd h
 named_same plans p q (Some i) (Some r) h =
-    let make : ℕ → ℕ → SlotPlan → Option Usage = λ c base slots. Some (record { channel = c; base = base; slots = slots; number = q }) in
+    let make : ℕ → ℕ → SlotPlan → Option Usage =
+    λ c base slots. Some (record { channel = c; base = base; slots = slots; number = q }) in
     ap (λ c. make c i.base (slots_at plans c)) h.number
     ∙ ap (λ b. make r.0 b (slots_at plans r.0)) h.base
     ∙ ap (make r.0 (slot_base plans p r.0)) (slots_there plans r.0 r.1 h.there)
 
 -- and the numbers of its slots fit
-fits_same : (plans : List ChannelPlan) (p q : ℕ) (i : Option Incoming) (r : Option (ℕ × ChannelPlan)) → AreSame plans p i r
-    → ((c : ℕ) (plan : ChannelPlan) → slice_get plans c ≡ Some plan → plan.reader ≡ p → SlotsFit (slot_base plans p c) plan.slots)
-    → UseFits plans (option_map (λ (found : Incoming). record { channel = found.channel; base = found.base; number = q }) i)
+fits_same : (plans : List ChannelPlan) (p q : ℕ) (i : Option Incoming) (r : Option (ℕ × ChannelPlan))
+    → AreSame plans p i r
+    → ((c : ℕ) (plan : ChannelPlan) → slice_get plans c ≡ Some plan → plan.reader ≡ p
+    → SlotsFit (slot_base plans p c) plan.slots)
+    → UseFits plans
+    (option_map (λ (found : Incoming). record { channel = found.channel; base = found.base; number = q }) i)
 fits_same plans p q None r h all = tt
 fits_same plans p q (Some i) None h all = absurd h
 fits_same plans p q (Some i) (Some r) h all =
     let there : i.channel < length plans = omega (arith, h.number, slice_get_within plans r.0 r.1 h.there) in
-    let slots : slots_at plans i.channel ≡ r.1.slots = ap (slots_at plans) h.number ∙ slots_there plans r.0 r.1 h.there in
+    let slots : slots_at plans i.channel ≡ r.1.slots =
+    ap (slots_at plans) h.number ∙ slots_there plans r.0 r.1 h.there in
     (there, subst (λ b. SlotsFit b (slots_at plans i.channel)) (sym h.base) (subst (SlotsFit (slot_base plans p r.0)) (sym slots) (all r.0 r.1 h.there h.reader)))
 
-pub channel_same : (plans : List ChannelPlan) (p w k : ℕ) → AreSame plans p (find (comes_from w k) (incoming_from 0 0 plans p)) (channel_from 0 plans w p k)
+pub channel_same : (plans : List ChannelPlan) (p w k : ℕ)
+    → AreSame plans p (find (comes_from w k) (incoming_from 0 0 plans p)) (channel_from 0 plans w p k)
 channel_same plans p w k = found_same [] plans p w k 0 0 refl refl
 
 used_same : (plans : List ChannelPlan) (p k f : ℕ) (sources : List (Option Tag)) (o : Option (Option Tag))
-    → with_slots plans (option_and_then (λ source. option_and_then (λ (t : Tag). use_from (incoming_from 0 0 plans p) k t.process (uses_before sources f t.process)) source) o)
+    → with_slots plans
+    (option_and_then
+    (λ source. option_and_then
+    (λ (t : Tag).
+    use_from (incoming_from 0 0 plans p) k t.process (uses_before sources f t.process)) source) o)
     ≡ option_and_then (λ source. option_and_then (λ (t : Tag). usage_from plans sources p k f t.process) source) o
 used_same plans p k f sources None = refl
 used_same plans p k f sources (Some None) = refl
 used_same plans p k f sources (Some (Some t)) =
-    named_same plans p (uses_before sources f t.process) (find (comes_from t.process k) (incoming_from 0 0 plans p)) (channel_from 0 plans t.process p k) (channel_same plans p t.process k)
+    named_same plans p (uses_before sources f t.process) (find (comes_from t.process k) (incoming_from 0 0 plans p))
+    (channel_from 0 plans t.process p k) (channel_same plans p t.process k)
 
 used_fits : (n : Nest) (p k f : ℕ) (sources : List (Option Tag)) (o : Option (Option Tag)) → SizeIsOk n
-    → UseFits (plans_of n) (option_and_then (λ source. option_and_then (λ (t : Tag). use_from (incoming_from 0 0 (plans_of n) p) k t.process (uses_before sources f t.process)) source) o)
+    → UseFits (plans_of n)
+    (option_and_then
+    (λ source. option_and_then
+    (λ (t : Tag).
+    use_from (incoming_from 0 0 (plans_of n) p) k t.process
+    (uses_before sources f t.process)) source) o)
 used_fits n p k f sources None ok = tt
 used_fits n p k f sources (Some None) ok = tt
 used_fits n p k f sources (Some (Some t)) ok =
-    fits_same (plans_of n) p (uses_before sources f t.process) (find (comes_from t.process k) (incoming_from 0 0 (plans_of n) p)) (channel_from 0 (plans_of n) t.process p k)
+    fits_same (plans_of n) p (uses_before sources f t.process)
+    (find (comes_from t.process k) (incoming_from 0 0 (plans_of n) p)) (channel_from 0 (plans_of n) t.process p k)
     (channel_same (plans_of n) p t.process k) (λ c plan e own. slots_fit n p c plan ok e own)
 
 -- every use fits
@@ -77,11 +101,13 @@ pub all_fit : (n : Nest) (p : ℕ) (sources : List (List (Option Tag))) → Size
     → All (All (UseFits (plans_of n))) (uses_by_read (incoming_from 0 0 (plans_of n) p) sources)
 all_fit n p sources ok =
     let incoming : List Incoming = incoming_from 0 0 (plans_of n) p in
-    All-map (All (UseFits (plans_of n))) (λ k. read_uses incoming k (slice_index_or sources k [])) (range_with_len 0 (length sources))
+    All-map (All (UseFits (plans_of n))) (λ k. read_uses incoming k (slice_index_or sources k []))
+    (range_with_len 0 (length sources))
     (λ i d lt. let k : ℕ = get_or (range_with_len 0 (length sources)) i d in
     let list : List (Option Tag) = slice_index_or sources k [] in
     All-map (UseFits (plans_of n)) (use_at incoming k list) (range_with_len 0 (length list))
-    (λ j e le. used_fits n p k (get_or (range_with_len 0 (length list)) j e) list (slice_get list (get_or (range_with_len 0 (length list)) j e)) ok))
+    (λ j e le. used_fits n p k (get_or (range_with_len 0 (length list)) j e) list
+    (slice_get list (get_or (range_with_len 0 (length list)) j e)) ok))
 
 map_map : {X Y Z : Type 0} (g : Y → Z) (f : X → Y) (xs : List X) → map g (map f xs) ≡ map (λ x. g (f x)) xs
 map_map g f [] = refl
@@ -94,7 +120,9 @@ abbrev at_fire : ℕ → List (Option ChannelUse) → Option ChannelUse
 at_fire f list = option_and_then (λ found. found) (slice_get list f)
 
 used_at : (n : Nest) (p f k : ℕ) → f < turn_count n p → k < read_count n p
-    → with_slots (plans_of n) (at_fire f (read_uses (incoming_from 0 0 (plans_of n) p) k (slice_index_or (sources_of_process n p) k []))) ≡ usage n p f k
+    → with_slots (plans_of n)
+    (at_fire f (read_uses (incoming_from 0 0 (plans_of n) p) k (slice_index_or (sources_of_process n p) k [])))
+    ≡ usage n p f k
 used_at n p f k fire within =
     let plans : List ChannelPlan = plans_of n in
     let incoming : List Incoming = incoming_from 0 0 plans p in
@@ -102,71 +130,102 @@ used_at n p f k fire within =
     let read : slice_index_or (sources_of_process n p) k [] ≡ sources =
     get_or-map-range_with_len (sources_at n p) 0 (read_count n p) k k [] within (omega arith) in
     let here : at_fire f (read_uses incoming k sources) ≡ use_at incoming k sources f =
-    ap (option_and_then (λ found. found)) (slice_get-map-range_with_len (use_at incoming k sources) 0 (length sources) f f (omega (arith, length-sources n p k)) (omega arith)) in
+    ap (option_and_then (λ found. found))
+    (slice_get-map-range_with_len (use_at incoming k sources) 0 (length sources) f f
+    (omega (arith, length-sources n p k)) (omega arith)) in
     ap (λ list. with_slots plans (at_fire f (read_uses incoming k list))) read
     ∙ ap (with_slots plans) here
     ∙ used_same plans p k f sources (slice_get sources f)
 
 usages_same : (n : Nest) (p f : ℕ) → f < turn_count n p
-    → usages_at (plans_of n) (uses_by_read (incoming_from 0 0 (plans_of n) p) (sources_of_process n p)) f ≡ map (usage n p f) (range_with_len 0 (read_count n p))
+    → usages_at (plans_of n) (uses_by_read (incoming_from 0 0 (plans_of n) p) (sources_of_process n p)) f
+    ≡ map (usage n p f) (range_with_len 0 (read_count n p))
 usages_same n p f fire =
     let plans : List ChannelPlan = plans_of n in
     let incoming : List Incoming = incoming_from 0 0 plans p in
     let sources : List (List (Option Tag)) = sources_of_process n p in
-    map_map (λ list. with_slots plans (at_fire f list)) (λ k. read_uses incoming k (slice_index_or sources k [])) (range_with_len 0 (length sources))
-    ∙ ap (λ m. map (λ k. with_slots plans (at_fire f (read_uses incoming k (slice_index_or sources k [])))) (range_with_len 0 m)) (length-map-range_with_len (sources_at n p) 0 (read_count n p))
-    ∙ map-range_with_len_same (λ k. with_slots plans (at_fire f (read_uses incoming k (slice_index_or sources k [])))) (usage n p f) 0 (read_count n p)
+    map_map (λ list. with_slots plans (at_fire f list)) (λ k. read_uses incoming k (slice_index_or sources k []))
+    (range_with_len 0 (length sources))
+    ∙ ap (λ m. map (λ k. with_slots plans (at_fire f (read_uses incoming k (slice_index_or sources k []))))
+    (range_with_len 0 m)) (length-map-range_with_len (sources_at n p) 0 (read_count n p))
+    ∙ map-range_with_len_same (λ k. with_slots plans (at_fire f (read_uses incoming k (slice_index_or sources k []))))
+    (usage n p f) 0 (read_count n p)
     (λ k from below. used_at n p f k fire (omega arith))
 
 events_same : (n : Nest) (p f : ℕ) → f < turn_count n p
-    → events_at (plans_of n) (uses_by_read (incoming_from 0 0 (plans_of n) p) (sources_of_process n p)) (outgoing_from 0 (plans_of n) p) f ≡ point_events n p f
+    → events_at (plans_of n) (uses_by_read (incoming_from 0 0 (plans_of n) p) (sources_of_process n p))
+    (outgoing_from 0 (plans_of n) p) f ≡ point_events n p f
 events_same n p f fire =
     let puts = puts_same [] (plans_of n) p f 0 refl in
-    ap (λ us. flat_map gets_of us ++ Fire (map ref_of us) ∷ puts_to (plans_of n) (outgoing_from 0 (plans_of n) p) f) (usages_same n p f fire)
-    ∙ ap (λ es. flat_map gets_of (map (usage n p f) (range_with_len 0 (read_count n p))) ++ Fire (map ref_of (map (usage n p f) (range_with_len 0 (read_count n p)))) ∷ es) puts
+    ap (λ us. flat_map gets_of us ++ Fire (map ref_of us) ∷ puts_to (plans_of n) (outgoing_from 0 (plans_of n) p) f)
+    (usages_same n p f fire)
+    ∙ ap (λ es. flat_map gets_of (map (usage n p f) (range_with_len 0 (read_count n p)))
+    ++ Fire (map ref_of (map (usage n p f) (range_with_len 0 (read_count n p)))) ∷ es) puts
 
 -- the events of all points are the script
-pub script_same : (n : Nest) (p fires : ℕ) (plans : List ChannelPlan) (incoming : List Incoming) (sources : List (List (Option Tag))) (uses : List (List (Option ChannelUse))) (outgoing : List ℕ)
-    → plans ≡ plans_of n → incoming ≡ incoming_from 0 0 plans p → sources ≡ sources_of_process n p → uses ≡ uses_by_read incoming sources
+pub script_same : (n : Nest) (p fires : ℕ) (plans : List ChannelPlan) (incoming : List Incoming)
+    (sources : List (List (Option Tag))) (uses : List (List (Option ChannelUse))) (outgoing : List ℕ)
+    → plans ≡ plans_of n → incoming ≡ incoming_from 0 0 plans p → sources ≡ sources_of_process n p
+    → uses ≡ uses_by_read incoming sources
     → outgoing ≡ outgoing_from 0 plans p → fires ≡ turn_count n p
     → flat_map (events_at plans uses outgoing) (range_with_len 0 fires) ≡ script n p
 script_same n p fires plans incoming sources uses outgoing e_plans e_incoming e_sources e_uses e_outgoing e_fires =
     let all : incoming ≡ incoming_from 0 0 (plans_of n) p = e_incoming ∙ ap (λ ps. incoming_from 0 0 ps p) e_plans in
-    let used : uses ≡ uses_by_read (incoming_from 0 0 (plans_of n) p) (sources_of_process n p) = e_uses ∙ ap (λ i. uses_by_read i sources) all ∙ ap (uses_by_read (incoming_from 0 0 (plans_of n) p)) e_sources in
+    let used : uses ≡ uses_by_read (incoming_from 0 0 (plans_of n) p) (sources_of_process n p) =
+    e_uses ∙ ap (λ i. uses_by_read i sources) all
+    ∙ ap (uses_by_read (incoming_from 0 0 (plans_of n) p)) e_sources in
     let out : outgoing ≡ outgoing_from 0 (plans_of n) p = e_outgoing ∙ ap (λ ps. outgoing_from 0 ps p) e_plans in
     ap (λ ps. flat_map (events_at ps uses outgoing) (range_with_len 0 fires)) e_plans
     ∙ ap (λ us. flat_map (events_at (plans_of n) us outgoing) (range_with_len 0 fires)) used
-    ∙ ap (λ os. flat_map (events_at (plans_of n) (uses_by_read (incoming_from 0 0 (plans_of n) p) (sources_of_process n p)) os) (range_with_len 0 fires)) out
-    ∙ ap (λ m. flat_map (events_at (plans_of n) (uses_by_read (incoming_from 0 0 (plans_of n) p) (sources_of_process n p)) (outgoing_from 0 (plans_of n) p)) (range_with_len 0 m)) e_fires
-    ∙ flat_map-range_with_len_same (events_at (plans_of n) (uses_by_read (incoming_from 0 0 (plans_of n) p) (sources_of_process n p)) (outgoing_from 0 (plans_of n) p)) (point_events n p) 0 (turn_count n p)
+    ∙ ap (λ os. flat_map
+    (events_at (plans_of n) (uses_by_read (incoming_from 0 0 (plans_of n) p) (sources_of_process n p)) os)
+    (range_with_len 0 fires)) out
+    ∙ ap (λ m. flat_map
+    (events_at (plans_of n) (uses_by_read (incoming_from 0 0 (plans_of n) p) (sources_of_process n p))
+    (outgoing_from 0 (plans_of n) p)) (range_with_len 0 m)) e_fires
+    ∙ flat_map-range_with_len_same
+    (events_at (plans_of n) (uses_by_read (incoming_from 0 0 (plans_of n) p) (sources_of_process n p))
+    (outgoing_from 0 (plans_of n) p)) (point_events n p) 0 (turn_count n p)
     (λ f from below. events_same n p f (omega arith))
 
-pub fits_as : (n : Nest) (p : ℕ) (plans : List ChannelPlan) (incoming : List Incoming) (sources : List (List (Option Tag))) (uses : List (List (Option ChannelUse)))
-    → SizeIsOk n → plans ≡ plans_of n → incoming ≡ incoming_from 0 0 plans p → uses ≡ uses_by_read incoming sources → All (All (UseFits plans)) uses
+pub fits_as : (n : Nest) (p : ℕ) (plans : List ChannelPlan) (incoming : List Incoming)
+    (sources : List (List (Option Tag))) (uses : List (List (Option ChannelUse)))
+    → SizeIsOk n → plans ≡ plans_of n → incoming ≡ incoming_from 0 0 plans p → uses ≡ uses_by_read incoming sources
+    → All (All (UseFits plans)) uses
 fits_as n p plans incoming sources uses ok e_plans e_incoming e_uses =
-    let all : uses ≡ uses_by_read (incoming_from 0 0 (plans_of n) p) sources = e_uses ∙ ap (λ i. uses_by_read i sources) (e_incoming ∙ ap (λ ps. incoming_from 0 0 ps p) e_plans) in
-    subst (λ ps. All (All (UseFits ps)) uses) (sym e_plans) (subst (All (All (UseFits (plans_of n)))) (sym all) (all_fit n p sources ok))
+    let all : uses ≡ uses_by_read (incoming_from 0 0 (plans_of n) p) sources =
+    e_uses ∙ ap (λ i. uses_by_read i sources) (e_incoming ∙ ap (λ ps. incoming_from 0 0 ps p) e_plans) in
+    subst (λ ps. All (All (UseFits ps)) uses) (sym e_plans)
+    (subst (All (All (UseFits (plans_of n)))) (sym all) (all_fit n p sources ok))
 
 -- The sources of a process's reads
 
-read_mapped : (P : List (Option Tag) → Type 0) (g : ℕ → List (Option Tag)) (xs : List ℕ) (k : ℕ) → P [] → ((x : ℕ) → P (g x)) → P (get_or (map g xs) k [])
+read_mapped : (P : List (Option Tag) → Type 0) (g : ℕ → List (Option Tag)) (xs : List ℕ) (k : ℕ) → P []
+    → ((x : ℕ) → P (g x)) → P (get_or (map g xs) k [])
 read_mapped P g [] k none all = none
 read_mapped P g (x ∷ xs) zero none all = all x
 read_mapped P g (x ∷ xs) (suc k) none all = read_mapped P g xs k none all
 
-pub few_sources : (n : Nest) (p k : ℕ) (sources : List (List (Option Tag))) → SizeIsOk n → sources ≡ sources_of_process n p → length (get_or sources k []) < 2 ^ 32
+pub few_sources : (n : Nest) (p k : ℕ) (sources : List (List (Option Tag))) → SizeIsOk n
+    → sources ≡ sources_of_process n p → length (get_or sources k []) < 2 ^ 32
 few_sources n p k sources ok e =
     subst (λ ls. length (get_or ls k []) < 2 ^ 32) (sym e)
     (read_mapped (λ list. length list < 2 ^ 32) (sources_at n p) (range_with_len 0 (read_count n p)) k (omega arith)
     (λ j. omega (arith, length-sources n p j, few_turns n p, few_entries n ok)))
 
-pub sources_exist : (n : Nest) (p k f : ℕ) (sources : List (List (Option Tag))) → sources ≡ sources_of_process n p → OnlyBelow (length n.statements) (get_or (get_or sources k []) f None)
+pub sources_exist : (n : Nest) (p k f : ℕ) (sources : List (List (Option Tag))) → sources ≡ sources_of_process n p
+    → OnlyBelow (length n.statements) (get_or (get_or sources k []) f None)
 sources_exist n p k f sources e =
     subst (λ ls. OnlyBelow (length n.statements) (get_or (get_or ls k []) f None)) (sym e)
-    (read_mapped (λ list. OnlyBelow (length n.statements) (get_or list f None)) (sources_at n p) (range_with_len 0 (read_count n p)) k tt (λ j. processes_below n p j f))
+    (read_mapped (λ list. OnlyBelow (length n.statements) (get_or list f None)) (sources_at n p)
+    (range_with_len 0 (read_count n p)) k tt (λ j. processes_below n p j f))
 
-pub few_sources_read : (n : Nest) (p : ℕ) (sources : List (List (Option Tag))) → sources ≡ sources_of_process n p → length sources ≤ 8
-few_sources_read n p sources e = omega (arith, ap length e, length-map-range_with_len (sources_at n p) 0 (read_count n p), few_read_count n p)
+pub few_sources_read : (n : Nest) (p : ℕ) (sources : List (List (Option Tag))) → sources ≡ sources_of_process n p
+    → length sources ≤ 8
+few_sources_read n p sources e =
+    omega (arith, ap length e, length-map-range_with_len (sources_at n p) 0 (read_count n p), few_read_count n p)
 
-pub few_uses : (incoming : List Incoming) (sources : List (List (Option Tag))) (uses : List (List (Option ChannelUse))) → uses ≡ uses_by_read incoming sources → length sources ≤ 8 → length uses ≤ 8
-few_uses incoming sources uses e le = omega (arith, ap length e, length-map-range_with_len (λ k. read_uses incoming k (slice_index_or sources k [])) 0 (length sources))
+pub few_uses : (incoming : List Incoming) (sources : List (List (Option Tag))) (uses : List (List (Option ChannelUse)))
+    → uses ≡ uses_by_read incoming sources → length sources ≤ 8 → length uses ≤ 8
+few_uses incoming sources uses e le =
+    omega (arith, ap length e, length-map-range_with_len (λ k. read_uses incoming k (slice_index_or sources k [])) 0 (length sources))

@@ -50,7 +50,8 @@ use Rattle.process_derive.proofs.Wired.{IsChannelOf, IsGet, all_channels, all_ge
 
 -- Fires and points
 
-count_cons : (test : Event → Bool) (e : Event) (es : List Event) → count_by test (e ∷ es) ≡ cond (test e) 1 0 + count_by test es
+count_cons : (test : Event → Bool) (e : Event) (es : List Event)
+    → count_by test (e ∷ es) ≡ cond (test e) 1 0 + count_by test es
 count_cons test e es = sum_by-cons (λ e. cond (test e) 1 0) e es
 
 no_fires : (gets : List Event) → Each IsGet gets → count_by is_fire gets ≡ 0
@@ -70,16 +71,20 @@ no_fire_put c [] p f = refl
 no_fire_put c (plan ∷ plans) p f =
     elim (cases_Bool (eqb plan.writer p)) [
       | inl own ↦ elim (cases_Bool (slice_index_or plan.is_token f false)) [
-        | inl token ↦ rw (own, token) (count_cons is_fire (Put c) (puts_from (suc c) plans p f) ∙ omega (arith, no_fire_put (suc c) plans p f))
+        | inl token ↦ rw (own, token)
+            (count_cons is_fire (Put c) (puts_from (suc c) plans p f) ∙ omega (arith, no_fire_put (suc c) plans p f))
         | inr token ↦ rw (own, token) (no_fire_put (suc c) plans p f)
       ]
       | inr own ↦ rw own (no_fire_put (suc c) plans p f)
     ]
 
-point_has_gets : (n : Nest) (p f : ℕ) → Each IsGet (flat_map gets_of (map (usage n p f) (range_with_len 0 (read_count n p))))
+point_has_gets : (n : Nest) (p f : ℕ)
+    → Each IsGet (flat_map gets_of (map (usage n p f) (range_with_len 0 (read_count n p))))
 point_has_gets n p f =
     let reads : List ℕ = range_with_len 0 (read_count n p) in
-    each_flat_map IsGet gets_of (map (usage n p f) reads) (each_map (λ u. Each IsGet (gets_of u)) (usage n p f) reads (each_of (λ k. Each IsGet (gets_of (usage n p f k))) reads (λ k. all_gets (usage n p f k))))
+    each_flat_map IsGet gets_of (map (usage n p f) reads)
+    (each_map (λ u. Each IsGet (gets_of u)) (usage n p f) reads
+    (each_of (λ k. Each IsGet (gets_of (usage n p f k))) reads (λ k. all_gets (usage n p f k))))
 
 point_fires : (n : Nest) (p f : ℕ) → count_by is_fire (point_events n p f) ≡ 1
 point_fires n p f =
@@ -102,18 +107,21 @@ script_fires n p =
 turns_are : (n : Nest) (p : ℕ) → p < length n.statements → turns (points_of n) p ≡ turn_count n p
 unfolding points_of
 turns_are n p lt =
-    ap length (get_or-map-range_with_len (vectors_of (trace n)) 0 (length n.statements) p p [] lt (omega arith)) ∙ sym (entries_length 0 (trace n) p)
+    ap length (get_or-map-range_with_len (vectors_of (trace n)) 0 (length n.statements) p p [] lt (omega arith))
+    ∙ sym (entries_length 0 (trace n) p)
 
 fires_are : (n : Nest) (p : ℕ) → count_by is_fire ((net_of (net n)).script p) ≡ turns (points_of n) p
 fires_are n p =
     elim (cases_lt p (length n.statements)) [
       | inl lt ↦ ap (count_by is_fire) (script_at n p lt) ∙ script_fires n p ∙ sym (turns_are n p lt)
-      | inr le ↦ ap (count_by is_fire) (script_past n p le) ∙ sym (ap length (get_or_past (points_of n) p [] (omega (arith, points_length n))))
+      | inr le ↦ ap (count_by is_fire) (script_past n p le)
+          ∙ sym (ap length (get_or_past (points_of n) p [] (omega (arith, points_length n))))
     ]
 
 -- The channel of a source is there
 
-any_at : {X : Type 0} (test : X → Bool) (xs : List X) (k : ℕ) (x : X) → slice_get xs k ≡ Some x → test x ≡ true → list_any test xs ≡ true
+any_at : {X : Type 0} (test : X → Bool) (xs : List X) (k : ℕ) (x : X) → slice_get xs k ≡ Some x → test x ≡ true
+    → list_any test xs ≡ true
 any_at test [] k x e h = absurd (cc)
 any_at test (y ∷ xs) zero x e h = let here : test y ≡ true = ap test (same_Some y x e) ∙ h in rw here refl
 any_at test (y ∷ xs) (suc k) x e h =
@@ -125,37 +133,49 @@ in_filter test [] x h k = absurd h
 in_filter test (y ∷ xs) x h k =
     elim h [
       | inl e ↦ (let kept : test y ≡ true = ap test e ∙ k in rw kept (inl e))
-      | inr l ↦ (let later = in_filter test xs x l k in elim (cases_Bool (test y)) [ inl a ↦ rw a (inr later) | inr a ↦ rw a later ])
+      | inr l ↦ (let later = in_filter test xs x l k in elim
+          (cases_Bool (test y)) [ inl a ↦ rw a (inr later) | inr a ↦ rw a later ])
     ]
 
 in_map : {X Y : Type 0} (f : X → Y) (xs : List X) (x : X) → In x xs → In (f x) (map f xs)
 in_map f [] x h = h
 in_map f (y ∷ xs) x h = elim h [ inl e ↦ inl (ap f e) | inr l ↦ inr (in_map f xs x l) ]
 
-plan_there : (n : Nest) (p k f : ℕ) (t : Tag) → p < length n.statements → k < read_count n p → t.process < length n.statements → slice_get (sources_at n p k) f ≡ Some (Some t)
+plan_there : (n : Nest) (p k f : ℕ) (t : Tag) → p < length n.statements → k < read_count n p
+    → t.process < length n.statements → slice_get (sources_at n p k) f ≡ Some (Some t)
     → In (plan_of n p k t.process) (plans_of n)
 unfolding plans_of
 plan_there n p k f t process read writer e =
     let w : ℕ = t.process in
     let from = any_at (is_from w) (sources_at n p k) f (Some t) e (eq-eqb w w refl) in
-    in_flat_map (λ p. flat_map (plans_at n p) (range_with_len 0 (read_count n p))) p (plan_of n p k w) (range_with_len 0 (length n.statements)) (in_range_with_len 0 (length n.statements) p (omega arith) (omega arith))
-    (in_flat_map (plans_at n p) k (plan_of n p k w) (range_with_len 0 (read_count n p)) (in_range_with_len 0 (read_count n p) k (omega arith) (omega arith))
+    in_flat_map (λ p. flat_map (plans_at n p) (range_with_len 0 (read_count n p))) p (plan_of n p k w)
+    (range_with_len 0 (length n.statements))
+    (in_range_with_len 0 (length n.statements) p (omega arith) (omega arith))
+    (in_flat_map (plans_at n p) k (plan_of n p k w) (range_with_len 0 (read_count n p))
+    (in_range_with_len 0 (read_count n p) k (omega arith) (omega arith))
     (in_map (plan_of n p k) (writers_of (length n.statements) (sources_at n p k)) w
-    (in_filter (λ w. list_any (is_from w) (sources_at n p k)) (range_with_len 0 (length n.statements)) w (in_range_with_len 0 (length n.statements) w (omega arith) (omega arith)) from)))
+    (in_filter (λ w. list_any (is_from w) (sources_at n p k)) (range_with_len 0 (length n.statements)) w
+    (in_range_with_len 0 (length n.statements) w (omega arith) (omega arith)) from)))
 
-not_first : (c : ℕ) (first : ChannelPlan) (plans : List ChannelPlan) (w p k : ℕ) → goes_between w p k first ≡ true → channel_from c (first ∷ plans) w p k ≡ None → ⊥
+not_first : (c : ℕ) (first : ChannelPlan) (plans : List ChannelPlan) (w p k : ℕ) → goes_between w p k first ≡ true
+    → channel_from c (first ∷ plans) w p k ≡ None → ⊥
 not_first c first plans w p k here e =
-    let found : channel_from c (first ∷ plans) w p k ≡ Some (c, first) = ap (λ b. cond b (Some (c, first)) (channel_from (suc c) plans w p k)) here in
+    let found : channel_from c (first ∷ plans) w p k ≡ Some (c, first) =
+    ap (λ b. cond b (Some (c, first)) (channel_from (suc c) plans w p k)) here in
     cc
 
-not_none : (c : ℕ) (plans : List ChannelPlan) (w p k : ℕ) (plan : ChannelPlan) → In plan plans → goes_between w p k plan ≡ true → channel_from c plans w p k ≡ None → ⊥
+not_none : (c : ℕ) (plans : List ChannelPlan) (w p k : ℕ) (plan : ChannelPlan) → In plan plans
+    → goes_between w p k plan ≡ true → channel_from c plans w p k ≡ None → ⊥
 not_none c [] w p k plan h goes e = h
 not_none c (first ∷ plans) w p k plan h goes e =
     elim h [
       | inl is ↦ not_first c first plans w p k (ap (goes_between w p k) is ∙ goes) e
       | inr later ↦ elim (cases_Bool (goes_between w p k first)) [
         | inl here ↦ not_first c first plans w p k here e
-        | inr there ↦ (let next : channel_from c (first ∷ plans) w p k ≡ channel_from (suc c) plans w p k = ap (λ b. cond b (Some (c, first)) (channel_from (suc c) plans w p k)) there in
+        | inr there ↦
+            (let next : channel_from c (first ∷ plans) w p k
+            ≡ channel_from (suc c) plans w p k = ap
+            (λ b. cond b (Some (c, first)) (channel_from (suc c) plans w p k)) there in
             not_none (suc c) plans w p k plan later goes (sym next ∙ e))
       ]
     ]
@@ -165,25 +185,35 @@ goes_own n p k w = rw (eq-eqb w w refl, eq-eqb p p refl, eq-eqb k k refl) refl
 
 -- All Gets of a channel are made
 
-gets_made : (n : Nest) (p k w q : ℕ) (o : Option (ℕ × ChannelPlan)) → channel_from 0 (plans_of n) w p k ≡ o → (o ≡ None → ⊥) → HasSlots n p k w o
-    → length (gets_of (option_map (λ (found : ℕ × ChannelPlan). record { channel = found.0; base = slot_base (plans_of n) p found.0; slots = found.1.slots; number = q }) o))
+gets_made : (n : Nest) (p k w q : ℕ) (o : Option (ℕ × ChannelPlan)) → channel_from 0 (plans_of n) w p k ≡ o
+    → (o ≡ None → ⊥) → HasSlots n p k w o
+    → length (gets_of
+    (option_map (λ (found : ℕ × ChannelPlan).
+    record { channel = found.0; base = slot_base (plans_of n) p found.0; slots = found.1.slots; number = q }) o))
     ≡ gets_by (uses_of (used n p k w)) (suc q) - gets_by (uses_of (used n p k w)) q
 gets_made n p k w q None e some h = absurd (some refl)
 gets_made n p k w q (Some found) e some h =
     let slots : SlotPlan = found.1.slots in
-    let made : length (map (λ m. Get found.0 (slot_base (plans_of n) p found.0 + slice_index slots.slot_of_get m)) (range_with_len (gets_for_uses slots q) (gets_for_uses slots (suc q) - gets_for_uses slots q)))
+    let made : length
+    (map (λ m. Get found.0 (slot_base (plans_of n) p found.0 + slice_index slots.slot_of_get m))
+    (range_with_len (gets_for_uses slots q) (gets_for_uses slots (suc q) - gets_for_uses slots q)))
     ≡ gets_for_uses slots (suc q) - gets_for_uses slots q =
-    length-map-range_with_len (λ m. Get found.0 (slot_base (plans_of n) p found.0 + slice_index slots.slot_of_get m)) (gets_for_uses slots q) (gets_for_uses slots (suc q) - gets_for_uses slots q) in
+    length-map-range_with_len (λ m. Get found.0 (slot_base (plans_of n) p found.0 + slice_index slots.slot_of_get m))
+    (gets_for_uses slots q) (gets_for_uses slots (suc q) - gets_for_uses slots q) in
     omega (arith, made, ap (λ s. gets_for_uses s q) h, ap (λ s. gets_for_uses s (suc q)) h)
 
-fire_makes : (n : Nest) (p k f : ℕ) (source : Option Tag) → p < length n.statements → k < read_count n p → slice_get (sources_at n p k) f ≡ Some source → OnlyBelow (length n.statements) source
+fire_makes : (n : Nest) (p k f : ℕ) (source : Option Tag) → p < length n.statements → k < read_count n p
+    → slice_get (sources_at n p k) f ≡ Some source → OnlyBelow (length n.statements) source
     → gets_until n p k (suc f) ≤ gets_until n p k f + length (gets_of (usage n p f k))
 fire_makes n p k f None process read e below =
     let sources : List (Option Tag) = sources_at n p k in
     let next : f + 1 ≡ suc f = omega arith in
     let same : gets_until n p k (suc f) ≤ gets_until n p k f =
-    sum_less (λ w. gets_by (uses_of (used n p k w)) (uses_before sources (suc f) w)) (λ w. gets_by (uses_of (used n p k w)) (uses_before sources f w)) (range_with_len 0 (length n.statements))
-    (λ w. (let q : uses_before sources (suc f) w ≡ uses_before sources f w = sym (ap (λ j. uses_before sources j w) next) ∙ before_more sources f w None e ∙ omega arith in
+    sum_less (λ w. gets_by (uses_of (used n p k w)) (uses_before sources (suc f) w))
+    (λ w. gets_by (uses_of (used n p k w)) (uses_before sources f w)) (range_with_len 0 (length n.statements))
+    (λ w. (let q : uses_before sources (suc f) w
+    ≡ uses_before sources f w = sym (ap (λ j. uses_before sources j w) next) ∙ before_more sources f w None e
+    ∙ omega arith in
     omega (arith, ap (gets_by (uses_of (used n p k w))) q))) in
     omega (arith, same)
 fire_makes n p k f (Some t) process read e below =
@@ -192,18 +222,29 @@ fire_makes n p k f (Some t) process read e below =
     let q : ℕ = uses_before sources f v in
     let uses : ℕ → List ℕ = λ w. uses_of (used n p k w) in
     let next : f + 1 ≡ suc f = omega arith in
-    let here : uses_before sources (suc f) v ≡ suc q = sym (ap (λ j. uses_before sources j v) next) ∙ before_more sources f v (Some t) e ∙ ap (λ xs. q + length xs) (of_own v t refl) ∙ omega arith in
+    let here : uses_before sources (suc f) v ≡ suc q =
+    sym (ap (λ j. uses_before sources j v) next) ∙ before_more sources f v (Some t) e
+    ∙ ap (λ xs. q + length xs) (of_own v t refl) ∙ omega arith in
     let others : (w : ℕ) → w ≢ v → uses_before sources (suc f) w ≡ uses_before sources f w = λ w ne.
-    sym (ap (λ j. uses_before sources j w) next) ∙ before_more sources f w (Some t) e ∙ ap (λ xs. uses_before sources f w + length xs) (of_other w t (λ same. ne (sym same))) ∙ omega arith in
-    let some : channel_from 0 (plans_of n) v p k ≡ None → ⊥ = λ none. not_none 0 (plans_of n) v p k (plan_of n p k v) (plan_there n p k f t process read below e) (goes_own n p k v) none in
+    sym (ap (λ j. uses_before sources j w) next) ∙ before_more sources f w (Some t) e
+    ∙ ap (λ xs. uses_before sources f w + length xs) (of_other w t (λ same. ne (sym same))) ∙ omega arith in
+    let some : channel_from 0 (plans_of n) v p k ≡ None → ⊥ =
+    λ none. not_none 0 (plans_of n) v p k (plan_of n p k v) (plan_there n p k f t process read below e)
+    (goes_own n p k v) none in
     let found : length (gets_of (usage n p f k)) ≡ gets_by (uses v) (suc q) - gets_by (uses v) q =
-    subst (λ o. length (gets_of (option_and_then (λ source. option_and_then (λ (t : Tag). usage_from (plans_of n) sources p k f t.process) source) o)) ≡ gets_by (uses v) (suc q) - gets_by (uses v) q) (sym e)
-    (gets_made n p k v q (channel_from 0 (plans_of n) v p k) refl some (found_slots n p k v 0 (plans_of n) (all_planned n))) in
-    sum_risen (λ w. gets_by (uses w) (uses_before sources f w)) (λ w. gets_by (uses w) (uses_before sources (suc f) w)) v (length (gets_of (usage n p f k)))
+    subst (λ o. length
+    (gets_of (option_and_then
+    (λ source. option_and_then (λ (t : Tag). usage_from (plans_of n) sources p k f t.process) source) o))
+    ≡ gets_by (uses v) (suc q) - gets_by (uses v) q) (sym e)
+    (gets_made n p k v q (channel_from 0 (plans_of n) v p k) refl some
+    (found_slots n p k v 0 (plans_of n) (all_planned n))) in
+    sum_risen (λ w. gets_by (uses w) (uses_before sources f w))
+    (λ w. gets_by (uses w) (uses_before sources (suc f) w)) v (length (gets_of (usage n p f k)))
     (omega (arith, found, ap (gets_by (uses v)) here))
     (λ w ne. ap (gets_by (uses w)) (others w ne)) 0 (length n.statements)
 
-read_makes : (n : Nest) (p k f : ℕ) → p < length n.statements → k < read_count n p → f ≤ turn_count n p → gets_until n p k f ≤ sum_by (λ g. length (gets_of (usage n p g k))) (range_with_len 0 f)
+read_makes : (n : Nest) (p k f : ℕ) → p < length n.statements → k < read_count n p → f ≤ turn_count n p
+    → gets_until n p k f ≤ sum_by (λ g. length (gets_of (usage n p g k))) (range_with_len 0 f)
 read_makes n p k zero process read le = sum_one (λ w. 0) 0 0 0 (length n.statements) (λ q e. refl) (omega arith)
 read_makes n p k (suc f) process read le =
     let sources : List (Option Tag) = sources_at n p k in
@@ -231,7 +272,8 @@ script_holds n p lt =
     omega (
       arith,
       process_holds n p,
-      sum_counted (λ k. gets_until n p k (turn_count n p)) (λ k. sum_by (λ f. length (gets_of (usage n p f k))) fires) 0 (read_count n p) (λ k from below. read_makes n p k (turn_count n p) lt (omega arith) (omega arith)),
+      sum_counted (λ k. gets_until n p k (turn_count n p)) (λ k. sum_by (λ f. length (gets_of (usage n p f k))) fires) 0
+          (read_count n p) (λ k from below. read_makes n p k (turn_count n p) lt (omega arith) (omega arith)),
       sum_turned (λ f k. length (gets_of (usage n p f k))) fires reads,
       sum_less (point_gets n p) (λ f. count_by is_any_get (point_events n p f)) fires (point_counts n p),
       sum_joined (λ e. cond (is_any_get e) 1 0) (point_events n p) fires,
@@ -241,7 +283,8 @@ slots_past : (n : Nest) (p : ℕ) → length n.statements ≤ p → (net_of (net
 unfolding net
 slots_past n p le =
     ap (λ (o : Option Process). option_map_or (λ process. process.slots) o 0)
-    (slice_get_past (map (process_of n) (range_with_len 0 (length n.statements))) p (omega (arith, length-map-range_with_len (process_of n) 0 (length n.statements))))
+    (slice_get_past (map (process_of n) (range_with_len 0 (length n.statements))) p
+    (omega (arith, length-map-range_with_len (process_of n) 0 (length n.statements))))
 
 slots_few : (n : Nest) (p : ℕ) → (net_of (net n)).slots p ≤ count_by is_any_get ((net_of (net n)).script p)
 slots_few n p =
@@ -272,11 +315,13 @@ is_shaped n = record {
   few_slots = slots_few n;
 }
 
-read_there : (n : Nest) (c : ℕ) (channel : Channel) → slice_get (net n).channels c ≡ Some channel → c < length (plans_of n) → channel.read < read_count n channel.reader
+read_there : (n : Nest) (c : ℕ) (channel : Channel) → slice_get (net n).channels c ≡ Some channel
+    → c < length (plans_of n) → channel.read < read_count n channel.reader
 read_there n c channel e lt =
     let item = item_at (plans_of n) c lt in
     let is = each_in (IsChannelOf n) item.0 (plans_of n) (all_channels n) (at_in item.0 (plans_of n) c item.1) in
-    let same : channel_of item.0 ≡ channel = same_Some (channel_of item.0) channel (sym (channel_at n c item.0 item.1) ∙ e) in
+    let same : channel_of item.0 ≡ channel =
+    same_Some (channel_of item.0) channel (sym (channel_at n c item.0 item.1) ∙ e) in
     subst (λ (ch : Channel). ch.read < read_count n ch.reader) same is.read
 
 channel_count : (n : Nest) → length (net n).channels ≡ length (plans_of n)
@@ -287,5 +332,6 @@ pub fits_nest : (n : Nest) → FitsNest n (net n)
 fits_nest n = record {
   shaped = is_shaped n;
   references = λ p k refs e. (event_is n p k (Fire refs) e).1.1;
-  reads = λ c channel e. read_there n c channel e (omega (arith, slice_get_within (net n).channels c channel e, channel_count n));
+  reads = λ c channel e. read_there n c channel e
+      (omega (arith, slice_get_within (net n).channels c channel e, channel_count n));
 }

@@ -20,7 +20,8 @@ lowest_within uses q (token ∷ slots) =
       | inr free ↦ rw free (omega arith)
     ]
 
-length-filled : (slots : List ℕ) (slot token : ℕ) → slot ≤ length slots → length (filled slots slot token) ≡ slot + suc (length slots - (slot + 1))
+length-filled : (slots : List ℕ) (slot token : ℕ) → slot ≤ length slots
+    → length (filled slots slot token) ≡ slot + suc (length slots - (slot + 1))
 length-filled slots slot token le =
     length-append (take slot slots) (token ∷ drop (slot + 1) slots)
     ∙ ap (λ k. k + suc (length (drop (slot + 1) slots))) (length-take-le slot slots le)
@@ -40,25 +41,31 @@ inside_get uses q held inside =
     let got = length-append held.slot_of_get (slot ∷ []) in
     record {
       few = omega (arith, made, got, inside.few);
-      gets = λ m. read_push held.slot_of_get slot m (length (filled held.slots slot (length held.slot_of_get))) (λ i. omega (arith, made, inside.gets i)) (omega (arith, made));
+      gets = λ m. read_push held.slot_of_get slot m (length (filled held.slots slot (length held.slot_of_get)))
+          (λ i. omega (arith, made, inside.gets i)) (omega (arith, made));
     }
 
 inside_gets : (uses : List ℕ) (q gets : ℕ) (held : Held) → IsInside held → IsInside (after_gets uses q gets held)
 inside_gets uses q zero held inside = inside
-inside_gets uses q (suc gets) held inside = inside_gets uses q gets (after_get uses q held) (inside_get uses q held inside)
+inside_gets uses q (suc gets) held inside =
+    inside_gets uses q gets (after_get uses q held) (inside_get uses q held inside)
 
 inside_after : (uses : List ℕ) (q : ℕ) → IsInside (held_after uses q)
 unfolding held_after
 inside_after uses zero = record { few = omega arith; gets = λ m. omega arith }
-inside_after uses (suc q) = inside_gets uses q (gets_for (take (q + 1) uses) - length (held_after uses q).slot_of_get) (held_after uses q) (inside_after uses q)
+inside_after uses (suc q) =
+    inside_gets uses q (gets_for (take (q + 1) uses) - length (held_after uses q).slot_of_get) (held_after uses q)
+    (inside_after uses q)
 
-count_gets : (uses : List ℕ) (q gets : ℕ) (held : Held) → length (after_gets uses q gets held).slot_of_get ≡ length held.slot_of_get + gets
+count_gets : (uses : List ℕ) (q gets : ℕ) (held : Held)
+    → length (after_gets uses q gets held).slot_of_get ≡ length held.slot_of_get + gets
 count_gets uses q zero held = omega arith
 count_gets uses q (suc gets) held =
     let more = length-append held.slot_of_get (lowest_free uses q held.slots ∷ []) in
     count_gets uses q gets (after_get uses q held) ∙ omega (arith, more)
 
-few_after : (uses : List ℕ) (limit : ℕ) → ((q : ℕ) → gets_for (take q uses) ≤ limit) → (q : ℕ) → length (held_after uses q).slot_of_get ≤ limit
+few_after : (uses : List ℕ) (limit : ℕ) → ((q : ℕ) → gets_for (take q uses) ≤ limit) → (q : ℕ)
+    → length (held_after uses q).slot_of_get ≤ limit
 unfolding held_after
 few_after uses limit all zero = omega arith
 few_after uses limit all (suc q) =
@@ -69,7 +76,8 @@ pub few_gets : (uses : List ℕ) (limit : ℕ) → Each (λ token. token < limit
 few_gets [] limit h = omega arith
 few_gets (token ∷ uses) limit h = omega (arith, h.0, few_gets uses limit h.1)
 
-pub each_take : (limit : ℕ) (q : ℕ) (uses : List ℕ) → Each (λ token. token < limit) uses → Each (λ token. token < limit) (take q uses)
+pub each_take : (limit : ℕ) (q : ℕ) (uses : List ℕ) → Each (λ token. token < limit) uses
+    → Each (λ token. token < limit) (take q uses)
 each_take limit zero uses h = tt
 each_take limit (suc q) [] h = tt
 each_take limit (suc q) (token ∷ uses) h = (h.0, each_take limit q uses h.1)
@@ -79,7 +87,8 @@ pub record IsHeld (slots : SlotPlan) : Type 0 where
   pub gets : (m : ℕ) → get_or slots.slot_of_get m 0 ≤ slots.hold
   pub uses : (q : ℕ) → get_or slots.slot_of_use q 0 ≤ slots.hold
 
-read_uses : (gets uses : List ℕ) (q b : ℕ) → ((m : ℕ) → get_or gets m 0 ≤ b) → get_or (map (λ token. slice_index_or gets token 0) uses) q 0 ≤ b
+read_uses : (gets uses : List ℕ) (q b : ℕ) → ((m : ℕ) → get_or gets m 0 ≤ b)
+    → get_or (map (λ token. slice_index_or gets token 0) uses) q 0 ≤ b
 read_uses gets [] q b all = omega arith
 read_uses gets (token ∷ uses) zero b all = all token
 read_uses gets (token ∷ uses) (suc q) b all = read_uses gets uses q b all
@@ -91,11 +100,13 @@ plan_held uses =
 
 -- each Get has a slot below the hold
 
-read_push_below : (xs : List ℕ) (x m b : ℕ) → ((i : ℕ) → i < length xs → get_or xs i 0 < b) → x < b → m < length (xs ++ x ∷ []) → get_or (xs ++ x ∷ []) m 0 < b
+read_push_below : (xs : List ℕ) (x m b : ℕ) → ((i : ℕ) → i < length xs → get_or xs i 0 < b) → x < b
+    → m < length (xs ++ x ∷ []) → get_or (xs ++ x ∷ []) m 0 < b
 read_push_below [] x zero b all lt within = lt
 read_push_below [] x (suc m) b all lt within = absurd (omega arith)
 read_push_below (y ∷ xs) x zero b all lt within = all 0 (omega arith)
-read_push_below (y ∷ xs) x (suc m) b all lt within = read_push_below xs x m b (λ i h. all (suc i) (omega arith)) lt (omega arith)
+read_push_below (y ∷ xs) x (suc m) b all lt within =
+    read_push_below xs x m b (λ i h. all (suc i) (omega arith)) lt (omega arith)
 
 abbrev AreBelow : Held → Type 0
 AreBelow held = (m : ℕ) → m < length held.slot_of_get → get_or held.slot_of_get m 0 < length held.slots
@@ -105,7 +116,8 @@ below_get uses q held below m lt =
     let slot : ℕ = lowest_free uses q held.slots in
     let low : slot ≤ length held.slots = lowest_within uses q held.slots in
     let made = length-filled held.slots slot (length held.slot_of_get) low in
-    read_push_below held.slot_of_get slot m (length (filled held.slots slot (length held.slot_of_get))) (λ i h. omega (arith, made, below i h)) (omega (arith, made)) lt
+    read_push_below held.slot_of_get slot m (length (filled held.slots slot (length held.slot_of_get)))
+    (λ i h. omega (arith, made, below i h)) (omega (arith, made)) lt
 
 below_gets : (uses : List ℕ) (q gets : ℕ) (held : Held) → AreBelow held → AreBelow (after_gets uses q gets held)
 below_gets uses q zero held below = below
@@ -114,7 +126,9 @@ below_gets uses q (suc gets) held below = below_gets uses q gets (after_get uses
 below_after : (uses : List ℕ) (q : ℕ) → AreBelow (held_after uses q)
 unfolding held_after
 below_after uses zero = λ m lt. absurd (omega arith)
-below_after uses (suc q) = below_gets uses q (gets_for (take (q + 1) uses) - length (held_after uses q).slot_of_get) (held_after uses q) (below_after uses q)
+below_after uses (suc q) =
+    below_gets uses q (gets_for (take (q + 1) uses) - length (held_after uses q).slot_of_get) (held_after uses q)
+    (below_after uses q)
 
 -- the Gets before so many uses are made
 made_after : (uses : List ℕ) (q : ℕ) → gets_for (take q uses) ≤ length (held_after uses q).slot_of_get
@@ -137,7 +151,8 @@ take_whole (token ∷ uses) = ap (λ ts. token ∷ ts) (take_whole uses)
 pub all_made : (uses : List ℕ) → gets_for uses ≤ length (slots_of_gets uses)
 all_made uses = omega (arith, made_after uses (length uses), ap gets_for (take_whole uses))
 
-pub gets_inside : (uses : List ℕ) (q m : ℕ) → m < gets_for (take q uses) → get_or (slots_of_gets uses) m 0 < hold_of uses
+pub gets_inside : (uses : List ℕ) (q m : ℕ) → m < gets_for (take q uses)
+    → get_or (slots_of_gets uses) m 0 < hold_of uses
 gets_inside uses q m lt = below_after uses (length uses) m (omega (arith, lt, gets_part uses q, all_made uses))
 
 token_made : (uses : List ℕ) (q : ℕ) → q < length uses → get_or uses q 0 < gets_for uses
@@ -145,7 +160,8 @@ token_made [] q lt = absurd (omega arith)
 token_made (token ∷ uses) zero lt = omega arith
 token_made (token ∷ uses) (suc q) lt = omega (arith, token_made uses q (omega arith))
 
-read_token : (gets uses : List ℕ) (q : ℕ) → q < length uses → get_or (map (λ token. slice_index_or gets token 0) uses) q 0 ≡ get_or gets (get_or uses q 0) 0
+read_token : (gets uses : List ℕ) (q : ℕ) → q < length uses
+    → get_or (map (λ token. slice_index_or gets token 0) uses) q 0 ≡ get_or gets (get_or uses q 0) 0
 read_token gets [] q lt = absurd (omega arith)
 read_token gets (token ∷ uses) zero lt = refl
 read_token gets (token ∷ uses) (suc q) lt = read_token gets uses q (omega arith)

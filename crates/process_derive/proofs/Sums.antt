@@ -12,20 +12,24 @@ use Rattle.sanlp.proofs.Lists.{range_with_len_more}
 abbrev pub one_if : Bool → ℕ
 one_if b = cond b 1 0
 
-pub sum_within : {X : Type 0} (f : X → ℕ) (b m : ℕ) (xs : List X) → ((x : X) → f x ≤ b) → length xs ≤ m → sum_by f xs ≤ m * b
+pub sum_within : {X : Type 0} (f : X → ℕ) (b m : ℕ) (xs : List X) → ((x : X) → f x ≤ b) → length xs ≤ m
+    → sum_by f xs ≤ m * b
 sum_within f b m [] all le = omega arith
 sum_within f b zero (x ∷ xs) all le = absurd (omega arith)
 sum_within f b (suc m) (x ∷ xs) all le = omega (arith, sum_by-cons f x xs, all x, sum_within f b m xs all (omega arith))
 
-pub sum_joined : {X Y : Type 0} (f : Y → ℕ) (g : X → List Y) (xs : List X) → sum_by f (flat_map g xs) ≡ sum_by (λ x. sum_by f (g x)) xs
+pub sum_joined : {X Y : Type 0} (f : Y → ℕ) (g : X → List Y) (xs : List X)
+    → sum_by f (flat_map g xs) ≡ sum_by (λ x. sum_by f (g x)) xs
 sum_joined f g [] = refl
 sum_joined f g (x ∷ xs) =
-    ap (sum_by f) (flat_map-cons g x xs) ∙ sum_by-append f (g x) (flat_map g xs) ∙ ap (λ k. sum_by f (g x) + k) (sum_joined f g xs)
+    ap (sum_by f) (flat_map-cons g x xs) ∙ sum_by-append f (g x) (flat_map g xs)
+    ∙ ap (λ k. sum_by f (g x) + k) (sum_joined f g xs)
     ∙ sym (sum_by-cons (λ x. sum_by f (g x)) x xs)
 
 pub sum_map : {X Y : Type 0} (f : Y → ℕ) (g : X → Y) (xs : List X) → sum_by f (map g xs) ≡ sum_by (λ x. f (g x)) xs
 sum_map f g [] = refl
-sum_map f g (x ∷ xs) = sum_by-cons f (g x) (map g xs) ∙ ap (λ k. f (g x) + k) (sum_map f g xs) ∙ sym (sum_by-cons (λ x. f (g x)) x xs)
+sum_map f g (x ∷ xs) =
+    sum_by-cons f (g x) (map g xs) ∙ ap (λ k. f (g x) + k) (sum_map f g xs) ∙ sym (sum_by-cons (λ x. f (g x)) x xs)
 
 pub sum_filter : {X : Type 0} (f : X → ℕ) (test : X → Bool) (xs : List X) → sum_by f (filter test xs) ≤ sum_by f xs
 sum_filter f test [] = omega arith
@@ -35,7 +39,8 @@ sum_filter f test (x ∷ xs) =
       | inr left ↦ rw left (omega (arith, sum_by-cons f x xs, sum_filter f test xs))
     ]
 
-pub sum_at : {X : Type 0} (f : X → ℕ) (xs : List X) (k : ℕ) (x : X) → slice_get xs k ≡ Some x → sum_by f (take k xs) + f x ≤ sum_by f xs
+pub sum_at : {X : Type 0} (f : X → ℕ) (xs : List X) (k : ℕ) (x : X) → slice_get xs k ≡ Some x
+    → sum_by f (take k xs) + f x ≤ sum_by f xs
 sum_at f [] k x e = absurd (cc)
 sum_at f (y ∷ xs) zero x e = omega (arith, sum_by-cons f y xs, ap f (same_Some y x e))
 sum_at f (y ∷ xs) (suc k) x e = omega (arith, sum_by-cons f y (take k xs), sum_by-cons f y xs, sum_at f xs k x e)
@@ -46,14 +51,16 @@ sum_past f p a zero none lt = refl
 sum_past f p a (suc m) none lt =
     omega (arith, sum_by-cons f a (range_with_len (a + 1) m), none a (ne_eqb a p (λ e. omega arith)), sum_past f p (a + 1) m none (omega arith))
 
-pub sum_one : (f : ℕ → ℕ) (p b a m : ℕ) → ((q : ℕ) → eqb q p ≡ false → f q ≡ 0) → f p ≤ b → sum_by f (range_with_len a m) ≤ b
+pub sum_one : (f : ℕ → ℕ) (p b a m : ℕ) → ((q : ℕ) → eqb q p ≡ false → f q ≡ 0) → f p ≤ b
+    → sum_by f (range_with_len a m) ≤ b
 sum_one f p b a zero none le = omega arith
 sum_one f p b a (suc m) none le =
     elim (cases_Bool (eqb a p)) [
       | inl here ↦
           let same = eqb-true a p here in
           omega (arith, sum_by-cons f a (range_with_len (a + 1) m), ap f same, sum_past f p (a + 1) m none (omega (arith, same)))
-      | inr there ↦ omega (arith, sum_by-cons f a (range_with_len (a + 1) m), none a there, sum_one f p b (a + 1) m none le)
+      | inr there ↦ omega
+          (arith, sum_by-cons f a (range_with_len (a + 1) m), none a there, sum_one f p b (a + 1) m none le)
     ]
 
 pub sum_less : {X : Type 0} (f g : X → ℕ) (xs : List X) → ((x : X) → f x ≤ g x) → sum_by f xs ≤ sum_by g xs
@@ -95,19 +102,23 @@ sum_same f g [] same = refl
 sum_same f g (x ∷ xs) same = omega (arith, sum_by-cons f x xs, sum_by-cons g x xs, same x, sum_same f g xs same)
 
 -- sums may change places
-pub sum_turned : {X Y : Type 0} (f : X → Y → ℕ) (xs : List X) (ys : List Y) → sum_by (λ x. sum_by (f x) ys) xs ≡ sum_by (λ y. sum_by (λ x. f x y) xs) ys
+pub sum_turned : {X Y : Type 0} (f : X → Y → ℕ) (xs : List X) (ys : List Y)
+    → sum_by (λ x. sum_by (f x) ys) xs ≡ sum_by (λ y. sum_by (λ x. f x y) xs) ys
 sum_turned f [] ys = sym (sum_none ys)
 sum_turned f (x ∷ xs) ys =
     sum_by-cons (λ x. sum_by (f x) ys) x xs ∙ ap (λ k. sum_by (f x) ys + k) (sum_turned f xs ys)
     ∙ sym (sum_added (f x) (λ y. sum_by (λ x. f x y) xs) ys)
-    ∙ sum_same (λ y. f x y + sum_by (λ x. f x y) xs) (λ y. sum_by (λ x. f x y) (x ∷ xs)) ys (λ y. sym (sum_by-cons (λ x. f x y) x xs))
+    ∙ sum_same (λ y. f x y + sum_by (λ x. f x y) xs) (λ y. sum_by (λ x. f x y) (x ∷ xs)) ys
+    (λ y. sym (sum_by-cons (λ x. f x y) x xs))
 
 pub sum_push : (f : ℕ → ℕ) (k : ℕ) → sum_by f (range_with_len 0 (suc k)) ≡ sum_by f (range_with_len 0 k) + f k
 sum_push f k =
     let more : suc k ≡ k + 1 = omega arith in
-    ap (λ m. sum_by f (range_with_len 0 m)) more ∙ ap (sum_by f) (range_with_len_more 0 k k (omega arith)) ∙ sum_by_push f (range_with_len 0 k) k
+    ap (λ m. sum_by f (range_with_len 0 m)) more ∙ ap (sum_by f) (range_with_len_more 0 k k (omega arith))
+    ∙ sum_by_push f (range_with_len 0 k) k
 
-sum_agree : (f g : ℕ → ℕ) (a m : ℕ) → ((k : ℕ) → a ≤ k → f k ≡ g k) → sum_by f (range_with_len a m) ≡ sum_by g (range_with_len a m)
+sum_agree : (f g : ℕ → ℕ) (a m : ℕ) → ((k : ℕ) → a ≤ k → f k ≡ g k)
+    → sum_by f (range_with_len a m) ≡ sum_by g (range_with_len a m)
 sum_agree f g a zero same = refl
 sum_agree f g a (suc m) same =
     omega (arith, sum_by-cons f a (range_with_len (a + 1) m), sum_by-cons g a (range_with_len (a + 1) m), same a (omega arith), sum_agree f g (a + 1) m (λ k h. same k (omega arith)))
@@ -141,7 +152,8 @@ sum_raised f g i d more same a (suc m) le lt =
     ]
 
 -- a function that takes at most d more at i alone
-pub sum_risen : (f g : ℕ → ℕ) (i d : ℕ) → g i ≤ f i + d → ((k : ℕ) → k ≢ i → g k ≡ f k) → (a m : ℕ) → sum_by g (range_with_len a m) ≤ sum_by f (range_with_len a m) + d
+pub sum_risen : (f g : ℕ → ℕ) (i d : ℕ) → g i ≤ f i + d → ((k : ℕ) → k ≢ i → g k ≡ f k) → (a m : ℕ)
+    → sum_by g (range_with_len a m) ≤ sum_by f (range_with_len a m) + d
 sum_risen f g i d more same a zero = omega arith
 sum_risen f g i d more same a (suc m) =
     elim (cases_Bool (eqb a i)) [

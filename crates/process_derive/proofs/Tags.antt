@@ -41,7 +41,8 @@ count_before (x ∷ points) (suc u) s p e own =
     ]
 
 tag_of : (n : Nest) (u : ℕ) (o : Option Point) → slice_get (trace n) u ≡ o
-    → IsTurn n (option_map (λ p. record { process = p.statement; turn = count_by (λ q. q.statement == p.statement) (take u (trace n)) }) o)
+    → IsTurn n (option_map
+    (λ p. record { process = p.statement; turn = count_by (λ q. q.statement == p.statement) (take u (trace n)) }) o)
 tag_of n u None e = tt
 tag_of n u (Some p) e =
     let is = (enumerates_domains n).entry u p e in
@@ -63,7 +64,8 @@ only_below : (n : Nest) (o : Option Tag) → IsTurn n o → OnlyBelow (length n.
 only_below n None h = tt
 only_below n (Some t) h = h.0
 
-each_read : (n : Nest) (sources : List (Option Tag)) (f : ℕ) → Each (IsTurn n) sources → OnlyBelow (length n.statements) (get_or sources f None)
+each_read : (n : Nest) (sources : List (Option Tag)) (f : ℕ) → Each (IsTurn n) sources
+    → OnlyBelow (length n.statements) (get_or sources f None)
 each_read n [] f h = tt
 each_read n (source ∷ sources) zero h = only_below n source h.0
 each_read n (source ∷ sources) (suc f) h = each_read n sources f h.1

@@ -18,30 +18,40 @@ at_end : {X : Type 0} (xs : List X) → xs ++ [] ≡ xs
 at_end [] = refl
 at_end (x ∷ xs) = ap (λ ys. x ∷ ys) (at_end xs)
 
-usages_more : (plans : List ChannelPlan) (uses : List (List (Option ChannelUse))) (i f : ℕ) (list : List (Option ChannelUse)) → slice_get uses i ≡ Some list
-    → usages_at plans (take (i + 1) uses) f ≡ usages_at plans (take i uses) f ++ with_slots plans (option_and_then (λ found. found) (slice_get list f)) ∷ []
+usages_more : (plans : List ChannelPlan) (uses : List (List (Option ChannelUse))) (i f : ℕ)
+    (list : List (Option ChannelUse)) → slice_get uses i ≡ Some list
+    → usages_at plans (take (i + 1) uses) f
+    ≡ usages_at plans (take i uses) f ++ with_slots plans (option_and_then (λ found. found) (slice_get list f)) ∷ []
 usages_more plans uses i f list e =
     ap (λ k. usages_at plans (take k uses) f) (add-one i)
     ∙ ap (λ xs. usages_at plans xs f) (take_next uses i list e)
-    ∙ map-append (λ list. with_slots plans (option_and_then (λ found. found) (slice_get list f))) (take i uses) (list ∷ [])
+    ∙ map-append (λ list. with_slots plans (option_and_then (λ found. found) (slice_get list f))) (take i uses)
+    (list ∷ [])
 
 -- one read more
-pub gets_more : (plans : List ChannelPlan) (uses : List (List (Option ChannelUse))) (i f : ℕ) (list : List (Option ChannelUse)) (found : Option ChannelUse) (first before after : List Event)
+pub gets_more : (plans : List ChannelPlan) (uses : List (List (Option ChannelUse))) (i f : ℕ)
+    (list : List (Option ChannelUse)) (found : Option ChannelUse) (first before after : List Event)
     → slice_get uses i ≡ Some list → found ≡ option_and_then (λ found. found) (slice_get list f)
-    → before ≡ first ++ flat_map gets_of (usages_at plans (take i uses) f) → after ≡ before ++ gets_of (with_slots plans found)
+    → before ≡ first ++ flat_map gets_of (usages_at plans (take i uses) f)
+    → after ≡ before ++ gets_of (with_slots plans found)
     → after ≡ first ++ flat_map gets_of (usages_at plans (take (i + 1) uses) f)
 gets_more plans uses i f list found first before after e is was g =
     let done : List (Option Usage) = usages_at plans (take i uses) f in
     g ∙ ap (λ xs. xs ++ gets_of (with_slots plans found)) was
     ∙ append_assoc first (flat_map gets_of done) (gets_of (with_slots plans found))
     ∙ ap (λ o. first ++ (flat_map gets_of done ++ gets_of (with_slots plans o))) is
-    ∙ ap (λ xs. first ++ (flat_map gets_of done ++ xs)) (sym (flat_map-cons gets_of (with_slots plans (option_and_then (λ found. found) (slice_get list f))) []
+    ∙ ap (λ xs. first ++ (flat_map gets_of done ++ xs))
+    (sym (flat_map-cons gets_of (with_slots plans (option_and_then (λ found. found) (slice_get list f))) []
     ∙ at_end (gets_of (with_slots plans (option_and_then (λ found. found) (slice_get list f))))))
-    ∙ ap (λ xs. first ++ xs) (sym (flat_map-append gets_of done (with_slots plans (option_and_then (λ found. found) (slice_get list f)) ∷ [])))
+    ∙ ap (λ xs. first ++ xs)
+    (sym (flat_map-append gets_of done
+    (with_slots plans (option_and_then (λ found. found) (slice_get list f)) ∷ [])))
     ∙ ap (λ us. first ++ flat_map gets_of us) (sym (usages_more plans uses i f list e))
 
-pub refs_more : (plans : List ChannelPlan) (uses : List (List (Option ChannelUse))) (i f : ℕ) (list : List (Option ChannelUse)) (found : Option ChannelUse) (named : Ref) (before after : List Ref)
-    → slice_get uses i ≡ Some list → found ≡ option_and_then (λ found. found) (slice_get list f) → named ≡ ref_of (with_slots plans found)
+pub refs_more : (plans : List ChannelPlan) (uses : List (List (Option ChannelUse))) (i f : ℕ)
+    (list : List (Option ChannelUse)) (found : Option ChannelUse) (named : Ref) (before after : List Ref)
+    → slice_get uses i ≡ Some list → found ≡ option_and_then (λ found. found) (slice_get list f)
+    → named ≡ ref_of (with_slots plans found)
     → before ≡ map ref_of (usages_at plans (take i uses) f) → after ≡ before ++ named ∷ []
     → after ≡ map ref_of (usages_at plans (take (i + 1) uses) f)
 refs_more plans uses i f list found named before after e is names was g =

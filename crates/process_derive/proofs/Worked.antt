@@ -32,7 +32,10 @@ in_turn writer reader is_token tokens gets slots = record {
 -- the events of the first so many points of process p, which has one read with these sources, from process w
 abbrev script_by : List ChannelPlan → List (Option Tag) → ℕ → (ℕ → ℕ) → ℕ → List Event
 script_by plans sources p w fires =
-    flat_map (λ f. gets_of (usage_from plans sources p 0 f (w f)) ++ Fire (ref_of (usage_from plans sources p 0 f (w f)) ∷ []) ∷ puts_from 0 plans p f) (range_with_len 0 fires)
+    flat_map (λ f.
+    gets_of (usage_from plans sources p 0 f (w f))
+    ++ Fire (ref_of (usage_from plans sources p 0 f (w f)) ∷ []) ∷ puts_from 0 plans p f)
+    (range_with_len 0 fires)
 
 -- for j < 2 for i < 2 b[j][i] = a[i][j]
 abbrev turned_plans : List ChannelPlan
@@ -95,7 +98,8 @@ branch (suc zero) = 1
 branch (suc (suc f)) = 2
 
 branched : script_by branched_plans (tag 1 0 ∷ tag 1 1 ∷ tag 2 0 ∷ []) 3 branch 3
-    ≡ Get 2 0 ∷ Fire (Slot 0 ∷ []) ∷ Put 4 ∷ Get 2 0 ∷ Fire (Slot 0 ∷ []) ∷ Put 4 ∷ Get 3 1 ∷ Fire (Slot 1 ∷ []) ∷ Put 4 ∷ []
+    ≡ Get 2 0 ∷ Fire (Slot 0 ∷ []) ∷ Put 4 ∷ Get 2 0 ∷ Fire (Slot 0 ∷ []) ∷ Put 4 ∷ Get 3 1 ∷ Fire
+    (Slot 1 ∷ []) ∷ Put 4 ∷ []
 branched = refl
 
 branched_slots : slots_of branched_plans 3 ≡ 2

@@ -37,8 +37,9 @@ fn make_channels(alloc: Global, plans: &[ChannelPlan]) -> Result<Items<Channel>,
 }
 
 /// The network of a nest (Compaan 2000, pn 2007): one process for each statement, and one channel for each reader, read
-/// and writer of which some point is the source of that read, with the number of its tokens as its capacity. The table
-/// of sources is the exact one. It takes the time of the network's events. Nothing is refused but want of memory.
+/// and writer of which some point is the source of that read, with the number of its tokens as its capacity. Each script is
+/// folded. The table of sources is the exact one. It takes the time of the network's events. Nothing is refused but want of
+/// memory.
 pub fn derive(
     alloc: Global,
     nest: &Nest,

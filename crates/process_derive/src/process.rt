@@ -11,13 +11,14 @@ use crate::events::{event_room, script_of};
 use crate::incoming::{incoming_channels, outgoing_channels, slot_count};
 use crate::uses::uses_of;
 use channel_plan::ChannelPlan;
-use net_core::Process;
+use net_core::{Process, equal_is_same};
 use plain_data::Items;
 use sanlp::{Nest, Points, Tag};
+use script_blocks::Script;
 use source_tree::SourceTable;
 use std::alloc::{AllocError, Global};
 
-// The process of the statement of this number, which has so many points and these sources, by read.
+// The process of the statement of this number, which has so many points and these sources, by read. Its script is folded.
 fn make_process(
     alloc: Global,
     nest: &Nest,
@@ -38,20 +39,23 @@ fn make_process(
     let outgoing = outgoing_channels(alloc, plans, number)?;
     let uses = uses_of(alloc, incoming.as_slice(), sources, nest.statements.len())?;
     let room = event_room(plans, number, fires);
+    let events = script_of(
+        alloc,
+        plans,
+        uses.as_slice(),
+        outgoing.as_slice(),
+        fires,
+        room,
+    )?;
+    equal_is_same();
     Ok(Process {
         slots: slot_count(plans, number),
-        script: script_of(
-            alloc,
-            plans,
-            uses.as_slice(),
-            outgoing.as_slice(),
-            fires,
-            room,
-        )?,
+        script: Script::folded(alloc, events.as_slice())?,
     })
 }
 
-/// The processes of a nest, one for each statement. The table of sources is the exact one.
+/// The processes of a nest, one for each statement, with folded scripts. The table of sources is the exact one. Besides
+/// what it makes, it keeps the events of one process at a time.
 pub(crate) fn make_processes(
     alloc: Global,
     nest: &Nest,

@@ -3,12 +3,9 @@ use Rattle.std.proofs.Common.{◌≡◌, ◌<◌, ◌≤◌, ◌+◌, ◌-◌, �
 use Rattle.std.specs.declared.vec.Vec.{Vec}
 use Rattle.std.specs.Global.{Global}
 use Rattle.std.proofs.lemmas.List.{length-map}
-use Rattle.std.proofs.lemmas.List.FromFn.{length-map-range_with_len}
 use Rattle.sanlp.specs.declared.nest.ArrayDecl.{ArrayDecl}
 use Rattle.sanlp.specs.declared.nest.Nest.{Nest}
 use Rattle.sanlp.specs.Cells.{is_output}
-use Rattle.sanlp.specs.Points.{points_of, vectors_of}
-use Rattle.sanlp.specs.Trace.{trace}
 use Rattle.sanlp.specs.declared.nest.Role.TheVariants as role
 use Rattle.sanlp.specs.declared.nest.Statement.{Statement}
 use Rattle.sanlp.specs.WellFormed.{numbers_from, input_numbers, output_numbers}
@@ -18,24 +15,22 @@ use Rattle.net_core.specs.Shape.{turns}
 use Rattle.net_core.specs.Sound.{sink_lists_from}
 use Rattle.net_core.proofs.Fresh.{item_found}
 use Rattle.std.proofs.lemmas.Option.{get_or_from_slice_get}
-use Rattle.node_runner.specs.Rooms.{Store, fresh_store}
+use Rattle.net_core.specs.Rooms.{Store, fresh_store}
 use Rattle.thread_runner.specs.Benches.{AreFreshRooms, HaveSpace}
 use Rattle.thread_runner.proofs.Rooms.{get_front, get_snoc}
 
-pub fresh_more : (network : Network) (k : ℕ) (rooms rooms' : List Store) (room : Store) → AreFreshRooms network k rooms → rooms' ≡ rooms ++ room ∷ [] → room ≡ fresh_store (net_of network) k → AreFreshRooms network (k + 1) rooms'
+pub fresh_more : (network : Network) (k : ℕ) (rooms rooms' : List (Store ℤ)) (room : Store ℤ)
+    → AreFreshRooms network k rooms → rooms' ≡ rooms ++ room ∷ [] → room ≡ fresh_store (net_of network) k
+    → AreFreshRooms network (k + 1) rooms'
 fresh_more network k rooms rooms' room fresh grown is =
     let more : AreFreshRooms network (k + 1) (rooms ++ room ∷ []) = record {
       number = omega (arith, fresh.number, length-append rooms (room ∷ []));
       each = λ p r h. ⊎_elim (λ (a : slice_get rooms p ≡ Some r). fresh.each p r a)
-          (λ (b : (p ≡ length rooms) × (room ≡ r)). sym b.1 ∙ is ∙ ap (fresh_store (net_of network)) (sym (b.0 ∙ fresh.number)))
+          (λ (b : (p ≡ length rooms) × (room ≡ r)). sym b.1 ∙ is
+          ∙ ap (fresh_store (net_of network)) (sym (b.0 ∙ fresh.number)))
           (get_snoc rooms room r p h);
     } in
     subst (AreFreshRooms network (k + 1)) (sym grown) more
-
--- there is one list of points for each statement
-pub points_length : (n : Nest) → length (points_of n) ≡ length n.statements
-unfolding points_of
-points_length n = length-map-range_with_len (vectors_of (trace n)) 0 (length n.statements)
 
 -- there are no more printed arrays than statements
 pub few_outputs : (n : Nest) → length (output_numbers n.arrays) ≤ length n.statements
@@ -47,7 +42,9 @@ few_outputs n =
     sym (length-map n.statements (λ (s : Statement). s.role)) ∙ ap length n.well_formed.roles_in_order in
     omega (arith, whole, length-append (map role.Source ins) (replicate k role.Assign ++ map role.Sink outs), length-append (replicate k role.Assign) (map role.Sink outs), length-map outs role.Sink)
 
-pub space_more : (values : ℕ → ℕ) (past k p : ℕ) (lists lists' : List (Vec ℤ Global)) (list : Vec ℤ Global) → HaveSpace values past lists → lists' ≡ lists ++ list ∷ [] → length lists ≡ k → p + k + 1 ≡ past → list.items ≡ [] → values p ≤ vec_capacity list
+pub space_more : (values : ℕ → ℕ) (past k p : ℕ) (lists lists' : List (Vec ℤ Global)) (list : Vec ℤ Global)
+    → HaveSpace values past lists → lists' ≡ lists ++ list ∷ [] → length lists ≡ k → p + k + 1 ≡ past → list.items ≡ []
+    → values p ≤ vec_capacity list
     → HaveSpace values past lists'
 space_more values past k p lists lists' list before grown many is empty space =
     subst (HaveSpace values past) (sym grown)
@@ -56,49 +53,68 @@ space_more values past k p lists lists' list before grown many is empty space =
       ap (λ (v : Vec ℤ Global). v.items) (sym b.1) ∙ empty,
       λ q e.
           let same : q ≡ p = omega (arith, e, is, b.0, many) in
-          subst (λ (v : Vec ℤ Global). values q ≤ vec_capacity v) b.1 (subst (λ n. values n ≤ vec_capacity list) (sym same) space),
+          subst (λ (v : Vec ℤ Global). values q ≤ vec_capacity v) b.1
+          (subst (λ n. values n ≤ vec_capacity list) (sym same) space),
     ))
     (get_snoc lists list x i h))
 
-pub space_less : (values : ℕ → ℕ) (past : ℕ) (lists lists' : List (Vec ℤ Global)) (list : Vec ℤ Global) → HaveSpace values past lists → lists ≡ lists' ++ list ∷ [] → HaveSpace values past lists'
-space_less values past lists lists' list before shrunk i x h = before i x (ap (λ l. slice_get l i) shrunk ∙ get_front lists' (list ∷ []) i x h)
+pub space_less : (values : ℕ → ℕ) (past : ℕ) (lists lists' : List (Vec ℤ Global)) (list : Vec ℤ Global)
+    → HaveSpace values past lists → lists ≡ lists' ++ list ∷ [] → HaveSpace values past lists'
+space_less values past lists lists' list before shrunk i x h =
+    before i x (ap (λ l. slice_get l i) shrunk ∙ get_front lists' (list ∷ []) i x h)
 
 -- the room that was reserved for a process's points
-pub turns_read : (points items : List (List (List ℤ))) (p : ℕ) (list : List (List ℤ)) (count space : ℕ) → items ≡ points → p < length items → list ≡ get_or items p list → count ≡ length list → space ≡ count → turns points p ≤ space
+pub turns_read : (points items : List (List (List ℤ))) (p : ℕ) (list : List (List ℤ)) (count space : ℕ) → items ≡ points
+    → p < length items → list ≡ get_or items p list → count ≡ length list → space ≡ count → turns points p ≤ space
 turns_read points items p list count space same lt is counted reserved =
     let found : slice_get points p ≡ Some list = item_found points items p list same lt is in
     let turns_are : turns points p ≡ length list = ap length (get_or_from_slice_get points p list [] found) in
     omega arith
 
 -- the declared arrays from one on
-pub array_here : (declared items : List ArrayDecl) (i : ℕ) (array : ArrayDecl) → items ≡ declared → i < length items → array ≡ get_or items i array → drop i declared ≡ array ∷ drop (i + 1) declared
+pub array_here : (declared items : List ArrayDecl) (i : ℕ) (array : ArrayDecl) → items ≡ declared → i < length items
+    → array ≡ get_or items i array → drop i declared ≡ array ∷ drop (i + 1) declared
 array_here declared items i array same lt is =
-    ap (drop i) (sym same) ∙ drop-cons items i array lt ∙ ap (λ a. a ∷ drop (suc i) items) (sym is) ∙ ap (λ l. array ∷ drop (suc i) l) same ∙ ap (λ k. array ∷ drop k declared) (sym (add-one i))
+    ap (drop i) (sym same) ∙ drop-cons items i array lt ∙ ap (λ a. a ∷ drop (suc i) items) (sym is)
+    ∙ ap (λ l. array ∷ drop (suc i) l) same ∙ ap (λ k. array ∷ drop k declared) (sym (add-one i))
 
-pub numbers_out : (declared : List ArrayDecl) (i : ℕ) (array : ArrayDecl) → drop i declared ≡ array ∷ drop (i + 1) declared → is_output array.kind ≡ true
-    → length (numbers_from (λ (a : ArrayDecl). is_output a.kind) i (drop i declared)) ≡ length (numbers_from (λ (a : ArrayDecl). is_output a.kind) (i + 1) (drop (i + 1) declared)) + 1
+pub numbers_out : (declared : List ArrayDecl) (i : ℕ) (array : ArrayDecl)
+    → drop i declared ≡ array ∷ drop (i + 1) declared → is_output array.kind ≡ true
+    → length (numbers_from (λ (a : ArrayDecl). is_output a.kind) i (drop i declared))
+    ≡ length (numbers_from (λ (a : ArrayDecl). is_output a.kind) (i + 1) (drop (i + 1) declared)) + 1
 numbers_out declared i array here out =
     let q = λ (a : ArrayDecl). is_output a.kind in
     let rest = numbers_from q (i + 1) (drop (i + 1) declared) in
     ap (λ l. length (numbers_from q i l)) here ∙ ap (λ b. length (cond b (i ∷ rest) rest)) out ∙ omega arith
 
-pub numbers_other : (declared : List ArrayDecl) (i : ℕ) (array : ArrayDecl) → drop i declared ≡ array ∷ drop (i + 1) declared → is_output array.kind ≡ false
-    → length (numbers_from (λ (a : ArrayDecl). is_output a.kind) i (drop i declared)) ≡ length (numbers_from (λ (a : ArrayDecl). is_output a.kind) (i + 1) (drop (i + 1) declared))
+pub numbers_other : (declared : List ArrayDecl) (i : ℕ) (array : ArrayDecl)
+    → drop i declared ≡ array ∷ drop (i + 1) declared → is_output array.kind ≡ false
+    → length (numbers_from (λ (a : ArrayDecl). is_output a.kind) i (drop i declared))
+    ≡ length (numbers_from (λ (a : ArrayDecl). is_output a.kind) (i + 1) (drop (i + 1) declared))
 numbers_other declared i array here other =
     let q = λ (a : ArrayDecl). is_output a.kind in
     let rest = numbers_from q (i + 1) (drop (i + 1) declared) in
     ap (λ l. length (numbers_from q i l)) here ∙ ap (λ b. length (cond b (i ∷ rest) rest)) other
 
-pub lists_out : (f : ℕ → List ℤ) (s i : ℕ) (declared : List ArrayDecl) (array : ArrayDecl) (arrays arrays' : List (List ℤ)) → drop i declared ≡ array ∷ drop (i + 1) declared → is_output array.kind ≡ true → arrays' ≡ arrays ++ f s ∷ []
+pub lists_out : (f : ℕ → List ℤ) (s i : ℕ) (declared : List ArrayDecl) (array : ArrayDecl)
+    (arrays arrays' : List (List ℤ)) → drop i declared ≡ array ∷ drop (i + 1) declared → is_output array.kind ≡ true
+    → arrays' ≡ arrays ++ f s ∷ []
     → arrays' ++ sink_lists_from f (s + 1) (drop (i + 1) declared) ≡ arrays ++ sink_lists_from f s (drop i declared)
 lists_out f s i declared array arrays arrays' here out grown =
     let rest = drop (i + 1) declared in
-    ap (λ l. l ++ sink_lists_from f (s + 1) rest) grown ∙ append_assoc arrays (f s ∷ []) (sink_lists_from f (s + 1) rest)
-    ∙ ap (λ l. arrays ++ l) (sym (ap (sink_lists_from f s) here ∙ ap (λ b. cond b (f s ∷ sink_lists_from f (s + 1) rest) ([] ∷ sink_lists_from f s rest)) out))
+    ap (λ l. l ++ sink_lists_from f (s + 1) rest) grown
+    ∙ append_assoc arrays (f s ∷ []) (sink_lists_from f (s + 1) rest)
+    ∙ ap (λ l. arrays ++ l)
+    (sym (ap (sink_lists_from f s) here
+    ∙ ap (λ b. cond b (f s ∷ sink_lists_from f (s + 1) rest) ([] ∷ sink_lists_from f s rest)) out))
 
-pub lists_other : (f : ℕ → List ℤ) (s i : ℕ) (declared : List ArrayDecl) (array : ArrayDecl) (arrays arrays' : List (List ℤ)) → drop i declared ≡ array ∷ drop (i + 1) declared → is_output array.kind ≡ false → arrays' ≡ arrays ++ [] ∷ []
+pub lists_other : (f : ℕ → List ℤ) (s i : ℕ) (declared : List ArrayDecl) (array : ArrayDecl)
+    (arrays arrays' : List (List ℤ)) → drop i declared ≡ array ∷ drop (i + 1) declared → is_output array.kind ≡ false
+    → arrays' ≡ arrays ++ [] ∷ []
     → arrays' ++ sink_lists_from f s (drop (i + 1) declared) ≡ arrays ++ sink_lists_from f s (drop i declared)
 lists_other f s i declared array arrays arrays' here other grown =
     let rest = drop (i + 1) declared in
     ap (λ l. l ++ sink_lists_from f s rest) grown ∙ append_assoc arrays ([] ∷ []) (sink_lists_from f s rest)
-    ∙ ap (λ l. arrays ++ l) (sym (ap (sink_lists_from f s) here ∙ ap (λ b. cond b (f s ∷ sink_lists_from f (s + 1) rest) ([] ∷ sink_lists_from f s rest)) other))
+    ∙ ap (λ l. arrays ++ l)
+    (sym (ap (sink_lists_from f s) here
+    ∙ ap (λ b. cond b (f s ∷ sink_lists_from f (s + 1) rest) ([] ∷ sink_lists_from f s rest)) other))

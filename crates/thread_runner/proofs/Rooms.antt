@@ -4,11 +4,12 @@ use Rattle.sanlp.specs.declared.nest.Inputs.{Inputs}
 use Rattle.sanlp.specs.declared.nest.Nest.{Nest}
 use Rattle.sanlp.specs.Laws.{values_of}
 use Rattle.net_core.specs.declared.network.Network.{Network}
-use Rattle.node_runner.specs.Rooms.{Store}
+use Rattle.net_core.specs.Rooms.{Store}
 use Rattle.node_runner.specs.Nodes.{Ports}
 use Rattle.thread_runner.specs.Runs.{MayWork, MayStart, HaveKept}
 
-pub get_front : {X : Type 0} (xs ys : List X) (p : ℕ) (x : X) → slice_get xs p ≡ Some x → slice_get (xs ++ ys) p ≡ Some x
+pub get_front : {X : Type 0} (xs ys : List X) (p : ℕ) (x : X) → slice_get xs p ≡ Some x
+    → slice_get (xs ++ ys) p ≡ Some x
 get_front [] ys p x e = absurd (cc)
 get_front (y ∷ xs) ys zero x e = e
 get_front (y ∷ xs) ys (suc p) x e = get_front xs ys p x e
@@ -17,16 +18,22 @@ pub get_last : {X : Type 0} (xs : List X) (x : X) → slice_get (xs ++ x ∷ [])
 get_last [] x = refl
 get_last (y ∷ xs) x = get_last xs x
 
-pub get_snoc : {X : Type 0} (xs : List X) (x y : X) (p : ℕ) → slice_get (xs ++ x ∷ []) p ≡ Some y → (slice_get xs p ≡ Some y) ⊎ ((p ≡ length xs) × (x ≡ y))
+pub get_snoc : {X : Type 0} (xs : List X) (x y : X) (p : ℕ) → slice_get (xs ++ x ∷ []) p ≡ Some y
+    → (slice_get xs p ≡ Some y) ⊎ ((p ≡ length xs) × (x ≡ y))
 get_snoc [] x y zero e = inr (refl, cc)
 get_snoc [] x y (suc p) e = absurd (cc)
 get_snoc (z ∷ xs) x y zero e = inl e
-get_snoc {X} (z ∷ xs) x y (suc p) e = ⊎_elim (λ a. inl a) (λ (b : (p ≡ length xs) × (x ≡ y)). inr (ap suc b.0, b.1)) (get_snoc xs x y p e)
+get_snoc {X} (z ∷ xs) x y (suc p) e =
+    ⊎_elim (λ a. inl a) (λ (b : (p ≡ length xs) × (x ≡ y)). inr (ap suc b.0, b.1)) (get_snoc xs x y p e)
 
-module _ {E : Type 0} (from to : E → Ports) (nest : Nest) (points : List (List (List ℤ))) (d : Inputs) (network : Network) (rooms : List Store) (ends : List E) (room : Store) (mine : E) where
-  pub last_works : (p : ℕ) → p ≡ length rooms → MayStart from to nest points d network (rooms ++ room ∷ []) (ends ++ mine ∷ []) → MayWork from to nest points d network p room mine
+module _ {E : Type 0} (from to : E → Ports) (nest : Nest) (points : List (List (List ℤ))) (d : Inputs)
+    (network : Network) (rooms : List (Store ℤ)) (ends : List E) (room : Store ℤ) (mine : E) where
+  pub last_works : (p : ℕ) → p ≡ length rooms
+      → MayStart from to nest points d network (rooms ++ room ∷ []) (ends ++ mine ∷ [])
+      → MayWork from to nest points d network p room mine
   last_works p is m =
-      let n : length ends ≡ length rooms = omega (arith, m.same, length-append rooms (room ∷ []), length-append ends (mine ∷ [])) in
+      let n : length ends ≡ length rooms =
+      omega (arith, m.same, length-append rooms (room ∷ []), length-append ends (mine ∷ [])) in
       record {
         points_are = m.points_are;
         numbers = m.numbers;
@@ -36,7 +43,8 @@ module _ {E : Type 0} (from to : E → Ports) (nest : Nest) (points : List (List
         ends_are = m.ends_are p mine (ap (slice_get (ends ++ mine ∷ [])) (is ∙ sym n) ∙ get_last ends mine);
       }
 
-  pub rest_starts : MayStart from to nest points d network (rooms ++ room ∷ []) (ends ++ mine ∷ []) → MayStart from to nest points d network rooms ends
+  pub rest_starts : MayStart from to nest points d network (rooms ++ room ∷ []) (ends ++ mine ∷ [])
+      → MayStart from to nest points d network rooms ends
   rest_starts m = record {
     points_are = m.points_are;
     numbers = m.numbers;
@@ -47,8 +55,10 @@ module _ {E : Type 0} (from to : E → Ports) (nest : Nest) (points : List (List
     ends_are = λ p x e. m.ends_are p x (get_front ends (mine ∷ []) p x e);
   }
 
-pub all_kept : (nest : Nest) (d : Inputs) (rooms : List Store) (room : Store) → HaveKept nest d rooms → room.kept ≡ values_of nest d (length rooms) → HaveKept nest d (rooms ++ room ∷ [])
+pub all_kept : (nest : Nest) (d : Inputs) (rooms : List (Store ℤ)) (room : Store ℤ) → HaveKept nest d rooms
+    → room.kept ≡ values_of nest d (length rooms) → HaveKept nest d (rooms ++ room ∷ [])
 all_kept nest d rooms room below mine p r e =
     ⊎_elim (λ (a : slice_get rooms p ≡ Some r). below p r a)
-    (λ (b : (p ≡ length rooms) × (room ≡ r)). ap (λ (s : Store). s.kept) (sym b.1) ∙ mine ∙ ap (values_of nest d) (sym b.0))
+    (λ (b : (p ≡ length rooms) × (room ≡ r)). ap (λ (s : Store ℤ). s.kept) (sym b.1) ∙ mine
+    ∙ ap (values_of nest d) (sym b.0))
     (get_snoc rooms room r p e)

@@ -10,17 +10,17 @@ use Rattle.net_core.specs.declared.network.Network.{Network}
 use Rattle.net_core.specs.Held.{held_of, run_of, IsFor}
 use Rattle.net_core.specs.Machine.{net_of, start}
 use Rattle.net_core.specs.Shape.{turns}
-use Rattle.node_runner.specs.Rooms.{Store, fresh_store}
+use Rattle.net_core.specs.Rooms.{Store, fresh_store}
 use Rattle.thread_runner.specs.declared.bench.Bench.{Bench}
 
 -- what a process has kept in its room; a process that isn't there has nothing
-abbrev pub kept_in : List Store → ℕ → List ℤ
+abbrev pub kept_in : List (Store ℤ) → ℕ → List ℤ
 kept_in rooms p = option_map_or (λ room. room.kept) (slice_get rooms p) []
 
 -- a fresh room for each of so many processes, in order
-pub record AreFreshRooms (network : Network) (many : ℕ) (rooms : List Store) : Type 0 where
+pub record AreFreshRooms (network : Network) (many : ℕ) (rooms : List (Store ℤ)) : Type 0 where
   pub number : length rooms ≡ many
-  pub each : (p : ℕ) (room : Store) → slice_get rooms p ≡ Some room
+  pub each : (p : ℕ) (room : Store ℤ) → slice_get rooms p ≡ Some room
       → room ≡ fresh_store (net_of network) p
 
 -- Each list is empty. The first has room for the values of the last process before `past`, the next for those of the one

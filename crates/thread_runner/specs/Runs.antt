@@ -3,7 +3,7 @@ use Rattle.std.specs.Prelude.{◌≡◌, ◌<◌, ◌≤◌, ℕ, ℤ, List, len
 use Rattle.sanlp.specs.declared.nest.Inputs.{Inputs}
 use Rattle.sanlp.specs.declared.nest.Nest.{Nest}
 use Rattle.net_core.specs.declared.network.Network.{Network}
-use Rattle.node_runner.specs.Rooms.{Store, fresh_store}
+use Rattle.net_core.specs.Rooms.{Store, fresh_store}
 use Rattle.sanlp.specs.Laws.{values_of}
 use Rattle.sanlp.specs.Points.{points_of}
 use Rattle.net_core.specs.Machine.{net_of}
@@ -26,7 +26,7 @@ pub record AreEndsOf {E : Type 0} (from to : E → Ports) (nest : Nest) (network
 
 -- process p may work in this room with these ends
 pub record MayWork {E : Type 0} (from to : E → Ports) (nest : Nest) (points : List (List (List ℤ)))
-    (d : Inputs) (network : Network) (p : ℕ) (room : Store) (ends : E) : Type 0 where
+    (d : Inputs) (network : Network) (p : ℕ) (room : Store ℤ) (ends : E) : Type 0 where
   pub points_are : points ≡ points_of nest
   pub numbers : FitsNumbers (net_of network)
   pub sound : IsSound nest network
@@ -36,18 +36,18 @@ pub record MayWork {E : Type 0} (from to : E → Ports) (nest : Nest) (points : 
 
 -- the first processes may work in these rooms with these ends
 pub record MayStart {E : Type 0} (from to : E → Ports) (nest : Nest) (points : List (List (List ℤ)))
-    (d : Inputs) (network : Network) (rooms : List Store) (ends : List E) : Type 0 where
+    (d : Inputs) (network : Network) (rooms : List (Store ℤ)) (ends : List E) : Type 0 where
   pub points_are : points ≡ points_of nest
   pub numbers : FitsNumbers (net_of network)
   pub sound : IsSound nest network
   pub there : length rooms ≤ length network.processes
   pub same : length ends ≡ length rooms
-  pub rooms_are : (p : ℕ) (room : Store) → slice_get rooms p ≡ Some room
+  pub rooms_are : (p : ℕ) (room : Store ℤ) → slice_get rooms p ≡ Some room
       → room ≡ fresh_store (net_of network) p
   pub ends_are : (p : ℕ) (e : E) → slice_get ends p ≡ Some e
       → IsEndsOf nest network d p (from e) (to e)
 
 -- each process has kept the values of its points
-abbrev pub HaveKept : Nest → Inputs → List Store → Type 0
-HaveKept nest d rooms = (p : ℕ) (room : Store) → slice_get rooms p ≡ Some room
+abbrev pub HaveKept : Nest → Inputs → List (Store ℤ) → Type 0
+HaveKept nest d rooms = (p : ℕ) (room : Store ℤ) → slice_get rooms p ≡ Some room
     → room.kept ≡ values_of nest d p

@@ -5,11 +5,10 @@ ghost use Rattle.sanlp.specs.WellFormed.{output_numbers};
 ghost use Rattle.net_core.specs.Machine.{net_of};
 ghost use Rattle.net_core.specs.Shape.{IsShaped, FitsNumbers, turns};
 ghost use Rattle.net_core.specs.Sound.{sink_lists_from};
-ghost use Rattle.node_runner.specs.Rooms.{fresh_store};
+ghost use Rattle.net_core.specs.Rooms.{fresh_store};
 ghost use Rattle.thread_runner.specs.Benches.{IsFreshBench, AreFreshRooms, HaveSpace};
 
-use net_core::{Network, State, kept, start};
-use node_runner::Room;
+use net_core::{Network, Room, State, kept, start};
 use plain_data::Items;
 use sanlp::{ArrayDecl, Arrays, Kind, Nest, Points};
 use std::alloc::{AllocError, Global};
@@ -18,7 +17,7 @@ use std::alloc::{AllocError, Global};
 /// for all cells, and an opening state of the machine.
 #[derive(Drop)]
 pub struct Bench {
-    pub(crate) rooms: Vec<Room>,
+    pub(crate) rooms: Vec<Room<i64>>,
     // For each sink a list, that of the last sink first.
     pub(crate) lists: Vec<Vec<i64>>,
     pub(crate) arrays: Vec<Items<i64>>,
@@ -51,7 +50,11 @@ impl Bench {
     }
 }
 
-fn fresh_rooms(alloc: Global, network: &Network, points: &Points) -> Result<Vec<Room>, AllocError>
+fn fresh_rooms(
+    alloc: Global,
+    network: &Network,
+    points: &Points,
+) -> Result<Vec<Room<i64>>, AllocError>
     requires shaped { IsShaped (net_of network.now) points.now.of }
     requires numbers { FitsNumbers (net_of network.now) }
     ensures { IfOk result
@@ -129,7 +132,7 @@ impl Keeper for State<i64> {
 /// The rooms of all processes.
 #[derive(Clone, Copy)]
 pub(crate) struct Rooms<'a> {
-    pub(crate) rooms: &'a [Room],
+    pub(crate) rooms: &'a [Room<i64>],
 }
 
 impl<'a> Keeper for Rooms<'a> {

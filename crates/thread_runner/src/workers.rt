@@ -1,10 +1,10 @@
-ghost use Rattle.std.specs.Prelude.{◌≡◌, ◌<◌, ◌≤◌, ℕ, true, length, vec_len, vec_capacity, slice_get, Some, MatchResult};
+ghost use Rattle.std.specs.Prelude.{◌≡◌, ◌<◌, ◌≤◌, ℕ, true, false, length, vec_len, vec_capacity, slice_get, Some, MatchResult};
 ghost use Rattle.sanlp.specs.Laws.{values_of};
 ghost use Rattle.thread_runner.specs.Runs.{MayWork, MayStart, HaveKept};
 
 use io_edge::Gate;
-use net_core::Network;
-use node_runner::{Room, run_node};
+use net_core::{Network, Room};
+use node_runner::run_node;
 use ruled_links::Ends;
 use sanlp::{Inputs, Nest, Points};
 use std::sync::Wait;
@@ -17,10 +17,10 @@ const GO: u64 = 1;
 
 const STAY: u64 = 2;
 
-// What a worker hands back.
+// What a worker is given and hands back: a process's room and its ends, and whether the process ran.
 #[derive(Drop)]
 struct Back<E> {
-    room: Room,
+    room: Room<i64>,
     ends: E,
     ran: bool,
 }
@@ -58,22 +58,18 @@ fn is_go<R: Wait>(rt: &R, signal: &AtomicU64) -> bool {
 fn work<R: Wait, E: Ends, G: Gate>(
     rt: &R,
     task: Task,
-    mut room: Room,
-    mut ends: E,
+    mut back: Back<E>,
     signal: &AtomicU64,
     gate: &G,
 ) -> Back<E>
-    requires { MayWork E.from E.to task.nest.now task.points.now.of task.inputs.now task.network.now task.process room ends }
+    requires may { MayWork E.from E.to task.nest.now task.points.now.of task.inputs.now task.network.now task.process back.room back.ends }
+    requires idle { back.ran ≡ false }
     ensures { result.ran ≡ true
         → result.room.kept
         ≡ values_of task.entry.nest.now task.entry.inputs.now task.entry.process }
 {
     if !is_go(rt, signal) {
-        return Back {
-            room,
-            ends,
-            ran: false,
-        };
+        return back;
     }
     gate.pass(task.process);
     run_node(
@@ -83,15 +79,12 @@ fn work<R: Wait, E: Ends, G: Gate>(
         task.inputs,
         task.network,
         task.process,
-        &mut room,
-        &mut ends,
+        &mut back.room,
+        &mut back.ends,
         gate,
     );
-    Back {
-        room,
-        ends,
-        ran: true,
-    }
+    back.ran = true;
+    back
 }
 
 // Starts a worker. Where no thread can be made, the signal says stay, and the work comes back unstarted.
@@ -101,7 +94,7 @@ fn launch<'s, S, R: Threads + Wait + Sync, E: Ends + Send + Drop + 's, G: Gate +
     task: Task<'s>,
     signal: &'s AtomicU64,
     gate: &'s G,
-    room: Room,
+    room: Room<i64>,
     ends: E,
 ) -> Result<PromisedHandle<Back<E>, Task<'s>>, Back<E>>
     requires { MayWork E.from E.to task.nest.now task.points.now.of task.inputs.now task.network.now task.process room ends }
@@ -109,14 +102,35 @@ fn launch<'s, S, R: Threads + Wait + Sync, E: Ends + Send + Drop + 's, G: Gate +
         (λ back. back.ran ≡ true
         → back.room.kept ≡ values_of task.entry.nest.now task.entry.inputs.now task.entry.process) }
 {
+    let Task {
+        nest,
+        points,
+        inputs,
+        network,
+        process,
+    } = task;
+    let back = Back {
+        room,
+        ends,
+        ran: false,
+    };
     match scope.spawn_with(
         task,
         move || -> Back<E>
-            requires { MayWork E.from E.to task.nest.now task.points.now.of task.inputs.now task.network.now task.process room ends }
+            requires may { MayWork E.from E.to nest.now points.now.of inputs.now network.now process back.room back.ends }
+            requires idle { back.ran ≡ false }
             ensures { result.ran ≡ true
-                → result.room.kept
-                ≡ values_of task.entry.nest.now task.entry.inputs.now task.entry.process }
-        { work(rt, task, room, ends, signal, gate) },
+                → result.room.kept ≡ values_of nest.entry.now inputs.entry.now process }
+        {
+            let task = Task {
+                nest,
+                points,
+                inputs,
+                network,
+                process,
+            };
+            work(rt, task, back, signal, gate)
+        },
     ) {
         Ok(worker) => Ok(worker),
         Err(refused) => {
@@ -136,9 +150,9 @@ fn start<'s, S, R: Threads + Wait + Sync, E: Ends + Send + Drop + 's, G: Gate + 
     network: &'s Network,
     signal: &'s AtomicU64,
     gate: &'s G,
-    mut rooms: Vec<Room>,
+    mut rooms: Vec<Room<i64>>,
     mut ends: Vec<E>,
-) -> (Vec<Room>, Vec<E>, bool)
+) -> (Vec<Room<i64>>, Vec<E>, bool)
     requires { MayStart E.from E.to nest.now points.now.of inputs.now network.now rooms.items ends.items }
     ensures len { (vec_len result.0 ≡ vec_len rooms) × (vec_len result.1 ≡ vec_len ends) }
     ensures capacity { (vec_capacity result.0 ≡ vec_capacity rooms)
@@ -184,10 +198,10 @@ pub(crate) fn run_workers<R: Threads + Wait + Sync, E: Ends + Send + Drop, G: Ga
     points: &Points,
     inputs: &Inputs,
     network: &Network,
-    rooms: Vec<Room>,
+    rooms: Vec<Room<i64>>,
     ends: Vec<E>,
     gate: &G,
-) -> (Vec<Room>, bool)
+) -> (Vec<Room<i64>>, bool)
     requires { MayStart E.from E.to nest.now points.now.of inputs.now network.now rooms.items ends.items }
     ensures len { vec_len result.0 ≡ vec_len rooms }
     ensures kept { result.1 ≡ true → HaveKept nest.now inputs.now result.0.items }
@@ -197,7 +211,7 @@ pub(crate) fn run_workers<R: Threads + Wait + Sync, E: Ends + Send + Drop, G: Ga
     let (rooms, _ends, ran) = thread::scope(
         thread::scope_env(),
         rt,
-        |scope| -> (Vec<Room>, Vec<E>, bool)
+        |scope| -> (Vec<Room<i64>>, Vec<E>, bool)
             requires { MayStart E.from E.to nest.now points.now.of inputs.now network.now rooms.items ends.items }
             ensures len { vec_len result.0 ≡ vec_len rooms }
             ensures kept { result.2 ≡ true

@@ -17,7 +17,8 @@ behind start first all one other e f = f ∙ ap (λ (text : List ℕ). text ++ o
 
 -- the pieces of the line of a reference make this line
 joined : (head number seen wanted space : List ℕ)
-    → ((((head ++ number) ++ space) ++ seen) ++ space) ++ wanted ≡ head ++ (number ++ (space ++ (seen ++ (space ++ wanted))))
+    → ((((head ++ number) ++ space) ++ seen) ++ space) ++ wanted
+    ≡ head ++ (number ++ (space ++ (seen ++ (space ++ wanted))))
 joined head number seen wanted space =
     append_assoc (((head ++ number) ++ space) ++ seen) space wanted
     ∙ append_assoc ((head ++ number) ++ space) seen (space ++ wanted)

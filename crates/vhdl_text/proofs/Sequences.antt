@@ -17,17 +17,21 @@ text_more : {X : Type 0} (f : X → List ℕ) (xs : List X) (x : X) → flat_map
 text_more f xs x = flat_map-append f xs (x ∷ []) ∙ ap (λ (text : List ℕ). flat_map f xs ++ text) (append-nil (f x))
 
 -- the items before a place, and the item there
-pub one_more_item : {W : Type 0} (given : W → Given) {old mid new : W} {X : Type 0} (f : X → List ℕ) (xs : List X) (i : ℕ) (x : X) → i < length xs → x ≡ get_or xs i x
+pub one_more_item : {W : Type 0} (given : W → Given) {old mid new : W} {X : Type 0} (f : X → List ℕ) (xs : List X)
+    (i : ℕ) (x : X) → i < length xs → x ≡ get_or xs i x
     → Wrote given old mid (flat_map f (take i xs)) → Wrote given mid new (f x)
     → Wrote given old new (flat_map f (take (i + 1) xs))
 one_more_item given f xs i x inside is before now =
     rw ((take_at_read xs i x inside).1, ← is, text_more f (take i xs) x) (and_then given _ _ before now)
 
 -- the items before a place, each with its number, and the item there
-pub one_more : {W : Type 0} (given : W → Given) {old mid new : W} {X : Type 0} (f : ℕ × X → List ℕ) (xs : List X) (i : ℕ) (d : X) → i < length xs
+pub one_more : {W : Type 0} (given : W → Given) {old mid new : W} {X : Type 0} (f : ℕ × X → List ℕ) (xs : List X)
+    (i : ℕ) (d : X) → i < length xs
     → Wrote given old mid (flat_map f (enumerate_from 0 (take i xs))) → Wrote given mid new (f (i, get_or xs i d))
     → Wrote given old new (flat_map f (enumerate_from 0 (take (i + 1) xs)))
-one_more given f xs i d inside before now = rw ((numbered_at_read xs i d inside).1, text_more f (enumerate_from 0 (take i xs)) _) (and_then given _ _ before now)
+one_more given f xs i d inside before now =
+    rw ((numbered_at_read xs i d inside).1, text_more f (enumerate_from 0 (take i xs)) _)
+    (and_then given _ _ before now)
 
 range_more : (a n k : ℕ) → a + n ≡ k → range_with_len a (suc n) ≡ range_with_len a n ++ k ∷ []
 range_more a zero k sum = let e : a ≡ k = omega (arith, sum) in ap (λ (number : ℕ). number ∷ []) e
@@ -39,5 +43,6 @@ pub one_more_number : {W : Type 0} (given : W → Given) {old mid new : W} (f : 
     → Wrote given old new (flat_map f (range_with_len 0 (i + 1)))
 one_more_number given f i before now =
     let texts : flat_map f (range_with_len 0 (i + 1)) ≡ flat_map f (range_with_len 0 i) ++ f i =
-    ap (λ (k : ℕ). flat_map f (range_with_len 0 k)) (add-one i) ∙ ap (flat_map f) (range_more 0 i i (omega arith)) ∙ text_more f (range_with_len 0 i) i in
+    ap (λ (k : ℕ). flat_map f (range_with_len 0 k)) (add-one i) ∙ ap (flat_map f) (range_more 0 i i (omega arith))
+    ∙ text_more f (range_with_len 0 i) i in
     rw texts (and_then given _ _ before now)

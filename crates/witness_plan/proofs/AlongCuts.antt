@@ -23,7 +23,8 @@ cut_there k (suc m) p q d = cut_there (advanced k p) m p q d ∙ advanced_there 
 
 -- How an event of p changes the counts of a channel, where only its reader gets and only its writer puts.
 module _ (n : Net) (k : Cut) (p c : ℕ) (e : Event) (is : slice_get (n.script p) (k p) ≡ Some e) where
-  pub gets_more : (is_get c e ≡ true → n.reader c ≡ p) → gets_at n (advanced k p) c ≡ gets_at n k c + cond (is_get c e) 1 0
+  pub gets_more : (is_get c e ≡ true → n.reader c ≡ p)
+      → gets_at n (advanced k p) c ≡ gets_at n k c + cond (is_get c e) 1 0
   gets_more own =
       elim (cases_eq (n.reader c) p) [
         | inl r ↦
@@ -38,7 +39,8 @@ module _ (n : Net) (k : Cut) (p c : ℕ) (e : Event) (is : slice_get (n.script p
             ]
       ]
 
-  pub puts_more : (is_put c e ≡ true → n.writer c ≡ p) → puts_at n (advanced k p) c ≡ puts_at n k c + cond (is_put c e) 1 0
+  pub puts_more : (is_put c e ≡ true → n.writer c ≡ p)
+      → puts_at n (advanced k p) c ≡ puts_at n k c + cond (is_put c e) 1 0
   puts_more own =
       elim (cases_eq (n.writer c) p) [
         | inl r ↦

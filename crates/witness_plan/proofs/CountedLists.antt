@@ -12,6 +12,8 @@ set_at f g m j x lt here other =
     let long = length-map-range_with_len f 0 m in
     fill_by_all g (set xs j x) m x (length-set xs j x ∙ long)
     (λ k below. elim (cases_eq k j) [
-      | inl same ↦ ap (λ i. get_or (set xs j x) i x) same ∙ get_or-set_same xs j x x (omega (arith, long)) ∙ sym here ∙ ap g (sym same)
-      | inr apart ↦ get_or-set_other xs j k x x apart ∙ get_or-map-range_with_len f 0 m k k x below (omega arith) ∙ other k apart
+      | inl same ↦ ap (λ i. get_or (set xs j x) i x) same ∙ get_or-set_same xs j x x (omega (arith, long)) ∙ sym here
+          ∙ ap g (sym same)
+      | inr apart ↦ get_or-set_other xs j k x x apart ∙ get_or-map-range_with_len f 0 m k k x below (omega arith)
+          ∙ other k apart
     ])

@@ -49,7 +49,8 @@ highest_is n k (suc m) p is =
     ]
 
 -- and no higher one is
-pub highest_above : (n : Net) (k : Cut) (m p q : ℕ) → highest_ready n k m ≡ Some p → p < q → q < m → is_ready n k q ≡ false
+pub highest_above : (n : Net) (k : Cut) (m p q : ℕ) → highest_ready n k m ≡ Some p → p < q → q < m
+    → is_ready n k q ≡ false
 highest_above n k zero p q is lt within = absurd (omega arith)
 highest_above n k (suc m) p q is lt within =
     elim (cases_Bool (is_ready n k m)) [
@@ -84,12 +85,14 @@ highest_none n k (suc m) q is lt =
     lower q m lt d = elim (cases_lt q m) [ inl l ↦ l | inr g ↦ absurd (d (omega arith)) ]
 
 -- quiet processes at the top aren't searched
-pub highest_from : (n : Net) (k : Cut) (below m : ℕ) → below ≤ m → ((q : ℕ) → below ≤ q → q < m → is_ready n k q ≡ false) → highest_ready n k m ≡ highest_ready n k below
+pub highest_from : (n : Net) (k : Cut) (below m : ℕ) → below ≤ m
+    → ((q : ℕ) → below ≤ q → q < m → is_ready n k q ≡ false) → highest_ready n k m ≡ highest_ready n k below
 highest_from n k below zero le quiet = let same : 0 ≡ below = omega arith in ap (highest_ready n k) same
 highest_from n k below (suc m) le quiet =
     elim (cases_lt m below) [
       | inl lt ↦ let same : suc m ≡ below = omega arith in ap (highest_ready n k) same
-      | inr ge ↦ highest_below n k m (quiet m ge (omega arith)) ∙ highest_from n k below m ge (λ q h l. quiet q h (omega arith))
+      | inr ge ↦ highest_below n k m (quiet m ge (omega arith))
+          ∙ highest_from n k below m ge (λ q h l. quiet q h (omega arith))
     ]
 
 -- Events that are left
@@ -106,7 +109,8 @@ left_past n k p (suc m) le =
     omega (arith, left_past n k p m (omega arith), advanced_there k p m other)
 
 -- each event leaves one less
-pub left_less : (n : Net) (k : Cut) (p m : ℕ) → p < m → k p < length (n.script p) → events_left n k m ≡ suc (events_left n (advanced k p) m)
+pub left_less : (n : Net) (k : Cut) (p m : ℕ) → p < m → k p < length (n.script p)
+    → events_left n k m ≡ suc (events_left n (advanced k p) m)
 left_less n k p zero lt inside = absurd (omega arith)
 left_less n k p (suc m) lt inside =
     elim (cases_eq m p) [
@@ -135,7 +139,8 @@ pub from_none : (n : Net) (many : ℕ) (k : Cut) → highest_ready n k n.process
 from_none n zero k is = refl
 from_none n (suc many) k is = ap (λ o. option_map_or (λ p. p ∷ downward_from n many (advanced k p)) o []) is
 
-pub from_some : (n : Net) (many : ℕ) (k : Cut) (p : ℕ) → highest_ready n k n.processes ≡ Some p → downward_from n (suc many) k ≡ p ∷ downward_from n many (advanced k p)
+pub from_some : (n : Net) (many : ℕ) (k : Cut) (p : ℕ) → highest_ready n k n.processes ≡ Some p
+    → downward_from n (suc many) k ≡ p ∷ downward_from n many (advanced k p)
 from_some n many k p is = ap (λ o. option_map_or (λ p. p ∷ downward_from n many (advanced k p)) o []) is
 
 -- from this cut on the schedule has the highest ready process at each of its places, and none is ready at its end
@@ -146,20 +151,24 @@ goes_nowhere : (n : Net) (k : Cut) → highest_ready n k n.processes ≡ None �
 goes_nowhere n k is zero le = sym is
 goes_nowhere n k is (suc i) le = absurd (omega arith)
 
-goes_further : (n : Net) (k : Cut) (p : ℕ) (run : List ℕ) → highest_ready n k n.processes ≡ Some p → GoesDown n (advanced k p) run → GoesDown n k (p ∷ run)
+goes_further : (n : Net) (k : Cut) (p : ℕ) (run : List ℕ) → highest_ready n k n.processes ≡ Some p
+    → GoesDown n (advanced k p) run → GoesDown n k (p ∷ run)
 goes_further n k p run is later zero le = sym is
 goes_further n k p run is later (suc i) le = later i (omega arith)
 
 goes_down : (n : Net) (many : ℕ) (k : Cut) → events_left n k n.processes ≤ many → GoesDown n k (downward_from n many k)
 goes_down n zero k few =
     by_highest (highest_ready n k n.processes) (goes_nowhere n k)
-    (λ p is. (let found = highest_is n k n.processes p is in absurd (omega (arith, left_less n k p n.processes found.0 (ready_inside n k p found.1)))))
+    (λ p is. (let found = highest_is n k n.processes p is in absurd
+    (omega (arith, left_less n k p n.processes found.0 (ready_inside n k p found.1)))))
 goes_down n (suc many) k few =
-    by_highest (highest_ready n k n.processes) (λ is. subst (GoesDown n k) (sym (from_none n (suc many) k is)) (goes_nowhere n k is))
+    by_highest (highest_ready n k n.processes)
+    (λ is. subst (GoesDown n k) (sym (from_none n (suc many) k is)) (goes_nowhere n k is))
     (λ p is.
     (let found = highest_is n k n.processes p is in
     let less = left_less n k p n.processes found.0 (ready_inside n k p found.1) in
-    subst (GoesDown n k) (sym (from_some n many k p is)) (goes_further n k p (downward_from n many (advanced k p)) is (goes_down n many (advanced k p) (omega arith)))))
+    subst (GoesDown n k) (sym (from_some n many k p is))
+    (goes_further n k p (downward_from n many (advanced k p)) is (goes_down n many (advanced k p) (omega arith)))))
 
 pub is_downward : (n : Net) → IsDownward n (downward_schedule n)
 unfolding downward_schedule
@@ -177,7 +186,8 @@ pub downward_runs : (n : Net) → IsWired n → IsCutRun (never_full n) opening 
 downward_runs n wired = goes_runs n wired (downward_schedule n) opening (is_downward n)
 
 -- Where one run that heeds no capacity ends all, this one does.
-module _ (n : Net) (wired : IsWired n) (all : List ℕ) (run : IsCutRun (never_full n) opening all) (ends : (p : ℕ) → cut_after opening all p ≡ length (n.script p)) where
+module _ (n : Net) (wired : IsWired n) (all : List ℕ) (run : IsCutRun (never_full n) opening all)
+    (ends : (p : ℕ) → cut_after opening all p ≡ length (n.script p)) where
   abbrev last : Cut
   last = cut_after opening (downward_schedule n)
 
@@ -209,8 +219,11 @@ module _ (n : Net) (wired : IsWired n) (all : List ℕ) (run : IsCutRun (never_f
 
   pub downward_ends : (p : ℕ) → cut_after opening (downward_schedule n) p ≡ length (n.script p)
   downward_ends p =
-      let inside = cut_inside (never_full n) (downward_schedule n) opening (downward_runs n wired) (λ q. omega arith) p in
-      let far = no_further (never_full n) (wired_at n (never_full n).capacity wired) all opening last (λ q. omega arith) stuck run p in
+      let inside =
+      cut_inside (never_full n) (downward_schedule n) opening (downward_runs n wired) (λ q. omega arith) p in
+      let far =
+      no_further (never_full n) (wired_at n (never_full n).capacity wired) all opening last
+      (λ q. omega arith) stuck run p in
       omega (arith, ends p)
 
 -- The bound of the search
@@ -225,7 +238,8 @@ past_bound n p (Get d slot) = omega arith
 past_bound n p (Fire refs) = omega arith
 past_bound n p (Put d) = omega arith
 
-stays_quiet : (n : Net) (wired : IsWired n) (k : Cut) (p : ℕ) (e : Event) → slice_get (n.script p) (k p) ≡ Some e → (q : ℕ) (o : Option Event) → bound_after n p e ≤ q
+stays_quiet : (n : Net) (wired : IsWired n) (k : Cut) (p : ℕ) (e : Event) → slice_get (n.script p) (k p) ≡ Some e
+    → (q : ℕ) (o : Option Event) → bound_after n p e ≤ q
     → slice_get (n.script q) (k q) ≡ o → could_come_at n k o ≡ false → could_come_at n (advanced k p) o ≡ false
 stays_quiet n wired k p e is q None past at h = h
 stays_quiet n wired k p e is q (Some (Get c slot)) past at h =
@@ -242,7 +256,8 @@ stays_quiet n wired k p e is q (Some (Fire refs)) past at h = h
 stays_quiet n wired k p e is q (Some (Put c)) past at h = h
 
 -- after an event no process past its bound has become ready
-pub quiet_after : (n : Net) (wired : IsWired n) (k : Cut) (p : ℕ) (e : Event) → slice_get (n.script p) (k p) ≡ Some e → (q : ℕ) → bound_after n p e ≤ q
+pub quiet_after : (n : Net) (wired : IsWired n) (k : Cut) (p : ℕ) (e : Event) → slice_get (n.script p) (k p) ≡ Some e
+    → (q : ℕ) → bound_after n p e ≤ q
     → is_ready n k q ≡ false → is_ready n (advanced k p) q ≡ false
 quiet_after n wired k p e is q past quiet =
     let other : q ≡ p → ⊥ = λ same. omega (arith, past_bound n p e) in

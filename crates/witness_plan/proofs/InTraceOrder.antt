@@ -31,11 +31,13 @@ module _ (events : ℕ → ℕ → List Event) (points : List Point) where
   until t = flat_map of_point (filter_map (tag_at points) (range_with_len 0 t))
 
   pub until_more : (t : ℕ) (p : Point) → slice_get points t ≡ Some p
-      → until (suc t) ≡ until t ++ replicate (length (events p.statement (turns_before points t p.statement))) p.statement
+      → until (suc t)
+      ≡ until t ++ replicate (length (events p.statement (turns_before points t p.statement))) p.statement
   until_more t p is =
       let next : suc t ≡ t + 1 = omega arith in
       let tag : Tag = record { process = p.statement; turn = turns_before points t p.statement } in
-      let here : tag_at points t ≡ Some tag = ap (option_map (λ q. record { process = q.statement; turn = turns_before points t q.statement })) is in
+      let here : tag_at points t ≡ Some tag =
+      ap (option_map (λ q. record { process = q.statement; turn = turns_before points t q.statement })) is in
       let one : filter_map (tag_at points) (t ∷ []) ≡ tag ∷ [] = rw here refl in
       ap until next
       ∙ ap (λ ts. flat_map of_point (filter_map (tag_at points) ts)) (range_with_len_more 0 t t (omega arith))
@@ -50,22 +52,29 @@ module _ (events : ℕ → ℕ → List Event) (points : List Point) where
 
   stand_more : (p f : ℕ) → stand p (f + 1) ≡ stand p f + length (events p f)
   stand_more p f =
-      ap length (flat_map-range_with_len_more (events p) 0 f f (omega arith)) ∙ length-append (flat_map (events p) (range_with_len 0 f)) (events p f)
+      ap length (flat_map-range_with_len_more (events p) 0 f f (omega arith))
+      ∙ length-append (flat_map (events p) (range_with_len 0 f)) (events p f)
 
   cut_until : (t q : ℕ) (p : Point) → slice_get points t ≡ Some p → cut_after opening (until (suc t)) q
-      ≡ cut_after (cut_after opening (until t)) (replicate (length (events p.statement (turns_before points t p.statement))) p.statement) q
+      ≡ cut_after (cut_after opening (until t))
+      (replicate (length (events p.statement (turns_before points t p.statement))) p.statement) q
   cut_until t q p is =
       ap (λ s. cut_after opening s q) (until_more t p is)
-      ∙ ap (λ k. k q) (cut_after-append opening (until t) (replicate (length (events p.statement (turns_before points t p.statement))) p.statement))
+      ∙ ap (λ k. k q)
+      (cut_after-append opening (until t)
+      (replicate (length (events p.statement (turns_before points t p.statement))) p.statement))
 
-  stands_more : (t q : ℕ) (p : Point) → slice_get points t ≡ Some p → cut_after opening (until t) q ≡ stand q (turns_before points t q)
+  stands_more : (t q : ℕ) (p : Point) → slice_get points t ≡ Some p
+      → cut_after opening (until t) q ≡ stand q (turns_before points t q)
       → cut_after opening (until (suc t)) q ≡ stand q (turns_before points (suc t) q)
   stands_more t q p is before =
       let m = length (events p.statement (turns_before points t p.statement)) in
-      let turns : turns_before points (suc t) q ≡ turns_before points t q + cond (p.statement == q) 1 0 = count_next (λ (r : Point). r.statement == q) points t p is in
+      let turns : turns_before points (suc t) q ≡ turns_before points t q + cond (p.statement == q) 1 0 =
+      count_next (λ (r : Point). r.statement == q) points t p is in
       elim (cases_eq q p.statement) [
         | inl same ↦
-            let here : turns_before points (suc t) q ≡ turns_before points t q + 1 = turns ∙ ap (λ b. turns_before points t q + cond b 1 0) (eq-eqb p.statement q (sym same)) in
+            let here : turns_before points (suc t) q ≡ turns_before points t q + 1 =
+            turns ∙ ap (λ b. turns_before points t q + cond b 1 0) (eq-eqb p.statement q (sym same)) in
             cut_until t q p is
             ∙ ap (cut_after (cut_after opening (until t)) (replicate m p.statement)) same
             ∙ cut_here (cut_after opening (until t)) m p.statement
@@ -75,7 +84,8 @@ module _ (events : ℕ → ℕ → List Event) (points : List Point) where
             ∙ ap (stand q) (sym here)
         | inr other ↦
             let here : turns_before points (suc t) q ≡ turns_before points t q =
-            turns ∙ ap (λ b. turns_before points t q + cond b 1 0) (ne_eqb p.statement q (λ e. other (sym e))) ∙ omega arith in
+            turns ∙ ap (λ b. turns_before points t q + cond b 1 0) (ne_eqb p.statement q (λ e. other (sym e)))
+            ∙ omega arith in
             cut_until t q p is
             ∙ cut_there (cut_after opening (until t)) m p.statement q other
             ∙ before

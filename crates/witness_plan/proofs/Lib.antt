@@ -1,7 +1,7 @@
 pub mod AlongCuts
 pub mod CountedLists
 pub mod InTraceOrder
-pub mod NextEvents
+pub mod LeftEvents
 pub mod NotedTraffic
 pub mod OwnChannels
 pub mod PointEvents

@@ -10,7 +10,7 @@ use Rattle.net_core.specs.declared.network.Event.{Event}
 use Rattle.net_core.specs.declared.network.Event.TheVariants.{Get, Fire, Put}
 use Rattle.net_core.specs.Cuts.{Cut, advanced, cut_after, gets_at, opening, puts_at}
 use Rattle.net_core.specs.Machine.{Net}
-use Rattle.net_core.specs.Shape.{is_get, is_put, put_count}
+use Rattle.net_core.specs.Shape.{is_get, is_put}
 use Rattle.net_core.proofs.Counting.{count_past}
 use Rattle.sanlp.proofs.Lists.{map-range_with_len_same}
 use Rattle.witness_plan.specs.declared.traffic.Traffic.{Traffic}
@@ -25,30 +25,39 @@ use Rattle.witness_plan.proofs.CountedLists.{set_at}
 abbrev queued : Net → List ℕ → ℕ → ℕ → ℕ
 queued net schedule c k = queue_length net (cut_after opening (take k schedule)) c
 
-queued_before : (net : Net) (schedule : List ℕ) (p c k : ℕ) → k ≤ length schedule → queued net (schedule ++ p ∷ []) c k ≡ queued net schedule c k
-queued_before net schedule p c k le = ap (λ s. queue_length net (cut_after opening s) c) (take-append-le k schedule (p ∷ []) le)
+queued_before : (net : Net) (schedule : List ℕ) (p c k : ℕ) → k ≤ length schedule
+    → queued net (schedule ++ p ∷ []) c k ≡ queued net schedule c k
+queued_before net schedule p c k le =
+    ap (λ s. queue_length net (cut_after opening s) c) (take-append-le k schedule (p ∷ []) le)
 
-queued_all : (net : Net) (schedule : List ℕ) (c : ℕ) → queued net schedule c (length schedule) ≡ queue_length net (cut_after opening schedule) c
-queued_all net schedule c = ap (λ s. queue_length net (cut_after opening s) c) (take_all (length schedule) schedule (omega arith))
+queued_all : (net : Net) (schedule : List ℕ) (c : ℕ)
+    → queued net schedule c (length schedule) ≡ queue_length net (cut_after opening schedule) c
+queued_all net schedule c =
+    ap (λ s. queue_length net (cut_after opening s) c) (take_all (length schedule) schedule (omega arith))
 
-one_more : (f : ℕ → ℕ) (m : ℕ) → fold max 0 (map f (range_with_len 0 (m + 1))) ≡ max (fold max 0 (map f (range_with_len 0 m))) (f m)
+one_more : (f : ℕ → ℕ) (m : ℕ)
+    → fold max 0 (map f (range_with_len 0 (m + 1))) ≡ max (fold max 0 (map f (range_with_len 0 m))) (f m)
 one_more f m =
-    ap (fold max 0) (map-range_with_len_more f 0 m m (omega arith)) ∙ fold-append max 0 (map f (range_with_len 0 m)) (f m ∷ [])
+    ap (fold max 0) (map-range_with_len_more f 0 m m (omega arith))
+    ∙ fold-append max 0 (map f (range_with_len 0 m)) (f m ∷ [])
 
 pub greatest_more : (net : Net) (schedule : List ℕ) (p c : ℕ)
-    → greatest_length net (schedule ++ p ∷ []) c ≡ max (greatest_length net schedule c) (queue_length net (advanced (cut_after opening schedule) p) c)
+    → greatest_length net (schedule ++ p ∷ []) c
+    ≡ max (greatest_length net schedule c) (queue_length net (advanced (cut_after opening schedule) p) c)
 greatest_more net schedule p c =
     let long : length (schedule ++ p ∷ []) ≡ length schedule + 1 = length-append schedule (p ∷ []) in
     ap (λ m. fold max 0 (map (queued net (schedule ++ p ∷ []) c) (range_with_len 0 (m + 1)))) long
     ∙ one_more (queued net (schedule ++ p ∷ []) c) (length schedule + 1)
     ∙ ap (λ xs. max (fold max 0 xs) (queued net (schedule ++ p ∷ []) c (length schedule + 1)))
-    (map-range_with_len_same (queued net (schedule ++ p ∷ []) c) (queued net schedule c) 0 (length schedule + 1) (λ k h l. queued_before net schedule p c k (omega arith)))
+    (map-range_with_len_same (queued net (schedule ++ p ∷ []) c) (queued net schedule c) 0 (length schedule + 1)
+    (λ k h l. queued_before net schedule p c k (omega arith)))
     ∙ ap (max (greatest_length net schedule c))
     (ap (queued net (schedule ++ p ∷ []) c) (sym long) ∙ queued_all net (schedule ++ p ∷ []) c
     ∙ ap (λ k. queue_length net k c) (cut_after-append opening schedule (p ∷ [])))
 
 -- the queue is no longer now than it has been
-pub now_within : (net : Net) (schedule : List ℕ) (c : ℕ) → queue_length net (cut_after opening schedule) c ≤ greatest_length net schedule c
+pub now_within : (net : Net) (schedule : List ℕ) (c : ℕ)
+    → queue_length net (cut_after opening schedule) c ≤ greatest_length net schedule c
 now_within net schedule c = omega (arith, one_more (queued net schedule c) (length schedule), queued_all net schedule c)
 
 -- One event
@@ -64,114 +73,157 @@ put_own net p c (Fire refs) own t = cc
 put_own net p c (Put d) own t = let same : c ≡ d = eqb-true c d t in rw same own.1
 
 same_traffic : (puts puts' gets gets' greatest greatest' : ℕ) → puts ≡ puts' → gets ≡ gets' → greatest ≡ greatest'
-    → (let t : Traffic = record { puts = puts; gets = gets; greatest = greatest } in t) ≡ record { puts = puts'; gets = gets'; greatest = greatest' }
+    → (let t : Traffic = record { puts = puts; gets = gets; greatest = greatest } in t)
+    ≡ record { puts = puts'; gets = gets'; greatest = greatest' }
 same_traffic puts puts' gets gets' greatest greatest' e f g = cc
 
-module _ (net : Net) (schedule : List ℕ) (p : ℕ) (e : Event) (is : slice_get (net.script p) (cut_after opening schedule p) ≡ Some e) (own : IsOwn net p e) where
+module _ (net : Net) (schedule : List ℕ) (p : ℕ) (e : Event)
+    (is : slice_get (net.script p) (cut_after opening schedule p) ≡ Some e) (own : IsOwn net p e) where
   cut : Cut
   cut = cut_after opening schedule
 
   later : cut_after opening (schedule ++ p ∷ []) ≡ advanced (cut_after opening schedule) p
   later = cut_after-append opening schedule (p ∷ [])
 
-  puts_later : (c : ℕ) → puts_at net (cut_after opening (schedule ++ p ∷ [])) c ≡ puts_at net (cut_after opening schedule) c + cond (is_put c e) 1 0
-  puts_later c = ap (λ k. puts_at net k c) later ∙ puts_more net (cut_after opening schedule) p c e is (put_own net p c e own)
+  puts_later : (c : ℕ)
+      → puts_at net (cut_after opening (schedule ++ p ∷ [])) c
+      ≡ puts_at net (cut_after opening schedule) c + cond (is_put c e) 1 0
+  puts_later c =
+      ap (λ k. puts_at net k c) later ∙ puts_more net (cut_after opening schedule) p c e is (put_own net p c e own)
 
-  gets_later : (c : ℕ) → gets_at net (cut_after opening (schedule ++ p ∷ [])) c ≡ gets_at net (cut_after opening schedule) c + cond (is_get c e) 1 0
-  gets_later c = ap (λ k. gets_at net k c) later ∙ gets_more net (cut_after opening schedule) p c e is (get_own net p c e own)
+  gets_later : (c : ℕ)
+      → gets_at net (cut_after opening (schedule ++ p ∷ [])) c
+      ≡ gets_at net (cut_after opening schedule) c + cond (is_get c e) 1 0
+  gets_later c =
+      ap (λ k. gets_at net k c) later ∙ gets_more net (cut_after opening schedule) p c e is (get_own net p c e own)
 
   greatest_later : (c : ℕ) → greatest_length net (schedule ++ p ∷ []) c
-      ≡ max (greatest_length net schedule c) (puts_at net (cut_after opening schedule) c + cond (is_put c e) 1 0 - (gets_at net (cut_after opening schedule) c + cond (is_get c e) 1 0))
+      ≡ max (greatest_length net schedule c)
+      (puts_at net (cut_after opening schedule) c + cond (is_put c e) 1 0 -
+      (gets_at net (cut_after opening schedule) c + cond (is_get c e) 1 0))
   greatest_later c =
       greatest_more net schedule p c
-      ∙ ap (λ a. max (greatest_length net schedule c) (a - gets_at net (advanced (cut_after opening schedule) p) c)) (puts_more net (cut_after opening schedule) p c e is (put_own net p c e own))
-      ∙ ap (λ b. max (greatest_length net schedule c) (puts_at net (cut_after opening schedule) c + cond (is_put c e) 1 0 - b)) (gets_more net (cut_after opening schedule) p c e is (get_own net p c e own))
+      ∙ ap (λ a. max (greatest_length net schedule c) (a - gets_at net (advanced (cut_after opening schedule) p) c))
+      (puts_more net (cut_after opening schedule) p c e is (put_own net p c e own))
+      ∙ ap (λ b. max (greatest_length net schedule c)
+      (puts_at net (cut_after opening schedule) c + cond (is_put c e) 1 0 - b))
+      (gets_more net (cut_after opening schedule) p c e is (get_own net p c e own))
 
   -- the counts of a channel that the event isn't of
-  traffic_other : (c : ℕ) → is_put c e ≡ false → is_get c e ≡ false → traffic_of net schedule c ≡ traffic_of net (schedule ++ p ∷ []) c
+  traffic_other : (c : ℕ) → is_put c e ≡ false → is_get c e ≡ false
+      → traffic_of net schedule c ≡ traffic_of net (schedule ++ p ∷ []) c
   traffic_other c f g =
       let puts = puts_later c ∙ ap (λ b. puts_at net (cut_after opening schedule) c + cond b 1 0) f in
       let gets = gets_later c ∙ ap (λ b. gets_at net (cut_after opening schedule) c + cond b 1 0) g in
       let more = greatest_later c
-      ∙ ap (λ b. max (greatest_length net schedule c) (puts_at net (cut_after opening schedule) c + cond b 1 0 - (gets_at net (cut_after opening schedule) c + cond (is_get c e) 1 0))) f
-      ∙ ap (λ b. max (greatest_length net schedule c) (puts_at net (cut_after opening schedule) c + 0 - (gets_at net (cut_after opening schedule) c + cond b 1 0))) g in
+      ∙ ap (λ b. max (greatest_length net schedule c)
+      (puts_at net (cut_after opening schedule) c + cond b 1 0 -
+      (gets_at net (cut_after opening schedule) c + cond (is_get c e) 1 0))) f
+      ∙ ap (λ b. max (greatest_length net schedule c)
+      (puts_at net (cut_after opening schedule) c + 0 -
+      (gets_at net (cut_after opening schedule) c + cond b 1 0))) g in
       same_traffic _ _ _ _ _ _ (omega arith) (omega arith) (omega (arith, now_within net schedule c))
 
-  traffic_got : (c : ℕ) → is_put c e ≡ false → is_get c e ≡ true → traffic_of net (schedule ++ p ∷ []) c ≡ after_get (traffic_of net schedule c)
+  traffic_got : (c : ℕ) → is_put c e ≡ false → is_get c e ≡ true
+      → traffic_of net (schedule ++ p ∷ []) c ≡ after_get (traffic_of net schedule c)
   traffic_got c f g =
       let puts = puts_later c ∙ ap (λ b. puts_at net (cut_after opening schedule) c + cond b 1 0) f in
       let gets = gets_later c ∙ ap (λ b. gets_at net (cut_after opening schedule) c + cond b 1 0) g in
       let more = greatest_later c
-      ∙ ap (λ b. max (greatest_length net schedule c) (puts_at net (cut_after opening schedule) c + cond b 1 0 - (gets_at net (cut_after opening schedule) c + cond (is_get c e) 1 0))) f
-      ∙ ap (λ b. max (greatest_length net schedule c) (puts_at net (cut_after opening schedule) c + 0 - (gets_at net (cut_after opening schedule) c + cond b 1 0))) g in
+      ∙ ap (λ b. max (greatest_length net schedule c)
+      (puts_at net (cut_after opening schedule) c + cond b 1 0 -
+      (gets_at net (cut_after opening schedule) c + cond (is_get c e) 1 0))) f
+      ∙ ap (λ b. max (greatest_length net schedule c)
+      (puts_at net (cut_after opening schedule) c + 0 -
+      (gets_at net (cut_after opening schedule) c + cond b 1 0))) g in
       same_traffic _ _ _ _ _ _ (omega arith) (omega arith) (omega (arith, now_within net schedule c))
 
-  traffic_put : (c : ℕ) → is_put c e ≡ true → is_get c e ≡ false → traffic_of net (schedule ++ p ∷ []) c ≡ after_put (traffic_of net schedule c)
+  traffic_put : (c : ℕ) → is_put c e ≡ true → is_get c e ≡ false
+      → traffic_of net (schedule ++ p ∷ []) c ≡ after_put (traffic_of net schedule c)
   traffic_put c f g =
       let puts = puts_later c ∙ ap (λ b. puts_at net (cut_after opening schedule) c + cond b 1 0) f in
       let gets = gets_later c ∙ ap (λ b. gets_at net (cut_after opening schedule) c + cond b 1 0) g in
       let more = greatest_later c
-      ∙ ap (λ b. max (greatest_length net schedule c) (puts_at net (cut_after opening schedule) c + cond b 1 0 - (gets_at net (cut_after opening schedule) c + cond (is_get c e) 1 0))) f
-      ∙ ap (λ b. max (greatest_length net schedule c) (puts_at net (cut_after opening schedule) c + 1 - (gets_at net (cut_after opening schedule) c + cond b 1 0))) g in
+      ∙ ap (λ b. max (greatest_length net schedule c)
+      (puts_at net (cut_after opening schedule) c + cond b 1 0 -
+      (gets_at net (cut_after opening schedule) c + cond (is_get c e) 1 0))) f
+      ∙ ap (λ b. max (greatest_length net schedule c)
+      (puts_at net (cut_after opening schedule) c + 1 -
+      (gets_at net (cut_after opening schedule) c + cond b 1 0))) g in
       same_traffic _ _ _ _ _ _ (omega arith) (omega arith) (omega arith)
 
 -- the counts of all channels after an event are those along the schedule with that event
-pub noted_along : (net : Net) (schedule : List ℕ) (p : ℕ) (e : Event) → slice_get (net.script p) (cut_after opening schedule p) ≡ Some e → IsOwn net p e
+pub noted_along : (net : Net) (schedule : List ℕ) (p : ℕ) (e : Event)
+    → slice_get (net.script p) (cut_after opening schedule p) ≡ Some e → IsOwn net p e
     → noted (traffic_along net schedule) e ≡ traffic_along net (schedule ++ p ∷ [])
 noted_along net schedule p (Get d slot) is own =
     let f = traffic_of net schedule in
     let g = traffic_of net (schedule ++ p ∷ []) in
-    ap (λ t. set (map f (range_with_len 0 net.channels)) d (after_get t)) (get_or-map-range_with_len f 0 net.channels d d no_traffic own.0 (omega arith))
+    ap (λ t. set (map f (range_with_len 0 net.channels)) d (after_get t))
+    (get_or-map-range_with_len f 0 net.channels d d no_traffic own.0 (omega arith))
     ∙ set_at f g net.channels d (after_get (f d)) own.0
     (traffic_got net schedule p (Get d slot) is own d refl (eq-eqb d d refl))
     (λ k ne. traffic_other net schedule p (Get d slot) is own k refl (ne_eqb k d ne))
 noted_along net schedule p (Fire refs) is own =
-    map-range_with_len_same (traffic_of net schedule) (traffic_of net (schedule ++ p ∷ [])) 0 net.channels (λ k h l. traffic_other net schedule p (Fire refs) is own k refl refl)
+    map-range_with_len_same (traffic_of net schedule) (traffic_of net (schedule ++ p ∷ [])) 0 net.channels
+    (λ k h l. traffic_other net schedule p (Fire refs) is own k refl refl)
 noted_along net schedule p (Put d) is own =
     let f = traffic_of net schedule in
     let g = traffic_of net (schedule ++ p ∷ []) in
-    ap (λ t. set (map f (range_with_len 0 net.channels)) d (after_put t)) (get_or-map-range_with_len f 0 net.channels d d no_traffic own.0 (omega arith))
+    ap (λ t. set (map f (range_with_len 0 net.channels)) d (after_put t))
+    (get_or-map-range_with_len f 0 net.channels d d no_traffic own.0 (omega arith))
     ∙ set_at f g net.channels d (after_put (f d)) own.0
     (traffic_put net schedule p (Put d) is own d (eq-eqb d d refl) refl)
     (λ k ne. traffic_other net schedule p (Put d) is own k (ne_eqb k d ne) refl)
 
 -- the event that a process makes next is its own
-pub own_event : (net : Net) (channels : NamesOwnChannels net) (p k : ℕ) (e : Event) → slice_get (net.script p) k ≡ Some e → IsOwn net p e
+pub own_event : (net : Net) (channels : NamesOwnChannels net) (p k : ℕ) (e : Event)
+    → slice_get (net.script p) k ≡ Some e → IsOwn net p e
 own_event net channels p k e is =
-    subst (IsOwn net p) (get_or_from_slice_get (net.script p) k e e is) (channels.own p k e (slice_get_within (net.script p) k e is))
+    subst (IsOwn net p) (get_or_from_slice_get (net.script p) k e e is)
+    (channels.own p k e (slice_get_within (net.script p) k e is))
 
-module _ (net : Net) (channels : NamesOwnChannels net) (cut : Cut) (p c : ℕ) (e : Event) (is : slice_get (net.script p) (cut p) ≡ Some e) where
+module _ (net : Net) (channels : NamesOwnChannels net) (cut : Cut) (p c : ℕ) (e : Event)
+    (is : slice_get (net.script p) (cut p) ≡ Some e) where
   -- a channel has fewer Gets than its reader's script has events
-  few_gets : net.reader c ≡ p → length (net.script p) < 2 ^ 64 → gets_at net cut c + 1 < 2 ^ 64
-  few_gets reader short =
+  few_gets : net.reader c ≡ p → gets_at net cut c + 1 < 2 ^ 64
+  few_gets reader =
       let inside = slice_get_within (net.script p) (cut p) e is in
       let counted : gets_at net cut c ≤ cut p =
-      rw reader (omega (arith, count_by-le-length (is_get c) (take (cut p) (net.script p)), length-take-le (cut p) (net.script p) (omega arith))) in
-      omega arith
+      rw reader (omega
+      (arith, count_by-le-length (is_get c) (take (cut p) (net.script p)), length-take-le (cut p) (net.script p) (omega arith))) in
+      omega (arith, channels.few_events p)
 
-  more_puts : net.writer c ≡ p → c < net.channels → is_put c e ≡ true → puts_at net cut c + 1 < 2 ^ 32
-  more_puts writer there t =
+  more_puts : net.writer c ≡ p → is_put c e ≡ true → puts_at net cut c + 1 < 2 ^ 32
+  more_puts writer t =
       let inside = slice_get_within (net.script p) (cut p) e is in
-      let less : count_by (is_put c) (take (cut p) (net.script p)) < count_by (is_put c) (take (length (net.script p)) (net.script p)) =
+      let less : count_by (is_put c) (take (cut p) (net.script p)) < count_by (is_put c)
+      (take (length (net.script p)) (net.script p)) =
       count_past (is_put c) (net.script p) (cut p) (length (net.script p)) e is t inside in
-      let all : take (length (net.script p)) (net.script p) ≡ net.script p = take_all (length (net.script p)) (net.script p) (omega arith) in
-      let total : count_by (is_put c) (take (length (net.script p)) (net.script p)) ≡ put_count net c =
-      ap (count_by (is_put c)) all ∙ ap (λ q. count_by (is_put c) (net.script q)) (sym writer) in
-      let here : puts_at net cut c ≡ count_by (is_put c) (take (cut p) (net.script p)) = ap (λ q. count_by (is_put c) (take (cut q) (net.script q))) writer in
-      omega (arith, channels.few_puts c there)
+      let all : take (length (net.script p)) (net.script p) ≡ net.script p =
+      take_all (length (net.script p)) (net.script p) (omega arith) in
+      let total : count_by (is_put c) (take (length (net.script p)) (net.script p))
+      ≡ count_by (is_put c) (net.script p) = ap (count_by (is_put c)) all in
+      let here : puts_at net cut c ≡ count_by (is_put c) (take (cut p) (net.script p)) =
+      ap (λ q. count_by (is_put c) (take (cut q) (net.script q))) writer in
+      omega (arith, count_by-le-length (is_put c) (net.script p), channels.few_events p)
 
 -- the counts can take the event
 pub can_be_noted : (net : Net) (channels : NamesOwnChannels net) (schedule : List ℕ) (p : ℕ) (e : Event)
-    → slice_get (net.script p) (cut_after opening schedule p) ≡ Some e → IsOwn net p e → length (net.script p) < 2 ^ 64
+    → slice_get (net.script p) (cut_after opening schedule p) ≡ Some e → IsOwn net p e
     → CanBeNoted (traffic_along net schedule) e
-can_be_noted net channels schedule p (Get d slot) is own short = (
+can_be_noted net channels schedule p (Get d slot) is own = (
   omega (arith, own.0, length-map-range_with_len (traffic_of net schedule) 0 net.channels),
-  (let here : get_or (traffic_along net schedule) d no_traffic ≡ traffic_of net schedule d = get_or-map-range_with_len (traffic_of net schedule) 0 net.channels d d no_traffic own.0 (omega arith) in
-      rw here (few_gets net channels (cut_after opening schedule) p d (Get d slot) is own.1 short)),
+  (let here : get_or (traffic_along net schedule) d no_traffic
+      ≡ traffic_of net schedule d = get_or-map-range_with_len
+      (traffic_of net schedule) 0 net.channels d d no_traffic own.0 (omega arith) in
+      rw here (few_gets net channels (cut_after opening schedule) p d (Get d slot) is own.1)),
 )
-can_be_noted net channels schedule p (Fire refs) is own short = tt
-can_be_noted net channels schedule p (Put d) is own short = (
+can_be_noted net channels schedule p (Fire refs) is own = tt
+can_be_noted net channels schedule p (Put d) is own = (
   omega (arith, own.0, length-map-range_with_len (traffic_of net schedule) 0 net.channels),
-  (let here : get_or (traffic_along net schedule) d no_traffic ≡ traffic_of net schedule d = get_or-map-range_with_len (traffic_of net schedule) 0 net.channels d d no_traffic own.0 (omega arith) in
-      rw here (more_puts net channels (cut_after opening schedule) p d (Put d) is own.1 own.0 (eq-eqb d d refl))),
+  (let here : get_or (traffic_along net schedule) d no_traffic
+      ≡ traffic_of net schedule d = get_or-map-range_with_len
+      (traffic_of net schedule) 0 net.channels d d no_traffic own.0 (omega arith) in
+      rw here (more_puts net channels (cut_after opening schedule) p d (Put d) is own.1 (eq-eqb d d refl))),
 )

@@ -9,7 +9,8 @@ use Rattle.net_core.specs.Shape.{IsWired}
 use Rattle.witness_plan.specs.Sequential.{channels_with, with_capacities}
 
 pub reader_kept : (channels : List Channel) (capacities : List ℕ) (c : ℕ)
-    → option_map_or (λ (x : Channel). x.reader) (slice_get (channels_with channels capacities) c) 0 ≡ option_map_or (λ (x : Channel). x.reader) (slice_get channels c) 0
+    → option_map_or (λ (x : Channel). x.reader) (slice_get (channels_with channels capacities) c) 0
+    ≡ option_map_or (λ (x : Channel). x.reader) (slice_get channels c) 0
 reader_kept [] capacities c = refl
 reader_kept (x ∷ channels) [] zero = refl
 reader_kept (x ∷ channels) [] (suc c) = reader_kept channels [] c
@@ -17,19 +18,22 @@ reader_kept (x ∷ channels) (y ∷ capacities) zero = refl
 reader_kept (x ∷ channels) (y ∷ capacities) (suc c) = reader_kept channels capacities c
 
 pub writer_kept : (channels : List Channel) (capacities : List ℕ) (c : ℕ)
-    → option_map_or (λ (x : Channel). x.writer) (slice_get (channels_with channels capacities) c) 0 ≡ option_map_or (λ (x : Channel). x.writer) (slice_get channels c) 0
+    → option_map_or (λ (x : Channel). x.writer) (slice_get (channels_with channels capacities) c) 0
+    ≡ option_map_or (λ (x : Channel). x.writer) (slice_get channels c) 0
 writer_kept [] capacities c = refl
 writer_kept (x ∷ channels) [] zero = refl
 writer_kept (x ∷ channels) [] (suc c) = writer_kept channels [] c
 writer_kept (x ∷ channels) (y ∷ capacities) zero = refl
 writer_kept (x ∷ channels) (y ∷ capacities) (suc c) = writer_kept channels capacities c
 
-count_kept : (channels : List Channel) (capacities : List ℕ) → length (channels_with channels capacities) ≡ length channels
+count_kept : (channels : List Channel) (capacities : List ℕ)
+    → length (channels_with channels capacities) ≡ length channels
 count_kept [] capacities = refl
 count_kept (x ∷ channels) [] = ap suc (count_kept channels [])
 count_kept (x ∷ channels) (y ∷ capacities) = ap suc (count_kept channels capacities)
 
-same_net : (n : Net) (channels : ℕ) (writer reader : ℕ → ℕ) → channels ≡ n.channels → writer ≡ n.writer → reader ≡ n.reader
+same_net : (n : Net) (channels : ℕ) (writer reader : ℕ → ℕ) → channels ≡ n.channels → writer ≡ n.writer
+    → reader ≡ n.reader
     → (let a : Net = record n { channels = channels; writer = writer; reader = reader } in a) ≡ n
 same_net n channels writer reader e f g =
     ap (λ (x : ℕ). let a : Net = record n { channels = x; writer = writer; reader = reader } in a) e
@@ -38,11 +42,14 @@ same_net n channels writer reader e f g =
 
 -- the machine takes the same of a network with other capacities, but for these
 pub net_kept : (network : Network) (capacities : List ℕ)
-    → net_of (with_capacities network capacities) ≡ record (net_of network) { capacity = (net_of (with_capacities network capacities)).capacity }
+    → net_of (with_capacities network capacities)
+    ≡ record (net_of network) { capacity = (net_of (with_capacities network capacities)).capacity }
 net_kept network capacities =
     same_net (record (net_of network) { capacity = (net_of (with_capacities network capacities)).capacity })
-    (length (channels_with network.channels capacities)) (net_of (with_capacities network capacities)).writer (net_of (with_capacities network capacities)).reader
-    (count_kept network.channels capacities) (fun_ext (writer_kept network.channels capacities)) (fun_ext (reader_kept network.channels capacities))
+    (length (channels_with network.channels capacities)) (net_of (with_capacities network capacities)).writer
+    (net_of (with_capacities network capacities)).reader
+    (count_kept network.channels capacities) (fun_ext (writer_kept network.channels capacities))
+    (fun_ext (reader_kept network.channels capacities))
 
 pub wired_at : (n : Net) (capacity : ℕ → ℕ) → IsWired n → IsWired (record n { capacity = capacity })
 wired_at n capacity w = record {
@@ -59,6 +66,8 @@ wired_at n capacity w = record {
 }
 
 -- a network stays wired
-pub wired_kept : (network : Network) (capacities : List ℕ) → IsWired (net_of network) → IsWired (net_of (with_capacities network capacities))
+pub wired_kept : (network : Network) (capacities : List ℕ) → IsWired (net_of network)
+    → IsWired (net_of (with_capacities network capacities))
 wired_kept network capacities w =
-    subst IsWired (sym (net_kept network capacities)) (wired_at (net_of network) (net_of (with_capacities network capacities)).capacity w)
+    subst IsWired (sym (net_kept network capacities))
+    (wired_at (net_of network) (net_of (with_capacities network capacities)).capacity w)

@@ -1,11 +1,10 @@
--- Each process of a derived network names its own channels alone, and no channel has many Puts.
-use Rattle.std.proofs.Common.{◌≡◌, ℕ, Some, slice_get, get_or, arith}
-use Rattle.std.proofs.lemmas.List.Sums.{count_by-le-length}
+-- Each process of a derived network names its own channels alone, and has few events.
+use Rattle.std.proofs.Common.{◌≡◌, ℕ, Some, slice_get, get_or}
 use Rattle.std.proofs.lemmas.Option.{slice_get-get_or}
 use Rattle.net_core.specs.declared.network.Event.{Event}
 use Rattle.net_core.specs.declared.network.Event.TheVariants.{Get, Fire, Put}
 use Rattle.net_core.specs.Machine.{Net, net_of}
-use Rattle.net_core.specs.Shape.{IsWired, is_put}
+use Rattle.net_core.specs.Shape.{IsWired}
 use Rattle.net_core.proofs.Ready.{script_short}
 use Rattle.process_derive.specs.Derived.{net}
 use Rattle.process_derive.proofs.Numbers.{numbers_fit}
@@ -25,5 +24,5 @@ names_own n sized =
     let m = net_of (net n) in
     record {
       own = λ p k e lt. wired_own m (is_wired n) p k (get_or (m.script p) k e) (slice_get-get_or (m.script p) k e lt);
-      few_puts = λ c there. omega (arith, count_by-le-length (is_put c) (m.script (m.writer c)), script_short m (is_wired n) (numbers_fit n sized) (m.writer c));
+      few_events = script_short m (is_wired n) (numbers_fit n sized);
     }

@@ -1,8 +1,7 @@
 -- What the sequential schedule has after the first entries of the trace, and one entry more.
-use Rattle.std.proofs.Common.{◌≡◌, ℕ, zero, suc, ◌+◌, ◌-◌, ◌<◌, ◌≤◌, Some, List, [], ◌∷◌, ◌++◌, length, map, set, drop, replicate, slice_get, get_or, refl, sym, ap, ◌∙◌, arith}
+use Rattle.std.proofs.Common.{◌≡◌, ℕ, zero, suc, ◌-◌, ◌<◌, Some, List, [], ◌∷◌, ◌++◌, length, map, drop, replicate, slice_get, refl, sym, ap, ◌∙◌, arith}
 use Rattle.std.specs.List.{range_with_len}
 use Rattle.std.proofs.lemmas.List.{length-drop}
-use Rattle.std.proofs.lemmas.List.FromFn.{get_or-map-range_with_len, length-map-range_with_len}
 use Rattle.std.proofs.lemmas.Option.{slice_get_within}
 use Rattle.channel_plan.specs.Plans.{turn_count}
 use Rattle.net_core.specs.declared.network.Network.{Network}
@@ -18,39 +17,36 @@ use Rattle.sanlp.specs.Laws.{entries_of}
 use Rattle.sanlp.specs.Trace.{trace}
 use Rattle.sanlp.proofs.Enumerates.{enumerates_domains}
 use Rattle.sanlp.proofs.Lists.{map-range_with_len_replicate}
+use Rattle.witness_plan.specs.Progress.{left_after}
 use Rattle.witness_plan.specs.Sequential.{capacities, sequential_schedule}
 use Rattle.witness_plan.specs.Steps.{point_length}
 use Rattle.witness_plan.specs.Traffic.{no_traffic, traffic_along, traffic_of}
 use Rattle.witness_plan.specs.declared.traffic.Traffic.{Traffic}
-use Rattle.witness_plan.proofs.AlongCuts.{cut_after-append, cut_here, cut_there}
-use Rattle.witness_plan.proofs.CountedLists.{set_at}
 use Rattle.witness_plan.proofs.InTraceOrder.{stands, turns_before, until, until_more}
-use Rattle.witness_plan.proofs.PointEvents.{events_before, point_found, point_inside}
+use Rattle.witness_plan.proofs.PointEvents.{events_before, point_found}
 
--- the schedule and the positions after the first t entries
-pub record IsSequenced (n : Nest) (t : ℕ) (schedule positions : List ℕ) : Type 0 where
-  pub schedule_is : schedule ≡ until (point_events n) (trace n) t
-  pub positions_are : positions ≡ map (cut_after opening schedule) (range_with_len 0 (length n.statements))
-
-pub sequenced_none : (n : Nest) (schedule positions : List ℕ) → schedule ≡ [] → positions ≡ replicate (length n.statements) 0 → IsSequenced n 0 schedule positions
-sequenced_none n schedule positions e f = record {
-  schedule_is = e;
-  positions_are = f ∙ sym (map-range_with_len_replicate opening 0 0 (length n.statements) (λ k. refl)) ∙ ap (λ s. map (cut_after opening s) (range_with_len 0 (length n.statements))) (sym e);
-}
+-- the schedule after the first t entries
+abbrev pub sequenced : Nest → ℕ → List ℕ
+sequenced n t = until (point_events n) (trace n) t
 
 -- no channel has had an event at first
-pub traffic_none : (network : Net) (schedule : List ℕ) (traffic : List Traffic) → schedule ≡ [] → traffic ≡ replicate network.channels no_traffic → traffic ≡ traffic_along network schedule
-traffic_none network schedule traffic e f = f ∙ sym (map-range_with_len_replicate (traffic_of network []) no_traffic 0 network.channels (λ k. refl)) ∙ ap (traffic_along network) (sym e)
+pub traffic_none : (network : Net) (schedule : List ℕ) (traffic : List Traffic) → schedule ≡ []
+    → traffic ≡ replicate network.channels no_traffic → traffic ≡ traffic_along network schedule
+traffic_none network schedule traffic e f =
+    f ∙ sym (map-range_with_len_replicate (traffic_of network []) no_traffic 0 network.channels (λ k. refl))
+    ∙ ap (traffic_along network) (sym e)
 
 -- Lists of what is left
 
-pub drop_front : {X : Type 0} (xs : List X) (k : ℕ) (x : X) (left : List X) → drop k xs ≡ x ∷ left → (slice_get xs k ≡ Some x) × (drop (suc k) xs ≡ left)
+pub drop_front : {X : Type 0} (xs : List X) (k : ℕ) (x : X) (left : List X) → drop k xs ≡ x ∷ left
+    → (slice_get xs k ≡ Some x) × (drop (suc k) xs ≡ left)
 drop_front [] zero x left e = absurd (cc)
 drop_front [] (suc k) x left e = absurd (cc)
 drop_front (y ∷ xs) zero x left e = (let f : y ≡ x = cc in ap Some f, let f : xs ≡ left = cc in f)
 drop_front (y ∷ xs) (suc k) x left e = drop_front xs k x left e
 
-module _ (n : Nest) (left later : List Point) (p : Point) (e : drop (length (trace n) - length left) (trace n) ≡ left) (f : left ≡ p ∷ later) where
+module _ (n : Nest) (left later : List Point) (p : Point) (e : drop (length (trace n) - length left) (trace n) ≡ left)
+    (f : left ≡ p ∷ later) where
   pub next_time : length (trace n) - length later ≡ suc (length (trace n) - length left)
   next_time = omega (arith, length-drop (length (trace n) - length left) (trace n), ap length e, ap length f)
 
@@ -58,7 +54,8 @@ module _ (n : Nest) (left later : List Point) (p : Point) (e : drop (length (tra
   here = (drop_front (trace n) (length (trace n) - length left) p later (e ∙ f)).0
 
   pub left_later : drop (length (trace n) - length later) (trace n) ≡ later
-  left_later = ap (λ k. drop k (trace n)) next_time ∙ (drop_front (trace n) (length (trace n) - length left) p later (e ∙ f)).1
+  left_later =
+      ap (λ k. drop k (trace n)) next_time ∙ (drop_front (trace n) (length (trace n) - length left) p later (e ∙ f)).1
 
   pub statement_exists : p.statement < length n.statements
   statement_exists =
@@ -71,21 +68,14 @@ module _ (n : Nest) (left later : List Point) (p : Point) (e : drop (length (tra
 
   turn_exists : turn < turn_count n p.statement
   turn_exists =
-      slice_get_within (entries_of (trace n) p.statement) turn _ (turn_of_entry 0 (trace n) (length (trace n) - length left) p here)
+      slice_get_within (entries_of (trace n) p.statement) turn _
+      (turn_of_entry 0 (trace n) (length (trace n) - length left) p here)
 
-  module _ (schedule positions : List ℕ) (sequenced : IsSequenced n (length (trace n) - length left) schedule positions) where
-    pub position_is : get_or positions p.statement 0 ≡ cut_after opening schedule p.statement
-    position_is =
-        ap (λ ps. get_or ps p.statement 0) sequenced.positions_are
-        ∙ get_or-map-range_with_len (cut_after opening schedule) 0 (length n.statements) p.statement p.statement 0 statement_exists (omega arith)
-
-    pub position_exists : p.statement < length positions
-    position_exists = omega (arith, ap length sequenced.positions_are, length-map-range_with_len (cut_after opening schedule) 0 (length n.statements), statement_exists)
-
+  module _ (schedule : List ℕ) (before : schedule ≡ sequenced n (length (trace n) - length left)) where
     -- the process has made the events of its earlier points
     stands_here : cut_after opening schedule p.statement ≡ length (events_before n p.statement turn)
     stands_here =
-        ap (λ s. cut_after opening s p.statement) sequenced.schedule_is
+        ap (λ s. cut_after opening s p.statement) before
         ∙ stands (point_events n) (trace n) (length (trace n) - length left) p.statement (omega arith)
 
     module _ (network : Network) (derived : network ≡ net n) where
@@ -97,49 +87,38 @@ module _ (n : Nest) (left later : List Point) (p : Point) (e : drop (length (tra
           let count : length (net n).processes ≡ length n.statements = count_processes n in
           omega (arith, ap (λ (x : Network). length x.processes) derived, count, statement_exists)
 
-      pub stands_inside : cut_after opening schedule p.statement ≤ length ((net_of network).script p.statement)
-      stands_inside = omega (arith, stands_here, ap length script_is, point_inside n p.statement turn turn_exists)
-
-      pub found_here : point_length (drop (cut_after opening schedule p.statement) ((net_of network).script p.statement)) ≡ length (point_events n p.statement turn)
+      found_here : point_length (left_after (net_of network) schedule p.statement)
+          ≡ length (point_events n p.statement turn)
       found_here =
           ap (λ xs. point_length (drop (cut_after opening schedule p.statement) xs)) script_is
           ∙ ap (λ k. point_length (drop k (script n p.statement))) stands_here
           ∙ point_found n p.statement turn turn_exists
 
-      pub sequenced_more : (schedule' positions' : List ℕ) (k end : ℕ) → k ≡ cut_after opening schedule p.statement
-          → end ≡ k + point_length (drop k ((net_of network).script p.statement))
-          → schedule' ≡ schedule ++ replicate (point_length (drop k ((net_of network).script p.statement))) p.statement
-          → positions' ≡ set positions p.statement end
-          → IsSequenced n (length (trace n) - length later) schedule' positions'
-      sequenced_more schedule' positions' k end at ends more moved =
-          let m = length (point_events n p.statement turn) in
-          let made : point_length (drop k ((net_of network).script p.statement)) ≡ m =
-          ap (λ j. point_length (drop j ((net_of network).script p.statement))) at ∙ found_here in
-          let grown : schedule' ≡ schedule ++ replicate m p.statement = more ∙ ap (λ j. schedule ++ replicate j p.statement) made in
-          let cut : cut_after opening schedule' ≡ cut_after (cut_after opening schedule) (replicate m p.statement) =
-          ap (cut_after opening) grown ∙ cut_after-append opening schedule (replicate m p.statement) in
-          record {
-            schedule_is = grown ∙ ap (λ s. s ++ replicate m p.statement) sequenced.schedule_is
-                ∙ sym (until_more (point_events n) (trace n) (length (trace n) - length left) p here)
-                ∙ ap (until (point_events n) (trace n)) (sym next_time);
-            positions_are = moved ∙ ap (λ ps. set ps p.statement end) sequenced.positions_are
-                ∙ set_at (cut_after opening schedule) (cut_after opening schedule') (length n.statements) p.statement end statement_exists
-                (ap (λ c. c p.statement) cut ∙ cut_here (cut_after opening schedule) m p.statement
-                ∙ ap (λ j. j + m) (sym at) ∙ ap (λ j. k + j) (sym made) ∙ sym ends)
-                (λ q ne. sym (ap (λ c. c q) cut ∙ cut_there (cut_after opening schedule) m p.statement q ne));
-          }
+      pub sequenced_more : (more : List ℕ)
+          → more ≡ schedule ++ replicate (point_length (left_after (net_of network) schedule p.statement)) p.statement
+          → more ≡ sequenced n (length (trace n) - length later)
+      sequenced_more more grown =
+          grown
+          ∙ ap (λ m. schedule ++ replicate m p.statement) found_here
+          ∙ ap (λ s. s ++ replicate (length (point_events n p.statement turn)) p.statement) before
+          ∙ sym (until_more (point_events n) (trace n) (length (trace n) - length left) p here)
+          ∙ ap (sequenced n) (sym next_time)
 
 -- the whole trace
-pub sequenced_all : (n : Nest) (schedule positions : List ℕ) → IsSequenced n (length (trace n)) schedule positions → schedule ≡ sequential_schedule n
+pub sequenced_all : (n : Nest) (schedule : List ℕ) → schedule ≡ sequenced n (length (trace n))
+    → schedule ≡ sequential_schedule n
 unfolding sequential_schedule
-sequenced_all n schedule positions sequenced = sequenced.schedule_is
+sequenced_all n schedule all = all
 
 map-map : {X Y Z : Type 0} (f : Y → Z) (g : X → Y) (xs : List X) → map f (map g xs) ≡ map (λ x. f (g x)) xs
 map-map f g [] = refl
 map-map f g (x ∷ xs) = ap (λ ys. f (g x) ∷ ys) (map-map f g xs)
 
 -- the greatest lengths are the capacities
-pub capacities_are : (network : Network) (schedule : List ℕ) (traffic : List Traffic) (lengths : List ℕ) → lengths ≡ map (λ t. t.greatest) traffic
+pub capacities_are : (network : Network) (schedule : List ℕ) (traffic : List Traffic) (lengths : List ℕ)
+    → lengths ≡ map (λ t. t.greatest) traffic
     → traffic ≡ traffic_along (net_of network) schedule → lengths ≡ capacities network schedule
 capacities_are network schedule traffic lengths e f =
-    e ∙ ap (map (λ t. t.greatest)) f ∙ map-map (λ (t : Traffic). t.greatest) (traffic_of (net_of network) schedule) (range_with_len 0 (length network.channels))
+    e ∙ ap (map (λ t. t.greatest)) f
+    ∙ map-map (λ (t : Traffic). t.greatest) (traffic_of (net_of network) schedule)
+    (range_with_len 0 (length network.channels))

@@ -45,27 +45,32 @@ use Rattle.witness_plan.proofs.TokensPut.{events_more, tokens_put}
 
 -- Runs on cuts
 
-run_append : (n : Net) (k : Cut) (run more : List ℕ) → IsCutRun n k run → IsCutRun n (cut_after k run) more → IsCutRun n k (run ++ more)
+run_append : (n : Net) (k : Cut) (run more : List ℕ) → IsCutRun n k run → IsCutRun n (cut_after k run) more
+    → IsCutRun n k (run ++ more)
 run_append n k [] more first later = later
 run_append n k (p ∷ run) more first later = (first.0, run_append n (advanced k p) run more first.1 later)
 
 -- one process makes many events
-run_of_one : (n : Net) (k : Cut) (p m : ℕ) → ((j : ℕ) → j < m → enabled_at n (cut_after k (replicate j p)) p ≡ true) → IsCutRun n k (replicate m p)
+run_of_one : (n : Net) (k : Cut) (p m : ℕ) → ((j : ℕ) → j < m → enabled_at n (cut_after k (replicate j p)) p ≡ true)
+    → IsCutRun n k (replicate m p)
 run_of_one n k p zero on = tt
 run_of_one n k p (suc m) on =
     (on 0 (omega arith), run_of_one n (advanced k p) p m (λ j lt. on (suc j) (omega arith)))
 
 -- Scripts
 
-none_of : (t : ℕ) (points : List Point) (s : ℕ) → ((i : ℕ) (q : Point) → slice_get points i ≡ Some q → q.statement < s) → entries_from t points s ≡ []
+none_of : (t : ℕ) (points : List Point) (s : ℕ) → ((i : ℕ) (q : Point) → slice_get points i ≡ Some q → q.statement < s)
+    → entries_from t points s ≡ []
 none_of t [] s low = refl
 none_of t (q ∷ points) s low =
     let here = low 0 q refl in
-    ap (λ b. cond b (t ∷ entries_from (t + 1) points s) (entries_from (t + 1) points s)) (ne_eqb q.statement s (λ e. omega arith))
+    ap (λ b. cond b (t ∷ entries_from (t + 1) points s) (entries_from (t + 1) points s))
+    (ne_eqb q.statement s (λ e. omega arith))
     ∙ none_of (t + 1) points s (λ i r is. low (suc i) r is)
 
 low_statement : (n : Nest) (i : ℕ) (q : Point) → slice_get (trace n) i ≡ Some q → q.statement < length n.statements
-low_statement n i q is = let at = (enumerates_domains n).entry i q is in slice_get_within n.statements q.statement at.statement at.found
+low_statement n i q is =
+    let at = (enumerates_domains n).entry i q is in slice_get_within n.statements q.statement at.statement at.found
 
 -- also a process that isn't there has the script of its points, of which there are none
 script_is : (n : Nest) (p : ℕ) → (net_of (net n)).script p ≡ script n p
@@ -73,11 +78,13 @@ script_is n p =
     elim (cases_lt p (length n.statements)) [
       | inl lt ↦ script_at n p lt
       | inr le ↦
-          let none : turn_count n p ≡ 0 = ap length (none_of 0 (trace n) p (λ i q is. (let low = low_statement n i q is in omega arith))) in
+          let none : turn_count n p ≡ 0 =
+          ap length (none_of 0 (trace n) p (λ i q is. (let low = low_statement n i q is in omega arith))) in
           script_past n p le ∙ ap (λ m. flat_map (point_events n p) (range_with_len 0 m)) (sym none)
     ]
 
-script_front : (n : Nest) (p f : ℕ) → f ≤ turn_count n p → script n p ≡ events_before n p f ++ flat_map (point_events n p) (range_with_len f (turn_count n p - f))
+script_front : (n : Nest) (p f : ℕ) → f ≤ turn_count n p
+    → script n p ≡ events_before n p f ++ flat_map (point_events n p) (range_with_len f (turn_count n p - f))
 script_front n p f le =
     let whole : turn_count n p ≡ f + (turn_count n p - f) = omega arith in
     let front : 0 + f ≡ f = omega arith in
@@ -86,12 +93,15 @@ script_front n p f le =
     ∙ flat_map-append (point_events n p) (range_with_len 0 f) (range_with_len (0 + f) (turn_count n p - f))
     ∙ ap (λ a. events_before n p f ++ flat_map (point_events n p) (range_with_len a (turn_count n p - f))) front
 
-take_front : (n : Nest) (p f : ℕ) → f ≤ turn_count n p → take (length (events_before n p f)) ((net_of (net n)).script p) ≡ events_before n p f
+take_front : (n : Nest) (p f : ℕ) → f ≤ turn_count n p
+    → take (length (events_before n p f)) ((net_of (net n)).script p) ≡ events_before n p f
 take_front n p f le =
     ap (take (length (events_before n p f))) (script_is n p ∙ script_front n p f le)
-    ∙ take_at (events_before n p f) (flat_map (point_events n p) (range_with_len f (turn_count n p - f))) (length (events_before n p f)) refl
+    ∙ take_at (events_before n p f) (flat_map (point_events n p) (range_with_len f (turn_count n p - f)))
+    (length (events_before n p f)) refl
 
-length_front : (n : Nest) (p f : ℕ) → f ≤ turn_count n p → length (events_before n p f) ≤ length ((net_of (net n)).script p)
+length_front : (n : Nest) (p f : ℕ) → f ≤ turn_count n p
+    → length (events_before n p f) ≤ length ((net_of (net n)).script p)
 length_front n p f le =
     omega (arith, ap length (script_is n p ∙ script_front n p f le), length-append (events_before n p f) (flat_map (point_events n p) (range_with_len f (turn_count n p - f))))
 
@@ -103,7 +113,9 @@ few_turns n t p =
     omega (arith, whole, count-append (λ (q : Point). q.statement == p) (take t points) (drop t points), entries_count 0 points p)
 
 all_turns : (n : Nest) (p : ℕ) → turns_before (trace n) (length (trace n)) p ≡ turn_count n p
-all_turns n p = ap (count_by (λ (q : Point). q.statement == p)) (take_all (length (trace n)) (trace n) (omega arith)) ∙ sym (entries_count 0 (trace n) p)
+all_turns n p =
+    ap (count_by (λ (q : Point). q.statement == p)) (take_all (length (trace n)) (trace n) (omega arith))
+    ∙ sym (entries_count 0 (trace n) p)
 
 -- The schedule so far
 
@@ -176,38 +188,51 @@ module _ (n : Nest) (t : ℕ) (q : Point) (here : slice_get (trace n) t ≡ Some
         ]
 
     -- the token of a Get was put before
-    token_there : (d slot : ℕ) → slice_get (m.script q.statement) (c q.statement) ≡ Some (Get d slot) → IsOwn m q.statement (Get d slot) → gets_at m c d < puts_at m c d
+    token_there : (d slot : ℕ) → slice_get (m.script q.statement) (c q.statement) ≡ Some (Get d slot)
+        → IsOwn m q.statement (Get d slot) → gets_at m c d < puts_at m c d
     token_there d slot is own =
         let plan = item_at (plans_of n) d (omega (arith, own.0, count_channels n)) in
         let w = plan.0.writer in
         let b = turns_before (trace n) t w in
         let reader : plan.0.reader ≡ q.statement = sym (reader_at n d plan.0 plan.1) ∙ own.1 in
         let used = turns_used w (sources_at n plan.0.reader plan.0.read) in
-        let wanted : count_by (is_get d) (events_before n plan.0.reader (turns_before (trace n) (suc t) plan.0.reader)) ≤ tokens_below used b =
+        let wanted : count_by (is_get d)
+        (events_before n plan.0.reader (turns_before (trace n) (suc t) plan.0.reader)) ≤ tokens_below used b =
         (
         let made = gets_made n d plan.0 plan.1 (turns_before (trace n) (suc t) plan.0.reader) in
         let few = wanted_are_tokens n plan.0.read plan.0.reader w t in
         omega arith
         ) in
-        let wanted_here : count_by (is_get d) (events_before n q.statement (turns_before (trace n) (suc t) q.statement)) ≤ tokens_below used b =
-        subst (λ r. count_by (is_get d) (events_before n r (turns_before (trace n) (suc t) r)) ≤ tokens_below used b) reader wanted in
+        let wanted_here : count_by (is_get d)
+        (events_before n q.statement (turns_before (trace n) (suc t) q.statement)) ≤ tokens_below used b =
+        subst (λ r. count_by (is_get d)
+        (events_before n r (turns_before (trace n) (suc t) r)) ≤ tokens_below used b) reader wanted in
         let wanted_so_far : count_by (is_get d) (events_before n q.statement (suc f)) ≤ tokens_below used b =
         subst (λ g. count_by (is_get d) (events_before n q.statement g) ≤ tokens_below used b) next_turn wanted_here in
         let put : tokens_below used b ≤ puts_at m k d =
         (
         let puts = tokens_put n d plan.0 plan.1 b (few_turns n t w) in
         let writer = ap (λ r. count_by (is_put d) (take (k r) (m.script r))) (writer_at n d plan.0 plan.1) in
-        let front = ap (λ i. count_by (is_put d) (take i (m.script w))) (stand w) ∙ ap (count_by (is_put d)) (take_front n w b (few_turns n t w)) in
+        let front =
+        ap (λ i. count_by (is_put d) (take i (m.script w))) (stand w)
+        ∙ ap (count_by (is_put d)) (take_front n w b (few_turns n t w)) in
         omega arith
         ) in
-        let later : puts_at m k d ≤ puts_at m c d = count_mono (is_put d) (m.script (m.writer d)) (k (m.writer d)) (c (m.writer d)) (no_less (m.writer d)) in
-        let more = gets_more m c q.statement d (Get d slot) is (λ h. own.1) ∙ ap (λ b. gets_at m c d + cond b 1 0) (eq-eqb d d refl) in
+        let later : puts_at m k d ≤ puts_at m c d =
+        count_mono (is_put d) (m.script (m.writer d)) (k (m.writer d)) (c (m.writer d)) (no_less (m.writer d)) in
+        let more =
+        gets_more m c q.statement d (Get d slot) is (λ h. own.1)
+        ∙ ap (λ b. gets_at m c d + cond b 1 0) (eq-eqb d d refl) in
         let got : gets_at m (advanced c q.statement) d ≤ count_by (is_get d) (events_before n q.statement (suc f)) =
         (
         let reading = ap (λ r. count_by (is_get d) (take (advanced c q.statement r) (m.script r))) own.1 in
-        let place = ap (λ i. count_by (is_get d) (take i (m.script q.statement))) (advanced_here c q.statement q.statement refl ∙ ap suc at) in
+        let place =
+        ap (λ i. count_by (is_get d) (take i (m.script q.statement)))
+        (advanced_here c q.statement q.statement refl ∙ ap suc at) in
         let all = ap (count_by (is_get d)) (take_front n q.statement (suc f) turn_there) in
-        let mono = count_mono (is_get d) (m.script q.statement) (suc (k q.statement + j)) (length (events_before n q.statement (suc f))) (omega (arith, point_ends)) in
+        let mono =
+        count_mono (is_get d) (m.script q.statement) (suc (k q.statement + j))
+        (length (events_before n q.statement (suc f))) (omega (arith, point_ends)) in
         omega arith
         ) in
         omega arith
@@ -218,11 +243,13 @@ module _ (n : Nest) where
   abbrev derived : Net
   derived = net_of (net n)
 
-  module _ (t : ℕ) (q : Point) (here : slice_get (trace n) t ≡ Some q) (j : ℕ) (lt : j < length (point_events n q.statement (turns_before (trace n) t q.statement))) where
+  module _ (t : ℕ) (q : Point) (here : slice_get (trace n) t ≡ Some q) (j : ℕ)
+      (lt : j < length (point_events n q.statement (turns_before (trace n) t q.statement))) where
     abbrev cut : Cut
     cut = cut_after (cut_after opening (before n t)) (replicate j q.statement)
 
-    could_come : (e : Event) → slice_get (derived.script q.statement) (cut q.statement) ≡ Some e → IsOwn derived q.statement e → could_come_at derived cut (Some e) ≡ true
+    could_come : (e : Event) → slice_get (derived.script q.statement) (cut q.statement) ≡ Some e
+        → IsOwn derived q.statement e → could_come_at derived cut (Some e) ≡ true
     could_come (Get d slot) is own = lt-ltb _ _ (token_there n t q here j lt d slot is own)
     could_come (Fire refs) is own = refl
     could_come (Put d) is own = refl
@@ -242,11 +269,13 @@ module _ (n : Nest) where
       subst (IsCutRun (never_full derived) opening) (sym (until_more (point_events n) (trace n) t q.0 q.1))
       (run_append (never_full derived) opening (before n t) (replicate many p) (runs_until t (omega arith))
       (run_of_one (never_full derived) (cut_after opening (before n t)) p many
-      (λ j lt. ready_comes derived (is_wired n) (cut_after (cut_after opening (before n t)) (replicate j p)) p (ready t q.0 q.1 j lt))))
+      (λ j lt. ready_comes derived (is_wired n) (cut_after (cut_after opening (before n t)) (replicate j p)) p
+      (ready t q.0 q.1 j lt))))
 
   -- each entry of the schedule is ready in turn
   pub sequential_runs : IsCutRun (never_full (net_of (net n))) opening (sequential_schedule n)
-  sequential_runs = subst (IsCutRun (never_full derived) opening) (schedule_is n) (runs_until (length (trace n)) (omega arith))
+  sequential_runs =
+      subst (IsCutRun (never_full derived) opening) (schedule_is n) (runs_until (length (trace n)) (omega arith))
 
   -- and in the end each process has made all its events
   pub sequential_ends : (p : ℕ) → cut_after opening (sequential_schedule n) p ≡ length ((net_of (net n)).script p)

@@ -16,7 +16,8 @@ use Rattle.sanlp.specs.declared.nest.Tag.{Tag}
 
 -- Lists
 
-all_flat_map : {X Y : Type 0} (P : Y → Type 0) (f : X → List Y) → ((x : X) → All P (f x)) → (xs : List X) → All P (flat_map f xs)
+all_flat_map : {X Y : Type 0} (P : Y → Type 0) (f : X → List Y) → ((x : X) → All P (f x)) → (xs : List X)
+    → All P (flat_map f xs)
 all_flat_map P f each [] = All-nil P
 all_flat_map P f each (x ∷ xs) = All-append P (f x) (flat_map f xs) (each x) (all_flat_map P f each xs)
 
@@ -36,12 +37,14 @@ record IsFound (c : ℕ) (plans : List ChannelPlan) (w p k : ℕ) (found : ℕ �
   pub is : slice_get plans place ≡ Some found.1
   pub between : goes_between w p k found.1 ≡ true
 
-channel_found : (c : ℕ) (plans : List ChannelPlan) (w p k : ℕ) (found : ℕ × ChannelPlan) → channel_from c plans w p k ≡ Some found → IsFound c plans w p k found
+channel_found : (c : ℕ) (plans : List ChannelPlan) (w p k : ℕ) (found : ℕ × ChannelPlan)
+    → channel_from c plans w p k ≡ Some found → IsFound c plans w p k found
 channel_found c [] w p k found h = cc
 channel_found c (plan ∷ plans) w p k found h =
     elim (cases_Bool (goes_between w p k plan)) [
       | inl this ↦
-          let h' : cond {A = Option (ℕ × ChannelPlan)} true (Some (c, plan)) (channel_from (suc c) plans w p k) ≡ Some found = rw this at h in
+          let h' : cond {A = Option (ℕ × ChannelPlan)} true (Some (c, plan)) (channel_from (suc c) plans w p k)
+          ≡ Some found = rw this at h in
           let same : (c, plan) ≡ found = cc in
           record {
             place = 0;
@@ -50,7 +53,8 @@ channel_found c (plan ∷ plans) w p k found h =
             between = ap (λ (x : ℕ × ChannelPlan). goes_between w p k x.1) (sym same) ∙ this;
           }
       | inr other ↦
-          let h' : cond {A = Option (ℕ × ChannelPlan)} false (Some (c, plan)) (channel_from (suc c) plans w p k) ≡ Some found = rw other at h in
+          let h' : cond {A = Option (ℕ × ChannelPlan)} false (Some (c, plan)) (channel_from (suc c) plans w p k)
+          ≡ Some found = rw other at h in
           let later = channel_found (suc c) plans w p k found h' in
           record { place = suc later.place; number = later.number ∙ omega arith; is = later.is; between = later.between }
     ]
@@ -59,15 +63,18 @@ abbrev IsPlan : Nest → ChannelPlan → Type 0
 IsPlan n plan = plan ≡ plan_of n plan.reader plan.read plan.writer
 
 -- each channel of a nest is that of its reader, read and writer
-pub plan_is : (n : Nest) (c : ℕ) (plan : ChannelPlan) → slice_get (plans_of n) c ≡ Some plan → plan ≡ plan_of n plan.reader plan.read plan.writer
+pub plan_is : (n : Nest) (c : ℕ) (plan : ChannelPlan) → slice_get (plans_of n) c ≡ Some plan
+    → plan ≡ plan_of n plan.reader plan.read plan.writer
 unfolding plans_of
 plan_is n c plan is = all_at (IsPlan n) (plans_of n) c plan every is
   where
     every : All (IsPlan n) (plans_of n)
     every =
         all_flat_map (IsPlan n) (λ p. flat_map (plans_at n p) (range_with_len 0 (read_count n p)))
-        (λ p. all_flat_map (IsPlan n) (plans_at n p) (λ k. All-map (IsPlan n) (plan_of n p k) (writers_of (length n.statements) (sources_at n p k))
-        (each_all (λ w. IsPlan n (plan_of n p k w)) (λ w. refl) (writers_of (length n.statements) (sources_at n p k)))) (range_with_len 0 (read_count n p)))
+        (λ p. all_flat_map (IsPlan n) (plans_at n p)
+        (λ k. All-map (IsPlan n) (plan_of n p k) (writers_of (length n.statements) (sources_at n p k))
+        (each_all (λ w. IsPlan n (plan_of n p k w)) (λ w. refl) (writers_of (length n.statements) (sources_at n p k))))
+        (range_with_len 0 (read_count n p)))
         (range_with_len 0 (length n.statements))
 
 -- Uses
@@ -83,11 +90,13 @@ pub record IsUse (n : Nest) (p f k : ℕ) (u : Usage) : Type 0 where
   pub slots : u.slots ≡ plan.slots
   pub number : u.number ≡ length (turns_used source.process (take f (sources_at n p k)))
 
-pub mapped : {A B : Type 0} (f : A → B) (o : Option A) (y : B) → option_map f o ≡ Some y → (x : A) × (o ≡ Some x) × (y ≡ f x)
+pub mapped : {A B : Type 0} (f : A → B) (o : Option A) (y : B) → option_map f o ≡ Some y
+    → (x : A) × (o ≡ Some x) × (y ≡ f x)
 mapped f None y h = cc
 mapped f (Some x) y h = let e : y ≡ f x = cc in (x, refl, e)
 
-pub chained : {A B : Type 0} (f : A → Option B) (o : Option A) (y : B) → option_and_then f o ≡ Some y → (x : A) × (o ≡ Some x) × (f x ≡ Some y)
+pub chained : {A B : Type 0} (f : A → Option B) (o : Option A) (y : B) → option_and_then f o ≡ Some y
+    → (x : A) × (o ≡ Some x) × (f x ≡ Some y)
 chained f None y h = cc
 chained f (Some x) y h = (x, refl, h)
 

@@ -37,7 +37,8 @@ channel writer reader read capacity = record {
 running_sums : Network
 unfolding values sums sink channel
 running_sums = record {
-  processes = record { slots = 0; script = values } ∷ record { slots = 2; script = sums } ∷ record { slots = 1; script = sink } ∷ [];
+  processes =
+      record { slots = 0; script = values } ∷ record { slots = 2; script = sums } ∷ record { slots = 1; script = sink } ∷ [];
   channels = channel 1 1 0 2 ∷ channel 0 1 1 3 ∷ channel 1 2 0 3 ∷ [];
 }
 
@@ -52,7 +53,12 @@ unfolding running_sums values sums sink channel downward_schedule
 downward_sums = refl
 
 -- point by point through all processes no queue has more than one token
-point_by_point : capacities running_sums (replicate 2 0 ++ (replicate 4 1 ++ (replicate 2 2 ++ (replicate 2 0 ++ (replicate 5 1 ++ (replicate 2 2 ++ (replicate 2 0 ++ (replicate 4 1 ++ replicate 2 2))))))))
+point_by_point : capacities running_sums
+    (replicate 2 0
+    ++ (replicate 4 1
+    ++ (replicate 2 2
+    ++ (replicate 2 0
+    ++ (replicate 5 1 ++ (replicate 2 2 ++ (replicate 2 0 ++ (replicate 4 1 ++ replicate 2 2))))))))
     ≡ 1 ∷ 1 ∷ 1 ∷ []
 unfolding running_sums values sums sink channel
 point_by_point = refl
@@ -61,14 +67,16 @@ first_point : point_length sums ≡ 4
 unfolding sums
 first_point = refl
 
-changed : (with_capacities running_sums (1 ∷ 3 ∷ 3 ∷ [])).channels ≡ channel 1 1 0 1 ∷ channel 0 1 1 3 ∷ channel 1 2 0 3 ∷ []
+changed : (with_capacities running_sums (1 ∷ 3 ∷ 3 ∷ [])).channels
+    ≡ channel 1 1 0 1 ∷ channel 0 1 1 3 ∷ channel 1 2 0 3 ∷ []
 unfolding running_sums channel
 changed = refl
 
 -- Three values, to each of which one is added.
 
 adder : List Event
-adder = Get 0 0 ∷ Fire (Slot 0 ∷ []) ∷ Put 1 ∷ Get 0 0 ∷ Fire (Slot 0 ∷ []) ∷ Put 1 ∷ Get 0 0 ∷ Fire (Slot 0 ∷ []) ∷ Put 1 ∷ []
+adder = Get 0 0 ∷ Fire (Slot 0 ∷ []) ∷ Put 1 ∷ Get 0 0 ∷ Fire (Slot 0 ∷ []) ∷ Put 1 ∷ Get 0 0 ∷ Fire
+    (Slot 0 ∷ []) ∷ Put 1 ∷ []
 
 one_added : Network
 unfolding adder channel
@@ -89,7 +97,8 @@ next_ready : highest_ready (net_of one_added) (cut_after opening (0 ∷ 0 ∷ []
 unfolding one_added adder channel
 next_ready = refl
 
-added_downward : downward_schedule (net_of one_added) ≡ 0 ∷ 0 ∷ 1 ∷ 1 ∷ 1 ∷ 2 ∷ 2 ∷ 0 ∷ 0 ∷ 1 ∷ 1 ∷ 1 ∷ 2 ∷ 2 ∷ 0 ∷ 0 ∷ 1 ∷ 1 ∷ 1 ∷ 2 ∷ 2 ∷ []
+added_downward : downward_schedule (net_of one_added)
+    ≡ 0 ∷ 0 ∷ 1 ∷ 1 ∷ 1 ∷ 2 ∷ 2 ∷ 0 ∷ 0 ∷ 1 ∷ 1 ∷ 1 ∷ 2 ∷ 2 ∷ 0 ∷ 0 ∷ 1 ∷ 1 ∷ 1 ∷ 2 ∷ 2 ∷ []
 unfolding one_added adder channel downward_schedule
 added_downward = refl
 
@@ -108,7 +117,9 @@ added_in_trace_order = refl
 -- Four values, to each of which the last one is added, by way of a copy.
 
 copied : List Event
-copied = Get 0 0 ∷ Fire (Slot 0 ∷ []) ∷ Get 0 0 ∷ Fire (Slot 0 ∷ []) ∷ Get 0 0 ∷ Fire (Slot 0 ∷ []) ∷ Get 0 0 ∷ Fire (Slot 0 ∷ []) ∷ Put 2 ∷ []
+copied =
+    Get 0 0 ∷ Fire (Slot 0 ∷ []) ∷ Get 0 0 ∷ Fire (Slot 0 ∷ []) ∷ Get 0 0 ∷ Fire (Slot 0 ∷ []) ∷ Get 0 0 ∷ Fire
+    (Slot 0 ∷ []) ∷ Put 2 ∷ []
 
 last_added : Network
 unfolding copied channel
@@ -120,7 +131,8 @@ last_added = record {
         slots = 2;
         script =
             Get 1 0 ∷ Get 2 1 ∷ Fire (Slot 0 ∷ Slot 1 ∷ []) ∷ Put 3
-            ∷ Get 1 0 ∷ Fire (Slot 0 ∷ Slot 1 ∷ []) ∷ Put 3 ∷ Get 1 0 ∷ Fire (Slot 0 ∷ Slot 1 ∷ []) ∷ Put 3 ∷ Get 1 0 ∷ Fire (Slot 0 ∷ Slot 1 ∷ []) ∷ Put 3 ∷ [];
+            ∷ Get 1 0 ∷ Fire (Slot 0 ∷ Slot 1 ∷ []) ∷ Put 3 ∷ Get 1 0 ∷ Fire
+            (Slot 0 ∷ Slot 1 ∷ []) ∷ Put 3 ∷ Get 1 0 ∷ Fire (Slot 0 ∷ Slot 1 ∷ []) ∷ Put 3 ∷ [];
       }
       ∷ record { slots = 1; script = Get 3 0 ∷ Fire (Slot 0 ∷ []) ∷ Get 3 0 ∷ Fire (Slot 0 ∷ []) ∷ Get 3 0 ∷ Fire (Slot 0 ∷ []) ∷ Get 3 0 ∷ Fire (Slot 0 ∷ []) ∷ [] } ∷ [];
   channels = channel 0 1 0 4 ∷ channel 0 2 0 4 ∷ channel 1 2 1 1 ∷ channel 2 3 0 4 ∷ [];

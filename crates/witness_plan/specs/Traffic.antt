@@ -5,7 +5,6 @@ use Rattle.net_core.specs.declared.network.Event.{Event}
 use Rattle.net_core.specs.declared.network.Event.TheVariants.{Get, Fire, Put}
 use Rattle.net_core.specs.Cuts.{cut_after, gets_at, opening, puts_at}
 use Rattle.net_core.specs.Machine.{Net}
-use Rattle.net_core.specs.Shape.{put_count}
 use Rattle.witness_plan.specs.declared.traffic.Traffic.{Traffic}
 use Rattle.witness_plan.specs.Sequential.{greatest_length}
 
@@ -54,7 +53,7 @@ IsOwn net p (Get channel slot) = (channel < net.channels) × (net.reader channel
 IsOwn net p (Fire refs) = Unit {0}
 IsOwn net p (Put channel) = (channel < net.channels) × (net.writer channel ≡ p)
 
--- Each process names its own channels alone, and no channel has 2 ^ 32 Puts.
+-- Each process names its own channels alone, and has fewer than 2 ^ 32 events.
 pub record NamesOwnChannels (net : Net) : Type 0 where
   pub own : (p : ℕ) → All (IsOwn net p) (net.script p)
-  pub few_puts : (c : ℕ) → c < net.channels → put_count net c < 2 ^ 32
+  pub few_events : (p : ℕ) → length (net.script p) < 2 ^ 32

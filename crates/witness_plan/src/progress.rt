@@ -1,5 +1,4 @@
-ghost use Rattle.std.specs.Prelude.{◌≡◌, ◌<◌, ◌≤◌, ◌^◌, [], ◌∷◌, ◌++◌, max, length, slice_get, Some, IfOk, OnOk};
-ghost use Rattle.std.specs.Option.{option_copied};
+ghost use Rattle.std.specs.Prelude.{◌≡◌, ◌<◌, ◌≤◌, ◌^◌, [], ◌∷◌, ◌++◌, max, map, length, slice_get, Some, IfOk, OnOk};
 ghost use Rattle.net_core.specs.Cuts.{cut_after, opening};
 ghost use Rattle.net_core.specs.Machine.{net_of};
 ghost use Rattle.net_core.specs.Shape.{IsWired};
@@ -8,16 +7,33 @@ ghost use Rattle.witness_plan.specs.Schedules.{highest_ready, is_ready};
 ghost use Rattle.witness_plan.specs.Traffic.{IsOwn, NamesOwnChannels};
 
 use crate::traffic::{Traffic, note_event};
-use net_core::{Event, Network};
+use net_core::{Event, Network, Process};
 use plain_data::Items;
+use script_blocks::ScriptCursor;
 use std::alloc::{AllocError, Global};
 
-/// How far a network has come: which processes made its events, where each process stands, and what each channel has had.
+/// How far a network has come: which processes made its events, what each process has left of its script, and what each
+/// channel has had.
 #[derive(Drop)]
 pub(crate) struct Progress {
     pub(crate) schedule: Items<u32>,
-    positions: Vec<usize>,
+    cursors: Vec<ScriptCursor<Event>>,
     pub(crate) traffic: Vec<Traffic>,
+}
+
+// A cursor for each process, before its first event.
+fn first_cursors(
+    alloc: Global,
+    processes: &[Process],
+) -> Result<Vec<ScriptCursor<Event>>, AllocError>
+    ensures { IfOk result
+        (λ cursors. cursors.items ≡ map (λ process. process.script) processes.now) }
+{
+    let mut cursors = Vec::with_capacity(alloc, processes.len())?;
+    for process in processes {
+        cursors.push(ScriptCursor::new(&process.script)?)?;
+    }
+    Ok(cursors)
 }
 
 impl Progress {
@@ -28,22 +44,21 @@ impl Progress {
     {
         Ok(Progress {
             schedule: Items::new(alloc),
-            positions: vec![in alloc; 0; network.processes.len()]?,
+            cursors: first_cursors(alloc, network.processes.as_slice())?,
             traffic: vec![in alloc; Traffic::NONE; network.channels.len()]?,
         })
     }
 
-    // The event that a process makes next.
-    fn next_event<'a>(&self, network: &'a Network, process: u32) -> Option<&'a Event>
+    /// The event that a process makes next, or `None` exactly at its script's end.
+    pub(crate) fn next_event(&self, network: &Network, process: u32) -> Option<Event>
         requires progress { IsProgress (net_of network.now) self.now }
         requires process { process < length network.now.processes }
-        ensures { option_copied result
+        ensures { result
             ≡ slice_get ((net_of network.now).script process)
             (cut_after opening self.now.schedule process) }
     {
-        let at = process as usize;
-        let script = &network.processes.as_slice()[at].script;
-        script.get(self.positions[at])
+        let _ = network;
+        self.cursors[process as usize].peek()
     }
 
     // Whether a process's next event could come if no channel were ever full.
@@ -55,7 +70,7 @@ impl Progress {
             ≡ is_ready (net_of network.now) (cut_after opening self.now.schedule) process }
     {
         match self.next_event(network, process) {
-            Some(Event::Get { channel, .. }) => self.traffic[*channel as usize].has_token(),
+            Some(Event::Get { channel, .. }) => self.traffic[channel as usize].has_token(),
             Some(Event::Fire { .. } | Event::Put { .. }) => true,
             None => false,
         }
@@ -96,12 +111,12 @@ impl Progress {
         ensures schedule { OnOk result (self.new.schedule ≡ self.old.schedule ++ process ∷ []) }
         ensures progress { OnOk result (IsProgress (net_of network.now) self.new) }
     {
-        let at = process as usize;
-        let script = network.processes.as_slice()[at].script.as_slice();
-        let event = script[self.positions[at]];
+        let _ = network;
+        let Some(event) = self.cursors[process as usize].next() else {
+            unreachable!()
+        };
         self.schedule.push(process)?;
         note_event(&mut self.traffic, &event);
-        self.positions[at] += 1;
         Ok(event)
     }
 }

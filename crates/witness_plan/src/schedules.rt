@@ -13,7 +13,7 @@ ghost use Rattle.witness_plan.specs.Traffic.{NamesOwnChannels};
 use crate::laws::schedule_runs;
 use crate::progress::{Progress, bound_after};
 use crate::steps::make_point;
-use crate::traffic::{Traffic, greatest_lengths};
+use crate::traffic::greatest_lengths;
 use loop_walk::Walk;
 use net_core::{Channel, Network};
 use plain_data::Items;
@@ -47,20 +47,15 @@ fn sequential(alloc: Global, nest: &Nest, network: &Network) -> Result<Witness, 
     ensures capacities { IfOk result
         (λ witness. witness.capacities ≡ capacities network.now (sequential_schedule nest.now)) }
 {
-    let mut schedule = Items::new(alloc);
-    let mut positions = vec![in alloc; 0; network.processes.len()]?;
-    let mut traffic = vec![in alloc; Traffic::NONE; network.channels.len()]?;
+    let mut progress = Progress::new(alloc, network)?;
     let mut walk = Walk::new(alloc, nest)?;
     while let Some(point) = walk.next(nest) {
-        let process = point.statement;
-        let position = positions[process as usize];
-        let end = make_point(network, process, position, &mut schedule, &mut traffic)?;
-        positions[process as usize] = end;
+        make_point(&mut progress, network, point.statement)?;
     }
-    let capacities = greatest_lengths(alloc, &traffic)?;
+    let lengths = greatest_lengths(alloc, &progress.traffic)?;
     Ok(Witness {
-        schedule,
-        capacities,
+        schedule: progress.schedule,
+        capacities: lengths,
     })
 }
 

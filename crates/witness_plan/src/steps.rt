@@ -1,72 +1,70 @@
-ghost use Rattle.std.specs.Prelude.{◌≡◌, ◌<◌, ◌≤◌, ◌+◌, ◌++◌, drop, length, replicate, IfOk, OnOk};
-ghost use Rattle.net_core.specs.Cuts.{cut_after, opening};
+ghost use Rattle.std.specs.Prelude.{◌≡◌, ◌<◌, ◌++◌, length, replicate, OnOk};
 ghost use Rattle.net_core.specs.Machine.{net_of};
+ghost use Rattle.witness_plan.specs.Progress.{IsProgress, left_after};
 ghost use Rattle.witness_plan.specs.Steps.{point_length, put_length};
-ghost use Rattle.witness_plan.specs.Traffic.{NamesOwnChannels, traffic_along};
+ghost use Rattle.witness_plan.specs.Traffic.{NamesOwnChannels};
 
-use crate::traffic::{Traffic, note_event};
+use crate::progress::Progress;
 use net_core::{Event, Network};
-use plain_data::Items;
 use std::alloc::AllocError;
 
-// How many Puts stand in front.
-fn put_length(events: &[Event]) -> usize
-    ensures value { result ≡ put_length events.now }
-    ensures within { result ≤ length events.now }
+// Lets a process make all its events up to a Fire.
+fn make_fire(progress: &mut Progress, network: &Network, process: u32) -> Result<(), AllocError>
+    requires progress { IsProgress (net_of network.now) progress.old }
+    requires channels { NamesOwnChannels (net_of network.now) }
+    requires process { process < length network.now.processes }
+    ensures schedule { OnOk result
+        (progress.new.schedule
+        ++ replicate (put_length (left_after (net_of network.now) progress.new.schedule process)) process
+        ≡ progress.old.schedule
+        ++ replicate (point_length (left_after (net_of network.now) progress.old.schedule process)) process) }
+    ensures progress { OnOk result (IsProgress (net_of network.now) progress.new) }
 {
-    let mut puts = 0;
-    for event in events {
-        match event {
-            Event::Put { .. } => puts += 1,
-            Event::Get { .. } | Event::Fire { .. } => return puts,
-        }
-    }
-    puts
-}
-
-// How many events the first point of these has: all up to its Fire, and the Puts behind it.
-fn point_length(events: &[Event]) -> usize
-    ensures value { result ≡ point_length events.now }
-    ensures within { result ≤ length events.now }
-{
-    for (at, event) in events.iter().enumerate() {
+    while let Some(event) = progress.next_event(network, process) {
+        progress.make_event(network, process)?;
         if let Event::Fire { .. } = event {
-            return at + 1 + put_length(&events[at + 1..]);
+            return Ok(());
         }
     }
-    events.len()
+    Ok(())
 }
 
-/// Lets a process make the events of its next point, and counts them. It answers the position behind them.
+// Lets a process make the Puts that come next.
+fn make_puts(progress: &mut Progress, network: &Network, process: u32) -> Result<(), AllocError>
+    requires progress { IsProgress (net_of network.now) progress.old }
+    requires channels { NamesOwnChannels (net_of network.now) }
+    requires process { process < length network.now.processes }
+    ensures schedule { OnOk result
+        (progress.new.schedule
+        ≡ progress.old.schedule
+        ++ replicate (put_length (left_after (net_of network.now) progress.old.schedule process)) process) }
+    ensures progress { OnOk result (IsProgress (net_of network.now) progress.new) }
+{
+    while let Some(event) = progress.next_event(network, process) {
+        match event {
+            Event::Put { .. } => progress.make_event(network, process)?,
+            Event::Get { .. } | Event::Fire { .. } => return Ok(()),
+        };
+    }
+    Ok(())
+}
+
+/// Lets a process make the events of its next point, and counts them: all up to its Fire, and the Puts behind it.
 pub(crate) fn make_point(
+    progress: &mut Progress,
     network: &Network,
     process: u32,
-    position: usize,
-    schedule: &mut Items<u32>,
-    traffic: &mut [Traffic],
-) -> Result<usize, AllocError>
-    requires process { process < length network.now.processes }
+) -> Result<(), AllocError>
+    requires progress { IsProgress (net_of network.now) progress.old }
     requires channels { NamesOwnChannels (net_of network.now) }
-    requires position { position ≡ cut_after opening schedule.old process }
-    requires inside { position ≤ length ((net_of network.now).script process) }
-    requires traffic { traffic.old ≡ traffic_along (net_of network.now) schedule.old }
-    ensures position { IfOk result
-        (λ end. end
-        ≡ position + point_length (drop position ((net_of network.now).script process))) }
+    requires process { process < length network.now.processes }
     ensures schedule { OnOk result
-        (schedule.new
-        ≡ schedule.old
-        ++ replicate (point_length (drop position ((net_of network.now).script process))) process) }
-    ensures traffic { OnOk result (traffic.new ≡ traffic_along (net_of network.now) schedule.new) }
+        (progress.new.schedule
+        ≡ progress.old.schedule
+        ++ replicate (point_length (left_after (net_of network.now) progress.old.schedule process)) process) }
+    ensures progress { OnOk result (IsProgress (net_of network.now) progress.new) }
 {
-    let script = network.processes.as_slice()[process as usize]
-        .script
-        .as_slice();
-    let left = &script[position..];
-    let events = &left[..point_length(left)];
-    for event in events {
-        schedule.push(process)?;
-        note_event(traffic, event);
-    }
-    Ok(position + events.len())
+    make_fire(progress, network, process)?;
+    make_puts(progress, network, process)?;
+    Ok(())
 }

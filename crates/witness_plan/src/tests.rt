@@ -1,4 +1,4 @@
-ghost use Rattle.std.specs.Prelude.{◌≡◌, [], ◌∷◌, IfOk};
+ghost use Rattle.std.specs.Prelude.{◌≡◌, ◌<◌, ◌^◌, [], ◌∷◌, length, IfOk};
 ghost use Rattle.witness_plan.specs.Examples.{hand_on};
 
 use crate::{run_by, with_capacities};
@@ -7,6 +7,7 @@ use channel_class::{ChannelClass, UseOrder};
 use net_core::{Channel, Event, Network, Process, Ref, Refs, Tags, ended, kept, start};
 use plain_data::Items;
 use sanlp::{Points, Tag};
+use script_blocks::Script;
 use std::alloc::{AllocError, Global};
 use std::test::Fail;
 
@@ -22,7 +23,7 @@ fn forked(alloc: Global) -> Result<Network, AllocError> {
     let mut processes = Items::new(alloc);
     processes.push(Process {
         slots: 0,
-        script: Items::from_slice(alloc, &events)?,
+        script: Script::of_items(alloc, &events)?,
     })?;
     let mut channels = Items::new(alloc);
     for read in [4, 7] {
@@ -91,11 +92,12 @@ fn a_channel_past_the_capacities_has_none(rt: HostRuntime) -> Result<(), Fail> {
 }
 
 fn process(alloc: Global, slots: u32, events: &[Event]) -> Result<Process, AllocError>
+    requires { length events.now < 2 ^ 32 }
     ensures { IfOk result (λ process. process ≡ record { slots = slots; script = events.now }) }
 {
     Ok(Process {
         slots,
-        script: Items::from_slice(alloc, events)?,
+        script: Script::of_items(alloc, events)?,
     })
 }
 

@@ -18,4 +18,5 @@ loop-preserved c =
 
 pub returns : goal.returns
 returns c =
-    read_out process c.loop.processes c.args.count c.loop.counter c.loop.lines (many process c.args.count c.args.lines.now) c.loop-test.false c.loop.invariant
+    read_out process c.loop.processes c.args.count c.loop.counter c.loop.lines
+    (many process c.args.count c.args.lines.now) c.loop-test.false c.loop.invariant

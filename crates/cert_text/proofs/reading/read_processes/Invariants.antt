@@ -5,4 +5,5 @@ use Rattle.cert_text.proofs.reading.read_processes.Given as goal
 
 -- the processes so far, and those to come, are what all say
 abbrev pub invariant-loop : goal.invariant-loop
-invariant-loop l = items_before l.processes (many process (l.count - l.counter) l.lines) ≡ many process l.count l.fn.lines
+invariant-loop l =
+    items_before l.processes (many process (l.count - l.counter) l.lines) ≡ many process l.count l.fn.lines

@@ -4,8 +4,10 @@ use Rattle.net_checker.proofs.checker.first_refusal.Goals as goal
 
 pub schedule_refusal-requires-clause-fits : goal.schedule_refusal-requires-clause-fits
 schedule_refusal-requires-clause-fits c =
-    (none_fits c.args.nest.now c.args.network.now c.args.cert.now (sym c.shape_refusal.ensures ∙ c.in_default.is) (sym c.firing_refusal.ensures ∙ c.in_default-firing_refusal.is)).0
+    (none_fits c.args.nest.now c.args.network.now c.args.cert.now (sym c.shape_refusal.ensures ∙ c.in_default.is)
+    (sym c.firing_refusal.ensures ∙ c.in_default-firing_refusal.is)).0
 
 pub class_refusal-requires-clause-wired : goal.class_refusal-requires-clause-wired
 class_refusal-requires-clause-wired c =
-    (none_fits c.args.nest.now c.args.network.now c.args.cert.now (sym c.shape_refusal.ensures ∙ c.in_default.is) (sym c.firing_refusal.ensures ∙ c.in_default-firing_refusal.is)).0.shaped.wired
+    (none_fits c.args.nest.now c.args.network.now c.args.cert.now (sym c.shape_refusal.ensures ∙ c.in_default.is)
+    (sym c.firing_refusal.ensures ∙ c.in_default-firing_refusal.is)).0.shaped.wired

@@ -6,4 +6,6 @@ use Rattle.net_checker.proofs.classes.add_fire.Given as goal
 abbrev pub invariant-loop-reference : goal.invariant-loop-reference
 invariant-loop-reference l =
     (length l.uses ≡ length l.initial.uses)
-    × ((c : ℕ) → c < length l.initial.uses → slice_index_or l.uses c [] ≡ slice_index_or l.initial.uses c [] ++ flat_map (use_of c l.slots) (take l.reference-index l.refs))
+    × ((c : ℕ) → c < length l.initial.uses
+    → slice_index_or l.uses c []
+    ≡ slice_index_or l.initial.uses c [] ++ flat_map (use_of c l.slots) (take l.reference-index l.refs))

@@ -15,12 +15,18 @@ loop-process-preserved c =
     let old_gets = c.loop-process.gets.items in
     let old_uses = c.loop-process.uses.items in
     let many_gets : length gets ≡ length old_gets = omega (arith, ap length c.deref_mut.ensures.value) in
-    let many_uses : length uses ≡ length old_uses = omega (arith, ap length c.deref_mut-in-loop-process.ensures.value) in
-    let back_gets : take c.loop-process.gets.len (gets ++ drop (length gets) old_gets) ≡ gets = written_back gets old_gets c.loop-process.gets.len (omega (arith, c.loop-process.gets.ok.0)) many_gets in
-    let back_uses : take c.loop-process.uses.len (uses ++ drop (length uses) old_uses) ≡ uses = written_back uses old_uses c.loop-process.uses.len (omega (arith, c.loop-process.uses.ok.0)) many_uses in
+    let many_uses : length uses ≡ length old_uses =
+    omega (arith, ap length c.deref_mut-in-loop-process.ensures.value) in
+    let back_gets : take c.loop-process.gets.len (gets ++ drop (length gets) old_gets) ≡ gets =
+    written_back gets old_gets c.loop-process.gets.len (omega (arith, c.loop-process.gets.ok.0)) many_gets in
+    let back_uses : take c.loop-process.uses.len (uses ++ drop (length uses) old_uses) ≡ uses =
+    written_back uses old_uses c.loop-process.uses.len (omega (arith, c.loop-process.uses.ok.0)) many_uses in
     below_as net p _ gets _ uses back_gets back_uses
     (
     below_more net p old_gets gets old_uses uses c.requires.wired c.loop-process.invariant many_gets many_uses
-    (λ d lt. c.in_ok-add_script.ensures.gets d lt ∙ ap (λ (xs : List ℕ). get_or xs d 0 + count_by (is_get d) (net.script p)) c.deref_mut.ensures.value)
-    (λ d lt. c.in_ok-add_script.ensures.uses d lt ∙ ap (λ (xs : List (List ℕ)). get_or xs d [] ++ uses_before net d p (length (net.script p))) c.deref_mut-in-loop-process.ensures.value)
+    (λ d lt. c.in_ok-add_script.ensures.gets d lt
+    ∙ ap (λ (xs : List ℕ). get_or xs d 0 + count_by (is_get d) (net.script p)) c.deref_mut.ensures.value)
+    (λ d lt. c.in_ok-add_script.ensures.uses d lt
+    ∙ ap (λ (xs : List (List ℕ)). get_or xs d []
+    ++ uses_before net d p (length (net.script p))) c.deref_mut-in-loop-process.ensures.value)
     )

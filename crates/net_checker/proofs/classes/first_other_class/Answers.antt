@@ -8,7 +8,8 @@ use Rattle.net_checker.proofs.Lists.{read_or}
 use Rattle.net_checker.proofs.classes.first_other_class.Goals as goal
 
 abbrev nothing : Channel
-nothing = record { writer = 0; reader = 0; read = 0; capacity = 0; class = record { order = InOrder; multiplicity = false } }
+nothing =
+    record { writer = 0; reader = 0; read = 0; capacity = 0; class = record { order = InOrder; multiplicity = false } }
 
 pub returns-then-not-is_class : goal.returns-then-not-is_class
 returns-then-not-is_class c =
@@ -16,10 +17,15 @@ returns-then-not-is_class c =
     let at = c.loop-at.at in
     let items = c.as_slice-channel-items.result.now in
     let is = read_or network.channels items at nothing c.as_slice-channel-items.ensures (omega arith) in
-    let there : at < length c.args.lists.now = omega (arith, ap length c.as_slice-channel-items.ensures, c.requires.length) in
+    let there : at < length c.args.lists.now =
+    omega (arith, ap length c.as_slice-channel-items.ensures, c.requires.length) in
     let used : c.in_ok-class.class ≡ used_class network at =
-    c.in_ok-class.ensures ∙ ap class_of (c.as_slice.ensures ∙ list_used c.args.lists.now at c.index-lists-at.result there c.index-lists-at.is ∙ c.requires.uses at (omega arith)) in
-    channel_wrong network at (get_or items at nothing) c.in_ok-class.class is used (sym c.is_class.ensures ∙ c.if-not-is_class.true) c.loop-at.invariant
+    c.in_ok-class.ensures
+    ∙ ap class_of
+    (c.as_slice.ensures ∙ list_used c.args.lists.now at c.index-lists-at.result there c.index-lists-at.is
+    ∙ c.requires.uses at (omega arith)) in
+    channel_wrong network at (get_or items at nothing) c.in_ok-class.class is used
+    (sym c.is_class.ensures ∙ c.if-not-is_class.true) c.loop-at.invariant
 
 pub loop-at-preserved : goal.loop-at-preserved
 loop-at-preserved c =
@@ -27,10 +33,16 @@ loop-at-preserved c =
     let at = c.loop-at.at in
     let items = c.as_slice-channel-items.result.now in
     let is = read_or network.channels items at nothing c.as_slice-channel-items.ensures (omega arith) in
-    let there : at < length c.args.lists.now = omega (arith, ap length c.as_slice-channel-items.ensures, c.requires.length) in
+    let there : at < length c.args.lists.now =
+    omega (arith, ap length c.as_slice-channel-items.ensures, c.requires.length) in
     let used : c.in_ok-class.class ≡ used_class network at =
-    c.in_ok-class.ensures ∙ ap class_of (c.as_slice.ensures ∙ list_used c.args.lists.now at c.index-lists-at.result there c.index-lists-at.is ∙ c.requires.uses at (omega arith)) in
-    below_more _ _ c.loop-at.invariant (channel_fine network at (get_or items at nothing) c.in_ok-class.class is used (sym c.is_class.ensures ∙ c.if-not-is_class.false))
+    c.in_ok-class.ensures
+    ∙ ap class_of
+    (c.as_slice.ensures ∙ list_used c.args.lists.now at c.index-lists-at.result there c.index-lists-at.is
+    ∙ c.requires.uses at (omega arith)) in
+    below_more _ _ c.loop-at.invariant
+    (channel_fine network at (get_or items at nothing) c.in_ok-class.class is used
+    (sym c.is_class.ensures ∙ c.if-not-is_class.false))
 
 pub returns : goal.returns
 returns c =

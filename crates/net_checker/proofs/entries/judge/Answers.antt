@@ -11,8 +11,10 @@ reads_before-first_read-requires c =
 pub judge_fire-requires : goal.judge_fire-requires
 judge_fire-requires c =
     let is = c.next.ensures ∙ ap Some c.in-Fire.is in
-    let few = few_references c.args.nest.now c.args.network.now (run_of c.args.state.now) c.args.process c.in-Fire.refs c.requires.fits is in
-    let there = enabled_there c.args.nest.now c.args.network.now (run_of c.args.state.now) c.args.process c.in-Fire.refs c.requires.fits is in
+    let few = few_references c.args.nest.now c.args.network.now
+    (run_of c.args.state.now) c.args.process c.in-Fire.refs c.requires.fits is in
+    let there = enabled_there c.args.nest.now c.args.network.now
+    (run_of c.args.state.now) c.args.process c.in-Fire.refs c.requires.fits is in
     omega (arith, c.reads_before-first_read.ensures.small, few_statements c.args.nest.now)
 
 pub returns-in-Fire : goal.returns-in-Fire

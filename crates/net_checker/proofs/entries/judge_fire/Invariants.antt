@@ -4,4 +4,5 @@ use Rattle.net_checker.proofs.entries.judge_fire.Given as goal
 
 abbrev pub invariant-loop-read : goal.invariant-loop-read
 invariant-loop-read l =
-    (j : ℕ) → j < l.read → refused_reference l.points.of l.table.of l.first_read l.turn l.slots l.entry j (slice_get l.refs j) ≡ None
+    (j : ℕ) → j < l.read
+    → refused_reference l.points.of l.table.of l.first_read l.turn l.slots l.entry j (slice_get l.refs j) ≡ None

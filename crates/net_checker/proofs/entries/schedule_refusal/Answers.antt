@@ -7,7 +7,8 @@ use Rattle.net_checker.proofs.entries.schedule_refusal.Goals as goal
 
 pub loop-entry-init : goal.loop-entry-init
 loop-entry-init c =
-    walked_start c.args.nest.now (net_of c.args.network.now) c.args.schedule.now (held_of c.in_ok-state.state) c.in_ok-state.ensures.run c.in_ok-state.ensures.state
+    walked_start c.args.nest.now (net_of c.args.network.now) c.args.schedule.now
+    (held_of c.in_ok-state.state) c.in_ok-state.ensures.run c.in_ok-state.ensures.state
 
 pub overflow_cast-entry : goal.overflow_cast-entry
 overflow_cast-entry c =
@@ -15,16 +16,26 @@ overflow_cast-entry c =
 
 pub returns-in-Some : goal.returns-in-Some
 returns-in-Some c =
-    entry_found c.args.nest.now c.args.network.now c.args.schedule.now (held_of c.loop-entry.state) c.loop-entry.entry c.loop-entry.invariant _ c.in-Some.refusal (slice_get-get_or c.args.schedule.now c.loop-entry.entry 0 (omega arith)) (sym c.judge.ensures ∙ c.in-Some.is)
+    entry_found c.args.nest.now c.args.network.now c.args.schedule.now
+    (held_of c.loop-entry.state) c.loop-entry.entry c.loop-entry.invariant _ c.in-Some.refusal
+    (slice_get-get_or c.args.schedule.now c.loop-entry.entry 0 (omega arith))
+    (sym c.judge.ensures ∙ c.in-Some.is)
 
 pub loop-entry-preserved : goal.loop-entry-preserved
 loop-entry-preserved c =
-    rw (add-one) (walked_more c.args.nest.now (net_of c.args.network.now) c.args.schedule.now (held_of c.loop-entry.state) (held_of c.step.new.state) c.loop-entry.entry _ c.loop-entry.invariant (slice_get-get_or c.args.schedule.now c.loop-entry.entry 0 (omega arith)) (sym c.judge.ensures ∙ c.in_default.is) c.step.ensures.run c.step.ensures.state)
+    rw (add-one)
+    (walked_more c.args.nest.now (net_of c.args.network.now) c.args.schedule.now (held_of c.loop-entry.state)
+    (held_of c.step.new.state) c.loop-entry.entry _ c.loop-entry.invariant
+    (slice_get-get_or c.args.schedule.now c.loop-entry.entry 0 (omega arith))
+    (sym c.judge.ensures ∙ c.in_default.is) c.step.ensures.run c.step.ensures.state)
 
 pub returns-in-Some-unended : goal.returns-in-Some-unended
 returns-in-Some-unended c =
-    unended_found c.args.nest.now c.args.network.now c.args.schedule.now (held_of c.loop-entry.state) c.loop-entry.entry c.loop-entry.invariant c.in-Some-unended.process (omega arith) c.in-Some-unended.ensures.least
+    unended_found c.args.nest.now c.args.network.now c.args.schedule.now
+    (held_of c.loop-entry.state) c.loop-entry.entry c.loop-entry.invariant c.in-Some-unended.process
+    (omega arith) c.in-Some-unended.ensures.least
 
 pub returns : goal.returns
 returns c =
-    all_ended c.args.nest.now c.args.network.now c.args.schedule.now (held_of c.loop-entry.state) c.loop-entry.entry c.loop-entry.invariant (omega arith) c.in-None.ensures.none
+    all_ended c.args.nest.now c.args.network.now c.args.schedule.now
+    (held_of c.loop-entry.state) c.loop-entry.entry c.loop-entry.invariant (omega arith) c.in-None.ensures.none

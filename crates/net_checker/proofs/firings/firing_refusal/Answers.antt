@@ -9,7 +9,8 @@ process_firing-requires-clause-short c =
 
 pub returns-in-Some : goal.returns-in-Some
 returns-in-Some c =
-    firing_found c.args.nest.now c.args.network.now c.loop-process.process c.in-Some.refusal (omega arith) c.loop-process.invariant (sym c.process_firing.ensures ∙ c.in-Some.is)
+    firing_found c.args.nest.now c.args.network.now c.loop-process.process c.in-Some.refusal
+    (omega arith) c.loop-process.invariant (sym c.process_firing.ensures ∙ c.in-Some.is)
 
 pub returns : goal.returns
 returns c = firing_fine c.args.nest.now c.args.network.now (λ q lt. c.loop-process.invariant q (omega arith))

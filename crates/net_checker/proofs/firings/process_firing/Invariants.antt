@@ -1,10 +1,14 @@
-use Rattle.std.proofs.Common.{◌≡◌, ℕ, ◌<◌, None, slice_get}
+use Rattle.std.proofs.Common.{◌≡◌, ℕ, ◌<◌, ◌++◌, None, length, slice_get}
 use Rattle.net_core.specs.Machine.{net_of}
 use Rattle.net_core.specs.Shape.{fires}
 use Rattle.net_checker.specs.Firings.{event_firing}
 use Rattle.net_checker.proofs.firings.process_firing.Given as goal
 
-abbrev pub invariant-loop-place : goal.invariant-loop-place
-invariant-loop-place l =
-    (l.fired ≡ fires (net_of l.network) l.process l.place)
-    × ((k : ℕ) → k < l.place → event_firing l.nest (net_of l.network) l.process k (slice_get ((net_of l.network).script l.process) k) ≡ None)
+abbrev pub invariant-loop-event : goal.invariant-loop-event
+invariant-loop-event l = record {
+  whole : l.yielded ++ l.event-iterator ≡ (net_of l.network).script l.process;
+  place : l.place ≡ length l.yielded;
+  fired : l.fired ≡ fires (net_of l.network) l.process l.place;
+  fine : (k : ℕ) → k < l.place
+      → event_firing l.nest (net_of l.network) l.process k (slice_get ((net_of l.network).script l.process) k) ≡ None;
+}

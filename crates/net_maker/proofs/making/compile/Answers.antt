@@ -17,7 +17,8 @@ use Rattle.net_maker.proofs.making.compile.Goals as goal
 pub returns-clause-numbers : goal.returns-clause-numbers
 returns-clause-numbers c =
     let derived : Network = c.in_ok-derived.derived in
-    let fits : FitsNumbers (net_of derived) = subst (λ (n : Network). FitsNumbers (net_of n)) (sym c.in_ok-derived.ensures) c.numbers_fit.ensures in
+    let fits : FitsNumbers (net_of derived) =
+    subst (λ (n : Network). FitsNumbers (net_of n)) (sym c.in_ok-derived.ensures) c.numbers_fit.ensures in
     subst (λ (n : Network). FitsNumbers (net_of n)) (sym c.in_ok-network.ensures)
     (numbers_stay (net_of derived) _ _ (c.other_capacities.ensures.same derived _) fits)
 
@@ -27,11 +28,17 @@ returns-clause-fits c =
     let derived : Network = c.in_ok-derived.derived in
     let cert : Cert = record { sources = c.in_ok-swept.field-0; schedule = c.in_ok-witness.witness.schedule } in
     let shape : FitsNest nest derived = subst (FitsNest nest) (sym c.in_ok-derived.ensures) c.fits_nest.ensures in
-    let names : NamesLastWriters nest (net_of derived) = subst (λ (n : Network). NamesLastWriters nest (net_of n)) (sym c.in_ok-derived.ensures) c.names_last_writers.ensures in
+    let names : NamesLastWriters nest (net_of derived) =
+    subst (λ (n : Network). NamesLastWriters nest (net_of n))
+    (sym c.in_ok-derived.ensures) c.names_last_writers.ensures in
     let classes : HasClasses derived = subst HasClasses (sym c.in_ok-derived.ensures) c.has_classes_of_uses.ensures in
-    let sources : length cert.sources ≡ read_total nest = ap length c.in_ok-swept.ensures ∙ length-replicate (read_total nest) Sweep in
+    let sources : length cert.sources ≡ read_total nest =
+    ap length c.in_ok-swept.ensures ∙ length-replicate (read_total nest) Sweep in
     let fits : Fits nest (with_capacities derived c.in_ok-witness.witness.capacities) cert =
-    fits_with nest derived c.in_ok-witness.witness.capacities cert shape names classes (c.other_capacities.ensures.same derived _) (c.other_capacities.ensures.wired derived _ shape.shaped.wired) sources
+    fits_with nest derived c.in_ok-witness.witness.capacities cert shape names classes
+    (c.other_capacities.ensures.same derived _)
+    (c.other_capacities.ensures.wired derived _ shape.shaped.wired) sources
     c.in_ok-witness.ensures.run in
-    let changed : c.in_ok-network.network ≡ with_capacities derived c.in_ok-witness.witness.capacities = c.in_ok-network.ensures ∙ ap (with_capacities derived) c.as_slice.ensures in
+    let changed : c.in_ok-network.network ≡ with_capacities derived c.in_ok-witness.witness.capacities =
+    c.in_ok-network.ensures ∙ ap (with_capacities derived) c.as_slice.ensures in
     subst (λ (n : Network). Fits nest n cert) (sym changed) fits

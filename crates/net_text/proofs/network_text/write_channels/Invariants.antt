@@ -8,4 +8,5 @@ use Rattle.net_text.proofs.network_text.write_channels.Given as goal
 abbrev pub invariant-loop-number : goal.invariant-loop-number
 invariant-loop-number g l =
     Wrote g.W.TextWriter.given l.fn.out l.out
-    (flat_map (λ numbered. channel_line l.network numbered.0 numbered.1) (enumerate_from 0 (take l.number l.network.channels)))
+    (flat_map (λ numbered. channel_line l.network numbered.0 numbered.1)
+    (enumerate_from 0 (take l.number l.network.channels)))

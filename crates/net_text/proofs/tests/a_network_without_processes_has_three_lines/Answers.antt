@@ -8,7 +8,8 @@ use Rattle.net_text.proofs.tests.a_network_without_processes_has_three_lines.Goa
 
 no_points : (n : Nest) → n.statements ≡ [] → points_of n ≡ []
 unfolding points_of
-no_points n none = ap (λ (statements : List Statement). map (vectors_of (trace n)) (range_with_len 0 (length statements))) none
+no_points n none =
+    ap (λ (statements : List Statement). map (vectors_of (trace n)) (range_with_len 0 (length statements))) none
 
 pub write_net-requires-clause-points : goal.write_net-requires-clause-points
 write_net-requires-clause-points g c = c.new-4.ensures ∙ sym (no_points _ c.new-2.ensures)

@@ -24,17 +24,21 @@ returns c =
     let statement = c.statement-statement.result.now in
     let body = c.index-as_slice-at.result in
     let found : slice_get network.processes p ≡ Some body =
-    item_found network.processes c.as_slice.result.now p body c.as_slice.ensures (omega (arith, ap length c.as_slice.ensures, c.requires.process)) c.index-as_slice-at.is in
-    let slots : (net_of network).slots p ≡ body.slots = ap (λ o. option_map_or (λ (process : Process). process.slots) o 0) found in
-    let script : (net_of network).script p ≡ body.script = ap (λ o. option_map_or (λ (process : Process). process.script) o []) found in
-    let events = script ∙ sym (c.in_ok-events.ensures ∙ c.as_slice-2.ensures) in
+    item_found network.processes c.as_slice.result.now p body c.as_slice.ensures
+    (omega (arith, ap length c.as_slice.ensures, c.requires.process)) c.index-as_slice-at.is in
+    let slots : (net_of network).slots p ≡ body.slots =
+    ap (λ o. option_map_or (λ (process : Process). process.slots) o 0) found in
+    let script : (net_of network).script p ≡ body.script =
+    ap (λ o. option_map_or (λ (process : Process). process.script) o []) found in
+    let events = script ∙ sym c.in_ok-events.ensures in
     let vectors = c.index-as_slice-at-2.result in
     let points : slice_get (points_of nest) p ≡ Some vectors =
-    item_found (points_of nest) c.as_slice-3.result.now p vectors (c.as_slice-3.ensures ∙ c.requires.points)
-    (omega (arith, ap length c.as_slice-3.ensures, c.requires.shaped.processes, c.requires.process)) c.index-as_slice-at-2.is in
+    item_found (points_of nest) c.as_slice-2.result.now p vectors (c.as_slice-2.ensures ∙ c.requires.points)
+    (omega (arith, ap length c.as_slice-2.ensures, c.requires.shaped.processes, c.requires.process)) c.index-as_slice-at-2.is in
     let values : get_or (points_of nest) p [] ≡ c.in_ok-values.values =
-    get_or_from_slice_get (points_of nest) p vectors [] points ∙ sym (c.in_ok-values.ensures ∙ c.as_slice-4.ensures) in
-    made_at (λ numbered. automaton_of nest network numbered.0 numbered.1) nest.statements p statement c.statement-statement.ensures.value
+    get_or_from_slice_get (points_of nest) p vectors [] points ∙ sym (c.in_ok-values.ensures ∙ c.as_slice-3.ensures) in
+    made_at (λ numbered.
+    automaton_of nest network numbered.0 numbered.1) nest.statements p statement c.statement-statement.ensures.value
     ∙ λ i. Some (record {
       process = p;
       role = statement.role;

@@ -16,13 +16,18 @@ loop-number-preserved c =
     let channels = c.args.network.now.channels in
     let items = c.as_slice-channel-items.result.now in
     let test : ℕ → Bool = λ k. eqb ((net_of c.args.network.now).reader k) p in
-    let none : Channel = record { writer = 0; reader = 0; read = 0; capacity = 0; class = record { order = InOrder; multiplicity = false } } in
+    let none : Channel =
+    record { writer = 0; reader = 0; read = 0; capacity = 0; class = record { order = InOrder; multiplicity = false } } in
     let channel = get_or items n none in
     let found : slice_get channels n ≡ Some channel =
-    ap (λ list. slice_get list n) (sym c.as_slice-channel-items.ensures) ∙ slice_get-get_or items n none c.loop-number-test.true in
-    let is : test n ≡ eqb channel.reader p = ap (λ o. eqb (option_map_or (λ (channel : Channel). channel.reader) o 0) p) found in
+    ap (λ list. slice_get list n) (sym c.as_slice-channel-items.ensures)
+    ∙ slice_get-get_or items n none c.loop-number-test.true in
+    let is : test n ≡ eqb channel.reader p =
+    ap (λ o. eqb (option_map_or (λ (channel : Channel). channel.reader) o 0) p) found in
     elim c.if-channel-process.branch [
       | then-channel-process+in_ok-push w ↦
-          w.gets-is ∙ w.in_ok-push.ensures.ok ∙ ap (λ (xs : List ℕ). xs ++ n ∷ []) c.loop-number.invariant ∙ sym (passing_more test n (is ∙ eq-eqb _ _ w.if-channel-process.true))
-      | else-channel-process w ↦ w.gets-is ∙ c.loop-number.invariant ∙ sym (passing_same test n (is ∙ ne_eqb _ _ w.if-channel-process.false))
+          w.gets-is ∙ w.in_ok-push.ensures.ok ∙ ap (λ (xs : List ℕ). xs ++ n ∷ []) c.loop-number.invariant
+          ∙ sym (passing_more test n (is ∙ eq-eqb _ _ w.if-channel-process.true))
+      | else-channel-process w ↦ w.gets-is ∙ c.loop-number.invariant
+          ∙ sym (passing_same test n (is ∙ ne_eqb _ _ w.if-channel-process.false))
     ]

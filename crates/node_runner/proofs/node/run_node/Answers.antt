@@ -1,65 +1,98 @@
-use Rattle.std.proofs.Common.{◌++◌, add-one, ap, sym, ◌∙◌, append-nil}
-use Rattle.std.specs.Prelude.{count_by}
+use Rattle.std.proofs.Common.{◌≡◌, ◌++◌, length, take, ℤ, suc, Some, None, ap, sym, subst, ◌∙◌, append-nil, arith}
+use Rattle.std.proofs.lemmas.Option.{slice_get_within}
 use Rattle.net_core.specs.Machine.{net_of}
-use Rattle.net_core.specs.Shape.{is_get, is_put}
-use Rattle.ruled_links.specs.Channels.{advanced}
-use Rattle.node_runner.specs.Nodes.{calls_of}
-use Rattle.node_runner.proofs.Turning.{script_found, event_found, can_turn, turned, begins, ends, told_more, whole}
+use Rattle.net_core.specs.Rooms.{Store, passed}
+use Rattle.net_core.specs.Rules.{values, value_limits}
+use Rattle.net_core.specs.Sound.{tag_value}
+use Rattle.node_runner.specs.Nodes.{calls_of, CanTurn}
+use Rattle.node_runner.proofs.Turning.{Stands, can_turn, turned, begins, ends, told_more, all_made, event_is, left_then, stands_passed}
+use Rattle.node_runner.proofs.node.run_node.Given.{Over}
+use Rattle.node_runner.proofs.node.run_node.Goals.{In_default}
 use Rattle.node_runner.proofs.node.run_node.Goals as goal
 
 pub loop-event-init : goal.loop-event-init
 loop-event-init g c =
     let r = c.requires in
     record {
-      stands = begins c.args.nest.now c.args.network.now c.args.inputs.now r.sound r.numbers c.args.process (g.E.Ends.from c.args.ends.now) (g.E.Ends.to c.args.ends.now) r.incoming r.outgoing c.args.room.now r.room;
+      made = 0;
+      inside = omega arith;
+      left = ap (λ (s : Store _). s.left) r.room;
+      stands =
+          begins c.args.nest.now c.args.network.now c.args.inputs.now r.sound r.numbers c.args.process
+          (g.E.Ends.from c.args.ends.now)
+          (g.E.Ends.to c.args.ends.now) r.incoming r.outgoing c.args.room.now r.room;
       told = λ t. sym (append-nil (g.E.Ends.calls c.args.ends.now));
     }
 
 pub turn-requires : goal.turn-requires
 turn-requires g c =
     let r = c.requires in
-    let script = script_found c.args.network.now c.args.process c.as_slice.result.now c.index-as_slice-process.result c.as_slice-event-items.result.now c.as_slice.ensures r.process c.index-as_slice-process.is c.as_slice-event-items.ensures in
-    let is = event_found ((net_of c.args.network.now).script c.args.process) c.as_slice-event-items.result.now c.loop-event.event-index c.event-item.result script c.loop-event-test.true c.event-item.is in
-    can_turn c.args.nest.now c.args.network.now c.args.inputs.now r.sound r.numbers c.args.process (g.E.Ends.from c.args.ends.now) (g.E.Ends.to c.args.ends.now) r.incoming r.outgoing
-    c.loop-event.event-index c.event-item.result (g.E.Ends.from c.loop-event.ends) (g.E.Ends.to c.loop-event.ends) c.loop-event.room is c.loop-event.invariant.stands
+    let i = c.loop-event.invariant in
+    let n = net_of c.args.network.now in
+    let v = tag_value c.args.nest.now c.args.inputs.now in
+    let p = c.args.process in
+    let start = g.E.Ends.from c.args.ends.now in
+    let onto = g.E.Ends.to c.args.ends.now in
+    let from = g.E.Ends.from c.loop-event.ends in
+    let to = g.E.Ends.to c.loop-event.ends in
+    let is =
+    event_is (n.script p) c.loop-event.room.left i.made (Some c.in-Some.event) i.left c.in-Some.ensures.event in
+    subst (λ (s : Store ℤ). CanTurn (value_limits c.args.nest.now) p c.in-Some.event from to s)
+    (sym c.in-Some.ensures.passed)
+    (
+    can_turn c.args.nest.now c.args.network.now c.args.inputs.now r.sound r.numbers p start onto r.incoming r.outgoing i.made c.in-Some.event from to (passed c.loop-event.room) is
+    (stands_passed n v p start onto i.made from to c.loop-event.room i.stands)
+    )
 
 pub loop-event-preserved : goal.loop-event-preserved
 loop-event-preserved g c =
     let r = c.requires in
-    let script = script_found c.args.network.now c.args.process c.as_slice.result.now c.index-as_slice-process.result c.as_slice-event-items.result.now c.as_slice.ensures r.process c.index-as_slice-process.is c.as_slice-event-items.ensures in
-    let is = event_found ((net_of c.args.network.now).script c.args.process) c.as_slice-event-items.result.now c.loop-event.event-index c.event-item.result script c.loop-event-test.true c.event-item.is in
-    rw add-one (
+    let i = c.loop-event.invariant in
+    let n = net_of c.args.network.now in
+    let v = tag_value c.args.nest.now c.args.inputs.now in
+    let rule = values c.args.nest.now c.args.inputs.now in
+    let p = c.args.process in
+    let e = c.in-Some.event in
+    let start = g.E.Ends.from c.args.ends.now in
+    let onto = g.E.Ends.to c.args.ends.now in
+    let from = g.E.Ends.from c.loop-event.ends in
+    let to = g.E.Ends.to c.loop-event.ends in
+    let room = c.loop-event.room in
+    let is = event_is (n.script p) room.left i.made (Some e) i.left c.in-Some.ensures.event in
+    let stands =
+    subst (λ (s : Store ℤ). Stands n v p start onto i.made from to s) (sym c.in-Some.ensures.passed)
+    (stands_passed n v p start onto i.made from to room i.stands) in
     record {
+      made = suc i.made;
+      inside = slice_get_within (n.script p) i.made e is;
+      left = left_then rule p e from to _ _ room c.pass.new.self c.turn.new.room
+          (n.script p) i.made c.in-Some.ensures.passed c.turn.ensures.turned i.left;
       stands =
-          turned c.args.nest.now c.args.network.now c.args.inputs.now r.sound r.numbers c.args.process (g.E.Ends.from c.args.ends.now) (g.E.Ends.to c.args.ends.now) r.incoming r.outgoing
-          c.loop-event.event-index c.event-item.result (g.E.Ends.from c.loop-event.ends) (g.E.Ends.to c.loop-event.ends) (g.E.Ends.from c.turn.new.ends) (g.E.Ends.to c.turn.new.ends) c.loop-event.room c.turn.new.room is c.loop-event.invariant.stands c.turn.ensures.turned;
-      told = λ t.
-          told_more ((net_of c.args.network.now).script c.args.process) c.loop-event.event-index c.event-item.result (g.E.Ends.calls c.args.ends.now) (g.E.Ends.calls c.loop-event.ends) (g.E.Ends.calls c.turn.new.ends) is (c.loop-event.invariant.told t) (c.turn.ensures.told t);
+          turned c.args.nest.now c.args.network.now c.args.inputs.now r.sound r.numbers p start onto r.incoming r.outgoing i.made e from to _ _ c.pass.new.self c.turn.new.room is stands c.turn.ensures.turned;
+      told = λ t. told_more (n.script p) i.made e (g.E.Ends.calls c.args.ends.now) (g.E.Ends.calls c.loop-event.ends)
+          (g.E.Ends.calls c.turn.new.ends) is (i.told t) (c.turn.ensures.told t);
     }
-    )
 
-pub returns-clause-got : goal.returns-clause-got
-returns-clause-got g c b =
-    let script = script_found c.args.network.now c.args.process c.as_slice.result.now c.index-as_slice-process.result c.as_slice-event-items.result.now c.as_slice.ensures c.requires.process c.index-as_slice-process.is c.as_slice-event-items.ensures in
-    let all = whole ((net_of c.args.network.now).script c.args.process) c.as_slice-event-items.result.now c.loop-event.event-index script c.loop-event.auto.event-index-end c.loop-event-test.false in
-    c.loop-event.invariant.stands.gets b ∙ ap (λ events. advanced (g.E.Ends.from c.args.ends.now b) (count_by (is_get b) events)) all.1
-
-pub returns-clause-put : goal.returns-clause-put
-returns-clause-put g c b =
-    let script = script_found c.args.network.now c.args.process c.as_slice.result.now c.index-as_slice-process.result c.as_slice-event-items.result.now c.as_slice.ensures c.requires.process c.index-as_slice-process.is c.as_slice-event-items.ensures in
-    let all = whole ((net_of c.args.network.now).script c.args.process) c.as_slice-event-items.result.now c.loop-event.event-index script c.loop-event.auto.event-index-end c.loop-event-test.false in
-    c.loop-event.invariant.stands.puts b ∙ ap (λ events. advanced (g.E.Ends.to c.args.ends.now b) (count_by (is_put b) events)) all.1
+-- where no event is left all were made
+at_end : (g : Over) (c : In_default g)
+    → (c.loop-event.invariant.made ≡ length ((net_of c.args.network.now).script c.args.process))
+    × (take c.loop-event.invariant.made ((net_of c.args.network.now).script c.args.process)
+    ≡ (net_of c.args.network.now).script c.args.process)
+at_end g c =
+    let i = c.loop-event.invariant in
+    let script = (net_of c.args.network.now).script c.args.process in
+    all_made script i.made i.inside
+    (event_is script c.loop-event.room.left i.made None i.left c.in_default.ensures.event)
 
 pub returns-clause-kept : goal.returns-clause-kept
 returns-clause-kept g c =
     let r = c.requires in
-    let script = script_found c.args.network.now c.args.process c.as_slice.result.now c.index-as_slice-process.result c.as_slice-event-items.result.now c.as_slice.ensures r.process c.index-as_slice-process.is c.as_slice-event-items.ensures in
-    let all = whole ((net_of c.args.network.now).script c.args.process) c.as_slice-event-items.result.now c.loop-event.event-index script c.loop-event.auto.event-index-end c.loop-event-test.false in
-    ends c.args.nest.now c.args.network.now c.args.inputs.now r.sound r.numbers c.args.process (g.E.Ends.from c.args.ends.now) (g.E.Ends.to c.args.ends.now) r.incoming r.outgoing
-    c.loop-event.event-index (g.E.Ends.from c.loop-event.ends) (g.E.Ends.to c.loop-event.ends) c.loop-event.room all.0 c.loop-event.invariant.stands
+    let i = c.loop-event.invariant in
+    ap (λ (s : Store ℤ). s.kept) c.in_default.ensures.passed
+    ∙ ends c.args.nest.now c.args.network.now c.args.inputs.now r.sound r.numbers c.args.process
+    (g.E.Ends.from c.args.ends.now) (g.E.Ends.to c.args.ends.now) r.incoming r.outgoing
+    i.made (g.E.Ends.from c.loop-event.ends) (g.E.Ends.to c.loop-event.ends) c.loop-event.room (at_end g c).0 i.stands
 
 pub returns-clause-told : goal.returns-clause-told
 returns-clause-told g c t =
-    let script = script_found c.args.network.now c.args.process c.as_slice.result.now c.index-as_slice-process.result c.as_slice-event-items.result.now c.as_slice.ensures c.requires.process c.index-as_slice-process.is c.as_slice-event-items.ensures in
-    let all = whole ((net_of c.args.network.now).script c.args.process) c.as_slice-event-items.result.now c.loop-event.event-index script c.loop-event.auto.event-index-end c.loop-event-test.false in
-    c.loop-event.invariant.told t ∙ ap (λ events. g.E.Ends.calls c.args.ends.now ++ calls_of events) all.1
+    c.loop-event.invariant.told t ∙ ap (λ events. g.E.Ends.calls c.args.ends.now ++ calls_of events) (at_end g c).1

@@ -7,7 +7,8 @@ pub loop-of_read-preserved : goal.loop-of_read-preserved
 loop-of_read-preserved c =
     let uses = c.args.uses.now in
     let i = c.loop-of_read.of_read-index in
-    let here = slice_get_read uses (length uses) i c.of_read-item.result refl c.loop-of_read-test.true c.of_read-item.is in
+    let here =
+    slice_get_read uses (length uses) i c.of_read-item.result refl c.loop-of_read-test.true c.of_read-item.is in
     record {
       gets = gets_more c.args.plans.now uses i c.args.turn c.of_read-item.result c.use_of.result c.args.events.now.items c.loop-of_read.events.items c.add_use.new.events.items
           here c.use_of.ensures c.loop-of_read.invariant.gets c.in_ok-add_use.ensures.gets;

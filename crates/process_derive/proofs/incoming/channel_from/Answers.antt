@@ -8,4 +8,5 @@ pub returns : goal.returns
 returns c =
     let xs = c.args.incoming.now in
     c.copied.ensures
-    ∙ find_from_yields_List (comes_from c.args.writer c.args.read) _ _ c.find.result c.find.ensures.ran (YieldsList-from_slice xs cc) (λ x b q k. search (rules, tests))
+    ∙ find_from_yields_List (comes_from c.args.writer c.args.read) _ _ c.find.result c.find.ensures.ran
+    (YieldsList-from_slice xs cc) (λ x b q k. search (rules, tests))

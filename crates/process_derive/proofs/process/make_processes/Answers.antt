@@ -18,12 +18,14 @@ split_at-requires c =
     let n = c.args.nest.now in
     let s = c.statement-item.result in
     let here : slice_get n.statements c.loop-number.number ≡ Some s =
-    ap (λ xs. slice_get xs c.loop-number.number) (sym c.as_slice-statement-items.ensures) ∙ slice_get_read c.as_slice-statement-items.result.now _ c.loop-number.number s refl c.loop-number-test.true c.statement-item.is in
+    ap (λ xs. slice_get xs c.loop-number.number) (sym c.as_slice-statement-items.ensures)
+    ∙ slice_get_read c.as_slice-statement-items.result.now _ c.loop-number.number s refl c.loop-number-test.true c.statement-item.is in
     reads_within n c.loop-number.number c.len.result s c.loop-number.rest.now here c.len.ensures c.loop-number.invariant.left
 
 pub bounds-as_slice-number : goal.bounds-as_slice-number
 bounds-as_slice-number c =
-    points_there c.args.nest.now c.loop-number.number c.as_slice.result.now (c.as_slice.ensures ∙ c.requires.points) (omega (arith, ap length c.as_slice-statement-items.ensures, c.loop-number-test.true))
+    points_there c.args.nest.now c.loop-number.number c.as_slice.result.now (c.as_slice.ensures ∙ c.requires.points)
+    (omega (arith, ap length c.as_slice-statement-items.ensures, c.loop-number-test.true))
 
 pub make_process-requires-clause-fires : goal.make_process-requires-clause-fires
 make_process-requires-clause-fires c =
@@ -35,7 +37,8 @@ make_process-requires-clause-sources c =
     let n = c.args.nest.now in
     let s = c.statement-item.result in
     let here : slice_get n.statements c.loop-number.number ≡ Some s =
-    ap (λ xs. slice_get xs c.loop-number.number) (sym c.as_slice-statement-items.ensures) ∙ slice_get_read c.as_slice-statement-items.result.now _ c.loop-number.number s refl c.loop-number-test.true c.statement-item.is in
+    ap (λ xs. slice_get xs c.loop-number.number) (sym c.as_slice-statement-items.ensures)
+    ∙ slice_get_read c.as_slice-statement-items.result.now _ c.loop-number.number s refl c.loop-number-test.true c.statement-item.is in
     own_sources n c.loop-number.number c.len.result s c.loop-number.rest.now c.split_at.result.0.now here c.len.ensures c.loop-number.invariant.left c.split_at.ensures.front
 
 pub loop-number-preserved : goal.loop-number-preserved
@@ -43,10 +46,13 @@ loop-number-preserved c =
     let n = c.args.nest.now in
     let s = c.statement-item.result in
     let here : slice_get n.statements c.loop-number.number ≡ Some s =
-    ap (λ xs. slice_get xs c.loop-number.number) (sym c.as_slice-statement-items.ensures) ∙ slice_get_read c.as_slice-statement-items.result.now _ c.loop-number.number s refl c.loop-number-test.true c.statement-item.is in
+    ap (λ xs. slice_get xs c.loop-number.number) (sym c.as_slice-statement-items.ensures)
+    ∙ slice_get_read c.as_slice-statement-items.result.now _ c.loop-number.number s refl c.loop-number-test.true c.statement-item.is in
     record {
-      made = c.in_ok-push.ensures.items ∙ ap (λ xs. xs ++ c.in_ok-make_process.field-0 ∷ []) c.loop-number.invariant.made
-          ∙ ap (λ process. map (process_of n) (range_with_len 0 c.loop-number.number) ++ process ∷ []) c.in_ok-make_process.ensures
+      made = c.in_ok-push.ensures.items
+          ∙ ap (λ xs. xs ++ c.in_ok-make_process.field-0 ∷ []) c.loop-number.invariant.made
+          ∙ ap (λ process.
+          map (process_of n) (range_with_len 0 c.loop-number.number) ++ process ∷ []) c.in_ok-make_process.ensures
           ∙ sym (map-range_with_len_more (process_of n) 0 c.loop-number.number c.loop-number.number (omega arith));
       left = later_sources n c.loop-number.number c.len.result s c.loop-number.rest.now c.split_at.result.1.now here c.len.ensures c.loop-number.invariant.left c.split_at.ensures.back;
     }

@@ -14,13 +14,18 @@ loop-source-init c = record {
 
 pub next_use-requires-clause-exists : goal.next_use-requires-clause-exists
 next_use-requires-clause-exists c =
-    let all = c.loop-source.counts.ok.0 ∙ ap length c.loop-source.invariant.counts ∙ length-map-range_with_len (uses_before c.args.sources.now c.loop-source.source-index) 0 c.args.processes in
-    subst (λ n. OnlyBelow n (slice_index_or c.args.sources.now c.loop-source.source-index None)) (sym all) (c.requires.exist c.loop-source.source-index)
+    let all =
+    c.loop-source.counts.ok.0 ∙ ap length c.loop-source.invariant.counts
+    ∙ length-map-range_with_len (uses_before c.args.sources.now c.loop-source.source-index) 0 c.args.processes in
+    subst (λ n. OnlyBelow n (slice_index_or c.args.sources.now c.loop-source.source-index None)) (sym all)
+    (c.requires.exist c.loop-source.source-index)
 
 pub next_use-requires-clause-few : goal.next_use-requires-clause-few
 next_use-requires-clause-few c =
-    counts_few c.args.sources.now c.loop-source.source-index c.args.processes 4294967295 (slice_index_or c.args.sources.now c.loop-source.source-index None) c.loop-source.counts.items
-    (c.requires.exist c.loop-source.source-index) (omega (arith, c.requires.few, c.loop-source-test.true)) c.loop-source.invariant.counts
+    counts_few c.args.sources.now c.loop-source.source-index c.args.processes 4294967295
+    (slice_index_or c.args.sources.now c.loop-source.source-index None) c.loop-source.counts.items
+    (c.requires.exist c.loop-source.source-index)
+    (omega (arith, c.requires.few, c.loop-source-test.true)) c.loop-source.invariant.counts
 
 pub loop-source-preserved : goal.loop-source-preserved
 loop-source-preserved c =
@@ -28,7 +33,11 @@ loop-source-preserved c =
     let i = c.loop-source.source-index in
     let here = slice_get-get_or sources i None c.loop-source-test.true in
     record {
-      uses = uses_more c.args.incoming.now c.args.read sources i c.args.processes (slice_index_or sources i None) c.loop-source.counts.items c.next_use.result c.loop-source.uses.items c.push.new.self.items
+      uses = uses_more c.args.incoming.now c.args.read sources i c.args.processes
+          (slice_index_or sources i None) c.loop-source.counts.items c.next_use.result c.loop-source.uses.items c.push.new.self.items
           here (c.requires.exist i) c.loop-source.invariant.counts c.next_use.ensures.found c.loop-source.invariant.uses c.in_ok-push.ensures.items;
-      counts = c.next_use.ensures.counted ∙ counts_more sources i c.args.processes (slice_index_or sources i None) c.loop-source.counts.items here (c.requires.exist i) c.loop-source.invariant.counts;
+      counts =
+          c.next_use.ensures.counted
+          ∙ counts_more sources i c.args.processes (slice_index_or sources i None) c.loop-source.counts.items here
+          (c.requires.exist i) c.loop-source.invariant.counts;
     }

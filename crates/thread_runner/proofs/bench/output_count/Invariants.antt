@@ -6,7 +6,8 @@ use Rattle.thread_runner.proofs.bench.output_count.Given as goal
 abbrev pub invariant-loop-array : goal.invariant-loop-array
 invariant-loop-array l =
     record {
-      counted : l.count + length (numbers_from (λ array. is_output array.kind) l.array-index (drop l.array-index l.arrays))
+      counted : l.count + length
+          (numbers_from (λ array. is_output array.kind) l.array-index (drop l.array-index l.arrays))
           ≡ length (numbers_from (λ array. is_output array.kind) 0 l.arrays);
       few : l.count ≤ l.array-index;
     }

@@ -19,17 +19,23 @@ place-requires-clause-reader g c =
 pub loop-at-preserved : goal.loop-at-preserved
 loop-at-preserved g c =
     let n = c.args.network.now in
-    let lt : c.loop-at.at < length n.channels = omega (arith, c.loop-at-test.true, ap length c.as_slice-channels.ensures) in
-    let values = ap (λ l. stream_at l c.loop-at.at) c.requires.plan ∙ stream_is c.args.nest.now n c.args.inputs.now c.loop-at.at lt in
-    made_more c.args.nest.now n c.args.inputs.now c.loop-at.at _ (stream_at g.P.Plan.streams c.loop-at.at) _ c.in_ok-put.put c.in_ok-put.get c.loop-at.ends.items c.place.new.ends.items
+    let lt : c.loop-at.at < length n.channels =
+    omega (arith, c.loop-at-test.true, ap length c.as_slice-channels.ensures) in
+    let values =
+    ap (λ l. stream_at l c.loop-at.at) c.requires.plan
+    ∙ stream_is c.args.nest.now n c.args.inputs.now c.loop-at.at lt in
+    made_more c.args.nest.now n c.args.inputs.now c.loop-at.at _
+    (stream_at g.P.Plan.streams c.loop-at.at) _ c.in_ok-put.put c.in_ok-put.get c.loop-at.ends.items c.place.new.ends.items
     (channel_read n c.as_slice-channels.result.now _ c.loop-at.at c.as_slice-channels.ensures c.loop-at-test.true) values c.max.ensures c.in_ok-put.ensures.fresh.0 c.in_ok-put.ensures.fresh.1 c.in_ok-put.ensures.line c.loop-at.invariant c.place.ensures
 
 pub returns-clause-capacities : goal.returns-clause-capacities
-returns-clause-capacities g c = made_capacities c.args.nest.now c.args.network.now c.args.inputs.now c.loop-at.at c.loop-at.ends.items c.loop-at.invariant
+returns-clause-capacities g c =
+    made_capacities c.args.nest.now c.args.network.now c.args.inputs.now c.loop-at.at c.loop-at.ends.items c.loop-at.invariant
 
 pub returns-clause-ends : goal.returns-clause-ends
 returns-clause-ends g c =
-    made_all c.args.nest.now c.args.network.now c.args.inputs.now c.loop-at.at c.loop-at.ends.items (omega (arith, c.loop-at-test.false, ap length c.as_slice-channels.ensures)) c.loop-at.invariant
+    made_all c.args.nest.now c.args.network.now c.args.inputs.now c.loop-at.at c.loop-at.ends.items
+    (omega (arith, c.loop-at-test.false, ap length c.as_slice-channels.ensures)) c.loop-at.invariant
 
 pub returns-clause-joined : goal.returns-clause-joined
 returns-clause-joined g c = c.loop-at.invariant.joined

@@ -7,4 +7,5 @@ run_by-requires-clause-limits c = c.sound.ensures.limits c.args.nest.now c.args.
 
 pub returns-clause-kept : goal.returns-clause-kept
 returns-clause-kept c p =
-    scheduled_values c.args.nest.now c.args.network.now c.args.inputs.now c.requires.sound c.args.schedule.now (run_of c.args.state.now) (run_of c.run_by.new.state) c.requires.ends c.requires.opening c.run_by.ensures.run p
+    scheduled_values c.args.nest.now c.args.network.now c.args.inputs.now c.requires.sound c.args.schedule.now
+    (run_of c.args.state.now) (run_of c.run_by.new.state) c.requires.ends c.requires.opening c.run_by.ensures.run p

@@ -4,4 +4,5 @@ use Rattle.verdict_text.proofs.Words.{values_joined}
 use Rattle.verdict_text.proofs.writing.write_values.Goals as goal
 
 pub returns-in-Some : goal.returns-in-Some
-returns-in-Some g c = grind (arith, common_steps, values_joined c.in-Some.first.now c.in-Some.others.now, c.in-Some.ensures.cases)
+returns-in-Some g c =
+    grind (arith, common_steps, values_joined c.in-Some.first.now c.in-Some.others.now, c.in-Some.ensures.cases)

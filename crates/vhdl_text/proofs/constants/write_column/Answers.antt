@@ -12,4 +12,5 @@ returns g c =
     let count = rw (c.value_count-count.ensures, c.as_slice-events.ensures) at c.write_head.ensures in
     let entries = rw (c.as_slice-events.ensures, column_entries column events) at c.write_event_entries.ensures in
     let tail = rw (c.value_count-count.ensures, c.as_slice-events.ensures, c.last_of.ensures) at c.write_tail.ensures in
-    rw (constant_pieces (name_of column) (codes "codes") (column_values column events) (last_of column)) (and_then w _ _ count (and_then w _ _ entries tail))
+    rw (constant_pieces (name_of column) (codes "codes") (column_values column events) (last_of column))
+    (and_then w _ _ count (and_then w _ _ entries tail))

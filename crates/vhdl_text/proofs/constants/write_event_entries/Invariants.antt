@@ -7,5 +7,6 @@ abbrev pub invariant-loop-index : goal.invariant-loop-index
 invariant-loop-index g l =
     let given = g.W.TextWriter.given in
     ((given l.out).start ≡ (given l.fn.out).start)
-    × ((given l.out).text ++ event_entries l.column l.index l.fires (drop l.index l.events) ≡ (given l.fn.out).text ++ event_entries l.column 0 0 l.events)
+    × ((given l.out).text ++ event_entries l.column l.index l.fires (drop l.index l.events)
+    ≡ (given l.fn.out).text ++ event_entries l.column 0 0 l.events)
     × (l.fires ≤ l.index)

@@ -15,5 +15,6 @@ loop-index-preserved g c =
     let text = λ (point : List ℤ). literal (slice_index_or point n (pos 0)) in
     let found : get_or (variable_values n points) i (text at) ≡ text at =
     get_or-map text points i at (text at) c.loop-index-test.true ∙ ap text (sym c.index-values-index.is) in
-    one_more g.W.TextWriter.given entry_comma (variable_values n points) i (text at) (omega (arith, length-map points text, c.loop-index-test.true)) c.loop-index.invariant
+    one_more g.W.TextWriter.given entry_comma (variable_values n points) i (text at)
+    (omega (arith, length-map points text, c.loop-index-test.true)) c.loop-index.invariant
     (rw found c.write_point_entry.ensures)

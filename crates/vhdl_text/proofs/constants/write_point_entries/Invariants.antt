@@ -6,4 +6,5 @@ use Rattle.vhdl_text.proofs.constants.write_point_entries.Given as goal
 
 -- the entries so far were written
 abbrev pub invariant-loop-index : goal.invariant-loop-index
-invariant-loop-index g l = Wrote g.W.TextWriter.given l.fn.out l.out (entries_from 0 (take l.index (variable_values l.fn.number l.values)))
+invariant-loop-index g l =
+    Wrote g.W.TextWriter.given l.fn.out l.out (entries_from 0 (take l.index (variable_values l.fn.number l.values)))

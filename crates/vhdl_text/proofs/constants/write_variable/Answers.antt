@@ -13,8 +13,10 @@ returns g c =
     let points = c.args.auto.now.values in
     let values = variable_values n points in
     let count : length c.as_slice-values.result.now ≡ length values =
-    ap length c.as_slice-values.ensures ∙ sym (length-map points (λ vector. literal (slice_index_or vector n (pos 0)))) in
+    ap length c.as_slice-values.ensures
+    ∙ sym (length-map points (λ vector. literal (slice_index_or vector n (pos 0)))) in
     let head = rw count at c.write_variable_head.ensures in
     let entries = rw c.as_slice-values.ensures at c.write_point_entries.ensures in
     let tail = rw (count, c.literal.ensures) at c.write_tail.ensures in
-    rw (constant_pieces (codes "v" ++ decimal n) (codes "words") values (literal (pos 0))) (and_then w _ _ head (and_then w _ _ entries tail))
+    rw (constant_pieces (codes "v" ++ decimal n) (codes "words") values (literal (pos 0)))
+    (and_then w _ _ head (and_then w _ _ entries tail))

@@ -27,4 +27,6 @@ returns g c =
     and_then w _ _ (rw c.as_slice-gets.ensures at c.write_branch.ensures) (
     and_then w _ _ c.write_fire.ensures (
     and_then w _ _ c.write_gave_high.ensures (
-    and_then w _ _ c.write_step.ensures (and_then w _ _ (rw c.as_slice-puts.ensures at c.write_branch-2.ensures) c.write_process_end.ensures))))))))))))))))))))))))
+    and_then w _ _ c.write_step.ensures
+    (and_then w _ _
+    (rw c.as_slice-puts.ensures at c.write_branch-2.ensures) c.write_process_end.ensures))))))))))))))))))))))))

@@ -6,4 +6,5 @@ use Rattle.vhdl_text.proofs.text.write_channels.Given as goal
 
 -- the lines so far were written
 abbrev pub invariant-loop-number : goal.invariant-loop-number
-invariant-loop-number g l = Wrote g.W.TextWriter.given l.fn.out l.out (flat_map channel_line (enumerate_from 0 (take l.number l.channels)))
+invariant-loop-number g l =
+    Wrote g.W.TextWriter.given l.fn.out l.out (flat_map channel_line (enumerate_from 0 (take l.number l.channels)))

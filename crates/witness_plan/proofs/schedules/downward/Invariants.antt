@@ -13,4 +13,5 @@ invariant-loop-process l =
     }
 
 abbrev pub decreases-loop-process : goal.decreases-loop-process
-decreases-loop-process l = events_left (net_of l.network) (cut_after opening l.progress.schedule) (net_of l.network).processes
+decreases-loop-process l =
+    events_left (net_of l.network) (cut_after opening l.progress.schedule) (net_of l.network).processes

@@ -11,7 +11,8 @@ use Rattle.witness_plan.proofs.schedules.plan.Goals as goal
 
 pub downward-requires-clause-channels : goal.downward-requires-clause-channels
 downward-requires-clause-channels c =
-    subst (λ network. NamesOwnChannels (net_of network)) (sym c.requires.network) (names_own c.args.nest.now c.requires.size)
+    subst (λ network. NamesOwnChannels (net_of network)) (sym c.requires.network)
+    (names_own c.args.nest.now c.requires.size)
 
 pub returns-in-Seq-clause-run : goal.returns-in-Seq-clause-run
 returns-in-Seq-clause-run c =
@@ -20,5 +21,12 @@ returns-in-Seq-clause-run c =
 pub returns-in-Down-clause-run : goal.returns-in-Down-clause-run
 returns-in-Down-clause-run c =
     ends_planned c.args.nest.now Down c.args.network.now c.downward.result c.requires.network
-    (subst (λ x. IfOk c.downward.result (λ witness. witness.schedule ≡ downward_schedule (net_of x))) c.requires.network c.downward.ensures.schedule)
-    (subst (λ x. IfOk c.downward.result (λ witness. witness.capacities ≡ capacities c.args.network.now (downward_schedule (net_of x)))) c.requires.network c.downward.ensures.capacities)
+    (subst (λ x.
+    IfOk c.downward.result
+    (λ witness. witness.schedule
+    ≡ downward_schedule (net_of x))) c.requires.network c.downward.ensures.schedule)
+    (subst (λ x.
+    IfOk c.downward.result
+    (λ witness. witness.capacities
+    ≡ capacities c.args.network.now
+    (downward_schedule (net_of x)))) c.requires.network c.downward.ensures.capacities)

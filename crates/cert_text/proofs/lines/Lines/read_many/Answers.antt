@@ -8,17 +8,20 @@ returns-in_err-read g c =
     let part = line g.T.FromLine.judged in
     let told = err_from_is_err_and c.from_residual.result c.from_residual.ensures.1 in
     rw (told.1, told.2)
-    (λ known. refused_on part c.loop.items c.args.count c.loop.counter c.loop.self c.in_err-read.field-0.0 (many part c.args.count c.args.self.now) c.loop-test.true
+    (λ known. refused_on part c.loop.items c.args.count c.loop.counter c.loop.self c.in_err-read.field-0.0
+    (many part c.args.count c.args.self.now) c.loop-test.true
     c.loop.invariant (c.in_err-read.ensures known))
 
 pub loop-preserved : goal.loop-preserved
 loop-preserved g c =
     let part = line g.T.FromLine.judged in
     rw c.in_ok-push.ensures.ok
-    (read_on part c.loop.items c.args.count c.loop.counter c.loop.self c.read.new.self c.in_ok-read.field-0 (many part c.args.count c.args.self.now) c.loop-test.true
+    (read_on part c.loop.items c.args.count c.loop.counter c.loop.self c.read.new.self c.in_ok-read.field-0
+    (many part c.args.count c.args.self.now) c.loop-test.true
     c.loop.invariant c.in_ok-read.ensures)
 
 pub returns : goal.returns
 returns g c =
     let part = line g.T.FromLine.judged in
-    read_out part c.loop.items c.args.count c.loop.counter c.loop.self (many part c.args.count c.args.self.now) c.loop-test.false c.loop.invariant
+    read_out part c.loop.items c.args.count c.loop.counter c.loop.self
+    (many part c.args.count c.args.self.now) c.loop-test.false c.loop.invariant

@@ -6,4 +6,5 @@ use Rattle.cert_text.proofs.lines.Lines.read_many.Given as goal
 -- the items so far, and those of the lines to come, are what all lines say
 abbrev pub invariant-loop : goal.invariant-loop
 invariant-loop g l =
-    items_before l.items (many (line g.T.FromLine.judged) (l.count - l.counter) l.self) ≡ many (line g.T.FromLine.judged) l.count l.fn.self
+    items_before l.items (many (line g.T.FromLine.judged) (l.count - l.counter) l.self)
+    ≡ many (line g.T.FromLine.judged) l.count l.fn.self

@@ -10,6 +10,9 @@ returns c =
     sym c.new-words.ensures
     ∙ one_before _ _ _ _ m.ensures
     (one_before _ _ _ _ m.ensures'
-    (one_before _ _ _ _ m.ensures'' (one_before _ _ _ _ m.ensures''' (one_before _ _ _ _ m.ensures'''' (one_before _ _ _ _ m.ensures''''' m.ensures''''''.0))))) in
-    let first : bytes_eq m.word.now (codes "channel") ≡ true = is_keyword m.word.now c.as_slice.result.now (codes "channel") c.if-ne.ensures c.as_slice.ensures in
+    (one_before _ _ _ _ m.ensures''
+    (one_before _ _ _ _ m.ensures'''
+    (one_before _ _ _ _ m.ensures'''' (one_before _ _ _ _ m.ensures''''' m.ensures''''''.0))))) in
+    let first : bytes_eq m.word.now (codes "channel") ≡ true =
+    is_keyword m.word.now c.as_slice.result.now (codes "channel") c.if-ne.ensures c.as_slice.ensures in
     rw (words, first, c.channel_of.ensures, c.both.ensures, c.both-numbers.ensures, c.both-ends.ensures, c.both-limits.ensures, c.number.ensures, c.number-2.ensures, c.number-3.ensures, c.number-4.ensures, c.class.ensures) refl

@@ -9,6 +9,9 @@ returns c =
     let words =
     sym c.new-words.ensures
     ∙ one_before _ _ _ _ m.ensures
-    (one_before _ _ _ _ m.ensures' (one_before _ _ _ _ m.ensures'' (one_before _ _ _ _ m.ensures''' (one_before _ _ _ _ m.ensures'''' m.ensures'''''.0)))) in
-    let first : bytes_eq m.word.now (codes "sizes") ≡ true = is_keyword m.word.now c.as_slice.result.now (codes "sizes") c.if-ne.ensures c.as_slice.ensures in
+    (one_before _ _ _ _ m.ensures'
+    (one_before _ _ _ _ m.ensures''
+    (one_before _ _ _ _ m.ensures''' (one_before _ _ _ _ m.ensures'''' m.ensures'''''.0)))) in
+    let first : bytes_eq m.word.now (codes "sizes") ≡ true =
+    is_keyword m.word.now c.as_slice.result.now (codes "sizes") c.if-ne.ensures c.as_slice.ensures in
     rw (words, first, c.sizes_of.ensures, c.both.ensures, c.both-first.ensures, c.both-second.ensures, c.number.ensures, c.number-2.ensures, c.number-3.ensures, c.number-4.ensures) refl

@@ -8,8 +8,10 @@ abbrev pub invariant-loop-at : goal.invariant-loop-at
 invariant-loop-at l = record {
   gets_many : length l.gets.items ≡ l.at;
   puts_many : length l.puts.items ≡ l.at;
-  gets : (c : ℕ) → c < l.at → slice_index_or l.gets.items c None ≡ incoming (nth_stream l.streams) l.network l.process c;
-  puts : (c : ℕ) → c < l.at → slice_index_or l.puts.items c None ≡ outgoing (nth_stream l.streams) l.network l.process c;
+  gets : (c : ℕ) → c < l.at
+      → slice_index_or l.gets.items c None ≡ incoming (nth_stream l.streams) l.network l.process c;
+  puts : (c : ℕ) → c < l.at
+      → slice_index_or l.puts.items c None ≡ outgoing (nth_stream l.streams) l.network l.process c;
   gets_left : left_in l.gets.items ≤ value_count (take l.at l.streams);
   puts_left : left_in l.puts.items ≤ value_count (take l.at l.streams);
 }

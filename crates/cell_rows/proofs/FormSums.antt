@@ -1,72 +1,45 @@
--- The sums of a form: its coefficients and small loop values are so small that no sum leaves 64 bits, and no loop values
--- let one leave 128.
-use Rattle.std.proofs.Common.{◌≡◌, ◌≤◌, ◌<◌, ◌+◌, ◌*◌, ℕ, zero, suc, ℤ, pos, ◌+ℤ◌, ◌*ℤ◌, List, [], ◌∷◌, drop, length, sym, subst, arith, lit≤}
+-- The sums of a form: its coefficients and small loop values are so small that no sum leaves 64 bits.
+use Rattle.std.proofs.Common.{◌≡◌, ◌≤◌, ◌<◌, ◌+◌, ◌*◌, ℕ, zero, suc, ℤ, pos, ◌+ℤ◌, ◌*ℤ◌, List, [], ◌∷◌, length, sym, subst, arith, lit≤}
 use Rattle.std.specs.Prelude.{IsTrue, unsigned_abs, slice_index_or, FitsSigned}
-use mir.Syntax.{w64, w128}
-use Rattle.std.proofs.lemmas.Int.{fits_signed_from_abs, ints}
+use mir.Syntax.{w64}
+use Rattle.std.proofs.lemmas.Int.{fits_signed_from_abs}
 use Rattle.std.proofs.lemmas.Bool.{and_parts}
-use Rattle.affine_core.specs.Affine.{combined}
 use Rattle.sanlp.proofs.ModerateForms.{le_of_test, abs_sum, product_small, moderate_size}
 use Rattle.sanlp.specs.WellFormed.{is_moderate}
 use Rattle.cell_rows.specs.SmallValues.{are_small_values, is_small_value}
 
-small_size : (v : ℤ) → IsTrue (is_small_value v) → unsigned_abs v ≤ 134217728
+pub small_size : (v : ℤ) → IsTrue (is_small_value v) → unsigned_abs v ≤ 134217728
 small_size v h = le_of_test _ _ h
 
-small_at : (values : List ℤ) (place : ℕ) → IsTrue (are_small_values values) → place < length values → unsigned_abs (slice_index_or values place (pos 0)) ≤ 134217728
+small_at : (values : List ℤ) (place : ℕ) → IsTrue (are_small_values values) → place < length values
+    → unsigned_abs (slice_index_or values place (pos 0)) ≤ 134217728
 small_at [] place all within = absurd (omega arith)
-small_at (value ∷ values) zero all within = small_size value (and_parts (is_small_value value) (are_small_values values) all).0
-small_at (value ∷ values) (suc place) all within = small_at values place (and_parts (is_small_value value) (are_small_values values) all).1 (omega arith)
+small_at (value ∷ values) zero all within =
+    small_size value (and_parts (is_small_value value) (are_small_values values) all).0
+small_at (value ∷ values) (suc place) all within =
+    small_at values place (and_parts (is_small_value value) (are_small_values values) all).1 (omega arith)
 
 -- a product of a coefficient and a small value
-pub small_product : (coef : ℤ) (values : List ℤ) (place : ℕ) → IsTrue (is_moderate coef) → IsTrue (are_small_values values) → place < length values
+pub small_product : (coef : ℤ) (values : List ℤ) (place : ℕ) → IsTrue (is_moderate coef)
+    → IsTrue (are_small_values values) → place < length values
     → unsigned_abs (coef *ℤ slice_index_or values place (pos 0)) ≤ 576460752303423488
 small_product coef values place moderate small within =
-    product_small 4294967296 134217728 576460752303423488 coef (slice_index_or values place (pos 0)) (lit≤ tt) (moderate_size coef moderate) (small_at values place small within)
+    product_small 4294967296 134217728 576460752303423488 coef (slice_index_or values place (pos 0)) (lit≤ tt)
+    (moderate_size coef moderate) (small_at values place small within)
 
 -- the sum of a constant and so many such products
-pub next_sum_is_small : (sum product next : ℤ) (place : ℕ) → unsigned_abs sum ≤ 4294967296 + place * 576460752303423488 → unsigned_abs product ≤ 576460752303423488
+pub next_sum_is_small : (sum product next : ℤ) (place : ℕ) → unsigned_abs sum ≤ 4294967296 + place * 576460752303423488
+    → unsigned_abs product ≤ 576460752303423488
     → next ≡ sum +ℤ product → unsigned_abs next ≤ 4294967296 + (place + 1) * 576460752303423488
 next_sum_is_small sum product next place before here is =
-    subst (λ z. unsigned_abs z ≤ 4294967296 + (place + 1) * 576460752303423488) (sym is) (let size = abs_sum sum product in omega arith)
-
-pub moderate_at_most : (c : ℤ) → IsTrue (is_moderate c) → unsigned_abs c ≤ 4294967296
-moderate_at_most c h = moderate_size c h
-
--- a form's value from a place on, one product further
-pub one_product_more : (sum : ℤ) (coefs values : List ℤ) (place : ℕ) (z : ℤ) → place < length coefs → place < length values
-    → combined sum (drop place coefs) (drop place values) ≡ z
-    → combined (sum +ℤ (slice_index_or coefs place (pos 0) *ℤ slice_index_or values place (pos 0))) (drop (place + 1) coefs) (drop (place + 1) values) ≡ z
-one_product_more sum [] values place z a b e = absurd (omega arith)
-one_product_more sum (c ∷ cs) [] place z a b e = absurd (omega arith)
-one_product_more sum (c ∷ cs) (v ∷ vs) zero z a b e = e
-one_product_more sum (c ∷ cs) (v ∷ vs) (suc place) z a b e =
-    subst (λ (n : ℕ). combined (sum +ℤ (slice_index_or cs place (pos 0) *ℤ slice_index_or vs place (pos 0))) (drop n (c ∷ cs)) (drop n (v ∷ vs)) ≡ z)
-    (let same : suc (place + 1) ≡ suc place + 1 = omega arith in same)
-    (one_product_more sum cs vs place z (omega arith) (omega arith) e)
+    subst (λ z. unsigned_abs z ≤ 4294967296 + (place + 1) * 576460752303423488) (sym is)
+    (let size = abs_sum sum product in omega arith)
 
 -- what stays within 64 bits
 pub small_product_fits : (c v : ℤ) → unsigned_abs (c *ℤ v) ≤ 576460752303423488 → FitsSigned w64 (c *ℤ v)
 small_product_fits c v h = fits_signed_from_abs w64 (c *ℤ v) (omega arith)
 
-pub small_sum_fits : (sum c v : ℤ) → unsigned_abs sum ≤ 4000000000000000000 → unsigned_abs (c *ℤ v) ≤ 576460752303423488 → FitsSigned w64 (sum +ℤ (c *ℤ v))
-small_sum_fits sum c v before here = fits_signed_from_abs w64 (sum +ℤ (c *ℤ v)) (let size = abs_sum sum (c *ℤ v) in omega arith)
-
--- the same for any values of 64 bits, within 128 bits
-short_size : (v : ℤ) → FitsSigned w64 v → unsigned_abs v ≤ 9223372036854775808
-short_size v h = omega (arith, ints)
-
-pub wide_product : (coef v : ℤ) → unsigned_abs coef ≤ 4294967296 → FitsSigned w64 v → unsigned_abs (coef *ℤ v) ≤ 39614081257132168796771975168
-wide_product coef v moderate short = product_small 4294967296 9223372036854775808 39614081257132168796771975168 coef v (lit≤ tt) moderate (short_size v short)
-
-pub wide_product_fits : (coef v : ℤ) → unsigned_abs coef ≤ 4294967296 → FitsSigned w64 v → FitsSigned w128 (coef *ℤ v)
-wide_product_fits coef v moderate short = fits_signed_from_abs w128 (coef *ℤ v) (let size = wide_product coef v moderate short in omega arith)
-
-pub wide_sum_fits : (sum coef v : ℤ) → unsigned_abs sum ≤ 300000000000000000000000000000 → unsigned_abs coef ≤ 4294967296 → FitsSigned w64 v → FitsSigned w128 (sum +ℤ (coef *ℤ v))
-wide_sum_fits sum coef v before moderate short =
-    fits_signed_from_abs w128 (sum +ℤ (coef *ℤ v)) (let size = abs_sum sum (coef *ℤ v) in let product = wide_product coef v moderate short in omega arith)
-
-pub next_wide_sum : (sum product next : ℤ) (place : ℕ) → unsigned_abs sum ≤ 4294967296 + place * 39614081257132168796771975168 → unsigned_abs product ≤ 39614081257132168796771975168
-    → next ≡ sum +ℤ product → unsigned_abs next ≤ 4294967296 + (place + 1) * 39614081257132168796771975168
-next_wide_sum sum product next place before here is =
-    subst (λ z. unsigned_abs z ≤ 4294967296 + (place + 1) * 39614081257132168796771975168) (sym is) (let size = abs_sum sum product in omega arith)
+pub small_sum_fits : (sum c v : ℤ) → unsigned_abs sum ≤ 4000000000000000000 → unsigned_abs (c *ℤ v) ≤ 576460752303423488
+    → FitsSigned w64 (sum +ℤ (c *ℤ v))
+small_sum_fits sum c v before here =
+    fits_signed_from_abs w64 (sum +ℤ (c *ℤ v)) (let size = abs_sum sum (c *ℤ v) in omega arith)

@@ -5,7 +5,8 @@ use Rattle.std.specs.Option.{option_and_then}
 use Rattle.cell_rows.specs.RowPlaces.{place_after, place_from}
 
 -- it has no place
-pub no_place : {X : Type 0} (f : X → ℤ) (place : ℕ) (extents : List ℤ) (xs : List X) → length extents ≢ length xs → place_from place extents (map f xs) ≡ None
+pub no_place : {X : Type 0} (f : X → ℤ) (place : ℕ) (extents : List ℤ) (xs : List X) → length extents ≢ length xs
+    → place_from place extents (map f xs) ≡ None
 no_place f place [] [] differ = absurd (differ refl)
 no_place f place [] (x ∷ xs) differ = refl
 no_place f place (extent ∷ extents) [] differ = refl

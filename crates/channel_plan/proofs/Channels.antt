@@ -14,28 +14,34 @@ use Rattle.channel_plan.specs.Plans.{slot_plan}
 use Rattle.channel_plan.specs.Reads.{IsTurnAmong, channel_of}
 use Rattle.channel_plan.specs.Tokens.{is_from, tokens_among, tokens_below, turns_used, uses_of, writers_of}
 
-pub slots_are : (slots : SlotPlan) (uses : List ℕ) → slots.gets_before ≡ gets_before uses → slots.slot_of_get ≡ slots_of_gets uses
+pub slots_are : (slots : SlotPlan) (uses : List ℕ) → slots.gets_before ≡ gets_before uses
+    → slots.slot_of_get ≡ slots_of_gets uses
     → slots.slot_of_use ≡ slots_of_uses uses → slots.hold ≡ hold_of uses → slots ≡ slot_plan uses
 slots_are slots uses e f g h = λ i. record { gets_before = e i; slot_of_get = f i; slot_of_use = g i; hold = h i }
 
-pub channel_is : (p k : ℕ) (sources : List (Option Tag)) (turns w : ℕ) (is_token : List Bool) (tokens : ℕ) (class : ChannelClass) (slots : SlotPlan)
+pub channel_is : (p k : ℕ) (sources : List (Option Tag)) (turns w : ℕ) (is_token : List Bool) (tokens : ℕ)
+    (class : ChannelClass) (slots : SlotPlan)
     → is_token ≡ tokens_among turns (turns_used w sources)
     → tokens ≡ tokens_below (turns_used w sources) turns
     → class ≡ class_of (uses_of (turns_used w sources))
     → slots ≡ slot_plan (uses_of (turns_used w sources))
-    → ◌≡◌ {A = ChannelPlan} (record { reader = p; read = k; writer = w; is_token = is_token; tokens = tokens; class = class; slots = slots }) (channel_of p k sources turns w)
+    → ◌≡◌ {A = ChannelPlan}
+    (record { reader = p; read = k; writer = w; is_token = is_token; tokens = tokens; class = class; slots = slots }) (channel_of p k sources turns w)
 unfolding channel_of
 channel_is p k sources turns w is_token tokens class slots e f g h =
     λ i. record { reader = p; read = k; writer = w; is_token = e i; tokens = f i; class = g i; slots = h i }
 
 -- The turns that are used exist, and so do the writers.
-within_more : (b : Bool) (turn n : ℕ) (used : List ℕ) → (b ≡ true → turn < n) → All (λ t. t < n) used → All (λ t. t < n) (cons_option (cond b (Some turn) None) used)
+within_more : (b : Bool) (turn n : ℕ) (used : List ℕ) → (b ≡ true → turn < n) → All (λ t. t < n) used
+    → All (λ t. t < n) (cons_option (cond b (Some turn) None) used)
 within_more true turn n used h within = All-cons (λ t. t < n) turn used (h refl) within
 within_more false turn n used h within = within
 
-pub turns_within : (turns : List ℕ) (w : ℕ) (sources : List (Option Tag)) → All (IsTurnAmong turns) sources → All (λ t. t < get_or turns w 0) (turns_used w sources)
+pub turns_within : (turns : List ℕ) (w : ℕ) (sources : List (Option Tag)) → All (IsTurnAmong turns) sources
+    → All (λ t. t < get_or turns w 0) (turns_used w sources)
 turns_within turns w [] among = All-nil (λ t. t < get_or turns w 0)
-turns_within turns w (None ∷ sources) among = turns_within turns w sources (All-tail (IsTurnAmong turns) None sources among)
+turns_within turns w (None ∷ sources) among =
+    turns_within turns w sources (All-tail (IsTurnAmong turns) None sources among)
 turns_within turns w (Some tag ∷ sources) among =
     let first = All-head (IsTurnAmong turns) (Some tag) sources among in
     within_more (tag.process == w) tag.turn (get_or turns w 0) (turns_used w sources)
@@ -44,8 +50,11 @@ turns_within turns w (Some tag ∷ sources) among =
 
 range_with_len_within : (a n b : ℕ) → a + n ≤ b → All (λ k. k < b) (range_with_len a n)
 range_with_len_within a zero b h = All-nil (λ k. k < b)
-range_with_len_within a (suc n) b h = All-cons (λ k. k < b) a (range_with_len (a + 1) n) (omega arith) (range_with_len_within (a + 1) n b (omega arith))
+range_with_len_within a (suc n) b h =
+    All-cons (λ k. k < b) a (range_with_len (a + 1) n) (omega arith) (range_with_len_within (a + 1) n b (omega arith))
 
-pub writers_exist : (processes : ℕ) (sources : List (Option Tag)) → All (λ w. w < processes) (writers_of processes sources)
+pub writers_exist : (processes : ℕ) (sources : List (Option Tag))
+    → All (λ w. w < processes) (writers_of processes sources)
 writers_exist processes sources =
-    All-filter (λ w. list_any (is_from w) sources) (λ w. w < processes) (range_with_len 0 processes) (range_with_len_within 0 processes processes (omega arith))
+    All-filter (λ w. list_any (is_from w) sources) (λ w. w < processes) (range_with_len 0 processes)
+    (range_with_len_within 0 processes processes (omega arith))

@@ -21,7 +21,8 @@ passed test xs i m = map (λ k. list_any (test k) (take i xs)) (range_with_len 0
 module _ {X : Type 0} (test : ℕ → X → Bool) (xs : List X) (i : ℕ) (d : X) (within : i < length xs) where
   stays : (k : ℕ) → test k (get_or xs i d) ≡ false → list_any (test k) (take i xs) ≡ list_any (test k) (take (i + 1) xs)
   stays k fails =
-      sym (list_any_more (test k) xs i d within ∙ ap (λ b. list_any (test k) (take i xs) || b) fails ∙ or_no (list_any (test k) (take i xs)))
+      sym (list_any_more (test k) xs i d within ∙ ap (λ b. list_any (test k) (take i xs) || b) fails
+      ∙ or_no (list_any (test k) (take i xs)))
 
   -- the next element passes the test of one number alone
   pub passed_more : (at m : ℕ) → test at (get_or xs i d) ≡ true → ((k : ℕ) → k ≢ at → test k (get_or xs i d) ≡ false)
@@ -35,7 +36,8 @@ module _ {X : Type 0} (test : ℕ → X → Bool) (xs : List X) (i : ℕ) (d : X
   pub passed_same : (m : ℕ) → ((k : ℕ) → test k (get_or xs i d) ≡ false) → passed test xs i m ≡ passed test xs (i + 1) m
   passed_same m none = map-range_with_len_same _ _ 0 m (λ k _ _. stays k (none k))
 
-pub filter_map_more : {X Y : Type 0} (h : X → Option Y) (xs : List X) (i : ℕ) (d : X) (r : Option Y) → i < length xs → r ≡ h (get_or xs i d)
+pub filter_map_more : {X Y : Type 0} (h : X → Option Y) (xs : List X) (i : ℕ) (d : X) (r : Option Y) → i < length xs
+    → r ≡ h (get_or xs i d)
     → filter_map h (take (i + 1) xs) ≡ filter_map h (take i xs) ++ cons_option r []
 filter_map_more h xs i d r within e =
     ap (filter_map h) (take_more xs i d within)
@@ -47,5 +49,7 @@ pub places_are : (test : ℕ → Bool) (marks : List Bool) (m : ℕ) → marks �
     → filter (λ place. get_or marks place false) (range_with_len 0 (length marks)) ≡ filter test (range_with_len 0 m)
 places_are test marks m e =
     ap (λ ms. filter (λ place. get_or ms place false) (range_with_len 0 (length ms))) e
-    ∙ ap (λ n. filter (λ place. get_or (map test (range_with_len 0 m)) place false) (range_with_len 0 n)) (length-map-range_with_len test 0 m)
-    ∙ same_filter_from (λ place. get_or (map test (range_with_len 0 m)) place false) test 0 m (λ k _ below. get_or-map-range_with_len test 0 m k k false (omega arith) (omega arith))
+    ∙ ap (λ n. filter (λ place. get_or (map test (range_with_len 0 m)) place false) (range_with_len 0 n))
+    (length-map-range_with_len test 0 m)
+    ∙ same_filter_from (λ place. get_or (map test (range_with_len 0 m)) place false) test 0 m
+    (λ k _ below. get_or-map-range_with_len test 0 m k k false (omega arith) (omega arith))

@@ -23,7 +23,7 @@ use Rattle.sanlp.specs.Writers.{cell_read, last_before}
 use Rattle.sanlp.specs.WellFormed.{statement_fits}
 use Rattle.sanlp.proofs.Elements.{list_all_at}
 use Rattle.sanlp.proofs.Enumerates.{enumerates_domains}
-use Rattle.sanlp.proofs.NestFacts.{few_reads, trace_within}
+use Rattle.sanlp.proofs.NestFacts.{few_entries, few_reads, trace_within}
 use Rattle.sanlp.proofs.Lists.{flat_map-range_with_len_more, flat_map-range_with_len_same}
 use Rattle.source_tree.specs.Sources.{read_sources, source_at, sources_from, sources_of}
 use Rattle.channel_plan.specs.declared.plans.ChannelPlan.{ChannelPlan}
@@ -37,10 +37,14 @@ use Rattle.channel_plan.proofs.Uses.{map_agree}
 as_many : (a : ℕ) (points : List Point) (w : ℕ) → length (vectors_of points w) ≡ length (entries_from a points w)
 as_many a [] w = refl
 as_many a (p ∷ points) w =
-    elim (p.statement == w) as (λ b. length (cond b (p.at ∷ vectors_of points w) (vectors_of points w)) ≡ length (cond b (a ∷ entries_from (a + 1) points w) (entries_from (a + 1) points w)))
+    elim (p.statement == w) as
+    (λ b. length (cond b (p.at ∷ vectors_of points w) (vectors_of points w))
+    ≡ length (cond b (a ∷ entries_from (a + 1) points w) (entries_from (a + 1) points w)))
     [ true ↦ ap suc (as_many (a + 1) points w) | false ↦ as_many (a + 1) points w ]
 
-lengths : (points : List Point) (a m : ℕ) → map length (map (vectors_of points) (range_with_len a m)) ≡ map (λ w. length (entries_of points w)) (range_with_len a m)
+lengths : (points : List Point) (a m : ℕ)
+    → map length (map (vectors_of points) (range_with_len a m))
+    ≡ map (λ w. length (entries_of points w)) (range_with_len a m)
 lengths points a zero = refl
 lengths points a (suc m) =
     ap (λ n. n ∷ map length (map (vectors_of points) (range_with_len (a + 1) m))) (as_many 0 points a)
@@ -54,39 +58,41 @@ pub turns_are : (n : Nest) → map length (points_of n) ≡ turns_of_all n
 unfolding points_of
 turns_are n = lengths (trace n) 0 (length n.statements)
 
-no_more : (a : ℕ) (points : List Point) (w : ℕ) → length (entries_from a points w) ≤ length points
-no_more a [] w = omega arith
-no_more a (p ∷ points) w =
-    elim (p.statement == w) as (λ b. length (cond b (a ∷ entries_from (a + 1) points w) (entries_from (a + 1) points w)) ≤ suc (length points))
-    [ true ↦ omega (arith, no_more (a + 1) points w) | false ↦ omega (arith, no_more (a + 1) points w) ]
-
 all_of : {X : Type 0} (P : X → Type 0) (xs : List X) → ((x : X) → P x) → All P xs
 all_of P xs f = λ k d h. f (get_or xs k d)
 
 pub few_turns : (n : Nest) → SizeIsOk n → AreFew (turns_of_all n)
 few_turns n sized = record {
-  processes = omega (arith, length-map-range_with_len (turn_count n) 0 (length n.statements), n.well_formed.few_statements);
+  processes =
+      omega (arith, length-map-range_with_len (turn_count n) 0 (length n.statements), n.well_formed.few_statements);
   turns_of_each = All-map (λ count. count ≤ size_limit) (turn_count n) (range_with_len 0 (length n.statements))
-      (all_of (λ w. turn_count n w ≤ size_limit) (range_with_len 0 (length n.statements)) (λ w. omega (arith, no_more 0 (trace n) w, trace_within n, sized.size_within)));
+      (all_of (λ w. turn_count n w ≤ size_limit) (range_with_len 0 (length n.statements))
+      (λ w. omega (arith, few_entries 0 (trace n) w, trace_within n, sized.size_within)));
 }
 
 -- Each source is a turn of a process.
-counted_entries : (a : ℕ) (points : List Point) (w : ℕ) → count_by (λ q. q.statement == w) points ≡ length (entries_from a points w)
+counted_entries : (a : ℕ) (points : List Point) (w : ℕ)
+    → count_by (λ q. q.statement == w) points ≡ length (entries_from a points w)
 counted_entries a [] w = refl
 counted_entries a (p ∷ points) w =
     sum_by-cons (λ q. cond (q.statement == w) 1 0) p points
-    ∙ elim (p.statement == w) as (λ b. cond b 1 0 + count_by (λ q. q.statement == w) points ≡ length (cond b (a ∷ entries_from (a + 1) points w) (entries_from (a + 1) points w)))
+    ∙ elim (p.statement == w) as
+    (λ b. cond b 1 0 + count_by (λ q. q.statement == w) points
+    ≡ length (cond b (a ∷ entries_from (a + 1) points w) (entries_from (a + 1) points w)))
     [ true ↦ omega (arith, counted_entries (a + 1) points w) | false ↦ omega (arith, counted_entries (a + 1) points w) ]
 
 turn_below : (points : List Point) (u : ℕ) (p : Point) → slice_get points u ≡ Some p
     → count_by (λ q. q.statement == p.statement) (take u points) < length (entries_of points p.statement)
 turn_below points u p e =
     let test : Point → ℕ = λ q. cond (q.statement == p.statement) 1 0 in
-    let own : test (get_or points u p) ≡ 1 = ap test (get_or_from_slice_get points u p p e) ∙ ap (λ b. cond b 1 0) (eq-eqb p.statement p.statement refl) in
+    let own : test (get_or points u p) ≡ 1 =
+    ap test (get_or_from_slice_get points u p p e) ∙ ap (λ b. cond b 1 0) (eq-eqb p.statement p.statement refl) in
     omega (arith, own, sum_by_more_le test points u p (slice_get_within points u p e), counted_entries 0 points p.statement)
 
 tag_among : (n : Nest) (u : ℕ) (o : Option Point) → slice_get (trace n) u ≡ o
-    → IsTurnAmong (turns_of_all n) (option_map (λ p. record { process = p.statement; turn = count_by (λ q. q.statement == p.statement) (take u (trace n)) }) o)
+    → IsTurnAmong (turns_of_all n)
+    (option_map (λ p.
+    record { process = p.statement; turn = count_by (λ q. q.statement == p.statement) (take u (trace n)) }) o)
 tag_among n u None e = tt
 tag_among n u (Some p) e =
     let is = (enumerates_domains n).entry u p e in
@@ -112,21 +118,27 @@ length-sources_from n points p [] = refl
 length-sources_from n points p (s ∷ statements) =
     omega (
       arith,
-      length-append (map (read_sources n points p) (range_with_len 0 (length s.reads))) (sources_from n points (p + 1) statements),
+      length-append (map (read_sources n points p) (range_with_len 0 (length s.reads)))
+          (sources_from n points (p + 1) statements),
       length-map-range_with_len (read_sources n points p) 0 (length s.reads),
       length-sources_from n points (p + 1) statements,
       sum_by-cons (λ s. length s.reads) s statements,
     )
 
-part_from : (n : Nest) (points : List Point) (p : ℕ) (statements : List Statement) (j : ℕ) (s : Statement) → slice_get statements j ≡ Some s
-    → take (length s.reads) (drop (sum_by (λ s. length s.reads) (take j statements)) (sources_from n points p statements))
+part_from : (n : Nest) (points : List Point) (p : ℕ) (statements : List Statement) (j : ℕ) (s : Statement)
+    → slice_get statements j ≡ Some s
+    → take (length s.reads)
+    (drop (sum_by (λ s. length s.reads) (take j statements)) (sources_from n points p statements))
     ≡ map (read_sources n points (p + j)) (range_with_len 0 (length s.reads))
 part_from n points p [] j s e = absurd (cc)
 part_from n points p (first ∷ statements) zero s e =
     let here : p ≡ p + 0 = omega arith in
     let same : first ≡ s = same_Some first s e in
-    ap (λ x. take (length s.reads) (map (read_sources n points p) (range_with_len 0 (length x.reads)) ++ sources_from n points (p + 1) statements)) same
-    ∙ take_at (map (read_sources n points p) (range_with_len 0 (length s.reads))) (sources_from n points (p + 1) statements) (length s.reads)
+    ap (λ x. take (length s.reads)
+    (map (read_sources n points p) (range_with_len 0 (length x.reads))
+    ++ sources_from n points (p + 1) statements)) same
+    ∙ take_at (map (read_sources n points p) (range_with_len 0 (length s.reads)))
+    (sources_from n points (p + 1) statements) (length s.reads)
     (length-map-range_with_len (read_sources n points p) 0 (length s.reads))
     ∙ ap (λ q. map (read_sources n points q) (range_with_len 0 (length s.reads))) here
 part_from n points p (first ∷ statements) (suc j) s e =
@@ -136,12 +148,16 @@ part_from n points p (first ∷ statements) (suc j) s e =
     let later : p + 1 + j ≡ p + suc j = omega arith in
     ap (λ k. take (length s.reads) (drop k (own ++ rest))) (sum_by-cons (λ s. length s.reads) first (take j statements))
     ∙ ap (take (length s.reads)) (sym (drop-drop before (length first.reads) (own ++ rest)))
-    ∙ ap (λ left. take (length s.reads) (drop before left)) (drop_at own rest (length first.reads) (length-map-range_with_len (read_sources n points p) 0 (length first.reads)))
+    ∙ ap (λ left. take (length s.reads) (drop before left))
+    (drop_at own rest (length first.reads)
+    (length-map-range_with_len (read_sources n points p) 0 (length first.reads)))
     ∙ part_from n points (p + 1) statements j s e
     ∙ ap (λ q. map (read_sources n points q) (range_with_len 0 (length s.reads))) later
 
-module _ (n : Nest) (table : List (List (Option Tag))) (exact : table ≡ sources_of n) (p : ℕ) (s : Statement) (found : slice_get n.statements p ≡ Some s)
-    (first count : ℕ) (before : first ≡ sum_by (λ s. length s.reads) (take p n.statements)) (many : count ≡ length s.reads) where
+module _ (n : Nest) (table : List (List (Option Tag))) (exact : table ≡ sources_of n) (p : ℕ) (s : Statement)
+    (found : slice_get n.statements p ≡ Some s)
+    (first count : ℕ) (before : first ≡ sum_by (λ s. length s.reads) (take p n.statements))
+    (many : count ≡ length s.reads) where
   pub sum_more : first + count ≡ sum_by (λ s. length s.reads) (take (p + 1) n.statements)
   sum_more =
       omega (
@@ -155,7 +171,8 @@ module _ (n : Nest) (table : List (List (Option Tag))) (exact : table ≡ source
   part_exists =
       omega (arith, sum_more, sum_by-take-le (λ s. length s.reads) n.statements (p + 1), ap length exact, length-sources_from n (trace n) 0 n.statements)
 
-  pub part_is : take (first + count - first) (drop first table) ≡ map (read_sources n (trace n) p) (range_with_len 0 (length s.reads))
+  pub part_is : take (first + count - first) (drop first table)
+      ≡ map (read_sources n (trace n) p) (range_with_len 0 (length s.reads))
   unfolding sources_of
   part_is =
       let size_of_part : first + count - first ≡ length s.reads = omega arith in
@@ -170,10 +187,12 @@ module _ (n : Nest) (table : List (List (Option Tag))) (exact : table ≡ source
   part_among =
       All-same (All (IsTurnAmong (turns_of_all n))) _ _ part_is
       (All-map (All (IsTurnAmong (turns_of_all n))) (read_sources n (trace n) p) (range_with_len 0 (length s.reads))
-      (all_of (λ k. All (IsTurnAmong (turns_of_all n)) (read_sources n (trace n) p k)) (range_with_len 0 (length s.reads)) (sources_among n p)))
+      (all_of (λ k. All (IsTurnAmong (turns_of_all n)) (read_sources n (trace n) p k))
+      (range_with_len 0 (length s.reads)) (sources_among n p)))
 
   pub part_short : length (take (first + count - first) (drop first table)) ≤ 8
-  part_short = omega (arith, ap length part_is, length-map-range_with_len (read_sources n (trace n) p) 0 (length s.reads), few_reads n.arrays s (list_all_at (statement_fits n.arrays) n.statements p s n.well_formed.statements_fit found))
+  part_short =
+      omega (arith, ap length part_is, length-map-range_with_len (read_sources n (trace n) p) 0 (length s.reads), few_reads n.arrays s (list_all_at (statement_fits n.arrays) n.statements p s n.well_formed.statements_fit found))
 
 -- all reads are few
 few_in_all : (n : Nest) → sum_by (λ s. length s.reads) n.statements ≤ 512
@@ -183,7 +202,8 @@ few_in_all n =
       n.well_formed.few_statements,
       sum_by-le (λ s. length s.reads) 8 n.statements
           (λ k d h. few_reads n.arrays (get_or n.statements k d)
-          (list_all_at (statement_fits n.arrays) n.statements k (get_or n.statements k d) n.well_formed.statements_fit (slice_get-get_or n.statements k d h))),
+          (list_all_at (statement_fits n.arrays) n.statements k (get_or n.statements k d) n.well_formed.statements_fit
+          (slice_get-get_or n.statements k d h))),
     )
 
 pub few_before : (n : Nest) (p : ℕ) → sum_by (λ s. length s.reads) (take p n.statements) ≤ 512
@@ -196,10 +216,12 @@ plans_are n p k =
     let processes : ℕ = length n.statements in
     let sources : List (Option Tag) = sources_at n p k in
     let turns : List ℕ = turns_of_all n in
-    ap (λ m. map (λ w. channel_of p k sources (get_or turns w 0) w) (writers_of m sources)) (length-map-range_with_len (turn_count n) 0 processes)
+    ap (λ m. map (λ w. channel_of p k sources (get_or turns w 0) w) (writers_of m sources))
+    (length-map-range_with_len (turn_count n) 0 processes)
     ∙ map_agree (λ w. channel_of p k sources (get_or turns w 0) w) (plan_of n p k) (writers_of processes sources)
     (All-weaker (λ w. w < processes) (λ w. channel_of p k sources (get_or turns w 0) w ≡ plan_of n p k w)
-    (λ w h. ap (λ m. channel_of p k sources m w) (get_or-map-range_with_len (turn_count n) 0 processes w w 0 h (omega arith)))
+    (λ w h. ap (λ m. channel_of p k sources m w)
+    (get_or-map-range_with_len (turn_count n) 0 processes w w 0 h (omega arith)))
     (writers_of processes sources) (writers_exist processes sources))
 
 plans_to : (n : Nest) (p : ℕ) (s : Statement) (reads : List (List (Option Tag))) → slice_get n.statements p ≡ Some s
@@ -210,25 +232,34 @@ plans_to n p s reads found e =
     let m : ℕ = length s.reads in
     let all : List (List (Option Tag)) = map (read_sources n (trace n) p) (range_with_len 0 m) in
     ap (channels_to (turns_of_all n) p) e
-    ∙ ap (λ c. flat_map (λ k. channels_of (turns_of_all n) p k (get_or all k [])) (range_with_len 0 c)) (length-map-range_with_len (read_sources n (trace n) p) 0 m)
+    ∙ ap (λ c. flat_map (λ k. channels_of (turns_of_all n) p k (get_or all k [])) (range_with_len 0 c))
+    (length-map-range_with_len (read_sources n (trace n) p) 0 m)
     ∙ flat_map-range_with_len_same (λ k. channels_of (turns_of_all n) p k (get_or all k [])) (plans_at n p) 0 m
-    (λ k _ below. ap (channels_of (turns_of_all n) p k) (get_or-map-range_with_len (read_sources n (trace n) p) 0 m k k [] (omega arith) (omega arith)) ∙ plans_are n p k)
-    ∙ ap (λ c. flat_map (plans_at n p) (range_with_len 0 c)) (sym (ap (λ o. option_map_or (λ s. length s.reads) o 0) found))
+    (λ k _ below.
+    ap (channels_of (turns_of_all n) p k)
+    (get_or-map-range_with_len (read_sources n (trace n) p) 0 m k k [] (omega arith) (omega arith))
+    ∙ plans_are n p k)
+    ∙ ap (λ c. flat_map (plans_at n p) (range_with_len 0 c))
+    (sym (ap (λ o. option_map_or (λ s. length s.reads) o 0) found))
 
 -- the channels of the readers below p
 abbrev pub plans_below : Nest → ℕ → List ChannelPlan
 plans_below n p = flat_map (λ q. flat_map (plans_at n q) (range_with_len 0 (read_count n q))) (range_with_len 0 p)
 
-pub plans_more : (n : Nest) (p : ℕ) (s : Statement) (reads : List (List (Option Tag))) (plans after : List ChannelPlan) (turns : List ℕ)
-    → slice_get n.statements p ≡ Some s → reads ≡ map (read_sources n (trace n) p) (range_with_len 0 (length s.reads)) → turns ≡ turns_of_all n
+pub plans_more : (n : Nest) (p : ℕ) (s : Statement) (reads : List (List (Option Tag))) (plans after : List ChannelPlan)
+    (turns : List ℕ)
+    → slice_get n.statements p ≡ Some s → reads ≡ map (read_sources n (trace n) p) (range_with_len 0 (length s.reads))
+    → turns ≡ turns_of_all n
     → plans ≡ plans_below n p → after ≡ plans ++ channels_to turns p reads → after ≡ plans_below n (p + 1)
 plans_more n p s reads plans after turns found part counts was is =
     is
     ∙ ap (λ ts. plans ++ channels_to ts p reads) counts
     ∙ ap (λ new. plans ++ new) (plans_to n p s reads found part)
     ∙ ap (λ old. old ++ flat_map (plans_at n p) (range_with_len 0 (read_count n p))) was
-    ∙ sym (flat_map-range_with_len_more (λ q. flat_map (plans_at n q) (range_with_len 0 (read_count n q))) 0 p p (omega arith))
+    ∙ sym (flat_map-range_with_len_more (λ q. flat_map (plans_at n q) (range_with_len 0 (read_count n q))) 0 p p
+    (omega arith))
 
-pub plans_all : (n : Nest) (p : ℕ) (plans : List ChannelPlan) → p ≡ length n.statements → plans ≡ plans_below n p → plans ≡ plans_of n
+pub plans_all : (n : Nest) (p : ℕ) (plans : List ChannelPlan) → p ≡ length n.statements → plans ≡ plans_below n p
+    → plans ≡ plans_of n
 unfolding plans_of
 plans_all n p plans e was = was ∙ ap (plans_below n) e

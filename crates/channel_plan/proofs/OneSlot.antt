@@ -24,7 +24,8 @@ some_used : (b rest : Bool) (turn : ℕ) (used : List ℕ) → (b || rest) ≡ t
 some_used true rest turn used h later = omega arith
 some_used false rest turn used h later = later h
 
-has_use : (w : ℕ) (sources : List (Option Tag)) → list_any (is_from w) sources ≡ true → 0 < length (turns_used w sources)
+has_use : (w : ℕ) (sources : List (Option Tag)) → list_any (is_from w) sources ≡ true
+    → 0 < length (turns_used w sources)
 has_use w [] h = absurd (cc)
 has_use w (None ∷ sources) h = has_use w sources h
 has_use w (Some tag ∷ sources) h =
@@ -38,7 +39,8 @@ of_plan : (n : Nest) (p k w : ℕ) → list_any (is_from w) (sources_at n p k) �
 of_plan n p k w from =
     let used = turns_used w (sources_at n p k) in
     let uses = uses_of used in
-    let some : 0 < length uses = omega (arith, has_use w (sources_at n p k) from, length-map used (tokens_below used)) in
+    let some : 0 < length uses =
+    omega (arith, has_use w (sources_at n p k) from, length-map used (tokens_below used)) in
     let one = one_slot uses some in
     let order = in_order_where (never_falls uses) in
     (λ h. order.1 (one.0 h), λ h. one.1 (order.0 h))
@@ -47,7 +49,8 @@ of_read : (n : Nest) (p k : ℕ) → Each HasOneSlotInOrder (plans_at n p k)
 of_read n p k =
     let sources = sources_at n p k in
     each_map HasOneSlotInOrder (plan_of n p k) (writers_of (length n.statements) sources)
-    (each_then (λ w. list_any (is_from w) sources ≡ true) (λ w. HasOneSlotInOrder (plan_of n p k w)) (writers_of (length n.statements) sources)
+    (each_then (λ w. list_any (is_from w) sources ≡ true) (λ w. HasOneSlotInOrder (plan_of n p k w))
+    (writers_of (length n.statements) sources)
     (of_plan n p k)
     (each_from_all (λ w. list_any (is_from w) sources ≡ true) (writers_of (length n.statements) sources)
     (filter_passes (λ w. list_any (is_from w) sources) (range_with_len 0 (length n.statements)))))

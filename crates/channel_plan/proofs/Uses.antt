@@ -13,7 +13,8 @@ use Rattle.channel_plan.specs.Tokens.{is_used, tokens_among, tokens_below, uses_
 pub map_agree : {X Y : Type 0} (f g : X → Y) (xs : List X) → All (λ x. f x ≡ g x) xs → map f xs ≡ map g xs
 map_agree f g [] same = refl
 map_agree f g (x ∷ xs) same =
-    ap (λ y. y ∷ map f xs) (All-head (λ x. f x ≡ g x) x xs same) ∙ ap (λ ys. g x ∷ ys) (map_agree f g xs (All-tail (λ x. f x ≡ g x) x xs same))
+    ap (λ y. y ∷ map f xs) (All-head (λ x. f x ≡ g x) x xs same)
+    ∙ ap (λ ys. g x ∷ ys) (map_agree f g xs (All-tail (λ x. f x ≡ g x) x xs same))
 
 count_marks : {X : Type 0} (p : X → Bool) (xs : List X) → count_by (λ mark. mark) (map p xs) ≡ count_by p xs
 count_marks p [] = refl
@@ -23,25 +24,33 @@ count_marks p (x ∷ xs) =
     ∙ sym (sum_by-cons (λ y. cond (p y) 1 0) x xs)
 
 -- how many marks there are, and how many below a turn
-pub marks_all : (turns : ℕ) (used : List ℕ) → count_by (λ mark. mark) (tokens_among turns used) ≡ tokens_below used turns
+pub marks_all : (turns : ℕ) (used : List ℕ)
+    → count_by (λ mark. mark) (tokens_among turns used) ≡ tokens_below used turns
 marks_all turns used = count_marks (is_used used) (range_with_len 0 turns)
 
-marks_below : (turns turn : ℕ) (used : List ℕ) → turn ≤ turns → count_by (λ mark. mark) (take turn (tokens_among turns used)) ≡ tokens_below used turn
-marks_below turns turn used h = ap (count_by (λ mark. mark)) (take-map-range_with_len (is_used used) 0 turns turn h) ∙ count_marks (is_used used) (range_with_len 0 turn)
+marks_below : (turns turn : ℕ) (used : List ℕ) → turn ≤ turns
+    → count_by (λ mark. mark) (take turn (tokens_among turns used)) ≡ tokens_below used turn
+marks_below turns turn used h =
+    ap (count_by (λ mark. mark)) (take-map-range_with_len (is_used used) 0 turns turn h)
+    ∙ count_marks (is_used used) (range_with_len 0 turn)
 
 uses_are : (turns : ℕ) (used : List ℕ) → All (λ turn. turn < turns) used
     → map (λ turn. count_by (λ mark. mark) (take turn (tokens_among turns used))) used ≡ uses_of used
 uses_are turns used within =
     map_agree _ (tokens_below used) used
-    (All-weaker (λ turn. turn < turns) (λ turn. count_by (λ mark. mark) (take turn (tokens_among turns used)) ≡ tokens_below used turn)
+    (All-weaker (λ turn. turn < turns)
+    (λ turn. count_by (λ mark. mark) (take turn (tokens_among turns used)) ≡ tokens_below used turn)
     (λ turn below. marks_below turns turn used (omega arith)) used within)
 
-pub long_marks : (turns : ℕ) (used : List ℕ) (marks : List Bool) → marks ≡ tokens_among turns used → length marks ≡ turns
+pub long_marks : (turns : ℕ) (used : List ℕ) (marks : List Bool) → marks ≡ tokens_among turns used
+    → length marks ≡ turns
 long_marks turns used marks e = ap length e ∙ length-map-range_with_len (is_used used) 0 turns
 
 -- the same of a list that is equal to the used turns
-pub uses_found : (turns : ℕ) (used found uses : List ℕ) (marks : List Bool) → found ≡ used → marks ≡ tokens_among turns found
-    → uses ≡ map (λ turn. count_by (λ mark. mark) (take turn marks)) found → All (λ turn. turn < turns) used → uses ≡ uses_of used
+pub uses_found : (turns : ℕ) (used found uses : List ℕ) (marks : List Bool) → found ≡ used
+    → marks ≡ tokens_among turns found
+    → uses ≡ map (λ turn. count_by (λ mark. mark) (take turn marks)) found → All (λ turn. turn < turns) used
+    → uses ≡ uses_of used
 uses_found turns used found uses marks e f g within =
     g
     ∙ ap (λ ms. map (λ turn. count_by (λ mark. mark) (take turn ms)) found) f
@@ -50,16 +59,22 @@ uses_found turns used found uses marks e f g within =
 
 -- no token has a greater number than its turn
 below_turn : (used : List ℕ) (turn : ℕ) → tokens_below used turn ≤ turn
-below_turn used turn = omega (arith, count_by-le-length (is_used used) (range_with_len 0 turn), length-range_with_len 0 turn)
+below_turn used turn =
+    omega (arith, count_by-le-length (is_used used) (range_with_len 0 turn), length-range_with_len 0 turn)
 
-pub few_uses : (turns : ℕ) (used : List ℕ) → turns ≤ size_limit → All (λ turn. turn < turns) used → All (λ named. named < 4294967295) (uses_of used)
+pub few_uses : (turns : ℕ) (used : List ℕ) → turns ≤ size_limit → All (λ turn. turn < turns) used
+    → All (λ named. named < 4294967295) (uses_of used)
 few_uses turns used few within =
     All-map (λ named. named < 4294967295) (tokens_below used) used
-    (All-weaker (λ turn. turn < turns) (λ turn. tokens_below used turn < 4294967295) (λ turn below. omega (arith, below_turn used turn)) used within)
+    (All-weaker (λ turn. turn < turns) (λ turn. tokens_below used turn < 4294967295)
+    (λ turn below. omega (arith, below_turn used turn)) used within)
 
 -- Each number below a use is a use.
-pub tokens_more : (used : List ℕ) (turn : ℕ) → tokens_below used (turn + 1) ≡ tokens_below used turn + cond (is_used used turn) 1 0
-tokens_more used turn = ap (count_by (is_used used)) (range_with_len_more 0 turn turn (omega arith)) ∙ sum_by_push (λ k. cond (is_used used k) 1 0) (range_with_len 0 turn) turn
+pub tokens_more : (used : List ℕ) (turn : ℕ)
+    → tokens_below used (turn + 1) ≡ tokens_below used turn + cond (is_used used turn) 1 0
+tokens_more used turn =
+    ap (count_by (is_used used)) (range_with_len_more 0 turn turn (omega arith))
+    ∙ sum_by_push (λ k. cond (is_used used k) 1 0) (range_with_len 0 turn) turn
 
 -- some used turn has this number
 abbrev IsNumbered : List ℕ → ℕ → Type 0
@@ -100,13 +115,16 @@ number_named : (number : ℕ → ℕ) (used : List ℕ) (turn token : ℕ) → i
 number_named number [] turn token h e = h
 number_named number (first ∷ used) turn token h e =
     elim (or_cases (first == turn) (is_used used turn) h) [
-      | inl here ↦ or_left (number first == token) (list_any (λ named. named == token) (map number used)) (eq-eqb (number first) token (ap number (eqb-true first turn here) ∙ e))
-      | inr later ↦ or_right (number first == token) (list_any (λ named. named == token) (map number used)) (number_named number used turn token later e)
+      | inl here ↦ or_left (number first == token) (list_any (λ named. named == token) (map number used))
+          (eq-eqb (number first) token (ap number (eqb-true first turn here) ∙ e))
+      | inr later ↦ or_right (number first == token) (list_any (λ named. named == token) (map number used))
+          (number_named number used turn token later e)
     ]
 
 pub names_all_below : (used : List ℕ) → NamesAllBelow (uses_of used)
 names_all_below used token h =
     let user = use_from (tokens_below used) used token h in
-    let counted = tokens_more used user.0 ∙ ap (λ c. tokens_below used user.0 + c) (cond-true (is_used used user.0) 1 0 user.1) in
+    let counted =
+    tokens_more used user.0 ∙ ap (λ c. tokens_below used user.0 + c) (cond-true (is_used used user.0) 1 0 user.1) in
     let named = numbered_below used token (user.0 + 1) (omega (arith, counted, user.2)) in
     number_named (tokens_below used) used named.0 token named.1 named.2

@@ -48,26 +48,36 @@ none_of : (n : Nest) (p k f c : ℕ) (u : Usage) → f < turn_count n p → usag
 none_of n p k f c u fire h ne =
     let slots = latest_gets (net_of (net n)) p (length (before_fire n p f)) in
     let is = use_is n p k f u h in
-    let token : ℕ = get_or (uses_of (turns_read n p k is.source.process)) (length (turns_used is.source.process (take f (sources_at n p k)))) 0 in
+    let token : ℕ =
+    get_or (uses_of (turns_read n p k is.source.process))
+    (length (turns_used is.source.process (take f (sources_at n p k)))) 0 in
     ap (λ (v : Usage). use_in c (slice_get slots (v.base + slice_index v.slots.slot_of_use v.number))) is.same
     ∙ ap (use_in c) (finds_token n p k is.source.process u.channel is.there f fire is.source is.at refl)
     ∙ ap (λ b. cond b (token ∷ []) []) (ne_eqb u.channel c ne)
 
 module _ (n : Nest) (p k w c : ℕ) (found : slice_get (plans_of n) c ≡ Some (plan_of n p k w)) where
-  other_read : (f j : ℕ) → f < turn_count n p → (j ≡ k → ⊥) → (o : Option Usage) → usage n p f j ≡ o → use_of c (latest_gets (net_of (net n)) p (length (before_fire n p f))) (ref_of o) ≡ []
+  other_read : (f j : ℕ) → f < turn_count n p → (j ≡ k → ⊥) → (o : Option Usage) → usage n p f j ≡ o
+      → use_of c (latest_gets (net_of (net n)) p (length (before_fire n p f))) (ref_of o) ≡ []
   other_read f j fire ne None h = refl
-  other_read f j fire ne (Some u) h = none_of n p j f c u fire h (λ same. ne (used_where n p k w c f j u found (use_is n p j f u h) same).0)
+  other_read f j fire ne (Some u) h =
+      none_of n p j f c u fire h (λ same. ne (used_where n p k w c f j u found (use_is n p j f u h) same).0)
 
-  other_source : (f : ℕ) (t : Tag) → f < turn_count n p → slice_get (sources_at n p k) f ≡ Some (Some t) → (t.process ≡ w → ⊥) → (o : Option Usage) → usage n p f k ≡ o
+  other_source : (f : ℕ) (t : Tag) → f < turn_count n p → slice_get (sources_at n p k) f ≡ Some (Some t)
+      → (t.process ≡ w → ⊥) → (o : Option Usage) → usage n p f k ≡ o
       → use_of c (latest_gets (net_of (net n)) p (length (before_fire n p f))) (ref_of o) ≡ []
   other_source f t fire e ne None h = refl
   other_source f t fire e ne (Some u) h =
       let is = use_is n p k f u h in
-      none_of n p k f c u fire h (λ same. ne (ap (λ (x : Tag). x.process) (sym (source_same n p k f u is t e)) ∙ (used_where n p k w c f k u found is same).1))
+      none_of n p k f c u fire h
+      (λ same. ne (ap (λ (x : Tag). x.process) (sym (source_same n p k f u is t e))
+      ∙ (used_where n p k w c f k u found is same).1))
 
   this_read : (f : ℕ) → f < turn_count n p → (source : Option Tag) → slice_get (sources_at n p k) f ≡ Some source
-      → use_of c (latest_gets (net_of (net n)) p (length (before_fire n p f))) (ref_of (usage n p f k)) ≡ token_named (turns_read n p k w) w source
-  this_read f fire None e = ap (λ (o : Option Usage). use_of c (latest_gets (net_of (net n)) p (length (before_fire n p f))) (ref_of o)) (no_use n p k f e)
+      → use_of c (latest_gets (net_of (net n)) p (length (before_fire n p f))) (ref_of (usage n p f k))
+      ≡ token_named (turns_read n p k w) w source
+  this_read f fire None e =
+      ap (λ (o : Option Usage). use_of c (latest_gets (net_of (net n)) p (length (before_fire n p f))) (ref_of o))
+      (no_use n p k f e)
   this_read f fire (Some t) e =
       let slots = latest_gets (net_of (net n)) p (length (before_fire n p f)) in
       let used : List ℕ = turns_read n p k w in
@@ -80,11 +90,13 @@ module _ (n : Nest) (p k w c : ℕ) (found : slice_get (plans_of n) c ≡ Some (
             ∙ ap (λ m. m ∷ []) (token_is n p k w f t e own)
             ∙ sym (ap (λ b. cond b (tokens_below used t.turn ∷ []) []) (eq-eqb t.process w own))
         | inr other ↦
-            other_source f t fire e other (usage n p f k) refl ∙ sym (ap (λ b. cond b (tokens_below used t.turn ∷ []) []) (ne_eqb t.process w other))
+            other_source f t fire e other (usage n p f k) refl
+            ∙ sym (ap (λ b. cond b (tokens_below used t.turn ∷ []) []) (ne_eqb t.process w other))
       ]
 
   fire_uses : (f : ℕ) → f < turn_count n p
-      → flat_map (use_of c (latest_gets (net_of (net n)) p (length (before_fire n p f)))) (point_refs n p f) ≡ named_by_fire (turns_read n p k w) w (sources_at n p k) f
+      → flat_map (use_of c (latest_gets (net_of (net n)) p (length (before_fire n p f)))) (point_refs n p f)
+      ≡ named_by_fire (turns_read n p k w) w (sources_at n p k) f
   fire_uses f fire =
       let slots = latest_gets (net_of (net n)) p (length (before_fire n p f)) in
       let numbers : List ℕ = range_with_len 0 (read_count n p) in
@@ -92,14 +104,16 @@ module _ (n : Nest) (p k w c : ℕ) (found : slice_get (plans_of n) c ≡ Some (
       let read = (exists n p k w c found).read in
       flat_map-map (use_of c slots) ref_of (map (usage n p f) numbers)
       ∙ flat_map-map (λ u. use_of c slots (ref_of u)) (usage n p f) numbers
-      ∙ one_joined (λ j. use_of c slots (ref_of (usage n p f j))) k (λ j ne. other_read f j fire ne (usage n p f j) refl) 0 (read_count n p) (omega arith) (omega arith)
+      ∙ one_joined (λ j. use_of c slots (ref_of (usage n p f j))) k
+      (λ j ne. other_read f j fire ne (usage n p f j) refl) 0 (read_count n p) (omega arith) (omega arith)
       ∙ this_read f fire source.0 source.1
       ∙ sym (ap (λ o. option_map_or (token_named (turns_read n p k w) w) o []) source.1)
 
   -- Uses of points
 
   points_use : (f : ℕ) → f ≤ turn_count n p
-      → uses_before (net_of (net n)) c p (length (events_before n p f)) ≡ flat_map (named_by_fire (turns_read n p k w) w (sources_at n p k)) (range_with_len 0 f)
+      → uses_before (net_of (net n)) c p (length (events_before n p f))
+      ≡ flat_map (named_by_fire (turns_read n p k w) w (sources_at n p k)) (range_with_len 0 f)
   points_use zero le = refl
   points_use (suc f) le =
       let network = net_of (net n) in
@@ -111,19 +125,27 @@ module _ (n : Nest) (p k w c : ℕ) (found : slice_get (plans_of n) c ≡ Some (
       let behind : List Event = puts ++ points_after n p f in
       let name = named_by_fire (turns_read n p k w) w (sources_at n p k) in
       let at : ℕ = length (before_fire n p f) in
-      let whole : events ≡ before_fire n p f ++ (Fire (point_refs n p f) ∷ behind) = script_at n p (exists n p k w c found).reader ∙ script_splits n p f fire in
+      let whole : events ≡ before_fire n p f ++ (Fire (point_refs n p f) ∷ behind) =
+      script_at n p (exists n p k w c found).reader ∙ script_splits n p f fire in
       let first : drop (length before) events ≡ gets ++ (Fire (point_refs n p f) ∷ behind) =
-      ap (drop (length before)) (whole ∙ append_assoc before gets (Fire (point_refs n p f) ∷ behind)) ∙ drop_at before (gets ++ (Fire (point_refs n p f) ∷ behind)) (length before) refl in
-      let then : drop at events ≡ Fire (point_refs n p f) ∷ behind = ap (drop at) whole ∙ drop_at (before_fire n p f) (Fire (point_refs n p f) ∷ behind) at refl in
+      ap (drop (length before)) (whole ∙ append_assoc before gets (Fire (point_refs n p f) ∷ behind))
+      ∙ drop_at before (gets ++ (Fire (point_refs n p f) ∷ behind)) (length before) refl in
+      let then : drop at events ≡ Fire (point_refs n p f) ∷ behind =
+      ap (drop at) whole ∙ drop_at (before_fire n p f) (Fire (point_refs n p f) ∷ behind) at refl in
       let last : length (events_before n p (suc f)) ≡ suc at + length puts =
-      ap length (events_split n p f) ∙ length-append (before_fire n p f) (Fire (point_refs n p f) ∷ puts) ∙ omega arith in
+      ap length (events_split n p f) ∙ length-append (before_fire n p f) (Fire (point_refs n p f) ∷ puts)
+      ∙ omega arith in
       ap (uses_before network c p) last
-      ∙ passed network c p (suc at) puts (points_after n p f) (drop_next events at (Fire (point_refs n p f)) behind then) (no_fire_behind 0 (plans_of n) p f)
+      ∙ passed network c p (suc at) puts (points_after n p f)
+      (drop_next events at (Fire (point_refs n p f)) behind then) (no_fire_behind 0 (plans_of n) p f)
       ∙ fire_adds network c p at (point_refs n p f) behind then
       ∙ ap (λ us. uses_before network c p at ++ us) (fire_uses f fire)
-      ∙ ap (λ us. us ++ name f) (ap (uses_before network c p) (length-append before gets) ∙ passed network c p (length before) gets (Fire (point_refs n p f) ∷ behind) first (no_fire_first n p f))
+      ∙ ap (λ us. us ++ name f)
+      (ap (uses_before network c p) (length-append before gets)
+      ∙ passed network c p (length before) gets (Fire (point_refs n p f) ∷ behind) first (no_fire_first n p f))
       ∙ ap (λ us. us ++ name f) (points_use f (omega arith))
-      ∙ sym (ap (λ k. flat_map name (range_with_len 0 k)) (sym (add-one f)) ∙ flat_map-range_with_len_more name 0 f f (omega arith))
+      ∙ sym (ap (λ k. flat_map name (range_with_len 0 k)) (sym (add-one f))
+      ∙ flat_map-range_with_len_more name 0 f f (omega arith))
 
   reader_is : (net_of (net n)).reader c ≡ p
   reader_is = reader_at n c (plan_of n p k w) found
@@ -136,13 +158,16 @@ module _ (n : Nest) (p k w c : ℕ) (found : slice_get (plans_of n) c ≡ Some (
       ∙ points_use (turn_count n p) (omega arith)
       ∙ named_by_all n p k w
 
-pub has_classes_of_uses : (n : Nest) (c : ℕ) (channel : Channel) → slice_get (net n).channels c ≡ Some channel → channel.class ≡ class_of (uses (net_of (net n)) c)
+pub has_classes_of_uses : (n : Nest) (c : ℕ) (channel : Channel) → slice_get (net n).channels c ≡ Some channel
+    → channel.class ≡ class_of (uses (net_of (net n)) c)
 unfolding net
 has_classes_of_uses n c channel e =
-    let within : c < length (plans_of n) = omega (arith, slice_get_within (map channel_of (plans_of n)) c channel e, length-map (plans_of n) channel_of) in
+    let within : c < length (plans_of n) =
+    omega (arith, slice_get_within (map channel_of (plans_of n)) c channel e, length-map (plans_of n) channel_of) in
     let plan = item_at (plans_of n) c within in
     let is = plan_at n c plan.0 plan.1 in
-    let found : slice_get (plans_of n) c ≡ Some (plan_of n plan.0.reader plan.0.read plan.0.writer) = plan.1 ∙ ap Some is in
+    let found : slice_get (plans_of n) c ≡ Some (plan_of n plan.0.reader plan.0.read plan.0.writer) =
+    plan.1 ∙ ap Some is in
     let same : Some channel ≡ Some (channel_of plan.0) = sym e ∙ channel_at n c plan.0 plan.1 in
     let here : channel ≡ channel_of plan.0 = cc in
     ap (λ (x : Channel). x.class) here

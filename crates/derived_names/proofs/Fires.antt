@@ -38,8 +38,10 @@ get_is_none (Put c) h = absurd h
 pub no_fire_first : (n : Nest) (p f : ℕ) → Each IsNoFire (point_gets n p f)
 no_fire_first n p f =
     let reads : List ℕ = range_with_len 0 (read_count n p) in
-    each_flat_map IsNoFire gets_of (map (usage n p f) reads) (each_map (λ u. Each IsNoFire (gets_of u)) (usage n p f) reads
-    (each_of (λ k. Each IsNoFire (gets_of (usage n p f k))) reads (λ k. each_then IsGet IsNoFire (gets_of (usage n p f k)) get_is_none (all_gets (usage n p f k)))))
+    each_flat_map IsNoFire gets_of (map (usage n p f) reads)
+    (each_map (λ u. Each IsNoFire (gets_of u)) (usage n p f) reads
+    (each_of (λ k. Each IsNoFire (gets_of (usage n p f k))) reads
+    (λ k. each_then IsGet IsNoFire (gets_of (usage n p f k)) get_is_none (all_gets (usage n p f k)))))
 
 pub no_fire_behind : (c : ℕ) (plans : List ChannelPlan) (p f : ℕ) → Each IsNoFire (puts_from c plans p f)
 no_fire_behind c [] p f = tt
@@ -78,19 +80,23 @@ fired_before n p f =
 
 -- Where
 
-only_fire : (gets puts : List Event) (rs refs : List Ref) (i : ℕ) → Each IsNoFire gets → Each IsNoFire puts → slice_get (gets ++ Fire rs ∷ puts) i ≡ Some (Fire refs)
+only_fire : (gets puts : List Event) (rs refs : List Ref) (i : ℕ) → Each IsNoFire gets → Each IsNoFire puts
+    → slice_get (gets ++ Fire rs ∷ puts) i ≡ Some (Fire refs)
     → (i ≡ length gets) × (refs ≡ rs)
 only_fire [] puts rs refs zero h g e = (refl, cc)
 only_fire [] puts rs refs (suc i) h g e = absurd (each_in IsNoFire (Fire refs) puts g (at_in (Fire refs) puts i e))
-only_fire (x ∷ gets) puts rs refs zero h g e = absurd (each_in IsNoFire (Fire refs) (x ∷ gets) h (at_in (Fire refs) (x ∷ gets) 0 e))
-only_fire (x ∷ gets) puts rs refs (suc i) h g e = let rest = only_fire gets puts rs refs i h.1 g e in (ap suc rest.0, rest.1)
+only_fire (x ∷ gets) puts rs refs zero h g e =
+    absurd (each_in IsNoFire (Fire refs) (x ∷ gets) h (at_in (Fire refs) (x ∷ gets) 0 e))
+only_fire (x ∷ gets) puts rs refs (suc i) h g e =
+    let rest = only_fire gets puts rs refs i h.1 g e in (ap suc rest.0, rest.1)
 
 fire_among : (n : Nest) (p m k : ℕ) (refs : List Ref) → slice_get (events_before n p m) k ≡ Some (Fire refs)
     → (f : ℕ) × (f < m) × (k ≡ length (before_fire n p f)) × (refs ≡ point_refs n p f)
 fire_among n p zero k refs e = absurd (cc)
 fire_among n p (suc m) k refs e =
     let before : List Event = events_before n p m in
-    let split : slice_get (before ++ point_events n p m) k ≡ Some (Fire refs) = ap (λ es. slice_get es k) (sym (events_more n p m)) ∙ e in
+    let split : slice_get (before ++ point_events n p m) k ≡ Some (Fire refs) =
+    ap (λ es. slice_get es k) (sym (events_more n p m)) ∙ e in
     elim (cases_lt k (length before)) [
       | inl lt ↦
           let rest = fire_among n p m k refs (sym (get_left before (point_events n p m) k lt) ∙ split) in
@@ -98,8 +104,11 @@ fire_among n p (suc m) k refs e =
       | inr le ↦
           let there : length before + (k - length before) ≡ k = omega arith in
           let here : slice_get (point_events n p m) (k - length before) ≡ Some (Fire refs) =
-          sym (slice_get-append_right before (point_events n p m) (k - length before)) ∙ ap (slice_get (before ++ point_events n p m)) there ∙ split in
-          let is = only_fire (point_gets n p m) (puts_from 0 (plans_of n) p m) (point_refs n p m) refs (k - length before) (no_fire_first n p m) (no_fire_behind 0 (plans_of n) p m) here in
+          sym (slice_get-append_right before (point_events n p m) (k - length before))
+          ∙ ap (slice_get (before ++ point_events n p m)) there ∙ split in
+          let is =
+          only_fire (point_gets n p m) (puts_from 0 (plans_of n) p m) (point_refs n p m) refs (k - length before)
+          (no_fire_first n p m) (no_fire_behind 0 (plans_of n) p m) here in
           (m, omega arith, omega (arith, is.0, length-append before (point_gets n p m)), is.1)
     ]
 
@@ -112,7 +121,8 @@ pub record IsFireOf (n : Nest) (p k : ℕ) (refs : List Ref) : Type 0 where
   pub references : refs ≡ point_refs n p point
   pub turn : fires (net_of (net n)) p k ≡ point
 
-pub fire_is : (n : Nest) (p k : ℕ) (refs : List Ref) → slice_get ((net_of (net n)).script p) k ≡ Some (Fire refs) → IsFireOf n p k refs
+pub fire_is : (n : Nest) (p k : ℕ) (refs : List Ref) → slice_get ((net_of (net n)).script p) k ≡ Some (Fire refs)
+    → IsFireOf n p k refs
 fire_is n p k refs e =
     let process = (event_is n p k (Fire refs) e).0 in
     let is = fire_among n p (turn_count n p) k refs (ap (λ es. slice_get es k) (sym (script_at n p process)) ∙ e) in
@@ -122,5 +132,6 @@ fire_is n p k refs e =
       fire = is.1;
       place = is.2;
       references = is.3;
-      turn = ap (fires (net_of (net n)) p) is.2 ∙ ap (count_by is_fire) (take_before n p is.0 process is.1) ∙ fired_before n p is.0;
+      turn = ap (fires (net_of (net n)) p) is.2 ∙ ap (count_by is_fire) (take_before n p is.0 process is.1)
+          ∙ fired_before n p is.0;
     }

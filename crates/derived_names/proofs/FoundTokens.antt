@@ -42,14 +42,16 @@ use Rattle.derived_names.proofs.UsesOfReads.{plan_at}
 -- Slots side by side
 
 -- the slots of a channel end before those of a later one begin
-ends_before : (plans : List ChannelPlan) (p c d : ℕ) (plan : ChannelPlan) → slice_get plans c ≡ Some plan → plan.reader ≡ p → c < d
+ends_before : (plans : List ChannelPlan) (p c d : ℕ) (plan : ChannelPlan) → slice_get plans c ≡ Some plan
+    → plan.reader ≡ p → c < d
     → slot_base plans p c + plan.slots.hold ≤ slot_base plans p d
 ends_before [] p c d plan e own lt = absurd (cc)
 ends_before (x ∷ plans) p c zero plan e own lt = absurd (omega arith)
 ends_before (x ∷ plans) p zero (suc d) plan e own lt =
     let same : x ≡ plan = cc in
     let here : cond (x.reader == p) x.slots.hold 0 ≡ plan.slots.hold =
-    ap (λ (y : ChannelPlan). cond (y.reader == p) y.slots.hold 0) same ∙ ap (λ b. cond b plan.slots.hold 0) (eq-eqb plan.reader p own) in
+    ap (λ (y : ChannelPlan). cond (y.reader == p) y.slots.hold 0) same
+    ∙ ap (λ b. cond b plan.slots.hold 0) (eq-eqb plan.reader p own) in
     omega (arith, here, sum_by-cons (λ (y : ChannelPlan). cond (y.reader == p) y.slots.hold 0) x (take d plans))
 ends_before (x ∷ plans) p (suc c) (suc d) plan e own lt =
     omega (
@@ -59,7 +61,8 @@ ends_before (x ∷ plans) p (suc c) (suc d) plan e own lt =
       sum_by-cons (λ (y : ChannelPlan). cond (y.reader == p) y.slots.hold 0) x (take d plans),
     )
 
-apart : (plans : List ChannelPlan) (p c d i j : ℕ) (x y : ChannelPlan) → slice_get plans c ≡ Some x → slice_get plans d ≡ Some y → x.reader ≡ p → y.reader ≡ p
+apart : (plans : List ChannelPlan) (p c d i j : ℕ) (x y : ChannelPlan) → slice_get plans c ≡ Some x
+    → slice_get plans d ≡ Some y → x.reader ≡ p → y.reader ≡ p
     → (d ≡ c → ⊥) → i < x.slots.hold → j < y.slots.hold → slot_base plans p d + j ≡ slot_base plans p c + i → ⊥
 apart plans p c d i j x y at there own too ne inside within same =
     elim (cases_lt c d) [
@@ -73,12 +76,14 @@ apart plans p c d i j x y at there own too ne inside within same =
 abbrev pub points_after : Nest → ℕ → ℕ → List Event
 points_after n p f = flat_map (point_events n p) (range_with_len (0 + suc f) (turn_count n p - suc f))
 
-pub script_past : (n : Nest) (p f : ℕ) → f < turn_count n p → script n p ≡ events_before n p (suc f) ++ points_after n p f
+pub script_past : (n : Nest) (p f : ℕ) → f < turn_count n p
+    → script n p ≡ events_before n p (suc f) ++ points_after n p f
 script_past n p f lt =
     let whole : turn_count n p ≡ suc f + (turn_count n p - suc f) = omega arith in
     ap (λ m. flat_map (point_events n p) (range_with_len 0 m)) whole
     ∙ ap (flat_map (point_events n p)) (range_with_len-append 0 (suc f) (turn_count n p - suc f))
-    ∙ flat_map-append (point_events n p) (range_with_len 0 (suc f)) (range_with_len (0 + suc f) (turn_count n p - suc f))
+    ∙ flat_map-append (point_events n p) (range_with_len 0 (suc f))
+    (range_with_len (0 + suc f) (turn_count n p - suc f))
 
 pub script_splits : (n : Nest) (p f : ℕ) → f < turn_count n p
     → script n p ≡ before_fire n p f ++ (Fire (point_refs n p f) ∷ (puts_from 0 (plans_of n) p f ++ points_after n p f))
@@ -87,14 +92,17 @@ script_splits n p f lt =
     ∙ ap (λ es. es ++ points_after n p f) (events_split n p f)
     ∙ append_assoc (before_fire n p f) (Fire (point_refs n p f) ∷ puts_from 0 (plans_of n) p f) (points_after n p f)
 
-pub take_before : (n : Nest) (p f : ℕ) → p < length n.statements → f < turn_count n p → take (length (before_fire n p f)) ((net_of (net n)).script p) ≡ before_fire n p f
+pub take_before : (n : Nest) (p f : ℕ) → p < length n.statements → f < turn_count n p
+    → take (length (before_fire n p f)) ((net_of (net n)).script p) ≡ before_fire n p f
 take_before n p f process lt =
     ap (take (length (before_fire n p f))) (script_at n p process ∙ script_splits n p f lt)
-    ∙ take_at (before_fire n p f) (Fire (point_refs n p f) ∷ (puts_from 0 (plans_of n) p f ++ points_after n p f)) (length (before_fire n p f)) refl
+    ∙ take_at (before_fire n p f) (Fire (point_refs n p f) ∷ (puts_from 0 (plans_of n) p f ++ points_after n p f))
+    (length (before_fire n p f)) refl
 
 -- The Get of the token that a fire uses
 
-module _ (n : Nest) (p k w c : ℕ) (found : slice_get (plans_of n) c ≡ Some (plan_of n p k w)) (f : ℕ) (fire : f < turn_count n p) (t : Tag)
+module _ (n : Nest) (p k w c : ℕ) (found : slice_get (plans_of n) c ≡ Some (plan_of n p k w)) (f : ℕ)
+    (fire : f < turn_count n p) (t : Tag)
     (source : slice_get (sources_at n p k) f ≡ Some (Some t)) (own : t.process ≡ w) where
   abbrev uses : List ℕ
   uses = uses_of (turns_read n p k w)
@@ -109,7 +117,8 @@ module _ (n : Nest) (p k w c : ℕ) (found : slice_get (plans_of n) c ≡ Some (
   few : use_number < length uses
   few = omega (arith, few_uses n p k w c found (suc f), uses_next n p k w c found f t source own)
 
-  got_so_far : count_by (is_get c) (take (length (before_fire n p f)) ((net_of (net n)).script p)) ≡ gets_for (take (suc use_number) uses)
+  got_so_far : count_by (is_get c) (take (length (before_fire n p f)) ((net_of (net n)).script p))
+      ≡ gets_for (take (suc use_number) uses)
   got_so_far =
       ap (count_by (is_get c)) (take_before n p f (exists n p k w c found).reader fire)
       ∙ fire_count n p k w c found f fire
@@ -128,7 +137,8 @@ module _ (n : Nest) (p k w c : ℕ) (found : slice_get (plans_of n) c ≡ Some (
   into_slot =
       let plan : ChannelPlan = plan_of n p k w in
       let whole = sum_at (λ (y : ChannelPlan). cond (y.reader == p) y.slots.hold 0) (plans_of n) c plan found in
-      let here : cond (plan.reader == p) plan.slots.hold 0 ≡ hold_of uses = ap (λ b. cond b (hold_of uses) 0) (eq-eqb p p refl) in
+      let here : cond (plan.reader == p) plan.slots.hold 0 ≡ hold_of uses =
+      ap (λ b. cond b (hold_of uses) 0) (eq-eqb p p refl) in
       omega (arith, whole, here, inside, slots_there n p (exists n p k w c found).reader)
 
   kept : (i slot : ℕ) → i < length (before_fire n p f) → slice_get ((net_of (net n)).script p) i ≡ Some (Get c slot)
@@ -145,16 +155,19 @@ module _ (n : Nest) (p k w c : ℕ) (found : slice_get (plans_of n) c ≡ Some (
       keeps_until_used uses use_number token m (slice_get-get_or uses use_number 0 few) later earlier
       (slice_get-get_or gets m 0 (omega arith) ∙ ap Some same ∙ sym (slice_get-get_or gets token 0 (omega arith)))
 
-  of_others : (i d slot : ℕ) → slice_get ((net_of (net n)).script p) i ≡ Some (Get d slot) → (d ≡ c → ⊥) → slot ≡ place n p k w c found token → ⊥
+  of_others : (i d slot : ℕ) → slice_get ((net_of (net n)).script p) i ≡ Some (Get d slot) → (d ≡ c → ⊥)
+      → slot ≡ place n p k w c found token → ⊥
   of_others i d slot at ne into =
       let events = (net_of (net n)).script p in
       let m : ℕ = count_by (is_get d) (take i events) in
       let has = (event_is n p i (Get d slot) at).1.0 in
       let plan : ChannelPlan = has.0 in
-      let there : slice_get (plans_of n) d ≡ Some (plan_of n p plan.read plan.writer) = has.1 ∙ ap Some (plan_at n d plan has.1 ∙ ap (λ r. plan_of n r plan.read plan.writer) has.2) in
+      let there : slice_get (plans_of n) d ≡ Some (plan_of n p plan.read plan.writer) =
+      has.1 ∙ ap Some (plan_at n d plan has.1 ∙ ap (λ r. plan_of n r plan.read plan.writer) has.2) in
       let is = slot_is n p plan.read plan.writer d there i slot at in
       let others : List ℕ = uses_of (turns_read n p plan.read plan.writer) in
-      apart (plans_of n) p c d (slice_index (slots_of_gets uses) token) (slice_index (slots_of_gets others) m) (plan_of n p k w) (plan_of n p plan.read plan.writer) found there refl refl ne inside
+      apart (plans_of n) p c d (slice_index (slots_of_gets uses) token) (slice_index (slots_of_gets others) m)
+      (plan_of n p k w) (plan_of n p plan.read plan.writer) found there refl refl ne inside
       (gets_inside others (uses_made n p plan.read plan.writer d there (turn_count n p)) m is.0)
       (sym is.1 ∙ into)
 
@@ -167,7 +180,10 @@ module _ (n : Nest) (p k w c : ℕ) (found : slice_get (plans_of n) c ≡ Some (
   }
 
   -- at the fire, the latest Get of the slot of its use is that of its token
-  pub finds_token : slice_get (latest_gets (net_of (net n)) p (length (before_fire n p f))) (slot_base (plans_of n) p c + slice_index (slots_of_uses uses) use_number) ≡ Some (Some (c, token))
+  pub finds_token : slice_get (latest_gets (net_of (net n)) p (length (before_fire n p f)))
+      (slot_base (plans_of n) p c + slice_index (slots_of_uses uses) use_number) ≡ Some (Some (c, token))
   finds_token =
-      ap (λ s. slice_get (latest_gets (net_of (net n)) p (length (before_fire n p f))) (slot_base (plans_of n) p c + s)) (get_or-map (λ i. get_or (slots_of_gets uses) i 0) uses use_number 0 0 few)
-      ∙ latest (net_of (net n)) p c token (place n p k w c found token) (length (before_fire n p f)) is_last (length (before_fire n p f)) (omega arith) (omega (arith, got_so_far, is_got))
+      ap (λ s. slice_get (latest_gets (net_of (net n)) p (length (before_fire n p f))) (slot_base (plans_of n) p c + s))
+      (get_or-map (λ i. get_or (slots_of_gets uses) i 0) uses use_number 0 0 few)
+      ∙ latest (net_of (net n)) p c token (place n p k w c found token) (length (before_fire n p f)) is_last
+      (length (before_fire n p f)) (omega arith) (omega (arith, got_so_far, is_got))

@@ -16,9 +16,11 @@ use Rattle.net_core.specs.Shape.{is_get}
 use Rattle.net_core.proofs.Counting.{count_next, count_none}
 use Rattle.derived_names.proofs.Lists.{get_set_other, get_set_same}
 
-length_with : (n : Net) (p k : ℕ) (e : Option Event) (slots : List (Option (ℕ × ℕ))) → length (with_get n p k e slots) ≡ length slots
+length_with : (n : Net) (p k : ℕ) (e : Option Event) (slots : List (Option (ℕ × ℕ)))
+    → length (with_get n p k e slots) ≡ length slots
 length_with n p k None slots = refl
-length_with n p k (Some (Get c slot)) slots = length-set slots slot (Some (c, count_by (is_get c) (take k (n.script p))))
+length_with n p k (Some (Get c slot)) slots =
+    length-set slots slot (Some (c, count_by (is_get c) (take k (n.script p))))
 length_with n p k (Some (Fire refs)) slots = refl
 length_with n p k (Some (Put c)) slots = refl
 
@@ -29,16 +31,20 @@ length_latest n p (suc k) = length_with n p k (slice_get (n.script p) k) (latest
 -- Get number m of channel c is into slot x, and no later Get before place end is, nor is any of another channel.
 pub record IsLastInto (n : Net) (p c m x end : ℕ) : Type 0 where
   pub there : x < n.slots p
-  pub this : (k slot : ℕ) → slice_get (n.script p) k ≡ Some (Get c slot) → count_by (is_get c) (take k (n.script p)) ≡ m → slot ≡ x
-  pub later : (k slot : ℕ) → k < end → slice_get (n.script p) k ≡ Some (Get c slot) → m < count_by (is_get c) (take k (n.script p)) → slot ≡ x → ⊥
+  pub this : (k slot : ℕ) → slice_get (n.script p) k ≡ Some (Get c slot) → count_by (is_get c) (take k (n.script p)) ≡ m
+      → slot ≡ x
+  pub later : (k slot : ℕ) → k < end → slice_get (n.script p) k ≡ Some (Get c slot)
+      → m < count_by (is_get c) (take k (n.script p)) → slot ≡ x → ⊥
   pub other : (k d slot : ℕ) → slice_get (n.script p) k ≡ Some (Get d slot) → (d ≡ c → ⊥) → slot ≡ x → ⊥
 
 module _ (n : Net) (p c m x end : ℕ) (is : IsLastInto n p c m x end) where
-  after : (k : ℕ) (e : Option Event) → k < end → slice_get (n.script p) k ≡ e → m < count_by (is_get c) (take (suc k) (n.script p))
+  after : (k : ℕ) (e : Option Event) → k < end → slice_get (n.script p) k ≡ e
+      → m < count_by (is_get c) (take (suc k) (n.script p))
       → (m < count_by (is_get c) (take k (n.script p)) → slice_get (latest_gets n p k) x ≡ Some (Some (c, m)))
       → slice_get (with_get n p k e (latest_gets n p k)) x ≡ Some (Some (c, m))
   after k None below e got before = before (omega (arith, count_none (is_get c) (n.script p) k e))
-  after k (Some (Fire refs)) below e got before = before (omega (arith, count_next (is_get c) (n.script p) k (Fire refs) e))
+  after k (Some (Fire refs)) below e got before =
+      before (omega (arith, count_next (is_get c) (n.script p) k (Fire refs) e))
   after k (Some (Put d)) below e got before = before (omega (arith, count_next (is_get c) (n.script p) k (Put d) e))
   after k (Some (Get d slot)) below e got before =
       let slots = latest_gets n p k in
@@ -61,10 +67,13 @@ module _ (n : Net) (p c m x end : ℕ) (is : IsLastInto n p c m x end) where
             ]
         | inr apart ↦
             let none = ap (λ b. cond {A = ℕ} b 1 0) (ne_eqb c d apart) in
-            get_set_other slots slot x new (λ into. is.other k d slot e (λ same. apart (sym same)) (sym into)) ∙ before (omega (arith, counted, none))
+            get_set_other slots slot x new (λ into. is.other k d slot e (λ same. apart (sym same)) (sym into))
+            ∙ before (omega (arith, counted, none))
       ]
 
   -- so it is the latest Get of the slot
-  pub latest : (k : ℕ) → k ≤ end → m < count_by (is_get c) (take k (n.script p)) → slice_get (latest_gets n p k) x ≡ Some (Some (c, m))
+  pub latest : (k : ℕ) → k ≤ end → m < count_by (is_get c) (take k (n.script p))
+      → slice_get (latest_gets n p k) x ≡ Some (Some (c, m))
   latest zero le got = absurd (omega arith)
-  latest (suc k) le got = after k (slice_get (n.script p) k) (omega arith) refl got (λ more. latest k (omega arith) more)
+  latest (suc k) le got =
+      after k (slice_get (n.script p) k) (omega arith) refl got (λ more. latest k (omega arith) more)

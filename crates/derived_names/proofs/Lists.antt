@@ -8,19 +8,26 @@ use Rattle.std.proofs.lemmas.List.Concat.{flat_map-cons}
 
 -- One part alone has items
 
-none_joined : {X : Type 0} (f : ℕ → List X) (k : ℕ) → ((j : ℕ) → (j ≡ k → ⊥) → f j ≡ []) → (a m : ℕ) → k < a → flat_map f (range_with_len a m) ≡ []
+none_joined : {X : Type 0} (f : ℕ → List X) (k : ℕ) → ((j : ℕ) → (j ≡ k → ⊥) → f j ≡ []) → (a m : ℕ) → k < a
+    → flat_map f (range_with_len a m) ≡ []
 none_joined f k other a zero lt = refl
 none_joined f k other a (suc m) lt =
-    flat_map-cons f a (range_with_len (a + 1) m) ∙ ap (λ xs. xs ++ flat_map f (range_with_len (a + 1) m)) (other a (λ e. omega arith)) ∙ none_joined f k other (a + 1) m (omega arith)
+    flat_map-cons f a (range_with_len (a + 1) m)
+    ∙ ap (λ xs. xs ++ flat_map f (range_with_len (a + 1) m)) (other a (λ e. omega arith))
+    ∙ none_joined f k other (a + 1) m (omega arith)
 
-pub one_joined : {X : Type 0} (f : ℕ → List X) (k : ℕ) → ((j : ℕ) → (j ≡ k → ⊥) → f j ≡ []) → (a m : ℕ) → a ≤ k → k < a + m → flat_map f (range_with_len a m) ≡ f k
+pub one_joined : {X : Type 0} (f : ℕ → List X) (k : ℕ) → ((j : ℕ) → (j ≡ k → ⊥) → f j ≡ []) → (a m : ℕ) → a ≤ k
+    → k < a + m → flat_map f (range_with_len a m) ≡ f k
 one_joined f k other a zero le lt = absurd (omega arith)
 one_joined f k other a (suc m) le lt =
     elim (cases_eq a k) [
       | inl same ↦
-          flat_map-cons f a (range_with_len (a + 1) m) ∙ ap (λ xs. f a ++ xs) (none_joined f k other (a + 1) m (omega arith)) ∙ append-nil (f a) ∙ ap f same
+          flat_map-cons f a (range_with_len (a + 1) m)
+          ∙ ap (λ xs. f a ++ xs) (none_joined f k other (a + 1) m (omega arith)) ∙ append-nil (f a) ∙ ap f same
       | inr ne ↦
-          flat_map-cons f a (range_with_len (a + 1) m) ∙ ap (λ xs. xs ++ flat_map f (range_with_len (a + 1) m)) (other a ne) ∙ one_joined f k other (a + 1) m (omega arith) (omega arith)
+          flat_map-cons f a (range_with_len (a + 1) m)
+          ∙ ap (λ xs. xs ++ flat_map f (range_with_len (a + 1) m)) (other a ne)
+          ∙ one_joined f k other (a + 1) m (omega arith) (omega arith)
     ]
 
 -- One item replaced
@@ -30,7 +37,8 @@ get_set_same [] i y lt = absurd (omega arith)
 get_set_same (x ∷ xs) zero y lt = refl
 get_set_same (x ∷ xs) (suc i) y lt = get_set_same xs i y (omega arith)
 
-pub get_set_other : {X : Type 0} (xs : List X) (i j : ℕ) (y : X) → (j ≡ i → ⊥) → slice_get (slice_set xs i y) j ≡ slice_get xs j
+pub get_set_other : {X : Type 0} (xs : List X) (i j : ℕ) (y : X) → (j ≡ i → ⊥)
+    → slice_get (slice_set xs i y) j ≡ slice_get xs j
 get_set_other [] zero j y ne = refl
 get_set_other [] (suc i) j y ne = refl
 get_set_other (x ∷ xs) zero zero y ne = absurd (ne refl)
@@ -40,13 +48,15 @@ get_set_other (x ∷ xs) (suc i) (suc j) y ne = get_set_other xs i j y (λ e. ne
 
 -- What follows a front
 
-pub get_dropped : {X : Type 0} (xs : List X) (k : ℕ) (x : X) (rest : List X) → drop k xs ≡ x ∷ rest → slice_get xs k ≡ Some x
+pub get_dropped : {X : Type 0} (xs : List X) (k : ℕ) (x : X) (rest : List X) → drop k xs ≡ x ∷ rest
+    → slice_get xs k ≡ Some x
 get_dropped [] zero x rest e = cc
 get_dropped [] (suc k) x rest e = cc
 get_dropped (y ∷ xs) zero x rest e = cc
 get_dropped (y ∷ xs) (suc k) x rest e = get_dropped xs k x rest e
 
-pub drop_next : {X : Type 0} (xs : List X) (k : ℕ) (x : X) (rest : List X) → drop k xs ≡ x ∷ rest → drop (suc k) xs ≡ rest
+pub drop_next : {X : Type 0} (xs : List X) (k : ℕ) (x : X) (rest : List X) → drop k xs ≡ x ∷ rest
+    → drop (suc k) xs ≡ rest
 drop_next [] zero x rest e = cc
 drop_next [] (suc k) x rest e = cc
 drop_next (y ∷ xs) zero x rest e = cc

@@ -38,7 +38,8 @@ use Rattle.derived_names.proofs.UsesOfFires.{no_use, turns_read, use_here}
 use Rattle.derived_names.proofs.UsesOfReads.{channel_of_source, token_of_source, use_there}
 
 -- the source of a fire's read is the tag of its last writer
-pub source_is_tag : (n : Nest) (p f k : ℕ) → f < turn_count n p → slice_get (sources_at n p k) f ≡ Some (source_tag n p f k)
+pub source_is_tag : (n : Nest) (p f k : ℕ) → f < turn_count n p
+    → slice_get (sources_at n p k) f ≡ Some (source_tag n p f k)
 source_is_tag n p f k lt =
     let entry = item_at (entries_of (trace n) p) f lt in
     slice_get-map (source_at n (trace n) k) (entries_of (trace n) p) f
@@ -47,13 +48,17 @@ source_is_tag n p f k lt =
 
 -- the token of a fire's use is numbered by its source
 pub token_is : (n : Nest) (p k w f : ℕ) (t : Tag) → slice_get (sources_at n p k) f ≡ Some (Some t) → t.process ≡ w
-    → get_or (uses_of (turns_read n p k w)) (length (turns_used w (take f (sources_at n p k)))) 0 ≡ tokens_below (turns_read n p k w) t.turn
+    → get_or (uses_of (turns_read n p k w)) (length (turns_used w (take f (sources_at n p k)))) 0
+    ≡ tokens_below (turns_read n p k w) t.turn
 token_is n p k w f t e own =
-    get_or_from_slice_get (uses_of (turns_read n p k w)) (length (turns_used w (take f (sources_at n p k)))) (tokens_below (turns_read n p k w) t.turn) 0 (use_there w (sources_at n p k) f t e own)
+    get_or_from_slice_get (uses_of (turns_read n p k w)) (length (turns_used w (take f (sources_at n p k))))
+    (tokens_below (turns_read n p k w) t.turn) 0 (use_there w (sources_at n p k) f t e own)
 
-reference_names : (n : Nest) (p f k : ℕ) → p < length n.statements → f < turn_count n p → k < read_count n p → (source : Option Tag) → slice_get (sources_at n p k) f ≡ Some source
+reference_names : (n : Nest) (p f k : ℕ) → p < length n.statements → f < turn_count n p → k < read_count n p
+    → (source : Option Tag) → slice_get (sources_at n p k) f ≡ Some source
     → name_at (net_of (net n)) p (length (before_fire n p f)) (ref_of (usage n p f k)) ≡ name_of_source source
-reference_names n p f k process fire read None e = ap (λ (u : Option Usage). name_at (net_of (net n)) p (length (before_fire n p f)) (ref_of u)) (no_use n p k f e)
+reference_names n p f k process fire read None e =
+    ap (λ (u : Option Usage). name_at (net_of (net n)) p (length (before_fire n p f)) (ref_of u)) (no_use n p k f e)
 reference_names n p f k process fire read (Some t) e =
     let w : ℕ = t.process in
     let network = net_of (net n) in
@@ -69,12 +74,14 @@ reference_names n p f k process fire read (Some t) e =
     ∙ ap (λ m. Some (slice_get (tokens network c) m)) (token_is n p k w f t e refl)
     ∙ ap Some (token_of_source n p k f c t e found.2))
 
-reference_at : (n : Nest) (p f k : ℕ) (r : Ref) → slice_get (point_refs n p f) k ≡ Some r → (k < read_count n p) × (r ≡ ref_of (usage n p f k))
+reference_at : (n : Nest) (p f k : ℕ) (r : Ref) → slice_get (point_refs n p f) k ≡ Some r
+    → (k < read_count n p) × (r ≡ ref_of (usage n p f k))
 reference_at n p f k r e =
     let numbers : List ℕ = range_with_len 0 (read_count n p) in
     let usages : List (Option Usage) = map (usage n p f) numbers in
     let front : 0 + k ≡ k = omega arith in
-    let within : k < read_count n p = omega (arith, slice_get_within (map ref_of usages) k r e, length-map usages ref_of, length-map-range_with_len (usage n p f) 0 (read_count n p)) in
+    let within : k < read_count n p =
+    omega (arith, slice_get_within (map ref_of usages) k r e, length-map usages ref_of, length-map-range_with_len (usage n p f) 0 (read_count n p)) in
     let here : slice_get (map ref_of usages) k ≡ Some (ref_of (usage n p f k)) =
     slice_get-map ref_of usages k
     ∙ ap (option_map ref_of) (slice_get-map-range_with_len (usage n p f) 0 (read_count n p) k k within front) in
@@ -88,5 +95,6 @@ names_last_writers n p k refs e read r at =
     let reference = reference_at n p f read r (ap (λ rs. slice_get rs read) (sym is.references) ∙ at) in
     ap (name_at network p k) reference.1
     ∙ ap (λ i. name_at network p i (ref_of (usage n p f read))) is.place
-    ∙ reference_names n p f read is.process is.fire reference.0 (source_tag n p f read) (source_is_tag n p f read is.fire)
+    ∙ reference_names n p f read is.process is.fire reference.0 (source_tag n p f read)
+    (source_is_tag n p f read is.fire)
     ∙ ap (λ g. name_of_source (source_tag n p g read)) (sym is.turn)

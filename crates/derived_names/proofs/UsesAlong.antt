@@ -13,22 +13,26 @@ use Rattle.derived_names.proofs.Fires.{IsNoFire}
 use Rattle.derived_names.proofs.Lists.{drop_next, get_dropped}
 
 -- Gets and Puts use nothing
-pub passed : (n : Net) (c p k : ℕ) (es rest : List Event) → drop k (n.script p) ≡ es ++ rest → Each IsNoFire es → uses_before n c p (k + length es) ≡ uses_before n c p k
+pub passed : (n : Net) (c p k : ℕ) (es rest : List Event) → drop k (n.script p) ≡ es ++ rest → Each IsNoFire es
+    → uses_before n c p (k + length es) ≡ uses_before n c p k
 passed n c p k [] rest e h = let same : k + 0 ≡ k = omega arith in ap (uses_before n c p) same
 passed n c p k (Get d slot ∷ es) rest e h =
     let next : k + suc (length es) ≡ suc k + length es = omega arith in
     ap (uses_before n c p) next
     ∙ passed n c p (suc k) es rest (drop_next (n.script p) k (Get d slot) (es ++ rest) e) h.1
-    ∙ ap (λ o. uses_before n c p k ++ uses_of c (latest_gets n p k) o) (get_dropped (n.script p) k (Get d slot) (es ++ rest) e)
+    ∙ ap (λ o. uses_before n c p k ++ uses_of c (latest_gets n p k) o)
+    (get_dropped (n.script p) k (Get d slot) (es ++ rest) e)
     ∙ append-nil (uses_before n c p k)
 passed n c p k (Fire refs ∷ es) rest e h = absurd h.0
 passed n c p k (Put d ∷ es) rest e h =
     let next : k + suc (length es) ≡ suc k + length es = omega arith in
     ap (uses_before n c p) next
     ∙ passed n c p (suc k) es rest (drop_next (n.script p) k (Put d) (es ++ rest) e) h.1
-    ∙ ap (λ o. uses_before n c p k ++ uses_of c (latest_gets n p k) o) (get_dropped (n.script p) k (Put d) (es ++ rest) e)
+    ∙ ap (λ o. uses_before n c p k ++ uses_of c (latest_gets n p k) o)
+    (get_dropped (n.script p) k (Put d) (es ++ rest) e)
     ∙ append-nil (uses_before n c p k)
 
 pub fire_adds : (n : Net) (c p k : ℕ) (refs : List Ref) (rest : List Event) → drop k (n.script p) ≡ Fire refs ∷ rest
     → uses_before n c p (suc k) ≡ uses_before n c p k ++ flat_map (use_of c (latest_gets n p k)) refs
-fire_adds n c p k refs rest e = ap (λ o. uses_before n c p k ++ uses_of c (latest_gets n p k) o) (get_dropped (n.script p) k (Fire refs) rest e)
+fire_adds n c p k refs rest e =
+    ap (λ o. uses_before n c p k ++ uses_of c (latest_gets n p k) o) (get_dropped (n.script p) k (Fire refs) rest e)

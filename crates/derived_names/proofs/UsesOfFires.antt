@@ -23,11 +23,13 @@ use_by n p k w c f = record {
   number = length (turns_used w (take f (sources_at n p k)));
 }
 
-mapped : {A B : Type 0} (f : A → B) (o : Option A) (y : B) → option_map f o ≡ Some y → (x : A) × (o ≡ Some x) × (y ≡ f x)
+mapped : {A B : Type 0} (f : A → B) (o : Option A) (y : B) → option_map f o ≡ Some y
+    → (x : A) × (o ≡ Some x) × (y ≡ f x)
 mapped f None y h = cc
 mapped f (Some x) y h = let e : y ≡ f x = cc in (x, refl, e)
 
-chained : {A B : Type 0} (f : A → Option B) (o : Option A) (y : B) → option_and_then f o ≡ Some y → (x : A) × (o ≡ Some x) × (f x ≡ Some y)
+chained : {A B : Type 0} (f : A → Option B) (o : Option A) (y : B) → option_and_then f o ≡ Some y
+    → (x : A) × (o ≡ Some x) × (f x ≡ Some y)
 chained f None y h = cc
 chained f (Some x) y h = (x, refl, h)
 
@@ -47,7 +49,8 @@ use_is n p k f u h =
     let found = mapped _ (channel_from 0 (plans_of n) w p k) u inner.2 in
     let is = found_between n w p k found.0 found.1 in
     let channel : u.channel ≡ found.0.0 = ap (λ (x : Usage). x.channel) found.2 in
-    let make : ℕ → ChannelPlan → Usage = λ c plan. record { channel = c; base = slot_base (plans_of n) p c; slots = plan.slots; number = length (turns_used w (take f sources)) } in
+    let make : ℕ → ChannelPlan → Usage =
+    λ c plan. record { channel = c; base = slot_base (plans_of n) p c; slots = plan.slots; number = length (turns_used w (take f sources)) } in
     record {
       source = inner.0;
       at = outer.1 ∙ ap Some inner.1;
@@ -56,26 +59,35 @@ use_is n p k f u h =
     }
 
 -- a fire uses the channel from the process of its source
-pub use_here : (n : Nest) (p k w c f : ℕ) (t : Tag) → slice_get (plans_of n) c ≡ Some (plan_of n p k w) → slice_get (sources_at n p k) f ≡ Some (Some t) → t.process ≡ w
+pub use_here : (n : Nest) (p k w c f : ℕ) (t : Tag) → slice_get (plans_of n) c ≡ Some (plan_of n p k w)
+    → slice_get (sources_at n p k) f ≡ Some (Some t) → t.process ≡ w
     → usage n p f k ≡ Some (use_by n p k w c f)
 use_here n p k w c f t there e same =
     let plans = plans_of n in
     let sources = sources_at n p k in
     ap (option_and_then (λ source. option_and_then (λ (t : Tag). usage_from plans sources p k f t.process) source)) e
     ∙ ap (usage_from plans sources p k f) same
-    ∙ ap (option_map (λ (found : ℕ × ChannelPlan). record { channel = found.0; base = slot_base plans p found.0; slots = found.1.slots; number = length (turns_used w (take f sources)) }))
+    ∙ ap (option_map
+    (λ (found : ℕ × ChannelPlan).
+    record { channel = found.0; base = slot_base plans p found.0; slots = found.1.slots; number = length (turns_used w (take f sources)) }))
     (found_by_ends n c (plan_of n p k w) there)
 
 -- a fire whose read has no source uses none
 pub no_use : (n : Nest) (p k f : ℕ) → slice_get (sources_at n p k) f ≡ Some None → usage n p f k ≡ None
-no_use n p k f e = ap (option_and_then (λ source. option_and_then (λ (t : Tag). usage_from (plans_of n) (sources_at n p k) p k f t.process) source)) e
+no_use n p k f e =
+    ap (option_and_then
+    (λ source. option_and_then (λ (t : Tag). usage_from (plans_of n) (sources_at n p k) p k f t.process) source)) e
 
 -- of channel c, from process w to read k of process p, all uses are at read k, and of turns of process w
-pub used_where : (n : Nest) (p k w c f j : ℕ) (u : Usage) → slice_get (plans_of n) c ≡ Some (plan_of n p k w) → (is : IsUse n p j f u) → u.channel ≡ c
+pub used_where : (n : Nest) (p k w c f j : ℕ) (u : Usage) → slice_get (plans_of n) c ≡ Some (plan_of n p k w)
+    → (is : IsUse n p j f u) → u.channel ≡ c
     → (j ≡ k) × (is.source.process ≡ w)
 used_where n p k w c f j u there is same =
-    let plan : plan_of n p j is.source.process ≡ plan_of n p k w = same_Some (plan_of n p j is.source.process) (plan_of n p k w) (sym is.there ∙ ap (slice_get (plans_of n)) same ∙ there) in
+    let plan : plan_of n p j is.source.process ≡ plan_of n p k w =
+    same_Some (plan_of n p j is.source.process) (plan_of n p k w)
+    (sym is.there ∙ ap (slice_get (plans_of n)) same ∙ there) in
     (ap (λ (x : ChannelPlan). x.read) plan, ap (λ (x : ChannelPlan). x.writer) plan)
 
-pub source_same : (n : Nest) (p k f : ℕ) (u : Usage) (is : IsUse n p k f u) (t : Tag) → slice_get (sources_at n p k) f ≡ Some (Some t) → is.source ≡ t
+pub source_same : (n : Nest) (p k f : ℕ) (u : Usage) (is : IsUse n p k f u) (t : Tag)
+    → slice_get (sources_at n p k) f ≡ Some (Some t) → is.source ≡ t
 source_same n p k f u is t e = same_Some is.source t (same_Some (Some is.source) (Some t) (sym is.at ∙ e))

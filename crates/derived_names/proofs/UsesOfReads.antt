@@ -10,8 +10,8 @@ use Rattle.std.proofs.lemmas.Option.{same_Some, slice_get-map}
 use Rattle.sanlp.specs.Access.{read_count}
 use Rattle.sanlp.specs.declared.nest.Nest.{Nest}
 use Rattle.sanlp.specs.declared.nest.Tag.{Tag}
-use Rattle.sanlp.proofs.Each.{Each, each_flat_map, each_map, each_of}
-use Rattle.sanlp.proofs.Members.{In, Pairwise, at_in, each_in, in_at, in_flat_map, in_range_with_len, pairwise_flat_map, range_with_len_ascends}
+use Rattle.sanlp.proofs.Each.{Each, each_filter, each_flat_map, each_map, each_of}
+use Rattle.sanlp.proofs.Members.{In, Pairwise, at_in, each_in, in_at, in_filter, in_flat_map, in_map, in_range_with_len, pairwise_flat_map, range_with_len_ascends}
 use Rattle.sanlp.proofs.Lists.{flat_map-range_with_len_more}
 use Rattle.channel_plan.specs.declared.plans.ChannelPlan.{ChannelPlan}
 use Rattle.channel_plan.specs.Plans.{plan_of, plans_at, plans_of, sources_at, turn_count}
@@ -36,7 +36,8 @@ token_named used w (Some t) = cond (eqb t.process w) (tokens_below used t.turn �
 abbrev pub named_by_fire : List ℕ → ℕ → List (Option Tag) → ℕ → List ℕ
 named_by_fire used w sources f = option_map_or (token_named used w) (slice_get sources f) []
 
-one_named : (used : List ℕ) (w : ℕ) (source : Option Tag) → token_named used w source ≡ map (tokens_below used) (cons_option (turn_of w source) [])
+one_named : (used : List ℕ) (w : ℕ) (source : Option Tag)
+    → token_named used w source ≡ map (tokens_below used) (cons_option (turn_of w source) [])
 one_named used w None = refl
 one_named used w (Some t) = elim (cases_Bool (eqb t.process w)) [ inl own ↦ rw own refl | inr other ↦ rw other refl ]
 
@@ -46,10 +47,13 @@ take_past [] (suc k) e = refl
 take_past (x ∷ xs) zero e = absurd (cc)
 take_past (x ∷ xs) (suc k) e = ap (λ ys. x ∷ ys) (take_past xs k e)
 
-named_next : (used : List ℕ) (w : ℕ) (sources : List (Option Tag)) (f : ℕ) (o : Option (Option Tag)) → slice_get sources f ≡ o
-    → map (tokens_below used) (turns_used w (take f sources)) ++ option_map_or (token_named used w) o [] ≡ map (tokens_below used) (turns_used w (take (suc f) sources))
+named_next : (used : List ℕ) (w : ℕ) (sources : List (Option Tag)) (f : ℕ) (o : Option (Option Tag))
+    → slice_get sources f ≡ o
+    → map (tokens_below used) (turns_used w (take f sources)) ++ option_map_or (token_named used w) o []
+    ≡ map (tokens_below used) (turns_used w (take (suc f) sources))
 named_next used w sources f None e =
-    append-nil (map (tokens_below used) (turns_used w (take f sources))) ∙ ap (λ xs. map (tokens_below used) (turns_used w xs)) (sym (take_past sources f e))
+    append-nil (map (tokens_below used) (turns_used w (take f sources)))
+    ∙ ap (λ xs. map (tokens_below used) (turns_used w xs)) (sym (take_past sources f e))
 named_next used w sources f (Some source) e =
     ap (λ xs. map (tokens_below used) (turns_used w (take f sources)) ++ xs) (one_named used w source)
     ∙ sym (map-append (tokens_below used) (turns_used w (take f sources)) (cons_option (turn_of w source) []))
@@ -58,7 +62,8 @@ named_next used w sources f (Some source) e =
 
 -- what the first so many fires name
 pub named_before : (used : List ℕ) (w : ℕ) (sources : List (Option Tag)) (f : ℕ)
-    → flat_map (named_by_fire used w sources) (range_with_len 0 f) ≡ map (tokens_below used) (turns_used w (take f sources))
+    → flat_map (named_by_fire used w sources) (range_with_len 0 f)
+    ≡ map (tokens_below used) (turns_used w (take f sources))
 named_before used w sources zero = refl
 named_before used w sources (suc f) =
     ap (λ k. flat_map (named_by_fire used w sources) (range_with_len 0 k)) (sym (add-one f))
@@ -68,7 +73,8 @@ named_before used w sources (suc f) =
 
 -- all fires together name the uses
 pub named_by_all : (n : Nest) (p k w : ℕ)
-    → flat_map (named_by_fire (turns_used w (sources_at n p k)) w (sources_at n p k)) (range_with_len 0 (turn_count n p)) ≡ uses_of (turns_used w (sources_at n p k))
+    → flat_map (named_by_fire (turns_used w (sources_at n p k)) w (sources_at n p k))
+    (range_with_len 0 (turn_count n p)) ≡ uses_of (turns_used w (sources_at n p k))
 named_by_all n p k w =
     let sources : List (Option Tag) = sources_at n p k in
     let used : List ℕ = turns_used w sources in
@@ -79,7 +85,8 @@ named_by_all n p k w =
 -- The use of one fire
 
 -- the turn of a source is the next of its process's turns that are used
-pub turn_there : (w : ℕ) (sources : List (Option Tag)) (f : ℕ) (t : Tag) → slice_get sources f ≡ Some (Some t) → t.process ≡ w
+pub turn_there : (w : ℕ) (sources : List (Option Tag)) (f : ℕ) (t : Tag) → slice_get sources f ≡ Some (Some t)
+    → t.process ≡ w
     → slice_get (turns_used w sources) (length (turns_used w (take f sources))) ≡ Some t.turn
 turn_there w [] f t e own = absurd (cc)
 turn_there w (source ∷ sources) zero t e own =
@@ -89,37 +96,48 @@ turn_there w (source ∷ sources) zero t e own =
 turn_there w (source ∷ sources) (suc f) t e own =
     later (turn_of w source) (turn_there w sources f t e own) where
       later : (o : Option ℕ) → slice_get (turns_used w sources) (length (turns_used w (take f sources))) ≡ Some t.turn
-          → slice_get (cons_option o (turns_used w sources)) (length (cons_option o (turns_used w (take f sources)))) ≡ Some t.turn
+          → slice_get (cons_option o (turns_used w sources)) (length (cons_option o (turns_used w (take f sources))))
+          ≡ Some t.turn
       later None rest = rest
       later (Some turn) rest = rest
 
 -- the use of a fire is the number of its token
-pub use_there : (w : ℕ) (sources : List (Option Tag)) (f : ℕ) (t : Tag) → slice_get sources f ≡ Some (Some t) → t.process ≡ w
-    → slice_get (uses_of (turns_used w sources)) (length (turns_used w (take f sources))) ≡ Some (tokens_below (turns_used w sources) t.turn)
+pub use_there : (w : ℕ) (sources : List (Option Tag)) (f : ℕ) (t : Tag) → slice_get sources f ≡ Some (Some t)
+    → t.process ≡ w
+    → slice_get (uses_of (turns_used w sources)) (length (turns_used w (take f sources)))
+    ≡ Some (tokens_below (turns_used w sources) t.turn)
 use_there w sources f t e own =
     let used : List ℕ = turns_used w sources in
-    slice_get-map (tokens_below used) used (length (turns_used w (take f sources))) ∙ ap (option_map (tokens_below used)) (turn_there w sources f t e own)
+    slice_get-map (tokens_below used) used (length (turns_used w (take f sources)))
+    ∙ ap (option_map (tokens_below used)) (turn_there w sources f t e own)
 
-any_at : {X : Type 0} (test : X → Bool) (xs : List X) (k : ℕ) (x : X) → slice_get xs k ≡ Some x → test x ≡ true → list_any test xs ≡ true
+any_at : {X : Type 0} (test : X → Bool) (xs : List X) (k : ℕ) (x : X) → slice_get xs k ≡ Some x → test x ≡ true
+    → list_any test xs ≡ true
 any_at test [] k x e h = absurd (cc)
 any_at test (y ∷ xs) zero x e h = let here : test y ≡ true = ap test (same_Some y x e) ∙ h in rw here refl
 any_at test (y ∷ xs) (suc k) x e h =
     let later = any_at test xs k x e h in
     elim (cases_Bool (test y)) [ inl a ↦ rw a refl | inr a ↦ rw a later ]
 
-pub turn_is_used : (w : ℕ) (sources : List (Option Tag)) (f : ℕ) (t : Tag) → slice_get sources f ≡ Some (Some t) → t.process ≡ w → is_used (turns_used w sources) t.turn ≡ true
+pub turn_is_used : (w : ℕ) (sources : List (Option Tag)) (f : ℕ) (t : Tag) → slice_get sources f ≡ Some (Some t)
+    → t.process ≡ w → is_used (turns_used w sources) t.turn ≡ true
 turn_is_used w sources f t e own =
-    any_at (λ other. eqb other t.turn) (turns_used w sources) (length (turns_used w (take f sources))) t.turn (turn_there w sources f t e own) (eq-eqb t.turn t.turn refl)
+    any_at (λ other. eqb other t.turn) (turns_used w sources) (length (turns_used w (take f sources))) t.turn
+    (turn_there w sources f t e own) (eq-eqb t.turn t.turn refl)
 
 -- the source of a fire is a turn that its process has
-pub source_is : (n : Nest) (p k f : ℕ) (t : Tag) → slice_get (sources_at n p k) f ≡ Some (Some t) → (t.process < length n.statements) × (t.turn < turn_count n t.process)
-source_is n p k f t e = each_in (IsTurn n) (Some t) (sources_at n p k) (sources_are n p k) (at_in (Some t) (sources_at n p k) f e)
+pub source_is : (n : Nest) (p k f : ℕ) (t : Tag) → slice_get (sources_at n p k) f ≡ Some (Some t)
+    → (t.process < length n.statements) × (t.turn < turn_count n t.process)
+source_is n p k f t e =
+    each_in (IsTurn n) (Some t) (sources_at n p k) (sources_are n p k) (at_in (Some t) (sources_at n p k) f e)
 
 -- the token of a fire's use is the fire's source
-pub token_of_source : (n : Nest) (p k f c : ℕ) (t : Tag) → slice_get (sources_at n p k) f ≡ Some (Some t) → slice_get (plans_of n) c ≡ Some (plan_of n p k t.process)
+pub token_of_source : (n : Nest) (p k f c : ℕ) (t : Tag) → slice_get (sources_at n p k) f ≡ Some (Some t)
+    → slice_get (plans_of n) c ≡ Some (plan_of n p k t.process)
     → slice_get (tokens (net_of (net n)) c) (tokens_below (turns_used t.process (sources_at n p k)) t.turn) ≡ Some t
 token_of_source n p k f c t e there =
-    token_of_turn n p k t.process c t.turn there (source_is n p k f t e).1 (turn_is_used t.process (sources_at n p k) f t e refl)
+    token_of_turn n p k t.process c t.turn there (source_is n p k f t e).1
+    (turn_is_used t.process (sources_at n p k) f t e refl)
 
 -- The channels of the sources
 
@@ -130,57 +148,70 @@ pub record IsPlanOf (n : Nest) (plan : ChannelPlan) : Type 0 where
 
 each_passes : {X : Type 0} (test : X → Bool) (xs : List X) → Each (λ x. test x ≡ true) (filter test xs)
 each_passes test [] = tt
-each_passes test (x ∷ xs) = elim (cases_Bool (test x)) [ inl kept ↦ rw kept ((kept, each_passes test xs)) | inr left ↦ rw left (each_passes test xs) ]
+each_passes test (x ∷ xs) =
+    elim (cases_Bool
+    (test x)) [ inl kept ↦ rw kept ((kept, each_passes test xs)) | inr left ↦ rw left (each_passes test xs) ]
 
-each_then_map : {X Y : Type 0} (P : X → Type 0) (Q : Y → Type 0) (f : X → Y) (xs : List X) → ((x : X) → P x → Q (f x)) → Each P xs → Each Q (map f xs)
+each_then_map : {X Y : Type 0} (P : X → Type 0) (Q : Y → Type 0) (f : X → Y) (xs : List X) → ((x : X) → P x → Q (f x))
+    → Each P xs → Each Q (map f xs)
 each_then_map P Q f [] then h = tt
 each_then_map P Q f (x ∷ xs) then h = (then x h.0, each_then_map P Q f xs then h.1)
 
 pub plans_are : (n : Nest) → Each (IsPlanOf n) (plans_of n)
 unfolding plans_of
 plans_are n =
-    each_flat_map (IsPlanOf n) (λ p. flat_map (plans_at n p) (range_with_len 0 (read_count n p))) (range_with_len 0 (length n.statements))
-    (each_of _ (range_with_len 0 (length n.statements)) (λ p. each_flat_map (IsPlanOf n) (plans_at n p) (range_with_len 0 (read_count n p))
-    (each_of _ (range_with_len 0 (read_count n p)) (λ k. each_then_map (λ w. list_any (is_from w) (sources_at n p k) ≡ true) (IsPlanOf n) (plan_of n p k) (writers_of (length n.statements) (sources_at n p k))
-    (λ w h. record { plan_is = refl; is_read = h }) (each_passes (λ w. list_any (is_from w) (sources_at n p k)) (range_with_len 0 (length n.statements)))))))
+    each_flat_map (IsPlanOf n) (λ p. flat_map (plans_at n p) (range_with_len 0 (read_count n p)))
+    (range_with_len 0 (length n.statements))
+    (each_of _ (range_with_len 0 (length n.statements))
+    (λ p. each_flat_map (IsPlanOf n) (plans_at n p) (range_with_len 0 (read_count n p))
+    (each_of _ (range_with_len 0 (read_count n p))
+    (λ k. each_then_map (λ w. list_any (is_from w) (sources_at n p k) ≡ true) (IsPlanOf n) (plan_of n p k)
+    (writers_of (length n.statements) (sources_at n p k))
+    (λ w h. record { plan_is = refl; is_read = h })
+    (each_passes (λ w. list_any (is_from w) (sources_at n p k)) (range_with_len 0 (length n.statements)))))))
 
 -- no two channels go from one process to one read
 abbrev Differ : ChannelPlan → ChannelPlan → Type 0
 Differ a b = a.reader ≡ b.reader → a.read ≡ b.read → a.writer ≡ b.writer → ⊥
 
-each_filter : {X : Type 0} (P : X → Type 0) (test : X → Bool) (xs : List X) → Each P xs → Each P (filter test xs)
-each_filter P test [] h = tt
-each_filter P test (x ∷ xs) h =
-    elim (cases_Bool (test x)) [ inl kept ↦ rw kept ((h.0, each_filter P test xs h.1)) | inr left ↦ rw left (each_filter P test xs h.1) ]
-
-pairwise_filter : {X : Type 0} (R : X → X → Type 0) (test : X → Bool) (xs : List X) → Pairwise R xs → Pairwise R (filter test xs)
+pairwise_filter : {X : Type 0} (R : X → X → Type 0) (test : X → Bool) (xs : List X) → Pairwise R xs
+    → Pairwise R (filter test xs)
 pairwise_filter R test [] h = tt
 pairwise_filter R test (x ∷ xs) h =
-    elim (cases_Bool (test x)) [ inl kept ↦ rw kept ((each_filter (R x) test xs h.0, pairwise_filter R test xs h.1)) | inr left ↦ rw left (pairwise_filter R test xs h.1) ]
+    elim (cases_Bool
+    (test x)) [ inl kept ↦ rw kept ((each_filter (R x) test xs h.0, pairwise_filter R test xs h.1)) | inr left ↦ rw left (pairwise_filter R test xs h.1) ]
 
-pairwise_map : {X Y : Type 0} (S : X → X → Type 0) (R : Y → Y → Type 0) (f : X → Y) (xs : List X) → ((x y : X) → S x y → R (f x) (f y)) → Pairwise S xs → Pairwise R (map f xs)
+pairwise_map : {X Y : Type 0} (S : X → X → Type 0) (R : Y → Y → Type 0) (f : X → Y) (xs : List X)
+    → ((x y : X) → S x y → R (f x) (f y)) → Pairwise S xs → Pairwise R (map f xs)
 pairwise_map S R f [] then h = tt
 pairwise_map S R f (x ∷ xs) then h = (each_then_map (S x) (R (f x)) f xs (then x) h.0, pairwise_map S R f xs then h.1)
 
 read_by : (n : Nest) (p k : ℕ) → Each (λ plan. (plan.reader ≡ p) × (plan.read ≡ k)) (plans_at n p k)
 read_by n p k =
-    each_map (λ plan. (plan.reader ≡ p) × (plan.read ≡ k)) (plan_of n p k) (writers_of (length n.statements) (sources_at n p k))
+    each_map (λ plan. (plan.reader ≡ p) × (plan.read ≡ k)) (plan_of n p k)
+    (writers_of (length n.statements) (sources_at n p k))
     (each_of _ (writers_of (length n.statements) (sources_at n p k)) (λ w. (refl, refl)))
 
-read_in : (n : Nest) (p : ℕ) → Each (λ plan. plan.reader ≡ p) (flat_map (plans_at n p) (range_with_len 0 (read_count n p)))
+read_in : (n : Nest) (p : ℕ)
+    → Each (λ plan. plan.reader ≡ p) (flat_map (plans_at n p) (range_with_len 0 (read_count n p)))
 read_in n p =
     each_flat_map (λ plan. plan.reader ≡ p) (plans_at n p) (range_with_len 0 (read_count n p))
-    (each_of _ (range_with_len 0 (read_count n p)) (λ k. each_map (λ plan. plan.reader ≡ p) (plan_of n p k) (writers_of (length n.statements) (sources_at n p k))
+    (each_of _ (range_with_len 0 (read_count n p))
+    (λ k. each_map (λ plan. plan.reader ≡ p) (plan_of n p k) (writers_of (length n.statements) (sources_at n p k))
     (each_of _ (writers_of (length n.statements) (sources_at n p k)) (λ w. refl))))
 
 pub plans_differ : (n : Nest) → Pairwise Differ (plans_of n)
 unfolding plans_of
 plans_differ n =
     let processes : ℕ = length n.statements in
-    pairwise_flat_map (λ p q. p < q) Differ (λ p. flat_map (plans_at n p) (range_with_len 0 (read_count n p))) (range_with_len 0 processes) (range_with_len_ascends 0 processes)
-    (λ p there. pairwise_flat_map (λ j k. j < k) Differ (plans_at n p) (range_with_len 0 (read_count n p)) (range_with_len_ascends 0 (read_count n p))
-    (λ k here. pairwise_map (λ v w. v < w) Differ (plan_of n p k) (writers_of processes (sources_at n p k)) (λ v w lt reader read writer. omega (arith, lt, writer))
-    (pairwise_filter (λ v w. v < w) (λ w. list_any (is_from w) (sources_at n p k)) (range_with_len 0 processes) (range_with_len_ascends 0 processes)))
+    pairwise_flat_map (λ p q. p < q) Differ (λ p. flat_map (plans_at n p) (range_with_len 0 (read_count n p)))
+    (range_with_len 0 processes) (range_with_len_ascends 0 processes)
+    (λ p there. pairwise_flat_map (λ j k. j < k) Differ (plans_at n p) (range_with_len 0 (read_count n p))
+    (range_with_len_ascends 0 (read_count n p))
+    (λ k here. pairwise_map (λ v w. v < w) Differ (plan_of n p k) (writers_of processes (sources_at n p k))
+    (λ v w lt reader read writer. omega (arith, lt, writer))
+    (pairwise_filter (λ v w. v < w) (λ w. list_any (is_from w) (sources_at n p k)) (range_with_len 0 processes)
+    (range_with_len_ascends 0 processes)))
     (λ j k first second lt a b in_a in_b reader read writer.
     omega (
       arith,
@@ -194,8 +225,10 @@ plans_differ n =
       arith,
       lt,
       reader,
-      each_in (λ (plan : ChannelPlan). plan.reader ≡ p) a (flat_map (plans_at n p) (range_with_len 0 (read_count n p))) (read_in n p) in_a,
-      each_in (λ (plan : ChannelPlan). plan.reader ≡ q) b (flat_map (plans_at n q) (range_with_len 0 (read_count n q))) (read_in n q) in_b,
+      each_in (λ (plan : ChannelPlan). plan.reader ≡ p) a (flat_map (plans_at n p) (range_with_len 0 (read_count n p)))
+          (read_in n p) in_a,
+      each_in (λ (plan : ChannelPlan). plan.reader ≡ q) b (flat_map (plans_at n q) (range_with_len 0 (read_count n q)))
+          (read_in n q) in_b,
     ))
 
 -- a channel with these ends
@@ -211,22 +244,26 @@ ends_of w p k plan e =
     record { writer = eqb-true plan.writer w inner.0; reader = eqb-true plan.reader p inner.1; read = eqb-true plan.read k outer.1 }
 
 goes_by_ends : (w p k : ℕ) (plan : ChannelPlan) → HasEnds w p k plan → goes_between w p k plan ≡ true
-goes_by_ends w p k plan ends = rw (eq-eqb plan.writer w ends.writer, eq-eqb plan.reader p ends.reader, eq-eqb plan.read k ends.read) refl
+goes_by_ends w p k plan ends =
+    rw (eq-eqb plan.writer w ends.writer, eq-eqb plan.reader p ends.reader, eq-eqb plan.read k ends.read) refl
 
-found_later : (d : ℕ) (plans : List ChannelPlan) (w p k j : ℕ) (plan : ChannelPlan) → Pairwise Differ plans → slice_get plans j ≡ Some plan → HasEnds w p k plan
+found_later : (d : ℕ) (plans : List ChannelPlan) (w p k j : ℕ) (plan : ChannelPlan) → Pairwise Differ plans
+    → slice_get plans j ≡ Some plan → HasEnds w p k plan
     → channel_from d plans w p k ≡ Some (d + j, plan)
 found_later d [] w p k j plan apart e ends = absurd (cc)
 found_later d (first ∷ plans) w p k zero plan apart e ends =
     let same : first ≡ plan = same_Some first plan e in
     let front : d ≡ d + 0 = omega arith in
     let here : goes_between w p k first ≡ true = ap (goes_between w p k) same ∙ goes_by_ends w p k plan ends in
-    ap (λ b. cond b (Some (d, first)) (channel_from (suc d) plans w p k)) here ∙ ap (λ (q : ChannelPlan). Some (d, q)) same ∙ ap (λ c. Some (c, plan)) front
+    ap (λ b. cond b (Some (d, first)) (channel_from (suc d) plans w p k)) here
+    ∙ ap (λ (q : ChannelPlan). Some (d, q)) same ∙ ap (λ c. Some (c, plan)) front
 found_later d (first ∷ plans) w p k (suc j) plan apart e ends =
     let next : suc d + j ≡ d + suc j = omega arith in
     elim (cases_Bool (goes_between w p k first)) [
       | inl here ↦
           let own = ends_of w p k first here in
-          absurd (each_in (Differ first) plan plans apart.0 (at_in plan plans j e) (own.reader ∙ sym ends.reader) (own.read ∙ sym ends.read) (own.writer ∙ sym ends.writer))
+          absurd (each_in (Differ first) plan plans apart.0 (at_in plan plans j e) (own.reader ∙ sym ends.reader)
+          (own.read ∙ sym ends.read) (own.writer ∙ sym ends.writer))
       | inr there ↦
           ap (λ b. cond b (Some (d, first)) (channel_from (suc d) plans w p k)) there
           ∙ found_later (suc d) plans w p k j plan apart.1 e ends
@@ -234,58 +271,60 @@ found_later d (first ∷ plans) w p k (suc j) plan apart e ends =
     ]
 
 -- each channel is the one that is found by its ends
-pub found_by_ends : (n : Nest) (c : ℕ) (plan : ChannelPlan) → slice_get (plans_of n) c ≡ Some plan → channel_from 0 (plans_of n) plan.writer plan.reader plan.read ≡ Some (c, plan)
+pub found_by_ends : (n : Nest) (c : ℕ) (plan : ChannelPlan) → slice_get (plans_of n) c ≡ Some plan
+    → channel_from 0 (plans_of n) plan.writer plan.reader plan.read ≡ Some (c, plan)
 found_by_ends n c plan e =
     let front : 0 + c ≡ c = omega arith in
-    found_later 0 (plans_of n) plan.writer plan.reader plan.read c plan (plans_differ n) e (record { writer = refl; reader = refl; read = refl }) ∙ ap (λ d. Some (d, plan)) front
+    found_later 0 (plans_of n) plan.writer plan.reader plan.read c plan (plans_differ n) e
+    (record { writer = refl; reader = refl; read = refl }) ∙ ap (λ d. Some (d, plan)) front
 
 -- what is found is the channel of that number, with these ends
 pub record IsFound (plans : List ChannelPlan) (w p k : ℕ) (found : ℕ × ChannelPlan) : Type 0 where
   pub there : slice_get plans found.0 ≡ Some found.1
   pub ends : HasEnds w p k found.1
 
-found_at : (d : ℕ) (plans : List ChannelPlan) (w p k : ℕ) (found : ℕ × ChannelPlan) → channel_from d plans w p k ≡ Some found
+found_at : (d : ℕ) (plans : List ChannelPlan) (w p k : ℕ) (found : ℕ × ChannelPlan)
+    → channel_from d plans w p k ≡ Some found
     → (j : ℕ) × (found.0 ≡ d + j) × (slice_get plans j ≡ Some found.1) × HasEnds w p k found.1
 found_at d [] w p k found e = absurd (cc)
 found_at d (first ∷ plans) w p k found e =
     elim (cases_Bool (goes_between w p k first)) [
       | inl here ↦
-          let is : (d, first) ≡ found = same_Some (d, first) found (sym (ap (λ b. cond b (Some (d, first)) (channel_from (suc d) plans w p k)) here) ∙ e) in
+          let is : (d, first) ≡ found =
+          same_Some (d, first) found
+          (sym (ap (λ b. cond b (Some (d, first)) (channel_from (suc d) plans w p k)) here) ∙ e) in
           let front : d ≡ d + 0 = omega arith in
           (0, sym (ap (λ (x : ℕ × ChannelPlan). x.0) is) ∙ front, ap (λ (x : ℕ × ChannelPlan). Some x.1) is, subst (λ (x : ℕ × ChannelPlan). HasEnds w p k x.1) is (ends_of w p k first here))
       | inr there ↦
-          let later = found_at (suc d) plans w p k found (sym (ap (λ b. cond b (Some (d, first)) (channel_from (suc d) plans w p k)) there) ∙ e) in
+          let later =
+          found_at (suc d) plans w p k found
+          (sym (ap (λ b. cond b (Some (d, first)) (channel_from (suc d) plans w p k)) there) ∙ e) in
           (suc later.0, omega (arith, later.1), later.2, later.3)
     ]
 
-pub found_is : (plans : List ChannelPlan) (w p k : ℕ) (found : ℕ × ChannelPlan) → channel_from 0 plans w p k ≡ Some found → IsFound plans w p k found
+pub found_is : (plans : List ChannelPlan) (w p k : ℕ) (found : ℕ × ChannelPlan)
+    → channel_from 0 plans w p k ≡ Some found → IsFound plans w p k found
 found_is plans w p k found e =
     let at = found_at 0 plans w p k found e in
     let number : found.0 ≡ at.0 = omega (arith, at.1) in
     record { there = ap (slice_get plans) number ∙ at.2; ends = at.3 }
 
-in_filter : {X : Type 0} (test : X → Bool) (xs : List X) (x : X) → In x xs → test x ≡ true → In x (filter test xs)
-in_filter test [] x h k = absurd h
-in_filter test (y ∷ xs) x h k =
-    elim h [
-      | inl e ↦ (let kept : test y ≡ true = ap test e ∙ k in rw kept (inl e))
-      | inr l ↦ (let later = in_filter test xs x l k in elim (cases_Bool (test y)) [ inl a ↦ rw a (inr later) | inr a ↦ rw a later ])
-    ]
-
-pub in_map : {X Y : Type 0} (f : X → Y) (xs : List X) (x : X) → In x xs → In (f x) (map f xs)
-in_map f [] x h = h
-in_map f (y ∷ xs) x h = elim h [ inl e ↦ inl (ap f e) | inr l ↦ inr (in_map f xs x l) ]
-
-plan_there : (n : Nest) (p k w : ℕ) → p < length n.statements → k < read_count n p → w < length n.statements → list_any (is_from w) (sources_at n p k) ≡ true
+plan_there : (n : Nest) (p k w : ℕ) → p < length n.statements → k < read_count n p → w < length n.statements
+    → list_any (is_from w) (sources_at n p k) ≡ true
     → In (plan_of n p k w) (plans_of n)
 unfolding plans_of
 plan_there n p k w process read writer from =
-    in_flat_map (λ p. flat_map (plans_at n p) (range_with_len 0 (read_count n p))) p (plan_of n p k w) (range_with_len 0 (length n.statements)) (in_range_with_len 0 (length n.statements) p (omega arith) (omega arith))
-    (in_flat_map (plans_at n p) k (plan_of n p k w) (range_with_len 0 (read_count n p)) (in_range_with_len 0 (read_count n p) k (omega arith) (omega arith))
+    in_flat_map (λ p. flat_map (plans_at n p) (range_with_len 0 (read_count n p))) p (plan_of n p k w)
+    (range_with_len 0 (length n.statements))
+    (in_range_with_len 0 (length n.statements) p (omega arith) (omega arith))
+    (in_flat_map (plans_at n p) k (plan_of n p k w) (range_with_len 0 (read_count n p))
+    (in_range_with_len 0 (read_count n p) k (omega arith) (omega arith))
     (in_map (plan_of n p k) (writers_of (length n.statements) (sources_at n p k)) w
-    (in_filter (λ w. list_any (is_from w) (sources_at n p k)) (range_with_len 0 (length n.statements)) w (in_range_with_len 0 (length n.statements) w (omega arith) (omega arith)) from)))
+    (in_filter (λ w. list_any (is_from w) (sources_at n p k)) (range_with_len 0 (length n.statements)) w
+    (in_range_with_len 0 (length n.statements) w (omega arith) (omega arith)) from)))
 
-any_found : {X : Type 0} (test : X → Bool) (xs : List X) → list_any test xs ≡ true → (f : ℕ) × (x : X) × (slice_get xs f ≡ Some x) × (test x ≡ true)
+any_found : {X : Type 0} (test : X → Bool) (xs : List X) → list_any test xs ≡ true
+    → (f : ℕ) × (x : X) × (slice_get xs f ≡ Some x) × (test x ≡ true)
 any_found test [] e = absurd (cc)
 any_found test (x ∷ xs) e =
     elim (or_cases (test x) (list_any test xs) e) [
@@ -293,13 +332,16 @@ any_found test (x ∷ xs) e =
       | inr later ↦ (let rest = any_found test xs later in (suc rest.0, rest.1, rest.2, rest.3))
     ]
 
-writer_exists : (n : Nest) (p k w f : ℕ) (source : Option Tag) → slice_get (sources_at n p k) f ≡ Some source → is_from w source ≡ true → w < length n.statements
+writer_exists : (n : Nest) (p k w f : ℕ) (source : Option Tag) → slice_get (sources_at n p k) f ≡ Some source
+    → is_from w source ≡ true → w < length n.statements
 writer_exists n p k w f None e h = absurd (cc)
 writer_exists n p k w f (Some t) e h = omega (arith, eqb-true t.process w h, (source_is n p k f t e).0)
 
 -- The channel from a process to a read is the plan of both, where the read has a source of the process.
-pub channel_found : (n : Nest) (p k w : ℕ) → p < length n.statements → k < read_count n p → list_any (is_from w) (sources_at n p k) ≡ true
-    → (c : ℕ) × (channel_from 0 (plans_of n) w p k ≡ Some (c, plan_of n p k w)) × (slice_get (plans_of n) c ≡ Some (plan_of n p k w))
+pub channel_found : (n : Nest) (p k w : ℕ) → p < length n.statements → k < read_count n p
+    → list_any (is_from w) (sources_at n p k) ≡ true
+    → (c : ℕ) × (channel_from 0 (plans_of n) w p k ≡ Some (c, plan_of n p k w))
+    × (slice_get (plans_of n) c ≡ Some (plan_of n p k w))
 channel_found n p k w process read from =
     let some = any_found (is_from w) (sources_at n p k) from in
     let writer : w < length n.statements = writer_exists n p k w some.0 some.1 some.2 some.3 in
@@ -307,13 +349,17 @@ channel_found n p k w process read from =
     (at.0, found_by_ends n at.0 (plan_of n p k w) at.1, at.1)
 
 -- the channel of a fire's source
-pub channel_of_source : (n : Nest) (p k f : ℕ) (t : Tag) → p < length n.statements → k < read_count n p → slice_get (sources_at n p k) f ≡ Some (Some t)
-    → (c : ℕ) × (channel_from 0 (plans_of n) t.process p k ≡ Some (c, plan_of n p k t.process)) × (slice_get (plans_of n) c ≡ Some (plan_of n p k t.process))
+pub channel_of_source : (n : Nest) (p k f : ℕ) (t : Tag) → p < length n.statements → k < read_count n p
+    → slice_get (sources_at n p k) f ≡ Some (Some t)
+    → (c : ℕ) × (channel_from 0 (plans_of n) t.process p k ≡ Some (c, plan_of n p k t.process))
+    × (slice_get (plans_of n) c ≡ Some (plan_of n p k t.process))
 channel_of_source n p k f t process read e =
-    channel_found n p k t.process process read (any_at (is_from t.process) (sources_at n p k) f (Some t) e (eq-eqb t.process t.process refl))
+    channel_found n p k t.process process read
+    (any_at (is_from t.process) (sources_at n p k) f (Some t) e (eq-eqb t.process t.process refl))
 
 -- a channel is the plan of its ends
-pub plan_at : (n : Nest) (c : ℕ) (plan : ChannelPlan) → slice_get (plans_of n) c ≡ Some plan → plan ≡ plan_of n plan.reader plan.read plan.writer
+pub plan_at : (n : Nest) (c : ℕ) (plan : ChannelPlan) → slice_get (plans_of n) c ≡ Some plan
+    → plan ≡ plan_of n plan.reader plan.read plan.writer
 plan_at n c plan e = (each_in (IsPlanOf n) plan (plans_of n) (plans_are n) (at_in plan (plans_of n) c e)).plan_is
 
 -- What is found between a process and a read: their plan, and the read has a source of the process.
@@ -324,19 +370,24 @@ pub record IsChannelBetween (n : Nest) (w p k : ℕ) (found : ℕ × ChannelPlan
   pub process : p < length n.statements
   pub read : k < read_count n p
 
-pub found_between : (n : Nest) (w p k : ℕ) (found : ℕ × ChannelPlan) → channel_from 0 (plans_of n) w p k ≡ Some found → IsChannelBetween n w p k found
+pub found_between : (n : Nest) (w p k : ℕ) (found : ℕ × ChannelPlan) → channel_from 0 (plans_of n) w p k ≡ Some found
+    → IsChannelBetween n w p k found
 found_between n w p k found e =
     let is = found_is (plans_of n) w p k found e in
     let member = at_in found.1 (plans_of n) found.0 is.there in
     let own = each_in (IsPlanOf n) found.1 (plans_of n) (plans_are n) member in
     let exists = each_in (IsChannelOf n) found.1 (plans_of n) (all_channels n) member in
     let same : found.1 ≡ plan_of n p k w =
-    own.plan_is ∙ ap (λ q. plan_of n q found.1.read found.1.writer) is.ends.reader ∙ ap (λ j. plan_of n p j found.1.writer) is.ends.read ∙ ap (plan_of n p k) is.ends.writer in
+    own.plan_is ∙ ap (λ q. plan_of n q found.1.read found.1.writer) is.ends.reader
+    ∙ ap (λ j. plan_of n p j found.1.writer) is.ends.read ∙ ap (plan_of n p k) is.ends.writer in
     record {
       plan_is = same;
       there = is.there ∙ ap Some same;
-      is_read = ap (λ q. list_any (is_from w) (sources_at n q k)) (sym is.ends.reader) ∙ ap (λ j. list_any (is_from w) (sources_at n found.1.reader j)) (sym is.ends.read)
-          ∙ ap (λ v. list_any (is_from v) (sources_at n found.1.reader found.1.read)) (sym is.ends.writer) ∙ own.is_read;
+      is_read =
+          ap (λ q. list_any (is_from w) (sources_at n q k)) (sym is.ends.reader)
+          ∙ ap (λ j. list_any (is_from w) (sources_at n found.1.reader j)) (sym is.ends.read)
+          ∙ ap (λ v. list_any (is_from v) (sources_at n found.1.reader found.1.read)) (sym is.ends.writer)
+          ∙ own.is_read;
       process = omega (arith, exists.reader, is.ends.reader);
       read = omega (arith, exists.read, is.ends.read, ap (read_count n) is.ends.reader);
     }

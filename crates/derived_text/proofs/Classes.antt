@@ -17,13 +17,16 @@ class_planned n c plan there = ap (option_map (λ (channel : Channel). channel.c
 
 -- other capacities leave the classes
 class_kept : (channels : List Channel) (capacities : List ℕ) (c : ℕ)
-    → option_map (λ (channel : Channel). channel.class) (slice_get (channels_with channels capacities) c) ≡ option_map (λ (channel : Channel). channel.class) (slice_get channels c)
+    → option_map (λ (channel : Channel). channel.class) (slice_get (channels_with channels capacities) c)
+    ≡ option_map (λ (channel : Channel). channel.class) (slice_get channels c)
 class_kept [] capacities c = refl
 class_kept (x ∷ channels) [] zero = refl
 class_kept (x ∷ channels) [] (suc c) = class_kept channels [] c
 class_kept (x ∷ channels) (y ∷ capacities) zero = refl
 class_kept (x ∷ channels) (y ∷ capacities) (suc c) = class_kept channels capacities c
 
-pub class_at_capacities : (n : Nest) (capacities : List ℕ) (c : ℕ) (plan : ChannelPlan) → slice_get (plans_of n) c ≡ Some plan
-    → option_map (λ (channel : Channel). channel.class) (slice_get (with_capacities (net n) capacities).channels c) ≡ Some plan.class
+pub class_at_capacities : (n : Nest) (capacities : List ℕ) (c : ℕ) (plan : ChannelPlan)
+    → slice_get (plans_of n) c ≡ Some plan
+    → option_map (λ (channel : Channel). channel.class) (slice_get (with_capacities (net n) capacities).channels c)
+    ≡ Some plan.class
 class_at_capacities n capacities c plan there = class_kept (net n).channels capacities c ∙ class_planned n c plan there

@@ -8,7 +8,7 @@ use Rattle.std.proofs.lemmas.List.{length-map}
 use Rattle.sanlp.specs.declared.nest.Nest.{Nest}
 use Rattle.sanlp.specs.declared.nest.Tag.{Tag}
 use Rattle.sanlp.proofs.Each.{Each, each_map, each_of, each_range_with_len}
-use Rattle.sanlp.proofs.Members.{In, at_in, each_in, in_range_with_len}
+use Rattle.sanlp.proofs.Members.{In, at_in, each_in, in_map, in_range_with_len}
 use Rattle.reorder_slots.specs.Slots.{Held, gets_for, held_after, hold_of, slots_of_gets}
 use Rattle.reorder_slots.specs.Readers.{KeepsTokens}
 use Rattle.reorder_slots.proofs.Gets.{KeepsTokens-held, length-held}
@@ -27,14 +27,15 @@ use Rattle.process_derive.proofs.Numbers.{script_at}
 use Rattle.process_derive.proofs.Tags.{length-sources}
 use Rattle.process_derive.proofs.Wired.{channel_at}
 use Rattle.derived_names.proofs.Gets.{exists, points_got, slots_got}
-use Rattle.derived_names.proofs.UsesOfReads.{IsPlanOf, in_map, plan_at, plans_are}
+use Rattle.derived_names.proofs.UsesOfReads.{IsPlanOf, plan_at, plans_are}
 use Rattle.net_text.specs.NetworkText.{hold, slot_got, span}
 use Rattle.derived_text.proofs.Spans.{span_is}
 
 -- The slots that are held
 
 -- the Gets for all uses name each slot that is held, and no other
-slots_span : (uses : List ℕ) (base : ℕ) → 0 < length uses → span (map (λ m. base + slice_index (slots_of_gets uses) m) (range_with_len 0 (gets_for uses))) ≡ hold_of uses
+slots_span : (uses : List ℕ) (base : ℕ) → 0 < length uses
+    → span (map (λ m. base + slice_index (slots_of_gets uses) m) (range_with_len 0 (gets_for uses))) ≡ hold_of uses
 slots_span uses base some =
     let held : Held = held_after uses (length uses) in
     let keeps : KeepsTokens uses (length uses) held = KeepsTokens-held uses (length uses) in
@@ -46,12 +47,17 @@ slots_span uses base some =
     let last : ℕ = hold_of uses - 1 in
     let there : (s : ℕ) → s < hold_of uses → In (base + s) all = λ s lt.
     let m : ℕ = slice_index held.slots s in
-    subst (λ k. In (base + k) all) (keeps.taken s lt) (in_map slot (range_with_len 0 gets) m (in_range_with_len 0 gets m (omega arith) (omega (arith, count, keeps.got s lt))))
+    subst (λ k. In (base + k) all) (keeps.taken s lt)
+    (in_map slot (range_with_len 0 gets) m
+    (in_range_with_len 0 gets m (omega arith) (omega (arith, count, keeps.got s lt))))
     in
-    let above : Each (λ x. base ≤ x) all = each_map (λ x. base ≤ x) slot (range_with_len 0 gets) (each_of (λ m. base ≤ slot m) (range_with_len 0 gets) (λ m. omega arith)) in
+    let above : Each (λ x. base ≤ x) all =
+    each_map (λ x. base ≤ x) slot (range_with_len 0 gets)
+    (each_of (λ m. base ≤ slot m) (range_with_len 0 gets) (λ m. omega arith)) in
     let below : Each (λ x. x ≤ base + last) all =
     each_map (λ x. x ≤ base + last) slot (range_with_len 0 gets)
-    (each_range_with_len (λ m. slot m ≤ base + last) 0 gets (λ m first lt. omega (arith, keeps.made m (omega (arith, count))))) in
+    (each_range_with_len (λ m. slot m ≤ base + last) 0 gets
+    (λ m first lt. omega (arith, keeps.made m (omega (arith, count))))) in
     let front : base + 0 ≡ base = omega arith in
     omega (arith, span_is all base (base + last) above below (subst (λ k. In k all) front (there 0 made)) (there last (omega arith)))
 
@@ -62,12 +68,14 @@ got_by : (c : ℕ) (events : List Event) → flat_map (slot_got c) events ≡ sl
 got_by c [] = refl
 got_by c (Get channel slot ∷ events) =
     let later = got_by c events in
-    elim (cases_Bool (eqb c channel)) [ inl this ↦ rw this (ap (λ slots. slot ∷ slots) later) | inr other ↦ rw other later ]
+    elim (cases_Bool
+    (eqb c channel)) [ inl this ↦ rw this (ap (λ slots. slot ∷ slots) later) | inr other ↦ rw other later ]
 got_by c (Fire refs ∷ events) = got_by c events
 got_by c (Put channel ∷ events) = got_by c events
 
 -- a read that has a source of a process uses a turn of it
-some_turn : (w : ℕ) (sources : List (Option Tag)) → list_any (is_from w) sources ≡ true → 0 < length (turns_used w sources)
+some_turn : (w : ℕ) (sources : List (Option Tag)) → list_any (is_from w) sources ≡ true
+    → 0 < length (turns_used w sources)
 some_turn w [] e = absurd (cc)
 some_turn w (None ∷ sources) e = some_turn w sources e
 some_turn w (Some t ∷ sources) e =
@@ -77,7 +85,8 @@ some_turn w (Some t ∷ sources) e =
     ]
 
 -- what the text tells as the hold of a channel that some fire uses
-planned : (n : Nest) (p k w c : ℕ) → slice_get (plans_of n) c ≡ Some (plan_of n p k w) → list_any (is_from w) (sources_at n p k) ≡ true
+planned : (n : Nest) (p k w c : ℕ) → slice_get (plans_of n) c ≡ Some (plan_of n p k w)
+    → list_any (is_from w) (sources_at n p k) ≡ true
     → hold (net_of (net n)) c ≡ hold_of (uses_of (turns_used w (sources_at n p k)))
 planned n p k w c there read =
     let sources : List (Option Tag) = sources_at n p k in
@@ -86,8 +95,11 @@ planned n p k w c there read =
     let turns : ℕ = turn_count n p in
     let base : ℕ = slot_base (plans_of n) p c in
     let count : length uses ≡ length used = length-map used (tokens_below used) in
-    let reader : (net_of (net n)).reader c ≡ p = ap (λ (o : Option Channel). option_map_or (λ channel. channel.reader) o 0) (channel_at n c (plan_of n p k w) there) in
-    let events : (net_of (net n)).script ((net_of (net n)).reader c) ≡ script n p = ap (net_of (net n)).script reader ∙ script_at n p (exists n p k w c there).reader in
+    let reader : (net_of (net n)).reader c ≡ p =
+    ap (λ (o : Option Channel). option_map_or (λ channel. channel.reader) o 0)
+    (channel_at n c (plan_of n p k w) there) in
+    let events : (net_of (net n)).script ((net_of (net n)).reader c) ≡ script n p =
+    ap (net_of (net n)).script reader ∙ script_at n p (exists n p k w c there).reader in
     let every : take (length (turns_used w (take turns sources))) uses ≡ uses =
     ap (λ m. take (length (turns_used w (take m sources))) uses) (sym (length-sources n p k))
     ∙ ap (λ xs. take (length (turns_used w xs)) uses) (take_all sources)
@@ -99,8 +111,11 @@ planned n p k w c there read =
     ∙ slots_span uses base (omega (arith, count, some_turn w sources read))
 
 -- what the text tells as a channel's hold is the hold of its plan
-pub hold_planned : (n : Nest) (c : ℕ) (plan : ChannelPlan) → slice_get (plans_of n) c ≡ Some plan → hold (net_of (net n)) c ≡ plan.slots.hold
+pub hold_planned : (n : Nest) (c : ℕ) (plan : ChannelPlan) → slice_get (plans_of n) c ≡ Some plan
+    → hold (net_of (net n)) c ≡ plan.slots.hold
 hold_planned n c plan there =
     let is : plan ≡ plan_of n plan.reader plan.read plan.writer = plan_at n c plan there in
-    let own : IsPlanOf n plan = each_in (IsPlanOf n) plan (plans_of n) (plans_are n) (at_in plan (plans_of n) c there) in
-    planned n plan.reader plan.read plan.writer c (there ∙ ap Some is) own.is_read ∙ ap (λ (q : ChannelPlan). q.slots.hold) (sym is)
+    let own : IsPlanOf n plan =
+    each_in (IsPlanOf n) plan (plans_of n) (plans_are n) (at_in plan (plans_of n) c there) in
+    planned n plan.reader plan.read plan.writer c (there ∙ ap Some is) own.is_read
+    ∙ ap (λ (q : ChannelPlan). q.slots.hold) (sym is)

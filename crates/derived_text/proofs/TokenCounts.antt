@@ -33,7 +33,8 @@ planned n p k w c e =
     let turns : ℕ = turn_count n w in
     let marked : List ℕ = filter (λ f. slice_index_or (tokens_among turns used) f false) (range_with_len 0 turns) in
     let marks : marked ≡ filter (is_used used) (range_with_len 0 turns) =
-    same_filter_from (λ f. slice_index_or (tokens_among turns used) f false) (is_used used) 0 turns (λ f from below. get_or-map-range_with_len (is_used used) 0 turns f f false (omega arith) (omega arith)) in
+    same_filter_from (λ f. slice_index_or (tokens_among turns used) f false) (is_used used) 0 turns
+    (λ f from below. get_or-map-range_with_len (is_used used) 0 turns f f false (omega arith) (omega arith)) in
     puts_are_tokens (net_of (net n)) c
     ∙ ap length (tokens_are n c (plan_of n p k w) e)
     ∙ length-map marked (tag w)
@@ -41,7 +42,8 @@ planned n p k w c e =
     ∙ length-filter (is_used used) (range_with_len 0 turns)
 
 -- a channel has as many Puts as its plan says
-pub puts_planned : (n : Nest) (c : ℕ) (plan : ChannelPlan) → slice_get (plans_of n) c ≡ Some plan → put_count (net_of (net n)) c ≡ plan.tokens
+pub puts_planned : (n : Nest) (c : ℕ) (plan : ChannelPlan) → slice_get (plans_of n) c ≡ Some plan
+    → put_count (net_of (net n)) c ≡ plan.tokens
 puts_planned n c plan e =
     let is : plan ≡ plan_of n plan.reader plan.read plan.writer = plan_at n c plan e in
     planned n plan.reader plan.read plan.writer c (e ∙ ap Some is) ∙ ap (λ (q : ChannelPlan). q.tokens) (sym is)

@@ -1,8 +1,7 @@
 -- Cells whose places along a loop are known.
 use Rattle.std.proofs.Common.{◌≡◌, ◌<◌, ◌≤◌, ◌+◌, ℕ, zero, suc, ℤ, pos, ◌≤ℤ◌, ◌<ℤ◌, ◌+ℤ◌, ◌-ℤ◌, List, [], ◌∷◌, ◌++◌, map, set, length, get_or, refl, sym, ap, ◌∙◌, subst, inl, inr, arith}
-use Rattle.std.specs.Prelude.{Option, Some, IfSome, IsTrue, unsigned_abs}
+use Rattle.std.specs.Prelude.{Option, Some, IfSome, unsigned_abs}
 use Rattle.std.proofs.lemmas.Bool.{cases_lt}
-use Rattle.std.proofs.lemmas.Bool.Decides.{nat_tests}
 use Rattle.std.proofs.lemmas.Int.{ints}
 use Rattle.affine_core.specs.Affine.{form_at}
 use Rattle.sanlp.specs.declared.nest.Access.{Access}
@@ -12,8 +11,8 @@ use Rattle.cell_rows.specs.declared.cells.Cells.{Cells}
 use Rattle.cell_rows.specs.declared.narrow_access.NarrowStatement.{NarrowStatement}
 use Rattle.cell_rows.specs.CellMap.{places_in}
 use Rattle.cell_rows.specs.RowPlaces.{row_limit}
-use Rattle.cell_rows.specs.SmallValues.{is_small_value}
 use Rattle.cell_rows.proofs.CellPlaces.{has_extents}
+use Rattle.cell_rows.proofs.FormSums.{small_size}
 use Rattle.loop_run.specs.declared.along.Lines.{Lines}
 use Rattle.loop_run.specs.declared.lines.Line.{Line}
 use Rattle.loop_run.specs.LinePlaces.{AreLinesOf, ArePlacedBy, AreStatementLines, IsLineOf, IsPlacedBy, IsShortLine, IsStatementPlaced, Places, place_along}
@@ -34,10 +33,14 @@ second_limit cells cell first last next end h second none = elim (either first l
 ]
 
 -- the line through the first place and the second
-pub line_in_rows : (cells : Cells ℤ) (at : List ℤ) (first last : ℤ) (access : Access) (place end next : ℕ) (line : Line) → first ≤ℤ last
-    → places_in cells (cell_at (at ++ first ∷ []) access) ≡ Some place → places_in cells (cell_at (at ++ last ∷ []) access) ≡ Some end
-    → (first <ℤ last → places_in cells (cell_at (at ++ (first +ℤ pos 1) ∷ []) access) ≡ Some next) → (last ≤ℤ first → next ≡ end)
-    → line ≡ record { place = place; step = pos next -ℤ pos place } → IsShortLine line → IsLineOf (places_in cells) at first last access line
+pub line_in_rows : (cells : Cells ℤ) (at : List ℤ) (first last : ℤ) (access : Access) (place end next : ℕ) (line : Line)
+    → first ≤ℤ last
+    → places_in cells (cell_at (at ++ first ∷ []) access) ≡ Some place
+    → places_in cells (cell_at (at ++ last ∷ []) access) ≡ Some end
+    → (first <ℤ last → places_in cells (cell_at (at ++ (first +ℤ pos 1) ∷ []) access) ≡ Some next)
+    → (last ≤ℤ first → next ≡ end)
+    → line ≡ record { place = place; step = pos next -ℤ pos place } → IsShortLine line
+    → IsLineOf (places_in cells) at first last access line
 line_in_rows cells at first last access place end next line le start stop second none is short =
     let row = has_extents cells (cell_at (at ++ first ∷ []) access) place start in
     let subscripts : ℤ → List ℤ = λ v. map (λ form. form_at form (at ++ v ∷ [])) access.subscripts in
@@ -45,7 +48,8 @@ line_in_rows cells at first last access place end next line le start stop second
       short = short;
       places = λ v from to.
           row.1 (subscripts v)
-          ∙ line_places row.0 access.subscripts at first last le place end next (sym (row.1 (subscripts first)) ∙ start) (sym (row.1 (subscripts last)) ∙ stop)
+          ∙ line_places row.0 access.subscripts at first last le place end next (sym (row.1 (subscripts first)) ∙ start)
+          (sym (row.1 (subscripts last)) ∙ stop)
           (λ lt. sym (row.1 (subscripts (first +ℤ pos 1))) ∙ second lt) none v from to
           ∙ ap (λ (line : Line). Some (place_along line (v -ℤ first))) (sym is);
     }
@@ -74,28 +78,37 @@ module _ {X : Type 0} where
   item_before (y ∷ xs) (suc i) (suc j) x l lt e = item_before xs i j x l (omega arith) e
 
 -- one line more
-pub lines_more : (place_of : Places) (at : List ℤ) (first last : ℤ) (accesses : List Access) (lines : List Line) (slot : ℕ) (access : Access) (line : Line)
-    → slot < length accesses → slot < length lines → access ≡ get_or accesses slot access → IsLineOf place_of at first last access line
-    → AreLinesOf place_of at first last accesses lines slot → AreLinesOf place_of at first last accesses (set lines slot line) (slot + 1)
-lines_more place_of at first last accesses lines slot access line within room is here before i lt a ea l el = elim (cases_lt i slot) [
-  | inl earlier ↦ before i earlier a ea l (item_before lines i slot line l earlier el)
-  | inr le ↦ (
-      let e : i ≡ slot = omega arith in
-      let which : a ≡ get_or accesses slot a = subst (λ (k : ℕ). a ≡ get_or accesses k a) e ea in
-      let item : l ≡ get_or (set lines slot line) slot l = subst (λ (k : ℕ). l ≡ get_or (set lines slot line) k l) e el in
-      let same = same_item accesses slot access a within is which in
-      let set_here = item_set lines slot line l room item in
-      subst (λ (x : Access). IsLineOf place_of at first last x l) same (subst (λ (x : Line). IsLineOf place_of at first last access x) (sym set_here) here))
-]
+pub lines_more : (place_of : Places) (at : List ℤ) (first last : ℤ) (accesses : List Access) (lines : List Line)
+    (slot : ℕ) (access : Access) (line : Line)
+    → slot < length accesses → slot < length lines → access ≡ get_or accesses slot access
+    → IsLineOf place_of at first last access line
+    → AreLinesOf place_of at first last accesses lines slot
+    → AreLinesOf place_of at first last accesses (set lines slot line) (slot + 1)
+lines_more place_of at first last accesses lines slot access line within room is here before i lt a ea l el =
+    elim (cases_lt i slot) [
+      | inl earlier ↦ before i earlier a ea l (item_before lines i slot line l earlier el)
+      | inr le ↦ (
+          let e : i ≡ slot = omega arith in
+          let which : a ≡ get_or accesses slot a = subst (λ (k : ℕ). a ≡ get_or accesses k a) e ea in
+          let item : l ≡ get_or (set lines slot line) slot l =
+          subst (λ (k : ℕ). l ≡ get_or (set lines slot line) k l) e el in
+          let same = same_item accesses slot access a within is which in
+          let set_here = item_set lines slot line l room item in
+          subst (λ (x : Access). IsLineOf place_of at first last x l) same
+          (subst (λ (x : Line). IsLineOf place_of at first last access x) (sym set_here) here))
+    ]
 
-pub lines_whole : (place_of : Places) (at : List ℤ) (first last : ℤ) (accesses items : List Access) (lines : List Line) (slot : ℕ)
-    → items ≡ accesses → length items ≤ slot → AreLinesOf place_of at first last items lines slot → AreLinesOf place_of at first last accesses lines (length accesses)
+pub lines_whole : (place_of : Places) (at : List ℤ) (first last : ℤ) (accesses items : List Access) (lines : List Line)
+    (slot : ℕ)
+    → items ≡ accesses → length items ≤ slot → AreLinesOf place_of at first last items lines slot
+    → AreLinesOf place_of at first last accesses lines (length accesses)
 lines_whole place_of at first last accesses items lines slot same le all i lt a ea l el =
     let count = ap length same in
     all i (omega arith) a (subst (λ (list : List Access). a ≡ get_or list i a) (sym same) ea) l el
 
 pub placed_along : (place_of : Places) (at : List ℤ) (turn : ℤ) (accesses items : List Access) (lines : List Line)
-    → items ≡ accesses → ArePlacedBy place_of at turn accesses lines (length accesses) → ArePlacedBy place_of at turn items lines (length items)
+    → items ≡ accesses → ArePlacedBy place_of at turn accesses lines (length accesses)
+    → ArePlacedBy place_of at turn items lines (length items)
 placed_along place_of at turn accesses items lines same all =
     subst (λ (list : List Access). ArePlacedBy place_of at turn list lines (length list)) (sym same) all
 
@@ -103,8 +116,10 @@ same_some : (o : Option Access) (a b : Access) → o ≡ Some a → o ≡ Some b
 same_some o a b e f = let g : ◌≡◌ {A = Option Access} (Some a) (Some b) = sym e ∙ f in cc g
 
 pub write_line : (place_of : Places) (at : List ℤ) (first last : ℤ) (o : Option Access) (known : Access) (line : Line)
-    → o ≡ Some known → IsLineOf place_of at first last known line → (access : Access) → o ≡ Some access → IsLineOf place_of at first last access line
-write_line place_of at first last o known line e here access f = subst (λ (x : Access). IsLineOf place_of at first last x line) (same_some o known access e f) here
+    → o ≡ Some known → IsLineOf place_of at first last known line → (access : Access) → o ≡ Some access
+    → IsLineOf place_of at first last access line
+write_line place_of at first last o known line e here access f =
+    subst (λ (x : Access). IsLineOf place_of at first last x line) (same_some o known access e f) here
 
 pub if_some_at : {X : Type 0} (P : X → Type 0) (o : Option X) (x : X) → o ≡ Some x → IfSome o P → P x
 if_some_at P o x e h = let Q : Option _ → Type 0 = λ o. IfSome o P in subst Q e h
@@ -114,36 +129,43 @@ if_some_from P o x e h = let Q : Option _ → Type 0 = λ o. IfSome o P in subst
 
 -- the places at one turn
 pub placed_at_turn : (place_of : Places) (at inner : List ℤ) (first last v turn : ℤ) (access : Access) (line : Line)
-    → IsLineOf place_of at first last access line → first ≤ℤ v → v ≤ℤ last → inner ≡ at ++ v ∷ [] → turn ≡ v -ℤ first → IsPlacedBy place_of inner turn access line
+    → IsLineOf place_of at first last access line → first ≤ℤ v → v ≤ℤ last → inner ≡ at ++ v ∷ [] → turn ≡ v -ℤ first
+    → IsPlacedBy place_of inner turn access line
 placed_at_turn place_of at inner first last v turn access line along from to longer is = record {
   short = along.short;
-  place = ap (λ (list : List ℤ). place_of (cell_at list access)) longer ∙ along.places v from to ∙ ap (λ (t : ℤ). Some (place_along line t)) (sym is);
+  place = ap (λ (list : List ℤ). place_of (cell_at list access)) longer ∙ along.places v from to
+      ∙ ap (λ (t : ℤ). Some (place_along line t)) (sym is);
 }
 
-pub statement_placed : (place_of : Places) (at inner : List ℤ) (first last v turn : ℤ) (accesses : NarrowStatement) (lines : Lines)
-    → AreStatementLines place_of at first last accesses lines → first ≤ℤ v → v ≤ℤ last → inner ≡ at ++ v ∷ [] → turn ≡ v -ℤ first → IsStatementPlaced place_of inner turn accesses lines
+pub statement_placed : (place_of : Places) (at inner : List ℤ) (first last v turn : ℤ) (accesses : NarrowStatement)
+    (lines : Lines)
+    → AreStatementLines place_of at first last accesses lines → first ≤ℤ v → v ≤ℤ last → inner ≡ at ++ v ∷ []
+    → turn ≡ v -ℤ first → IsStatementPlaced place_of inner turn accesses lines
 statement_placed place_of at inner first last v turn accesses lines along from to longer is = record {
-  reads = λ i lt a ea l el. placed_at_turn place_of at inner first last v turn a l (along.reads i lt a ea l el) from to longer is;
-  write = λ access e. placed_at_turn place_of at inner first last v turn access lines.write (along.write access e) from to longer is;
+  reads = λ i lt a ea l el. placed_at_turn place_of at inner first last v turn a l
+      (along.reads i lt a ea l el) from to longer is;
+  write = λ access e. placed_at_turn place_of at inner first last v turn access lines.write
+      (along.write access e) from to longer is;
 }
 
-turn_size : (first v : ℤ) → unsigned_abs first ≤ 134217728 → unsigned_abs v ≤ 134217728 → unsigned_abs (v -ℤ first) ≤ 268435456
+turn_size : (first v : ℤ) → unsigned_abs first ≤ 134217728 → unsigned_abs v ≤ 134217728
+    → unsigned_abs (v -ℤ first) ≤ 268435456
 turn_size first v h k = omega (arith, ints)
 
-between_small : (first last v : ℤ) → unsigned_abs first ≤ 134217728 → unsigned_abs last ≤ 134217728 → first ≤ℤ v → v ≤ℤ last → unsigned_abs v ≤ 134217728
+between_small : (first last v : ℤ) → unsigned_abs first ≤ 134217728 → unsigned_abs last ≤ 134217728 → first ≤ℤ v
+    → v ≤ℤ last → unsigned_abs v ≤ 134217728
 between_small first last v h k from to = omega (arith, ints)
 
-small_test : (v : ℤ) → IsTrue (is_small_value v) → unsigned_abs v ≤ 134217728
-small_test v h = grind (arith, nat_tests)
-
 pub turn_is_short : (place_of : Places) (at : List ℤ) (first last v : ℤ) (accesses : NarrowStatement) (lines : Lines)
-    → AreStatementLines place_of at first last accesses lines → first ≤ℤ v → v ≤ℤ last → unsigned_abs (v -ℤ first) ≤ 268435456
+    → AreStatementLines place_of at first last accesses lines → first ≤ℤ v → v ≤ℤ last
+    → unsigned_abs (v -ℤ first) ≤ 268435456
 turn_is_short place_of at first last v accesses lines along from to =
-    let f = small_test first along.first_small in
-    turn_size first v f (between_small first last v f (small_test last along.last_small) from to)
+    let f = small_size first along.first_small in
+    turn_size first v f (between_small first last v f (small_size last along.last_small) from to)
 
 -- where places stay, lines do
-pub lines_kept : (old new : Places) (at : List ℤ) (first last : ℤ) (accesses : NarrowStatement) (lines : Lines) → new ≡ old
+pub lines_kept : (old new : Places) (at : List ℤ) (first last : ℤ) (accesses : NarrowStatement) (lines : Lines)
+    → new ≡ old
     → AreStatementLines old at first last accesses lines → AreStatementLines new at first last accesses lines
 lines_kept old new at first last accesses lines same along =
     subst (λ (place_of : Places). AreStatementLines place_of at first last accesses lines) (sym same) along

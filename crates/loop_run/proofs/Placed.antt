@@ -3,6 +3,7 @@ use Rattle.std.proofs.Common.{◌≡◌, ℕ, List, [], ◌∷◌, ◌++◌, map
 use Rattle.std.specs.Prelude.{Bool, true, false, ◌==◌, IsTrue, Some, slice_get}
 use Rattle.std.specs.List.{list_all}
 use Rattle.std.specs.Option.{option_map_or}
+use Rattle.std.proofs.lemmas.List.{map-id}
 use Rattle.std.proofs.lemmas.List.Folds.{list_all-append}
 use Rattle.std.proofs.lemmas.Bool.{and_parts, and_from, eq-eqb, eqb-true}
 use Rattle.affine_core.specs.declared.form.Form.{Form}
@@ -19,22 +20,28 @@ use Rattle.loop_run.specs.Execution.{all_placed, is_of_depth, node_placed, place
 abbrev place_fits : List Statement → Place → Bool
 place_fits statements place = is_of_depth statements (length place.loops) place.statement
 
-get_after : (before : List Statement) (s : Statement) (rest : List Statement) → slice_get (before ++ s ∷ rest) (length before) ≡ Some s
+get_after : (before : List Statement) (s : Statement) (rest : List Statement)
+    → slice_get (before ++ s ∷ rest) (length before) ≡ Some s
 get_after [] s rest = refl
 get_after (b ∷ before) s rest = get_after before s rest
 
-said_fit : (before rest : List Statement) → list_all (place_fits (before ++ rest)) (said_from (length before) rest) ≡ true
+said_fit : (before rest : List Statement)
+    → list_all (place_fits (before ++ rest)) (said_from (length before) rest) ≡ true
 said_fit before [] = refl
 said_fit before (s ∷ rest) =
     and_from _ _
-    (ap (λ o. option_map_or (λ found. depth_of found == depth_of s) o false) (get_after before s rest) ∙ eq-eqb (depth_of s) (depth_of s) refl)
+    (ap (λ o. option_map_or (λ found. depth_of found == depth_of s) o false) (get_after before s rest)
+    ∙ eq-eqb (depth_of s) (depth_of s) refl)
     (ap (λ k. list_all (place_fits (before ++ s ∷ rest)) (said_from k rest)) (sym (length-append before (s ∷ [])))
-    ∙ ap (λ statements. list_all (place_fits statements) (said_from (length (before ++ s ∷ [])) rest)) (sym (append_assoc before (s ∷ []) rest))
+    ∙ ap (λ statements. list_all (place_fits statements) (said_from (length (before ++ s ∷ [])) rest))
+    (sym (append_assoc before (s ∷ []) rest))
     ∙ said_fit (before ++ s ∷ []) rest)
 
 module _ (statements : List Statement) where
   abbrev IsPlaced : Node → Type 0
-  IsPlaced node = (loops : List ℕ) (rows : List Form) → list_all (place_fits statements) (places_of node loops rows) ≡ true → node_placed statements node (length loops) ≡ true
+  IsPlaced node =
+      (loops : List ℕ) (rows : List Form) → list_all (place_fits statements) (places_of node loops rows) ≡ true
+      → node_placed statements node (length loops) ≡ true
 
   module _ (X : Type 0) (node : X → Node) (placed : (x : X) → IsPlaced (node x)) where
     parts_placed : (parts : List X) (loops : List ℕ) (rows : List Form)
@@ -42,36 +49,42 @@ module _ (statements : List Statement) where
         → all_placed statements (map node parts) (length loops) ≡ true
     parts_placed [] loops rows h = refl
     parts_placed (x ∷ parts) loops rows h =
-        let tests = and_parts _ _ (sym (list_all-append (place_fits statements) (places_of (node x) loops rows) (in_each (map places_of (map node parts)) loops rows)) ∙ h) in
+        let tests =
+        and_parts _ _
+        (sym (list_all-append (place_fits statements) (places_of (node x) loops rows)
+        (in_each (map places_of (map node parts)) loops rows)) ∙ h) in
         and_from _ _ (placed x loops rows tests.0) (parts_placed parts loops rows tests.1)
 
     layer_placed : (y : Node-F X) → IsPlaced (roll-Node (map-Node X Node node y))
     layer_placed (Loop id lower upper step body) loops rows h =
-        ap (λ f. f (length loops)) (fold-roll-Node (ℕ → Bool) (placed_step statements) (Loop id lower upper step (map node body)))
+        ap (λ f. f (length loops))
+        (fold-roll-Node (ℕ → Bool) (placed_step statements) (Loop id lower upper step (map node body)))
         ∙ ap (all_placed statements (map node body)) (sym (length-append loops (id ∷ [])))
         ∙ parts_placed body (loops ++ id ∷ []) (rows ++ bound_rows (length loops) lower upper step)
-        (sym (ap (λ f. list_all (place_fits statements) (f loops rows)) (fold-roll-Node Places places_step (Loop id lower upper step (map node body)))) ∙ h)
+        (sym (ap (λ f. list_all (place_fits statements) (f loops rows))
+        (fold-roll-Node Places places_step (Loop id lower upper step (map node body)))) ∙ h)
     layer_placed (Guard guards body) loops rows h =
         ap (λ f. f (length loops)) (fold-roll-Node (ℕ → Bool) (placed_step statements) (Guard guards (map node body)))
         ∙ parts_placed body loops (rows ++ guards)
-        (sym (ap (λ f. list_all (place_fits statements) (f loops rows)) (fold-roll-Node Places places_step (Guard guards (map node body)))) ∙ h)
+        (sym (ap (λ f. list_all (place_fits statements) (f loops rows))
+        (fold-roll-Node Places places_step (Guard guards (map node body)))) ∙ h)
     layer_placed (Assign s) loops rows h =
         ap (λ f. f (length loops)) (fold-roll-Node (ℕ → Bool) (placed_step statements) (Assign s))
         ∙ (and_parts (is_of_depth statements (length loops) s) true
-        (sym (ap (λ f. list_all (place_fits statements) (f loops rows)) (fold-roll-Node Places places_step (Assign s))) ∙ h)).0
+        (sym (ap (λ f. list_all (place_fits statements) (f loops rows)) (fold-roll-Node Places places_step (Assign s)))
+        ∙ h)).0
 
   node_is_placed : (node : Node) → IsPlaced node
-  node_is_placed = ind-Node IsPlaced (λ x y is. subst (λ z. IsPlaced (roll-Node z)) is (layer_placed ((node : Node) × IsPlaced node) (λ e. e.0) (λ e. e.1) y))
-
-map_same : {X : Type 0} (xs : List X) → map (λ x. x) xs ≡ xs
-map_same [] = refl
-map_same (x ∷ xs) = ap (λ ys. x ∷ ys) (map_same xs)
+  node_is_placed =
+      ind-Node IsPlaced
+      (λ x y is. subst (λ z. IsPlaced (roll-Node z)) is
+      (layer_placed ((node : Node) × IsPlaced node) (λ e. e.0) (λ e. e.1) y))
 
 pub body_placed : (n : Nest) → IsTrue (all_placed n.statements n.body 0)
 body_placed n =
-    sym (ap (λ parts. all_placed n.statements parts 0) (map_same n.body))
+    sym (ap (λ parts. all_placed n.statements parts 0) (map-id n.body))
     ∙ parts_placed n.statements Node (λ x. x) (node_is_placed n.statements) n.body [] []
-    (ap (λ parts. list_all (place_fits n.statements) (all_places parts [] [])) (map_same n.body)
+    (ap (λ parts. list_all (place_fits n.statements) (all_places parts [] [])) (map-id n.body)
     ∙ ap (list_all (place_fits n.statements)) n.well_formed.placed ∙ said_fit [] n.statements)
 
 -- a statement of this depth

@@ -12,21 +12,27 @@ module _ (m : Memory) (array : ℕ) where
   abbrev cells_inside : List (List ℤ) → List ℤ → List ℤ
   cells_inside rests at = map (λ rest. cell_value m (array, at ++ rest)) rests
 
-  shifted : (v : ℤ) (at : List ℤ) (rests : List (List ℤ)) → cells_inside rests (at ++ v ∷ []) ≡ cells_inside (map (λ rest. v ∷ rest) rests) at
+  shifted : (v : ℤ) (at : List ℤ) (rests : List (List ℤ))
+      → cells_inside rests (at ++ v ∷ []) ≡ cells_inside (map (λ rest. v ∷ rest) rests) at
   shifted v at [] = refl
   shifted v at (rest ∷ rests) =
       ap (λ l. cell_value m (array, l) ∷ cells_inside rests (at ++ v ∷ [])) (append_assoc at (v ∷ []) rest)
       ∙ ap (λ vs. cell_value m (array, at ++ v ∷ rest) ∷ vs) (shifted v at rests)
 
   spread : (inner : List ℤ) → ((at : List ℤ) → values_inside m array inner at ≡ cells_inside (all_subscripts inner) at)
-      → (at vs : List ℤ) → flat_map (λ v. values_inside m array inner (at ++ v ∷ [])) vs ≡ cells_inside (flat_map (λ v. map (λ rest. v ∷ rest) (all_subscripts inner)) vs) at
+      → (at vs : List ℤ)
+      → flat_map (λ v. values_inside m array inner (at ++ v ∷ [])) vs
+      ≡ cells_inside (flat_map (λ v. map (λ rest. v ∷ rest) (all_subscripts inner)) vs) at
   spread inner each at [] = refl
   spread inner each at (v ∷ vs) =
-      ap (λ ps. ps ++ flat_map (λ v. values_inside m array inner (at ++ v ∷ [])) vs) (each (at ++ v ∷ []) ∙ shifted v at (all_subscripts inner))
+      ap (λ ps. ps ++ flat_map (λ v. values_inside m array inner (at ++ v ∷ [])) vs)
+      (each (at ++ v ∷ []) ∙ shifted v at (all_subscripts inner))
       ∙ ap (λ ps. cells_inside (map (λ rest. v ∷ rest) (all_subscripts inner)) at ++ ps) (spread inner each at vs)
-      ∙ sym (map-append (λ rest. cell_value m (array, at ++ rest)) (map (λ rest. v ∷ rest) (all_subscripts inner)) (flat_map (λ v. map (λ rest. v ∷ rest) (all_subscripts inner)) vs))
+      ∙ sym (map-append (λ rest. cell_value m (array, at ++ rest)) (map (λ rest. v ∷ rest) (all_subscripts inner))
+      (flat_map (λ v. map (λ rest. v ∷ rest) (all_subscripts inner)) vs))
 
-  pub values_are : (extents at : List ℤ) → values_inside m array extents at ≡ map (λ rest. cell_value m (array, at ++ rest)) (all_subscripts extents)
+  pub values_are : (extents at : List ℤ)
+      → values_inside m array extents at ≡ map (λ rest. cell_value m (array, at ++ rest)) (all_subscripts extents)
   values_are [] at = ap (λ l. cell_value m (array, l) ∷ []) (sym (append-nil at))
   values_are (e ∷ extents) at = spread extents (values_are extents) at (counted (pos 0) (natural e))
 

@@ -13,7 +13,8 @@ module _ (body : List (List ℤ → Count)) (at : List ℤ) (value last : ℤ) (
   first_turn le = ap (λ values. counted_turns body at values count) (interval_step value last le)
 
   pub turn_counted : (next : ℕ) → value ≤ℤ last → Ok next ≡ counted_turn body at value count
-      → counted_turns body at (interval value last) count ≡ all → counted_turns body at (interval (value +ℤ pos 1) last) next ≡ all
+      → counted_turns body at (interval value last) count ≡ all
+      → counted_turns body at (interval (value +ℤ pos 1) last) next ≡ all
   turn_counted next le turn before =
       ap (λ r. and_then r (counted_turns body at (interval (value +ℤ pos 1) last))) turn ∙ sym (first_turn le) ∙ before
 
@@ -23,4 +24,5 @@ module _ (body : List (List ℤ → Count)) (at : List ℤ) (value last : ℤ) (
       ap (λ r. and_then r (counted_turns body at (interval (value +ℤ pos 1) last))) turn ∙ sym (first_turn le) ∙ before
 
   pub turns_counted : last <ℤ value → counted_turns body at (interval value last) count ≡ all → Ok count ≡ all
-  turns_counted lt before = ap (λ values. counted_turns body at values count) (sym (interval_end value last lt)) ∙ before
+  turns_counted lt before =
+      ap (λ values. counted_turns body at values count) (sym (interval_end value last lt)) ∙ before

@@ -21,7 +21,9 @@ module _ (id : ℕ) (lower upper : List Form) (step : ℤ) (body : List Node) wh
   pub loop_fits : (depth : ℕ) → IsTrue (forms_fit (Loop id lower upper step body) depth)
       → (depth < 6) × (pos 1 ≤ℤ step) × IsTrue (all_forms_fit body (depth + 1))
   loop_fits depth h =
-      let all = and_parts _ (all_forms_fit body (depth + 1)) (sym (ap (λ f. f depth) (fold_loop (ℕ → Bool) forms_fit_step id lower upper step body)) ∙ h) in
+      let all =
+      and_parts _ (all_forms_fit body (depth + 1))
+      (sym (ap (λ f. f depth) (fold_loop (ℕ → Bool) forms_fit_step id lower upper step body)) ∙ h) in
       let stepped = and_parts _ (step_fits lower step) all.0 in
       let ups = and_parts _ (list_all (form_fits depth) upper) stepped.0 in
       let lows = and_parts _ (list_all (form_fits depth) lower) ups.0 in
@@ -31,13 +33,15 @@ module _ (id : ℕ) (lower upper : List Form) (step : ℤ) (body : List Node) wh
       let counts = and_parts (int_le (pos 1) step) (int_le step (pos 2147483647)) within.0 in
       (ltb-true depth 6 some_low.0, le_from_test (pos 1) step counts.0, all.1)
 
-  pub loop_turns_within : (at : List ℤ) → IsTrue (node_within (Loop id lower upper step body) at) → IsTrue (turns_within body at (loop_values lower upper step at))
+  pub loop_turns_within : (at : List ℤ) → IsTrue (node_within (Loop id lower upper step body) at)
+      → IsTrue (turns_within body at (loop_values lower upper step at))
   loop_turns_within at h =
       (and_parts (loop_within lower upper at) (turns_within body at (loop_values lower upper step at))
       (sym (ap (λ f. f at) (fold_loop (List ℤ → Bool) within_step id lower upper step body)) ∙ h)).1
 
 -- a value between two loop values
-pub between_within : (first value last : ℤ) → IsTrue (is_loop_value first) → IsTrue (is_loop_value last) → first ≤ℤ value → value ≤ℤ last → IsTrue (is_loop_value value)
+pub between_within : (first value last : ℤ) → IsTrue (is_loop_value first) → IsTrue (is_loop_value last)
+    → first ≤ℤ value → value ≤ℤ last → IsTrue (is_loop_value value)
 between_within first value last f l low high = grind (arith, ints, nat_tests)
 
 module _ (parts : List Node) (at : List ℤ) (value last : ℤ) (le : value ≤ℤ last) where

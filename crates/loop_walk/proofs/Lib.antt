@@ -5,6 +5,4 @@ pub mod LoopRange
 pub mod PointsAdded
 pub mod Rooms
 pub mod SizeLaw
-pub mod SmallForms
-pub mod SumsInside
 pub mod WalkLemmas

@@ -23,16 +23,19 @@ one_further op f a [] i x lt e = absurd (omega arith)
 one_further op f a (y ∷ xs) zero x lt e = ap (λ z. op a (f z)) (sym e)
 one_further op f a (y ∷ xs) (suc i) x lt e = one_further op f (op a (f y)) xs i x (omega arith) e
 
-pub fold_map_more : {X : Type 0} (op : ℤ → ℤ → ℤ) (f : X → ℤ) (a : ℤ) (xs : List X) (i : ℕ) (x : X) (value here next : ℤ)
+pub fold_map_more : {X : Type 0} (op : ℤ → ℤ → ℤ) (f : X → ℤ) (a : ℤ) (xs : List X) (i : ℕ) (x : X)
+    (value here next : ℤ)
     → i < length xs → x ≡ get_or xs i x → value ≡ fold op a (map f (take i xs)) → here ≡ f x → next ≡ op value here
     → next ≡ fold op a (map f (take (i + 1) xs))
 fold_map_more op f a xs i x value here next lt e before at is =
-    is ∙ ap (λ v. op v here) before ∙ ap (op _) at ∙ sym (one_further op f a xs i x lt e) ∙ ap (λ k. fold op a (map f (take k xs))) (sym (add-one i))
+    is ∙ ap (λ v. op v here) before ∙ ap (op _) at ∙ sym (one_further op f a xs i x lt e)
+    ∙ ap (λ k. fold op a (map f (take k xs))) (sym (add-one i))
 
 -- the greatest and the least of loop values are loop values
 kept : {X : Type 0} (op : ℤ → ℤ → ℤ) (test : ℤ → Bool) (f : X → ℤ)
     → ((x y : ℤ) → IsTrue (test x) → IsTrue (test y) → IsTrue (test (op x y)))
-    → (a : ℤ) (xs : List X) → IsTrue (test a) → IsTrue (list_all (λ x. test (f x)) xs) → IsTrue (test (fold op a (map f xs)))
+    → (a : ℤ) (xs : List X) → IsTrue (test a) → IsTrue (list_all (λ x. test (f x)) xs)
+    → IsTrue (test (fold op a (map f xs)))
 kept op test f closed a [] first others = first
 kept op test f closed a (x ∷ xs) first others =
     let tests = and_parts (test (f x)) (list_all (λ y. test (f y)) xs) others in
@@ -46,18 +49,22 @@ min_kept x y p q = elim (int_lt y x) as (λ b. IsTrue (is_loop_value (cond b y x
 
 -- the greatest and the least value of forms that passed
 pub greatest_within : (forms : List Form) (at : List ℤ) (passed : Bool) (value : ℤ)
-    → passed ≡ all_within forms at → passed ≡ true → value ≡ greatest (map (λ form. form_at form at) forms) → IsTrue (is_loop_value value)
+    → passed ≡ all_within forms at → passed ≡ true → value ≡ greatest (map (λ form. form_at form at) forms)
+    → IsTrue (is_loop_value value)
 greatest_within [] at passed value e h is = ap is_loop_value is
 greatest_within (form ∷ forms) at passed value e h is =
     let tests = and_parts (is_loop_value (form_at form at)) (all_within forms at) (sym e ∙ h) in
-    ap is_loop_value is ∙ kept int_max is_loop_value (λ form. form_at form at) max_kept (form_at form at) forms tests.0 tests.1
+    ap is_loop_value is
+    ∙ kept int_max is_loop_value (λ form. form_at form at) max_kept (form_at form at) forms tests.0 tests.1
 
 pub least_within : (forms : List Form) (at : List ℤ) (passed : Bool) (value : ℤ)
-    → passed ≡ all_within forms at → passed ≡ true → value ≡ least (map (λ form. form_at form at) forms) → IsTrue (is_loop_value value)
+    → passed ≡ all_within forms at → passed ≡ true → value ≡ least (map (λ form. form_at form at) forms)
+    → IsTrue (is_loop_value value)
 least_within [] at passed value e h is = ap is_loop_value is
 least_within (form ∷ forms) at passed value e h is =
     let tests = and_parts (is_loop_value (form_at form at)) (all_within forms at) (sym e ∙ h) in
-    ap is_loop_value is ∙ kept int_min is_loop_value (λ form. form_at form at) min_kept (form_at form at) forms tests.0 tests.1
+    ap is_loop_value is
+    ∙ kept int_min is_loop_value (λ form. form_at form at) min_kept (form_at form at) forms tests.0 tests.1
 
 pub both_within : (lower upper : List Form) (at : List ℤ) (a b : Bool)
     → a ≡ all_within lower at → a ≡ true → b ≡ all_within upper at → b ≡ true → loop_within lower upper at ≡ true
@@ -76,7 +83,9 @@ quotient_within first last step f l h =
     = to_quotient z step (negsuc 4611686018427387903) counts (omega (arith, ints, above)) in
     let high : q ≤ℤ pos 4611686018427387904
     = by_lt_z (pos 4611686018427387904) q
-    (λ lt. absurd (let past : (step *ℤ pos 4611686018427387905) ≤ℤ z = below_quotient z step (pos 4611686018427387905) counts (omega (arith, ints, lt)) in omega (arith, ints, below)))
+    (λ lt. absurd
+    (let past : (step *ℤ pos 4611686018427387905) ≤ℤ z = below_quotient z step (pos 4611686018427387905) counts
+    (omega (arith, ints, lt)) in omega (arith, ints, below)))
     (λ le. le) in
     grind (arith, ints, nat_tests)
 

@@ -37,7 +37,8 @@ valid_at_start (f ∷ frames) [] at room h = refl
 valid_at_start (f ∷ frames) (node ∷ parts) at room h = h
 
 -- a loop that is entered: its first turn, and the others
-module _ (id : ℕ) (lower upper : List Form) (step : ℤ) (body : List Node) (at : List ℤ) (first last : ℤ) (range : IsLoopRange lower upper step at first last) where
+module _ (id : ℕ) (lower upper : List Form) (step : ℤ) (body : List Node) (at : List ℤ) (first last : ℤ)
+    (range : IsLoopRange lower upper step at first last) where
   loop_points : (values : List ℤ) → interval first last ≡ values
       → trace_node (Loop id lower upper step body) at ≡ turn_points (all_points (map trace_node body)) values at
   loop_points values e =
@@ -45,7 +46,8 @@ module _ (id : ℕ) (lower upper : List Form) (step : ℤ) (body : List Node) (a
       ∙ ap (λ vs. turn_points (all_points (map trace_node body)) vs at) (range.values ∙ e)
 
   pub points_of_turns : first ≤ℤ last → trace_node (Loop id lower upper step body) at
-      ≡ all_points (map trace_node body) (at ++ first ∷ []) ++ turn_points (all_points (map trace_node body)) (interval (first +ℤ pos 1) last) at
+      ≡ all_points (map trace_node body) (at ++ first ∷ [])
+      ++ turn_points (all_points (map trace_node body)) (interval (first +ℤ pos 1) last) at
   points_of_turns le = loop_points (first ∷ interval (first +ℤ pos 1) last) (interval_step first last le)
 
   pub no_turn : last <ℤ first → trace_node (Loop id lower upper step body) at ≡ []
@@ -58,56 +60,70 @@ module _ (id : ℕ) (lower upper : List Form) (step : ℤ) (body : List Node) (a
       (sym (ap (turns_within body at) range.values) ∙ loop_turns_within id lower upper step body at h)
 
 -- what the walk of a loop's turns may rest on
-pub turns_walk : (node : Node) (id : ℕ) (lower upper : List Form) (step : ℤ) (body parts : List Node) (depth frames deeper : ℕ)
+pub turns_walk : (node : Node) (id : ℕ) (lower upper : List Form) (step : ℤ) (body parts : List Node)
+    (depth frames deeper : ℕ)
     → node ≡ Loop id lower upper step body → parts ≡ body → deeper ≡ frames
     → IsTrue (forms_fit node depth) → IsTrue (node_room node frames)
     → (depth < 6) × (IsTrue (all_forms_fit parts (depth + 1)) × IsTrue (parts_room parts deeper))
 turns_walk node id lower upper step body parts depth frames deeper is part same fits room =
     let fit = loop_fits id lower upper step body depth (sym (ap (λ x. forms_fit x depth) is) ∙ fits) in
     let enough : IsTrue (parts_room body frames)
-    = sym (ap (λ f. f frames) (fold_loop (ℕ → Bool) room_step id lower upper step body)) ∙ sym (ap (λ x. node_room x frames) is) ∙ room in (
+    = sym (ap (λ f. f frames) (fold_loop (ℕ → Bool) room_step id lower upper step body))
+    ∙ sym (ap (λ x. node_room x frames) is) ∙ room in (
       fit.0,
       (ap (λ ps. all_forms_fit ps (depth + 1)) part ∙ fit.2, ap (λ k. parts_room parts k) same ∙ ap (λ ps. parts_room ps frames) part ∙ enough),
     )
 
 -- a part that was not entered
-pub left_outside : (f : Frame) (inner : Left) (node : Node) (at : List ℤ) → f.inside ≡ false → left_of_node f inner node at ≡ trace_node node at
+pub left_outside : (f : Frame) (inner : Left) (node : Node) (at : List ℤ) → f.inside ≡ false
+    → left_of_node f inner node at ≡ trace_node node at
 left_outside f inner node at e = ap (λ b. cond b (left_inside f inner (out-Node node) at) (trace_node node at)) e
 
-pub within_outside : (f : Frame) (inner : Valid) (node : Node) (at : List ℤ) → f.inside ≡ false → IsTrue (node_valid f inner node at) → IsTrue (node_within node at)
-within_outside f inner node at e h = sym (ap (λ b. cond b (inside_valid f inner (out-Node node) at) (node_within node at)) e) ∙ h
+pub within_outside : (f : Frame) (inner : Valid) (node : Node) (at : List ℤ) → f.inside ≡ false
+    → IsTrue (node_valid f inner node at) → IsTrue (node_within node at)
+within_outside f inner node at e h =
+    sym (ap (λ b. cond b (inside_valid f inner (out-Node node) at) (node_within node at)) e) ∙ h
 
 -- the next turn of a loop
 module _ (f : Frame) (next : ℤ) (frames : List Frame) (body : List Node) (at inner : List ℤ)
     (is : next ≡ f.value +ℤ pos 1) (later : f.value <ℤ f.last) (longer : inner ≡ at ++ next ∷ []) where
   pub turn_begun : left frames body inner ≡ all_points (map trace_node body) inner
-      → left_of_turns (record f { value = next }) (left frames) body at ≡ turn_points (all_points (map trace_node body)) (interval (f.value +ℤ pos 1) f.last) at
+      → left_of_turns (record f { value = next }) (left frames) body at
+      ≡ turn_points (all_points (map trace_node body)) (interval (f.value +ℤ pos 1) f.last) at
   turn_begun h =
       ap (λ points. points ++ turn_points (all_points (map trace_node body)) (interval (next +ℤ pos 1) f.last) at)
       (sym (ap (left frames body) longer) ∙ h ∙ ap (all_points (map trace_node body)) longer)
-      ∙ ap (λ values. turn_points (all_points (map trace_node body)) values at) (sym (interval_step next f.last (omega (arith, ints))))
+      ∙ ap (λ values. turn_points (all_points (map trace_node body)) values at)
+      (sym (interval_step next f.last (omega (arith, ints))))
       ∙ ap (λ v. turn_points (all_points (map trace_node body)) (interval v f.last) at) is
 
   pub turn_begun_valid : (inside : Valid) → IsTrue (turns_valid f inside body at) → IsTrue (valid frames body inner)
       → IsTrue (turns_valid (record f { value = next }) (valid frames) body at)
   turn_begun_valid inside h new =
       let tests = and_parts _ (inside body (at ++ f.value ∷ [])) h in
-      let turns = and_parts (is_loop_value f.value && is_loop_value f.last) (turns_within body at (interval (f.value +ℤ pos 1) f.last)) tests.0 in
+      let turns =
+      and_parts (is_loop_value f.value && is_loop_value f.last)
+      (turns_within body at (interval (f.value +ℤ pos 1) f.last)) tests.0 in
       let limits = and_parts (is_loop_value f.value) (is_loop_value f.last) turns.0 in
       let le : next ≤ℤ f.last = omega (arith, ints) in
       let rest = turn_within body at next f.last le (ap (λ v. turns_within body at (interval v f.last)) is ∙ turns.1) in
-      and_from _ _ (and_from _ _ (and_from _ _ (between_within f.value next f.last limits.0 limits.1 (omega (arith, ints)) le) limits.1) rest.1)
+      and_from _ _
+      (and_from _ _
+      (and_from _ _
+      (between_within f.value next f.last limits.0 limits.1 (omega (arith, ints)) le) limits.1) rest.1)
       (sym (ap (valid frames body) longer) ∙ new)
 
 -- the part that the walk is at
 pub part_valid : (f : Frame) (inner : Valid) (parts : List Node) (i : ℕ) (part : Node) (at : List ℤ)
-    → i < length parts → part ≡ get_or parts i part → IsTrue (parts_valid f inner (drop i parts) at) → IsTrue (node_valid f inner part at)
+    → i < length parts → part ≡ get_or parts i part → IsTrue (parts_valid f inner (drop i parts) at)
+    → IsTrue (node_valid f inner part at)
 part_valid f inner [] i part at lt e h = absurd (omega arith)
 part_valid f inner (p ∷ parts) zero part at lt e h =
     ap (λ x. node_valid f inner x at) e ∙ (and_parts (node_valid f inner p at) (parts_within parts at) h).0
 part_valid f inner (p ∷ parts) (suc i) part at lt e h = part_valid f inner parts i part at (omega arith) e h
 
-pub on_some_from : {X : Type 0} (P : X → Type 0) (Q : Type 0) (o : Option X) → ((x : X) → P x → Q) → IfSome o P → OnSome o Q
+pub on_some_from : {X : Type 0} (P : X → Type 0) (Q : Type 0) (o : Option X) → ((x : X) → P x → Q) → IfSome o P
+    → OnSome o Q
 on_some_from P Q None f h = tt
 on_some_from P Q (Some x) f h = f x h
 
@@ -121,37 +137,48 @@ module _ (f : Frame) (frames : List Frame) (s : ℕ) (entered : f.inside ≡ tru
   assignment_valid : IsTrue (parts_valid f (valid frames) (Assign s ∷ []) at)
   unfolding out-Node denote.Hole.Carrier.out
   assignment_valid =
-      and_from _ _ (ap (λ b. cond b (inside_valid f (valid frames) (out-Node (Assign s)) at) (node_within (Assign s) at)) entered) refl
+      and_from _ _
+      (ap (λ b. cond b (inside_valid f (valid frames) (out-Node (Assign s)) at)
+      (node_within (Assign s) at)) entered) refl
 
-pub nothing_left : (deeper : List Frame) (d : Frame) (body : List Node) (s : ℕ) → 0 < length deeper → (get_or deeper 0 d).inside ≡ true → (get_or deeper 0 d).part ≡ 0
+pub nothing_left : (deeper : List Frame) (d : Frame) (body : List Node) (s : ℕ) → 0 < length deeper
+    → (get_or deeper 0 d).inside ≡ true → (get_or deeper 0 d).part ≡ 0
     → body ≡ Assign s ∷ [] → (at : List ℤ) → left deeper body at ≡ []
 nothing_left [] d body s room entered first is at = absurd (omega arith)
 nothing_left (f ∷ frames) d body s room entered first is at =
     ap (λ (k : ℕ). left_of_parts f (left frames) (drop k body) at) first
-    ∙ ap (λ (parts : List Node). left_of_parts f (left frames) (drop 0 parts) at) is ∙ assignment_done f frames s entered at
+    ∙ ap (λ (parts : List Node). left_of_parts f (left frames) (drop 0 parts) at) is
+    ∙ assignment_done f frames s entered at
 
-pub nothing_invalid : (deeper : List Frame) (d : Frame) (body : List Node) (s : ℕ) → 0 < length deeper → (get_or deeper 0 d).inside ≡ true → (get_or deeper 0 d).part ≡ 0
+pub nothing_invalid : (deeper : List Frame) (d : Frame) (body : List Node) (s : ℕ) → 0 < length deeper
+    → (get_or deeper 0 d).inside ≡ true → (get_or deeper 0 d).part ≡ 0
     → body ≡ Assign s ∷ [] → (at : List ℤ) → IsTrue (valid deeper body at)
 nothing_invalid [] d body s room entered first is at = absurd (omega arith)
 nothing_invalid (f ∷ frames) d body s room entered first is at =
     ap (λ (k : ℕ). parts_valid f (valid frames) (drop k body) at) first
-    ∙ ap (λ (parts : List Node). parts_valid f (valid frames) (drop 0 parts) at) is ∙ assignment_valid f frames s entered at
+    ∙ ap (λ (parts : List Node). parts_valid f (valid frames) (drop 0 parts) at) is
+    ∙ assignment_valid f frames s entered at
 
 -- the next turn of a loop over an assignment whose turn is done
-module _ (f : Frame) (frames : List Frame) (body : List Node) (s : ℕ) (at : List ℤ) (is : body ≡ Assign s ∷ []) (done : (at : List ℤ) → left frames body at ≡ []) where
+module _ (f : Frame) (frames : List Frame) (body : List Node) (s : ℕ) (at : List ℤ) (is : body ≡ Assign s ∷ [])
+    (done : (at : List ℤ) → left frames body at ≡ []) where
   abbrev later : ℤ → List Point
   later value = turn_points (all_points (map trace_node body)) (interval value f.last) at
 
-  one_point : (v : ℤ) → all_points (map trace_node body) (at ++ v ∷ []) ≡ record { statement = s; at = at ++ v ∷ [] } ∷ []
+  one_point : (v : ℤ)
+      → all_points (map trace_node body) (at ++ v ∷ []) ≡ record { statement = s; at = at ++ v ∷ [] } ∷ []
   one_point v =
       ap (λ (parts : List Node). all_points (map trace_node parts) (at ++ v ∷ [])) is
       ∙ ap (λ points. points ++ []) (fold_assign_at (List ℤ) (List Point) trace_step s (at ++ v ∷ []))
 
   pub next_assignment : (next : ℤ) → next ≡ f.value +ℤ pos 1 → f.value <ℤ f.last
-      → left_of_turns f (left frames) body at ≡ record { statement = s; at = at ++ next ∷ [] } ∷ left_of_turns (record f { value = next }) (left frames) body at
+      → left_of_turns f (left frames) body at
+      ≡ record { statement = s; at = at ++ next ∷ [] } ∷ left_of_turns (record f { value = next }) (left frames) body at
   next_assignment next e lt =
       ap (λ points. points ++ later (f.value +ℤ pos 1)) (done (at ++ f.value ∷ []))
       ∙ ap later (sym e)
-      ∙ ap (λ values. turn_points (all_points (map trace_node body)) values at) (interval_step next f.last (omega (arith, ints)))
+      ∙ ap (λ values. turn_points (all_points (map trace_node body)) values at)
+      (interval_step next f.last (omega (arith, ints)))
       ∙ ap (λ points. points ++ later (next +ℤ pos 1)) (one_point next)
-      ∙ ap (λ points. record { statement = s; at = at ++ next ∷ [] } ∷ (points ++ later (next +ℤ pos 1))) (sym (done (at ++ next ∷ [])))
+      ∙ ap (λ points. record { statement = s; at = at ++ next ∷ [] } ∷ (points ++ later (next +ℤ pos 1)))
+      (sym (done (at ++ next ∷ [])))

@@ -3,7 +3,6 @@ ghost use Rattle.std.specs.Int.{int_div_euclid};
 ghost use Rattle.std.specs.Ordering.{int_eq};
 ghost use Rattle.std.specs.List.{list_all};
 ghost use Rattle.affine_core.specs.Affine.{form_at};
-ghost use Rattle.affine_core.specs.Within.{sum_in_128_bits};
 ghost use Rattle.sanlp.specs.Loops.{all_hold, greatest, interval, least, turns_up_to};
 ghost use Rattle.sanlp.specs.WellFormed.{form_fits, is_moderate};
 ghost use Rattle.sanlp.specs.Size.{all_within, is_loop_value, loop_within};
@@ -23,15 +22,16 @@ fn moderate(coef: i128) -> i64
     coef as i64
 }
 
-// Adds a product to a sum, where neither leaves 128 bits.
+// Adds a product to a sum, where both are so small that the sum has 128 bits.
 fn add_product(sum: i128, coef: i64, value: i64) -> i128
-    requires { sum_in_128_bits sum coef value ≡ Some (sum +ℤ (coef *ℤ value)) }
+    requires coef { unsigned_abs coef ≤ 4294967296 }
+    requires sum { unsigned_abs sum ≤ 300000000000000000000000000000 }
     ensures { result ≡ sum +ℤ (coef *ℤ value) }
 {
     sum + coef as i128 * value as i128
 }
 
-// The value of a form. Its coefficients and the loop values are so small that no sum leaves 128 bits.
+// The value of a form. Its coefficients are so small that at values of 64 bits no sum leaves 128 bits.
 #[tactic(auto, using(sanlp::proofs::ModerateForms::as_many))]
 pub(crate) fn form_value(form: &Form, at: &LoopValues) -> i128
     requires { IsTrue (form_fits (length at.now) form.now) }

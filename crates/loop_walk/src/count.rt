@@ -14,7 +14,7 @@ use sanlp::{Nest, Node};
 use thiserror::Error;
 
 /// The greatest size of a nest.
-const SIZE_LIMIT: u64 = 2_097_152;
+const SIZE_LIMIT: u64 = 8_388_608;
 
 /// Why a nest is not walked.
 #[derive(Clone, Copy, Debug, PartialEq, Eq, Error)]

@@ -36,7 +36,8 @@ unfolding part_made
 for_made name first second inclusive bound third step body c l s =
     ap (λ p. part_made p c l s) (sym (rolls-For name first second inclusive bound third step body))
     ∙ ap (λ f. f c l s)
-    (fold-roll-Part Meaning Otherwise part_step other_step (layer.For name first second inclusive bound third step body))
+    (fold-roll-Part Meaning Otherwise part_step other_step
+    (layer.For name first second inclusive bound third step body))
 
 assign_is : (target : Name) (subscripts : List Operand) (value : Operand) (c : Context) (l s : ℕ)
     → part_made (Assign target subscripts value) c l s ≡ assign_made target subscripts value c l s
@@ -48,27 +49,33 @@ assign_is target subscripts value c l s =
 block_is : (parts : List Part) (c : Context) (l s : ℕ) → part_made (Block parts) c l s ≡ parts_made parts c l s
 unfolding part_made
 block_is parts c l s =
-    ap (λ p. part_made p c l s) (sym (rolls-Block parts)) ∙ ap (λ f. f c l s) (fold-roll-Part Meaning Otherwise part_step other_step (layer.Block parts))
+    ap (λ p. part_made p c l s) (sym (rolls-Block parts))
+    ∙ ap (λ f. f c l s) (fold-roll-Part Meaning Otherwise part_step other_step (layer.Block parts))
 
 lower_number : (value : ℤ) (token : ℕ) → lower_operands (Number value token) ≡ Number value token ∷ []
 unfolding lower_operands
 lower_number value token = ap (lower_layer (Number value token)) (outs-Number value token)
 
-upper_name : (name : Name) (subscripts : List Operand) → upper_operands (Access name subscripts) ≡ Access name subscripts ∷ []
+upper_name : (name : Name) (subscripts : List Operand)
+    → upper_operands (Access name subscripts) ≡ Access name subscripts ∷ []
 unfolding upper_operands
 upper_name name subscripts = ap (upper_layer (Access name subscripts)) (outs-Access name subscripts)
 
-value_number : (depth : ℕ) (scope : Scope) (v : ℤ) (token k : ℕ) → valued depth scope (Number v token) k ≡ without_reads (Const v) []
+value_number : (depth : ℕ) (scope : Scope) (v : ℤ) (token k : ℕ)
+    → valued depth scope (Number v token) k ≡ without_reads (Const v) []
 value_number depth scope v token k = valued_number depth scope (Number v token) k v token refl
 
 value_access : (depth : ℕ) (scope : Scope) (name : Name) (subscripts : List Operand) (k : ℕ)
-    → valued depth scope (Access name subscripts) k ≡ name_value depth scope name.token (value_named scope name.text) subscripts k
+    → valued depth scope (Access name subscripts) k
+    ≡ name_value depth scope name.token (value_named scope name.text) subscripts k
 value_access depth scope name subscripts k = valued_access depth scope (Access name subscripts) k name subscripts refl
 
 value_binary : (depth : ℕ) (scope : Scope) (sign : BinarySign) (token : ℕ) (left right : Operand) (k : ℕ)
     → valued depth scope (Binary sign token left right) k
-    ≡ joined (binary_expr sign) (valued depth scope left k) (valued depth scope right (k + length (valued depth scope left k).reads))
-value_binary depth scope sign token left right k = valued_binary depth scope (Binary sign token left right) k sign token left right refl
+    ≡ joined (binary_expr sign) (valued depth scope left k)
+    (valued depth scope right (k + length (valued depth scope left k).reads))
+value_binary depth scope sign token left right k =
+    valued_binary depth scope (Binary sign token left right) k sign token left right refl
 
 small_is_limited : (count : ℕ) → count ≤ 2147483647 → is_limited_number (pos count) ≡ true
 small_is_limited count small = grind (arith, nat_tests, ints)
@@ -77,7 +84,8 @@ small_is_limited count small = grind (arith, nat_tests, ints)
 
 pub nothing_found : (count : ℕ) → count ≤ 2147483647 → findings matrix_tree (size_given count) ≡ []
 unfolding findings declared
-nothing_found count small = simp (for_made, block_is, assign_is, judged_number, judged_access, lower_number, upper_name, value_number, value_access, value_binary, small_is_limited count small)
+nothing_found count small =
+    simp (for_made, block_is, assign_is, judged_number, judged_access, lower_number, upper_name, value_number, value_access, value_binary, small_is_limited count small)
 
 pub input_counts : (count : ℕ) → count ≤ 2147483647 → map input_count (nest_of matrix_tree (size_given count)).arrays
     ≡ count * (count * 1) ∷ count * (count * 1) ∷ 0 ∷ []

@@ -23,13 +23,16 @@ zero_at p = of_factor (grammar.number (pos 0) p)
 
 -- a name with two subscripts, whose first token has number p
 abbrev cell : List ℕ → ℕ → List ℕ → List ℕ → Access
-cell text p i j = grammar.subscript (grammar.subscript (grammar.name (named text p)) (p + 1) (variable i (p + 2)) (p + 3)) (p + 4) (variable j (p + 5)) (p + 6)
+cell text p i j = grammar.subscript
+    (grammar.subscript (grammar.name (named text p)) (p + 1) (variable i (p + 2)) (p + 3)) (p + 4) (variable j (p + 5))
+    (p + 6)
 
 -- a loop from 0 to the last row or column, whose first token has number p
 abbrev loop : ℕ → List ℕ → Statement → Statement
 loop p i body =
     grammar.loop
-    (grammar.header p (p + 1) None (named i (p + 2)) (p + 3) (zero_at (p + 4)) (p + 5) (named i (p + 6)) false (p + 7) (variable (codes "N") (p + 8)) (p + 9)
+    (grammar.header p (p + 1) None (named i (p + 2)) (p + 3) (zero_at (p + 4)) (p + 5) (named i (p + 6)) false (p + 7)
+    (variable (codes "N") (p + 8)) (p + 9)
     (grammar.postfix (named i (p + 10)) (p + 11)) (p + 12))
     body
 
@@ -38,14 +41,17 @@ declarations =
     grammar.also_declared
     (grammar.also_declared
     (grammar.also_declared grammar.none_declared (grammar.parameters 0 (grammar.single (named (codes "N") 1)) 2))
-    (grammar.arrays input 3 (grammar.more (grammar.single (cell (codes "A") 4 (codes "N") (codes "N"))) 11 (cell (codes "B") 12 (codes "N") (codes "N"))) 19))
+    (grammar.arrays input 3
+    (grammar.more (grammar.single (cell (codes "A") 4 (codes "N") (codes "N"))) 11
+    (cell (codes "B") 12 (codes "N") (codes "N"))) 19))
     (grammar.arrays output 20 (grammar.single (cell (codes "C") 21 (codes "N") (codes "N"))) 28)
 
 -- C[i][j] + A[i][k] * B[k][j]
 abbrev sum : Expr
 sum =
     grammar.sum (of_factor (grammar.access (cell (codes "C") 87 (codes "i") (codes "j")))) plus 94
-    (grammar.product (grammar.factor (grammar.access (cell (codes "A") 95 (codes "i") (codes "k")))) 102 (grammar.access (cell (codes "B") 103 (codes "k") (codes "j"))))
+    (grammar.product (grammar.factor (grammar.access (cell (codes "A") 95 (codes "i") (codes "k")))) 102
+    (grammar.access (cell (codes "B") 103 (codes "k") (codes "j"))))
 
 abbrev clears : Statement
 clears = grammar.assign (cell (codes "C") 56 (codes "i") (codes "j")) 63 (zero_at 64) 65
@@ -54,7 +60,9 @@ abbrev adds : Statement
 adds = grammar.assign (cell (codes "C") 79 (codes "i") (codes "j")) 86 sum 110
 
 abbrev body : Statement
-body = grammar.block (grammar.braces 55 (grammar.and_statement (grammar.and_statement grammar.no_statement clears) (loop 66 (codes "k") adds)) 111)
+body = grammar.block
+    (grammar.braces 55
+    (grammar.and_statement (grammar.and_statement grammar.no_statement clears) (loop 66 (codes "k") adds)) 111)
 
 abbrev statements : Statements
 statements = grammar.and_statement grammar.no_statement (loop 29 (codes "i") (loop 42 (codes "j") body))

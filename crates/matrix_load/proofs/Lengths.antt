@@ -15,10 +15,12 @@ lengths count =
     let once : count * count ≡ count * (count * 1) = omega arith in
     simp (length-map-range_with_len, once)
 
-pub lengths_fit : (count : ℕ) (lists : List (List ℤ)) (nest : Nest) → count ≤ 2147483647 → lists ≡ matrix_inputs count → IsMatrixNest count nest
+pub lengths_fit : (count : ℕ) (lists : List (List ℤ)) (nest : Nest) → count ≤ 2147483647 → lists ≡ matrix_inputs count
+    → IsMatrixNest count nest
     → map length lists ≡ map input_count nest.arrays
 lengths_fit count lists nest small are is =
     let tree = same_tree is.found is.tree is.has_tokens is.has_tree in
     let declared : map input_count nest.arrays ≡ count * (count * 1) ∷ count * (count * 1) ∷ 0 ∷ [] =
-    ap (map input_count) (is.is_bound.arrays ∙ ap (λ (t : Tree). (nest_of t (size_given count)).arrays) tree) ∙ input_counts count small in
+    ap (map input_count) (is.is_bound.arrays ∙ ap (λ (t : Tree). (nest_of t (size_given count)).arrays) tree)
+    ∙ input_counts count small in
     ap (map length) are ∙ lengths count ∙ sym declared

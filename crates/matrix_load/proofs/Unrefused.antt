@@ -32,15 +32,19 @@ lexed source lexical.Memory same h = refl
 same_tokens : (found : List Token) → tokens matrix_product ≡ Ok found → matrix_tokens ≡ found
 same_tokens found is = let ok = has_tokens in cc
 
-pub derived : (source : List ℕ) (found : List Token) → source ≡ matrix_product → tokens matrix_product ≡ Ok found → IsTree source found matrix_tree
+pub derived : (source : List ℕ) (found : List Token) → source ≡ matrix_product → tokens matrix_product ≡ Ok found
+    → IsTree source found matrix_tree
 derived source found same is =
     subst (λ (text : List ℕ). IsTree text found matrix_tree) (sym same)
     (subst (λ (some : List Token). IsTree matrix_product some matrix_tree) (same_tokens found is) has_tree)
 
-pub same_tree : (found : List Token) (tree : Tree) → tokens matrix_product ≡ Ok found → IsTree matrix_product found tree → tree ≡ matrix_tree
-same_tree found tree is h = unique (sentence matrix_product found) tree matrix_tree h (derived matrix_product found refl is)
+pub same_tree : (found : List Token) (tree : Tree) → tokens matrix_product ≡ Ok found → IsTree matrix_product found tree
+    → tree ≡ matrix_tree
+same_tree found tree is h =
+    unique (sentence matrix_product found) tree matrix_tree h (derived matrix_product found refl is)
 
-unfounded : (tree : Tree) (params : Values) (e : BindError) → findings tree params ≡ [] → Binds tree params (Err e) → e ≡ binding.Memory
+unfounded : (tree : Tree) (params : Values) (e : BindError) → findings tree params ≡ [] → Binds tree params (Err e)
+    → e ≡ binding.Memory
 unfounded tree params (binding.UnknownName t) none h = absurd (let least = ap (least_from None) none in cc)
 unfounded tree params (binding.Duplicate t) none h = absurd (let least = ap (least_from None) none in cc)
 unfounded tree params (binding.Unbound t) none h = absurd (let least = ap (least_from None) none in cc)
@@ -56,9 +60,11 @@ unfounded tree params (binding.StepMax t) none h = absurd (let least = ap (least
 unfounded tree params (binding.StepRange t) none h = absurd (let least = ap (least_from None) none in cc)
 unfounded tree params binding.Memory none h = refl
 
-pub bound : (count : ℕ) (found : List Token) (tree : Tree) (params : Values) (e : BindError) → count ≤ 2147483647 → tokens matrix_product ≡ Ok found
+pub bound : (count : ℕ) (found : List Token) (tree : Tree) (params : Values) (e : BindError) → count ≤ 2147483647
+    → tokens matrix_product ≡ Ok found
     → IsTree matrix_product found tree → params ≡ size_given count → Binds tree params (Err e) → e ≡ binding.Memory
 bound count found tree params e small is h given refused =
     let none : findings tree params ≡ [] =
-    ap (findings tree) given ∙ ap (λ (t : Tree). findings t (size_given count)) (same_tree found tree is h) ∙ nothing_found count small in
+    ap (findings tree) given ∙ ap (λ (t : Tree). findings t (size_given count)) (same_tree found tree is h)
+    ∙ nothing_found count small in
     unfounded tree params e none refused

@@ -55,8 +55,9 @@ fn the_nest_multiplies_the_inputs(rt: HostRuntime) -> Result<(), Fail> {
 fn each_size_has_a_nest(rt: HostRuntime) -> Result<(), Fail> {
     for (count, wanted) in [
         (2, Ok(56)),
-        (101, Err(SizeError::Limit(2097153))),
-        (2147483647, Err(SizeError::Limit(2097153))),
+        (159, Ok(8242242)),
+        (160, Err(SizeError::Limit(8388609))),
+        (2147483647, Err(SizeError::Limit(8388609))),
     ] {
         let nest = matrix_nest(rt.alloc(), count)?;
         assert_eq!(rt; nest.statements.len(), 5);

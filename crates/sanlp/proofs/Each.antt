@@ -1,7 +1,8 @@
 -- What holds of each element of a list.
-use Rattle.std.proofs.Common.{◌<◌, ◌≤◌, ℕ, zero, suc, ◌+◌, List, [], ◌∷◌, ◌++◌, map, arith}
+use Rattle.std.proofs.Common.{◌<◌, ◌≤◌, ℕ, zero, suc, ◌+◌, Bool, List, [], ◌∷◌, ◌++◌, map, inl, inr, arith}
+use Rattle.std.proofs.lemmas.Bool.{cases_Bool}
 use Rattle.std.proofs.lemmas.List.Elements.{All-cons, All-head, All-nil, All-tail}
-use Rattle.std.specs.List.{All, flat_map, range_with_len}
+use Rattle.std.specs.List.{All, filter, flat_map, range_with_len}
 
 abbrev pub Each : {X : Type 0} → (X → Type 0) → List X → Type 0
 Each P [] = Unit {0}
@@ -31,18 +32,29 @@ pub each_map : {X Y : Type 0} (P : Y → Type 0) (f : X → Y) (xs : List X) →
 each_map P f [] h = tt
 each_map P f (x ∷ xs) h = (h.0, each_map P f xs h.1)
 
-pub each_from_map : {X Y : Type 0} (P : Y → Type 0) (f : X → Y) (xs : List X) → Each P (map f xs) → Each (λ x. P (f x)) xs
+pub each_from_map : {X Y : Type 0} (P : Y → Type 0) (f : X → Y) (xs : List X) → Each P (map f xs)
+    → Each (λ x. P (f x)) xs
 each_from_map P f [] h = tt
 each_from_map P f (x ∷ xs) h = (h.0, each_from_map P f xs h.1)
 
-pub each_flat_map : {X Y : Type 0} (P : Y → Type 0) (f : X → List Y) (xs : List X) → Each (λ x. Each P (f x)) xs → Each P (flat_map f xs)
+pub each_flat_map : {X Y : Type 0} (P : Y → Type 0) (f : X → List Y) (xs : List X) → Each (λ x. Each P (f x)) xs
+    → Each P (flat_map f xs)
 each_flat_map P f [] h = tt
 each_flat_map P f (x ∷ xs) h = each_append P (f x) (flat_map f xs) h.0 (each_flat_map P f xs h.1)
+
+pub each_filter : {X : Type 0} (P : X → Type 0) (test : X → Bool) (xs : List X) → Each P xs → Each P (filter test xs)
+each_filter P test [] h = tt
+each_filter P test (x ∷ xs) h =
+    elim (cases_Bool (test x)) [
+      | inl kept ↦ rw kept ((h.0, each_filter P test xs h.1))
+      | inr left ↦ rw left (each_filter P test xs h.1)
+    ]
 
 -- what holds of each number from a on, below a + n
 pub each_range_with_len : (P : ℕ → Type 0) (a n : ℕ) → ((k : ℕ) → a ≤ k → k < a + n → P k) → Each P (range_with_len a n)
 each_range_with_len P a zero f = tt
-each_range_with_len P a (suc n) f = (f a (omega arith) (omega arith), each_range_with_len P (a + 1) n (λ k l r. f k (omega arith) (omega arith)))
+each_range_with_len P a (suc n) f =
+    (f a (omega arith) (omega arith), each_range_with_len P (a + 1) n (λ k l r. f k (omega arith) (omega arith)))
 
 -- these numbers are at least a, and below a + n
 pub range_with_len_above : (a b n : ℕ) → b ≤ a → Each (λ k. b ≤ k) (range_with_len a n)

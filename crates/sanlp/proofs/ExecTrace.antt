@@ -26,7 +26,8 @@ fold_flat : {X : Type 0} (execute : Memory → Point → Memory) (f : Memory →
     → (m : Memory) (xs : List X) → fold f m xs ≡ fold execute m (flat_map g xs)
 fold_flat execute f g same m [] = refl
 fold_flat execute f g same m (x ∷ xs) =
-    ap (λ m. fold f m xs) (same x m) ∙ fold_flat execute f g same _ xs ∙ sym (fold-append execute m (g x) (flat_map g xs))
+    ap (λ m. fold f m xs) (same x m) ∙ fold_flat execute f g same _ xs
+    ∙ sym (fold-append execute m (g x) (flat_map g xs))
 
 module _ (n : Nest) (d : Inputs) where
   abbrev pub IsTraced : Node → Type 0
@@ -37,7 +38,8 @@ module _ (n : Nest) (d : Inputs) where
 
   -- a list of parts
   parts_traced : (parts : List Traced) (at : List ℤ) (m : Memory)
-      → in_turn (map (exec_node n d) (map (λ e. e.0) parts)) at m ≡ fold (execute n d) m (flat_map (λ part. part at) (map trace_node (map (λ e. e.0) parts)))
+      → in_turn (map (exec_node n d) (map (λ e. e.0) parts)) at m
+      ≡ fold (execute n d) m (flat_map (λ part. part at) (map trace_node (map (λ e. e.0) parts)))
   parts_traced [] at m = refl
   parts_traced (e ∷ parts) at m =
       ap (λ m. in_turn (map (exec_node n d) (map (λ e. e.0) parts)) at m) (e.1 at m)
@@ -48,11 +50,13 @@ module _ (n : Nest) (d : Inputs) where
   layer_traced (Loop id lower upper step body) at m =
       ap (λ act. act at m) (fold-roll-Node Action (exec_step n d) (Loop id lower upper step (map (λ e. e.0) body)))
       ∙ fold_flat (execute n d) _ _ (λ v m. parts_traced body (at ++ v ∷ []) m) m (loop_values lower upper step at)
-      ∙ ap (λ ps. fold (execute n d) m (ps at)) (sym (fold-roll-Node PointsAt trace_step (Loop id lower upper step (map (λ e. e.0) body))))
+      ∙ ap (λ ps. fold (execute n d) m (ps at))
+      (sym (fold-roll-Node PointsAt trace_step (Loop id lower upper step (map (λ e. e.0) body))))
   layer_traced (Guard rows body) at m =
       ap (λ act. act at m) (fold-roll-Node Action (exec_step n d) (Guard rows (map (λ e. e.0) body)))
       ∙ guarded (all_hold rows at)
-      ∙ ap (λ ps. fold (execute n d) m (ps at)) (sym (fold-roll-Node PointsAt trace_step (Guard rows (map (λ e. e.0) body)))) where
+      ∙ ap (λ ps. fold (execute n d) m (ps at))
+      (sym (fold-roll-Node PointsAt trace_step (Guard rows (map (λ e. e.0) body)))) where
         guarded : (b : Bool) → cond b (in_turn (map (exec_node n d) (map (λ e. e.0) body)) at m) m
             ≡ fold (execute n d) m (cond b (flat_map (λ part. part at) (map trace_node (map (λ e. e.0) body))) [])
         guarded true = parts_traced body at m

@@ -15,12 +15,16 @@ use Rattle.sanlp.proofs.Each.{Each, each_map, each_of}
 
 module _ (A : Type 0) (layer : open_node.Node-F A → A) where
   pub fold_loop : (id : ℕ) (lower upper : List Form) (step : ℤ) (body : List Node)
-      → fold-Node A layer (Loop id lower upper step body) ≡ layer (open_node.Loop id lower upper step (map (fold-Node A layer) body))
-  fold_loop id lower upper step body = ap (fold-Node A layer) (sym (rolls-Loop id lower upper step body)) ∙ fold-roll-Node A layer (open_node.Loop id lower upper step body)
+      → fold-Node A layer (Loop id lower upper step body)
+      ≡ layer (open_node.Loop id lower upper step (map (fold-Node A layer) body))
+  fold_loop id lower upper step body =
+      ap (fold-Node A layer) (sym (rolls-Loop id lower upper step body))
+      ∙ fold-roll-Node A layer (open_node.Loop id lower upper step body)
 
   pub fold_guard : (rows : List Form) (body : List Node)
       → fold-Node A layer (Guard rows body) ≡ layer (open_node.Guard rows (map (fold-Node A layer) body))
-  fold_guard rows body = ap (fold-Node A layer) (sym (rolls-Guard rows body)) ∙ fold-roll-Node A layer (open_node.Guard rows body)
+  fold_guard rows body =
+      ap (fold-Node A layer) (sym (rolls-Guard rows body)) ∙ fold-roll-Node A layer (open_node.Guard rows body)
 
   pub fold_assign : (s : ℕ) → fold-Node A layer (Assign s) ≡ layer (open_node.Assign s)
   fold_assign s = ap (fold-Node A layer) (sym (rolls-Assign s)) ∙ fold-roll-Node A layer (open_node.Assign s)
@@ -28,11 +32,13 @@ module _ (A : Type 0) (layer : open_node.Node-F A → A) where
 -- the same where the fold gives a function
 module _ (X B : Type 0) (layer : open_node.Node-F (X → B) → X → B) where
   pub fold_loop_at : (id : ℕ) (lower upper : List Form) (step : ℤ) (body : List Node) (x : X)
-      → fold-Node (X → B) layer (Loop id lower upper step body) x ≡ layer (open_node.Loop id lower upper step (map (fold-Node (X → B) layer) body)) x
+      → fold-Node (X → B) layer (Loop id lower upper step body) x
+      ≡ layer (open_node.Loop id lower upper step (map (fold-Node (X → B) layer) body)) x
   fold_loop_at id lower upper step body x = ap (λ f. f x) (fold_loop (X → B) layer id lower upper step body)
 
   pub fold_guard_at : (rows : List Form) (body : List Node) (x : X)
-      → fold-Node (X → B) layer (Guard rows body) x ≡ layer (open_node.Guard rows (map (fold-Node (X → B) layer) body)) x
+      → fold-Node (X → B) layer (Guard rows body) x
+      ≡ layer (open_node.Guard rows (map (fold-Node (X → B) layer) body)) x
   fold_guard_at rows body x = ap (λ f. f x) (fold_guard (X → B) layer rows body)
 
   pub fold_assign_at : (s : ℕ) (x : X) → fold-Node (X → B) layer (Assign s) x ≡ layer (open_node.Assign s) x
@@ -41,19 +47,24 @@ module _ (X B : Type 0) (layer : open_node.Node-F (X → B) → X → B) where
 -- the same where it gives a function of two
 module _ (X Y B : Type 0) (layer : open_node.Node-F (X → Y → B) → X → Y → B) where
   pub fold_loop_at_both : (id : ℕ) (lower upper : List Form) (step : ℤ) (body : List Node) (x : X) (y : Y)
-      → fold-Node (X → Y → B) layer (Loop id lower upper step body) x y ≡ layer (open_node.Loop id lower upper step (map (fold-Node (X → Y → B) layer) body)) x y
-  fold_loop_at_both id lower upper step body x y = ap (λ f. f x y) (fold_loop (X → Y → B) layer id lower upper step body)
+      → fold-Node (X → Y → B) layer (Loop id lower upper step body) x y
+      ≡ layer (open_node.Loop id lower upper step (map (fold-Node (X → Y → B) layer) body)) x y
+  fold_loop_at_both id lower upper step body x y =
+      ap (λ f. f x y) (fold_loop (X → Y → B) layer id lower upper step body)
 
   pub fold_guard_at_both : (rows : List Form) (body : List Node) (x : X) (y : Y)
-      → fold-Node (X → Y → B) layer (Guard rows body) x y ≡ layer (open_node.Guard rows (map (fold-Node (X → Y → B) layer) body)) x y
+      → fold-Node (X → Y → B) layer (Guard rows body) x y
+      ≡ layer (open_node.Guard rows (map (fold-Node (X → Y → B) layer) body)) x y
   fold_guard_at_both rows body x y = ap (λ f. f x y) (fold_guard (X → Y → B) layer rows body)
 
-  pub fold_assign_at_both : (s : ℕ) (x : X) (y : Y) → fold-Node (X → Y → B) layer (Assign s) x y ≡ layer (open_node.Assign s) x y
+  pub fold_assign_at_both : (s : ℕ) (x : X) (y : Y)
+      → fold-Node (X → Y → B) layer (Assign s) x y ≡ layer (open_node.Assign s) x y
   fold_assign_at_both s x y = ap (λ f. f x y) (fold_assign (X → Y → B) layer s)
 
 -- what holds of a node where it holds of its parts holds of each node
 module _ (P : Node → Type 0)
-    (loop : (id : ℕ) (lower upper : List Form) (step : ℤ) (body : List Node) → Each P body → P (Loop id lower upper step body))
+    (loop : (id : ℕ) (lower upper : List Form) (step : ℤ) (body : List Node) → Each P body
+    → P (Loop id lower upper step body))
     (guard : (rows : List Form) (body : List Node) → Each P body → P (Guard rows body))
     (assign : (s : ℕ) → P (Assign s)) where
   abbrev Shown : Type 0
@@ -63,8 +74,11 @@ module _ (P : Node → Type 0)
   shown body = each_map P (λ e. e.0) body (each_of (λ (e : Shown). P e.0) body (λ e. e.1))
 
   of_layer : (y : open_node.Node-F Shown) → P (roll-Node (map-Node Shown Node (λ e. e.0) y))
-  of_layer (open_node.Loop id lower upper step body) = subst P (sym (rolls-Loop id lower upper step (map (λ e. e.0) body))) (loop id lower upper step (map (λ e. e.0) body) (shown body))
-  of_layer (open_node.Guard rows body) = subst P (sym (rolls-Guard rows (map (λ e. e.0) body))) (guard rows (map (λ e. e.0) body) (shown body))
+  of_layer (open_node.Loop id lower upper step body) =
+      subst P (sym (rolls-Loop id lower upper step (map (λ e. e.0) body)))
+      (loop id lower upper step (map (λ e. e.0) body) (shown body))
+  of_layer (open_node.Guard rows body) =
+      subst P (sym (rolls-Guard rows (map (λ e. e.0) body))) (guard rows (map (λ e. e.0) body) (shown body))
   of_layer (open_node.Assign s) = subst P (sym (rolls-Assign s)) (assign s)
 
   pub by_parts : (node : Node) → P node
@@ -83,10 +97,12 @@ module _ (A : Type 0) (layer : open_expr.Expr-F A → A) where
   pub fold_given : fold-Expr A layer variants.Given ≡ layer open_expr.Given
   fold_given = ap (fold-Expr A layer) (sym views.rolls-Given) ∙ fold-roll-Expr A layer open_expr.Given
 
-  pub fold_add : (a b : Expr) → fold-Expr A layer (variants.Add a b) ≡ layer (open_expr.Add (fold-Expr A layer a) (fold-Expr A layer b))
+  pub fold_add : (a b : Expr)
+      → fold-Expr A layer (variants.Add a b) ≡ layer (open_expr.Add (fold-Expr A layer a) (fold-Expr A layer b))
   fold_add a b = ap (fold-Expr A layer) (sym (views.rolls-Add a b)) ∙ fold-roll-Expr A layer (open_expr.Add a b)
 
-  pub fold_mul : (a b : Expr) → fold-Expr A layer (variants.Mul a b) ≡ layer (open_expr.Mul (fold-Expr A layer a) (fold-Expr A layer b))
+  pub fold_mul : (a b : Expr)
+      → fold-Expr A layer (variants.Mul a b) ≡ layer (open_expr.Mul (fold-Expr A layer a) (fold-Expr A layer b))
   fold_mul a b = ap (fold-Expr A layer) (sym (views.rolls-Mul a b)) ∙ fold-roll-Expr A layer (open_expr.Mul a b)
 
 -- the same where the fold gives a function
@@ -100,10 +116,14 @@ module _ (X B : Type 0) (layer : open_expr.Expr-F (X → B) → X → B) where
   pub fold_const_at : (c : ℤ) (x : X) → fold-Expr (X → B) layer (variants.Const c) x ≡ layer (open_expr.Const c) x
   fold_const_at c x = ap (λ f. f x) (fold_const (X → B) layer c)
 
-  pub fold_add_at : (a b : Expr) (x : X) → fold-Expr (X → B) layer (variants.Add a b) x ≡ layer (open_expr.Add (fold-Expr (X → B) layer a) (fold-Expr (X → B) layer b)) x
+  pub fold_add_at : (a b : Expr) (x : X)
+      → fold-Expr (X → B) layer (variants.Add a b) x
+      ≡ layer (open_expr.Add (fold-Expr (X → B) layer a) (fold-Expr (X → B) layer b)) x
   fold_add_at a b x = ap (λ f. f x) (fold_add (X → B) layer a b)
 
-  pub fold_mul_at : (a b : Expr) (x : X) → fold-Expr (X → B) layer (variants.Mul a b) x ≡ layer (open_expr.Mul (fold-Expr (X → B) layer a) (fold-Expr (X → B) layer b)) x
+  pub fold_mul_at : (a b : Expr) (x : X)
+      → fold-Expr (X → B) layer (variants.Mul a b) x
+      ≡ layer (open_expr.Mul (fold-Expr (X → B) layer a) (fold-Expr (X → B) layer b)) x
   fold_mul_at a b x = ap (λ f. f x) (fold_mul (X → B) layer a b)
 
   pub fold_given_at : (x : X) → fold-Expr (X → B) layer variants.Given x ≡ layer open_expr.Given x

@@ -7,9 +7,11 @@ use Rattle.sanlp.specs.declared.nest.Point.{Point}
 use Rattle.sanlp.specs.Laws.{IsGreatestBelow, IsLastWriter}
 use Rattle.sanlp.specs.Writers.{greatest_below, last_before, writes_at}
 
-one_more : (f : ℕ → Bool) (t : ℕ) (o : Option ℕ) (b : Bool) → f t ≡ b → IsGreatestBelow f t o → IsGreatestBelow f (suc t) (cond b (Some t) o)
+one_more : (f : ℕ → Bool) (t : ℕ) (o : Option ℕ) (b : Bool) → f t ≡ b → IsGreatestBelow f t o
+    → IsGreatestBelow f (suc t) (cond b (Some t) o)
 one_more f t o true e h = (omega arith, e, λ w l r. absurd (omega arith))
-one_more f t None false e h = λ w lt. elim (cases_lt w t) [ inl k ↦ h w k | inr k ↦ (let s : w ≡ t = omega arith in ap f s ∙ e) ]
+one_more f t None false e h =
+    λ w lt. elim (cases_lt w t) [ inl k ↦ h w k | inr k ↦ (let s : w ≡ t = omega arith in ap f s ∙ e) ]
 one_more f t (Some u) false e h =
     (omega (arith, h.0), h.1, λ w l r. elim (cases_lt w t) [ inl k ↦ h.2 w l k | inr k ↦ (let s : w ≡ t = omega arith in ap f s ∙ e) ])
 

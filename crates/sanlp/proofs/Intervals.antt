@@ -20,7 +20,7 @@ natural_none : (z : ℤ) → z ≤ℤ pos 0 → natural z ≡ 0
 natural_none (pos n) h = omega (arith, ints)
 natural_none (negsuc n) h = refl
 
-natural_more : (z : ℤ) → pos 0 <ℤ z → natural z ≡ suc (natural (z -ℤ pos 1))
+pub natural_more : (z : ℤ) → pos 0 <ℤ z → natural z ≡ suc (natural (z -ℤ pos 1))
 natural_more (pos zero) h = absurd (omega (arith, ints))
 natural_more (pos (suc n)) h = ap suc (ap natural (let e : pos n ≡ pos (suc n) -ℤ pos 1 = omega (arith, ints) in e))
 natural_more (negsuc n) h = absurd (omega (arith, ints))
@@ -44,7 +44,9 @@ in_counted a v (suc n) h = elim h [
 
 pub counted_in : (a v : ℤ) (n : ℕ) → a ≤ℤ v → v <ℤ (a +ℤ pos n) → In v (counted a n)
 counted_in a v zero h k = absurd (omega (arith, ints))
-counted_in a v (suc n) h k = by_lt_z a v (λ lt. inr (counted_in (a +ℤ pos 1) v n (omega (arith, ints)) (omega (arith, ints)))) (λ le. inl (omega (arith, ints)))
+counted_in a v (suc n) h k = by_lt_z a v
+    (λ lt. inr (counted_in (a +ℤ pos 1) v n (omega (arith, ints)) (omega (arith, ints))))
+    (λ le. inl (omega (arith, ints)))
 
 pub counted_ascends : (a : ℤ) (n : ℕ) → Pairwise (λ v w. v <ℤ w) (counted a n)
 counted_ascends a zero = tt

@@ -47,7 +47,8 @@ stored : (m : Memory) (written : Option Cell) (v : ℤ) (cell : Cell) (f : ℕ �
     → store m written v cell ≡ option_map f (cond (option_map_or (λ w. is_cell w cell) written false) (Some t) o)
 stored m None v cell f t o before value = before
 stored m (Some w) v cell f t o before value =
-    elim (is_cell w cell) as (λ b. cond b (Some v) (m cell) ≡ option_map f (cond b (Some t) o)) [ true ↦ ap Some value | false ↦ before ]
+    elim (is_cell w cell) as
+    (λ b. cond b (Some v) (m cell) ≡ option_map f (cond b (Some t) o)) [ true ↦ ap Some value | false ↦ before ]
 
 module _ (n : Nest) (d : Inputs) (points : List Point) where
   last_before_below : (t : ℕ) (cell : Cell) → IsBelow t (last_before n points t cell)
@@ -71,7 +72,8 @@ module _ (n : Nest) (d : Inputs) (points : List Point) where
         subst (λ w. get_or (values_before n d points (suc t)) w (pos 0) ≡ value_at n d points w) (sym same) refl
   ]
 
-  value_or_zero_is : (t : ℕ) (o : Option ℕ) → IsBelow t o → value_or_zero (values_before n d points t) o ≡ unwrap_or (option_map (value_at n d points) o) (pos 0)
+  value_or_zero_is : (t : ℕ) (o : Option ℕ) → IsBelow t o
+      → value_or_zero (values_before n d points t) o ≡ unwrap_or (option_map (value_at n d points) o) (pos 0)
   unfolding IsBelow
   value_or_zero_is t None h = refl
   value_or_zero_is t (Some u) h = value_stays t u h
@@ -81,7 +83,9 @@ module _ (n : Nest) (d : Inputs) (points : List Point) where
   unfolding values_before value_at
   value_at_is t p e =
       get_or_push (values_before n d points t) _ (pos 0) t (length_values t)
-      ∙ ap (λ o. option_map_or (λ q. result_of n d q (λ cell. value_or_zero (values_before n d points t) (last_before n points t cell))) o (pos 0)) e
+      ∙ ap (λ o. option_map_or
+      (λ q. result_of n d q (λ cell. value_or_zero (values_before n d points t) (last_before n points t cell))) o
+      (pos 0)) e
       ∙ ap (result_of n d p) (λ i cell. value_or_zero_is t (last_before n points t cell) (last_before_below t cell) i)
 
   pub holds_last_writers : HoldsLastWriters n d points
@@ -91,10 +95,14 @@ module _ (n : Nest) (d : Inputs) (points : List Point) where
       let none : Point = record { statement = 0; at = [] } in
       let p : Point = get_or points t none in
       let here : slice_get points t ≡ Some p = get_from_index points t none (omega arith) in
-      let before : (c : Cell) → memory_before n d points t c ≡ option_map (value_at n d points) (last_before n points t c) = λ c. holds_last_writers t c (omega arith) in
+      let before : (c : Cell)
+      → memory_before n d points t c ≡ option_map (value_at n d points) (last_before n points t c) =
+      λ c. holds_last_writers t c (omega arith) in
       let looks : result_of n d p (cell_value (memory_before n d points t)) ≡ value_at n d points t
       = ap (result_of n d p) (λ i c. unwrap_or (before c i) (pos 0)) ∙ sym (value_at_is t p here) in
       ap (λ k. fold (execute n d) no_cells (take k points) cell) (sym (add-one t))
       ∙ ap (λ m. m cell) (fold_more (execute n d) no_cells points t none (omega arith))
-      ∙ stored (memory_before n d points t) (write_of n p) _ cell (value_at n d points) t (last_before n points t cell) (before cell) looks
-      ∙ ap (λ o. option_map (value_at n d points) (cond (option_map_or (λ q. writes n q cell) o false) (Some t) (last_before n points t cell))) (sym here)
+      ∙ stored (memory_before n d points t) (write_of n p) _ cell (value_at n d points) t (last_before n points t cell)
+      (before cell) looks
+      ∙ ap (λ o. option_map (value_at n d points)
+      (cond (option_map_or (λ q. writes n q cell) o false) (Some t) (last_before n points t cell))) (sym here)

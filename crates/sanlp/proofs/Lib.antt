@@ -1,4 +1,7 @@
 pub mod BoundRows
+pub mod Bounded
+pub mod Composing
+pub mod Contiguous
 pub mod Domains
 pub mod Each
 pub mod Elements

@@ -1,7 +1,7 @@
 -- The points of a node come in the order of execution.
 use Rattle.std.proofs.Common.{◌≡◌, ◌<◌, ℕ, suc, ◌+◌, ℤ, ◌<ℤ◌, List, [], ◌∷◌, ◌++◌, map, length, Bool, true, false, cond, inl, inr, refl, sym, ap, ◌∙◌, subst, arith, append_assoc}
 use Rattle.std.specs.Prelude.{nat_lt, Some, slice_get}
-use Rattle.std.proofs.lemmas.Bool.{eq-eqb, lt-ltb, ne_eqb}
+use Rattle.std.proofs.lemmas.Bool.{lt-ltb}
 use Rattle.std.proofs.lemmas.List.{length_push}
 use Rattle.affine_core.specs.declared.form.Form.{Form}
 use Rattle.sanlp.specs.declared.nest.Nest.{Nest}
@@ -19,34 +19,21 @@ use Rattle.sanlp.proofs.Domains.{FitsIn, GuardFits, LoopFits, Origin, HasOrigins
 use Rattle.sanlp.proofs.Each.{Each, each_left, each_of, each_right}
 use Rattle.sanlp.proofs.Folds.{by_parts, fold_guard, fold_loop}
 use Rattle.sanlp.proofs.Members.{In, Pairwise, each_in, pairwise_across, pairwise_append, pairwise_flat_map, pairwise_left, pairwise_right}
-use Rattle.sanlp.proofs.Precedence.{loops_found}
-
--- common loops
-common_front : (loops ks ls : List ℕ) → common_loops (loops ++ ks) (loops ++ ls) ≡ length loops + common_loops ks ls
-common_front [] ks ls = let e : common_loops ks ls ≡ 0 + common_loops ks ls = omega arith in e
-common_front (k ∷ loops) ks ls =
-    ap (λ b. cond b (suc (common_loops (loops ++ ks) (loops ++ ls))) 0) (eq-eqb k k refl)
-    ∙ (let h : common_loops (loops ++ ks) (loops ++ ls) ≡ length loops + common_loops ks ls = common_front loops ks ls in
-    let e : suc (common_loops (loops ++ ks) (loops ++ ls)) ≡ suc (length loops) + common_loops ks ls = omega (arith, h) in e)
-
--- loops of which all of the one come before all of the other have none in common
-common_none : (ks ls : List ℕ) → ((k l : ℕ) → In k ks → In l ls → k < l) → common_loops ks ls ≡ 0
-common_none [] ls h = refl
-common_none (k ∷ ks) [] h = refl
-common_none (k ∷ ks) (l ∷ ls) h =
-    let lt : k < l = h k l (inl refl) (inl refl) in
-    ap (λ b. cond b (suc (common_loops ks ls)) 0) (ne_eqb k l (λ e. omega arith))
+use Rattle.sanlp.proofs.Precedence.{common_front, common_none, loops_found}
 
 -- vectors that begin with the same values
 same_front : (less : Bool) (at xs ys : List ℤ) → less ≡ true → PrecedesWithin (length at) less (at ++ xs) (at ++ ys)
 same_front less [] xs ys h = h
 same_front less (v ∷ at) xs ys h = inr (refl, same_front less at xs ys h)
 
-less_after : (less : Bool) (at xs ys : List ℤ) (c : ℕ) (v w : ℤ) → v <ℤ w → PrecedesWithin (length at + suc c) less (at ++ v ∷ xs) (at ++ w ∷ ys)
-less_after less [] xs ys c v w h = let e : suc c ≡ 0 + suc c = omega arith in subst (λ d. PrecedesWithin d less (v ∷ xs) (w ∷ ys)) e (inl h)
+less_after : (less : Bool) (at xs ys : List ℤ) (c : ℕ) (v w : ℤ) → v <ℤ w
+    → PrecedesWithin (length at + suc c) less (at ++ v ∷ xs) (at ++ w ∷ ys)
+less_after less [] xs ys c v w h =
+    let e : suc c ≡ 0 + suc c = omega arith in subst (λ d. PrecedesWithin d less (v ∷ xs) (w ∷ ys)) e (inl h)
 less_after less (x ∷ at) xs ys c v w h =
     let e : suc (length at + suc c) ≡ suc (length at) + suc c = omega arith in
-    subst (λ d. PrecedesWithin d less (x ∷ (at ++ v ∷ xs)) (x ∷ (at ++ w ∷ ys))) e (inr (refl, less_after less at xs ys c v w h))
+    subst (λ d. PrecedesWithin d less (x ∷ (at ++ v ∷ xs)) (x ∷ (at ++ w ∷ ys))) e
+    (inr (refl, less_after less at xs ys c v w h))
 
 module _ (n : Nest) where
   -- a place whose loops are those that its statement says
@@ -55,42 +42,59 @@ module _ (n : Nest) where
     pub found : slice_get n.statements place.statement ≡ Some statement
     pub loops : statement.loops ≡ place.loops
 
-  loops_said : (p : Point) (place : Place) → p.statement ≡ place.statement → IsSaid place → loops_round_point n p ≡ place.loops
+  loops_said : (p : Point) (place : Place) → p.statement ≡ place.statement → IsSaid place
+      → loops_round_point n p ≡ place.loops
   loops_said p place e said = loops_found n p said.statement (ap (slice_get n.statements) e ∙ said.found) ∙ said.loops
 
   abbrev pub Ascends : Place → Place → Type 0
   Ascends a b = a.statement < b.statement
 
   -- points of earlier parts precede those of later parts
-  across_parts : (places places' : List Place) (ids ids' : List ℕ) (loops : List ℕ) (at : List ℤ) → length loops ≡ length at
-      → Each IsSaid places → Each IsSaid places' → ((a b : Place) → In a places → In b places' → a.statement < b.statement) → ((k l : ℕ) → In k ids → In l ids' → k < l)
+  across_parts : (places places' : List Place) (ids ids' : List ℕ) (loops : List ℕ) (at : List ℤ)
+      → length loops ≡ length at
+      → Each IsSaid places → Each IsSaid places'
+      → ((a b : Place) → In a places → In b places' → a.statement < b.statement)
+      → ((k l : ℕ) → In k ids → In l ids' → k < l)
       → (p q : Point) → Origin places ids loops at p → Origin places' ids' loops at q → Precedes n p q
   across_parts places places' ids ids' loops at lengths said said' ascends apart p q o r =
       let less : nat_lt p.statement q.statement ≡ true =
       (let lt : o.place.statement < r.place.statement = ascends o.place r.place o.placed r.placed in lt-ltb p.statement q.statement (omega (arith, o.numbered, r.numbered))) in
-      let none : common_loops o.inner r.inner ≡ 0 = common_none o.inner r.inner (λ k l i j. apart k l (each_in (λ k. In k ids) k o.inner o.inside i) (each_in (λ k. In k ids') l r.inner r.inside j)) in
-      let first : loops_round_point n p ≡ loops ++ o.inner = loops_said p o.place o.numbered (each_in IsSaid o.place places said o.placed) ∙ o.rounds in
-      let second : loops_round_point n q ≡ loops ++ r.inner = loops_said q r.place r.numbered (each_in IsSaid r.place places' said' r.placed) ∙ r.rounds in
+      let none : common_loops o.inner r.inner ≡ 0 =
+      common_none o.inner r.inner
+      (λ k l i j. apart k l (each_in (λ k. In k ids) k o.inner o.inside i)
+      (each_in (λ k. In k ids') l r.inner r.inside j)) in
+      let first : loops_round_point n p ≡ loops ++ o.inner =
+      loops_said p o.place o.numbered (each_in IsSaid o.place places said o.placed) ∙ o.rounds in
+      let second : loops_round_point n q ≡ loops ++ r.inner =
+      loops_said q r.place r.numbered (each_in IsSaid r.place places' said' r.placed) ∙ r.rounds in
       let common : length at ≡ common_loops (loops_round_point n p) (loops_round_point n q) =
-      sym (ap (λ ks. common_loops ks (loops_round_point n q)) first ∙ ap (common_loops (loops ++ o.inner)) second ∙ common_front loops o.inner r.inner ∙ omega (arith, none, lengths)) in
+      sym (ap (λ ks. common_loops ks (loops_round_point n q)) first ∙ ap (common_loops (loops ++ o.inner)) second
+      ∙ common_front loops o.inner r.inner ∙ omega (arith, none, lengths)) in
       subst (λ c. PrecedesWithin c (nat_lt p.statement q.statement) p.at q.at) common
       (subst (λ xs. PrecedesWithin (length at) (nat_lt p.statement q.statement) xs q.at) (sym o.extends)
       (subst (λ ys. PrecedesWithin (length at) (nat_lt p.statement q.statement) (at ++ o.tail) ys) (sym r.extends)
       (same_front (nat_lt p.statement q.statement) at o.tail r.tail less)))
 
   -- points of earlier turns precede those of later turns
-  across_turns : (places : List Place) (ids loops : List ℕ) (id : ℕ) (at : List ℤ) (v w : ℤ) → length loops ≡ length at → Each IsSaid places → v <ℤ w
-      → (p q : Point) → Origin places ids (loops ++ id ∷ []) (at ++ v ∷ []) p → Origin places ids (loops ++ id ∷ []) (at ++ w ∷ []) q → Precedes n p q
+  across_turns : (places : List Place) (ids loops : List ℕ) (id : ℕ) (at : List ℤ) (v w : ℤ) → length loops ≡ length at
+      → Each IsSaid places → v <ℤ w
+      → (p q : Point) → Origin places ids (loops ++ id ∷ []) (at ++ v ∷ []) p
+      → Origin places ids (loops ++ id ∷ []) (at ++ w ∷ []) q → Precedes n p q
   across_turns places ids loops id at v w lengths said lt p q o r =
       let front : List ℕ = loops ++ id ∷ [] in
       let more : ℕ = common_loops o.inner r.inner in
-      let first : loops_round_point n p ≡ front ++ o.inner = loops_said p o.place o.numbered (each_in IsSaid o.place places said o.placed) ∙ o.rounds in
-      let second : loops_round_point n q ≡ front ++ r.inner = loops_said q r.place r.numbered (each_in IsSaid r.place places said r.placed) ∙ r.rounds in
+      let first : loops_round_point n p ≡ front ++ o.inner =
+      loops_said p o.place o.numbered (each_in IsSaid o.place places said o.placed) ∙ o.rounds in
+      let second : loops_round_point n q ≡ front ++ r.inner =
+      loops_said q r.place r.numbered (each_in IsSaid r.place places said r.placed) ∙ r.rounds in
       let common : length at + suc more ≡ common_loops (loops_round_point n p) (loops_round_point n q) =
-      sym (ap (λ ks. common_loops ks (loops_round_point n q)) first ∙ ap (common_loops (front ++ o.inner)) second ∙ common_front front o.inner r.inner ∙ omega (arith, lengths, length_push loops id)) in
+      sym (ap (λ ks. common_loops ks (loops_round_point n q)) first ∙ ap (common_loops (front ++ o.inner)) second
+      ∙ common_front front o.inner r.inner ∙ omega (arith, lengths, length_push loops id)) in
       subst (λ c. PrecedesWithin c (nat_lt p.statement q.statement) p.at q.at) common
-      (subst (λ xs. PrecedesWithin (length at + suc more) (nat_lt p.statement q.statement) xs q.at) (sym (o.extends ∙ append_assoc at (v ∷ []) o.tail))
-      (subst (λ ys. PrecedesWithin (length at + suc more) (nat_lt p.statement q.statement) (at ++ v ∷ o.tail) ys) (sym (r.extends ∙ append_assoc at (w ∷ []) r.tail))
+      (subst (λ xs. PrecedesWithin (length at + suc more) (nat_lt p.statement q.statement) xs q.at)
+      (sym (o.extends ∙ append_assoc at (v ∷ []) o.tail))
+      (subst (λ ys. PrecedesWithin (length at + suc more) (nat_lt p.statement q.statement) (at ++ v ∷ o.tail) ys)
+      (sym (r.extends ∙ append_assoc at (w ∷ []) r.tail))
       (less_after (nat_lt p.statement q.statement) at o.tail r.tail more v w lt)))
 
   -- the facts of the places and the loops of a node
@@ -103,8 +107,10 @@ module _ (n : Nest) where
   IsOrdered node = (loops : List ℕ) (rows : List Form) (at : List ℤ) → FitsIn (length at) node → Round loops rows at
       → InOrder (places_of node loops rows) (loops_of node) → Pairwise (Precedes n) (trace_node node at)
 
-  pub parts_ordered : (nodes : List Node) → Each IsOrdered nodes → (loops : List ℕ) (rows : List Form) (at : List ℤ) → Each (FitsIn (length at)) nodes → Round loops rows at
-      → InOrder (in_each (map places_of nodes) loops rows) (all_loops nodes) → Pairwise (Precedes n) (all_points (map trace_node nodes) at)
+  pub parts_ordered : (nodes : List Node) → Each IsOrdered nodes → (loops : List ℕ) (rows : List Form) (at : List ℤ)
+      → Each (FitsIn (length at)) nodes → Round loops rows at
+      → InOrder (in_each (map places_of nodes) loops rows) (all_loops nodes)
+      → Pairwise (Precedes n) (all_points (map trace_node nodes) at)
   parts_ordered [] h loops rows at fits r o = tt
   parts_ordered (node ∷ nodes) h loops rows at fits r o =
       let places : List Place = places_of node loops rows in
@@ -124,29 +130,46 @@ module _ (n : Nest) where
       (λ p q k l. across_parts places others (loops_of node) (all_loops nodes) loops at r.lengths first.said rest.said
       (λ a b i j. pairwise_across Ascends places others a b o.ascends i j)
       (λ a b i j. pairwise_across (λ j k. j < k) (loops_of node) (all_loops nodes) a b o.numbered i j) p q
-      (origins node loops rows at fits.0 r p k) (parts_origins nodes (each_of HasOrigins nodes origins) loops rows at fits.1 r q l))
+      (origins node loops rows at fits.0 r p k)
+      (parts_origins nodes (each_of HasOrigins nodes origins) loops rows at fits.1 r q l))
 
-  ordered_loop : (id : ℕ) (lower upper : List Form) (step : ℤ) (body : List Node) → Each IsOrdered body → IsOrdered (Loop id lower upper step body)
+  ordered_loop : (id : ℕ) (lower upper : List Form) (step : ℤ) (body : List Node) → Each IsOrdered body
+      → IsOrdered (Loop id lower upper step body)
   ordered_loop id lower upper step body h loops rows at fits r o =
       let f : LoopFits lower upper step body (length at) = loop_fits id lower upper step body (length at) fits in
       let values : List ℤ = loop_values lower upper step at in
       let points : ℤ → List Point = λ v. all_points (map trace_node body) (at ++ v ∷ []) in
-      let ids : Pairwise (λ j k. j < k) (id ∷ all_loops body) = subst (Pairwise (λ j k. j < k)) (fold_loop (List ℕ) loops_step id lower upper step body) o.numbered in
-      let inner : InOrder (in_each (map places_of body) (loops ++ id ∷ []) (inner_rows (length loops) rows lower upper step)) (all_loops body) = record {
+      let ids : Pairwise (λ j k. j < k) (id ∷ all_loops body) =
+      subst (Pairwise (λ j k. j < k)) (fold_loop (List ℕ) loops_step id lower upper step body) o.numbered in
+      let inner : InOrder
+      (in_each (map places_of body) (loops ++ id ∷ []) (inner_rows (length loops) rows lower upper step))
+      (all_loops body) = record {
         said = subst (Each IsSaid) (places_loop id lower upper step body loops rows) o.said;
         ascends = subst (Pairwise Ascends) (places_loop id lower upper step body loops rows) o.ascends;
         numbered = ids.1;
       } in
-      let turn_fits : (v : ℤ) → Each (FitsIn (length (at ++ v ∷ []))) body = λ v. subst (λ d. Each (FitsIn d) body) (sym (length_push at v)) f.body_fits in
-      let turn : (v : ℤ) → In v values → Round (loops ++ id ∷ []) (inner_rows (length loops) rows lower upper step) (at ++ v ∷ []) = λ v k. round_turn id lower upper step loops rows at v f.bounds r k in
-      let from : (v : ℤ) → In v values → (p : Point) → In p (points v) → Origin (in_each (map places_of body) (loops ++ id ∷ []) (inner_rows (length loops) rows lower upper step)) (all_loops body) (loops ++ id ∷ []) (at ++ v ∷ []) p
-      = λ v k p l. parts_origins body (each_of HasOrigins body origins) (loops ++ id ∷ []) (inner_rows (length loops) rows lower upper step) (at ++ v ∷ []) (turn_fits v) (turn v k) p l in
+      let turn_fits : (v : ℤ) → Each (FitsIn (length (at ++ v ∷ []))) body =
+      λ v. subst (λ d. Each (FitsIn d) body) (sym (length_push at v)) f.body_fits in
+      let turn : (v : ℤ) → In v values
+      → Round (loops ++ id ∷ []) (inner_rows (length loops) rows lower upper step) (at ++ v ∷ []) =
+      λ v k. round_turn id lower upper step loops rows at v f.bounds r k in
+      let from : (v : ℤ) → In v values → (p : Point) → In p (points v)
+      → Origin (in_each (map places_of body) (loops ++ id ∷ []) (inner_rows (length loops) rows lower upper step))
+      (all_loops body) (loops ++ id ∷ []) (at ++ v ∷ []) p
+      = λ v k p l. parts_origins body (each_of HasOrigins body origins) (loops ++ id ∷ [])
+      (inner_rows (length loops) rows lower upper step) (at ++ v ∷ []) (turn_fits v) (turn v k) p l in
       subst (Pairwise (Precedes n)) (sym (trace_loop id lower upper step body at))
-      (pairwise_flat_map (λ v w. v <ℤ w) (Precedes n) points values (values_ascend lower upper step at f.bounds.step_counts)
-      (λ v k. parts_ordered body h (loops ++ id ∷ []) (inner_rows (length loops) rows lower upper step) (at ++ v ∷ []) (turn_fits v) (turn v k) inner)
-      (λ v w k l lt p q i j. across_turns (in_each (map places_of body) (loops ++ id ∷ []) (inner_rows (length loops) rows lower upper step)) (all_loops body) loops id at v w r.lengths inner.said lt p q (from v k p i) (from w l q j)))
+      (pairwise_flat_map (λ v w. v <ℤ w) (Precedes n) points values
+      (values_ascend lower upper step at f.bounds.step_counts)
+      (λ v k. parts_ordered body h (loops ++ id ∷ []) (inner_rows (length loops) rows lower upper step) (at ++ v ∷ [])
+      (turn_fits v) (turn v k) inner)
+      (λ v w k l lt p q i j.
+      across_turns
+      (in_each (map places_of body) (loops ++ id ∷ []) (inner_rows (length loops) rows lower upper step))
+      (all_loops body) loops id at v w r.lengths inner.said lt p q (from v k p i) (from w l q j)))
 
-  ordered_if : (b : Bool) (points : List Point) → (b ≡ true → Pairwise (Precedes n) points) → Pairwise (Precedes n) (cond b points [])
+  ordered_if : (b : Bool) (points : List Point) → (b ≡ true → Pairwise (Precedes n) points)
+      → Pairwise (Precedes n) (cond b points [])
   ordered_if true points h = h refl
   ordered_if false points h = tt
 
@@ -160,7 +183,8 @@ module _ (n : Nest) where
       } in
       subst (Pairwise (Precedes n)) (sym (trace_guard guards body at))
       (ordered_if (all_hold guards at) (all_points (map trace_node body) at)
-      (λ e. parts_ordered body h loops (rows ++ guards) at f.body_fits (round_guard guards loops rows at f.guards_over r (hold_each guards at e)) inner))
+      (λ e. parts_ordered body h loops (rows ++ guards) at f.body_fits
+      (round_guard guards loops rows at f.guards_over r (hold_each guards at e)) inner))
 
   ordered_assign : (s : ℕ) → IsOrdered (Assign s)
   ordered_assign s loops rows at fits r o = subst (Pairwise (Precedes n)) (sym (trace_assign s at)) (tt, tt)

@@ -23,7 +23,8 @@ get_cases : {X : Type 0} (xs ys : List X) (i : ℕ) (x : X) → slice_get (xs ++
     → (slice_get xs i ≡ Some x) ⊎ ((j : ℕ) × (i ≡ length xs + j) × (slice_get ys j ≡ Some x))
 get_cases [] ys i x e = let i-is : i ≡ 0 + i = omega arith in inr (i, i-is, e)
 get_cases (y ∷ xs) ys zero x e = inl e
-get_cases (y ∷ xs) ys (suc i) x e = elim (get_cases xs ys i x e) [ inl h ↦ inl h | inr h ↦ (let i-is : suc i ≡ suc (length xs) + h.0 = omega (arith, h.1) in inr (h.0, i-is, h.2)) ]
+get_cases (y ∷ xs) ys (suc i) x e =
+    elim (get_cases xs ys i x e) [ inl h ↦ inl h | inr h ↦ (let i-is : suc i ≡ suc (length xs) + h.0 = omega (arith, h.1) in inr (h.0, i-is, h.2)) ]
 
 no_source : (numbers : List ℕ) (i a : ℕ) → slice_get (map Source numbers) i ≡ Some (Sink a) → ⊥
 no_source numbers i a e = by_found (slice_get numbers i) (sym (slice_get-map Source numbers i) ∙ e) where
@@ -36,25 +37,29 @@ no_assignment zero i a e = cc
 no_assignment (suc n) zero a e = cc
 no_assignment (suc n) (suc i) a e = no_assignment n i a e
 
-sink_number : (numbers : List ℕ) (i a : ℕ) → slice_get (map Sink numbers) i ≡ Some (Sink a) → slice_get numbers i ≡ Some a
+sink_number : (numbers : List ℕ) (i a : ℕ) → slice_get (map Sink numbers) i ≡ Some (Sink a)
+    → slice_get numbers i ≡ Some a
 sink_number numbers i a e = by_found (slice_get numbers i) (sym (slice_get-map Sink numbers i) ∙ e) where
   by_found : (o : Option ℕ) → option_map Sink o ≡ Some (Sink a) → o ≡ Some a
   by_found None e = absurd (cc)
   by_found (Some b) e = let same : b ≡ a = cc in ap Some same
 
 -- the array of a sink is the output array of its place among the sinks
-pub sink_place : (n : Nest) (s a : ℕ) → HasRole n s (Sink a) → (j : ℕ) × (s ≡ first_sink n + j) × (slice_get (output_numbers n.arrays) j ≡ Some a)
+pub sink_place : (n : Nest) (s a : ℕ) → HasRole n s (Sink a)
+    → (j : ℕ) × (s ≡ first_sink n + j) × (slice_get (output_numbers n.arrays) j ≡ Some a)
 sink_place n s a e =
     let sources : List Role = map Source (input_numbers n.arrays) in
     let middle : List Role = replicate (length n.statements - (inputs n + length (output_numbers n.arrays))) Assign in
     let sinks : List Role = map Sink (output_numbers n.arrays) in
-    let ordered : slice_get (sources ++ (middle ++ sinks)) s ≡ Some (Sink a) = ap (λ roles. slice_get roles s) (sym n.well_formed.roles_in_order) ∙ e in
+    let ordered : slice_get (sources ++ (middle ++ sinks)) s ≡ Some (Sink a) =
+    ap (λ roles. slice_get roles s) (sym n.well_formed.roles_in_order) ∙ e in
     elim (get_cases sources (middle ++ sinks) s (Sink a) ordered) [
       | inl h ↦ absurd (no_source (input_numbers n.arrays) s a h)
       | inr h ↦ elim (get_cases middle sinks h.0 (Sink a) h.2) [
         | inl k ↦ absurd (no_assignment _ h.0 a k)
         | inr k ↦
-            let place : s ≡ first_sink n + k.0 = omega (arith, h.1, k.1, length_statements n, length-map (input_numbers n.arrays) Source, length-replicate (length n.statements - (inputs n + length (output_numbers n.arrays))) Assign) in
+            let place : s ≡ first_sink n + k.0 =
+            omega (arith, h.1, k.1, length_statements n, length-map (input_numbers n.arrays) Source, length-replicate (length n.statements - (inputs n + length (output_numbers n.arrays))) Assign) in
             (k.0, place, sink_number (output_numbers n.arrays) k.0 a k.2)
       ]
     ]
@@ -64,7 +69,8 @@ sinks_read_cells n d s a e =
     let place = sink_place n s a e in
     ap (values_of n d) place.1 ∙ values_of_sink n d place.0 a place.2
 
-arrays_at : (m : Memory) (k : ℕ) (declared : List ArrayDecl) (i : ℕ) (array : ArrayDecl) → slice_get declared i ≡ Some array
+arrays_at : (m : Memory) (k : ℕ) (declared : List ArrayDecl) (i : ℕ) (array : ArrayDecl)
+    → slice_get declared i ≡ Some array
     → slice_get (arrays_from m k declared) i ≡ Some (output_values m (k + i) array)
 arrays_at m k [] i array e = absurd (cc)
 arrays_at m k (first ∷ declared) zero array e =
@@ -77,14 +83,18 @@ arrays_at m k (first ∷ declared) (suc i) array e =
 pub sinks_give_arrays : (n : Nest) (d : Inputs) → SinksGiveArrays n d
 sinks_give_arrays n d s a e =
     let place = sink_place n s a e in
-    let passes : Passes (λ array. is_output array.kind) 0 n.arrays place.0 a = passes_at (λ array. is_output array.kind) 0 n.arrays place.0 a place.2 in
+    let passes : Passes (λ array. is_output array.kind) 0 n.arrays place.0 a =
+    passes_at (λ array. is_output array.kind) 0 n.arrays place.0 a place.2 in
     let at : passes.place ≡ a = omega (arith, passes.numbered) in
     let counted : 0 + a ≡ a = omega arith in
     let found : slice_get n.arrays a ≡ Some passes.array = ap (slice_get n.arrays) (sym at) ∙ passes.found in
     arrays_at (exec n d) 0 n.arrays a passes.array found
     ∙ ap (λ b. Some (output_values (exec n d) b passes.array)) counted
-    ∙ ap (λ b. Some (cond b (map (λ at. cell_value (exec n d) (a, at)) (all_subscripts passes.array.extents)) [])) passes.passed
-    ∙ ap (λ o. Some (map (λ at. cell_value (exec n d) (a, at)) (all_subscripts (option_map_or (λ array. array.extents) o [])))) (sym found)
+    ∙ ap (λ b. Some
+    (cond b (map (λ at. cell_value (exec n d) (a, at)) (all_subscripts passes.array.extents)) [])) passes.passed
+    ∙ ap (λ o. Some
+    (map (λ at. cell_value (exec n d) (a, at)) (all_subscripts (option_map_or (λ array. array.extents) o []))))
+    (sym found)
     ∙ ap Some (sym (sinks_read_cells n d s a e))
 
 module _ (n : Nest) (d : Inputs) where
@@ -94,7 +104,8 @@ module _ (n : Nest) (d : Inputs) where
   -- the values of the sinks from s on are the cells of these arrays
   abbrev AreCells : ℕ → ℕ → List ArrayDecl → Type 0
   AreCells k s declared =
-      (j i : ℕ) (array : ArrayDecl) → slice_get (numbers_from printed k declared) j ≡ Some (k + i) → slice_get declared i ≡ Some array
+      (j i : ℕ) (array : ArrayDecl) → slice_get (numbers_from printed k declared) j ≡ Some (k + i)
+      → slice_get declared i ≡ Some array
       → values_of n d (s + j) ≡ map (λ at. cell_value (exec n d) (k + i, at)) (all_subscripts array.extents)
 
   abbrev cells : ℕ → ArrayDecl → List ℤ
@@ -104,10 +115,12 @@ module _ (n : Nest) (d : Inputs) where
   abbrev numbers_if : Bool → ℕ → List ArrayDecl → List ℕ
   numbers_if b k declared = cond b (k ∷ numbers_from printed (k + 1) declared) (numbers_from printed (k + 1) declared)
 
-  arrays_are : (k s : ℕ) (declared : List ArrayDecl) → AreCells k s declared → arrays_from (exec n d) k declared ≡ sink_values_from n d s declared
+  arrays_are : (k s : ℕ) (declared : List ArrayDecl) → AreCells k s declared
+      → arrays_from (exec n d) k declared ≡ sink_values_from n d s declared
   arrays_are k s [] h = refl
   arrays_are k s (first ∷ declared) h = by_first (λ s h. arrays_are (k + 1) s declared h) (printed first) refl where
-    by_first : ((s : ℕ) → AreCells (k + 1) s declared → arrays_from (exec n d) (k + 1) declared ≡ sink_values_from n d s declared)
+    by_first : ((s : ℕ) → AreCells (k + 1) s declared
+        → arrays_from (exec n d) (k + 1) declared ≡ sink_values_from n d s declared)
         → (b : Bool) → printed first ≡ b
         → cond b (cells k first) [] ∷ arrays_from (exec n d) (k + 1) declared
         ≡ cond b (values_of n d s ∷ sink_values_from n d (s + 1) declared) ([] ∷ sink_values_from n d s declared)
@@ -115,7 +128,9 @@ module _ (n : Nest) (d : Inputs) where
         let from : k ≡ k + 0 = omega arith in
         let start : s ≡ s + 0 = omega arith in
         let head : cells k first ≡ values_of n d s =
-        ap (λ a. cells a first) from ∙ sym (h 0 0 first (ap (λ b. slice_get (numbers_if b k declared) 0) is ∙ ap Some from) refl) ∙ ap (values_of n d) (sym start) in
+        ap (λ a. cells a first) from
+        ∙ sym (h 0 0 first (ap (λ b. slice_get (numbers_if b k declared) 0) is ∙ ap Some from) refl)
+        ∙ ap (values_of n d) (sym start) in
         ap (λ vs. vs ∷ arrays_from (exec n d) (k + 1) declared) head
         ∙ ap (λ lists. values_of n d s ∷ lists) (rest (s + 1) (λ j i array e f.
         let more : s + 1 + j ≡ s + suc j = omega arith in
@@ -134,4 +149,5 @@ module _ (n : Nest) (d : Inputs) where
       values_of_sink n d j (0 + i) e
       ∙ (let at : 0 + i ≡ i = omega arith in
       ap (λ a. map (λ at. cell_value (exec n d) (0 + i, at)) (all_subscripts (extents_of n a))) at
-      ∙ ap (λ o. map (λ at. cell_value (exec n d) (0 + i, at)) (all_subscripts (option_map_or (λ array. array.extents) o []))) f))
+      ∙ ap (λ o. map (λ at. cell_value (exec n d) (0 + i, at))
+      (all_subscripts (option_map_or (λ array. array.extents) o []))) f))

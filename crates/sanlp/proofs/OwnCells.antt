@@ -19,15 +19,19 @@ variables_at depth at (v ∷ vs) =
 
 pub own_cell_at : (depth a : ℕ) (at : List ℤ) → length at ≡ depth → cell_at at (own_cell depth a) ≡ (a, at)
 own_cell_at depth a at e =
-    ap (λ subscripts. (a, subscripts)) (variables_at depth at (range_with_len 0 depth) ∙ ap (λ k. map (λ v. slice_index_or at v (pos 0)) (range_with_len 0 k)) (sym e) ∙ all_elements at)
+    ap (λ subscripts. (a, subscripts))
+    (variables_at depth at (range_with_len 0 depth)
+    ∙ ap (λ k. map (λ v. slice_index_or at v (pos 0)) (range_with_len 0 k)) (sym e) ∙ all_elements at)
 
 -- an array's subscripts are as many as its extents
-subscripts_from : (extents : List ℤ) (values : List ℤ) → Each (λ at. length at ≡ length extents) (all_subscripts extents)
+subscripts_from : (extents : List ℤ) (values : List ℤ)
+    → Each (λ at. length at ≡ length extents) (all_subscripts extents)
     → Each (λ at. length at ≡ suc (length extents)) (flat_map (λ v. map (λ at. v ∷ at) (all_subscripts extents)) values)
 subscripts_from extents [] h = tt
 subscripts_from extents (v ∷ values) h =
     each_append (λ at. length at ≡ suc (length extents)) (map (λ at. v ∷ at) (all_subscripts extents)) _
-    (each_map (λ at. length at ≡ suc (length extents)) (λ at. v ∷ at) (all_subscripts extents) (each_then _ _ (all_subscripts extents) (λ at e. ap suc e) h))
+    (each_map (λ at. length at ≡ suc (length extents)) (λ at. v ∷ at) (all_subscripts extents)
+    (each_then _ _ (all_subscripts extents) (λ at e. ap suc e) h))
     (subscripts_from extents values h)
 
 pub length_subscripts : (extents : List ℤ) → Each (λ at. length at ≡ length extents) (all_subscripts extents)

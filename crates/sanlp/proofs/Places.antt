@@ -27,22 +27,27 @@ module _ (Q : ℕ → Type 0) where
   OfPoints points = Each (λ p. Q p.statement) points
 
   abbrev Carries : Node → Type 0
-  Carries node = (loops : List ℕ) (rows : List Form) (at : List ℤ) → OfPlaces (places_of node loops rows) → OfPoints (trace_node node at)
+  Carries node =
+      (loops : List ℕ) (rows : List Form) (at : List ℤ) → OfPlaces (places_of node loops rows)
+      → OfPoints (trace_node node at)
 
   abbrev Carried : Type 0
   Carried = (node : Node) × Carries node
 
   carried_parts : (parts : List Carried) (loops : List ℕ) (rows : List Form) (at : List ℤ)
-      → OfPlaces (in_each (map places_of (map (λ e. e.0) parts)) loops rows) → OfPoints (all_points (map trace_node (map (λ e. e.0) parts)) at)
+      → OfPlaces (in_each (map places_of (map (λ e. e.0) parts)) loops rows)
+      → OfPoints (all_points (map trace_node (map (λ e. e.0) parts)) at)
   carried_parts [] loops rows at h = tt
   carried_parts (e ∷ parts) loops rows at h =
       each_append (λ p. Q p.statement) (trace_node e.0 at) _
       (e.1 loops rows at (each_left (λ place. Q place.statement) (places_of e.0 loops rows) _ h))
       (carried_parts parts loops rows at (each_right (λ place. Q place.statement) (places_of e.0 loops rows) _ h))
 
-  carried_turns : (g : List ℤ → List Point) → ((at : List ℤ) → OfPoints (g at)) → (at : List ℤ) (values : List ℤ) → OfPoints (flat_map (λ v. g (at ++ v ∷ [])) values)
+  carried_turns : (g : List ℤ → List Point) → ((at : List ℤ) → OfPoints (g at)) → (at : List ℤ) (values : List ℤ)
+      → OfPoints (flat_map (λ v. g (at ++ v ∷ [])) values)
   carried_turns g each at [] = tt
-  carried_turns g each at (v ∷ values) = each_append (λ p. Q p.statement) (g (at ++ v ∷ [])) _ (each (at ++ v ∷ [])) (carried_turns g each at values)
+  carried_turns g each at (v ∷ values) =
+      each_append (λ p. Q p.statement) (g (at ++ v ∷ [])) _ (each (at ++ v ∷ [])) (carried_turns g each at values)
 
   carried_if : (b : Bool) (points : List Point) → OfPoints points → OfPoints (cond b points [])
   carried_if true points h = h
@@ -51,9 +56,11 @@ module _ (Q : ℕ → Type 0) where
   carried_layer : (y : Node-F Carried) → Carries (roll-Node (map-Node Carried Node (λ e. e.0) y))
   carried_layer (Loop id lower upper step body) loops rows at h =
       let nodes : List Node = map (λ e. e.0) body in
-      let inside = subst OfPlaces (ap (λ f. f loops rows) (fold-roll-Node Places places_step (Loop id lower upper step nodes))) h in
+      let inside =
+      subst OfPlaces (ap (λ f. f loops rows) (fold-roll-Node Places places_step (Loop id lower upper step nodes))) h in
       subst OfPoints (ap (λ f. f at) (sym (fold-roll-Node PointsAt trace_step (Loop id lower upper step nodes))))
-      (carried_turns (all_points (map trace_node nodes)) (λ at. carried_parts body _ _ at inside) at (loop_values lower upper step at))
+      (carried_turns (all_points (map trace_node nodes)) (λ at. carried_parts body _ _ at inside) at
+      (loop_values lower upper step at))
   carried_layer (Guard guards body) loops rows at h =
       let nodes : List Node = map (λ e. e.0) body in
       let inside = subst OfPlaces (ap (λ f. f loops rows) (fold-roll-Node Places places_step (Guard guards nodes))) h in
@@ -66,7 +73,8 @@ module _ (Q : ℕ → Type 0) where
   pub carries : (node : Node) → Carries node
   carries = ind-Node Carries (λ x y is. subst (λ z. Carries (roll-Node z)) is (carried_layer y))
 
-  pub points_carry : (parts : List Node) (at : List ℤ) → OfPlaces (all_places parts [] []) → OfPoints (all_points (map trace_node parts) at)
+  pub points_carry : (parts : List Node) (at : List ℤ) → OfPlaces (all_places parts [] [])
+      → OfPoints (all_points (map trace_node parts) at)
   points_carry [] at h = tt
   points_carry (node ∷ parts) at h =
       each_append (λ p. Q p.statement) (trace_node node at) _
@@ -77,22 +85,28 @@ module _ (Q : ℕ → Type 0) where
 abbrev pub numbers_of : List Place → List ℕ
 numbers_of places = map (λ place. place.statement) places
 
-pub numbers_round : (id k : ℕ) (extents : List ℤ) (s : ℕ) (loops : List ℕ) (rows : List Form) → numbers_of (places_of (loops_round id k extents s) loops rows) ≡ s ∷ []
-numbers_round id k [] s loops rows = ap numbers_of (fold_assign_at_both (List ℕ) (List Form) (List Place) places_step s loops rows)
+pub numbers_round : (id k : ℕ) (extents : List ℤ) (s : ℕ) (loops : List ℕ) (rows : List Form)
+    → numbers_of (places_of (loops_round id k extents s) loops rows) ≡ s ∷ []
+numbers_round id k [] s loops rows =
+    ap numbers_of (fold_assign_at_both (List ℕ) (List Form) (List Place) places_step s loops rows)
 numbers_round id k (e ∷ extents) s loops rows =
     let inner : Node = loops_round (id + 1) (k + 1) extents s in
     let lower : List Form = constant_form k (pos 0) ∷ [] in
     let upper : List Form = constant_form k (pos (natural e) -ℤ pos 1) ∷ [] in
-    ap numbers_of (fold_loop_at_both (List ℕ) (List Form) (List Place) places_step id lower upper (pos 1) (inner ∷ []) loops rows)
-    ∙ ap numbers_of (append-nil (places_of inner (loops ++ id ∷ []) (rows ++ bound_rows (length loops) lower upper (pos 1))))
+    ap numbers_of
+    (fold_loop_at_both (List ℕ) (List Form) (List Place) places_step id lower upper (pos 1) (inner ∷ []) loops rows)
+    ∙ ap numbers_of
+    (append-nil (places_of inner (loops ++ id ∷ []) (rows ++ bound_rows (length loops) lower upper (pos 1))))
     ∙ numbers_round (id + 1) (k + 1) extents s _ _
 
 -- the statements' own places have their numbers in order
-pub numbers_said : (k : ℕ) (statements : List Statement) → numbers_of (said_from k statements) ≡ range_with_len k (length statements)
+pub numbers_said : (k : ℕ) (statements : List Statement)
+    → numbers_of (said_from k statements) ≡ range_with_len k (length statements)
 numbers_said k [] = refl
 numbers_said k (s ∷ statements) = ap (λ ks. k ∷ ks) (numbers_said (k + 1) statements)
 
-pub numbers_array_loops : (id s : ℕ) (extents : List (List ℤ)) → numbers_of (all_places (array_loops id s extents) [] []) ≡ range_with_len s (length extents)
+pub numbers_array_loops : (id s : ℕ) (extents : List (List ℤ))
+    → numbers_of (all_places (array_loops id s extents) [] []) ≡ range_with_len s (length extents)
 numbers_array_loops id s [] = refl
 numbers_array_loops id s (e ∷ extents) =
     let rest : List Node = array_loops (id + length e) (s + 1) extents in

@@ -59,34 +59,43 @@ passes_later passes k first arrays j j' a same p = record {
   extents = same ∙ p.extents;
 }
 
-pub passes_at : (passes : ArrayDecl → Bool) (k : ℕ) (arrays : List ArrayDecl) (j a : ℕ) → slice_get (numbers_from passes k arrays) j ≡ Some a → Passes passes k arrays j a
+pub passes_at : (passes : ArrayDecl → Bool) (k : ℕ) (arrays : List ArrayDecl) (j a : ℕ)
+    → slice_get (numbers_from passes k arrays) j ≡ Some a → Passes passes k arrays j a
 passes_at passes k [] j a e = absurd (cc)
-passes_at passes k (first ∷ arrays) j a e = by_first (λ j e. passes_at passes (k + 1) arrays j a e) (passes first) refl j e where
-  by_first : ((j : ℕ) → slice_get (numbers_from passes (k + 1) arrays) j ≡ Some a → Passes passes (k + 1) arrays j a)
-      → (b : Bool) → passes first ≡ b → (j : ℕ)
-      → slice_get (cond b (k ∷ numbers_from passes (k + 1) arrays) (numbers_from passes (k + 1) arrays)) j ≡ Some a
-      → Passes passes k (first ∷ arrays) j a
-  by_first rest true is zero e = record {
-    place = 0;
-    array = first;
-    numbered = omega (arith, same_Some k a e);
-    found = refl;
-    passed = is;
-    extents = ap (λ b. slice_get (cond b (first.extents ∷ extents_where passes arrays) (extents_where passes arrays)) 0) is;
-  }
-  by_first rest true is (suc j) e =
-      passes_later passes k first arrays j (suc j) a
-      (ap (λ b. slice_get (cond b (first.extents ∷ extents_where passes arrays) (extents_where passes arrays)) (suc j)) is)
-      (rest j e)
-  by_first rest false is j e =
-      passes_later passes k first arrays j j a
-      (ap (λ b. slice_get (cond b (first.extents ∷ extents_where passes arrays) (extents_where passes arrays)) j) is)
-      (rest j e)
+passes_at passes k (first ∷ arrays) j a e =
+    by_first (λ j e. passes_at passes (k + 1) arrays j a e) (passes first) refl j e where
+      by_first : ((j : ℕ) → slice_get (numbers_from passes (k + 1) arrays) j ≡ Some a
+          → Passes passes (k + 1) arrays j a)
+          → (b : Bool) → passes first ≡ b → (j : ℕ)
+          → slice_get (cond b (k ∷ numbers_from passes (k + 1) arrays) (numbers_from passes (k + 1) arrays)) j ≡ Some a
+          → Passes passes k (first ∷ arrays) j a
+      by_first rest true is zero e = record {
+        place = 0;
+        array = first;
+        numbered = omega (arith, same_Some k a e);
+        found = refl;
+        passed = is;
+        extents =
+            ap (λ b. slice_get
+            (cond b (first.extents ∷ extents_where passes arrays) (extents_where passes arrays)) 0) is;
+      }
+      by_first rest true is (suc j) e =
+          passes_later passes k first arrays j (suc j) a
+          (ap (λ b. slice_get (cond b (first.extents ∷ extents_where passes arrays) (extents_where passes arrays))
+          (suc j)) is)
+          (rest j e)
+      by_first rest false is j e =
+          passes_later passes k first arrays j j a
+          (ap (λ b. slice_get
+          (cond b (first.extents ∷ extents_where passes arrays) (extents_where passes arrays)) j) is)
+          (rest j e)
 
-pub length_numbers : (passes : ArrayDecl → Bool) (k : ℕ) (arrays : List ArrayDecl) → length (numbers_from passes k arrays) ≡ length (extents_where passes arrays)
+pub length_numbers : (passes : ArrayDecl → Bool) (k : ℕ) (arrays : List ArrayDecl)
+    → length (numbers_from passes k arrays) ≡ length (extents_where passes arrays)
 length_numbers passes k [] = refl
 length_numbers passes k (first ∷ arrays) = by_first (length_numbers passes (k + 1) arrays) (passes first) where
-  by_first : length (numbers_from passes (k + 1) arrays) ≡ length (extents_where passes arrays) → (b : Bool) → length (cond b (k ∷ numbers_from passes (k + 1) arrays) (numbers_from passes (k + 1) arrays))
+  by_first : length (numbers_from passes (k + 1) arrays) ≡ length (extents_where passes arrays) → (b : Bool)
+      → length (cond b (k ∷ numbers_from passes (k + 1) arrays) (numbers_from passes (k + 1) arrays))
       ≡ length (cond b (first.extents ∷ extents_where passes arrays) (extents_where passes arrays))
   by_first rest true = ap suc rest
   by_first rest false = rest
@@ -116,19 +125,22 @@ module _ (n : Nest) where
   pub length_statements : length n.statements ≡ inputs + (assignments + outputs)
   length_statements =
       sym (length-map n.statements (λ s. s.role)) ∙ ap length n.well_formed.roles_in_order
-      ∙ length-append (map Source (input_numbers n.arrays)) (replicate assignments Assign ++ map Sink (output_numbers n.arrays))
+      ∙ length-append (map Source (input_numbers n.arrays))
+      (replicate assignments Assign ++ map Sink (output_numbers n.arrays))
       ∙ omega (arith, length-map (input_numbers n.arrays) Source, length-append (replicate assignments Assign) (map Sink (output_numbers n.arrays)), length-replicate assignments Assign, length-map (output_numbers n.arrays) Sink)
 
   pub inputs_come_first : inputs ≤ first_sink
   inputs_come_first = omega (arith, length_statements)
 
   -- the role of the sink of each output array
-  pub sink_role : (j a : ℕ) → slice_get (output_numbers n.arrays) j ≡ Some a → slice_get (map (λ s. s.role) n.statements) (first_sink + j) ≡ Some (Sink a)
+  pub sink_role : (j a : ℕ) → slice_get (output_numbers n.arrays) j ≡ Some a
+      → slice_get (map (λ s. s.role) n.statements) (first_sink + j) ≡ Some (Sink a)
   sink_role j a e =
       let sources : List Role = map Source (input_numbers n.arrays) in
       let middle : List Role = replicate assignments Assign in
       let sinks : List Role = map Sink (output_numbers n.arrays) in
-      let place : first_sink + j ≡ length sources + (length middle + j) = omega (arith, length_statements, length-map (input_numbers n.arrays) Source, length-replicate assignments Assign) in
+      let place : first_sink + j ≡ length sources + (length middle + j) =
+      omega (arith, length_statements, length-map (input_numbers n.arrays) Source, length-replicate assignments Assign) in
       ap (λ roles. slice_get roles (first_sink + j)) n.well_formed.roles_in_order
       ∙ ap (slice_get (sources ++ (middle ++ sinks))) place
       ∙ slice_get-append_right sources (middle ++ sinks) (length middle + j)
@@ -136,19 +148,25 @@ module _ (n : Nest) where
       ∙ slice_get-map Sink (output_numbers n.arrays) j
       ∙ ap (option_map Sink) e
 
-  pub statement_of_role : (s : ℕ) (role : Role) → slice_get (map (λ s. s.role) n.statements) s ≡ Some role → StatementOf n s role
-  statement_of_role s role e = by_found (slice_get n.statements s) refl (sym (slice_get-map (λ s. s.role) n.statements s) ∙ e) where
-    by_found : (o : Option Statement) → slice_get n.statements s ≡ o → option_map (λ s. s.role) o ≡ Some role → StatementOf n s role
-    by_found None found e = absurd (cc)
-    by_found (Some statement) found e =
-        let is : statement.role ≡ role = same_Some statement.role role e in
-        let stands : in_role statement.role statement ≡ statement =
-        same_Some _ _ (sym (ap (option_map (λ s. in_role s.role s)) found) ∙ sym (slice_get-map (λ s. in_role s.role s) n.statements s)
-        ∙ ap (λ statements. slice_get statements s) n.well_formed.in_roles ∙ found) in
-        record {
-          statement = statement;
-          found = found;
-          is = is;
-          stands = ap (λ r. in_role r statement) (sym is) ∙ stands;
-          fits = fits_of n.arrays statement (list_all_at (statement_fits n.arrays) n.statements s statement n.well_formed.statements_fit found);
-        }
+  pub statement_of_role : (s : ℕ) (role : Role) → slice_get (map (λ s. s.role) n.statements) s ≡ Some role
+      → StatementOf n s role
+  statement_of_role s role e =
+      by_found (slice_get n.statements s) refl (sym (slice_get-map (λ s. s.role) n.statements s) ∙ e) where
+        by_found : (o : Option Statement) → slice_get n.statements s ≡ o → option_map (λ s. s.role) o ≡ Some role
+            → StatementOf n s role
+        by_found None found e = absurd (cc)
+        by_found (Some statement) found e =
+            let is : statement.role ≡ role = same_Some statement.role role e in
+            let stands : in_role statement.role statement ≡ statement =
+            same_Some _ _
+            (sym (ap (option_map (λ s. in_role s.role s)) found)
+            ∙ sym (slice_get-map (λ s. in_role s.role s) n.statements s)
+            ∙ ap (λ statements. slice_get statements s) n.well_formed.in_roles ∙ found) in
+            record {
+              statement = statement;
+              found = found;
+              is = is;
+              stands = ap (λ r. in_role r statement) (sym is) ∙ stands;
+              fits = fits_of n.arrays statement
+                  (list_all_at (statement_fits n.arrays) n.statements s statement n.well_formed.statements_fit found);
+            }

@@ -29,11 +29,13 @@ constant_stays (suc k) c (v ∷ at) =
     ap (λ s. combined s (replicate k (pos 0)) at) e)
     ∙ constant_stays k c at
 
-values_round : (k n : ℕ) (at : List ℤ) → loop_values (constant_form k (pos 0) ∷ []) (constant_form k (pos n -ℤ pos 1) ∷ []) (pos 1) at ≡ counted (pos 0) n
+values_round : (k n : ℕ) (at : List ℤ)
+    → loop_values (constant_form k (pos 0) ∷ []) (constant_form k (pos n -ℤ pos 1) ∷ []) (pos 1) at ≡ counted (pos 0) n
 values_round k n at =
     ap (λ first. interval first (combined (pos n -ℤ pos 1) (replicate k (pos 0)) at)) (constant_stays k (pos 0) at)
     ∙ ap (interval (pos 0)) (constant_stays k (pos n -ℤ pos 1) at)
-    ∙ (let e : pos n -ℤ pos 1 +ℤ pos 1 -ℤ pos 0 ≡ pos n = omega (arith, ints) in ap (λ z. counted (pos 0) (natural z)) e)
+    ∙ (let e : pos n -ℤ pos 1 +ℤ pos 1 -ℤ pos 0
+    ≡ pos n = omega (arith, ints) in ap (λ z. counted (pos 0) (natural z)) e)
 
 abbrev sink_point : ℕ → List ℤ → Point
 sink_point s at = record { statement = s; at = at }
@@ -42,15 +44,21 @@ sink_point s at = record { statement = s; at = at }
 spread : (s : ℕ) (at : List ℤ) (g : List ℤ → List Point) (inner : List (List ℤ))
     → ((v : ℤ) → g (at ++ v ∷ []) ≡ map (λ sub. sink_point s ((at ++ v ∷ []) ++ sub)) inner)
     → (vs : List ℤ)
-    → flat_map (λ v. g (at ++ v ∷ []) ++ []) vs ≡ map (λ sub. sink_point s (at ++ sub)) (flat_map (λ v. map (λ sub. v ∷ sub) inner) vs)
+    → flat_map (λ v. g (at ++ v ∷ []) ++ []) vs
+    ≡ map (λ sub. sink_point s (at ++ sub)) (flat_map (λ v. map (λ sub. v ∷ sub) inner) vs)
 spread s at g inner each [] = refl
 spread s at g inner each (v ∷ vs) =
     ap (λ ps. ps ++ flat_map (λ v. g (at ++ v ∷ []) ++ []) vs) (append-nil (g (at ++ v ∷ [])) ∙ each v ∙ shifted inner)
     ∙ ap (λ ps. map (λ sub. sink_point s (at ++ sub)) (map (λ sub. v ∷ sub) inner) ++ ps) (spread s at g inner each vs)
-    ∙ sym (map-append (λ sub. sink_point s (at ++ sub)) (map (λ sub. v ∷ sub) inner) (flat_map (λ v. map (λ sub. v ∷ sub) inner) vs)) where
-      shifted : (subs : List (List ℤ)) → map (λ sub. sink_point s ((at ++ v ∷ []) ++ sub)) subs ≡ map (λ sub. sink_point s (at ++ sub)) (map (λ sub. v ∷ sub) subs)
+    ∙ sym (map-append (λ sub. sink_point s (at ++ sub)) (map (λ sub. v ∷ sub) inner)
+    (flat_map (λ v. map (λ sub. v ∷ sub) inner) vs)) where
+      shifted : (subs : List (List ℤ))
+          → map (λ sub. sink_point s ((at ++ v ∷ []) ++ sub)) subs
+          ≡ map (λ sub. sink_point s (at ++ sub)) (map (λ sub. v ∷ sub) subs)
       shifted [] = refl
-      shifted (sub ∷ subs) = ap (λ l. sink_point s l ∷ map (λ sub. sink_point s ((at ++ v ∷ []) ++ sub)) subs) (append_assoc at (v ∷ []) sub)
+      shifted (sub ∷ subs) =
+          ap (λ l. sink_point s l ∷ map (λ sub. sink_point s ((at ++ v ∷ []) ++ sub)) subs)
+          (append_assoc at (v ∷ []) sub)
           ∙ ap (λ ps. sink_point s (at ++ v ∷ sub) ∷ ps) (shifted subs)
 
 pub trace_round : (id k : ℕ) (extents : List ℤ) (s : ℕ) (at : List ℤ)
@@ -66,4 +74,5 @@ trace_round id k (e ∷ extents) s at =
     ap (λ node. trace_node node at) (sym (rolls-Loop id lower upper (pos 1) (inner ∷ [])))
     ∙ ap (λ ps. ps at) (fold-roll-Node PointsAt trace_step (open_.Loop id lower upper (pos 1) (inner ∷ [])))
     ∙ ap (λ vs. flat_map (λ v. trace_node inner (at ++ v ∷ []) ++ []) vs) (values_round k (natural e) at)
-    ∙ spread s at (trace_node inner) (all_subscripts extents) (λ v. trace_round (id + 1) (k + 1) extents s (at ++ v ∷ [])) (counted (pos 0) (natural e))
+    ∙ spread s at (trace_node inner) (all_subscripts extents)
+    (λ v. trace_round (id + 1) (k + 1) extents s (at ++ v ∷ [])) (counted (pos 0) (natural e))

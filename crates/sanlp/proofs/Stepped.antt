@@ -26,7 +26,8 @@ turn = record { constant = pos 0; coefs = pos 1 ∷ [] }
 
 -- in x[5]; out y[5]; for (i = 0; i < 5; i += 2) y[i] = x[i];
 abbrev x_and_y : List ArrayDecl
-x_and_y = record { name = codes "x"; kind = kind.Input; extents = pos 5 ∷ [] } ∷ record { name = codes "y"; kind = kind.Output; extents = pos 5 ∷ [] } ∷ []
+x_and_y =
+    record { name = codes "x"; kind = kind.Input; extents = pos 5 ∷ [] } ∷ record { name = codes "y"; kind = kind.Output; extents = pos 5 ∷ [] } ∷ []
 
 abbrev cell : ℕ → Form → Access
 cell a subscript = record { array = a; subscripts = subscript ∷ [] }
@@ -42,7 +43,9 @@ copies =
     ∷ record { role = role.Sink 1; loops = 2 ∷ []; rows = rows_to (pos 4); write = None; reads = cell 1 turn ∷ []; expr = Read 0 } ∷ []
 
 abbrev copies_body : List Node
-copies_body = loop_to 0 (pos 4) (Assign 0 ∷ []) ∷ Loop 1 (number (pos 0) ∷ []) (number (pos 4) ∷ []) (pos 2) (Assign 1 ∷ []) ∷ loop_to 2 (pos 4) (Assign 2 ∷ []) ∷ []
+copies_body =
+    loop_to 0 (pos 4) (Assign 0 ∷ []) ∷ Loop 1 (number (pos 0) ∷ []) (number (pos 4) ∷ []) (pos 2)
+    (Assign 1 ∷ []) ∷ loop_to 2 (pos 4) (Assign 2 ∷ []) ∷ []
 
 copies_well_formed : IsWellFormed x_and_y copies copies_body
 copies_well_formed = record {
@@ -147,5 +150,6 @@ no_turns = refl
 greatest_step : loop_values (number (negsuc 2) ∷ []) (number (pos 9) ∷ []) (pos 2147483647) [] ≡ pos 0 ∷ []
 greatest_step = refl
 
-two_uppers : loop_values (number (pos 0) ∷ []) (number (pos 9) ∷ number (pos 4) ∷ []) (pos 2) [] ≡ pos 0 ∷ pos 1 ∷ pos 2 ∷ []
+two_uppers : loop_values (number (pos 0) ∷ []) (number (pos 9) ∷ number (pos 4) ∷ []) (pos 2) []
+    ≡ pos 0 ∷ pos 1 ∷ pos 2 ∷ []
 two_uppers = refl

@@ -44,7 +44,8 @@ abbrev sums : Nest
 sums = record { arrays = y_and_v (pos 4); statements = sums_statements; body = sums_body; well_formed = sums_well_formed }
 
 abbrev delayed : Nest
-delayed = record { arrays = y_and_v (pos 3); statements = delayed_statements; body = delayed_body; well_formed = delayed_well_formed }
+delayed =
+    record { arrays = y_and_v (pos 3); statements = delayed_statements; body = delayed_body; well_formed = delayed_well_formed }
 
 abbrev nothing : Inputs
 nothing = record { arrays = [] ∷ [] ∷ [] }
@@ -53,7 +54,8 @@ abbrev at : ℕ → ℕ → Point
 at s i = record { statement = s; at = pos i ∷ [] }
 
 abbrev sums_points : List Point
-sums_points = at 0 0 ∷ at 1 0 ∷ at 0 1 ∷ at 1 1 ∷ at 0 2 ∷ at 1 2 ∷ at 0 3 ∷ at 1 3 ∷ at 2 0 ∷ at 2 1 ∷ at 2 2 ∷ at 2 3 ∷ []
+sums_points =
+    at 0 0 ∷ at 1 0 ∷ at 0 1 ∷ at 1 1 ∷ at 0 2 ∷ at 1 2 ∷ at 0 3 ∷ at 1 3 ∷ at 2 0 ∷ at 2 1 ∷ at 2 2 ∷ at 2 3 ∷ []
 
 sums_trace : trace sums ≡ sums_points
 unfolding trace
@@ -66,7 +68,8 @@ unfolding values_before last_before
 sums_values = simp (fold_add_at, fold_read_at, fold_var_at)
 
 abbrev delayed_points : List Point
-delayed_points = at 0 0 ∷ at 1 0 ∷ at 2 0 ∷ at 0 1 ∷ at 1 1 ∷ at 2 1 ∷ at 0 2 ∷ at 1 2 ∷ at 2 2 ∷ at 3 0 ∷ at 3 1 ∷ at 3 2 ∷ []
+delayed_points =
+    at 0 0 ∷ at 1 0 ∷ at 2 0 ∷ at 0 1 ∷ at 1 1 ∷ at 2 1 ∷ at 0 2 ∷ at 1 2 ∷ at 2 2 ∷ at 3 0 ∷ at 3 1 ∷ at 3 2 ∷ []
 
 delayed_trace : trace delayed ≡ delayed_points
 unfolding trace
@@ -79,8 +82,12 @@ unfolding values_before last_before
 delayed_values = simp (fold_add_at, fold_const_at, fold_read_at, fold_var_at)
 
 -- each statement of the running sums has one loop
-pub depth_is_one : (n : Nest) (s : ℕ) (i : ℤ) → n.statements ≡ sums_statements → s < 3 → HasDepth n (record { statement = s; at = i ∷ [] })
-depth_is_one n zero i e h = (omega (arith, ap length e), sym (ap (λ statements. length (option_map_or (λ s. s.loops) (slice_get statements 0) [])) e))
-depth_is_one n (suc zero) i e h = (omega (arith, ap length e), sym (ap (λ statements. length (option_map_or (λ s. s.loops) (slice_get statements 1) [])) e))
-depth_is_one n (suc (suc zero)) i e h = (omega (arith, ap length e), sym (ap (λ statements. length (option_map_or (λ s. s.loops) (slice_get statements 2) [])) e))
+pub depth_is_one : (n : Nest) (s : ℕ) (i : ℤ) → n.statements ≡ sums_statements → s < 3
+    → HasDepth n (record { statement = s; at = i ∷ [] })
+depth_is_one n zero i e h =
+    (omega (arith, ap length e), sym (ap (λ statements. length (option_map_or (λ s. s.loops) (slice_get statements 0) [])) e))
+depth_is_one n (suc zero) i e h =
+    (omega (arith, ap length e), sym (ap (λ statements. length (option_map_or (λ s. s.loops) (slice_get statements 1) [])) e))
+depth_is_one n (suc (suc zero)) i e h =
+    (omega (arith, ap length e), sym (ap (λ statements. length (option_map_or (λ s. s.loops) (slice_get statements 2) [])) e))
 depth_is_one n (suc (suc (suc s))) i e h = absurd (omega arith)

@@ -11,5 +11,7 @@ pub mod Writers
 pub mod Laws
 pub mod Examples
 pub mod Order
+pub mod Text
+pub mod Bounds
 pub mod Tags
 pub mod Points

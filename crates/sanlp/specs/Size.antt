@@ -30,7 +30,7 @@ size n = length (trace n) + loop_turns n
 
 -- the greatest size
 abbrev pub size_limit : ℕ
-size_limit = 2097152
+size_limit = 8388608
 
 -- the greatest absolute value of a form of an entered loop
 abbrev pub loop_value_limit : ℕ

@@ -1,7 +1,9 @@
 ghost use Rattle.std.specs.Prelude.{◌≡◌};
+ghost use Rattle.sanlp.specs.Bounds.{IsBoundedAbove};
 ghost use Rattle.sanlp.specs.Laws.{FollowsTrace, HoldsLastWriters, IsLastWriter, IsValue, SinksGiveArrays, SinksReadCells, sink_values};
 ghost use Rattle.sanlp.specs.Meaning.{arrays};
 ghost use Rattle.sanlp.specs.Order.{EnumeratesDomains};
+ghost use Rattle.sanlp.specs.Text.{IsContiguous, OrdersCompose};
 ghost use Rattle.sanlp.specs.Trace.{trace};
 
 use crate::nest::{Inputs, Nest};
@@ -40,4 +42,20 @@ pub fn sinks_give_arrays(nest: &Nest, inputs: &Inputs)
 /// `before` tells (Feautrier 1991).
 pub fn enumerates_domains(nest: &Nest)
     ensures { EnumeratesDomains nest.now (trace nest.now) }
+{}
+
+/// The text of a loop is one stretch: of three statements in the order of the text, the outer two have as many loops in
+/// common as the less of what each has with the middle one.
+pub fn text_is_contiguous(nest: &Nest)
+    ensures { IsContiguous nest.now }
+{}
+
+/// Orders of statements by the text compose, also with an order by a loop that two of them share.
+pub fn orders_compose(nest: &Nest)
+    ensures { OrdersCompose nest.now }
+{}
+
+/// Each loop round a statement is bounded above by one of the statement's rows, in which no loop inside it stands.
+pub fn loops_are_bounded_above(nest: &Nest)
+    ensures { IsBoundedAbove nest.now }
 {}

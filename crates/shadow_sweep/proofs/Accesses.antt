@@ -25,8 +25,10 @@ pub record AreAccessesOf (n : Nest) (p : Point) (accesses : NarrowStatement) : T
   pub reads_short : list_all (access_short (length p.at)) accesses.reads ≡ true
   pub write_short : option_map_or (access_short (length p.at)) accesses.write true ≡ true
 
-pub accesses_of : (n : Nest) (left later : List Point) (p : Point) → drop (length (trace n) - length left) (trace n) ≡ left → left ≡ p ∷ later
-    → (all : List NarrowStatement) (accesses : NarrowStatement) → all ≡ map narrowed n.statements → accesses ≡ get_or all p.statement accesses
+pub accesses_of : (n : Nest) (left later : List Point) (p : Point)
+    → drop (length (trace n) - length left) (trace n) ≡ left → left ≡ p ∷ later
+    → (all : List NarrowStatement) (accesses : NarrowStatement) → all ≡ map narrowed n.statements
+    → accesses ≡ get_or all p.statement accesses
     → AreAccessesOf n p accesses
 accesses_of n left later p e f all accesses same is =
     let exists = statement_exists n left later p e f in
@@ -38,25 +40,33 @@ accesses_of n left later p e f all accesses same is =
       statement = s.0;
       found = s.1;
       same = s.2;
-      reads_short = ap (λ (a : NarrowStatement). list_all (access_short (length p.at)) a.reads) s.2 ∙ short_reads (length p.at) s.0 short;
-      write_short = ap (λ (a : NarrowStatement). option_map_or (access_short (length p.at)) a.write true) s.2 ∙ short_write (length p.at) s.0 short;
+      reads_short =
+          ap (λ (a : NarrowStatement). list_all (access_short (length p.at)) a.reads) s.2
+          ∙ short_reads (length p.at) s.0 short;
+      write_short =
+          ap (λ (a : NarrowStatement). option_map_or (access_short (length p.at)) a.write true) s.2
+          ∙ short_write (length p.at) s.0 short;
     }
 
-module _ (n : Nest) (p : Point) (accesses : NarrowStatement) (at : List ℤ) (here : AreAccessesOf n p accesses) (same : at ≡ p.at) where
+module _ (n : Nest) (p : Point) (accesses : NarrowStatement) (at : List ℤ) (here : AreAccessesOf n p accesses)
+    (same : at ≡ p.at) where
   pub reads_fit : list_all (access_short (length at)) accesses.reads ≡ true
   reads_fit = ap (λ (at : List ℤ). list_all (access_short (length at)) accesses.reads) same ∙ here.reads_short
 
   pub write_fits : option_map_or (access_short (length at)) accesses.write true ≡ true
-  write_fits = ap (λ (at : List ℤ). option_map_or (access_short (length at)) accesses.write true) same ∙ here.write_short
+  write_fits =
+      ap (λ (at : List ℤ). option_map_or (access_short (length at)) accesses.write true) same ∙ here.write_short
 
   pub reads_are : (lists : List (List (Option Tag))) (first : ℕ) (writes : LastWrites)
-      → with_sources lists first (map writes (map (cell_at at) accesses.reads)) ≡ with_sources lists first (map writes (map (cell_at p.at) here.statement.reads))
+      → with_sources lists first (map writes (map (cell_at at) accesses.reads))
+      ≡ with_sources lists first (map writes (map (cell_at p.at) here.statement.reads))
   reads_are lists first writes =
       ap (λ (at : List ℤ). with_sources lists first (map writes (map (cell_at at) accesses.reads))) same
       ∙ ap (λ (a : NarrowStatement). with_sources lists first (map writes (map (cell_at p.at) a.reads))) here.same
 
   pub write_is : (writes : LastWrites) (tag : Tag)
-      → noted writes (option_map (cell_at at) accesses.write) tag ≡ noted writes (option_map (cell_at p.at) here.statement.write) tag
+      → noted writes (option_map (cell_at at) accesses.write) tag
+      ≡ noted writes (option_map (cell_at p.at) here.statement.write) tag
   write_is writes tag =
       ap (λ (at : List ℤ). noted writes (option_map (cell_at at) accesses.write) tag) same
       ∙ ap (λ (a : NarrowStatement). noted writes (option_map (cell_at p.at) a.write) tag) here.same

@@ -1,53 +1,28 @@
 -- Lists of lists, one of which grows.
-use Rattle.std.proofs.Common.{◌≡◌, ◌≢◌, ◌<◌, ◌+◌, ◌-◌, ℕ, zero, suc, List, [], ◌∷◌, ◌++◌, map, length, take, drop, set, get_or, refl, sym, ap, ◌∙◌, arith, add-one}
-use Rattle.std.specs.Prelude.{Option, Some, slice_get, replicate}
+use Rattle.std.proofs.Common.{◌≡◌, ◌<◌, ◌+◌, ◌-◌, ℕ, zero, suc, List, [], ◌∷◌, ◌++◌, map, length, take, set, get_or, refl, sym, ap, ◌∙◌, arith, add-one}
+use Rattle.std.specs.Prelude.{Option, Some, slice_get}
 use Rattle.std.specs.List.{range_with_len}
 use Rattle.std.proofs.lemmas.List.{get_or-append-add, length-map, length-set, map-append, set-append_right}
-use Rattle.std.proofs.lemmas.Option.{same_Some, slice_get_read}
+use Rattle.std.proofs.lemmas.Option.{slice_get_read}
 use Rattle.sanlp.specs.declared.nest.Tag.{Tag}
-use Rattle.sanlp.proofs.Lists.{split_at, map-range_with_len_same}
+use Rattle.sanlp.proofs.Lists.{split_at, take_next}
 use Rattle.shadow_sweep.specs.LastWrites.{with_source, with_sources}
-
-pub take_next : {X : Type 0} (xs : List X) (k : ℕ) (x : X) → slice_get xs k ≡ Some x → take (suc k) xs ≡ take k xs ++ x ∷ []
-take_next [] k x e = absurd (cc)
-take_next (y ∷ xs) zero x e = ap (λ z. z ∷ []) (same_Some y x e)
-take_next (y ∷ xs) (suc k) x e = ap (λ zs. y ∷ zs) (take_next xs k x e)
-
-pub take_all : {X : Type 0} (xs : List X) → take (length xs) xs ≡ xs
-take_all [] = refl
-take_all (x ∷ xs) = ap (λ ys. x ∷ ys) (take_all xs)
-
--- the front of what is left is the entry there, and the others are left after it
-pub drop_front : {X : Type 0} (xs : List X) (k : ℕ) (x : X) (left : List X) → drop k xs ≡ x ∷ left → (slice_get xs k ≡ Some x) × (drop (suc k) xs ≡ left)
-drop_front [] zero x left e = absurd (cc)
-drop_front [] (suc k) x left e = absurd (cc)
-drop_front (y ∷ xs) zero x left e = (let f : y ≡ x = cc in ap Some f, let f : xs ≡ left = cc in f)
-drop_front (y ∷ xs) (suc k) x left e = drop_front xs k x left e
 
 pub map_same : {X Y : Type 0} (f g : X → Y) → ((x : X) → f x ≡ g x) → (xs : List X) → map f xs ≡ map g xs
 map_same f g same [] = refl
 map_same f g same (x ∷ xs) = ap (λ y. y ∷ map f xs) (same x) ∙ ap (λ ys. g x ∷ ys) (map_same f g same xs)
 
--- a function that takes one more at i alone
-pub set_counted : (f g : ℕ → ℕ) (i : ℕ) → g i ≡ f i + 1 → ((k : ℕ) → k ≢ i → f k ≡ g k)
-    → (a m j : ℕ) → a + j ≡ i → set (map f (range_with_len a m)) j (f i + 1) ≡ map g (range_with_len a m)
-set_counted f g i more same a zero j e = refl
-set_counted f g i more same a (suc m) zero e =
-    let here : i ≡ a = omega arith in
-    ap (λ x. x ∷ map f (range_with_len (a + 1) m)) (sym more ∙ ap g here)
-    ∙ ap (λ xs. g a ∷ xs) (map-range_with_len_same f g (a + 1) m (λ k h l. same k (λ is. omega arith)))
-set_counted f g i more same a (suc m) (suc j) e =
-    ap (λ x. x ∷ set (map f (range_with_len (a + 1) m)) j (f i + 1)) (same a (λ is. omega arith))
-    ∙ ap (λ xs. g a ∷ xs) (set_counted f g i more same (a + 1) m j (omega arith))
-
 -- what g says at the places of a list is what f says of its elements
-pub map_places : {X Y : Type 0} (g : ℕ → Y) (f : X → Y) (a : ℕ) (xs : List X) → ((k : ℕ) (x : X) → slice_get xs k ≡ Some x → g (a + k) ≡ f x)
+pub map_places : {X Y : Type 0} (g : ℕ → Y) (f : X → Y) (a : ℕ) (xs : List X)
+    → ((k : ℕ) (x : X) → slice_get xs k ≡ Some x → g (a + k) ≡ f x)
     → map g (range_with_len a (length xs)) ≡ map f xs
 map_places g f a [] same = refl
 map_places g f a (x ∷ xs) same =
     let first : a ≡ a + 0 = omega arith in
     ap (λ y. y ∷ map g (range_with_len (a + 1) (length xs))) (ap g first ∙ same 0 x refl)
-    ∙ ap (λ ys. f x ∷ ys) (map_places g f (a + 1) xs (λ k y e. let later : a + 1 + k ≡ a + suc k = omega arith in ap g later ∙ same (suc k) y e))
+    ∙ ap (λ ys. f x ∷ ys)
+    (map_places g f (a + 1) xs
+    (λ k y e. let later : a + 1 + k ≡ a + suc k = omega arith in ap g later ∙ same (suc k) y e))
 
 -- lists, each with one of these sources at its end
 abbrev pub longer : List (List (Option Tag)) → List (Option Tag) → List (List (Option Tag))
@@ -66,7 +41,8 @@ source_after : (front lists : List (List (Option Tag))) (i : ℕ) (source : Opti
 source_after front lists i source =
     let left : length front + i - length front ≡ i = omega arith in
     ap (λ list. set (front ++ lists) (length front + i) (list ++ source ∷ [])) (get_or-append-add front lists i [])
-    ∙ set-append_right front lists (length front) (length front + i) (get_or lists i [] ++ source ∷ []) refl (omega arith)
+    ∙ set-append_right front lists (length front) (length front + i) (get_or lists i [] ++ source ∷ []) refl
+    (omega arith)
     ∙ ap (λ j. front ++ set lists j (get_or lists i [] ++ source ∷ [])) left
 
 pub sources_after : (front lists : List (List (Option Tag))) (i : ℕ) (sources : List (Option Tag))
@@ -79,7 +55,8 @@ sources_after front lists i (source ∷ sources) =
     ∙ sources_after front (with_source lists i source) (i + 1) sources
 
 -- one source for each list of a front
-pub sources_in_front : (front lists : List (List (Option Tag))) (sources : List (Option Tag)) → length front ≡ length sources
+pub sources_in_front : (front lists : List (List (Option Tag))) (sources : List (Option Tag))
+    → length front ≡ length sources
     → with_sources (front ++ lists) 0 sources ≡ longer front sources ++ lists
 sources_in_front [] lists [] e = refl
 sources_in_front [] lists (source ∷ sources) e = absurd (omega arith)
@@ -90,34 +67,37 @@ sources_in_front (list ∷ front) lists (source ∷ sources) e =
 
 -- one source more
 pub sources_more : (lists : List (List (Option Tag))) (i : ℕ) (sources : List (Option Tag)) (source : Option Tag)
-    → with_sources lists i (sources ++ source ∷ []) ≡ with_source (with_sources lists i sources) (i + length sources) source
+    → with_sources lists i (sources ++ source ∷ [])
+    ≡ with_source (with_sources lists i sources) (i + length sources) source
 sources_more lists i [] source = let e : i ≡ i + 0 = omega arith in ap (λ j. with_source lists j source) e
 sources_more lists i (first ∷ sources) source =
     let e : i + 1 + length sources ≡ i + suc (length sources) = omega arith in
     sources_more (with_source lists i first) (i + 1) sources source
     ∙ ap (λ j. with_source (with_sources (with_source lists i first) (i + 1) sources) j source) e
 
-pub length-with_sources : (lists : List (List (Option Tag))) (i : ℕ) (sources : List (Option Tag)) → length (with_sources lists i sources) ≡ length lists
+pub length-with_sources : (lists : List (List (Option Tag))) (i : ℕ) (sources : List (Option Tag))
+    → length (with_sources lists i sources) ≡ length lists
 length-with_sources lists i [] = refl
-length-with_sources lists i (source ∷ sources) = length-with_sources (with_source lists i source) (i + 1) sources ∙ length-set lists i (get_or lists i [] ++ source ∷ [])
-
-pub replicate-append : {X : Type 0} (m n : ℕ) (x : X) → replicate m x ++ replicate n x ≡ replicate (m + n) x
-replicate-append zero n x = let e : n ≡ 0 + n = omega arith in ap (λ k. replicate k x) e
-replicate-append (suc m) n x = ap (λ xs. x ∷ xs) (replicate-append m n x) ∙ (let e : suc (m + n) ≡ suc m + n = omega arith in ap (λ k. replicate k x) e)
+length-with_sources lists i (source ∷ sources) =
+    length-with_sources (with_source lists i source) (i + 1) sources
+    ∙ length-set lists i (get_or lists i [] ++ source ∷ [])
 
 -- one read more
-pub sources_step : {X Y : Type 0} (w : Y → Option Tag) (c : X → Y) (lists before after : List (List (Option Tag))) (first i : ℕ) (xs : List X) (x : X) (source : Option Tag)
+pub sources_step : {X Y : Type 0} (w : Y → Option Tag) (c : X → Y) (lists before after : List (List (Option Tag)))
+    (first i : ℕ) (xs : List X) (x : X) (source : Option Tag)
     → i < length xs → x ≡ get_or xs i x → source ≡ w (c x)
     → before ≡ with_sources lists first (map w (map c (take i xs))) → after ≡ with_source before (first + i) source
     → after ≡ with_sources lists first (map w (map c (take (i + 1) xs)))
 sources_step w c lists before after first i xs x source lt is e was f =
     let here = slice_get_read xs (length xs) i x refl lt is in
     let sources : List (Option Tag) = map w (map c (take i xs)) in
-    let number : i ≡ length sources = sym (length-map (map c (take i xs)) w ∙ length-map (take i xs) c ∙ (split_at xs i x here).1) in
+    let number : i ≡ length sources =
+    sym (length-map (map c (take i xs)) w ∙ length-map (take i xs) c ∙ (split_at xs i x here).1) in
     f ∙ ap (λ ls. with_source ls (first + i) source) was
     ∙ ap (λ s. with_source (with_sources lists first sources) (first + i) s) e
     ∙ ap (λ j. with_source (with_sources lists first sources) (first + j) (w (c x))) number
     ∙ sym (sources_more lists first sources (w (c x)))
     ∙ ap (with_sources lists first)
-    (sym (ap (map w) (ap (map c) (ap (λ k. take k xs) (add-one i) ∙ take_next xs i x here) ∙ map-append c (take i xs) (x ∷ []))
+    (sym (ap (map w)
+    (ap (map c) (ap (λ k. take k xs) (add-one i) ∙ take_next xs i x here) ∙ map-append c (take i xs) (x ∷ []))
     ∙ map-append w (map c (take i xs)) (c x ∷ [])))

@@ -2,7 +2,7 @@ use Rattle.std.proofs.Common.{FitsSigned}
 use mir.Syntax.{w64, w128}
 use Rattle.std.proofs.Math.Facts.{sfits_widen}
 use Rattle.std.proofs.lemmas.Int.{to_z-of_z}
-use Rattle.cell_rows.proofs.FormSums.{wide_product_fits, wide_sum_fits}
+use Rattle.sanlp.proofs.ModerateForms.{wide_product_fits, wide_sum_fits}
 use Rattle.cell_rows.proofs.narrow_form.add_wide_product.Goals as goal
 
 pub overflow_add-result : goal.overflow_add-result

@@ -2,8 +2,8 @@ use Rattle.std.proofs.Common.{◌<◌, ◌*ℤ◌, length, refl, arith, rules, p
 use mir.Syntax.{w64}
 use Rattle.std.proofs.lemmas.Int.{to_z-of_z}
 use Rattle.affine_core.specs.Affine.{combined}
-use Rattle.sanlp.proofs.ModerateForms.{as_many, moderate_at}
-use Rattle.cell_rows.proofs.FormSums.{next_sum_is_small, one_product_more, small_product}
+use Rattle.sanlp.proofs.ModerateForms.{as_many, moderate_at, one_product_more}
+use Rattle.cell_rows.proofs.FormSums.{next_sum_is_small, small_product}
 use Rattle.cell_rows.proofs.narrow_form.small_sum.Goals as goal
 
 pub add_small_product-sum-requires-clause-product : goal.add_small_product-sum-requires-clause-product
@@ -11,12 +11,15 @@ add_small_product-sum-requires-clause-product c =
     let coefs = c.args.coefs.now in
     let values = c.args.values.now in
     let place = c.loop-place.place in
-    let many = as_many (record { constant = c.args.constant; coefs = c.args.coefs.now }) c.args.values.now c.requires.fits in
+    let many =
+    as_many (record { constant = c.args.constant; coefs = c.args.coefs.now }) c.args.values.now c.requires.fits in
     let within : c.loop-place.place < length c.args.coefs.now = search rules in
     let there : c.loop-place.place < length c.args.values.now = omega (arith, many, within) in
     let coef : FitsSigned w64 (slice_index_or c.args.coefs.now c.loop-place.place (pos 0)) = search rules in
     let value : FitsSigned w64 (slice_index_or c.args.values.now c.loop-place.place (pos 0)) = search rules in
-    let moderate = moderate_at (record { constant = c.args.constant; coefs = coefs }) (length values) coefs place c.requires.fits refl within in
+    let moderate =
+    moderate_at (record { constant = c.args.constant; coefs = coefs })
+    (length values) coefs place c.requires.fits refl within in
     simp to_z-of_z (small_product (slice_index_or coefs place (pos 0)) values place moderate c.requires.small there)
 
 pub loop-place-preserved : goal.loop-place-preserved
@@ -24,17 +27,24 @@ loop-place-preserved c =
     let coefs = c.args.coefs.now in
     let values = c.args.values.now in
     let place = c.loop-place.place in
-    let many = as_many (record { constant = c.args.constant; coefs = c.args.coefs.now }) c.args.values.now c.requires.fits in
+    let many =
+    as_many (record { constant = c.args.constant; coefs = c.args.coefs.now }) c.args.values.now c.requires.fits in
     let within : c.loop-place.place < length c.args.coefs.now = search rules in
     let there : c.loop-place.place < length c.args.values.now = omega (arith, many, within) in
     let constant : FitsSigned w64 c.args.constant = c.ranges.constant in
     let coef : FitsSigned w64 (slice_index_or c.args.coefs.now c.loop-place.place (pos 0)) = search rules in
     let value : FitsSigned w64 (slice_index_or c.args.values.now c.loop-place.place (pos 0)) = search rules in
-    let moderate = moderate_at (record { constant = c.args.constant; coefs = coefs }) (length values) coefs place c.requires.fits refl within in
+    let moderate =
+    moderate_at (record { constant = c.args.constant; coefs = coefs })
+    (length values) coefs place c.requires.fits refl within in
     let product = small_product (slice_index_or coefs place (pos 0)) values place moderate c.requires.small there in
     let sum : FitsSigned w64 c.add_small_product-sum.result = search rules in
     let is = simp to_z-of_z at c.add_small_product-sum.ensures in
     let before = simp to_z-of_z at c.loop-place.invariant.0 in (
-      simp to_z-of_z (rw is (one_product_more _ coefs values place (combined c.args.constant coefs values) within there before)),
-      simp to_z-of_z (next_sum_is_small (to_z w64 c.loop-place.sum-bits) (slice_index_or coefs place (pos 0) *ℤ slice_index_or values place (pos 0)) c.add_small_product-sum.result place c.loop-place.invariant.1 product is),
+      simp to_z-of_z
+          (rw is (one_product_more _ coefs values place (combined c.args.constant coefs values) within there before)),
+      simp to_z-of_z
+          (next_sum_is_small (to_z w64 c.loop-place.sum-bits)
+          (slice_index_or coefs place (pos 0) *ℤ slice_index_or values place
+          (pos 0)) c.add_small_product-sum.result place c.loop-place.invariant.1 product is),
     )

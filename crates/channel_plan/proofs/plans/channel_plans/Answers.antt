@@ -13,12 +13,14 @@ overflow_add-next c =
     let s = c.statement-item.result in
     let statements = c.as_slice-statement-items.ensures in
     let found = ap (λ xs. slice_get xs p) (sym statements)
-    ∙ slice_get_read c.as_slice-statement-items.result.now (length c.as_slice-statement-items.result.now) p s refl c.loop-reader-test.true c.statement-item.is in
+    ∙ slice_get_read c.as_slice-statement-items.result.now
+    (length c.as_slice-statement-items.result.now) p s refl c.loop-reader-test.true c.statement-item.is in
     let exact = c.as_slice-table.ensures ∙ c.requires.sources in
     omega (arith, few_before n (p + 1), sum_more n c.as_slice-table.result.now exact p s found c.loop-reader.first c.len.result c.loop-reader.invariant.first c.len.ensures)
 
 pub offset_bounds-table-first : goal.offset_bounds-table-first
-offset_bounds-table-first c = omega (arith, few_before c.args.nest.now c.loop-reader.reader, c.loop-reader.invariant.first)
+offset_bounds-table-first c =
+    omega (arith, few_before c.args.nest.now c.loop-reader.reader, c.loop-reader.invariant.first)
 
 pub slice_bounds-add_channels_to-end : goal.slice_bounds-add_channels_to-end
 slice_bounds-add_channels_to-end c =
@@ -27,7 +29,8 @@ slice_bounds-add_channels_to-end c =
     let s = c.statement-item.result in
     let statements = c.as_slice-statement-items.ensures in
     let found = ap (λ xs. slice_get xs p) (sym statements)
-    ∙ slice_get_read c.as_slice-statement-items.result.now (length c.as_slice-statement-items.result.now) p s refl c.loop-reader-test.true c.statement-item.is in
+    ∙ slice_get_read c.as_slice-statement-items.result.now
+    (length c.as_slice-statement-items.result.now) p s refl c.loop-reader-test.true c.statement-item.is in
     let exact = c.as_slice-table.ensures ∙ c.requires.sources in
     part_exists n c.as_slice-table.result.now exact p s found c.loop-reader.first c.len.result c.loop-reader.invariant.first c.len.ensures
 
@@ -44,7 +47,8 @@ add_channels_to-requires-clause-reads c =
     let s = c.statement-item.result in
     let statements = c.as_slice-statement-items.ensures in
     let found = ap (λ xs. slice_get xs p) (sym statements)
-    ∙ slice_get_read c.as_slice-statement-items.result.now (length c.as_slice-statement-items.result.now) p s refl c.loop-reader-test.true c.statement-item.is in
+    ∙ slice_get_read c.as_slice-statement-items.result.now
+    (length c.as_slice-statement-items.result.now) p s refl c.loop-reader-test.true c.statement-item.is in
     let exact = c.as_slice-table.ensures ∙ c.requires.sources in
     omega (arith, part_short n c.as_slice-table.result.now exact p s found c.loop-reader.first c.len.result c.loop-reader.invariant.first c.len.ensures)
 
@@ -55,10 +59,13 @@ add_channels_to-requires-clause-among c =
     let s = c.statement-item.result in
     let statements = c.as_slice-statement-items.ensures in
     let found = ap (λ xs. slice_get xs p) (sym statements)
-    ∙ slice_get_read c.as_slice-statement-items.result.now (length c.as_slice-statement-items.result.now) p s refl c.loop-reader-test.true c.statement-item.is in
+    ∙ slice_get_read c.as_slice-statement-items.result.now
+    (length c.as_slice-statement-items.result.now) p s refl c.loop-reader-test.true c.statement-item.is in
     let exact = c.as_slice-table.ensures ∙ c.requires.sources in
     let turns = c.deref.ensures.value ∙ c.in_ok-turns.ensures ∙ ap (map length) c.requires.points ∙ turns_are n in
-    let part = take (c.loop-reader.first + c.len.result - c.loop-reader.first) (drop c.loop-reader.first c.as_slice-table.result.now) in
+    let part =
+    take (c.loop-reader.first + c.len.result - c.loop-reader.first)
+    (drop c.loop-reader.first c.as_slice-table.result.now) in
     subst (λ (ts : List ℕ). All (All (IsTurnAmong ts)) part) (sym turns)
     (part_among n c.as_slice-table.result.now exact p s found c.loop-reader.first c.len.result c.loop-reader.invariant.first c.len.ensures)
 
@@ -69,7 +76,8 @@ loop-reader-preserved c =
     let s = c.statement-item.result in
     let statements = c.as_slice-statement-items.ensures in
     let found = ap (λ xs. slice_get xs p) (sym statements)
-    ∙ slice_get_read c.as_slice-statement-items.result.now (length c.as_slice-statement-items.result.now) p s refl c.loop-reader-test.true c.statement-item.is in
+    ∙ slice_get_read c.as_slice-statement-items.result.now
+    (length c.as_slice-statement-items.result.now) p s refl c.loop-reader-test.true c.statement-item.is in
     let exact = c.as_slice-table.ensures ∙ c.requires.sources in
     let turns = c.deref.ensures.value ∙ c.in_ok-turns.ensures ∙ ap (map length) c.requires.points ∙ turns_are n in
     record {
@@ -82,5 +90,6 @@ loop-reader-preserved c =
 pub returns : goal.returns
 returns c =
     let n = c.args.nest.now in
-    let all : c.loop-reader.reader ≡ length n.statements = omega (arith, ap length c.as_slice-statement-items.ensures) in
+    let all : c.loop-reader.reader ≡ length n.statements =
+    omega (arith, ap length c.as_slice-statement-items.ensures) in
     c.from_vec.ensures ∙ plans_all n c.loop-reader.reader c.loop-reader.plans.items all c.loop-reader.invariant.plans

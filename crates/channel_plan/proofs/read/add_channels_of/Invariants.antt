@@ -4,4 +4,6 @@ use Rattle.channel_plan.proofs.read.add_channels_of.Given as goal
 
 abbrev pub invariant-loop-writer : goal.invariant-loop-writer
 invariant-loop-writer l =
-    l.plans.items ≡ l.initial.plans.items ++ map (λ w. channel_of l.reader l.read l.sources (get_or l.turns w 0) w) (take l.writer-index l.writer-items)
+    l.plans.items
+    ≡ l.initial.plans.items
+    ++ map (λ w. channel_of l.reader l.read l.sources (get_or l.turns w 0) w) (take l.writer-index l.writer-items)

@@ -12,7 +12,9 @@ loop-read-preserved c =
     let read = c.loop-read.read in
     let channels = λ (k : ℕ). channels_of turns c.args.reader k (get_or reads k []) in
     let before = flat_map channels (range_with_len 0 read) in
-    let source = c.as_slice.ensures ∙ get_or_read reads read c.index-reads-read.result c.loop-read-test.true c.index-reads-read.is [] in
+    let source =
+    c.as_slice.ensures
+    ∙ get_or_read reads read c.index-reads-read.result c.loop-read-test.true c.index-reads-read.is [] in
     c.in_ok-add_channels_of.ensures
     ∙ ap (λ old. old ++ channels_of turns c.args.reader read c.as_slice.result.now) c.loop-read.invariant
     ∙ ap (λ sources. (c.args.plans.now.items ++ before) ++ channels_of turns c.args.reader read sources) source

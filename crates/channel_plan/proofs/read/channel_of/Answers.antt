@@ -23,12 +23,14 @@ uses_of-requires-clause-within c =
     let used = turns_used c.args.writer c.args.sources.now in
     let marks = c.deref-3.ensures.value ∙ c.in_ok-is_token.ensures in
     All-same (λ turn. turn < length c.deref-3.result.now) c.in_ok-used.used.items used c.in_ok-used.ensures
-    (subst (λ (n : ℕ). All (λ turn. turn < n) used) (sym (long_marks c.args.turns c.deref.result.now c.deref-3.result.now marks)) c.requires.within)
+    (subst (λ (n : ℕ). All (λ turn. turn < n) used)
+    (sym (long_marks c.args.turns c.deref.result.now c.deref-3.result.now marks)) c.requires.within)
 
 pub plan-requires-clause-dense : goal.plan-requires-clause-dense
 plan-requires-clause-dense c =
     let used = turns_used c.args.writer c.args.sources.now in
-    let marks = c.deref-3.ensures.value ∙ c.in_ok-is_token.ensures ∙ ap (tokens_among c.args.turns) c.deref.ensures.value in
+    let marks =
+    c.deref-3.ensures.value ∙ c.in_ok-is_token.ensures ∙ ap (tokens_among c.args.turns) c.deref.ensures.value in
     let uses = uses_found c.args.turns used c.in_ok-used.used.items c.in_ok-uses.uses.items c.deref-3.result.now
     c.in_ok-used.ensures marks c.in_ok-uses.ensures c.requires.within in
     subst (λ us. NamesAllBelow us) (sym (c.deref-5.ensures.value ∙ uses)) (names_all_below used)
@@ -36,7 +38,8 @@ plan-requires-clause-dense c =
 pub plan-requires-clause-small : goal.plan-requires-clause-small
 plan-requires-clause-small c =
     let used = turns_used c.args.writer c.args.sources.now in
-    let marks = c.deref-3.ensures.value ∙ c.in_ok-is_token.ensures ∙ ap (tokens_among c.args.turns) c.deref.ensures.value in
+    let marks =
+    c.deref-3.ensures.value ∙ c.in_ok-is_token.ensures ∙ ap (tokens_among c.args.turns) c.deref.ensures.value in
     let uses = uses_found c.args.turns used c.in_ok-used.used.items c.in_ok-uses.uses.items c.deref-3.result.now
     c.in_ok-used.ensures marks c.in_ok-uses.ensures c.requires.within in
     All-same (λ named. named < 4294967295) c.deref-5.result.now (uses_of used) (c.deref-5.ensures.value ∙ uses)
@@ -54,7 +57,8 @@ returns c =
     channel_is c.args.reader c.args.read c.args.sources.now turns c.args.writer
     c.from_vec.result c.token_count-tokens.result c.in_ok-class.class c.in_ok-slots.slots
     (c.from_vec.ensures ∙ tokens)
-    (c.token_count-tokens.ensures ∙ ap (count_by (λ mark. mark)) (c.deref-2.ensures.value ∙ tokens) ∙ marks_all turns used)
+    (c.token_count-tokens.ensures ∙ ap (count_by (λ mark. mark)) (c.deref-2.ensures.value ∙ tokens)
+    ∙ marks_all turns used)
     (c.in_ok-class.ensures ∙ ap class_of (c.deref-4.ensures.value ∙ uses))
     (slots_are c.in_ok-slots.slots (uses_of used)
     (c.in_ok-slots.ensures.gets ∙ ap gets_before planned)

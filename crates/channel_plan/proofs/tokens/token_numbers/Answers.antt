@@ -21,6 +21,8 @@ loop-mark-preserved c =
       numbers =
           c.in_ok-push.ensures.items
           ∙ ap (λ ns. ns ++ c.loop-mark.number ∷ []) c.loop-mark.invariant.numbers
-          ∙ ap (λ n. map (λ turn. count_by (λ mark. mark) (take turn marks)) (range_with_len 0 index) ++ n ∷ []) c.loop-mark.invariant.number
-          ∙ sym (map-range_with_len_more (λ turn. count_by (λ mark. mark) (take turn marks)) 0 index index (omega arith));
+          ∙ ap (λ n. map (λ turn. count_by (λ mark. mark) (take turn marks)) (range_with_len 0 index)
+          ++ n ∷ []) c.loop-mark.invariant.number
+          ∙ sym (map-range_with_len_more (λ turn. count_by (λ mark. mark) (take turn marks)) 0 index index
+          (omega arith));
     }

@@ -16,11 +16,13 @@ loop-source-preserved c =
           ap (λ v. v.items) w.used-is
           ∙ w.in_ok-push.ensures.items
           ∙ ap (λ used. used ++ w.in-Some.turn ∷ []) c.loop-source.invariant
-          ∙ sym (filter_map_more (turn_of writer) sources index _ (Some w.in-Some.turn) c.loop-source-test.true w.in-Some.ensures)
+          ∙ sym (filter_map_more (turn_of writer) sources index _
+          (Some w.in-Some.turn) c.loop-source-test.true w.in-Some.ensures)
       | in_default w ↦
           ap (λ v. v.items) w.used-is
           ∙ c.loop-source.invariant
           ∙ sym (append-nil (turns_used writer (take index sources)))
           ∙ sym (ap (λ o. turns_used writer (take index sources) ++ cons_option o []) w.in_default.is)
-          ∙ sym (filter_map_more (turn_of writer) sources index _ c.turn_of.result c.loop-source-test.true c.turn_of.ensures)
+          ∙ sym (filter_map_more
+          (turn_of writer) sources index _ c.turn_of.result c.loop-source-test.true c.turn_of.ensures)
     ]

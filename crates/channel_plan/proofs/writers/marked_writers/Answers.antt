@@ -27,5 +27,6 @@ loop-source-preserved c =
       | in_default w ↦
           ap (λ v. v.items) w.marks-is
           ∙ c.loop-source.invariant
-          ∙ passed_same is_from sources index None c.loop-source-test.true processes (λ k. ap (is_from k) w.in_default.is)
+          ∙ passed_same is_from sources index None c.loop-source-test.true processes
+          (λ k. ap (is_from k) w.in_default.is)
     ]

@@ -11,7 +11,10 @@ use Rattle.derived_text.proofs.law.other_capacities_tell_the_plans.Goals as goal
 
 pub returns : goal.returns
 returns c = record {
-  tokens = λ capacities number plan there. ap (λ (n : Net). put_count n number) (net_kept (net c.args.nest.now) capacities) ∙ puts_planned c.args.nest.now number plan there;
-  hold = λ capacities number plan there. ap (λ (n : Net). hold n number) (net_kept (net c.args.nest.now) capacities) ∙ hold_planned c.args.nest.now number plan there;
+  tokens =
+      λ capacities number plan there. ap (λ (n : Net). put_count n number) (net_kept (net c.args.nest.now) capacities)
+      ∙ puts_planned c.args.nest.now number plan there;
+  hold = λ capacities number plan there. ap (λ (n : Net). hold n number) (net_kept (net c.args.nest.now) capacities)
+      ∙ hold_planned c.args.nest.now number plan there;
   class = class_at_capacities c.args.nest.now;
 }

@@ -9,8 +9,10 @@ use Rattle.loop_run.proofs.along.execute_values.Given as goal
 
 abbrev pub invariant-loop-value : goal.invariant-loop-value
 invariant-loop-value l = record {
-  memory : turns (λ at m. execute l.nest l.inputs m (record { statement = l.number; at = at })) (interval l.value l.last) l.at (memory_of l.cells)
-      ≡ turns (λ at m. execute l.nest l.inputs m (record { statement = l.number; at = at })) (interval l.first l.last) l.at (memory_of l.initial.cells);
+  memory : turns (λ at m. execute l.nest l.inputs m (record { statement = l.number; at = at }))
+      (interval l.value l.last) l.at (memory_of l.cells)
+      ≡ turns (λ at m. execute l.nest l.inputs m (record { statement = l.number; at = at }))
+      (interval l.first l.last) l.at (memory_of l.initial.cells);
   from : l.first ≤ℤ l.value;
   lines : IfSome l.lines (AreStatementLines (places_in l.cells) l.at l.first l.last l.narrow);
   deeper : length l.inner ≡ length l.at + 1;

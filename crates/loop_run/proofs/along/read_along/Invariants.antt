@@ -6,4 +6,5 @@ use Rattle.loop_run.proofs.along.read_along.Given as goal
 
 abbrev pub invariant-loop-slot : goal.invariant-loop-slot
 invariant-loop-slot l =
-    (length l.values ≡ 8) × (take l.slot l.values ≡ map (cell_value (memory_of l.cells)) (map (cell_at l.at) (take l.slot l.reads)))
+    (length l.values ≡ 8)
+    × (take l.slot l.values ≡ map (cell_value (memory_of l.cells)) (map (cell_at l.at) (take l.slot l.reads)))

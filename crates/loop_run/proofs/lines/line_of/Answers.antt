@@ -11,7 +11,8 @@ line_through-requires c =
     let next = c.in_ok-next.ensures in
     record {
       place = placed_limit c.args.cells.now _ c.in_ok-place.place start;
-      next = second_limit c.args.cells.now _ _ _ c.in_ok-next.next c.in_ok-end.end (placed_limit c.args.cells.now _ c.in_ok-end.end end) next.second next.none;
+      next = second_limit c.args.cells.now _ _ _ c.in_ok-next.next c.in_ok-end.end
+          (placed_limit c.args.cells.now _ c.in_ok-end.end end) next.second next.none;
     }
 
 pub returns : goal.returns
@@ -23,4 +24,5 @@ returns c =
     let second = simp to_z-of_z at c.in_ok-next.ensures.second in
     let none = simp to_z-of_z at c.in_ok-next.ensures.none in
     line_in_rows c.args.cells.now c.args.at.now c.args.first c.args.last c.args.access.now c.in_ok-place.place c.in_ok-end.end c.in_ok-next.next c.line_through.result
-    c.requires.turns (sym start ∙ c.in_ok-place.was) (sym end ∙ c.in_ok-end.was) second none c.line_through.ensures.line c.line_through.ensures.short
+    c.requires.turns (sym start ∙ c.in_ok-place.was)
+    (sym end ∙ c.in_ok-end.was) second none c.line_through.ensures.line c.line_through.ensures.short

@@ -7,8 +7,11 @@ use Rattle.loop_run.proofs.outputs.+values.Given as goal
 
 abbrev pub invariant-push_values-loop-subscript : goal.invariant-push_values-loop-subscript
 invariant-push_values-loop-subscript l =
-    l.values ++ flat_map (λ v. values_inside (memory_of l.cells) l.array l.inner (l.at ++ v ∷ [])) (counted l.subscript (natural (l.subscript-end -ℤ l.subscript)))
-    ≡ l.initial.values ++ flat_map (λ v. values_inside (memory_of l.cells) l.array l.inner (l.at ++ v ∷ [])) (counted (pos 0) (natural l.subscript-end))
+    l.values ++ flat_map (λ v. values_inside (memory_of l.cells) l.array l.inner (l.at ++ v ∷ []))
+    (counted l.subscript (natural (l.subscript-end -ℤ l.subscript)))
+    ≡ l.initial.values
+    ++ flat_map (λ v. values_inside (memory_of l.cells) l.array l.inner (l.at ++ v ∷ []))
+    (counted (pos 0) (natural l.subscript-end))
 
 abbrev pub decreases-push_values : goal.decreases-push_values
 decreases-push_values l = 2 * length l.extents.now

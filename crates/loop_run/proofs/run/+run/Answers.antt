@@ -25,7 +25,8 @@ run_node-run_turns-requires t c =
       search (rules, the_lemmas),
       (
         c.requires.same,
-        simp to_z-of_z (loop_keeps c.args.nest.now.statements c.args.node.now c.args.at.now _ _ _ c.as_slice.result.now c.as_slice-in-Loop.result.now _ _ c.as_slice-in-Loop-2.result.now c.in-Some.first c.in-Some.last
+        simp to_z-of_z
+            (loop_keeps c.args.nest.now.statements c.args.node.now c.args.at.now _ _ _ c.as_slice.result.now c.as_slice-in-Loop.result.now _ _ c.as_slice-in-Loop-2.result.now c.in-Some.first c.in-Some.last
             c.in-Loop.is c.as_slice.ensures c.as_slice-in-Loop.ensures c.as_slice-in-Loop-2.ensures range c.requires.fits c.requires.placed c.requires.within),
       ),
     )
@@ -37,13 +38,15 @@ run_node-returns-in-Some t c =
     let s : FitsSigned w64 c.in-Loop.step = search rules in
     let range = simp to_z-of_z at c.in-Some.ensures in
     let h = simp to_z-of_z at c.run_turns.ensures in
-    loop_done c.args.nest.now c.args.inputs.now c.args.node.now c.args.at.now (memory_of c.args.cells.now) (memory_of c.run_turns.new.cells)
+    loop_done c.args.nest.now c.args.inputs.now c.args.node.now c.args.at.now (memory_of c.args.cells.now)
+    (memory_of c.run_turns.new.cells)
     _ _ _ c.as_slice.result.now c.as_slice-in-Loop.result.now _ _ c.as_slice-in-Loop-2.result.now c.in-Some.first c.in-Some.last c.run_turns.result
     c.in-Loop.is c.as_slice.ensures c.as_slice-in-Loop.ensures c.as_slice-in-Loop-2.ensures range h
 
 pub run_node-returns-in-Assign : goal.run_node-returns-in-Assign
 run_node-returns-in-Assign t c =
-    assign_done c.args.nest.now c.args.inputs.now c.args.node.now c.args.at.now (memory_of c.args.cells.now) (memory_of c.execute_point.new.cells)
+    assign_done c.args.nest.now c.args.inputs.now c.args.node.now c.args.at.now (memory_of c.args.cells.now)
+    (memory_of c.execute_point.new.cells)
     c.in-Assign.statement c.execute_point.result c.in-Assign.is c.execute_point.ensures
 
 pub run_parts-run_node-requires : goal.run_parts-run_node-requires
@@ -53,9 +56,11 @@ run_parts-run_node-requires t c =
       (
         c.requires.same,
         (
-          part_passes forms_fit parts (length c.args.at.now) c.loop-part.part-index c.part-item.result c.requires.fit c.loop-part-test.true c.part-item.is,
+          part_passes forms_fit parts
+              (length c.args.at.now) c.loop-part.part-index c.part-item.result c.requires.fit c.loop-part-test.true c.part-item.is,
           (
-            part_passes (node_placed c.args.nest.now.statements) parts (length c.args.at.now) c.loop-part.part-index c.part-item.result c.requires.placed c.loop-part-test.true c.part-item.is,
+            part_passes (node_placed c.args.nest.now.statements) parts
+                (length c.args.at.now) c.loop-part.part-index c.part-item.result c.requires.placed c.loop-part-test.true c.part-item.is,
             part_passes node_within parts c.args.at.now c.loop-part.part-index c.part-item.result c.requires.within c.loop-part-test.true c.part-item.is,
           ),
         ),
@@ -75,12 +80,14 @@ run_turns-run_turn-requires t c =
         (
           c.requires.shallow,
           (
-            between_within c.args.first (to_z w64 c.loop-value.value-bits) c.args.last c.requires.first_within c.requires.last_within from to,
+            between_within c.args.first
+                (to_z w64 c.loop-value.value-bits) c.args.last c.requires.first_within c.requires.last_within from to,
             (
               c.requires.fit,
               (
                 c.requires.placed,
-                (turn_within c.args.parts.now c.args.at.now (to_z w64 c.loop-value.value-bits) (to_z w64 (of_z w64 c.args.last)) le c.loop-value.invariant.2).0,
+                (turn_within c.args.parts.now c.args.at.now (to_z w64 c.loop-value.value-bits)
+                    (to_z w64 (of_z w64 c.args.last)) le c.loop-value.invariant.2).0,
               ),
             ),
           ),
@@ -93,10 +100,14 @@ run_turns-loop-value-preserved t c =
     let value : ℤ = to_z w64 c.loop-value.value-bits in
     let last : ℤ = to_z w64 (of_z w64 c.args.last) in
     let le : to_z w64 c.loop-value.value-bits ≤ℤ to_z w64 (of_z w64 c.args.last) = search rules in
-    let next : to_z w64 (of_z w64 (to_z w64 c.loop-value.value-bits +ℤ pos 1)) ≡ to_z w64 c.loop-value.value-bits +ℤ pos 1 = omega (arith, ints) in
+    let next : to_z w64 (of_z w64 (to_z w64 c.loop-value.value-bits +ℤ pos 1))
+    ≡ to_z w64 c.loop-value.value-bits +ℤ pos 1 = omega (arith, ints) in
     let body : Action = in_turn (map (exec_node c.args.nest.now c.args.inputs.now) c.args.parts.now) in
-    let all : Memory = turns body (interval (to_z w64 (of_z w64 c.args.first)) last) c.args.at.now (memory_of c.args.cells.now) in
-    let more = turn_done body value last c.args.at.now (memory_of c.loop-value.cells) all (memory_of c.run_turn.new.cells) le c.in_ok-run_turn.ensures c.loop-value.invariant.0 in
+    let all : Memory =
+    turns body (interval (to_z w64 (of_z w64 c.args.first)) last) c.args.at.now (memory_of c.args.cells.now) in
+    let more =
+    turn_done body value last c.args.at.now (memory_of c.loop-value.cells) all
+    (memory_of c.run_turn.new.cells) le c.in_ok-run_turn.ensures c.loop-value.invariant.0 in
     let left = (turn_within c.args.parts.now c.args.at.now value last le c.loop-value.invariant.2).1 in (
       subst (λ v. turns body (interval v last) c.args.at.now (memory_of c.run_turn.new.cells) ≡ all) (sym next) more,
       omega (arith, ints),
@@ -112,7 +123,11 @@ run_turns-returns-in_ok-run_turn t c =
     let le : to_z w64 c.loop-value.value-bits ≤ℤ to_z w64 (of_z w64 c.args.last) = search rules in
     let past : to_z w64 (of_z w64 c.args.last) <ℤ (to_z w64 c.loop-value.value-bits +ℤ pos 1) = omega (arith, ints) in
     let body : Action = in_turn (map (exec_node c.args.nest.now c.args.inputs.now) c.args.parts.now) in
-    let all : Memory = turns body (interval (to_z w64 (of_z w64 c.args.first)) last) c.args.at.now (memory_of c.args.cells.now) in
-    let more = turn_done body value last c.args.at.now (memory_of c.loop-value.cells) all (memory_of c.run_turn.new.cells) le c.in_ok-run_turn.ensures c.loop-value.invariant.0 in
-    let done : memory_of c.run_turn.new.cells ≡ all = turns_done body (value +ℤ pos 1) last c.args.at.now (memory_of c.run_turn.new.cells) all past more in
+    let all : Memory =
+    turns body (interval (to_z w64 (of_z w64 c.args.first)) last) c.args.at.now (memory_of c.args.cells.now) in
+    let more =
+    turn_done body value last c.args.at.now (memory_of c.loop-value.cells) all
+    (memory_of c.run_turn.new.cells) le c.in_ok-run_turn.ensures c.loop-value.invariant.0 in
+    let done : memory_of c.run_turn.new.cells ≡ all =
+    turns_done body (value +ℤ pos 1) last c.args.at.now (memory_of c.run_turn.new.cells) all past more in
     simp to_z-of_z at done

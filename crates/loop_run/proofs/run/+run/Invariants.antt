@@ -8,11 +8,13 @@ use Rattle.loop_run.proofs.run.+run.Given as goal
 
 abbrev pub invariant-run_parts-loop-part : goal.invariant-run_parts-loop-part
 invariant-run_parts-loop-part l =
-    memory_of l.cells ≡ in_turn (map (exec_node l.nest l.inputs) (take l.part-index l.parts)) l.at (memory_of l.initial.cells)
+    memory_of l.cells
+    ≡ in_turn (map (exec_node l.nest l.inputs) (take l.part-index l.parts)) l.at (memory_of l.initial.cells)
 
 abbrev pub invariant-run_turns-loop-value : goal.invariant-run_turns-loop-value
 invariant-run_turns-loop-value l =
     (turns (in_turn (map (exec_node l.nest l.inputs) l.parts)) (interval l.value l.last) l.at (memory_of l.cells)
-    ≡ turns (in_turn (map (exec_node l.nest l.inputs) l.parts)) (interval l.first l.last) l.at (memory_of l.initial.cells))
+    ≡ turns (in_turn (map (exec_node l.nest l.inputs) l.parts)) (interval l.first l.last) l.at
+    (memory_of l.initial.cells))
     × (l.first ≤ℤ l.value)
     × IsTrue (turns_within l.parts l.at (interval l.value l.last))

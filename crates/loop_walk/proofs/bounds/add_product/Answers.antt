@@ -2,7 +2,7 @@ use Rattle.std.proofs.Common.{FitsSigned}
 use mir.Syntax.{w64, w128}
 use Rattle.std.proofs.Math.Facts.{sfits_widen}
 use Rattle.std.proofs.lemmas.Int.{to_z-of_z}
-use Rattle.loop_walk.proofs.SumsInside.{product_fits, sum_fits}
+use Rattle.sanlp.proofs.ModerateForms.{wide_product_fits, wide_sum_fits}
 use Rattle.loop_walk.proofs.bounds.add_product.Goals as goal
 
 pub overflow_add-result : goal.overflow_add-result
@@ -12,8 +12,8 @@ overflow_add-result c =
     let value64 : FitsSigned w64 c.args.value = c.ranges.value in
     let coef : FitsSigned w128 c.args.coef = sfits_widen tt coef64 in
     let value : FitsSigned w128 c.args.value = sfits_widen tt value64 in
-    let product = product_fits c.args.sum c.args.coef c.args.value _ c.requires in
-    simp to_z-of_z (sum_fits c.args.sum c.args.coef c.args.value _ c.requires)
+    let product = wide_product_fits c.args.coef c.args.value c.requires.coef value64 in
+    simp to_z-of_z (wide_sum_fits c.args.sum c.args.coef c.args.value c.requires.sum c.requires.coef value64)
 
 pub returns : goal.returns
 returns c =
@@ -22,6 +22,6 @@ returns c =
     let value64 : FitsSigned w64 c.args.value = c.ranges.value in
     let coef : FitsSigned w128 c.args.coef = sfits_widen tt coef64 in
     let value : FitsSigned w128 c.args.value = sfits_widen tt value64 in
-    let product = product_fits c.args.sum c.args.coef c.args.value _ c.requires in
-    let whole = sum_fits c.args.sum c.args.coef c.args.value _ c.requires in
+    let product = wide_product_fits c.args.coef c.args.value c.requires.coef value64 in
+    let whole = wide_sum_fits c.args.sum c.args.coef c.args.value c.requires.sum c.requires.coef value64 in
     simp to_z-of_z

@@ -11,5 +11,7 @@ loop-form-preserved c =
     let fits : FitsSigned w128 c.max-value.result = search rules in
     let one_fits : FitsSigned w128 c.form_value.result = search rules in
     let next = simp to_z-of_z at c.max-value.ensures.value in
-    simp to_z-of_z (fold_map_more int_max (λ form. form_at form c.args.at.now) _ c.in-Some.others.now c.loop-form.form-index c.form-item.result
+    simp to_z-of_z
+    (fold_map_more int_max
+    (λ form. form_at form c.args.at.now) _ c.in-Some.others.now c.loop-form.form-index c.form-item.result
     _ _ _ c.loop-form-test.true c.form-item.is c.loop-form.invariant c.form_value.ensures next)

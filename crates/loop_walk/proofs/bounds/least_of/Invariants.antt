@@ -5,4 +5,5 @@ use Rattle.affine_core.specs.Affine.{form_at}
 use Rattle.loop_walk.proofs.bounds.least_of.Given as goal
 
 abbrev pub invariant-loop-form : goal.invariant-loop-form
-invariant-loop-form l = l.value ≡ fold int_min l.initial.value (map (λ form. form_at form l.at) (take l.form-index l.others))
+invariant-loop-form l =
+    l.value ≡ fold int_min l.initial.value (map (λ form. form_at form l.at) (take l.form-index l.others))

@@ -5,7 +5,8 @@ use Rattle.loop_walk.proofs.count.+count.Given as goal
 
 abbrev pub invariant-count_parts-loop-part : goal.invariant-count_parts-loop-part
 invariant-count_parts-loop-part l =
-    counted_parts (map counted_node (drop l.part-index l.parts)) l.at l.count ≡ counted_parts (map counted_node l.parts) l.at l.initial.count
+    counted_parts (map counted_node (drop l.part-index l.parts)) l.at l.count
+    ≡ counted_parts (map counted_node l.parts) l.at l.initial.count
 
 abbrev pub invariant-count_turns-loop-value : goal.invariant-count_turns-loop-value
 invariant-count_turns-loop-value l =

@@ -15,7 +15,8 @@ loop-point-init c =
       walk = c.in_ok-walk.ensures.walk;
       count = c.in_ok-lists.lists.ok.0 ∙ ap length empty ∙ length-replicate (length n.statements) [];
       exist = subst (all_exist n) (sym c.in_ok-walk.ensures.rest) (trace_exists n);
-      added = ap (λ lists. fold with_point lists (rest n c.in_ok-walk.walk)) empty ∙ ap (fold with_point (replicate (length n.statements) [])) c.in_ok-walk.ensures.rest;
+      added = ap (λ lists. fold with_point lists (rest n c.in_ok-walk.walk)) empty
+          ∙ ap (fold with_point (replicate (length n.statements) [])) c.in_ok-walk.ensures.rest;
     }
 
 pub returns : goal.returns

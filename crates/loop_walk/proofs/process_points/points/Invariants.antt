@@ -13,7 +13,8 @@ invariant-loop-point l =
       walk : IsWalkOf l.nest l.walk;
       count : vec_len l.lists ≡ length l.nest.statements;
       exist : all_exist l.nest (rest l.nest l.walk);
-      added : fold with_point l.lists.items (rest l.nest l.walk) ≡ fold with_point (replicate (length l.nest.statements) []) (trace l.nest);
+      added : fold with_point l.lists.items (rest l.nest l.walk)
+          ≡ fold with_point (replicate (length l.nest.statements) []) (trace l.nest);
     }
 
 abbrev pub decreases-loop-point : goal.decreases-loop-point

@@ -6,7 +6,8 @@ use Rattle.loop_walk.proofs.walk.+next.Given as goal
 
 abbrev pub invariant-next_of_turns-turns : goal.invariant-next_of_turns-turns
 invariant-next_of_turns-turns l =
-    (left_of_turns l.frame (left l.deeper) l.body l.at ≡ left_of_turns l.initial.frame (left l.initial.deeper) l.body l.at)
+    (left_of_turns l.frame (left l.deeper) l.body l.at
+    ≡ left_of_turns l.initial.frame (left l.initial.deeper) l.body l.at)
     × IsTrue (turns_valid l.frame (valid l.deeper) l.body l.at)
     × (l.frame.part ≡ l.initial.frame.part)
     × (l.frame.inside ≡ l.initial.frame.inside)

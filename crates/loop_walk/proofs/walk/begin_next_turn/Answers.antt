@@ -11,7 +11,8 @@ returns-clause-left c =
     let f : FitsSigned w64 c.args.frame.now.value = search rules in
     let g : FitsSigned w64 c.args.frame.now.last = search rules in
     let next : ℤ = to_z w64 (of_z w64 (to_z w64 (of_z w64 c.args.frame.now.value) +ℤ pos 1)) in
-    let is : to_z w64 (of_z w64 (to_z w64 (of_z w64 c.args.frame.now.value) +ℤ pos 1)) ≡ c.args.frame.now.value +ℤ pos 1 = omega (arith, ints) in
+    let is : to_z w64 (of_z w64 (to_z w64 (of_z w64 c.args.frame.now.value) +ℤ pos 1))
+    ≡ c.args.frame.now.value +ℤ pos 1 = omega (arith, ints) in
     turn_begun c.args.frame.now next c.restart.new.frames c.args.body.now c.args.at.now c.extended.result is c.requires.later c.extended.ensures c.restart.ensures.left
 
 pub returns-clause-valid : goal.returns-clause-valid
@@ -19,6 +20,7 @@ returns-clause-valid c =
     let f : FitsSigned w64 c.args.frame.now.value = search rules in
     let g : FitsSigned w64 c.args.frame.now.last = search rules in
     let next : ℤ = to_z w64 (of_z w64 (to_z w64 (of_z w64 c.args.frame.now.value) +ℤ pos 1)) in
-    let is : to_z w64 (of_z w64 (to_z w64 (of_z w64 c.args.frame.now.value) +ℤ pos 1)) ≡ c.args.frame.now.value +ℤ pos 1 = omega (arith, ints) in
+    let is : to_z w64 (of_z w64 (to_z w64 (of_z w64 c.args.frame.now.value) +ℤ pos 1))
+    ≡ c.args.frame.now.value +ℤ pos 1 = omega (arith, ints) in
     turn_begun_valid c.args.frame.now next c.restart.new.frames c.args.body.now c.args.at.now c.extended.result is c.requires.later c.extended.ensures
     (valid c.args.deeper.now) c.requires.valid c.restart.ensures.valid

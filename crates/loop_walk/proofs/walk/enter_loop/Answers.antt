@@ -18,8 +18,10 @@ restart-requires-clause-within c =
     let range = simp to_z-of_z at c.in-Some.ensures in
     let le : c.in-Some.first ≤ℤ c.in-Some.last = omega (arith, ints) in
     let body = c.args.body.now in
-    let within = within_outside c.args.frame.now (valid c.args.deeper.now) (Loop c.args.id c.args.lower.now c.args.upper.now c.args.step body) c.args.at.now c.if-frame.false c.requires.valid in
-    let turns = turns_are_within c.args.id c.args.lower.now c.args.upper.now c.args.step body c.args.at.now c.in-Some.first c.in-Some.last range le within in
+    let within =
+    within_outside c.args.frame.now (valid c.args.deeper.now) (Loop c.args.id c.args.lower.now c.args.upper.now c.args.step body) c.args.at.now c.if-frame.false c.requires.valid in
+    let turns =
+    turns_are_within c.args.id c.args.lower.now c.args.upper.now c.args.step body c.args.at.now c.in-Some.first c.in-Some.last range le within in
     let inner = simp to_z-of_z at c.extended.ensures in
     ap (parts_within body) inner ∙ turns.0
 
@@ -32,7 +34,8 @@ returns-clause-turns c =
     let le : c.in-Some.first ≤ℤ c.in-Some.last = omega (arith, ints) in
     let body = c.args.body.now in
     let inner = simp to_z-of_z at c.extended.ensures in
-    let rest = turn_points (all_points (map trace_node body)) (interval (c.in-Some.first +ℤ pos 1) c.in-Some.last) c.args.at.now in
+    let rest =
+    turn_points (all_points (map trace_node body)) (interval (c.in-Some.first +ℤ pos 1) c.in-Some.last) c.args.at.now in
     let node = Loop c.args.id c.args.lower.now c.args.upper.now c.args.step body in
     simp to_z-of_z
     (left_outside c.args.frame.now (left c.args.deeper.now) node c.args.at.now c.if-frame.false
@@ -49,8 +52,10 @@ returns-clause-valid c =
     let range = simp to_z-of_z at c.in-Some.ensures in
     let le : c.in-Some.first ≤ℤ c.in-Some.last = omega (arith, ints) in
     let body = c.args.body.now in
-    let within = within_outside c.args.frame.now (valid c.args.deeper.now) (Loop c.args.id c.args.lower.now c.args.upper.now c.args.step body) c.args.at.now c.if-frame.false c.requires.valid in
-    let turns = turns_are_within c.args.id c.args.lower.now c.args.upper.now c.args.step body c.args.at.now c.in-Some.first c.in-Some.last range le within in
+    let within =
+    within_outside c.args.frame.now (valid c.args.deeper.now) (Loop c.args.id c.args.lower.now c.args.upper.now c.args.step body) c.args.at.now c.if-frame.false c.requires.valid in
+    let turns =
+    turns_are_within c.args.id c.args.lower.now c.args.upper.now c.args.step body c.args.at.now c.in-Some.first c.in-Some.last range le within in
     let inner = simp to_z-of_z at c.extended.ensures in
     simp to_z-of_z
     (and_from _ _ (and_from _ _ (and_from _ _ c.in-Some.ensures.first_within c.in-Some.ensures.last_within) turns.1)

@@ -12,9 +12,13 @@ returns-clause-next c =
     let f : FitsSigned w64 c.args.frame.now.value = search rules in
     let g : FitsSigned w64 c.args.frame.now.last = search rules in
     let next : ℤ = to_z w64 (of_z w64 (to_z w64 (of_z w64 c.args.frame.now.value) +ℤ pos 1)) in
-    let is : to_z w64 (of_z w64 (to_z w64 (of_z w64 c.args.frame.now.value) +ℤ pos 1)) ≡ c.args.frame.now.value +ℤ pos 1 = omega (arith, ints) in
-    let rest = left_of_turns (record c.args.frame.now { value = next }) (left c.args.deeper.now) c.args.body.now c.args.at.now in
-    let point = c.point_of.ensures ∙ ap (λ (at : List ℤ). record { statement = c.args.statement; at = at }) c.extended.ensures in
+    let is : to_z w64 (of_z w64 (to_z w64 (of_z w64 c.args.frame.now.value) +ℤ pos 1))
+    ≡ c.args.frame.now.value +ℤ pos 1 = omega (arith, ints) in
+    let rest =
+    left_of_turns (record c.args.frame.now { value = next }) (left c.args.deeper.now) c.args.body.now c.args.at.now in
+    let point =
+    c.point_of.ensures
+    ∙ ap (λ (at : List ℤ). record { statement = c.args.statement; at = at }) c.extended.ensures in
     next_assignment c.args.frame.now c.args.deeper.now c.args.body.now c.args.statement c.args.at.now c.requires.body c.requires.none_left next is (omega (arith, ints))
     ∙ ap (λ (p : Point). p ∷ rest) (sym point)
 
@@ -23,6 +27,8 @@ returns-clause-valid c =
     let f : FitsSigned w64 c.args.frame.now.value = search rules in
     let g : FitsSigned w64 c.args.frame.now.last = search rules in
     let next : ℤ = to_z w64 (of_z w64 (to_z w64 (of_z w64 c.args.frame.now.value) +ℤ pos 1)) in
-    let is : to_z w64 (of_z w64 (to_z w64 (of_z w64 c.args.frame.now.value) +ℤ pos 1)) ≡ c.args.frame.now.value +ℤ pos 1 = omega (arith, ints) in
-    turn_begun_valid c.args.frame.now next c.args.deeper.now c.args.body.now c.args.at.now c.extended.result is (omega (arith, ints)) c.extended.ensures
+    let is : to_z w64 (of_z w64 (to_z w64 (of_z w64 c.args.frame.now.value) +ℤ pos 1))
+    ≡ c.args.frame.now.value +ℤ pos 1 = omega (arith, ints) in
+    turn_begun_valid c.args.frame.now next c.args.deeper.now c.args.body.now c.args.at.now c.extended.result is
+    (omega (arith, ints)) c.extended.ensures
     (valid c.args.deeper.now) c.requires.valid (c.requires.all_valid c.extended.result)

@@ -5,4 +5,5 @@ pub returns-clause-left : goal.returns-clause-left
 returns-clause-left c = left_at_start c.args.frames.now c.args.parts.now c.args.at.now c.requires.room
 
 pub returns-clause-valid : goal.returns-clause-valid
-returns-clause-valid c = valid_at_start c.args.frames.now c.args.parts.now c.args.at.now c.requires.room c.requires.within
+returns-clause-valid c =
+    valid_at_start c.args.frames.now c.args.parts.now c.args.at.now c.requires.room c.requires.within

@@ -5,4 +5,5 @@ use Rattle.shadow_sweep.proofs.entry.add_sources.Given as goal
 
 abbrev pub invariant-loop-read : goal.invariant-loop-read
 invariant-loop-read l =
-    l.lists.items ≡ with_sources l.initial.lists.items l.first (map (writes_in l.cells) (map (cell_at l.at) (take l.read l.reads)))
+    l.lists.items
+    ≡ with_sources l.initial.lists.items l.first (map (writes_in l.cells) (map (cell_at l.at) (take l.read l.reads)))

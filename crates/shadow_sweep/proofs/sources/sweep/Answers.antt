@@ -15,11 +15,14 @@ use Rattle.shadow_sweep.proofs.sources.sweep.Goals as goal
 pub loop-point-init : goal.loop-point-init
 loop-point-init c =
     let n = c.args.nest.now in
-    let started : length (trace n) - length (rest n c.in_ok-walk.walk) ≡ 0 = omega (arith, ap length c.in_ok-walk.ensures.rest) in
+    let started : length (trace n) - length (rest n c.in_ok-walk.walk) ≡ 0 =
+    omega (arith, ap length c.in_ok-walk.ensures.rest) in
     record {
       walk = c.in_ok-walk.ensures.walk;
       left = ap (λ k. drop k (trace n)) started ∙ sym c.in_ok-walk.ensures.rest;
-      swept = subst (λ t. IsSwept n t c.in_ok-turns.turns.items (writes_in c.in_ok-cells.cells) c.first_reads.new.lists.items) (sym started)
+      swept = subst
+          (λ t. IsSwept n t c.in_ok-turns.turns.items (writes_in c.in_ok-cells.cells) c.first_reads.new.lists.items)
+          (sym started)
           (swept_none n c.in_ok-turns.turns.items (writes_in c.in_ok-cells.cells) c.first_reads.new.lists.items
           (c.in_ok-turns.ensures.items_if_clones_equal (λ y h. h) ∙ ap (λ k. replicate k 0) c.len.ensures)
           c.in_ok-cells.ensures c.in_ok-firsts.ensures.lists);
@@ -31,13 +34,15 @@ next_turn-turn-requires-clause-exists c =
     omega (
       arith,
       c.loop-point.turns.ok.0,
-      turn_exists n (rest n c.loop-point.walk) _ c.in-Some.point c.loop-point.invariant.left c.in-Some.ensures.next _ _ _ c.loop-point.invariant.swept,
+      turn_exists n
+          (rest n c.loop-point.walk) _ c.in-Some.point c.loop-point.invariant.left c.in-Some.ensures.next _ _ _ c.loop-point.invariant.swept,
     )
 
 pub next_turn-turn-requires-clause-few : goal.next_turn-turn-requires-clause-few
 next_turn-turn-requires-clause-few c =
     let n = c.args.nest.now in
-    turn_is_small n (rest n c.loop-point.walk) _ c.in-Some.point c.loop-point.invariant.left c.in-Some.ensures.next _ _ _ c.loop-point.invariant.swept c.requires.sized.size_within
+    turn_is_small n
+    (rest n c.loop-point.walk) _ c.in-Some.point c.loop-point.invariant.left c.in-Some.ensures.next _ _ _ c.loop-point.invariant.swept c.requires.sized.size_within
 
 pub bounds-accesses-process : goal.bounds-accesses-process
 bounds-accesses-process c =
@@ -45,7 +50,8 @@ bounds-accesses-process c =
     omega (
       arith,
       ap length (c.as_slice-accesses.ensures ∙ c.in_ok-narrow.ensures) ∙ length-map n.statements narrowed,
-      statement_exists n (rest n c.loop-point.walk) _ c.in-Some.point c.loop-point.invariant.left c.in-Some.ensures.next,
+      statement_exists n
+          (rest n c.loop-point.walk) _ c.in-Some.point c.loop-point.invariant.left c.in-Some.ensures.next,
     )
 
 pub index-first-requires : goal.index-first-requires
@@ -56,30 +62,41 @@ index-first-requires c =
       c.in_ok-firsts.firsts.ok.0,
       ap length c.in_ok-firsts.ensures.firsts,
       length-map-range_with_len (λ p. read_number n p 0) 0 (length n.statements),
-      statement_exists n (rest n c.loop-point.walk) _ c.in-Some.point c.loop-point.invariant.left c.in-Some.ensures.next,
+      statement_exists n
+          (rest n c.loop-point.walk) _ c.in-Some.point c.loop-point.invariant.left c.in-Some.ensures.next,
     )
 
 pub pass-requires-clause-reads_fit : goal.pass-requires-clause-reads_fit
 pass-requires-clause-reads_fit c =
     let n = c.args.nest.now in
-    let here = accesses_of n (rest n c.loop-point.walk) _ c.in-Some.point c.loop-point.invariant.left c.in-Some.ensures.next
-    c.as_slice-accesses.result.now c.index-accesses-process.result (c.as_slice-accesses.ensures ∙ c.in_ok-narrow.ensures) c.index-accesses-process.is in
+    let here =
+    accesses_of n (rest n c.loop-point.walk) _ c.in-Some.point c.loop-point.invariant.left c.in-Some.ensures.next
+    c.as_slice-accesses.result.now c.index-accesses-process.result
+    (c.as_slice-accesses.ensures ∙ c.in_ok-narrow.ensures) c.index-accesses-process.is in
     reads_fit n c.in-Some.point c.index-accesses-process.result c.as_slice-at.result.now here c.as_slice-at.ensures.value
 
 pub pass-requires-clause-write_fits : goal.pass-requires-clause-write_fits
 pass-requires-clause-write_fits c =
     let n = c.args.nest.now in
-    let here = accesses_of n (rest n c.loop-point.walk) _ c.in-Some.point c.loop-point.invariant.left c.in-Some.ensures.next
-    c.as_slice-accesses.result.now c.index-accesses-process.result (c.as_slice-accesses.ensures ∙ c.in_ok-narrow.ensures) c.index-accesses-process.is in
+    let here =
+    accesses_of n (rest n c.loop-point.walk) _ c.in-Some.point c.loop-point.invariant.left c.in-Some.ensures.next
+    c.as_slice-accesses.result.now c.index-accesses-process.result
+    (c.as_slice-accesses.ensures ∙ c.in_ok-narrow.ensures) c.index-accesses-process.is in
     write_fits n c.in-Some.point c.index-accesses-process.result c.as_slice-at.result.now here c.as_slice-at.ensures.value
 
 pub pass-requires-clause-room : goal.pass-requires-clause-room
 pass-requires-clause-room c =
     let n = c.args.nest.now in
-    let here = accesses_of n (rest n c.loop-point.walk) _ c.in-Some.point c.loop-point.invariant.left c.in-Some.ensures.next
-    c.as_slice-accesses.result.now c.index-accesses-process.result (c.as_slice-accesses.ensures ∙ c.in_ok-narrow.ensures) c.index-accesses-process.is in
-    let exists = statement_exists n (rest n c.loop-point.walk) _ c.in-Some.point c.loop-point.invariant.left c.in-Some.ensures.next in
-    let count = ap length c.in_ok-firsts.ensures.firsts ∙ length-map-range_with_len (λ p. read_number n p 0) 0 (length n.statements) in
+    let here =
+    accesses_of n (rest n c.loop-point.walk) _ c.in-Some.point c.loop-point.invariant.left c.in-Some.ensures.next
+    c.as_slice-accesses.result.now c.index-accesses-process.result
+    (c.as_slice-accesses.ensures ∙ c.in_ok-narrow.ensures) c.index-accesses-process.is in
+    let exists =
+    statement_exists n
+    (rest n c.loop-point.walk) _ c.in-Some.point c.loop-point.invariant.left c.in-Some.ensures.next in
+    let count =
+    ap length c.in_ok-firsts.ensures.firsts
+    ∙ length-map-range_with_len (λ p. read_number n p 0) 0 (length n.statements) in
     let first = get_or_read c.in_ok-firsts.firsts.items _ _ (omega (arith, count, exists)) c.index-first.ensures 0 in
     omega (
       arith,
@@ -93,20 +110,30 @@ pass-requires-clause-room c =
 pub loop-point-preserved : goal.loop-point-preserved
 loop-point-preserved c =
     let n = c.args.nest.now in
-    let here = accesses_of n (rest n c.loop-point.walk) _ c.in-Some.point c.loop-point.invariant.left c.in-Some.ensures.next
-    c.as_slice-accesses.result.now c.index-accesses-process.result (c.as_slice-accesses.ensures ∙ c.in_ok-narrow.ensures) c.index-accesses-process.is in
-    let exists = statement_exists n (rest n c.loop-point.walk) _ c.in-Some.point c.loop-point.invariant.left c.in-Some.ensures.next in
-    let count = ap length c.in_ok-firsts.ensures.firsts ∙ length-map-range_with_len (λ p. read_number n p 0) 0 (length n.statements) in
+    let here =
+    accesses_of n (rest n c.loop-point.walk) _ c.in-Some.point c.loop-point.invariant.left c.in-Some.ensures.next
+    c.as_slice-accesses.result.now c.index-accesses-process.result
+    (c.as_slice-accesses.ensures ∙ c.in_ok-narrow.ensures) c.index-accesses-process.is in
+    let exists =
+    statement_exists n
+    (rest n c.loop-point.walk) _ c.in-Some.point c.loop-point.invariant.left c.in-Some.ensures.next in
+    let count =
+    ap length c.in_ok-firsts.ensures.firsts
+    ∙ length-map-range_with_len (λ p. read_number n p 0) 0 (length n.statements) in
     let first = get_or_read c.in_ok-firsts.firsts.items _ _ (omega (arith, count, exists)) c.index-first.ensures 0 in
     let same = c.as_slice-at.ensures.value in
     record {
       walk = c.in-Some.ensures.walk;
-      left = left_later (trace n) (rest n c.loop-point.walk) _ c.in-Some.point c.loop-point.invariant.left c.in-Some.ensures.next;
-      swept = swept_later n (rest n c.loop-point.walk) _ c.in-Some.point c.loop-point.invariant.left c.in-Some.ensures.next _ _ _ c.loop-point.invariant.swept here.statement _ _ _
+      left = left_later (trace n)
+          (rest n c.loop-point.walk) _ c.in-Some.point c.loop-point.invariant.left c.in-Some.ensures.next;
+      swept = swept_later n
+          (rest n c.loop-point.walk) _ c.in-Some.point c.loop-point.invariant.left c.in-Some.ensures.next _ _ _ c.loop-point.invariant.swept here.statement _ _ _
           c.next_turn-turn.result c.index-first.result.now here.found c.next_turn-turn.ensures.turn
           (first ∙ first_is n c.in_ok-firsts.firsts.items c.in-Some.point.statement c.in_ok-firsts.ensures.firsts exists)
           c.next_turn-turn.ensures.counted
-          (c.in_ok-pass.ensures.write ∙ write_is n c.in-Some.point c.index-accesses-process.result c.as_slice-at.result.now here same (writes_in c.loop-point.cells) _)
+          (c.in_ok-pass.ensures.write
+          ∙ write_is n c.in-Some.point c.index-accesses-process.result c.as_slice-at.result.now here same
+          (writes_in c.loop-point.cells) _)
           (c.in_ok-pass.ensures.sources
           ∙ reads_are n c.in-Some.point c.index-accesses-process.result c.as_slice-at.result.now here same c.loop-point.lists.items c.index-first.result.now (writes_in c.loop-point.cells));
     }
@@ -114,7 +141,10 @@ loop-point-preserved c =
 pub returns : goal.returns
 returns c =
     let n = c.args.nest.now in
-    let whole : length (trace n) - length (rest n c.loop-point.walk) ≡ length (trace n) = omega (arith, ap length c.in_default.ensures.next.0) in
+    let whole : length (trace n) - length (rest n c.loop-point.walk) ≡ length (trace n) =
+    omega (arith, ap length c.in_default.ensures.next.0) in
     c.from_vec.ensures
     ∙ swept_all n c.loop-point.turns.items (writes_in c.loop-point.cells) c.loop-point.lists.items
-    (subst (λ t. IsSwept n t c.loop-point.turns.items (writes_in c.loop-point.cells) c.loop-point.lists.items) whole c.loop-point.invariant.swept)
+    (subst (λ t.
+    IsSwept n t c.loop-point.turns.items
+    (writes_in c.loop-point.cells) c.loop-point.lists.items) whole c.loop-point.invariant.swept)

@@ -9,7 +9,8 @@ abbrev pub invariant-loop-point : goal.invariant-loop-point
 invariant-loop-point l = record {
   walk : IsWalkOf l.nest l.walk;
   left : drop (length (trace l.nest) - length (rest l.nest l.walk)) (trace l.nest) ≡ rest l.nest l.walk;
-  swept : IsSwept l.nest (length (trace l.nest) - length (rest l.nest l.walk)) l.turns.items (writes_in l.cells) l.lists.items;
+  swept : IsSwept l.nest (length (trace l.nest) - length (rest l.nest l.walk)) l.turns.items
+      (writes_in l.cells) l.lists.items;
 }
 
 abbrev pub decreases-loop-point : goal.decreases-loop-point

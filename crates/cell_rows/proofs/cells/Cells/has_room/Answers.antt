@@ -9,7 +9,8 @@ returns-in-Some-clause-full g c =
     let lookup = c.in-Some.ensures.lookup in
     λ h.
     let past = ltb-false c.args.place c.saturating_add.result h in
-    let within : length c.in-Some.rows.now.values ≤ c.args.place = omega (arith, past, c.saturating_add.ensures, c.len.ensures, c.len.type_inv) in
+    let within : length c.in-Some.rows.now.values ≤ c.args.place =
+    omega (arith, past, c.saturating_add.ensures, c.len.ensures, c.len.type_inv) in
     ap (λ list. kept_at list c.args.array c.args.place) (sym c.deref.ensures.value)
     ∙ past_rows c.deref.result.now c.args.array c.args.place c.in-Some.rows.now lookup.3.0 lookup.1 within
 

@@ -13,7 +13,8 @@ pub returns-in_ok-insert-in-None-clause-values : goal.returns-in_ok-insert-in-No
 returns-in_ok-insert-in-None-clause-values g c =
     let old = c.args.self.now in
     let none = not_kept old (cell_at c.args.at.now c.args.access.now) (sym c.in-None.ensures) in
-    values_after_map old (record { rows = old.rows; room = old.room; map = c.insert.new.self }) c.cell.result c.args.value refl
+    values_after_map old
+    (record { rows = old.rows; room = old.room; map = c.insert.new.self }) c.cell.result c.args.value refl
     (ap (kept_value old.rows.items) c.cell.ensures ∙ none) c.in_ok-insert-in-None.ensures.updates.0
     ∙ ap (λ cell. update is_cell (values_in old) cell (Some c.args.value)) c.cell.ensures
 

@@ -13,8 +13,10 @@ pub returns-then-has_room-clause-values : goal.returns-then-has_room-clause-valu
 returns-then-has_room-clause-values g c =
     let old = c.args.self.now in
     on_ok_then c.put_in_rows.result
-    (λ rows. values_after_rows old c.put_in_rows.new.self (cell_at c.args.at.now c.args.access.now) c.args.place c.args.value c.requires.placed
-    (rows ∙ ap (λ (array : ℕ). with_kept old.rows.items array c.args.place c.args.value) c.array-then-has_room.ensures) c.put_in_rows.ensures.map)
+    (λ rows. values_after_rows old c.put_in_rows.new.self
+    (cell_at c.args.at.now c.args.access.now) c.args.place c.args.value c.requires.placed
+    (rows ∙ ap (λ (array : ℕ).
+    with_kept old.rows.items array c.args.place c.args.value) c.array-then-has_room.ensures) c.put_in_rows.ensures.map)
     c.put_in_rows.ensures.rows
 
 pub returns-then-has_room-clause-places : goal.returns-then-has_room-clause-places
@@ -26,9 +28,11 @@ returns-then-has_room-clause-places g c =
 pub returns-in_ok-insert-clause-values : goal.returns-in_ok-insert-clause-values
 returns-in_ok-insert-clause-values g c =
     let old = c.args.self.now in
-    let none = not_kept_there old (cell_at c.args.at.now c.args.access.now) c.array.result c.args.place c.array.ensures c.requires.placed
+    let none = not_kept_there old
+    (cell_at c.args.at.now c.args.access.now) c.array.result c.args.place c.array.ensures c.requires.placed
     (c.has_room.ensures.full c.if-has_room.false) in
-    values_after_map old (record { rows = old.rows; room = old.room; map = c.insert.new.self }) c.cell.result c.args.value refl
+    values_after_map old
+    (record { rows = old.rows; room = old.room; map = c.insert.new.self }) c.cell.result c.args.value refl
     (ap (kept_value old.rows.items) c.cell.ensures ∙ none) c.in_ok-insert.ensures.updates.0
     ∙ ap (λ cell. update is_cell (values_in old) cell (Some c.args.value)) c.cell.ensures
 

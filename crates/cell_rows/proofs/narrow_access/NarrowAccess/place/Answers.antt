@@ -7,4 +7,5 @@ use Rattle.cell_rows.proofs.narrow_access.NarrowAccess.place.Goals as goal
 pub returns-then-extents-forms : goal.returns-then-extents-forms
 returns-then-extents-forms c =
     let forms = c.as_slice-forms.ensures ∙ ap (λ (access : Access). access.subscripts) c.self.view_is in
-    sym (no_place (λ form. form_at form c.args.at.now) 0 c.args.extents.now c.args.self.now.subscripts (λ same. c.if-extents-forms.true (same ∙ sym (ap length forms))))
+    sym (no_place (λ form. form_at form c.args.at.now) 0 c.args.extents.now c.args.self.now.subscripts
+    (λ same. c.if-extents-forms.true (same ∙ sym (ap length forms))))

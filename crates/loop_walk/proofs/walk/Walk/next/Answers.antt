@@ -18,11 +18,14 @@ returns-clause-next c =
     (sym (with_items_is c.args.self.now.frames after same))
     (subst (λ (at : List ℤ). MatchOption c.next_in.result
     ((left c.args.self.now.frames.items c.args.nest.now.body at ≡ []) × (left after c.args.nest.now.body at ≡ []))
-    (λ point. left c.args.self.now.frames.items c.args.nest.now.body at ≡ point ∷ left after c.args.nest.now.body at)) c.empty.ensures
+    (λ point. left c.args.self.now.frames.items c.args.nest.now.body at
+    ≡ point ∷ left after c.args.nest.now.body at)) c.empty.ensures
     (subst (λ (parts : List Node). MatchOption c.next_in.result
     ((left c.args.self.now.frames.items parts c.empty.result ≡ []) × (left after parts c.empty.result ≡ []))
-    (λ point. left c.args.self.now.frames.items parts c.empty.result ≡ point ∷ left after parts c.empty.result)) c.parts.ensures.value
+    (λ point. left c.args.self.now.frames.items parts c.empty.result
+    ≡ point ∷ left after parts c.empty.result)) c.parts.ensures.value
     (subst (λ (frames : List Frame). MatchOption c.next_in.result
     ((left frames c.parts.result.now c.empty.result ≡ []) × (left after c.parts.result.now c.empty.result ≡ []))
-    (λ point. left frames c.parts.result.now c.empty.result ≡ point ∷ left after c.parts.result.now c.empty.result)) c.as_mut_slice.ensures.value
+    (λ point. left frames c.parts.result.now c.empty.result
+    ≡ point ∷ left after c.parts.result.now c.empty.result)) c.as_mut_slice.ensures.value
     c.next_in.ensures.next)))

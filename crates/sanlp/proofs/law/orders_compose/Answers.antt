@@ -1,0 +1,5 @@
+use Rattle.sanlp.proofs.Composing.{orders_compose as law}
+use Rattle.sanlp.proofs.law.orders_compose.Goals as goal
+
+pub returns : goal.returns
+returns c = law c.args.nest.now

@@ -1,4 +1,4 @@
-//! Tests of binding, walks, sources and verdicts, on nests that are bound from sources. They stand apart from what they
+//! Tests of binding, walks, sources, trees and verdicts, on nests that are bound from sources. They stand apart from what they
 //! test, since a crate with tests of its own is proved twice.
 #![tactic(auto)]
 
@@ -8,6 +8,8 @@ mod binding;
 mod bound;
 #[cfg(test)]
 mod sources;
+#[cfg(test)]
+mod trees;
 #[cfg(test)]
 mod verdicts;
 #[cfg(test)]

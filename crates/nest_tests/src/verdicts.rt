@@ -11,6 +11,7 @@ use net_checker::{Refusal, Seen, Verdict, Wanted, check};
 use net_core::{Channel, Event, Network, Process, Ref, Refs};
 use plain_data::Items;
 use sanlp::{Nest, Point};
+use script_blocks::Script;
 use source_tree::{Cert, Origin};
 use std::alloc::{AllocError, Global};
 use std::test::Fail;
@@ -108,12 +109,13 @@ fn event(word: &[u8]) -> Event {
     }
 }
 
-fn script(alloc: Global, text: &[u8]) -> Result<Items<Event>, AllocError> {
-    let mut script = Items::new(alloc);
+fn script(alloc: Global, text: &[u8]) -> Result<Script<Event>, AllocError> {
+    let mut events = Vec::new(alloc);
     for word in text.split(|byte| *byte == b' ') {
-        script.push(event(word))?;
+        events.push(event(word))?;
     }
-    Ok(script)
+    let few = events.len().min(1_000);
+    Script::of_items(alloc, &events[..few])
 }
 
 fn network(alloc: Global, row: &Row) -> Result<Network, AllocError> {
@@ -158,7 +160,7 @@ fn numbers_fit(network: &Network) -> bool
 {
     let mut events = 0usize;
     for process in network.processes.as_slice() {
-        match events.checked_add(process.script.len()) {
+        match events.checked_add(process.script.len() as usize) {
             Some(sum) => events = sum,
             None => return false,
         }

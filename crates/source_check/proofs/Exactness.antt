@@ -4,8 +4,8 @@
 -- the rows of its context: a Test adds the row that its answer says, and a Divides the quotient and its two rows. At a
 -- leaf the proofs refute its systems, so that no whole point meets them, and the leaf gives the last writer or none. No
 -- point comes to a Dead leaf, since it would meet its context.
-use Rattle.std.proofs.Common.{◌≡◌, ◌+◌, ◌%◌, ◌≤◌, ◌<◌, ◌==◌, ℕ, zero, suc, ℤ, pos, ◌≤ℤ◌, ◌<ℤ◌, List, [], ◌∷◌, ◌++◌, length, map, Bool, true, false, cond, refl, sym, ap, ◌∙◌, subst, arith, append_assoc, length-append}
-use Rattle.std.specs.Prelude.{Option, Some, None, slice_get, int_le, unsigned_abs, All}
+use Rattle.std.proofs.Common.{◌≡◌, ◌+◌, ◌%◌, ◌≤◌, ◌==◌, ℕ, zero, suc, ℤ, pos, ◌≤ℤ◌, ◌<ℤ◌, List, [], ◌∷◌, ◌++◌, length, map, Bool, true, false, cond, refl, sym, ap, ◌∙◌, subst, arith, append_assoc, length-append}
+use Rattle.std.specs.Prelude.{Some, None, slice_get, int_le, unsigned_abs}
 use Rattle.std.specs.Option.{option_and_then, option_map_or}
 use Rattle.std.proofs.lemmas.Int.{ints}
 use Rattle.std.proofs.lemmas.List.{append-nil}
@@ -19,11 +19,10 @@ use Rattle.sanlp.specs.declared.nest.Access.{Access}
 use Rattle.sanlp.specs.declared.nest.Nest.{Nest}
 use Rattle.sanlp.specs.declared.nest.Point.{Point}
 use Rattle.sanlp.specs.declared.nest.Statement.{Statement}
-use Rattle.sanlp.specs.Access.{cell_at, reads_of, statement_of}
+use Rattle.sanlp.specs.Access.{cell_at, reads_of}
 use Rattle.sanlp.specs.Order.{EnumeratesDomains}
 use Rattle.sanlp.specs.Trace.{trace}
-use Rattle.sanlp.specs.Writers.{last_before, last_writer, cell_read}
-use Rattle.sanlp.proofs.Each.{Each}
+use Rattle.sanlp.specs.Writers.{last_before, cell_read}
 use Rattle.source_tree.specs.Checked.{HaveVariables, IsCheckedIn, at_test, at_divides, at_writer, at_zero, at_dead, IsChecked}
 use Rattle.source_tree.specs.Exact.{IsPointOf, IsExact}
 use Rattle.source_tree.specs.Gives.{values, gives, gives_step, quotient}
@@ -33,14 +32,14 @@ use Rattle.source_tree.specs.declared.tree.Found.{Found}
 use Rattle.source_tree.specs.declared.tree.Found.TheVariants as found
 use Rattle.source_tree.specs.declared.tree.Tree.{Tree}
 use Rattle.source_tree.specs.declared.tree.Tree.TheOpen as open_
-use Rattle.source_tree.specs.declared.tree.Tree.TheVariants.{Writer, Zero, Dead}
-use Rattle.source_tree.specs.declared.tree.Tree.TheViews.{Test, Divides, rolls-Test, rolls-Divides, rolls-Writer, rolls-Zero, rolls-Dead}
+use Rattle.source_tree.specs.declared.tree.Tree.TheVariants.{Writer, Zero}
+use Rattle.source_tree.specs.declared.tree.Tree.TheViews.{Test, Divides, rolls-Test, rolls-Divides, rolls-Writer, rolls-Zero}
 use Rattle.source_tree.specs.declared.tree.Tree.TheFolds.{fold-roll-Tree}
-use Rattle.source_check.proofs.Leaves.{IsEmpty, Holds, over_short, zero_leaf, writer_leaf}
+use Rattle.source_check.proofs.Leaves.{Holds, over_short, zero_leaf, writer_leaf}
 use Rattle.source_check.proofs.Made.{refuted_are_empty}
 use Rattle.source_check.proofs.Quotients.{divided_within, divided_met, undivided_within, undivided_met}
 use Rattle.source_check.proofs.Readers.{IsReader, IsTrace, IsPointAt, read_parts, is_reader, is_trace, named_parts}
-use Rattle.source_check.proofs.Values.{AreWithin, AreShort, AreMet, AllHold, met_more, met_append, within_append, all_within_wider, taken_met, taken_within}
+use Rattle.source_check.proofs.Values.{AreWithin, AreShort, AreMet, met_more, met_append, within_append, all_within_wider, taken_met, taken_within}
 
 le_where : (a b : ℤ) → int_le a b ≡ true → a ≤ℤ b
 le_where a b e = grind (arith, ints)
@@ -53,23 +52,34 @@ not_equal_where m n e f = grind arith
 
 -- what each kind of tree gives
 module _ (at : List ℤ) where
-  gives_test : (tree : Tree) (form : Form) (a b : Tree) → tree ≡ Test form a b → gives tree at ≡ cond (int_le (pos 0) (form_at form at)) (gives a at) (gives b at)
+  gives_test : (tree : Tree) (form : Form) (a b : Tree) → tree ≡ Test form a b
+      → gives tree at ≡ cond (int_le (pos 0) (form_at form at)) (gives a at) (gives b at)
   unfolding gives
-  gives_test tree form a b e = ap (λ tree. gives tree at) (e ∙ sym (rolls-Test form a b)) ∙ ap (λ (k : List ℤ → Found). k at) (fold-roll-Tree (List ℤ → Found) gives_step (open_.Test form a b))
+  gives_test tree form a b e =
+      ap (λ tree. gives tree at) (e ∙ sym (rolls-Test form a b))
+      ∙ ap (λ (k : List ℤ → Found). k at) (fold-roll-Tree (List ℤ → Found) gives_step (open_.Test form a b))
 
   gives_divides : (tree : Tree) (form : Form) (d : ℤ) (a b : Tree) → tree ≡ Divides form d a b
-      → gives tree at ≡ cond (unsigned_abs (form_at form at) % unsigned_abs d == 0) (gives a (at ++ quotient form d at ∷ [])) (gives b (at ++ quotient form d at ∷ []))
+      → gives tree at
+      ≡ cond (unsigned_abs (form_at form at) % unsigned_abs d == 0) (gives a (at ++ quotient form d at ∷ []))
+      (gives b (at ++ quotient form d at ∷ []))
   unfolding gives
-  gives_divides tree form d a b e = ap (λ tree. gives tree at) (e ∙ sym (rolls-Divides form d a b)) ∙ ap (λ (k : List ℤ → Found). k at) (fold-roll-Tree (List ℤ → Found) gives_step (open_.Divides form d a b))
+  gives_divides tree form d a b e =
+      ap (λ tree. gives tree at) (e ∙ sym (rolls-Divides form d a b))
+      ∙ ap (λ (k : List ℤ → Found). k at) (fold-roll-Tree (List ℤ → Found) gives_step (open_.Divides form d a b))
 
   gives_writer : (tree : Tree) (s : ℕ) (place : List Form) (proofs : List Proof) → tree ≡ Writer s place proofs
       → gives tree at ≡ found.At (record { statement = s; at = values place at })
   unfolding gives
-  gives_writer tree s place proofs e = ap (λ tree. gives tree at) (e ∙ sym (rolls-Writer s place proofs)) ∙ ap (λ (k : List ℤ → Found). k at) (fold-roll-Tree (List ℤ → Found) gives_step (open_.Writer s place proofs))
+  gives_writer tree s place proofs e =
+      ap (λ tree. gives tree at) (e ∙ sym (rolls-Writer s place proofs))
+      ∙ ap (λ (k : List ℤ → Found). k at) (fold-roll-Tree (List ℤ → Found) gives_step (open_.Writer s place proofs))
 
   gives_zero : (tree : Tree) (proofs : List Proof) → tree ≡ Zero proofs → gives tree at ≡ found.Zero
   unfolding gives
-  gives_zero tree proofs e = ap (λ tree. gives tree at) (e ∙ sym (rolls-Zero proofs)) ∙ ap (λ (k : List ℤ → Found). k at) (fold-roll-Tree (List ℤ → Found) gives_step (open_.Zero proofs))
+  gives_zero tree proofs e =
+      ap (λ tree. gives tree at) (e ∙ sym (rolls-Zero proofs))
+      ∙ ap (λ (k : List ℤ → Found). k at) (fold-roll-Tree (List ℤ → Found) gives_step (open_.Zero proofs))
 
 have_short : (vars m : ℕ) (forms : List Form) → vars ≡ m → HaveVariables vars forms → AreShort m forms
 have_short vars m [] e h = tt
@@ -78,18 +88,21 @@ have_short vars m (f ∷ forms) e h =
     ((let l : length f.coefs ≤ m = omega (arith, one, e) in l), have_short vars m forms e (All-tail (λ form. length form.coefs ≡ vars) f forms h))
 
 module _ (n : Nest) (points : List Point) (follows : IsTrace n points) (r : Occurrence) (reads : IsReader n r)
-    (x : List ℤ) (here : IsPointAt n r.number r.statement x) (t : ℕ) (at_t : slice_get points t ≡ Some (record { statement = r.number; at = x })) where
+    (x : List ℤ) (here : IsPointAt n r.number r.statement x) (t : ℕ)
+    (at_t : slice_get points t ≡ Some (record { statement = r.number; at = x })) where
   abbrev HoldsAt : Context → List ℤ → Type 0
   HoldsAt c v = Holds n points follows r reads x here t at_t c v
 
   abbrev IsLast : Found → Type 0
   IsLast outcome = IsPointOf points (last_before n points t (cell_at x r.access)) outcome
 
-  more_hold : (c : Context) (v : List ℤ) (rows : List RowExpr) → HoldsAt c v → AreWithin (length v) rows → AreMet rows v → HoldsAt (more_rows c rows) v
+  more_hold : (c : Context) (v : List ℤ) (rows : List RowExpr) → HoldsAt c v → AreWithin (length v) rows → AreMet rows v
+      → HoldsAt (more_rows c rows) v
   more_hold c v rows h w m =
       record { vars = h.vars; more = h.more; starts = h.starts; within = within_append (length v) c.rows rows h.within w; met = met_append c.rows rows v h.met m }
 
-  one_hold : (c : Context) (v : List ℤ) (q : ℤ) (rows : List RowExpr) → HoldsAt c v → AreWithin (length (v ++ q ∷ [])) rows → AreMet rows (v ++ q ∷ []) → HoldsAt (one_more c rows) (v ++ q ∷ [])
+  one_hold : (c : Context) (v : List ℤ) (q : ℤ) (rows : List RowExpr) → HoldsAt c v
+      → AreWithin (length (v ++ q ∷ [])) rows → AreMet rows (v ++ q ∷ []) → HoldsAt (one_more c rows) (v ++ q ∷ [])
   one_hold c v q rows h w m =
       let long : length (v ++ q ∷ []) ≡ c.vars + 1 = omega (arith, length-append v (q ∷ []), h.vars) in
       let longer : length v ≤ length (v ++ q ∷ []) = omega (arith, length-append v (q ∷ [])) in
@@ -97,19 +110,24 @@ module _ (n : Nest) (points : List Point) (follows : IsTrace n points) (r : Occu
         vars = long;
         more = h.more ++ q ∷ [];
         starts = ap (λ v. v ++ q ∷ []) h.starts ∙ append_assoc x h.more (q ∷ []);
-        within = within_append (length (v ++ q ∷ [])) c.rows rows (all_within_wider (length v) (length (v ++ q ∷ [])) longer c.rows h.within) w;
+        within =
+            within_append (length (v ++ q ∷ [])) c.rows rows
+            (all_within_wider (length v) (length (v ++ q ∷ [])) longer c.rows h.within) w;
         met = met_append c.rows rows (v ++ q ∷ []) (met_more c.rows v (q ∷ []) h.within h.met) m;
       }
 
-  checked_is_last : (c : Context) (tree : Tree) → IsCheckedIn n r every c tree → (v : List ℤ) → HoldsAt c v → IsLast (gives tree v)
+  checked_is_last : (c : Context) (tree : Tree) → IsCheckedIn n r every c tree → (v : List ℤ) → HoldsAt c v
+      → IsLast (gives tree v)
   checked_is_last _ _ (at_test c tree form above below is over first second) v h =
       let short : length form.coefs ≤ length v = omega (arith, over, h.vars) in
       subst IsLast (sym (gives_test v tree form above below is))
       (go (int_le (pos 0) (form_at form v)) refl
       (λ met. checked_is_last (test_yes c form) above first v (more_hold c v (Take form ∷ []) h (short, tt) (met, tt)))
-      (λ lt. checked_is_last (test_no c form) below second v (more_hold c v (below_zero (Take form) ∷ []) h ((short, omega arith), tt)
+      (λ lt. checked_is_last (test_no c form) below second v
+      (more_hold c v (below_zero (Take form) ∷ []) h ((short, omega arith), tt)
       ((let m : pos 0 ≤ℤ row_at (below_zero (Take form)) v = omega (arith, ints, lt) in m), tt)))) where
-        go : (p : Bool) → int_le (pos 0) (form_at form v) ≡ p → (pos 0 ≤ℤ form_at form v → IsLast (gives above v)) → (form_at form v <ℤ pos 0 → IsLast (gives below v))
+        go : (p : Bool) → int_le (pos 0) (form_at form v) ≡ p → (pos 0 ≤ℤ form_at form v → IsLast (gives above v))
+            → (form_at form v <ℤ pos 0 → IsLast (gives below v))
             → IsLast (cond p (gives above v) (gives below v))
         go true e first second = first (le_where (pos 0) (form_at form v) e)
         go false e first second = second (lt_where (pos 0) (form_at form v) e)
@@ -119,11 +137,15 @@ module _ (n : Nest) (points : List Point) (follows : IsTrace n points) (r : Occu
       subst IsLast (sym (gives_divides v tree form d above below is))
       (go (unsigned_abs (form_at form v) % unsigned_abs d == 0) refl
       (λ e. checked_is_last (divides_yes c form d) above first (v ++ q ∷ [])
-      (one_hold c v q (divided_rows c.vars form d) h (divided_within form d c.vars v full (sym h.vars) two) (divided_met form d c.vars v full (sym h.vars) two e)))
+      (one_hold c v q (divided_rows c.vars form d) h (divided_within form d c.vars v full (sym h.vars) two)
+      (divided_met form d c.vars v full (sym h.vars) two e)))
       (λ e. checked_is_last (divides_no c form d) below second (v ++ q ∷ [])
-      (one_hold c v q (undivided_rows c.vars form d) h (undivided_within form d c.vars v full (sym h.vars) two) (undivided_met form d c.vars v full (sym h.vars) two e)))) where
-        go : (p : Bool) → (unsigned_abs (form_at form v) % unsigned_abs d == 0) ≡ p → (unsigned_abs (form_at form v) % unsigned_abs d ≡ 0 → IsLast (gives above (v ++ quotient form d v ∷ [])))
-            → ((unsigned_abs (form_at form v) % unsigned_abs d ≡ 0 → ⊥) → IsLast (gives below (v ++ quotient form d v ∷ [])))
+      (one_hold c v q (undivided_rows c.vars form d) h (undivided_within form d c.vars v full (sym h.vars) two)
+      (undivided_met form d c.vars v full (sym h.vars) two e)))) where
+        go : (p : Bool) → (unsigned_abs (form_at form v) % unsigned_abs d == 0) ≡ p
+            → (unsigned_abs (form_at form v) % unsigned_abs d ≡ 0 → IsLast (gives above (v ++ quotient form d v ∷ [])))
+            → ((unsigned_abs (form_at form v) % unsigned_abs d ≡ 0 → ⊥)
+            → IsLast (gives below (v ++ quotient form d v ∷ [])))
             → IsLast (cond p (gives above (v ++ quotient form d v ∷ [])) (gives below (v ++ quotient form d v ∷ [])))
         go true e first second = first (equal_where (unsigned_abs (form_at form v) % unsigned_abs d) 0 e)
         go false e first second = second (not_equal_where (unsigned_abs (form_at form v) % unsigned_abs d) 0 e)
@@ -131,12 +153,15 @@ module _ (n : Nest) (points : List Point) (follows : IsTrace n points) (r : Occu
       subst IsLast (sym (gives_writer v tree s place proofs is))
       (named_parts n r s w named_is
       (λ number found_is writes array.
-      subst (λ s. (u : ℕ) × (last_before n points t (cell_at x r.access) ≡ Some u) × (slice_get points u ≡ Some (record { statement = s; at = values place v }))) number
+      subst (λ s. (u : ℕ) × (last_before n points t (cell_at x r.access) ≡ Some u)
+      × (slice_get points u ≡ Some (record { statement = s; at = values place v }))) number
       (writer_leaf n points follows r reads x here t at_t c v h w place found_is writes array deep
-      (have_short c.vars (length v) place (sym h.vars) have) (refuted_are_empty (writer_systems n r every c w place) proofs refuted))))
+      (have_short c.vars (length v) place (sym h.vars) have)
+      (refuted_are_empty (writer_systems n r every c w place) proofs refuted))))
   checked_is_last _ _ (at_zero c tree proofs is refuted) v h =
       subst IsLast (sym (gives_zero v tree proofs is))
-      (zero_leaf n points follows r reads x here t at_t c v h (refuted_are_empty (zero_systems n r every c) proofs refuted))
+      (zero_leaf n points follows r reads x here t at_t c v h
+      (refuted_are_empty (zero_systems n r every c) proofs refuted))
   checked_is_last _ _ (at_dead c tree proof is refuted) v h =
       absurd ((refuted_are_empty (dead_systems c) (proof ∷ []) refuted).0.none v h.vars h.met)
 
@@ -147,31 +172,41 @@ module _ (n : Nest) (points : List Point) (follows : IsTrace n points) (r : Occu
         vars = here.deep;
         more = [];
         starts = sym (append-nil x);
-        within = taken_within (length x) r.statement.rows (subst (λ m. AreShort m r.statement.rows) (sym here.deep) (over_short (length r.statement.loops) r.statement.rows reads.rows_over));
+        within =
+            taken_within (length x) r.statement.rows
+            (subst (λ m. AreShort m r.statement.rows) (sym here.deep)
+            (over_short (length r.statement.loops) r.statement.rows reads.rows_over));
         met = taken_met r.statement.rows x here.holds;
       }
 
   -- the cell that the entry reads
-  cell_read_is : (k : ℕ) → slice_get r.statement.reads k ≡ Some r.access → cell_read n points t k ≡ Some (cell_at x r.access)
+  cell_read_is : (k : ℕ) → slice_get r.statement.reads k ≡ Some r.access
+      → cell_read n points t k ≡ Some (cell_at x r.access)
   cell_read_is k read =
       ap (option_and_then (λ p. slice_get (reads_of n p) k)) at_t
       ∙ ap (λ o. slice_get (option_map_or (λ (s : Statement). map (cell_at x) s.reads) o []) k) here.is
       ∙ map_values r.statement.reads k read where
-        map_values : (accesses : List Access) (k : ℕ) → slice_get accesses k ≡ Some r.access → slice_get (map (cell_at x) accesses) k ≡ Some (cell_at x r.access)
+        map_values : (accesses : List Access) (k : ℕ) → slice_get accesses k ≡ Some r.access
+            → slice_get (map (cell_at x) accesses) k ≡ Some (cell_at x r.access)
         map_values [] k e = absurd (let f : None ≡ Some r.access = e in cc)
         map_values (a ∷ accesses) zero e = ap (λ a. Some (cell_at x a)) (same_Some a r.access e)
         map_values (a ∷ accesses) (suc k) e = map_values accesses k e
 
-pub checked_is_exact : (n : Nest) (s k : ℕ) (tree : Tree) → EnumeratesDomains n (trace n) → IsChecked n s k tree → IsExact n s k tree
+pub checked_is_exact : (n : Nest) (s k : ℕ) (tree : Tree) → EnumeratesDomains n (trace n) → IsChecked n s k tree
+    → IsExact n s k tree
 checked_is_exact n s k tree enumerated checked t x at_t =
     let r : Occurrence = checked.0 in
     let reads : IsReader n r = is_reader n s k r checked.1 in
     let follows : IsTrace n (trace n) = is_trace n (trace n) enumerated in
     read_parts n s k r checked.1
     (λ number is read.
-    let at_r : slice_get (trace n) t ≡ Some (record { statement = r.number; at = x }) = at_t ∙ ap (λ s. Some (record { statement = s; at = x })) (sym number) in
+    let at_r : slice_get (trace n) t ≡ Some (record { statement = r.number; at = x }) =
+    at_t ∙ ap (λ s. Some (record { statement = s; at = x })) (sym number) in
     let e = follows.entry t (record { statement = r.number; at = x }) at_r in
     let same : e.0 ≡ r.statement = same_Some e.0 r.statement (sym e.1.is ∙ reads.is) in
     let here : IsPointAt n r.number r.statement x = subst (λ s. IsPointAt n r.number s x) same e.1 in
-    subst (λ o. IsPointOf (trace n) o (gives tree x)) (sym (ap (option_and_then (last_before n (trace n) t)) (cell_read_is n (trace n) follows r reads x here t at_r k read)))
-    (checked_is_last n (trace n) follows r reads x here t at_r (root_context r) tree checked.2 x (whole_holds n (trace n) follows r reads x here t at_r)))
+    subst (λ o. IsPointOf (trace n) o (gives tree x))
+    (sym (ap (option_and_then (last_before n (trace n) t))
+    (cell_read_is n (trace n) follows r reads x here t at_r k read)))
+    (checked_is_last n (trace n) follows r reads x here t at_r (root_context r) tree checked.2 x
+    (whole_holds n (trace n) follows r reads x here t at_r)))

@@ -1,5 +1,5 @@
 -- Facts of each element of a list, tests of cells, and the greatest number that passes.
-use Rattle.std.proofs.Common.{◌≡◌, ◌+◌, ◌<◌, ◌==◌, ◌&&◌, ℕ, zero, suc, ℤ, List, [], ◌∷◌, ◌++◌, length, map, Bool, true, false, cond, refl, sym, ap, ◌∙◌, arith, inl, inr}
+use Rattle.std.proofs.Common.{◌≡◌, ◌<◌, ◌==◌, ◌&&◌, ℕ, zero, suc, ℤ, List, [], ◌∷◌, Bool, true, false, cond, refl, sym, ap, ◌∙◌, arith, inl, inr}
 use Rattle.std.specs.Prelude.{Option, Some, None}
 use Rattle.std.specs.List.{flat_map}
 use Rattle.std.specs.Cmp.Lexicographic.{pointwise}
@@ -13,9 +13,11 @@ use Rattle.sanlp.specs.Cells.{Cell}
 use Rattle.sanlp.specs.Memory.{is_cell}
 use Rattle.sanlp.specs.Writers.{greatest_below}
 
-pub each_from_flat : {X Y : Type 0} (P : Y → Type 0) (f : X → List Y) (xs : List X) → Each P (flat_map f xs) → Each (λ x. Each P (f x)) xs
+pub each_from_flat : {X Y : Type 0} (P : Y → Type 0) (f : X → List Y) (xs : List X) → Each P (flat_map f xs)
+    → Each (λ x. Each P (f x)) xs
 each_from_flat P f [] h = tt
-each_from_flat P f (x ∷ xs) h = (each_left P (f x) (flat_map f xs) h, each_from_flat P f xs (each_right P (f x) (flat_map f xs) h))
+each_from_flat P f (x ∷ xs) h =
+    (each_left P (f x) (flat_map f xs) h, each_from_flat P f xs (each_right P (f x) (flat_map f xs) h))
 
 int_eq_where : (a b : ℤ) → int_eq a b ≡ true → a ≡ b
 int_eq_where a b e = grind (arith, ints)
@@ -46,19 +48,23 @@ pub where_cell : (c d : Cell) → c.0 ≡ d.0 → c.1 ≡ d.1 → is_cell c d �
 where_cell c d e f =
     ap (λ b. b && pointwise int_eq c.1 d.1) (eq-eqb c.0 d.0 e) ∙ ap (λ xs. pointwise int_eq xs d.1) f ∙ ints_same d.1
 
-pub map_or_true : {X C : Type 0} (f : X → Bool) (o : Option X) → option_map_or f o false ≡ true → ((x : X) → o ≡ Some x → f x ≡ true → C) → C
+pub map_or_true : {X C : Type 0} (f : X → Bool) (o : Option X) → option_map_or f o false ≡ true
+    → ((x : X) → o ≡ Some x → f x ≡ true → C) → C
 map_or_true f None e go = absurd (let g : false ≡ true = e in cc)
 map_or_true f (Some x) e go = go x refl e
 
 pub greatest_none : (passes : ℕ → Bool) (t : ℕ) → ((w : ℕ) → w < t → passes w ≡ false) → greatest_below passes t ≡ None
 greatest_none passes zero h = refl
 greatest_none passes (suc t) h =
-    ap (λ b. cond b (Some t) (greatest_below passes t)) (h t (omega arith)) ∙ greatest_none passes t (λ w lt. h w (omega arith))
+    ap (λ b. cond b (Some t) (greatest_below passes t)) (h t (omega arith))
+    ∙ greatest_none passes t (λ w lt. h w (omega arith))
 
-pub greatest_some : (passes : ℕ → Bool) (t u : ℕ) → u < t → passes u ≡ true → ((w : ℕ) → u < w → w < t → passes w ≡ false) → greatest_below passes t ≡ Some u
+pub greatest_some : (passes : ℕ → Bool) (t u : ℕ) → u < t → passes u ≡ true
+    → ((w : ℕ) → u < w → w < t → passes w ≡ false) → greatest_below passes t ≡ Some u
 greatest_some passes zero u lt e h = absurd (omega arith)
 greatest_some passes (suc t) u lt e h = elim (cases_lt u t) [
-  | inl l ↦ ap (λ b. cond b (Some t) (greatest_below passes t)) (h t l (omega arith)) ∙ greatest_some passes t u l e (λ w a b. h w a (omega arith))
+  | inl l ↦ ap (λ b. cond b (Some t) (greatest_below passes t)) (h t l (omega arith))
+      ∙ greatest_some passes t u l e (λ w a b. h w a (omega arith))
   | inr g ↦ let same : u ≡ t = omega arith in
       ap (λ b. cond b (Some t) (greatest_below passes t)) (ap passes (sym same) ∙ e) ∙ ap Some (sym same)
 ]

@@ -16,13 +16,14 @@ use Rattle.int_polyhedra.specs.Steps.{floor}
 use Rattle.int_polyhedra.proofs.Floor.{floor_exact, floor_above}
 use Rattle.int_polyhedra.proofs.Variables.{length_zeros}
 use Rattle.source_tree.specs.Gives.{quotient}
-use Rattle.source_tree.specs.Rows.{RowExpr, Take, Plus, Times, row_at, one_less, minus, number}
+use Rattle.source_tree.specs.Rows.{Take, row_at}
 use Rattle.source_tree.specs.Systems.{multiple, divided_rows, undivided_rows}
 use Rattle.source_check.proofs.Values.{IsWithin, AreWithin, AreMet, equal_met, one_variable_at}
 
 -- where d doesn't divide z, the multiple of the quotient is below z
 floor_below : (z : ℤ) (d : ℕ) → 0 < d → (unsigned_abs z % d ≡ 0 → ⊥) → (floor z d *ℤ pos d) <ℤ z
-floor_below (pos n) d h no_ = elim (cases_lt 0 (n % d)) [ inl lt ↦ omega (arith, ints) | inr ge ↦ absurd (no_ (omega arith)) ]
+floor_below (pos n) d h no_ =
+    elim (cases_lt 0 (n % d)) [ inl lt ↦ omega (arith, ints) | inr ge ↦ absurd (no_ (omega arith)) ]
 floor_below (negsuc n) d h no_ = elim (cases_lt 0 (suc n % d)) [
   | inl lt ↦
       let a : ℕ = n / d in
@@ -42,7 +43,8 @@ pub length_variable : (i : ℕ) → length (variable_form (i + 1) i).coefs ≡ i
 length_variable i =
     omega (arith, length-append (replicate i (pos 0)) (pos 1 ∷ replicate ((i + 1) - (i + 1)) (pos 0)), length_zeros i, length_zeros ((i + 1) - (i + 1)))
 
-module _ (form : Form) (d : ℤ) (vars : ℕ) (v : List ℤ) (over : length form.coefs ≡ length v) (same : vars ≡ length v) (two : pos 2 ≤ℤ d) where
+module _ (form : Form) (d : ℤ) (vars : ℕ) (v : List ℤ) (over : length form.coefs ≡ length v) (same : vars ≡ length v)
+    (two : pos 2 ≤ℤ d) where
   abbrev q : ℤ
   q = quotient form d v
 
@@ -67,16 +69,22 @@ module _ (form : Form) (d : ℤ) (vars : ℕ) (v : List ℤ) (over : length form
 
   pub divided_met : unsigned_abs (form_at form v) % unsigned_abs d ≡ 0 → AreMet (divided_rows vars form d) at
   divided_met e =
-      equal_met (Take form) (multiple d vars) at (form_is ∙ floor_exact (form_at form v) (unsigned_abs d) (divisor_is d two).1 e ∙ sym multiple_is)
+      equal_met (Take form) (multiple d vars) at
+      (form_is ∙ floor_exact (form_at form v) (unsigned_abs d) (divisor_is d two).1 e ∙ sym multiple_is)
 
   pub undivided_within : AreWithin (length at) (undivided_rows vars form d)
-  undivided_within = (((form_within, variable_within), omega arith), ((((variable_within, omega arith), omega arith), form_within), tt))
+  undivided_within =
+      (((form_within, variable_within), omega arith), ((((variable_within, omega arith), omega arith), form_within), tt))
 
   pub undivided_met : (unsigned_abs (form_at form v) % unsigned_abs d ≡ 0 → ⊥) → AreMet (undivided_rows vars form d) at
   undivided_met e =
-      let below : (q *ℤ pos (unsigned_abs d)) <ℤ form_at form v = floor_below (form_at form v) (unsigned_abs d) (divisor_is d two).1 e in
-      let above : form_at form v <ℤ ((q +ℤ pos 1) *ℤ pos (unsigned_abs d)) = floor_above (form_at form v) (unsigned_abs d) (divisor_is d two).1 in
-      let split : (q +ℤ pos 1) *ℤ pos (unsigned_abs d) ≡ (q *ℤ pos (unsigned_abs d)) +ℤ (pos 1 *ℤ pos (unsigned_abs d)) = sum_times q (pos 1) (pos (unsigned_abs d)) in
+      let below : (q *ℤ pos (unsigned_abs d)) <ℤ form_at form v =
+      floor_below (form_at form v) (unsigned_abs d) (divisor_is d two).1 e in
+      let above : form_at form v <ℤ ((q +ℤ pos 1) *ℤ pos (unsigned_abs d)) =
+      floor_above (form_at form v) (unsigned_abs d) (divisor_is d two).1 in
+      let split : (q +ℤ pos 1) *ℤ pos (unsigned_abs d)
+      ≡ (q *ℤ pos (unsigned_abs d)) +ℤ (pos 1 *ℤ pos (unsigned_abs d)) =
+      sum_times q (pos 1) (pos (unsigned_abs d)) in
       let d_is : d ≡ pos (unsigned_abs d) = (divisor_is d two).0 in
       let f : row_at (Take form) at ≡ form_at form v = form_is in
       let m : row_at (multiple d vars) at ≡ q *ℤ pos (unsigned_abs d) = multiple_is in

@@ -40,7 +40,8 @@ AllHold (row ∷ rows) at = (pos 0 ≤ℤ form_at row at) × AllHold rows at
 
 pub row_at_more : (e : RowExpr) (v w : List ℤ) → IsWithin (length v) e → row_at e (v ++ w) ≡ row_at e v
 row_at_more (Take form) v w h = form_at_more form v w h
-row_at_more (Plus a b) v w h = ap (λ z. z +ℤ row_at b (v ++ w)) (row_at_more a v w h.0) ∙ ap (λ z. row_at a v +ℤ z) (row_at_more b v w h.1)
+row_at_more (Plus a b) v w h =
+    ap (λ z. z +ℤ row_at b (v ++ w)) (row_at_more a v w h.0) ∙ ap (λ z. row_at a v +ℤ z) (row_at_more b v w h.1)
 row_at_more (Times k e) v w h = ap (λ z. k *ℤ z) (row_at_more e v w h)
 
 pub met_more : (es : List RowExpr) (v w : List ℤ) → AreWithin (length v) es → AreMet es v → AreMet es (v ++ w)
@@ -51,7 +52,8 @@ pub met_append : (xs ys : List RowExpr) (at : List ℤ) → AreMet xs at → Are
 met_append [] ys at h k = k
 met_append (x ∷ xs) ys at h k = (h.0, met_append xs ys at h.1 k)
 
-pub within_append : (vars : ℕ) (xs ys : List RowExpr) → AreWithin vars xs → AreWithin vars ys → AreWithin vars (xs ++ ys)
+pub within_append : (vars : ℕ) (xs ys : List RowExpr) → AreWithin vars xs → AreWithin vars ys
+    → AreWithin vars (xs ++ ys)
 within_append vars [] ys h k = k
 within_append vars (x ∷ xs) ys h k = (h.0, within_append vars xs ys h.1 k)
 
@@ -70,35 +72,44 @@ values_more (f ∷ fs) v w h =
     ap (λ z. z ∷ values fs (v ++ w)) (form_at_more f v w h.0) ∙ ap (λ zs. form_at f v ∷ zs) (values_more fs v w h.1)
 
 -- a variable's value
-value_at : (i : ℕ) (before : List ℤ) (x : ℤ) (after : List ℤ) → i ≡ length before → slice_index_or (before ++ x ∷ after) i (pos 0) ≡ x
+value_at : (i : ℕ) (before : List ℤ) (x : ℤ) (after : List ℤ) → i ≡ length before
+    → slice_index_or (before ++ x ∷ after) i (pos 0) ≡ x
 value_at zero [] x after e = refl
 value_at (suc i) [] x after e = absurd (omega arith)
 value_at zero (y ∷ before) x after e = absurd (omega arith)
 value_at (suc i) (y ∷ before) x after e = value_at i before x after (omega arith)
 
-pub one_variable_at : (i : ℕ) (before : List ℤ) (x : ℤ) (after : List ℤ) → i ≡ length before → form_at (variable_form (i + 1) i) (before ++ x ∷ after) ≡ x
+pub one_variable_at : (i : ℕ) (before : List ℤ) (x : ℤ) (after : List ℤ) → i ≡ length before
+    → form_at (variable_form (i + 1) i) (before ++ x ∷ after) ≡ x
 one_variable_at i before x after e = variable_at (i + 1) i (before ++ x ∷ after) ∙ value_at i before x after e
 
-pub variables_at : (i : ℕ) (before xs after : List ℤ) → i ≡ length before → values (variables i (length xs)) (before ++ (xs ++ after)) ≡ xs
+pub variables_at : (i : ℕ) (before xs after : List ℤ) → i ≡ length before
+    → values (variables i (length xs)) (before ++ (xs ++ after)) ≡ xs
 variables_at i before [] after e = refl
 variables_at i before (x ∷ xs) after e =
     let rest : values (variables (i + 1) (length xs)) ((before ++ x ∷ []) ++ (xs ++ after)) ≡ xs
     = variables_at (i + 1) (before ++ x ∷ []) xs after (omega (arith, length-append before (x ∷ []))) in
-    ap (λ z. z ∷ values (variables (i + 1) (length xs)) (before ++ x ∷ (xs ++ after))) (one_variable_at i before x (xs ++ after) e)
-    ∙ ap (λ at. x ∷ values (variables (i + 1) (length xs)) at) (sym (append_assoc before (x ∷ []) (xs ++ after))) ∙ ap (λ zs. x ∷ zs) rest
+    ap (λ z. z ∷ values (variables (i + 1) (length xs)) (before ++ x ∷ (xs ++ after)))
+    (one_variable_at i before x (xs ++ after) e)
+    ∙ ap (λ at. x ∷ values (variables (i + 1) (length xs)) at) (sym (append_assoc before (x ∷ []) (xs ++ after)))
+    ∙ ap (λ zs. x ∷ zs) rest
 
 -- a form at a place
-at_plus_terms : (sum : RowExpr) (cs : List ℤ) (place : List Form) (at : List ℤ) → row_at (plus_terms sum cs place) at ≡ combined (row_at sum at) cs (values place at)
+at_plus_terms : (sum : RowExpr) (cs : List ℤ) (place : List Form) (at : List ℤ)
+    → row_at (plus_terms sum cs place) at ≡ combined (row_at sum at) cs (values place at)
 at_plus_terms sum [] place at = refl
 at_plus_terms sum (c ∷ cs) [] at = refl
 at_plus_terms sum (c ∷ cs) (form ∷ place) at = at_plus_terms (Plus sum (Times c (Take form))) cs place at
 
-pub row_at_place : (form : Form) (place : List Form) (at : List ℤ) → row_at (at_place form place) at ≡ form_at form (values place at)
+pub row_at_place : (form : Form) (place : List Form) (at : List ℤ)
+    → row_at (at_place form place) at ≡ form_at form (values place at)
 row_at_place form place at = at_plus_terms (number form.constant) form.coefs place at
 
-pub domain_met : (rows : List Form) (place : List Form) (at : List ℤ) → AllHold rows (values place at) → AreMet (domain_rows rows place) at
+pub domain_met : (rows : List Form) (place : List Form) (at : List ℤ) → AllHold rows (values place at)
+    → AreMet (domain_rows rows place) at
 domain_met [] place at h = tt
-domain_met (row ∷ rows) place at h = (subst (λ z. pos 0 ≤ℤ z) (sym (row_at_place row place at)) h.0, domain_met rows place at h.1)
+domain_met (row ∷ rows) place at h =
+    (subst (λ z. pos 0 ≤ℤ z) (sym (row_at_place row place at)) h.0, domain_met rows place at h.1)
 
 pub taken_met : (rows : List Form) (at : List ℤ) → AllHold rows at → AreMet (map Take rows) at
 taken_met [] at h = tt
@@ -117,14 +128,17 @@ head_of xs ys x y e = cc
 tail_of : (xs ys : List ℤ) (x y : ℤ) → x ∷ xs ≡ y ∷ ys → xs ≡ ys
 tail_of xs ys x y e = cc
 
-pub cells_met : (writes reads place : List Form) (at : List ℤ) → values writes (values place at) ≡ values reads at → AreMet (cell_rows writes reads place) at
+pub cells_met : (writes reads place : List Form) (at : List ℤ) → values writes (values place at) ≡ values reads at
+    → AreMet (cell_rows writes reads place) at
 cells_met [] reads place at e = tt
 cells_met (w ∷ writes) [] place at e = tt
 cells_met (w ∷ writes) (r ∷ reads) place at e =
-    let h = head_of (values writes (values place at)) (values reads at) (form_at w (values place at)) (form_at r at) e in
+    let h = head_of (values writes (values place at)) (values reads at) (form_at w (values place at))
+    (form_at r at) e in
     met_append (equal_rows (at_place w place) (Take r)) (cell_rows writes reads place) at
     (equal_met (at_place w place) (Take r) at (row_at_place w place at ∙ h))
-    (cells_met writes reads place at (tail_of (values writes (values place at)) (values reads at) (form_at w (values place at)) (form_at r at) e))
+    (cells_met writes reads place at
+    (tail_of (values writes (values place at)) (values reads at) (form_at w (values place at)) (form_at r at) e))
 
 pub same_met : (a b : List Form) (at : List ℤ) → values a at ≡ values b at → AreMet (same_rows a b) at
 same_met [] b at e = tt

@@ -1,2 +1,4 @@
 pub mod Verdict
 pub mod Making
+pub mod Tests
+pub mod Paths

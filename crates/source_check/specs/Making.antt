@@ -1,38 +1,21 @@
 -- How a system's rows are made one after the other, over so many variables.
-use Rattle.std.specs.Prelude.{◌≡◌, ℕ, ℤ, negsuc, Bool, nat_le, List, [], ◌∷◌, ◌++◌, map, length, Option, Some, None, MatchOption}
-use Rattle.std.specs.List.{list_all}
+use Rattle.std.specs.Prelude.{◌≡◌, ℕ, ℤ, negsuc, List, [], ◌∷◌, ◌++◌, map, length, Option, Some, MatchOption}
 use Rattle.std.specs.Option.{option_and_then, option_map}
 use Rattle.affine_core.specs.declared.form.Form.{Form}
-use Rattle.affine_core.specs.Affine.{form_product, form_sum, widened_form, constant_form}
+use Rattle.affine_core.specs.Affine.{form_product, form_sum, constant_form}
 use Rattle.affine_core.specs.Within.{form_in_128_bits}
 use Rattle.int_polyhedra.specs.declared.system.System.{System}
 use Rattle.int_polyhedra.specs.Systems.{AreOver}
-use Rattle.source_check.specs.Verdict.{made_system}
-use Rattle.source_tree.specs.Rows.{RowExpr, row_form}
-use Rattle.source_tree.specs.Systems.{Context}
-
--- no form has more variables
-abbrev pub are_short : ℕ → List Form → Bool
-are_short vars forms = list_all (λ form. nat_le (length form.coefs) vars) forms
-
--- the sum with one coefficient times its form, unless a number leaves 128 bits
-abbrev pub added_term : ℕ → Form → ℤ → Form → Option Form
-added_term vars sum c form =
-    option_and_then (λ more. form_in_128_bits (form_sum sum more)) (form_in_128_bits (form_product c (widened_form vars form)))
-
--- the sum with each coefficient times its form
-abbrev pub added_terms : ℕ → Form → List ℤ → List Form → Option Form
-added_terms vars sum [] place = Some sum
-added_terms vars sum (c ∷ cs) [] = Some sum
-added_terms vars sum (c ∷ cs) (form ∷ place) =
-    option_and_then (λ next. added_terms vars next cs place) (added_term vars sum c form)
+use Rattle.source_tree.specs.Rows.{RowExpr, Take, row_form}
 
 -- the form times a number, and the sum of two forms, where they were made
 abbrev pub times_of : ℤ → Option Form → Option Form
 times_of k form = option_and_then (λ form. form_in_128_bits (form_product k form)) form
 
 abbrev pub plus_of : Option Form → Option Form → Option Form
-plus_of left right = option_and_then (λ left. option_and_then (λ right. form_in_128_bits (form_sum left right)) right) left
+plus_of left right =
+    option_and_then
+    (λ left. option_and_then (λ right. form_in_128_bits (form_sum left right)) right) left
 
 -- left - right, and left - 1
 abbrev pub minus_of : Option Form → Option Form → Option Form
@@ -40,6 +23,20 @@ minus_of left right = plus_of left (times_of (negsuc 0) right)
 
 abbrev pub one_less_of : ℕ → Option Form → Option Form
 one_less_of vars form = plus_of form (Some (constant_form vars (negsuc 0)))
+
+-- -form - 1, and most - least - 1
+abbrev pub below_zero_of : ℕ → Option Form → Option Form
+below_zero_of vars form = one_less_of vars (times_of (negsuc 0) form)
+
+abbrev pub less_of : ℕ → Option Form → Option Form → Option Form
+less_of vars least most = one_less_of vars (minus_of most least)
+
+-- each coefficient times the place's form, added in order to what comes before
+abbrev pub with_terms : ℕ → Option Form → List ℤ → List Form → Option Form
+with_terms vars sum [] place = sum
+with_terms vars sum (c ∷ cs) [] = sum
+with_terms vars sum (c ∷ cs) (form ∷ place) =
+    with_terms vars (plus_of sum (times_of c (row_form vars (Take form)))) cs place
 
 -- a system with one more row, where both were made
 abbrev pub system_with : Option System → Option Form → Option System
@@ -62,7 +59,3 @@ IsMadeOver vars system = MatchOption system (Unit {0}) (λ s. (s.vars ≡ vars) 
 -- a form that was made is over so many variables
 abbrev pub FormIsOver : ℕ → Option Form → Type 0
 FormIsOver vars form = MatchOption form (Unit {0}) (λ f. length f.coefs ≡ vars)
-
--- this system was made from a context over so many variables
-abbrev pub IsMadeFrom : ℕ → Option System → Context → Type 0
-IsMadeFrom vars system c = (c.vars ≡ vars) × (system ≡ made_system c.vars c.rows)

@@ -1,5 +1,5 @@
 -- The first leaf of a tree that breaks a rule, and the least rule that it breaks.
-use Rattle.std.specs.Prelude.{◌≡◌, ℕ, ◌+◌, ◌-◌, ◌^◌, ◌==◌, min, ℤ, pos, Bool, true, ◌&&◌, nat_lt, int_le, List, [], ◌∷◌, length, slice_get, Option, Some, None, Result, Ok, Err, if◌then◌else◌}
+use Rattle.std.specs.Prelude.{ℕ, ◌+◌, ◌-◌, ◌^◌, ◌==◌, min, ℤ, pos, Bool, true, ◌&&◌, nat_lt, int_le, List, [], ◌∷◌, length, slice_get, Option, Some, None, Result, Ok, Err, if◌then◌else◌}
 use Rattle.std.specs.Option.{option_map, option_map_or}
 use Rattle.affine_core.specs.declared.form.Form.{Form}
 use Rattle.int_polyhedra.specs.declared.system.Proof.{Proof}
@@ -22,7 +22,8 @@ use Rattle.source_tree.specs.declared.tree.Tree.TheFolds.{fold-Tree}
 
 -- the system of rows that are made, unless one can't be made within 128 bits
 abbrev pub made_system : ℕ → List RowExpr → Option System
-made_system vars rows = option_map (λ forms. record { vars = vars; rows = forms }) (row_forms vars rows)
+made_system vars rows =
+    option_map (λ forms. record { vars = vars; rows = forms }) (row_forms vars rows)
 
 -- what refuses a proof of a system: `Overflow` where it can't be made
 abbrev pub refusal_of : Option System → Proof → Option Reason
@@ -49,18 +50,23 @@ leaf_refusal leaf systems proofs =
     if length proofs == length systems then proofs_refusal leaf 0 systems proofs
     else Some (rule.Proofs leaf (length proofs) (length systems))
 
--- a map whose forms have as many variables as there are, and, where the statement exists, as many forms as it has loops
+-- A map whose forms have as many variables as there are, and, where the statement exists, as many
+-- forms as it has loops.
 abbrev pub map_fits : Nest → ℕ → ℕ → List Form → Bool
 map_fits n vars s place =
     are_over vars place
-    && option_map_or (λ (st : Statement). length place == length st.loops) (slice_get n.statements s) true
+    && option_map_or (λ (st : Statement). length place == length st.loops)
+    (slice_get n.statements s) true
 
-abbrev pub named_refusal : Nest → Occurrence → ℕ → Context → List Form → List Proof → Option Occurrence → Option Rule
+abbrev pub named_refusal :
+    Nest → Occurrence → ℕ → Context → List Form → List Proof → Option Occurrence → Option Rule
 named_refusal n r leaf c place proofs None = Some (rule.NoWriter leaf)
-named_refusal n r leaf c place proofs (Some w) = leaf_refusal leaf (writer_systems n r every c w place) proofs
+named_refusal n r leaf c place proofs (Some w) =
+    leaf_refusal leaf (writer_systems n r every c w place) proofs
 
 -- what refuses a Writer leaf: its map, then its statement, then its proofs
-abbrev pub writer_refusal : Nest → Occurrence → ℕ → Context → ℕ → List Form → List Proof → Option Rule
+abbrev pub writer_refusal :
+    Nest → Occurrence → ℕ → Context → ℕ → List Form → List Proof → Option Rule
 writer_refusal n r leaf c s place proofs =
     if map_fits n c.vars s place then named_refusal n r leaf c place proofs (named_write n r s)
     else Some (rule.BadForm leaf)
@@ -83,7 +89,8 @@ then_leaves (Err rule) next = Err rule
 abbrev pub divisor_fits : Occurrence → Context → ℤ → Bool
 divisor_fits r c d = int_le (pos 2) d && nat_lt c.vars (length r.statement.loops + 6)
 
--- from the number of its first leaf and its context to the number of the next leaf, or to the rule that refuses
+-- from the number of its first leaf and its context to the number of the next leaf, or to the rule
+-- that refuses
 abbrev pub Checks : Type 0
 Checks = ℕ → Context → Result ℕ Rule
 
@@ -97,8 +104,10 @@ check_step n r (Divides form d above below) leaf c =
     if length form.coefs == c.vars && divisor_fits r c d
     then then_leaves (above leaf (divides_yes c form d)) (λ next. below next (divides_no c form d))
     else Err (rule.BadForm leaf)
-check_step n r (Writer s place proofs) leaf c = leaf_end leaf (writer_refusal n r leaf c s place proofs)
-check_step n r (Zero proofs) leaf c = leaf_end leaf (leaf_refusal leaf (zero_systems n r every c) proofs)
+check_step n r (Writer s place proofs) leaf c =
+    leaf_end leaf (writer_refusal n r leaf c s place proofs)
+check_step n r (Zero proofs) leaf c =
+    leaf_end leaf (leaf_refusal leaf (zero_systems n r every c) proofs)
 check_step n r (Dead proof) leaf c = leaf_end leaf (leaf_refusal leaf (dead_systems c) (proof ∷ []))
 
 unfoldable pub check_from : Nest → Occurrence → Tree → Checks

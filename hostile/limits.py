@@ -10,10 +10,11 @@ Every run has a stack of 8 MB, 4 GB of address space and a time limit. Times are
   lines     `check` of certificates of 64 MiB, each of one kind of line
   announce  certificates that announce much and bring little
   bundle    sources and data of 64 MiB
-  threads   64 processes where the system refuses to start more than so many threads, and on two processors
+  threads   64, 63 and 62 processes where each start of a thread is refused in turn, with all later ones: by a shim before the C
+            library, and by the system's own limit on tasks; and on few processors
 
 A run that ends by a signal, that isn't done in its time, or that ends otherwise than is wanted is told behind the tables, and makes the
-script fail. `threads` wants to be root, to run the program as a user of its own. It is a test, outside the proof.
+script fail. The system's limit on tasks is tried by root alone, as a user of its own. It is a test, outside the proof.
 """
 import collections
 import os
@@ -152,18 +153,18 @@ def deep(program):
 def sized():
     """A name, a source, its data and its words."""
     product = asking.example("matrix_product")[0]
-    for n in (30, 100):
+    for n in (30, 100, 159):
         cells = ",".join(str((7 * k + 3) % 11 - 5) for k in range(n * n))
         yield f"the product of {n} by {n} matrices", product, f"A,{cells}\nB,{cells}\n".encode(), [f"N={n}"]
     counter = b"param N; out a; for (i = 0; i < N; i++) a = i;"
-    yield "a counter of 1,048,575 turns", counter, b"", ["N=1048575"]
-    yield "a chain of 1,048,575 turns", counter.replace(b"a = i", b"a = a + i"), b"", ["N=1048575"]
+    yield "a counter of 4,194,303 turns", counter, b"", ["N=4194303"]
+    yield "a chain of 4,194,303 turns", counter.replace(b"a = i", b"a = a + i"), b"", ["N=4194303"]
     reversal = b"param N; in x[N]; out y[N]; for (i = 0; i < N; i++) y[N - 1 - i] = x[i];"
-    yield "349,525 cells, given back to front", reversal, b"x" + b",7" * 349525 + b"\n", ["N=349525"]
+    yield "1,398,101 cells, given back to front", reversal, b"x" + b",7" * 1398101 + b"\n", ["N=1398101"]
     yield "262,144 cells outside their extents", b"param N; var a[1]; for (i = 0; i < N; i++) a[3000 * i + 7] = i;", b"", ["N=262144"]
     yield "8 reads of a cell, 262,144 times", b"param N; out a; for (i = 0; i < N; i++) a = a+a+a+a+a+a+a+a+i;", b"", ["N=262144"]
-    yield "62 stages of a pipeline", *pipeline(62, 16384)
-    yield "one turn too many", counter, b"", ["N=1048577"]
+    yield "62 stages of a pipeline", *pipeline(62, 65536)
+    yield "one turn too many", counter, b"", ["N=4194304"]
 
 
 def pipeline(stages, items):
@@ -335,9 +336,60 @@ def threads(program):
         os.sched_setaffinity(0, cpus)
     asking.table(["64 processes, by `run`", "Status, first bytes", "s", "MB"], rows)
     print()
+    refused_by_shim(program)
+    print()
+    refused_by_system(program, words, bundle, plain)
+
+
+def grouped(rows):
+    """Rows of a number, statuses and seconds, of which those with the same statuses that follow each other are told as one."""
+    groups = []
+    for number, statuses, seconds in rows:
+        if groups and groups[-1][2] == statuses:
+            groups[-1][1], groups[-1][3] = number, max(groups[-1][3], seconds)
+        else:
+            groups.append([number, number, statuses, seconds])
+    return [[f"{a} to {b}" if a < b else a, statuses, f"{seconds:.2f}"] for a, b, statuses, seconds in groups]
+
+
+def tried(name, count, wanted, call):
+    """So many runs of a call: their statuses in words, and the longest one's seconds."""
+    statuses, longest = collections.Counter(), 0.0
+    for _ in range(count):
+        end = call()
+        # where a start is refused the network goes along its schedule, in one thread
+        is_well = judge(name, end, wanted)
+        statuses["hung" if end.hung else f"{end.status}, {'the same answer' if is_well else 'not as wanted'}"] += 1
+        longest = max(longest, end.seconds)
+    return ", ".join(f"{count} x {it}" for it, count in sorted(statuses.items())), longest
+
+
+def refused_by_shim(program):
+    """Each start refused in turn, with all later ones. Workers that don't wait for the word, or aren't told to stay, never end."""
+    rows = []
+    with tempfile.TemporaryDirectory() as folder:
+        shim = asking.compiled("shim.c", os.path.join(folder, "shim.so"), "-shared", "-fPIC", "-ldl")
+        for processes in (64, 63, 62):
+            source, data, words = pipeline(processes - 2, 20)
+            bundle = asking.bundled(source, data)
+            wanted = asking.ask(program, ["seq", *words], bundle)[:3]
+            found = []
+            for number in range(1, processes + 2):
+                env = {**os.environ, "LD_PRELOAD": shim, "HOSTILE_START": str(number)}
+                name = f"{processes} processes, start {number} and all later ones refused"
+                found.append([number, *tried(name, 1, wanted, lambda: asking.ask(program, ["run", *words], bundle, 10, env))])
+                if len(BAD) > 20:
+                    break
+            rows += [[processes, *row] for row in grouped(found)]
+            print(rows[-1], file=sys.stderr, flush=True)
+    asking.table(["Processes", "The first start that is refused", "Statuses", "The longest, s"], rows)
+
+
+def refused_by_system(program, words, bundle, plain):
+    """64 processes as a user who may have so many tasks."""
     setpriv = shutil.which("setpriv")
     if os.geteuid() != 0 or not setpriv:
-        print("not root, or no setpriv: no start of a thread was refused")
+        print("not root, or no setpriv: the system's limit on tasks wasn't tried")
         return
     rows = []
     with tempfile.TemporaryDirectory() as folder:
@@ -348,25 +400,17 @@ def threads(program):
         user = "58273"
         before = [setpriv, f"--reuid={user}", f"--regid={user}", "--clear-groups", "--no-new-privs", "--bounding-set=-all", "--inh-caps=-all"]
         old = resource.getrlimit(resource.RLIMIT_NPROC)
+
+        def limited(limit):
+            resource.setrlimit(resource.RLIMIT_NPROC, (limit, old[1]))
+            end = asking.ask(copy, ["run", *words], bundle, 30, before=before)
+            resource.setrlimit(resource.RLIMIT_NPROC, old)
+            return end
+
         for limit in [*range(1, 67), 80]:
-            statuses, seconds = collections.Counter(), 0
-            for _ in range(5):
-                resource.setrlimit(resource.RLIMIT_NPROC, (limit, old[1]))
-                end = asking.ask(copy, ["run", *words], bundle, 30, before=before)
-                resource.setrlimit(resource.RLIMIT_NPROC, old)
-                # where a start is refused the network goes along its schedule, in one thread
-                is_well = judge(f"64 processes under a limit of {limit} tasks", end, plain[:3])
-                statuses["hung" if end.hung else f"{end.status}, {'the same answer' if is_well else 'not as wanted'}"] += 1
-                seconds = max(seconds, end.seconds)
-            rows.append([limit, ", ".join(f"{count} x {it}" for it, count in sorted(statuses.items())), f"{seconds:.2f}"])
+            rows.append([limit, *tried(f"64 processes under a limit of {limit} tasks", 5, plain[:3], lambda: limited(limit))])
             print(rows[-1], file=sys.stderr, flush=True)
-    groups = []
-    for limit, statuses, seconds in rows:
-        if groups and groups[-1][2] == statuses:
-            groups[-1][1], groups[-1][3] = limit, max(groups[-1][3], float(seconds))
-        else:
-            groups.append([limit, limit, statuses, float(seconds)])
-    asking.table(["Tasks that are allowed", "Statuses of 5 runs each", "The longest, s"], [[f"{a} to {b}" if a < b else a, statuses, f"{seconds:.2f}"] for a, b, statuses, seconds in groups])
+    asking.table(["Tasks that are allowed", "Statuses of 5 runs each", "The longest, s"], grouped(rows))
 
 
 SECTIONS = {"deep": deep, "size": size, "lines": lines, "announce": announce, "bundle": bundle, "threads": threads}

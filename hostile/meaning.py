@@ -9,7 +9,7 @@ import sys
 # numbers of any length, and trees of any depth that the stack of a thread holds
 sys.set_int_max_str_digits(0)
 BUNDLE_LIMIT = 67_108_864
-SIZE_LIMIT = 2_097_152
+SIZE_LIMIT = 8_388_608
 TOKEN_LIMIT = 8192
 LARGE = 2_147_483_647
 LOOP_VALUE = 1 << 62
@@ -852,7 +852,7 @@ def outcome(words, bundle):
         if command == "load":
             if count > LARGE:
                 raise Refused(8, "limit: Large 6")
-            if count > 100:
+            if count > 159:
                 raise Refused(8, f"limit: Size {SIZE_LIMIT + 1}")
             return 0, None, b""
         source, data, certificate = parts_of(bundle)

@@ -4,6 +4,7 @@
  *   HOSTILE_TABLE=FILE    a file of eight longs, mapped, that counts: requests, refused, started threads, joined threads, and how often
  *                         the environment was read
  *   HOSTILE_REFUSE=N      the Nth request is refused, counted from 1; HOSTILE_ALL=1: and all that come later
+ *   HOSTILE_START=N       the Nth start of a thread is refused, and all later ones
  *   HOSTILE_READ=K        standard input gives K bytes and then the error EIO
  *   HOSTILE_WRITE=K       standard output takes K bytes and then gives ENOSPC
  *   HOSTILE_COMPLAIN=K    the same of standard error
@@ -33,8 +34,8 @@ extern void *__libc_memalign(size_t, size_t);
 enum { REQUESTS, REFUSED, STARTED, JOINED, ASKED, COUNTERS = 8 };
 static atomic_long none[COUNTERS];
 static atomic_long *counters = none;
-static long refuse = -1, all, piece, again, limits[3] = {-1, -1, -1};
-static atomic_long moved[3], calls[3];
+static long refuse = -1, all, start = -1, piece, again, limits[3] = {-1, -1, -1};
+static atomic_long moved[3], calls[3], starts;
 static int is_on;
 
 extern char **environ;
@@ -68,6 +69,7 @@ __attribute__((constructor)) static void begin(void) {
   }
   refuse = number("HOSTILE_REFUSE", -1);
   all = number("HOSTILE_ALL", 0);
+  start = number("HOSTILE_START", -1);
   limits[0] = number("HOSTILE_READ", -1);
   limits[1] = number("HOSTILE_WRITE", -1);
   limits[2] = number("HOSTILE_COMPLAIN", -1);
@@ -101,11 +103,12 @@ void *mmap(void *at, size_t size, int protection, int flags, int fd, off_t offse
   return (void *)syscall(SYS_mmap, at, size, protection, flags, fd, offset);
 }
 
-int pthread_create(pthread_t *made, const pthread_attr_t *how, void *(*start)(void *), void *with) {
+int pthread_create(pthread_t *made, const pthread_attr_t *how, void *(*work)(void *), void *with) {
   static int (*real)(pthread_t *, const pthread_attr_t *, void *(*)(void *), void *);
   if (is_refused()) return EAGAIN;
+  if (start > 0 && atomic_fetch_add(&starts, 1) + 1 >= start) return EAGAIN;
   if (!real) real = dlsym(RTLD_NEXT, "pthread_create");
-  int error = real(made, how, start, with);
+  int error = real(made, how, work, with);
   if (!error) atomic_fetch_add(&counters[STARTED], 1);
   return error;
 }

@@ -27,4 +27,5 @@ abbrev pub held : List Row → Option (Text × List Text) → Held
 held rows pending = record { rows = rows; pending = pending; skip = 0 }
 
 abbrev pub at : List Row → Option (Text × List Text) → Waiting → Bool → Walk
-at rows pending waiting trailing = record { held = held rows pending; waiting = waiting; position = 1; is_trailing = trailing; stopped = None }
+at rows pending waiting trailing =
+    record { held = held rows pending; waiting = waiting; position = 1; is_trailing = trailing; stopped = None }

@@ -19,7 +19,8 @@ pub data Rows : Type 0 where
   policy_items : Text → List Text → Rows
 
 abbrev row : Rule → List Text → Row
-row rule values = record { id = rule.id; values = values; count = None; source = Some CommandLine; reading = reading_by (filled rule) }
+row rule values =
+    record { id = rule.id; values = values; count = None; source = Some CommandLine; reading = reading_by (filled rule) }
 
 abbrev pub rows_in : Rows → List Row
 rows_in neither = []
@@ -82,7 +83,8 @@ rows-kept (value w) (policy_items v xs) = refl
 -- whether what is pending can be kept: a second value of the policy can't
 pub data Keeping (p : Pending) (r : Rows) (fault : Kinds) : Type 0 where
   clean : fault ≡ [] → with_pending p (split_in r) ≡ split_in (kept p r) → Keeping p r fault
-  twice : (v w : Text) → fault ≡ kind.ArgumentConflict ∷ [] → (with_pending p (split_in r)).policies ≡ v ∷ w ∷ [] → Keeping p r fault
+  twice : (v w : Text) → fault ≡ kind.ArgumentConflict ∷ [] → (with_pending p (split_in r)).policies ≡ v ∷ w ∷ []
+      → Keeping p r fault
 
 pub keeping : (p : Pending) (r : Rows) → Keeping p r (settle_fault rules false (held (rows_in r) (pending_in p)))
 unfolding clap_on_literals

@@ -37,7 +37,8 @@ no_subcommand_fault (Some p) = refl
 
 no_default_fault : (rows : List Row) → defaults_fault rows rules ≡ []
 unfolding defaults_fault
-no_default_fault rows = rw (or_true (has_row (codes "policy") rows), or_true (has_row (codes "items") (with_default rows (with_index 1 (filled policy_rule))))) refl
+no_default_fault rows =
+    rw (or_true (has_row (codes "policy") rows), or_true (has_row (codes "items") (with_default rows (with_index 1 (filled policy_rule))))) refl
 
 no_check_fault : (rows : List Row) (entered : Bool) → check_fault shape rows entered ≡ []
 no_check_fault rows true = refl
@@ -48,7 +49,9 @@ same_rows true rows = refl
 same_rows false rows = refl
 
 no_defaults : (rows : List Row) → fold with_default rows rules ≡ rows
-no_defaults rows = ap (λ (rs : List Row). with_default rs (with_index 1 (filled items_rule))) (same_rows (has_row (codes "policy") rows) rows) ∙ same_rows (has_row (codes "items") rows) rows
+no_defaults rows =
+    ap (λ (rs : List Row). with_default rs (with_index 1 (filled items_rule)))
+    (same_rows (has_row (codes "policy") rows) rows) ∙ same_rows (has_row (codes "items") rows) rows
 
 module _ (words : List Text) where
   abbrev end : Held
@@ -73,23 +76,30 @@ module _ (words : List Text) where
 
   -- words without a fault order what is found in them
   pub order-found : fault_of app words ≡ [] → order_of words ≡ order_of_split (split_of (matches_of app words))
-  order-found none = (reads words).taken (sym fault-is ∙ none) ∙ ap (λ (rows : List Row). order_of_split (split_of rows)) (sym rows-are)
+  order-found none =
+      (reads words).taken (sym fault-is ∙ none)
+      ∙ ap (λ (rows : List Row). order_of_split (split_of rows)) (sym rows-are)
 
   -- and words with one are refused
   pub no_order : (fault_of app words ≡ [] → ⊥) → order_of words ≡ None
   no_order fails = (reads words).refused (λ none. fails (fault-is ∙ none))
 
 split_of-found : (found : Found) → split_of (rows_of found) ≡ split_found found
-split_of-found found = ap₂ (λ (items : Option (List Text)) (policy : Option Text). let split : Split = record { items = unwrap_or items []; policies = cons_option policy [] } in split)
+split_of-found found =
+    ap₂ (λ (items : Option (List Text))
+    (policy : Option Text). let split : Split = record { items = unwrap_or items []; policies = cons_option policy [] } in split)
     (sym (raw_values-rows found (codes "items"))) (sym (first_value-rows found (codes "policy")))
 
 -- the same of what `clap` answers
-pub ordered : (words : List Text) (answer : Result ArgMatches Error) → FailsBy (fault_of app words) answer → IfOk answer (HasMatchesOf app words) → IfOk answer (λ matches. order_of words ≡ order_of_split (split_found (found_of matches)))
+pub ordered : (words : List Text) (answer : Result ArgMatches Error) → FailsBy (fault_of app words) answer
+    → IfOk answer (HasMatchesOf app words)
+    → IfOk answer (λ matches. order_of words ≡ order_of_split (split_found (found_of matches)))
 ordered words (Ok matches) none has =
     order-found words none ∙ ap order_of_split (ap split_of (sym (has simple).0) ∙ split_of-found (found_of matches))
 ordered words (Err error) fails has = tt
 
-pub refused : (words : List Text) (answer : Result ArgMatches Error) → FailsBy (fault_of app words) answer → IfErr answer (λ error. kind_of error ≢ OutOfMemory → order_of words ≡ None)
+pub refused : (words : List Text) (answer : Result ArgMatches Error) → FailsBy (fault_of app words) answer
+    → IfErr answer (λ error. kind_of error ≢ OutOfMemory → order_of words ≡ None)
 refused words (Ok matches) none = tt
 refused words (Err error) (inl memory) = λ other. absurd (other memory)
 refused words (Err error) (inr among) = λ other. no_order words (λ none. subst (IsAmong (kind_of error)) none among)

@@ -21,20 +21,24 @@ no_policy : (split : Split) → policy_of split.policies ≡ None → order_of_s
 no_policy split none = rw none refl
 
 -- a policy that is given twice
-pub given_twice : (split : Split) (v w : Text) → split.policies ≡ v ∷ w ∷ [] → (later : Option Split) → order_from split later ≡ None
+pub given_twice : (split : Split) (v w : Text) → split.policies ≡ v ∷ w ∷ [] → (later : Option Split)
+    → order_from split later ≡ None
 given_twice split v w e None = refl
 given_twice split v w e (Some rest) = no_policy (join split rest) (rw e refl)
 
-not_the_only : (values : List Text) (v : Text) (later : List Text) → policy_named v ≡ None → policy_of (values ++ v ∷ later) ≡ None
+not_the_only : (values : List Text) (v : Text) (later : List Text) → policy_named v ≡ None
+    → policy_of (values ++ v ∷ later) ≡ None
 not_the_only [] v [] none = none
 not_the_only [] v (w ∷ later) none = refl
 not_the_only (a ∷ []) v later none = refl
 not_the_only (a ∷ b ∷ values) v later none = refl
 
 -- a value that names no policy
-pub no_such_policy : (split : Split) (v : Text) → policy_named v ≡ None → (later : Option Split) → order_from split (option_map (with_policy v) later) ≡ None
+pub no_such_policy : (split : Split) (v : Text) → policy_named v ≡ None → (later : Option Split)
+    → order_from split (option_map (with_policy v) later) ≡ None
 no_such_policy split v none None = refl
-no_such_policy split v none (Some rest) = no_policy (join split (with_policy v rest)) (not_the_only split.policies v rest.policies none)
+no_such_policy split v none (Some rest) =
+    no_policy (join split (with_policy v rest)) (not_the_only split.policies v rest.policies none)
 
 -- a text with `-` before more
 abbrev IsDashed : Text → Type 0
@@ -70,10 +74,13 @@ then_none : {X Y : Type 0} (f : X → Option Y) (x : Option X) → ((a : X) → 
 then_none f None e = refl
 then_none f (Some a) e = e a
 
-params_none : (params : List Param) (before : List Text) (word : Text) (later : List Text) → is_option word ≡ true → params_with params ((before ++ word ∷ []) ++ later) ≡ None
+params_none : (params : List Param) (before : List Text) (word : Text) (later : List Text) → is_option word ≡ true
+    → params_with params ((before ++ word ∷ []) ++ later) ≡ None
 params_none params [] word later e = rw (option_is_no_param word e) refl
 params_none params (x ∷ before) word later e =
-    then_none _ (param_of x) (λ param. either_none (is_some (value_named params param.0)) _ (params_none (params ++ param ∷ []) before word later e))
+    then_none _ (param_of x)
+    (λ param. either_none (is_some (value_named params param.0)) _
+    (params_none (params ++ param ∷ []) before word later e))
 
 neither : {X : Type 0} (a b : Bool) (x : Option X) → (if a && (b && false) then x else None) ≡ None
 neither true true x = refl
@@ -85,17 +92,20 @@ option_is_no_number word e =
     let dashed = is_dashed word e in
     rw dashed.1 (neither (nat_le 1 (length (45 ∷ dashed.0))) (nat_le (length (45 ∷ dashed.0)) 18) _)
 
-load_none : (policy : Policy) (before : List Text) (word : Text) (later : List Text) → is_option word ≡ true → load_order policy ((before ++ word ∷ []) ++ later) ≡ None
+load_none : (policy : Policy) (before : List Text) (word : Text) (later : List Text) → is_option word ≡ true
+    → load_order policy ((before ++ word ∷ []) ++ later) ≡ None
 load_none policy [] word [] e = rw (option_is_no_number word e) refl
 load_none policy [] word (x ∷ later) e = refl
 load_none policy (x ∷ []) word later e = refl
 load_none policy (x ∷ y ∷ before) word later e = refl
 
-others_none : (policy : Policy) (command : Command) (before : List Text) (word : Text) (later : List Text) → is_option word ≡ true
+others_none : (policy : Policy) (command : Command) (before : List Text) (word : Text) (later : List Text)
+    → is_option word ≡ true
     → params_order policy command ((before ++ word ∷ []) ++ later) ≡ None
 others_none policy command before word later e = rw (params_none [] before word later e) refl
 
-with_none : (policy : Policy) (command : Command) (before : List Text) (word : Text) (later : List Text) → is_option word ≡ true
+with_none : (policy : Policy) (command : Command) (before : List Text) (word : Text) (later : List Text)
+    → is_option word ≡ true
     → order_with policy command ((before ++ word ∷ []) ++ later) ≡ None
 with_none policy Run before word later e = others_none policy Run before word later e
 with_none policy Seq before word later e = others_none policy Seq before word later e
@@ -105,13 +115,15 @@ with_none policy Check before word later e = others_none policy Check before wor
 with_none policy Vhdl before word later e = others_none policy Vhdl before word later e
 with_none policy Load before word later e = load_none policy before word later e
 
-items_none : (policy : Policy) (before : List Text) (word : Text) (later : List Text) → is_option word ≡ true → order_of_items policy ((before ++ word ∷ []) ++ later) ≡ None
+items_none : (policy : Policy) (before : List Text) (word : Text) (later : List Text) → is_option word ≡ true
+    → order_of_items policy ((before ++ word ∷ []) ++ later) ≡ None
 items_none policy [] word later e = rw (option_is_no_command word e) refl
 items_none policy (x ∷ before) word later e =
     then_none _ (command_of x) (λ command. with_none policy command before word later e)
 
 -- an item that looks like an option
-pub no_such_item : (before : List Text) (word : Text) (policies : List Text) → is_option word ≡ true → (later : Option Split) → order_from (record { items = before ++ word ∷ []; policies = policies }) later ≡ None
+pub no_such_item : (before : List Text) (word : Text) (policies : List Text) → is_option word ≡ true
+    → (later : Option Split) → order_from (record { items = before ++ word ∷ []; policies = policies }) later ≡ None
 no_such_item before word policies e None = refl
 no_such_item before word policies e (Some rest) =
     then_none _ (policy_of (policies ++ rest.policies)) (λ policy. items_none policy before word rest.items e)

@@ -33,7 +33,8 @@ refuted false never = refl
 is_same : (x y : ℕ) → (x == y) ≡ true → x ≡ y
 is_same x y e = grind (arith, nat_tests)
 
-pub before-other : (x : ℕ) (xs : Text) → (x == 61) ≡ false → before_first is_equals (x ∷ xs) ≡ x ∷ before_first is_equals xs
+pub before-other : (x : ℕ) (xs : Text) → (x == 61) ≡ false
+    → before_first is_equals (x ∷ xs) ≡ x ∷ before_first is_equals xs
 before-other x xs e =
     let more : 1 + position_or_len is_equals xs ≡ suc (position_or_len is_equals xs) = omega arith in
     rw (e, more) refl
@@ -51,7 +52,8 @@ has_front [] = inl refl
 has_front (x ∷ xs) =
     elim (x == 61) as (λ t. (x == 61) ≡ t → HasFront (x ∷ xs) (before_first is_equals (x ∷ xs))) [
       | true ↦ λ e. inr (xs, rw e (ap (λ n. n ∷ xs) (is_same x 61 e)))
-      | false ↦ λ e. subst (HasFront (x ∷ xs)) (sym (before-other x xs e)) (one_more x xs (before_first is_equals xs) (has_front xs))
+      | false ↦ λ e. subst (HasFront (x ∷ xs)) (sym (before-other x xs e))
+          (one_more x xs (before_first is_equals xs) (has_front xs))
     ] refl
 
 -- where another name stands before the first `=`, the word gives no policy
@@ -66,7 +68,9 @@ not_policy text other e =
 no_value : (text : Text) → HasOtherName text → has_policy_value (45 ∷ 45 ∷ text) ≡ true → ⊥
 no_value text other e =
     let word : Text = 45 ∷ 45 ∷ text in
-    let parts : word ≡ codes "--policy=" ++ drop 9 word = sym (take-append-drop 9 word) ∙ ap (λ (front : Text). front ++ drop 9 word) (same_text (take 9 word) (codes "--policy=") (sym e)) in
+    let parts : word ≡ codes "--policy=" ++ drop 9 word =
+    sym (take-append-drop 9 word)
+    ∙ ap (λ (front : Text). front ++ drop 9 word) (same_text (take 9 word) (codes "--policy=") (sym e)) in
     true≢false (subst HasOtherName (ap (drop 2) parts) other)
 
 unmarked : (z : ℕ) (zs : Text) → HasOtherName (z ∷ zs) → IsUnmarked (45 ∷ 45 ∷ z ∷ zs)
@@ -81,8 +85,11 @@ is_option-more x xs = grind (arith, nat_tests)
 
 long_case : (z : ℕ) (zs : Text) → Case (45 ∷ 45 ∷ z ∷ zs)
 long_case z zs =
-    elim (bytes_eq (codes "policy") (before_first is_equals (z ∷ zs))) as (λ t. bytes_eq (codes "policy") (before_first is_equals (z ∷ zs)) ≡ t → Case (45 ∷ 45 ∷ z ∷ zs)) [
-      | true ↦ λ e. policy_case (subst (HasFront (z ∷ zs)) (sym (same_text (codes "policy") (before_first is_equals (z ∷ zs)) (sym e))) (has_front (z ∷ zs)))
+    elim (bytes_eq (codes "policy") (before_first is_equals (z ∷ zs))) as
+    (λ t. bytes_eq (codes "policy") (before_first is_equals (z ∷ zs)) ≡ t → Case (45 ∷ 45 ∷ z ∷ zs)) [
+      | true ↦ λ e. policy_case
+          (subst (HasFront (z ∷ zs)) (sym (same_text (codes "policy") (before_first is_equals (z ∷ zs)) (sym e)))
+          (has_front (z ∷ zs)))
       | false ↦ λ e. unknown (unmarked z zs e) (is_option-more 45 (z ∷ zs)) (unknown_long _ _ refl (rw e refl))
     ] refl
   where
@@ -93,7 +100,8 @@ long_case z zs =
 short_case : (y : ℕ) (ys : Text) → (y == 45) ≡ false → Case (45 ∷ y ∷ ys)
 short_case y ys e =
     elim (chars (y ∷ ys)) as (λ cs. chars (y ∷ ys) ≡ cs → Case (45 ∷ y ∷ ys)) [
-      | [] ↦ λ none. stray marks (is_option-more y ys) (record { dashes = rw e refl; long = rw e refl; short = no_char (y ∷ ys) (rw e refl) none })
+      | [] ↦ λ none. stray marks (is_option-more y ys)
+          (record { dashes = rw e refl; long = rw e refl; short = no_char (y ∷ ys) (rw e refl) none })
       | c ∷ cs ↦ λ some. unknown marks (is_option-more y ys) (unknown_short (y ∷ ys) c cs (rw e refl) (rw e refl) some)
     ] refl
   where
@@ -101,7 +109,9 @@ short_case y ys e =
     marks = record { dashes = rw e refl; policy = rw e refl; value = rw e refl }
 
 dash_case : (xs : Text) → Case (45 ∷ xs)
-dash_case [] = plain (record { dashes = refl; policy = refl; value = refl }) refl (record { dashes = refl; long = refl; short = no_dash refl })
+dash_case [] =
+    plain (record { dashes = refl; policy = refl; value = refl }) refl
+    (record { dashes = refl; long = refl; short = no_dash refl })
 dash_case (y ∷ ys) =
     elim (y == 45) as (λ t. (y == 45) ≡ t → Case (45 ∷ y ∷ ys)) [
       | true ↦ λ e. subst (λ z. Case (45 ∷ z ∷ ys)) (sym (is_same y 45 e)) (two ys)
@@ -113,9 +123,12 @@ dash_case (y ∷ ys) =
     two (z ∷ zs) = long_case z zs
 
 pub case_of : (word : Text) → Case word
-case_of [] = plain (record { dashes = refl; policy = refl; value = refl }) refl (record { dashes = refl; long = refl; short = no_dash refl })
+case_of [] =
+    plain (record { dashes = refl; policy = refl; value = refl }) refl
+    (record { dashes = refl; long = refl; short = no_dash refl })
 case_of (x ∷ xs) =
     elim (x == 45) as (λ t. (x == 45) ≡ t → Case (x ∷ xs)) [
       | true ↦ λ e. subst (λ y. Case (y ∷ xs)) (sym (is_same x 45 e)) (dash_case xs)
-      | false ↦ λ e. plain (record { dashes = rw e refl; policy = rw e refl; value = rw e refl }) (rw e refl) (record { dashes = rw e refl; long = rw e refl; short = no_dash (rw e refl) })
+      | false ↦ λ e. plain (record { dashes = rw e refl; policy = rw e refl; value = rw e refl }) (rw e refl)
+          (record { dashes = rw e refl; long = rw e refl; short = no_dash (rw e refl) })
     ] refl

@@ -1,4 +1,7 @@
 use crate::{Command, WordsError, parts_of, read_words};
+use loop_class::bind;
+use loop_grammar::parse;
+use loop_lex::lex;
 use std::alloc::{AllocError, Global};
 use std::test::Fail;
 use witness_plan::Policy;
@@ -21,7 +24,7 @@ fn order_of(alloc: Global, words: &[&str]) -> Result<Option<(Command, Policy)>, 
 }
 
 #[test]
-fn a_command_and_its_parameters_are_taken(rt: HostRuntime) -> Result<(), Fail> {
+fn a_command_is_taken(rt: HostRuntime) -> Result<(), Fail> {
     let taken: [(&[&str], Command); 12] = [
         (&["run"], Command::Run),
         (
@@ -45,6 +48,54 @@ fn a_command_and_its_parameters_are_taken(rt: HostRuntime) -> Result<(), Fail> {
             Some((command, Policy::Seq)),
             "{words:?}"
         );
+    }
+    Ok(())
+}
+
+// The extents of the arrays of a source whose parameters have the values that these words give.
+fn extents_of(alloc: Global, words: &[&str], source: &[u8]) -> Result<Vec<i64>, Fail> {
+    let words = in_words(alloc, words)?;
+    let Ok(order) = read_words(alloc, &words) else {
+        return Err(Fail::from("refused words"));
+    };
+    if source.len() > u32::MAX as usize {
+        return Err(Fail::from("the source is long"));
+    }
+    let tokens = lex(alloc, source)?;
+    let tree = parse(alloc, source, &tokens)?;
+    let nest = bind(alloc, source, &tokens, &tree, &order.params)?;
+    let mut extents = Vec::new(alloc);
+    for array in nest.arrays.as_slice() {
+        for extent in array.extents.as_slice() {
+            extents.push(*extent)?;
+        }
+    }
+    Ok(extents)
+}
+
+#[test]
+fn parameters_have_their_values(rt: HostRuntime) -> Result<(), Fail> {
+    let cases: [(&[&str], &[u8], &[i64]); 2] = [
+        (
+            &["run", "N=4", "_m1=-007", "inn=2147483647", "z=-0"],
+            b"param N, z, inn, _m1; var a[N][_m1], b[inn], c[z];",
+            &[4, -7, 2147483647, 0],
+        ),
+        (
+            &[
+                "check",
+                "--policy",
+                "down",
+                "N=000000000000000012",
+                "n=-2147483647",
+            ],
+            b"param n, N; var a[N], b[n];",
+            &[12, -2147483647],
+        ),
+    ];
+    for (words, source, wanted) in cases {
+        let found = extents_of(rt.alloc(), words, source)?;
+        assert!(rt; found.as_slice() == wanted, "{words:?}");
     }
     Ok(())
 }

@@ -23,9 +23,12 @@ use Rattle.compaan_top.proofs.Printed.{nest_is}
 abbrev pub JudgesCheck : List (List ℕ × ℤ) → List ℕ → Result Answer Stop → Type 0
 JudgesCheck params bundle result = Judges (λ answer. Checks params bundle (as_reply answer)) result
 
-pub checks_without_nest : (params : List (List ℕ × ℤ)) (bundle source part : List ℕ) (stop : Stop) → source ≡ source_part bundle
-    → certificate_part bundle ≡ Some part → Judges (HasSizedNest source params) (Err stop) → JudgesCheck params bundle (Err stop)
-checks_without_nest params bundle source part (Refused refusal) is there step = source_refused part refusal there (nest_is params bundle source (Err refusal) is step)
+pub checks_without_nest : (params : List (List ℕ × ℤ)) (bundle source part : List ℕ) (stop : Stop)
+    → source ≡ source_part bundle
+    → certificate_part bundle ≡ Some part → Judges (HasSizedNest source params) (Err stop)
+    → JudgesCheck params bundle (Err stop)
+checks_without_nest params bundle source part (Refused refusal) is there step =
+    source_refused part refusal there (nest_is params bundle source (Err refusal) is step)
 checks_without_nest params bundle source part ReadFault is there step = step
 checks_without_nest params bundle source part Memory is there step = tt
 
@@ -48,7 +51,8 @@ checks_unread params bundle source part nest error (Err (Refused refusal)) is th
 checks_unread params bundle source part nest error (Err ReadFault) is there gives read tells = absurd tells
 checks_unread params bundle source part nest error (Err Memory) is there gives read tells = tt
 
-pub checks_judged : (params : List (List ℕ × ℤ)) (bundle source part : List ℕ) (nest : Nest) (network : Network) (given : Cert) (verdict : Verdict) → source ≡ source_part bundle
+pub checks_judged : (params : List (List ℕ × ℤ)) (bundle source part : List ℕ) (nest : Nest) (network : Network)
+    (given : Cert) (verdict : Verdict) → source ≡ source_part bundle
     → certificate_part bundle ≡ Some part → GivesWithinSize source params (Ok nest) → reading part ≡ Ok (network, given)
     → verdict ≡ verdict_of (first nest network given) → Checks params bundle (Ok (verdict_reply verdict))
 checks_judged params bundle source part nest network given verdict is there gives read told =

@@ -26,39 +26,52 @@ kept held faults = record { old = held; new = held; faults_old = faults; faults_
 AppendsFront-nil : (held : Option (List ℕ)) → AppendsFront held held []
 AppendsFront-nil held = (0, lit≤ tt, Appends-nil held)
 
-pub answer_written : (wanted : Option Order) (input output : Change) (held : Option (List ℕ)) (faults : ℕ) (reply : Reply)
+pub answer_written : (wanted : Option Order) (input output : Change) (held : Option (List ℕ)) (faults : ℕ)
+    (reply : Reply)
     → IsQuiet input → ReadsAndJudges wanted input (Ok reply) → Appends output.old output.new reply.text → IsQuiet output
     → Ends wanted input output (kept held faults) reply.status
 answer_written wanted input output held faults reply quiet judged appends calm =
-    written judged.0 (outcome_of (Ok reply)) quiet judged.1 judged.2 (record { written = appends; complained = Appends-nil held; output_quiet = calm; complaint_quiet = refl })
+    written judged.0 (outcome_of (Ok reply)) quiet judged.1 judged.2
+    (record { written = appends; complained = Appends-nil held; output_quiet = calm; complaint_quiet = refl })
 
-pub answer_cut_short : (wanted : Option Order) (input output : Change) (held : Option (List ℕ)) (faults : ℕ) (reply : Reply)
-    → IsQuiet input → ReadsAndJudges wanted input (Ok reply) → AppendsFront output.old output.new reply.text → HasFault output
+pub answer_cut_short : (wanted : Option Order) (input output : Change) (held : Option (List ℕ)) (faults : ℕ)
+    (reply : Reply)
+    → IsQuiet input → ReadsAndJudges wanted input (Ok reply) → AppendsFront output.old output.new reply.text
+    → HasFault output
     → Ends wanted input output (kept held faults) 4
 answer_cut_short wanted input output held faults reply quiet judged front fault =
-    cut_short judged.0 (outcome_of (Ok reply)) quiet judged.1 judged.2 (record { written = front; complained = AppendsFront-nil held; cause = inl fault })
+    cut_short judged.0 (outcome_of (Ok reply)) quiet judged.1 judged.2
+    (record { written = front; complained = AppendsFront-nil held; cause = inl fault })
 
-pub refusal_written : (wanted : Option Order) (input complaint : Change) (held : Option (List ℕ)) (faults : ℕ) (refusal : Refusal)
-    → IsQuiet input → ReadsAndJudges wanted input (Err refusal) → Appends complaint.old complaint.new (refusal_line refusal) → IsQuiet complaint
+pub refusal_written : (wanted : Option Order) (input complaint : Change) (held : Option (List ℕ)) (faults : ℕ)
+    (refusal : Refusal)
+    → IsQuiet input → ReadsAndJudges wanted input (Err refusal)
+    → Appends complaint.old complaint.new (refusal_line refusal) → IsQuiet complaint
     → Ends wanted input (kept held faults) complaint (refusal_status refusal)
 refusal_written wanted input complaint held faults refusal quiet judged appends calm =
-    written judged.0 (outcome_of (Err refusal)) quiet judged.1 judged.2 (record { written = Appends-nil held; complained = appends; output_quiet = refl; complaint_quiet = calm })
+    written judged.0 (outcome_of (Err refusal)) quiet judged.1 judged.2
+    (record { written = Appends-nil held; complained = appends; output_quiet = refl; complaint_quiet = calm })
 
-pub refusal_cut_short : (wanted : Option Order) (input complaint : Change) (held : Option (List ℕ)) (faults : ℕ) (refusal : Refusal)
-    → IsQuiet input → ReadsAndJudges wanted input (Err refusal) → AppendsFront complaint.old complaint.new (refusal_line refusal) → HasFault complaint
+pub refusal_cut_short : (wanted : Option Order) (input complaint : Change) (held : Option (List ℕ)) (faults : ℕ)
+    (refusal : Refusal)
+    → IsQuiet input → ReadsAndJudges wanted input (Err refusal)
+    → AppendsFront complaint.old complaint.new (refusal_line refusal) → HasFault complaint
     → Ends wanted input (kept held faults) complaint 4
 refusal_cut_short wanted input complaint held faults refusal quiet judged front fault =
-    cut_short judged.0 (outcome_of (Err refusal)) quiet judged.1 judged.2 (record { written = AppendsFront-nil held; complained = front; cause = inr fault })
+    cut_short judged.0 (outcome_of (Err refusal)) quiet judged.1 judged.2
+    (record { written = AppendsFront-nil held; complained = front; cause = inr fault })
 
 pub ends_at_fault : (wanted : Option Order) (input : Change) (held other : Option (List ℕ)) (faults others : ℕ)
     → IsPlanned wanted input (Err ReadFault) → Ends wanted input (kept held faults) (kept other others) 3
 ends_at_fault wanted input held other faults others fault =
-    read_fault fault.0 fault.1 fault.2 fault.3 fault.4 (record { output_kept = Keeps-refl held; complaint_kept = Keeps-refl other; output_quiet = refl; complaint_quiet = refl })
+    read_fault fault.0 fault.1 fault.2 fault.3 fault.4
+    (record { output_kept = Keeps-refl held; complaint_kept = Keeps-refl other; output_quiet = refl; complaint_quiet = refl })
 
 pub ends_without_memory : (wanted : Option Order) (input : Change) (held other : Option (List ℕ)) (faults others : ℕ)
     → IsPlanned wanted input (Err Memory) → Ends wanted input (kept held faults) (kept other others) 10
 ends_without_memory wanted input held other faults others want =
-    no_memory want.0 want.1 (record { output_kept = Keeps-refl held; complaint_kept = Keeps-refl other; output_quiet = refl; complaint_quiet = refl })
+    no_memory want.0 want.1
+    (record { output_kept = Keeps-refl held; complaint_kept = Keeps-refl other; output_quiet = refl; complaint_quiet = refl })
 
 -- a command that waits for nobody reads a bundle
 pub quiet_reads : (command : Command) → WaitsForNobody command → reads_of command ≢ nothing
@@ -78,20 +91,23 @@ pub run_reads : (command : Command) → command ≡ Run → reads_of command ≢
 run_reads command is = subst (λ (c : Command). reads_of c ≢ nothing) (sym is) run_reads_some
 
 -- what reads a bundle reads it so
-pub reads_bundle : (reads : Reads) (input : Change) (bundle : List ℕ) → reads ≢ nothing → ReadsTo input bundle → ReadsFor reads input bundle
+pub reads_bundle : (reads : Reads) (input : Change) (bundle : List ℕ) → reads ≢ nothing → ReadsTo input bundle
+    → ReadsFor reads input bundle
 reads_bundle source_alone input bundle some read = read
 reads_bundle source_and_data input bundle some read = read
 reads_bundle source_and_certificate input bundle some read = read
 reads_bundle nothing input bundle some read = absurd (some refl)
 
 -- and takes at most a byte past the limit
-takes_bundle : (reads : Reads) (input : Change) → reads ≢ nothing → TakesAtMost input (bundle_limit + 1) → TakesAtMost input (most_taken reads)
+takes_bundle : (reads : Reads) (input : Change) → reads ≢ nothing → TakesAtMost input (bundle_limit + 1)
+    → TakesAtMost input (most_taken reads)
 takes_bundle source_alone input some taken = taken
 takes_bundle source_and_data input some taken = taken
 takes_bundle source_and_certificate input some taken = taken
 takes_bundle nothing input some taken = absurd (some refl)
 
-pub takes_read : (reads : Reads) (input : Change) (bundle : List ℕ) → reads ≢ nothing → ReadsTo input bundle → TakesAtMost input (most_taken reads)
+pub takes_read : (reads : Reads) (input : Change) (bundle : List ℕ) → reads ≢ nothing → ReadsTo input bundle
+    → TakesAtMost input (most_taken reads)
 takes_read reads input bundle some read = takes_bundle reads input some (bundle, read.within, read.taken)
 
 takes_none : (left : Option (List ℕ)) (faults most : ℕ) → TakesAtMost (kept left faults) most
@@ -112,22 +128,28 @@ planned_refusal_of_bundle order input (Refused refusal) some read = (
   (
     read.2,
     reads_bundle (reads_of order.command) input read.2 some read.3,
-    subst (λ (r : Refusal). IsOutcome (Some order) read.2 (outcome_of (Err r))) (sym read.1) (bundle_refused order refl some read.4),
+    subst (λ (r : Refusal). IsOutcome (Some order) read.2 (outcome_of (Err r))) (sym read.1)
+        (bundle_refused order refl some read.4),
   ),
 )
 planned_refusal_of_bundle order input ReadFault some read = (order, refl, some, read.0, read.1)
-planned_refusal_of_bundle order input Memory some read = (read.0, takes_bundle (reads_of order.command) input some read.1)
+planned_refusal_of_bundle order input Memory some read =
+    (read.0, takes_bundle (reads_of order.command) input some read.1)
 
 pub planned_answer : (order : Order) (input : Change) (bundle : List ℕ) (answer : Result Answer Stop)
-    → IsQuiet input → IsRead (Some order) input bundle → TakesAtMost input (most_taken (reads_of order.command)) → length bundle ≤ bundle_limit
+    → IsQuiet input → IsRead (Some order) input bundle → TakesAtMost input (most_taken (reads_of order.command))
+    → length bundle ≤ bundle_limit
     → Judges (λ made. Performs order.command order bundle (as_reply made)) answer → IsPlanned (Some order) input answer
-planned_answer order input bundle (Ok made) quiet gives taken within judged = (quiet, (bundle, gives, performed order (Ok (reply_of made)) refl within judged))
-planned_answer order input bundle (Err (Refused refusal)) quiet gives taken within judged = (quiet, (bundle, gives, performed order (Err refusal) refl within judged))
+planned_answer order input bundle (Ok made) quiet gives taken within judged =
+    (quiet, (bundle, gives, performed order (Ok (reply_of made)) refl within judged))
+planned_answer order input bundle (Err (Refused refusal)) quiet gives taken within judged =
+    (quiet, (bundle, gives, performed order (Err refusal) refl within judged))
 planned_answer order input bundle (Err ReadFault) quiet gives taken within judged = absurd judged
 planned_answer order input bundle (Err Memory) quiet gives taken within judged = (quiet, taken)
 
 -- a bundle that was read is worked on
-pub planned_work : (order : Order) (input : Change) (bundle : List ℕ) (answer : Result Answer Stop) → reads_of order.command ≢ nothing
+pub planned_work : (order : Order) (input : Change) (bundle : List ℕ) (answer : Result Answer Stop)
+    → reads_of order.command ≢ nothing
     → IsQuiet input → ReadsTo input bundle → length bundle ≤ bundle_limit
     → Judges (λ made. Performs order.command order bundle (as_reply made)) answer → IsPlanned (Some order) input answer
 planned_work order input bundle answer some quiet read within judged =
@@ -135,8 +157,10 @@ planned_work order input bundle answer some quiet read within judged =
     (takes_read (reads_of order.command) input bundle some read) within judged
 
 -- `load` reads nothing
-pub planned_load : (order : Order) (left : Option (List ℕ)) (faults : ℕ) (answer : Result Answer Stop) → order.command ≡ Load
-    → Judges (λ made. Loads order.policy order.load (as_reply made)) answer → IsPlanned (Some order) (kept left faults) answer
+pub planned_load : (order : Order) (left : Option (List ℕ)) (faults : ℕ) (answer : Result Answer Stop)
+    → order.command ≡ Load
+    → Judges (λ made. Loads order.policy order.load (as_reply made)) answer
+    → IsPlanned (Some order) (kept left faults) answer
 planned_load order left faults answer is judged =
     planned_answer order (kept left faults) [] answer refl
     (subst (λ (c : Command). ReadsFor (reads_of c) (kept left faults) []) (sym is) (Keeps-refl left, refl))
@@ -144,7 +168,8 @@ planned_load order left faults answer is judged =
     (subst (λ (c : Command). Judges (λ made. Performs c order [] (as_reply made)) answer) (sym is) judged)
 
 -- a call ends as its order does
-pub ends_ordered : (wanted : Option Order) (order : Order) (input output complaint : Change) (status : ℕ) → wanted ≡ Some order
+pub ends_ordered : (wanted : Option Order) (order : Order) (input output complaint : Change) (status : ℕ)
+    → wanted ≡ Some order
     → Ends (Some order) input output complaint status → Ends wanted input output complaint status
 ends_ordered wanted order input output complaint status ordered ends =
     subst (λ (w : Option Order). Ends w input output complaint status) (sym ordered) ends

@@ -27,20 +27,25 @@ use Rattle.compaan_top.specs.declared.refusal.Stop.TheVariants.{Refused, ReadFau
 abbrev pub JudgesLoad : Policy → ℕ → Result Answer Stop → Type 0
 JudgesLoad policy rows result = Judges (λ answer. Loads policy rows (as_reply answer)) result
 
-pub loads_too_many : (policy : Policy) (rows : ℕ) (refusal : Refusal) → load_limit < rows → refusal ≡ too_many_rows → Loads policy rows (Err refusal)
-loads_too_many policy rows refusal many is = subst (λ (r : Refusal). Loads policy rows (Err r)) (sym is) (too_large many)
+pub loads_too_many : (policy : Policy) (rows : ℕ) (refusal : Refusal) → load_limit < rows → refusal ≡ too_many_rows
+    → Loads policy rows (Err refusal)
+loads_too_many policy rows refusal many is =
+    subst (λ (r : Refusal). Loads policy rows (Err r)) (sym is) (too_large many)
 
-pub loads_without_size : (policy : Policy) (rows : ℕ) (nest : Nest) (stop : Stop) → rows ≤ load_limit → IsMatrixNest rows nest
+pub loads_without_size : (policy : Policy) (rows : ℕ) (nest : Nest) (stop : Stop) → rows ≤ load_limit
+    → IsMatrixNest rows nest
     → Judges (HasSize nest) (Err stop) → JudgesLoad policy rows (Err stop)
 loads_without_size policy rows nest (Refused refusal) few is step =
     subst (λ (r : Refusal). Loads policy rows (Err r)) (sym step.2) (size_refused nest step.0 few is step.1)
 loads_without_size policy rows nest ReadFault few is step = step
 loads_without_size policy rows nest Memory few is step = tt
 
-pub loads_summed : (policy : Policy) (rows : ℕ) (nest : Nest) (total : ℕ) (inputs : Inputs) (network : Network) (outputs : List (List ℤ)) (summary : Summary)
+pub loads_summed : (policy : Policy) (rows : ℕ) (nest : Nest) (total : ℕ) (inputs : Inputs) (network : Network)
+    (outputs : List (List ℤ)) (summary : Summary)
     → rows ≤ load_limit → IsMatrixNest rows nest → counted nest ≡ Ok total → inputs.arrays ≡ matrix_inputs rows
     → network ≡ planned_network nest policy → outputs ≡ arrays nest inputs
-    → summary.points ≡ length (trace nest) → summary.channels ≡ length network.channels → summary.events ≡ event_count network
+    → summary.points ≡ length (trace nest) → summary.channels ≡ length network.channels
+    → summary.events ≡ event_count network
     → summary.sum ≡ wrapping_sum (product_cells outputs)
     → Loads policy rows (Ok (done (summary_text summary.points summary.channels summary.events summary.sum)))
 loads_summed policy rows nest total inputs network outputs summary few is counts cells planned computed points channels events sum =

@@ -1,5 +1,5 @@
 -- The statuses with which each command may end.
-use Rattle.std.proofs.Common.{◌≡◌, ◌⊎◌, ◌==◌, ◌++◌, ℕ, ℤ, true, List, [], ◌∷◌, Option, Some, None, Result, Ok, Err, refl, sym, subst, inl, inr}
+use Rattle.std.proofs.Common.{◌≡◌, ◌∙◌, ◌⊎◌, ◌==◌, ◌++◌, ℕ, ℤ, true, true≢false, List, [], ◌∷◌, Option, Some, None, Result, Ok, Err, refl, sym, subst, inl, inr}
 use Rattle.std.proofs.lemmas.Bool.{or_right}
 use Rattle.command_line.specs.Bundle.{source_part, data_part}
 use Rattle.command_line.specs.declared.words.Command.{Command}
@@ -14,13 +14,14 @@ use Rattle.net_checker.specs.Fits.{first, verdict_of}
 use Rattle.net_checker.specs.declared.verdict.Refusal.{Refusal as NetRefusal}
 use Rattle.sanlp.specs.declared.nest.Nest.{Nest}
 use Rattle.witness_plan.specs.declared.schedules.Policy.{Policy}
-use Rattle.compaan_top.specs.Answers.{Change, Ends, no_memory, read_fault, written, cut_short}
+use Rattle.witness_plan.specs.declared.schedules.Policy.TheVariants as policy
+use Rattle.compaan_top.specs.Answers.{Change, Ends, HasFault, no_memory, read_fault, written, cut_short}
 use Rattle.compaan_top.specs.Checking as check
 use Rattle.compaan_top.specs.Checking.{Checks, verdict_reply}
 use Rattle.compaan_top.specs.Commands.{Reads, source_alone, source_and_data, source_and_certificate, nothing, read_by, reads_of}
 use Rattle.compaan_top.specs.Describing as describe
 use Rattle.compaan_top.specs.Describing.{Describes}
-use Rattle.compaan_top.specs.Laws.{HasStatusOf, command_statuses, outcome_statuses, read_statuses}
+use Rattle.compaan_top.specs.Laws.{HasStatusOf, MayEndWith, command_statuses, outcome_statuses, read_statuses}
 use Rattle.compaan_top.specs.Load as load
 use Rattle.compaan_top.specs.Load.{Loads}
 use Rattle.compaan_top.specs.Outcome.{Outcome, IsOutcome, outcome_of, Performs, words_refused, bundle_refused, performed}
@@ -68,19 +69,23 @@ abbrev pub IsRefusedByStatus : {A : Type 0} → Result A Refusal → Type 0
 IsRefusedByStatus (Ok x) = Unit {0}
 IsRefusedByStatus (Err r) = IsOfSource (refusal_status r)
 
-gives_refused : (source : List ℕ) (params : List (List ℕ × ℤ)) {x : Result Nest Refusal} → Gives source params x → IsRefusedByStatus x
+gives_refused : (source : List ℕ) (params : List (List ℕ × ℤ)) {x : Result Nest Refusal} → Gives source params x
+    → IsRefusedByStatus x
 gives_refused source params (no_tokens e r lexed made) = lex_status e r made
 gives_refused source params (no_tree a place lexed stops) = inl refl
-gives_refused source params (not_bound a t reason r lexed derived least made) = bind_status (byte_of source a) reason r made
+gives_refused source params (not_bound a t reason r lexed derived least made) =
+    bind_status (byte_of source a) reason r made
 gives_refused source params (bound a t n lexed derived is) = tt
 
-pub sized_refused : (source : List ℕ) (params : List (List ℕ × ℤ)) {x : Result Nest Refusal} → GivesWithinSize source params x → IsRefusedByStatus x
+pub sized_refused : (source : List ℕ) (params : List (List ℕ × ℤ)) {x : Result Nest Refusal}
+    → GivesWithinSize source params x → IsRefusedByStatus x
 sized_refused source params (sized.source_refused r g) = gives_refused source params g
 sized_refused source params (sized.size_refused n e g c) = inr (inr (size_status e))
 sized_refused source params (sized.within_size n t g c) = tt
 
 -- a list that has the three statuses of sources has that of a refused source
-among : (list : List ℕ) (status : ℕ) → is_among list 6 ≡ true → is_among list 7 ≡ true → is_among list 8 ≡ true → IsOfSource status → is_among list status ≡ true
+among : (list : List ℕ) (status : ℕ) → is_among list 6 ≡ true → is_among list 7 ≡ true → is_among list 8 ≡ true
+    → IsOfSource status → is_among list status ≡ true
 among list status six seven eight (inl e) = subst (λ (s : ℕ). is_among list s ≡ true) (sym e) six
 among list status six seven eight (inr (inl e)) = subst (λ (s : ℕ). is_among list s ≡ true) (sym e) seven
 among list status six seven eight (inr (inr e)) = subst (λ (s : ℕ). is_among list s ≡ true) (sym e) eight
@@ -88,30 +93,44 @@ among list status six seven eight (inr (inr e)) = subst (λ (s : ℕ). is_among 
 abbrev HasStatus : Reads → Result Reply Refusal → Type 0
 HasStatus reads x = is_among (command_statuses reads) (outcome_of x).status ≡ true
 
-inputs_status : (bytes : List ℕ) (n : Nest) (r : Refusal) → IsInputs n bytes (Err r) → is_among (command_statuses source_and_data) (refusal_status r) ≡ true
+inputs_status : (bytes : List ℕ) (n : Nest) (r : Refusal) → IsInputs n bytes (Err r)
+    → is_among (command_statuses source_and_data) (refusal_status r) ≡ true
 inputs_status bytes n r i = rw (data_status n.arrays i.0 r i.2) refl
 
-runs_own : (params : List (List ℕ × ℤ)) (bundle : List ℕ) {x : Result Reply Refusal} → Runs params bundle x → HasStatus source_and_data x
-runs_own params bundle (source_refused r g) = among (command_statuses source_and_data) (refusal_status r) refl refl refl (sized_refused (source_part bundle) params g)
+runs_own : (params : List (List ℕ × ℤ)) (bundle : List ℕ) {x : Result Reply Refusal} → Runs params bundle x
+    → HasStatus source_and_data x
+runs_own params bundle (source_refused r g) =
+    among (command_statuses source_and_data) (refusal_status r) refl refl refl
+    (sized_refused (source_part bundle) params g)
 runs_own params bundle (data_refused n r g i) = inputs_status (data_part bundle) n r i
 runs_own params bundle (answered n d g i) = refl
 
-prints_own : (text : Nest → List ℕ) (params : List (List ℕ × ℤ)) (bundle : List ℕ) {x : Result Reply Refusal} → Prints text params bundle x → HasStatus source_alone x
-prints_own text params bundle (print.source_refused r g) = among (command_statuses source_alone) (refusal_status r) refl refl refl (sized_refused (source_part bundle) params g)
+prints_own : (text : Nest → List ℕ) (params : List (List ℕ × ℤ)) (bundle : List ℕ) {x : Result Reply Refusal}
+    → Prints text params bundle x → HasStatus source_alone x
+prints_own text params bundle (print.source_refused r g) =
+    among (command_statuses source_alone) (refusal_status r) refl refl refl
+    (sized_refused (source_part bundle) params g)
 prints_own text params bundle (print.printed n g) = refl
 
-verdict_own : (found : Option NetRefusal) → is_among (command_statuses source_and_certificate) (verdict_reply (verdict_of found)).status ≡ true
+verdict_own : (found : Option NetRefusal)
+    → is_among (command_statuses source_and_certificate) (verdict_reply (verdict_of found)).status ≡ true
 verdict_own None = refl
 verdict_own (Some refusal) = refl
 
-checks_own : (params : List (List ℕ × ℤ)) (bundle : List ℕ) {x : Result Reply Refusal} → Checks params bundle x → HasStatus source_and_certificate x
+checks_own : (params : List (List ℕ × ℤ)) (bundle : List ℕ) {x : Result Reply Refusal} → Checks params bundle x
+    → HasStatus source_and_certificate x
 checks_own params bundle (check.part_missing none) = refl
-checks_own params bundle (check.source_refused part r there g) = among (command_statuses source_and_certificate) (refusal_status r) refl refl refl (sized_refused (source_part bundle) params g)
+checks_own params bundle (check.source_refused part r there g) =
+    among (command_statuses source_and_certificate) (refusal_status r) refl refl refl
+    (sized_refused (source_part bundle) params g)
 checks_own params bundle (check.unread part n e text there g read told) = refl
 checks_own params bundle (check.judged part n network cert there g read) = verdict_own (first n network cert)
 
-describes_own : (policy : Policy) (params : List (List ℕ × ℤ)) (bundle : List ℕ) {x : Result Reply Refusal} → Describes policy params bundle x → HasStatus source_alone x
-describes_own policy params bundle (describe.source_refused r g) = among (command_statuses source_alone) (refusal_status r) refl refl refl (sized_refused (source_part bundle) params g)
+describes_own : (policy : Policy) (params : List (List ℕ × ℤ)) (bundle : List ℕ) {x : Result Reply Refusal}
+    → Describes policy params bundle x → HasStatus source_alone x
+describes_own policy params bundle (describe.source_refused r g) =
+    among (command_statuses source_alone) (refusal_status r) refl refl refl
+    (sized_refused (source_part bundle) params g)
 describes_own policy params bundle (describe.script_refused n a g k) = refl
 describes_own policy params bundle (describe.described n g k) = refl
 
@@ -120,7 +139,8 @@ loads_own policy rows (load.too_large a) = refl
 loads_own policy rows (load.size_refused n e a g c) = rw (size_status e) refl
 loads_own policy rows (load.summed n t k a g c i) = refl
 
-performs_own : (command : Command) (order : Order) (bundle : List ℕ) (x : Result Reply Refusal) → Performs command order bundle x → HasStatus (reads_of command) x
+performs_own : (command : Command) (order : Order) (bundle : List ℕ) (x : Result Reply Refusal)
+    → Performs command order bundle x → HasStatus (reads_of command) x
 performs_own Run order bundle x made = runs_own order.params bundle made
 performs_own Seq order bundle x made = runs_own order.params bundle made
 performs_own Net order bundle x made = prints_own (network_text order.policy) order.params bundle made
@@ -137,14 +157,20 @@ long_status source_and_certificate some = refl
 long_status nothing some = absurd (some refl)
 
 -- the statuses of an order's outcomes are those of its command
-of_command : (wanted : Option Order) (order : Order) (status : ℕ) → wanted ≡ Some order → is_among (command_statuses (reads_of order.command)) status ≡ true
+of_command : (wanted : Option Order) (order : Order) (status : ℕ) → wanted ≡ Some order
+    → is_among (command_statuses (reads_of order.command)) status ≡ true
     → is_among (outcome_statuses wanted) status ≡ true
-of_command wanted order status ordered own = subst (λ (o : Option Order). is_among (outcome_statuses o) status ≡ true) (sym ordered) own
+of_command wanted order status ordered own =
+    subst (λ (o : Option Order). is_among (outcome_statuses o) status ≡ true) (sym ordered) own
 
-pub outcomes_own : (wanted : Option Order) (bundle : List ℕ) {a : Outcome} → IsOutcome wanted bundle a → is_among (outcome_statuses wanted) a.status ≡ true
-outcomes_own wanted bundle (words_refused x) = subst (λ (o : Option Order). is_among (outcome_statuses o) 2 ≡ true) (sym x) refl
-outcomes_own wanted bundle (bundle_refused o x reads long) = of_command wanted o 5 x (long_status (reads_of o.command) reads)
-outcomes_own wanted bundle (performed o answer x within made) = of_command wanted o (outcome_of answer).status x (performs_own o.command o bundle answer made)
+pub outcomes_own : (wanted : Option Order) (bundle : List ℕ) {a : Outcome} → IsOutcome wanted bundle a
+    → is_among (outcome_statuses wanted) a.status ≡ true
+outcomes_own wanted bundle (words_refused x) =
+    subst (λ (o : Option Order). is_among (outcome_statuses o) 2 ≡ true) (sym x) refl
+outcomes_own wanted bundle (bundle_refused o x reads long) =
+    of_command wanted o 5 x (long_status (reads_of o.command) reads)
+outcomes_own wanted bundle (performed o answer x within made) =
+    of_command wanted o (outcome_of answer).status x (performs_own o.command o bundle answer made)
 
 -- ---- the statuses of calls
 
@@ -152,19 +178,67 @@ is_behind : (front list : List ℕ) (status : ℕ) → is_among list status ≡ 
 is_behind [] list status there = there
 is_behind (one ∷ front) list status there = or_right (one == status) _ (is_behind front list status there)
 
-read_status : (reads : Reads) (list : List ℕ) → (reads ≡ nothing → ⊥) → is_among (4 ∷ 10 ∷ (read_statuses reads ++ list)) 3 ≡ true
+read_status : (reads : Reads) (list : List ℕ) → (reads ≡ nothing → ⊥)
+    → is_among (4 ∷ 10 ∷ (read_statuses reads ++ list)) 3 ≡ true
 read_status source_alone list some = refl
 read_status source_and_data list some = refl
 read_status source_and_certificate list some = refl
 read_status nothing list some = absurd (some refl)
 
-outcome_status : (wanted : Option Order) (status : ℕ) → is_among (outcome_statuses wanted) status ≡ true → HasStatusOf wanted status
+outcome_status : (wanted : Option Order) (status : ℕ) → is_among (outcome_statuses wanted) status ≡ true
+    → HasStatusOf wanted status
 outcome_status wanted status own =
-    is_behind (4 ∷ 10 ∷ []) (read_statuses (read_by wanted) ++ outcome_statuses wanted) status (is_behind (read_statuses (read_by wanted)) (outcome_statuses wanted) status own)
+    is_behind (4 ∷ 10 ∷ []) (read_statuses (read_by wanted) ++ outcome_statuses wanted) status
+    (is_behind (read_statuses (read_by wanted)) (outcome_statuses wanted) status own)
 
-pub calls_own : (wanted : Option Order) (input output complaint : Change) {status : ℕ} → Ends wanted input output complaint status → HasStatusOf wanted status
+pub calls_own : (wanted : Option Order) (input output complaint : Change) {status : ℕ}
+    → Ends wanted input output complaint status → HasStatusOf wanted status
 calls_own wanted input output complaint (no_memory quiet taken writes) = refl
 calls_own wanted input output complaint (read_fault o x reads fault taken writes) =
-    subst (λ (w : Option Order). HasStatusOf w 3) (sym x) (read_status (reads_of o.command) (outcome_statuses (Some o)) reads)
-calls_own wanted input output complaint (written bundle outcome quiet read is writes) = outcome_status wanted outcome.status (outcomes_own wanted bundle is)
+    subst (λ (w : Option Order). HasStatusOf w 3) (sym x)
+    (read_status (reads_of o.command) (outcome_statuses (Some o)) reads)
+calls_own wanted input output complaint (written bundle outcome quiet read is writes) =
+    outcome_status wanted outcome.status (outcomes_own wanted bundle is)
 calls_own wanted input output complaint (cut_short bundle outcome quiet read is writes) = refl
+
+-- ---- no status for all calls: refused words have 2 or that of want of memory, and an order never has 2
+
+no_order : (order : Order) → ◌≡◌ {A = Option Order} None (Some order) → ⊥
+no_order order is = cc
+
+refused_outcome : (wanted : Option Order) (bundle : List ℕ) {a : Outcome} → wanted ≡ None → IsOutcome wanted bundle a
+    → a.status ≡ 2
+refused_outcome wanted bundle none (words_refused x) = refl
+refused_outcome wanted bundle none (bundle_refused o x reads long) = absurd (no_order o (sym none ∙ x))
+refused_outcome wanted bundle none (performed o answer x within made) = absurd (no_order o (sym none ∙ x))
+
+refused_status : (wanted : Option Order) (input output complaint : Change) {status : ℕ} → wanted ≡ None
+    → (HasFault output → ⊥) → (HasFault complaint → ⊥)
+    → Ends wanted input output complaint status → (status ≡ 2) ⊎ (status ≡ 10)
+refused_status wanted input output complaint none sound quiet (no_memory same taken writes) = inr refl
+refused_status wanted input output complaint none sound quiet (read_fault o x reads fault taken writes) =
+    absurd (no_order o (sym none ∙ x))
+refused_status wanted input output complaint none sound quiet (written bundle outcome same read is writes) =
+    inl (refused_outcome wanted bundle none is)
+refused_status wanted input output complaint none sound quiet (cut_short bundle outcome same read is writes) =
+    elim writes.cause [
+      | inl fault ↦ absurd (sound fault)
+      | inr fault ↦ absurd (quiet fault)
+    ]
+
+abbrev an_order : Order
+an_order = record { command = Seq; policy = policy.Seq; params = []; load = 0 }
+
+ordered_status : (status : ℕ) → HasStatusOf (Some an_order) status → status ≡ 2 → ⊥
+ordered_status status has two = true≢false (sym (subst (λ (s : ℕ). HasStatusOf (Some an_order) s) two has))
+
+pub no_one_status : (status : ℕ) → ((wanted : Option Order) → MayEndWith wanted status) → status ≡ 10
+no_one_status status may =
+    let refused = may None in
+    let ordered = may (Some an_order) in
+    elim (refused_status None refused.input refused.output refused.complaint refl refused.output_sound refused.complaint_sound refused.ends) [
+      | inl two ↦ absurd
+          (ordered_status status
+          (calls_own (Some an_order) ordered.input ordered.output ordered.complaint ordered.ends) two)
+      | inr ten ↦ ten
+    ]

@@ -16,17 +16,21 @@ use Rattle.compaan_top.specs.declared.refusal.Stop.TheVariants.{Refused, ReadFau
 abbrev pub JudgesText : (Nest → List ℕ) → List (List ℕ × ℤ) → List ℕ → Result Answer Stop → Type 0
 JudgesText text params bundle result = Judges (λ answer. Prints text params bundle (as_reply answer)) result
 
-pub nest_is : (params : List (List ℕ × ℤ)) (bundle source : List ℕ) (answer : Result Nest Refusal) → source ≡ source_part bundle
+pub nest_is : (params : List (List ℕ × ℤ)) (bundle source : List ℕ) (answer : Result Nest Refusal)
+    → source ≡ source_part bundle
     → GivesWithinSize source params answer → GivesWithinSize (source_part bundle) params answer
 nest_is params bundle source answer is gives = subst (λ (s : List ℕ). GivesWithinSize s params answer) is gives
 
-pub prints_without_nest : (text : Nest → List ℕ) (params : List (List ℕ × ℤ)) (bundle source : List ℕ) (stop : Stop) → source ≡ source_part bundle
+pub prints_without_nest : (text : Nest → List ℕ) (params : List (List ℕ × ℤ)) (bundle source : List ℕ) (stop : Stop)
+    → source ≡ source_part bundle
     → Judges (HasSizedNest source params) (Err stop) → JudgesText text params bundle (Err stop)
-prints_without_nest text params bundle source (Refused refusal) is step = source_refused refusal (nest_is params bundle source (Err refusal) is step)
+prints_without_nest text params bundle source (Refused refusal) is step =
+    source_refused refusal (nest_is params bundle source (Err refusal) is step)
 prints_without_nest text params bundle source ReadFault is step = step
 prints_without_nest text params bundle source Memory is step = tt
 
-pub prints_text : (text : Nest → List ℕ) (params : List (List ℕ × ℤ)) (bundle source written : List ℕ) (nest : Nest) → source ≡ source_part bundle
+pub prints_text : (text : Nest → List ℕ) (params : List (List ℕ × ℤ)) (bundle source written : List ℕ) (nest : Nest)
+    → source ≡ source_part bundle
     → GivesWithinSize source params (Ok nest) → written ≡ text nest → Prints text params bundle (Ok (done written))
 prints_text text params bundle source written nest is gives made =
     subst (λ (t : List ℕ). Prints text params bundle (Ok (done t))) (sym made)

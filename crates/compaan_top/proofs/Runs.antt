@@ -24,31 +24,38 @@ JudgesRun params bundle result = Judges (λ answer. Runs params bundle (as_reply
 abbrev pub JudgesPrepared : List (List ℕ × ℤ) → List ℕ → Result (Nest × Inputs) Stop → Type 0
 JudgesPrepared params bundle result = Judges (IsPrepared params bundle) result
 
-pub prepared_without_nest : (params : List (List ℕ × ℤ)) (bundle source : List ℕ) (stop : Stop) → source ≡ source_part bundle
+pub prepared_without_nest : (params : List (List ℕ × ℤ)) (bundle source : List ℕ) (stop : Stop)
+    → source ≡ source_part bundle
     → Judges (HasSizedNest source params) (Err stop) → JudgesPrepared params bundle (Err stop)
-prepared_without_nest params bundle source (Refused refusal) is step = source_refused refusal (nest_is params bundle source (Err refusal) is step)
+prepared_without_nest params bundle source (Refused refusal) is step =
+    source_refused refusal (nest_is params bundle source (Err refusal) is step)
 prepared_without_nest params bundle source ReadFault is step = step
 prepared_without_nest params bundle source Memory is step = tt
 
-pub prepared_from : (params : List (List ℕ × ℤ)) (bundle source bytes : List ℕ) (nest : Nest) (answer : Result (Nest × Inputs) Stop)
+pub prepared_from : (params : List (List ℕ × ℤ)) (bundle source bytes : List ℕ) (nest : Nest)
+    (answer : Result (Nest × Inputs) Stop)
     → source ≡ source_part bundle → bytes ≡ data_part bundle → HasSizedNest source params (Ok nest)
     → Judges (HasInputs nest bytes) answer → JudgesPrepared params bundle answer
 prepared_from params bundle source bytes nest (Ok made) is bytes_are sized has =
-    subst (λ (n : Nest). GivesWithinSize (source_part bundle) params (Ok n) × IsInputs n (data_part bundle) (Ok made.1) × SizeIsOk n) (sym has.0)
+    subst (λ (n : Nest). GivesWithinSize (source_part bundle) params (Ok n) × IsInputs n (data_part bundle) (Ok made.1)
+    × SizeIsOk n) (sym has.0)
     (nest_is params bundle source (Ok nest) is sized.0, subst (λ (b : List ℕ). IsInputs nest b (Ok made.1)) bytes_are has.1, sized.1)
 prepared_from params bundle source bytes nest (Err (Refused refusal)) is bytes_are sized has =
-    data_refused nest refusal (nest_is params bundle source (Ok nest) is sized.0) (subst (λ (b : List ℕ). IsInputs nest b (Err refusal)) bytes_are has)
+    data_refused nest refusal (nest_is params bundle source (Ok nest) is sized.0)
+    (subst (λ (b : List ℕ). IsInputs nest b (Err refusal)) bytes_are has)
 prepared_from params bundle source bytes nest (Err ReadFault) is bytes_are sized has = has
 prepared_from params bundle source bytes nest (Err Memory) is bytes_are sized has = tt
 
 -- what refuses the nest or its inputs refuses the run
-pub unprepared : (params : List (List ℕ × ℤ)) (bundle : List ℕ) (stop : Stop) → JudgesPrepared params bundle (Err stop) → JudgesRun params bundle (Err stop)
+pub unprepared : (params : List (List ℕ × ℤ)) (bundle : List ℕ) (stop : Stop) → JudgesPrepared params bundle (Err stop)
+    → JudgesRun params bundle (Err stop)
 unprepared params bundle (Refused refusal) judged = judged
 unprepared params bundle ReadFault judged = judged
 unprepared params bundle Memory judged = judged
 
 pub runs_to_answer : (params : List (List ℕ × ℤ)) (bundle : List ℕ) (nest : Nest) (inputs : Inputs) (outputs : Arrays)
-    → IsPrepared params bundle (Ok (nest, inputs)) → outputs.arrays ≡ arrays nest inputs → Runs params bundle (Ok (done (answer_text nest.arrays outputs.arrays)))
+    → IsPrepared params bundle (Ok (nest, inputs)) → outputs.arrays ≡ arrays nest inputs
+    → Runs params bundle (Ok (done (answer_text nest.arrays outputs.arrays)))
 runs_to_answer params bundle nest inputs outputs is outputs_are =
     subst (λ (lists : List (List ℤ)). Runs params bundle (Ok (done (answer_text nest.arrays lists)))) (sym outputs_are)
     (answered nest inputs is.0 is.1)

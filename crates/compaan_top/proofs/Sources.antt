@@ -25,10 +25,13 @@ gives_without_tree source params found (Refused refusal) lexed step =
 gives_without_tree source params found ReadFault lexed step = step
 gives_without_tree source params found Memory lexed step = tt
 
-pub gives_nest : (source : List ℕ) (params : List (List ℕ × ℤ)) (found : List Token) (tree : Tree) (answer : Result Nest Stop)
-    → tokens source ≡ Ok found → IsTree source found tree → Judges (HasNest source found tree params) answer → Judges (Gives source params) answer
+pub gives_nest : (source : List ℕ) (params : List (List ℕ × ℤ)) (found : List Token) (tree : Tree)
+    (answer : Result Nest Stop)
+    → tokens source ≡ Ok found → IsTree source found tree → Judges (HasNest source found tree params) answer
+    → Judges (Gives source params) answer
 gives_nest source params found tree (Ok nest) lexed parsed step = bound found tree nest lexed parsed step
-gives_nest source params found tree (Err (Refused refusal)) lexed parsed step = not_bound found tree step.0 refusal lexed parsed step.1 step.2
+gives_nest source params found tree (Err (Refused refusal)) lexed parsed step =
+    not_bound found tree step.0 refusal lexed parsed step.1 step.2
 gives_nest source params found tree (Err ReadFault) lexed parsed step = step
 gives_nest source params found tree (Err Memory) lexed parsed step = tt
 

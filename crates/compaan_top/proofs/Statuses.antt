@@ -78,7 +78,8 @@ same_value x y e = cc
 no_place : (list : List Tok) (place : ℕ) (tree : Tree) → Stops list place → Derives list tree → ⊥
 no_place list place tree stops derived =
     elim (cases_lt place (length list)) [
-      | inl before ↦ stops.there before (drop (suc place) list, derived.0, derived.1 ∙ sym (take-append-drop (suc place) list))
+      | inl before ↦ stops.there before
+          (drop (suc place) list, derived.0, derived.1 ∙ sym (take-append-drop (suc place) list))
       | inr behind ↦ stops.at_end (omega (arith, stops.within)) tree derived
     ]
 
@@ -98,14 +99,17 @@ same_error source a b x y = cc
 no_both : (source : List ℕ) (a : LexError) (b : List Token) → tokens source ≡ Err a → tokens source ≡ Ok b → ⊥
 no_both source a b x y = cc
 
-same_refusal : (a b : Option Refusal) (r s : Refusal) → a ≡ Some r → b ≡ Some s → a ≡ b → refusal_status r ≡ refusal_status s
+same_refusal : (a b : Option Refusal) (r s : Refusal) → a ≡ Some r → b ≡ Some s → a ≡ b
+    → refusal_status r ≡ refusal_status s
 same_refusal a b r s x y e = ap refusal_status (same_value r s (sym x ∙ e ∙ y))
 
 -- no tokens of one list have a tree and a refused place
-no_tree_at_place : (source : List ℕ) (a b : List Token) (place : ℕ) (tree : Tree) → tokens source ≡ Ok a → tokens source ≡ Ok b
+no_tree_at_place : (source : List ℕ) (a b : List Token) (place : ℕ) (tree : Tree) → tokens source ≡ Ok a
+    → tokens source ≡ Ok b
     → Stops (sentence source a) place → IsTree source b tree → ⊥
 no_tree_at_place source a b place tree x y stops derived =
-    no_place (sentence source a) place tree stops (subst (λ (l : List Token). IsTree source l tree) (same_list source b a y x) derived)
+    no_place (sentence source a) place tree stops
+    (subst (λ (l : List Token). IsTree source l tree) (same_list source b a y x) derived)
 
 -- the trees of a source are one
 one_tree_of : OneTree → (source : List ℕ) (a b : List Token) (t u : Tree) → tokens source ≡ Ok a → tokens source ≡ Ok b
@@ -113,30 +117,37 @@ one_tree_of : OneTree → (source : List ℕ) (a b : List Token) (t u : Tree) �
 one_tree_of one source a b t u x y p q =
     one source a t u p (subst (λ (l : List Token). IsTree source l u) (same_list source b a y x) q)
 
-none_least : (tree : Tree) (params : List (List ℕ × ℤ)) (reason : BindError) → findings tree params ≡ [] → least_from None (findings tree params) ≡ Some reason → ⊥
+none_least : (tree : Tree) (params : List (List ℕ × ℤ)) (reason : BindError) → findings tree params ≡ []
+    → least_from None (findings tree params) ≡ Some reason → ⊥
 none_least tree params reason e f = let g : least_from None [] ≡ Some reason = rw e at f in cc
 
 -- the facts that a nest keeps don't bear on what the checker finds wrong first
-facts_aside : (arrays : List ArrayDecl) (statements : List Statement) (body : List Node) (w v : IsWellFormed arrays statements body) (network : Network) (cert : CertValue)
+facts_aside : (arrays : List ArrayDecl) (statements : List Statement) (body : List Node)
+    (w v : IsWellFormed arrays statements body) (network : Network) (cert : CertValue)
     → first (record { arrays = arrays; statements = statements; body = body; well_formed = w }) network cert
     ≡ first (record { arrays = arrays; statements = statements; body = body; well_formed = v }) network cert
 unfolding trace last_before points_of shape_refusal firing_refusal schedule_refusal
 facts_aside arrays statements body w v network cert = refl
 
 -- nests with the same parts are found wrong alike
-pub first_alike : (n m : Nest) → n.arrays ≡ m.arrays → n.statements ≡ m.statements → n.body ≡ m.body → (network : Network) (cert : CertValue)
+pub first_alike : (n m : Nest) → n.arrays ≡ m.arrays → n.statements ≡ m.statements → n.body ≡ m.body
+    → (network : Network) (cert : CertValue)
     → first n network cert ≡ first m network cert
 first_alike n m arrays statements body network cert =
     subst (λ (x : List ArrayDecl). (v : IsWellFormed x m.statements m.body)
-    → first n network cert ≡ first (record { arrays = x; statements = m.statements; body = m.body; well_formed = v }) network cert) arrays
+    → first n network cert
+    ≡ first (record { arrays = x; statements = m.statements; body = m.body; well_formed = v }) network cert) arrays
     (subst (λ (y : List Statement). (v : IsWellFormed n.arrays y m.body)
-    → first n network cert ≡ first (record { arrays = n.arrays; statements = y; body = m.body; well_formed = v }) network cert) statements
+    → first n network cert
+    ≡ first (record { arrays = n.arrays; statements = y; body = m.body; well_formed = v }) network cert) statements
     (subst (λ (z : List Node). (v : IsWellFormed n.arrays n.statements z)
-    → first n network cert ≡ first (record { arrays = n.arrays; statements = n.statements; body = z; well_formed = v }) network cert) body
+    → first n network cert
+    ≡ first (record { arrays = n.arrays; statements = n.statements; body = z; well_formed = v }) network cert) body
     (λ v. facts_aside n.arrays n.statements n.body n.well_formed v network cert))) m.well_formed
 
 -- nor on the automata of the network
-automata_aside : (arrays : List ArrayDecl) (statements : List Statement) (body : List Node) (w v : IsWellFormed arrays statements body) (policy : Policy)
+automata_aside : (arrays : List ArrayDecl) (statements : List Statement) (body : List Node)
+    (w v : IsWellFormed arrays statements body) (policy : Policy)
     → planned_automata policy (record { arrays = arrays; statements = statements; body = body; well_formed = w })
     ≡ planned_automata policy (record { arrays = arrays; statements = statements; body = body; well_formed = v })
 unfolding trace last_before points_of sources_of plans_of net sequential_schedule
@@ -146,43 +157,58 @@ automata_alike : (n m : Nest) → n.arrays ≡ m.arrays → n.statements ≡ m.s
     → planned_automata policy n ≡ planned_automata policy m
 automata_alike n m arrays statements body policy =
     subst (λ (x : List ArrayDecl). (v : IsWellFormed x m.statements m.body)
-    → planned_automata policy n ≡ planned_automata policy (record { arrays = x; statements = m.statements; body = m.body; well_formed = v })) arrays
+    → planned_automata policy n
+    ≡ planned_automata policy (record { arrays = x; statements = m.statements; body = m.body; well_formed = v })) arrays
     (subst (λ (y : List Statement). (v : IsWellFormed n.arrays y m.body)
-    → planned_automata policy n ≡ planned_automata policy (record { arrays = n.arrays; statements = y; body = m.body; well_formed = v })) statements
+    → planned_automata policy n
+    ≡ planned_automata policy (record { arrays = n.arrays; statements = y; body = m.body; well_formed = v })) statements
     (subst (λ (z : List Node). (v : IsWellFormed n.arrays n.statements z)
-    → planned_automata policy n ≡ planned_automata policy (record { arrays = n.arrays; statements = n.statements; body = z; well_formed = v })) body
+    → planned_automata policy n
+    ≡ planned_automata policy (record { arrays = n.arrays; statements = n.statements; body = z; well_formed = v })) body
     (λ v. automata_aside n.arrays n.statements n.body n.well_formed v policy))) m.well_formed
 
-pub gives_alike : OneTree → (source : List ℕ) (params : List (List ℕ × ℤ)) {x y : Result Nest Refusal} → Gives source params x → Gives source params y → Alike x y
+pub gives_alike : OneTree → (source : List ℕ) (params : List (List ℕ × ℤ)) {x y : Result Nest Refusal}
+    → Gives source params x → Gives source params y → Alike x y
 gives_alike one source params (no_tokens e r lexed made) (no_tokens f s lexed' made') =
     same_refusal (lex_refusal e) (lex_refusal f) r s made made' (ap lex_refusal (same_error source e f lexed lexed'))
-gives_alike one source params (no_tokens e r lexed made) (no_tree a place lexed' stops) = absurd (no_both source e a lexed lexed')
-gives_alike one source params (no_tokens e r lexed made) (not_bound a t reason s lexed' derived least made') = absurd (no_both source e a lexed lexed')
-gives_alike one source params (no_tokens e r lexed made) (bound a t n lexed' derived is) = absurd (no_both source e a lexed lexed')
-gives_alike one source params (no_tree a place lexed stops) (no_tokens f s lexed' made') = absurd (no_both source f a lexed' lexed)
+gives_alike one source params (no_tokens e r lexed made) (no_tree a place lexed' stops) =
+    absurd (no_both source e a lexed lexed')
+gives_alike one source params (no_tokens e r lexed made) (not_bound a t reason s lexed' derived least made') =
+    absurd (no_both source e a lexed lexed')
+gives_alike one source params (no_tokens e r lexed made) (bound a t n lexed' derived is) =
+    absurd (no_both source e a lexed lexed')
+gives_alike one source params (no_tree a place lexed stops) (no_tokens f s lexed' made') =
+    absurd (no_both source f a lexed' lexed)
 gives_alike one source params (no_tree a place lexed stops) (no_tree b place' lexed' stops') = refl
 gives_alike one source params (no_tree a place lexed stops) (not_bound b t reason s lexed' derived least made') =
     absurd (no_tree_at_place source a b place t lexed lexed' stops derived)
 gives_alike one source params (no_tree a place lexed stops) (bound b t n lexed' derived is) =
     absurd (no_tree_at_place source a b place t lexed lexed' stops derived)
-gives_alike one source params (not_bound a t reason r lexed derived least made) (no_tokens f s lexed' made') = absurd (no_both source f a lexed' lexed)
+gives_alike one source params (not_bound a t reason r lexed derived least made) (no_tokens f s lexed' made') =
+    absurd (no_both source f a lexed' lexed)
 gives_alike one source params (not_bound a t reason r lexed derived least made) (no_tree b place lexed' stops) =
     absurd (no_tree_at_place source b a place t lexed' lexed stops derived)
-gives_alike one source params (not_bound a t reason r lexed derived least made) (not_bound b u reason' s lexed' derived' least' made') =
+gives_alike one source params (not_bound a t reason r lexed derived least made)
+    (not_bound b u reason' s lexed' derived' least' made') =
     let trees : t ≡ u = one_tree_of one source a b t u lexed lexed' derived derived' in
-    let reasons : reason ≡ reason' = same_value reason reason' (sym least ∙ ap (λ (z : Tree). least_from None (findings z params)) trees ∙ least') in
+    let reasons : reason ≡ reason' =
+    same_value reason reason' (sym least ∙ ap (λ (z : Tree). least_from None (findings z params)) trees ∙ least') in
     let lists : a ≡ b = same_list source a b lexed lexed' in
     same_refusal (bind_refusal (byte_of source a) reason) (bind_refusal (byte_of source b) reason') r s made made'
-    (ap (λ (l : List Token). bind_refusal (byte_of source l) reason) lists ∙ ap (bind_refusal (byte_of source b)) reasons)
+    (ap (λ (l : List Token). bind_refusal (byte_of source l) reason) lists
+    ∙ ap (bind_refusal (byte_of source b)) reasons)
 gives_alike one source params (not_bound a t reason r lexed derived least made) (bound b u n lexed' derived' is) =
     let trees : t ≡ u = one_tree_of one source a b t u lexed lexed' derived derived' in
-    absurd (none_least u params reason is.no_findings (sym (ap (λ (z : Tree). least_from None (findings z params)) trees) ∙ least))
-gives_alike one source params (bound a t n lexed derived is) (no_tokens f s lexed' made') = absurd (no_both source f a lexed' lexed)
+    absurd (none_least u params reason is.no_findings
+    (sym (ap (λ (z : Tree). least_from None (findings z params)) trees) ∙ least))
+gives_alike one source params (bound a t n lexed derived is) (no_tokens f s lexed' made') =
+    absurd (no_both source f a lexed' lexed)
 gives_alike one source params (bound a t n lexed derived is) (no_tree b place lexed' stops) =
     absurd (no_tree_at_place source b a place t lexed' lexed stops derived)
 gives_alike one source params (bound a t n lexed derived is) (not_bound b u reason s lexed' derived' least made) =
     let trees : u ≡ t = one_tree_of one source b a u t lexed' lexed derived' derived in
-    absurd (none_least t params reason is.no_findings (sym (ap (λ (z : Tree). least_from None (findings z params)) trees) ∙ least))
+    absurd (none_least t params reason is.no_findings
+    (sym (ap (λ (z : Tree). least_from None (findings z params)) trees) ∙ least))
 gives_alike one source params (bound a t n lexed derived is) (bound b u m lexed' derived' is') =
     let trees : t ≡ u = one_tree_of one source a b t u lexed lexed' derived derived' in (
       is.arrays ∙ ap (λ (z : Tree). (nest_of z params).arrays) trees ∙ sym is'.arrays,
@@ -200,26 +226,37 @@ pub size_status : (e : SizeError) → refusal_status (size_refusal e) ≡ 8
 size_status (Limit count) = refl
 size_status (LoopValue loop) = refl
 
-pub no_both_sizes : (n m : Nest) (e : SizeError) (total : ℕ) → n.body ≡ m.body → counted n ≡ Err e → counted m ≡ Ok total → ⊥
+pub no_both_sizes : (n m : Nest) (e : SizeError) (total : ℕ) → n.body ≡ m.body → counted n ≡ Err e
+    → counted m ≡ Ok total → ⊥
 no_both_sizes n m e total same f g = let c = same_counted n m same in cc
 
-pub sized_alike : OneTree → (source : List ℕ) (params : List (List ℕ × ℤ)) {x y : Result Nest Refusal} → GivesWithinSize source params x → GivesWithinSize source params y → Alike x y
+pub sized_alike : OneTree → (source : List ℕ) (params : List (List ℕ × ℤ)) {x y : Result Nest Refusal}
+    → GivesWithinSize source params x → GivesWithinSize source params y → Alike x y
 sized_alike one source params (sized.source_refused r g) (sized.source_refused s h) = gives_alike one source params g h
-sized_alike one source params (sized.source_refused r g) (sized.size_refused m f h d) = absurd (gives_alike one source params g h)
-sized_alike one source params (sized.source_refused r g) (sized.within_size m u h d) = absurd (gives_alike one source params g h)
-sized_alike one source params (sized.size_refused n e g c) (sized.source_refused s h) = absurd (gives_alike one source params g h)
-sized_alike one source params (sized.size_refused n e g c) (sized.size_refused m f h d) = size_status e ∙ sym (size_status f)
-sized_alike one source params (sized.size_refused n e g c) (sized.within_size m u h d) = absurd (no_both_sizes n m e u (gives_alike one source params g h).2 c d)
-sized_alike one source params (sized.within_size n t g c) (sized.source_refused s h) = absurd (gives_alike one source params g h)
-sized_alike one source params (sized.within_size n t g c) (sized.size_refused m f h d) = absurd (no_both_sizes m n f t (gives_alike one source params h g).2 d c)
-sized_alike one source params (sized.within_size n t g c) (sized.within_size m u h d) = gives_alike one source params g h
+sized_alike one source params (sized.source_refused r g) (sized.size_refused m f h d) =
+    absurd (gives_alike one source params g h)
+sized_alike one source params (sized.source_refused r g) (sized.within_size m u h d) =
+    absurd (gives_alike one source params g h)
+sized_alike one source params (sized.size_refused n e g c) (sized.source_refused s h) =
+    absurd (gives_alike one source params g h)
+sized_alike one source params (sized.size_refused n e g c) (sized.size_refused m f h d) =
+    size_status e ∙ sym (size_status f)
+sized_alike one source params (sized.size_refused n e g c) (sized.within_size m u h d) =
+    absurd (no_both_sizes n m e u (gives_alike one source params g h).2 c d)
+sized_alike one source params (sized.within_size n t g c) (sized.source_refused s h) =
+    absurd (gives_alike one source params g h)
+sized_alike one source params (sized.within_size n t g c) (sized.size_refused m f h d) =
+    absurd (no_both_sizes m n f t (gives_alike one source params h g).2 d c)
+sized_alike one source params (sized.within_size n t g c) (sized.within_size m u h d) =
+    gives_alike one source params g h
 
 -- ---- and so do `run` and `seq`
 
 abbrev pub SameStatus : Result Reply Refusal → Result Reply Refusal → Type 0
 SameStatus x y = (outcome_of x).status ≡ (outcome_of y).status
 
-pub data_status : (list : List ArrayDecl) (fault : DataError) (r : Refusal) → data_refusal list fault ≡ Some r → refusal_status r ≡ 9
+pub data_status : (list : List ArrayDecl) (fault : DataError) (r : Refusal) → data_refusal list fault ≡ Some r
+    → refusal_status r ≡ 9
 data_status list (UnknownArray number) r told = ap refusal_status (sym (same_value _ r told))
 data_status list (Twice number) r told = ap refusal_status (sym (same_value _ r told))
 data_status list (Missing array) r told = ap refusal_status (sym (same_value _ r told))
@@ -229,7 +266,8 @@ data_status list Memory r told = cc
 
 -- the arrays decide what the records give
 same_inputs : (n m : Nest) (rows : List Record) → n.arrays ≡ m.arrays → inputs_of n rows ≡ inputs_of m rows
-same_inputs n m rows e = ap (λ (list : List ArrayDecl). unless (fault_of list rows) (record { arrays = lists_of list rows })) e
+same_inputs n m rows e =
+    ap (λ (list : List ArrayDecl). unless (fault_of list rows) (record { arrays = lists_of list rows })) e
 
 abbrev BothRefused : Result Inputs Refusal → Result Inputs Refusal → Type 0
 BothRefused (Ok d) (Ok e) = Unit {0}
@@ -245,28 +283,40 @@ inputs_alike : (bytes : List ℕ) (n m : Nest) (x y : Result Inputs Refusal) →
 inputs_alike bytes n m (Ok d) (Ok e) same i j = tt
 inputs_alike bytes n m (Err r) (Err s) same i j = data_status n.arrays i.0 r i.2 ∙ sym (data_status m.arrays j.0 s j.2)
 inputs_alike bytes n m (Ok d) (Err s) same i j =
-    absurd (no_both_inputs (inputs_of n (records_of bytes)) (inputs_of m (records_of bytes)) d j.0 (same_inputs n m (records_of bytes) same) i j.1)
+    absurd (no_both_inputs (inputs_of n (records_of bytes)) (inputs_of m (records_of bytes)) d j.0
+    (same_inputs n m (records_of bytes) same) i j.1)
 inputs_alike bytes n m (Err r) (Ok e) same i j =
-    absurd (no_both_inputs (inputs_of m (records_of bytes)) (inputs_of n (records_of bytes)) e i.0 (sym (same_inputs n m (records_of bytes) same)) j i.1)
+    absurd (no_both_inputs (inputs_of m (records_of bytes)) (inputs_of n (records_of bytes)) e i.0
+    (sym (same_inputs n m (records_of bytes) same)) j i.1)
 
-runs_alike : OneTree → (params : List (List ℕ × ℤ)) (bundle : List ℕ) {x y : Result Reply Refusal} → Runs params bundle x → Runs params bundle y → SameStatus x y
+runs_alike : OneTree → (params : List (List ℕ × ℤ)) (bundle : List ℕ) {x y : Result Reply Refusal}
+    → Runs params bundle x → Runs params bundle y → SameStatus x y
 runs_alike one params bundle (source_refused r g) (source_refused s h) = sized_alike one (source_part bundle) params g h
-runs_alike one params bundle (source_refused r g) (data_refused m s h j) = absurd (sized_alike one (source_part bundle) params g h)
-runs_alike one params bundle (source_refused r g) (answered m d h j) = absurd (sized_alike one (source_part bundle) params g h)
-runs_alike one params bundle (data_refused n r g i) (source_refused s h) = absurd (sized_alike one (source_part bundle) params g h)
+runs_alike one params bundle (source_refused r g) (data_refused m s h j) =
+    absurd (sized_alike one (source_part bundle) params g h)
+runs_alike one params bundle (source_refused r g) (answered m d h j) =
+    absurd (sized_alike one (source_part bundle) params g h)
+runs_alike one params bundle (data_refused n r g i) (source_refused s h) =
+    absurd (sized_alike one (source_part bundle) params g h)
 runs_alike one params bundle (data_refused n r g i) (data_refused m s h j) =
     inputs_alike (data_part bundle) n m (Err r) (Err s) (sized_alike one (source_part bundle) params g h).0 i j
 runs_alike one params bundle (data_refused n r g i) (answered m d h j) =
     absurd (inputs_alike (data_part bundle) n m (Err r) (Ok d) (sized_alike one (source_part bundle) params g h).0 i j)
-runs_alike one params bundle (answered n d g i) (source_refused s h) = absurd (sized_alike one (source_part bundle) params g h)
+runs_alike one params bundle (answered n d g i) (source_refused s h) =
+    absurd (sized_alike one (source_part bundle) params g h)
 runs_alike one params bundle (answered n d g i) (data_refused m s h j) =
     absurd (inputs_alike (data_part bundle) n m (Ok d) (Err s) (sized_alike one (source_part bundle) params g h).0 i j)
 runs_alike one params bundle (answered n d g i) (answered m e h j) = refl
 
-prints_alike : OneTree → (text : Nest → List ℕ) (params : List (List ℕ × ℤ)) (bundle : List ℕ) {x y : Result Reply Refusal} → Prints text params bundle x → Prints text params bundle y → SameStatus x y
-prints_alike one text params bundle (print.source_refused r g) (print.source_refused s h) = sized_alike one (source_part bundle) params g h
-prints_alike one text params bundle (print.source_refused r g) (print.printed m h) = absurd (sized_alike one (source_part bundle) params g h)
-prints_alike one text params bundle (print.printed n g) (print.source_refused s h) = absurd (sized_alike one (source_part bundle) params g h)
+prints_alike : OneTree
+    → (text : Nest → List ℕ) (params : List (List ℕ × ℤ)) (bundle : List ℕ) {x y : Result Reply Refusal}
+    → Prints text params bundle x → Prints text params bundle y → SameStatus x y
+prints_alike one text params bundle (print.source_refused r g) (print.source_refused s h) =
+    sized_alike one (source_part bundle) params g h
+prints_alike one text params bundle (print.source_refused r g) (print.printed m h) =
+    absurd (sized_alike one (source_part bundle) params g h)
+prints_alike one text params bundle (print.printed n g) (print.source_refused s h) =
+    absurd (sized_alike one (source_part bundle) params g h)
 prints_alike one text params bundle (print.printed n g) (print.printed m h) = refl
 
 pub no_part_there : (bundle part : List ℕ) → certificate_part bundle ≡ None → certificate_part bundle ≡ Some part → ⊥
@@ -275,43 +325,63 @@ no_part_there bundle part none there = cc
 pub same_part : (bundle a b : List ℕ) → certificate_part bundle ≡ Some a → certificate_part bundle ≡ Some b → a ≡ b
 same_part bundle a b x y = cc
 
-no_both_readings : (a b : Result (Network × CertValue) CertError) (e : CertError) (found : Network × CertValue) → a ≡ b → a ≡ Err e → b ≡ Ok found → ⊥
+no_both_readings : (a b : Result (Network × CertValue) CertError) (e : CertError) (found : Network × CertValue) → a ≡ b
+    → a ≡ Err e → b ≡ Ok found → ⊥
 no_both_readings a b e found same x y = cc
 
 -- one text isn't both refused and read
-read_and_unread : (bundle a b : List ℕ) (e : CertError) (network : Network) (cert : CertValue) → certificate_part bundle ≡ Some a → certificate_part bundle ≡ Some b
+read_and_unread : (bundle a b : List ℕ) (e : CertError) (network : Network) (cert : CertValue)
+    → certificate_part bundle ≡ Some a → certificate_part bundle ≡ Some b
     → reading a ≡ Err e → reading b ≡ Ok (network, cert) → ⊥
 read_and_unread bundle a b e network cert x y unread read =
     no_both_readings (reading a) (reading b) e (network, cert) (ap reading (same_part bundle a b x y)) unread read
 
-same_reading : (a b : Result (Network × CertValue) CertError) (x y : Network × CertValue) → a ≡ b → a ≡ Ok x → b ≡ Ok y → x ≡ y
+same_reading : (a b : Result (Network × CertValue) CertError) (x y : Network × CertValue) → a ≡ b → a ≡ Ok x → b ≡ Ok y
+    → x ≡ y
 same_reading a b x y same p q = cc
 
 -- one text has one verdict
-judged_alike : (bundle a b : List ℕ) (n m : Nest) (network other : Network) (cert another : CertValue) → certificate_part bundle ≡ Some a → certificate_part bundle ≡ Some b
+judged_alike : (bundle a b : List ℕ) (n m : Nest) (network other : Network) (cert another : CertValue)
+    → certificate_part bundle ≡ Some a → certificate_part bundle ≡ Some b
     → Alike (Ok n) (Ok m) → reading a ≡ Ok (network, cert) → reading b ≡ Ok (other, another)
-    → (verdict_reply (verdict_of (first n network cert))).status ≡ (verdict_reply (verdict_of (first m other another))).status
+    → (verdict_reply (verdict_of (first n network cert))).status
+    ≡ (verdict_reply (verdict_of (first m other another))).status
 judged_alike bundle a b n m network other cert another x y same p q =
-    let pairs : (network, cert) ≡ (other, another) = same_reading (reading a) (reading b) (network, cert) (other, another) (ap reading (same_part bundle a b x y)) p q in
+    let pairs : (network, cert) ≡ (other, another) =
+    same_reading (reading a) (reading b) (network, cert) (other, another) (ap reading (same_part bundle a b x y)) p q in
     ap (λ (found : Option NetRefusal). (verdict_reply (verdict_of found)).status)
     (first_alike n m same.0 same.1 same.2 network cert ∙ ap (λ (z : Network × CertValue). first m z.0 z.1) pairs)
 
-checks_alike : OneTree → (params : List (List ℕ × ℤ)) (bundle : List ℕ) {x y : Result Reply Refusal} → Checks params bundle x → Checks params bundle y → SameStatus x y
+checks_alike : OneTree → (params : List (List ℕ × ℤ)) (bundle : List ℕ) {x y : Result Reply Refusal}
+    → Checks params bundle x → Checks params bundle y → SameStatus x y
 checks_alike one params bundle (check.part_missing none) (check.part_missing other) = refl
-checks_alike one params bundle (check.part_missing none) (check.source_refused b s y h) = absurd (no_part_there bundle b none y)
-checks_alike one params bundle (check.part_missing none) (check.unread b m f u y h q v) = absurd (no_part_there bundle b none y)
-checks_alike one params bundle (check.part_missing none) (check.judged b m other another y h q) = absurd (no_part_there bundle b none y)
-checks_alike one params bundle (check.source_refused a r x g) (check.part_missing none) = absurd (no_part_there bundle a none x)
-checks_alike one params bundle (check.source_refused a r x g) (check.source_refused b s y h) = sized_alike one (source_part bundle) params g h
-checks_alike one params bundle (check.source_refused a r x g) (check.unread b m f u y h q v) = absurd (sized_alike one (source_part bundle) params g h)
-checks_alike one params bundle (check.source_refused a r x g) (check.judged b m other another y h q) = absurd (sized_alike one (source_part bundle) params g h)
-checks_alike one params bundle (check.unread a n e t x g p w) (check.part_missing none) = absurd (no_part_there bundle a none x)
-checks_alike one params bundle (check.unread a n e t x g p w) (check.source_refused b s y h) = absurd (sized_alike one (source_part bundle) params g h)
+checks_alike one params bundle (check.part_missing none) (check.source_refused b s y h) =
+    absurd (no_part_there bundle b none y)
+checks_alike one params bundle (check.part_missing none) (check.unread b m f u y h q v) =
+    absurd (no_part_there bundle b none y)
+checks_alike one params bundle (check.part_missing none) (check.judged b m other another y h q) =
+    absurd (no_part_there bundle b none y)
+checks_alike one params bundle (check.source_refused a r x g) (check.part_missing none) =
+    absurd (no_part_there bundle a none x)
+checks_alike one params bundle (check.source_refused a r x g) (check.source_refused b s y h) =
+    sized_alike one (source_part bundle) params g h
+checks_alike one params bundle (check.source_refused a r x g) (check.unread b m f u y h q v) =
+    absurd (sized_alike one (source_part bundle) params g h)
+checks_alike one params bundle (check.source_refused a r x g) (check.judged b m other another y h q) =
+    absurd (sized_alike one (source_part bundle) params g h)
+checks_alike one params bundle (check.unread a n e t x g p w) (check.part_missing none) =
+    absurd (no_part_there bundle a none x)
+checks_alike one params bundle (check.unread a n e t x g p w) (check.source_refused b s y h) =
+    absurd (sized_alike one (source_part bundle) params g h)
 checks_alike one params bundle (check.unread a n e t x g p w) (check.unread b m f u y h q v) = refl
-checks_alike one params bundle (check.unread a n e t x g p w) (check.judged b m other another y h q) = absurd (read_and_unread bundle a b e other another x y p q)
-checks_alike one params bundle (check.judged a n network cert x g p) (check.part_missing none) = absurd (no_part_there bundle a none x)
-checks_alike one params bundle (check.judged a n network cert x g p) (check.source_refused b s y h) = absurd (sized_alike one (source_part bundle) params g h)
-checks_alike one params bundle (check.judged a n network cert x g p) (check.unread b m f u y h q v) = absurd (read_and_unread bundle b a f network cert y x q p)
+checks_alike one params bundle (check.unread a n e t x g p w) (check.judged b m other another y h q) =
+    absurd (read_and_unread bundle a b e other another x y p q)
+checks_alike one params bundle (check.judged a n network cert x g p) (check.part_missing none) =
+    absurd (no_part_there bundle a none x)
+checks_alike one params bundle (check.judged a n network cert x g p) (check.source_refused b s y h) =
+    absurd (sized_alike one (source_part bundle) params g h)
+checks_alike one params bundle (check.judged a n network cert x g p) (check.unread b m f u y h q v) =
+    absurd (read_and_unread bundle b a f network cert y x q p)
 checks_alike one params bundle (check.judged a n network cert x g p) (check.judged b m other another y h q) =
     judged_alike bundle a b n m network other cert another x y (sized_alike one (source_part bundle) params g h) p q
 
@@ -319,21 +389,29 @@ no_both_lengths : (a b : Option NodeAuto) (auto : NodeAuto) → a ≡ b → a �
 no_both_lengths a b auto same x y = cc
 
 -- the scripts of one nest's network aren't both too long and short enough
-long_and_short : (policy : Policy) (n m : Nest) (auto : NodeAuto) → Alike (Ok n) (Ok m) → first_too_long (planned_automata policy n) ≡ Some auto
+long_and_short : (policy : Policy) (n m : Nest) (auto : NodeAuto) → Alike (Ok n) (Ok m)
+    → first_too_long (planned_automata policy n) ≡ Some auto
     → first_too_long (planned_automata policy m) ≡ None → ⊥
 long_and_short policy n m auto same x y =
     no_both_lengths (first_too_long (planned_automata policy n)) (first_too_long (planned_automata policy m)) auto
     (ap first_too_long (automata_alike n m same.0 same.1 same.2 policy)) x y
 
-describes_alike : OneTree → (policy : Policy) (params : List (List ℕ × ℤ)) (bundle : List ℕ) {x y : Result Reply Refusal} → Describes policy params bundle x → Describes policy params bundle y → SameStatus x y
-describes_alike one policy params bundle (describe.source_refused r g) (describe.source_refused s h) = sized_alike one (source_part bundle) params g h
-describes_alike one policy params bundle (describe.source_refused r g) (describe.script_refused m a h l) = absurd (sized_alike one (source_part bundle) params g h)
-describes_alike one policy params bundle (describe.source_refused r g) (describe.described m h l) = absurd (sized_alike one (source_part bundle) params g h)
-describes_alike one policy params bundle (describe.script_refused n a g k) (describe.source_refused s h) = absurd (sized_alike one (source_part bundle) params g h)
+describes_alike : OneTree
+    → (policy : Policy) (params : List (List ℕ × ℤ)) (bundle : List ℕ) {x y : Result Reply Refusal}
+    → Describes policy params bundle x → Describes policy params bundle y → SameStatus x y
+describes_alike one policy params bundle (describe.source_refused r g) (describe.source_refused s h) =
+    sized_alike one (source_part bundle) params g h
+describes_alike one policy params bundle (describe.source_refused r g) (describe.script_refused m a h l) =
+    absurd (sized_alike one (source_part bundle) params g h)
+describes_alike one policy params bundle (describe.source_refused r g) (describe.described m h l) =
+    absurd (sized_alike one (source_part bundle) params g h)
+describes_alike one policy params bundle (describe.script_refused n a g k) (describe.source_refused s h) =
+    absurd (sized_alike one (source_part bundle) params g h)
 describes_alike one policy params bundle (describe.script_refused n a g k) (describe.script_refused m b h l) = refl
 describes_alike one policy params bundle (describe.script_refused n a g k) (describe.described m h l) =
     absurd (long_and_short policy n m a (sized_alike one (source_part bundle) params g h) k l)
-describes_alike one policy params bundle (describe.described n g k) (describe.source_refused s h) = absurd (sized_alike one (source_part bundle) params g h)
+describes_alike one policy params bundle (describe.described n g k) (describe.source_refused s h) =
+    absurd (sized_alike one (source_part bundle) params g h)
 describes_alike one policy params bundle (describe.described n g k) (describe.script_refused m b h l) =
     absurd (long_and_short policy m n b (sized_alike one (source_part bundle) params h g) l k)
 describes_alike one policy params bundle (describe.described n g k) (describe.described m h l) = refl
@@ -341,14 +419,17 @@ describes_alike one policy params bundle (describe.described n g k) (describe.de
 -- the product of matrices with so many rows is one nest
 matrix_alike : OneTree → (rows : ℕ) (n m : Nest) → IsMatrixNest rows n → IsMatrixNest rows m → Alike (Ok n) (Ok m)
 matrix_alike one rows n m a b =
-    gives_alike one matrix_product (size_given rows) (bound a.found a.tree n a.has_tokens a.has_tree a.is_bound) (bound b.found b.tree m b.has_tokens b.has_tree b.is_bound)
+    gives_alike one matrix_product (size_given rows) (bound a.found a.tree n a.has_tokens a.has_tree a.is_bound)
+    (bound b.found b.tree m b.has_tokens b.has_tree b.is_bound)
 
-loads_alike : OneTree → (policy : Policy) (rows : ℕ) {x y : Result Reply Refusal} → Loads policy rows x → Loads policy rows y → SameStatus x y
+loads_alike : OneTree → (policy : Policy) (rows : ℕ) {x y : Result Reply Refusal} → Loads policy rows x
+    → Loads policy rows y → SameStatus x y
 loads_alike one policy rows (load.too_large a) (load.too_large b) = refl
 loads_alike one policy rows (load.too_large a) (load.size_refused m f b h d) = absurd (omega (arith, a, b))
 loads_alike one policy rows (load.too_large a) (load.summed m u j b h d i) = absurd (omega (arith, a, b))
 loads_alike one policy rows (load.size_refused n e a g c) (load.too_large b) = absurd (omega (arith, a, b))
-loads_alike one policy rows (load.size_refused n e a g c) (load.size_refused m f b h d) = size_status e ∙ sym (size_status f)
+loads_alike one policy rows (load.size_refused n e a g c) (load.size_refused m f b h d) =
+    size_status e ∙ sym (size_status f)
 loads_alike one policy rows (load.size_refused n e a g c) (load.summed m u j b h d i) =
     absurd (no_both_sizes n m e u (matrix_alike one rows n m g h).2 c d)
 loads_alike one policy rows (load.summed n t k a g c i) (load.too_large b) = absurd (omega (arith, a, b))
@@ -360,8 +441,10 @@ performs_alike : OneTree → (command : Command) (order : Order) (bundle : List 
     → Performs command order bundle x → Performs command order bundle y → SameStatus x y
 performs_alike one Run order bundle x y made other = runs_alike one order.params bundle made other
 performs_alike one Seq order bundle x y made other = runs_alike one order.params bundle made other
-performs_alike one Net order bundle x y made other = prints_alike one (network_text order.policy) order.params bundle made other
-performs_alike one Cert order bundle x y made other = prints_alike one (certificate_text order.policy) order.params bundle made other
+performs_alike one Net order bundle x y made other =
+    prints_alike one (network_text order.policy) order.params bundle made other
+performs_alike one Cert order bundle x y made other =
+    prints_alike one (certificate_text order.policy) order.params bundle made other
 performs_alike one Check order bundle x y made other = checks_alike one order.params bundle made other
 performs_alike one Vhdl order bundle x y made other = describes_alike one order.policy order.params bundle made other
 performs_alike one Load order bundle x y made other = loads_alike one order.policy order.load made other
@@ -369,15 +452,18 @@ performs_alike one Load order bundle x y made other = loads_alike one order.poli
 pub no_order : (wanted : Option Order) (order : Order) → wanted ≡ None → wanted ≡ Some order → ⊥
 no_order wanted order x y = cc
 
-pub outcomes_alike : OneTree → (wanted : Option Order) (bundle : List ℕ) {a b : Outcome} → IsOutcome wanted bundle a → IsOutcome wanted bundle b → a.status ≡ b.status
+pub outcomes_alike : OneTree → (wanted : Option Order) (bundle : List ℕ) {a b : Outcome} → IsOutcome wanted bundle a
+    → IsOutcome wanted bundle b → a.status ≡ b.status
 outcomes_alike one wanted bundle (words_refused x) (words_refused y) = refl
 outcomes_alike one wanted bundle (words_refused x) (bundle_refused o y reads long) = absurd (no_order wanted o x y)
 outcomes_alike one wanted bundle (words_refused x) (performed o answer y within made) = absurd (no_order wanted o x y)
 outcomes_alike one wanted bundle (bundle_refused o x reads long) (words_refused y) = absurd (no_order wanted o y x)
 outcomes_alike one wanted bundle (bundle_refused o x reads long) (bundle_refused p y others other) = refl
-outcomes_alike one wanted bundle (bundle_refused o x reads long) (performed p answer y within made) = absurd (omega arith)
+outcomes_alike one wanted bundle (bundle_refused o x reads long) (performed p answer y within made) =
+    absurd (omega arith)
 outcomes_alike one wanted bundle (performed o answer x within made) (words_refused y) = absurd (no_order wanted o y x)
-outcomes_alike one wanted bundle (performed o answer x within made) (bundle_refused p y reads long) = absurd (omega arith)
+outcomes_alike one wanted bundle (performed o answer x within made) (bundle_refused p y reads long) =
+    absurd (omega arith)
 outcomes_alike one wanted bundle (performed o answer x within made) (performed p answer' y within' made') =
     performs_alike one o.command o bundle answer answer' made
     (subst (λ (q : Order). Performs q.command q bundle answer') (same_value p o (sym y ∙ x)) made')
@@ -388,38 +474,51 @@ verdict_done : (found : Option NetRefusal) → IsDone source_and_certificate (ve
 verdict_done None = inl refl
 verdict_done (Some refusal) = inr refl
 
-checks_done : OneTree → (params : List (List ℕ × ℤ)) (bundle : List ℕ) (n : Nest) (part : List ℕ) → GivesWithinSize (source_part bundle) params (Ok n)
-    → certificate_part bundle ≡ Some part → {x : Result Reply Refusal} → Checks params bundle x → IsDone source_and_certificate (outcome_of x).status
-checks_done one params bundle n part gives there (check.part_missing none) = absurd (no_part_there bundle part none there)
-checks_done one params bundle n part gives there (check.source_refused other r others g) = absurd (sized_alike one (source_part bundle) params gives g)
+checks_done : OneTree → (params : List (List ℕ × ℤ)) (bundle : List ℕ) (n : Nest) (part : List ℕ)
+    → GivesWithinSize (source_part bundle) params (Ok n)
+    → certificate_part bundle ≡ Some part → {x : Result Reply Refusal} → Checks params bundle x
+    → IsDone source_and_certificate (outcome_of x).status
+checks_done one params bundle n part gives there (check.part_missing none) =
+    absurd (no_part_there bundle part none there)
+checks_done one params bundle n part gives there (check.source_refused other r others g) =
+    absurd (sized_alike one (source_part bundle) params gives g)
 checks_done one params bundle n part gives there (check.unread other m e text others g read told) = inr refl
-checks_done one params bundle n part gives there (check.judged other m network cert others g read) = verdict_done (first m network cert)
+checks_done one params bundle n part gives there (check.judged other m network cert others g read) =
+    verdict_done (first m network cert)
 
-loads_done : OneTree → (policy : Policy) (rows : ℕ) (n : Nest) (total : ℕ) → rows ≤ load_limit → IsMatrixNest rows n → counted n ≡ Ok total
+loads_done : OneTree → (policy : Policy) (rows : ℕ) (n : Nest) (total : ℕ) → rows ≤ load_limit → IsMatrixNest rows n
+    → counted n ≡ Ok total
     → {x : Result Reply Refusal} → Loads policy rows x → (outcome_of x).status ≡ 0
 loads_done one policy rows n total within is counts (load.too_large a) = absurd (omega (arith, a, within))
 loads_done one policy rows n total within is counts (load.size_refused m e a g c) =
     absurd (no_both_sizes m n e total (matrix_alike one rows m n g is).2 c counts)
 loads_done one policy rows n total within is counts (load.summed m t k a g c i) = refl
 
-performs_done : OneTree → (command : Command) (order : Order) (bundle : List ℕ) → (n : Nest) (total : ℕ) (inputs : Inputs)
-    → IsNestFor (reads_of command) order bundle n → counted n ≡ Ok total → IsWithinOwnLimit command order.policy n → HasParts (reads_of command) n bundle inputs
+performs_done : OneTree → (command : Command) (order : Order) (bundle : List ℕ)
+    → (n : Nest) (total : ℕ) (inputs : Inputs)
+    → IsNestFor (reads_of command) order bundle n → counted n ≡ Ok total → IsWithinOwnLimit command order.policy n
+    → HasParts (reads_of command) n bundle inputs
     → (x : Result Reply Refusal) → Performs command order bundle x → IsDone (reads_of command) (outcome_of x).status
 performs_done one Run order bundle n total inputs gives counts limited has x made =
     runs_alike one order.params bundle made (answered n inputs (sized.within_size n total gives counts) has)
 performs_done one Seq order bundle n total inputs gives counts limited has x made =
     runs_alike one order.params bundle made (answered n inputs (sized.within_size n total gives counts) has)
 performs_done one Net order bundle n total inputs gives counts limited has x made =
-    prints_alike one (network_text order.policy) order.params bundle made (print.printed n (sized.within_size n total gives counts))
+    prints_alike one (network_text order.policy) order.params bundle made
+    (print.printed n (sized.within_size n total gives counts))
 performs_done one Cert order bundle n total inputs gives counts limited has x made =
-    prints_alike one (certificate_text order.policy) order.params bundle made (print.printed n (sized.within_size n total gives counts))
+    prints_alike one (certificate_text order.policy) order.params bundle made
+    (print.printed n (sized.within_size n total gives counts))
 performs_done one Check order bundle n total inputs gives counts limited has x made =
     checks_done one order.params bundle n has.0 (sized.within_size n total gives counts) has.1 made
 performs_done one Vhdl order bundle n total inputs gives counts limited has x made =
-    describes_alike one order.policy order.params bundle made (describe.described n (sized.within_size n total gives counts) limited)
-performs_done one Load order bundle n total inputs gives counts limited has x made = loads_done one order.policy order.load n total gives.0 gives.1 counts made
+    describes_alike one order.policy order.params bundle made
+    (describe.described n (sized.within_size n total gives counts) limited)
+performs_done one Load order bundle n total inputs gives counts limited has x made =
+    loads_done one order.policy order.load n total gives.0 gives.1 counts made
 
-pub outcomes_succeed : OneTree → (wanted : Option Order) (bundle : List ℕ) (v : IsValid wanted bundle) → {a : Outcome} → IsOutcome wanted bundle a
+pub outcomes_succeed : OneTree → (wanted : Option Order) (bundle : List ℕ) (v : IsValid wanted bundle) → {a : Outcome}
+    → IsOutcome wanted bundle a
     → IsDone (reads_of v.order.command) a.status
 outcomes_succeed one wanted bundle v (words_refused x) = absurd (no_order wanted v.order x v.ordered)
 outcomes_succeed one wanted bundle v (bundle_refused o x reads long) = absurd (omega (arith, v.within))

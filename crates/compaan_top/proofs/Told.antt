@@ -20,14 +20,16 @@ no_bytes : (all : List ℕ) → ◌≡◌ {A = Option (List ℕ)} None (Some all
 no_bytes all is = cc
 
 -- what was read to the end is all
-all_read : (old new : Option (List ℕ)) (read all : List ℕ) → Consumes old new read → IsAtEnd new → old ≡ Some all → read ≡ all
+all_read : (old new : Option (List ℕ)) (read all : List ℕ) → Consumes old new read → IsAtEnd new → old ≡ Some all
+    → read ≡ all
 all_read None new read all taken end is = absurd (no_bytes all is)
 all_read (Some x) None read all taken end is = absurd taken
 all_read (Some x) (Some y) read all taken end is =
     sym (append-nil read) ∙ ap (λ l. read ++ l) (sym end) ∙ sym taken ∙ same_value x all is
 
 -- what was read is no longer than all
-no_more_read : (old new : Option (List ℕ)) (read all : List ℕ) → Consumes old new read → old ≡ Some all → length read ≤ length all
+no_more_read : (old new : Option (List ℕ)) (read all : List ℕ) → Consumes old new read → old ≡ Some all
+    → length read ≤ length all
 no_more_read None new read all taken is = absurd (no_bytes all is)
 no_more_read (Some x) None read all taken is = absurd taken
 no_more_read (Some x) (Some y) read all taken is =
@@ -44,20 +46,25 @@ bundle_alike input read all reads is =
       | inr within ↦ inl (all_read input.old input.new read all reads.taken (reads.to_end within) is)
     ]
 
-read_alike : (reads : Reads) (input : Change) (read all : List ℕ) → ReadsFor reads input read → IsTold reads input.old all → AreAlike read all
+read_alike : (reads : Reads) (input : Change) (read all : List ℕ) → ReadsFor reads input read
+    → IsTold reads input.old all → AreAlike read all
 read_alike source_alone input read all gave is = bundle_alike input read all gave is
 read_alike source_and_data input read all gave is = bundle_alike input read all gave is
 read_alike source_and_certificate input read all gave is = bundle_alike input read all gave is
 read_alike nothing input read all gave is = inl (gave.1 ∙ sym is)
 
 -- too long a bundle is refused whatever it holds
-long_outcome : (wanted : Option Order) (read all : List ℕ) {outcome : Outcome} → bundle_limit < length read → bundle_limit < length all
+long_outcome : (wanted : Option Order) (read all : List ℕ) {outcome : Outcome} → bundle_limit < length read
+    → bundle_limit < length all
     → IsOutcome wanted read outcome → IsOutcome wanted all outcome
 long_outcome wanted read all long longer (words_refused none) = words_refused none
-long_outcome wanted read all long longer (bundle_refused order ordered some other) = bundle_refused order ordered some longer
-long_outcome wanted read all long longer (performed order answer ordered within made) = absurd (omega (arith, long, within))
+long_outcome wanted read all long longer (bundle_refused order ordered some other) =
+    bundle_refused order ordered some longer
+long_outcome wanted read all long longer (performed order answer ordered within made) =
+    absurd (omega (arith, long, within))
 
-same_outcome : (wanted : Option Order) (input : Change) (read all : List ℕ) (outcome : Outcome) → IsRead wanted input read → IsTold (read_by wanted) input.old all
+same_outcome : (wanted : Option Order) (input : Change) (read all : List ℕ) (outcome : Outcome)
+    → IsRead wanted input read → IsTold (read_by wanted) input.old all
     → IsOutcome wanted read outcome → IsOutcome wanted all outcome
 same_outcome wanted input read all outcome gave told is =
     elim (read_alike (read_by wanted) input read all gave told) [
@@ -65,21 +72,28 @@ same_outcome wanted input read all outcome gave told is =
       | inr long ↦ long_outcome wanted read all long.0 long.1 is
     ]
 
-pub comes_to : (wanted : Option Order) (input output complaint : Change) (bundle : List ℕ) {status : ℕ} → Ends wanted input output complaint status
+pub comes_to : (wanted : Option Order) (input output complaint : Change) (bundle : List ℕ) {status : ℕ}
+    → Ends wanted input output complaint status
     → IsTold (read_by wanted) input.old bundle → IsAnswered status → ComesTo wanted bundle output complaint status
 comes_to wanted input output complaint bundle (no_memory quiet taken writes) told answered = absurd (answered.2 refl)
-comes_to wanted input output complaint bundle (read_fault order ordered some fault taken writes) told answered = absurd (answered.0 refl)
+comes_to wanted input output complaint bundle (read_fault order ordered some fault taken writes) told answered =
+    absurd (answered.0 refl)
 comes_to wanted input output complaint bundle (written read outcome quiet gave is writes) told answered =
     record { outcome = outcome; is = same_outcome wanted input read bundle outcome gave told is; has_status = refl; writes = writes }
-comes_to wanted input output complaint bundle (cut_short read outcome quiet gave is writes) told answered = absurd (answered.1 refl)
+comes_to wanted input output complaint bundle (cut_short read outcome quiet gave is writes) told answered =
+    absurd (answered.1 refl)
 
 -- where nothing is refused the command is done
-pub comes_done : ((wanted : Option Order) (bundle : List ℕ) → Succeeds wanted bundle) → (wanted : Option Order) (output complaint : Change) (bundle : List ℕ) (status : ℕ)
-    → (valid : IsValid wanted bundle) → ComesTo wanted bundle output complaint status → IsDone (reads_of valid.order.command) status
+pub comes_done : ((wanted : Option Order) (bundle : List ℕ) → Succeeds wanted bundle)
+    → (wanted : Option Order) (output complaint : Change) (bundle : List ℕ) (status : ℕ)
+    → (valid : IsValid wanted bundle) → ComesTo wanted bundle output complaint status
+    → IsDone (reads_of valid.order.command) status
 comes_done succeeds wanted output complaint bundle status valid comes =
-    subst (IsDone (reads_of valid.order.command)) (sym comes.has_status) (succeeds wanted bundle valid comes.outcome comes.is)
+    subst (IsDone (reads_of valid.order.command)) (sym comes.has_status)
+    (succeeds wanted bundle valid comes.outcome comes.is)
 
-pub says_accepted : (wanted : Option Order) (output complaint : Change) (bundle : List ℕ) (status : ℕ) (comes : ComesTo wanted bundle output complaint status)
+pub says_accepted : (wanted : Option Order) (output complaint : Change) (bundle : List ℕ) (status : ℕ)
+    (comes : ComesTo wanted bundle output complaint status)
     → comes.outcome ≡ accepted → SaysAccepted output status
 says_accepted wanted output complaint bundle status comes same =
     (comes.has_status ∙ ap (λ (o : Outcome). o.status) same, subst (λ (o : Outcome). Appends output.old output.new o.output) same comes.writes.written)
@@ -88,30 +102,39 @@ two_is_not_zero : ◌≡◌ {A = ℕ} 2 0 → ⊥
 two_is_not_zero is = cc
 
 -- a bundle with status 0 is within the limit
-zero_within : (wanted : Option Order) (bundle : List ℕ) {outcome : Outcome} → IsOutcome wanted bundle outcome → outcome.status ≡ 0 → length bundle ≤ bundle_limit
+zero_within : (wanted : Option Order) (bundle : List ℕ) {outcome : Outcome} → IsOutcome wanted bundle outcome
+    → outcome.status ≡ 0 → length bundle ≤ bundle_limit
 zero_within wanted bundle (words_refused none) zero = absurd (two_is_not_zero zero)
 zero_within wanted bundle (bundle_refused order ordered some long) zero = absurd (five_is_not_zero zero)
 zero_within wanted bundle (performed order answer ordered within made) zero = within
 
-accepted_exactly : VouchesFor → WhatFitsIsSound → ((wanted : Option Order) (bundle : List ℕ) → AcceptsWhatFits wanted bundle)
-    → (wanted : Option Order) (output complaint : Change) (bundle : List ℕ) (order : Order) (status : ℕ) → wanted ≡ Some order → order.command ≡ Check
+accepted_exactly : VouchesFor → WhatFitsIsSound
+    → ((wanted : Option Order) (bundle : List ℕ) → AcceptsWhatFits wanted bundle)
+    → (wanted : Option Order) (output complaint : Change) (bundle : List ℕ) (order : Order) (status : ℕ)
+    → wanted ≡ Some order → order.command ≡ Check
     → ComesTo wanted bundle output complaint status → SaysAccepted output status ↔ IsAcceptable order.params bundle
 accepted_exactly vouches sound accepts wanted output complaint bundle order status ordered is comes = (
   λ says. let zero : comes.outcome.status ≡ 0 = sym comes.has_status ∙ says.0 in
       (zero_within wanted bundle comes.is zero, with_sound sound order.params bundle (outcome_vouched vouches wanted bundle order ordered is comes.is zero)),
-  λ has. says_accepted wanted output complaint bundle status comes ((accepts wanted bundle order ordered is has.0 comes.outcome comes.is).1 has.1.fitting),
+  λ has. says_accepted wanted output complaint bundle status comes
+      ((accepts wanted bundle order ordered is has.0 comes.outcome comes.is).1 has.1.fitting),
 )
 
 -- what `check` reads is told
-pub check_told : (order : Order) (left : Option (List ℕ)) (bundle : List ℕ) → order.command ≡ Check → left ≡ Some bundle → IsTold (reads_of order.command) left bundle
+pub check_told : (order : Order) (left : Option (List ℕ)) (bundle : List ℕ) → order.command ≡ Check → left ≡ Some bundle
+    → IsTold (reads_of order.command) left bundle
 check_told order left bundle is told = subst (λ (c : Command). IsTold (reads_of c) left bundle) (sym is) told
 
 -- so does a call to `check`
-pub call_accepted : VouchesFor → WhatFitsIsSound → ((wanted : Option Order) (bundle : List ℕ) → AcceptsWhatFits wanted bundle)
+pub call_accepted : VouchesFor → WhatFitsIsSound
+    → ((wanted : Option Order) (bundle : List ℕ) → AcceptsWhatFits wanted bundle)
     → (wanted : Option Order) (input output complaint : Change) (status : ℕ) → Ends wanted input output complaint status
-    → (order : Order) → wanted ≡ Some order → order.command ≡ Check → (bundle : List ℕ) → input.old ≡ Some bundle → IsAnswered status
+    → (order : Order) → wanted ≡ Some order → order.command ≡ Check → (bundle : List ℕ) → input.old ≡ Some bundle
+    → IsAnswered status
     → SaysAccepted output status ↔ IsAcceptable order.params bundle
 call_accepted vouches sound accepts wanted input output complaint status ends order ordered is bundle told answered =
     let whole : IsTold (read_by wanted) input.old bundle =
-    subst (λ (w : Option Order). IsTold (read_by w) input.old bundle) (sym ordered) (check_told order input.old bundle is told) in
-    accepted_exactly vouches sound accepts wanted output complaint bundle order status ordered is (comes_to wanted input output complaint bundle ends whole answered)
+    subst (λ (w : Option Order). IsTold (read_by w) input.old bundle) (sym ordered)
+    (check_told order input.old bundle is told) in
+    accepted_exactly vouches sound accepts wanted output complaint bundle order status ordered is
+    (comes_to wanted input output complaint bundle ends whole answered)

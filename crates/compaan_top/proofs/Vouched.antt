@@ -32,7 +32,9 @@ abbrev pub WhatFitsIsSound : Type 0
 WhatFitsIsSound = (n : Nest) (network : Network) (cert : Cert) → Fits n network cert → IsSound n network
 
 abbrev pub ReadsItsText : Type 0
-ReadsItsText = (bytes : List ℕ) (network : Network) (cert : Cert) → reading bytes ≡ Ok (network, cert) → (bytes ≡ cert_text network cert) × AreInRange network cert
+ReadsItsText =
+    (bytes : List ℕ) (network : Network) (cert : Cert) → reading bytes ≡ Ok (network, cert)
+    → (bytes ≡ cert_text network cert) × AreInRange network cert
 
 -- a verdict with status 0 is that nothing is wrong
 nothing_wrong : (found : Option NetRefusal) → (verdict_reply (verdict_of found)).status ≡ 0 → found ≡ None
@@ -40,7 +42,9 @@ nothing_wrong None is = refl
 nothing_wrong (Some refusal) is = cc
 
 abbrev pub VouchesFor : Type 0
-VouchesFor = (params : List (List ℕ × ℤ)) (bundle : List ℕ) (answer : Result Reply Refusal) → Checks params bundle answer → (outcome_of answer).status ≡ 0 → HasFittingCertificate params bundle
+VouchesFor =
+    (params : List (List ℕ × ℤ)) (bundle : List ℕ) (answer : Result Reply Refusal) → Checks params bundle answer
+    → (outcome_of answer).status ≡ 0 → HasFittingCertificate params bundle
 
 one_is_not_zero : ◌≡◌ {A = ℕ} 1 0 → ⊥
 one_is_not_zero is = cc
@@ -71,12 +75,14 @@ not_zero status (inl six) is = six_is_not_zero (sym six ∙ is)
 not_zero status (inr (inl seven)) is = seven_is_not_zero (sym seven ∙ is)
 not_zero status (inr (inr eight)) is = eight_is_not_zero (sym eight ∙ is)
 
-pub checks_vouched : NothingWrongFits → ReadsItsText → (params : List (List ℕ × ℤ)) (bundle : List ℕ) {answer : Result Reply Refusal}
+pub checks_vouched : NothingWrongFits → ReadsItsText
+    → (params : List (List ℕ × ℤ)) (bundle : List ℕ) {answer : Result Reply Refusal}
     → Checks params bundle answer → (outcome_of answer).status ≡ 0 → HasFittingCertificate params bundle
 checks_vouched fitting reads params bundle (part_missing none) is = absurd (five_is_not_zero is)
 checks_vouched fitting reads params bundle (source_refused part refusal there gives) is =
     absurd (not_zero (refusal_status refusal) (sized_refused (source_part bundle) params gives) is)
-checks_vouched fitting reads params bundle (unread part nest error text there gives read told) is = absurd (one_is_not_zero is)
+checks_vouched fitting reads params bundle (unread part nest error text there gives read told) is =
+    absurd (one_is_not_zero is)
 checks_vouched fitting reads params bundle (judged part nest network cert there gives read) is =
     let is_text = reads part network cert read in
     record {
@@ -92,44 +98,61 @@ checks_vouched fitting reads params bundle (judged part nest network cert there 
 pub same_order : (wanted : Option Order) (a b : Order) → wanted ≡ Some a → wanted ≡ Some b → a ≡ b
 same_order wanted a b x y = cc
 
-performs_vouched : VouchesFor → (order : Order) (bundle : List ℕ) (answer : Result Reply Refusal) → order.command ≡ Check
-    → Performs order.command order bundle answer → (outcome_of answer).status ≡ 0 → HasFittingCertificate order.params bundle
+performs_vouched : VouchesFor → (order : Order) (bundle : List ℕ) (answer : Result Reply Refusal)
+    → order.command ≡ Check
+    → Performs order.command order bundle answer → (outcome_of answer).status ≡ 0
+    → HasFittingCertificate order.params bundle
 performs_vouched vouches order bundle answer is made zero =
     vouches order.params bundle answer (subst (λ (c : Command). Performs c order bundle answer) is made) zero
 
-pub outcome_vouched : VouchesFor → (wanted : Option Order) (bundle : List ℕ) (order : Order) {outcome : Outcome} → wanted ≡ Some order → order.command ≡ Check
+pub outcome_vouched : VouchesFor → (wanted : Option Order) (bundle : List ℕ) (order : Order) {outcome : Outcome}
+    → wanted ≡ Some order → order.command ≡ Check
     → IsOutcome wanted bundle outcome → outcome.status ≡ 0 → HasFittingCertificate order.params bundle
-outcome_vouched vouches wanted bundle order ordered is (words_refused none) zero = absurd (no_order wanted order none ordered)
-outcome_vouched vouches wanted bundle order ordered is (bundle_refused other others some long) zero = absurd (five_is_not_zero zero)
+outcome_vouched vouches wanted bundle order ordered is (words_refused none) zero =
+    absurd (no_order wanted order none ordered)
+outcome_vouched vouches wanted bundle order ordered is (bundle_refused other others some long) zero =
+    absurd (five_is_not_zero zero)
 outcome_vouched vouches wanted bundle order ordered is (performed other answer others within made) zero =
     let same : other ≡ order = same_order wanted other order others ordered in
     performs_vouched vouches order bundle answer is
     (subst (λ (o : Order). Performs o.command o bundle answer) same made) zero
 
-reads_to : (wanted : Option Order) (input : Change) (bundle : List ℕ) (order : Order) → wanted ≡ Some order → order.command ≡ Check → IsRead wanted input bundle → ReadsTo input bundle
+reads_to : (wanted : Option Order) (input : Change) (bundle : List ℕ) (order : Order) → wanted ≡ Some order
+    → order.command ≡ Check → IsRead wanted input bundle → ReadsTo input bundle
 reads_to wanted input bundle order ordered is reads =
-    subst (λ (c : Command). ReadsFor (reads_of c) input bundle) is (subst (λ (o : Option Order). IsRead o input bundle) ordered reads)
+    subst (λ (c : Command). ReadsFor (reads_of c) input bundle) is
+    (subst (λ (o : Option Order). IsRead o input bundle) ordered reads)
 
 -- what has a fitting certificate has a sound one
-pub with_sound : WhatFitsIsSound → (params : List (List ℕ × ℤ)) (bundle : List ℕ) → HasFittingCertificate params bundle → HasSoundCertificate params bundle
+pub with_sound : WhatFitsIsSound → (params : List (List ℕ × ℤ)) (bundle : List ℕ) → HasFittingCertificate params bundle
+    → HasSoundCertificate params bundle
 with_sound sound params bundle v = record { fitting = v; sound = sound v.nest v.network v.cert v.fits }
 
 -- a call with status 0 whose words order `check` read a bundle with a sound certificate
-pub ends_vouched : VouchesFor → WhatFitsIsSound → (wanted : Option Order) (input output complaint : Change) (order : Order) {status : ℕ} → Ends wanted input output complaint status
-    → wanted ≡ Some order → order.command ≡ Check → status ≡ 0 → (bundle : List ℕ) × ReadsTo input bundle × HasSoundCertificate order.params bundle
-ends_vouched vouches sound wanted input output complaint order (no_memory quiet taken writes) ordered is zero = absurd (ten_is_not_zero zero)
-ends_vouched vouches sound wanted input output complaint order (read_fault other others some fault taken writes) ordered is zero = absurd (three_is_not_zero zero)
-ends_vouched vouches sound wanted input output complaint order (written bundle outcome quiet reads outcome_is all) ordered is zero =
+pub ends_vouched : VouchesFor → WhatFitsIsSound
+    → (wanted : Option Order) (input output complaint : Change) (order : Order) {status : ℕ}
+    → Ends wanted input output complaint status
+    → wanted ≡ Some order → order.command ≡ Check → status ≡ 0
+    → (bundle : List ℕ) × ReadsTo input bundle × HasSoundCertificate order.params bundle
+ends_vouched vouches sound wanted input output complaint order (no_memory quiet taken writes) ordered is zero =
+    absurd (ten_is_not_zero zero)
+ends_vouched vouches sound wanted input output complaint order
+    (read_fault other others some fault taken writes) ordered is zero = absurd (three_is_not_zero zero)
+ends_vouched vouches sound wanted input output complaint order
+    (written bundle outcome quiet reads outcome_is all) ordered is zero =
     (bundle, reads_to wanted input bundle order ordered is reads, with_sound sound order.params bundle (outcome_vouched vouches wanted bundle order ordered is outcome_is zero))
-ends_vouched vouches sound wanted input output complaint order (cut_short bundle outcome quiet reads outcome_is front) ordered is zero = absurd (four_is_not_zero zero)
+ends_vouched vouches sound wanted input output complaint order
+    (cut_short bundle outcome quiet reads outcome_is front) ordered is zero = absurd (four_is_not_zero zero)
 
 -- The other way
 
 abbrev pub TextIsRead : Type 0
-TextIsRead = (network : Network) (cert : Cert) → AreInRange network cert → reading (cert_text network cert) ≡ Ok (network, cert)
+TextIsRead =
+    (network : Network) (cert : Cert) → AreInRange network cert → reading (cert_text network cert) ≡ Ok (network, cert)
 
 -- the part is read as the pair that it stands for
-part_read : TextIsRead → (params : List (List ℕ × ℤ)) (bundle part : List ℕ) (v : HasFittingCertificate params bundle) → certificate_part bundle ≡ Some part
+part_read : TextIsRead → (params : List (List ℕ × ℤ)) (bundle part : List ℕ) (v : HasFittingCertificate params bundle)
+    → certificate_part bundle ≡ Some part
     → reading part ≡ Ok (v.network, v.cert)
 part_read back params bundle part v there =
     ap reading (same_part bundle part (cert_text v.network v.cert) there v.text) ∙ back v.network v.cert v.in_range
@@ -141,27 +164,39 @@ same_pair : (a : Result (Network × Cert) CertError) (x y : Network × Cert) →
 same_pair a x y p q = cc
 
 -- nothing is wrong with a fitting pair
-none_wrong : NothingWrongFits → (n m : Nest) (network : Network) (cert : Cert) (pair : Network × Cert) → Alike (Ok n) (Ok m) → pair ≡ (network, cert) → Fits m network cert
+none_wrong : NothingWrongFits → (n m : Nest) (network : Network) (cert : Cert) (pair : Network × Cert)
+    → Alike (Ok n) (Ok m) → pair ≡ (network, cert) → Fits m network cert
     → first n pair.0 pair.1 ≡ None
 none_wrong fitting n m network cert pair same is fits =
-    ap (λ (z : Network × Cert). first n z.0 z.1) is ∙ first_alike n m same.0 same.1 same.2 network cert ∙ (fitting m network cert).1 fits
+    ap (λ (z : Network × Cert). first n z.0 z.1) is ∙ first_alike n m same.0 same.1 same.2 network cert
+    ∙ (fitting m network cert).1 fits
 
-checks_accepted : OneTree → NothingWrongFits → TextIsRead → (params : List (List ℕ × ℤ)) (bundle : List ℕ) (v : HasFittingCertificate params bundle) {answer : Result Reply Refusal}
+checks_accepted : OneTree → NothingWrongFits → TextIsRead
+    → (params : List (List ℕ × ℤ)) (bundle : List ℕ)
+    (v : HasFittingCertificate params bundle) {answer : Result Reply Refusal}
     → Checks params bundle answer → outcome_of answer ≡ accepted
-checks_accepted one fitting back params bundle v (part_missing none) = absurd (no_part_there bundle (cert_text v.network v.cert) none v.text)
-checks_accepted one fitting back params bundle v (source_refused part refusal there gives) = absurd (sized_alike one (source_part bundle) params gives v.gives)
+checks_accepted one fitting back params bundle v (part_missing none) =
+    absurd (no_part_there bundle (cert_text v.network v.cert) none v.text)
+checks_accepted one fitting back params bundle v (source_refused part refusal there gives) =
+    absurd (sized_alike one (source_part bundle) params gives v.gives)
 checks_accepted one fitting back params bundle v (unread part nest error text there gives read told) =
     absurd (no_error (reading part) error (v.network, v.cert) read (part_read back params bundle part v there))
 checks_accepted one fitting back params bundle v (judged part nest network cert there gives read) =
-    let pairs : (network, cert) ≡ (v.network, v.cert) = same_pair (reading part) (network, cert) (v.network, v.cert) read (part_read back params bundle part v there) in
+    let pairs : (network, cert) ≡ (v.network, v.cert) =
+    same_pair (reading part) (network, cert) (v.network, v.cert) read (part_read back params bundle part v there) in
     let none : first nest network cert ≡ None =
-    none_wrong fitting nest v.nest v.network v.cert (network, cert) (sized_alike one (source_part bundle) params gives v.gives) pairs v.fits in
+    none_wrong fitting nest v.nest v.network v.cert (network, cert)
+    (sized_alike one (source_part bundle) params gives v.gives) pairs v.fits in
     ap (λ (found : Option NetRefusal). outcome_of (Ok (verdict_reply (verdict_of found)))) none
 
-outcome_accepted : OneTree → NothingWrongFits → TextIsRead → (wanted : Option Order) (bundle : List ℕ) (order : Order) {outcome : Outcome} → wanted ≡ Some order
-    → order.command ≡ Check → length bundle ≤ bundle_limit → HasFittingCertificate order.params bundle → IsOutcome wanted bundle outcome → outcome ≡ accepted
-outcome_accepted one fitting back wanted bundle order ordered is within v (words_refused none) = absurd (no_order wanted order none ordered)
-outcome_accepted one fitting back wanted bundle order ordered is within v (bundle_refused other others some long) = absurd (omega (arith, within))
+outcome_accepted : OneTree → NothingWrongFits → TextIsRead
+    → (wanted : Option Order) (bundle : List ℕ) (order : Order) {outcome : Outcome} → wanted ≡ Some order
+    → order.command ≡ Check → length bundle ≤ bundle_limit → HasFittingCertificate order.params bundle
+    → IsOutcome wanted bundle outcome → outcome ≡ accepted
+outcome_accepted one fitting back wanted bundle order ordered is within v (words_refused none) =
+    absurd (no_order wanted order none ordered)
+outcome_accepted one fitting back wanted bundle order ordered is within v (bundle_refused other others some long) =
+    absurd (omega (arith, within))
 outcome_accepted one fitting back wanted bundle order ordered is within v (performed other answer others small made) =
     let same : other ≡ order = same_order wanted other order others ordered in
     checks_accepted one fitting back order.params bundle v
@@ -169,8 +204,12 @@ outcome_accepted one fitting back wanted bundle order ordered is within v (perfo
     (subst (λ (o : Order). Performs o.command o bundle answer) same made))
 
 -- words that order `check` come to `accepted` exactly where the bundle has a fitting certificate
-pub accepts_fitting : OneTree → NothingWrongFits → ReadsItsText → TextIsRead → (wanted : Option Order) (bundle : List ℕ) → AcceptsWhatFits wanted bundle
+pub accepts_fitting : OneTree → NothingWrongFits → ReadsItsText → TextIsRead → (wanted : Option Order) (bundle : List ℕ)
+    → AcceptsWhatFits wanted bundle
 accepts_fitting one fitting reads back wanted bundle order ordered is within outcome outcome_is = (
-  λ same. outcome_vouched (λ params b answer made zero. checks_vouched fitting reads params b made zero) wanted bundle order ordered is outcome_is (ap (λ (o : Outcome). o.status) same),
+  λ same. outcome_vouched
+      (λ params b answer made zero.
+      checks_vouched fitting reads params b made zero) wanted bundle order ordered is outcome_is
+      (ap (λ (o : Outcome). o.status) same),
   λ v. outcome_accepted one fitting back wanted bundle order ordered is within v outcome_is,
 )

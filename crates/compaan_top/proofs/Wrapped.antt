@@ -10,7 +10,8 @@ use Rattle.net_core.specs.declared.network.Network.{Network}
 use Rattle.node_runner.specs.Nodes.{Ports}
 use Rattle.thread_runner.specs.Runs.{AreEndsOf}
 
-pub wrapped_ends : {E F : Type 0} (f : E → F) (from to : F → Ports) (nest : Nest) (network : Network) (d : Inputs) (all : List E)
+pub wrapped_ends : {E F : Type 0} (f : E → F) (from to : F → Ports) (nest : Nest) (network : Network) (d : Inputs)
+    (all : List E)
     → AreEndsOf from to nest network d (map f all) → AreEndsOf (λ e. from (f e)) (λ e. to (f e)) nest network d all
 wrapped_ends f from to nest network d all are = record {
   number = sym (length-map all f) ∙ are.number;

@@ -11,6 +11,7 @@ use Rattle.sanlp.specs.declared.nest.Nest.{Nest}
 use Rattle.loop_walk.specs.Counting.{counted}
 use Rattle.vhdl_text.specs.Refusal.{first_too_long}
 use Rattle.witness_plan.specs.declared.schedules.Policy.{Policy}
+use Rattle.compaan_top.specs.Answers.{Change, Ends, HasFault}
 use Rattle.compaan_top.specs.Commands.{Reads, source_alone, source_and_data, source_and_certificate, nothing, read_by, reads_of}
 use Rattle.compaan_top.specs.Describing.{planned_automata}
 use Rattle.compaan_top.specs.Load.{load_limit}
@@ -52,6 +53,15 @@ call_statuses wanted = 4 ∷ 10 ∷ (read_statuses (read_by wanted) ++ outcome_s
 
 abbrev pub HasStatusOf : Option Order → ℕ → Type 0
 HasStatusOf wanted status = is_among (call_statuses wanted) status ≡ true
+
+-- a call for this order may end with this status, where neither sink had a fault
+pub record MayEndWith (wanted : Option Order) (status : ℕ) : Type 0 where
+  pub input : Change
+  pub output : Change
+  pub complaint : Change
+  pub ends : Ends wanted input output complaint status
+  pub output_sound : HasFault output → ⊥
+  pub complaint_sound : HasFault complaint → ⊥
 
 -- the bundle has what is read of it besides the source: a data part that gives these inputs, or a certificate part
 abbrev pub HasParts : Reads → Nest → List ℕ → Inputs → Type 0

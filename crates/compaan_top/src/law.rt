@@ -11,7 +11,7 @@ ghost use Rattle.compaan_top.specs.Headline.{AcceptsWhatFits, HasFittingCertific
 ghost use Rattle.compaan_top.specs.Outcome.{Outcome, outcome_of};
 ghost use Rattle.compaan_top.specs.Replies.{Reply};
 ghost use Rattle.compaan_top.specs.declared.refusal.Refusal.{Refusal};
-ghost use Rattle.compaan_top.specs.Laws.{DetermineStatus, HasStatusOf, HaveOwnStatuses, Succeeds};
+ghost use Rattle.compaan_top.specs.Laws.{DetermineStatus, HasStatusOf, HaveOwnStatuses, MayEndWith, Succeeds};
 ghost use Rattle.compaan_top.specs.Told.{IsAnswered};
 
 use bundle_laws::{
@@ -41,6 +41,12 @@ pub fn calls_have_their_statuses()
     ensures { (wanted : Option Order) (input output complaint : Change) (status : ℕ)
         → Ends wanted input output complaint status
         → HasStatusOf wanted status }
+{}
+
+/// A program that always answers one status, whatever that is, isn't what `compaan` promises: no status but that of want of memory
+/// may end every call, where no sink has a fault.
+pub fn no_status_ends_every_call()
+    ensures { (status : ℕ) → ((wanted : Option Order) → MayEndWith wanted status) → status ≡ 10 }
 {}
 
 /// An order to `check` comes to `accepted` exactly where the certificate part is the text of a network and a certificate

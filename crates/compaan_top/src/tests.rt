@@ -4,6 +4,7 @@ mod kernels;
 mod meeting;
 mod networks;
 mod orders;
+mod scripts;
 mod sources;
 mod steps;
 mod threads;
@@ -23,11 +24,14 @@ const USAGE: &[u8] = b"usage: compaan COMMAND [--policy seq|down] [NAME=VALUE]..
 
 const NO_CALL: u32 = 1_000_000_000;
 
-/// Devices in memory: how many bytes a read gives and which fails, and the room of the two sinks.
+/// Devices in memory: how many bytes a read gives and a write of the output takes, which of them fails, and the room of the two
+/// sinks.
 #[derive(Clone, Copy)]
 struct Devices {
     piece: usize,
     failing: u32,
+    output_piece: usize,
+    output_failing: u32,
     output_room: usize,
     complaint_room: usize,
 }
@@ -35,6 +39,8 @@ struct Devices {
 const SOUND: Devices = Devices {
     piece: 65_536,
     failing: NO_CALL,
+    output_piece: 4_096,
+    output_failing: NO_CALL,
     output_room: 1_000,
     complaint_room: 1_000,
 };
@@ -184,6 +190,36 @@ fn expect(
     expect_words(rt, devices, &words, bundle, status, output, complaint)
 }
 
+/// Calls the program on these devices. Answers its status, and what its output and its complaint sink then hold.
+fn ended(
+    rt: &(impl Abort + AllocGlobal + Threads + Wait + Sync),
+    devices: Devices,
+    words: &[String],
+    bundle: &[u8],
+) -> Result<(u8, MemSink, MemSink), Fail> {
+    let alloc = rt.alloc();
+    let Devices {
+        output_piece,
+        output_failing,
+        output_room,
+        complaint_room,
+        ..
+    } = devices;
+    let mut input = MemSource::new(alloc, bundle, devices.piece.max(1), &[devices.failing])?;
+    let mut output = MemSink::new(alloc, output_room, output_piece, &[output_failing])?;
+    let mut complaint = MemSink::new(alloc, complaint_room, 4_096, &[])?;
+    let status = compaan(
+        rt,
+        alloc,
+        words,
+        &mut input,
+        &mut output,
+        &mut complaint,
+        &Open,
+    );
+    Ok((status, output, complaint))
+}
+
 /// What a command writes of a source.
 fn written_by(
     rt: &(impl Abort + AllocGlobal + Threads + Wait + Sync),
@@ -192,20 +228,13 @@ fn written_by(
     source: &[u8],
     room: usize,
 ) -> Result<MemSink, Fail> {
-    let alloc = rt.alloc();
-    let words = words_of(alloc, command, params)?;
-    let mut input = MemSource::new(alloc, source, 16, &[])?;
-    let mut written = MemSink::new(alloc, room, 4_096, &[])?;
-    let mut complained = MemSink::new(alloc, 1_000, 4_096, &[])?;
-    let status = compaan(
-        rt,
-        alloc,
-        &words,
-        &mut input,
-        &mut written,
-        &mut complained,
-        &Open,
-    );
+    let words = words_of(rt.alloc(), command, params)?;
+    let devices = Devices {
+        piece: 16,
+        output_room: room,
+        ..SOUND
+    };
+    let (status, written, complained) = ended(rt, devices, &words, source)?;
     assert_eq!(rt; status, 0, "status of {words:?} at {source:?}");
     assert!(rt; complained.held().is_empty());
     Ok(written)
@@ -221,19 +250,7 @@ fn expect_words(
     output: &[u8],
     complaint: &[u8],
 ) -> Result<(), Fail> {
-    let alloc = rt.alloc();
-    let mut input = MemSource::new(alloc, bundle, devices.piece.max(1), &[devices.failing])?;
-    let mut written = MemSink::new(alloc, devices.output_room, 4_096, &[])?;
-    let mut complained = MemSink::new(alloc, devices.complaint_room, 4_096, &[])?;
-    let found = compaan(
-        rt,
-        alloc,
-        words,
-        &mut input,
-        &mut written,
-        &mut complained,
-        &Open,
-    );
+    let (found, written, complained) = ended(rt, devices, words, bundle)?;
     assert_eq!(rt; found, status, "status of {words:?} at {bundle:?}");
     assert!(rt;
         written.held() == output,
@@ -290,7 +307,7 @@ fn networks_are_printed(rt: HostRuntime) -> Result<(), Fail> {
 
 #[test]
 fn loads_are_summed(rt: HostRuntime) -> Result<(), Fail> {
-    let loads: [(&[&str], &[u8]); 5] = [
+    let loads: [(&[&str], &[u8]); 6] = [
         (&["load", "0"], b"points 0\nchannels 0\nevents 0\nsum 0\n"),
         (&["load", "1"], b"points 5\nchannels 4\nevents 13\nsum 10\n"),
         (&["load", "2"], b"points 24\nchannels 5\nevents 64\nsum 9\n"),
@@ -298,10 +315,14 @@ fn loads_are_summed(rt: HostRuntime) -> Result<(), Fail> {
             &["load", "002", "--policy", "down"],
             b"points 24\nchannels 5\nevents 64\nsum 9\n",
         ),
-        // the sum by another program
+        // the sums by another program
         (
             &["load", "100"],
             b"points 1040000\nchannels 5\nevents 3100000\nsum 4\n",
+        ),
+        (
+            &["load", "101"],
+            b"points 1071105\nchannels 5\nevents 3192913\nsum 109\n",
         ),
     ];
     // no command but `load` leaves its input unread
@@ -313,8 +334,8 @@ fn loads_are_summed(rt: HostRuntime) -> Result<(), Fail> {
         expect(&rt, unread, words, b"$", 0, output, b"")?;
     }
     let refused: [(&[&str], &[u8]); 3] = [
-        (&["load", "101"], b"limit: Size 2097153\n"),
-        (&["load", "2147483647"], b"limit: Size 2097153\n"),
+        (&["load", "160"], b"limit: Size 8388609\n"),
+        (&["load", "2147483647"], b"limit: Size 8388609\n"),
         (&["load", "2147483648"], b"limit: Large 6\n"),
     ];
     for (words, complaint) in refused {
@@ -395,16 +416,16 @@ fn wrong_sources_are_refused(rt: HostRuntime) -> Result<(), Fail> {
             b"limit: Large 6\n",
         ),
         (
-            &["run", "N=1048577"],
+            &["run", "N=4194305"],
             b"param N; var a; for (i = 0; i < N; i++) a = i;",
             8,
-            b"limit: Size 2097153\n",
+            b"limit: Size 8388609\n",
         ),
         (
             &["run"],
             b"out y[2147483647][2147483647];",
             8,
-            b"limit: Size 2097153\n",
+            b"limit: Size 8388609\n",
         ),
         (
             &["run"],
@@ -521,7 +542,60 @@ fn faults_of_devices_are_told(rt: HostRuntime) -> Result<(), Fail> {
     };
     expect(&rt, some_complaint, &["run"], b"$", 4, b"", b"text: B")?;
     expect(&rt, some_complaint, &[], b"", 4, b"", b"usage: ")?;
-    Ok(())
+    let no_complaint = Devices {
+        complaint_room: 0,
+        ..SOUND
+    };
+    let squares: &[u8] = b"param N; in a[N]; out y[N]; for (i = 0; i < N; i++) y[i] = a[i*i];";
+    expect(&rt, no_complaint, &["run", "N=2"], squares, 4, b"", b"")
+}
+
+#[test]
+fn a_failed_read_is_told_wherever_it_comes(rt: HostRuntime) -> Result<(), Fail> {
+    let increments: &[u8] =
+        b"param N; in x[N]; out y[N]; for (i = 0; i < N; i++) y[i] = x[i] + 1;\n%%\nx,5,6,7\n";
+    let words = words_of(rt.alloc(), "run", &["N=3"])?;
+    for failing in 0..1_000 {
+        let devices = Devices {
+            piece: 16,
+            failing,
+            ..SOUND
+        };
+        let (status, written, complained) = ended(&rt, devices, &words, increments)?;
+        assert!(rt; complained.held().is_empty());
+        if status == 0 {
+            // each piece was to be read, and then the end
+            assert!(rt; failing as usize > increments.len() / 16);
+            assert!(rt; written.held() == b"y,6,7,8\n".as_slice());
+            return Ok(());
+        }
+        assert_eq!(rt; status, 3, "where read {failing} fails");
+        assert!(rt; written.held().is_empty());
+    }
+    Err(Fail::new("each run met the failing read"))
+}
+
+#[test]
+fn a_failed_write_leaves_a_front_of_the_text(rt: HostRuntime) -> Result<(), Fail> {
+    let (params, source, text) = NETWORKS[0];
+    let words = words_of(rt.alloc(), "net", params)?;
+    for output_failing in 0..1_000 {
+        let devices = Devices {
+            output_piece: 7,
+            output_failing,
+            ..SOUND
+        };
+        let (status, written, complained) = ended(&rt, devices, &words, source)?;
+        assert!(rt; complained.held().is_empty());
+        assert!(rt; text.starts_with(written.held()));
+        if status == 0 {
+            assert_eq!(rt; written.held().len(), text.len());
+            return Ok(());
+        }
+        assert_eq!(rt; status, 4, "where write {output_failing} fails");
+        assert!(rt; written.held().len() <= (output_failing as usize).saturating_mul(7));
+    }
+    Err(Fail::new("each run met the failing write"))
 }
 
 fn repeated(
@@ -668,7 +742,10 @@ fn deep_programs_are_run(rt: HostRuntime) -> Result<(), Fail> {
 #[test]
 fn the_largest_nest_is_run(rt: HostRuntime) -> Result<(), Fail> {
     let loops = b"param N; var a; for (i = 0; i < N; i++) a = i;";
-    expect(&rt, SOUND, &["run", "N=1048576"], loops, 0, b"", b"")
+    for turns in ["N=1048577", "N=4194304"] {
+        expect(&rt, SOUND, &["run", turns], loops, 0, b"", b"")?;
+    }
+    Ok(())
 }
 
 #[test]

@@ -7,36 +7,75 @@ use std::thread::Threads;
 
 const INCREMENT: &[u8] = b"param N; in x[N]; out y[N]; for (i = 0; i < N; i++) y[i] = x[i] + 1;";
 
-/// The certificate of the increment with N=1, line by line.
-const LINES: [&[u8]; 24] = [
-    b"cert 1\n",
-    b"sizes 3 2 2 7\n",
-    b"process 0 2\n",
-    b"f\n",
-    b"p 0\n",
-    b"process 1 3\n",
-    b"g 0 0\n",
-    b"f 0\n",
-    b"p 1\n",
-    b"process 1 2\n",
-    b"g 1 0\n",
-    b"f 0\n",
-    b"channel 0 1 0 1 inorder\n",
-    b"channel 1 2 0 1 inorder\n",
-    b"sweep\n",
-    b"sweep\n",
-    b"0\n",
-    b"0\n",
-    b"1\n",
-    b"1\n",
-    b"1\n",
-    b"2\n",
-    b"2\n",
-    b"end\n",
+const COPY: &[u8] = b"param N; in x[N]; out y[N];";
+
+const TRANSPOSE: &[u8] =
+    b"in a[2][2]; out b[2][2]; for (j = 0; j < 2; j++) for (i = 0; i < 2; i++) b[j][i] = a[i][j];";
+
+const LAST_VALUE: &[u8] =
+    b"param N; in a[N]; out c[N]; var b[N]; for (i = 0; i < N; i++) b[i] = a[i]; for (i = 0; i < N; i++) c[i] = a[i] + b[N-1];";
+
+/// The certificate of the increment with N=1, under either policy.
+const ONCE: &[u8] = b"cert 1\nsizes 3 2 2 7\n\
+    process 0 2\nf\np 0\n\
+    process 1 3\ng 0 0\nf 0\np 1\n\
+    process 1 2\ng 1 0\nf 0\n\
+    channel 0 1 0 1 inorder\nchannel 1 2 0 1 inorder\n\
+    sweep\nsweep\n\
+    0\n0\n1\n1\n1\n2\n2\n\
+    end\n";
+
+/// That with N=3.
+const THRICE: &[u8] = b"cert 1\nsizes 3 2 2 21\n\
+    process 0 6\nf\np 0\nf\np 0\nf\np 0\n\
+    process 1 9\ng 0 0\nf 0\np 1\ng 0 0\nf 0\np 1\ng 0 0\nf 0\np 1\n\
+    process 1 6\ng 1 0\nf 0\ng 1 0\nf 0\ng 1 0\nf 0\n\
+    channel 0 1 0 3 inorder\nchannel 1 2 0 3 inorder\n\
+    sweep\nsweep\n\
+    0\n0\n0\n0\n0\n0\n\
+    1\n1\n1\n1\n1\n1\n1\n1\n1\n\
+    2\n2\n2\n2\n2\n2\n\
+    end\n";
+
+/// That of the transpose.
+const TRANSPOSED: &[u8] = b"cert 1\nsizes 3 2 2 28\n\
+    process 0 8\nf\np 0\nf\np 0\nf\np 0\nf\np 0\n\
+    process 2 12\ng 0 0\nf 0\np 1\ng 0 0\ng 0 1\nf 1\np 1\nf 0\np 1\ng 0 0\nf 0\np 1\n\
+    process 1 8\ng 1 0\nf 0\ng 1 0\nf 0\ng 1 0\nf 0\ng 1 0\nf 0\n\
+    channel 0 1 0 4 reorder\nchannel 1 2 0 4 inorder\n\
+    sweep\nsweep\n\
+    0\n0\n0\n0\n0\n0\n0\n0\n\
+    1\n1\n1\n1\n1\n1\n1\n1\n1\n1\n1\n1\n\
+    2\n2\n2\n2\n2\n2\n2\n2\n\
+    end\n";
+
+/// That of the last value with N=4, under the policy that takes the highest process.
+const DOWNWARD: &[u8] = b"cert 1\nsizes 4 4 4 42\n\
+    process 0 12\nf\np 0\np 1\nf\np 0\np 1\nf\np 0\np 1\nf\np 0\np 1\n\
+    process 1 9\ng 0 0\nf 0\ng 0 0\nf 0\ng 0 0\nf 0\ng 0 0\nf 0\np 2\n\
+    process 2 13\ng 1 0\ng 2 1\nf 0 1\np 3\ng 1 0\nf 0 1\np 3\ng 1 0\nf 0 1\np 3\ng 1 0\nf 0 1\np 3\n\
+    process 1 8\ng 3 0\nf 0\ng 3 0\nf 0\ng 3 0\nf 0\ng 3 0\nf 0\n\
+    channel 0 1 0 1 inorder\nchannel 0 2 0 2 inorder\nchannel 1 2 1 1 inorder+\nchannel 2 3 0 1 inorder\n\
+    sweep\nsweep\nsweep\nsweep\n\
+    0\n0\n1\n1\n0\n2\n0\n0\n1\n1\n0\n0\n0\n1\n1\n0\n0\n0\n1\n1\n1\n\
+    2\n2\n2\n3\n3\n2\n2\n2\n3\n3\n2\n2\n2\n3\n3\n0\n2\n2\n2\n3\n3\n\
+    end\n";
+
+/// Words behind the command, sources and what `cert` writes of them. The texts were worked out from the definitions by another
+/// program.
+const WRITTEN: [(&[&str], &[u8], &[u8]); 5] = [
+    (&["N=1", "--policy=seq"], INCREMENT, ONCE),
+    (&["N=1", "--policy=down"], INCREMENT, ONCE),
+    (&["N=3"], INCREMENT, THRICE),
+    (&[], TRANSPOSE, TRANSPOSED),
+    (&["N=4", "--policy=down"], LAST_VALUE, DOWNWARD),
 ];
 
-/// Changes of that certificate, each a line's number from 1 and what stands in its place, and the line that `check` answers.
-const CHANGES: [(&[(usize, &[u8])], &[u8]); 24] = [
+/// Changes of a certificate: the number of a line, from 1, and what stands in its place.
+type Changes = &'static [(usize, &'static [u8])];
+
+/// Changes of the certificate of the increment with N=1, and the line that `check` answers.
+const CHANGES: [(Changes, &[u8]); 24] = [
     (&[], b"accepted\n"),
     (&[(1, b"cert 3\n")], b"refused Line 1\n"),
     (&[(2, b"sizes 3 2 2 4294967296\n")], b"refused Number 2\n"),
@@ -85,31 +124,80 @@ const CHANGES: [(&[(usize, &[u8])], &[u8]); 24] = [
     (&[(7, b"g -5 0\n")], b"refused Number 7\n"),
 ];
 
-/// A source with an empty data part, and behind it a certificate.
-fn with_certificate(
-    alloc: Global,
-    source: &[u8],
-    certificate: &[u8],
-) -> Result<Vec<u8>, AllocError> {
-    let mut bundle = Vec::from_slice(alloc, source)?;
-    bundle.extend_from_slice(b"\n%%\n%%\n")?;
-    bundle.extend_from_slice(certificate)?;
-    Ok(bundle)
-}
+/// Parameters, sources and certificates with their changes, and the line that `check` answers.
+const LONGER: [(&[&str], &[u8], &[u8], Changes, &[u8]); 6] = [
+    // a smaller capacity, and a schedule that ends before the last event
+    (
+        &["N=3"],
+        INCREMENT,
+        THRICE,
+        &[(27, b"channel 0 1 0 2 inorder\n")],
+        b"refused NotEnabled 5\n",
+    ),
+    (
+        &["N=3"],
+        INCREMENT,
+        THRICE,
+        &[(2, b"sizes 3 2 2 20\n"), (51, b"")],
+        b"refused Unended 2\n",
+    ),
+    // other values of the parameter, and another source
+    (&["N=2"], INCREMENT, THRICE, &[], b"refused Fires 0 4\n"),
+    (&["N=3"], COPY, THRICE, &[], b"refused Shape 2\n"),
+    // the other slot
+    (
+        &[],
+        TRANSPOSE,
+        TRANSPOSED,
+        &[(18, b"f 0\n")],
+        b"refused Tag 13 0(0,1) 0(1,0)\n",
+    ),
+    // with a smaller capacity every run of this network sticks
+    (
+        &["N=4"],
+        LAST_VALUE,
+        DOWNWARD,
+        &[(50, b"channel 0 2 0 1 inorder\n")],
+        b"refused NotEnabled 15\n",
+    ),
+];
 
-/// The certificate of the increment with these changes.
-fn changed(alloc: Global, changes: &[(usize, &[u8])]) -> Result<Vec<u8>, AllocError> {
+/// These parts, one behind the other.
+fn joined(alloc: Global, parts: &[&[u8]]) -> Result<Vec<u8>, AllocError> {
     let mut text = Vec::new(alloc);
-    for (number, line) in LINES.iter().enumerate() {
-        let mut put: &[u8] = line;
-        for (at, other) in changes {
-            if *at == number.saturating_add(1) {
-                put = other;
-            }
-        }
-        text.extend_from_slice(put)?;
+    for part in parts {
+        text.extend_from_slice(part)?;
     }
     Ok(text)
+}
+
+/// What stands in the place of this line, if it is changed.
+fn changed_line(changes: Changes, number: usize) -> Option<&'static [u8]> {
+    for (at, other) in changes {
+        if *at == number {
+            return Some(*other);
+        }
+    }
+    None
+}
+
+/// A text with these changes.
+fn changed(alloc: Global, text: &[u8], changes: Changes) -> Result<Vec<u8>, AllocError> {
+    let mut made = Vec::new(alloc);
+    let mut number = 1_usize;
+    let mut begins = true;
+    for byte in text {
+        match changed_line(changes, number) {
+            None => made.push(*byte)?,
+            Some(other) if begins => made.extend_from_slice(other)?,
+            Some(_) => {}
+        }
+        begins = *byte == b'\n';
+        if begins {
+            number = number.saturating_add(1);
+        }
+    }
+    Ok(made)
 }
 
 /// Has a certificate checked, and compares the status and the line.
@@ -120,7 +208,7 @@ pub(super) fn checks(
     certificate: &[u8],
     line: &[u8],
 ) -> Result<(), Fail> {
-    let bundle = with_certificate(rt.alloc(), source, certificate)?;
+    let bundle = joined(rt.alloc(), &[source, b"\n%%\n%%\n", certificate])?;
     let words = words_of(rt.alloc(), "check", params)?;
     let status = if line == b"accepted\n".as_slice() {
         0
@@ -132,10 +220,10 @@ pub(super) fn checks(
 
 #[test]
 fn certificates_are_written(rt: HostRuntime) -> Result<(), Fail> {
-    let text = changed(rt.alloc(), &[])?;
-    for params in [["N=1", "--policy=seq"], ["N=1", "--policy=down"]] {
-        let words = words_of(rt.alloc(), "cert", &params)?;
-        expect_words(&rt, SOUND, &words, INCREMENT, 0, &text, b"")?;
+    for (params, source, text) in WRITTEN {
+        let words = words_of(rt.alloc(), "cert", params)?;
+        expect_words(&rt, SOUND, &words, source, 0, text, b"")?;
+        checks(&rt, params, source, text, b"accepted\n")?;
     }
     Ok(())
 }
@@ -143,69 +231,29 @@ fn certificates_are_written(rt: HostRuntime) -> Result<(), Fail> {
 #[test]
 fn changed_certificates_are_judged(rt: HostRuntime) -> Result<(), Fail> {
     for (changes, line) in CHANGES {
-        let certificate = changed(rt.alloc(), changes)?;
+        let certificate = changed(rt.alloc(), ONCE, changes)?;
         checks(&rt, &["N=1"], INCREMENT, &certificate, line)?;
     }
     checks(&rt, &["N=1"], INCREMENT, b"", b"refused Truncated\n")
 }
 
-/// The certificate of the increment with N=3, with the capacity of its first channel, the number of entries, and the last
-/// entries.
-fn of_three(
-    alloc: Global,
-    capacity: &[u8],
-    entries: &[u8],
-    last: &[u8],
-) -> Result<Vec<u8>, AllocError> {
-    let mut text = Vec::from_slice(alloc, b"cert 1\nsizes 3 2 2 ")?;
-    text.extend_from_slice(entries)?;
-    text.extend_from_slice(b"\nprocess 0 6\nf\np 0\nf\np 0\nf\np 0\nprocess 1 9\n")?;
-    text.extend_from_slice(b"g 0 0\nf 0\np 1\ng 0 0\nf 0\np 1\ng 0 0\nf 0\np 1\n")?;
-    text.extend_from_slice(b"process 1 6\ng 1 0\nf 0\ng 1 0\nf 0\ng 1 0\nf 0\nchannel 0 1 0 ")?;
-    text.extend_from_slice(capacity)?;
-    text.extend_from_slice(b" inorder\nchannel 1 2 0 3 inorder\nsweep\nsweep\n0\n0\n0\n0\n0\n0\n")?;
-    text.extend_from_slice(b"1\n1\n1\n1\n1\n1\n1\n1\n1\n2\n2\n2\n2\n2\n")?;
-    text.extend_from_slice(last)?;
-    Ok(text)
-}
-
 #[test]
 fn certificates_of_longer_runs_are_judged(rt: HostRuntime) -> Result<(), Fail> {
-    let alloc = rt.alloc();
-    let whole = of_three(alloc, b"3", b"21", b"2\nend\n")?;
-    let words = words_of(alloc, "cert", &["N=3"])?;
-    expect_words(&rt, SOUND, &words, INCREMENT, 0, &whole, b"")?;
-    checks(&rt, &["N=3"], INCREMENT, &whole, b"accepted\n")?;
-    let narrow = of_three(alloc, b"2", b"21", b"2\nend\n")?;
-    checks(&rt, &["N=3"], INCREMENT, &narrow, b"refused NotEnabled 5\n")?;
-    let short = of_three(alloc, b"3", b"20", b"end\n")?;
-    checks(&rt, &["N=3"], INCREMENT, &short, b"refused Unended 2\n")?;
-    // other values of the parameter, and another source
-    checks(&rt, &["N=2"], INCREMENT, &whole, b"refused Fires 0 4\n")?;
-    let copy = b"param N; in x[N]; out y[N];";
-    checks(&rt, &["N=3"], copy, &whole, b"refused Shape 2\n")?;
-    let transpose =
-        b"in a[2][2]; out b[2][2]; for (j = 0; j < 2; j++) for (i = 0; i < 2; i++) b[j][i] = a[i][j];";
-    let slots =
-        b"cert 1\nsizes 3 2 2 28\nprocess 0 8\nf\np 0\nf\np 0\nf\np 0\nf\np 0\nprocess 2 12\ng 0 0\nf 0\np 1\ng 0 0\ng 0 1\nf 0\np 1\nf 0\np 1\ng 0 0\nf 0\np 1\nprocess 1 8\ng 1 0\nf 0\ng 1 0\nf 0\ng 1 0\nf 0\ng 1 0\nf 0\nchannel 0 1 0 4 reorder\nchannel 1 2 0 4 inorder\nsweep\nsweep\n0\n0\n0\n0\n0\n0\n0\n0\n1\n1\n1\n1\n1\n1\n1\n1\n1\n1\n1\n1\n2\n2\n2\n2\n2\n2\n2\n2\nend\n";
-    checks(
-        &rt,
-        &[],
-        transpose,
-        slots,
-        b"refused Tag 13 0(0,1) 0(1,0)\n",
-    )
+    for (params, source, text, changes, line) in LONGER {
+        let certificate = changed(rt.alloc(), text, changes)?;
+        checks(&rt, params, source, &certificate, line)?;
+    }
+    Ok(())
 }
 
 #[test]
 fn parameters_agree_by_name(rt: HostRuntime) -> Result<(), Fail> {
     let source = b"param N, M; in x[N]; out y[M]; for (i = 0; i < N; i++) y[i] = x[i] + 1;";
-    let text = changed(rt.alloc(), &[])?;
     let words = words_of(rt.alloc(), "cert", &["N=1", "M=1"])?;
-    expect_words(&rt, SOUND, &words, source, 0, &text, b"")?;
+    expect_words(&rt, SOUND, &words, source, 0, ONCE, b"")?;
     let params: [&[&str]; 2] = [&["M=1", "N=1"], &["K=7", "M=1", "N=1"]];
     for params in params {
-        checks(&rt, params, source, &text, b"accepted\n")?;
+        checks(&rt, params, source, ONCE, b"accepted\n")?;
     }
     Ok(())
 }

@@ -19,7 +19,7 @@ use thread_runner::{Bench, NodeEnds, make_ends, run_threads};
 use witness_plan::Policy;
 
 /// How often a process looks for the other one that it waits for.
-const MOST_TURNS: u64 = 100_000_000;
+pub(super) const MOST_TURNS: u64 = 100_000_000;
 
 /// Where processes 0 and 1 wait for each other.
 #[derive(Drop)]

@@ -156,7 +156,7 @@ fn run_in(
 fn event_count(network: &Network) -> usize {
     let mut events = 0_usize;
     for process in network.processes.as_slice() {
-        events = events.saturating_add(process.script.len());
+        events = events.saturating_add(process.script.len() as usize);
     }
     events
 }

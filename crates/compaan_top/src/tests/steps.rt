@@ -205,9 +205,9 @@ const REFUSED: [(&[&str], &[u8], u8, &[u8]); 24] = [
     ),
     (
         &[],
-        b"var a; for (i = 0; i < 2147483647; i += 2047) a = i;",
+        b"var a; for (i = 0; i < 2147483647; i += 511) a = i;",
         8,
-        b"limit: Size 2097153\n",
+        b"limit: Size 8388609\n",
     ),
 ];
 

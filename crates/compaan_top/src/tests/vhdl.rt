@@ -202,6 +202,6 @@ fn a_longer_script_is_refused(rt: HostRuntime) -> Result<(), Fail> {
     )?;
     // the source and its size are judged before
     expect(&rt, SOUND, &["vhdl"], b"$", 6, b"", b"text: BadByte 0\n")?;
-    let large = b"limit: Size 2097153\n";
-    expect(&rt, SOUND, &["vhdl", "N=1048577"], COUNTER, 8, b"", large)
+    let large = b"limit: Size 8388609\n";
+    expect(&rt, SOUND, &["vhdl", "N=4194305"], COUNTER, 8, b"", large)
 }

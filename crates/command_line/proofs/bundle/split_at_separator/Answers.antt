@@ -5,7 +5,8 @@ use Rattle.command_line.proofs.bundle.split_at_separator.Goals as goal
 
 pub returns-then-is_separator-clause-after : goal.returns-then-is_separator-clause-after
 returns-then-is_separator-clause-after c =
-    sym (c.loop-rest.invariant.after ∙ after_separator-here c.loop-rest.rest.now c.split_line.result.0.now c.split_line.result.1.now c.split_line.ensures.lines (sym c.if-is_separator.ensures))
+    sym (c.loop-rest.invariant.after
+    ∙ after_separator-here c.loop-rest.rest.now c.split_line.result.0.now c.split_line.result.1.now c.split_line.ensures.lines (sym c.if-is_separator.ensures))
 
 pub loop-rest-smaller : goal.loop-rest-smaller
 loop-rest-smaller c =
@@ -23,7 +24,9 @@ loop-rest-preserved c =
     record {
       within = length-past_line bytes line later start c.loop-rest.invariant.within here;
       rest = sym (drop-past_line bytes line later start here);
-      before = c.loop-rest.invariant.before ∙ ap (λ (rest : List ℕ). take start bytes ++ rest) (before_separator-line c.loop-rest.rest.now line later lines plain)
+      before = c.loop-rest.invariant.before
+          ∙ ap (λ (rest : List ℕ). take start bytes ++ rest)
+          (before_separator-line c.loop-rest.rest.now line later lines plain)
           ∙ sym (append_assoc (take start bytes) line (before_separator later))
           ∙ ap (λ (front : List ℕ). front ++ before_separator later) (sym (take-past_line bytes line later start here));
       after = c.loop-rest.invariant.after ∙ after_separator-line c.loop-rest.rest.now line later lines plain;

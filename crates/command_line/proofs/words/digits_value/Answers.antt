@@ -5,7 +5,8 @@ use Rattle.command_line.proofs.words.digits_value.Goals as goal
 
 below : (c : goal.After-from) → c.loop-digit.number * 10 + c.from.result < 10 ^ 18
 below c =
-    rw (c.loop-digit.invariant, c.from.ensures) (digits_value-next-le c.args.digits.now c.loop-digit.digit-index c.requires.digits c.requires.few c.loop-digit-test.true)
+    rw (c.loop-digit.invariant, c.from.ensures)
+    (digits_value-next-le c.args.digits.now c.loop-digit.digit-index c.requires.digits c.requires.few c.loop-digit-test.true)
 
 pub overflow_mul-number : goal.overflow_mul-number
 overflow_mul-number c =
@@ -16,7 +17,8 @@ overflow_add-number c = omega (arith, below c)
 
 pub loop-digit-preserved : goal.loop-digit-preserved
 loop-digit-preserved c =
-    rw (c.loop-digit.invariant, c.from.ensures) (digits_value-next c.args.digits.now c.loop-digit.digit-index c.requires.digits c.loop-digit-test.true)
+    rw (c.loop-digit.invariant, c.from.ensures)
+    (digits_value-next c.args.digits.now c.loop-digit.digit-index c.requires.digits c.loop-digit-test.true)
 
 pub returns-clause-small : goal.returns-clause-small
 returns-clause-small c =

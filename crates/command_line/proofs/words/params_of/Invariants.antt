@@ -4,4 +4,5 @@ use Rattle.command_line.proofs.words.params_of.Given as goal
 
 abbrev pub invariant-loop-item : goal.invariant-loop-item
 invariant-loop-item l =
-    params_with [] (map (λ item. item.now) l.items) ≡ params_with l.params (map (λ item. item.now) (drop l.item-index l.items))
+    params_with [] (map (λ item. item.now) l.items)
+    ≡ params_with l.params (map (λ item. item.now) (drop l.item-index l.items))

@@ -12,7 +12,8 @@ returns-clause-statuses g c = calls_own (Some c.args.order.now) _ _ _ (c.finish.
 
 pub returns-clause-accepts : goal.returns-clause-accepts
 returns-clause-accepts g c = λ is zero.
-    ends_vouched c.what_is_accepted_fits.ensures c.is_sound.ensures (Some c.args.order.now) _ _ _ c.args.order.now (c.finish.ensures _ _ c.plan.ensures) refl is zero
+    ends_vouched c.what_is_accepted_fits.ensures c.is_sound.ensures (Some c.args.order.now) _ _ _ c.args.order.now
+    (c.finish.ensures _ _ c.plan.ensures) refl is zero
 
 pub returns-clause-comes : goal.returns-clause-comes
 returns-clause-comes g c = λ bundle told answered.
@@ -25,5 +26,6 @@ returns-clause-completes g c = λ bundle told valid answered.
 
 pub returns-clause-accepted : goal.returns-clause-accepted
 returns-clause-accepted g c = λ is bundle told answered.
-    call_accepted c.what_is_accepted_fits.ensures c.is_sound.ensures c.what_fits_is_accepted.ensures (Some c.args.order.now) _ _ _ _
+    call_accepted c.what_is_accepted_fits.ensures c.is_sound.ensures c.what_fits_is_accepted.ensures
+    (Some c.args.order.now) _ _ _ _
     (c.finish.ensures _ _ c.plan.ensures) c.args.order.now refl is bundle told answered

@@ -6,13 +6,15 @@ use Rattle.compaan_top.proofs.load.load.Goals as goal
 
 pub returns-then-rows-gt-LOAD_LIMIT : goal.returns-then-rows-gt-LOAD_LIMIT
 returns-then-rows-gt-LOAD_LIMIT g c =
-    loads_too_many c.args.policy c.args.rows c.too_many_rows.result (omega (arith, c.if-rows-gt-LOAD_LIMIT.true)) c.too_many_rows.ensures
+    loads_too_many c.args.policy c.args.rows c.too_many_rows.result
+    (omega (arith, c.if-rows-gt-LOAD_LIMIT.true)) c.too_many_rows.ensures
 
 pub returns-in_err-size_of : goal.returns-in_err-size_of
 returns-in_err-size_of g c =
     let stop = err_from_is_err_and c.from_residual-in_err-size_of.result c.from_residual-in_err-size_of.ensures.1 in
     let few : c.args.rows ≤ load_limit = omega (arith, c.if-rows-gt-LOAD_LIMIT.false) in
-    rw (stop.1, stop.2) (loads_without_size c.args.policy c.args.rows c.in_ok-nest.nest _ few c.in_ok-nest.ensures c.in_err-size_of.ensures)
+    rw (stop.1, stop.2)
+    (loads_without_size c.args.policy c.args.rows c.in_ok-nest.nest _ few c.in_ok-nest.ensures c.in_err-size_of.ensures)
 
 pub returns : goal.returns
 returns g c =

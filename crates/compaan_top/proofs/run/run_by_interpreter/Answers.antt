@@ -10,7 +10,9 @@ returns-in_err-nest c =
     rw (stop.1, stop.2) (unprepared c.args.params.now c.args.bundle.now _ c.in_err-nest.ensures)
 
 pub invariant_of-result : goal.invariant_of-result
-invariant_of-result c = record { whole = ap length c.in_ok-arrays.ensures.meaning ∙ length-arrays c.in_ok-nest.nest c.in_ok-nest.inputs }
+invariant_of-result c =
+    record { whole = ap length c.in_ok-arrays.ensures.meaning ∙ length-arrays c.in_ok-nest.nest c.in_ok-nest.inputs }
 
 pub returns : goal.returns
-returns c = runs_to_answer c.args.params.now c.args.bundle.now c.in_ok-nest.nest c.in_ok-nest.inputs c.in_ok-arrays.arrays c.in_ok-nest.ensures c.in_ok-arrays.ensures.meaning
+returns c =
+    runs_to_answer c.args.params.now c.args.bundle.now c.in_ok-nest.nest c.in_ok-nest.inputs c.in_ok-arrays.arrays c.in_ok-nest.ensures c.in_ok-arrays.ensures.meaning

@@ -10,7 +10,9 @@ returns-in_err-nest g c =
     rw (stop.1, stop.2) (unprepared c.args.params.now c.args.bundle.now _ c.in_err-nest.ensures)
 
 pub invariant_of-result : goal.invariant_of-result
-invariant_of-result g c = record { whole = ap length c.in_ok-run.ensures.arrays ∙ length-arrays c.in_ok-nest.nest c.in_ok-nest.inputs }
+invariant_of-result g c =
+    record { whole = ap length c.in_ok-run.ensures.arrays ∙ length-arrays c.in_ok-nest.nest c.in_ok-nest.inputs }
 
 pub returns : goal.returns
-returns g c = runs_to_answer c.args.params.now c.args.bundle.now c.in_ok-nest.nest c.in_ok-nest.inputs c.in_ok-run.run'.arrays c.in_ok-nest.ensures c.in_ok-run.ensures.arrays
+returns g c =
+    runs_to_answer c.args.params.now c.args.bundle.now c.in_ok-nest.nest c.in_ok-nest.inputs c.in_ok-run.run'.arrays c.in_ok-nest.ensures c.in_ok-run.ensures.arrays

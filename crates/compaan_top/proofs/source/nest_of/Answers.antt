@@ -12,7 +12,8 @@ pub returns-in_err-tree : goal.returns-in_err-tree
 returns-in_err-tree c =
     let lexed = c.in_ok-lexed.ensures ∙ ap Ok (sym c.as_slice-found.ensures.value) in
     let stop = err_from_is_err_and c.from_residual-in_err-tree.result c.from_residual-in_err-tree.ensures.1 in
-    rw (stop.1, stop.2) (gives_without_tree c.args.source.now c.args.params.now c.as_slice-found.result.now _ lexed c.in_err-tree.ensures)
+    rw (stop.1, stop.2)
+    (gives_without_tree c.args.source.now c.args.params.now c.as_slice-found.result.now _ lexed c.in_err-tree.ensures)
 
 pub returns : goal.returns
 returns c =

@@ -15,4 +15,5 @@ run_threads-requires-clause-ends g c κs within =
     let from : NodeEnds → Ports = λ e channel. port_at e.gets.items channel in
     let to : NodeEnds → Ports = λ e channel. port_at e.puts.items channel in
     wrapped_ends (λ (e : MeetEnds). e.ends) from to nest network d c.in_ok-ends-in-Accepted-2.ends.items
-    (subst (λ (l : List NodeEnds). AreEndsOf from to nest network d l) (sym c.in_ok-ends-in-Accepted-2.ensures) c.in_ok-ends-in-Accepted.ensures.ends)
+    (subst (λ (l : List NodeEnds). AreEndsOf from to nest network d l)
+    (sym c.in_ok-ends-in-Accepted-2.ensures) c.in_ok-ends-in-Accepted.ensures.ends)

@@ -4,7 +4,8 @@ use Rattle.csv.specs.Records.{field_at}
 use Rattle.array_data.specs.declared.error.DataError.{DataError}
 
 -- a record's field at a place is the list's element there
-pub field_here : (fields : List (List ℕ)) (i : ℕ) (field : List ℕ) → Some field ≡ field_at fields i → field ≡ get_or fields i []
+pub field_here : (fields : List (List ℕ)) (i : ℕ) (field : List ℕ) → Some field ≡ field_at fields i
+    → field ≡ get_or fields i []
 unfolding field_at
 field_here [] i field e = cc e
 field_here (f ∷ fs) zero field e = cc e

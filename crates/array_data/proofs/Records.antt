@@ -14,20 +14,24 @@ next_cases None = inl refl
 next_cases (Some p) = inr (p, refl)
 
 -- a record at the end of a text leaves the start of a record, and no text
-at_end : (b : Bool) (fields : List (List ℕ)) (p : Read) → cond b (Some (fields, st.StartRecord, [])) None ≡ Some p → (p.1 ≡ st.StartRecord) × (p.2 ≡ [])
+at_end : (b : Bool) (fields : List (List ℕ)) (p : Read) → cond b (Some (fields, st.StartRecord, [])) None ≡ Some p
+    → (p.1 ≡ st.StartRecord) × (p.2 ≡ [])
 at_end true fields p e = (cc, cc)
 at_end false fields p e = cc e
 
-next_at_end : (cfg : Config) (s : State) (fields : List (List ℕ)) (field : List ℕ) (p : Read) → next_record cfg s fields field [] ≡ Some p → (p.1 ≡ st.StartRecord) × (p.2 ≡ [])
+next_at_end : (cfg : Config) (s : State) (fields : List (List ℕ)) (field : List ℕ) (p : Read)
+    → next_record cfg s fields field [] ≡ Some p → (p.1 ≡ st.StartRecord) × (p.2 ≡ [])
 unfolding next_record
 next_at_end cfg s fields field p e = at_end (ends_at_end s) (fields ++ field ∷ []) p e
 
 -- what is left where a byte ends the record
-left_at_byte : (fields : List (List ℕ)) (s : State) (rest : List ℕ) (p : Read) → Some (fields, s, rest) ≡ Some p → length p.2 ≤ length rest
+left_at_byte : (fields : List (List ℕ)) (s : State) (rest : List ℕ) (p : Read) → Some (fields, s, rest) ≡ Some p
+    → length p.2 ≤ length rest
 left_at_byte fields s rest p e = let same : rest ≡ p.2 = cc in omega (arith, ap length same)
 
 -- a record takes at least one byte, if there is one
-next_shorter : (cfg : Config) (rest : List ℕ) (b : ℕ) (s : State) (fields : List (List ℕ)) (field : List ℕ) (p : Read) → next_record cfg s fields field (b ∷ rest) ≡ Some p → length p.2 ≤ length rest
+next_shorter : (cfg : Config) (rest : List ℕ) (b : ℕ) (s : State) (fields : List (List ℕ)) (field : List ℕ) (p : Read)
+    → next_record cfg s fields field (b ∷ rest) ≡ Some p → length p.2 ≤ length rest
 unfolding next_record
 next_shorter cfg [] b s fields field p e = elim (cases_Bool (is_end (step cfg s b).1)) [
   | inl ended ↦ left_at_byte _ _ [] p (rw ended at e)
@@ -43,13 +47,15 @@ unfolding next_record
 next_at_start cfg = refl
 
 -- nothing more is reached at the end of a text
-nothing_after : (cfg : Config) (rows : List Record) (s : State) (left : List ℕ) → Reached cfg st.StartRecord [] rows s left → (rows ≡ []) × (left ≡ [])
+nothing_after : (cfg : Config) (rows : List Record) (s : State) (left : List ℕ)
+    → Reached cfg st.StartRecord [] rows s left → (rows ≡ []) × (left ≡ [])
 unfolding Reached
 nothing_after cfg [] s left h = (refl, sym h.1)
 nothing_after cfg (row ∷ rows) s left h = absurd (let e = next_at_start cfg in let f = h.1 in cc (sym e ∙ f))
 
 -- there are at most as many records as bytes, and one
-pub reached_few : (cfg : Config) (s : State) (text : List ℕ) (rows : List Record) (t : State) (left : List ℕ) → Reached cfg s text rows t left → length rows + length left ≤ length text + 1
+pub reached_few : (cfg : Config) (s : State) (text : List ℕ) (rows : List Record) (t : State) (left : List ℕ)
+    → Reached cfg s text rows t left → length rows + length left ≤ length text + 1
 unfolding Reached
 reached_few cfg s text [] t left h = let same = h.1 in omega (arith, ap length same)
 reached_few cfg s [] (row ∷ rows) t left h =
@@ -68,7 +74,8 @@ at_end_of_text cfg zero = (st.StartRecord, [], (refl, refl), next_at_start cfg)
 at_end_of_text cfg (suc n) = rw (next_at_start cfg) (st.StartRecord, [], (refl, refl), next_at_start cfg)
 
 -- one record more in front
-record_before : (cfg : Config) (s : State) (text : List ℕ) (p : Read) (rows : List Record) → next_record cfg s [] [] text ≡ Some p → AreRecords cfg p.1 p.2 rows → AreRecords cfg s text (p.0 ∷ rows)
+record_before : (cfg : Config) (s : State) (text : List ℕ) (p : Read) (rows : List Record)
+    → next_record cfg s [] [] text ≡ Some p → AreRecords cfg p.1 p.2 rows → AreRecords cfg s text (p.0 ∷ rows)
 unfolding Reached
 record_before cfg s text p rows e more = (more.0, more.1, (p, e, refl, more.2), more.3)
 
@@ -77,7 +84,8 @@ unfolding Reached
 no_records cfg s text e = (s, text, (refl, refl), e)
 
 -- what is listed are the records of the text
-pub listed_are_records : (cfg : Config) (n : ℕ) (s : State) (text : List ℕ) → length text < n → AreRecords cfg s text (records_from cfg n s text)
+pub listed_are_records : (cfg : Config) (n : ℕ) (s : State) (text : List ℕ) → length text < n
+    → AreRecords cfg s text (records_from cfg n s text)
 unfolding records_from
 listed_are_records cfg zero s text few = absurd (omega arith)
 listed_are_records cfg (suc n) s [] few = elim (next_cases (next_record cfg s [] [] [])) [
@@ -90,15 +98,18 @@ listed_are_records cfg (suc n) s (b ∷ text) few = elim (next_cases (next_recor
   | inl none ↦ rw none (no_records cfg s (b ∷ text) none)
   | inr found ↦
       let less = next_shorter cfg text b s [] [] found.0 found.1 in
-      rw found.1 (record_before cfg s (b ∷ text) found.0 _ found.1 (listed_are_records cfg n found.0.1 found.0.2 (omega (arith, less, few))))
+      rw found.1 (record_before cfg s (b ∷ text) found.0 _ found.1
+      (listed_are_records cfg n found.0.1 found.0.2 (omega (arith, less, few))))
 ]
 
 same_parts : (a b : Record) (rows others : List Record) → a ≡ b → rows ≡ others → a ∷ rows ≡ b ∷ others
 same_parts a b rows others e f = cc
 
 -- the records of a text begin with those that were reached, and go on with those of what is left
-pub records_after : (cfg : Config) (s : State) (text : List ℕ) (seen : List Record) (t : State) (left : List ℕ) (rows : List Record)
-    → Reached cfg s text seen t left → AreRecords cfg s text rows → (rest : List Record) × (rows ≡ seen ++ rest) × AreRecords cfg t left rest
+pub records_after : (cfg : Config) (s : State) (text : List ℕ) (seen : List Record) (t : State) (left : List ℕ)
+    (rows : List Record)
+    → Reached cfg s text seen t left → AreRecords cfg s text rows
+    → (rest : List Record) × (rows ≡ seen ++ rest) × AreRecords cfg t left rest
 unfolding Reached
 records_after cfg s text [] t left rows h all = (rows, refl, rw (h.0, h.1) at all)
 records_after cfg s text (row ∷ seen) t left [] h all =
@@ -114,7 +125,8 @@ records_after cfg s text (row ∷ seen) t left (other ∷ rows) h all =
     (rest.0, same_parts other row rows (seen ++ rest.0) first rest.1, rest.2)
 
 -- no records are those of a text that has none
-pub none_left : (cfg : Config) (s : State) (text : List ℕ) (rows : List Record) → next_record cfg s [] [] text ≡ None → AreRecords cfg s text rows → rows ≡ []
+pub none_left : (cfg : Config) (s : State) (text : List ℕ) (rows : List Record) → next_record cfg s [] [] text ≡ None
+    → AreRecords cfg s text rows → rows ≡ []
 unfolding Reached
 none_left cfg s text [] e all = refl
 none_left cfg s text (row ∷ rows) e all = let f = all.2.1 in absurd (cc (sym e ∙ f))
@@ -125,25 +137,33 @@ unfolding strip_bom
 strip_bom_short [] = omega arith
 strip_bom_short (a ∷ []) = omega arith
 strip_bom_short (a ∷ b ∷ []) = omega arith
-strip_bom_short (a ∷ b ∷ c ∷ rest) = elim (cases_Bool (is_bom a b c)) [ inl ended ↦ rw ended (omega arith) | inr other ↦ rw other (omega arith) ]
+strip_bom_short (a ∷ b ∷ c ∷ rest) =
+    elim (cases_Bool (is_bom a b c)) [ inl ended ↦ rw ended (omega arith) | inr other ↦ rw other (omega arith) ]
 
 pub data_records : (bytes : List ℕ) → AreRecords default_config st.StartRecord (strip_bom bytes) (records_of bytes)
-data_records bytes = listed_are_records default_config (length (strip_bom bytes) + 1) st.StartRecord (strip_bom bytes) (omega arith)
+data_records bytes =
+    listed_are_records default_config (length (strip_bom bytes) + 1) st.StartRecord (strip_bom bytes) (omega arith)
 
 -- what was read of the data, and the text that is left
-pub reached_more : (bytes : List ℕ) (seen : List Record) (row : Record) (t : State) (left : List ℕ) → Reached default_config st.StartRecord (strip_bom bytes) (seen ++ row ∷ []) t left
+pub reached_more : (bytes : List ℕ) (seen : List Record) (row : Record) (t : State) (left : List ℕ)
+    → Reached default_config st.StartRecord (strip_bom bytes) (seen ++ row ∷ []) t left
     → (rest : List Record) × (records_of bytes ≡ seen ++ row ∷ rest)
 reached_more bytes seen row t left h =
-    let k = records_after default_config st.StartRecord (strip_bom bytes) (seen ++ row ∷ []) t left (records_of bytes) h (data_records bytes) in
+    let k = records_after default_config st.StartRecord (strip_bom bytes) (seen ++ row ∷ []) t left (records_of bytes) h
+    (data_records bytes) in
     (k.0, k.1 ∙ append_assoc seen (row ∷ []) k.0)
 
-pub reached_all : (bytes : List ℕ) (seen : List Record) (t : State) (left : List ℕ) → Reached default_config st.StartRecord (strip_bom bytes) seen t left → next_record default_config t [] [] left ≡ None
+pub reached_all : (bytes : List ℕ) (seen : List Record) (t : State) (left : List ℕ)
+    → Reached default_config st.StartRecord (strip_bom bytes) seen t left
+    → next_record default_config t [] [] left ≡ None
     → records_of bytes ≡ seen
 reached_all bytes seen t left h none =
-    let k = records_after default_config st.StartRecord (strip_bom bytes) seen t left (records_of bytes) h (data_records bytes) in
+    let k = records_after default_config st.StartRecord (strip_bom bytes) seen t left (records_of bytes) h
+    (data_records bytes) in
     k.1 ∙ ap (λ (rest : List Record). seen ++ rest) (none_left default_config t left k.0 none k.2) ∙ append-nil seen
 
-pub reached_length : (bytes : List ℕ) (seen : List Record) (t : State) (left : List ℕ) → Reached default_config st.StartRecord (strip_bom bytes) seen t left → length seen ≤ length bytes + 1
+pub reached_length : (bytes : List ℕ) (seen : List Record) (t : State) (left : List ℕ)
+    → Reached default_config st.StartRecord (strip_bom bytes) seen t left → length seen ≤ length bytes + 1
 reached_length bytes seen t left h =
     let few = reached_few default_config st.StartRecord (strip_bom bytes) seen t left h in
     let short = strip_bom_short bytes in

@@ -23,22 +23,30 @@ up_to_same : (k : ℕ) (bytes more : List ℕ) → k ≤ length bytes → longes
 unfolding longest_up_to
 up_to_same zero bytes more le = refl
 up_to_same (suc k) bytes more le =
-    ap (λ (text : List ℕ). cond (is_input_element text) (suc k) (longest_up_to k (bytes ++ more))) (take-append-le (suc k) bytes more le)
+    ap (λ (text : List ℕ). cond (is_input_element text) (suc k) (longest_up_to k (bytes ++ more)))
+    (take-append-le (suc k) bytes more le)
     ∙ ap (cond (is_input_element (take (suc k) bytes)) (suc k)) (up_to_same k bytes more (omega arith))
 
 shorter : (b : ℕ) (bytes : List ℕ) → length (b ∷ (bytes ++ 10 ∷ [])) ≡ suc (length (b ∷ bytes))
-    → longest_up_to (suc (length (b ∷ bytes))) (b ∷ (bytes ++ 10 ∷ [])) ≡ longest_up_to (length (b ∷ bytes)) (b ∷ (bytes ++ 10 ∷ []))
+    → longest_up_to (suc (length (b ∷ bytes))) (b ∷ (bytes ++ 10 ∷ []))
+    ≡ longest_up_to (length (b ∷ bytes)) (b ∷ (bytes ++ 10 ∷ []))
 unfolding longest_up_to
 shorter b bytes long =
-    let all : take (suc (length (b ∷ bytes))) (b ∷ (bytes ++ 10 ∷ [])) ≡ b ∷ (bytes ++ 10 ∷ []) = take_all (suc (length (b ∷ bytes))) (b ∷ (bytes ++ 10 ∷ [])) (omega (arith, long)) in
-    ap (λ (text : List ℕ). cond (is_input_element text) (suc (length (b ∷ bytes))) (longest_up_to (length (b ∷ bytes)) (b ∷ (bytes ++ 10 ∷ [])))) all
-    ∙ ap (λ (test : Bool). cond test (suc (length (b ∷ bytes))) (longest_up_to (length (b ∷ bytes)) (b ∷ (bytes ++ 10 ∷ [])))) (no_element (b ∷ bytes) [] (b ∷ bytes) 10 refl refl (omega arith))
+    let all : take (suc (length (b ∷ bytes))) (b ∷ (bytes ++ 10 ∷ [])) ≡ b ∷ (bytes ++ 10 ∷ []) =
+    take_all (suc (length (b ∷ bytes))) (b ∷ (bytes ++ 10 ∷ [])) (omega (arith, long)) in
+    ap (λ (text : List ℕ).
+    cond (is_input_element text) (suc (length (b ∷ bytes)))
+    (longest_up_to (length (b ∷ bytes)) (b ∷ (bytes ++ 10 ∷ [])))) all
+    ∙ ap (λ (test : Bool).
+    cond test (suc (length (b ∷ bytes))) (longest_up_to (length (b ∷ bytes)) (b ∷ (bytes ++ 10 ∷ []))))
+    (no_element (b ∷ bytes) [] (b ∷ bytes) 10 refl refl (omega arith))
 
 longest_same : (b : ℕ) (bytes : List ℕ) → longest (b ∷ (bytes ++ 10 ∷ [])) ≡ longest (b ∷ bytes)
 longest_same b bytes =
     let whole : List ℕ = b ∷ (bytes ++ 10 ∷ []) in
     let long : length whole ≡ suc (length (b ∷ bytes)) = omega (arith, length-append bytes (10 ∷ [])) in
-    ap (λ (k : ℕ). longest_up_to k whole) long ∙ shorter b bytes long ∙ up_to_same (length (b ∷ bytes)) (b ∷ bytes) (10 ∷ []) (omega arith)
+    ap (λ (k : ℕ). longest_up_to k whole) long ∙ shorter b bytes long
+    ∙ up_to_same (length (b ∷ bytes)) (b ∷ bytes) (10 ∷ []) (omega arith)
 
 -- Tokens
 
@@ -57,15 +65,18 @@ of_text room at text behind =
     else (if room == 0 then Err (TooMany at)
     else before (token_at at text) (behind (room - 1))))
 
-element_same : (room at n b : ℕ) (bytes : List ℕ) (behind : Behind) → n ≤ length (b ∷ bytes) → element room at n (b ∷ (bytes ++ 10 ∷ [])) behind ≡ element room at n (b ∷ bytes) behind
+element_same : (room at n b : ℕ) (bytes : List ℕ) (behind : Behind) → n ≤ length (b ∷ bytes)
+    → element room at n (b ∷ (bytes ++ 10 ∷ [])) behind ≡ element room at n (b ∷ bytes) behind
 element_same room at zero b bytes behind le = rw (opens_same b bytes) refl
-element_same room at (suc n) b bytes behind le = ap (λ (text : List ℕ). of_text room at text behind) (take-append-le (suc n) (b ∷ bytes) (10 ∷ []) le)
+element_same room at (suc n) b bytes behind le =
+    ap (λ (text : List ℕ). of_text room at text behind) (take-append-le (suc n) (b ∷ bytes) (10 ∷ []) le)
 
 feed_alone : (room at : ℕ) → tokens_from room at 0 (10 ∷ []) ≡ Ok []
 unfolding tokens_from longest_up_to
 feed_alone room at = refl
 
-from_same : (room at skip : ℕ) (bytes : List ℕ) → skip ≤ length bytes → tokens_from room at skip (bytes ++ 10 ∷ []) ≡ tokens_from room at skip bytes
+from_same : (room at skip : ℕ) (bytes : List ℕ) → skip ≤ length bytes
+    → tokens_from room at skip (bytes ++ 10 ∷ []) ≡ tokens_from room at skip bytes
 unfolding tokens_from
 from_same room at zero [] le = feed_alone room at
 from_same room at (suc skip) [] le = absurd (omega arith)
@@ -73,37 +84,50 @@ from_same room at (suc skip) (b ∷ bytes) le = from_same room (at + 1) skip byt
 from_same room at zero (b ∷ bytes) le =
     let n : ℕ = longest (b ∷ bytes) in
     let within : n ≤ length (b ∷ bytes) = longest_le (length (b ∷ bytes)) (b ∷ bytes) in
-    ap (λ (m : ℕ). element room at m (b ∷ (bytes ++ 10 ∷ [])) (λ left. tokens_from left (at + 1) (m - 1) (bytes ++ 10 ∷ []))) (longest_same b bytes)
-    ∙ ap (element room at n (b ∷ (bytes ++ 10 ∷ []))) (fun_ext (λ left. from_same left (at + 1) (n - 1) bytes (omega (arith, within))))
+    ap (λ (m : ℕ).
+    element room at m (b ∷ (bytes ++ 10 ∷ [])) (λ left. tokens_from left (at + 1) (m - 1) (bytes ++ 10 ∷ [])))
+    (longest_same b bytes)
+    ∙ ap (element room at n (b ∷ (bytes ++ 10 ∷ [])))
+    (fun_ext (λ left. from_same left (at + 1) (n - 1) bytes (omega (arith, within))))
     ∙ element_same room at n b bytes (λ left. tokens_from left (at + 1) (n - 1) bytes) within
 
 pub tokens_same : (source : List ℕ) → tokens (with_line_end source) ≡ tokens source
 tokens_same source =
-    elim (cases_Bool (ends_with_line source)) [ inl ends ↦ rw ends refl | inr open_line ↦ rw open_line (from_same token_limit 0 0 source (omega arith)) ]
+    elim (cases_Bool
+    (ends_with_line source)) [ inl ends ↦ rw ends refl | inr open_line ↦ rw open_line (from_same token_limit 0 0 source (omega arith)) ]
 
 -- What the tokens are to the grammar
 
-text_same : (bytes more : List ℕ) (token : Token) → IsTokenOf bytes token → text_of (bytes ++ more) token ≡ text_of bytes token
+text_same : (bytes more : List ℕ) (token : Token) → IsTokenOf bytes token
+    → text_of (bytes ++ more) token ≡ text_of bytes token
 text_same bytes more token is =
     let some = is.some in
     let within = is.within in
     ap (take (token.end - token.start)) (drop-append-le token.start bytes more (omega (arith, some, within)))
-    ∙ take-append-le (token.end - token.start) (drop token.start bytes) more (omega (arith, length-drop token.start bytes, within))
+    ∙ take-append-le (token.end - token.start) (drop token.start bytes) more
+    (omega (arith, length-drop token.start bytes, within))
 
-lexeme_same : (bytes more : List ℕ) (token : Token) → IsTokenOf bytes token → lexeme_at (bytes ++ more) token ≡ lexeme_at bytes token
+lexeme_same : (bytes more : List ℕ) (token : Token) → IsTokenOf bytes token
+    → lexeme_at (bytes ++ more) token ≡ lexeme_at bytes token
 unfolding lexeme_at
 lexeme_same bytes more token is = ap (lexeme_of token.kind) (text_same bytes more token is)
 
-lexemes_same : (bytes more : List ℕ) (found : List Token) → All (IsTokenOf bytes) found → map (lexeme_at (bytes ++ more)) found ≡ map (lexeme_at bytes) found
+lexemes_same : (bytes more : List ℕ) (found : List Token) → All (IsTokenOf bytes) found
+    → map (lexeme_at (bytes ++ more)) found ≡ map (lexeme_at bytes) found
 lexemes_same bytes more [] all = refl
 lexemes_same bytes more (token ∷ found) all =
-    ap (λ (first : Lexeme). first ∷ map (lexeme_at (bytes ++ more)) found) (lexeme_same bytes more token (all 0 token (omega arith)))
-    ∙ ap (λ (rest : List Lexeme). lexeme_at bytes token ∷ rest) (lexemes_same bytes more found (λ k d lt. all (suc k) d (omega arith)))
+    ap (λ (first : Lexeme). first ∷ map (lexeme_at (bytes ++ more)) found)
+    (lexeme_same bytes more token (all 0 token (omega arith)))
+    ∙ ap (λ (rest : List Lexeme). lexeme_at bytes token ∷ rest)
+    (lexemes_same bytes more found (λ k d lt. all (suc k) d (omega arith)))
 
-behind_same : (bytes more : List ℕ) (found : List Token) → tokens bytes ≡ Ok found → sentence (bytes ++ more) found ≡ sentence bytes found
+behind_same : (bytes more : List ℕ) (found : List Token) → tokens bytes ≡ Ok found
+    → sentence (bytes ++ more) found ≡ sentence bytes found
 unfolding sentence
 behind_same bytes more found is = ap (numbered_from 0) (lexemes_same bytes more found (in_order bytes found is).each)
 
-pub sentence_same : (source : List ℕ) (found : List Token) → tokens source ≡ Ok found → sentence (with_line_end source) found ≡ sentence source found
+pub sentence_same : (source : List ℕ) (found : List Token) → tokens source ≡ Ok found
+    → sentence (with_line_end source) found ≡ sentence source found
 sentence_same source found is =
-    elim (cases_Bool (ends_with_line source)) [ inl ends ↦ rw ends refl | inr open_line ↦ rw open_line (behind_same source (10 ∷ []) found is) ]
+    elim (cases_Bool
+    (ends_with_line source)) [ inl ends ↦ rw ends refl | inr open_line ↦ rw open_line (behind_same source (10 ∷ []) found is) ]

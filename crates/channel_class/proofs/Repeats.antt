@@ -18,7 +18,8 @@ count_no m x xs miss = count_cons m x xs ∙ ap (λ c. c + count_by (λ n. m == 
 
 count_not_less : (m x : ℕ) (xs : List ℕ) → count_by (λ n. m == n) xs ≤ count_by (λ n. m == n) (x ∷ xs)
 count_not_less m x xs =
-    elim (cases_Bool (m == x)) [ inl hit ↦ omega (arith, count_yes m x xs hit) | inr miss ↦ omega (arith, count_no m x xs miss) ]
+    elim (cases_Bool
+    (m == x)) [ inl hit ↦ omega (arith, count_yes m x xs hit) | inr miss ↦ omega (arith, count_no m x xs miss) ]
 
 any_counts : (m : ℕ) (xs : List ℕ) → list_any (λ n. m == n) xs ≡ true → 0 < count_by (λ n. m == n) xs
 any_counts m [] h = cc
@@ -59,7 +60,8 @@ counts_repeat m (x ∷ xs) h =
           let again : list_any (λ n. m == n) xs ≡ true = counts_any m xs (omega (arith, count_yes m x xs hit)) in
           or_left (list_any (λ n. x == n) xs) (has_repeat xs) (rw same at again)
       | inr miss ↦
-          or_right (list_any (λ n. x == n) xs) (has_repeat xs) (counts_repeat m xs (omega (arith, count_no m x xs miss)))
+          or_right (list_any (λ n. x == n) xs) (has_repeat xs)
+          (counts_repeat m xs (omega (arith, count_no m x xs miss)))
     ]
 
 carried : (xs ys : List ℕ) → IsPermutation xs ys → has_repeat ys ≡ true → has_repeat xs ≡ true

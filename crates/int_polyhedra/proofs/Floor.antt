@@ -35,7 +35,8 @@ floor_above (negsuc n) d h = omega (arith, ints, sum_times (negsuc (n / d)) (pos
 divides_where : (m : ℕ) → not (m == 0) ≡ false → m ≡ 0
 divides_where m e = grind arith
 
-dot_quotients : (d : ℕ) (cs at : List ℤ) → 0 < d → find (λ c. not (unsigned_abs c % d == 0)) cs ≡ None → dot cs at ≡ dot (map (λ c. floor c d) cs) at *ℤ pos d
+dot_quotients : (d : ℕ) (cs at : List ℤ) → 0 < d → find (λ c. not (unsigned_abs c % d == 0)) cs ≡ None
+    → dot cs at ≡ dot (map (λ c. floor c d) cs) at *ℤ pos d
 dot_quotients d [] at h e = omega (arith, ints)
 dot_quotients d (c ∷ cs) [] h e = omega (arith, ints)
 dot_quotients d (c ∷ cs) (v ∷ at) h e =
@@ -44,5 +45,6 @@ dot_quotients d (c ∷ cs) (v ∷ at) h e =
     let front : c *ℤ v ≡ (floor c d *ℤ v) *ℤ pos d = ap (λ z. z *ℤ v) exact ∙ times_swap (floor c d) (pos d) v in
     omega (arith, ints, front, dot_quotients d cs at h f.1, sum_times (floor c d *ℤ v) (dot (map (λ c. floor c d) cs) at) (pos d))
 
-pub dot_floors : (d : ℕ) (cs at : List ℤ) → 0 < d → not_divisible d cs ≡ None → dot cs at ≡ dot (map (λ c. floor c d) cs) at *ℤ pos d
+pub dot_floors : (d : ℕ) (cs at : List ℤ) → 0 < d → not_divisible d cs ≡ None
+    → dot cs at ≡ dot (map (λ c. floor c d) cs) at *ℤ pos d
 dot_floors d cs at h e = dot_quotients d cs at h (mapped_none _ (find (λ c. not (unsigned_abs c % d == 0)) cs) e)

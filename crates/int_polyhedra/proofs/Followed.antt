@@ -26,15 +26,18 @@ use Rattle.int_polyhedra.proofs.Variables.{split_is, and_both, both_and}
 use Rattle.int_polyhedra.proofs.Cases.{refusal_sum, refusal_cut, refusal_split}
 
 -- what was sought and not found holds of none
-all_from_find : {X : Type 0} (p : X → Bool) (P : X → Type 0) → ((x : X) → p x ≡ false → P x) → (xs : List X) → find p xs ≡ None → All P xs
+all_from_find : {X : Type 0} (p : X → Bool) (P : X → Type 0) → ((x : X) → p x ≡ false → P x) → (xs : List X)
+    → find p xs ≡ None → All P xs
 all_from_find p P turn [] e = All-nil P
 all_from_find p P turn (x ∷ xs) e =
     let f = find_none p x xs e in
     All-cons P x xs (turn x f.0) (all_from_find p P turn xs f.1)
 
-find_from_all : {X : Type 0} (p : X → Bool) (P : X → Type 0) → ((x : X) → P x → p x ≡ false) → (xs : List X) → All P xs → find p xs ≡ None
+find_from_all : {X : Type 0} (p : X → Bool) (P : X → Type 0) → ((x : X) → P x → p x ≡ false) → (xs : List X) → All P xs
+    → find p xs ≡ None
 find_from_all p P turn [] h = refl
-find_from_all p P turn (x ∷ xs) h = ap (λ b. cond b (Some x) (find p xs)) (turn x (All-head P x xs h)) ∙ find_from_all p P turn xs (All-tail P x xs h)
+find_from_all p P turn (x ∷ xs) h =
+    ap (λ b. cond b (Some x) (find p xs)) (turn x (All-head P x xs h)) ∙ find_from_all p P turn xs (All-tail P x xs h)
 
 below_where : (m n : ℕ) → not (nat_lt m n) ≡ false → m < n
 below_where m n e = grind arith
@@ -61,27 +64,43 @@ where_positive : (z : ℤ) → pos 1 ≤ℤ z → int_lt z (pos 1) ≡ false
 where_positive z h = grind (arith, ints)
 
 -- sums
-sum_follows : (vars : ℕ) (rows : List Form) (divisor : Option Reason) (terms : List Term) (sum : Form) → sum_of vars rows divisor terms ≡ Ok sum
+sum_follows : (vars : ℕ) (rows : List Form) (divisor : Option Reason) (terms : List Term) (sum : Form)
+    → sum_of vars rows divisor terms ≡ Ok sum
     → (divisor ≡ None) × IsSumOf vars rows terms sum
 sum_follows vars rows divisor terms sum e =
-    let u = row_unless_ok (option_or (bad_row_number (length rows) terms) (option_or divisor (negative_multiplier terms))) (ok_or (sum_onto rows (constant_form vars (pos 0)) terms) Overflow) sum e in
+    let u = row_unless_ok
+    (option_or (bad_row_number (length rows) terms) (option_or divisor (negative_multiplier terms)))
+    (ok_or (sum_onto rows (constant_form vars (pos 0)) terms) Overflow) sum e in
     let n = option_or_none (bad_row_number (length rows) terms) (option_or divisor (negative_multiplier terms)) u.0 in
     let m = option_or_none divisor (negative_multiplier terms) n.1 in (
       m.0,
       record {
-        name_rows = all_from_find (λ (term : Term). not (nat_lt term.row (length rows))) _ (λ term. below_where term.row (length rows)) terms (mapped_none _ _ n.0);
-        not_negative = all_from_find (λ (term : Term). int_lt term.times (pos 0)) _ (λ term. not_negative_where term.times) terms (mapped_none _ _ m.1);
+        name_rows =
+            all_from_find (λ (term : Term). not (nat_lt term.row (length rows))) _
+            (λ term. below_where term.row (length rows)) terms (mapped_none _ _ n.0);
+        not_negative =
+            all_from_find (λ (term : Term). int_lt term.times (pos 0)) _ (λ term. not_negative_where term.times) terms
+            (mapped_none _ _ m.1);
         is_sum = ok_or_ok (sum_onto rows (constant_form vars (pos 0)) terms) Overflow sum u.1;
       },
     )
 
-follows_sum : (vars : ℕ) (rows : List Form) (divisor : Option Reason) (terms : List Term) (sum : Form) → divisor ≡ None → IsSumOf vars rows terms sum
+follows_sum : (vars : ℕ) (rows : List Form) (divisor : Option Reason) (terms : List Term) (sum : Form) → divisor ≡ None
+    → IsSumOf vars rows terms sum
     → sum_of vars rows divisor terms ≡ Ok sum
 follows_sum vars rows divisor terms sum e s =
-    let n : bad_row_number (length rows) terms ≡ None = ap (option_map (λ term. BadIndex term.row)) (find_from_all (λ (term : Term). not (nat_lt term.row (length rows))) _ (λ term. where_below term.row (length rows)) terms s.name_rows) in
-    let m : negative_multiplier terms ≡ None = ap (option_map (λ term. Negative term.times)) (find_from_all (λ (term : Term). int_lt term.times (pos 0)) _ (λ term. where_not_negative term.times) terms s.not_negative) in
-    let t : option_or (bad_row_number (length rows) terms) (option_or divisor (negative_multiplier terms)) ≡ None = cc in
-    let o : ok_or (sum_onto rows (constant_form vars (pos 0)) terms) Overflow ≡ Ok sum = ap (λ o. ok_or o Overflow) s.is_sum in
+    let n : bad_row_number (length rows) terms ≡ None =
+    ap (option_map (λ term. BadIndex term.row))
+    (find_from_all (λ (term : Term). not (nat_lt term.row (length rows))) _
+    (λ term. where_below term.row (length rows)) terms s.name_rows) in
+    let m : negative_multiplier terms ≡ None =
+    ap (option_map (λ term. Negative term.times))
+    (find_from_all (λ (term : Term). int_lt term.times (pos 0)) _
+    (λ term. where_not_negative term.times) terms s.not_negative) in
+    let t : option_or (bad_row_number (length rows) terms) (option_or divisor (negative_multiplier terms)) ≡ None =
+    cc in
+    let o : ok_or (sum_onto rows (constant_form vars (pos 0)) terms) Overflow ≡ Ok sum =
+    ap (λ o. ok_or o Overflow) s.is_sum in
     ap (λ t. row_unless t (ok_or (sum_onto rows (constant_form vars (pos 0)) terms) Overflow)) t ∙ o
 
 -- the end of a Sum
@@ -105,7 +124,9 @@ all_zero (c ∷ cs) e =
 
 zero_all : (cs : List ℤ) → All (λ c. c ≡ pos 0) cs → list_all (λ c. int_eq c (pos 0)) cs ≡ true
 zero_all [] h = refl
-zero_all (c ∷ cs) h = both_and (int_eq c (pos 0)) (list_all (λ c. int_eq c (pos 0)) cs) (where_zero c (All-head (λ c. c ≡ pos 0) c cs h)) (zero_all cs (All-tail (λ c. c ≡ pos 0) c cs h))
+zero_all (c ∷ cs) h =
+    both_and (int_eq c (pos 0)) (list_all (λ c. int_eq c (pos 0)) cs) (where_zero c (All-head (λ c. c ≡ pos 0) c cs h))
+    (zero_all cs (All-tail (λ c. c ≡ pos 0) c cs h))
 
 end_follows : (sum : Form) → sum_refusal sum ≡ None → IsContradictory sum
 end_follows sum e = go (is_contradictory sum) refl e where
@@ -118,7 +139,8 @@ end_follows sum e = go (is_contradictory sum) refl e where
 follows_end : (sum : Form) → IsContradictory sum → sum_refusal sum ≡ None
 follows_end sum h =
     ap (λ b. cond b None (Some (NotContradictory sum)))
-    (both_and (int_lt sum.constant (pos 0)) (list_all (λ c. int_eq c (pos 0)) sum.coefs) (where_low sum.constant h.negative) (zero_all sum.coefs h.no_variable))
+    (both_and (int_lt sum.constant (pos 0)) (list_all (λ c. int_eq c (pos 0)) sum.coefs)
+    (where_low sum.constant h.negative) (zero_all sum.coefs h.no_variable))
 
 -- the row of a Cut
 divisor_follows : (d : ℤ) → bad_divisor d ≡ None → pos 1 ≤ℤ d
@@ -130,11 +152,13 @@ divisor_follows d e = go (int_lt d (pos 1)) refl e where
 Divides : ℕ → List ℤ → Type 0
 Divides d cs = All (λ c. unsigned_abs c % d ≡ 0) cs
 
-divided_follows : (d : ℕ) (sum row : Form) → divided_row d sum ≡ Ok row → Divides d sum.coefs × (quotient_row d sum ≡ row)
+divided_follows : (d : ℕ) (sum row : Form) → divided_row d sum ≡ Ok row
+    → Divides d sum.coefs × (quotient_row d sum ≡ row)
 unfolding Divides
 divided_follows d sum row e =
     let u = row_unless_ok (not_divisible d sum.coefs) (Ok (quotient_row d sum)) row e in (
-      all_from_find (λ c. not (unsigned_abs c % d == 0)) _ (λ c. divided_where (unsigned_abs c % d)) sum.coefs (mapped_none _ _ u.0),
+      all_from_find (λ c. not (unsigned_abs c % d == 0)) _ (λ c. divided_where (unsigned_abs c % d)) sum.coefs
+          (mapped_none _ _ u.0),
       (let k : Ok (quotient_row d sum) ≡ Ok row = u.1 in cc),
     )
 
@@ -144,15 +168,20 @@ follows_divided d sum h =
     ap (λ t. row_unless (option_map (λ c. NotDivisible c) t) (Ok (quotient_row d sum)))
     (find_from_all (λ c. not (unsigned_abs c % d == 0)) _ (λ c. where_divided (unsigned_abs c % d)) sum.coefs h)
 
-follows_cut : (vars : ℕ) (rows : List Form) (d : ℤ) (terms : List Term) (sum : Form) → pos 1 ≤ℤ d → IsSumOf vars rows terms sum
+follows_cut : (vars : ℕ) (rows : List Form) (d : ℤ) (terms : List Term) (sum : Form) → pos 1 ≤ℤ d
+    → IsSumOf vars rows terms sum
     → Divides (unsigned_abs d) sum.coefs → cut_row vars rows d terms ≡ Ok (quotient_row (unsigned_abs d) sum)
 follows_cut vars rows d terms sum h s e =
-    ap (row_and_then (divided_row (unsigned_abs d))) (follows_sum vars rows (bad_divisor d) terms sum (ap (λ b. cond b (Some (Negative d)) None) (where_positive d h)) s)
+    ap (row_and_then (divided_row (unsigned_abs d)))
+    (follows_sum vars rows (bad_divisor d) terms sum
+    (ap (λ b. cond b (Some (Negative d)) None) (where_positive d h)) s)
     ∙ follows_divided (unsigned_abs d) sum e
 
-follows_split : (vars : ℕ) (form other : Form) → length form.coefs ≡ vars → negation_of form ≡ Some other → split_row vars form ≡ Ok other
+follows_split : (vars : ℕ) (form other : Form) → length form.coefs ≡ vars → negation_of form ≡ Some other
+    → split_row vars form ≡ Ok other
 follows_split vars form other over is =
-    ap (λ b. cond b (ok_or (negation_of form) Overflow) (Err (BadIndex (length form.coefs)))) (eq-eqb (length form.coefs) vars over)
+    ap (λ b. cond b (ok_or (negation_of form) Overflow) (Err (BadIndex (length form.coefs))))
+    (eq-eqb (length form.coefs) vars over)
     ∙ ap (λ o. ok_or o Overflow) is
 
 module _ (vars : ℕ) where
@@ -165,8 +194,10 @@ module _ (vars : ℕ) where
   layer_followed : (y : layer.Proof-F Followed) → IsFollowed (roll-Proof (map-Proof Followed Proof (λ e. e.0) y))
   unfolding IsFollowed Divides
   layer_followed (layer.Sum terms) rows e =
-      refusal_or_none sum_refusal (sum_of vars rows None terms) (sym (refusal_sum vars rows terms) ∙ ap (λ p. refusal vars p rows) (sym (rolls-Sum terms)) ∙ e)
-      (λ sum is end. by_sum rows _ terms sum (rolls-Sum terms) (sum_follows vars rows None terms sum is).1 (end_follows sum end))
+      refusal_or_none sum_refusal (sum_of vars rows None terms)
+      (sym (refusal_sum vars rows terms) ∙ ap (λ p. refusal vars p rows) (sym (rolls-Sum terms)) ∙ e)
+      (λ sum is end.
+      by_sum rows _ terms sum (rolls-Sum terms) (sum_follows vars rows None terms sum is).1 (end_follows sum end))
   layer_followed (layer.Cut d terms rest) rows e =
       refusal_or_none (λ row. refusal vars rest.0 (rows ++ row ∷ [])) (cut_row vars rows d terms)
       (sym (refusal_cut vars rows d terms rest.0) ∙ ap (λ p. refusal vars p rows) (sym (rolls-Cut d terms rest.0)) ∙ e)
@@ -176,14 +207,20 @@ module _ (vars : ℕ) where
       let s = sum_follows vars rows (bad_divisor d) terms sum is-sum in
       let q = divided_follows (unsigned_abs d) sum row div in
       by_cut rows _ d terms rest.0 sum (rolls-Cut d terms rest.0) (divisor_follows d s.0) s.1 q.0
-      (rest.1 (rows ++ quotient_row (unsigned_abs d) sum ∷ []) (ap (λ row. refusal vars rest.0 (rows ++ row ∷ [])) q.1 ∙ end))))
+      (rest.1 (rows ++ quotient_row (unsigned_abs d) sum ∷ [])
+      (ap (λ row. refusal vars rest.0 (rows ++ row ∷ [])) q.1 ∙ end))))
   layer_followed (layer.Split form above below) rows e =
-      refusal_or_none (λ other. option_or (refusal vars above.0 (rows ++ form ∷ [])) (refusal vars below.0 (rows ++ other ∷ []))) (split_row vars form)
-      (sym (refusal_split vars rows form above.0 below.0) ∙ ap (λ p. refusal vars p rows) (sym (rolls-Split form above.0 below.0)) ∙ e)
+      refusal_or_none
+      (λ other. option_or (refusal vars above.0 (rows ++ form ∷ [])) (refusal vars below.0 (rows ++ other ∷ [])))
+      (split_row vars form)
+      (sym (refusal_split vars rows form above.0 below.0)
+      ∙ ap (λ p. refusal vars p rows) (sym (rolls-Split form above.0 below.0)) ∙ e)
       (λ other is end.
       let o = split_is vars form other (sym is) in
-      let ends = option_or_none (refusal vars above.0 (rows ++ form ∷ [])) (refusal vars below.0 (rows ++ other ∷ [])) end in
-      by_split rows _ form other above.0 below.0 (rolls-Split form above.0 below.0) o.0 o.1 (above.1 (rows ++ form ∷ []) ends.0) (below.1 (rows ++ other ∷ []) ends.1))
+      let ends =
+      option_or_none (refusal vars above.0 (rows ++ form ∷ [])) (refusal vars below.0 (rows ++ other ∷ [])) end in
+      by_split rows _ form other above.0 below.0 (rolls-Split form above.0 below.0) o.0 o.1
+      (above.1 (rows ++ form ∷ []) ends.0) (below.1 (rows ++ other ∷ []) ends.1))
 
   pub refuted_follows : (p : Proof) (rows : List Form) → refusal vars p rows ≡ None → Refutes vars rows p
   unfolding IsFollowed
@@ -200,26 +237,33 @@ module _ (vars : ℕ) where
       ∙ follows_refuted (rows ++ quotient_row (unsigned_abs d) sum ∷ []) rest more
   follows_refuted _ _ (by_split rows p form other above below is over neg yes' no') =
       ap (λ p. refusal vars p rows) is ∙ refusal_split vars rows form above below
-      ∙ ap (refusal_or (λ other. option_or (refusal vars above (rows ++ form ∷ [])) (refusal vars below (rows ++ other ∷ [])))) (follows_split vars form other over neg)
+      ∙ ap (refusal_or
+      (λ other. option_or (refusal vars above (rows ++ form ∷ [])) (refusal vars below (rows ++ other ∷ []))))
+      (follows_split vars form other over neg)
       ∙ ap (λ o. option_or o (refusal vars below (rows ++ other ∷ []))) (follows_refuted (rows ++ form ∷ []) above yes')
       ∙ follows_refuted (rows ++ other ∷ []) below no'
 
 -- what the results of the calls say
-pub refutes_follows : {U : Type 0} (vars : ℕ) (rows : List Form) (p : Proof) (r : Result U Reason) → result_err r ≡ refusal vars p rows → IsOk r ↔ Refutes vars rows p
+pub refutes_follows : {U : Type 0} (vars : ℕ) (rows : List Form) (p : Proof) (r : Result U Reason)
+    → result_err r ≡ refusal vars p rows → IsOk r ↔ Refutes vars rows p
 refutes_follows vars rows p (Ok u) e = ((λ h. refuted_follows vars p rows (sym e)), (λ h. refl))
 refutes_follows vars rows p (Err x) e =
     ((λ h. absurd (let k : false ≡ true = h in cc)), (λ h. absurd (let k : Some x ≡ None = e ∙ follows_refuted vars rows p h in cc)))
 
-entailment_follows : (vars : ℕ) (rows : List Form) (row : Form) (p : Proof) → entailment_refusal vars rows row p ≡ None → ProvesEntailment vars rows row p
+entailment_follows : (vars : ℕ) (rows : List Form) (row : Form) (p : Proof) → entailment_refusal vars rows row p ≡ None
+    → ProvesEntailment vars rows row p
 entailment_follows vars rows row p e =
     refusal_or_none (λ other. refusal vars p (rows ++ other ∷ [])) (split_row vars row) e
     (λ other is end. (other, (split_is vars row other (sym is)).1, refuted_follows vars p (rows ++ other ∷ []) end))
 
-follows_entailment : (vars : ℕ) (rows : List Form) (row : Form) (p : Proof) → length row.coefs ≡ vars → ProvesEntailment vars rows row p → entailment_refusal vars rows row p ≡ None
+follows_entailment : (vars : ℕ) (rows : List Form) (row : Form) (p : Proof) → length row.coefs ≡ vars
+    → ProvesEntailment vars rows row p → entailment_refusal vars rows row p ≡ None
 follows_entailment vars rows row p over h =
-    ap (refusal_or (λ other. refusal vars p (rows ++ other ∷ []))) (follows_split vars row h.0 over h.1) ∙ follows_refuted vars (rows ++ h.0 ∷ []) p h.2
+    ap (refusal_or (λ other. refusal vars p (rows ++ other ∷ []))) (follows_split vars row h.0 over h.1)
+    ∙ follows_refuted vars (rows ++ h.0 ∷ []) p h.2
 
-pub entails_follows : {U : Type 0} (vars : ℕ) (rows : List Form) (row : Form) (p : Proof) (r : Result U Reason) → length row.coefs ≡ vars → result_err r ≡ entailment_refusal vars rows row p
+pub entails_follows : {U : Type 0} (vars : ℕ) (rows : List Form) (row : Form) (p : Proof) (r : Result U Reason)
+    → length row.coefs ≡ vars → result_err r ≡ entailment_refusal vars rows row p
     → IsOk r ↔ ProvesEntailment vars rows row p
 entails_follows vars rows row p (Ok u) over e = ((λ h. entailment_follows vars rows row p (sym e)), (λ h. refl))
 entails_follows vars rows row p (Err x) over e =

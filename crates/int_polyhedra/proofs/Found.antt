@@ -15,7 +15,8 @@ pub mapped_none : {X Y : Type 0} (f : X → Y) (o : Option X) → option_map f o
 mapped_none f None e = refl
 mapped_none f (Some x) e = absurd (let g : Some (f x) ≡ None = e in cc)
 
-pub find_none : {X : Type 0} (p : X → Bool) (x : X) (xs : List X) → find p (x ∷ xs) ≡ None → (p x ≡ false) × (find p xs ≡ None)
+pub find_none : {X : Type 0} (p : X → Bool) (x : X) (xs : List X) → find p (x ∷ xs) ≡ None
+    → (p x ≡ false) × (find p xs ≡ None)
 find_none p x xs e = go (p x) refl e where
   go : (b : Bool) → p x ≡ b → cond b (Some x) (find p xs) ≡ None → (p x ≡ false) × (find p xs ≡ None)
   go true is e = absurd (let g : Some x ≡ None = e in cc)
@@ -26,4 +27,5 @@ pub sum_onto_more : (rows : List Form) (start sum next : Form) (terms : List Ter
     → sum_onto rows start terms ≡ sum_onto rows sum (drop i terms) → Some next ≡ sum_with rows sum (get_or terms i d)
     → sum_onto rows start terms ≡ sum_onto rows next (drop (i + 1) terms)
 sum_onto_more rows start sum next terms i d h so_far is =
-    so_far ∙ ap (sum_onto rows sum) (drop_one terms i d h) ∙ ap (option_and_then (λ next. sum_onto rows next (drop (i + 1) terms))) (sym is)
+    so_far ∙ ap (sum_onto rows sum) (drop_one terms i d h)
+    ∙ ap (option_and_then (λ next. sum_onto rows next (drop (i + 1) terms))) (sym is)

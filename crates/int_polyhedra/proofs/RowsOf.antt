@@ -10,7 +10,8 @@ use Rattle.int_polyhedra.specs.declared.rows.Rows.TheFolds.{fold-roll-Rows}
 use Rattle.int_polyhedra.specs.Chain.{rows_of, rows_step}
 
 pub rows_of_more : (above : Bor Rows) (row : Bor Form) → rows_of (More above row) ≡ rows_of above.now ++ row.now ∷ []
-rows_of_more above row = ap rows_of (sym (rolls-More above row)) ∙ fold-roll-Rows (List Form) rows_step (layer.More above row)
+rows_of_more above row =
+    ap rows_of (sym (rolls-More above row)) ∙ fold-roll-Rows (List Form) rows_step (layer.More above row)
 
 pub rows_of_given : (given : Bor (List Form)) → rows_of (Given given) ≡ given.now
 rows_of_given given = ap rows_of (sym (rolls-Given given)) ∙ fold-roll-Rows (List Form) rows_step (layer.Given given)
@@ -21,7 +22,8 @@ get_last [] x (suc k) e = absurd (omega arith)
 get_last (y ∷ xs) x zero e = absurd (omega arith)
 get_last (y ∷ xs) x (suc k) e = get_last xs x k (omega arith)
 
-pub get_before : {X : Type 0} (xs ys : List X) (k : ℕ) (x : X) → slice_get xs k ≡ Some x → slice_get (xs ++ ys) k ≡ Some x
+pub get_before : {X : Type 0} (xs ys : List X) (k : ℕ) (x : X) → slice_get xs k ≡ Some x
+    → slice_get (xs ++ ys) k ≡ Some x
 get_before [] ys k x e = cc
 get_before (y ∷ xs) ys zero x e = e
 get_before (y ∷ xs) ys (suc k) x e = get_before xs ys k x e

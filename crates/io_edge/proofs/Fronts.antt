@@ -16,6 +16,7 @@ pub front_after : (old mid new : Option (List ℕ)) (done piece rest whole : Lis
     → Appends old mid done → AppendsFront mid new piece → whole ≡ done ++ (piece ++ rest) → AppendsFront old new whole
 front_after old mid new done piece rest whole before (count, within, came) e =
     let front : take (length done + count) whole ≡ done ++ take count piece =
-    ap (take (length done + count)) e ∙ take-append-add done (piece ++ rest) count ∙ ap (λ (xs : List ℕ). done ++ xs) (take-append-le count piece rest within) in
+    ap (take (length done + count)) e ∙ take-append-add done (piece ++ rest) count
+    ∙ ap (λ (xs : List ℕ). done ++ xs) (take-append-le count piece rest within) in
     let short : length done + count ≤ length whole = rw (e, length-append, length-append) (omega (arith, within)) in
     (length done + count, short, rw front (Appends-trans old mid new done (take count piece) before came))

@@ -12,7 +12,8 @@ termwise_is op n (z ∷ zs) [] ys e x y at = absurd (omega arith)
 termwise_is op n (z ∷ zs) (x ∷ xs) [] e f g at = absurd (omega arith)
 termwise_is op zero (z ∷ zs) (x ∷ xs) (y ∷ ys) e f g at = absurd (omega arith)
 termwise_is op (suc n) (z ∷ zs) (x ∷ xs) (y ∷ ys) e f g at =
-    let rest : zs ≡ termwise op xs ys = termwise_is op n zs xs ys (omega arith) (omega arith) (omega arith) (λ k h. at (suc k) (omega arith)) in
+    let rest : zs ≡ termwise op xs ys =
+    termwise_is op n zs xs ys (omega arith) (omega arith) (omega arith) (λ k h. at (suc k) (omega arith)) in
     let first : z ≡ op x y = at 0 (omega arith) in
     λ i. first i ∷ rest i
 

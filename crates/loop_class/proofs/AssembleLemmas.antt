@@ -29,7 +29,8 @@ use Rattle.loop_class.proofs.NestsArrays.{FewExtents, declarations_sound}
 use Rattle.loop_class.proofs.NestsTerminals.{sources_length}
 use Rattle.loop_class.proofs.NestsValues.{none_left}
 
-pick : (b : Bool) (x y : BindError) (fs : List BindError) → ((z : BindError) → least_from (Some z) fs ≡ None → ⊥) → least_from (if b then Some x else Some y) fs ≡ None → ⊥
+pick : (b : Bool) (x y : BindError) (fs : List BindError) → ((z : BindError) → least_from (Some z) fs ≡ None → ⊥)
+    → least_from (if b then Some x else Some y) fs ≡ None → ⊥
 pick true x y fs stays e = stays x e
 pick false x y fs stays e = stays y e
 
@@ -43,7 +44,8 @@ none_found [] e = refl
 none_found (f ∷ fs) e = absurd (some_stays fs f e)
 
 -- the least reason is told
-pub told : (tree : Tree) (params : Values) (reason : BindError) → least_from None (findings tree params) ≡ Some reason → Binds tree params (Err reason)
+pub told : (tree : Tree) (params : Values) (reason : BindError) → least_from None (findings tree params) ≡ Some reason
+    → Binds tree params (Err reason)
 told tree params (UnknownName token) h = h
 told tree params (Duplicate token) h = h
 told tree params (Unbound token) h = h
@@ -59,35 +61,47 @@ told tree params (StepMax token) h = h
 told tree params (StepRange token) h = h
 told tree params Memory h = tt
 
-pub whole_body : (arrays : List ArrayDecl) (next_loop first : ℕ) (assignments s0 s1 s2 : List Statement) (nodes b0 b1 b2 b3 : List Node)
+pub whole_body : (arrays : List ArrayDecl) (next_loop first : ℕ) (assignments s0 s1 s2 : List Statement)
+    (nodes b0 b1 b2 b3 : List Node)
     → s0 ≡ [] → b0 ≡ [] → s1 ≡ s0 ++ sources_from 0 0 arrays → b1 ≡ b0 ++ array_loops 0 0 (input_extents arrays)
-    → s2 ≡ s1 ++ assignments → b2 ≡ b1 ++ nodes → first ≡ length s2 → b3 ≡ b2 ++ array_loops next_loop first (output_extents arrays)
-    → b3 ≡ array_loops 0 0 (input_extents arrays) ++ (nodes ++ array_loops next_loop (length (input_extents arrays) + length assignments) (output_extents arrays))
+    → s2 ≡ s1 ++ assignments → b2 ≡ b1 ++ nodes → first ≡ length s2
+    → b3 ≡ b2 ++ array_loops next_loop first (output_extents arrays)
+    → b3 ≡ array_loops 0 0 (input_extents arrays)
+    ++ (nodes ++ array_loops next_loop (length (input_extents arrays) + length assignments) (output_extents arrays))
 whole_body arrays next_loop first assignments s0 s1 s2 nodes b0 b1 b2 b3 es eb hs hb ms mb count last =
     let sources : s1 ≡ sources_from 0 0 arrays = hs ∙ ap (λ s. s ++ sources_from 0 0 arrays) es in
-    let loops : b1 ≡ array_loops 0 0 (input_extents arrays) = hb ∙ ap (λ b. b ++ array_loops 0 0 (input_extents arrays)) eb in
+    let loops : b1 ≡ array_loops 0 0 (input_extents arrays) =
+    hb ∙ ap (λ b. b ++ array_loops 0 0 (input_extents arrays)) eb in
     let number : first ≡ length (input_extents arrays) + length assignments =
-    count ∙ ap length ms ∙ length-append s1 assignments ∙ ap (λ s. length s + length assignments) sources ∙ ap (λ n. n + length assignments) (sources_length 0 0 arrays) in
+    count ∙ ap length ms ∙ length-append s1 assignments ∙ ap (λ s. length s + length assignments) sources
+    ∙ ap (λ n. n + length assignments) (sources_length 0 0 arrays) in
     last ∙ (λ i. (mb ∙ ap (λ b. b ++ nodes) loops) i ++ array_loops next_loop (number i) (output_extents arrays))
-    ∙ append_assoc (array_loops 0 0 (input_extents arrays)) nodes (array_loops next_loop (length (input_extents arrays) + length assignments) (output_extents arrays))
+    ∙ append_assoc (array_loops 0 0 (input_extents arrays)) nodes
+    (array_loops next_loop (length (input_extents arrays) + length assignments) (output_extents arrays))
 
 pub reading_is : (tree : Tree) (params : Values) (t : Table) (c0 c1 : Context) (p0 p1 : Progress) (n0 n1 : List Node)
     → Stands t (declared params tree.declarations)
-    → c0 ≡ outer_context (declared params tree.declarations) → p0.first ≡ length (input_extents (declared params tree.declarations).arrays)
-    → p0.next_loop ≡ loop_count (input_extents (declared params tree.declarations).arrays) → p0.statements ≡ [] → p0.least ≡ t.least → n0 ≡ []
+    → c0 ≡ outer_context (declared params tree.declarations)
+    → p0.first ≡ length (input_extents (declared params tree.declarations).arrays)
+    → p0.next_loop ≡ loop_count (input_extents (declared params tree.declarations).arrays) → p0.statements ≡ []
+    → p0.least ≡ t.least → n0 ≡ []
     → Makes c0 c1 p0 p1 n0 n1 (parts_made tree.parts c0 p0.next_loop (next_statement p0))
-    → IsReadingOf (record { arrays = t.arrays; statements = p1.statements; nodes = n1; next_loop = p1.next_loop; least = p1.least }) tree params
+    → IsReadingOf
+    (record { arrays = t.arrays; statements = p1.statements; nodes = n1; next_loop = p1.next_loop; least = p1.least }) tree params
 unfolding findings
 reading_is tree params t c0 c1 p0 p1 n0 n1 stands context first loops none least nodes h =
     let d : Declared = declared params tree.declarations in
-    let number : next_statement p0 ≡ length (input_extents d.arrays) = ap (λ s. p0.first + length s) none ∙ plus_zero p0.first ∙ first in
-    let same : parts_made tree.parts c0 p0.next_loop (next_statement p0) ≡ body_made tree d = λ i. parts_made tree.parts (context i) (loops i) (number i) in
+    let number : next_statement p0 ≡ length (input_extents d.arrays) =
+    ap (λ s. p0.first + length s) none ∙ plus_zero p0.first ∙ first in
+    let same : parts_made tree.parts c0 p0.next_loop (next_statement p0) ≡ body_made tree d =
+    λ i. parts_made tree.parts (context i) (loops i) (number i) in
     record {
       arrays = stands.1;
       statements = ap (λ p. p.statements) h.progress ∙ (λ i. none i ++ (same i).statements);
       nodes = h.nodes ∙ (λ i. nodes i ++ (same i).nodes);
       next_loop = ap (λ p. p.next_loop) h.progress ∙ ap (λ m. m.next_loop) same;
-      least = ap (λ p. p.least) h.progress ∙ (λ i. least_from (least i) (same i).findings) ∙ ap (λ l. least_from l (body_made tree d).findings) stands.2
+      least = ap (λ p. p.least) h.progress ∙ (λ i. least_from (least i) (same i).findings)
+          ∙ ap (λ l. least_from l (body_made tree d).findings) stands.2
           ∙ sym (least_append None d.findings (body_made tree d).findings);
     }
   where
@@ -96,7 +110,8 @@ reading_is tree params t c0 c1 p0 p1 n0 n1 stands context first loops none least
 
 small_extents : (arrays : List ArrayDecl) → Each FewExtents arrays → IsTrue (list_all has_small_extents arrays)
 small_extents [] h = refl
-small_extents (array ∷ arrays) h = both_true (both_true (le-leb (length array.extents) 6 h.0.few) h.0.limited) (small_extents arrays h.1)
+small_extents (array ∷ arrays) h =
+    both_true (both_true (le-leb (length array.extents) 6 h.0.few) h.0.limited) (small_extents arrays h.1)
 
 module _ (tree : Tree) (params : Values) (r : Reading) (is : IsReadingOf r tree params) (none : r.least ≡ None) where
   pub no_findings : findings tree params ≡ []
@@ -107,24 +122,33 @@ module _ (tree : Tree) (params : Values) (r : Reading) (is : IsReadingOf r tree 
   reading_small =
       let d : Declared = declared params tree.declarations in
       subst (λ arrays. IsTrue (list_all has_small_extents arrays)) (sym is.arrays)
-      (small_extents d.arrays (declarations_sound params tree.declarations (none_left d.findings (body_made tree d).findings no_findings)).extents)
+      (small_extents d.arrays
+      (declarations_sound params tree.declarations
+      (none_left d.findings (body_made tree d).findings no_findings)).extents)
 
   module _ (statements : List Statement) (body : List Node)
       (first : statements ≡ sources_from 0 0 r.arrays ++ (r.statements ++ sinks_from 0 r.next_loop r.arrays))
-      (second : body ≡ array_loops 0 0 (input_extents r.arrays) ++ (r.nodes ++ array_loops r.next_loop (length (input_extents r.arrays) + length r.statements) (output_extents r.arrays))) where
+      (second : body
+      ≡ array_loops 0 0 (input_extents r.arrays)
+      ++ (r.nodes ++ array_loops r.next_loop (length (input_extents r.arrays) + length r.statements)
+      (output_extents r.arrays))) where
     pub arrays_bound : r.arrays ≡ (nest_of tree params).arrays
     unfolding nest_of
     arrays_bound = is.arrays
 
     pub statements_bound : statements ≡ (nest_of tree params).statements
     unfolding nest_of
-    statements_bound = first ∙ (λ i. sources_from 0 0 (is.arrays i) ++ (is.statements i ++ sinks_from 0 (is.next_loop i) (is.arrays i)))
+    statements_bound =
+        first ∙ (λ i.
+        sources_from 0 0 (is.arrays i) ++ (is.statements i ++ sinks_from 0 (is.next_loop i) (is.arrays i)))
 
     pub body_bound : body ≡ (nest_of tree params).body
     unfolding nest_of
     body_bound =
         second ∙ (λ i. array_loops 0 0 (input_extents (is.arrays i))
-        ++ (is.nodes i ++ array_loops (is.next_loop i) (length (input_extents (is.arrays i)) + length (is.statements i)) (output_extents (is.arrays i))))
+        ++ (is.nodes i
+        ++ array_loops (is.next_loop i) (length (input_extents (is.arrays i)) + length (is.statements i))
+        (output_extents (is.arrays i))))
 
     pub reading_well_formed : IsWellFormed r.arrays statements body
     reading_well_formed =

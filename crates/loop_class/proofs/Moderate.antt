@@ -56,7 +56,8 @@ bound_less v h = let b = limited_between v h in bound_from (v -ℤ pos 1) (omega
 pub moderate_bound_number : (v : ℤ) → IsTrue (is_bound_number v) → IsTrue (is_moderate v)
 moderate_bound_number v h = let b = bound_between v h in moderate_from v (omega (arith, ints), omega (arith, ints))
 
-pub moderate_reach_number : (v w : ℤ) → IsTrue (is_bound_number v) → IsTrue (is_limited_number w) → IsTrue (is_moderate (v -ℤ w))
+pub moderate_reach_number : (v w : ℤ) → IsTrue (is_bound_number v) → IsTrue (is_limited_number w)
+    → IsTrue (is_moderate (v -ℤ w))
 moderate_reach_number v w h k =
     let b = bound_between v h in
     let c = limited_between w k in
@@ -64,15 +65,18 @@ moderate_reach_number v w h k =
 
 -- a number that is taken from none is moderate too
 pub moderate_negated : (v : ℤ) → IsTrue (is_limited_number v) → IsTrue (is_moderate ((pos 0 -ℤ pos 0) -ℤ v))
-moderate_negated v h = let b = limited_between v h in moderate_from ((pos 0 -ℤ pos 0) -ℤ v) (omega (arith, ints), omega (arith, ints))
+moderate_negated v h =
+    let b = limited_between v h in moderate_from ((pos 0 -ℤ pos 0) -ℤ v) (omega (arith, ints), omega (arith, ints))
 
-pub moderate_gap : (v w : ℤ) → IsTrue (is_limited_number v) → IsTrue (is_limited_number w) → IsTrue (is_moderate (v -ℤ w))
+pub moderate_gap : (v w : ℤ) → IsTrue (is_limited_number v) → IsTrue (is_limited_number w)
+    → IsTrue (is_moderate (v -ℤ w))
 moderate_gap v w h k =
     let b = limited_between v h in
     let c = limited_between w k in
     moderate_from (v -ℤ w) (omega (arith, ints), omega (arith, ints))
 
-moderate_gap_less : (v w : ℤ) → IsTrue (is_limited_number v) → IsTrue (is_limited_number w) → IsTrue (is_moderate ((v -ℤ w) -ℤ pos 1))
+moderate_gap_less : (v w : ℤ) → IsTrue (is_limited_number v) → IsTrue (is_limited_number w)
+    → IsTrue (is_moderate ((v -ℤ w) -ℤ pos 1))
 moderate_gap_less v w h k =
     let b = limited_between v h in
     let c = limited_between w k in
@@ -112,12 +116,14 @@ module _ (f : Affine) (h : IsTrue (is_limited f)) where
 module _ (f g : Affine) (h : IsTrue (is_limited f)) (k : IsTrue (is_limited g)) where
   pub moderate_difference : IsTrue (is_moderate_form (difference_form f g))
   moderate_difference =
-      both_true (moderate_gap f.constant g.constant (constant_limited f h) (constant_limited g k)) (moderate_gaps f.coefs g.coefs (coefs_limited f h) (coefs_limited g k))
+      both_true (moderate_gap f.constant g.constant (constant_limited f h) (constant_limited g k))
+      (moderate_gaps f.coefs g.coefs (coefs_limited f h) (coefs_limited g k))
 
   -- so is a difference with 1 taken off
   pub moderate_lowered_difference : IsTrue (is_moderate_form (lowered_form (difference_form f g)))
   moderate_lowered_difference =
-      both_true (moderate_gap_less f.constant g.constant (constant_limited f h) (constant_limited g k)) (moderate_gaps f.coefs g.coefs (coefs_limited f h) (coefs_limited g k))
+      both_true (moderate_gap_less f.constant g.constant (constant_limited f h) (constant_limited g k))
+      (moderate_gaps f.coefs g.coefs (coefs_limited f h) (coefs_limited g k))
 
 module _ (f : Affine) (h : IsTrue (is_bound_form f)) where
   pub bound_constant : IsTrue (is_bound_number f.constant)
@@ -132,7 +138,8 @@ module _ (f : Affine) (h : IsTrue (is_bound_form f)) where
   -- how far an upper form reaches above a lower one
   pub moderate_reach : (g : Affine) → IsTrue (is_limited g) → IsTrue (is_moderate_form (difference_form f g))
   moderate_reach g k =
-      both_true (moderate_reach_number f.constant g.constant bound_constant (constant_limited g k)) (moderate_gaps f.coefs g.coefs bound_coefs (coefs_limited g k))
+      both_true (moderate_reach_number f.constant g.constant bound_constant (constant_limited g k))
+      (moderate_gaps f.coefs g.coefs bound_coefs (coefs_limited g k))
 
 pub bound_forms : (fs : List Affine) → IsTrue (list_all is_limited fs) → IsTrue (list_all is_bound_form fs)
 bound_forms [] h = refl
@@ -145,7 +152,8 @@ limited_zeros : (room : ℕ) → IsTrue (list_all is_limited_number (replicate r
 limited_zeros zero = refl
 limited_zeros (suc room) = limited_zeros room
 
-pub limited_multiples : (room : ℕ) (k : ℤ) (v : ℕ) → IsTrue (is_limited_number k) → IsTrue (list_all is_limited_number (slice_set (replicate room (pos 0)) v k))
+pub limited_multiples : (room : ℕ) (k : ℤ) (v : ℕ) → IsTrue (is_limited_number k)
+    → IsTrue (list_all is_limited_number (slice_set (replicate room (pos 0)) v k))
 limited_multiples zero k v h = refl
 limited_multiples (suc room) k zero h = both_true h (limited_zeros room)
 limited_multiples (suc room) k (suc v) h = limited_multiples room k v h
@@ -154,12 +162,14 @@ pub limited_multiple : (k : ℤ) (v : ℕ) → IsTrue (is_limited_number k) → 
 limited_multiple k v h = limited_multiples 6 k v h
 
 -- the last value of a loop up to a limited extent
-last_between : (e : ℤ) → IsTrue (is_limited_number e) → Between (negsuc 2147483647) (pos 2147483647) (pos (natural e) -ℤ pos 1)
+last_between : (e : ℤ) → IsTrue (is_limited_number e)
+    → Between (negsuc 2147483647) (pos 2147483647) (pos (natural e) -ℤ pos 1)
 last_between (pos n) h = let b = limited_between (pos n) h in (omega (arith, ints), omega (arith, ints))
 last_between (negsuc n) h = (omega (arith, ints), omega (arith, ints))
 
 pub bound_last_number : (e : ℤ) → IsTrue (is_limited_number e) → IsTrue (is_bound_number (pos (natural e) -ℤ pos 1))
 bound_last_number e h = bound_from (pos (natural e) -ℤ pos 1) (last_between e h)
 
-pub bound_last : (e : ℤ) → IsTrue (is_limited_number e) → IsTrue (is_bound_form (constant_form (pos (natural e) -ℤ pos 1)))
+pub bound_last : (e : ℤ) → IsTrue (is_limited_number e)
+    → IsTrue (is_bound_form (constant_form (pos (natural e) -ℤ pos 1)))
 bound_last e h = both_true (bound_last_number e h) refl

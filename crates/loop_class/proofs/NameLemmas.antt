@@ -12,7 +12,8 @@ use Rattle.loop_class.specs.Names.{value_named}
 abbrev pub shown : {X : Type 0} → Vec ℕ Global × X → List ℕ × X
 shown e = (e.0.items, e.1)
 
-pub lookup_shown : {X : Type 0} (name : List ℕ) (es : List (Vec ℕ Global × X)) → lookup (λ k. bytes_eq name k.items) es ≡ value_named (map shown es) name
+pub lookup_shown : {X : Type 0} (name : List ℕ) (es : List (Vec ℕ Global × X))
+    → lookup (λ k. bytes_eq name k.items) es ≡ value_named (map shown es) name
 lookup_shown name [] = refl
 lookup_shown name (e ∷ es) = ap (λ r. cond (bytes_eq name e.0.items) (Some e.1) r) (lookup_shown name es)
 
@@ -37,13 +38,16 @@ module _ {X : Type 0} (name : List ℕ) (es : List (Vec ℕ Global × X)) (all :
   is_new e = none_from (value_named all name) (is_there false e)
 
 -- a new name comes to the end
-pub shown_insert : {X : Type 0} (key : Vec ℕ Global) (x : X) (es new : List (Vec ℕ Global × X)) (all : List (List ℕ × X)) (name : List ℕ)
+pub shown_insert : {X : Type 0} (key : Vec ℕ Global) (x : X) (es new : List (Vec ℕ Global × X))
+    (all : List (List ℕ × X)) (name : List ℕ)
     → map shown es ≡ all → key.items ≡ name → new ≡ es ++ (key, x) ∷ [] → map shown new ≡ all ++ (name, x) ∷ []
 shown_insert key x es new all name seen text e =
     ap (map shown) e ∙ map-append shown es ((key, x) ∷ []) ∙ (λ i. seen i ++ (text i, x) ∷ [])
 
 -- a key whose bytes are no name of the list isn't in the map
-pub key_is_new : {X : Type 0} (key : Vec ℕ Global) (es : List (Vec ℕ Global × X)) (all : List (List ℕ × X)) (name : List ℕ)
-    → map shown es ≡ all → key.items ≡ name → value_named all name ≡ None → lookup (λ k. bytes_eq key.items k.items) es ≡ None
+pub key_is_new : {X : Type 0} (key : Vec ℕ Global) (es : List (Vec ℕ Global × X)) (all : List (List ℕ × X))
+    (name : List ℕ)
+    → map shown es ≡ all → key.items ≡ name → value_named all name ≡ None
+    → lookup (λ k. bytes_eq key.items k.items) es ≡ None
 key_is_new key es all name seen text none =
     lookup_shown key.items es ∙ ap (λ l. value_named l key.items) seen ∙ ap (value_named all) text ∙ none

@@ -26,37 +26,44 @@ use Rattle.loop_class.proofs.NestsParts.{IsAssignment, GivesParts, all_well}
 use Rattle.loop_class.proofs.NestsTerminals.{InRole, few_where, length_loops, loops_numbered, loops_fit, sources_length, sinks_length, sources_roles, sinks_roles, sources_in_role, sinks_in_role, sources_placed, sinks_placed, sources_fit, sinks_fit, from_start}
 use Rattle.loop_class.proofs.NestsValues.{none_left, none_right, all_append}
 
-roles_assign : (arrays : List ArrayDecl) (statements : List Statement) → Each (IsAssignment arrays) statements → map (λ s. s.role) statements ≡ replicate (length statements) role.Assign
+roles_assign : (arrays : List ArrayDecl) (statements : List Statement) → Each (IsAssignment arrays) statements
+    → map (λ s. s.role) statements ≡ replicate (length statements) role.Assign
 roles_assign arrays [] h = refl
 roles_assign arrays (s ∷ statements) h = let rest = roles_assign arrays statements h.1 in λ i. h.0.role i ∷ rest i
 
 assign_in_role : (s : Statement) → s.role ≡ role.Assign → InRole s
 assign_in_role s e = ap (λ r. in_role r s) e
 
-all_in_role : (statements : List Statement) → Each InRole statements → map (λ s. in_role s.role s) statements ≡ statements
+all_in_role : (statements : List Statement) → Each InRole statements
+    → map (λ s. in_role s.role s) statements ≡ statements
 all_in_role [] h = refl
 all_in_role (s ∷ statements) h = let rest = all_in_role statements h.1 in λ i. h.0 i ∷ rest i
 
-all_statements_fit : (arrays : List ArrayDecl) (statements : List Statement) → Each (IsAssignment arrays) statements → IsTrue (list_all (statement_fits arrays) statements)
+all_statements_fit : (arrays : List ArrayDecl) (statements : List Statement) → Each (IsAssignment arrays) statements
+    → IsTrue (list_all (statement_fits arrays) statements)
 all_statements_fit arrays [] h = refl
 all_statements_fit arrays (s ∷ statements) h = both_true h.0.fits (all_statements_fit arrays statements h.1)
 
-few_extents_all : (arrays : List ArrayDecl) → Each FewExtents arrays → IsTrue (list_all (λ array. nat_le (length array.extents) 6) arrays)
+few_extents_all : (arrays : List ArrayDecl) → Each FewExtents arrays
+    → IsTrue (list_all (λ array. nat_le (length array.extents) 6) arrays)
 few_extents_all [] h = refl
 few_extents_all (array ∷ arrays) h = both_true (le-leb (length array.extents) 6 h.0.few) (few_extents_all arrays h.1)
 
 -- what stands between a front and a back
-between_is : (first middle last : List Node) (m n : ℕ) → length first ≡ m → length last ≡ n → between m n (first ++ (middle ++ last)) ≡ middle
+between_is : (first middle last : List Node) (m n : ℕ) → length first ≡ m → length last ≡ n
+    → between m n (first ++ (middle ++ last)) ≡ middle
 between_is first middle last m n e f =
     let whole : List Node = first ++ (middle ++ last) in
-    let size : length whole - (m + n) ≡ length middle = omega (arith, length-append first (middle ++ last), length-append middle last, e, f) in
+    let size : length whole - (m + n) ≡ length middle =
+    omega (arith, length-append first (middle ++ last), length-append middle last, e, f) in
     ap (λ k. take k (drop m whole)) size
     ∙ ap (λ k. take (length middle) (drop k whole)) (sym e)
     ∙ ap (take (length middle)) (drop-append_seam first (middle ++ last))
     ∙ take-append_seam middle last
 
 module _ (d : Declared) (h : GivesArrays d) (made : Made)
-    (stands : GivesParts d.arrays (outer_context d) (loop_count (input_extents d.arrays)) (length (input_extents d.arrays)) made) where
+    (stands : GivesParts d.arrays (outer_context d) (loop_count (input_extents d.arrays))
+    (length (input_extents d.arrays)) made) where
   abbrev arrays : List ArrayDecl
   arrays = d.arrays
 
@@ -97,39 +104,52 @@ module _ (d : Declared) (h : GivesArrays d) (made : Made)
   output_count : length (output_numbers d.arrays) ≡ length outputs
   output_count = length_numbers (λ array. is_output array.kind) 0 d.arrays
 
-  roles_in_order : map (λ s. s.role) statements ≡ roles_of d.arrays (length statements - (length (input_numbers d.arrays) + length (output_numbers d.arrays)))
+  roles_in_order : map (λ s. s.role) statements
+      ≡ roles_of d.arrays (length statements - (length (input_numbers d.arrays) + length (output_numbers d.arrays)))
   roles_in_order =
-      let count : length made.statements ≡ length statements - (length (input_numbers d.arrays) + length (output_numbers d.arrays)) = omega (arith, length_statements, input_count, output_count) in
+      let count : length made.statements
+      ≡ length statements - (length (input_numbers d.arrays) + length (output_numbers d.arrays)) =
+      omega (arith, length_statements, input_count, output_count) in
       map-append (λ s. s.role) sources (made.statements ++ sinks)
       ∙ ap (λ roles. map (λ s. s.role) sources ++ roles) (map-append (λ s. s.role) made.statements sinks)
-      ∙ (λ i. sources_roles 0 0 d.arrays i ++ (roles_assign d.arrays made.statements stands.assigns i ++ sinks_roles 0 made.next_loop d.arrays i))
+      ∙ (λ i. sources_roles 0 0 d.arrays i
+      ++ (roles_assign d.arrays made.statements stands.assigns i ++ sinks_roles 0 made.next_loop d.arrays i))
       ∙ ap (roles_of d.arrays) count
 
   in_roles : map (λ s. in_role s.role s) statements ≡ statements
   in_roles =
       all_in_role statements
       (each_append InRole sources (made.statements ++ sinks) (sources_in_role 0 0 d.arrays)
-      (each_append InRole made.statements sinks (each_then (IsAssignment d.arrays) InRole made.statements (λ s a. assign_in_role s a.role) stands.assigns) (sinks_in_role 0 made.next_loop d.arrays)))
+      (each_append InRole made.statements sinks
+      (each_then (IsAssignment d.arrays) InRole made.statements (λ s a. assign_in_role s a.role) stands.assigns)
+      (sinks_in_role 0 made.next_loop d.arrays)))
 
   all_fit : IsTrue (list_all (statement_fits d.arrays) statements)
   all_fit =
-      all_append (statement_fits d.arrays) sources (made.statements ++ sinks) (sources_fit 0 0 d.arrays d.arrays (from_start d.arrays) h.extents)
-      (all_append (statement_fits d.arrays) made.statements sinks (all_statements_fit d.arrays made.statements stands.assigns) (sinks_fit 0 made.next_loop d.arrays d.arrays (from_start d.arrays) h.extents))
+      all_append (statement_fits d.arrays) sources (made.statements ++ sinks)
+      (sources_fit 0 0 d.arrays d.arrays (from_start d.arrays) h.extents)
+      (all_append (statement_fits d.arrays) made.statements sinks
+      (all_statements_fit d.arrays made.statements stands.assigns)
+      (sinks_fit 0 made.next_loop d.arrays d.arrays (from_start d.arrays) h.extents))
 
   placed : all_places body [] [] ≡ said_from 0 statements
   placed =
       let start : length inputs ≡ 0 + length sources = omega (arith, sources_length 0 0 d.arrays) in
-      placed_append [] [] 0 first_loops (made.nodes ++ last_loops) sources (made.statements ++ sinks) (sources_placed 0 0 d.arrays 0 h.extents)
+      placed_append [] [] 0 first_loops (made.nodes ++ last_loops) sources (made.statements ++ sinks)
+      (sources_placed 0 0 d.arrays 0 h.extents)
       (subst (λ k. all_places (made.nodes ++ last_loops) [] [] ≡ said_from k (made.statements ++ sinks)) start
-      (placed_append [] [] (length inputs) made.nodes last_loops made.statements sinks (stands.placed [] (λ e le room. refl))
+      (placed_append [] [] (length inputs) made.nodes last_loops made.statements sinks
+      (stands.placed [] (λ e le room. refl))
       (sinks_placed 0 made.next_loop d.arrays (length inputs + length made.statements) h.extents)))
 
   numbered : Numbered 0 (made.next_loop + sum_by length outputs) body
   numbered =
-      numbered_append 0 (0 + sum_by length inputs) (made.next_loop + sum_by length outputs) first_loops (made.nodes ++ last_loops) (loops_numbered 0 0 inputs)
+      numbered_append 0 (0 + sum_by length inputs) (made.next_loop + sum_by length outputs) first_loops
+      (made.nodes ++ last_loops) (loops_numbered 0 0 inputs)
       (let start : sum_by length inputs ≡ 0 + sum_by length inputs = omega arith in
       subst (λ k. Numbered k (made.next_loop + sum_by length outputs) (made.nodes ++ last_loops)) start
-      (numbered_append (sum_by length inputs) made.next_loop (made.next_loop + sum_by length outputs) made.nodes last_loops stands.numbered
+      (numbered_append (sum_by length inputs) made.next_loop
+      (made.next_loop + sum_by length outputs) made.nodes last_loops stands.numbered
       (loops_numbered made.next_loop (length inputs + length made.statements) outputs)))
 
   loop_total : length (all_loops body) ≡ numbered.count
@@ -140,15 +160,21 @@ module _ (d : Declared) (h : GivesArrays d) (made : Made)
 
   all_forms : IsTrue (all_forms_fit body 0)
   all_forms =
-      fit_append 0 first_loops (made.nodes ++ last_loops) (loops_fit 0 0 inputs (few_where (λ array. is_input array.kind) d.arrays h.extents))
-      (fit_append 0 made.nodes last_loops stands.fit (loops_fit made.next_loop (length inputs + length made.statements) outputs (few_where (λ array. is_output array.kind) d.arrays h.extents)))
+      fit_append 0 first_loops (made.nodes ++ last_loops)
+      (loops_fit 0 0 inputs (few_where (λ array. is_input array.kind) d.arrays h.extents))
+      (fit_append 0 made.nodes last_loops stands.fit
+      (loops_fit made.next_loop (length inputs + length made.statements) outputs
+      (few_where (λ array. is_output array.kind) d.arrays h.extents)))
 
   ends_framed : body ≡ framed d.arrays statements body
   ends_framed =
-      let last_loop : length (all_loops body) - sum_by length outputs ≡ made.next_loop = omega (arith, loop_total, numbered.ends) in
-      let last_statement : length statements - length outputs ≡ length inputs + length made.statements = omega (arith, length_statements) in
+      let last_loop : length (all_loops body) - sum_by length outputs ≡ made.next_loop =
+      omega (arith, loop_total, numbered.ends) in
+      let last_statement : length statements - length outputs ≡ length inputs + length made.statements =
+      omega (arith, length_statements) in
       let middle : between (length inputs) (length outputs) body ≡ made.nodes =
-      between_is first_loops made.nodes last_loops (length inputs) (length outputs) (length_loops 0 0 inputs) (length_loops made.next_loop (length inputs + length made.statements) outputs) in
+      between_is first_loops made.nodes last_loops (length inputs) (length outputs) (length_loops 0 0 inputs)
+      (length_loops made.next_loop (length inputs + length made.statements) outputs) in
       λ i. first_loops ++ (sym middle i ++ array_loops (sym last_loop i) (sym last_statement i) outputs)
 
   assembled_well_formed : IsWellFormed d.arrays statements body
@@ -171,9 +197,11 @@ pub bound_nest_well_formed : (tree : Tree) (params : Values) → findings tree p
 unfolding findings nest_of
 bound_nest_well_formed tree params none =
     let d : Declared = declared params tree.declarations in
-    let h : GivesArrays d = declarations_sound params tree.declarations (none_left d.findings (body_made tree d).findings none) in
+    let h : GivesArrays d =
+    declarations_sound params tree.declarations (none_left d.findings (body_made tree d).findings none) in
     assembled_well_formed d h (body_made tree d)
-    (all_well d.arrays tree.parts (outer_context d) (loop_count (input_extents d.arrays)) (length (input_extents d.arrays))
+    (all_well d.arrays tree.parts (outer_context d) (loop_count (input_extents d.arrays))
+    (length (input_extents d.arrays))
     (record { room = omega arith; scope = h.scope; rows = tt })
     (omega (arith, h.processes, h.few))
     (none_right d.findings (body_made tree d).findings none))

@@ -69,7 +69,8 @@ negated_sure : (token : ℕ) (o : Option Affine) → is_some o ≡ true → Sure
 negated_sure token None h = absurd (cc)
 negated_sure token (Some f) h = limited_sure token (negated_form f)
 
-combined_sure : (sign : BinarySign) (token : ℕ) (a b : Option Affine) → is_some a ≡ true → is_some b ≡ true → Sure (combined sign token a b)
+combined_sure : (sign : BinarySign) (token : ℕ) (a b : Option Affine) → is_some a ≡ true → is_some b ≡ true
+    → Sure (combined sign token a b)
 combined_sure sign token None b h k = absurd (cc)
 combined_sure sign token (Some f) None h k = absurd (cc)
 combined_sure sign.Add token (Some f) (Some g) h k = limited_sure token (sum_form f g)
@@ -85,32 +86,43 @@ module _ (place : Place) (scope : Scope) where
   abbrev Part : Type 0
   Part = (o : Operand) × SureOf o
 
-  judged_roll : (y : Operand-F Operand) → judged place scope (roll-Operand y) ≡ judge_step place scope (map-Operand Operand Judged (judged place scope) y)
+  judged_roll : (y : Operand-F Operand)
+      → judged place scope (roll-Operand y) ≡ judge_step place scope (map-Operand Operand Judged (judged place scope) y)
   unfolding judged
   judged_roll y = fold-roll-Operand Judged (judge_step place scope) y
 
-  step_sure : (y : Operand-F Part) → Sure (judge_step place scope (map-Operand Operand Judged (judged place scope) (map-Operand Part Operand (λ e. e.0) y)))
+  step_sure : (y : Operand-F Part)
+      → Sure (judge_step place scope
+      (map-Operand Operand Judged (judged place scope) (map-Operand Part Operand (λ e. e.0) y)))
   step_sure (Number value token) e = limited_sure token (constant_form value) e
   step_sure (Access name subscripts) e =
       let below = map (judged place scope) (map (λ e. e.0) subscripts) in
       let seen = seen_from place (value_named scope name.text) in
-      after_sure (all_findings below) (named name.token (length below == 0) seen) (named_sure name.token (length below == 0) seen) e
+      after_sure (all_findings below) (named name.token (length below == 0) seen)
+      (named_sure name.token (length below == 0) seen) e
   step_sure (Binary sign token left right) e =
       let l = judged place scope left.0 in
       let r = judged place scope right.0 in
       let c = combined sign token l.form r.form in
       let none = none_left (l.findings ++ r.findings) c.findings e in
-      combined_sure sign token l.form r.form (left.1 (none_left l.findings r.findings none)) (right.1 (none_right l.findings r.findings none))
+      combined_sure sign token l.form r.form (left.1 (none_left l.findings r.findings none))
+      (right.1 (none_right l.findings r.findings none))
       (none_right (l.findings ++ r.findings) c.findings e)
   step_sure (Neg token inner) e =
       let j = judged place scope inner.0 in
       let n = negated token j.form in
       negated_sure token j.form (inner.1 (none_left j.findings n.findings e)) (none_right j.findings n.findings e)
-  step_sure (Min token list) e = after_sure (all_findings (map (judged place scope) (map (λ e. e.0) list))) (faulty (NotAffine token)) (faulty_sure (NotAffine token)) e
-  step_sure (Max token list) e = after_sure (all_findings (map (judged place scope) (map (λ e. e.0) list))) (faulty (NotAffine token)) (faulty_sure (NotAffine token)) e
+  step_sure (Min token list) e =
+      after_sure (all_findings (map (judged place scope) (map (λ e. e.0) list))) (faulty (NotAffine token))
+      (faulty_sure (NotAffine token)) e
+  step_sure (Max token list) e =
+      after_sure (all_findings (map (judged place scope) (map (λ e. e.0) list))) (faulty (NotAffine token))
+      (faulty_sure (NotAffine token)) e
 
   sure : (o : Operand) → SureOf o
-  sure = ind-Operand SureOf (λ x y is. subst (λ z. SureOf (roll-Operand z)) is (subst Sure (sym (judged_roll (map-Operand Part Operand (λ e. e.0) y))) (step_sure y)))
+  sure = ind-Operand SureOf
+      (λ x y is. subst (λ z. SureOf (roll-Operand z)) is
+      (subst Sure (sym (judged_roll (map-Operand Part Operand (λ e. e.0) y))) (step_sure y)))
 
 lt_from_test : (a b : ℤ) → int_lt a b ≡ true → a <ℤ b
 lt_from_test a b e = grind (arith, ints)
@@ -122,7 +134,8 @@ second_false : (a b : Bool) → a ≡ true → (a && b) ≡ false → b ≡ fals
 second_false true b e h = h
 second_false false b e h = absurd (cc)
 
-module _ (arrays : List ArrayDecl) (d : ℕ) (scope : Scope) (known : KnownScope arrays d scope) (first : Operand) (inclusive : Bool) (bound : Operand) where
+module _ (arrays : List ArrayDecl) (d : ℕ) (scope : Scope) (known : KnownScope arrays d scope) (first : Operand)
+    (inclusive : Bool) (bound : Operand) where
   abbrev lower : List Affine
   lower = lower_forms scope first
 
@@ -137,7 +150,8 @@ module _ (arrays : List ArrayDecl) (d : ℕ) (scope : Scope) (known : KnownScope
     some_upper = some_upper scope inclusive bound;
   }
 
-  progression_is : (k : ℤ) (forms : List Affine) → Each (IsForm d) forms → 0 < length forms → length forms ≤ 1 → IsTrue (is_limited_number k) → pos 1 <ℤ k
+  progression_is : (k : ℤ) (forms : List Affine) → Each (IsForm d) forms → 0 < length forms → length forms ≤ 1
+      → IsTrue (is_limited_number k) → pos 1 <ℤ k
       → AreBounds d (progression forms upper k)
   progression_is k [] h some few small above = absurd (omega arith)
   progression_is k (f ∷ []) h some few small above = record {
@@ -149,7 +163,8 @@ module _ (arrays : List ArrayDecl) (d : ℕ) (scope : Scope) (known : KnownScope
   }
   progression_is k (f ∷ g ∷ forms) h some few small above = absurd (omega arith)
 
-  module _ (token : ℕ) (k : ℤ) (small : IsTrue (is_limited_number k)) (none : step_reasons token (length lower) (Some k) ≡ []) where
+  module _ (token : ℕ) (k : ℤ) (small : IsTrue (is_limited_number k))
+      (none : step_reasons token (length lower) (Some k) ≡ []) where
     abbrev more : List BindError
     more = found_if (int_lt (pos 1) k && nat_lt 1 (length lower)) (StepMax token)
 
@@ -157,26 +172,34 @@ module _ (arrays : List ArrayDecl) (d : ℕ) (scope : Scope) (known : KnownScope
     less = found_if (int_lt k (pos 1)) (StepRange token)
 
     by_tests : (same above : Bool) → int_eq k (pos 1) ≡ same → int_lt (pos 1) k ≡ above
-        → AreBounds d (cond {A = Bounds} same (Range lower upper) (cond {A = Bounds} above (progression lower upper k) unbounded))
+        → AreBounds d
+        (cond {A = Bounds} same (Range lower upper) (cond {A = Bounds} above (progression lower upper k) unbounded))
     by_tests true above e f = range_is
     by_tests false true e f =
         let few : nat_lt 1 (length lower) ≡ false =
-        second_false (int_lt (pos 1) k) (nat_lt 1 (length lower)) f (found_none (int_lt (pos 1) k && nat_lt 1 (length lower)) (StepMax token) (none_left more less none)) in
-        progression_is k lower (forms_are arrays d scope known Body (lower_operands first)) (some_lower scope first) (ltb-false 1 (length lower) few) small (lt_from_test (pos 1) k f)
-    by_tests false false e f = absurd (one_of_three k e f (found_none (int_lt k (pos 1)) (StepRange token) (none_right more less none)))
+        second_false (int_lt (pos 1) k) (nat_lt 1 (length lower)) f
+        (found_none (int_lt (pos 1) k && nat_lt 1 (length lower)) (StepMax token) (none_left more less none)) in
+        progression_is k lower (forms_are arrays d scope known Body (lower_operands first)) (some_lower scope first)
+        (ltb-false 1 (length lower) few) small (lt_from_test (pos 1) k f)
+    by_tests false false e f =
+        absurd (one_of_three k e f (found_none (int_lt k (pos 1)) (StepRange token) (none_right more less none)))
 
     by_value : AreBounds d (bounds_by (Some k) lower upper)
     by_value = by_tests (int_eq k (pos 1)) (int_lt (pos 1) k) refl refl
 
-  by_form : (token : ℕ) (o : Option Affine) → IsFormIfAny d o → is_some o ≡ true → step_reasons token (length lower) (option_map (λ f. f.constant) o) ≡ []
+  by_form : (token : ℕ) (o : Option Affine) → IsFormIfAny d o → is_some o ≡ true
+      → step_reasons token (length lower) (option_map (λ f. f.constant) o) ≡ []
       → AreBounds d (bounds_by (option_map (λ f. f.constant) o) lower upper)
   by_form token None h some none = absurd (cc)
   by_form token (Some f) h some none =
-      by_value token f.constant (and_parts (is_limited_number f.constant) (list_all is_limited_number f.coefs) h.limited).0 none
+      by_value token f.constant
+      (and_parts (is_limited_number f.constant) (list_all is_limited_number f.coefs) h.limited).0 none
 
-  pub bounds_are : (step : Step) → step_findings scope (length lower) step ≡ [] → AreBounds d (loop_bounds scope first inclusive bound step)
+  pub bounds_are : (step : Step) → step_findings scope (length lower) step ≡ []
+      → AreBounds d (loop_bounds scope first inclusive bound step)
   bounds_are One none = range_is
   bounds_are (By token value) none =
       let j : Judged = judged Extent scope value in
       let rest : List BindError = step_reasons token (length lower) (step_value scope (By token value)) in
-      by_form token j.form (formed arrays d scope known Extent value) (sure Extent scope value (none_left j.findings rest none)) (none_right j.findings rest none)
+      by_form token j.form (formed arrays d scope known Extent value)
+      (sure Extent scope value (none_left j.findings rest none)) (none_right j.findings rest none)

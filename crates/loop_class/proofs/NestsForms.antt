@@ -37,7 +37,8 @@ over_deeper (suc room) zero (suc e) (c ∷ cs) le h = over_deeper room zero e cs
 over_deeper (suc room) (suc d) zero (c ∷ cs) le h = absurd (omega arith)
 over_deeper (suc room) (suc d) (suc e) (c ∷ cs) le h = over_deeper room d e cs (omega arith) h
 
-pub over_map : (op : ℤ → ℤ) → op (pos 0) ≡ pos 0 → (room d : ℕ) (cs : List ℤ) → IsOver room d cs → IsOver room d (map op cs)
+pub over_map : (op : ℤ → ℤ) → op (pos 0) ≡ pos 0 → (room d : ℕ) (cs : List ℤ) → IsOver room d cs
+    → IsOver room d (map op cs)
 over_map op z zero d [] h = tt
 over_map op z zero d (c ∷ cs) h = absurd h
 over_map op z (suc room) d [] h = absurd h
@@ -50,7 +51,8 @@ over_termwise op z zero d [] ys h k = tt
 over_termwise op z zero d (x ∷ xs) ys h k = absurd h
 over_termwise op z (suc room) d [] ys h k = absurd h
 over_termwise op z (suc room) d (x ∷ xs) [] h k = absurd k
-over_termwise op z (suc room) zero (x ∷ xs) (y ∷ ys) h k = ((λ i. op (h.0 i) (k.0 i)) ∙ z, over_termwise op z room zero xs ys h.1 k.1)
+over_termwise op z (suc room) zero (x ∷ xs) (y ∷ ys) h k =
+    ((λ i. op (h.0 i) (k.0 i)) ∙ z, over_termwise op z room zero xs ys h.1 k.1)
 over_termwise op z (suc room) (suc d) (x ∷ xs) (y ∷ ys) h k = over_termwise op z room d xs ys h k
 
 -- a multiple of the variable of a loop that stands round the place
@@ -61,7 +63,8 @@ over_multiple (suc room) (suc d) zero k h = over_zeros room d
 over_multiple (suc room) (suc d) (suc v) k h = over_multiple room d v k (omega arith)
 
 -- more coefficients are zeros
-over_take : (room d k e : ℕ) (cs : List ℤ) → d + k ≡ e → e ≤ room → IsOver room d cs → take d cs ++ replicate k (pos 0) ≡ take e cs
+over_take : (room d k e : ℕ) (cs : List ℤ) → d + k ≡ e → e ≤ room → IsOver room d cs
+    → take d cs ++ replicate k (pos 0) ≡ take e cs
 over_take zero (suc d) k e cs is le h = absurd (omega arith)
 over_take zero d (suc k) e cs is le h = absurd (omega arith)
 over_take zero d k (suc e) cs is le h = absurd (omega arith)
@@ -74,7 +77,8 @@ over_take (suc room) zero (suc k) (suc e) (c ∷ cs) is le h =
     let rest : replicate k (pos 0) ≡ take e cs = over_take room zero k e cs (omega arith) (omega arith) h.1 in
     λ i. (sym h.0) i ∷ rest i
 over_take (suc room) (suc d) k zero (c ∷ cs) is le h = absurd (omega arith)
-over_take (suc room) (suc d) k (suc e) (c ∷ cs) is le h = ap (λ l. c ∷ l) (over_take room d k e cs (omega arith) (omega arith) h)
+over_take (suc room) (suc d) k (suc e) (c ∷ cs) is le h =
+    ap (λ l. c ∷ l) (over_take room d k e cs (omega arith) (omega arith) h)
 
 pub take_length : (room d : ℕ) (cs : List ℤ) → length cs ≡ room → d ≤ room → length (take d cs) ≡ d
 take_length room zero cs e le = refl
@@ -89,14 +93,17 @@ over_wider room d e cs le in_room h =
     over_take room d (e - length (take d cs)) e cs (omega arith) in_room h
 
 -- the same form over more loops
-pub form_wider : (d e : ℕ) (f : Affine) → d ≤ e → e ≤ 6 → IsOver 6 d f.coefs → widened_form e (form_over d f) ≡ form_over e f
-form_wider d e f le in_room h = ap (λ cs. record { constant = f.constant; coefs = cs }) (over_wider 6 d e f.coefs le in_room h)
+pub form_wider : (d e : ℕ) (f : Affine) → d ≤ e → e ≤ 6 → IsOver 6 d f.coefs
+    → widened_form e (form_over d f) ≡ form_over e f
+form_wider d e f le in_room h =
+    ap (λ cs. record { constant = f.constant; coefs = cs }) (over_wider 6 d e f.coefs le in_room h)
 
 minus_is : (c : ℤ) → pos 0 -ℤ c ≡ c *ℤ negsuc 0
 minus_is c = omega (arith, ints)
 
 lower_coefs : (room d : ℕ) (cs : List ℤ) → d < room → IsOver room d cs
-    → take (suc d) (termwise ◌-ℤ◌ (slice_set (replicate room (pos 0)) d (pos 1)) cs) ≡ map (λ c. c *ℤ negsuc 0) (take d cs) ++ pos 1 ∷ []
+    → take (suc d) (termwise ◌-ℤ◌ (slice_set (replicate room (pos 0)) d (pos 1)) cs)
+    ≡ map (λ c. c *ℤ negsuc 0) (take d cs) ++ pos 1 ∷ []
 lower_coefs zero d cs lt h = absurd (omega arith)
 lower_coefs (suc room) d [] lt h = absurd h
 lower_coefs (suc room) zero (c ∷ cs) lt h = ap (λ z. (pos 1 -ℤ z) ∷ []) h.0
@@ -115,18 +122,21 @@ upper_coefs (suc room) (suc d) (c ∷ cs) lt h =
     λ i. same i ∷ rest i
 
 -- the rows of a loop are those of its lower and upper forms
-pub lower_over : (d : ℕ) (f : Affine) → d < 6 → IsOver 6 d f.coefs → form_over (suc d) (difference_form (loop_form d) f) ≡ lower_row (form_over d f)
+pub lower_over : (d : ℕ) (f : Affine) → d < 6 → IsOver 6 d f.coefs
+    → form_over (suc d) (difference_form (loop_form d) f) ≡ lower_row (form_over d f)
 lower_over d f lt h =
     let rest = lower_coefs 6 d f.coefs lt h in
     λ i. record { constant = minus_is f.constant i; coefs = rest i }
 
-pub upper_over : (d : ℕ) (f : Affine) → d < 6 → IsOver 6 d f.coefs → form_over (suc d) (difference_form f (loop_form d)) ≡ upper_row (form_over d f)
+pub upper_over : (d : ℕ) (f : Affine) → d < 6 → IsOver 6 d f.coefs
+    → form_over (suc d) (difference_form f (loop_form d)) ≡ upper_row (form_over d f)
 upper_over d f lt h =
     let same : f.constant -ℤ pos 0 ≡ f.constant = omega (arith, ints) in
     let rest = upper_coefs 6 d f.coefs lt h in
     λ i. record { constant = same i; coefs = rest i }
 
-variable_coefs : (room d : ℕ) → d < room → take (suc d) (slice_set (replicate room (pos 0)) d (pos 1)) ≡ replicate d (pos 0) ++ pos 1 ∷ []
+variable_coefs : (room d : ℕ) → d < room
+    → take (suc d) (slice_set (replicate room (pos 0)) d (pos 1)) ≡ replicate d (pos 0) ++ pos 1 ∷ []
 variable_coefs zero d lt = absurd (omega arith)
 variable_coefs (suc room) zero lt = refl
 variable_coefs (suc room) (suc d) lt = ap (λ cs. pos 0 ∷ cs) (variable_coefs room d (omega arith))
@@ -135,7 +145,8 @@ variable_coefs (suc room) (suc d) lt = ap (λ cs. pos 0 ∷ cs) (variable_coefs 
 pub turn_over : (d : ℕ) → d < 6 → form_over (suc d) (loop_form d) ≡ variable_form (d + 1) d
 turn_over d lt =
     let none : 0 ≡ (d + 1) - (d + 1) = omega arith in
-    let coefs : take (suc d) (loop_form d).coefs ≡ replicate d (pos 0) ++ pos 1 ∷ replicate ((d + 1) - (d + 1)) (pos 0) =
+    let coefs : take (suc d) (loop_form d).coefs
+    ≡ replicate d (pos 0) ++ pos 1 ∷ replicate ((d + 1) - (d + 1)) (pos 0) =
     variable_coefs 6 d lt ∙ ap (λ n. replicate d (pos 0) ++ pos 1 ∷ replicate n (pos 0)) none in
     λ i. record { constant = pos 0; coefs = coefs i }
 
@@ -157,7 +168,8 @@ turn_coefs (suc room) (suc d) k (u ∷ us) (l ∷ ls) lt h j =
     λ i. reach_is u l i ∷ rest i
 
 -- the row of an upper form of a loop of a step above 1
-pub turn_row_over : (d : ℕ) (first : Affine) (step : ℤ) (upper : Affine) → d < 6 → IsOver 6 d first.coefs → IsOver 6 d upper.coefs
+pub turn_row_over : (d : ℕ) (first : Affine) (step : ℤ) (upper : Affine) → d < 6 → IsOver 6 d first.coefs
+    → IsOver 6 d upper.coefs
     → form_over (suc d) (rows.turn_row d first step upper) ≡ turn_row step (form_over d first) (form_over d upper)
 turn_row_over d first step upper lt h j =
     let rest = turn_coefs 6 d step upper.coefs first.coefs lt j h in

@@ -47,10 +47,12 @@ KnownIfAny arrays d (Some what) = Known arrays d what
 abbrev pub KnownScope : List ArrayDecl → ℕ → Scope → Type 0
 KnownScope arrays d scope = Each (λ e. Known arrays d e.1) scope
 
-pub value_known : (arrays : List ArrayDecl) (d : ℕ) (scope : Scope) (name : List ℕ) → KnownScope arrays d scope → KnownIfAny arrays d (value_named scope name)
+pub value_known : (arrays : List ArrayDecl) (d : ℕ) (scope : Scope) (name : List ℕ) → KnownScope arrays d scope
+    → KnownIfAny arrays d (value_named scope name)
 value_known arrays d [] name h = tt
 value_known arrays d (e ∷ scope) name h = by_test (bytes_eq name e.0) (value_known arrays d scope name h.1) where
-  by_test : (b : Bool) → KnownIfAny arrays d (value_named scope name) → KnownIfAny arrays d (cond b (Some e.1) (value_named scope name))
+  by_test : (b : Bool) → KnownIfAny arrays d (value_named scope name)
+      → KnownIfAny arrays d (cond b (Some e.1) (value_named scope name))
   by_test true rest = h.0
   by_test false rest = rest
 
@@ -61,13 +63,15 @@ with_name_known arrays d scope name what h k = by_test (is_some (value_named sco
   by_test true = h
   by_test false = each_append (λ e. Known arrays d e.1) scope ((name, what) ∷ []) h (k, tt)
 
-pub known_deeper : (arrays : List ArrayDecl) (d : ℕ) (scope : Scope) → KnownScope arrays d scope → KnownScope arrays (suc d) scope
-known_deeper arrays d scope h = each_then (λ e. Known arrays d e.1) (λ e. Known arrays (suc d) e.1) scope (λ e k. one e.1 k) h where
-  one : (what : What) → Known arrays d what → Known arrays (suc d) what
-  one (Parameter v) k = tt
-  one (Array number extents) k = k
-  one (Loop v) k = omega arith
-  one (Progression f) k = over_deeper 6 d (suc d) f.coefs (omega arith) k
+pub known_deeper : (arrays : List ArrayDecl) (d : ℕ) (scope : Scope) → KnownScope arrays d scope
+    → KnownScope arrays (suc d) scope
+known_deeper arrays d scope h =
+    each_then (λ e. Known arrays d e.1) (λ e. Known arrays (suc d) e.1) scope (λ e k. one e.1 k) h where
+      one : (what : What) → Known arrays d what → Known arrays (suc d) what
+      one (Parameter v) k = tt
+      one (Array number extents) k = k
+      one (Loop v) k = omega arith
+      one (Progression f) k = over_deeper 6 d (suc d) f.coefs (omega arith) k
 
 -- a form that is there is one of so many loops
 abbrev pub IsFormIfAny : ℕ → Option Affine → Type 0
@@ -75,7 +79,8 @@ IsFormIfAny d None = Unit {0}
 IsFormIfAny d (Some f) = IsForm d f
 
 module _ (d : ℕ) where
-  chosen : (b : Bool) (x y : Judged) → (b ≡ true → IsFormIfAny d x.form) → (b ≡ false → IsFormIfAny d y.form) → IsFormIfAny d (cond {A = Judged} b x y).form
+  chosen : (b : Bool) (x y : Judged) → (b ≡ true → IsFormIfAny d x.form) → (b ≡ false → IsFormIfAny d y.form)
+      → IsFormIfAny d (cond {A = Judged} b x y).form
   chosen true x y h k = h refl
   chosen false x y h k = k refl
 
@@ -91,11 +96,14 @@ module _ (d : ℕ) where
       let zero_is : k *ℤ pos 0 ≡ pos 0 = omega (arith, ints) in
       limited_is token (scaled_form k f) (over_map (λ c. k *ℤ c) zero_is 6 d f.coefs h.over)
 
-  combined_is : (sign : BinarySign) (token : ℕ) (a b : Option Affine) → IsFormIfAny d a → IsFormIfAny d b → IsFormIfAny d (combined sign token a b).form
+  combined_is : (sign : BinarySign) (token : ℕ) (a b : Option Affine) → IsFormIfAny d a → IsFormIfAny d b
+      → IsFormIfAny d (combined sign token a b).form
   combined_is sign token None b h k = tt
   combined_is sign token (Some f) None h k = tt
-  combined_is sign.Add token (Some f) (Some g) h k = limited_is token (sum_form f g) (over_termwise ◌+ℤ◌ refl 6 d f.coefs g.coefs h.over k.over)
-  combined_is sign.Sub token (Some f) (Some g) h k = limited_is token (difference_form f g) (over_termwise ◌-ℤ◌ refl 6 d f.coefs g.coefs h.over k.over)
+  combined_is sign.Add token (Some f) (Some g) h k =
+      limited_is token (sum_form f g) (over_termwise ◌+ℤ◌ refl 6 d f.coefs g.coefs h.over k.over)
+  combined_is sign.Sub token (Some f) (Some g) h k =
+      limited_is token (difference_form f g) (over_termwise ◌-ℤ◌ refl 6 d f.coefs g.coefs h.over k.over)
   combined_is sign.Mul token (Some f) (Some g) h k =
       chosen (has_no_variable f) _ _ (λ e. scaled_is token f.constant g k)
       (λ e. chosen (has_no_variable g) _ _ (λ e. scaled_is token g.constant f h) (λ e. tt))
@@ -109,7 +117,8 @@ module _ (arrays : List ArrayDecl) (d : ℕ) (scope : Scope) (known : KnownScope
   seen_is Extent (Some (Loop v)) h = tt
   seen_is Extent (Some (Progression f)) h = tt
 
-  named_is : (token : ℕ) (alone : Bool) (o : Option What) → KnownIfAny arrays d o → IsFormIfAny d (named token alone o).form
+  named_is : (token : ℕ) (alone : Bool) (o : Option What) → KnownIfAny arrays d o
+      → IsFormIfAny d (named token alone o).form
   named_is token alone None h = tt
   named_is token alone (Some (Array number extents)) h = tt
   named_is token true (Some (Parameter v)) h = limited_is d token (constant_form v) (over_zeros 6 d)
@@ -123,17 +132,23 @@ module _ (arrays : List ArrayDecl) (d : ℕ) (scope : Scope) (known : KnownScope
     abbrev pub Formed : Operand → Type 0
     Formed o = IsFormIfAny d (judged place scope o).form
 
-    judged_roll : (y : Operand-F Operand) → judged place scope (roll-Operand y) ≡ judge_step place scope (map-Operand Operand Judged (judged place scope) y)
+    judged_roll : (y : Operand-F Operand)
+        → judged place scope (roll-Operand y)
+        ≡ judge_step place scope (map-Operand Operand Judged (judged place scope) y)
     unfolding judged
     judged_roll y = fold-roll-Operand Judged (judge_step place scope) y
 
     abbrev StepFormed : Operand-F Operand → Type 0
     StepFormed y = IsFormIfAny d (judge_step place scope (map-Operand Operand Judged (judged place scope) y)).form
 
-    step_formed : (y : Operand-F ((o : Operand) × Formed o)) → StepFormed (map-Operand ((o : Operand) × Formed o) Operand (λ e. e.0) y)
+    step_formed : (y : Operand-F ((o : Operand) × Formed o))
+        → StepFormed (map-Operand ((o : Operand) × Formed o) Operand (λ e. e.0) y)
     step_formed (Number value token) = limited_is d token (constant_form value) (over_zeros 6 d)
-    step_formed (Access name subscripts) = named_is name.token _ (seen_from place (value_named scope name.text)) (seen_is place (value_named scope name.text) (value_known arrays d scope name.text known))
-    step_formed (Binary sign token left right) = combined_is d sign token (judged place scope left.0).form (judged place scope right.0).form left.1 right.1
+    step_formed (Access name subscripts) =
+        named_is name.token _ (seen_from place (value_named scope name.text))
+        (seen_is place (value_named scope name.text) (value_known arrays d scope name.text known))
+    step_formed (Binary sign token left right) =
+        combined_is d sign token (judged place scope left.0).form (judged place scope right.0).form left.1 right.1
     step_formed (Neg token inner) = negated_is d token (judged place scope inner.0).form inner.1
     step_formed (Min token list) = tt
     step_formed (Max token list) = tt
@@ -141,7 +156,8 @@ module _ (arrays : List ArrayDecl) (d : ℕ) (scope : Scope) (known : KnownScope
     pub formed : (o : Operand) → Formed o
     formed =
         ind-Operand Formed (λ x y is. subst (λ z. Formed (roll-Operand z)) is
-        (subst (λ j. IsFormIfAny d j.form) (sym (judged_roll (map-Operand ((o : Operand) × Formed o) Operand (λ e. e.0) y))) (step_formed y)))
+        (subst (λ j. IsFormIfAny d j.form)
+        (sym (judged_roll (map-Operand ((o : Operand) × Formed o) Operand (λ e. e.0) y))) (step_formed y)))
 
     or_zero : (o : Option Affine) → IsFormIfAny d o → IsForm d (unwrap_or o (constant_form (pos 0)))
     or_zero None h = record { over = over_zeros 6 d; limited = refl }
@@ -151,16 +167,23 @@ module _ (arrays : List ArrayDecl) (d : ℕ) (scope : Scope) (known : KnownScope
     form_is o = or_zero (judged place scope o).form (formed o)
 
     pub forms_are : (operands : List Operand) → Each (IsForm d) (forms_of place scope operands)
-    forms_are operands = each_map (IsForm d) (λ o. form_or_zero (judged place scope o)) operands (each_of (λ o. IsForm d (form_or_zero (judged place scope o))) operands form_is)
+    forms_are operands =
+        each_map (IsForm d) (λ o. form_or_zero (judged place scope o)) operands
+        (each_of (λ o. IsForm d (form_or_zero (judged place scope o))) operands form_is)
 
   pub lower_bounds : (first : Operand) → Each (IsBound d) (lower_forms scope first)
-  lower_bounds first = each_then (IsForm d) (IsBound d) (forms_of Body scope (lower_operands first)) (form_bound d) (forms_are Body (lower_operands first))
+  lower_bounds first =
+      each_then (IsForm d) (IsBound d) (forms_of Body scope (lower_operands first)) (form_bound d)
+      (forms_are Body (lower_operands first))
 
   pub upper_bounds : (inclusive : Bool) (bound : Operand) → Each (IsBound d) (upper_forms scope inclusive bound)
-  upper_bounds true bound = each_then (IsForm d) (IsBound d) (forms_of Body scope (upper_operands bound)) (form_bound d) (forms_are Body (upper_operands bound))
+  upper_bounds true bound =
+      each_then (IsForm d) (IsBound d) (forms_of Body scope (upper_operands bound)) (form_bound d)
+      (forms_are Body (upper_operands bound))
   upper_bounds false bound =
       each_map (IsBound d) lowered_form (forms_of Body scope (upper_operands bound))
-      (each_then (IsForm d) (λ f. IsBound d (lowered_form f)) (forms_of Body scope (upper_operands bound)) (form_lowered d) (forms_are Body (upper_operands bound)))
+      (each_then (IsForm d) (λ f. IsBound d (lowered_form f)) (forms_of Body scope (upper_operands bound))
+      (form_lowered d) (forms_are Body (upper_operands bound)))
 
   sign_rows_are : (sign : CompareSign) (f g : Affine) → IsForm d f → IsForm d g → Each (IsRow d) (sign_rows sign f g)
   sign_rows_are Less f g h k = (lowered_row d g f k h, tt)
@@ -170,13 +193,19 @@ module _ (arrays : List ArrayDecl) (d : ℕ) (scope : Scope) (known : KnownScope
   sign_rows_are Equal f g h k = (difference_row d f g h k, (difference_row d g f k h, tt))
 
   comparison_rows_are : (sign : CompareSign) (c : Comparison) → Each (IsRow d) (comparison_rows scope sign c)
-  comparison_rows_are sign c = sign_rows_are sign (form_or_zero (judged Body scope c.left)) (form_or_zero (judged Body scope c.right)) (form_is Body c.left) (form_is Body c.right)
+  comparison_rows_are sign c =
+      sign_rows_are sign (form_or_zero (judged Body scope c.left)) (form_or_zero (judged Body scope c.right))
+      (form_is Body c.left) (form_is Body c.right)
 
   pub guard_rows_are : (cond : List Comparison) → Each (IsRow d) (guard_rows scope cond)
-  guard_rows_are cond = each_flat_map (IsRow d) (λ c. comparison_rows scope c.sign c) cond (each_of _ cond (λ c. comparison_rows_are c.sign c))
+  guard_rows_are cond =
+      each_flat_map (IsRow d) (λ c. comparison_rows scope c.sign c) cond
+      (each_of _ cond (λ c. comparison_rows_are c.sign c))
 
   pub else_rows_are : (cond : List Comparison) → Each (IsRow d) (else_rows scope cond)
-  else_rows_are cond = each_flat_map (IsRow d) (λ c. comparison_rows scope (negated_sign c.sign) c) cond (each_of _ cond (λ c. comparison_rows_are (negated_sign c.sign) c))
+  else_rows_are cond =
+      each_flat_map (IsRow d) (λ c. comparison_rows scope (negated_sign c.sign) c) cond
+      (each_of _ cond (λ c. comparison_rows_are (negated_sign c.sign) c))
 
 -- a loop has a lower form and an upper form
 pub some_lower : (scope : Scope) (first : Operand) → 0 < length (lower_forms scope first)
@@ -205,4 +234,5 @@ upper_some scope bound = by_layer (out-Operand bound) where
 
 pub some_upper : (scope : Scope) (inclusive : Bool) (bound : Operand) → 0 < length (upper_forms scope inclusive bound)
 some_upper scope true bound = upper_some scope bound
-some_upper scope false bound = omega (arith, upper_some scope bound, length-map (forms_of Body scope (upper_operands bound)) lowered_form)
+some_upper scope false bound =
+    omega (arith, upper_some scope bound, length-map (forms_of Body scope (upper_operands bound)) lowered_form)

@@ -38,10 +38,12 @@ pub record IsBound (d : ℕ) (f : Affine) : Type 0 where
 
 module _ (d : ℕ) (f : Affine) (h : IsForm d f) where
   pub form_bound : IsBound d f
-  form_bound = record { over = h.over; constant = (and_parts (is_bound_number f.constant) _ (bound_form f h.limited)).0; coefs = (and_parts (is_limited_number f.constant) _ h.limited).1 }
+  form_bound =
+      record { over = h.over; constant = (and_parts (is_bound_number f.constant) _ (bound_form f h.limited)).0; coefs = (and_parts (is_limited_number f.constant) _ h.limited).1 }
 
   pub form_lowered : IsBound d (lowered_form f)
-  form_lowered = record { over = h.over; constant = (and_parts (is_bound_number (f.constant -ℤ pos 1)) (list_all is_limited_number f.coefs) (bound_lowered f h.limited)).0; coefs = (and_parts (is_limited_number f.constant) _ h.limited).1 }
+  form_lowered =
+      record { over = h.over; constant = (and_parts (is_bound_number (f.constant -ℤ pos 1)) (list_all is_limited_number f.coefs) (bound_lowered f h.limited)).0; coefs = (and_parts (is_limited_number f.constant) _ h.limited).1 }
 
   pub form_row : IsRow d f
   form_row = let m = and_parts _ _ (moderate_form f h.limited) in record { over = h.over; constant = m.0; coefs = m.1 }
@@ -54,11 +56,14 @@ module _ (d : ℕ) (f g : Affine) (h : IsForm d f) (k : IsForm d g) where
 
   pub lowered_row : IsRow d (lowered_form (difference_form f g))
   lowered_row =
-      let m = and_parts (is_moderate ((f.constant -ℤ g.constant) -ℤ pos 1)) (list_all is_moderate (termwise ◌-ℤ◌ f.coefs g.coefs)) (moderate_lowered_difference f g h.limited k.limited) in
+      let m = and_parts (is_moderate ((f.constant -ℤ g.constant) -ℤ pos 1))
+      (list_all is_moderate (termwise ◌-ℤ◌ f.coefs g.coefs))
+      (moderate_lowered_difference f g h.limited k.limited) in
       record { over = over_termwise ◌-ℤ◌ refl 6 d f.coefs g.coefs h.over k.over; constant = m.0; coefs = m.1 }
 
 -- differences of limited coefficients are moderate
-gaps_moderate : (vs ws : List ℤ) → IsTrue (list_all is_limited_number vs) → IsTrue (list_all is_limited_number ws) → IsTrue (list_all is_moderate (termwise ◌-ℤ◌ vs ws))
+gaps_moderate : (vs ws : List ℤ) → IsTrue (list_all is_limited_number vs) → IsTrue (list_all is_limited_number ws)
+    → IsTrue (list_all is_moderate (termwise ◌-ℤ◌ vs ws))
 gaps_moderate vs ws h k =
     let f : Affine = record { constant = pos 0; coefs = vs } in
     let g : Affine = record { constant = pos 0; coefs = ws } in
@@ -79,12 +84,14 @@ negated_moderate c h =
     let parts = and_parts (int_le (negsuc 4294967295) c) (int_le c (pos 4294967296)) h in
     let low : negsuc 4294967295 ≤ℤ c = known (negsuc 4294967295) c parts.0 in
     let high : c ≤ℤ pos 4294967296 = known c (pos 4294967296) parts.1 in
-    both_true (tested (negsuc 4294967295) (pos 0 -ℤ c) (omega (arith, ints))) (tested (pos 0 -ℤ c) (pos 4294967296) (omega (arith, ints)))
+    both_true (tested (negsuc 4294967295) (pos 0 -ℤ c) (omega (arith, ints)))
+    (tested (pos 0 -ℤ c) (pos 4294967296) (omega (arith, ints)))
 
 module _ (d : ℕ) (f : Affine) (room : d < 6) (h : IsBound d f) where
   lower_row_is : IsRow (suc d) (difference_form (loop_form d) f)
   lower_row_is = record {
-    over = over_termwise ◌-ℤ◌ refl 6 (suc d) (loop_form d).coefs f.coefs (over_multiple 6 (suc d) d (pos 1) (omega arith)) (over_deeper 6 d (suc d) f.coefs (omega arith) h.over);
+    over = over_termwise ◌-ℤ◌ refl 6 (suc d) (loop_form d).coefs f.coefs
+        (over_multiple 6 (suc d) d (pos 1) (omega arith)) (over_deeper 6 d (suc d) f.coefs (omega arith) h.over);
     constant = negated_moderate f.constant (moderate_bound_number f.constant h.constant);
     coefs = gaps_moderate (loop_form d).coefs f.coefs (limited_multiples 6 (pos 1) d refl) h.coefs;
   }
@@ -93,20 +100,24 @@ module _ (d : ℕ) (f : Affine) (room : d < 6) (h : IsBound d f) where
   upper_row_is =
       let same : f.constant ≡ f.constant -ℤ pos 0 = omega (arith, ints) in
       record {
-        over = over_termwise ◌-ℤ◌ refl 6 (suc d) f.coefs (loop_form d).coefs (over_deeper 6 d (suc d) f.coefs (omega arith) h.over) (over_multiple 6 (suc d) d (pos 1) (omega arith));
+        over = over_termwise ◌-ℤ◌ refl 6 (suc d) f.coefs (loop_form d).coefs
+            (over_deeper 6 d (suc d) f.coefs (omega arith) h.over) (over_multiple 6 (suc d) d (pos 1) (omega arith));
         constant = subst (λ c. IsTrue (is_moderate c)) same (moderate_bound_number f.constant h.constant);
         coefs = gaps_moderate f.coefs (loop_form d).coefs h.coefs (limited_multiples 6 (pos 1) d refl);
       }
 
 moderate_all : (vs : List ℤ) → IsTrue (list_all is_limited_number vs) → IsTrue (list_all is_moderate vs)
 moderate_all [] k = refl
-moderate_all (v ∷ vs) k = let p = and_parts (is_limited_number v) (list_all is_limited_number vs) k in both_true (moderate_number v p.0) (moderate_all vs p.1)
+moderate_all (v ∷ vs) k =
+    let p = and_parts (is_limited_number v) (list_all is_limited_number vs) k in both_true (moderate_number v p.0)
+    (moderate_all vs p.1)
 
 -- the coefficients of the row of a turn: the turn's is the step alone, since none of the bounds names it
 gap_is : (c : ℤ) → IsTrue (is_moderate c) → IsTrue (is_moderate (c -ℤ pos 0))
 gap_is c h = let same : c ≡ c -ℤ pos 0 = omega (arith, ints) in subst (λ v. IsTrue (is_moderate v)) same h
 
-gaps_kept : (room : ℕ) (us ls : List ℤ) → IsTrue (list_all is_limited_number us) → IsTrue (list_all is_limited_number ls)
+gaps_kept : (room : ℕ) (us ls : List ℤ) → IsTrue (list_all is_limited_number us)
+    → IsTrue (list_all is_limited_number ls)
     → IsTrue (list_all is_moderate (termwise ◌-ℤ◌ (termwise ◌-ℤ◌ us ls) (replicate room (pos 0))))
 gaps_kept room [] ls p q = refl
 gaps_kept room (u ∷ us) [] p q = refl
@@ -116,7 +127,8 @@ gaps_kept (suc room) (u ∷ us) (l ∷ ls) p q =
     let g = and_parts (is_limited_number l) (list_all is_limited_number ls) q in
     both_true (gap_is (u -ℤ l) (moderate_gap u l f.0 g.0)) (gaps_kept room us ls f.1 g.1)
 
-turns_moderate : (room d : ℕ) (k : ℤ) (us ls : List ℤ) → IsTrue (is_limited_number k) → IsOver room d us → IsOver room d ls
+turns_moderate : (room d : ℕ) (k : ℤ) (us ls : List ℤ) → IsTrue (is_limited_number k) → IsOver room d us
+    → IsOver room d ls
     → IsTrue (list_all is_limited_number us) → IsTrue (list_all is_limited_number ls)
     → IsTrue (list_all is_moderate (termwise ◌-ℤ◌ (termwise ◌-ℤ◌ us ls) (slice_set (replicate room (pos 0)) d k)))
 turns_moderate zero d k [] ls small h j p q = refl
@@ -126,7 +138,8 @@ turns_moderate (suc room) d k (u ∷ us) [] small h j p q = absurd j
 turns_moderate (suc room) zero k (u ∷ us) (l ∷ ls) small h j p q =
     let f = and_parts (is_limited_number u) (list_all is_limited_number us) p in
     let g = and_parts (is_limited_number l) (list_all is_limited_number ls) q in
-    both_true (subst (λ v. IsTrue (is_moderate v)) (λ i. (sym h.0 i -ℤ sym j.0 i) -ℤ k) (moderate_negated k small)) (gaps_kept room us ls f.1 g.1)
+    both_true (subst (λ v. IsTrue (is_moderate v)) (λ i. (sym h.0 i -ℤ sym j.0 i) -ℤ k) (moderate_negated k small))
+    (gaps_kept room us ls f.1 g.1)
 turns_moderate (suc room) (suc d) k (u ∷ us) (l ∷ ls) small h j p q =
     let f = and_parts (is_limited_number u) (list_all is_limited_number us) p in
     let g = and_parts (is_limited_number l) (list_all is_limited_number ls) q in
@@ -158,24 +171,30 @@ module _ (d : ℕ) (room : d < 6) where
     coefs = moderate_all (loop_form d).coefs (limited_multiples 6 (pos 1) d refl);
   }
 
-  turn_row_is : (first upper : Affine) (step : ℤ) → IsForm d first → IsBound d upper → IsTrue (is_limited_number step) → IsRow (suc d) (turn_row d first step upper)
+  turn_row_is : (first upper : Affine) (step : ℤ) → IsForm d first → IsBound d upper → IsTrue (is_limited_number step)
+      → IsRow (suc d) (turn_row d first step upper)
   turn_row_is first upper step h k small =
       let base : IsBound d first = form_bound d first h in
       record {
         over = over_termwise ◌-ℤ◌ refl 6 (suc d) (difference_form upper first).coefs (multiple_form step d).coefs
-            (over_deeper 6 d (suc d) (difference_form upper first).coefs (omega arith) (over_termwise ◌-ℤ◌ refl 6 d upper.coefs first.coefs k.over h.over))
+            (over_deeper 6 d (suc d) (difference_form upper first).coefs (omega arith)
+            (over_termwise ◌-ℤ◌ refl 6 d upper.coefs first.coefs k.over h.over))
             (over_multiple 6 (suc d) d step (omega arith));
         constant = gap_is (upper.constant -ℤ first.constant)
-            (moderate_reach_number upper.constant first.constant k.constant (and_parts (is_limited_number first.constant) _ h.limited).0);
+            (moderate_reach_number upper.constant first.constant k.constant
+            (and_parts (is_limited_number first.constant) _ h.limited).0);
         coefs = turns_moderate 6 d step upper.coefs first.coefs small k.over h.over k.coefs base.coefs;
       }
 
   -- the rows that a loop gives
   pub loop_rows_are : (bounds : Bounds) → AreBounds d bounds → Each (IsRow (suc d)) (loop_rows d bounds)
   loop_rows_are (Range lower upper) h =
-      each_append (IsRow (suc d)) (map (λ f. difference_form (loop_form d) f) lower) (map (λ f. difference_form f (loop_form d)) upper)
-      (each_map (IsRow (suc d)) (λ f. difference_form (loop_form d) f) lower (each_then (IsBound d) _ lower (λ f b. lower_row_is d f room b) h.lower_is))
-      (each_map (IsRow (suc d)) (λ f. difference_form f (loop_form d)) upper (each_then (IsBound d) _ upper (λ f b. upper_row_is d f room b) h.upper_is))
+      each_append (IsRow (suc d)) (map (λ f. difference_form (loop_form d) f) lower)
+      (map (λ f. difference_form f (loop_form d)) upper)
+      (each_map (IsRow (suc d)) (λ f. difference_form (loop_form d) f) lower
+      (each_then (IsBound d) _ lower (λ f b. lower_row_is d f room b) h.lower_is))
+      (each_map (IsRow (suc d)) (λ f. difference_form f (loop_form d)) upper
+      (each_then (IsBound d) _ upper (λ f b. upper_row_is d f room b) h.upper_is))
   loop_rows_are (Progression first upper step) h =
       (variable_row_is, each_map (IsRow (suc d)) (turn_row d first step) upper (each_then (IsBound d) _ upper (λ f b. turn_row_is first f step h.first_is b h.limited) h.upper_is))
 
@@ -183,7 +202,8 @@ pub row_deeper : (d e : ℕ) (f : Affine) → d ≤ e → IsRow d f → IsRow e 
 row_deeper d e f le h = record { over = over_deeper 6 d e f.coefs le h.over; constant = h.constant; coefs = h.coefs }
 
 pub bound_row : (d : ℕ) (f : Affine) → IsBound d f → IsRow d f
-bound_row d f h = record { over = h.over; constant = moderate_bound_number f.constant h.constant; coefs = moderate_all f.coefs h.coefs }
+bound_row d f h =
+    record { over = h.over; constant = moderate_bound_number f.constant h.constant; coefs = moderate_all f.coefs h.coefs }
 
 -- the lower and the upper forms of a loop
 pub lower_rows : (d : ℕ) (bounds : Bounds) → AreBounds d bounds → Each (IsRow d) (lower_of bounds)
@@ -213,6 +233,7 @@ row_fits d f le h =
     let len : length (take d f.coefs) ≡ d = take_length 6 d f.coefs (over_length 6 d f.coefs h.over) le in
     both_true (both_true (eq-eqb (length (take d f.coefs)) d len) h.constant) (take_all is_moderate d f.coefs h.coefs)
 
-pub all_fit : (d : ℕ) (fs : List Affine) → d ≤ 6 → Each (IsRow d) fs → IsTrue (list_all (form_fits d) (map (form_over d) fs))
+pub all_fit : (d : ℕ) (fs : List Affine) → d ≤ 6 → Each (IsRow d) fs
+    → IsTrue (list_all (form_fits d) (map (form_over d) fs))
 all_fit d [] le h = refl
 all_fit d (f ∷ fs) le h = both_true (row_fits d f le h.0) (all_fit d fs le h.1)

@@ -58,46 +58,59 @@ pub not_found : (b : Bool) (reason : BindError) → found_if (not b) reason ≡ 
 not_found true reason e = refl
 not_found false reason e = absurd (cc)
 
-pub all_append : {X : Type 0} (p : X → Bool) (xs ys : List X) → IsTrue (list_all p xs) → IsTrue (list_all p ys) → IsTrue (list_all p (xs ++ ys))
+pub all_append : {X : Type 0} (p : X → Bool) (xs ys : List X) → IsTrue (list_all p xs) → IsTrue (list_all p ys)
+    → IsTrue (list_all p (xs ++ ys))
 all_append p [] ys h k = k
-all_append p (x ∷ xs) ys h k = let parts = and_parts (p x) (list_all p xs) h in both_true parts.0 (all_append p xs ys parts.1 k)
+all_append p (x ∷ xs) ys h k =
+    let parts = and_parts (p x) (list_all p xs) h in both_true parts.0 (all_append p xs ys parts.1 k)
 
 -- what an operation of two operands names
 record IsJoin (op : Expr → Expr → Expr) : Type 0 where
-  uses : (depth slots : ℕ) (a b : Expr) → uses_only depth slots (op a b) ≡ (uses_only depth slots a && uses_only depth slots b)
+  uses : (depth slots : ℕ) (a b : Expr)
+      → uses_only depth slots (op a b) ≡ (uses_only depth slots a && uses_only depth slots b)
   gives : (a b : Expr) → uses_given (op a b) ≡ (uses_given a || uses_given b)
 
 module _ (A : Type 0) (step : open_expr.Expr-F A → A) where
-  fold_sub : (a b : Expr) → fold-Expr A step (expr.Sub a b) ≡ step (open_expr.Sub (fold-Expr A step a) (fold-Expr A step b))
+  fold_sub : (a b : Expr)
+      → fold-Expr A step (expr.Sub a b) ≡ step (open_expr.Sub (fold-Expr A step a) (fold-Expr A step b))
   fold_sub a b = ap (fold-Expr A step) (sym (views.rolls-Sub a b)) ∙ fold-roll-Expr A step (open_expr.Sub a b)
 
-  fold_mul : (a b : Expr) → fold-Expr A step (expr.Mul a b) ≡ step (open_expr.Mul (fold-Expr A step a) (fold-Expr A step b))
+  fold_mul : (a b : Expr)
+      → fold-Expr A step (expr.Mul a b) ≡ step (open_expr.Mul (fold-Expr A step a) (fold-Expr A step b))
   fold_mul a b = ap (fold-Expr A step) (sym (views.rolls-Mul a b)) ∙ fold-roll-Expr A step (open_expr.Mul a b)
 
-  fold_min : (a b : Expr) → fold-Expr A step (expr.Min a b) ≡ step (open_expr.Min (fold-Expr A step a) (fold-Expr A step b))
+  fold_min : (a b : Expr)
+      → fold-Expr A step (expr.Min a b) ≡ step (open_expr.Min (fold-Expr A step a) (fold-Expr A step b))
   fold_min a b = ap (fold-Expr A step) (sym (views.rolls-Min a b)) ∙ fold-roll-Expr A step (open_expr.Min a b)
 
-  fold_max : (a b : Expr) → fold-Expr A step (expr.Max a b) ≡ step (open_expr.Max (fold-Expr A step a) (fold-Expr A step b))
+  fold_max : (a b : Expr)
+      → fold-Expr A step (expr.Max a b) ≡ step (open_expr.Max (fold-Expr A step a) (fold-Expr A step b))
   fold_max a b = ap (fold-Expr A step) (sym (views.rolls-Max a b)) ∙ fold-roll-Expr A step (open_expr.Max a b)
 
   fold_neg : (a : Expr) → fold-Expr A step (expr.Neg a) ≡ step (open_expr.Neg (fold-Expr A step a))
   fold_neg a = ap (fold-Expr A step) (sym (views.rolls-Neg a)) ∙ fold-roll-Expr A step (open_expr.Neg a)
 
 binary_joins : (sign : BinarySign) → IsJoin (binary_expr sign)
-binary_joins sign.Add = record { uses = λ depth slots. fold_add Bool (uses_step depth slots); gives = fold_add Bool gives_step }
-binary_joins sign.Sub = record { uses = λ depth slots. fold_sub Bool (uses_step depth slots); gives = fold_sub Bool gives_step }
-binary_joins sign.Mul = record { uses = λ depth slots. fold_mul Bool (uses_step depth slots); gives = fold_mul Bool gives_step }
+binary_joins sign.Add =
+    record { uses = λ depth slots. fold_add Bool (uses_step depth slots); gives = fold_add Bool gives_step }
+binary_joins sign.Sub =
+    record { uses = λ depth slots. fold_sub Bool (uses_step depth slots); gives = fold_sub Bool gives_step }
+binary_joins sign.Mul =
+    record { uses = λ depth slots. fold_mul Bool (uses_step depth slots); gives = fold_mul Bool gives_step }
 
 extreme_joins : (which : Extreme) → IsJoin (extreme_expr which)
-extreme_joins Least = record { uses = λ depth slots. fold_min Bool (uses_step depth slots); gives = fold_min Bool gives_step }
-extreme_joins Greatest = record { uses = λ depth slots. fold_max Bool (uses_step depth slots); gives = fold_max Bool gives_step }
+extreme_joins Least =
+    record { uses = λ depth slots. fold_min Bool (uses_step depth slots); gives = fold_min Bool gives_step }
+extreme_joins Greatest =
+    record { uses = λ depth slots. fold_max Bool (uses_step depth slots); gives = fold_max Bool gives_step }
 
 -- an expression that names no more than these loops, and no read and no input value
 record IsOfLoops (depth : ℕ) (e : Expr) : Type 0 where
   uses : (slots : ℕ) → IsTrue (uses_only depth slots e)
   no_given : uses_given e ≡ false
 
-multiple_of_loops : (depth : ℕ) (before : Expr) (v : ℕ) (c : ℤ) → suc v ≤ depth → IsOfLoops depth before → IsOfLoops depth (with_multiple before v c)
+multiple_of_loops : (depth : ℕ) (before : Expr) (v : ℕ) (c : ℤ) → suc v ≤ depth → IsOfLoops depth before
+    → IsOfLoops depth (with_multiple before v c)
 multiple_of_loops depth before v c room h = by_test (int_eq c (pos 0)) where
   multiple : Expr
   multiple = expr.Mul (expr.Const c) (expr.Var v)
@@ -107,17 +120,22 @@ multiple_of_loops depth before v c room h = by_test (int_eq c (pos 0)) where
   by_test false = record {
     uses = λ slots. (binary_joins sign.Add).uses depth slots before multiple
         ∙ both_true (h.uses slots) ((binary_joins sign.Mul).uses depth slots (expr.Const c) (expr.Var v)
-        ∙ both_true (fold_const Bool (uses_step depth slots) c) (fold_var Bool (uses_step depth slots) v ∙ lt-ltb v depth room));
+        ∙ both_true (fold_const Bool (uses_step depth slots) c)
+        (fold_var Bool (uses_step depth slots) v ∙ lt-ltb v depth room));
     no_given = (binary_joins sign.Add).gives before multiple
-        ∙ or_from (uses_given before) (uses_given multiple) h.no_given ((binary_joins sign.Mul).gives (expr.Const c) (expr.Var v)
-        ∙ or_from (uses_given (expr.Const c)) (uses_given (expr.Var v)) (fold_const Bool gives_step c) (fold_var Bool gives_step v));
+        ∙ or_from (uses_given before) (uses_given multiple) h.no_given
+        ((binary_joins sign.Mul).gives (expr.Const c) (expr.Var v)
+        ∙ or_from (uses_given (expr.Const c)) (uses_given (expr.Var v)) (fold_const Bool gives_step c)
+        (fold_var Bool gives_step v));
   }
 
-multiples_of_loops : (depth : ℕ) (before : Expr) (v : ℕ) (coefs : List ℤ) → v + length coefs ≤ depth → IsOfLoops depth before
+multiples_of_loops : (depth : ℕ) (before : Expr) (v : ℕ) (coefs : List ℤ) → v + length coefs ≤ depth
+    → IsOfLoops depth before
     → IsOfLoops depth (with_multiples before v coefs)
 multiples_of_loops depth before v [] room h = h
 multiples_of_loops depth before v (c ∷ coefs) room h =
-    multiples_of_loops depth (with_multiple before v c) (v + 1) coefs (omega arith) (multiple_of_loops depth before v c (omega arith) h)
+    multiples_of_loops depth (with_multiple before v c) (v + 1) coefs (omega arith)
+    (multiple_of_loops depth before v c (omega arith) h)
 
 form_of_loops : (depth : ℕ) (f : Affine) → IsOfLoops depth (form_expr (form_over depth f))
 form_of_loops depth f =
@@ -125,12 +143,15 @@ form_of_loops depth f =
     (record { uses = λ slots. fold_const Bool (uses_step depth slots) f.constant; no_given = fold_const Bool gives_step f.constant })
 
 -- subscripts that fit the array
-pub access_is : (arrays : List ArrayDecl) (d number extents : ℕ) (subscripts : List Form) → HasArray arrays number extents
-    → length subscripts ≡ extents → IsTrue (list_all (form_fits d) subscripts) → IsTrue (access_fits arrays d (record { array = number; subscripts = subscripts }))
+pub access_is : (arrays : List ArrayDecl) (d number extents : ℕ) (subscripts : List Form)
+    → HasArray arrays number extents
+    → length subscripts ≡ extents → IsTrue (list_all (form_fits d) subscripts)
+    → IsTrue (access_fits arrays d (record { array = number; subscripts = subscripts }))
 access_is arrays d number extents subscripts has count fit =
     let same : length subscripts ≡ length has.array.extents = count ∙ sym has.count in
     both_true
-    (ap (λ o. option_map_or (λ array. length subscripts == length array.extents) o false) has.found ∙ eq-eqb (length subscripts) (length has.array.extents) same)
+    (ap (λ o. option_map_or (λ array. length subscripts == length array.extents) o false) has.found
+    ∙ eq-eqb (length subscripts) (length has.array.extents) same)
     fit
 
 module _ (arrays : List ArrayDecl) (d : ℕ) (in_room : d ≤ 6) (scope : Scope) (known : KnownScope arrays d scope) where
@@ -144,14 +165,17 @@ module _ (arrays : List ArrayDecl) (d : ℕ) (in_room : d ≤ 6) (scope : Scope)
   abbrev pub Fits : Value → Type 0
   Fits value = (slot : ℕ) → slot ≤ 8 → (value slot).findings ≡ [] → Fitting slot (value slot)
 
-  pub subscripts_fit : (subscripts : List Operand) → IsTrue (list_all (form_fits d) (subscripts_over d scope subscripts))
+  pub subscripts_fit : (subscripts : List Operand)
+      → IsTrue (list_all (form_fits d) (subscripts_over d scope subscripts))
   subscripts_fit subscripts =
       all_fit d (forms_of Body scope subscripts) in_room
-      (each_then (IsForm d) (IsRow d) (forms_of Body scope subscripts) (form_row d) (forms_are arrays d scope known Body subscripts))
+      (each_then (IsForm d) (IsRow d) (forms_of Body scope subscripts) (form_row d)
+      (forms_are arrays d scope known Body subscripts))
 
   pub subscripts_count : (subscripts : List Operand) → length (subscripts_over d scope subscripts) ≡ length subscripts
   subscripts_count subscripts =
-      length-map (forms_of Body scope subscripts) (form_over d) ∙ length-map subscripts (λ o. form_or_zero (judged Body scope o))
+      length-map (forms_of Body scope subscripts) (form_over d)
+      ∙ length-map subscripts (λ o. form_or_zero (judged Body scope o))
 
   const_fits : (c : ℤ) → Fits (λ slot. without_reads (expr.Const c) [])
   const_fits c slot le e = record {
@@ -161,15 +185,24 @@ module _ (arrays : List ArrayDecl) (d : ℕ) (in_room : d ≤ 6) (scope : Scope)
     no_given = fold_const Bool gives_step c;
   }
 
-  name_fits : (token : ℕ) (o : Option What) (subscripts : List Operand) → KnownIfAny arrays d o → Fits (name_value d scope token o subscripts)
+  name_fits : (token : ℕ) (o : Option What) (subscripts : List Operand) → KnownIfAny arrays d o
+      → Fits (name_value d scope token o subscripts)
   name_fits token None subscripts h slot le e = absurd (cc)
   name_fits token (Some (Array number extents)) subscripts h slot le e =
       let first : List BindError = found_if (not (length subscripts == extents)) (WrongCount token) in
       let second : List BindError = found_if (slot == 8) (TooManyReads token) in
       let third : List BindError = findings_of Body scope subscripts in
-      let count : length subscripts ≡ extents = eqb-true (length subscripts) extents (not_found (length subscripts == extents) (WrongCount token) (none_left first second (none_left (first ++ second) third e))) in
-      let room : slot ≡ 8 → ⊥ = eqb-false slot 8 (found_none (slot == 8) (TooManyReads token) (none_right first second (none_left (first ++ second) third e))) in
-      let fits = access_is arrays d number extents (subscripts_over d scope subscripts) h (subscripts_count subscripts ∙ count) (subscripts_fit subscripts) in
+      let count : length subscripts ≡ extents =
+      eqb-true (length subscripts) extents
+      (not_found (length subscripts == extents) (WrongCount token)
+      (none_left first second (none_left (first ++ second) third e))) in
+      let room : slot ≡ 8 → ⊥ =
+      eqb-false slot 8
+      (found_none (slot == 8) (TooManyReads token)
+      (none_right first second (none_left (first ++ second) third e))) in
+      let fits =
+      access_is arrays d number extents (subscripts_over d scope subscripts) h (subscripts_count subscripts ∙ count)
+      (subscripts_fit subscripts) in
       record {
         few = omega (arith, room);
         reads = both_true fits refl;
@@ -195,35 +228,44 @@ module _ (arrays : List ArrayDecl) (d : ℕ) (in_room : d ≤ 6) (scope : Scope)
   name_fits token (Some (Progression f)) (s ∷ subscripts) h slot le e = absurd (cc)
   name_fits token (Some (Parameter c)) (s ∷ subscripts) h slot le e = absurd (cc)
 
-  joined_fit : (op : Expr → Expr → Expr) → IsJoin op → (slot : ℕ) (a b : Valued) → Fitting slot a → Fitting (slot + length a.reads) b → Fitting slot (joined op a b)
+  joined_fit : (op : Expr → Expr → Expr) → IsJoin op → (slot : ℕ) (a b : Valued) → Fitting slot a
+      → Fitting (slot + length a.reads) b → Fitting slot (joined op a b)
   joined_fit op join slot a b h k =
       let len : length (a.reads ++ b.reads) ≡ length a.reads + length b.reads = length-append a.reads b.reads in
       record {
         few = omega (arith, h.few, k.few);
         reads = all_append (access_fits arrays d) a.reads b.reads h.reads k.reads;
-        uses = λ slots le. join.uses d slots a.expr b.expr ∙ both_true (h.uses slots (omega arith)) (k.uses slots (omega arith));
+        uses = λ slots le. join.uses d slots a.expr b.expr
+            ∙ both_true (h.uses slots (omega arith)) (k.uses slots (omega arith));
         no_given = join.gives a.expr b.expr ∙ or_from (uses_given a.expr) (uses_given b.expr) h.no_given k.no_given;
       }
 
-  none_before : (op : Expr → Expr → Expr) (slot : ℕ) (before : Valued) (values : List Value) → (joined_all op slot before values).findings ≡ [] → before.findings ≡ []
+  none_before : (op : Expr → Expr → Expr) (slot : ℕ) (before : Valued) (values : List Value)
+      → (joined_all op slot before values).findings ≡ [] → before.findings ≡ []
   none_before op slot before [] e = e
   none_before op slot before (value ∷ values) e =
-      none_left before.findings (value (slot + length before.reads)).findings (none_before op slot (joined op before (value (slot + length before.reads))) values e)
+      none_left before.findings (value (slot + length before.reads)).findings
+      (none_before op slot (joined op before (value (slot + length before.reads))) values e)
 
-  all_fits : (op : Expr → Expr → Expr) → IsJoin op → (slot : ℕ) (before : Valued) (values : List Value) → Fitting slot before → Each Fits values
+  all_fits : (op : Expr → Expr → Expr) → IsJoin op → (slot : ℕ) (before : Valued) (values : List Value)
+      → Fitting slot before → Each Fits values
       → (joined_all op slot before values).findings ≡ [] → Fitting slot (joined_all op slot before values)
   all_fits op join slot before [] h each e = h
   all_fits op join slot before (value ∷ values) h each e =
       let now : Valued = value (slot + length before.reads) in
-      let none : now.findings ≡ [] = none_right before.findings now.findings (none_before op slot (joined op before now) values e) in
-      all_fits op join slot (joined op before now) values (joined_fit op join slot before now h (each.0 (slot + length before.reads) h.few none)) each.1 e
+      let none : now.findings ≡ [] =
+      none_right before.findings now.findings (none_before op slot (joined op before now) values e) in
+      all_fits op join slot (joined op before now) values
+      (joined_fit op join slot before now h (each.0 (slot + length before.reads) h.few none)) each.1 e
 
-  list_fits : (op : Expr → Expr → Expr) → IsJoin op → (values : List Value) → Each Fits values → Fits (list_value op values)
+  list_fits : (op : Expr → Expr → Expr) → IsJoin op → (values : List Value) → Each Fits values
+      → Fits (list_value op values)
   list_fits op join [] each slot le e = const_fits (pos 0) slot le e
   list_fits op join (value ∷ values) each slot le e =
       all_fits op join slot (value slot) values (each.0 slot le (none_before op slot (value slot) values e)) each.1 e
 
-  pair_fits : (op : Expr → Expr → Expr) → IsJoin op → (a b : Value) → Fits a → Fits b → Fits (λ slot. joined_all op slot (a slot) (b ∷ []))
+  pair_fits : (op : Expr → Expr → Expr) → IsJoin op → (a b : Value) → Fits a → Fits b
+      → Fits (λ slot. joined_all op slot (a slot) (b ∷ []))
   pair_fits op join a b h k slot le e =
       all_fits op join slot (a slot) (b ∷ []) (h slot le (none_before op slot (a slot) (b ∷ []) e)) (k, tt) e
 
@@ -236,7 +278,9 @@ module _ (arrays : List ArrayDecl) (d : ℕ) (in_room : d ≤ 6) (scope : Scope)
   both_of : Operand → Operand × Value
   both_of o = (o, valued d scope o)
 
-  valued_roll : (y : Operand-F Operand) → valued d scope (roll-Operand y) ≡ value_step d scope (map-Operand Operand (Operand × Value) (λ o. (o, valued d scope o)) y)
+  valued_roll : (y : Operand-F Operand)
+      → valued d scope (roll-Operand y)
+      ≡ value_step d scope (map-Operand Operand (Operand × Value) (λ o. (o, valued d scope o)) y)
   unfolding valued
   valued_roll y = para-roll-Operand Value (value_step d scope) y
 
@@ -254,13 +298,20 @@ module _ (arrays : List ArrayDecl) (d : ℕ) (in_room : d ≤ 6) (scope : Scope)
         no_given = fold_neg Bool gives_step (value slot).expr ∙ k.no_given;
       }
 
-  step_fits : (y : Operand-F Part) → Fits (value_step d scope (map-Operand Operand (Operand × Value) (λ o. (o, valued d scope o)) (map-Operand Part Operand (λ e. e.0) y)))
+  step_fits : (y : Operand-F Part)
+      → Fits (value_step d scope
+      (map-Operand Operand (Operand × Value) (λ o. (o, valued d scope o)) (map-Operand Part Operand (λ e. e.0) y)))
   step_fits (Number value token) = const_fits value
-  step_fits (Access name subscripts) = name_fits name.token (value_named scope name.text) _ (value_known arrays d scope name.text known)
-  step_fits (Binary sign token left right) = pair_fits (binary_expr sign) (binary_joins sign) (valued d scope left.0) (valued d scope right.0) left.1 right.1
+  step_fits (Access name subscripts) =
+      name_fits name.token (value_named scope name.text) _ (value_known arrays d scope name.text known)
+  step_fits (Binary sign token left right) =
+      pair_fits (binary_expr sign) (binary_joins sign) (valued d scope left.0) (valued d scope right.0) left.1 right.1
   step_fits (Neg token inner) = neg_fits (valued d scope inner.0) inner.1
   step_fits (Min token list) = list_fits (extreme_expr Least) (extreme_joins Least) _ (parts_fit list)
   step_fits (Max token list) = list_fits (extreme_expr Greatest) (extreme_joins Greatest) _ (parts_fit list)
 
   pub value_fits : (o : Operand) → Fits (valued d scope o)
-  value_fits = ind-Operand Fit (λ x y is. subst (λ z. Fit (roll-Operand z)) is (subst Fits (sym (valued_roll (map-Operand Part Operand (λ e. e.0) y))) (step_fits y)))
+  value_fits =
+      ind-Operand Fit
+      (λ x y is. subst (λ z. Fit (roll-Operand z)) is
+      (subst Fits (sym (valued_roll (map-Operand Part Operand (λ e. e.0) y))) (step_fits y)))

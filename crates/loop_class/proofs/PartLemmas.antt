@@ -43,25 +43,31 @@ both_nothing a = λ i. record {
 }
 
 in_order_more : (ms : List Meaning) (m : Meaning) (c : Context) (l s : ℕ)
-    → in_order (ms ++ m ∷ []) c l s ≡ both (in_order ms c l s) (m c (in_order ms c l s).next_loop (s + length (in_order ms c l s).statements))
+    → in_order (ms ++ m ∷ []) c l s
+    ≡ both (in_order ms c l s) (m c (in_order ms c l s).next_loop (s + length (in_order ms c l s).statements))
 in_order_more [] m c l s = let z : s ≡ s + 0 = omega arith in both_nothing (m c l s) ∙ ap (m c l) z
 in_order_more (x ∷ ms) m c l s =
     let a = x c l s in
     let r = in_order ms c a.next_loop (s + length a.statements) in
-    let n : (s + length a.statements) + length r.statements ≡ s + length (a.statements ++ r.statements) = omega (arith, length-append a.statements r.statements) in
+    let n : (s + length a.statements) + length r.statements ≡ s + length (a.statements ++ r.statements) =
+    omega (arith, length-append a.statements r.statements) in
     ap (both a) (in_order_more ms m c a.next_loop (s + length a.statements))
     ∙ both_assoc a r (m c r.next_loop ((s + length a.statements) + length r.statements))
     ∙ ap (λ n. both (both a r) (m c r.next_loop n)) n
 
 -- reasons that were noted before a part
-pub noted : (c c1 : Context) (p p1 : Progress) (nodes nodes1 : List Node) (l1 : Option BindError) (fs : List BindError) (made : Made)
-    → l1 ≡ least_from p.least fs → Makes c c1 (record p { least = l1 }) p1 nodes nodes1 made → Makes c c1 p p1 nodes nodes1 (with_findings fs made)
+pub noted : (c c1 : Context) (p p1 : Progress) (nodes nodes1 : List Node) (l1 : Option BindError) (fs : List BindError)
+    (made : Made)
+    → l1 ≡ least_from p.least fs → Makes c c1 (record p { least = l1 }) p1 nodes nodes1 made
+    → Makes c c1 p p1 nodes nodes1 (with_findings fs made)
 noted c c1 p p1 nodes nodes1 l1 fs made first h =
     let least : least_from l1 made.findings ≡ least_from p.least (fs ++ made.findings) =
     ap (λ l. least_from l made.findings) first ∙ sym (least_append p.least fs made.findings) in
     record {
       context = h.context;
-      progress = h.progress ∙ (λ i. record p { statements = p.statements ++ made.statements; next_loop = made.next_loop; least = least i });
+      progress =
+          h.progress
+          ∙ (λ i. record p { statements = p.statements ++ made.statements; next_loop = made.next_loop; least = least i });
       nodes = h.nodes;
     }
 
@@ -71,7 +77,8 @@ pub followed : (c c1 c2 : Context) (p p1 p2 : Progress) (n n1 n2 : List Node) (a
     → Makes c c2 p p2 n n2 (both a (m c a.next_loop (next_statement p + length a.statements)))
 followed c c1 c2 p p1 p2 n n1 n2 a m first second =
     let number : next_statement p1 ≡ next_statement p + length a.statements =
-    ap next_statement first.progress ∙ ap (λ k. p.first + k) (length-append p.statements a.statements) ∙ next_number p.first (length p.statements) (length a.statements) in
+    ap next_statement first.progress ∙ ap (λ k. p.first + k) (length-append p.statements a.statements)
+    ∙ next_number p.first (length p.statements) (length a.statements) in
     let same : m c1 p1.next_loop (next_statement p1) ≡ m c a.next_loop (next_statement p + length a.statements) =
     λ i. m (first.context i) (first.progress i).next_loop (number i) in
     let b = m c a.next_loop (next_statement p + length a.statements) in
@@ -92,27 +99,33 @@ followed c c1 c2 p p1 p2 n n1 n2 a m first second =
     }
 
 module _ (part : Part) (c : Context) (l s : ℕ) where
-  part_for : (name : Name) (first : Operand) (second : Name) (inclusive : Bool) (bound : Operand) (third : Name) (step : Step) (body : Part)
+  part_for : (name : Name) (first : Operand) (second : Name) (inclusive : Bool) (bound : Operand) (third : Name)
+      (step : Step) (body : Part)
       → part ≡ For name first second inclusive bound third step body
       → part_made part c l s ≡ part_step (layer.For name first second inclusive bound third step (part_made body)) c l s
   unfolding part_made
   part_for name first second inclusive bound third step body is =
       ap (λ p. part_made p c l s) (is ∙ sym (rolls-For name first second inclusive bound third step body))
-      ∙ ap (λ f. f c l s) (fold-roll-Part Meaning Otherwise part_step other_step (layer.For name first second inclusive bound third step body))
+      ∙ ap (λ f. f c l s)
+      (fold-roll-Part Meaning Otherwise part_step other_step
+      (layer.For name first second inclusive bound third step body))
 
   part_if_none : (cond : List Comparison) (body : Part) → part ≡ If cond body None
       → part_made part c l s ≡ part_step (layer.If cond (part_made body) None) c l s
   unfolding part_made
   part_if_none cond body is =
-      ap (λ p. part_made p c l s) (is ∙ sym (rolls-If cond body None)) ∙ ap (λ f. f c l s) (fold-roll-Part Meaning Otherwise part_step other_step (layer.If cond body None))
+      ap (λ p. part_made p c l s) (is ∙ sym (rolls-If cond body None))
+      ∙ ap (λ f. f c l s) (fold-roll-Part Meaning Otherwise part_step other_step (layer.If cond body None))
 
   part_if_some : (cond : List Comparison) (body : Part) (other : Other) → part ≡ If cond body (Some other)
-      → part_made part c l s ≡ part_step (layer.If cond (part_made body) (Some (other.token, part_made other.body))) c l s
+      → part_made part c l s
+      ≡ part_step (layer.If cond (part_made body) (Some (other.token, part_made other.body))) c l s
   unfolding part_made
   part_if_some cond body other is =
       ap (λ p. part_made p c l s) (is ∙ sym (rolls-If cond body (Some other)))
       ∙ ap (λ f. f c l s) (fold-roll-Part Meaning Otherwise part_step other_step (layer.If cond body (Some other)))
-      ∙ ap (λ o. part_step (layer.If cond (part_made body) (Some o)) c l s) (fold_out-Other Meaning Otherwise part_step other_step other)
+      ∙ ap (λ o. part_step (layer.If cond (part_made body) (Some o)) c l s)
+      (fold_out-Other Meaning Otherwise part_step other_step other)
 
   part_assign : (target : Name) (subscripts : List Operand) (value : Operand) → part ≡ Assign target subscripts value
       → part_made part c l s ≡ assign_made target subscripts value c l s
@@ -124,46 +137,60 @@ module _ (part : Part) (c : Context) (l s : ℕ) where
   part_block : (parts : List Part) → part ≡ Block parts → part_made part c l s ≡ parts_made parts c l s
   unfolding part_made
   part_block parts is =
-      ap (λ p. part_made p c l s) (is ∙ sym (rolls-Block parts)) ∙ ap (λ f. f c l s) (fold-roll-Part Meaning Otherwise part_step other_step (layer.Block parts))
+      ap (λ p. part_made p c l s) (is ∙ sym (rolls-Block parts))
+      ∙ ap (λ f. f c l s) (fold-roll-Part Meaning Otherwise part_step other_step (layer.Block parts))
 
 -- the same result under another name
-pub renamed : {E : Type 0} (result : Result (Unit {0}) E) (c c1 : Context) (p p1 : Progress) (nodes nodes1 : List Node) (a b : Made)
+pub renamed : {E : Type 0} (result : Result (Unit {0}) E) (c c1 : Context) (p p1 : Progress) (nodes nodes1 : List Node)
+    (a b : Made)
     → OnOk result (Makes c c1 p p1 nodes nodes1 a) → b ≡ a → OnOk result (Makes c c1 p p1 nodes nodes1 b)
 renamed result c c1 p p1 nodes nodes1 a b h is = subst (λ m. OnOk result (Makes c c1 p p1 nodes nodes1 m)) (sym is) h
 
 module _ (part : Part) (c c1 : Context) (p p1 : Progress) (nodes nodes1 : List Node) where
-  pub for_ok : {E : Type 0} (result : Result (Unit {0}) E) (name : Name) (first : Operand) (second : Name) (inclusive : Bool) (bound : Operand) (third : Name) (step : Step) (body : Part)
+  pub for_ok : {E : Type 0} (result : Result (Unit {0}) E) (name : Name) (first : Operand) (second : Name)
+      (inclusive : Bool) (bound : Operand) (third : Name) (step : Step) (body : Part)
       (bounds : Bounds) (l1 : Option BindError)
-      → part ≡ For name first second inclusive bound third step body → bounds ≡ loop_bounds c.scope first inclusive bound step
+      → part ≡ For name first second inclusive bound third step body
+      → bounds ≡ loop_bounds c.scope first inclusive bound step
       → l1 ≡ least_from p.least (for_findings c name first second bound third step)
       → OnOk result (Makes c c1 (record p { least = l1 }) p1 nodes nodes1
-      (loop_made (depth_of c) p.next_loop bounds [] (loop_body (part_made body) c name.text bounds p.next_loop (next_statement p))))
+      (loop_made (depth_of c) p.next_loop bounds []
+      (loop_body (part_made body) c name.text bounds p.next_loop (next_statement p))))
       → OnOk result (Makes c c1 p p1 nodes nodes1 (part_made part c p.next_loop (next_statement p)))
   for_ok result name first second inclusive bound third step body bounds l1 is same least h =
       let header = for_findings c name first second bound third step in
       let wanted : Bounds → Made =
-      λ bounds. loop_made (depth_of c) p.next_loop bounds header (loop_body (part_made body) c name.text bounds p.next_loop (next_statement p)) in
+      λ bounds. loop_made (depth_of c) p.next_loop bounds header
+      (loop_body (part_made body) c name.text bounds p.next_loop (next_statement p)) in
       let noted_all : OnOk result (Makes c c1 p p1 nodes nodes1 (wanted bounds)) =
       on_ok_weaker result
       (noted c c1 p p1 nodes nodes1 l1 header
-      (loop_made (depth_of c) p.next_loop bounds [] (loop_body (part_made body) c name.text bounds p.next_loop (next_statement p))) least) h in
+      (loop_made (depth_of c) p.next_loop bounds []
+      (loop_body (part_made body) c name.text bounds p.next_loop (next_statement p))) least) h in
       renamed result c c1 p p1 nodes nodes1 (wanted bounds) (part_made part c p.next_loop (next_statement p)) noted_all
-      (part_for part c p.next_loop (next_statement p) name first second inclusive bound third step body is ∙ ap wanted (sym same))
+      (part_for part c p.next_loop (next_statement p) name first second inclusive bound third step body is
+      ∙ ap wanted (sym same))
 
-  pub assign_ok : {E : Type 0} (result : Result (Unit {0}) E) (target : Name) (subscripts operands : List Operand) (value : Operand)
+  pub assign_ok : {E : Type 0} (result : Result (Unit {0}) E) (target : Name) (subscripts operands : List Operand)
+      (value : Operand)
       → part ≡ Assign target subscripts value → operands ≡ subscripts
       → OnOk result (Makes c c1 p p1 nodes nodes1 (assign_made target operands value c p.next_loop (next_statement p)))
       → OnOk result (Makes c c1 p p1 nodes nodes1 (part_made part c p.next_loop (next_statement p)))
   assign_ok result target subscripts operands value is same h =
-      renamed result c c1 p p1 nodes nodes1 (assign_made target operands value c p.next_loop (next_statement p)) (part_made part c p.next_loop (next_statement p)) h
-      (part_assign part c p.next_loop (next_statement p) target subscripts value is ∙ ap (λ o. assign_made target o value c p.next_loop (next_statement p)) (sym same))
+      renamed result c c1 p p1 nodes nodes1 (assign_made target operands value c p.next_loop (next_statement p))
+      (part_made part c p.next_loop (next_statement p)) h
+      (part_assign part c p.next_loop (next_statement p) target subscripts value is
+      ∙ ap (λ o. assign_made target o value c p.next_loop (next_statement p)) (sym same))
 
-  pub block_ok : {E : Type 0} (result : Result (Unit {0}) E) (parts list : List Part) → part ≡ Block parts → list ≡ parts
+  pub block_ok : {E : Type 0} (result : Result (Unit {0}) E) (parts list : List Part) → part ≡ Block parts
+      → list ≡ parts
       → OnOk result (Makes c c1 p p1 nodes nodes1 (parts_made list c p.next_loop (next_statement p)))
       → OnOk result (Makes c c1 p p1 nodes nodes1 (part_made part c p.next_loop (next_statement p)))
   block_ok result parts list is same h =
-      renamed result c c1 p p1 nodes nodes1 (parts_made list c p.next_loop (next_statement p)) (part_made part c p.next_loop (next_statement p)) h
-      (part_block part c p.next_loop (next_statement p) parts is ∙ ap (λ o. parts_made o c p.next_loop (next_statement p)) (sym same))
+      renamed result c c1 p p1 nodes nodes1 (parts_made list c p.next_loop (next_statement p))
+      (part_made part c p.next_loop (next_statement p)) h
+      (part_block part c p.next_loop (next_statement p) parts is
+      ∙ ap (λ o. parts_made o c p.next_loop (next_statement p)) (sym same))
 
   module _ (cond : List Comparison) (body : Part) (rows : List Affine) (l1 : Option BindError)
       (low : rows ≡ guard_rows c.scope cond) (least : l1 ≡ least_from p.least (guard_findings c.scope cond)) where
@@ -176,23 +203,33 @@ module _ (part : Part) (c c1 : Context) (p p1 : Progress) (nodes nodes1 : List N
     if_makes is h =
         subst (λ m. Makes c c1 p p1 nodes nodes1 m)
         (sym (part_if_none part c p.next_loop (next_statement p) cond body is
-        ∙ ap (with_findings (guard_findings c.scope cond)) (both_nothing (yes (guard_rows c.scope cond)) ∙ ap yes (sym low))))
+        ∙ ap (with_findings (guard_findings c.scope cond))
+        (both_nothing (yes (guard_rows c.scope cond)) ∙ ap yes (sym low))))
         (noted c c1 p p1 nodes nodes1 l1 (guard_findings c.scope cond) (yes rows) least h)
 
-    pub if_else_ok : {E : Type 0} (result : Result (Unit {0}) E) (other : Other) (c2 : Context) (p2 : Progress) (nodes2 : List Node) (tests : List Comparison)
-        → part ≡ If cond body (Some other) → tests ≡ cond → Makes c c1 (record p { least = l1 }) p1 nodes nodes1 (yes rows)
-        → OnOk result (Makes c1 c2 p1 p2 nodes1 nodes2 (else_made tests (Some (other.token, part_made other.body)) c1 p1.next_loop (next_statement p1)))
+    pub if_else_ok : {E : Type 0} (result : Result (Unit {0}) E) (other : Other) (c2 : Context) (p2 : Progress)
+        (nodes2 : List Node) (tests : List Comparison)
+        → part ≡ If cond body (Some other) → tests ≡ cond
+        → Makes c c1 (record p { least = l1 }) p1 nodes nodes1 (yes rows)
+        → OnOk result
+        (Makes c1 c2 p1 p2 nodes1 nodes2
+        (else_made tests (Some (other.token, part_made other.body)) c1 p1.next_loop (next_statement p1)))
         → OnOk result (Makes c c2 p p2 nodes nodes2 (part_made part c p.next_loop (next_statement p)))
     if_else_ok result other c2 p2 nodes2 tests is same h k =
         let otherwise : Otherwise = (other.token, part_made other.body) in
         let all : List Affine → List Comparison → Made =
         λ rows tests. with_findings (guard_findings c.scope cond)
-        (both (yes rows) (else_made tests (Some otherwise) c (yes rows).next_loop (next_statement p + length (yes rows).statements))) in
+        (both (yes rows)
+        (else_made tests (Some otherwise) c (yes rows).next_loop
+        (next_statement p + length (yes rows).statements))) in
         let wanted : OnOk result (Makes c c2 p p2 nodes nodes2 (all rows tests)) =
         on_ok_weaker result
         (λ second. noted c c2 p p2 nodes nodes2 l1 (guard_findings c.scope cond)
-        (both (yes rows) (else_made tests (Some otherwise) c (yes rows).next_loop (next_statement p + length (yes rows).statements))) least
-        (followed c c1 c2 (record p { least = l1 }) p1 p2 nodes nodes1 nodes2 (yes rows) (else_made tests (Some otherwise)) h second)) k in
+        (both (yes rows)
+        (else_made tests (Some otherwise) c (yes rows).next_loop
+        (next_statement p + length (yes rows).statements))) least
+        (followed c c1 c2 (record p { least = l1 }) p1 p2 nodes nodes1 nodes2 (yes rows)
+        (else_made tests (Some otherwise)) h second)) k in
         renamed result c c2 p p2 nodes nodes2 (all rows tests) (part_made part c p.next_loop (next_statement p)) wanted
         (part_if_some part c p.next_loop (next_statement p) cond body other is ∙ (λ i. all (sym low i) (sym same i)))
 
@@ -203,10 +240,12 @@ pub next_part : (parts : List Part) (i : ℕ) (item : Part) (c c1 c2 : Context) 
     → Makes c1 c2 p1 p2 n1 n2 (part_made item c1 p1.next_loop (next_statement p1))
     → Makes c c2 p p2 n n2 (parts_made (take (i + 1) parts) c p.next_loop (next_statement p))
 next_part parts i item c c1 c2 p p1 p2 n n1 n2 below at first second =
-    let more : take (i + 1) parts ≡ take i parts ++ item ∷ [] = take_more parts i item below ∙ ap (λ x. take i parts ++ x ∷ []) (sym at) in
+    let more : take (i + 1) parts ≡ take i parts ++ item ∷ [] =
+    take_more parts i item below ∙ ap (λ x. take i parts ++ x ∷ []) (sym at) in
     let l = p.next_loop in
     let s = next_statement p in
     subst (λ m. Makes c c2 p p2 n n2 m)
-    (sym (ap (λ list. parts_made list c l s) more ∙ ap (λ ms. in_order ms c l s) (map-append part_made (take i parts) (item ∷ []))
+    (sym (ap (λ list. parts_made list c l s) more
+    ∙ ap (λ ms. in_order ms c l s) (map-append part_made (take i parts) (item ∷ []))
     ∙ in_order_more (map part_made (take i parts)) (part_made item) c l s))
     (followed c c1 c2 p p1 p2 n n1 n2 (parts_made (take i parts) c l s) (part_made item) first second)

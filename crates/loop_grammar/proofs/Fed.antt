@@ -7,7 +7,8 @@ pub fed_none : {S : Type 0} (step : S → Tok → Option S) (b : List Tok) → f
 fed_none step [] = refl
 fed_none step (t ∷ b) = refl
 
-pub fed_append : {S : Type 0} (step : S → Tok → Option S) (s : Option S) (a b : List Tok) → fed_by step s (a ++ b) ≡ fed_by step (fed_by step s a) b
+pub fed_append : {S : Type 0} (step : S → Tok → Option S) (s : Option S) (a b : List Tok)
+    → fed_by step s (a ++ b) ≡ fed_by step (fed_by step s a) b
 fed_append step s [] b = refl
 fed_append {S} step None (t ∷ a) b = none b
   where

@@ -10,7 +10,8 @@ some_bracket : (k : List Frame) (f : Frame) (r : Reading) → has_no_bracket (k 
 some_bracket [] f r = refl
 some_bracket (g ∷ k) f r = refl
 
-pub no_bracket : (b : Bool) (outer : List Frame) (r : Reading) → (IsTrue b ↔ (outer ≡ [])) → b ≡ has_no_bracket (reverse outer, r)
+pub no_bracket : (b : Bool) (outer : List Frame) (r : Reading) → (IsTrue b ↔ (outer ≡ []))
+    → b ≡ has_no_bracket (reverse outer, r)
 no_bracket true [] r h = refl
 no_bracket false [] r h = absurd (no_truth (h.1 refl))
   where
@@ -20,4 +21,5 @@ no_bracket true (f ∷ outer) r h = absurd (absent (h.0 refl))
   where
     absent : f ∷ outer ≡ [] → ⊥
     absent e = cc
-no_bracket false (f ∷ outer) r h = sym (ap (λ (k : List Frame). has_no_bracket (k, r)) (reverse_onto outer f []) ∙ some_bracket (reverse outer) f r)
+no_bracket false (f ∷ outer) r h =
+    sym (ap (λ (k : List Frame). has_no_bracket (k, r)) (reverse_onto outer f []) ∙ some_bracket (reverse outer) f r)

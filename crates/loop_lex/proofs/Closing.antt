@@ -17,12 +17,14 @@ abbrev pub NoneUpTo : List ℕ → ℕ → Type 0
 NoneUpTo body j = (m : ℕ) → m < suc j → ends_at_first_close (take m body) ≡ false
 
 -- where no close stands at the front, the first byte doesn't matter
-pub close_step : (a : ℕ) (rest : List ℕ) → begins_close (a ∷ rest) ≡ false → (m : ℕ) → ends_at_first_close (take (suc m) (a ∷ rest)) ≡ ends_at_first_close (take m rest)
+pub close_step : (a : ℕ) (rest : List ℕ) → begins_close (a ∷ rest) ≡ false → (m : ℕ)
+    → ends_at_first_close (take (suc m) (a ∷ rest)) ≡ ends_at_first_close (take m rest)
 close_step a rest e zero = refl
 close_step a [] e (suc m) = refl
 close_step a (b ∷ rest) e (suc m) = rw e refl
 
-close_at_front : (rest : List ℕ) (m : ℕ) → m ≤ length rest + 2 → ends_at_first_close (take m (42 ∷ 47 ∷ rest)) ≡ nat_eq m 2
+close_at_front : (rest : List ℕ) (m : ℕ) → m ≤ length rest + 2
+    → ends_at_first_close (take m (42 ∷ 47 ∷ rest)) ≡ nat_eq m 2
 close_at_front rest zero le = refl
 close_at_front rest (suc zero) le = refl
 close_at_front rest (suc (suc zero)) le = refl
@@ -32,10 +34,13 @@ close_at_front (c ∷ rest) (suc (suc (suc m))) le = sym (not_two m)
     not_two : (m : ℕ) → nat_eq (suc (suc (suc m))) 2 ≡ false
     not_two m = grind (arith, nat_tests)
 
-front_two : (body : List ℕ) (j : ℕ) → suc j < length body → drop j body ≡ get_or body j 0 ∷ get_or body (suc j) 0 ∷ drop (suc (suc j)) body
-front_two body j lt = let lt' : j < length body = omega arith in rw (drop-cons body j 0) (rw (drop-cons body (suc j) 0) refl)
+front_two : (body : List ℕ) (j : ℕ) → suc j < length body
+    → drop j body ≡ get_or body j 0 ∷ get_or body (suc j) 0 ∷ drop (suc (suc j)) body
+front_two body j lt =
+    let lt' : j < length body = omega arith in rw (drop-cons body j 0) (rw (drop-cons body (suc j) 0) refl)
 
-pub close_found : (body : List ℕ) (j : ℕ) → suc j < length body → Shifts body j → get_or body j 0 ≡ 42 → get_or body (suc j) 0 ≡ 47 → ClosesAt body (j + 2)
+pub close_found : (body : List ℕ) (j : ℕ) → suc j < length body → Shifts body j → get_or body j 0 ≡ 42
+    → get_or body (suc j) 0 ≡ 47 → ClosesAt body (j + 2)
 close_found body j lt shifts ea eb =
     let front : drop j body ≡ 42 ∷ 47 ∷ drop (suc (suc j)) body = front_two body j lt ∙ rw (ea, eb) refl in
     let room : length (drop (suc (suc j)) body) + 2 + j ≡ length body = omega (arith, length-drop {A = ℕ}) in
@@ -43,18 +48,22 @@ close_found body j lt shifts ea eb =
       within = omega arith;
       closed = shifts 2 ∙ rw front (close_at_front (drop (suc (suc j)) body) 2 (omega arith));
       only = λ m far le. let k : m ≡ j + (m - j) = omega arith in
-          rw k (shifts (m - j) ∙ rw front (close_at_front (drop (suc (suc j)) body) (m - j) (omega arith) ∙ not_two (m - j) (omega arith)));
+          rw k (shifts (m - j)
+          ∙ rw front (close_at_front (drop (suc (suc j)) body) (m - j) (omega arith)
+          ∙ not_two (m - j) (omega arith)));
     }
   where
     not_two : (n : ℕ) → 2 < n → nat_eq n 2 ≡ false
     not_two n h = grind (arith, nat_tests)
 
-pub close_goes : (body : List ℕ) (j : ℕ) → suc j < length body → Shifts body j → begins_close (get_or body j 0 ∷ get_or body (suc j) 0 ∷ []) ≡ false → Shifts body (suc j)
+pub close_goes : (body : List ℕ) (j : ℕ) → suc j < length body → Shifts body j
+    → begins_close (get_or body j 0 ∷ get_or body (suc j) 0 ∷ []) ≡ false → Shifts body (suc j)
 close_goes body j lt shifts none m =
     let move : suc j + m ≡ j + suc m = omega arith in
     let front : drop j body ≡ get_or body j 0 ∷ drop (suc j) body = drop-cons body j 0 (omega arith) in
     let rest : drop (suc j) body ≡ get_or body (suc j) 0 ∷ drop (suc (suc j)) body = drop-cons body (suc j) 0 lt in
-    rw move (shifts (suc m) ∙ rw (front, rest) (close_step (get_or body j 0) (get_or body (suc j) 0 ∷ drop (suc (suc j)) body) none m))
+    rw move (shifts (suc m)
+    ∙ rw (front, rest) (close_step (get_or body j 0) (get_or body (suc j) 0 ∷ drop (suc (suc j)) body) none m))
 
 one_more : (body : List ℕ) (j : ℕ) → Shifts body j → ends_at_first_close (take (suc j) body) ≡ false
 one_more body j shifts =

@@ -28,7 +28,8 @@ not_and false b h = refl
 
 -- ---- signs
 
-pub none_of : (p q : List ℕ → Bool) → ((s : List ℕ) → p s ≡ true → q s ≡ false) → (texts : List (List ℕ)) → list_all p texts ≡ true → list_any q texts ≡ false
+pub none_of : (p q : List ℕ → Bool) → ((s : List ℕ) → p s ≡ true → q s ≡ false) → (texts : List (List ℕ))
+    → list_all p texts ≡ true → list_any q texts ≡ false
 none_of p q apart [] h = refl
 none_of p q apart (s ∷ texts) h =
     rw (apart s (and_left (p s) (list_all p texts) h)) (none_of p q apart texts (and_right (p s) (list_all p texts) h))
@@ -52,7 +53,9 @@ other_length (x ∷ xs) (y ∷ ys) lt = and_no (nat_eq x y) (bytes_eq xs ys) (ot
 
 -- a sign has two bytes at most
 pub long_sign : (a b c : ℕ) (t : List ℕ) → is_sign (a ∷ b ∷ c ∷ t) ≡ false
-long_sign a b c t = none_of (λ s. nat_le (length s) 2) (bytes_eq (a ∷ b ∷ c ∷ t)) (λ s h. other_length (a ∷ b ∷ c ∷ t) s (short (length s) h)) signs refl
+long_sign a b c t =
+    none_of (λ s. nat_le (length s) 2) (bytes_eq (a ∷ b ∷ c ∷ t))
+    (λ s h. other_length (a ∷ b ∷ c ∷ t) s (short (length s) h)) signs refl
   where
     short : (n : ℕ) → nat_le n 2 ≡ true → n < length (a ∷ b ∷ c ∷ t)
     short n h = grind (arith, nat_tests)
@@ -77,10 +80,12 @@ pub space_begins : (b : ℕ) → is_space b ≡ true → list_all (begins_otherw
 space_begins b h = grind (arith, nat_tests)
 
 pub of_letter : (b : ℕ) → is_letter b ≡ true → BeginsNoSign b true false
-of_letter b h = record { space = grind (arith, nat_tests); letter_is = h; digit_is = grind (arith, nat_tests); slash = grind (arith, nat_tests); sign = λ t. no_sign b t (letter_begins b h) }
+of_letter b h =
+    record { space = grind (arith, nat_tests); letter_is = h; digit_is = grind (arith, nat_tests); slash = grind (arith, nat_tests); sign = λ t. no_sign b t (letter_begins b h) }
 
 pub of_digit : (b : ℕ) → is_digit b ≡ true → BeginsNoSign b false true
-of_digit b h = record { space = grind (arith, nat_tests); letter_is = grind (arith, nat_tests); digit_is = h; slash = grind (arith, nat_tests); sign = λ t. no_sign b t (digit_begins b h) }
+of_digit b h =
+    record { space = grind (arith, nat_tests); letter_is = grind (arith, nat_tests); digit_is = h; slash = grind (arith, nat_tests); sign = λ t. no_sign b t (digit_begins b h) }
 
 space_is_no_other : (b : ℕ) → is_space b ≡ true → (is_letter b ≡ false) × (is_digit b ≡ false) × (nat_eq b 47 ≡ false)
 space_is_no_other b h = (grind (arith, nat_tests), grind (arith, nat_tests), grind (arith, nat_tests))
@@ -90,10 +95,13 @@ space_is_no_other b h = (grind (arith, nat_tests), grind (arith, nat_tests), gri
 pub space_alone : (b c : ℕ) (t : List ℕ) → is_space b ≡ true → is_input_element (b ∷ c ∷ t) ≡ false
 space_alone b c t h = let o = space_is_no_other b h in rw (o.2, o.0, o.1) (no_sign b (c ∷ t) (space_begins b h))
 
-pub letter_element : (b c : ℕ) (t : List ℕ) → BeginsNoSign b true false → is_input_element (b ∷ c ∷ t) ≡ list_all is_letter_or_digit (c ∷ t)
-letter_element b c t q = rw (q.slash, q.letter_is, q.digit_is, q.sign (c ∷ t)) (or_false (list_all is_letter_or_digit (c ∷ t)))
+pub letter_element : (b c : ℕ) (t : List ℕ) → BeginsNoSign b true false
+    → is_input_element (b ∷ c ∷ t) ≡ list_all is_letter_or_digit (c ∷ t)
+letter_element b c t q =
+    rw (q.slash, q.letter_is, q.digit_is, q.sign (c ∷ t)) (or_false (list_all is_letter_or_digit (c ∷ t)))
 
-pub digit_element : (b c : ℕ) (t : List ℕ) → BeginsNoSign b false true → is_input_element (b ∷ c ∷ t) ≡ list_all is_digit (c ∷ t)
+pub digit_element : (b c : ℕ) (t : List ℕ) → BeginsNoSign b false true
+    → is_input_element (b ∷ c ∷ t) ≡ list_all is_digit (c ∷ t)
 digit_element b c t q = rw (q.slash, q.letter_is, q.digit_is, q.sign (c ∷ t)) (or_false (list_all is_digit (c ∷ t)))
 
 pub line_element : (t : List ℕ) → is_input_element (47 ∷ 47 ∷ t) ≡ list_all (λ c. not (is_line_feed c)) t
@@ -106,7 +114,8 @@ line_element t = tidy (list_all (λ c. not (is_line_feed c)) t)
 pub block_element : (t : List ℕ) → is_input_element (47 ∷ 42 ∷ t) ≡ ends_at_first_close t
 block_element t = or_false (ends_at_first_close t)
 
-pub slash_element : (c : ℕ) (t : List ℕ) → nat_eq c 47 ≡ false → nat_eq c 42 ≡ false → is_input_element (47 ∷ c ∷ t) ≡ false
+pub slash_element : (c : ℕ) (t : List ℕ) → nat_eq c 47 ≡ false → nat_eq c 42 ≡ false
+    → is_input_element (47 ∷ c ∷ t) ≡ false
 slash_element c t h k = rw (h, k) refl
 
 pub sign_element_one : (b : ℕ) → BeginsSignOnly b → is_input_element (b ∷ []) ≡ is_sign (b ∷ [])

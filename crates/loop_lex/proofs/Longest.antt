@@ -11,7 +11,8 @@ use Rattle.loop_lex.proofs.Elements.{of_letter, of_digit, and_no, space_alone, l
 abbrev pub NoneOver : List ℕ → ℕ → Type 0
 NoneOver bytes n = (m : ℕ) → n < m → m ≤ length bytes → is_input_element (take m bytes) ≡ false
 
-pub longest_is : (k : ℕ) (bytes : List ℕ) (n : ℕ) → k ≤ length bytes → suc n ≤ k → is_input_element (take (suc n) bytes) ≡ true → NoneOver bytes (suc n) → longest_up_to k bytes ≡ suc n
+pub longest_is : (k : ℕ) (bytes : List ℕ) (n : ℕ) → k ≤ length bytes → suc n ≤ k
+    → is_input_element (take (suc n) bytes) ≡ true → NoneOver bytes (suc n) → longest_up_to k bytes ≡ suc n
 unfolding longest_up_to
 longest_is zero bytes n le some item over = absurd (omega arith)
 longest_is (suc k) bytes n le some item over = elim (cases_lt n k) [
@@ -33,12 +34,16 @@ longest_le (suc k) bytes = either (is_input_element (take (suc k) bytes)) (longe
     either true le = omega arith
     either false le = omega arith
 
-pub longest_element : (k : ℕ) (bytes : List ℕ) → 0 < longest_up_to k bytes → is_input_element (take (longest_up_to k bytes) bytes) ≡ true
+pub longest_element : (k : ℕ) (bytes : List ℕ) → 0 < longest_up_to k bytes
+    → is_input_element (take (longest_up_to k bytes) bytes) ≡ true
 unfolding longest_up_to
 longest_element zero bytes lt = absurd (omega arith)
 longest_element (suc k) bytes lt = either (is_input_element (take (suc k) bytes)) refl (longest_element k bytes) lt
   where
-    either : (x : Bool) → is_input_element (take (suc k) bytes) ≡ x → (0 < longest_up_to k bytes → is_input_element (take (longest_up_to k bytes) bytes) ≡ true) → 0 < (if x then suc k else longest_up_to k bytes) → is_input_element (take (if x then suc k else longest_up_to k bytes) bytes) ≡ true
+    either : (x : Bool) → is_input_element (take (suc k) bytes) ≡ x
+        → (0 < longest_up_to k bytes → is_input_element (take (longest_up_to k bytes) bytes) ≡ true)
+        → 0 < (if x then suc k else longest_up_to k bytes)
+        → is_input_element (take (if x then suc k else longest_up_to k bytes) bytes) ≡ true
     either true e shorter h = e
     either false e shorter h = shorter h
 
@@ -55,36 +60,45 @@ run_of p [] = record { within = omega arith; each = refl; ends = λ lt. absurd (
 run_of p (x ∷ xs) = either (p x) refl (run_of p xs)
   where
     more : p x ≡ true → IsRun p xs (prefix_len p xs) → IsRun p (x ∷ xs) (suc (prefix_len p xs))
-    more e run = record { within = omega (arith, run.within); each = rw e run.each; ends = λ lt. run.ends (omega arith) }
+    more e run =
+        record { within = omega (arith, run.within); each = rw e run.each; ends = λ lt. run.ends (omega arith) }
 
     either : (b : Bool) → p x ≡ b → IsRun p xs (prefix_len p xs) → IsRun p (x ∷ xs) (cond b (1 + prefix_len p xs) 0)
     either true e run = let one : 1 + prefix_len p xs ≡ suc (prefix_len p xs) = omega arith in rw one (more e run)
     either false e run = record { within = omega arith; each = refl; ends = λ lt. e }
 
-bad_tail : (p : ℕ → Bool) (xs : List ℕ) (n m : ℕ) → n < m → m ≤ length xs → p (get_or xs n 0) ≡ false → list_all p (take m xs) ≡ false
+bad_tail : (p : ℕ → Bool) (xs : List ℕ) (n m : ℕ) → n < m → m ≤ length xs → p (get_or xs n 0) ≡ false
+    → list_all p (take m xs) ≡ false
 bad_tail p [] n m lt le e = absurd (omega arith)
 bad_tail p (x ∷ xs) n zero lt le e = absurd (omega arith)
 bad_tail p (x ∷ xs) zero (suc m) lt le e = rw e refl
-bad_tail p (x ∷ xs) (suc n) (suc m) lt le e = and_no (p x) (list_all p (take m xs)) (bad_tail p xs n m (omega arith) (omega arith) e)
+bad_tail p (x ∷ xs) (suc n) (suc m) lt le e =
+    and_no (p x) (list_all p (take m xs)) (bad_tail p xs n m (omega arith) (omega arith) e)
 
 -- an element of a first byte and the run behind it
-run_is : (p : ℕ → Bool) (b : ℕ) (bs : List ℕ) (n : ℕ) → is_input_element (b ∷ []) ≡ true → ((c : ℕ) (t : List ℕ) → is_input_element (b ∷ c ∷ t) ≡ list_all p (c ∷ t)) → IsRun p bs n → longest (b ∷ bs) ≡ suc n
-run_is p b bs n one more run = longest_is (length (b ∷ bs)) (b ∷ bs) n (omega arith) (omega (arith, run.within)) (itself bs n run) (over bs n run)
+run_is : (p : ℕ → Bool) (b : ℕ) (bs : List ℕ) (n : ℕ) → is_input_element (b ∷ []) ≡ true
+    → ((c : ℕ) (t : List ℕ) → is_input_element (b ∷ c ∷ t) ≡ list_all p (c ∷ t)) → IsRun p bs n
+    → longest (b ∷ bs) ≡ suc n
+run_is p b bs n one more run =
+    longest_is (length (b ∷ bs)) (b ∷ bs) n (omega arith) (omega (arith, run.within)) (itself bs n run) (over bs n run)
   where
     itself : (bs : List ℕ) (n : ℕ) → IsRun p bs n → is_input_element (b ∷ take n bs) ≡ true
     itself bs zero run = one
     itself [] (suc n) run = absurd (omega (arith, run.within))
     itself (c ∷ bs) (suc n) run = more c (take n bs) ∙ run.each
 
-    over : (bs : List ℕ) (n : ℕ) → IsRun p bs n → (m : ℕ) → suc n < m → m ≤ length (b ∷ bs) → is_input_element (take m (b ∷ bs)) ≡ false
+    over : (bs : List ℕ) (n : ℕ) → IsRun p bs n → (m : ℕ) → suc n < m → m ≤ length (b ∷ bs)
+        → is_input_element (take m (b ∷ bs)) ≡ false
     over bs n run zero lt le = absurd (omega arith)
     over bs n run (suc zero) lt le = absurd (omega arith)
     over [] n run (suc (suc m)) lt le = absurd (omega arith)
-    over (c ∷ bs) n run (suc (suc m)) lt le = more c (take m bs) ∙ bad_tail p (c ∷ bs) n (suc m) (omega arith) (omega arith) (run.ends (omega arith))
+    over (c ∷ bs) n run (suc (suc m)) lt le =
+        more c (take m bs) ∙ bad_tail p (c ∷ bs) n (suc m) (omega arith) (omega arith) (run.ends (omega arith))
 
 -- ---- spaces, words and numbers
 
-one_is : (b : ℕ) (bs : List ℕ) → is_input_element (b ∷ []) ≡ true → ((c : ℕ) (t : List ℕ) → is_input_element (b ∷ c ∷ t) ≡ false) → longest (b ∷ bs) ≡ 1
+one_is : (b : ℕ) (bs : List ℕ) → is_input_element (b ∷ []) ≡ true
+    → ((c : ℕ) (t : List ℕ) → is_input_element (b ∷ c ∷ t) ≡ false) → longest (b ∷ bs) ≡ 1
 one_is b bs one more = longest_is (length (b ∷ bs)) (b ∷ bs) 0 (omega arith) (omega arith) one (over bs)
   where
     over : (bs : List ℕ) (m : ℕ) → 1 < m → m ≤ length (b ∷ bs) → is_input_element (take m (b ∷ bs)) ≡ false
@@ -94,7 +108,8 @@ one_is b bs one more = longest_is (length (b ∷ bs)) (b ∷ bs) 0 (omega arith)
     over (c ∷ bs) (suc (suc m)) lt le = more c (take m bs)
 
 pub space_found : (b : ℕ) (bs : List ℕ) → is_space b ≡ true → IsLongest (b ∷ bs) 1 true
-space_found b bs h = record { some = omega arith; within = omega arith; greatest = one_is b bs (rw h refl) (λ c t. space_alone b c t h); sort = rw h refl }
+space_found b bs h =
+    record { some = omega arith; within = omega arith; greatest = one_is b bs (rw h refl) (λ c t. space_alone b c t h); sort = rw h refl }
 
 pub no_separator : (b : ℕ) (t : List ℕ) → is_space b ≡ false → nat_eq b 47 ≡ false → is_separator (b ∷ t) ≡ false
 no_separator b [] s e = rw s refl
@@ -120,13 +135,16 @@ word_found (b ∷ bs) h =
       long = record {
         some = omega arith;
         within = omega (arith, run.within);
-        greatest = run_is is_letter_or_digit b bs (prefix_len is_letter_or_digit bs) (rw (q.space, q.letter_is) refl) (λ c t. letter_element b c t q) run;
+        greatest =
+            run_is is_letter_or_digit b bs (prefix_len is_letter_or_digit bs) (rw (q.space, q.letter_is) refl)
+            (λ c t. letter_element b c t q) run;
         sort = no_separator b (take (prefix_len is_letter_or_digit bs) bs) q.space q.slash;
       };
       kind = kind_is (take (prefix_len is_letter_or_digit bs) bs) q.digit_is run.each;
     })
   where
-    kind_is : (t : List ℕ) → is_digit b ≡ false → list_all is_letter_or_digit t ≡ true → kind_of (b ∷ t) ≡ (if is_reserved (b ∷ t) then Reserved else Name)
+    kind_is : (t : List ℕ) → is_digit b ≡ false → list_all is_letter_or_digit t ≡ true
+        → kind_of (b ∷ t) ≡ (if is_reserved (b ∷ t) then Reserved else Name)
     kind_is t no_digit all = rw (no_digit, h, all) refl
 
 -- a number and its kind
@@ -143,7 +161,9 @@ digits_found (b ∷ bs) h =
       long = record {
         some = omega arith;
         within = omega (arith, run.within);
-        greatest = run_is is_digit b bs (prefix_len is_digit bs) (rw (q.space, q.letter_is, q.digit_is) refl) (λ c t. digit_element b c t q) run;
+        greatest =
+            run_is is_digit b bs (prefix_len is_digit bs) (rw (q.space, q.letter_is, q.digit_is) refl)
+            (λ c t. digit_element b c t q) run;
         sort = no_separator b (take (prefix_len is_digit bs) bs) q.space q.slash;
       };
       kind = kind_is (take (prefix_len is_digit bs) bs) run.each;
@@ -155,15 +175,21 @@ digits_found (b ∷ bs) h =
 -- ---- comments
 
 line_is : (body : List ℕ) (n : ℕ) → IsRun (λ c. not (is_line_feed c)) body n → longest (47 ∷ 47 ∷ body) ≡ suc (suc n)
-line_is body n run = longest_is (suc (suc (length body))) (47 ∷ 47 ∷ body) (suc n) (omega arith) (omega (arith, run.within)) (line_element (take n body) ∙ run.each) over
+line_is body n run =
+    longest_is (suc (suc (length body))) (47 ∷ 47 ∷ body) (suc n) (omega arith) (omega (arith, run.within))
+    (line_element (take n body) ∙ run.each) over
   where
     over : (m : ℕ) → suc (suc n) < m → m ≤ length (47 ∷ 47 ∷ body) → is_input_element (take m (47 ∷ 47 ∷ body)) ≡ false
     over zero lt le = absurd (omega arith)
     over (suc zero) lt le = absurd (omega arith)
-    over (suc (suc m)) lt le = line_element (take m body) ∙ bad_tail (λ c. not (is_line_feed c)) body n m (omega arith) (omega arith) (run.ends (omega arith))
+    over (suc (suc m)) lt le =
+        line_element (take m body)
+        ∙ bad_tail (λ c. not (is_line_feed c)) body n m (omega arith) (omega arith) (run.ends (omega arith))
 
 block_is : (body : List ℕ) (n : ℕ) → ClosesAt body n → longest (47 ∷ 42 ∷ body) ≡ suc (suc n)
-block_is body n close = longest_is (suc (suc (length body))) (47 ∷ 42 ∷ body) (suc n) (omega arith) (omega (arith, close.within)) (block_element (take n body) ∙ close.closed) over
+block_is body n close =
+    longest_is (suc (suc (length body))) (47 ∷ 42 ∷ body) (suc n) (omega arith) (omega (arith, close.within))
+    (block_element (take n body) ∙ close.closed) over
   where
     over : (m : ℕ) → suc (suc n) < m → m ≤ length (47 ∷ 42 ∷ body) → is_input_element (take m (47 ∷ 42 ∷ body)) ≡ false
     over zero lt le = absurd (omega arith)
@@ -220,7 +246,8 @@ slash_alone = (none_is (47 ∷ []) one, refl)
     one zero = refl
     one (suc m) = refl
 
-pub slash_apart : (c : ℕ) (body : List ℕ) → nat_eq c 47 ≡ false → nat_eq c 42 ≡ false → (longest (47 ∷ c ∷ body) ≡ 0) × (opens_comment (47 ∷ c ∷ body) ≡ false)
+pub slash_apart : (c : ℕ) (body : List ℕ) → nat_eq c 47 ≡ false → nat_eq c 42 ≡ false
+    → (longest (47 ∷ c ∷ body) ≡ 0) × (opens_comment (47 ∷ c ∷ body) ≡ false)
 slash_apart c body h k = (none_is (47 ∷ c ∷ body) some, k)
   where
     some : (m : ℕ) → is_input_element (47 ∷ take m (c ∷ body)) ≡ false
@@ -243,7 +270,9 @@ double_found b (c ∷ bs) q two = record {
   long = record {
     some = omega arith;
     within = omega arith;
-    greatest = longest_is (suc (suc (length bs))) (b ∷ c ∷ bs) 1 (omega arith) (omega arith) (sign_element b c [] q ∙ two) (over bs);
+    greatest =
+        longest_is (suc (suc (length bs))) (b ∷ c ∷ bs) 1 (omega arith) (omega arith) (sign_element b c [] q ∙ two)
+        (over bs);
     sort = no_separator b (c ∷ []) q.space q.slash;
   };
   kind = sign_kind b (c ∷ []) q;
@@ -262,20 +291,25 @@ no_longer_sign b bs q apart (suc zero) lt le = absurd (omega arith)
 no_longer_sign b [] q apart (suc (suc m)) lt le = absurd (omega arith)
 no_longer_sign b (c ∷ bs) q apart (suc (suc zero)) lt le = sign_element b c [] q ∙ apart
 no_longer_sign b (c ∷ []) q apart (suc (suc (suc m))) lt le = absurd (omega arith)
-no_longer_sign b (c ∷ d ∷ bs) q apart (suc (suc (suc m))) lt le = sign_element b c (d ∷ take m bs) q ∙ long_sign b c d (take m bs)
+no_longer_sign b (c ∷ d ∷ bs) q apart (suc (suc (suc m))) lt le =
+    sign_element b c (d ∷ take m bs) q ∙ long_sign b c d (take m bs)
 
-pub single_found : (b : ℕ) (bs : List ℕ) → BeginsSignOnly b → begins_double_sign (b ∷ bs) ≡ false → is_sign (b ∷ []) ≡ true → FindsSign (b ∷ bs) 1
+pub single_found : (b : ℕ) (bs : List ℕ) → BeginsSignOnly b → begins_double_sign (b ∷ bs) ≡ false
+    → is_sign (b ∷ []) ≡ true → FindsSign (b ∷ bs) 1
 single_found b bs q apart one = record {
   long = record {
     some = omega arith;
     within = omega arith;
-    greatest = longest_is (suc (length bs)) (b ∷ bs) 0 (omega arith) (omega arith) (sign_element_one b q ∙ one) (no_longer_sign b bs q apart);
+    greatest =
+        longest_is (suc (length bs)) (b ∷ bs) 0 (omega arith) (omega arith) (sign_element_one b q ∙ one)
+        (no_longer_sign b bs q apart);
     sort = no_separator b [] q.space q.slash;
   };
   kind = sign_kind b [] q;
 }
 
-pub no_sign_found : (b : ℕ) (bs : List ℕ) → BeginsSignOnly b → begins_double_sign (b ∷ bs) ≡ false → is_sign (b ∷ []) ≡ false → (longest (b ∷ bs) ≡ 0) × (opens_comment (b ∷ bs) ≡ false)
+pub no_sign_found : (b : ℕ) (bs : List ℕ) → BeginsSignOnly b → begins_double_sign (b ∷ bs) ≡ false
+    → is_sign (b ∷ []) ≡ false → (longest (b ∷ bs) ≡ 0) × (opens_comment (b ∷ bs) ≡ false)
 no_sign_found b bs q apart none = (longest_none (suc (length bs)) (b ∷ bs) (omega arith) over, no_comment b bs q.slash)
   where
     no_comment : (b : ℕ) (bs : List ℕ) → nat_eq b 47 ≡ false → opens_comment (b ∷ bs) ≡ false
@@ -300,7 +334,8 @@ pub space_in_front : (bytes : List ℕ) → 1 ≤ length bytes → is_space (get
 space_in_front [] le h = absurd (omega arith)
 space_in_front (b ∷ bytes) le h = space_found b bytes h
 
-pub slash_in_front : (bytes : List ℕ) → get_or bytes 0 0 ≡ 47 → length bytes ≡ 1 → (longest bytes ≡ 0) × (opens_comment bytes ≡ false)
+pub slash_in_front : (bytes : List ℕ) → get_or bytes 0 0 ≡ 47 → length bytes ≡ 1
+    → (longest bytes ≡ 0) × (opens_comment bytes ≡ false)
 slash_in_front [] h one = absurd (omega arith)
 slash_in_front (b ∷ []) h one = rw h slash_alone
 slash_in_front (b ∷ c ∷ bytes) h one = absurd (omega arith)

@@ -25,7 +25,8 @@ text_is text token small = digits (is_digits text) refl
     at_most : (n : ℕ) → nat_lt greatest_number n ≡ false → n ≤ greatest_number
     at_most n h = grind (arith, nat_tests)
 
-    reserved : (r : Bool) → is_reserved text ≡ r → is_word text ≡ true → is_digits text ≡ false → IsTextOf (kind_of text) text
+    reserved : (r : Bool) → is_reserved text ≡ r → is_word text ≡ true → is_digits text ≡ false
+        → IsTextOf (kind_of text) text
     reserved true r w d = rw (d, w, r) r
     reserved false r w d = rw (d, w, r) (w, r)
 
@@ -91,52 +92,79 @@ rest_next whole at b bytes rest = record {
     next : drop (at + 1) whole ≡ bytes
     next = sym (drop-drop 1 at whole) ∙ ap (drop 1) rest.is
 
-module _ (whole : List ℕ) (room at n b : ℕ) (bytes : List ℕ) (rest : Rest whole at (b ∷ bytes)) (le : suc n ≤ length (b ∷ bytes)) (is : is_input_element (take (suc n) (b ∷ bytes)) ≡ true) where
+module _ (whole : List ℕ) (room at n b : ℕ) (bytes : List ℕ) (rest : Rest whole at (b ∷ bytes))
+    (le : suc n ≤ length (b ∷ bytes)) (is : is_input_element (take (suc n) (b ∷ bytes)) ≡ true) where
   length_is : length (take (suc n) (b ∷ bytes)) ≡ suc n
   length_is = omega (arith, length-take (suc n) (b ∷ bytes))
 
   its_text : text_of whole (token_at at (take (suc n) (b ∷ bytes))) ≡ take (suc n) (b ∷ bytes)
   its_text = let many : at + suc n - at ≡ suc n = omega arith in rw (length_is, many, rest.is) refl
 
-  its_token : is_separator (take (suc n) (b ∷ bytes)) ≡ false → is_large (take (suc n) (b ∷ bytes)) ≡ false → IsTokenOf whole (token_at at (take (suc n) (b ∷ bytes)))
+  its_token : is_separator (take (suc n) (b ∷ bytes)) ≡ false → is_large (take (suc n) (b ∷ bytes)) ≡ false
+      → IsTokenOf whole (token_at at (take (suc n) (b ∷ bytes)))
   its_token apart small = record {
     some = omega (arith, length_is);
     within = omega (arith, length_is, rest.within);
-    text = rw its_text (text_is (take (suc n) (b ∷ bytes)) (or_right (is_separator (take (suc n) (b ∷ bytes))) (is_token (take (suc n) (b ∷ bytes))) apart is) small);
+    text = rw its_text
+        (text_is (take (suc n) (b ∷ bytes))
+        (or_right (is_separator (take (suc n) (b ∷ bytes))) (is_token (take (suc n) (b ∷ bytes))) apart is) small);
   }
 
-  kept_before : is_separator (take (suc n) (b ∷ bytes)) ≡ false → is_large (take (suc n) (b ∷ bytes)) ≡ false → nat_eq room 0 ≡ false → (r : Result (List Token) LexError) → KeptIfOk whole (room - 1) (at + suc n) r → KeptIfOk whole room at (before (token_at at (take (suc n) (b ∷ bytes))) r)
+  kept_before : is_separator (take (suc n) (b ∷ bytes)) ≡ false → is_large (take (suc n) (b ∷ bytes)) ≡ false
+      → nat_eq room 0 ≡ false → (r : Result (List Token) LexError) → KeptIfOk whole (room - 1) (at + suc n) r
+      → KeptIfOk whole room at (before (token_at at (take (suc n) (b ∷ bytes))) r)
   kept_before apart small some (Err e) kept = tt
   kept_before apart small some (Ok ts) kept = record {
     limit = let more : 0 < room = grind (arith, nat_tests) in omega (arith, kept.limit);
     stand = (omega arith, its_token apart small, rw length_is kept.stand);
   }
 
-  kept_after : (left : ℕ) (r : Result (List Token) LexError) → KeptIfOk whole left (at + suc n) r → KeptIfOk whole left at r
+  kept_after : (left : ℕ) (r : Result (List Token) LexError) → KeptIfOk whole left (at + suc n) r
+      → KeptIfOk whole left at r
   kept_after left (Err e) kept = tt
-  kept_after left (Ok ts) kept = record { limit = kept.limit; stand = stand_from whole at (at + suc n) ts (omega arith) kept.stand }
+  kept_after left (Ok ts) kept =
+      record { limit = kept.limit; stand = stand_from whole at (at + suc n) ts (omega arith) kept.stand }
 
-  kept_element : (behind : ℕ → Result (List Token) LexError) → ((left : ℕ) → KeptIfOk whole left (at + suc n) (behind left)) → KeptIfOk whole room at (element room at (suc n) (b ∷ bytes) behind)
+  kept_element : (behind : ℕ → Result (List Token) LexError)
+      → ((left : ℕ) → KeptIfOk whole left (at + suc n) (behind left))
+      → KeptIfOk whole room at (element room at (suc n) (b ∷ bytes) behind)
   kept_element behind kept = separator (is_separator (take (suc n) (b ∷ bytes))) refl
     where
-      full : (x : Bool) → nat_eq room 0 ≡ x → is_separator (take (suc n) (b ∷ bytes)) ≡ false → is_large (take (suc n) (b ∷ bytes)) ≡ false → KeptIfOk whole room at (if x then Err (TooMany at) else before (token_at at (take (suc n) (b ∷ bytes))) (behind (room - 1)))
+      full : (x : Bool) → nat_eq room 0 ≡ x → is_separator (take (suc n) (b ∷ bytes)) ≡ false
+          → is_large (take (suc n) (b ∷ bytes)) ≡ false
+          → KeptIfOk whole room at
+          (if x then Err (TooMany at) else before (token_at at (take (suc n) (b ∷ bytes))) (behind (room - 1)))
       full true e apart small = tt
       full false e apart small = kept_before apart small e (behind (room - 1)) (kept (room - 1))
 
-      large : (x : Bool) → is_large (take (suc n) (b ∷ bytes)) ≡ x → is_separator (take (suc n) (b ∷ bytes)) ≡ false → KeptIfOk whole room at (if x then Err (LargeNumber at) else (if nat_eq room 0 then Err (TooMany at) else before (token_at at (take (suc n) (b ∷ bytes))) (behind (room - 1))))
+      large : (x : Bool) → is_large (take (suc n) (b ∷ bytes)) ≡ x → is_separator (take (suc n) (b ∷ bytes)) ≡ false
+          → KeptIfOk whole room at
+          (if x then Err (LargeNumber at) else
+          (if nat_eq room 0 then Err (TooMany at) else before (token_at at (take (suc n) (b ∷ bytes)))
+          (behind (room - 1))))
       large true e apart = tt
       large false e apart = full (nat_eq room 0) refl apart e
 
-      separator : (x : Bool) → is_separator (take (suc n) (b ∷ bytes)) ≡ x → KeptIfOk whole room at (if x then behind room else (if is_large (take (suc n) (b ∷ bytes)) then Err (LargeNumber at) else (if nat_eq room 0 then Err (TooMany at) else before (token_at at (take (suc n) (b ∷ bytes))) (behind (room - 1)))))
+      separator : (x : Bool) → is_separator (take (suc n) (b ∷ bytes)) ≡ x
+          → KeptIfOk whole room at
+          (if x then behind room else
+          (if is_large (take (suc n) (b ∷ bytes)) then Err (LargeNumber at) else
+          (if nat_eq room 0 then Err (TooMany at) else before (token_at at (take (suc n) (b ∷ bytes)))
+          (behind (room - 1)))))
       separator true e = kept_after room (behind room) (kept room)
       separator false e = large (is_large (take (suc n) (b ∷ bytes))) refl e
 
 -- the longest input element, or none
-kept_longest : (whole : List ℕ) (room at n b : ℕ) (bytes : List ℕ) → Rest whole at (b ∷ bytes) → n ≤ length (b ∷ bytes) → (0 < n → is_input_element (take n (b ∷ bytes)) ≡ true) → (behind : ℕ → Result (List Token) LexError) → (0 < n → (left : ℕ) → KeptIfOk whole left (at + n) (behind left)) → KeptIfOk whole room at (element room at n (b ∷ bytes) behind)
+kept_longest : (whole : List ℕ) (room at n b : ℕ) (bytes : List ℕ) → Rest whole at (b ∷ bytes) → n ≤ length (b ∷ bytes)
+    → (0 < n → is_input_element (take n (b ∷ bytes)) ≡ true) → (behind : ℕ → Result (List Token) LexError)
+    → (0 < n → (left : ℕ) → KeptIfOk whole left (at + n) (behind left))
+    → KeptIfOk whole room at (element room at n (b ∷ bytes) behind)
 kept_longest whole room at zero b bytes rest le is behind kept = tt
-kept_longest whole room at (suc n) b bytes rest le is behind kept = kept_element whole room at n b bytes rest le (is (omega arith)) behind (kept (omega arith))
+kept_longest whole room at (suc n) b bytes rest le is behind kept =
+    kept_element whole room at n b bytes rest le (is (omega arith)) behind (kept (omega arith))
 
-kept_from : (whole : List ℕ) (room at skip : ℕ) (bytes : List ℕ) → Rest whole at bytes → skip ≤ length bytes → KeptIfOk whole room (at + skip) (tokens_from room at skip bytes)
+kept_from : (whole : List ℕ) (room at skip : ℕ) (bytes : List ℕ) → Rest whole at bytes → skip ≤ length bytes
+    → KeptIfOk whole room (at + skip) (tokens_from room at skip bytes)
 unfolding tokens_from
 kept_from whole room at zero [] rest le = record { limit = omega arith; stand = tt }
 kept_from whole room at (suc skip) [] rest le = absurd (omega arith)
@@ -150,9 +178,12 @@ kept_from whole room at zero (b ∷ bytes) rest le =
     let kept : 0 < n → (left : ℕ) → KeptIfOk whole left (at + n) (behind left) = λ some left.
     let e : at + n ≡ at + 1 + (n - 1) = omega arith in
     rw e (kept_from whole left (at + 1) (n - 1) bytes (rest_next whole at b bytes rest) (omega arith)) in
-    rw add-zero (kept_longest whole room at n b bytes rest short (longest_element (length (b ∷ bytes)) (b ∷ bytes)) behind kept)
+    rw add-zero (kept_longest whole room at n b bytes rest short
+    (longest_element (length (b ∷ bytes)) (b ∷ bytes)) behind kept)
 
 pub in_order : (bytes : List ℕ) (found : List Token) → tokens bytes ≡ Ok found → AreTokensOf bytes found
 in_order bytes found e =
-    let kept : KeptIfOk bytes token_limit 0 (Ok found) = subst (KeptIfOk bytes token_limit 0) e (kept_from bytes token_limit 0 0 bytes (record { is = refl; within = omega arith }) (omega arith)) in
+    let kept : KeptIfOk bytes token_limit 0 (Ok found) =
+    subst (KeptIfOk bytes token_limit 0) e
+    (kept_from bytes token_limit 0 0 bytes (record { is = refl; within = omega arith }) (omega arith)) in
     record { limit = kept.limit; each = each_is bytes 0 found kept.stand; order = pairs_are bytes 0 found kept.stand }

@@ -27,7 +27,8 @@ second_otherwise _ = true
 other_second : (b : ℕ) (t s : List ℕ) → second_otherwise s ≡ true → bytes_eq (b ∷ 32 ∷ t) s ≡ false
 other_second b t [] h = refl
 other_second b t (a ∷ []) h = and_no (nat_eq b a) false refl
-other_second b t (a ∷ c ∷ cs) h = and_no (nat_eq b a) (nat_eq 32 c && bytes_eq t cs) (not_and (nat_eq 32 c) (bytes_eq t cs) h)
+other_second b t (a ∷ c ∷ cs) h =
+    and_no (nat_eq b a) (nat_eq 32 c && bytes_eq t cs) (not_and (nat_eq 32 c) (bytes_eq t cs) h)
 
 -- no sign has a space behind its first byte
 no_spaced_sign : (b : ℕ) (t : List ℕ) → is_sign (b ∷ 32 ∷ t) ≡ false
@@ -37,15 +38,22 @@ clash : (x : Bool) → x ≡ true → x ≡ false → ⊥
 clash true e never = cc
 clash false e never = cc
 
-sign_begins : (b : ℕ) (bs : List ℕ) → is_sign (b ∷ bs) ≡ true → is_letter b ≡ false → is_digit b ≡ false → BeginsSignOnly b
-sign_begins b bs sign letter digit = record { space = space (is_space b) refl; letter = letter; digit = digit; slash = slash (nat_eq b 47) refl }
+sign_begins : (b : ℕ) (bs : List ℕ) → is_sign (b ∷ bs) ≡ true → is_letter b ≡ false → is_digit b ≡ false
+    → BeginsSignOnly b
+sign_begins b bs sign letter digit =
+    record { space = space (is_space b) refl; letter = letter; digit = digit; slash = slash (nat_eq b 47) refl }
   where
     space : (x : Bool) → is_space b ≡ x → is_space b ≡ false
-    space true e = let never : is_sign (b ∷ bs) ≡ false = no_sign b bs (space_begins b e) in absurd (clash (is_sign (b ∷ bs)) sign never)
+    space true e =
+        let never : is_sign (b ∷ bs) ≡ false =
+        no_sign b bs (space_begins b e) in absurd (clash (is_sign (b ∷ bs)) sign never)
     space false e = e
 
     slash : (x : Bool) → nat_eq b 47 ≡ x → nat_eq b 47 ≡ false
-    slash true e = let is : b ≡ 47 = grind (arith, nat_tests) in let never : is_sign (b ∷ bs) ≡ false = rw is refl in absurd (clash (is_sign (b ∷ bs)) sign never)
+    slash true e =
+        let is : b ≡ 47 =
+        grind (arith, nat_tests) in let never : is_sign (b ∷ bs) ≡ false =
+        rw is refl in absurd (clash (is_sign (b ∷ bs)) sign never)
     slash false e = e
 
 -- how a token begins, and that a space behind it ends it
@@ -69,7 +77,8 @@ of_digits b bs h = let q = of_digit b h in record { space = q.space; slash = q.s
     apart (c ∷ bs) q t = digit_element b c (bs ++ 32 ∷ t) q ∙ all_but_space is_digit (c ∷ bs) t refl
 
 of_sign : (b : ℕ) (bs : List ℕ) → is_sign (b ∷ bs) ≡ true → is_letter b ≡ false → is_digit b ≡ false → Ends b bs
-of_sign b bs sign letter digit = let q = sign_begins b bs sign letter digit in record { space = q.space; slash = q.slash; apart = apart bs q }
+of_sign b bs sign letter digit =
+    let q = sign_begins b bs sign letter digit in record { space = q.space; slash = q.slash; apart = apart bs q }
   where
     apart : (bs : List ℕ) → BeginsSignOnly b → (t : List ℕ) → is_input_element (b ∷ (bs ++ 32 ∷ t)) ≡ false
     apart [] q t = sign_element b 32 t q ∙ no_spaced_sign b t
@@ -113,7 +122,9 @@ token_in_front (b ∷ bs) rest h =
     record {
       some = omega arith;
       within = omega (arith, far);
-      greatest = longest_is (suc (length (bs ++ 32 ∷ rest))) (b ∷ (bs ++ 32 ∷ rest)) (length bs) (omega arith) (omega (arith, far)) (rw (itself, alone) h) (over ends);
+      greatest =
+          longest_is (suc (length (bs ++ 32 ∷ rest))) (b ∷ (bs ++ 32 ∷ rest)) (length bs) (omega arith)
+          (omega (arith, far)) (rw (itself, alone) h) (over ends);
       sort = rw itself alone;
     }
   where
@@ -133,36 +144,47 @@ past_space room at rest =
     ∙ element_separates room at 1 (32 ∷ rest) (λ left. tokens_from left (at + 1) 0 rest) (omega arith) refl
 
 -- a token, and the space behind it
-one_token : (room at : ℕ) (text rest : List ℕ) → is_token text ≡ true → is_large text ≡ false → tokens_from (suc room) at 0 (text ++ 32 ∷ rest) ≡ before (token_at at text) (tokens_from room (at + length text + 1) 0 rest)
+one_token : (room at : ℕ) (text rest : List ℕ) → is_token text ≡ true → is_large text ≡ false
+    → tokens_from (suc room) at 0 (text ++ 32 ∷ rest)
+    ≡ before (token_at at text) (tokens_from room (at + length text + 1) 0 rest)
 one_token room at text rest h l =
     let long = token_in_front text rest h in
     let front : take (length text) (text ++ 32 ∷ rest) ≡ text = take_front text (32 ∷ rest) in
     let back : drop (length text) (text ++ 32 ∷ rest) ≡ 32 ∷ rest = drop_front text (32 ∷ rest) in
-    let after : ℕ → Result (List Token) LexError = λ left. tokens_from left (at + length text) 0 (drop (length text) (text ++ 32 ∷ rest)) in
+    let after : ℕ → Result (List Token) LexError =
+    λ left. tokens_from left (at + length text) 0 (drop (length text) (text ++ 32 ∷ rest)) in
     at_element (suc room) at (length text) (text ++ 32 ∷ rest) false long
     ∙ element_token room at (length text) (text ++ 32 ∷ rest) after long.some long.sort (rw front l)
     ∙ rw (front, back) (ap (before (token_at at text)) (past_space room (at + length text) rest))
 
-pub spaced_from : (room at : ℕ) (texts : List (List ℕ)) → are_token_texts texts ≡ true → length texts ≤ room → tokens_from room at 0 (spaced texts) ≡ Ok (spaced_tokens at texts)
+pub spaced_from : (room at : ℕ) (texts : List (List ℕ)) → are_token_texts texts ≡ true → length texts ≤ room
+    → tokens_from room at 0 (spaced texts) ≡ Ok (spaced_tokens at texts)
 unfolding tokens_from
 spaced_from room at [] h le = refl
 spaced_from zero at (text ∷ texts) h le = absurd (omega arith)
 spaced_from (suc room) at (text ∷ texts) h le =
-    let this : (is_token text && not (is_large text)) ≡ true = and_left (is_token text && not (is_large text)) (are_token_texts texts) h in
-    let others : are_token_texts texts ≡ true = and_right (is_token text && not (is_large text)) (are_token_texts texts) h in
-    one_token room at text (spaced texts) (and_left (is_token text) (not (is_large text)) this) (small (is_large text) (and_right (is_token text) (not (is_large text)) this))
+    let this : (is_token text && not (is_large text)) ≡ true =
+    and_left (is_token text && not (is_large text)) (are_token_texts texts) h in
+    let others : are_token_texts texts ≡ true =
+    and_right (is_token text && not (is_large text)) (are_token_texts texts) h in
+    one_token room at text (spaced texts) (and_left (is_token text) (not (is_large text)) this)
+    (small (is_large text) (and_right (is_token text) (not (is_large text)) this))
     ∙ ap (before (token_at at text)) (spaced_from room (at + length text + 1) texts others (omega arith))
 
-pub read_back : (texts : List (List ℕ)) → are_token_texts texts ≡ true → length texts ≤ token_limit → tokens (spaced texts) ≡ Ok (spaced_tokens 0 texts)
+pub read_back : (texts : List (List ℕ)) → are_token_texts texts ≡ true → length texts ≤ token_limit
+    → tokens (spaced texts) ≡ Ok (spaced_tokens 0 texts)
 read_back texts h le = spaced_from token_limit 0 texts h le
 
-texts_from : (whole : List ℕ) (at : ℕ) (texts : List (List ℕ)) → drop at whole ≡ spaced texts → map (text_of whole) (spaced_tokens at texts) ≡ texts
+texts_from : (whole : List ℕ) (at : ℕ) (texts : List (List ℕ)) → drop at whole ≡ spaced texts
+    → map (text_of whole) (spaced_tokens at texts) ≡ texts
 texts_from whole at [] e = refl
 texts_from whole at (text ∷ texts) e =
     let many : at + length text - at ≡ length text = omega arith in
     let first : text_of whole (token_at at text) ≡ text = rw (many, e) (take_front text (32 ∷ spaced texts)) in
-    let behind : drop (at + length text) whole ≡ 32 ∷ spaced texts = sym (drop-drop (length text) at whole) ∙ ap (drop (length text)) e ∙ drop_front text (32 ∷ spaced texts) in
-    let next : drop (at + length text + 1) whole ≡ spaced texts = sym (drop-drop 1 (at + length text) whole) ∙ ap (drop 1) behind in
+    let behind : drop (at + length text) whole ≡ 32 ∷ spaced texts =
+    sym (drop-drop (length text) at whole) ∙ ap (drop (length text)) e ∙ drop_front text (32 ∷ spaced texts) in
+    let next : drop (at + length text + 1) whole ≡ spaced texts =
+    sym (drop-drop 1 (at + length text) whole) ∙ ap (drop 1) behind in
     rw first (ap (λ r. text ∷ r) (texts_from whole (at + length text + 1) texts next))
 
 pub texts_back : (texts : List (List ℕ)) → map (text_of (spaced texts)) (spaced_tokens 0 texts) ≡ texts

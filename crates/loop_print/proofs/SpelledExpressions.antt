@@ -23,22 +23,28 @@ use Rattle.loop_print.proofs.Phrases.{factor_phrase, choice_of, phrase_number, p
 
 -- ---- numbered words
 
-pub numbered_append : (n : ℕ) (a b : List Lexeme) → numbered_from n (a ++ b) ≡ numbered_from n a ++ numbered_from (n + length a) b
+pub numbered_append : (n : ℕ) (a b : List Lexeme)
+    → numbered_from n (a ++ b) ≡ numbered_from n a ++ numbered_from (n + length a) b
 numbered_append n [] b = let e : n ≡ n + 0 = omega arith in ap (λ (k : ℕ). numbered_from k b) e
 numbered_append n (w ∷ a) b =
     let e : n + 1 + length a ≡ n + suc (length a) = omega arith in
-    ap (λ (ts : List Tok). (w, n) ∷ ts) (numbered_append (n + 1) a b ∙ ap (λ (k : ℕ). numbered_from (n + 1) a ++ numbered_from k b) e)
+    ap (λ (ts : List Tok). (w, n) ∷ ts)
+    (numbered_append (n + 1) a b ∙ ap (λ (k : ℕ). numbered_from (n + 1) a ++ numbered_from k b) e)
 
-pub together : (n : ℕ) (a b : List Lexeme) (ta tb : List Tok) → ta ≡ numbered_from n a → tb ≡ numbered_from (n + length a) b → ta ++ tb ≡ numbered_from n (a ++ b)
+pub together : (n : ℕ) (a b : List Lexeme) (ta tb : List Tok) → ta ≡ numbered_from n a
+    → tb ≡ numbered_from (n + length a) b → ta ++ tb ≡ numbered_from n (a ++ b)
 together n a b ta tb ea eb =
     ap (λ (x : List Tok). x ++ tb) ea ∙ ap (λ (y : List Tok). numbered_from n a ++ y) eb ∙ sym (numbered_append n a b)
 
 -- a sign between
-pub between : (n : ℕ) (a b : List Lexeme) (w : Lexeme) (ta tb : List Tok) → ta ≡ numbered_from n a → tb ≡ numbered_from (n + length a + 1) b → ta ++ (w, n + length a) ∷ tb ≡ numbered_from n (a ++ w ∷ b)
-between n a b w ta tb ea eb = together n a (w ∷ b) ta ((w, n + length a) ∷ tb) ea (ap (λ (y : List Tok). (w, n + length a) ∷ y) eb)
+pub between : (n : ℕ) (a b : List Lexeme) (w : Lexeme) (ta tb : List Tok) → ta ≡ numbered_from n a
+    → tb ≡ numbered_from (n + length a + 1) b → ta ++ (w, n + length a) ∷ tb ≡ numbered_from n (a ++ w ∷ b)
+between n a b w ta tb ea eb =
+    together n a (w ∷ b) ta ((w, n + length a) ∷ tb) ea (ap (λ (y : List Tok). (w, n + length a) ∷ y) eb)
 
 -- a sign on each side
-pub enclosed : (n : ℕ) (w v : Lexeme) (a : List Lexeme) (ta : List Tok) → ta ≡ numbered_from (n + 1) a → (w, n) ∷ (ta ++ (v, n + 1 + length a) ∷ []) ≡ numbered_from n (w ∷ (a ++ v ∷ []))
+pub enclosed : (n : ℕ) (w v : Lexeme) (a : List Lexeme) (ta : List Tok) → ta ≡ numbered_from (n + 1) a
+    → (w, n) ∷ (ta ++ (v, n + 1 + length a) ∷ []) ≡ numbered_from n (w ∷ (a ++ v ∷ []))
 enclosed n w v a ta ea = ap (λ (ts : List Tok). (w, n) ∷ ts) (between (n + 1) a [] v ta [] ea refl)
 
 -- ---- lists that are not empty
@@ -51,18 +57,23 @@ pub more_is_cons : {A : Type 0} (xs : List A) (y : A) → IsCons (xs ++ y ∷ []
 more_is_cons [] y = tt
 more_is_cons (x ∷ xs) y = tt
 
-pub flat_more : {A : Type 0} (words : A → List Lexeme) (xs : List A) (y : A) → flat_map words (xs ++ y ∷ []) ≡ flat_map words xs ++ words y
-flat_more words xs y = flat_map-append words xs (y ∷ []) ∙ ap (λ (ws : List Lexeme). flat_map words xs ++ ws) (append-nil (words y))
+pub flat_more : {A : Type 0} (words : A → List Lexeme) (xs : List A) (y : A)
+    → flat_map words (xs ++ y ∷ []) ≡ flat_map words xs ++ words y
+flat_more words xs y =
+    flat_map-append words xs (y ∷ []) ∙ ap (λ (ws : List Lexeme). flat_map words xs ++ ws) (append-nil (words y))
 
-pub joined_more : {A : Type 0} (sign : Lexeme) (words : A → List Lexeme) (xs : List A) (y : A) → IsCons xs → joined sign words (xs ++ y ∷ []) ≡ joined sign words xs ++ sign ∷ words y
+pub joined_more : {A : Type 0} (sign : Lexeme) (words : A → List Lexeme) (xs : List A) (y : A) → IsCons xs
+    → joined sign words (xs ++ y ∷ []) ≡ joined sign words xs ++ sign ∷ words y
 joined_more sign words [] y h = absurd h
 joined_more sign words (x ∷ xs) y h =
     ap (λ (ws : List Lexeme). words x ++ ws) (flat_more (behind_sign sign words) xs y)
     ∙ sym (append_assoc (words x) (flat_map (behind_sign sign words) xs) (sign ∷ words y))
 
-pub map_more : {A B : Type 0} (f : A → B) (xs ys : List A) (x y : A) → map f xs ≡ map f ys → f x ≡ f y → map f (xs ++ x ∷ []) ≡ map f (ys ++ y ∷ [])
+pub map_more : {A B : Type 0} (f : A → B) (xs ys : List A) (x y : A) → map f xs ≡ map f ys → f x ≡ f y
+    → map f (xs ++ x ∷ []) ≡ map f (ys ++ y ∷ [])
 map_more {A} {B} f xs ys x y lists items =
-    map-append f xs (x ∷ []) ∙ ap (λ (l : List B). l ++ f x ∷ []) lists ∙ ap (λ (z : B). map f ys ++ z ∷ []) items ∙ sym (map-append f ys (y ∷ []))
+    map-append f xs (x ∷ []) ∙ ap (λ (l : List B). l ++ f x ∷ []) lists ∙ ap (λ (z : B). map f ys ++ z ∷ []) items
+    ∙ sym (map-append f ys (y ∷ []))
 
 -- ---- what derives
 
@@ -125,12 +136,14 @@ expr_from rank.Sum words t h n = h n
 expr_from rank.Product words t h n = as_expr n words t (h n)
 expr_from rank.Factor words t h n = as_expr n words t (as_term n words t (h n))
 
-term_from : (r : Rank) (words : List Lexeme) (t : Operand) → ((n : ℕ) → As r n words t) → (n : ℕ) → AsTerm n (placed rank.Product r words) t
+term_from : (r : Rank) (words : List Lexeme) (t : Operand) → ((n : ℕ) → As r n words t) → (n : ℕ)
+    → AsTerm n (placed rank.Product r words) t
 term_from rank.Sum words t h n = as_term n (in_parentheses words) t (in_brackets n words t (h (n + 1)))
 term_from rank.Product words t h n = h n
 term_from rank.Factor words t h n = as_term n words t (h n)
 
-factor_from : (r : Rank) (words : List Lexeme) (t : Operand) → ((n : ℕ) → As r n words t) → (n : ℕ) → AsFactor n (placed rank.Factor r words) t
+factor_from : (r : Rank) (words : List Lexeme) (t : Operand) → ((n : ℕ) → As r n words t) → (n : ℕ)
+    → AsFactor n (placed rank.Factor r words) t
 factor_from rank.Sum words t h n = in_brackets n words t (h (n + 1))
 factor_from rank.Product words t h n = in_brackets n words t (as_expr (n + 1) words t (h (n + 1)))
 factor_from rank.Factor words t h n = h n
@@ -147,48 +160,61 @@ factor_of t h n = factor_from (phrase_of t).rank (phrase_of t).words t h n
 -- ---- operands of each kind
 
 number_spelled : (value : ℤ) (p : ℕ) → Spelled (operand.Number value p)
-number_spelled value p = from_phrase (operand.Number value p) (factor_phrase (word.Number value ∷ [])) (phrase_number value p) (λ n. record {
-  new = number value n;
-  text = refl;
-  tree = unnumbered_number value n ∙ sym (unnumbered_number value p);
-})
+number_spelled value p =
+    from_phrase (operand.Number value p) (factor_phrase (word.Number value ∷ [])) (phrase_number value p) (λ n. record {
+      new = number value n;
+      text = refl;
+      tree = unnumbered_number value n ∙ sym (unnumbered_number value p);
+    })
 
-same_binary : (sign : BinarySign) (m p : ℕ) (l l' r r' : Operand) → unnumbered_operand l ≡ unnumbered_operand l' → unnumbered_operand r ≡ unnumbered_operand r' → unnumbered_operand (operand.Binary sign m l r) ≡ unnumbered_operand (operand.Binary sign p l' r')
+same_binary : (sign : BinarySign) (m p : ℕ) (l l' r r' : Operand) → unnumbered_operand l ≡ unnumbered_operand l'
+    → unnumbered_operand r ≡ unnumbered_operand r'
+    → unnumbered_operand (operand.Binary sign m l r) ≡ unnumbered_operand (operand.Binary sign p l' r')
 same_binary sign m p l l' r r' el er =
     unnumbered_binary sign m l r
     ∙ ap (λ (x : Operand). operand.Binary sign 0 x (unnumbered_operand r)) el
     ∙ ap (λ (x : Operand). operand.Binary sign 0 (unnumbered_operand l') x) er
     ∙ sym (unnumbered_binary sign p l' r')
 
-sum_spelled : (s : SumSign) (p : ℕ) (l r : Operand) → Spelled l → Spelled r → Spelled (operand.Binary (binary_sign s) p l r)
-sum_spelled plus p l r hl hr = from_phrase (operand.Binary Add p l r) (phrase_step (layer.Binary Add p (phrase_of l) (phrase_of r))) (phrase_binary Add p l r) (λ n.
+sum_spelled : (s : SumSign) (p : ℕ) (l r : Operand) → Spelled l → Spelled r
+    → Spelled (operand.Binary (binary_sign s) p l r)
+sum_spelled plus p l r hl hr =
+    from_phrase (operand.Binary Add p l r) (phrase_step (layer.Binary Add p (phrase_of l) (phrase_of r)))
+    (phrase_binary Add p l r) (λ n.
     let m : ℕ = n + length (expr_words l) in
     let a : AsExpr n (expr_words l) l = expr_of l hl n in
     let b : AsTerm (m + 1) (phrase_at rank.Product (phrase_of r)) r = term_of r hr (m + 1) in
     record {
       new = sum a.new plus m b.new;
-      text = between n (expr_words l) (phrase_at rank.Product (phrase_of r)) word.Plus (expr_text a.new) (term_text b.new) a.text b.text;
+      text = between n (expr_words l) (phrase_at rank.Product (phrase_of r)) word.Plus (expr_text a.new)
+          (term_text b.new) a.text b.text;
       tree = same_binary Add m p (expr_tree a.new) l (term_tree b.new) r a.tree b.tree;
     })
-sum_spelled minus p l r hl hr = from_phrase (operand.Binary Sub p l r) (phrase_step (layer.Binary Sub p (phrase_of l) (phrase_of r))) (phrase_binary Sub p l r) (λ n.
+sum_spelled minus p l r hl hr =
+    from_phrase (operand.Binary Sub p l r) (phrase_step (layer.Binary Sub p (phrase_of l) (phrase_of r)))
+    (phrase_binary Sub p l r) (λ n.
     let m : ℕ = n + length (expr_words l) in
     let a : AsExpr n (expr_words l) l = expr_of l hl n in
     let b : AsTerm (m + 1) (phrase_at rank.Product (phrase_of r)) r = term_of r hr (m + 1) in
     record {
       new = sum a.new minus m b.new;
-      text = between n (expr_words l) (phrase_at rank.Product (phrase_of r)) word.Minus (expr_text a.new) (term_text b.new) a.text b.text;
+      text = between n (expr_words l) (phrase_at rank.Product (phrase_of r)) word.Minus (expr_text a.new)
+          (term_text b.new) a.text b.text;
       tree = same_binary Sub m p (expr_tree a.new) l (term_tree b.new) r a.tree b.tree;
     })
 
 product_spelled : (p : ℕ) (l r : Operand) → Spelled l → Spelled r → Spelled (operand.Binary Mul p l r)
-product_spelled p l r hl hr = from_phrase (operand.Binary Mul p l r) (phrase_step (layer.Binary Mul p (phrase_of l) (phrase_of r))) (phrase_binary Mul p l r) (λ n.
+product_spelled p l r hl hr =
+    from_phrase (operand.Binary Mul p l r) (phrase_step (layer.Binary Mul p (phrase_of l) (phrase_of r)))
+    (phrase_binary Mul p l r) (λ n.
     let left : List Lexeme = phrase_at rank.Product (phrase_of l) in
     let m : ℕ = n + length left in
     let a : AsTerm n left l = term_of l hl n in
     let b : AsFactor (m + 1) (phrase_at rank.Factor (phrase_of r)) r = factor_of r hr (m + 1) in
     record {
       new = product a.new m b.new;
-      text = between n left (phrase_at rank.Factor (phrase_of r)) word.Times (term_text a.new) (factor_text b.new) a.text b.text;
+      text = between n left (phrase_at rank.Factor (phrase_of r)) word.Times (term_text a.new)
+          (factor_text b.new) a.text b.text;
       tree = same_binary Mul m p (term_tree a.new) l (factor_tree b.new) r a.tree b.tree;
     })
 
@@ -198,11 +224,15 @@ negation_spelled p t h = from_phrase (operand.Neg p t) (phrase_step (layer.Neg p
     record {
       new = negation n a.new;
       text = ap (λ (ts : List Tok). (word.Minus, n) ∷ ts) a.text;
-      tree = unnumbered_neg n (factor_tree a.new) ∙ ap (λ (x : Operand). operand.Neg 0 x) a.tree ∙ sym (unnumbered_neg p t);
+      tree = unnumbered_neg n (factor_tree a.new) ∙ ap (λ (x : Operand). operand.Neg 0 x) a.tree
+          ∙ sym (unnumbered_neg p t);
     })
 
-access_spelled : (target : Name) (list : List Operand) → ((n : ℕ) → AsAccess n (access_words target list) target list) → Spelled (operand.Access target list)
-access_spelled target list h = from_phrase (operand.Access target list) (factor_phrase (access_words target list)) (phrase_access target list) (λ n.
+access_spelled : (target : Name) (list : List Operand) → ((n : ℕ) → AsAccess n (access_words target list) target list)
+    → Spelled (operand.Access target list)
+access_spelled target list h =
+    from_phrase (operand.Access target list) (factor_phrase (access_words target list)) (phrase_access target list)
+    (λ n.
     let a : AsAccess n (access_words target list) target list = h n in
     record {
       new = access a.new;
@@ -214,20 +244,27 @@ access_spelled target list h = from_phrase (operand.Access target list) (factor_
     })
 
 -- a further subscript
-more_access : (n : ℕ) (target : Name) (list : List Operand) (t : Operand) → AsAccess n (access_words target list) target list → Spelled t → AsAccess n (access_words target (list ++ t ∷ [])) target (list ++ t ∷ [])
+more_access : (n : ℕ) (target : Name) (list : List Operand) (t : Operand)
+    → AsAccess n (access_words target list) target list → Spelled t
+    → AsAccess n (access_words target (list ++ t ∷ [])) target (list ++ t ∷ [])
 more_access n target list t a h =
     let m : ℕ = n + length (access_words target list) in
     let e : AsExpr (m + 1) (expr_words t) t = expr_of t h (m + 1) in
     record {
       new = subscript a.new m e.new (m + 1 + length (expr_words t));
-      text = together n (access_words target list) (subscript_words t) (access_text a.new) ((word.OpenSquare, m) ∷ (expr_text e.new ++ (word.CloseSquare, m + 1 + length (expr_words t)) ∷ [])) a.text (enclosed m word.OpenSquare word.CloseSquare (expr_words t) (expr_text e.new) e.text)
-          ∙ ap (λ (ws : List Lexeme). numbered_from n (word.Name target.text ∷ ws)) (sym (flat_more subscript_words list t));
+      text = together n (access_words target list) (subscript_words t) (access_text a.new)
+          ((word.OpenSquare, m) ∷ (expr_text e.new ++ (word.CloseSquare, m + 1 + length (expr_words t)) ∷ [])) a.text
+          (enclosed m word.OpenSquare word.CloseSquare (expr_words t) (expr_text e.new) e.text)
+          ∙ ap (λ (ws : List Lexeme). numbered_from n (word.Name target.text ∷ ws))
+          (sym (flat_more subscript_words list t));
       target_is = a.target_is;
       list_is = map_more unnumbered_operand (subscripts a.new) list (expr_tree e.new) t a.list_is e.tree;
     }
 
 -- a further argument
-more_exprs : (n : ℕ) (list : List Operand) (t : Operand) → IsCons list → AsExprs n (joined word.Comma expr_words list) list → Spelled t → AsExprs n (joined word.Comma expr_words (list ++ t ∷ [])) (list ++ t ∷ [])
+more_exprs : (n : ℕ) (list : List Operand) (t : Operand) → IsCons list
+    → AsExprs n (joined word.Comma expr_words list) list → Spelled t
+    → AsExprs n (joined word.Comma expr_words (list ++ t ∷ [])) (list ++ t ∷ [])
 more_exprs n list t some es h =
     let before : List Lexeme = joined word.Comma expr_words list in
     let m : ℕ = n + length before in
@@ -272,34 +309,43 @@ chosen_plural ChoiceMax p [] h = absurd h
 chosen_plural ChoiceMax p (x ∷ []) h = absurd h
 chosen_plural ChoiceMax p (x ∷ y ∷ xs) h = refl
 
-same_choice : (c : Choice) (m p : ℕ) (xs ys : List Operand) → IsPlural ys → map unnumbered_operand xs ≡ map unnumbered_operand ys → unnumbered_operand (chosen c m xs) ≡ unnumbered_operand (choice_of c p ys)
+same_choice : (c : Choice) (m p : ℕ) (xs ys : List Operand) → IsPlural ys
+    → map unnumbered_operand xs ≡ map unnumbered_operand ys
+    → unnumbered_operand (chosen c m xs) ≡ unnumbered_operand (choice_of c p ys)
 same_choice c m p xs ys several e =
     let plural : IsPlural xs = from_unnumbered xs (subst IsPlural (sym e) (to_unnumbered ys several)) in
-    ap unnumbered_operand (chosen_plural c m xs plural) ∙ unnumbered_choice c m xs ∙ ap (choice_of c 0) e ∙ sym (unnumbered_choice c p ys)
+    ap unnumbered_operand (chosen_plural c m xs plural) ∙ unnumbered_choice c m xs ∙ ap (choice_of c 0) e
+    ∙ sym (unnumbered_choice c p ys)
 
-choice_spelled : (c : Choice) (p : ℕ) (list : List Operand) → IsPlural list → ((n : ℕ) → AsExprs n (joined word.Comma expr_words list) list) → Spelled (choice_of c p list)
-choice_spelled c p list several h = from_phrase (choice_of c p list) (factor_phrase (choice_words c list)) (phrase_choice c p list) (λ n.
+choice_spelled : (c : Choice) (p : ℕ) (list : List Operand) → IsPlural list
+    → ((n : ℕ) → AsExprs n (joined word.Comma expr_words list) list) → Spelled (choice_of c p list)
+choice_spelled c p list several h =
+    from_phrase (choice_of c p list) (factor_phrase (choice_words c list)) (phrase_choice c p list) (λ n.
     let before : List Lexeme = joined word.Comma expr_words list in
     let es : AsExprs (n + 1 + 1) before list = h (n + 1 + 1) in
     record {
       new = choice c n (n + 1) es.new (n + 1 + 1 + length before);
-      text = ap (λ (ts : List Tok). (word.Choice c, n) ∷ ts) (enclosed (n + 1) word.Open word.Close before (exprs_text es.new) es.text);
+      text = ap (λ (ts : List Tok). (word.Choice c, n) ∷ ts)
+          (enclosed (n + 1) word.Open word.Close before (exprs_text es.new) es.text);
       tree = same_choice c n p (expr_trees es.new) list several es.list_is;
     })
 
 -- what a list of arguments gives to `min` or `max`
 abbrev ArgumentsSpelled : Exprs → Type 0
 ArgumentsSpelled (one e) = Spelled (expr_tree e)
-ArgumentsSpelled (also es p e) = (n : ℕ) → AsExprs n (joined word.Comma expr_words (expr_trees (also es p e))) (expr_trees (also es p e))
+ArgumentsSpelled (also es p e) =
+    (n : ℕ) → AsExprs n (joined word.Comma expr_words (expr_trees (also es p e))) (expr_trees (also es p e))
 
-one_argument : (n : ℕ) (t : Operand) → AsExpr n (expr_words t) t → AsExprs n (joined word.Comma expr_words (t ∷ [])) (t ∷ [])
+one_argument : (n : ℕ) (t : Operand) → AsExpr n (expr_words t) t
+    → AsExprs n (joined word.Comma expr_words (t ∷ [])) (t ∷ [])
 one_argument n t a = record {
   new = one a.new;
   text = a.text ∙ ap (numbered_from n) (sym (append-nil (expr_words t)));
   list_is = ap (λ (x : Operand). x ∷ []) a.tree;
 }
 
-arguments : (es : Exprs) → ArgumentsSpelled es → (n : ℕ) → AsExprs n (joined word.Comma expr_words (expr_trees es)) (expr_trees es)
+arguments : (es : Exprs) → ArgumentsSpelled es → (n : ℕ)
+    → AsExprs n (joined word.Comma expr_words (expr_trees es)) (expr_trees es)
 arguments (one e) h n = one_argument n (expr_tree e) (expr_of (expr_tree e) h n)
 arguments (also es p e) h n = h n
 
@@ -326,10 +372,15 @@ mutual
   spelled_factor (access a) = access_spelled (accessed a) (subscripts a) (spelled_access a)
   spelled_factor (choice c p q es r) = chosen_spelled c p es (spelled_exprs es)
 
-  pub spelled_access : (a : Access) (n : ℕ) → AsAccess n (access_words (accessed a) (subscripts a)) (accessed a) (subscripts a)
-  spelled_access (name x) n = record { new = name (record { text = x.text; token = n }); text = refl; target_is = refl; list_is = refl }
-  spelled_access (subscript a p e q) n = more_access n (accessed a) (subscripts a) (expr_tree e) (spelled_access a n) (spelled_expr e)
+  pub spelled_access : (a : Access) (n : ℕ)
+      → AsAccess n (access_words (accessed a) (subscripts a)) (accessed a) (subscripts a)
+  spelled_access (name x) n =
+      record { new = name (record { text = x.text; token = n }); text = refl; target_is = refl; list_is = refl }
+  spelled_access (subscript a p e q) n =
+      more_access n (accessed a) (subscripts a) (expr_tree e) (spelled_access a n) (spelled_expr e)
 
   spelled_exprs : (es : Exprs) → ArgumentsSpelled es
   spelled_exprs (one e) = spelled_expr e
-  spelled_exprs (also es p e) = λ n. more_exprs n (expr_trees es) (expr_tree e) (exprs_are_cons es) (arguments es (spelled_exprs es) n) (spelled_expr e)
+  spelled_exprs (also es p e) =
+      λ n. more_exprs n (expr_trees es) (expr_tree e) (exprs_are_cons es) (arguments es (spelled_exprs es) n)
+      (spelled_expr e)

@@ -41,7 +41,9 @@ and_left false y h = h
 
 word_no_digits : (text : List ℕ) → is_word text ≡ true → is_digits text ≡ false
 word_no_digits [] h = refl
-word_no_digits (b ∷ bs) h = let no_digit : is_digit b ≡ false = letter_no_digit b (and_left (is_letter b) (list_all is_letter_or_digit bs) h) in rw no_digit refl
+word_no_digits (b ∷ bs) h =
+    let no_digit : is_digit b ≡ false =
+    letter_no_digit b (and_left (is_letter b) (list_all is_letter_or_digit bs) h) in rw no_digit refl
 
 -- ---- numbers
 
@@ -69,7 +71,9 @@ digits_of_some [] some h = absurd (omega arith)
 digits_of_some (b ∷ bs) some h = h
 
 decimal_digits : (n : ℕ) → n ≤ greatest_number → is_digits (decimal n) ≡ true
-decimal_digits n le = let lt : n < 2 ^ 64 = omega arith in digits_of_some (decimal n) (decimal_nonempty n lt) (digits_decimal own_numerals n lt)
+decimal_digits n le =
+    let lt : n < 2 ^ 64 =
+    omega arith in digits_of_some (decimal n) (decimal_nonempty n lt) (digits_decimal own_numerals n lt)
 
 decimal_value : (n : ℕ) → n ≤ greatest_number → number_value (decimal n) ≡ n
 decimal_value n le = let lt : n < 2 ^ 64 = omega arith in digits_value-decimal own_numerals n lt
@@ -85,13 +89,15 @@ IsWritable text = (is_token text && not (is_large text)) ≡ true
 name_writable : (text : List ℕ) → is_word text ≡ true → IsWritable text
 name_writable text h = rw (h, word_no_digits text h) refl
 
-number_writable : (text : List ℕ) → is_digits text ≡ true → nat_lt greatest_number (number_value text) ≡ false → IsWritable text
+number_writable : (text : List ℕ) → is_digits text ≡ true → nat_lt greatest_number (number_value text) ≡ false
+    → IsWritable text
 number_writable text d l = rw (d, l, or_yes (is_word text)) refl
 
 pub writable : (w : Lexeme) → IsTokenWord w → IsWritable (lexeme_text w)
 unfolding lexeme_text
 writable (word.Name text) h = name_writable text h.0
-writable (word.Number (pos n)) h = number_writable (decimal n) (decimal_digits n h) (not_large n (number_value (decimal n)) h (decimal_value n h))
+writable (word.Number (pos n)) h =
+    number_writable (decimal n) (decimal_digits n h) (not_large n (number_value (decimal n)) h (decimal_value n h))
 writable (word.Number (negsuc n)) h = absurd h
 writable (word.Declare Param) h = refl
 writable (word.Declare Input) h = refl
@@ -143,7 +149,8 @@ number_read text d =
 pub read_back : (w : Lexeme) → IsTokenWord w → lexeme_of_text (lexeme_text w) ≡ w
 unfolding lexeme_text reserved_lexeme sign_lexeme comparison_lexeme bracket_lexeme
 read_back (word.Name text) h = name_read text h.0 h.1
-read_back (word.Number (pos n)) h = number_read (decimal n) (decimal_digits n h) ∙ ap (λ (m : ℕ). word.Number (pos m)) (decimal_value n h)
+read_back (word.Number (pos n)) h =
+    number_read (decimal n) (decimal_digits n h) ∙ ap (λ (m : ℕ). word.Number (pos m)) (decimal_value n h)
 read_back (word.Number (negsuc n)) h = absurd h
 read_back (word.Declare Param) h = refl
 read_back (word.Declare Input) h = refl
@@ -186,7 +193,9 @@ all_writable (w ∷ ws) h = rw (writable w h.0) (all_writable ws h.1)
 
 all_read : (ws : List Lexeme) → AreTokenWords ws → map lexeme_of_text (map lexeme_text ws) ≡ ws
 all_read [] h = refl
-all_read (w ∷ ws) h = ap (λ (x : Lexeme). x ∷ map lexeme_of_text (map lexeme_text ws)) (read_back w h.0) ∙ ap (λ (xs : List Lexeme). w ∷ xs) (all_read ws h.1)
+all_read (w ∷ ws) h =
+    ap (λ (x : Lexeme). x ∷ map lexeme_of_text (map lexeme_text ws)) (read_back w h.0)
+    ∙ ap (λ (xs : List Lexeme). w ∷ xs) (all_read ws h.1)
 
 first_or : List ℕ → List (List ℕ) → List ℕ
 first_or d [] = d
@@ -204,17 +213,23 @@ others_are : (x y : List ℕ) (xs ys : List (List ℕ)) → x ∷ xs ≡ y ∷ y
 unfolding others
 others_are x y xs ys e = ap others e
 
-lexemes_at : (bytes : List ℕ) (at : ℕ) (texts : List (List ℕ)) → map (text_of bytes) (spaced_tokens at texts) ≡ texts → map (lexeme_at bytes) (spaced_tokens at texts) ≡ map lexeme_of_text texts
+lexemes_at : (bytes : List ℕ) (at : ℕ) (texts : List (List ℕ)) → map (text_of bytes) (spaced_tokens at texts) ≡ texts
+    → map (lexeme_at bytes) (spaced_tokens at texts) ≡ map lexeme_of_text texts
 unfolding lexeme_at
 lexemes_at bytes at [] e = refl
 lexemes_at bytes at (text ∷ texts) e =
     ap (λ (s : List ℕ). lexeme_of (kind_of text) s ∷ map (lexeme_at bytes) (spaced_tokens (at + length text + 1) texts))
-    (first_is (text_of bytes (token_at at text)) text (map (text_of bytes) (spaced_tokens (at + length text + 1) texts)) texts e)
+    (first_is (text_of bytes (token_at at text)) text
+    (map (text_of bytes) (spaced_tokens (at + length text + 1) texts)) texts e)
     ∙ ap (λ (xs : List Lexeme). lexeme_of_text text ∷ xs)
-    (lexemes_at bytes (at + length text + 1) texts (others_are (text_of bytes (token_at at text)) text (map (text_of bytes) (spaced_tokens (at + length text + 1) texts)) texts e))
+    (lexemes_at bytes (at + length text + 1) texts
+    (others_are (text_of bytes (token_at at text)) text
+    (map (text_of bytes) (spaced_tokens (at + length text + 1) texts)) texts e))
 
 -- the sentence of the text is the words, numbered from 0
-sentence_is : (ws : List Lexeme) → AreTokenWords ws → map (text_of (written ws)) (spaced_tokens 0 (map lexeme_text ws)) ≡ map lexeme_text ws → sentence (written ws) (spaced_tokens 0 (map lexeme_text ws)) ≡ numbered_from 0 ws
+sentence_is : (ws : List Lexeme) → AreTokenWords ws
+    → map (text_of (written ws)) (spaced_tokens 0 (map lexeme_text ws)) ≡ map lexeme_text ws
+    → sentence (written ws) (spaced_tokens 0 (map lexeme_text ws)) ≡ numbered_from 0 ws
 unfolding sentence
 sentence_is ws h e = ap (numbered_from 0) (lexemes_at (written ws) 0 (map lexeme_text ws) e ∙ all_read ws h)
 
@@ -230,10 +245,12 @@ first_or_later P text x true later e own others h = subst P (sym ((bytes_eq-Deci
 first_or_later P text x false later e own others h = others h
 
 -- what holds of each text in a list holds of a text that is in it
-listed : (P : List ℕ → Type 0) (text : List ℕ) (list : List (List ℕ)) → list_any (bytes_eq text) list ≡ true → Each P list → P text
+listed : (P : List ℕ → Type 0) (text : List ℕ) (list : List (List ℕ)) → list_any (bytes_eq text) list ≡ true
+    → Each P list → P text
 listed P text [] h each = absurd cc
 listed P text (x ∷ xs) h each =
-    first_or_later P text x (bytes_eq text x) (list_any (bytes_eq text) xs) refl each.0 (λ later. listed P text xs later each.1) h
+    first_or_later P text x (bytes_eq text x) (list_any (bytes_eq text) xs) refl each.0
+    (λ later. listed P text xs later each.1) h
 
 abbrev IsReservedToken : List ℕ → Type 0
 IsReservedToken text = IsTokenWord (reserved_lexeme text)
@@ -259,9 +276,11 @@ lexeme_word : (bytes : List ℕ) (t : Token) → IsTokenOf bytes t → IsTokenWo
 unfolding lexeme_at
 lexeme_word bytes t h = token_word t.kind (text_of bytes t) h.text
 
-numbered_tokens : (bytes : List ℕ) (n : ℕ) (found : List Token) → All (IsTokenOf bytes) found → AreTokens (numbered_from n (map (lexeme_at bytes) found))
+numbered_tokens : (bytes : List ℕ) (n : ℕ) (found : List Token) → All (IsTokenOf bytes) found
+    → AreTokens (numbered_from n (map (lexeme_at bytes) found))
 numbered_tokens bytes n [] h = tt
-numbered_tokens bytes n (t ∷ found) h = (lexeme_word bytes t (All-head (IsTokenOf bytes) t found h), numbered_tokens bytes (n + 1) found (All-tail (IsTokenOf bytes) t found h))
+numbered_tokens bytes n (t ∷ found) h =
+    (lexeme_word bytes t (All-head (IsTokenOf bytes) t found h), numbered_tokens bytes (n + 1) found (All-tail (IsTokenOf bytes) t found h))
 
 sentence_tokens : (bytes : List ℕ) (found : List Token) → AreTokensOf bytes found → AreTokens (sentence bytes found)
 unfolding sentence
@@ -281,30 +300,40 @@ abbrev pub KeepsTokens : Type 0
 KeepsTokens = (bytes : List ℕ) (found : List Token) → tokens bytes ≡ Ok found → AreTokensOf bytes found
 
 abbrev pub ReadsSpaced : Type 0
-ReadsSpaced = (texts : List (List ℕ)) → are_token_texts texts ≡ true → length texts ≤ token_limit → tokens (spaced texts) ≡ Ok (spaced_tokens 0 texts)
+ReadsSpaced =
+    (texts : List (List ℕ)) → are_token_texts texts ≡ true → length texts ≤ token_limit
+    → tokens (spaced texts) ≡ Ok (spaced_tokens 0 texts)
 
 abbrev pub KeepsTexts : Type 0
 KeepsTexts = (texts : List (List ℕ)) → map (text_of (spaced texts)) (spaced_tokens 0 texts) ≡ texts
 
-words_read : (ws : List Lexeme) → ReadsSpaced → AreTokenWords ws → length ws ≤ token_limit → tokens (written ws) ≡ Ok (spaced_tokens 0 (map lexeme_text ws))
+words_read : (ws : List Lexeme) → ReadsSpaced → AreTokenWords ws → length ws ≤ token_limit
+    → tokens (written ws) ≡ Ok (spaced_tokens 0 (map lexeme_text ws))
 unfolding written
-words_read ws reads valid short = let e : length (map lexeme_text ws) ≡ length ws = length-map ws lexeme_text in reads (map lexeme_text ws) (all_writable ws valid) (omega (arith, e, short))
+words_read ws reads valid short =
+    let e : length (map lexeme_text ws) ≡ length ws =
+    length-map ws lexeme_text in reads (map lexeme_text ws) (all_writable ws valid) (omega (arith, e, short))
 
-words_kept : (ws : List Lexeme) → KeepsTexts → map (text_of (written ws)) (spaced_tokens 0 (map lexeme_text ws)) ≡ map lexeme_text ws
+words_kept : (ws : List Lexeme) → KeepsTexts
+    → map (text_of (written ws)) (spaced_tokens 0 (map lexeme_text ws)) ≡ map lexeme_text ws
 unfolding written
 words_kept ws texts = texts (map lexeme_text ws)
 
-of_program : (p : Program) (source : List ℕ) (found : List Token) → KeepsTokens → ReadsSpaced → KeepsTexts → tokens source ≡ Ok found → program_text p ≡ sentence source found → ReadsBackAs (written (tree_words (program_tree p))) (program_tree p)
+of_program : (p : Program) (source : List ℕ) (found : List Token) → KeepsTokens → ReadsSpaced → KeepsTexts
+    → tokens source ≡ Ok found → program_text p ≡ sentence source found
+    → ReadsBackAs (written (tree_words (program_tree p))) (program_tree p)
 of_program p source found keeps reads texts read text =
     let kept : AreTokensOf source found = keeps source found read in
     let within : Within (tree_words (program_tree p)) (program_text p) = program_within p in
-    let valid : AreTokenWords (tree_words (program_tree p)) = within.valid (subst AreTokens (sym text) (sentence_tokens source found kept)) in
+    let valid : AreTokenWords (tree_words (program_tree p)) =
+    within.valid (subst AreTokens (sym text) (sentence_tokens source found kept)) in
     let le : length (tree_words (program_tree p)) ≤ length (program_text p) = within.shorter in
     let same : length (program_text p) ≡ length found = ap length text ∙ length_sentence source found in
     let limit : length found ≤ token_limit = kept.limit in
     let short : length (tree_words (program_tree p)) ≤ token_limit = omega (arith, le, same, limit) in
     let ws : List Lexeme = tree_words (program_tree p) in
-    let again : (again : Tree) × Derives (numbered_from 0 ws) again × (without_token_numbers again ≡ without_token_numbers (program_tree p)) = spelled_program p in (
+    let again : (again : Tree) × Derives (numbered_from 0 ws) again
+    × (without_token_numbers again ≡ without_token_numbers (program_tree p)) = spelled_program p in (
       spaced_tokens 0 (map lexeme_text ws),
       again.0,
       words_read ws reads valid short,
@@ -313,9 +342,12 @@ of_program p source found keeps reads texts read text =
     )
 
 -- the text of a tree that has a source
-pub text_is_read : (tree : Tree) (text : List ℕ) → KeepsTokens → ReadsSpaced → KeepsTexts → HasSource tree → text ≡ written (tree_words tree) → ReadsBackAs text tree
+pub text_is_read : (tree : Tree) (text : List ℕ) → KeepsTokens → ReadsSpaced → KeepsTexts → HasSource tree
+    → text ≡ written (tree_words tree) → ReadsBackAs text tree
 text_is_read tree text keeps reads texts has is =
     let d : Derives (sentence has.0 has.1) tree = has.3 in
     let p : Program = d.0 in
-    let whole : ReadsBackAs (written (tree_words (program_tree p))) (program_tree p) = of_program p has.0 has.1 keeps reads texts has.2 d.1 in
-    subst (λ (s : List ℕ). ReadsBackAs s tree) (sym is) (subst (λ (t : Tree). ReadsBackAs (written (tree_words t)) t) d.2 whole)
+    let whole : ReadsBackAs (written (tree_words (program_tree p))) (program_tree p) =
+    of_program p has.0 has.1 keeps reads texts has.2 d.1 in
+    subst (λ (s : List ℕ). ReadsBackAs s tree) (sym is)
+    (subst (λ (t : Tree). ReadsBackAs (written (tree_words t)) t) d.2 whole)

@@ -103,33 +103,54 @@ from_term rank.Sum ws h = no_parentheses ws h
 from_term rank.Product ws h = h
 from_term rank.Factor ws h = h
 
-from_factor : (r : Rank) (ws : List Lexeme) {ts : List Tok} → Within (placed rank.Factor r ws) ts → Within (placed rank.Product r ws) ts
+from_factor : (r : Rank) (ws : List Lexeme) {ts : List Tok} → Within (placed rank.Factor r ws) ts
+    → Within (placed rank.Product r ws) ts
 from_factor rank.Sum ws h = h
 from_factor rank.Product ws h = no_parentheses ws h
 from_factor rank.Factor ws h = h
 
-bracketed : (r : Rank) (ws : List Lexeme) (p q : ℕ) {ts : List Tok} → Within ws ts → Within (placed rank.Factor r ws) ((word.Open, p) ∷ (ts ++ (word.Close, q) ∷ []))
+bracketed : (r : Rank) (ws : List Lexeme) (p q : ℕ) {ts : List Tok} → Within ws ts
+    → Within (placed rank.Factor r ws) ((word.Open, p) ∷ (ts ++ (word.Close, q) ∷ []))
 bracketed rank.Sum ws p q h = first_within word.Open p (both h (sign_within word.Close q))
 bracketed rank.Product ws p q h = first_within word.Open p (both h (sign_within word.Close q))
 bracketed rank.Factor ws p q h = skip (word.Open, p) (only_left ((word.Close, q) ∷ []) h)
 
 -- an operand of a known phrase
-as_phrase : (place : Rank) (t : Operand) (p : Phrase) {ts : List Tok} → phrase_of t ≡ p → Within (phrase_at place p) ts → Within (phrase_at place (phrase_of t)) ts
+as_phrase : (place : Rank) (t : Operand) (p : Phrase) {ts : List Tok} → phrase_of t ≡ p → Within (phrase_at place p) ts
+    → Within (phrase_at place (phrase_of t)) ts
 as_phrase place t p {ts} e h = subst (λ (q : Phrase). Within (phrase_at place q) ts) (sym e) h
 
-sum_within : (s : SumSign) (m p : ℕ) (l r : Operand) {ts us : List Tok} → Within (expr_words l) ts → Within (phrase_at rank.Product (phrase_of r)) us → Within (expr_words (operand.Binary (binary_sign s) p l r)) (ts ++ (sum_word s, m) ∷ us)
-sum_within plus m p l r hl hr = as_phrase rank.Sum (operand.Binary Add p l r) (phrase_step (layer.Binary Add p (phrase_of l) (phrase_of r))) (phrase_binary Add p l r) (both hl (first_within word.Plus m hr))
-sum_within minus m p l r hl hr = as_phrase rank.Sum (operand.Binary Sub p l r) (phrase_step (layer.Binary Sub p (phrase_of l) (phrase_of r))) (phrase_binary Sub p l r) (both hl (first_within word.Minus m hr))
+sum_within : (s : SumSign) (m p : ℕ) (l r : Operand) {ts us : List Tok} → Within (expr_words l) ts
+    → Within (phrase_at rank.Product (phrase_of r)) us
+    → Within (expr_words (operand.Binary (binary_sign s) p l r)) (ts ++ (sum_word s, m) ∷ us)
+sum_within plus m p l r hl hr =
+    as_phrase rank.Sum (operand.Binary Add p l r) (phrase_step (layer.Binary Add p (phrase_of l) (phrase_of r)))
+    (phrase_binary Add p l r) (both hl (first_within word.Plus m hr))
+sum_within minus m p l r hl hr =
+    as_phrase rank.Sum (operand.Binary Sub p l r) (phrase_step (layer.Binary Sub p (phrase_of l) (phrase_of r)))
+    (phrase_binary Sub p l r) (both hl (first_within word.Minus m hr))
 
-choice_within : (c : Choice) (m p q r : ℕ) (list : List Operand) {ts : List Tok} → Within (joined word.Comma expr_words list) ts → Within (phrase_at rank.Factor (phrase_of (choice_of c p list))) ((word.Choice c, m) ∷ (word.Open, q) ∷ (ts ++ (word.Close, r) ∷ []))
-choice_within c m p q r list h = as_phrase rank.Factor (choice_of c p list) (factor_phrase (choice_words c list)) (phrase_choice c p list) (first_within (word.Choice c) m (first_within word.Open q (both h (sign_within word.Close r))))
+choice_within : (c : Choice) (m p q r : ℕ) (list : List Operand) {ts : List Tok}
+    → Within (joined word.Comma expr_words list) ts
+    → Within (phrase_at rank.Factor (phrase_of (choice_of c p list)))
+    ((word.Choice c, m) ∷ (word.Open, q) ∷ (ts ++ (word.Close, r) ∷ []))
+choice_within c m p q r list h =
+    as_phrase rank.Factor (choice_of c p list) (factor_phrase (choice_words c list)) (phrase_choice c p list)
+    (first_within (word.Choice c) m (first_within word.Open q (both h (sign_within word.Close r))))
 
-chosen_within : (c : Choice) (p q r : ℕ) (es : Exprs) → Within (joined word.Comma expr_words (expr_trees es)) (exprs_text es) → Within (phrase_at rank.Factor (phrase_of (chosen c p (expr_trees es)))) ((word.Choice c, p) ∷ (word.Open, q) ∷ (exprs_text es ++ (word.Close, r) ∷ []))
-chosen_within c p q r (one e) h = skip (word.Choice c, p) (bracketed (phrase_of (expr_tree e)).rank (expr_words (expr_tree e)) q r (recast (append-nil (expr_words (expr_tree e))) h))
+chosen_within : (c : Choice) (p q r : ℕ) (es : Exprs)
+    → Within (joined word.Comma expr_words (expr_trees es)) (exprs_text es)
+    → Within (phrase_at rank.Factor (phrase_of (chosen c p (expr_trees es))))
+    ((word.Choice c, p) ∷ (word.Open, q) ∷ (exprs_text es ++ (word.Close, r) ∷ []))
+chosen_within c p q r (one e) h =
+    skip (word.Choice c, p)
+    (bracketed (phrase_of (expr_tree e)).rank (expr_words (expr_tree e)) q r
+    (recast (append-nil (expr_words (expr_tree e))) h))
 chosen_within c p q r (also es s e) h =
     let list : List Operand = expr_trees es ++ expr_tree e ∷ [] in
     let several : IsPlural list = more_is_plural (expr_trees es) (expr_tree e) (exprs_are_cons es) in
-    recast (ap (λ (t : Operand). phrase_at rank.Factor (phrase_of t)) (sym (chosen_plural c p list several))) (choice_within c p p q r list h)
+    recast (ap (λ (t : Operand). phrase_at rank.Factor (phrase_of t)) (sym (chosen_plural c p list several)))
+    (choice_within c p p q r list h)
 
 mutual
   pub expr_within : (e : Expr) → Within (expr_words (expr_tree e)) (expr_text e)
@@ -138,55 +159,86 @@ mutual
 
   term_within : (t : Term) → Within (phrase_at rank.Product (phrase_of (term_tree t))) (term_text t)
   term_within (factor f) = from_factor (phrase_of (factor_tree f)).rank (expr_words (factor_tree f)) (factor_within f)
-  term_within (product t p f) = as_phrase rank.Product (operand.Binary Mul p (term_tree t) (factor_tree f)) (phrase_step (layer.Binary Mul p (phrase_of (term_tree t)) (phrase_of (factor_tree f)))) (phrase_binary Mul p (term_tree t) (factor_tree f)) (both (term_within t) (first_within word.Times p (factor_within f)))
+  term_within (product t p f) =
+      as_phrase rank.Product (operand.Binary Mul p (term_tree t) (factor_tree f))
+      (phrase_step (layer.Binary Mul p (phrase_of (term_tree t)) (phrase_of (factor_tree f))))
+      (phrase_binary Mul p (term_tree t) (factor_tree f))
+      (both (term_within t) (first_within word.Times p (factor_within f)))
 
   factor_within : (f : Factor) → Within (phrase_at rank.Factor (phrase_of (factor_tree f))) (factor_text f)
-  factor_within (negation p f) = as_phrase rank.Factor (operand.Neg p (factor_tree f)) (phrase_step (layer.Neg p (phrase_of (factor_tree f)))) (phrase_neg p (factor_tree f)) (first_within word.Minus p (factor_within f))
-  factor_within (number n p) = as_phrase rank.Factor (operand.Number n p) (factor_phrase (word.Number n ∷ [])) (phrase_number n p) (sign_within (word.Number n) p)
-  factor_within (parentheses p e q) = bracketed (phrase_of (expr_tree e)).rank (expr_words (expr_tree e)) p q (expr_within e)
-  factor_within (access a) = as_phrase rank.Factor (operand.Access (accessed a) (subscripts a)) (factor_phrase (access_words (accessed a) (subscripts a))) (phrase_access (accessed a) (subscripts a)) (access_within a)
+  factor_within (negation p f) =
+      as_phrase rank.Factor (operand.Neg p (factor_tree f)) (phrase_step (layer.Neg p (phrase_of (factor_tree f))))
+      (phrase_neg p (factor_tree f)) (first_within word.Minus p (factor_within f))
+  factor_within (number n p) =
+      as_phrase rank.Factor (operand.Number n p) (factor_phrase (word.Number n ∷ [])) (phrase_number n p)
+      (sign_within (word.Number n) p)
+  factor_within (parentheses p e q) =
+      bracketed (phrase_of (expr_tree e)).rank (expr_words (expr_tree e)) p q (expr_within e)
+  factor_within (access a) =
+      as_phrase rank.Factor (operand.Access (accessed a) (subscripts a))
+      (factor_phrase (access_words (accessed a) (subscripts a))) (phrase_access (accessed a) (subscripts a))
+      (access_within a)
   factor_within (choice c p q es r) = chosen_within c p q r es (exprs_within es)
 
   pub access_within : (a : Access) → Within (access_words (accessed a) (subscripts a)) (access_text a)
   access_within (name x) = sign_within (word.Name x.text) x.token
   access_within (subscript a p e q) =
-      recast (ap (λ (ws : List Lexeme). word.Name (accessed a).text ∷ ws) (sym (flat_more subscript_words (subscripts a) (expr_tree e))))
+      recast (ap (λ (ws : List Lexeme). word.Name (accessed a).text ∷ ws)
+      (sym (flat_more subscript_words (subscripts a) (expr_tree e))))
       (both (access_within a) (first_within word.OpenSquare p (both (expr_within e) (sign_within word.CloseSquare q))))
 
   exprs_within : (es : Exprs) → Within (joined word.Comma expr_words (expr_trees es)) (exprs_text es)
   exprs_within (one e) = recast (sym (append-nil (expr_words (expr_tree e)))) (expr_within e)
-  exprs_within (also es p e) = recast (sym (joined_more word.Comma expr_words (expr_trees es) (expr_tree e) (exprs_are_cons es))) (both (exprs_within es) (first_within word.Comma p (expr_within e)))
+  exprs_within (also es p e) =
+      recast (sym (joined_more word.Comma expr_words (expr_trees es) (expr_tree e) (exprs_are_cons es)))
+      (both (exprs_within es) (first_within word.Comma p (expr_within e)))
 
 -- ---- statements
 
-separated_within : {A B : Type 0} (sign : Lexeme) (text : A → List Tok) (tree : A → B) (words : B → List Lexeme) → ((x : A) → Within (words (tree x)) (text x)) → (xs : Separated A) → Within (joined sign words (separated_list tree xs)) (separated_text sign text xs)
+separated_within : {A B : Type 0} (sign : Lexeme) (text : A → List Tok) (tree : A → B) (words : B → List Lexeme)
+    → ((x : A) → Within (words (tree x)) (text x)) → (xs : Separated A)
+    → Within (joined sign words (separated_list tree xs)) (separated_text sign text xs)
 separated_within sign text tree words each (single x) = recast (sym (append-nil (words (tree x)))) (each x)
-separated_within sign text tree words each (more xs p x) = recast (sym (joined_more sign words (separated_list tree xs) (tree x) (separated_is_cons tree xs))) (both (separated_within sign text tree words each xs) (first_within sign p (each x)))
+separated_within sign text tree words each (more xs p x) =
+    recast (sym (joined_more sign words (separated_list tree xs) (tree x) (separated_is_cons tree xs)))
+    (both (separated_within sign text tree words each xs) (first_within sign p (each x)))
 
 comparison_within : (c : Compared) → Within (comparison_words (compared_tree c)) (compared_text c)
 comparison_within (compared a s p b) = both (expr_within a) (first_within (word.Compare s) p (expr_within b))
 
 guard_within : (g : Guard) → Within (guard_words (guard_tree g)) (guard_text g)
-guard_within (guard p q cond r) = first_within word.If p (first_within word.Open q (both (separated_within word.And compared_text compared_tree comparison_words comparison_within cond) (sign_within word.Close r)))
+guard_within (guard p q cond r) =
+    first_within word.If p
+    (first_within word.Open q
+    (both (separated_within word.And compared_text compared_tree comparison_words comparison_within cond)
+    (sign_within word.Close r)))
 
 int_within : (int : Option ℕ) {a : List Lexeme} {ts : List Tok} → Within a ts → Within a (int_text int ++ ts)
 int_within None h = h
 int_within (Some p) h = skip (word.Int, p) h
 
-swapped : (w v : Lexeme) (p q : ℕ) {a : List Lexeme} {ts : List Tok} → Within a ts → Within (w ∷ v ∷ a) ((v, p) ∷ (w, q) ∷ ts)
-swapped w v p q {a} {ts} h = let le = h.shorter in record { shorter = omega arith; valid = λ x. let y : IsTokenWord w × AreTokens ts = x.1 in (y.0, (x.0, h.valid y.1)) }
+swapped : (w v : Lexeme) (p q : ℕ) {a : List Lexeme} {ts : List Tok} → Within a ts
+    → Within (w ∷ v ∷ a) ((v, p) ∷ (w, q) ∷ ts)
+swapped w v p q {a} {ts} h =
+    let le =
+    h.shorter in record { shorter = omega arith; valid = λ x. let y : IsTokenWord w × AreTokens ts = x.1 in (y.0, (x.0, h.valid y.1)) }
 
 step_within : (s : Stepped) → Within (step_words (stepped_name s) (stepped_tree s)) (stepped_text s)
 step_within (postfix x p) = first_within (word.Name x.text) x.token (sign_within word.Increment p)
 step_within (prefix p x) = swapped (word.Name x.text) word.Increment p x.token (none_within [])
 step_within (compound x p e) = first_within (word.Name x.text) x.token (first_within word.AddAssign p (expr_within e))
 
-loop_within : (h : Header) (body : Part) (ts : List Tok) → Within (part_words body) ts → Within (part_words (loop_part h body)) (header_text h ++ ts)
+loop_within : (h : Header) (body : Part) (ts : List Tok) → Within (part_words body) ts
+    → Within (part_words (loop_part h body)) (header_text h ++ ts)
 loop_within (header p q int x r first s second inclusive t bound u step v) body ts inside =
-    recast (sym (words_for x (expr_tree first) second inclusive (expr_tree bound) (stepped_name step) (stepped_tree step) body))
+    recast (sym (words_for x (expr_tree first) second inclusive (expr_tree bound) (stepped_name step)
+    (stepped_tree step) body))
     (both
-    (first_within word.For p (first_within word.Open q (int_within int (first_within (word.Name x.text) x.token (first_within word.Assign r
-    (both (expr_within first) (first_within word.Semi s (first_within (word.Name second.text) second.token (first_within (word.Compare (bound_sign inclusive)) t
+    (first_within word.For p
+    (first_within word.Open q (int_within int (first_within (word.Name x.text) x.token (first_within word.Assign r
+    (both (expr_within first)
+    (first_within word.Semi s
+    (first_within (word.Name second.text) second.token (first_within (word.Compare (bound_sign inclusive)) t
     (both (expr_within bound) (first_within word.Semi u (both (step_within step) (sign_within word.Close v)))))))))))))
     inside)
 
@@ -194,11 +246,14 @@ mutual
   pub statement_within : (s : Statement) → Within (part_words (statement_tree s)) (statement_text s)
   statement_within (loop h s) = loop_within h (statement_tree s) (statement_text s) (statement_within s)
   statement_within (guarded g s) =
-      recast (ap (λ (ws : List Lexeme). guard_words (guard_tree g) ++ ws) (sym (append-nil (part_words (statement_tree s)))) ∙ sym (words_if (guard_tree g) (statement_tree s) None))
+      recast (ap (λ (ws : List Lexeme). guard_words (guard_tree g) ++ ws)
+      (sym (append-nil (part_words (statement_tree s)))) ∙ sym (words_if (guard_tree g) (statement_tree s) None))
       (both (guard_within g) (statement_within s))
   statement_within (alternative g b p s) =
-      recast (ap (λ (ws : List Lexeme). guard_words (guard_tree g) ++ (ws ++ word.Else ∷ part_words (statement_tree s))) (sym (words_block (block_parts b)))
-      ∙ sym (words_if (guard_tree g) (part.Block (block_parts b)) (Some (record { token = p; body = statement_tree s }))))
+      recast (ap (λ (ws : List Lexeme). guard_words (guard_tree g) ++ (ws ++ word.Else ∷ part_words (statement_tree s)))
+      (sym (words_block (block_parts b)))
+      ∙ sym (words_if (guard_tree g) (part.Block (block_parts b))
+      (Some (record { token = p; body = statement_tree s }))))
       (both (guard_within g) (both (block_within b) (first_within word.Else p (statement_within s))))
   statement_within (assign a p e q) =
       recast (sym (words_assign (accessed a) (subscripts a) (expr_tree e)))
@@ -206,11 +261,14 @@ mutual
   statement_within (block b) = recast (sym (words_block (block_parts b))) (block_within b)
 
   block_within : (b : Block) → Within (in_braces (parts_words (block_parts b))) (block_text b)
-  block_within (braces p ss q) = first_within word.OpenCurly p (both (statements_within ss) (sign_within word.CloseCurly q))
+  block_within (braces p ss q) =
+      first_within word.OpenCurly p (both (statements_within ss) (sign_within word.CloseCurly q))
 
   statements_within : (ss : Statements) → Within (parts_words (statement_trees ss)) (statements_text ss)
   statements_within no_statement = none_within []
-  statements_within (and_statement ss s) = recast (sym (flat_more part_words (statement_trees ss) (statement_tree s))) (both (statements_within ss) (statement_within s))
+  statements_within (and_statement ss s) =
+      recast (sym (flat_more part_words (statement_trees ss) (statement_tree s)))
+      (both (statements_within ss) (statement_within s))
 
 -- ---- declarations and sources
 
@@ -218,12 +276,20 @@ parameter_within : (x : Name) → Within (named_words (parameter x)) (parameter_
 parameter_within x = sign_within (word.Name x.text) x.token
 
 declared_within : (d : Declared) → Within (declaration_words (declared_tree d)) (declared_text d)
-declared_within (parameters p ns q) = first_within (word.Declare Param) p (both (separated_within word.Comma parameter_text parameter named_words parameter_within ns) (sign_within word.Semi q))
-declared_within (arrays w p xs q) = first_within (word.Declare (array_word w)) p (both (separated_within word.Comma access_text array named_words access_within xs) (sign_within word.Semi q))
+declared_within (parameters p ns q) =
+    first_within (word.Declare Param) p
+    (both (separated_within word.Comma parameter_text parameter named_words parameter_within ns)
+    (sign_within word.Semi q))
+declared_within (arrays w p xs q) =
+    first_within (word.Declare (array_word w)) p
+    (both (separated_within word.Comma access_text array named_words access_within xs) (sign_within word.Semi q))
 
-declarations_within : (ds : Declarations) → Within (flat_map declaration_words (declaration_trees ds)) (declarations_text ds)
+declarations_within : (ds : Declarations)
+    → Within (flat_map declaration_words (declaration_trees ds)) (declarations_text ds)
 declarations_within none_declared = none_within []
-declarations_within (also_declared ds d) = recast (sym (flat_more declaration_words (declaration_trees ds) (declared_tree d))) (both (declarations_within ds) (declared_within d))
+declarations_within (also_declared ds d) =
+    recast (sym (flat_more declaration_words (declaration_trees ds) (declared_tree d)))
+    (both (declarations_within ds) (declared_within d))
 
 pub program_within : (p : Program) → Within (tree_words (program_tree p)) (program_text p)
 program_within (program ds ss) = both (declarations_within ds) (statements_within ss)

@@ -17,14 +17,17 @@ use Rattle.reorder_slots.proofs.Held.{KeepsTokens-get, length-filled, lowest_fre
 use Rattle.reorder_slots.proofs.Gets.{KeepsTokens-got, KeepsTokens-held, held-more, held-zero, length-held, more_gets, stays}
 
 -- the token of use q is in the slot of its Get when the Gets before use q are over
-in_its_slot : (uses : List ℕ) (q : ℕ) → q < length uses → get_or (held_after uses (q + 1)).slots (get_or (held_after uses (q + 1)).slot_of_get (get_or uses q 0) 0) 0 ≡ get_or uses q 0
+in_its_slot : (uses : List ℕ) (q : ℕ) → q < length uses
+    → get_or (held_after uses (q + 1)).slots (get_or (held_after uses (q + 1)).slot_of_get (get_or uses q 0) 0) 0
+    ≡ get_or uses q 0
 in_its_slot uses q lt =
     (KeepsTokens-got uses q).found (get_or uses q 0)
     (omega (arith, length-held uses (q + 1), named_before uses (q + 1) q (omega arith) lt))
     (wanted_from uses q q (get_or uses q 0) (omega arith) lt refl)
 
 -- the slot of a use is that of the Get of its token, when the Gets before it are over
-pub slot_of_use : (uses : List ℕ) (q : ℕ) → q < length uses → get_or (slots_of_gets uses) (get_or uses q 0) 0 ≡ get_or (held_after uses (q + 1)).slot_of_get (get_or uses q 0) 0
+pub slot_of_use : (uses : List ℕ) (q : ℕ) → q < length uses
+    → get_or (slots_of_gets uses) (get_or uses q 0) 0 ≡ get_or (held_after uses (q + 1)).slot_of_get (get_or uses q 0) 0
 slot_of_use uses q lt =
     stays uses (q + 1) (length uses) (get_or uses q 0) (omega arith) (named_before uses (q + 1) q (omega arith) lt)
 
@@ -34,11 +37,16 @@ finds uses = λ q token slot here at.
     let named : get_or uses q 0 ≡ token = get_or_from_slice_get uses q token 0 here in
     let held = held_after uses (q + 1) in
     let f = λ (t : ℕ). get_or (slots_of_gets uses) t 0 in
-    let is_slot : f token ≡ slot = same_Some (f token) slot (sym (slice_get-map f uses q ∙ ap (option_map f) here) ∙ at) in
-    let slot_is : get_or held.slot_of_get token 0 ≡ slot = ap (λ t. get_or held.slot_of_get t 0) (sym named) ∙ sym (slot_of_use uses q lt) ∙ ap f named ∙ is_slot in
-    let got : token < length held.slot_of_get = omega (arith, named, length-held uses (q + 1), named_before uses (q + 1) q (omega arith) lt) in
+    let is_slot : f token ≡ slot =
+    same_Some (f token) slot (sym (slice_get-map f uses q ∙ ap (option_map f) here) ∙ at) in
+    let slot_is : get_or held.slot_of_get token 0 ≡ slot =
+    ap (λ t. get_or held.slot_of_get t 0) (sym named) ∙ sym (slot_of_use uses q lt) ∙ ap f named ∙ is_slot in
+    let got : token < length held.slot_of_get =
+    omega (arith, named, length-held uses (q + 1), named_before uses (q + 1) q (omega arith) lt) in
     let within : slot < length held.slots = omega (arith, slot_is, (KeepsTokens-got uses q).made token got) in
-    let found : get_or held.slots slot 0 ≡ token = ap (λ s. get_or held.slots s 0) (sym slot_is ∙ ap (λ t. get_or held.slot_of_get t 0) (sym named)) ∙ in_its_slot uses q lt ∙ named in
+    let found : get_or held.slots slot 0 ≡ token =
+    ap (λ s. get_or held.slots s 0) (sym slot_is ∙ ap (λ t. get_or held.slot_of_get t 0) (sym named))
+    ∙ in_its_slot uses q lt ∙ named in
     slice_get-get_or held.slots slot 0 within ∙ ap Some found
 
 pub keeps_until_used : (uses : List ℕ) → KeepsUntilUsed uses
@@ -48,14 +56,21 @@ keeps_until_used uses = λ q token get here later before same.
     let held = held_after uses (q + 1) in
     let end = slots_of_gets uses in
     let within : token < gets_for (take (q + 1) uses) = omega arith in
-    let count : gets_for (take (q + 1) uses) ≤ length end = omega (arith, length-held uses (length uses), more_gets uses (q + 1) (length uses) (omega arith)) in
-    let apart : get_or end get 0 ≡ get_or end token 0 = same_Some _ _ (sym (slice_get-get_or end get 0 (omega arith)) ∙ same ∙ slice_get-get_or end token 0 (omega arith)) in
-    let same_slot : get_or held.slot_of_get get 0 ≡ get_or held.slot_of_get token 0 = sym (stays uses (q + 1) (length uses) get (omega arith) before) ∙ apart ∙ stays uses (q + 1) (length uses) token (omega arith) within in
-    let in_slot : get_or held.slots (get_or held.slot_of_get token 0) 0 ≡ token = ap (λ t. get_or held.slots (get_or held.slot_of_get t 0) 0) (sym named) ∙ in_its_slot uses q lt ∙ named in
+    let count : gets_for (take (q + 1) uses) ≤ length end =
+    omega (arith, length-held uses (length uses), more_gets uses (q + 1) (length uses) (omega arith)) in
+    let apart : get_or end get 0 ≡ get_or end token 0 =
+    same_Some _ _
+    (sym (slice_get-get_or end get 0 (omega arith)) ∙ same ∙ slice_get-get_or end token 0 (omega arith)) in
+    let same_slot : get_or held.slot_of_get get 0 ≡ get_or held.slot_of_get token 0 =
+    sym (stays uses (q + 1) (length uses) get (omega arith) before) ∙ apart
+    ∙ stays uses (q + 1) (length uses) token (omega arith) within in
+    let in_slot : get_or held.slots (get_or held.slot_of_get token 0) 0 ≡ token =
+    ap (λ t. get_or held.slots (get_or held.slot_of_get t 0) 0) (sym named) ∙ in_its_slot uses q lt ∙ named in
     omega (arith, (KeepsTokens-got uses q).latest get (omega (arith, length-held uses (q + 1))), ap (λ s. get_or held.slots s 0) same_slot, in_slot)
 
 -- uses that never fall only rise
-rises : (uses : List ℕ) (q r : ℕ) → never_falls uses ≡ true → q ≤ r → r < length uses → get_or uses q 0 ≤ get_or uses r 0
+rises : (uses : List ℕ) (q r : ℕ) → never_falls uses ≡ true → q ≤ r → r < length uses
+    → get_or uses q 0 ≤ get_or uses r 0
 rises [] q r h le lt = absurd (omega arith)
 rises (a ∷ []) zero zero h le lt = omega arith
 rises (a ∷ []) zero (suc r) h le lt = absurd (omega arith)
@@ -70,7 +85,8 @@ rises (a ∷ (b ∷ uses)) (suc q) (suc r) h le lt =
     let parts = and_parts (leb a b) (never_falls (b ∷ uses)) h in
     rises (b ∷ uses) q r parts.1 (omega arith) (omega arith)
 
-never_falls-from : (uses : List ℕ) → ((k : ℕ) → suc k < length uses → get_or uses k 0 ≤ get_or uses (suc k) 0) → never_falls uses ≡ true
+never_falls-from : (uses : List ℕ) → ((k : ℕ) → suc k < length uses → get_or uses k 0 ≤ get_or uses (suc k) 0)
+    → never_falls uses ≡ true
 never_falls-from [] up = refl
 never_falls-from (a ∷ []) up = refl
 never_falls-from (a ∷ (b ∷ uses)) up =
@@ -78,17 +94,21 @@ never_falls-from (a ∷ (b ∷ uses)) up =
     (never_falls-from (b ∷ uses) (λ k lt. up (suc k) (omega arith)))
 
 -- where the uses only rise, no Get makes a second slot
-single_get : (uses : List ℕ) (q : ℕ) (held : Held) → never_falls uses ≡ true → q < length uses → KeepsTokens uses q held → length held.slot_of_get ≤ get_or uses q 0 → length held.slots ≤ 1 → length (after_get uses q held).slots ≤ 1
+single_get : (uses : List ℕ) (q : ℕ) (held : Held) → never_falls uses ≡ true → q < length uses → KeepsTokens uses q held
+    → length held.slot_of_get ≤ get_or uses q 0 → length held.slots ≤ 1 → length (after_get uses q held).slots ≤ 1
 single_get uses q held order lt keeps before single =
     let over : 0 < length held.slots → is_wanted uses q (get_or held.slots 0 0) ≡ false = λ some.
     false_from_ne_true _ (λ wanted.
     let at = wanted_at uses q (get_or held.slots 0 0) wanted in
     omega (arith, at.3, keeps.got 0 some, rises uses q at.0 order at.1 at.2))
     in
-    let lowest : lowest_free uses q held.slots ≡ 0 = lowest_free-is uses q held.slots 0 (omega arith) (λ k below. absurd (omega arith)) over in
+    let lowest : lowest_free uses q held.slots ≡ 0 =
+    lowest_free-is uses q held.slots 0 (omega arith) (λ k below. absurd (omega arith)) over in
     omega (arith, lowest, length-filled held.slots (lowest_free uses q held.slots) (length held.slot_of_get) (omega arith))
 
-single_gets : (uses : List ℕ) (q gets : ℕ) (held : Held) → never_falls uses ≡ true → q < length uses → KeepsTokens uses q held → length held.slot_of_get + gets ≤ max (length held.slot_of_get) (get_or uses q 0 + 1) → length held.slots ≤ 1 → length (after_gets uses q gets held).slots ≤ 1
+single_gets : (uses : List ℕ) (q gets : ℕ) (held : Held) → never_falls uses ≡ true → q < length uses
+    → KeepsTokens uses q held → length held.slot_of_get + gets ≤ max (length held.slot_of_get) (get_or uses q 0 + 1)
+    → length held.slots ≤ 1 → length (after_gets uses q gets held).slots ≤ 1
 single_gets uses q zero held order lt keeps before single = single
 single_gets uses q (suc gets) held order lt keeps before single =
     single_gets uses q gets (after_get uses q held) order lt (KeepsTokens-get uses q held keeps)
@@ -101,7 +121,9 @@ single uses (suc q) order le =
     let before = held_after uses q in
     let next : suc q ≡ q + 1 = omega arith in
     let gets = get_or uses q 0 + 1 - length before.slot_of_get in
-    let after = single_gets uses q gets before order (omega arith) (KeepsTokens-held uses q) (omega arith) (single uses q order (omega arith)) in
+    let after =
+    single_gets uses q gets before order (omega arith) (KeepsTokens-held uses q) (omega arith)
+    (single uses q order (omega arith)) in
     omega (arith, after, ap (λ (held : Held). length held.slots) (ap (held_after uses) next ∙ held-more uses q (omega arith)))
 
 -- the end has the Gets of all uses
@@ -121,14 +143,22 @@ no_fall uses k one lt =
           let first : k < length uses = omega arith in
           let made = (KeepsTokens-held uses (length uses)).made in
           let held = held_after uses (k + 1) in
-          let none : get_or uses (k + 1) 0 + 1 - length held.slot_of_get ≡ 0 = omega (arith, length-held uses (k + 1), named_before uses (k + 1) k (omega arith) first) in
-          let same : held_after uses (k + 1 + 1) ≡ held = held-more uses (k + 1) lt ∙ ap (λ n. after_gets uses (k + 1) n held) none in
+          let none : get_or uses (k + 1) 0 + 1 - length held.slot_of_get ≡ 0 =
+          omega (arith, length-held uses (k + 1), named_before uses (k + 1) k (omega arith) first) in
+          let same : held_after uses (k + 1 + 1) ≡ held =
+          held-more uses (k + 1) lt ∙ ap (λ n. after_gets uses (k + 1) n held) none in
           let slot = λ (q : ℕ). get_or (slots_of_gets uses) (get_or uses q 0) 0 in
-          let zero_here : slot k ≡ 0 = omega (arith, made (get_or uses k 0) (omega (arith, length-end uses, named_below uses k first))) in
-          let zero_next : slot (k + 1) ≡ 0 = omega (arith, made (get_or uses (k + 1) 0) (omega (arith, length-end uses, named_below uses (k + 1) lt))) in
-          let here : get_or held.slots 0 0 ≡ get_or uses k 0 = ap (λ s. get_or held.slots s 0) (sym (sym (slot_of_use uses k first) ∙ zero_here)) ∙ in_its_slot uses k first in
+          let zero_here : slot k ≡ 0 =
+          omega (arith, made (get_or uses k 0) (omega (arith, length-end uses, named_below uses k first))) in
+          let zero_next : slot (k + 1) ≡ 0 =
+          omega (arith, made (get_or uses (k + 1) 0) (omega (arith, length-end uses, named_below uses (k + 1) lt))) in
+          let here : get_or held.slots 0 0 ≡ get_or uses k 0 =
+          ap (λ s. get_or held.slots s 0) (sym (sym (slot_of_use uses k first) ∙ zero_here))
+          ∙ in_its_slot uses k first in
           let later = held_after uses (k + 1 + 1) in
-          let next : get_or later.slots 0 0 ≡ get_or uses (k + 1) 0 = ap (λ s. get_or later.slots s 0) (sym (sym (slot_of_use uses (k + 1) lt) ∙ zero_next)) ∙ in_its_slot uses (k + 1) lt in
+          let next : get_or later.slots 0 0 ≡ get_or uses (k + 1) 0 =
+          ap (λ s. get_or later.slots s 0) (sym (sym (slot_of_use uses (k + 1) lt) ∙ zero_next))
+          ∙ in_its_slot uses (k + 1) lt in
           omega (arith, here, next, ap (λ (h : Held). get_or h.slots 0 0) same)
     ]
 

@@ -10,7 +10,8 @@ gets_for-push [] token = omega arith
 gets_for-push (first ∷ uses) token = omega (arith, gets_for-push uses token)
 
 -- one use more
-pub gets_for-more : (uses : List ℕ) (q : ℕ) → q < length uses → gets_for (take (q + 1) uses) ≡ max (gets_for (take q uses)) (get_or uses q 0 + 1)
+pub gets_for-more : (uses : List ℕ) (q : ℕ) → q < length uses
+    → gets_for (take (q + 1) uses) ≡ max (gets_for (take q uses)) (get_or uses q 0 + 1)
 gets_for-more uses q lt =
     ap gets_for (take_more uses q 0 lt) ∙ gets_for-push (take q uses) (get_or uses q 0)
 
@@ -36,12 +37,14 @@ named_before uses zero r below lt = absurd (omega arith)
 named_before (token ∷ uses) (suc q) zero below lt = omega arith
 named_before (token ∷ uses) (suc q) (suc r) below lt = omega (arith, named_before uses q r (omega arith) (omega arith))
 
-any_at : (xs : List ℕ) (k token : ℕ) → k < length xs → get_or xs k 0 ≡ token → list_any (λ named. named == token) xs ≡ true
+any_at : (xs : List ℕ) (k token : ℕ) → k < length xs → get_or xs k 0 ≡ token
+    → list_any (λ named. named == token) xs ≡ true
 any_at [] k token lt e = absurd (omega arith)
 any_at (x ∷ xs) zero token lt e = or_left _ _ (eq-eqb x token e)
 any_at (x ∷ xs) (suc k) token lt e = or_right _ _ (any_at xs k token (omega arith) e)
 
-pub place_of_any : (xs : List ℕ) (token : ℕ) → list_any (λ named. named == token) xs ≡ true → (k : ℕ) × (k < length xs) × (get_or xs k 0 ≡ token)
+pub place_of_any : (xs : List ℕ) (token : ℕ) → list_any (λ named. named == token) xs ≡ true
+    → (k : ℕ) × (k < length xs) × (get_or xs k 0 ≡ token)
 place_of_any [] token h = cc
 place_of_any (x ∷ xs) token h =
     elim (or_cases (x == token) (list_any (λ named. named == token) xs) h) [
@@ -51,12 +54,15 @@ place_of_any (x ∷ xs) token h =
           (suc place.0, omega (arith, place.1), place.2)
     ]
 
-pub wanted_from : (uses : List ℕ) (q r token : ℕ) → q ≤ r → r < length uses → get_or uses r 0 ≡ token → is_wanted uses q token ≡ true
+pub wanted_from : (uses : List ℕ) (q r token : ℕ) → q ≤ r → r < length uses → get_or uses r 0 ≡ token
+    → is_wanted uses q token ≡ true
 wanted_from uses q r token le lt e =
     let same : q + (r - q) ≡ r = omega arith in
-    any_at (drop q uses) (r - q) token (omega (arith, length-drop q uses)) (get_or-drop q uses (r - q) 0 ∙ ap (λ k. get_or uses k 0) same ∙ e)
+    any_at (drop q uses) (r - q) token (omega (arith, length-drop q uses))
+    (get_or-drop q uses (r - q) 0 ∙ ap (λ k. get_or uses k 0) same ∙ e)
 
-pub wanted_at : (uses : List ℕ) (q token : ℕ) → is_wanted uses q token ≡ true → (r : ℕ) × (q ≤ r) × (r < length uses) × (get_or uses r 0 ≡ token)
+pub wanted_at : (uses : List ℕ) (q token : ℕ) → is_wanted uses q token ≡ true
+    → (r : ℕ) × (q ≤ r) × (r < length uses) × (get_or uses r 0 ≡ token)
 wanted_at uses q token h =
     let place = place_of_any (drop q uses) token h in
     (q + place.0, omega arith, omega (arith, place.1, length-drop q uses), sym (get_or-drop q uses place.0 0) ∙ place.2)
@@ -68,7 +74,8 @@ wanted_earlier uses q token h =
     wanted_from uses q at.0 token (omega (arith, at.1)) at.2 at.3
 
 -- a token other than that of use q has a use from q on exactly where it has a later one
-pub wanted_other : (uses : List ℕ) (q token : ℕ) → q < length uses → (get_or uses q 0 ≡ token → ⊥) → is_wanted uses q token ≡ is_wanted uses (q + 1) token
+pub wanted_other : (uses : List ℕ) (q token : ℕ) → q < length uses → (get_or uses q 0 ≡ token → ⊥)
+    → is_wanted uses q token ≡ is_wanted uses (q + 1) token
 wanted_other uses q token lt other =
     elim (cases_Bool (is_wanted uses (q + 1) token)) [
       | inl later ↦ wanted_earlier uses q token later ∙ sym later
@@ -89,7 +96,8 @@ wanted_other uses q token lt other =
     ]
 
 -- a token that was not got before use q and is named is named from there on
-pub new_is_wanted : (uses : List ℕ) (q token : ℕ) → list_any (λ named. named == token) uses ≡ true → gets_for (take q uses) ≤ token → is_wanted uses q token ≡ true
+pub new_is_wanted : (uses : List ℕ) (q token : ℕ) → list_any (λ named. named == token) uses ≡ true
+    → gets_for (take q uses) ≤ token → is_wanted uses q token ≡ true
 new_is_wanted uses q token named new =
     let at = place_of_any uses token named in
     elim (cases_lt at.0 q) [

@@ -29,13 +29,15 @@ at_place [] ys x = refl
 at_place (z ∷ xs) ys x = at_place xs ys x
 
 -- the put end's pass is the first one
-at_put : (a b v : View) (pass : ℕ) → b.puts ≡ false → v.puts ≡ true → get_elem? (a ∷ b ∷ []) pass ≡ some v → (pass ≡ 0) × (a ≡ v)
+at_put : (a b v : View) (pass : ℕ) → b.puts ≡ false → v.puts ≡ true → get_elem? (a ∷ b ∷ []) pass ≡ some v
+    → (pass ≡ 0) × (a ≡ v)
 at_put a b v zero f t e = (refl, some-injective a v e)
 at_put a b v (suc zero) f t e = absurd (true≢false (sym t ∙ ap (λ (s : View). s.puts) (sym (some-injective b v e)) ∙ f))
 at_put a b v (suc (suc n)) f t e = absurd (some-ne-none v (sym e))
 
 -- the get end's pass is the second one
-at_get : (a b v : View) (pass : ℕ) → a.puts ≡ true → v.puts ≡ false → get_elem? (a ∷ b ∷ []) pass ≡ some v → (pass ≡ 1) × (b ≡ v)
+at_get : (a b v : View) (pass : ℕ) → a.puts ≡ true → v.puts ≡ false → get_elem? (a ∷ b ∷ []) pass ≡ some v
+    → (pass ≡ 1) × (b ≡ v)
 at_get a b v zero t f e = absurd (true≢false (sym t ∙ ap (λ (s : View). s.puts) (some-injective a v e) ∙ f))
 at_get a b v (suc zero) t f e = (refl, some-injective b v e)
 at_get a b v (suc (suc n)) t f e = absurd (some-ne-none v (sym e))
@@ -45,7 +47,8 @@ unsplit : (v : View) (pass : ℕ) → v.split ≡ true → get_elem? (opening �
 unsplit v zero t e = true≢false (sym t ∙ ap (λ (s : View). s.split) (sym (some-injective opening v e)))
 unsplit v (suc n) t e = some-ne-none v (sym e)
 
-pub sends : (n pass : ℕ) (stream sent : List ℤ) (x : ℤ) → slice_get stream (length sent) ≡ Some x → Pushes Linked n pass (put_view stream n sent) x (λ w. w ≡ put_view stream n (sent ++ x ∷ []))
+pub sends : (n pass : ℕ) (stream sent : List ℤ) (x : ℤ) → slice_get stream (length sent) ≡ Some x
+    → Pushes Linked n pass (put_view stream n sent) x (λ w. w ≡ put_view stream n (sent ++ x ∷ []))
 sends n pass stream sent x next held views room h at =
     let v = put_view stream n sent in
     let w = put_view stream n (sent ++ x ∷ []) in (
@@ -54,13 +57,20 @@ sends n pass stream sent x next held views room h at =
           (λ (a : IsAlone held views). absurd (unsplit v pass refl (ap (λ l. get_elem? l pass) (sym a.only) ∙ at)))
           (λ (p : IsPair held views).
           let theirs = get_view p.stream p.capacity p.got in
-          let seat = at_put (put_view p.stream p.capacity p.put) theirs v pass refl refl (ap (λ l. get_elem? l pass) (sym p.both) ∙ at) in
+          let seat =
+          at_put (put_view p.stream p.capacity p.put) theirs v pass refl refl
+          (ap (λ l. get_elem? l pass) (sym p.both) ∙ at) in
           let same_stream : p.stream ≡ stream = ap (λ (s : View). s.stream) seat.1 in
           let same_sent : p.put ≡ sent = ap (λ (s : View). s.moved) seat.1 in
           let same_capacity : p.capacity ≡ n = ap (λ (s : View). s.capacity) seat.1 in
-          let balance : sent ++ x ∷ [] ≡ p.got ++ (held ++ x ∷ []) = ap (λ l. l ++ x ∷ []) (sym same_sent ∙ p.balance) ∙ append_assoc p.got held (x ∷ []) in
-          let prefix : IsPrefix sent stream = subst (λ (y : List ℤ × List ℤ). IsPrefix y.0 y.1) (λ i. (same_sent i, same_stream i)) p.prefix in
-          let set_views : set views pass w ≡ w ∷ get_view stream n p.got ∷ [] = ap (λ l. set l pass w) p.both ∙ (ap (λ k. set (put_view p.stream p.capacity p.put ∷ theirs ∷ []) k w) seat.0 ∙ (λ i. w ∷ get_view (same_stream i) (same_capacity i) p.got ∷ [])) in
+          let balance : sent ++ x ∷ [] ≡ p.got ++ (held ++ x ∷ []) =
+          ap (λ l. l ++ x ∷ []) (sym same_sent ∙ p.balance) ∙ append_assoc p.got held (x ∷ []) in
+          let prefix : IsPrefix sent stream =
+          subst (λ (y : List ℤ × List ℤ). IsPrefix y.0 y.1) (λ i. (same_sent i, same_stream i)) p.prefix in
+          let set_views : set views pass w ≡ w ∷ get_view stream n p.got ∷ [] =
+          ap (λ l. set l pass w) p.both
+          ∙ (ap (λ k. set (put_view p.stream p.capacity p.put ∷ theirs ∷ []) k w) seat.0
+          ∙ (λ i. w ∷ get_view (same_stream i) (same_capacity i) p.got ∷ [])) in
           inr (record {
             stream = stream;
             capacity = n;
@@ -75,7 +85,9 @@ sends n pass stream sent x next held views room h at =
       refl,
     )
 
-pub gets : (n pass : ℕ) (stream got : List ℤ) → Pops Linked pass (get_view stream n got) (λ x w. (w ≡ get_view stream n (got ++ x ∷ [])) × (slice_get stream (length got) ≡ Some x))
+pub gets : (n pass : ℕ) (stream got : List ℤ)
+    → Pops Linked pass (get_view stream n got)
+    (λ x w. (w ≡ get_view stream n (got ++ x ∷ [])) × (slice_get stream (length got) ≡ Some x))
 gets n pass stream got x held views h at =
     let v = get_view stream n got in
     let w = get_view stream n (got ++ x ∷ []) in
@@ -85,13 +97,18 @@ gets n pass stream got x held views h at =
     h in
     let p = split in
     let mine = put_view p.stream p.capacity p.put in
-    let seat = at_get mine (get_view p.stream p.capacity p.got) v pass refl refl (ap (λ l. get_elem? l pass) (sym p.both) ∙ at) in
+    let seat =
+    at_get mine (get_view p.stream p.capacity p.got) v pass refl refl (ap (λ l. get_elem? l pass) (sym p.both) ∙ at) in
     let same_stream : p.stream ≡ stream = ap (λ (s : View). s.stream) seat.1 in
     let same_got : p.got ≡ got = ap (λ (s : View). s.moved) seat.1 in
     let same_capacity : p.capacity ≡ n = ap (λ (s : View). s.capacity) seat.1 in
     let sent_is : p.put ≡ got ++ x ∷ held = p.balance ∙ ap (λ l. l ++ x ∷ held) same_got in
-    let all : stream ≡ got ++ x ∷ (held ++ p.prefix.0) = sym same_stream ∙ p.prefix.1 ∙ ap (λ l. l ++ p.prefix.0) sent_is ∙ append_assoc got (x ∷ held) p.prefix.0 in
-    let set_views : set views pass w ≡ put_view stream n p.put ∷ w ∷ [] = ap (λ l. set l pass w) p.both ∙ (ap (λ k. set (mine ∷ get_view p.stream p.capacity p.got ∷ []) k w) seat.0 ∙ (λ i. put_view (same_stream i) (same_capacity i) p.put ∷ w ∷ [])) in (
+    let all : stream ≡ got ++ x ∷ (held ++ p.prefix.0) =
+    sym same_stream ∙ p.prefix.1 ∙ ap (λ l. l ++ p.prefix.0) sent_is ∙ append_assoc got (x ∷ held) p.prefix.0 in
+    let set_views : set views pass w ≡ put_view stream n p.put ∷ w ∷ [] =
+    ap (λ l. set l pass w) p.both
+    ∙ (ap (λ k. set (mine ∷ get_view p.stream p.capacity p.got ∷ []) k w) seat.0
+    ∙ (λ i. put_view (same_stream i) (same_capacity i) p.put ∷ w ∷ [])) in (
       w,
       inr (record {
         stream = stream;

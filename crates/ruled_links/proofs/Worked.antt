@@ -34,7 +34,8 @@ one_line : (line : TableId)
 one_line line = refl
 
 -- two were put and one of them got, so one is held
-one_is_held : IsPair (pos 2 ∷ []) (put_view one_two_three 1 (pos 1 ∷ pos 2 ∷ []) ∷ get_view one_two_three 1 (pos 1 ∷ []) ∷ [])
+one_is_held : IsPair (pos 2 ∷ [])
+    (put_view one_two_three 1 (pos 1 ∷ pos 2 ∷ []) ∷ get_view one_two_three 1 (pos 1 ∷ []) ∷ [])
 one_is_held = record {
   stream = one_two_three;
   capacity = 1;

@@ -23,7 +23,8 @@ module _ (n : Nest) (points : List Point) where
   -- the list of one read, among those of statements of which the first has number p
   pub read_at : (p : ℕ) (statements : List Statement) (j k : ℕ)
       → k < option_map_or (λ s. length s.reads) (slice_get statements j) 0
-      → slice_get (sources_from n points p statements) (sum_by (λ s. length s.reads) (take j statements) + k) ≡ Some (read_sources n points (p + j) k)
+      → slice_get (sources_from n points p statements) (sum_by (λ s. length s.reads) (take j statements) + k)
+      ≡ Some (read_sources n points (p + j) k)
   read_at p [] j k h = absurd (omega arith)
   read_at p (s ∷ statements) zero k h =
       let reads : List ℕ = range_with_len 0 (length s.reads) in
@@ -41,7 +42,8 @@ module _ (n : Nest) (points : List Point) where
       (ap (λ w. w + k) (sum_by-cons (λ s. length s.reads) s (take j statements))
       ∙ add_assoc (length s.reads) before k
       ∙ ap (λ w. w + (before + k)) (sym (length-map-range_with_len (read_sources n points p) 0 (length s.reads))))
-      ∙ slice_get-append_right (map (read_sources n points p) reads) (sources_from n points (p + 1) statements) (before + k)
+      ∙ slice_get-append_right (map (read_sources n points p) reads) (sources_from n points (p + 1) statements)
+      (before + k)
       ∙ read_at (p + 1) statements j k h
       ∙ ap (λ q. Some (read_sources n points q k)) later
 

@@ -13,13 +13,15 @@ use Rattle.source_tree.specs.Sources.{sources_from, sources_of}
 
 -- out y[3]; var v; for (i = 0; i < 3; i++) { y[i] = v; v = i; v = v + 10; }
 abbrev delayed : Nest
-delayed = record { arrays = y_and_v (pos 3); statements = delayed_statements; body = delayed_body; well_formed = delayed_well_formed }
+delayed =
+    record { arrays = y_and_v (pos 3); statements = delayed_statements; body = delayed_body; well_formed = delayed_well_formed }
 
 abbrev at : ℕ → ℕ → Point
 at s i = record { statement = s; at = pos i ∷ [] }
 
 abbrev delayed_points : List Point
-delayed_points = at 0 0 ∷ at 1 0 ∷ at 2 0 ∷ at 0 1 ∷ at 1 1 ∷ at 2 1 ∷ at 0 2 ∷ at 1 2 ∷ at 2 2 ∷ at 3 0 ∷ at 3 1 ∷ at 3 2 ∷ []
+delayed_points =
+    at 0 0 ∷ at 1 0 ∷ at 2 0 ∷ at 0 1 ∷ at 1 1 ∷ at 2 1 ∷ at 0 2 ∷ at 1 2 ∷ at 2 2 ∷ at 3 0 ∷ at 3 1 ∷ at 3 2 ∷ []
 
 delayed_trace : trace delayed ≡ delayed_points
 unfolding trace

@@ -8,7 +8,8 @@ use Rattle.channel_class.proofs.Repeats.{same_repeats}
 use Rattle.channel_class.proofs.class_of.Goals as goal
 use Rattle.channel_class.proofs.class_of.Goals.{then-never_falls, else-never_falls}
 
-class_from : (uses : List ℕ) (order : UseOrder) (many : Bool) → order ≡ (if never_falls uses then InOrder else Reorder) → many ≡ has_repeat uses → ◌≡◌ {A = ChannelClass} (record { order = order; multiplicity = many }) (class_of uses)
+class_from : (uses : List ℕ) (order : UseOrder) (many : Bool) → order ≡ (if never_falls uses then InOrder else Reorder)
+    → many ≡ has_repeat uses → ◌≡◌ {A = ChannelClass} (record { order = order; multiplicity = many }) (class_of uses)
 class_from uses order many o m = λ i. record { order = o i; multiplicity = m i }
 
 pub returns : goal.returns
@@ -17,9 +18,13 @@ returns c =
     let order : c.if-never_falls.order ≡ (if never_falls uses then InOrder else Reorder) =
     elim c.if-never_falls.branch [
       | then-never_falls w ↦
-          w.order-is ∙ sym (cond-true (never_falls uses) InOrder Reorder (sym c.never_falls.ensures ∙ w.if-never_falls.true))
+          w.order-is
+          ∙ sym (cond-true (never_falls uses) InOrder Reorder (sym c.never_falls.ensures ∙ w.if-never_falls.true))
       | else-never_falls w ↦
-          w.order-is ∙ sym (cond-false (never_falls uses) InOrder Reorder (sym c.never_falls.ensures ∙ w.if-never_falls.false))
+          w.order-is
+          ∙ sym (cond-false (never_falls uses) InOrder Reorder (sym c.never_falls.ensures ∙ w.if-never_falls.false))
     ] in
-    let many = c.has_equal_neighbours-multiplicity.ensures ∙ ap has_repeat c.deref.ensures.value ∙ same_repeats uses c.in_ok-sorted.sorted.items c.in_ok-sorted.ensures.same in
+    let many =
+    c.has_equal_neighbours-multiplicity.ensures ∙ ap has_repeat c.deref.ensures.value
+    ∙ same_repeats uses c.in_ok-sorted.sorted.items c.in_ok-sorted.ensures.same in
     class_from uses c.if-never_falls.order c.has_equal_neighbours-multiplicity.result order many

@@ -10,7 +10,8 @@ loop-at-preserved c =
     let at = c.loop-at.at in
     let next : suc (at - 1) ≡ at = omega arith in
     let here : (at + 1) - 1 ≡ at = omega arith in
-    let later = repeat_later xs (at - 1) (IsNonDecreasingBy-from_sort (λ x. x) xs c.requires) (omega arith) (λ e. c.if-sorted-at.false (ap (λ i. get_or xs i 0) (sym next) ∙ sym e)) in
+    let later = repeat_later xs (at - 1) (IsNonDecreasingBy-from_sort (λ x. x) xs c.requires) (omega arith)
+    (λ e. c.if-sorted-at.false (ap (λ i. get_or xs i 0) (sym next) ∙ sym e)) in
     ap (λ i. has_repeat (drop i xs)) (here ∙ sym next) ∙ sym later ∙ c.loop-at.invariant
 
 pub returns : goal.returns

@@ -7,4 +7,5 @@ abbrev pub invariant-loop-i : goal.invariant-loop-i
 invariant-loop-i g l =
     let given = g.W.TextWriter.given in
     ((given l.out).start ≡ (given l.fn.out).start)
-    × ((given l.out).text ++ answer_text (drop l.i l.arrays) (drop l.i l.lists) ≡ (given l.fn.out).text ++ answer_text l.arrays l.lists)
+    × ((given l.out).text ++ answer_text (drop l.i l.arrays) (drop l.i l.lists)
+    ≡ (given l.fn.out).text ++ answer_text l.arrays l.lists)

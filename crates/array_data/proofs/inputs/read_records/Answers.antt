@@ -58,8 +58,10 @@ returns-in_err-take_record c =
     let step = taken arrays (length seen + 1) row c.loop-row.given in
     let told : IsUnlessMemory {A = Given} Memory (Err fault) step = rw inv.8 at c.in_err-take_record.ensures in
     let all : Result Given DataError = unless (first_fault arrays [] (records_of c.args.bytes.now)) [] in
-    let first : step ≡ Err fault → all ≡ Err fault = λ e. rw (rest.1, first_refused arrays seen row rest.0 c.loop-row.given fault inv.9 e) refl in
-    let answer = err_from_is_err_and c.from_residual-in_err-take_record.result c.from_residual-in_err-take_record.ensures.1 in
+    let first : step ≡ Err fault → all ≡ Err fault =
+    λ e. rw (rest.1, first_refused arrays seen row rest.0 c.loop-row.given fault inv.9 e) refl in
+    let answer =
+    err_from_is_err_and c.from_residual-in_err-take_record.result c.from_residual-in_err-take_record.ensures.1 in
     rw (answer.1, answer.2) (gives_fault fault step all first told)
 
 pub loop-row-preserved : goal.loop-row-preserved
@@ -69,7 +71,8 @@ loop-row-preserved c =
     let row = fields_of c.in-Ok.row in
     let s = rw (c.in-Some.is, c.in-Ok.is) at ((c.next.ensures.steps inv.2 inv.0).0 inv.1) in
     let m = rows-more (λ (s : Bor (List ℕ)). Some s.now) c.loop-row.row-iterator.rdr c.next.new.self.rdr row default_config st.StartRecord (strip_bom c.args.bytes.now) inv.4 seen inv.3 inv.5 inv.7 s.0 in
-    let took : taken c.args.arrays.now (length seen + 1) row c.loop-row.given ≡ Ok c.take_record.new.given = rw inv.8 at c.in_ok-take_record.ensures in (
+    let took : taken c.args.arrays.now (length seen + 1) row c.loop-row.given ≡ Ok c.take_record.new.given =
+    rw inv.8 at c.in_ok-take_record.ensures in (
       s.0.3 ∙ inv.0,
       inl s.1,
       s.2,

@@ -14,20 +14,24 @@ use Rattle.int_polyhedra.proofs.Soundness.{entails_sound}
 use Rattle.int_polyhedra.proofs.refute.entails.Goals as goal
 
 -- the refusal of the rows and the negation is that of the entailment
-at_negation : (vars : ℕ) (rows : List Form) (row other : Form) (p : Proof) (chain : List Form) (r : Option Reason) → Ok other ≡ split_row vars row → chain ≡ rows ++ other ∷ []
+at_negation : (vars : ℕ) (rows : List Form) (row other : Form) (p : Proof) (chain : List Form) (r : Option Reason)
+    → Ok other ≡ split_row vars row → chain ≡ rows ++ other ∷ []
     → r ≡ refusal vars p chain → r ≡ entailment_refusal vars rows row p
 at_negation vars rows row other p chain r is c e =
     e ∙ ap (refusal vars p) c ∙ ap (refusal_or (λ other. refusal vars p (rows ++ other ∷ []))) is
 
 pub refute-requires-clause-over : goal.refute-requires-clause-over
 refute-requires-clause-over c =
-    chain_over _ _ _ (ap (all_over c.args.system.now.vars) (rows_of_given c.as_slice.result ∙ c.as_slice.ensures) ∙ c.requires.over)
+    chain_over _ _ _
+    (ap (all_over c.args.system.now.vars) (rows_of_given c.as_slice.result ∙ c.as_slice.ensures) ∙ c.requires.over)
     (split_over c.args.system.now.vars c.args.row.now c.in-Ok.other c.in-Ok.ensures).1
 
 pub returns-in-Ok-clause-exact : goal.returns-in-Ok-clause-exact
 returns-in-Ok-clause-exact c =
     at_negation c.args.system.now.vars c.args.system.now.rows c.args.row.now c.in-Ok.other c.args.proof.now _ _ c.in-Ok.ensures
-    (rows_of_more _ _ ∙ ap (λ rows. rows ++ c.in-Ok.other ∷ []) (rows_of_given c.as_slice.result ∙ c.as_slice.ensures)) c.refute.ensures
+    (rows_of_more _ _
+    ∙ ap (λ rows. rows ++ c.in-Ok.other ∷ [])
+    (rows_of_given c.as_slice.result ∙ c.as_slice.ensures)) c.refute.ensures
 
 pub returns-in-Ok-clause-follows : goal.returns-in-Ok-clause-follows
 returns-in-Ok-clause-follows c =

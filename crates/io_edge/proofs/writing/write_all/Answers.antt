@@ -12,6 +12,7 @@ loop-at-preserved g c =
     let some : 0 < count = omega (arith, c.in-Ok.count-test) in
     let taken = rw c.split_at.ensures.back at c.in-Ok.ensures.bytes in (
       omega (arith, c.in-Ok.ensures.bound, c.split_at.ensures.back_len),
-      rw (take-add at count piece) (Appends-trans _ _ _ (take at piece) (take count (drop at piece)) c.loop-at.invariant.1 taken),
+      rw (take-add at count piece)
+          (Appends-trans _ _ _ (take at piece) (take count (drop at piece)) c.loop-at.invariant.1 taken),
       c.in-Ok.ensures.cause.took some ∙ c.loop-at.invariant.2,
     )

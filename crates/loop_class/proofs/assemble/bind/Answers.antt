@@ -17,10 +17,15 @@ invariant_of-result c =
     let r = c.in_ok-arrays.field-0 in
     let at = c.as_slice.ensures in
     record {
-      well_formed = reading_well_formed c.args.tree.now c.args.params.now r c.in_ok-arrays.ensures c.in_default.is c.in_ok-whole.whole.statements c.in_ok-whole.whole.body
-          (c.in_ok-whole.ensures.statements ∙ ap (λ arrays. sources_from 0 0 arrays ++ (r.statements ++ sinks_from 0 r.next_loop arrays)) at)
+      well_formed =
+          reading_well_formed c.args.tree.now c.args.params.now r c.in_ok-arrays.ensures c.in_default.is c.in_ok-whole.whole.statements c.in_ok-whole.whole.body
+          (c.in_ok-whole.ensures.statements
+          ∙ ap (λ arrays. sources_from 0 0 arrays ++ (r.statements ++ sinks_from 0 r.next_loop arrays)) at)
           (c.in_ok-whole.ensures.body
-          ∙ ap (λ arrays. array_loops 0 0 (input_extents arrays) ++ (r.nodes ++ array_loops r.next_loop (length (input_extents arrays) + length r.statements) (output_extents arrays))) at);
+          ∙ ap (λ arrays.
+          array_loops 0 0 (input_extents arrays)
+          ++ (r.nodes ++ array_loops r.next_loop (length (input_extents arrays) + length r.statements)
+          (output_extents arrays))) at);
     }
 
 pub returns : goal.returns
@@ -29,12 +34,19 @@ returns c =
     let at = c.as_slice.ensures in
     let tree = c.args.tree.now in
     let params = c.args.params.now in
-    let first = c.in_ok-whole.ensures.statements ∙ ap (λ arrays. sources_from 0 0 arrays ++ (r.statements ++ sinks_from 0 r.next_loop arrays)) at in
+    let first =
+    c.in_ok-whole.ensures.statements
+    ∙ ap (λ arrays. sources_from 0 0 arrays ++ (r.statements ++ sinks_from 0 r.next_loop arrays)) at in
     let second = c.in_ok-whole.ensures.body
-    ∙ ap (λ arrays. array_loops 0 0 (input_extents arrays) ++ (r.nodes ++ array_loops r.next_loop (length (input_extents arrays) + length r.statements) (output_extents arrays))) at in
+    ∙ ap (λ arrays.
+    array_loops 0 0 (input_extents arrays)
+    ++ (r.nodes ++ array_loops r.next_loop (length (input_extents arrays) + length r.statements)
+    (output_extents arrays))) at in
     record {
       no_findings = no_findings tree params r c.in_ok-arrays.ensures c.in_default.is;
-      arrays = arrays_bound tree params r c.in_ok-arrays.ensures c.in_default.is c.in_ok-whole.whole.statements c.in_ok-whole.whole.body first second;
-      statements = statements_bound tree params r c.in_ok-arrays.ensures c.in_default.is c.in_ok-whole.whole.statements c.in_ok-whole.whole.body first second;
+      arrays =
+          arrays_bound tree params r c.in_ok-arrays.ensures c.in_default.is c.in_ok-whole.whole.statements c.in_ok-whole.whole.body first second;
+      statements =
+          statements_bound tree params r c.in_ok-arrays.ensures c.in_default.is c.in_ok-whole.whole.statements c.in_ok-whole.whole.body first second;
       body = body_bound tree params r c.in_ok-arrays.ensures c.in_default.is c.in_ok-whole.whole.statements c.in_ok-whole.whole.body first second;
     }

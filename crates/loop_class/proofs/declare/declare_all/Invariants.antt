@@ -6,4 +6,5 @@ use Rattle.loop_class.proofs.declare.declare_all.Given as goal
 
 abbrev pub invariant-loop-declaration : goal.invariant-loop-declaration
 invariant-loop-declaration l =
-    Declares l.initial.table l.table (fold (declare l.params) nothing_declared (take l.declaration-index l.declarations))
+    Declares l.initial.table l.table
+    (fold (declare l.params) nothing_declared (take l.declaration-index l.declarations))

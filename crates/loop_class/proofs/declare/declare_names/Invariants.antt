@@ -6,4 +6,5 @@ use Rattle.loop_class.proofs.declare.declare_names.Given as goal
 
 abbrev pub invariant-loop-named : goal.invariant-loop-named
 invariant-loop-named l =
-    Declares l.initial.table l.table (fold (declare_name l.params l.declaration.word) (seen l.initial.table) (take l.named-index l.named-items))
+    Declares l.initial.table l.table
+    (fold (declare_name l.params l.declaration.word) (seen l.initial.table) (take l.named-index l.named-items))

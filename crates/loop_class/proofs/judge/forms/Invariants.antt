@@ -7,4 +7,7 @@ use Rattle.loop_class.specs.Reasons.{least_from}
 use Rattle.loop_class.proofs.judge.forms.Given as goal
 
 abbrev pub invariant-loop-operand : goal.invariant-loop-operand
-invariant-loop-operand l = (l.forms ≡ forms_of l.place l.scope (take l.operand-index l.operands)) × (l.least ≡ least_from l.initial.least (findings_of l.place l.scope (take l.operand-index l.operands))) × IsTrue (list_all is_limited l.forms)
+invariant-loop-operand l =
+    (l.forms ≡ forms_of l.place l.scope (take l.operand-index l.operands))
+    × (l.least ≡ least_from l.initial.least (findings_of l.place l.scope (take l.operand-index l.operands)))
+    × IsTrue (list_all is_limited l.forms)

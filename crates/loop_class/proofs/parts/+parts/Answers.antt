@@ -27,7 +27,8 @@ bind_part-returns-in-None t c =
     if_makes c.args.part.now c.args.context.now c.bind_guarded.new.context p c.bind_guarded.new.progress c.args.nodes.now c.bind_guarded.new.nodes
     c.in-If.cond c.get-in-If.result.now c.as_slice-in-If.result.now c.guard.new.least
     (c.as_slice-in-If.ensures ∙ c.in_ok-rows-in-If.ensures.rows ∙ ap (guard_rows scope) c.as_slice.ensures)
-    (c.in_ok-rows-in-If.ensures.least ∙ ap (λ tests. least_from p.least (guard_findings scope tests)) c.as_slice.ensures)
+    (c.in_ok-rows-in-If.ensures.least
+    ∙ ap (λ tests. least_from p.least (guard_findings scope tests)) c.as_slice.ensures)
     (c.in-If.is ∙ (λ i. If c.in-If.cond (sym c.get-in-If.ensures i) (c.in-None.is i)))
     c.in_ok-bind_guarded-in-If.ensures
 
@@ -38,7 +39,8 @@ bind_part-returns-in-If t c =
     if_else_ok c.args.part.now c.args.context.now c.bind_guarded.new.context p c.bind_guarded.new.progress c.args.nodes.now c.bind_guarded.new.nodes
     c.in-If.cond c.get-in-If.result.now c.as_slice-in-If.result.now c.guard.new.least
     (c.as_slice-in-If.ensures ∙ c.in_ok-rows-in-If.ensures.rows ∙ ap (guard_rows scope) c.as_slice.ensures)
-    (c.in_ok-rows-in-If.ensures.least ∙ ap (λ tests. least_from p.least (guard_findings scope tests)) c.as_slice.ensures)
+    (c.in_ok-rows-in-If.ensures.least
+    ∙ ap (λ tests. least_from p.least (guard_findings scope tests)) c.as_slice.ensures)
     c.bind_other.result c.in-Some.other c.bind_other.new.context c.bind_other.new.progress c.bind_other.new.nodes c.as_slice-in-Some.result.now
     (c.in-If.is ∙ (λ i. If c.in-If.cond (sym c.get-in-If.ensures i) (c.in-Some.is i)))
     c.as_slice-in-Some.ensures c.in_ok-bind_guarded-in-If.ensures c.bind_other.ensures

@@ -6,4 +6,5 @@ use Rattle.loop_class.proofs.parts.+parts.Given as goal
 abbrev pub invariant-bind_parts-loop-part : goal.invariant-bind_parts-loop-part
 invariant-bind_parts-loop-part l =
     Makes l.initial.context l.context l.initial.progress l.progress l.initial.nodes l.nodes
-    (parts_made (take l.part-index l.parts) l.initial.context l.initial.progress.next_loop (next_statement l.initial.progress))
+    (parts_made (take l.part-index l.parts) l.initial.context l.initial.progress.next_loop
+    (next_statement l.initial.progress))

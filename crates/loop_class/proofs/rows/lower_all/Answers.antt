@@ -12,13 +12,19 @@ use Rattle.loop_class.proofs.rows.lower_all.Goals as goal
 pub lowered-requires : goal.lowered-requires
 lowered-requires c =
     let form : Affine = get_or c.args.forms.now c.loop-form.form-index (record { constant = pos 0; coefs = [] }) in
-    moderate_form form (all_at is_limited c.args.forms.now c.loop-form.form-index (record { constant = pos 0; coefs = [] }) c.requires c.loop-form-test.true)
+    moderate_form form
+    (all_at is_limited c.args.forms.now c.loop-form.form-index
+    (record { constant = pos 0; coefs = [] }) c.requires c.loop-form-test.true)
 
 pub loop-form-preserved : goal.loop-form-preserved
 loop-form-preserved c =
     let form : Affine = get_or c.args.forms.now c.loop-form.form-index (record { constant = pos 0; coefs = [] }) in
-    let limited = all_at is_limited c.args.forms.now c.loop-form.form-index (record { constant = pos 0; coefs = [] }) c.requires c.loop-form-test.true in
-    let lowered : IsTrue (is_bound_form c.lowered.result) = subst (λ f. IsTrue (is_bound_form f)) (sym c.lowered.ensures) (bound_lowered form limited) in (
+    let limited =
+    all_at is_limited c.args.forms.now c.loop-form.form-index
+    (record { constant = pos 0; coefs = [] }) c.requires c.loop-form-test.true in
+    let lowered : IsTrue (is_bound_form c.lowered.result) =
+    subst (λ f. IsTrue (is_bound_form f)) (sym c.lowered.ensures) (bound_lowered form limited) in (
       grind (arith, common_steps),
-      subst (λ all. IsTrue (list_all is_bound_form all)) (sym c.in_ok-push.ensures.ok) (all_push is_bound_form c.loop-form.all c.lowered.result c.loop-form.invariant.1 lowered),
+      subst (λ all. IsTrue (list_all is_bound_form all)) (sym c.in_ok-push.ensures.ok)
+          (all_push is_bound_form c.loop-form.all c.lowered.result c.loop-form.invariant.1 lowered),
     )

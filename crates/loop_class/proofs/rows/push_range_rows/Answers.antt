@@ -11,8 +11,10 @@ zero_form = record { constant = pos 0; coefs = [] }
 
 pub minus-requires-clause-right : goal.minus-requires-clause-right
 minus-requires-clause-right c =
-    moderate_form (get_or c.args.lower.now c.loop-low.low-index zero_form) (all_at is_limited c.args.lower.now c.loop-low.low-index zero_form c.requires.lower c.loop-low-test.true)
+    moderate_form (get_or c.args.lower.now c.loop-low.low-index zero_form)
+    (all_at is_limited c.args.lower.now c.loop-low.low-index zero_form c.requires.lower c.loop-low-test.true)
 
 pub minus-requires-in-loop-high-clause-left : goal.minus-requires-in-loop-high-clause-left
 minus-requires-in-loop-high-clause-left c =
-    moderate_bound (get_or c.args.upper.now c.loop-high.high-index zero_form) (all_at is_bound_form c.args.upper.now c.loop-high.high-index zero_form c.requires.upper c.loop-high-test.true)
+    moderate_bound (get_or c.args.upper.now c.loop-high.high-index zero_form)
+    (all_at is_bound_form c.args.upper.now c.loop-high.high-index zero_form c.requires.upper c.loop-high-test.true)

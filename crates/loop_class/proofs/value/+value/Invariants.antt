@@ -5,4 +5,5 @@ use Rattle.loop_class.proofs.value.+value.Given as goal
 
 abbrev pub invariant-value_all-loop-operand : goal.invariant-value_all-loop-operand
 invariant-value_all-loop-operand l =
-    Reads l.all l.fn.reads l.reads l.fn.least l.least (first_values l.which l.depth l.scope l.operands (suc l.operand-index) (length l.fn.reads))
+    Reads l.all l.fn.reads l.reads l.fn.least l.least
+    (first_values l.which l.depth l.scope l.operands (suc l.operand-index) (length l.fn.reads))

@@ -5,7 +5,8 @@ use Rattle.loop_lex.proofs.scan.slash.Goals as goal
 
 pub overflow_add-result : goal.overflow_add-result
 overflow_add-result c =
-    let within : c.line_length.result ≤ length c.args.rest.now = rw c.line_length.ensures (prefix_within (λ b. not (is_line_feed b)) c.args.rest.now) in
+    let within : c.line_length.result ≤ length c.args.rest.now =
+    rw c.line_length.ensures (prefix_within (λ b. not (is_line_feed b)) c.args.rest.now) in
     search rules
 
 pub returns-in-47 : goal.returns-in-47

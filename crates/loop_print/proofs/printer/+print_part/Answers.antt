@@ -32,13 +32,16 @@ pub print_parts-loop-part-init : goal.print_parts-loop-part-init
 print_parts-loop-part-init t c = nothing c.args.out.now.items
 
 pub print_parts-loop-part-preserved : goal.print_parts-loop-part-preserved
-print_parts-loop-part-preserved t c = flat_turn part_words c.args.parts.now c.loop-part.part-index c.part-item.result c.loop-part-test.true c.part-item.is c.loop-part.invariant c.in_ok-print_part.ensures
+print_parts-loop-part-preserved t c =
+    flat_turn part_words c.args.parts.now c.loop-part.part-index c.part-item.result c.loop-part-test.true c.part-item.is c.loop-part.invariant c.in_ok-print_part.ensures
 
 pub print_parts-returns : goal.print_parts-returns
-print_parts-returns t c = flat_end part_words c.args.parts.now c.loop-part.part-index (omega arith) c.loop-part.invariant
+print_parts-returns t c =
+    flat_end part_words c.args.parts.now c.loop-part.part-index (omega arith) c.loop-part.invariant
 
 pub print_other-returns-in_ok-print_part-in-Some : goal.print_other-returns-in_ok-print_part-in-Some
-print_other-returns-in_ok-print_part-in-Some t c = other_written c.args.other.now c.in-Some.other c.get.result.now c.in-Some.is c.get.ensures c.in_ok-put-in-Some.ensures c.in_ok-print_part-in-Some.ensures
+print_other-returns-in_ok-print_part-in-Some t c =
+    other_written c.args.other.now c.in-Some.other c.get.result.now c.in-Some.is c.get.ensures c.in_ok-put-in-Some.ensures c.in_ok-print_part-in-Some.ensures
 
 pub print_other-returns-in-None : goal.print_other-returns-in-None
 print_other-returns-in-None t c = no_other_written c.args.other.now c.args.out.now.items c.in-None.is

@@ -5,4 +5,5 @@ use Rattle.loop_print.specs.Printing.{Writes, behind_sign, comparison_words}
 use Rattle.loop_print.proofs.printer.print_comparisons.Given as goal
 
 abbrev pub invariant-loop-comparison : goal.invariant-loop-comparison
-invariant-loop-comparison l = Writes l.initial.out.items l.out.items (flat_map (behind_sign word.And comparison_words) (take l.comparison-index l.others))
+invariant-loop-comparison l = Writes l.initial.out.items l.out.items
+    (flat_map (behind_sign word.And comparison_words) (take l.comparison-index l.others))

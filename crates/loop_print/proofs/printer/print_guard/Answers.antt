@@ -3,4 +3,5 @@ use Rattle.loop_print.proofs.ByKind.{enclosed_written}
 use Rattle.loop_print.proofs.printer.print_guard.Goals as goal
 
 pub returns : goal.returns
-returns c = behind c.in_ok-put.ensures (enclosed_written c.in_ok-put-2.ensures c.in_ok-print_comparisons.ensures c.in_ok-put-3.ensures)
+returns c = behind c.in_ok-put.ensures
+    (enclosed_written c.in_ok-put-2.ensures c.in_ok-print_comparisons.ensures c.in_ok-put-3.ensures)

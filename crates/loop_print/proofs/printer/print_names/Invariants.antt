@@ -5,4 +5,5 @@ use Rattle.loop_print.specs.Printing.{Writes, behind_sign, named_words}
 use Rattle.loop_print.proofs.printer.print_names.Given as goal
 
 abbrev pub invariant-loop-named : goal.invariant-loop-named
-invariant-loop-named l = Writes l.initial.out.items l.out.items (flat_map (behind_sign word.Comma named_words) (take l.named-index l.others))
+invariant-loop-named l =
+    Writes l.initial.out.items l.out.items (flat_map (behind_sign word.Comma named_words) (take l.named-index l.others))

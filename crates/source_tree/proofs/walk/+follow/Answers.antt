@@ -9,7 +9,10 @@ use Rattle.source_tree.proofs.Walked.{ready_test, ready_divides, ready_writer, t
 use Rattle.source_tree.proofs.walk.+follow.Goals as goal
 
 pub eval-requires : goal.eval-requires
-eval-requires t c = (ready_test c.requires.0 (length c.args.values) c.args.tree.now c.in-Test.form c.in-Test.yes c.in-Test.no c.in-Test.is c.requires.2).0 ∙ sym (ap length c.as_slice.ensures.value)
+eval-requires t c =
+    (ready_test c.requires.0
+    (length c.args.values) c.args.tree.now c.in-Test.form c.in-Test.yes c.in-Test.no c.in-Test.is c.requires.2).0
+    ∙ sym (ap length c.as_slice.ensures.value)
 
 pub follow-requires : goal.follow-requires
 follow-requires t c =
@@ -23,20 +26,23 @@ pub returns-then-value-ge0 : goal.returns-then-value-ge0
 returns-then-value-ge0 t c =
     let fits : FitsSigned w128 c.in-Ok.value = search rules in
     test_taken c.args.values c.as_slice.result.now c.args.tree.now c.in-Test.form c.in-Test.yes c.in-Test.no c.get.result.now c.in-Ok.value true _
-    c.in-Test.is c.as_slice.ensures.value c.in-Ok.ensures.exact (simp to_z-of_z at c.if-value-ge0.true) c.get.ensures c.follow.ensures
+    c.in-Test.is c.as_slice.ensures.value c.in-Ok.ensures.exact
+    (simp to_z-of_z at c.if-value-ge0.true) c.get.ensures c.follow.ensures
 
 pub returns-in-Ok : goal.returns-in-Ok
 returns-in-Ok t c =
     let fits : FitsSigned w128 c.in-Ok.value = search rules in
     test_taken c.args.values c.as_slice.result.now c.args.tree.now c.in-Test.form c.in-Test.yes c.in-Test.no c.get-else-value-ge0.result.now c.in-Ok.value false _
-    c.in-Test.is c.as_slice.ensures.value c.in-Ok.ensures.exact (simp to_z-of_z at c.if-value-ge0.false) c.get-else-value-ge0.ensures c.follow-else-value-ge0.ensures
+    c.in-Test.is c.as_slice.ensures.value c.in-Ok.ensures.exact
+    (simp to_z-of_z at c.if-value-ge0.false) c.get-else-value-ge0.ensures c.follow-else-value-ge0.ensures
 
 pub returns-in-Test : goal.returns-in-Test
 returns-in-Test t c = test_none c.args.values c.as_slice.result.now c.args.tree.now c.in-Test.form c.in-Test.yes c.in-Test.no c.in-Test.is c.as_slice.ensures.value c.in-Err.ensures.exact
 
 pub eval-requires-in-Divides : goal.eval-requires-in-Divides
 eval-requires-in-Divides t c =
-    (ready_divides c.requires.0 (length c.args.values) c.args.tree.now c.in-Divides.form c.in-Divides.divisor c.in-Divides.yes c.in-Divides.no c.in-Divides.is c.requires.2).0 ∙ sym (ap length c.as_slice-in-Divides.ensures.value)
+    (ready_divides c.requires.0
+    (length c.args.values) c.args.tree.now c.in-Divides.form c.in-Divides.divisor c.in-Divides.yes c.in-Divides.no c.in-Divides.is c.requires.2).0 ∙ sym (ap length c.as_slice-in-Divides.ensures.value)
 
 pub push_quotient-more-requires-clause-room : goal.push_quotient-more-requires-clause-room
 push_quotient-more-requires-clause-room t c =
@@ -58,8 +64,10 @@ follow-requires-then-is_divided t c = (
   (
     c.requires.0,
     c.requires.1,
-    more_ready c.requires.0 c.args.values c.push_quotient-more.result (to_z w128 (of_z w128 c.in-Ok-eval.value)) (to_z w128 (of_z w128 c.in-Divides.divisor)) _ c.in-Divides.yes c.get-then-is_divided.ensures c.push_quotient-more.ensures
-        (ready_divides c.requires.0 (length c.args.values) c.args.tree.now c.in-Divides.form c.in-Divides.divisor c.in-Divides.yes c.in-Divides.no c.in-Divides.is c.requires.2).3,
+    more_ready c.requires.0 c.args.values c.push_quotient-more.result (to_z w128 (of_z w128 c.in-Ok-eval.value))
+        (to_z w128 (of_z w128 c.in-Divides.divisor)) _ c.in-Divides.yes c.get-then-is_divided.ensures c.push_quotient-more.ensures
+        (ready_divides c.requires.0
+        (length c.args.values) c.args.tree.now c.in-Divides.form c.in-Divides.divisor c.in-Divides.yes c.in-Divides.no c.in-Divides.is c.requires.2).3,
   ),
 )
 
@@ -69,8 +77,10 @@ follow-requires-else-is_divided t c = (
   (
     c.requires.0,
     c.requires.1,
-    more_ready c.requires.0 c.args.values c.push_quotient-more.result (to_z w128 (of_z w128 c.in-Ok-eval.value)) (to_z w128 (of_z w128 c.in-Divides.divisor)) _ c.in-Divides.no c.get-else-is_divided.ensures c.push_quotient-more.ensures
-        (ready_divides c.requires.0 (length c.args.values) c.args.tree.now c.in-Divides.form c.in-Divides.divisor c.in-Divides.yes c.in-Divides.no c.in-Divides.is c.requires.2).4,
+    more_ready c.requires.0 c.args.values c.push_quotient-more.result (to_z w128 (of_z w128 c.in-Ok-eval.value))
+        (to_z w128 (of_z w128 c.in-Divides.divisor)) _ c.in-Divides.no c.get-else-is_divided.ensures c.push_quotient-more.ensures
+        (ready_divides c.requires.0
+        (length c.args.values) c.args.tree.now c.in-Divides.form c.in-Divides.divisor c.in-Divides.yes c.in-Divides.no c.in-Divides.is c.requires.2).4,
   ),
 )
 
@@ -80,7 +90,9 @@ returns-then-is_divided t c =
     let fits' : FitsSigned w128 c.in-Ok-eval.value = search rules in
     divides_taken c.args.values c.as_slice-in-Divides.result.now c.push_quotient-more.result c.args.tree.now c.in-Divides.form c.in-Divides.divisor _ c.in-Divides.yes c.in-Divides.no c.get-then-is_divided.result.now
     c.in-Ok-eval.value _ c.is_divided.result true _
-    c.in-Divides.is c.as_slice-in-Divides.ensures.value c.in-Ok-eval.ensures.exact (to_z-of_z w128 c.in-Ok-eval.value fits') (to_z-of_z w128 c.in-Divides.divisor fits) c.push_quotient-more.ensures
+    c.in-Divides.is c.as_slice-in-Divides.ensures.value c.in-Ok-eval.ensures.exact
+    (to_z-of_z w128 c.in-Ok-eval.value fits')
+    (to_z-of_z w128 c.in-Divides.divisor fits) c.push_quotient-more.ensures
     c.is_divided.ensures c.if-is_divided.true c.get-then-is_divided.ensures c.follow-then-is_divided.ensures
 
 pub returns-in-Ok-eval : goal.returns-in-Ok-eval
@@ -89,7 +101,9 @@ returns-in-Ok-eval t c =
     let fits' : FitsSigned w128 c.in-Ok-eval.value = search rules in
     divides_taken c.args.values c.as_slice-in-Divides.result.now c.push_quotient-more.result c.args.tree.now c.in-Divides.form c.in-Divides.divisor _ c.in-Divides.yes c.in-Divides.no c.get-else-is_divided.result.now
     c.in-Ok-eval.value _ c.is_divided.result false _
-    c.in-Divides.is c.as_slice-in-Divides.ensures.value c.in-Ok-eval.ensures.exact (to_z-of_z w128 c.in-Ok-eval.value fits') (to_z-of_z w128 c.in-Divides.divisor fits) c.push_quotient-more.ensures
+    c.in-Divides.is c.as_slice-in-Divides.ensures.value c.in-Ok-eval.ensures.exact
+    (to_z-of_z w128 c.in-Ok-eval.value fits')
+    (to_z-of_z w128 c.in-Divides.divisor fits) c.push_quotient-more.ensures
     c.is_divided.ensures c.if-is_divided.false c.get-else-is_divided.ensures c.follow-else-is_divided.ensures
 
 pub returns-in-Divides : goal.returns-in-Divides
@@ -112,14 +126,17 @@ append_mapped-requires-clause-room t c =
       arith,
       ap length c.empty-at.ensures,
       ap length c.as_slice-in-Writer.ensures,
-      (ready_writer c.requires.0 (length c.args.values) c.args.tree.now c.in-Writer.statement c.in-Writer.forms c.in-Writer.field-2 c.in-Writer.is c.requires.2).0,
+      (ready_writer c.requires.0
+          (length c.args.values) c.args.tree.now c.in-Writer.statement c.in-Writer.forms c.in-Writer.field-2 c.in-Writer.is c.requires.2).0,
     )
 
 pub append_mapped-requires-clause-over : goal.append_mapped-requires-clause-over
 append_mapped-requires-clause-over t c =
-    ap (λ (values : List ℤ). are_over (length values) c.as_slice-in-Writer.result.now) c.as_slice-in-Writer-2.ensures.value
+    ap (λ (values : List ℤ).
+    are_over (length values) c.as_slice-in-Writer.result.now) c.as_slice-in-Writer-2.ensures.value
     ∙ ap (are_over (length c.args.values)) c.as_slice-in-Writer.ensures
-    ∙ (ready_writer c.requires.0 (length c.args.values) c.args.tree.now c.in-Writer.statement c.in-Writer.forms c.in-Writer.field-2 c.in-Writer.is c.requires.2).1
+    ∙ (ready_writer c.requires.0
+    (length c.args.values) c.args.tree.now c.in-Writer.statement c.in-Writer.forms c.in-Writer.field-2 c.in-Writer.is c.requires.2).1
 
 pub returns-in-Zero : goal.returns-in-Zero
 returns-in-Zero t c = sym (walked_zero c.args.values c.args.tree.now _ c.in-Zero.is)

@@ -9,4 +9,5 @@ follow-requires c =
     (length c.args.at.now, c.wide.ensures.short, subst (λ m. IsTrue (is_ready (length c.args.at.now) c.args.tree.now m)) (sym (ap length c.wide.ensures.value)) c.requires)
 
 pub returns-clause-value : goal.returns-clause-value
-returns-clause-value c = eval_gives c.args.tree.now c.args.at.now c.follow.result (c.follow.ensures ∙ ap (outcome_of c.args.tree.now) c.wide.ensures.value)
+returns-clause-value c = eval_gives c.args.tree.now c.args.at.now c.follow.result
+    (c.follow.ensures ∙ ap (outcome_of c.args.tree.now) c.wide.ensures.value)

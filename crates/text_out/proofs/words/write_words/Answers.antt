@@ -4,4 +4,5 @@ use Rattle.text_out.proofs.Joined.{words_joined}
 use Rattle.text_out.proofs.words.write_words.Goals as goal
 
 pub returns-in-Some : goal.returns-in-Some
-returns-in-Some g c = grind (arith, common_steps, words_joined c.in-Some.first.now c.in-Some.others.now, c.in-Some.ensures.cases)
+returns-in-Some g c =
+    grind (arith, common_steps, words_joined c.in-Some.first.now c.in-Some.others.now, c.in-Some.ensures.cases)

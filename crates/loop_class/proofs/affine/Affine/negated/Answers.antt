@@ -9,5 +9,6 @@ returns c =
     let f = c.args.self.now in
     let constant : to_z w64 (of_z w64 c.minus-2.result) ≡ pos 0 -ℤ f.constant = omega (arith, ints) in
     let coefs : c.loop-i.coefs ≡ map (λ x. pos 0 -ℤ x) f.coefs =
-    map_is (λ x. pos 0 -ℤ x) 6 c.loop-i.coefs f.coefs c.loop-i.invariant.0 (omega arith) (λ k h. c.loop-i.invariant.1 k (omega arith)) in
+    map_is (λ x. pos 0 -ℤ x) 6 c.loop-i.coefs f.coefs c.loop-i.invariant.0 (omega arith)
+    (λ k h. c.loop-i.invariant.1 k (omega arith)) in
     λ i. record { constant = constant i; coefs = coefs i }

@@ -11,9 +11,14 @@ returns-then-is_some-clause-ok g c =
 pub returns-clause-ok : goal.returns-clause-ok
 returns-clause-ok g c =
     let es = c.self.inside.entries.entries in
-    let none = is_new c.args.name.now es c.args.self.now c.get.result c.self.view_is c.get.ensures.value (sym c.if-is_some.ensures) in
-    let absent = key_is_new c.in_ok-key.key es c.args.self.now c.args.name.now c.self.view_is c.in_ok-key.ensures.items none in (
+    let none =
+    is_new c.args.name.now es c.args.self.now c.get.result c.self.view_is c.get.ensures.value
+    (sym c.if-is_some.ensures) in
+    let absent =
+    key_is_new c.in_ok-key.key es c.args.self.now c.args.name.now c.self.view_is c.in_ok-key.ensures.items none in (
       none,
       shown_insert c.in_ok-key.key c.args.value es c.insert.new.self.entries c.args.self.now c.args.name.now c.self.view_is c.in_ok-key.ensures.items
-          (c.in_ok-insert.ensures.entries ∙ insert_entry-new (λ a b. bytes_eq a.items b.items) c.self.inside.entries c.in_ok-key.key c.args.value absent),
+          (c.in_ok-insert.ensures.entries
+          ∙ insert_entry-new
+          (λ a b. bytes_eq a.items b.items) c.self.inside.entries c.in_ok-key.key c.args.value absent),
     )

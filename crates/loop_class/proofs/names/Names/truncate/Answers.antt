@@ -5,4 +5,5 @@ use Rattle.loop_class.proofs.names.Names.truncate.Goals as goal
 
 pub returns : goal.returns
 returns g c =
-    ap (map shown) c.truncate.ensures.entries ∙ sym (take-map shown c.args.len c.self.inside.entries.entries) ∙ ap (take c.args.len) c.self.view_is
+    ap (map shown) c.truncate.ensures.entries ∙ sym (take-map shown c.args.len c.self.inside.entries.entries)
+    ∙ ap (take c.args.len) c.self.view_is

@@ -17,14 +17,17 @@ returns-in_ok-insert-clause-kept c = λ uses number held keeps tokens here is_la
     let lt : number < length uses = slice_get_within uses number token here in
     let named : get_or uses number 0 ≡ token = get_or_from_slice_get uses number token 0 here in
     let got : token < length held.slot_of_get = omega (arith, c.requires, gets.ok.0, ap length keeps.gets) in
-    let is_slot : slot ≡ get_or held.slot_of_get token 0 = get_or_read gets.items token slot (omega (arith, c.requires, gets.ok.0)) c.index-slot.ensures 0 ∙ ap (λ xs. get_or xs token 0) keeps.gets in
+    let is_slot : slot ≡ get_or held.slot_of_get token 0 =
+    get_or_read gets.items token slot (omega (arith, c.requires, gets.ok.0)) c.index-slot.ensures 0
+    ∙ ap (λ xs. get_or xs token 0) keeps.gets in
     let over : not (is_wanted uses (number + 1) token) ≡ true = sym is_last ∙ c.if-is_last.true in
     record {
       gets = keeps.gets;
       hold = keeps.hold;
       free = λ k.
           c.in_ok-insert.ensures.updates.0 k
-          ∙ ap (λ t. cond t true (contains nat_cmp c.args.self.now.free k)) (is_eq-nat_cmp slot k ∙ ap (λ s. eqb s k) is_slot)
+          ∙ ap (λ t. cond t true (contains nat_cmp c.args.self.now.free k))
+          (is_eq-nat_cmp slot k ∙ ap (λ s. eqb s k) is_slot)
           ∙ ap (λ b. cond (eqb (get_or held.slot_of_get token 0) k) true b) (keeps.free k)
           ∙ ap (λ b. cond (eqb (get_or held.slot_of_get token 0) k) b (is_free uses number held.slots k)) (sym over)
           ∙ free_after_use uses number held token k tokens lt named got;
@@ -43,9 +46,12 @@ returns-else-is_last-clause-kept c = λ uses number held keeps tokens here is_la
       gets = keeps.gets;
       hold = keeps.hold;
       free = λ k.
-          let same : cond (eqb slot k) false (is_free uses number held.slots k) ≡ is_free uses number held.slots k = elim (cases_Bool (eqb slot k)) [
+          let same : cond (eqb slot k) false (is_free uses number held.slots k) ≡ is_free uses number held.slots k =
+          elim (cases_Bool (eqb slot k)) [
             | inr off ↦ rw off refl
-            | inl on ↦ rw on (sym (ap (is_free uses number held.slots) (sym (eqb-true slot k on)) ∙ used_is_not_free uses number held token tokens lt named got))
+            | inl on ↦ rw on
+                (sym (ap (is_free uses number held.slots) (sym (eqb-true slot k on))
+                ∙ used_is_not_free uses number held token tokens lt named got))
           ] in
           keeps.free k
           ∙ sym same

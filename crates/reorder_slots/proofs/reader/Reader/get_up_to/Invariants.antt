@@ -11,7 +11,9 @@ invariant-loop-self l =
       more : before ≤ now;
       enough : now ≤ max before (l.token + 1);
       hold : l.self.hold ≤ now;
-      kept : (uses : List ℕ) (number : ℕ) (held : Held) → Keeps uses number held l.initial.self → AreWanted uses number before l.token → Keeps uses number (after_gets uses number (now - before) held) l.self;
+      kept : (uses : List ℕ) (number : ℕ) (held : Held) → Keeps uses number held l.initial.self
+          → AreWanted uses number before l.token
+          → Keeps uses number (after_gets uses number (now - before) held) l.self;
     }
 
 abbrev pub decreases-loop-self : goal.decreases-loop-self

@@ -18,9 +18,9 @@ from seq import COUNTER, example, run_compaan, without_comments
 
 # a kernel, the points of its trace, and its parameters
 KERNELS = [
-    ("matrix product", example("matrix_product"), lambda N: 4 * N * N + N**3, [{"N": n} for n in (20, 40, 60, 80, 100)]),
+    ("matrix product", example("matrix_product"), lambda N: 4 * N * N + N**3, [{"N": n} for n in (20, 40, 60, 80, 100, 159)]),
     ("1-D stencil", example("jacobi_1d"), lambda N, T: 2 * N + 2 * T * (N - 2), [{"N": 1000, "T": t} for t in (65, 130, 260, 520)]),
-    ("counter", COUNTER, lambda N: N, [{"N": n} for n in (131072, 262144, 524288, 1048576)]),
+    ("counter", COUNTER, lambda N: N, [{"N": n} for n in (131072, 262144, 524288, 1048576, 4194304)]),
 ]
 
 SWEEP = """

@@ -5,7 +5,9 @@
 -- Gets that they name. By induction on the reader's points both lists grow alike: a fire adds what its reference at
 -- the channel's read names, which is the token of its use (FoundTokens), and its references at other reads, or to
 -- other writers, add nothing.
-use Rattle.std.proofs.Common.{◌≡◌, ℕ, zero, suc, ◌+◌, ◌<◌, ◌≤◌, cond, Option, Some, None, List, [], ◌∷◌, ◌++◌, length, map, take, drop, slice_get, get_or, refl, sym, ap, ◌∙◌, inl, inr, arith, add-one, append_assoc}
+use Rattle.std.proofs.Common.{◌≡◌, ℕ, zero, suc, ◌+◌, ◌<◌, ◌≤◌, cond, Option, Some, None, List, [], ◌∷◌, ◌++◌, length}
+use Rattle.std.proofs.Common.{map, take, drop, slice_get, get_or, refl, sym, ap, ◌∙◌, inl, inr, arith, add-one}
+use Rattle.std.proofs.Common.{append_assoc}
 use Rattle.std.specs.Prelude.{slice_index}
 use Rattle.std.specs.List.{flat_map, range_with_len}
 use Rattle.std.specs.Option.{option_map_or}
@@ -33,7 +35,8 @@ use Rattle.sanlp.specs.declared.nest.Tag.{Tag}
 use Rattle.sanlp.proofs.Lists.{flat_map-range_with_len_more}
 use Rattle.derived_names.proofs.Fires.{no_fire_behind, no_fire_first}
 use Rattle.derived_names.proofs.FoundTokens.{finds_token, points_after, script_splits}
-use Rattle.derived_names.proofs.Gets.{before_fire, events_before, events_split, exists, point_gets, point_refs, source_at_fire}
+use Rattle.derived_names.proofs.Gets.{before_fire, events_before, events_split, exists, point_gets, point_refs}
+use Rattle.derived_names.proofs.Gets.{source_at_fire}
 use Rattle.derived_names.proofs.Lists.{drop_next, one_joined}
 use Rattle.derived_names.proofs.Names.{token_is}
 use Rattle.derived_names.proofs.UsesOfFires.{no_use, source_same, turns_read, use_here, use_is, used_where}

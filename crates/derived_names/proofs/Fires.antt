@@ -1,5 +1,6 @@
 -- The fires of a script: one for each point.
-use Rattle.std.proofs.Common.{◌≡◌, ℕ, zero, suc, ◌+◌, ◌-◌, ◌<◌, false, Some, List, [], ◌∷◌, ◌++◌, length, map, slice_get, count_by, refl, sym, ap, ◌∙◌, inl, inr, arith}
+use Rattle.std.proofs.Common.{◌≡◌, ℕ, zero, suc, ◌+◌, ◌-◌, ◌<◌, false, Some, List, [], ◌∷◌, ◌++◌, length, map}
+use Rattle.std.proofs.Common.{slice_get, count_by, refl, sym, ap, ◌∙◌, inl, inr, arith}
 use Rattle.std.specs.Prelude.{slice_index_or, ◌==◌, ◌&&◌}
 use Rattle.std.specs.List.{range_with_len}
 use Rattle.std.proofs.lemmas.Bool.{cases_Bool, cases_lt}
@@ -76,7 +77,12 @@ fired_by n p (suc f) =
 
 fired_before : (n : Nest) (p f : ℕ) → count_by is_fire (before_fire n p f) ≡ f
 fired_before n p f =
-    omega (arith, count-append is_fire (events_before n p f) (point_gets n p f), fired_by n p f, none_fired (point_gets n p f) (no_fire_first n p f))
+    omega (
+      arith,
+      count-append is_fire (events_before n p f) (point_gets n p f),
+      fired_by n p f,
+      none_fired (point_gets n p f) (no_fire_first n p f),
+    )
 
 -- Where
 
@@ -112,7 +118,8 @@ fire_among n p (suc m) k refs e =
           (m, omega arith, omega (arith, is.0, length-append before (point_gets n p m)), is.1)
     ]
 
--- The event at place k of p's script is the fire of point f, behind the events of the points before it and its own Gets.
+-- The event at place k of p's script is the fire of point f, behind the events of the points before it and its own
+-- Gets.
 pub record IsFireOf (n : Nest) (p k : ℕ) (refs : List Ref) : Type 0 where
   pub process : p < length n.statements
   pub point : ℕ

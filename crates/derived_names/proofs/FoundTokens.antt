@@ -4,7 +4,8 @@
 -- use to come (reorder_slots), and the slots of different channels of one reader lie apart, side by side (`apart`).
 -- With them the premises of Latest hold at the fire. It isn't an induction of its own, and the place of the fire comes
 -- from splitting the script at it.
-use Rattle.std.proofs.Common.{◌≡◌, ℕ, zero, suc, ◌+◌, ◌-◌, ◌<◌, ◌≤◌, cond, Some, List, [], ◌∷◌, ◌++◌, length, take, slice_get, get_or, count_by, refl, sym, ap, ◌∙◌, inl, inr, arith, append_assoc}
+use Rattle.std.proofs.Common.{◌≡◌, ℕ, zero, suc, ◌+◌, ◌-◌, ◌<◌, ◌≤◌, cond, Some, List, [], ◌∷◌, ◌++◌, length, take}
+use Rattle.std.proofs.Common.{slice_get, get_or, count_by, refl, sym, ap, ◌∙◌, inl, inr, arith, append_assoc}
 use Rattle.std.specs.Prelude.{slice_index, ◌==◌}
 use Rattle.std.specs.List.{flat_map, range_with_len}
 use Rattle.std.proofs.lemmas.Bool.{cases_lt, eq-eqb}
@@ -34,7 +35,8 @@ use Rattle.reorder_slots.proofs.Uses.{named_before}
 use Rattle.sanlp.specs.declared.nest.Nest.{Nest}
 use Rattle.sanlp.specs.declared.nest.Tag.{Tag}
 use Rattle.sanlp.proofs.Lists.{range_with_len-append}
-use Rattle.derived_names.proofs.Gets.{before_fire, events_before, events_split, exists, few_uses, fire_count, place, point_refs, slot_is, uses_made, uses_next}
+use Rattle.derived_names.proofs.Gets.{before_fire, events_before, events_split, exists, few_uses, fire_count, place}
+use Rattle.derived_names.proofs.Gets.{point_refs, slot_is, uses_made, uses_next}
 use Rattle.derived_names.proofs.Latest.{IsLastInto, latest}
 use Rattle.derived_names.proofs.UsesOfFires.{turns_read}
 use Rattle.derived_names.proofs.UsesOfReads.{plan_at}
@@ -149,7 +151,12 @@ module _ (n : Nest) (p k w c : ℕ) (found : slice_get (plans_of n) c ≡ Some (
       let gets = slots_of_gets uses in
       let next : use_number + 1 ≡ suc use_number = omega arith in
       let earlier : m < gets_for (take (use_number + 1) uses) =
-      omega (arith, count_past (is_get c) events i (length (before_fire n p f)) (Get c slot) at (eq-eqb c c refl) below, got_so_far, ap (λ j. gets_for (take j uses)) next) in
+      omega (
+        arith,
+        count_past (is_get c) events i (length (before_fire n p f)) (Get c slot) at (eq-eqb c c refl) below,
+        got_so_far,
+        ap (λ j. gets_for (take j uses)) next,
+      ) in
       let same : get_or gets m 0 ≡ get_or gets token 0 = omega (arith, into, (slot_is n p k w c found i slot at).1) in
       let enough = all_gets_made (use_number + 1) (omega (arith, few)) in
       keeps_until_used uses use_number token m (slice_get-get_or uses use_number 0 few) later earlier

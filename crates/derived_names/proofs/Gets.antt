@@ -6,7 +6,9 @@
 -- wants, at the one read that the channel is for, and none where its source is of another process. So at a fire all
 -- Gets of its token are made and no more than that. It is about scripts alone; that a Get finds a token in the queue
 -- is witness_plan's.
-use Rattle.std.proofs.Common.{◌≡◌, ℕ, zero, suc, ◌+◌, ◌-◌, ◌<◌, ◌≤◌, Bool, true, false, cond, Option, Some, None, List, [], ◌∷◌, ◌++◌, length, map, take, slice_get, count_by, refl, sym, ap, ◌∙◌, inl, inr, arith, add-one, append_assoc}
+use Rattle.std.proofs.Common.{◌≡◌, ℕ, zero, suc, ◌+◌, ◌-◌, ◌<◌, ◌≤◌, Bool, true, false, cond, Option, Some, None, List}
+use Rattle.std.proofs.Common.{[], ◌∷◌, ◌++◌, length, map, take, slice_get, count_by, refl, sym, ap, ◌∙◌, inl, inr}
+use Rattle.std.proofs.Common.{arith, add-one, append_assoc}
 use Rattle.std.specs.Prelude.{slice_index, slice_index_or, ◌==◌, ◌&&◌}
 use Rattle.std.specs.List.{cons_option, flat_map, range_with_len}
 use Rattle.std.proofs.lemmas.Bool.{cases_Bool, cases_eq, eq-eqb, ne_eqb}
@@ -25,7 +27,8 @@ use Rattle.net_core.specs.Machine.{net_of}
 use Rattle.net_core.specs.Shape.{is_get}
 use Rattle.net_core.proofs.Counting.{count_cons}
 use Rattle.process_derive.specs.Derived.{net}
-use Rattle.process_derive.specs.Scripts.{Usage, gets_for_uses, gets_of, point_events, puts_from, ref_of, slot_base, usage}
+use Rattle.process_derive.specs.Scripts.{Usage, gets_for_uses, gets_of, point_events, puts_from, ref_of, slot_base}
+use Rattle.process_derive.specs.Scripts.{usage}
 use Rattle.process_derive.proofs.Counts.{before_more, of_other, of_own}
 use Rattle.process_derive.proofs.Numbers.{before_within, gets_here, script_at}
 use Rattle.process_derive.proofs.Tags.{length-sources}
@@ -211,7 +214,11 @@ module _ (n : Nest) (p k w c : ℕ) (found : slice_get (plans_of n) c ≡ Some (
 
   pub few_uses : (f : ℕ) → uses_made f ≤ length used
   few_uses f =
-      omega (arith, before_within (sources_at n p k) f w, length-map (turns_read n p k w) (tokens_below (turns_read n p k w)))
+      omega (
+        arith,
+        before_within (sources_at n p k) f w,
+        length-map (turns_read n p k w) (tokens_below (turns_read n p k w)),
+      )
 
   pub source_at_fire : (f : ℕ) → f < turn_count n p
       → (source : Option Tag) × (slice_get (sources_at n p k) f ≡ Some source)
@@ -336,7 +343,11 @@ module _ (n : Nest) (p k w c : ℕ) (found : slice_get (plans_of n) c ≡ Some (
       let at : slice_get (map place (range_with_len 0 (gets_made (turn_count n p)))) m ≡ Some slot =
       ap (λ xs. slice_get xs m) (sym all) ∙ got_at c events i slot e in
       let within : m < gets_made (turn_count n p) =
-      omega (arith, slice_get_within (map place (range_with_len 0 (gets_made (turn_count n p)))) m slot at, length-map-range_with_len place 0 (gets_made (turn_count n p))) in
+      omega (
+        arith,
+        slice_get_within (map place (range_with_len 0 (gets_made (turn_count n p)))) m slot at,
+        length-map-range_with_len place 0 (gets_made (turn_count n p)),
+      ) in
       let front : 0 + m ≡ m = omega arith in
       let here : slice_get (map place (range_with_len 0 (gets_made (turn_count n p)))) m ≡ Some (place m) =
       slice_get-map-range_with_len place 0 (gets_made (turn_count n p)) m m within front in

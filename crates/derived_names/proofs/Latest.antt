@@ -4,7 +4,8 @@
 -- By induction on the place, down to Get m itself: a Get of another slot leaves what x has, and one into x would be m.
 -- The three premises are what a plan of slots gives (`IsLastInto`), so nothing is known here of nests. `latest_gets`
 -- is a table that goes along the script, and this reads one entry of it.
-use Rattle.std.proofs.Common.{◌≡◌, ℕ, zero, suc, ◌<◌, ◌≤◌, cond, Option, Some, None, List, length, take, slice_get, count_by, refl, sym, ap, ◌∙◌, inl, inr, arith}
+use Rattle.std.proofs.Common.{◌≡◌, ℕ, zero, suc, ◌<◌, ◌≤◌, cond, Option, Some, None, List, length, take, slice_get}
+use Rattle.std.proofs.Common.{count_by, refl, sym, ap, ◌∙◌, inl, inr, arith}
 use Rattle.std.specs.Prelude.{slice_set}
 use Rattle.std.proofs.lemmas.Bool.{cases_eq, eq-eqb, ne_eqb}
 use Rattle.std.proofs.lemmas.List.{length-replicate, length-set}

@@ -1,5 +1,6 @@
 -- Joined lists of which one part alone has items, lists with one item replaced, and what follows a front.
-use Rattle.std.proofs.Common.{◌≡◌, ℕ, zero, suc, ◌+◌, ◌<◌, ◌≤◌, Some, List, [], ◌∷◌, ◌++◌, length, drop, slice_get, refl, ap, ◌∙◌, inl, inr, arith}
+use Rattle.std.proofs.Common.{◌≡◌, ℕ, zero, suc, ◌+◌, ◌<◌, ◌≤◌, Some, List, [], ◌∷◌, ◌++◌, length, drop, slice_get}
+use Rattle.std.proofs.Common.{refl, ap, ◌∙◌, inl, inr, arith}
 use Rattle.std.specs.Prelude.{slice_set}
 use Rattle.std.specs.List.{flat_map, range_with_len}
 use Rattle.std.proofs.lemmas.Bool.{cases_eq}

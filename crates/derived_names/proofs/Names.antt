@@ -5,7 +5,8 @@
 -- turn that the use counts (Tokens), and that turn is the source, which is defined as the last writer's tag. Where a
 -- read has no source its reference is Zero. So the law is about the definition of the network, whatever its capacities
 -- and whatever order it runs in.
-use Rattle.std.proofs.Common.{◌≡◌, ℕ, ◌+◌, ◌<◌, Option, Some, None, List, length, map, take, slice_get, get_or, refl, sym, ap, ◌∙◌, arith}
+use Rattle.std.proofs.Common.{◌≡◌, ℕ, ◌+◌, ◌<◌, Option, Some, None, List, length, map, take, slice_get, get_or, refl}
+use Rattle.std.proofs.Common.{sym, ap, ◌∙◌, arith}
 use Rattle.std.specs.Prelude.{slice_index}
 use Rattle.std.specs.List.{range_with_len}
 use Rattle.std.specs.Option.{option_and_then, option_map}
@@ -81,7 +82,12 @@ reference_at n p f k r e =
     let usages : List (Option Usage) = map (usage n p f) numbers in
     let front : 0 + k ≡ k = omega arith in
     let within : k < read_count n p =
-    omega (arith, slice_get_within (map ref_of usages) k r e, length-map usages ref_of, length-map-range_with_len (usage n p f) 0 (read_count n p)) in
+    omega (
+      arith,
+      slice_get_within (map ref_of usages) k r e,
+      length-map usages ref_of,
+      length-map-range_with_len (usage n p f) 0 (read_count n p),
+    ) in
     let here : slice_get (map ref_of usages) k ≡ Some (ref_of (usage n p f k)) =
     slice_get-map ref_of usages k
     ∙ ap (option_map ref_of) (slice_get-map-range_with_len (usage n p f) 0 (read_count n p) k k within front) in

@@ -50,7 +50,13 @@ use_is n p k f u h =
     let is = found_between n w p k found.0 found.1 in
     let channel : u.channel ≡ found.0.0 = ap (λ (x : Usage). x.channel) found.2 in
     let make : ℕ → ChannelPlan → Usage =
-    λ c plan. record { channel = c; base = slot_base (plans_of n) p c; slots = plan.slots; number = length (turns_used w (take f sources)) } in
+    λ c plan. record {
+      channel = c;
+      base = slot_base (plans_of n) p c;
+      slots = plan.slots;
+      number =
+          length (turns_used w (take f sources));
+    } in
     record {
       source = inner.0;
       at = outer.1 ∙ ap Some inner.1;
@@ -69,7 +75,13 @@ use_here n p k w c f t there e same =
     ∙ ap (usage_from plans sources p k f) same
     ∙ ap (option_map
     (λ (found : ℕ × ChannelPlan).
-    record { channel = found.0; base = slot_base plans p found.0; slots = found.1.slots; number = length (turns_used w (take f sources)) }))
+    record {
+      channel = found.0;
+      base = slot_base plans p found.0;
+      slots = found.1.slots;
+      number =
+          length (turns_used w (take f sources));
+    }))
     (found_by_ends n c (plan_of n p k w) there)
 
 -- a fire whose read has no source uses none

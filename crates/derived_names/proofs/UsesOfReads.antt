@@ -1,5 +1,6 @@
 -- The uses of a channel fire by fire, and the channel of each source.
-use Rattle.std.proofs.Common.{◌≡◌, ◌<◌, ◌+◌, ℕ, zero, suc, Bool, true, cond, eqb, ◌&&◌, List, [], ◌∷◌, ◌++◌, map, length, take, refl, sym, ap, ◌∙◌, subst, inl, inr, arith, add-one, eqb-true}
+use Rattle.std.proofs.Common.{◌≡◌, ◌<◌, ◌+◌, ℕ, zero, suc, Bool, true, cond, eqb, ◌&&◌, List, [], ◌∷◌, ◌++◌, map}
+use Rattle.std.proofs.Common.{length, take, refl, sym, ap, ◌∙◌, subst, inl, inr, arith, add-one, eqb-true}
 use Rattle.std.specs.Prelude.{Option, Some, None, slice_get}
 use Rattle.std.specs.List.{cons_option, filter, flat_map, list_any, range_with_len}
 use Rattle.std.specs.Option.{option_map, option_map_or}
@@ -11,7 +12,8 @@ use Rattle.sanlp.specs.Access.{read_count}
 use Rattle.sanlp.specs.declared.nest.Nest.{Nest}
 use Rattle.sanlp.specs.declared.nest.Tag.{Tag}
 use Rattle.sanlp.proofs.Each.{Each, each_filter, each_flat_map, each_map, each_of}
-use Rattle.sanlp.proofs.Members.{In, Pairwise, at_in, each_in, in_at, in_filter, in_flat_map, in_map, in_range_with_len, pairwise_flat_map, range_with_len_ascends}
+use Rattle.sanlp.proofs.Members.{In, Pairwise, at_in, each_in, in_at, in_filter, in_flat_map, in_map, in_range_with_len}
+use Rattle.sanlp.proofs.Members.{pairwise_flat_map, range_with_len_ascends}
 use Rattle.sanlp.proofs.Lists.{flat_map-range_with_len_more}
 use Rattle.channel_plan.specs.declared.plans.ChannelPlan.{ChannelPlan}
 use Rattle.channel_plan.specs.Plans.{plan_of, plans_at, plans_of, sources_at, turn_count}
@@ -20,7 +22,8 @@ use Rattle.net_core.specs.Machine.{net_of}
 use Rattle.net_core.specs.Names.{tokens}
 use Rattle.process_derive.specs.Derived.{net}
 use Rattle.process_derive.specs.Scripts.{channel_from, goes_between}
-use Rattle.process_derive.proofs.Lists.{take_all, take_next}
+use Rattle.process_derive.proofs.Lists.{take_all}
+use Rattle.sanlp.proofs.Lists.{take_next}
 use Rattle.process_derive.proofs.Tags.{IsTurn, length-sources, sources_are}
 use Rattle.process_derive.proofs.Wired.{IsChannelOf, all_channels}
 use Rattle.derived_names.proofs.Tokens.{token_of_turn}
@@ -179,7 +182,10 @@ pairwise_filter : {X : Type 0} (R : X → X → Type 0) (test : X → Bool) (xs 
 pairwise_filter R test [] h = tt
 pairwise_filter R test (x ∷ xs) h =
     elim (cases_Bool
-    (test x)) [ inl kept ↦ rw kept ((each_filter (R x) test xs h.0, pairwise_filter R test xs h.1)) | inr left ↦ rw left (pairwise_filter R test xs h.1) ]
+    (test x)) [
+      | inl kept ↦ rw kept ((each_filter (R x) test xs h.0, pairwise_filter R test xs h.1))
+      | inr left ↦ rw left (pairwise_filter R test xs h.1)
+    ]
 
 pairwise_map : {X Y : Type 0} (S : X → X → Type 0) (R : Y → Y → Type 0) (f : X → Y) (xs : List X)
     → ((x y : X) → S x y → R (f x) (f y)) → Pairwise S xs → Pairwise R (map f xs)
@@ -241,7 +247,12 @@ ends_of : (w p k : ℕ) (plan : ChannelPlan) → goes_between w p k plan ≡ tru
 ends_of w p k plan e =
     let outer = and_parts (eqb plan.writer w && eqb plan.reader p) (eqb plan.read k) e in
     let inner = and_parts (eqb plan.writer w) (eqb plan.reader p) outer.0 in
-    record { writer = eqb-true plan.writer w inner.0; reader = eqb-true plan.reader p inner.1; read = eqb-true plan.read k outer.1 }
+    record {
+      writer = eqb-true plan.writer w inner.0;
+      reader = eqb-true plan.reader p inner.1;
+      read =
+          eqb-true plan.read k outer.1;
+    }
 
 goes_by_ends : (w p k : ℕ) (plan : ChannelPlan) → HasEnds w p k plan → goes_between w p k plan ≡ true
 goes_by_ends w p k plan ends =
@@ -293,8 +304,12 @@ found_at d (first ∷ plans) w p k found e =
           let is : (d, first) ≡ found =
           same_Some (d, first) found
           (sym (ap (λ b. cond b (Some (d, first)) (channel_from (suc d) plans w p k)) here) ∙ e) in
-          let front : d ≡ d + 0 = omega arith in
-          (0, sym (ap (λ (x : ℕ × ChannelPlan). x.0) is) ∙ front, ap (λ (x : ℕ × ChannelPlan). Some x.1) is, subst (λ (x : ℕ × ChannelPlan). HasEnds w p k x.1) is (ends_of w p k first here))
+          let front : d ≡ d + 0 = omega arith in (
+            0,
+            sym (ap (λ (x : ℕ × ChannelPlan). x.0) is) ∙ front,
+            ap (λ (x : ℕ × ChannelPlan). Some x.1) is,
+            subst (λ (x : ℕ × ChannelPlan). HasEnds w p k x.1) is (ends_of w p k first here),
+          )
       | inr there ↦
           let later =
           found_at (suc d) plans w p k found

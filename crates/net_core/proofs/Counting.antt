@@ -1,5 +1,6 @@
 -- Counts over the first events of a script, and functions that were changed at one place.
-use Rattle.std.proofs.Common.{◌≡◌, ℕ, zero, suc, ◌+◌, ◌<◌, ◌≤◌, Bool, true, cond, eqb, Some, None, List, [], ◌∷◌, ◌++◌, take, slice_get, count_by, refl, arith, ne_eqb, eq-eqb}
+use Rattle.std.proofs.Common.{◌≡◌, ℕ, zero, suc, ◌+◌, ◌<◌, ◌≤◌, Bool, true, cond, eqb, Some, None, List, [], ◌∷◌, ◌++◌}
+use Rattle.std.proofs.Common.{take, slice_get, count_by, refl, arith, ne_eqb, eq-eqb}
 use Rattle.std.proofs.lemmas.Bool.{cond-true, cond-false}
 use Rattle.std.proofs.lemmas.List.Sums.{sum_by-append, sum_by-cons}
 use Rattle.net_core.specs.Machine.{replaced}

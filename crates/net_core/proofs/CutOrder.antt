@@ -6,7 +6,9 @@
 -- legal c is a run that ends at c (`within_runs`, at the lesser of both; there the bounds that a legal c keeps make up
 -- for the others being held back). And no run passes a cut above its start at which nobody may go on (`no_further`).
 -- Nothing here knows of states or values.
-use Rattle.std.proofs.Common.{◌≡◌, ◌⊎◌, ℕ, suc, ◌<◌, ◌≤◌, min, max, true, false, Option, Some, None, List, [], ◌∷◌, take, slice_get, count_by, refl, sym, ap, ◌∙◌, inl, inr, arith, ltb-true, lt-ltb, eq-eqb, nat_lt, if◌then◌else◌}
+use Rattle.std.proofs.Common.{◌≡◌, ◌⊎◌, ℕ, suc, ◌<◌, ◌≤◌, min, max, true, false, Option, Some, None, List, [], ◌∷◌}
+use Rattle.std.proofs.Common.{take, slice_get, count_by, refl, sym, ap, ◌∙◌, inl, inr, arith, ltb-true, lt-ltb, eq-eqb}
+use Rattle.std.proofs.Common.{nat_lt, if◌then◌else◌}
 use Rattle.std.proofs.lemmas.Bool.{cases_eq, cases_lt, le-ltb}
 use Rattle.net_core.specs.declared.network.Event.{Event}
 use Rattle.net_core.specs.declared.network.Event.TheVariants.{Get, Fire, Put}

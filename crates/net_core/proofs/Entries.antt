@@ -1,5 +1,6 @@
 -- The entries of a process in the trace are its points, and its tags name them.
-use Rattle.std.proofs.Common.{◌≡◌, ℕ, zero, suc, ◌+◌, true, eqb, Some, List, [], ◌∷◌, length, take, slice_get, count_by, refl, sym, ap, ◌∙◌, inl, inr, arith, eqb-true, eq-eqb, add-zero}
+use Rattle.std.proofs.Common.{◌≡◌, ℕ, zero, suc, ◌+◌, true, eqb, Some, List, [], ◌∷◌, length, take, slice_get, count_by}
+use Rattle.std.proofs.Common.{refl, sym, ap, ◌∙◌, inl, inr, arith, eqb-true, eq-eqb, add-zero}
 use Rattle.std.proofs.lemmas.Bool.{cond-true, cond-false, cases_Bool}
 use Rattle.sanlp.specs.declared.nest.Point.{Point}
 use Rattle.sanlp.specs.Laws.{entries_from}

@@ -5,17 +5,22 @@
 -- go on until all have ended, and each run that ends all has as many events. That no queue passes its capacity holds
 -- step by step. A legal cut is reached by the part of the full run before it. Two runs that can't go on can't pass
 -- each other, so they stand alike. No run is rearranged step by step, and nothing is claimed of fairness or of time.
-use Rattle.std.proofs.Common.{◌≡◌, ◌⊎◌, ℕ, zero, suc, ◌+◌, ◌<◌, ◌≤◌, min, max, true, false, eqb, Option, Some, None, List, [], ◌∷◌, length, refl, sym, ap, ◌∙◌, subst, inl, inr, arith, ltb-true, eqb-true, length-append}
+use Rattle.std.proofs.Common.{◌≡◌, ◌⊎◌, ℕ, zero, suc, ◌+◌, ◌<◌, ◌≤◌, min, max, true, false, eqb, Option, Some, None}
+use Rattle.std.proofs.Common.{List, [], ◌∷◌, length, refl, sym, ap, ◌∙◌, subst, inl, inr, arith, ltb-true, eqb-true}
+use Rattle.std.proofs.Common.{length-append}
 use Rattle.std.proofs.lemmas.Bool.{cases_eq, cases_lt, cases_Bool}
 use Rattle.net_core.specs.declared.network.Event.{Event}
 use Rattle.net_core.specs.declared.network.Event.TheVariants.{Get, Fire, Put}
-use Rattle.net_core.specs.Machine.{Net, State, Rule, start, next, can_come, enabled, last_of, queue_after, after_event, step, after, IsRun, HasEnded, IsStuck}
+use Rattle.net_core.specs.Machine.{Net, State, Rule, start, next, can_come, enabled, last_of, queue_after, after_event}
+use Rattle.net_core.specs.Machine.{step, after, IsRun, HasEnded, IsStuck}
 use Rattle.net_core.specs.Shape.{IsWired, events_below}
 use Rattle.net_core.specs.Cuts.{Cut, opening, enabled_at, advanced, cut_after, IsCutRun, IsLegal, positions}
 use Rattle.net_core.specs.Orders.{EndsAll, EndsAlways, StopsAlike}
-use Rattle.net_core.proofs.CutOrder.{advanced_here, advanced_there, beyond, within, beyond_runs, beyond_ends, within_runs, within_ends, no_further}
+use Rattle.net_core.proofs.CutOrder.{advanced_here, advanced_there, beyond, within, beyond_runs, beyond_ends}
+use Rattle.net_core.proofs.CutOrder.{within_runs, within_ends, no_further}
 use Rattle.net_core.proofs.TwoSteps.{shrinks}
-use Rattle.net_core.proofs.Positions.{run_cut, cut_run, run_counted, run_ends, start_counted, enabled_inside, cut_inside, enabled_as_cut, last_short}
+use Rattle.net_core.proofs.Positions.{run_cut, cut_run, run_counted, run_ends, start_counted, enabled_inside}
+use Rattle.net_core.proofs.Positions.{cut_inside, enabled_as_cut, last_short}
 
 -- the sum of a cut's first positions
 sum_below : Cut → ℕ → ℕ
@@ -59,6 +64,11 @@ sum_ends : (n : Net) (k : Cut) → ((p : ℕ) → k p ≡ length (n.script p)) �
 unfolding sum_below
 sum_ends n k h zero = refl
 sum_ends n k h (suc m) = omega (arith, sum_ends n k h m, h m)
+
+sum_within : (n : Net) (k : Cut) → ((p : ℕ) → k p ≤ length (n.script p)) → (m : ℕ) → sum_below k m ≤ events_below n m
+unfolding sum_below
+sum_within n k h zero = omega arith
+sum_within n k h (suc m) = omega (arith, sum_within n k h m, h m)
 
 sum_zero : (m : ℕ) → sum_below opening m ≡ 0
 unfolding sum_below
@@ -144,7 +154,26 @@ run_events : {T : Type 0} (n : Net) (rule : Rule T) (wired : IsWired n) (ps : Li
 run_events n rule wired ps run ended =
     let full : (q : ℕ) → cut_after opening ps q ≡ length (n.script q) =
     λ q. sym (ap (λ c. c q) (run_ends n rule ps (start n) run)) ∙ ended q in
-    omega (arith, run_length n wired ps opening (run_cut n rule wired ps (start n) (start_counted n) run), sum_ends n (cut_after opening ps) full n.processes, sum_zero n.processes)
+    omega (
+      arith,
+      run_length n wired ps opening (run_cut n rule wired ps (start n) (start_counted n) run),
+      sum_ends n (cut_after opening ps) full n.processes,
+      sum_zero n.processes,
+    )
+
+-- no run has more events than the scripts
+pub run_short : {T : Type 0} (n : Net) (rule : Rule T) → IsWired n → (ps : List ℕ) → IsRun n rule (start n) ps
+    → length ps ≤ events_below n n.processes
+run_short n rule wired ps run =
+    let cut = run_cut n rule wired ps (start n) (start_counted n) run in
+    let inside : (q : ℕ) → cut_after opening ps q ≤ length (n.script q) =
+    λ q. cut_inside n ps opening cut (λ r. omega arith) q in
+    omega (
+      arith,
+      run_length n wired ps opening cut,
+      sum_within n (cut_after opening ps) inside n.processes,
+      sum_zero n.processes,
+    )
 
 -- the law on orders: one run that ends all tells of every run
 pub ends_always : {T : Type 0} (n : Net) (rule : Rule T) → IsWired n → (all : List ℕ) → IsRun n rule (start n) all

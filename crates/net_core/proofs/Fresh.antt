@@ -1,5 +1,7 @@
 -- The opening state is made piece by piece.
-use Rattle.std.proofs.Common.{◌≡◌, ℕ, zero, suc, ◌+◌, ◌<◌, ◌≤◌, ℤ, min, Some, None, List, [], ◌∷◌, ◌++◌, length, take, drop, replicate, slice_get, count_by, get_or, refl, sym, ap, ◌∙◌, subst, inl, inr, arith, length-append, take_all, drop_of_length-le, append-nil}
+use Rattle.std.proofs.Common.{◌≡◌, ℕ, zero, suc, ◌+◌, ◌<◌, ◌≤◌, ℤ, min, Some, None, List, [], ◌∷◌, ◌++◌, length, take}
+use Rattle.std.proofs.Common.{drop, replicate, slice_get, count_by, get_or, refl, sym, ap, ◌∙◌, subst, inl, inr, arith}
+use Rattle.std.proofs.Common.{length-append, take_all, drop_of_length-le, append-nil}
 use mathlib.Core.Path.{fun_ext}
 use Rattle.std.specs.VecDeque.{deque_capacity}
 use Rattle.std.specs.declared.collections.VecDeque.{VecDeque}

@@ -1,5 +1,6 @@
 pub mod PaddedLemmas
 pub mod Counting
+pub mod Alike
 pub mod TwoSteps
 pub mod CutOrder
 pub mod Positions

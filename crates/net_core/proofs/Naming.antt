@@ -6,7 +6,10 @@
 -- it, given that a fire gives its tag's value where the slots hold the values of what they name (`GivesValues`), and
 -- that the queues are counted (Positions). A token stands at its number from its Put on (`token_stays`), so the whole
 -- list of tokens may be read at any moment.
-use Rattle.std.proofs.Common.{◌≡◌, ℕ, zero, suc, pred, ◌+◌, ◌-◌, ◌<◌, ◌≤◌, true, cond, eqb, Option, Some, None, List, [], ◌∷◌, ◌++◌, length, map, take, drop, slice_get, slice_set, replicate, count_by, option_map, refl, sym, ap, ◌∙◌, ap₂, zero-add, suc-add, add-zero, inl, inr, arith, ltb-true, length-append}
+use Rattle.std.proofs.Common.{◌≡◌, ℕ, zero, suc, pred, ◌+◌, ◌-◌, ◌<◌, ◌≤◌, true, cond, eqb, Option, Some, None, List}
+use Rattle.std.proofs.Common.{[], ◌∷◌, ◌++◌, length, map, take, drop, slice_get, slice_set, replicate, count_by}
+use Rattle.std.proofs.Common.{option_map, refl, sym, ap, ◌∙◌, ap₂, zero-add, suc-add, add-zero, inl, inr, arith}
+use Rattle.std.proofs.Common.{ltb-true, length-append}
 use Rattle.std.specs.Option.{option_and_then}
 use Rattle.std.proofs.lemmas.Bool.{cond-true, cond-false, cases_eq, cases_lt, cases_Bool}
 use Rattle.std.proofs.lemmas.List.{drop-append-le, map-set, map-append, drop-map, drop-drop}
@@ -15,10 +18,13 @@ use Rattle.sanlp.specs.declared.nest.Tag.{Tag}
 use Rattle.net_core.specs.declared.refs.Ref.{Ref}
 use Rattle.net_core.specs.declared.network.Event.{Event}
 use Rattle.net_core.specs.declared.network.Event.TheVariants.{Get, Fire, Put}
-use Rattle.net_core.specs.Machine.{Net, Local, State, Rule, start, next, can_come, front, last_of, after_get, after_fire, after_put, local_after, queue_after, after_event, step, after, IsRun, HasEnded}
+use Rattle.net_core.specs.Machine.{Net, Local, State, Rule, start, next, can_come, front, last_of, after_get}
+use Rattle.net_core.specs.Machine.{after_fire, after_put, local_after, queue_after, after_event, step, after, IsRun}
+use Rattle.net_core.specs.Machine.{HasEnded}
 use Rattle.net_core.specs.Shape.{is_get, is_put, is_fire, IsWired, fires}
 use Rattle.net_core.specs.Cuts.{Cut, gets_at, advanced, positions, IsCounted}
-use Rattle.net_core.specs.Names.{tag, with_token, tokens_before, tokens, with_get, latest_gets, token_at, slot_names, fired, GivesValues, IsLocalNamed, IsNamed}
+use Rattle.net_core.specs.Names.{tag, with_token, tokens_before, tokens, with_get, latest_gets, token_at, slot_names}
+use Rattle.net_core.specs.Names.{fired, GivesValues, IsLocalNamed, IsNamed}
 use Rattle.net_core.specs.Rules.{tags}
 use Rattle.net_core.proofs.Counting.{count_next, count_none, replaced_same, replaced_other}
 use Rattle.net_core.proofs.CutOrder.{advanced_here, advanced_there}
@@ -265,7 +271,14 @@ module _ {T : Type 0} (n : Net) (rule : Rule T) (wired : IsWired n) (v : Tag →
             let some : 0 < fires n p (positions s p) = put_fired n wired p (positions s p) c (Put d) is t in
             let last : last_of (s.local p).kept ≡ v new ∷ [] =
             ap last_of ((named.locals p).kept) ∙ last_fired v p (fires n p (positions s p)) some ∙ rw here refl in
-            rw (t, add-zero g, drop-append-le g ts (new ∷ []) low, map-append v (drop g ts) (new ∷ []), last, named.queues c) refl
+            rw (
+              t,
+              add-zero g,
+              drop-append-le g ts (new ∷ []) low,
+              map-append v (drop g ts) (new ∷ []),
+              last,
+              named.queues c,
+            ) refl
         | inr f ↦ rw (f, add-zero g) (named.queues c)
       ]
 
@@ -319,7 +332,11 @@ no_names n (suc k) = ap (λ xs. None ∷ xs) (no_names n k)
 pub start_named : {T : Type 0} (n : Net) (v : Tag → T) → IsNamed n v (start n)
 start_named n v = record {
   locals =
-      λ p. record { slots = map_nothing v (n.slots p) ∙ ap (map (option_map v)) (sym (no_names n (n.slots p))); kept = refl };
+      λ p. record {
+        slots = map_nothing v (n.slots p) ∙ ap (map (option_map v)) (sym (no_names n (n.slots p)));
+        kept =
+            refl;
+      };
   queues = λ c. refl;
 }
 

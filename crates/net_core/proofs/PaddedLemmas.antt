@@ -1,5 +1,6 @@
 -- What a padded array keeps.
-use Rattle.std.proofs.Common.{◌≡◌, ℕ, zero, suc, ◌+◌, ◌<◌, List, [], ◌∷◌, ◌++◌, length, take, slice_set, arith, ap, ◌∙◌, sym, ap₂, refl, length-set}
+use Rattle.std.proofs.Common.{◌≡◌, ℕ, zero, suc, ◌+◌, ◌<◌, List, [], ◌∷◌, ◌++◌, length, take, slice_set, arith, ap, ◌∙◌}
+use Rattle.std.proofs.Common.{sym, ap₂, refl, length-set}
 use Rattle.std.proofs.lemmas.List.{length-take, take_more_set}
 use Rattle.net_core.specs.declared.refs.Ref.{Ref}
 use Rattle.net_core.specs.Padded.{pad, IsPadded}

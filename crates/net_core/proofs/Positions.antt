@@ -5,15 +5,19 @@
 -- start, and each enabled step keeps it: a Get takes one of at least one, a Put appends exactly one value, since no
 -- Put stands before the first fire. So whether a process may go on is a matter of the positions alone, and runs of the
 -- machine are runs on cuts, both ways (`run_cut`, `cut_run`). It says nothing of what the values are: that is Naming.
-use Rattle.std.proofs.Common.{◌≡◌, ℕ, suc, ◌+◌, ◌<◌, ◌≤◌, true, false, cond, eqb, Option, Some, None, List, [], ◌∷◌, length, take, slice_get, count_by, refl, sym, ap, ◌∙◌, subst, inl, inr, arith, ltb-true, lt-ltb, eqb-true, length-append, length-drop}
+use Rattle.std.proofs.Common.{◌≡◌, ℕ, suc, ◌+◌, ◌<◌, ◌≤◌, true, false, cond, eqb, Option, Some, None, List, [], ◌∷◌}
+use Rattle.std.proofs.Common.{length, take, slice_get, count_by, refl, sym, ap, ◌∙◌, subst, inl, inr, arith, ltb-true}
+use Rattle.std.proofs.Common.{lt-ltb, eqb-true, length-append, length-drop}
 use Rattle.std.proofs.lemmas.Bool.{cases_eq, cases_lt, le-ltb, cases_Bool}
 use Rattle.std.proofs.lemmas.Option.{slice_get_past}
 use mathlib.Core.Path.{fun_ext}
 use Rattle.net_core.specs.declared.network.Event.{Event}
 use Rattle.net_core.specs.declared.network.Event.TheVariants.{Get, Fire, Put}
-use Rattle.net_core.specs.Machine.{Net, Local, State, Rule, start, next, can_come, enabled, last_of, local_after, queue_after, after_event, step, after, IsRun}
+use Rattle.net_core.specs.Machine.{Net, Local, State, Rule, start, next, can_come, enabled, last_of, local_after}
+use Rattle.net_core.specs.Machine.{queue_after, after_event, step, after, IsRun}
 use Rattle.net_core.specs.Shape.{is_get, is_put, is_fire, IsWired}
-use Rattle.net_core.specs.Cuts.{Cut, gets_at, puts_at, can_come_at, enabled_at, advanced, cut_after, IsCutRun, positions, IsCounted}
+use Rattle.net_core.specs.Cuts.{Cut, gets_at, puts_at, can_come_at, enabled_at, advanced, cut_after, IsCutRun}
+use Rattle.net_core.specs.Cuts.{positions, IsCounted}
 use Rattle.net_core.proofs.Counting.{count_next, replaced_same, replaced_other}
 use Rattle.net_core.proofs.CutOrder.{advanced_here, advanced_there}
 use Rattle.net_core.proofs.TwoSteps.{get_reader, put_writer}

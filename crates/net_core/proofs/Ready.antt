@@ -1,5 +1,7 @@
 -- What an enabled event finds in a state of the network, and that the state after it is one too.
-use Rattle.std.proofs.Common.{◌≡◌, ℕ, zero, suc, ◌+◌, ◌^◌, ◌<◌, ◌≤◌, Bool, true, Some, List, [], ◌∷◌, length, take, drop, slice_get, count_by, refl, sym, ap, ◌∙◌, subst, inl, inr, arith, add-one, ltb-true, eq-eqb, length-set, take_all}
+use Rattle.std.proofs.Common.{◌≡◌, ℕ, zero, suc, ◌+◌, ◌^◌, ◌<◌, ◌≤◌, Bool, true, Some, List, [], ◌∷◌, length, take}
+use Rattle.std.proofs.Common.{drop, slice_get, count_by, refl, sym, ap, ◌∙◌, subst, inl, inr, arith, add-one, ltb-true}
+use Rattle.std.proofs.Common.{eq-eqb, length-set, take_all}
 use Rattle.std.proofs.lemmas.Bool.{cases_eq, cases_lt}
 use Rattle.std.proofs.lemmas.List.{drop-drop, length-take}
 use Rattle.std.proofs.lemmas.List.Sums.{count_by-le-length}
@@ -7,7 +9,8 @@ use Rattle.std.proofs.lemmas.Option.{slice_get_within}
 use Rattle.net_core.specs.declared.refs.Ref.{Ref}
 use Rattle.net_core.specs.declared.network.Event.{Event}
 use Rattle.net_core.specs.declared.network.Event.TheVariants.{Get, Fire, Put}
-use Rattle.net_core.specs.Machine.{Net, Local, State, Rule, next, can_come, enabled, local_after, after_event, replaced, step}
+use Rattle.net_core.specs.Machine.{Net, Local, State, Rule, next, can_come, enabled, local_after, after_event, replaced}
+use Rattle.net_core.specs.Machine.{step}
 use Rattle.net_core.specs.Shape.{is_put, is_fire, IsWired, FitsNumbers, events_below, put_count}
 use Rattle.net_core.specs.Cuts.{puts_at, positions}
 use Rattle.net_core.specs.Held.{Held, IsFor, HasPassed, IsReached}
@@ -79,21 +82,41 @@ local_after_slots rule p l queue (Put c) = refl
 module _ {T : Type 0} (n : Net) (h : Held T) (is_for : IsFor n h) where
   pub position_short : (p : ℕ) (e : Event) → next n h.run p ≡ Some e → (h.run.local p).position + 1 < 2 ^ 32
   position_short p e is =
-      omega (arith, slice_get_within (n.script p) (h.run.local p).position e is, script_short n is_for.wired is_for.numbers p)
+      omega (
+        arith,
+        slice_get_within (n.script p) (h.run.local p).position e is,
+        script_short n is_for.wired is_for.numbers p,
+      )
 
   pub kept_short : (p : ℕ) → length (h.run.local p).kept < 2 ^ 32
   kept_short p =
-      omega (arith, is_for.counted.kept p, count_short is_fire (n.script p) (h.run.local p).position, script_short n is_for.wired is_for.numbers p)
+      omega (
+        arith,
+        is_for.counted.kept p,
+        count_short is_fire (n.script p) (h.run.local p).position,
+        script_short n is_for.wired is_for.numbers p,
+      )
 
   -- a queue's length is below 2 ^ 32
   pub queue_short : (c : ℕ) → length (h.run.queue c) < 2 ^ 32
   queue_short c =
-      omega (arith, is_for.counted.queues c, count_short (is_put c) (n.script (n.writer c)) (positions h.run (n.writer c)), script_short n is_for.wired is_for.numbers (n.writer c))
+      omega (
+        arith,
+        is_for.counted.queues c,
+        count_short (is_put c) (n.script (n.writer c))
+            (positions h.run (n.writer c)),
+        script_short n is_for.wired is_for.numbers (n.writer c),
+      )
 
   pub kept_reserved : (p : ℕ) (refs : List Ref) → next n h.run p ≡ Some (Fire refs)
       → length (h.run.local p).kept < h.kept_room p
   kept_reserved p refs is =
-      omega (arith, is_for.counted.kept p, is_for.kept_room p, count_all is_fire (n.script p) (h.run.local p).position (Fire refs) is refl)
+      omega (
+        arith,
+        is_for.counted.kept p,
+        is_for.kept_room p,
+        count_all is_fire (n.script p) (h.run.local p).position (Fire refs) is refl,
+      )
 
   pub some_kept : (p c : ℕ) → next n h.run p ≡ Some (Put c) → 0 < length (h.run.local p).kept
   some_kept p c is = omega (arith, is_for.counted.kept p, is_for.wired.put_fired p (h.run.local p).position c is)
@@ -172,7 +195,15 @@ module _ {T : Type 0} (n : Net) (h : Held T) (is_for : IsFor n h) where
       } in
       let ends : record h { run = after_event rule h.run p (Some e); left = replaced h.left p (drop 1 (h.left p)) }
       ≡ h' =
-      λ i. record { run = sym run i; processes = sym same.0 i; channels = sym same.1 i; left = sym same.2 i; kept_room = sym same.3 i; queue_room = sym same.4 i } in
+      λ i. record {
+        run = sym run i;
+        processes = sym same.0 i;
+        channels = sym same.1 i;
+        left = sym same.2 i;
+        kept_room =
+            sym same.3 i;
+        queue_room = sym same.4 i;
+      } in
       subst (IsFor n) ends stays
 
 -- a queue's length is below 2 ^ 32 in every state that steps have reached

@@ -5,12 +5,15 @@
 -- empty, so its front and what is left don't depend on a Put behind it. It holds in every state, reached or not, and
 -- whatever a fire gives, and it is no induction. Longer runs are the matter of CutOrder and EveryOrder, which argue by
 -- monotony and don't use this exchange.
-use Rattle.std.proofs.Common.{◌≡◌, ℕ, ◌<◌, ◌≤◌, true, eqb, Option, Some, None, List, [], ◌∷◌, ◌++◌, length, drop, slice_get, refl, sym, ap, ◌∙◌, inl, inr, arith, ltb-true, lt-ltb, eq-eqb, eqb-true, length-append, length-drop}
+use Rattle.std.proofs.Common.{◌≡◌, ℕ, ◌<◌, ◌≤◌, true, eqb, Option, Some, None, List, [], ◌∷◌, ◌++◌, length, drop}
+use Rattle.std.proofs.Common.{slice_get, refl, sym, ap, ◌∙◌, inl, inr, arith, ltb-true, lt-ltb, eq-eqb, eqb-true}
+use Rattle.std.proofs.Common.{length-append, length-drop}
 use Rattle.std.proofs.lemmas.Bool.{cases_eq, cases_Bool}
 use mathlib.Core.Path.{fun_ext}
 use Rattle.net_core.specs.declared.network.Event.{Event}
 use Rattle.net_core.specs.declared.network.Event.TheVariants.{Get, Fire, Put}
-use Rattle.net_core.specs.Machine.{Net, Local, State, Rule, next, can_come, enabled, front, last_of, local_after, queue_after, after_event, step}
+use Rattle.net_core.specs.Machine.{Net, Local, State, Rule, next, can_come, enabled, front, last_of, local_after}
+use Rattle.net_core.specs.Machine.{queue_after, after_event, step}
 use Rattle.net_core.specs.Shape.{is_get, is_put, IsWired}
 use Rattle.net_core.proofs.Counting.{replaced_same, replaced_other}
 
@@ -33,8 +36,10 @@ put_writer n wired p k c (Put ch) is t = rw (eqb-true c ch t) (wired.put_writer 
 apart : (n : Net) (wired : IsWired n) (p q i j : ℕ) (e f : Event) → (p ≡ q → ⊥) → slice_get (n.script p) i ≡ Some e
     → slice_get (n.script q) j ≡ Some f → Apart e f
 unfolding Apart
-apart n wired p q i j e f d ise isf c =
-    (λ a b. d (sym (get_reader n wired p i c e ise a) ∙ get_reader n wired q j c f isf b), λ a b. d (sym (put_writer n wired p i c e ise a) ∙ put_writer n wired q j c f isf b))
+apart n wired p q i j e f d ise isf c = (
+  λ a b. d (sym (get_reader n wired p i c e ise a) ∙ get_reader n wired q j c f isf b),
+  λ a b. d (sym (put_writer n wired p i c e ise a) ∙ put_writer n wired q j c f isf b),
+)
 
 drop_append : {T : Type 0} (q l : List T) → 0 < length q → drop 1 (q ++ l) ≡ drop 1 q ++ l
 drop_append [] l h = absurd (omega arith)

@@ -5,7 +5,9 @@
 -- names nothing reads 0, and the value of an entry is by definition its expression over just these. So all fires of a
 -- process give the values of its entries in order. That the references do name the last writers is a premise here: the
 -- checker tests it, and for the compiler's networks it is a law.
-use Rattle.std.proofs.Common.{◌≡◌, ℕ, zero, suc, ◌<◌, ◌≤◌, false, eqb, ℤ, pos, Option, Some, None, List, [], ◌∷◌, ◌++◌, length, map, take, slice_get, count_by, get_or, option_map, refl, sym, ap, ap₂, ◌∙◌, inl, inr, arith, ne_eqb, take_all, zero-add}
+use Rattle.std.proofs.Common.{◌≡◌, ℕ, zero, suc, ◌<◌, ◌≤◌, false, eqb, ℤ, pos, Option, Some, None, List, [], ◌∷◌, ◌++◌}
+use Rattle.std.proofs.Common.{length, map, take, slice_get, count_by, get_or, option_map, refl, sym, ap, ap₂, ◌∙◌, inl}
+use Rattle.std.proofs.Common.{inr, arith, ne_eqb, take_all, zero-add}
 use Rattle.std.specs.Prelude.{unwrap_or, IsTrue}
 use Rattle.std.specs.Option.{option_and_then, option_map_or}
 use Rattle.std.specs.List.{range_with_len}
@@ -181,7 +183,12 @@ fire_value n d p f statement refs slots at reads given result is at_is reads_is 
     ∙ (λ i. option_map_or
     (λ (s : Statement).
     value_of s.expr
-    (record { at = vector_at (points_of n) p f; reads = map (read_slot slots) refs; given = given_at n d s.role (vector_at (points_of n) p f) })) (sym is i) (pos 0))
+    (record {
+      at = vector_at (points_of n) p f;
+      reads = map (read_slot slots) refs;
+      given =
+          given_at n d s.role (vector_at (points_of n) p f);
+    })) (sym is i) (pos 0))
 
 module _ (n : Nest) (d : Inputs) where
   -- What a reference reads
@@ -254,7 +261,12 @@ module _ (n : Nest) (d : Inputs) where
       → option_map_or
       (λ (statement : Statement).
       value_of statement.expr
-      (record { at = vector_at (points_of n) p f; reads = reads; given = given_at n d statement.role (vector_at (points_of n) p f) })) (slice_get n.statements p) (pos 0)
+      (record {
+        at = vector_at (points_of n) p f;
+        reads = reads;
+        given =
+            given_at n d statement.role (vector_at (points_of n) p f);
+      })) (slice_get n.statements p) (pos 0)
       ≡ value_at n d (trace n) t
   unfolding look
   entry_value p f t point reads is process vector same =

@@ -1,4 +1,5 @@
--- A network of three processes, computed from the definitions: the second uses the tokens of the first in the order 0, 2, 1, 3.
+-- A network of three processes, computed from the definitions: the second uses the tokens of the first in the order 0,
+-- 2, 1, 3.
 use Rattle.std.proofs.Common.{◌≡◌, false, List, [], ◌∷◌, refl}
 use Rattle.std.specs.Prelude.{slice_index_or}
 use Rattle.sanlp.specs.declared.nest.Tag.{Tag}

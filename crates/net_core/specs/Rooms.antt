@@ -19,14 +19,16 @@ abbrev pub fresh_store : {T : Type 0} → Net → ℕ → Store T
 fresh_store n p = store (n.script p) (replicate (n.slots p) None) [] (count_by is_fire (n.script p))
 
 -- one event further in the script
-abbrev pub passed : {T : Type 0} → Store T → Store T
-passed s = store (drop 1 s.left) s.slots s.kept s.space
+abbrev pub store_past_event : {T : Type 0} → Store T → Store T
+store_past_event s = store (drop 1 s.left) s.slots s.kept s.space
 
-abbrev pub filled : {T : Type 0} → Store T → ℕ → T → Store T
-filled s slot x = store s.left (slice_set s.slots slot (Some x)) s.kept s.space
+-- with this token in the slot
+abbrev pub store_with_token : {T : Type 0} → Store T → ℕ → T → Store T
+store_with_token s slot x = store s.left (slice_set s.slots slot (Some x)) s.kept s.space
 
-abbrev pub kept_also : {T : Type 0} → Store T → T → Store T
-kept_also s x = store s.left s.slots (s.kept ++ x ∷ []) s.space
+-- with this value fired last
+abbrev pub store_with_value : {T : Type 0} → Store T → T → Store T
+store_with_value s x = store s.left s.slots (s.kept ++ x ∷ []) s.space
 
 -- the machine's part of a process at this place of its script
 abbrev pub local_of : {T : Type 0} → ℕ → Store T → Local T

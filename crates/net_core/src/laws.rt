@@ -38,9 +38,11 @@ pub fn two_steps<T: Copy>()
 pub fn cuts<T: Copy>()
     ensures positions { (n : Net) (rule : Rule T) (run : List ℕ) → IsRun n rule (start n) run
         → (p : ℕ) → positions (reached n rule run) p ≡ cut_after opening run p }
-    ensures enabled { (n : Net) (rule : Rule T) (run : List ℕ) → IsWired n → IsRun n rule (start n) run
+    ensures enabled { (n : Net) (rule : Rule T) (run : List ℕ) → IsWired n
+        → IsRun n rule (start n) run
         → (p : ℕ) → enabled n (reached n rule run) p ≡ enabled_at n (cut_after opening run) p }
-    ensures queues { (n : Net) (rule : Rule T) (run : List ℕ) → IsWired n → IsRun n rule (start n) run
+    ensures queues { (n : Net) (rule : Rule T) (run : List ℕ) → IsWired n
+        → IsRun n rule (start n) run
         → (c : ℕ) → length ((reached n rule run).queue c) + gets_at n (cut_after opening run) c
         ≡ puts_at n (cut_after opening run) c }
 {}
@@ -65,13 +67,15 @@ pub fn names<T: Copy>()
         → GivesValues n rule v → IsRun n rule (start n) run → IsNamed n v (reached n rule run) }
     ensures kept { (n : Net) (rule : Rule T) (v : Tag → T) (run : List ℕ) → IsWired n
         → GivesValues n rule v → EndsAll n rule run
-        → (p : ℕ) → ((reached n rule run).local p).kept ≡ fired v p (fires n p (length (n.script p))) }
+        → (p : ℕ) → ((reached n rule run).local p).kept
+        ≡ fired v p (fires n p (length (n.script p))) }
 {}
 
 /// In every state that a run over tags reaches, each slot holds the tag that it names.
 pub fn tags_name()
     ensures { (n : Net) (run : List ℕ) → IsWired n → IsRun n tags (start n) run
-        → (p : ℕ) → ((reached n tags run).local p).slots ≡ slot_names n p ((reached n tags run).local p).position }
+        → (p : ℕ) → ((reached n tags run).local p).slots
+        ≡ slot_names n p ((reached n tags run).local p).position }
 {}
 
 /// Where a network has the shape of a nest, its fires keep to the numbers of the nest's points and reads. Where besides each

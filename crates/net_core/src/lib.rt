@@ -1,6 +1,7 @@
 //! Process networks with bounded channels: the machine that runs them, and what holds of every order of events.
 #![tactic(auto)]
 
+mod copies;
 mod firing;
 mod laws;
 mod machine;

@@ -1,7 +1,7 @@
 ghost use Rattle.std.specs.Prelude.{◌≡◌, ◌<◌, ◌+◌, ◌^◌, ℕ, [], ◌∷◌, length, All, Some, true, IsTrue, ◌↔◌, IfSome, IfNone};
 ghost use Rattle.net_core.specs.Machine.{Rule, net_of, last_of, next, enabled, step, after_event, HasEnded};
 ghost use Rattle.net_core.specs.Shape.{IsWithin};
-ghost use Rattle.net_core.specs.Rooms.{passed, filled, kept_also};
+ghost use Rattle.net_core.specs.Rooms.{store_past_event, store_with_token, store_with_value};
 ghost use Rattle.net_core.specs.Rules.{KeepsTo, AllKeepTo};
 ghost use Rattle.net_core.specs.Held.{held_of, run_of, IsFor, IsReached, HasPassed, IsLeastUnended};
 
@@ -31,7 +31,7 @@ impl<T: Copy> Local<T> {
     fn pass(&mut self)
         requires { self.old.position + 1 < 2 ^ 32 }
         ensures position { self.new.position ≡ self.old.position + 1 }
-        ensures room { self.new.room ≡ passed self.old.room }
+        ensures room { self.new.room ≡ store_past_event self.old.room }
     {
         self.room.pass();
         self.position += 1;
@@ -42,7 +42,8 @@ impl<T: Copy> Local<T> {
         requires position { self.old.position + 1 < 2 ^ 32 }
         requires slot { slot < length self.old.room.slots }
         ensures position { self.new.position ≡ self.old.position + 1 }
-        ensures room { self.new.room ≡ passed (filled self.old.room slot token) }
+        ensures room { self.new.room
+            ≡ store_past_event (store_with_token self.old.room slot token) }
     {
         self.room.fill(slot, token);
         self.pass();
@@ -53,7 +54,8 @@ impl<T: Copy> Local<T> {
         requires position { self.old.position + 1 < 2 ^ 32 }
         requires reserved { length self.old.room.kept < self.old.room.space }
         ensures position { self.new.position ≡ self.old.position + 1 }
-        ensures room { self.new.room ≡ passed (kept_also self.old.room value) }
+        ensures room { self.new.room
+            ≡ store_past_event (store_with_value self.old.room value) }
     {
         self.room.keep(value);
         self.pass();

@@ -1,7 +1,7 @@
 ghost use Rattle.std.specs.Prelude.{◌≡◌, ◌<◌, [], ◌∷◌, length, slice_get, Some, IfOk};
 ghost use Rattle.net_core.specs.Machine.{last_of, net_of};
 ghost use Rattle.net_core.specs.Shape.{IsShaped};
-ghost use Rattle.net_core.specs.Rooms.{fresh_store, passed, filled, kept_also};
+ghost use Rattle.net_core.specs.Rooms.{fresh_store, store_past_event, store_with_token, store_with_value};
 
 use crate::network::{Event, Network};
 use sanlp::Points;
@@ -23,7 +23,8 @@ impl<T> Model for Room<T> {
 
     ghost Value = { Store T };
 
-    ghost view = { λ room. store room.script room.slots.items room.kept.items (vec_capacity room.kept) };
+    ghost view = { λ room. store room.script room.slots.items room.kept.items
+        (vec_capacity room.kept) };
 }
 
 impl<T: Copy> Room<T> {
@@ -58,7 +59,7 @@ impl<T: Copy> Room<T> {
     /// Passes over the next event of the script and gives it, or `None` at the script's end. It takes no memory.
     pub fn pass(&mut self) -> Option<Event>
         ensures event { result ≡ slice_get self.old.left 0 }
-        ensures passed { self.new ≡ passed self.old }
+        ensures passed { self.new ≡ store_past_event self.old }
     {
         self.script.next()
     }
@@ -80,7 +81,7 @@ impl<T: Copy> Room<T> {
     /// A Get: the token goes to the slot.
     pub fn fill(&mut self, slot: usize, token: T)
         requires { slot < length self.old.slots }
-        ensures { self.new ≡ filled self.old slot token }
+        ensures { self.new ≡ store_with_token self.old slot token }
     {
         self.slots[slot] = Some(token);
     }
@@ -88,7 +89,7 @@ impl<T: Copy> Room<T> {
     /// A Fire: the value is kept. It takes no memory.
     pub fn keep(&mut self, value: T)
         requires { length self.old.kept < self.old.space }
-        ensures { self.new ≡ kept_also self.old value }
+        ensures { self.new ≡ store_with_value self.old value }
     {
         self.kept.push_reserved(value);
     }

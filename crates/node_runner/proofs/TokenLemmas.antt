@@ -1,5 +1,7 @@
 -- The tokens of a channel, one for each of its Puts.
-use Rattle.std.proofs.Common.{◌≡◌, ◌≤◌, ◌+◌, ◌-◌, ◌==◌, ℕ, zero, suc, pred, true, cond, Option, Some, None, List, [], ◌∷◌, ◌++◌, length, take, slice_get, count_by, refl, sym, ap, ◌∙◌, arith, zero-add, suc-add, inl, inr, eq-eqb, take_all}
+use Rattle.std.proofs.Common.{◌≡◌, ◌≤◌, ◌+◌, ◌-◌, ◌==◌, ℕ, zero, suc, pred, true, cond, Option, Some, None, List, []}
+use Rattle.std.proofs.Common.{◌∷◌, ◌++◌, length, take, slice_get, count_by, refl, sym, ap, ◌∙◌, arith, zero-add}
+use Rattle.std.proofs.Common.{suc-add, inl, inr, eq-eqb, take_all}
 use Rattle.std.proofs.lemmas.Bool.{cases_Bool}
 use Rattle.std.proofs.lemmas.Option.{slice_get_within}
 use Rattle.sanlp.specs.declared.nest.Inputs.{Inputs}

@@ -6,7 +6,10 @@
 -- stream is the values of the tokens, so it is the one that the slot names. A Put sends the last fired value, which is
 -- the stream's next. So each process, by itself and without any state of the others, keeps the values of its points.
 -- That a Get or a Put returns is assumed, not shown.
-use Rattle.std.proofs.Common.{◌≡◌, ◌<◌, ◌≤◌, ◌+◌, ◌==◌, ℕ, zero, suc, pred, Bool, All, get_or, true, false, cond, ℤ, Option, Some, None, List, [], ◌∷◌, ◌++◌, length, take, drop, slice_get, count_by, option_map, refl, sym, ap, ap₂, ◌∙◌, subst, inl, inr, arith, eq-eqb, add-zero, append_assoc, take_all, length-append, length-set}
+use Rattle.std.proofs.Common.{◌≡◌, ◌<◌, ◌≤◌, ◌+◌, ◌==◌, ℕ, zero, suc, pred, Bool, All, get_or, true, false, cond, ℤ}
+use Rattle.std.proofs.Common.{Option, Some, None, List, [], ◌∷◌, ◌++◌, length, take, drop, slice_get, count_by}
+use Rattle.std.proofs.Common.{option_map, refl, sym, ap, ap₂, ◌∙◌, subst, inl, inr, arith, eq-eqb, add-zero}
+use Rattle.std.proofs.Common.{append_assoc, take_all, length-append, length-set}
 use Rattle.std.specs.Option.{option_and_then, option_map_or}
 use Rattle.std.proofs.lemmas.List.{length-map, length-replicate}
 use Rattle.std.proofs.lemmas.List.Sums.{count_by-le-length}
@@ -21,7 +24,7 @@ use Rattle.net_core.specs.declared.network.Event.{Event}
 use Rattle.net_core.specs.declared.network.Event.TheVariants.{Get, Fire, Put}
 use Rattle.net_core.specs.declared.network.Network.{Network}
 use Rattle.net_core.specs.Machine.{Net, Rule, net_of, last_of}
-use Rattle.net_core.specs.Rooms.{Store, fresh_store, local_of, passed}
+use Rattle.net_core.specs.Rooms.{Store, fresh_store, local_of, store_past_event}
 use Rattle.net_core.specs.Names.{tag, tokens, fired, IsLocalNamed}
 use Rattle.net_core.specs.Rules.{values, value_limits}
 use Rattle.net_core.specs.Shape.{is_get, is_put, is_fire, fires, IsWithin, FitsNumbers}
@@ -104,7 +107,12 @@ module _ (nest : Nest) (network : Network) (d : Inputs) (sound : IsSound nest ne
       let enough : count_by (is_get c) (n.script p) ≤ length (tokens n c) =
       subst (λ q. count_by (is_get c) (n.script q) ≤ length (tokens n c)) reader
       (enough_tokens nest network d sound c) in
-      omega (arith, count_all (is_get c) (n.script p) k (Get c slot) is (eq-eqb c c refl), enough, length-map (tokens n c) (tag_value nest d))
+      omega (
+        arith,
+        count_all (is_get c) (n.script p) k (Get c slot) is (eq-eqb c c refl),
+        enough,
+        length-map (tokens n c) (tag_value nest d),
+      )
 
   from_is : (k c slot : ℕ) (from to : Ports) (s : Store ℤ) → slice_get ((net_of network).script p) k ≡ Some (Get c slot)
       → Stands (net_of network) (tag_value nest d) p from₀ to₀ k from to s
@@ -162,7 +170,13 @@ module _ (nest : Nest) (network : Network) (d : Inputs) (sound : IsSound nest ne
         (omega (arith, count, turn_there nest network sound.fits p k refs is), sound.fits.references p k refs is),
         subst (λ m. All (IsWithin m) refs) (sym st.many) (sound.fits.shaped.wired.reference_slots p k refs is),
         omega (arith, count, few, st.space),
-        omega (arith, count, few, count_by-le-length is_fire (n.script p), script_short n sound.fits.shaped.wired numbers p),
+        omega (
+          arith,
+          count,
+          few,
+          count_by-le-length is_fire (n.script p),
+          script_short n sound.fits.shaped.wired numbers p,
+        ),
       )
   can_turn k (Put c) from to s is st = (
     (let some = sound.fits.shaped.wired.put_fired p k c is in omega (arith, kept_count k s st.named)),
@@ -319,9 +333,16 @@ pub record Goes (n : Net) (v : Tag → ℤ) (p : ℕ) (from₀ to₀ from to : P
 
 -- the next event is passed over
 pub stands_passed : (n : Net) (v : Tag → ℤ) (p : ℕ) (from₀ to₀ : Ports) (k : ℕ) (from to : Ports) (s : Store ℤ)
-    → Stands n v p from₀ to₀ k from to s → Stands n v p from₀ to₀ k from to (passed s)
+    → Stands n v p from₀ to₀ k from to s → Stands n v p from₀ to₀ k from to (store_past_event s)
 stands_passed n v p from₀ to₀ k from to s st =
-    record { gets = st.gets; puts = st.puts; named = record { slots = st.named.slots; kept = st.named.kept }; many = st.many; space = st.space }
+    record {
+      gets = st.gets;
+      puts = st.puts;
+      named = record { slots = st.named.slots; kept = st.named.kept };
+      many =
+          st.many;
+      space = st.space;
+    }
 
 -- an event leaves what is left
 turned_left : (rule : Rule ℤ) (p : ℕ) (e : Event) (from to from' to' : Ports) (s s' : Store ℤ)
@@ -332,7 +353,7 @@ turned_left rule p (Put c) from to from' to' s s' t = ap (λ (r : Store ℤ). r.
 
 -- what is left after the event at place k
 pub left_then : (rule : Rule ℤ) (p : ℕ) (e : Event) (from to from' to' : Ports) (s before s' : Store ℤ)
-    (script : List Event) (k : ℕ) → before ≡ passed s → Turns rule p e from to before from' to' s'
+    (script : List Event) (k : ℕ) → before ≡ store_past_event s → Turns rule p e from to before from' to' s'
     → s.left ≡ drop k script → s'.left ≡ drop (suc k) script
 left_then rule p e from to from' to' s before s' script k is t left =
     turned_left rule p e from to from' to' before s' t ∙ ap (λ (r : Store ℤ). r.left) is ∙ ap (drop 1) left

@@ -8,7 +8,7 @@ use Rattle.net_core.specs.declared.network.Event.TheVariants.{Get, Fire, Put}
 use Rattle.net_core.specs.declared.network.Network.{Network}
 use Rattle.net_core.specs.Machine.{Rule, net_of, last_of}
 use Rattle.net_core.specs.Names.{tokens}
-use Rattle.net_core.specs.Rooms.{Store, filled, kept_also}
+use Rattle.net_core.specs.Rooms.{Store, store_with_token, store_with_value}
 use Rattle.net_core.specs.Rules.{Limits, KeepsTo}
 use Rattle.net_core.specs.Shape.{IsWithin}
 use Rattle.net_core.specs.Sound.{tag_value}
@@ -58,10 +58,10 @@ CanTurn limits p (Put c) from to s =
 abbrev pub Turns : Rule ℤ → ℕ → Event → Ports → Ports → Store ℤ → Ports → Ports → Store ℤ → Type 0
 Turns rule p (Get c slot) from to s from' to' s' =
     (x : ℤ) × IsNext (from c) x × ((d : ℕ) → from' d ≡ grown_at from c x d)
-    × ((d : ℕ) → to' d ≡ to d) × (s' ≡ filled s slot x)
+    × ((d : ℕ) → to' d ≡ to d) × (s' ≡ store_with_token s slot x)
 Turns rule p (Fire refs) from to s from' to' s' =
     ((d : ℕ) → from' d ≡ from d) × ((d : ℕ) → to' d ≡ to d)
-    × (s' ≡ kept_also s (rule p (length s.kept) refs s.slots))
+    × (s' ≡ store_with_value s (rule p (length s.kept) refs s.slots))
 Turns rule p (Put c) from to s from' to' s' =
     (x : ℤ) × (last_of s.kept ≡ x ∷ []) × ((d : ℕ) → from' d ≡ from d)
     × ((d : ℕ) → to' d ≡ grown_at to c x d) × (s' ≡ s)

@@ -21,7 +21,14 @@ few_entries n ok = omega (arith, ok.size_within)
 pub few_writers : (n : Nest) (p k : ℕ) → length (writers_of (length n.statements) (sources_at n p k)) ≤ 64
 few_writers n p k =
     let test : ℕ → Bool = λ w. list_any (is_from w) (sources_at n p k) in
-    omega (arith, length-filter test (range_with_len 0 (length n.statements)), count_by-le-length test (range_with_len 0 (length n.statements)), length-range_with_len 0 (length n.statements), few_statements n)
+    omega (
+      arith,
+      length-filter test (range_with_len 0 (length n.statements)),
+      count_by-le-length test
+          (range_with_len 0 (length n.statements)),
+      length-range_with_len 0 (length n.statements),
+      few_statements n,
+    )
 
 few_at : (n : Nest) (p : ℕ) → length (flat_map (plans_at n p) (range_with_len 0 (read_count n p))) ≤ 8 * 64
 few_at n p =

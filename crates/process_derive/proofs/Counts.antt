@@ -1,5 +1,6 @@
 -- The uses of each process's tokens, as they are counted.
-use Rattle.std.proofs.Common.{◌≡◌, ◌<◌, ◌≤◌, ◌+◌, ℕ, zero, suc, cond, List, [], ◌∷◌, ◌++◌, map, length, take, set, get_or, refl, sym, ap, ◌∙◌, arith, add-one, length-append}
+use Rattle.std.proofs.Common.{◌≡◌, ◌<◌, ◌≤◌, ◌+◌, ℕ, zero, suc, cond, List, [], ◌∷◌, ◌++◌, map, length, take, set}
+use Rattle.std.proofs.Common.{get_or, refl, sym, ap, ◌∙◌, arith, add-one, length-append}
 use Rattle.std.specs.Prelude.{Option, Some, None, slice_get, replicate}
 use Rattle.std.specs.List.{cons_option, range_with_len}
 use Rattle.std.specs.Option.{option_and_then}
@@ -7,12 +8,11 @@ use Rattle.std.proofs.lemmas.Bool.{ne_eqb, eq-eqb}
 use Rattle.std.proofs.lemmas.List.Elements.{filter_map-append}
 use Rattle.std.proofs.lemmas.List.FromFn.{get_or-map-range_with_len, map-range_with_len_more}
 use Rattle.sanlp.specs.declared.nest.Tag.{Tag}
-use Rattle.sanlp.proofs.Lists.{map-range_with_len_same, map-range_with_len_replicate}
+use Rattle.sanlp.proofs.Lists.{map-range_with_len_same, map-range_with_len_replicate, set_counted, take_next}
 use Rattle.channel_plan.specs.Tokens.{turn_of, turns_used}
 use Rattle.process_derive.specs.declared.incoming.Incoming.{Incoming}
 use Rattle.process_derive.specs.declared.uses.ChannelUse.{ChannelUse}
 use Rattle.process_derive.specs.Uses.{CountsBelow, OnlyBelow, counted, use_at, use_from, uses_before}
-use Rattle.process_derive.proofs.Lists.{set_counted, take_next}
 
 pub before_more : (sources : List (Option Tag)) (i w : ℕ) (source : Option Tag) → slice_get sources i ≡ Some source
     → uses_before sources (i + 1) w ≡ uses_before sources i w + length (cons_option (turn_of w source) [])

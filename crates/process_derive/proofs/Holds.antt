@@ -1,6 +1,7 @@
 -- The slots of a process: no more than the Gets of its channels, so at most eight for each of its points, and their
 -- numbers fit 32 bits.
-use Rattle.std.proofs.Common.{◌≡◌, ◌<◌, ◌≤◌, ◌+◌, ◌*◌, ◌^◌, ℕ, zero, suc, false, cond, eqb, List, [], ◌∷◌, length, take, refl, sym, ap, ◌∙◌, subst, arith}
+use Rattle.std.proofs.Common.{◌≡◌, ◌<◌, ◌≤◌, ◌+◌, ◌*◌, ◌^◌, ℕ, zero, suc, false, cond, eqb, List, [], ◌∷◌, length, take}
+use Rattle.std.proofs.Common.{refl, sym, ap, ◌∙◌, subst, arith}
 use Rattle.std.specs.Prelude.{Option, Some, slice_get}
 use Rattle.std.specs.List.{flat_map, list_any, sum_by, range_with_len}
 use Rattle.std.proofs.lemmas.Bool.{eq-eqb}

@@ -1,16 +1,11 @@
 -- Lists that are made an item at a time.
-use Rattle.std.proofs.Common.{◌≡◌, ◌≢◌, ◌≤◌, ◌+◌, ◌-◌, ℕ, zero, suc, List, [], ◌∷◌, ◌++◌, map, length, take, drop, set, refl, sym, ap, ◌∙◌, arith, append_assoc}
+use Rattle.std.proofs.Common.{◌≡◌, ◌≢◌, ◌≤◌, ◌+◌, ◌-◌, ℕ, zero, suc, List, [], ◌∷◌, ◌++◌, map, length, take, drop, set}
+use Rattle.std.proofs.Common.{refl, sym, ap, ◌∙◌, arith, append_assoc}
 use Rattle.std.specs.Prelude.{Some, slice_get}
 use Rattle.std.specs.List.{range_with_len}
 use Rattle.std.proofs.lemmas.Option.{same_Some}
 use Rattle.std.proofs.lemmas.List.FromFn.{map-range_with_len_more}
 use Rattle.sanlp.proofs.Lists.{map-range_with_len_same}
-
-pub take_next : {X : Type 0} (xs : List X) (k : ℕ) (x : X) → slice_get xs k ≡ Some x
-    → take (suc k) xs ≡ take k xs ++ x ∷ []
-take_next [] k x e = absurd (cc)
-take_next (y ∷ xs) zero x e = ap (λ z. z ∷ []) (same_Some y x e)
-take_next (y ∷ xs) (suc k) x e = ap (λ zs. y ∷ zs) (take_next xs k x e)
 
 pub take_all : {X : Type 0} (xs : List X) → take (length xs) xs ≡ xs
 take_all [] = refl
@@ -20,18 +15,6 @@ pub drop_at : {X : Type 0} (xs : List X) (k : ℕ) (x : X) → slice_get xs k �
 drop_at [] k x e = absurd (cc)
 drop_at (y ∷ xs) zero x e = ap (λ z. z ∷ xs) (same_Some y x e)
 drop_at (y ∷ xs) (suc k) x e = drop_at xs k x e
-
--- a function that takes one more at i alone
-pub set_counted : (f g : ℕ → ℕ) (i : ℕ) → g i ≡ f i + 1 → ((k : ℕ) → k ≢ i → f k ≡ g k)
-    → (a m j : ℕ) → a + j ≡ i → set (map f (range_with_len a m)) j (f i + 1) ≡ map g (range_with_len a m)
-set_counted f g i more same a zero j e = refl
-set_counted f g i more same a (suc m) zero e =
-    let here : i ≡ a = omega arith in
-    ap (λ x. x ∷ map f (range_with_len (a + 1) m)) (sym more ∙ ap g here)
-    ∙ ap (λ xs. g a ∷ xs) (map-range_with_len_same f g (a + 1) m (λ k h l. same k (λ is. omega arith)))
-set_counted f g i more same a (suc m) (suc j) e =
-    ap (λ x. x ∷ set (map f (range_with_len (a + 1) m)) j (f i + 1)) (same a (λ is. omega arith))
-    ∙ ap (λ xs. g a ∷ xs) (set_counted f g i more same (a + 1) m j (omega arith))
 
 -- one number more
 pub counted_from : {X : Type 0} (f : ℕ → X) (a k : ℕ) → a ≤ k

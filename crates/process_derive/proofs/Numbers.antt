@@ -4,7 +4,8 @@
 -- are at most its uses, so at most the points of its process, counted fire by fire (`read_gets`). The Puts of a channel
 -- are its tokens, and each token has a use (`Puts.antt`). A process has at most eight reads, so all Gets and all Puts
 -- are at most 8 L each, and all events at most 17 L.
-use Rattle.std.proofs.Common.{◌≡◌, ◌≢◌, ◌<◌, ◌≤◌, ◌+◌, ◌-◌, ◌*◌, ℕ, zero, suc, eqb, List, [], ◌∷◌, map, length, take, get_or, refl, sym, ap, ◌∙◌, subst, inl, inr, arith, eqb-true, length-append}
+use Rattle.std.proofs.Common.{◌≡◌, ◌≢◌, ◌<◌, ◌≤◌, ◌+◌, ◌-◌, ◌*◌, ℕ, zero, suc, eqb, List, [], ◌∷◌, map, length, take}
+use Rattle.std.proofs.Common.{get_or, refl, sym, ap, ◌∙◌, subst, inl, inr, arith, eqb-true, length-append}
 use Rattle.std.specs.Prelude.{Option, Some, None, slice_get, slice_index}
 use Rattle.std.specs.List.{cons_option, flat_map, range_with_len, sum_by}
 use Rattle.std.specs.Option.{option_and_then, option_map, option_map_or}
@@ -32,7 +33,8 @@ use Rattle.net_core.specs.Machine.{net_of}
 use Rattle.net_core.specs.Shape.{FitsNumbers, events_below}
 use Rattle.process_derive.specs.Derived.{channel_of, net, process_of}
 use Rattle.process_derive.specs.Few.{HasFewEvents}
-use Rattle.process_derive.specs.Scripts.{Usage, channel_from, gets_for_uses, gets_of, point_events, puts_from, ref_of, script, slot_base, usage, usage_from}
+use Rattle.process_derive.specs.Scripts.{Usage, channel_from, gets_for_uses, gets_of, point_events, puts_from, ref_of}
+use Rattle.process_derive.specs.Scripts.{script, slot_base, usage, usage_from}
 use Rattle.process_derive.specs.Uses.{OnlyBelow, uses_before}
 use Rattle.process_derive.proofs.Bounds.{few_entries, few_plans}
 use Rattle.process_derive.proofs.Counts.{before_more, of_other, of_own}
@@ -207,7 +209,12 @@ read_gets n p k zero le = omega arith
 read_gets n p k (suc f) le =
     let sources : List (Option Tag) = sources_at n p k in
     let here = slice_get-get_or sources f None (omega (arith, length-sources n p k)) in
-    omega (arith, sum_push (λ g. length (gets_of (usage n p g k))) f, read_gets n p k f (omega arith), fire_gets n p k f (get_or sources f None) here (processes_below n p k f))
+    omega (
+      arith,
+      sum_push (λ g. length (gets_of (usage n p g k))) f,
+      read_gets n p k f (omega arith),
+      fire_gets n p k f (get_or sources f None) here (processes_below n p k f),
+    )
 
 pub until_few : (n : Nest) (p k f : ℕ) → gets_until n p k f ≤ turn_count n p
 until_few n p k f =

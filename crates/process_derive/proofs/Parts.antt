@@ -1,5 +1,6 @@
 -- What a nest's points and sources have for each process in turn.
-use Rattle.std.proofs.Common.{◌≡◌, ◌<◌, ◌≤◌, ◌+◌, ℤ, ℕ, List, [], ◌∷◌, ◌++◌, map, length, take, drop, get_or, refl, sym, ap, ◌∙◌, arith, add-one, length-append}
+use Rattle.std.proofs.Common.{◌≡◌, ◌<◌, ◌≤◌, ◌+◌, ℤ, ℕ, List, [], ◌∷◌, ◌++◌, map, length, take, drop, get_or, refl, sym}
+use Rattle.std.proofs.Common.{ap, ◌∙◌, arith, add-one, length-append}
 use Rattle.std.specs.Prelude.{Option, Some, slice_get}
 use Rattle.std.specs.Option.{option_map_or}
 use Rattle.std.specs.List.{range_with_len}
@@ -42,7 +43,14 @@ pub reads_within : (n : Nest) (p reads : ℕ) (s : Statement) (rest : List (List
     → slice_get n.statements p ≡ Some s → reads ≡ length s.reads
     → rest ≡ rest_from n p → reads ≤ length rest
 reads_within n p reads s rest e counts is =
-    omega (arith, ap length is, ap length (next_rest n p s e), length-append (sources_of_reads n p (length s.reads)) (rest_from n (p + 1)), length-map-range_with_len (sources_at n p) 0 (length s.reads))
+    omega (
+      arith,
+      ap length is,
+      ap length (next_rest n p s e),
+      length-append (sources_of_reads n p (length s.reads))
+          (rest_from n (p + 1)),
+      length-map-range_with_len (sources_at n p) 0 (length s.reads),
+    )
 
 pub own_sources : (n : Nest) (p reads : ℕ) (s : Statement) (rest own : List (List (Option Tag)))
     → slice_get n.statements p ≡ Some s → reads ≡ length s.reads

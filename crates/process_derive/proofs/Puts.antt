@@ -1,5 +1,6 @@
 -- The Puts of all scripts: one for each token of each channel, and each token has a use.
-use Rattle.std.proofs.Common.{◌≡◌, ◌≢◌, ◌<◌, ◌≤◌, ◌+◌, ◌*◌, ◌&&◌, ℕ, suc, Bool, false, eqb, List, [], ◌∷◌, length, refl, sym, ap, ◌∙◌, subst, inl, inr, arith, le_of_eq}
+use Rattle.std.proofs.Common.{◌≡◌, ◌≢◌, ◌<◌, ◌≤◌, ◌+◌, ◌*◌, ◌&&◌, ℕ, suc, Bool, false, eqb, List, [], ◌∷◌, length, refl}
+use Rattle.std.proofs.Common.{sym, ap, ◌∙◌, subst, inl, inr, arith, le_of_eq}
 use Rattle.std.specs.Prelude.{slice_index_or}
 use Rattle.std.specs.List.{flat_map, list_any, range_with_len, sum_by}
 use Rattle.std.proofs.lemmas.Bool.{cases_Bool, eq-eqb, ne_eqb}
@@ -14,7 +15,8 @@ use Rattle.channel_plan.specs.Plans.{plan_of, plans_at, plans_of, sources_at, tu
 use Rattle.channel_plan.specs.Tokens.{is_from, is_used, tokens_among, writers_of}
 use Rattle.process_derive.specs.Scripts.{puts_from}
 use Rattle.process_derive.proofs.Shares.{all_turns, few_tokens, used, uses_shared}
-use Rattle.process_derive.proofs.Sums.{one_if, sum_counted, sum_filter, sum_joined, sum_less, sum_map, sum_none, sum_risen, sum_same, sum_scaled, sum_turned, sum_within}
+use Rattle.process_derive.proofs.Sums.{one_if, sum_counted, sum_filter, sum_joined, sum_less, sum_map, sum_none}
+use Rattle.process_derive.proofs.Sums.{sum_risen, sum_same, sum_scaled, sum_turned, sum_within}
 
 -- the Puts of point f of process p, and of all its points
 abbrev pub point_puts : Nest → ℕ → ℕ → ℕ

@@ -1,5 +1,6 @@
 -- The events that are made point by point are the script of the process.
-use Rattle.std.proofs.Common.{◌≡◌, ◌<◌, ◌≤◌, ◌^◌, ℕ, zero, suc, List, [], ◌∷◌, ◌++◌, map, length, get_or, refl, sym, ap, ◌∙◌, subst, arith}
+use Rattle.std.proofs.Common.{◌≡◌, ◌<◌, ◌≤◌, ◌^◌, ℕ, zero, suc, List, [], ◌∷◌, ◌++◌, map, length, get_or, refl, sym, ap}
+use Rattle.std.proofs.Common.{◌∙◌, subst, arith}
 use Rattle.std.specs.Prelude.{All, Option, Some, None, slice_get, slice_index_or}
 use Rattle.std.specs.List.{find, flat_map, range_with_len}
 use Rattle.std.specs.Option.{option_and_then, option_map, option_map_or}
@@ -19,8 +20,10 @@ use Rattle.sanlp.proofs.NestFacts.{few_read_count}
 use Rattle.process_derive.specs.declared.incoming.Incoming.{Incoming}
 use Rattle.process_derive.specs.declared.uses.ChannelUse.{ChannelUse}
 use Rattle.process_derive.specs.Incoming.{comes_from, incoming_from, outgoing_from, puts_to}
-use Rattle.process_derive.specs.Scripts.{Usage, channel_from, gets_of, point_events, ref_of, script, slot_base, usage, usage_from}
-use Rattle.process_derive.specs.Uses.{OnlyBelow, SlotsFit, UseFits, events_at, read_uses, slots_at, usages_at, use_at, use_from, uses_before, uses_by_read, with_slots}
+use Rattle.process_derive.specs.Scripts.{Usage, channel_from, gets_of, point_events, ref_of, script, slot_base, usage}
+use Rattle.process_derive.specs.Scripts.{usage_from}
+use Rattle.process_derive.specs.Uses.{OnlyBelow, SlotsFit, UseFits, events_at, read_uses, slots_at, usages_at, use_at}
+use Rattle.process_derive.specs.Uses.{use_from, uses_before, uses_by_read, with_slots}
 use Rattle.process_derive.proofs.Bounds.{few_entries}
 use Rattle.process_derive.proofs.Channels.{AreSame, found_same, puts_same}
 use Rattle.process_derive.proofs.Holds.{slots_fit}
@@ -62,8 +65,11 @@ fits_same plans p q (Some i) None h all = absurd h
 fits_same plans p q (Some i) (Some r) h all =
     let there : i.channel < length plans = omega (arith, h.number, slice_get_within plans r.0 r.1 h.there) in
     let slots : slots_at plans i.channel ≡ r.1.slots =
-    ap (slots_at plans) h.number ∙ slots_there plans r.0 r.1 h.there in
-    (there, subst (λ b. SlotsFit b (slots_at plans i.channel)) (sym h.base) (subst (SlotsFit (slot_base plans p r.0)) (sym slots) (all r.0 r.1 h.there h.reader)))
+    ap (slots_at plans) h.number ∙ slots_there plans r.0 r.1 h.there in (
+      there,
+      subst (λ b. SlotsFit b (slots_at plans i.channel)) (sym h.base)
+          (subst (SlotsFit (slot_base plans p r.0)) (sym slots) (all r.0 r.1 h.there h.reader)),
+    )
 
 pub channel_same : (plans : List ChannelPlan) (p w k : ℕ)
     → AreSame plans p (find (comes_from w k) (incoming_from 0 0 plans p)) (channel_from 0 plans w p k)
@@ -228,4 +234,8 @@ few_sources_read n p sources e =
 pub few_uses : (incoming : List Incoming) (sources : List (List (Option Tag))) (uses : List (List (Option ChannelUse)))
     → uses ≡ uses_by_read incoming sources → length sources ≤ 8 → length uses ≤ 8
 few_uses incoming sources uses e le =
-    omega (arith, ap length e, length-map-range_with_len (λ k. read_uses incoming k (slice_index_or sources k [])) 0 (length sources))
+    omega (
+      arith,
+      ap length e,
+      length-map-range_with_len (λ k. read_uses incoming k (slice_index_or sources k [])) 0 (length sources),
+    )

@@ -5,7 +5,8 @@
 -- which is counted fire by fire (`read_makes`): a fire adds to one writer's channel what its use wants, and nothing to
 -- the others. The sums over fires and over reads are then exchanged. The channel of each source exists (`plan_there`),
 -- else a use would make no Get.
-use Rattle.std.proofs.Common.{◌≡◌, ◌≢◌, ◌<◌, ◌≤◌, ◌+◌, ◌-◌, ◌*◌, ℕ, zero, suc, Bool, true, false, cond, eqb, List, [], ◌∷◌, map, length, get_or, refl, sym, ap, ◌∙◌, subst, inl, inr, arith}
+use Rattle.std.proofs.Common.{◌≡◌, ◌≢◌, ◌<◌, ◌≤◌, ◌+◌, ◌-◌, ◌*◌, ℕ, zero, suc, Bool, true, false, cond, eqb, List, []}
+use Rattle.std.proofs.Common.{◌∷◌, map, length, get_or, refl, sym, ap, ◌∙◌, subst, inl, inr, arith}
 use Rattle.std.specs.Prelude.{Option, Some, None, slice_get, slice_index, slice_index_or, count_by}
 use Rattle.std.specs.List.{filter, flat_map, list_any, sum_by, range_with_len}
 use Rattle.std.specs.Option.{option_and_then, option_map, option_map_or}
@@ -21,7 +22,7 @@ use Rattle.sanlp.specs.declared.nest.Tag.{Tag}
 use Rattle.sanlp.specs.Points.{points_of, vectors_of}
 use Rattle.sanlp.specs.Trace.{trace}
 use Rattle.sanlp.proofs.Each.{Each, each_flat_map, each_map, each_of}
-use Rattle.sanlp.proofs.Members.{In, at_in, each_in, in_flat_map, in_range_with_len}
+use Rattle.sanlp.proofs.Members.{In, at_in, each_in, in_filter, in_flat_map, in_map, in_range_with_len}
 use Rattle.sanlp.proofs.NestFacts.{points_length}
 use Rattle.reorder_slots.specs.declared.slots.SlotPlan.{SlotPlan}
 use Rattle.channel_plan.specs.declared.plans.ChannelPlan.{ChannelPlan}
@@ -38,15 +39,19 @@ use Rattle.net_core.specs.Sound.{FitsNest}
 use Rattle.net_core.proofs.Entries.{entries_length}
 use Rattle.process_derive.specs.Derived.{channel_of, net, process_of}
 use Rattle.process_derive.specs.Few.{HasFewSlots}
-use Rattle.process_derive.specs.Scripts.{Usage, channel_from, gets_for_uses, gets_of, goes_between, point_events, puts_from, ref_of, script, slot_base, slots_of, usage, usage_from}
+use Rattle.process_derive.specs.Scripts.{Usage, channel_from, gets_for_uses, gets_of, goes_between, point_events}
+use Rattle.process_derive.specs.Scripts.{puts_from, ref_of, script, slot_base, slots_of, usage, usage_from}
 use Rattle.process_derive.specs.Uses.{OnlyBelow, uses_before}
 use Rattle.process_derive.proofs.Counts.{before_more, of_other, of_own}
 use Rattle.process_derive.proofs.Holds.{few_slots, process_holds}
-use Rattle.process_derive.proofs.Numbers.{HasSlots, all_planned, count_processes, found_slots, gets_by, gets_until, point_gets, script_at}
+use Rattle.process_derive.proofs.Numbers.{HasSlots, all_planned, count_processes, found_slots, gets_by, gets_until}
+use Rattle.process_derive.proofs.Numbers.{point_gets, script_at}
 use Rattle.process_derive.proofs.Shares.{all_turns, used}
-use Rattle.process_derive.proofs.Sums.{sum_counted, sum_joined, sum_less, sum_map, sum_one, sum_push, sum_risen, sum_same, sum_scaled, sum_turned}
+use Rattle.process_derive.proofs.Sums.{sum_counted, sum_joined, sum_less, sum_map, sum_one, sum_push, sum_risen}
+use Rattle.process_derive.proofs.Sums.{sum_same, sum_scaled, sum_turned}
 use Rattle.process_derive.proofs.Tags.{length-sources, processes_below}
-use Rattle.process_derive.proofs.Wired.{IsChannelOf, IsGet, all_channels, all_gets, channel_at, event_is, is_wired, item_at, script_past, slots_there}
+use Rattle.process_derive.proofs.Wired.{IsChannelOf, IsGet, all_channels, all_gets, channel_at, event_is, is_wired}
+use Rattle.process_derive.proofs.Wired.{item_at, script_past, slots_there}
 
 -- Fires and points
 
@@ -91,7 +96,13 @@ point_fires n p f =
     let gets : List Event = flat_map gets_of (map (usage n p f) (range_with_len 0 (read_count n p))) in
     let refs : List Ref = map ref_of (map (usage n p f) (range_with_len 0 (read_count n p))) in
     let puts : List Event = puts_from 0 (plans_of n) p f in
-    omega (arith, sum_by-append (λ e. cond (is_fire e) 1 0) gets (Fire refs ∷ puts), no_fires gets (point_has_gets n p f), count_cons is_fire (Fire refs) puts, no_fire_put 0 (plans_of n) p f)
+    omega (
+      arith,
+      sum_by-append (λ e. cond (is_fire e) 1 0) gets (Fire refs ∷ puts),
+      no_fires gets (point_has_gets n p f),
+      count_cons is_fire (Fire refs) puts,
+      no_fire_put 0 (plans_of n) p f,
+    )
 
 sum_ones : {X : Type 0} (xs : List X) → sum_by (λ x. 1) xs ≡ length xs
 sum_ones [] = refl
@@ -127,19 +138,6 @@ any_at test (y ∷ xs) zero x e h = let here : test y ≡ true = ap test (same_S
 any_at test (y ∷ xs) (suc k) x e h =
     let later = any_at test xs k x e h in
     elim (cases_Bool (test y)) [ inl a ↦ rw a refl | inr a ↦ rw a later ]
-
-in_filter : {X : Type 0} (test : X → Bool) (xs : List X) (x : X) → In x xs → test x ≡ true → In x (filter test xs)
-in_filter test [] x h k = absurd h
-in_filter test (y ∷ xs) x h k =
-    elim h [
-      | inl e ↦ (let kept : test y ≡ true = ap test e ∙ k in rw kept (inl e))
-      | inr l ↦ (let later = in_filter test xs x l k in elim
-          (cases_Bool (test y)) [ inl a ↦ rw a (inr later) | inr a ↦ rw a later ])
-    ]
-
-in_map : {X Y : Type 0} (f : X → Y) (xs : List X) (x : X) → In x xs → In (f x) (map f xs)
-in_map f [] x h = h
-in_map f (y ∷ xs) x h = elim h [ inl e ↦ inl (ap f e) | inr l ↦ inr (in_map f xs x l) ]
 
 plan_there : (n : Nest) (p k f : ℕ) (t : Tag) → p < length n.statements → k < read_count n p
     → t.process < length n.statements → slice_get (sources_at n p k) f ≡ Some (Some t)
@@ -249,7 +247,12 @@ read_makes n p k zero process read le = sum_one (λ w. 0) 0 0 0 (length n.statem
 read_makes n p k (suc f) process read le =
     let sources : List (Option Tag) = sources_at n p k in
     let here = slice_get-get_or sources f None (omega (arith, length-sources n p k)) in
-    omega (arith, sum_push (λ g. length (gets_of (usage n p g k))) f, read_makes n p k f process read (omega arith), fire_makes n p k f (get_or sources f None) process read here (processes_below n p k f))
+    omega (
+      arith,
+      sum_push (λ g. length (gets_of (usage n p g k))) f,
+      read_makes n p k f process read (omega arith),
+      fire_makes n p k f (get_or sources f None) process read here (processes_below n p k f),
+    )
 
 point_counts : (n : Nest) (p f : ℕ) → point_gets n p f ≤ count_by is_any_get (point_events n p f)
 point_counts n p f =

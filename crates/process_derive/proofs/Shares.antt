@@ -1,5 +1,6 @@
 -- How entries are shared out: those of the trace among the processes, and the sources of one read among their writers.
-use Rattle.std.proofs.Common.{◌≡◌, ◌≢◌, ◌<◌, ◌≤◌, ◌+◌, ◌==◌, ℕ, Bool, true, eqb, List, [], ◌∷◌, map, length, sym, refl, ap, ◌∙◌, inl, inr, arith, le_of_eq}
+use Rattle.std.proofs.Common.{◌≡◌, ◌≢◌, ◌<◌, ◌≤◌, ◌+◌, ◌==◌, ℕ, Bool, true, eqb, List, [], ◌∷◌, map, length, sym, refl}
+use Rattle.std.proofs.Common.{ap, ◌∙◌, inl, inr, arith, le_of_eq}
 use Rattle.std.specs.Prelude.{Option, Some, None}
 use Rattle.std.specs.List.{sum_by, range_with_len}
 use Rattle.std.proofs.lemmas.Bool.{cases_Bool, cond-true, eq-eqb, ne_eqb, or_left, or_right}

@@ -1,10 +1,12 @@
 -- The slots of a channel: no slot is numbered past the hold, and the hold is no more than the Gets.
-use Rattle.std.proofs.Common.{◌≡◌, ◌<◌, ◌≤◌, ◌+◌, ◌-◌, ℕ, zero, suc, List, [], ◌∷◌, ◌++◌, map, length, take, drop, get_or, ap, ◌∙◌, inl, inr, arith, length-append, length-drop, refl}
+use Rattle.std.proofs.Common.{◌≡◌, ◌<◌, ◌≤◌, ◌+◌, ◌-◌, ℕ, zero, suc, List, [], ◌∷◌, ◌++◌, map, length, take, drop}
+use Rattle.std.proofs.Common.{get_or, ap, ◌∙◌, inl, inr, arith, length-append, length-drop, refl}
 use Rattle.std.proofs.lemmas.Bool.{cases_Bool}
 use Rattle.std.proofs.lemmas.List.{length-take-le}
 use Rattle.std.specs.Prelude.{slice_index_or}
 use Rattle.reorder_slots.specs.declared.slots.SlotPlan.{SlotPlan}
-use Rattle.reorder_slots.specs.Slots.{Held, after_get, after_gets, filled, gets_for, held_after, hold_of, is_wanted, lowest_free, slots_of_gets, slots_of_uses}
+use Rattle.reorder_slots.specs.Slots.{Held, after_get, after_gets, filled, gets_for, held_after, hold_of, is_wanted}
+use Rattle.reorder_slots.specs.Slots.{lowest_free, slots_of_gets, slots_of_uses}
 use Rattle.channel_plan.specs.Plans.{slot_plan}
 use Rattle.sanlp.proofs.Each.{Each}
 
@@ -70,7 +72,12 @@ unfolding held_after
 few_after uses limit all zero = omega arith
 few_after uses limit all (suc q) =
     let held : Held = held_after uses q in
-    omega (arith, count_gets uses q (gets_for (take (q + 1) uses) - length held.slot_of_get) held, few_after uses limit all q, all (q + 1))
+    omega (
+      arith,
+      count_gets uses q (gets_for (take (q + 1) uses) - length held.slot_of_get) held,
+      few_after uses limit all q,
+      all (q + 1),
+    )
 
 pub few_gets : (uses : List ℕ) (limit : ℕ) → Each (λ token. token < limit) uses → gets_for uses ≤ limit
 few_gets [] limit h = omega arith
@@ -137,7 +144,11 @@ made_after uses zero = omega arith
 made_after uses (suc q) =
     let held : Held = held_after uses q in
     let next : suc q ≡ q + 1 = omega arith in
-    omega (arith, count_gets uses q (gets_for (take (q + 1) uses) - length held.slot_of_get) held, ap (λ k. gets_for (take k uses)) next)
+    omega (
+      arith,
+      count_gets uses q (gets_for (take (q + 1) uses) - length held.slot_of_get) held,
+      ap (λ k. gets_for (take k uses)) next,
+    )
 
 gets_part : (uses : List ℕ) (q : ℕ) → gets_for (take q uses) ≤ gets_for uses
 gets_part uses zero = omega arith
@@ -168,9 +179,17 @@ read_token gets (token ∷ uses) (suc q) lt = read_token gets uses q (omega arit
 
 pub uses_inside : (uses : List ℕ) (q : ℕ) → q < length uses → get_or (slots_of_uses uses) q 0 < hold_of uses
 uses_inside uses q lt =
-    omega (arith, read_token (slots_of_gets uses) uses q lt, below_after uses (length uses) (get_or uses q 0) (omega (arith, token_made uses q lt, all_made uses)))
+    omega (
+      arith,
+      read_token (slots_of_gets uses) uses q lt,
+      below_after uses (length uses) (get_or uses q 0) (omega (arith, token_made uses q lt, all_made uses)),
+    )
 
 -- the hold is no more than the Gets
 pub hold_made : (uses : List ℕ) (limit : ℕ) → gets_for uses ≤ limit → hold_of uses ≤ limit
 hold_made uses limit le =
-    omega (arith, (inside_after uses (length uses)).few, few_after uses limit (λ q. omega (arith, gets_part uses q, le)) (length uses))
+    omega (
+      arith,
+      (inside_after uses (length uses)).few,
+      few_after uses limit (λ q. omega (arith, gets_part uses q, le)) (length uses),
+    )

@@ -1,5 +1,6 @@
 -- Sums over lists and over numbers that are counted up.
-use Rattle.std.proofs.Common.{◌≡◌, ◌≢◌, ◌<◌, ◌≤◌, ◌+◌, ◌*◌, ℕ, zero, suc, Bool, true, false, cond, eqb, List, [], ◌∷◌, map, length, take, refl, sym, ap, ◌∙◌, inl, inr, arith, eqb-true, mul-add}
+use Rattle.std.proofs.Common.{◌≡◌, ◌≢◌, ◌<◌, ◌≤◌, ◌+◌, ◌*◌, ℕ, zero, suc, Bool, true, false, cond, eqb, List, [], ◌∷◌}
+use Rattle.std.proofs.Common.{map, length, take, refl, sym, ap, ◌∙◌, inl, inr, arith, eqb-true, mul-add}
 use Rattle.std.specs.Prelude.{Some, slice_get}
 use Rattle.std.specs.List.{filter, flat_map, sum_by, range_with_len}
 use Rattle.std.proofs.lemmas.Bool.{cases_Bool, eq-eqb, ne_eqb}
@@ -49,7 +50,12 @@ sum_at f (y ∷ xs) (suc k) x e = omega (arith, sum_by-cons f y (take k xs), sum
 sum_past : (f : ℕ → ℕ) (p a m : ℕ) → ((q : ℕ) → eqb q p ≡ false → f q ≡ 0) → p < a → sum_by f (range_with_len a m) ≡ 0
 sum_past f p a zero none lt = refl
 sum_past f p a (suc m) none lt =
-    omega (arith, sum_by-cons f a (range_with_len (a + 1) m), none a (ne_eqb a p (λ e. omega arith)), sum_past f p (a + 1) m none (omega arith))
+    omega (
+      arith,
+      sum_by-cons f a (range_with_len (a + 1) m),
+      none a (ne_eqb a p (λ e. omega arith)),
+      sum_past f p (a + 1) m none (omega arith),
+    )
 
 pub sum_one : (f : ℕ → ℕ) (p b a m : ℕ) → ((q : ℕ) → eqb q p ≡ false → f q ≡ 0) → f p ≤ b
     → sum_by f (range_with_len a m) ≤ b
@@ -58,7 +64,12 @@ sum_one f p b a (suc m) none le =
     elim (cases_Bool (eqb a p)) [
       | inl here ↦
           let same = eqb-true a p here in
-          omega (arith, sum_by-cons f a (range_with_len (a + 1) m), ap f same, sum_past f p (a + 1) m none (omega (arith, same)))
+          omega (
+            arith,
+            sum_by-cons f a (range_with_len (a + 1) m),
+            ap f same,
+            sum_past f p (a + 1) m none (omega (arith, same)),
+          )
       | inr there ↦ omega
           (arith, sum_by-cons f a (range_with_len (a + 1) m), none a there, sum_one f p b (a + 1) m none le)
     ]
@@ -121,7 +132,13 @@ sum_agree : (f g : ℕ → ℕ) (a m : ℕ) → ((k : ℕ) → a ≤ k → f k �
     → sum_by f (range_with_len a m) ≡ sum_by g (range_with_len a m)
 sum_agree f g a zero same = refl
 sum_agree f g a (suc m) same =
-    omega (arith, sum_by-cons f a (range_with_len (a + 1) m), sum_by-cons g a (range_with_len (a + 1) m), same a (omega arith), sum_agree f g (a + 1) m (λ k h. same k (omega arith)))
+    omega (
+      arith,
+      sum_by-cons f a (range_with_len (a + 1) m),
+      sum_by-cons g a (range_with_len (a + 1) m),
+      same a (omega arith),
+      sum_agree f g (a + 1) m (λ k h. same k (omega arith)),
+    )
 
 -- a function that takes at least d more at i alone
 pub sum_raised : (f g : ℕ → ℕ) (i d : ℕ) → f i + d ≤ g i → ((k : ℕ) → k ≢ i → f k ≡ g k)
@@ -170,5 +187,11 @@ sum_risen f g i d more same a (suc m) =
           )
       | inr there ↦
           let other : a ≢ i = λ e. (let bad : eqb a i ≡ true = eq-eqb a i e in absurd (cc)) in
-          omega (arith, sum_by-cons f a (range_with_len (a + 1) m), sum_by-cons g a (range_with_len (a + 1) m), same a other, sum_risen f g i d more same (a + 1) m)
+          omega (
+            arith,
+            sum_by-cons f a (range_with_len (a + 1) m),
+            sum_by-cons g a (range_with_len (a + 1) m),
+            same a other,
+            sum_risen f g i d more same (a + 1) m,
+          )
     ]

@@ -1,5 +1,6 @@
 -- The sources of reads are tags of entries of the trace.
-use Rattle.std.proofs.Common.{◌≡◌, ◌<◌, ◌≤◌, ◌+◌, ◌==◌, ℕ, zero, suc, true, cond, eqb, List, [], ◌∷◌, length, take, get_or, refl, ap, ◌∙◌, inl, inr, arith}
+use Rattle.std.proofs.Common.{◌≡◌, ◌<◌, ◌≤◌, ◌+◌, ◌==◌, ℕ, zero, suc, true, cond, eqb, List, [], ◌∷◌, length, take}
+use Rattle.std.proofs.Common.{get_or, refl, ap, ◌∙◌, inl, inr, arith}
 use Rattle.std.specs.Prelude.{Option, Some, None, slice_get, count_by}
 use Rattle.std.specs.Option.{option_and_then, option_map}
 use Rattle.std.proofs.lemmas.Bool.{cases_Bool, eq-eqb}
@@ -15,6 +16,7 @@ use Rattle.sanlp.specs.Tags.{tag_at}
 use Rattle.sanlp.specs.Trace.{trace}
 use Rattle.sanlp.specs.Writers.{cell_read, last_before}
 use Rattle.sanlp.proofs.Each.{Each, each_map, each_of}
+use Rattle.sanlp.proofs.NestFacts.{few_entries}
 use Rattle.sanlp.proofs.Enumerates.{enumerates_domains}
 use Rattle.net_core.proofs.Entries.{entries_length}
 use Rattle.source_tree.specs.Sources.{source_at}
@@ -47,7 +49,11 @@ tag_of n u None e = tt
 tag_of n u (Some p) e =
     let is = (enumerates_domains n).entry u p e in
     let turn : count_by (λ q. q.statement == p.statement) (take u (trace n)) < turn_count n p.statement =
-    omega (arith, count_before (trace n) u p.statement p e (eq-eqb p.statement p.statement refl), entries_length 0 (trace n) p.statement) in
+    omega (
+      arith,
+      count_before (trace n) u p.statement p e (eq-eqb p.statement p.statement refl),
+      entries_length 0 (trace n) p.statement,
+    ) in
     (slice_get_within n.statements p.statement is.statement is.found, turn)
 
 tag_is : (n : Nest) (o : Option ℕ) → IsTurn n (option_and_then (tag_at (trace n)) o)
@@ -73,17 +79,9 @@ each_read n (source ∷ sources) (suc f) h = each_read n sources f h.1
 pub processes_below : (n : Nest) (p k f : ℕ) → OnlyBelow (length n.statements) (get_or (sources_at n p k) f None)
 processes_below n p k f = each_read n (sources_at n p k) f (sources_are n p k)
 
-entries_few : (t : ℕ) (points : List Point) (s : ℕ) → length (entries_from t points s) ≤ length points
-entries_few t [] s = omega arith
-entries_few t (p ∷ points) s =
-    elim (cases_Bool (eqb p.statement s)) [
-      | inl here ↦ rw here (omega (arith, entries_few (t + 1) points s))
-      | inr there ↦ rw there (omega (arith, entries_few (t + 1) points s))
-    ]
-
 -- a process has no more turns than the trace has entries, and a read one source for each turn
 pub few_turns : (n : Nest) (p : ℕ) → turn_count n p ≤ length (trace n)
-few_turns n p = entries_few 0 (trace n) p
+few_turns n p = few_entries 0 (trace n) p
 
 pub length-sources : (n : Nest) (p k : ℕ) → length (sources_at n p k) ≡ turn_count n p
 length-sources n p k = length-map (entries_of (trace n) p) (source_at n (trace n) k)

@@ -1,5 +1,6 @@
 -- What the fires use for the first so many reads.
-use Rattle.std.proofs.Common.{◌≡◌, ◌≤◌, ◌+◌, ℕ, zero, suc, List, [], ◌∷◌, ◌++◌, map, length, take, refl, sym, ap, ◌∙◌, arith, add-one, append_assoc}
+use Rattle.std.proofs.Common.{◌≡◌, ◌≤◌, ◌+◌, ℕ, zero, suc, List, [], ◌∷◌, ◌++◌, map, length, take, refl, sym, ap, ◌∙◌}
+use Rattle.std.proofs.Common.{arith, add-one, append_assoc}
 use Rattle.std.specs.Prelude.{Option, Some, slice_get}
 use Rattle.std.specs.List.{flat_map}
 use Rattle.std.specs.Option.{option_and_then}
@@ -12,7 +13,7 @@ use Rattle.net_core.specs.declared.refs.Ref.{Ref}
 use Rattle.process_derive.specs.declared.uses.ChannelUse.{ChannelUse}
 use Rattle.process_derive.specs.Scripts.{Usage, gets_of, ref_of}
 use Rattle.process_derive.specs.Uses.{usages_at, with_slots}
-use Rattle.process_derive.proofs.Lists.{take_next}
+use Rattle.sanlp.proofs.Lists.{take_next}
 
 at_end : {X : Type 0} (xs : List X) → xs ++ [] ≡ xs
 at_end [] = refl
@@ -64,7 +65,14 @@ refs_more plans uses i f list found named before after e is names was g =
 pub few_refs : (plans : List ChannelPlan) (uses : List (List (Option ChannelUse))) (i f : ℕ) (refs : List Ref)
     → refs ≡ map ref_of (usages_at plans (take i uses) f) → length refs ≤ i
 few_refs plans uses i f refs e =
-    omega (arith, ap length e, length-map (usages_at plans (take i uses) f) ref_of, length-map (take i uses) (λ list. with_slots plans (option_and_then (λ found. found) (slice_get list f))), length_take_le i uses) where
+    omega (
+      arith,
+      ap length e,
+      length-map (usages_at plans (take i uses) f) ref_of,
+      length-map (take i uses)
+          (λ list. with_slots plans (option_and_then (λ found. found) (slice_get list f))),
+      length_take_le i uses,
+    ) where
       length_take_le : (t : ℕ) (xs : List (List (Option ChannelUse))) → length (take t xs) ≤ t
       length_take_le zero xs = omega arith
       length_take_le (suc t) [] = omega arith

@@ -5,7 +5,8 @@
 -- reader's channels before it and within the channel's hold, so they are the reader's. In each point the Gets and the
 -- Fire come before the Puts, so no Put stands before the first fire. It is no matter of order or of values, and no
 -- schedule is needed.
-use Rattle.std.proofs.Common.{◌≡◌, ◌<◌, ◌≤◌, ◌+◌, ◌-◌, ◌^◌, ℕ, zero, suc, Bool, false, cond, eqb, List, [], ◌∷◌, ◌++◌, map, length, take, refl, sym, ap, ◌∙◌, subst, inl, inr, arith, eqb-true, append_assoc}
+use Rattle.std.proofs.Common.{◌≡◌, ◌<◌, ◌≤◌, ◌+◌, ◌-◌, ◌^◌, ℕ, zero, suc, Bool, false, cond, eqb, List, [], ◌∷◌, ◌++◌}
+use Rattle.std.proofs.Common.{map, length, take, refl, sym, ap, ◌∙◌, subst, inl, inr, arith, eqb-true, append_assoc}
 use Rattle.std.specs.Prelude.{All, Option, Some, None, slice_get, slice_index, slice_index_or, count_by}
 use Rattle.std.specs.List.{filter, find, flat_map, list_any, range_with_len}
 use Rattle.std.specs.Option.{option_and_then, option_map, option_map_or}
@@ -19,7 +20,8 @@ use Rattle.sanlp.specs.Access.{read_count}
 use Rattle.sanlp.specs.declared.nest.Nest.{Nest}
 use Rattle.sanlp.specs.declared.nest.Tag.{Tag}
 use Rattle.sanlp.specs.Size.{SizeIsOk}
-use Rattle.sanlp.proofs.Each.{Each, all_from_each, each_append, each_flat_map, each_map, each_of, each_range_with_len}
+use Rattle.sanlp.proofs.Each.{Each, all_from_each, each_append, each_filter, each_flat_map, each_map, each_of}
+use Rattle.sanlp.proofs.Each.{each_range_with_len}
 use Rattle.sanlp.proofs.Members.{at_in, each_in}
 use Rattle.sanlp.proofs.Lists.{slice_get-map-range_with_len}
 use Rattle.reorder_slots.specs.declared.slots.SlotPlan.{SlotPlan}
@@ -37,12 +39,14 @@ use Rattle.net_core.specs.Shape.{IsWired, IsWithin, is_fire}
 use Rattle.net_core.proofs.Ready.{script_short}
 use Rattle.process_derive.specs.declared.incoming.Incoming.{Incoming}
 use Rattle.process_derive.specs.Derived.{channel_of, net, process_of}
-use Rattle.process_derive.specs.Scripts.{Usage, channel_from, gets_for_uses, gets_of, point_events, puts_from, ref_of, script, slot_base, slots_of, usage, usage_from}
+use Rattle.process_derive.specs.Scripts.{Usage, channel_from, gets_for_uses, gets_of, point_events, puts_from, ref_of}
+use Rattle.process_derive.specs.Scripts.{script, slot_base, slots_of, usage, usage_from}
 use Rattle.process_derive.specs.Uses.{uses_before}
 use Rattle.process_derive.specs.Incoming.{comes_from, incoming_from}
 use Rattle.process_derive.proofs.Channels.{AreSame, get_middle, longer}
 use Rattle.process_derive.proofs.Counts.{before_more, of_own}
-use Rattle.process_derive.proofs.Numbers.{HasSlots, all_planned, before_within, count_channels, count_processes, found_slots, gets_here, numbers_fit, script_at}
+use Rattle.process_derive.proofs.Numbers.{HasSlots, all_planned, before_within, count_channels, count_processes}
+use Rattle.process_derive.proofs.Numbers.{found_slots, gets_here, numbers_fit, script_at}
 use Rattle.process_derive.proofs.Scripts.{channel_same}
 use Rattle.process_derive.proofs.Shares.{used}
 use Rattle.process_derive.proofs.Slots.{gets_inside, uses_inside}
@@ -222,12 +226,6 @@ event_is n p k e is =
     ]
 
 -- What the channels name
-
-each_filter : {X : Type 0} (P : X → Type 0) (test : X → Bool) (xs : List X) → Each P xs → Each P (filter test xs)
-each_filter P test [] h = tt
-each_filter P test (x ∷ xs) h =
-    elim (cases_Bool
-    (test x)) [ inl kept ↦ rw kept ((h.0, each_filter P test xs h.1)) | inr left ↦ rw left (each_filter P test xs h.1) ]
 
 -- a channel's processes exist, and its read is one of the reader's
 pub record IsChannelOf (n : Nest) (plan : ChannelPlan) : Type 0 where

@@ -47,7 +47,13 @@ turned_plans =
       is_token = true ∷ true ∷ true ∷ true ∷ [];
       tokens = 4;
       class = record { order = Reorder; multiplicity = false };
-      slots = record { gets_before = 1 ∷ 3 ∷ 3 ∷ 4 ∷ []; slot_of_get = 0 ∷ 0 ∷ 1 ∷ 0 ∷ []; slot_of_use = 0 ∷ 1 ∷ 0 ∷ 0 ∷ []; hold = 2 };
+      slots = record {
+        gets_before = 1 ∷ 3 ∷ 3 ∷ 4 ∷ [];
+        slot_of_get = 0 ∷ 0 ∷ 1 ∷ 0 ∷ [];
+        slot_of_use = 0 ∷ 1 ∷ 0 ∷ 0
+            ∷ [];
+        hold = 2;
+      };
     } ∷ in_turn 1 2 (true ∷ true ∷ true ∷ true ∷ []) 4 (1 ∷ 2 ∷ 3 ∷ 4 ∷ []) (0 ∷ 0 ∷ 0 ∷ 0 ∷ []) ∷ []
 
 turned : script_by turned_plans (tag 0 0 ∷ tag 0 2 ∷ tag 0 1 ∷ tag 0 3 ∷ []) 1 (λ f. 0) 4

@@ -1,4 +1,4 @@
-ghost use Rattle.std.specs.Prelude.{◌≡◌, ◌<◌, ◌≤◌, ◌++◌, All, Some, length, slice_index, IfOk, OnOk};
+ghost use Rattle.std.specs.Prelude.{◌≡◌, ◌<◌, ◌≤◌, [], ◌∷◌, ◌++◌, All, Some, length, slice_index, IfOk, OnOk};
 ghost use Rattle.std.specs.List.{flat_map, range_with_len};
 ghost use Rattle.std.specs.Option.{option_and_then};
 ghost use Rattle.std.specs.Prelude.{slice_get};
@@ -8,10 +8,42 @@ ghost use Rattle.process_derive.specs.Uses.{events_at, slots_at, with_slots, Slo
 
 use crate::uses::ChannelUse;
 use channel_plan::ChannelPlan;
-use net_core::{Event, Ref, Refs};
+use net_core::{Event, Ref, Refs, equal_is_same};
 use plain_data::Items;
 use reorder_slots::SlotPlan;
+use script_blocks::ScriptBuilder;
 use std::alloc::{AllocError, Global};
+
+// A number for these numbers, one after the other.
+fn mixed(key: u32, number: u32) -> u32 {
+    (key.rotate_left(5) ^ number).wrapping_mul(0x9e37_79b1)
+}
+
+// A number by which an event is soon found again. Nothing rests on it.
+fn key_of(event: &Event) -> u32 {
+    match event {
+        Event::Get { channel, slot } => mixed(mixed(1, *channel), *slot),
+        Event::Fire { refs } => {
+            let mut key = 2;
+            for named in refs.as_slice() {
+                key = match named {
+                    Ref::Zero => mixed(key, 0),
+                    Ref::Slot(slot) => mixed(mixed(key, 1), *slot),
+                };
+            }
+            key
+        }
+        Event::Put { channel } => mixed(3, *channel),
+    }
+}
+
+// Adds an event.
+fn push_event(event: Event, events: &mut ScriptBuilder<Event>) -> Result<(), AllocError>
+    ensures { OnOk result (events.new ≡ events.old ++ event ∷ []) }
+{
+    equal_is_same();
+    events.push_with_key(key_of(&event), event)
+}
 
 // The number at a place, 0 past the end.
 fn number_at(numbers: &[u32], at: usize) -> u32
@@ -31,11 +63,15 @@ fn gets_for(slots: &SlotPlan, uses: u32) -> u32
 }
 
 // Adds the Gets that a use adds: those behind the Gets of the uses before it.
-fn add_gets(slots: &SlotPlan, found: ChannelUse, events: &mut Vec<Event>) -> Result<(), AllocError>
+fn add_gets(
+    slots: &SlotPlan,
+    found: ChannelUse,
+    events: &mut ScriptBuilder<Event>,
+) -> Result<(), AllocError>
     requires { SlotsFit found.base slots.now }
     ensures { OnOk result
-        (events.new.items
-        ≡ events.old.items
+        (events.new
+        ≡ events.old
         ++ gets_of
         (Some (record { channel = found.channel; base = found.base; slots = slots.now; number = found.number }))) }
 {
@@ -43,10 +79,13 @@ fn add_gets(slots: &SlotPlan, found: ChannelUse, events: &mut Vec<Event>) -> Res
     let needed = number_at(slots.gets_before.as_slice(), found.number as usize);
     for get in done..needed {
         let slot = found.base + number_at(slots.slot_of_get.as_slice(), get as usize);
-        events.push(Event::Get {
-            channel: found.channel,
-            slot,
-        })?;
+        push_event(
+            Event::Get {
+                channel: found.channel,
+                slot,
+            },
+            events,
+        )?;
     }
     Ok(())
 }
@@ -65,11 +104,11 @@ fn slot_of(slots: &SlotPlan, found: ChannelUse) -> Ref
 fn add_use(
     plans: &[ChannelPlan],
     found: Option<ChannelUse>,
-    events: &mut Vec<Event>,
+    events: &mut ScriptBuilder<Event>,
 ) -> Result<Ref, AllocError>
     requires { UseFits plans.now found }
     ensures gets { OnOk result
-        (events.new.items ≡ events.old.items ++ gets_of (with_slots plans.now found)) }
+        (events.new ≡ events.old ++ gets_of (with_slots plans.now found)) }
     ensures named { IfOk result (λ named. named ≡ ref_of (with_slots plans.now found)) }
 {
     match found {
@@ -97,14 +136,14 @@ pub(crate) fn add_puts(
     plans: &[ChannelPlan],
     outgoing: &[u32],
     turn: usize,
-    events: &mut Vec<Event>,
+    events: &mut ScriptBuilder<Event>,
 ) -> Result<(), AllocError>
     ensures { OnOk result
-        (events.new.items ≡ events.old.items ++ puts_to plans.now outgoing.now turn) }
+        (events.new ≡ events.old ++ puts_to plans.now outgoing.now turn) }
 {
     for channel in outgoing {
         if is_token(plans, turn, *channel) {
-            events.push(Event::Put { channel: *channel })?;
+            push_event(Event::Put { channel: *channel }, events)?;
         }
     }
     Ok(())
@@ -123,53 +162,38 @@ fn add_point(
     uses: &[Items<Option<ChannelUse>>],
     outgoing: &[u32],
     turn: usize,
-    events: &mut Vec<Event>,
+    events: &mut ScriptBuilder<Event>,
 ) -> Result<(), AllocError>
     requires few { length uses.now ≤ 8 }
     requires fit { All (All (UseFits plans.now)) uses.now }
     ensures { OnOk result
-        (events.new.items ≡ events.old.items ++ events_at plans.now uses.now outgoing.now turn) }
+        (events.new ≡ events.old ++ events_at plans.now uses.now outgoing.now turn) }
 {
     let mut refs = Refs::empty();
     for of_read in uses {
         refs.push(add_use(plans, use_of(of_read, turn), events)?);
     }
-    events.push(Event::Fire { refs })?;
+    push_event(Event::Fire { refs }, events)?;
     add_puts(plans, outgoing, turn, events)
 }
 
-/// How many events a process with so many points has: the room that is reserved for them. No contract speaks of it.
-pub(crate) fn event_room(plans: &[ChannelPlan], process: u32, fires: usize) -> usize {
-    let mut room = fires;
-    for plan in plans {
-        if plan.reader == process {
-            room = room.saturating_add(plan.slots.slot_of_get.len());
-        }
-        if plan.writer == process {
-            room = room.saturating_add(plan.tokens as usize);
-        }
-    }
-    room
-}
-
 /// The events of a process with so many points, in order, given what each fire uses by read, and the numbers of the
-/// channels that it writes. Room for so many events is reserved first.
+/// channels that it writes. It keeps four bytes for each, and each different event once.
 pub(crate) fn script_of(
     alloc: Global,
     plans: &[ChannelPlan],
     uses: &[Items<Option<ChannelUse>>],
     outgoing: &[u32],
     fires: usize,
-    room: usize,
-) -> Result<Items<Event>, AllocError>
+) -> Result<ScriptBuilder<Event>, AllocError>
     requires few { length uses.now ≤ 8 }
     requires fit { All (All (UseFits plans.now)) uses.now }
     ensures { IfOk result (λ script.
         script ≡ flat_map (events_at plans.now uses.now outgoing.now) (range_with_len 0 fires)) }
 {
-    let mut events = Vec::with_capacity(alloc, room)?;
+    let mut events = ScriptBuilder::new(alloc);
     for turn in 0..fires {
         add_point(plans, uses, outgoing, turn, &mut events)?;
     }
-    Ok(Items::from_vec(events))
+    Ok(events)
 }

@@ -7,14 +7,13 @@ ghost use Rattle.sanlp.specs.Points.{points_of};
 ghost use Rattle.source_tree.specs.Sources.{sources_of};
 ghost use Rattle.process_derive.specs.Derived.{process_of};
 
-use crate::events::{event_room, script_of};
+use crate::events::script_of;
 use crate::incoming::{incoming_channels, outgoing_channels, slot_count};
 use crate::uses::uses_of;
 use channel_plan::ChannelPlan;
-use net_core::{Process, equal_is_same};
+use net_core::Process;
 use plain_data::Items;
 use sanlp::{Nest, Points, Tag};
-use script_blocks::Script;
 use source_tree::SourceTable;
 use std::alloc::{AllocError, Global};
 
@@ -38,24 +37,15 @@ fn make_process(
     let incoming = incoming_channels(alloc, plans, number)?;
     let outgoing = outgoing_channels(alloc, plans, number)?;
     let uses = uses_of(alloc, incoming.as_slice(), sources, nest.statements.len())?;
-    let room = event_room(plans, number, fires);
-    let events = script_of(
-        alloc,
-        plans,
-        uses.as_slice(),
-        outgoing.as_slice(),
-        fires,
-        room,
-    )?;
-    equal_is_same();
+    let events = script_of(alloc, plans, uses.as_slice(), outgoing.as_slice(), fires)?;
     Ok(Process {
         slots: slot_count(plans, number),
-        script: Script::folded(alloc, events.as_slice())?,
+        script: events.script(alloc)?,
     })
 }
 
 /// The processes of a nest, one for each statement, with folded scripts. The table of sources is the exact one. Besides
-/// what it makes, it keeps the events of one process at a time.
+/// what it makes, it keeps the events of one process at a time: four bytes for each, and each different event once.
 pub(crate) fn make_processes(
     alloc: Global,
     nest: &Nest,

@@ -5,6 +5,7 @@ use channel_plan::ChannelPlan;
 use net_core::Event;
 use plain_data::Items;
 use reorder_slots::SlotPlan;
+use script_blocks::{Cursor, ScriptBuilder};
 use std::alloc::{AllocError, Global};
 use std::test::Fail;
 
@@ -44,12 +45,17 @@ fn tokens_are_put_to_their_channels(rt: HostRuntime) -> Result<(), Fail> {
     ];
     let outgoing = outgoing_channels(alloc, &plans, 0)?;
     assert!(rt; outgoing.as_slice() == [0, 2].as_slice());
-    let mut events = Vec::new(alloc);
+    let mut events = ScriptBuilder::new(alloc);
     for turn in 0..3 {
         add_puts(&plans, outgoing.as_slice(), turn, &mut events)?;
     }
     let put = |channel| Event::Put { channel };
-    assert!(rt; events.as_slice() == [put(0), put(2), put(2)].as_slice());
+    let blocks = events.blocks(alloc)?;
+    let mut cursor = Cursor::new(alloc, &blocks)?;
+    assert!(rt; cursor.next(&blocks) == Some(put(0)));
+    assert!(rt; cursor.next(&blocks) == Some(put(2)));
+    assert!(rt; cursor.next(&blocks) == Some(put(2)));
+    assert!(rt; cursor.next(&blocks).is_none());
     Ok(())
 }
 

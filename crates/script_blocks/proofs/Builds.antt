@@ -1,15 +1,19 @@
 -- Parts that grow by what they stand for.
-use Rattle.std.proofs.Common.{◌≡◌, ◌+◌, ◌-◌, ◌<◌, ℕ, Bool, true, List, [], ◌∷◌, ◌++◌, take, length, get_or, refl, sym, ap, ◌∙◌, arith, append_assoc}
+use Rattle.std.proofs.Common.{◌≡◌, ◌+◌, ◌-◌, ◌<◌, ℕ, Bool, true, List, [], ◌∷◌, ◌++◌, take, length, get_or, refl, sym}
+use Rattle.std.proofs.Common.{ap, ◌∙◌, arith, append_assoc}
 use Rattle.std.specs.Cmp.Lexicographic.{pointwise}
 use Rattle.std.proofs.lemmas.Bool.{and_parts, false≢true}
 use Rattle.std.proofs.lemmas.Grind.{flat_map-append}
-use Rattle.std.proofs.lemmas.List.{append-nil, length-append, take_at, take_more}
+use Rattle.std.specs.Prelude.{slice_index_or}
+use Rattle.std.proofs.lemmas.List.{append-nil, length-append, length-map, map-append, take_at, take-map}
 use Rattle.script_blocks.specs.declared.blocks.Blocks.{Blocks}
 use Rattle.script_blocks.specs.declared.blocks.BlockPart.{BlockPart}
 use Rattle.script_blocks.specs.declared.blocks.BlockPart.TheVariants.{Item}
 use Rattle.script_blocks.specs.declared.blocks.BlockPart.TheViews.{Repeat}
 use Rattle.script_blocks.specs.Expansion.{part_expansion, parts_expansion, repeated}
+use Rattle.script_blocks.specs.Labels.{items_or}
 use Rattle.script_blocks.proofs.Expansions.{expansion_item, expansion_repeat}
+use Rattle.script_blocks.proofs.Labels.{items_more, items_repeated}
 
 -- lists that a test finds equal are the same where items that it finds equal are
 pub pointwise_same : {T : Type 0} (E : T → T → Bool) → ((a b : T) → E a b ≡ true → a ≡ b) → (xs ys : List T)
@@ -29,46 +33,85 @@ expansion_push parts part =
     flat_map-append part_expansion parts (part ∷ [])
     ∙ ap (λ xs. parts_expansion parts ++ xs) (append-nil (part_expansion part))
 
--- what is in front of the others
-pub front_is : {T : Type 0} (items front others : List T) → items ≡ front ++ others
-    → take (length items - length others) items ≡ front
-front_is items front others e =
-    let longer = ap length e ∙ length-append front others in
-    ap (take (length items - length others)) e ∙ take_at front others (length items - length others) (omega arith)
+-- what the labels in front of the others stand for
+module _ {T : Type 0} (kinds : List T) (other : T) where
+  abbrev items : List ℕ → List T
+  items labels = items_or kinds other labels
 
--- a repeat in place of the items that it stands for
-module _ {T : Type 0} (parts : List (BlockPart T)) (count : ℕ) (body : Blocks T) (items first others rest : List T)
-    (split : items ≡ parts_expansion body.parts ++ others) (is : first ≡ take (length items - length others) items)
-    (repeats : first ++ others ≡ repeated count first ++ rest) where
-  pub repeat_built : parts_expansion parts ++ items ≡ parts_expansion (parts ++ Repeat count body ∷ []) ++ rest
-  repeat_built =
-      let front = is ∙ front_is items (parts_expansion body.parts) others split in
-      ap (λ xs. parts_expansion parts ++ xs)
-      (split ∙ ap (λ xs. xs ++ others) (sym front) ∙ repeats ∙ ap (λ xs. repeated count xs ++ rest) front
-      ∙ ap (λ xs. xs ++ rest) (sym (expansion_repeat count body)))
-      ∙ sym (append_assoc (parts_expansion parts) (part_expansion (Repeat count body)) rest)
-      ∙ ap (λ xs. xs ++ rest) (sym (expansion_push parts (Repeat count body)))
+  taken : (n : ℕ) (labels : List ℕ) → items (take n labels) ≡ take n (items labels)
+  taken n labels = sym (take-map (λ l. slice_index_or kinds l other) n labels)
 
--- the repeat added to the parts, where its body has these parts
-module _ {T : Type 0} (parts grown inner : List (BlockPart T)) (count : ℕ) (body : Blocks T)
-    (pushed : grown ≡ parts ++ Repeat count body ∷ [])
-    (same : inner ≡ body.parts) where
-  pub repeat_expands : (items first others rest : List T) → items ≡ parts_expansion inner ++ others
-      → first ≡ take (length items - length others) items → first ++ others ≡ repeated count first ++ rest
-      → parts_expansion parts ++ items ≡ parts_expansion grown ++ rest
-  repeat_expands items first others rest split is repeats =
-      repeat_built parts count body items first others rest
-      (split ∙ ap (λ ps. parts_expansion ps ++ others) same) is repeats
-      ∙ ap (λ ps. parts_expansion ps ++ rest) (sym pushed)
+  many : (labels : List ℕ) → length (items labels) ≡ length labels
+  many labels = length-map labels (λ l. slice_index_or kinds l other)
 
--- one more of the items that are added
-pub items_added : {T : Type 0} (parts before : List (BlockPart T)) (items : List T) (i : ℕ) (x : T) → i < length items
-    → x ≡ get_or items i x
-    → parts_expansion parts ≡ parts_expansion before ++ take i items
-    → parts_expansion (parts ++ Item x ∷ []) ≡ parts_expansion before ++ take (i + 1) items
-items_added parts before items i x lt e added =
-    expansion_push parts (Item x) ∙ ap (λ xs. xs ++ part_expansion (Item x)) added
-    ∙ append_assoc (parts_expansion before) (take i items) (part_expansion (Item x))
-    ∙ ap (λ xs. parts_expansion before ++ xs) (
-    ap (λ ys. take i items ++ ys) (expansion_item x)
-    ∙ sym (take_more items i x lt ∙ ap (λ y. take i items ++ y ∷ []) (sym e)))
+  front_stands : (labels others : List ℕ) (body : List T) → items labels ≡ body ++ items others
+      → items (take (length labels - length others) labels) ≡ body
+  front_stands labels others body split =
+      let all = ap length split ∙ length-append body (items others) in
+      let here : length body ≡ length labels - length others =
+      omega (arith, all, many labels, many others) in
+      taken (length labels - length others) labels ∙ ap (take (length labels - length others)) split
+      ∙ take_at body (items others) (length labels - length others) here
+
+  -- a repeat in place of the items that it stands for
+  module _ (parts : List (BlockPart T)) (count : ℕ) (body : Blocks T) (labels first others rest : List ℕ)
+      (split : items labels ≡ parts_expansion body.parts ++ items others)
+      (is : first ≡ take (length labels - length others) labels)
+      (repeats : first ++ others ≡ repeated count first ++ rest) where
+    front : items first ≡ parts_expansion body.parts
+    front = ap items is ∙ front_stands labels others (parts_expansion body.parts) split
+
+    stands : items labels ≡ repeated count (parts_expansion body.parts) ++ items rest
+    stands =
+        split ∙ ap (λ xs. xs ++ items others) (sym front)
+        ∙ sym (map-append (λ l. slice_index_or kinds l other) first others) ∙ ap items repeats
+        ∙ map-append (λ l. slice_index_or kinds l other) (repeated count first) rest
+        ∙ ap (λ xs. xs ++ items rest) (items_repeated kinds other count first
+        ∙ ap (repeated count) front)
+
+    pub repeat_built : parts_expansion parts ++ items labels
+        ≡ parts_expansion (parts ++ Repeat count body ∷ []) ++ items rest
+    repeat_built =
+        ap (λ xs. parts_expansion parts ++ xs)
+        (stands ∙ ap (λ xs. xs ++ items rest) (sym (expansion_repeat count body)))
+        ∙ sym (append_assoc (parts_expansion parts) (part_expansion (Repeat count body)) (items rest))
+        ∙ ap (λ xs. xs ++ items rest) (sym (expansion_push parts (Repeat count body)))
+
+  -- the repeat added to the parts, where its body has these parts
+  module _ (parts grown inner : List (BlockPart T)) (count : ℕ) (body : Blocks T)
+      (pushed : grown ≡ parts ++ Repeat count body ∷ [])
+      (same : inner ≡ body.parts) where
+    pub repeat_expands : (labels first others rest : List ℕ) → items labels ≡ parts_expansion inner ++ items others
+        → first ≡ take (length labels - length others) labels → first ++ others ≡ repeated count first ++ rest
+        → parts_expansion parts ++ items labels ≡ parts_expansion grown ++ items rest
+    repeat_expands labels first others rest split is repeats =
+        repeat_built parts count body labels first others rest
+        (split ∙ ap (λ ps. parts_expansion ps ++ items others) same) is repeats
+        ∙ ap (λ ps. parts_expansion ps ++ items rest) (sym pushed)
+
+  -- one more of the items that are added
+  pub items_added : (grown parts before : List (BlockPart T)) (labels : List ℕ) (i : ℕ) → i < length labels
+      → parts_expansion grown ≡ parts_expansion parts ++ items (get_or labels i 0 ∷ [])
+      → parts_expansion parts ≡ parts_expansion before ++ items (take i labels)
+      → parts_expansion grown ≡ parts_expansion before ++ items (take (i + 1) labels)
+  items_added grown parts before labels i lt added was =
+      added ∙ ap (λ xs. xs ++ items (get_or labels i 0 ∷ [])) was
+      ∙ append_assoc (parts_expansion before) (items (take i labels)) (items (get_or labels i 0 ∷ []))
+      ∙ ap (λ xs. parts_expansion before ++ xs) (sym (items_more kinds other labels i lt))
+
+  -- the item of the first label
+  pub item_built : (parts grown : List (BlockPart T)) (labels rest : List ℕ) (label : ℕ) → labels ≡ label ∷ rest
+      → parts_expansion grown ≡ parts_expansion parts ++ items (label ∷ [])
+      → parts_expansion parts ++ items labels ≡ parts_expansion grown ++ items rest
+  item_built parts grown labels rest label is added =
+      ap (λ ls. parts_expansion parts ++ items ls) is
+      ∙ sym (append_assoc (parts_expansion parts) (items (label ∷ [])) (items rest))
+      ∙ ap (λ xs. xs ++ items rest) (sym added)
+
+  -- the part of one label
+  pub item_pushed : (parts grown : List (BlockPart T)) (label : ℕ) (item : T) → grown ≡ parts ++ Item item ∷ []
+      → item ≡ slice_index_or kinds label other
+      → parts_expansion grown ≡ parts_expansion parts ++ items (label ∷ [])
+  item_pushed parts grown label item pushed is =
+      ap parts_expansion pushed ∙ expansion_push parts (Item item)
+      ∙ ap (λ xs. parts_expansion parts ++ xs) (expansion_item item ∙ ap (λ x. x ∷ []) is)

@@ -23,7 +23,10 @@ capped_past a b most cap h le =
 capped_product : (a b most cap : ℕ) → cap ≤ most → min (min (a * min b cap) most) cap ≡ min (a * b) cap
 capped_product zero b most cap h = omega arith
 capped_product (suc a) b most cap h =
-    elim (cases_lt b cap) [ inl lt ↦ capped_within (suc a) b most cap h (omega arith) | inr le ↦ capped_past a b most cap h (omega arith) ]
+    elim (cases_lt b cap) [
+      | inl lt ↦ capped_within (suc a) b most cap h (omega arith)
+      | inr le ↦ capped_past a b most cap h (omega arith)
+    ]
 
 -- the length of a repeat, up to a cap
 pub capped_repeat : {T : Type 0} (count : ℕ) (body : Blocks T) (part : BlockPart T) (inner most cap : ℕ) → cap ≤ most

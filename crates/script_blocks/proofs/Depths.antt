@@ -1,10 +1,11 @@
 -- A proper list of parts is long where it nests deep.
 --
--- A proper repeat stands for at least twice its body, and its body has a part. So each level of nesting doubles the length
--- at least: parts that nest d deep stand for at least 2 ^ d items, unless there is none. By induction over the parts, a
--- repeat with its body at once. Fewer than 2 ^ 32 items therefore nest at most 31 deep, and 32 frames serve each walk over
--- them. It says nothing of blocks that aren't proper: repeats of nothing nest at will.
-use Rattle.std.proofs.Common.{◌≡◌, ◌+◌, ◌*◌, ◌^◌, ◌<◌, ◌≤◌, ℕ, true, ◌&&◌, List, [], ◌∷◌, map, length, refl, sym, ap, ◌∙◌, subst, inl, inr, arith}
+-- A proper repeat stands for at least twice its body, and its body has a part. So each level of nesting doubles the
+-- length at least: parts that nest d deep stand for at least 2 ^ d items, unless there is none. By induction over the
+-- parts, a repeat with its body at once. Fewer than 2 ^ 32 items therefore nest at most 31 deep, and 32 frames serve
+-- each walk over them. It says nothing of blocks that aren't proper: repeats of nothing nest at will.
+use Rattle.std.proofs.Common.{◌≡◌, ◌+◌, ◌*◌, ◌^◌, ◌<◌, ◌≤◌, ℕ, true, ◌&&◌, List, [], ◌∷◌, map, length, refl, sym, ap}
+use Rattle.std.proofs.Common.{◌∙◌, subst, inl, inr, arith}
 use Rattle.std.specs.Prelude.{max, nat_le}
 use Rattle.std.specs.List.{list_all}
 use Rattle.std.proofs.lemmas.Bool.{and_parts, cases_lt, false≢true, leb-true}
@@ -17,8 +18,10 @@ use Rattle.script_blocks.specs.declared.blocks.BlockPart.TheFolds.{map-BlockPart
 use Rattle.script_blocks.specs.declared.blocks.BlockPart.TheViews.{Repeat, roll-BlockPart, rolls-Item, rolls-Repeat}
 use Rattle.script_blocks.specs.declared.blocks.BlockPart.TheVariants.{Item}
 use Rattle.script_blocks.specs.Expansion.{expansion, part_expansion, parts_expansion}
-use Rattle.script_blocks.specs.Nesting.{are_proper, is_body, is_proper, is_proper_part, nesting, part_nesting, parts_nesting}
-use Rattle.script_blocks.proofs.Expansions.{expansion_item, expansion_repeat, nesting_item, nesting_repeat, proper_repeat}
+use Rattle.script_blocks.specs.Nesting.{are_proper, is_body, is_proper, is_proper_part, nesting, part_nesting}
+use Rattle.script_blocks.specs.Nesting.{parts_nesting}
+use Rattle.script_blocks.proofs.Expansions.{expansion_item, expansion_repeat, nesting_item, nesting_repeat}
+use Rattle.script_blocks.proofs.Expansions.{proper_repeat}
 use Rattle.script_blocks.proofs.Repetitions.{length-repeated}
 
 -- a part that nests deep is long

@@ -1,5 +1,6 @@
 -- The folds over blocks at each kind of part.
-use Rattle.std.proofs.Common.{◌≡◌, ◌+◌, ◌<◌, ℕ, Bool, true, ◌&&◌, List, [], ◌∷◌, ◌++◌, map, take, length, get_or, refl, sym, ap, ◌∙◌}
+use Rattle.std.proofs.Common.{◌≡◌, ◌+◌, ◌<◌, ℕ, Bool, true, ◌&&◌, List, [], ◌∷◌, ◌++◌, map, take, length, get_or, refl}
+use Rattle.std.proofs.Common.{sym, ap, ◌∙◌}
 use Rattle.std.specs.Prelude.{nat_le}
 use Rattle.std.specs.List.{sum, sum_by}
 use Rattle.std.proofs.lemmas.List.{map_push, take_more}
@@ -9,10 +10,12 @@ use Rattle.script_blocks.specs.declared.blocks.Blocks.{Blocks}
 use Rattle.script_blocks.specs.declared.blocks.BlockPart.TheOpen as open_part
 use Rattle.script_blocks.specs.declared.blocks.BlockPart.TheViews.{Repeat, rolls-Item, rolls-Repeat}
 use Rattle.script_blocks.specs.declared.blocks.BlockPart.TheVariants.{Item}
-use Rattle.script_blocks.specs.declared.blocks.BlockPart.TheFolds.{fold-BlockPart, fold-Blocks, fold-roll-BlockPart, fold-roll-Blocks}
+use Rattle.script_blocks.specs.declared.blocks.BlockPart.TheFolds.{fold-BlockPart, fold-Blocks, fold-roll-BlockPart}
+use Rattle.script_blocks.specs.declared.blocks.BlockPart.TheFolds.{fold-roll-Blocks}
 use Rattle.script_blocks.specs.Expansion.{expand_part, expand_list, part_expansion, parts_expansion, repeated}
 use Rattle.script_blocks.specs.Nodes.{count_part, count_list, part_nodes, parts_nodes}
-use Rattle.script_blocks.specs.Nesting.{check_part, check_list, is_body, is_proper_part, nest_part, nest_list, part_nesting, parts_nesting}
+use Rattle.script_blocks.specs.Nesting.{check_part, check_list, is_body, is_proper_part, nest_part, nest_list}
+use Rattle.script_blocks.specs.Nesting.{part_nesting, parts_nesting}
 
 module _ (T A B : Type 0) (part_step : open_part.BlockPart-F T A B → A) (list_step : open_part.Blocks-F T A B → B) where
   fold_item : (x : T) → fold-BlockPart T A B part_step list_step (Item x) ≡ part_step (open_part.Item x)

@@ -1,4 +1,5 @@
 pub mod Repetitions
+pub mod Labels
 pub mod Expansions
 pub mod Counts
 pub mod Firsts

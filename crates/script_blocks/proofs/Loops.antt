@@ -1,5 +1,11 @@
--- What a loop over a script has had of it and what is left, which make the script together.
-use Rattle.std.proofs.Common.{◌≡◌, ◌<◌, ℕ, suc, Some, List, [], ◌∷◌, ◌++◌, length, slice_get, refl, sym, ap, ◌∙◌, arith, append_assoc, append-nil, length-append}
+-- Loops that go over a script by a cursor, for the crates that have such loops.
+--
+-- The invariant is that what the loop has had, followed by what the cursor has left, is the script. It holds at the
+-- start, where nothing was had, and a step keeps it, since the item that the cursor gives stands in front of what it
+-- leaves and moves behind what was had. So the next item is the one whose place is the number of those before it, and
+-- at the end all of the script was had. Nothing is said of how the script is kept, nor of how many steps a loop takes.
+use Rattle.std.proofs.Common.{◌≡◌, ◌<◌, suc, Some, List, [], ◌∷◌, ◌++◌, length, slice_get, refl, sym, ap, ◌∙◌, arith}
+use Rattle.std.proofs.Common.{append_assoc, append-nil, length-append}
 
 behind_front : {X : Type 0} (front : List X) (x : X) (later : List X)
     → slice_get (front ++ x ∷ later) (length front) ≡ Some x

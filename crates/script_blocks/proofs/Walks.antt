@@ -1,5 +1,6 @@
 -- Steps of a cursor, over plain variables.
-use Rattle.std.proofs.Common.{◌≡◌, ◌+◌, ◌<◌, ◌≢◌, ℕ, zero, suc, Bool, true, false, cond, List, [], ◌∷◌, ◌++◌, drop, set, length, get_or, refl, sym, ap, ◌∙◌, arith, add-one}
+use Rattle.std.proofs.Common.{◌≡◌, ◌+◌, ◌<◌, ◌≢◌, ℕ, zero, suc, Bool, true, false, cond, List, [], ◌∷◌, ◌++◌, drop, set}
+use Rattle.std.proofs.Common.{length, get_or, refl, sym, ap, ◌∙◌, arith, add-one}
 use Rattle.std.specs.Prelude.{MatchOption, Option, Some, None, slice_get, is_some}
 use Rattle.std.proofs.lemmas.Bool.{false≢true}
 use Rattle.std.proofs.lemmas.List.{append-nil}
@@ -8,7 +9,8 @@ use Rattle.script_blocks.specs.declared.blocks.BlockPart.{BlockPart, out-BlockPa
 use Rattle.script_blocks.specs.declared.blocks.BlockPart.TheViews.{Repeat, outs-Repeat}
 use Rattle.script_blocks.specs.declared.cursor.Frame.{Frame}
 use Rattle.script_blocks.specs.Expansion.{part_expansion, parts_expansion, repeated}
-use Rattle.script_blocks.specs.Places.{Left, left, left_inside, left_of_part, left_of_parts, left_of_repeat, left_of_turns}
+use Rattle.script_blocks.specs.Places.{Left, left, left_inside, left_of_part, left_of_parts, left_of_repeat}
+use Rattle.script_blocks.specs.Places.{left_of_turns}
 use Rattle.script_blocks.proofs.Expansions.{expansion_repeat}
 use Rattle.script_blocks.proofs.Firsts.{first_of_front, first_of_other, first_repeated}
 use Rattle.script_blocks.proofs.Repetitions.{repeated_next, repeated_none, repeated_nothing}

@@ -6,7 +6,8 @@ use Rattle.script_blocks.specs.declared.blocks.BlockPart.TheVariants.{Item}
 use Rattle.script_blocks.specs.Expansion.{expansion, repeated}
 use Rattle.script_blocks.specs.Nodes.{node_count}
 use Rattle.script_blocks.specs.Nesting.{nesting, is_proper}
-use Rattle.script_blocks.proofs.Expansions.{expansion_item, expansion_repeat, nodes_item, nodes_repeat, nesting_item, nesting_repeat, proper_item, proper_repeat}
+use Rattle.script_blocks.proofs.Expansions.{expansion_item, expansion_repeat, nodes_item, nodes_repeat, nesting_item}
+use Rattle.script_blocks.proofs.Expansions.{nesting_repeat, proper_item, proper_repeat}
 
 -- two times the items 1, 2, and then 3
 abbrev row : Blocks ℕ

@@ -4,3 +4,4 @@ pub mod Nesting
 pub mod Places
 pub mod Cursors
 pub mod Scripts
+pub mod Labels

@@ -1,9 +1,10 @@
-ghost use Rattle.std.specs.Prelude.{◌≡◌, ◌+◌, ◌-◌, ◌≤◌, ◌++◌, true, length, take, IfOk, IfSome, IsTrue, OnOk};
+ghost use Rattle.std.specs.Prelude.{◌≡◌, ◌+◌, ◌-◌, ◌≤◌, ◌++◌, [], ◌∷◌, true, length, take, IfOk, IfSome, IsTrue, OnOk};
 ghost use Rattle.script_blocks.specs.Expansion.{expansion, parts_expansion, repeated};
+ghost use Rattle.script_blocks.specs.Labels.{items_or};
 ghost use Rattle.script_blocks.specs.Nesting.{are_proper, is_proper, nesting, parts_nesting};
 
-use crate::search::{Plan, Stretch, Symbol};
-use crate::{BlockPart, Blocks};
+use crate::search::{Plan, Stretch};
+use crate::{BlockPart, Blocks, ScriptBuilder};
 use plain_data::Items;
 use std::alloc::{AllocError, Global};
 
@@ -18,148 +19,202 @@ pub fn fold<T: Copy + Eq>(alloc: Global, items: &[T]) -> Result<Blocks<T>, Alloc
     ensures proper { IfOk result (λ blocks. IsTrue (is_proper blocks)) }
     ensures shallow { IfOk result (λ blocks. nesting blocks ≤ 64) }
 {
-    let plan = Plan::of(alloc, items)?;
+    let mut builder = ScriptBuilder::new(alloc);
+    for item in items {
+        builder.push(*item)?;
+    }
+    builder.blocks(alloc)
+}
+
+/// Folds the stretches of these labels that repeat, and puts for each the item of its kind. The other item stands where a
+/// label is none of a kind.
+pub(crate) fn fold_labels<T: Copy>(
+    alloc: Global,
+    kinds: &[T],
+    other: T,
+    labels: &[u32],
+) -> Result<Blocks<T>, AllocError>
+    ensures expansion { IfOk result
+        (λ blocks. expansion blocks ≡ items_or kinds.now other labels.now) }
+    ensures proper { IfOk result (λ blocks. IsTrue (is_proper blocks)) }
+    ensures shallow { IfOk result (λ blocks. nesting blocks ≤ 64) }
+{
+    let plan = Plan::of(alloc, kinds.len(), labels)?;
     let mut parts = Items::new(alloc);
     let rest = build(
-        alloc,
         &plan,
         plan.symbols(),
-        items,
+        kinds,
+        other,
+        labels,
         NESTING_LIMIT,
         &mut parts,
     )?;
-    push_items(rest, &mut parts)?;
+    push_items(kinds, other, rest, &mut parts)?;
     Ok(Blocks { parts })
 }
 
-// Adds these items as they are.
+// Adds the item of a label.
 #[tactic(auto, using(crate::proofs::Nestings::with_item))]
-fn push_items<T: Copy>(items: &[T], parts: &mut Items<BlockPart<T>>) -> Result<(), AllocError>
+fn push_item<T: Copy>(
+    kinds: &[T],
+    other: T,
+    label: u32,
+    parts: &mut Items<BlockPart<T>>,
+) -> Result<(), AllocError>
     ensures expansion { OnOk result
-        (parts_expansion parts.new ≡ parts_expansion parts.old ++ items.now) }
+        (parts_expansion parts.new ≡ parts_expansion parts.old ++ items_or kinds.now other (label ∷ [])) }
     ensures shallow { OnOk result (parts_nesting parts.new ≡ parts_nesting parts.old) }
     ensures proper { OnOk result (are_proper parts.new ≡ are_proper parts.old) }
 {
-    for item in items {
-        parts.push(BlockPart::Item(*item))?;
+    let item = kinds.get(label as usize).copied().unwrap_or(other);
+    parts.push(BlockPart::Item(item))
+}
+
+// Adds the items of these labels.
+fn push_items<T: Copy>(
+    kinds: &[T],
+    other: T,
+    labels: &[u32],
+    parts: &mut Items<BlockPart<T>>,
+) -> Result<(), AllocError>
+    ensures expansion { OnOk result
+        (parts_expansion parts.new ≡ parts_expansion parts.old ++ items_or kinds.now other labels.now) }
+    ensures shallow { OnOk result (parts_nesting parts.new ≡ parts_nesting parts.old) }
+    ensures proper { OnOk result (are_proper parts.new ≡ are_proper parts.old) }
+{
+    for label in labels {
+        push_item(kinds, other, *label, parts)?;
     }
     Ok(())
 }
 
-// Adds what the symbols propose of these items, and gives the items that are left.
+// Adds what the symbols propose of these labels, and gives the labels that are left.
 #[cycle(build)]
-fn build<'a, T: Copy + Eq>(
-    alloc: Global,
+fn build<'a, T: Copy>(
     plan: &Plan,
-    symbols: &[Symbol],
-    items: &'a [T],
+    symbols: &[u32],
+    kinds: &[T],
+    other: T,
+    labels: &'a [u32],
     depth: u32,
     parts: &mut Items<BlockPart<T>>,
-) -> Result<&'a [T], AllocError>
-    requires same { (a b : T) → T.eq a b ≡ true → a ≡ b }
+) -> Result<&'a [u32], AllocError>
     requires shallow { parts_nesting parts.old ≤ depth }
     requires proper { IsTrue (are_proper parts.old) }
-    ensures expansion { IfOk result
-        (λ rest. parts_expansion parts.old ++ items.now ≡ parts_expansion parts.new ++ rest.now) }
+    ensures expansion { IfOk result (λ rest.
+        parts_expansion parts.old ++ items_or kinds.now other labels.now
+        ≡ parts_expansion parts.new ++ items_or kinds.now other rest.now) }
     ensures shallow { OnOk result (parts_nesting parts.new ≤ depth) }
     ensures proper { OnOk result (IsTrue (are_proper parts.new)) }
 {
-    let mut rest = items;
+    let mut rest = labels;
     for symbol in symbols {
-        rest = build_symbol(alloc, plan, *symbol, rest, depth, parts)?;
+        rest = build_symbol(plan, *symbol, kinds, other, rest, depth, parts)?;
     }
     Ok(rest)
 }
 
 #[cycle(build)]
-fn build_symbol<'a, T: Copy + Eq>(
-    alloc: Global,
+fn build_symbol<'a, T: Copy>(
     plan: &Plan,
-    symbol: Symbol,
-    items: &'a [T],
+    symbol: u32,
+    kinds: &[T],
+    other: T,
+    labels: &'a [u32],
     depth: u32,
     parts: &mut Items<BlockPart<T>>,
-) -> Result<&'a [T], AllocError>
-    requires same { (a b : T) → T.eq a b ≡ true → a ≡ b }
+) -> Result<&'a [u32], AllocError>
     requires shallow { parts_nesting parts.old ≤ depth }
     requires proper { IsTrue (are_proper parts.old) }
-    ensures expansion { IfOk result
-        (λ rest. parts_expansion parts.old ++ items.now ≡ parts_expansion parts.new ++ rest.now) }
+    ensures expansion { IfOk result (λ rest.
+        parts_expansion parts.old ++ items_or kinds.now other labels.now
+        ≡ parts_expansion parts.new ++ items_or kinds.now other rest.now) }
     ensures shallow { OnOk result (parts_nesting parts.new ≤ depth) }
     ensures proper { OnOk result (IsTrue (are_proper parts.new)) }
 {
     let Some(stretch) = plan.stretch_of(symbol) else {
-        let rest = build_item(items, parts)?;
+        let rest = build_item(kinds, other, labels, parts)?;
         return Ok(rest);
     };
     if depth == 0 {
-        return Ok(items);
+        return Ok(labels);
     }
-    let rest = build_repeat(alloc, plan, stretch, items, depth - 1, parts)?;
+    let rest = build_repeat(plan, stretch, kinds, other, labels, depth - 1, parts)?;
     Ok(rest)
 }
 
-// Adds the first item, if there is one.
-#[tactic(auto, using(crate::proofs::Nestings::with_item))]
+// Adds the item of the first label, if there is one.
 fn build_item<'a, T: Copy>(
-    items: &'a [T],
+    kinds: &[T],
+    other: T,
+    labels: &'a [u32],
     parts: &mut Items<BlockPart<T>>,
-) -> Result<&'a [T], AllocError>
-    ensures expansion { IfOk result
-        (λ rest. parts_expansion parts.old ++ items.now ≡ parts_expansion parts.new ++ rest.now) }
+) -> Result<&'a [u32], AllocError>
+    ensures expansion { IfOk result (λ rest.
+        parts_expansion parts.old ++ items_or kinds.now other labels.now
+        ≡ parts_expansion parts.new ++ items_or kinds.now other rest.now) }
     ensures shallow { OnOk result (parts_nesting parts.new ≡ parts_nesting parts.old) }
     ensures proper { OnOk result (are_proper parts.new ≡ are_proper parts.old) }
 {
-    let Some((item, rest)) = items.split_first() else {
-        return Ok(items);
+    let Some((label, rest)) = labels.split_first() else {
+        return Ok(labels);
     };
-    parts.push(BlockPart::Item(*item))?;
+    push_item(kinds, other, *label, parts)?;
     Ok(rest)
 }
 
-// Adds a repeat, if the items stand there as often as at least twice. Its body nests at most so deep.
+// Adds a repeat, if the labels stand there as often as at least twice. Its body nests at most so deep.
 #[cycle(build)]
-fn build_repeat<'a, T: Copy + Eq>(
-    alloc: Global,
+fn build_repeat<'a, T: Copy>(
     plan: &Plan,
-    stretch: &Stretch,
-    items: &'a [T],
+    stretch: Stretch,
+    kinds: &[T],
+    other: T,
+    labels: &'a [u32],
     depth: u32,
     parts: &mut Items<BlockPart<T>>,
-) -> Result<&'a [T], AllocError>
-    requires same { (a b : T) → T.eq a b ≡ true → a ≡ b }
+) -> Result<&'a [u32], AllocError>
     requires shallow { parts_nesting parts.old ≤ depth + 1 }
     requires proper { IsTrue (are_proper parts.old) }
-    ensures expansion { IfOk result
-        (λ rest. parts_expansion parts.old ++ items.now ≡ parts_expansion parts.new ++ rest.now) }
+    ensures expansion { IfOk result (λ rest.
+        parts_expansion parts.old ++ items_or kinds.now other labels.now
+        ≡ parts_expansion parts.new ++ items_or kinds.now other rest.now) }
     ensures shallow { OnOk result (parts_nesting parts.new ≤ depth + 1) }
     ensures proper { OnOk result (IsTrue (are_proper parts.new)) }
 {
-    let mut body = Items::new(alloc);
-    let others = build(alloc, plan, stretch.body(), items, depth, &mut body)?;
-    let first = without_end(items, others.len());
+    let mut body = Items::new(parts.allocator());
+    let others = build(
+        plan,
+        plan.body_of(stretch),
+        kinds,
+        other,
+        labels,
+        depth,
+        &mut body,
+    )?;
+    let first = without_end(labels, others.len());
     let (times, rest) = repetitions(first, others, stretch.times());
     if times < 2 || body.is_empty() {
-        return Ok(items);
+        return Ok(labels);
     }
     parts.push(BlockPart::Repeat(times, Blocks { parts: body }))?;
     Ok(rest)
 }
 
-// The items but for so many at the end.
-fn without_end<T>(items: &[T], count: usize) -> &[T]
-    ensures { result.now ≡ take (length items.now - count) items.now }
+// The labels but for so many at the end.
+fn without_end(labels: &[u32], count: usize) -> &[u32]
+    ensures { result.now ≡ take (length labels.now - count) labels.now }
 {
-    &items[..items.len().saturating_sub(count)]
+    &labels[..labels.len().saturating_sub(count)]
 }
 
-// How often the first items stand in all, at most so often: once, and then in front of these items; and what follows.
-fn repetitions<'a, T: Copy + Eq>(first: &[T], items: &'a [T], most: u32) -> (u32, &'a [T])
-    requires { (a b : T) → T.eq a b ≡ true → a ≡ b }
-    ensures { first.now ++ items.now ≡ repeated result.0 first.now ++ result.1.now }
+// How often the first labels stand in all, at most so often: once, and then in front of these labels; and what follows.
+fn repetitions<'a>(first: &[u32], labels: &'a [u32], most: u32) -> (u32, &'a [u32])
+    ensures { first.now ++ labels.now ≡ repeated result.0 first.now ++ result.1.now }
 {
     let mut times = 1;
-    let mut rest = items;
+    let mut rest = labels;
     if first.is_empty() {
         return (times, rest);
     }
@@ -173,14 +228,13 @@ fn repetitions<'a, T: Copy + Eq>(first: &[T], items: &'a [T], most: u32) -> (u32
     (times, rest)
 }
 
-// What follows these items, where the first ones stand in front.
-fn after_front<'a, T: Copy + Eq>(first: &[T], items: &'a [T]) -> Option<&'a [T]>
-    requires { (a b : T) → T.eq a b ≡ true → a ≡ b }
-    ensures { IfSome result (λ rest. items.now ≡ first.now ++ rest.now) }
+// What follows these labels, where the first ones stand in front.
+fn after_front<'a>(first: &[u32], labels: &'a [u32]) -> Option<&'a [u32]>
+    ensures { IfSome result (λ rest. labels.now ≡ first.now ++ rest.now) }
 {
-    if items.len() < first.len() {
+    if labels.len() < first.len() {
         return None;
     }
-    let (front, rest) = items.split_at(first.len());
+    let (front, rest) = labels.split_at(first.len());
     if front == first { Some(rest) } else { None }
 }

@@ -2,12 +2,16 @@
 #![tactic(auto)]
 
 mod blocks;
+mod builder;
+mod chains;
 mod cursor;
 mod folding;
+mod kinds;
 mod script;
 mod search;
 
 pub use blocks::{BlockPart, Blocks};
+pub use builder::ScriptBuilder;
 pub use cursor::Cursor;
 pub use folding::fold;
 pub use script::{Script, ScriptCursor, ScriptItems};

@@ -1,4 +1,4 @@
-use crate::{BlockPart, Blocks, Cursor, Script, ScriptCursor, fold};
+use crate::{BlockPart, Blocks, Cursor, Script, ScriptBuilder, ScriptCursor, fold};
 use plain_data::Items;
 use std::alloc::{AllocError, Global};
 use std::test::Fail;
@@ -140,6 +140,45 @@ fn a_long_period_is_found(rt: HostRuntime) -> Result<(), Fail> {
         }
     }
     assert_eq!(rt; folded_nodes(alloc, items.as_slice())?, Some(301));
+    Ok(())
+}
+
+// The outer loop of a matrix product: its first turn gets more, and the fires of a turn are all different.
+#[test]
+fn a_turn_of_the_outer_loop_is_found(rt: HostRuntime) -> Result<(), Fail> {
+    let alloc = rt.alloc();
+    let mut builder = ScriptBuilder::new(alloc);
+    assert!(rt; builder.is_empty());
+    for turn in 0..40 {
+        for place in 100..164 {
+            builder.push_with_key(1, 1u32)?;
+            if turn == 0 {
+                builder.push_with_key(place + 1_000, place + 1_000)?;
+            }
+            builder.push_with_key(place, place)?;
+            builder.push_with_key(2, 2)?;
+        }
+    }
+    assert_eq!(rt; builder.len(), 7_744);
+    let blocks = builder.blocks(alloc)?;
+    assert_eq!(rt; blocks.expanded_len(), Some(7_744));
+    assert!(rt; blocks.nodes() <= 460);
+    Ok(())
+}
+
+#[test]
+fn a_list_that_grew_is_a_script(rt: HostRuntime) -> Result<(), Fail> {
+    let alloc = rt.alloc();
+    let mut builder = ScriptBuilder::new(alloc);
+    builder.push(5u32)?;
+    builder.push(6)?;
+    builder.push(5)?;
+    let script = builder.script(alloc)?;
+    let mut items = script.iter();
+    assert_eq!(rt; items.next(), Some(5));
+    assert_eq!(rt; items.next(), Some(6));
+    assert_eq!(rt; items.next(), Some(5));
+    assert_eq!(rt; items.next(), None);
     Ok(())
 }
 

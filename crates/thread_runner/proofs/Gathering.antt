@@ -1,5 +1,7 @@
 -- Rooms and lists of a bench, and the lists that are gathered.
-use Rattle.std.proofs.Common.{◌≡◌, ◌<◌, ◌≤◌, ◌+◌, ◌-◌, ⊎_elim, ℕ, suc, ℤ, true, false, cond, List, [], ◌∷◌, ◌++◌, length, map, replicate, drop, slice_get, get_or, Some, vec_capacity, sym, ap, ◌∙◌, subst, arith, length-append, append_assoc, drop-cons, add-one}
+use Rattle.std.proofs.Common.{◌≡◌, ◌<◌, ◌≤◌, ◌+◌, ◌-◌, ⊎_elim, ℕ, suc, ℤ, true, false, cond, List, [], ◌∷◌, ◌++◌}
+use Rattle.std.proofs.Common.{length, map, replicate, drop, slice_get, get_or, Some, vec_capacity, sym, ap, ◌∙◌, subst}
+use Rattle.std.proofs.Common.{arith, length-append, append_assoc, drop-cons, add-one}
 use Rattle.std.specs.declared.vec.Vec.{Vec}
 use Rattle.std.specs.Global.{Global}
 use Rattle.std.proofs.lemmas.List.{length-map}
@@ -40,7 +42,13 @@ few_outputs n =
     let k = length n.statements - (length ins + length outs) in
     let whole : length n.statements ≡ length (map role.Source ins ++ (replicate k role.Assign ++ map role.Sink outs)) =
     sym (length-map n.statements (λ (s : Statement). s.role)) ∙ ap length n.well_formed.roles_in_order in
-    omega (arith, whole, length-append (map role.Source ins) (replicate k role.Assign ++ map role.Sink outs), length-append (replicate k role.Assign) (map role.Sink outs), length-map outs role.Sink)
+    omega (
+      arith,
+      whole,
+      length-append (map role.Source ins) (replicate k role.Assign ++ map role.Sink outs),
+      length-append (replicate k role.Assign) (map role.Sink outs),
+      length-map outs role.Sink,
+    )
 
 pub space_more : (values : ℕ → ℕ) (past k p : ℕ) (lists lists' : List (Vec ℤ Global)) (list : Vec ℤ Global)
     → HaveSpace values past lists → lists' ≡ lists ++ list ∷ [] → length lists ≡ k → p + k + 1 ≡ past → list.items ≡ []

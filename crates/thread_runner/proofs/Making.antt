@@ -1,5 +1,7 @@
 -- The ends of all processes are made channel by channel.
-use Rattle.std.proofs.Common.{◌≡◌, ◌==◌, ◌<◌, ◌≤◌, ◌⊎◌, inl, inr, ⊎_elim, ℕ, zero, suc, ◌+◌, Bool, true, false, cond, max, ℤ, Option, Some, None, List, [], ◌∷◌, length, slice_get, get_or, option_map, refl, sym, ap, ◌∙◌, subst, arith, length-set, zero-add, eq-eqb, ne_eqb, lt-ltb}
+use Rattle.std.proofs.Common.{◌≡◌, ◌==◌, ◌<◌, ◌≤◌, ◌⊎◌, inl, inr, ⊎_elim, ℕ, zero, suc, ◌+◌, Bool, true, false, cond}
+use Rattle.std.proofs.Common.{max, ℤ, Option, Some, None, List, [], ◌∷◌, length, slice_get, get_or, option_map, refl}
+use Rattle.std.proofs.Common.{sym, ap, ◌∙◌, subst, arith, length-set, zero-add, eq-eqb, ne_eqb, lt-ltb}
 use Rattle.std.specs.Prelude.{slice_index_or, slice_set, nat_lt}
 use Rattle.std.specs.Option.{option_map_or, option_and_then}
 use Rattle.std.proofs.lemmas.Bool.{cases_eq, cases_lt, le-ltb}
@@ -106,8 +108,15 @@ placed c w r put get old was row was' row' lt lt' is puts gets is' gets' puts' =
             ),
           ))
           (λ (b : (r ≡ q → ⊥) × (slice_get mid q ≡ Some e)).
-          let f = after_put c w put old was row lt is puts gets q e b.1 in
-          (f.0, f.1, (f.2, f.3 ∙ cond_false (r == q) (slice_set f.0.gets.items c (Some get)) f.0.gets.items (ne_eqb r q b.0))))
+          let f = after_put c w put old was row lt is puts gets q e b.1 in (
+            f.0,
+            f.1,
+            (
+              f.2,
+              f.3
+                  ∙ cond_false (r == q) (slice_set f.0.gets.items c (Some get)) f.0.gets.items (ne_eqb r q b.0),
+            ),
+          ))
           (one_set mid r row' q e h);
     }
 

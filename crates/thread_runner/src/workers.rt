@@ -39,7 +39,8 @@ impl<'a, E> Promise<Back<E>> for Task<'a> {
     ghost use Rattle.std.specs.Prelude.{◌≡◌, true};
     ghost use Rattle.sanlp.specs.Laws.{values_of};
 
-    ghost kept_by = { λ task back. back.ran ≡ true → back.room.kept ≡ values_of task.nest.now task.inputs.now task.process };
+    ghost kept_by = { λ task back. back.ran ≡ true
+        → back.room.kept ≡ values_of task.nest.now task.inputs.now task.process };
 }
 
 // Waits until the signal says go or stay.
@@ -62,7 +63,8 @@ fn work<R: Wait, E: Ends, G: Gate>(
     signal: &AtomicU64,
     gate: &G,
 ) -> Back<E>
-    requires may { MayWork E.from E.to task.nest.now task.points.now.of task.inputs.now task.network.now task.process back.room back.ends }
+    requires may { MayWork E.from E.to task.nest.now task.points.now.of task.inputs.now
+        task.network.now task.process back.room back.ends }
     requires idle { back.ran ≡ false }
     ensures { result.ran ≡ true
         → result.room.kept
@@ -97,10 +99,12 @@ fn launch<'s, S, R: Threads + Wait + Sync, E: Ends + Send + Drop + 's, G: Gate +
     room: Room<i64>,
     ends: E,
 ) -> Result<PromisedHandle<Back<E>, Task<'s>>, Back<E>>
-    requires { MayWork E.from E.to task.nest.now task.points.now.of task.inputs.now task.network.now task.process room ends }
+    requires { MayWork E.from E.to task.nest.now task.points.now.of task.inputs.now
+        task.network.now task.process room ends }
     ensures { MatchResult result (λ worker. worker.promise ≡ task.entry)
         (λ back. back.ran ≡ true
-        → back.room.kept ≡ values_of task.entry.nest.now task.entry.inputs.now task.entry.process) }
+        → back.room.kept
+        ≡ values_of task.entry.nest.now task.entry.inputs.now task.entry.process) }
 {
     let Task {
         nest,
@@ -117,7 +121,8 @@ fn launch<'s, S, R: Threads + Wait + Sync, E: Ends + Send + Drop + 's, G: Gate +
     match scope.spawn_with(
         task,
         move || -> Back<E>
-            requires may { MayWork E.from E.to nest.now points.now.of inputs.now network.now process back.room back.ends }
+            requires may { MayWork E.from E.to nest.now points.now.of inputs.now network.now
+                process back.room back.ends }
             requires idle { back.ran ≡ false }
             ensures { result.ran ≡ true
                 → result.room.kept ≡ values_of nest.entry.now inputs.entry.now process }
@@ -153,7 +158,8 @@ fn start<'s, S, R: Threads + Wait + Sync, E: Ends + Send + Drop + 's, G: Gate + 
     mut rooms: Vec<Room<i64>>,
     mut ends: Vec<E>,
 ) -> (Vec<Room<i64>>, Vec<E>, bool)
-    requires { MayStart E.from E.to nest.now points.now.of inputs.now network.now rooms.items ends.items }
+    requires { MayStart E.from E.to nest.now points.now.of inputs.now network.now rooms.items
+        ends.items }
     ensures len { (vec_len result.0 ≡ vec_len rooms) × (vec_len result.1 ≡ vec_len ends) }
     ensures capacity { (vec_capacity result.0 ≡ vec_capacity rooms)
         × (vec_capacity result.1 ≡ vec_capacity ends) }
@@ -202,7 +208,8 @@ pub(crate) fn run_workers<R: Threads + Wait + Sync, E: Ends + Send + Drop, G: Ga
     ends: Vec<E>,
     gate: &G,
 ) -> (Vec<Room<i64>>, bool)
-    requires { MayStart E.from E.to nest.now points.now.of inputs.now network.now rooms.items ends.items }
+    requires { MayStart E.from E.to nest.now points.now.of inputs.now network.now rooms.items
+        ends.items }
     ensures len { vec_len result.0 ≡ vec_len rooms }
     ensures kept { result.1 ≡ true → HaveKept nest.now inputs.now result.0.items }
 {
@@ -212,7 +219,8 @@ pub(crate) fn run_workers<R: Threads + Wait + Sync, E: Ends + Send + Drop, G: Ga
         thread::scope_env(),
         rt,
         |scope| -> (Vec<Room<i64>>, Vec<E>, bool)
-            requires { MayStart E.from E.to nest.now points.now.of inputs.now network.now rooms.items ends.items }
+            requires { MayStart E.from E.to nest.now points.now.of inputs.now network.now
+                rooms.items ends.items }
             ensures len { vec_len result.0 ≡ vec_len rooms }
             ensures kept { result.2 ≡ true
                 → HaveKept nest.entry.now inputs.entry.now result.0.items }

@@ -1,5 +1,6 @@
 -- Cuts along a schedule that grows at its end.
-use Rattle.std.proofs.Common.{◌≡◌, ℕ, zero, suc, ◌+◌, true, cond, List, [], ◌∷◌, ◌++◌, replicate, Some, slice_get, refl, ◌∙◌, inl, inr, arith}
+use Rattle.std.proofs.Common.{◌≡◌, ℕ, zero, suc, ◌+◌, true, cond, List, [], ◌∷◌, ◌++◌, replicate, Some, slice_get, refl}
+use Rattle.std.proofs.Common.{◌∙◌, inl, inr, arith}
 use Rattle.std.proofs.lemmas.Bool.{cases_eq, cases_Bool}
 use Rattle.net_core.specs.declared.network.Event.{Event}
 use Rattle.net_core.specs.Cuts.{Cut, advanced, cut_after, gets_at, puts_at}

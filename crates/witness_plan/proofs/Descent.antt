@@ -1,5 +1,6 @@
 -- The downward schedule as it is made: what is made so far, and one event more.
-use Rattle.std.proofs.Common.{◌≡◌, ℕ, suc, ◌<◌, ◌≤◌, false, Some, None, List, [], ◌∷◌, ◌++◌, length, sym, ap, ◌∙◌, subst, arith, append_assoc, append-nil}
+use Rattle.std.proofs.Common.{◌≡◌, ℕ, suc, ◌<◌, ◌≤◌, false, Some, None, List, [], ◌∷◌, ◌++◌, length, sym, ap, ◌∙◌}
+use Rattle.std.proofs.Common.{subst, arith, append_assoc, append-nil}
 use Rattle.net_core.specs.declared.network.Event.{Event}
 use Rattle.net_core.specs.Cuts.{advanced, cut_after, opening}
 use Rattle.net_core.specs.Machine.{Net}
@@ -8,7 +9,8 @@ use Rattle.std.specs.Prelude.{slice_get}
 use Rattle.witness_plan.specs.Progress.{bound_after}
 use Rattle.witness_plan.specs.Schedules.{downward_from, downward_schedule, highest_ready, is_ready}
 use Rattle.witness_plan.proofs.AlongCuts.{cut_after-append}
-use Rattle.witness_plan.proofs.Downward.{events_left, from_none, from_some, highest_above, highest_from, highest_is, left_first, left_less, past_bound, quiet_after, ready_inside}
+use Rattle.witness_plan.proofs.Downward.{events_left, from_none, from_some, highest_above, highest_from, highest_is}
+use Rattle.witness_plan.proofs.Downward.{left_first, left_less, past_bound, quiet_after, ready_inside}
 
 -- what is made so far goes on to the downward schedule, and no process from the bound on is ready
 pub record IsDescent (n : Net) (made : List ℕ) (below : ℕ) : Type 0 where

@@ -4,7 +4,9 @@
 -- run ends all, as the sequential one does, no run can stop before (`no_further`), and this one stops only where
 -- nobody is ready. The second part is for the code: after an event of p no process past p and past the channel's
 -- reader has become ready, so the search for the highest needn't begin at the top again (`quiet_after`).
-use Rattle.std.proofs.Common.{◌≡◌, ℕ, zero, suc, ◌+◌, ◌-◌, ◌<◌, ◌≤◌, true, false, cond, Option, Some, None, List, [], ◌∷◌, length, take, slice_get, refl, sym, ap, ◌∙◌, subst, inl, inr, arith, ltb-false, eqb-true}
+use Rattle.std.proofs.Common.{◌≡◌, ℕ, zero, suc, ◌+◌, ◌-◌, ◌<◌, ◌≤◌, true, false, cond, Option, Some, None, List, []}
+use Rattle.std.proofs.Common.{◌∷◌, length, take, slice_get, refl, sym, ap, ◌∙◌, subst, inl, inr, arith, ltb-false}
+use Rattle.std.proofs.Common.{eqb-true}
 use Rattle.std.specs.Option.{option_map_or}
 use Rattle.std.proofs.lemmas.Bool.{cases_Bool, cases_eq, cases_lt, le-ltb}
 use Rattle.std.proofs.lemmas.List.{take_all}
@@ -17,7 +19,8 @@ use Rattle.net_core.specs.Shape.{IsWired, events_below, is_put}
 use Rattle.net_core.proofs.CutOrder.{advanced_here, advanced_there, gets_mono, no_further}
 use Rattle.net_core.proofs.Positions.{cut_inside, puts_advanced}
 use Rattle.witness_plan.specs.Progress.{bound_after}
-use Rattle.witness_plan.specs.Schedules.{IsDownward, could_come_at, downward_from, downward_schedule, highest_ready, is_ready}
+use Rattle.witness_plan.specs.Schedules.{IsDownward, could_come_at, downward_from, downward_schedule, highest_ready}
+use Rattle.witness_plan.specs.Schedules.{is_ready}
 use Rattle.witness_plan.proofs.NeverFull.{could_come, never_full, ready_comes}
 use Rattle.witness_plan.proofs.OtherCapacities.{wired_at}
 

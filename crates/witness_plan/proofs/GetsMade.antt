@@ -1,5 +1,7 @@
 -- A reader has made no more Gets of a channel than its uses so far want.
-use Rattle.std.proofs.Common.{◌≡◌, ℕ, zero, suc, ◌+◌, ◌-◌, ◌<◌, ◌≤◌, Bool, true, false, cond, Option, Some, None, List, [], ◌∷◌, length, map, take, drop, slice_get, count_by, refl, sym, ap, ◌∙◌, inl, inr, arith, add-one}
+use Rattle.std.proofs.Common.{◌≡◌, ℕ, zero, suc, ◌+◌, ◌-◌, ◌<◌, ◌≤◌, Bool, true, false, cond, Option, Some, None, List}
+use Rattle.std.proofs.Common.{[], ◌∷◌, length, map, take, drop, slice_get, count_by, refl, sym, ap, ◌∙◌, inl, inr}
+use Rattle.std.proofs.Common.{arith, add-one}
 use Rattle.std.specs.Prelude.{slice_index, slice_index_or, ◌==◌, ◌&&◌}
 use Rattle.std.specs.List.{cons_option, flat_map, range_with_len}
 use Rattle.std.proofs.lemmas.Bool.{cases_Bool, cases_eq, eq-eqb, ne_eqb}
@@ -78,7 +80,11 @@ no_get_behind c b [] p f = refl
 no_get_behind c b (plan ∷ plans) p f =
     elim (cases_Bool ((plan.writer == p) && slice_index_or plan.is_token f false)) [
       | inl put ↦ rw put
-          (omega (arith, count_cons (is_get c) (Put b) (puts_from (suc b) plans p f), no_get_behind c (suc b) plans p f))
+          (omega (
+            arith,
+            count_cons (is_get c) (Put b) (puts_from (suc b) plans p f),
+            no_get_behind c (suc b) plans p f,
+          ))
       | inr none ↦ rw none (no_get_behind c (suc b) plans p f)
     ]
 
@@ -87,7 +93,12 @@ none_past : (gets : ℕ → List Event) (c k : ℕ) → ((j : ℕ) → (j ≡ k 
     → k < a → count_by (is_get c) (flat_map gets (range_with_len a m)) ≡ 0
 none_past gets c k other a zero lt = refl
 none_past gets c k other a (suc m) lt =
-    omega (arith, count-append (is_get c) (gets a) (flat_map gets (range_with_len (a + 1) m)), other a (λ e. omega arith), none_past gets c k other (a + 1) m (omega arith))
+    omega (
+      arith,
+      count-append (is_get c) (gets a) (flat_map gets (range_with_len (a + 1) m)),
+      other a (λ e. omega arith),
+      none_past gets c k other (a + 1) m (omega arith),
+    )
 
 one_read : (gets : ℕ → List Event) (c k most : ℕ) → ((j : ℕ) → (j ≡ k → ⊥) → count_by (is_get c) (gets j) ≡ 0)
     → count_by (is_get c) (gets k) ≤ most
@@ -97,8 +108,12 @@ one_read gets c k most other this a (suc m) =
     let counted = count-append (is_get c) (gets a) (flat_map gets (range_with_len (a + 1) m)) in
     let later = one_read gets c k most other this (a + 1) m in
     elim (cases_eq a k) [
-      | inl same ↦ omega
-          (arith, counted, none_past gets c k other (a + 1) m (omega arith), ap (λ j. count_by (is_get c) (gets j)) same)
+      | inl same ↦ omega (
+        arith,
+        counted,
+        none_past gets c k other (a + 1) m (omega arith),
+        ap (λ j. count_by (is_get c) (gets j)) same,
+      )
       | inr ne ↦ omega (arith, counted, other a ne)
     ]
 
@@ -142,12 +157,21 @@ module _ (n : Nest) (c : ℕ) (plan : ChannelPlan) (found : slice_get (plans_of 
 
   few_uses : (g : ℕ) → uses_made g ≤ length uses
   few_uses g =
-      omega (arith, before_within sources g plan.writer, length-map (turns_used plan.writer sources) (tokens_below (turns_used plan.writer sources)))
+      omega (
+        arith,
+        before_within sources g plan.writer,
+        length-map (turns_used plan.writer sources) (tokens_below (turns_used plan.writer sources)),
+      )
 
   next_use : (g : ℕ) (t : Tag) → slice_get sources g ≡ Some (Some t) → t.process ≡ plan.writer
       → uses_made (suc g) ≡ suc (uses_made g)
   next_use g t is same =
-      omega (arith, ap uses_made (add-one g), before_more sources g plan.writer (Some t) is, ap length (of_own plan.writer t same))
+      omega (
+        arith,
+        ap uses_made (add-one g),
+        before_more sources g plan.writer (Some t) is,
+        ap length (of_own plan.writer t same),
+      )
 
   wanted_more : (g : ℕ) → gets_for (take (uses_made g) uses) ≤ gets_for (take (uses_made (suc g)) uses)
   wanted_more g = more_gets uses (uses_made g) (uses_made (suc g)) (turns_mono plan.writer sources g)

@@ -3,7 +3,8 @@
 -- A cursor has left what the schedule so far left. The event that it gives next is the first of these, so one entry of
 -- its process takes one event off. Along a point the schedule, with one entry for each event of the point that is left,
 -- stays the same: that is what the loops over a point's events keep.
-use Rattle.std.proofs.Common.{◌≡◌, ℕ, zero, suc, ◌<◌, Some, None, List, [], ◌∷◌, ◌++◌, map, drop, set, replicate, slice_get, refl, sym, ap, ◌∙◌, append_assoc}
+use Rattle.std.proofs.Common.{◌≡◌, ℕ, zero, suc, ◌<◌, Some, None, List, [], ◌∷◌, ◌++◌, map, drop, set, replicate}
+use Rattle.std.proofs.Common.{slice_get, refl, sym, ap, ◌∙◌, append_assoc}
 use Rattle.std.specs.List.{range_with_len}
 use Rattle.net_core.specs.declared.network.Event.{Event}
 use Rattle.net_core.specs.declared.network.Event.TheVariants.{Get, Fire, Put}

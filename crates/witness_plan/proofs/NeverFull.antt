@@ -5,7 +5,9 @@
 -- leads to a length that was counted. By induction on the run, with what it has done and what is left. The capacities
 -- are those of this one run: in another order a process may find a queue full and wait, and by EveryOrder the network
 -- goes on. They are not the least: less may do for another schedule.
-use Rattle.std.proofs.Common.{◌≡◌, ℕ, zero, suc, ◌+◌, ◌<◌, ◌≤◌, true, cond, Option, Some, None, List, [], ◌∷◌, ◌++◌, length, take, slice_get, count_by, get_or, refl, sym, ap, ◌∙◌, subst, arith, append_assoc, append-nil, lt-ltb, eq-eqb}
+use Rattle.std.proofs.Common.{◌≡◌, ℕ, zero, suc, ◌+◌, ◌<◌, ◌≤◌, true, cond, Option, Some, None, List, [], ◌∷◌, ◌++◌}
+use Rattle.std.proofs.Common.{length, take, slice_get, count_by, get_or, refl, sym, ap, ◌∙◌, subst, arith, append_assoc}
+use Rattle.std.proofs.Common.{append-nil, lt-ltb, eq-eqb}
 use Rattle.std.specs.Option.{option_map_or}
 use Rattle.std.proofs.lemmas.List.{take_all}
 use Rattle.std.proofs.lemmas.List.FromFn.{get_or-map-range_with_len, length-map-range_with_len}
@@ -79,7 +81,12 @@ greatest_grows : (net : Net) (more schedule : List ℕ) (c : ℕ)
 greatest_grows net [] schedule c = omega (arith, ap (λ s. greatest_length net s c) (append-nil schedule))
 greatest_grows net (p ∷ more) schedule c =
     let whole = append_assoc schedule (p ∷ []) more in
-    omega (arith, greatest_front net schedule p c, greatest_grows net more (schedule ++ p ∷ []) c, ap (λ s. greatest_length net s c) whole)
+    omega (
+      arith,
+      greatest_front net schedule p c,
+      greatest_grows net more (schedule ++ p ∷ []) c,
+      ap (λ s. greatest_length net s c) whole,
+    )
 
 -- A run is one at all capacities that no queue along it is longer than.
 module _ (n : Net) (wired : IsWired n) (all : List ℕ) (room : ℕ → ℕ)
@@ -138,7 +145,8 @@ capacity_given (x ∷ channels) (y ∷ capacities) zero lt within = refl
 capacity_given (x ∷ channels) (y ∷ capacities) (suc c) lt within =
     capacity_given channels capacities c (omega arith) (omega arith)
 
--- The network with the capacities that a schedule needs, where the schedule is a run that ends all and heeds no capacity.
+-- The network with the capacities that a schedule needs, where the schedule is a run that ends all and heeds no
+-- capacity.
 module _ (network : Network) (schedule : List ℕ) (wired : IsWired (net_of network))
     (run : IsCutRun (never_full (net_of network)) opening schedule)
     (ends : (p : ℕ) → cut_after opening schedule p ≡ length ((net_of network).script p)) where
@@ -149,7 +157,11 @@ module _ (network : Network) (schedule : List ℕ) (wired : IsWired (net_of netw
       → fitted.capacity c ≡ greatest_length (net_of network) schedule c
   capacity_is c lt =
       capacity_given network.channels (capacities network schedule) c lt
-      (omega (arith, lt, length-map-range_with_len (greatest_length (net_of network) schedule) 0 (length network.channels)))
+      (omega (
+        arith,
+        lt,
+        length-map-range_with_len (greatest_length (net_of network) schedule) 0 (length network.channels),
+      ))
       ∙ get_or-map-range_with_len (greatest_length (net_of network) schedule) 0 (length network.channels) c c 0 lt
       (omega arith)
 

@@ -1,5 +1,7 @@
 -- What is counted along a schedule, after one event more.
-use Rattle.std.proofs.Common.{◌≡◌, ℕ, ◌+◌, ◌-◌, ◌<◌, ◌≤◌, ◌^◌, max, true, false, cond, Some, List, [], ◌∷◌, ◌++◌, map, set, length, take, slice_get, get_or, count_by, refl, sym, ap, ◌∙◌, subst, arith, length-append}
+use Rattle.std.proofs.Common.{◌≡◌, ℕ, ◌+◌, ◌-◌, ◌<◌, ◌≤◌, ◌^◌, max, true, false, cond, Some, List, [], ◌∷◌, ◌++◌, map}
+use Rattle.std.proofs.Common.{set, length, take, slice_get, get_or, count_by, refl, sym, ap, ◌∙◌, subst, arith}
+use Rattle.std.proofs.Common.{length-append}
 use Rattle.std.specs.List.{fold, range_with_len}
 use Rattle.std.proofs.lemmas.Bool.{eq-eqb, ne_eqb, eqb-true}
 use Rattle.std.proofs.lemmas.List.{length-take-le, take-append-le, take_all}
@@ -15,7 +17,8 @@ use Rattle.net_core.proofs.Counting.{count_past}
 use Rattle.sanlp.proofs.Lists.{map-range_with_len_same}
 use Rattle.witness_plan.specs.declared.traffic.Traffic.{Traffic}
 use Rattle.witness_plan.specs.Sequential.{greatest_length, queue_length}
-use Rattle.witness_plan.specs.Traffic.{CanBeNoted, IsOwn, NamesOwnChannels, after_get, after_put, no_traffic, noted, traffic_along, traffic_of}
+use Rattle.witness_plan.specs.Traffic.{CanBeNoted, IsOwn, NamesOwnChannels, after_get, after_put, no_traffic, noted}
+use Rattle.witness_plan.specs.Traffic.{traffic_along, traffic_of}
 use Rattle.witness_plan.proofs.AlongCuts.{cut_after-append, gets_more, puts_more}
 use Rattle.witness_plan.proofs.CountedLists.{set_at}
 
@@ -190,8 +193,11 @@ module _ (net : Net) (channels : NamesOwnChannels net) (cut : Cut) (p c : ℕ) (
   few_gets reader =
       let inside = slice_get_within (net.script p) (cut p) e is in
       let counted : gets_at net cut c ≤ cut p =
-      rw reader (omega
-      (arith, count_by-le-length (is_get c) (take (cut p) (net.script p)), length-take-le (cut p) (net.script p) (omega arith))) in
+      rw reader (omega (
+        arith,
+        count_by-le-length (is_get c) (take (cut p) (net.script p)),
+        length-take-le (cut p) (net.script p) (omega arith),
+      )) in
       omega (arith, channels.few_events p)
 
   more_puts : net.writer c ≡ p → is_put c e ≡ true → puts_at net cut c + 1 < 2 ^ 32

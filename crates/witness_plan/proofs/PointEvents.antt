@@ -1,5 +1,6 @@
 -- Where the events of a point end in a script.
-use Rattle.std.proofs.Common.{◌≡◌, ℕ, zero, suc, ◌+◌, ◌-◌, ◌<◌, true, false, cond, Option, Some, None, List, [], ◌∷◌, ◌++◌, length, map, drop, refl, ap, ◌∙◌, arith, append_assoc, length-append}
+use Rattle.std.proofs.Common.{◌≡◌, ℕ, zero, suc, ◌+◌, ◌-◌, ◌<◌, true, false, cond, Option, Some, None, List, [], ◌∷◌}
+use Rattle.std.proofs.Common.{◌++◌, length, map, drop, refl, ap, ◌∙◌, arith, append_assoc, length-append}
 use Rattle.std.specs.Prelude.{slice_index, slice_index_or, ◌==◌, ◌&&◌}
 use Rattle.std.specs.List.{flat_map, range_with_len}
 use Rattle.std.proofs.lemmas.List.{drop_at}
@@ -81,7 +82,12 @@ parts_passed us refs plans p f es h =
     let whole =
     ap point_length (append_assoc (flat_map gets_of us) (Fire refs ∷ puts_from 0 plans p f) es)
     ∙ all_gets_passed us (Fire refs ∷ (puts_from 0 plans p f ++ es)) in
-    omega (arith, whole, puts_passed 0 plans p f es, length-append (flat_map gets_of us) (Fire refs ∷ puts_from 0 plans p f))
+    omega (
+      arith,
+      whole,
+      puts_passed 0 plans p f es,
+      length-append (flat_map gets_of us) (Fire refs ∷ puts_from 0 plans p f),
+    )
 
 -- a point ends where what follows begins with no Put
 pub point_passed : (n : Nest) (p f : ℕ) (es : List Event) → put_length es ≡ 0

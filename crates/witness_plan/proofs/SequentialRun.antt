@@ -5,7 +5,9 @@
 -- this entry want (GetsMade), these want no more tokens than the writer's points so far are (SourcesBefore), and all
 -- those were put (TokensPut). So the queue isn't empty. Room is no question here: the channels are as wide as all
 -- their tokens. The capacities that such a run needs are NeverFull's.
-use Rattle.std.proofs.Common.{◌≡◌, ℕ, zero, suc, ◌+◌, ◌-◌, ◌<◌, ◌≤◌, true, cond, Some, List, [], ◌∷◌, ◌++◌, length, take, drop, replicate, slice_get, count_by, refl, sym, ap, ◌∙◌, subst, inl, inr, arith, length-append, lt-ltb}
+use Rattle.std.proofs.Common.{◌≡◌, ℕ, zero, suc, ◌+◌, ◌-◌, ◌<◌, ◌≤◌, true, cond, Some, List, [], ◌∷◌, ◌++◌, length}
+use Rattle.std.proofs.Common.{take, drop, replicate, slice_get, count_by, refl, sym, ap, ◌∙◌, subst, inl, inr, arith}
+use Rattle.std.proofs.Common.{length-append, lt-ltb}
 use Rattle.std.specs.Prelude.{◌==◌}
 use Rattle.std.specs.List.{flat_map, range_with_len}
 use Rattle.std.proofs.lemmas.Bool.{cases_eq, cases_lt, eq-eqb, ne_eqb}
@@ -103,14 +105,23 @@ take_front n p f le =
 length_front : (n : Nest) (p f : ℕ) → f ≤ turn_count n p
     → length (events_before n p f) ≤ length ((net_of (net n)).script p)
 length_front n p f le =
-    omega (arith, ap length (script_is n p ∙ script_front n p f le), length-append (events_before n p f) (flat_map (point_events n p) (range_with_len f (turn_count n p - f))))
+    omega (
+      arith,
+      ap length (script_is n p ∙ script_front n p f le),
+      length-append (events_before n p f) (flat_map (point_events n p) (range_with_len f (turn_count n p - f))),
+    )
 
 few_turns : (n : Nest) (t p : ℕ) → turns_before (trace n) t p ≤ turn_count n p
 few_turns n t p =
     let points = trace n in
     let is = λ (q : Point). q.statement == p in
     let whole = ap (count_by (λ (q : Point). q.statement == p)) (take-append-drop t points) in
-    omega (arith, whole, count-append (λ (q : Point). q.statement == p) (take t points) (drop t points), entries_count 0 points p)
+    omega (
+      arith,
+      whole,
+      count-append (λ (q : Point). q.statement == p) (take t points) (drop t points),
+      entries_count 0 points p,
+    )
 
 all_turns : (n : Nest) (p : ℕ) → turns_before (trace n) (length (trace n)) p ≡ turn_count n p
 all_turns n p =

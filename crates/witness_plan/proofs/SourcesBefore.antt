@@ -5,7 +5,9 @@
 -- are one more than the greatest number of such a token, and so no more than the tokens among those turns
 -- (`wanted_are_tokens`). It is the one place where "a last writer is earlier" is used for a schedule, and it says
 -- nothing of when a Put or a Get really comes.
-use Rattle.std.proofs.Common.{◌≡◌, ℕ, zero, suc, ◌+◌, ◌-◌, ◌<◌, ◌≤◌, Bool, true, false, cond, Option, Some, None, List, [], ◌∷◌, ◌++◌, length, map, take, drop, slice_get, get_or, count_by, refl, sym, ap, ◌∙◌, subst, inl, inr, arith}
+use Rattle.std.proofs.Common.{◌≡◌, ℕ, zero, suc, ◌+◌, ◌-◌, ◌<◌, ◌≤◌, Bool, true, false, cond, Option, Some, None, List}
+use Rattle.std.proofs.Common.{[], ◌∷◌, ◌++◌, length, map, take, drop, slice_get, get_or, count_by, refl, sym, ap, ◌∙◌}
+use Rattle.std.proofs.Common.{subst, inl, inr, arith}
 use Rattle.std.specs.Prelude.{All, ◌==◌, ◌||◌}
 use Rattle.std.specs.List.{cons_option, list_any}
 use Rattle.std.specs.Option.{option_and_then}
@@ -193,7 +195,13 @@ token_below : (used : List ℕ) (turn most : ℕ) → turn < most → is_used us
     → tokens_below used turn + 1 ≤ tokens_below used most
 token_below used turn most lt named =
     let whole : turn + 1 + (most - (turn + 1)) ≡ most = omega arith in
-    omega (arith, tokens_more used turn, ap (λ b. cond {A = ℕ} b 1 0) named, tokens_mono used (turn + 1) (most - (turn + 1)), ap (tokens_below used) whole)
+    omega (
+      arith,
+      tokens_more used turn,
+      ap (λ b. cond {A = ℕ} b 1 0) named,
+      tokens_mono used (turn + 1) (most - (turn + 1)),
+      ap (tokens_below used) whole,
+    )
 
 gets_low : (used : List ℕ) (most : ℕ) (turns : List ℕ) → All (λ turn. turn < most) turns
     → All (λ turn. is_used used turn ≡ true) turns

@@ -1,5 +1,6 @@
 -- A writer has put the tokens of a channel that its points so far are.
-use Rattle.std.proofs.Common.{◌≡◌, ℕ, zero, suc, ◌+◌, ◌<◌, ◌≤◌, true, false, cond, Some, List, [], ◌∷◌, ◌++◌, map, slice_get, get_or, count_by, refl, sym, ap, ◌∙◌, subst, inl, inr, arith, add-one}
+use Rattle.std.proofs.Common.{◌≡◌, ℕ, zero, suc, ◌+◌, ◌<◌, ◌≤◌, true, false, cond, Some, List, [], ◌∷◌, ◌++◌, map}
+use Rattle.std.proofs.Common.{slice_get, get_or, count_by, refl, sym, ap, ◌∙◌, subst, inl, inr, arith, add-one}
 use Rattle.std.specs.Prelude.{slice_index_or, ◌==◌, ◌&&◌}
 use Rattle.std.specs.List.{flat_map, range_with_len}
 use Rattle.std.proofs.lemmas.Bool.{and_from, cases_Bool, eq-eqb}

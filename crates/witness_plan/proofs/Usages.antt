@@ -1,5 +1,6 @@
 -- The uses of channels: each use of a fire is of a channel of the nest, which goes to that fire's process and read.
-use Rattle.std.proofs.Common.{◌≡◌, ℕ, suc, ◌+◌, true, false, cond, Option, Some, None, List, [], ◌∷◌, length, take, slice_get, refl, sym, ap, ◌∙◌, subst, inl, inr, arith}
+use Rattle.std.proofs.Common.{◌≡◌, ℕ, suc, ◌+◌, true, false, cond, Option, Some, None, List, [], ◌∷◌, length, take}
+use Rattle.std.proofs.Common.{slice_get, refl, sym, ap, ◌∙◌, subst, inl, inr, arith}
 use Rattle.std.specs.Prelude.{All, ◌==◌}
 use Rattle.std.specs.List.{flat_map, range_with_len}
 use Rattle.std.specs.Option.{option_and_then, option_map}
@@ -56,7 +57,13 @@ channel_found c (plan ∷ plans) w p k found h =
           let h' : cond {A = Option (ℕ × ChannelPlan)} false (Some (c, plan)) (channel_from (suc c) plans w p k)
           ≡ Some found = rw other at h in
           let later = channel_found (suc c) plans w p k found h' in
-          record { place = suc later.place; number = later.number ∙ omega arith; is = later.is; between = later.between }
+          record {
+            place = suc later.place;
+            number = later.number ∙ omega arith;
+            is = later.is;
+            between =
+                later.between;
+          }
     ]
 
 abbrev IsPlan : Nest → ChannelPlan → Type 0

@@ -38,7 +38,8 @@ running_sums : Network
 unfolding values sums sink channel
 running_sums = record {
   processes =
-      record { slots = 0; script = values } ∷ record { slots = 2; script = sums } ∷ record { slots = 1; script = sink } ∷ [];
+      record { slots = 0; script = values } ∷ record { slots = 2; script = sums } ∷ record { slots = 1; script = sink }
+      ∷ [];
   channels = channel 1 1 0 2 ∷ channel 0 1 1 3 ∷ channel 1 2 0 3 ∷ [];
 }
 
@@ -84,7 +85,11 @@ one_added = record {
   processes =
       record { slots = 0; script = Fire [] ∷ Put 0 ∷ Fire [] ∷ Put 0 ∷ Fire [] ∷ Put 0 ∷ [] }
       ∷ record { slots = 1; script = adder }
-      ∷ record { slots = 1; script = Get 1 0 ∷ Fire (Slot 0 ∷ []) ∷ Get 1 0 ∷ Fire (Slot 0 ∷ []) ∷ Get 1 0 ∷ Fire (Slot 0 ∷ []) ∷ [] } ∷ [];
+      ∷ record {
+        slots = 1;
+        script = Get 1 0 ∷ Fire (Slot 0 ∷ []) ∷ Get 1 0 ∷ Fire (Slot 0 ∷ []) ∷ Get 1 0
+            ∷ Fire (Slot 0 ∷ []) ∷ [];
+      } ∷ [];
   channels = channel 0 1 0 3 ∷ channel 1 2 0 3 ∷ [];
 }
 
@@ -125,7 +130,11 @@ last_added : Network
 unfolding copied channel
 last_added = record {
   processes =
-      record { slots = 0; script = Fire [] ∷ Put 0 ∷ Put 1 ∷ Fire [] ∷ Put 0 ∷ Put 1 ∷ Fire [] ∷ Put 0 ∷ Put 1 ∷ Fire [] ∷ Put 0 ∷ Put 1 ∷ [] }
+      record {
+        slots = 0;
+        script = Fire [] ∷ Put 0 ∷ Put 1 ∷ Fire [] ∷ Put 0 ∷ Put 1 ∷ Fire [] ∷ Put 0 ∷ Put 1 ∷ Fire []
+            ∷ Put 0 ∷ Put 1 ∷ [];
+      }
       ∷ record { slots = 1; script = copied }
       ∷ record {
         slots = 2;
@@ -134,7 +143,11 @@ last_added = record {
             ∷ Get 1 0 ∷ Fire (Slot 0 ∷ Slot 1 ∷ []) ∷ Put 3 ∷ Get 1 0 ∷ Fire
             (Slot 0 ∷ Slot 1 ∷ []) ∷ Put 3 ∷ Get 1 0 ∷ Fire (Slot 0 ∷ Slot 1 ∷ []) ∷ Put 3 ∷ [];
       }
-      ∷ record { slots = 1; script = Get 3 0 ∷ Fire (Slot 0 ∷ []) ∷ Get 3 0 ∷ Fire (Slot 0 ∷ []) ∷ Get 3 0 ∷ Fire (Slot 0 ∷ []) ∷ Get 3 0 ∷ Fire (Slot 0 ∷ []) ∷ [] } ∷ [];
+      ∷ record {
+        slots = 1;
+        script = Get 3 0 ∷ Fire (Slot 0 ∷ []) ∷ Get 3 0 ∷ Fire (Slot 0 ∷ []) ∷ Get 3 0
+            ∷ Fire (Slot 0 ∷ []) ∷ Get 3 0 ∷ Fire (Slot 0 ∷ []) ∷ [];
+      } ∷ [];
   channels = channel 0 1 0 4 ∷ channel 0 2 0 4 ∷ channel 1 2 1 1 ∷ channel 2 3 0 4 ∷ [];
 }
 

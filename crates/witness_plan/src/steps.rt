@@ -15,9 +15,11 @@ fn make_fire(progress: &mut Progress, network: &Network, process: u32) -> Result
     requires process { process < length network.now.processes }
     ensures schedule { OnOk result
         (progress.new.schedule
-        ++ replicate (put_length (left_after (net_of network.now) progress.new.schedule process)) process
+        ++ replicate
+        (put_length (left_after (net_of network.now) progress.new.schedule process)) process
         ≡ progress.old.schedule
-        ++ replicate (point_length (left_after (net_of network.now) progress.old.schedule process)) process) }
+        ++ replicate
+        (point_length (left_after (net_of network.now) progress.old.schedule process)) process) }
     ensures progress { OnOk result (IsProgress (net_of network.now) progress.new) }
 {
     while let Some(event) = progress.next_event(network, process) {
@@ -37,7 +39,8 @@ fn make_puts(progress: &mut Progress, network: &Network, process: u32) -> Result
     ensures schedule { OnOk result
         (progress.new.schedule
         ≡ progress.old.schedule
-        ++ replicate (put_length (left_after (net_of network.now) progress.old.schedule process)) process) }
+        ++ replicate
+        (put_length (left_after (net_of network.now) progress.old.schedule process)) process) }
     ensures progress { OnOk result (IsProgress (net_of network.now) progress.new) }
 {
     while let Some(event) = progress.next_event(network, process) {
@@ -61,7 +64,8 @@ pub(crate) fn make_point(
     ensures schedule { OnOk result
         (progress.new.schedule
         ≡ progress.old.schedule
-        ++ replicate (point_length (left_after (net_of network.now) progress.old.schedule process)) process) }
+        ++ replicate
+        (point_length (left_after (net_of network.now) progress.old.schedule process)) process) }
     ensures progress { OnOk result (IsProgress (net_of network.now) progress.new) }
 {
     make_fire(progress, network, process)?;

@@ -10,7 +10,11 @@ returns c =
       reference = ref_same;
       references = refs_same;
       event = elim [
-        | Get x i ↦ elim [ Get y j ↦ λ h. (let p = and_parts _ _ h in ap₂ Get (eqb-true _ _ p.0) (eqb-true _ _ p.1)) | Fire s ↦ λ h. cc | Put y ↦ λ h. cc ]
+        | Get x i ↦ elim [
+          | Get y j ↦ λ h. (let p = and_parts _ _ h in ap₂ Get (eqb-true _ _ p.0) (eqb-true _ _ p.1))
+          | Fire s ↦ λ h. cc
+          | Put y ↦ λ h. cc
+        ]
         | Fire r ↦ elim [ Get y j ↦ λ h. cc | Fire s ↦ λ h. ap Fire (refs_same r s h) | Put y ↦ λ h. cc ]
         | Put x ↦ elim [ Get y j ↦ λ h. cc | Fire s ↦ λ h. cc | Put y ↦ λ h. ap Put (eqb-true _ _ h) ]
       ];

@@ -2,7 +2,8 @@ use Rattle.std.proofs.Common.{ap, ◌∙◌, Some}
 use Rattle.net_core.specs.declared.network.Event.TheVariants.{Get, Fire, Put}
 use Rattle.net_core.specs.Machine.{net_of}
 use Rattle.net_core.specs.Held.{held_of, run_of}
-use Rattle.net_core.proofs.Ready.{kept_reserved, kept_short, queue_reserved, position_short, for_after, can_come_next, after_event_step}
+use Rattle.net_core.proofs.Ready.{kept_reserved, kept_short, queue_reserved, position_short, for_after, can_come_next}
+use Rattle.net_core.proofs.Ready.{after_event_step}
 use Rattle.net_core.proofs.machine.step.Goals as goal
 
 pub fire-requires-clause-reserved : goal.fire-requires-clause-reserved

@@ -19,7 +19,8 @@ overflow_add-counts c =
     let lt =
     c.loop-event.invariant.channels 0 d (ap (λ left. slice_get left 0) c.in-Some.ensures.steps ∙ ap Some c.in-Put.is) in
     let room =
-    put_room c.loop-event.counts d _ c.in-Some.event c.loop-event.event-iterator c.next.new.self c.in-Some.ensures.steps c.in-Put.is (c.loop-event.invariant.counts d lt) in
+    put_room c.loop-event.counts d _ c.in-Some.event c.loop-event.event-iterator c.next.new.self c.in-Some.ensures.steps
+    c.in-Put.is (c.loop-event.invariant.counts d lt) in
     omega (arith, room, c.requires.room d (omega arith))
 
 pub loop-event-preserved-in-Put : goal.loop-event-preserved-in-Put
@@ -35,7 +36,8 @@ loop-event-preserved-in-Put c =
           (ap (λ left. slice_get left (suc k)) c.in-Some.ensures.steps ∙ is) in
           omega (arith, there, length-set counts d);
       counts = λ b within.
-          put_counted counts d b _ c.in-Some.event c.loop-event.event-iterator c.next.new.self lt c.in-Some.ensures.steps c.in-Put.is
+          put_counted counts d b _ c.in-Some.event c.loop-event.event-iterator c.next.new.self lt
+          c.in-Some.ensures.steps c.in-Put.is
           (c.loop-event.invariant.counts b (omega (arith, within, length-set counts d)));
     }
 
@@ -46,5 +48,6 @@ loop-event-preserved c =
           λ k b is. c.loop-event.invariant.channels (suc k) b
           (ap (λ left. slice_get left (suc k)) c.in-Some.ensures.steps ∙ is);
       counts =
-          λ b within. other_counted c.loop-event.counts b _ c.in-Some.event c.loop-event.event-iterator c.next.new.self c.in-Some.ensures.steps c.in_default.not-Put (c.loop-event.invariant.counts b within);
+          λ b within. other_counted c.loop-event.counts b _ c.in-Some.event c.loop-event.event-iterator c.next.new.self
+          c.in-Some.ensures.steps c.in_default.not-Put (c.loop-event.invariant.counts b within);
     }

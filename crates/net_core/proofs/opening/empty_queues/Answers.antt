@@ -19,6 +19,8 @@ loop-at-preserved g c =
     let puts : c.index.result.now ≡ put_count n at =
     sym (get_or_from_slice_get counts at c.index.result.now 0 found) ∙ c.in_ok-counts.ensures.counts at lt in
     let room =
-    queue_room_is network c.as_slice-channel-items.result.now at _ c.min-room.result c.index.result.now c.as_slice-channel-items.ensures c.loop-at-test.true c.min-room.ensures puts in
-    empty_more n c.loop-at.queues.items c.push.new.self.items c.in_ok-with_capacity.field-0 at c.loop-at.invariant c.in_ok-push.ensures.items
+    queue_room_is network c.as_slice-channel-items.result.now at _ c.min-room.result c.index.result.now
+    c.as_slice-channel-items.ensures c.loop-at-test.true c.min-room.ensures puts in
+    empty_more n c.loop-at.queues.items c.push.new.self.items c.in_ok-with_capacity.field-0 at c.loop-at.invariant
+    c.in_ok-push.ensures.items
     c.in_ok-with_capacity.ensures.items (c.in_ok-with_capacity.ensures.exact ∙ room)

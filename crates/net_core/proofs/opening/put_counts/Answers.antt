@@ -1,4 +1,5 @@
-use Rattle.std.proofs.Common.{◌≡◌, ◌<◌, ◌≤◌, ◌+◌, ◌∙◌, [], ◌++◌, ℕ, suc, length, take, drop, slice_get, slice_index, count_by, ap, sym, add-one, arith}
+use Rattle.std.proofs.Common.{◌≡◌, ◌<◌, ◌≤◌, ◌+◌, ◌∙◌, [], ◌++◌, ℕ, suc, length, take, drop, slice_get, slice_index}
+use Rattle.std.proofs.Common.{count_by, ap, sym, add-one, arith}
 use Rattle.std.specs.Option.{option_map_or}
 use Rattle.net_core.specs.declared.network.Process.{Process}
 use Rattle.net_core.specs.Machine.{net_of}
@@ -13,7 +14,8 @@ count_puts-requires-clause-channels c k d is =
     let n = net_of network in
     let i = c.loop-process.process-index in
     let found =
-    item_found network.processes c.as_slice-process-items.result.now i c.process-item.result c.as_slice-process-items.ensures c.loop-process-test.true c.process-item.is in
+    item_found network.processes c.as_slice-process-items.result.now i c.process-item.result
+    c.as_slice-process-items.ensures c.loop-process-test.true c.process-item.is in
     let script : n.script i ≡ c.process-item.result.script =
     ap (λ o. option_map_or (λ (process : Process). process.script) o []) found in
     let there : d < length network.channels =
@@ -26,7 +28,8 @@ count_puts-requires-clause-room c d lt =
     let n = net_of network in
     let i = c.loop-process.process-index in
     let found =
-    item_found network.processes c.as_slice-process-items.result.now i c.process-item.result c.as_slice-process-items.ensures c.loop-process-test.true c.process-item.is in
+    item_found network.processes c.as_slice-process-items.result.now i c.process-item.result
+    c.as_slice-process-items.ensures c.loop-process-test.true c.process-item.is in
     let script : n.script i ≡ c.process-item.result.script =
     ap (λ o. option_map_or (λ (process : Process). process.script) o []) found in
     let there : d < length network.channels =
@@ -48,7 +51,8 @@ loop-process-preserved c =
     let n = net_of network in
     let i = c.loop-process.process-index in
     let found =
-    item_found network.processes c.as_slice-process-items.result.now i c.process-item.result c.as_slice-process-items.ensures c.loop-process-test.true c.process-item.is in
+    item_found network.processes c.as_slice-process-items.result.now i c.process-item.result
+    c.as_slice-process-items.ensures c.loop-process-test.true c.process-item.is in
     let script : n.script i ≡ c.process-item.result.script =
     ap (λ o. option_map_or (λ (process : Process). process.script) o []) found in
     let counts = c.count_puts.new.counts in

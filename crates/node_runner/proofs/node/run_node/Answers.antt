@@ -1,11 +1,12 @@
 use Rattle.std.proofs.Common.{◌≡◌, ◌++◌, length, take, ℤ, suc, Some, None, ap, sym, subst, ◌∙◌, append-nil, arith}
 use Rattle.std.proofs.lemmas.Option.{slice_get_within}
 use Rattle.net_core.specs.Machine.{net_of}
-use Rattle.net_core.specs.Rooms.{Store, passed}
+use Rattle.net_core.specs.Rooms.{Store, store_past_event}
 use Rattle.net_core.specs.Rules.{values, value_limits}
 use Rattle.net_core.specs.Sound.{tag_value}
 use Rattle.node_runner.specs.Nodes.{calls_of, CanTurn}
-use Rattle.node_runner.proofs.Turning.{Stands, can_turn, turned, begins, ends, told_more, all_made, event_is, left_then, stands_passed}
+use Rattle.node_runner.proofs.Turning.{Stands, can_turn, turned, begins, ends, told_more, all_made, event_is, left_then}
+use Rattle.node_runner.proofs.Turning.{stands_passed}
 use Rattle.node_runner.proofs.node.run_node.Given.{Over}
 use Rattle.node_runner.proofs.node.run_node.Goals.{In_default}
 use Rattle.node_runner.proofs.node.run_node.Goals as goal
@@ -40,7 +41,8 @@ turn-requires g c =
     subst (λ (s : Store ℤ). CanTurn (value_limits c.args.nest.now) p c.in-Some.event from to s)
     (sym c.in-Some.ensures.passed)
     (
-    can_turn c.args.nest.now c.args.network.now c.args.inputs.now r.sound r.numbers p start onto r.incoming r.outgoing i.made c.in-Some.event from to (passed c.loop-event.room) is
+    can_turn c.args.nest.now c.args.network.now c.args.inputs.now r.sound r.numbers p start onto r.incoming r.outgoing
+    i.made c.in-Some.event from to (store_past_event c.loop-event.room) is
     (stands_passed n v p start onto i.made from to c.loop-event.room i.stands)
     )
 
@@ -68,7 +70,8 @@ loop-event-preserved g c =
       left = left_then rule p e from to _ _ room c.pass.new.self c.turn.new.room
           (n.script p) i.made c.in-Some.ensures.passed c.turn.ensures.turned i.left;
       stands =
-          turned c.args.nest.now c.args.network.now c.args.inputs.now r.sound r.numbers p start onto r.incoming r.outgoing i.made e from to _ _ c.pass.new.self c.turn.new.room is stands c.turn.ensures.turned;
+          turned c.args.nest.now c.args.network.now c.args.inputs.now r.sound r.numbers p start onto r.incoming
+          r.outgoing i.made e from to _ _ c.pass.new.self c.turn.new.room is stands c.turn.ensures.turned;
       told = λ t. told_more (n.script p) i.made e (g.E.Ends.calls c.args.ends.now) (g.E.Ends.calls c.loop-event.ends)
           (g.E.Ends.calls c.turn.new.ends) is (i.told t) (c.turn.ensures.told t);
     }

@@ -10,11 +10,11 @@ pub loop-get-preserved : goal.loop-get-preserved
 loop-get-preserved c = record {
   added = counted_more
       (λ m. Get c.args.found.channel
-      (c.args.found.base + slice_index c.args.slots.now.slot_of_get m)) c.args.events.now.items c.loop-get.events.items _
+      (c.args.found.base + slice_index c.args.slots.now.slot_of_get m)) c.args.events.now c.loop-get.events _
       c.gets_for-done.result c.loop-get.get _ c.loop-get.auto.get
       (ap (λ slot. Get c.args.found.channel (c.args.found.base + slot))
       (c.number_at.ensures ∙ ap (λ xs. slice_index xs c.loop-get.get) c.as_slice-in-loop-get.ensures))
-      c.loop-get.invariant.added c.in_ok-push.ensures.items;
+      c.loop-get.invariant.added c.in_ok-push_event.ensures;
   none = λ h. absurd (omega arith);
 }
 
@@ -25,12 +25,12 @@ returns c =
     c.number_at-needed.ensures ∙ ap (λ xs. slice_index xs c.args.found.number) c.as_slice.ensures in
     counted_all (λ m.
     Get c.args.found.channel
-    (c.args.found.base + slice_index slots.slot_of_get m)) c.args.events.now.items c.loop-get.events.items
+    (c.args.found.base + slice_index slots.slot_of_get m)) c.args.events.now c.loop-get.events
     c.gets_for-done.result c.loop-get.get c.number_at-needed.result c.loop-get.invariant.added (grind arith)
-    ∙ ap (λ k. c.args.events.now.items
+    ∙ ap (λ k. c.args.events.now
     ++ map (λ m. Get c.args.found.channel (c.args.found.base + slice_index slots.slot_of_get m))
     (range_with_len k (c.number_at-needed.result - k))) c.gets_for-done.ensures
-    ∙ ap (λ k. c.args.events.now.items
+    ∙ ap (λ k. c.args.events.now
     ++ map (λ m. Get c.args.found.channel (c.args.found.base + slice_index slots.slot_of_get m))
     (range_with_len (gets_for_uses slots c.args.found.number)
     (k - gets_for_uses slots c.args.found.number))) needed

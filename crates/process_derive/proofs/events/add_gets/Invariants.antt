@@ -6,8 +6,8 @@ use Rattle.process_derive.proofs.events.add_gets.Given as goal
 
 abbrev pub invariant-loop-get : goal.invariant-loop-get
 invariant-loop-get l = record {
-  added : l.events.items
-      ≡ l.fn.events.items
+  added : l.events
+      ≡ l.fn.events
       ++ map (λ m. Get l.found.channel (l.found.base + slice_index l.slots.slot_of_get m))
       (range_with_len l.done (l.get - l.done));
   none : l.needed < l.done → l.get ≡ l.done;

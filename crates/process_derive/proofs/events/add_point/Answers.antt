@@ -10,8 +10,10 @@ loop-of_read-preserved c =
     let here =
     slice_get_read uses (length uses) i c.of_read-item.result refl c.loop-of_read-test.true c.of_read-item.is in
     record {
-      gets = gets_more c.args.plans.now uses i c.args.turn c.of_read-item.result c.use_of.result c.args.events.now.items c.loop-of_read.events.items c.add_use.new.events.items
+      gets = gets_more c.args.plans.now uses i c.args.turn c.of_read-item.result c.use_of.result c.args.events.now
+          c.loop-of_read.events c.add_use.new.events
           here c.use_of.ensures c.loop-of_read.invariant.gets c.in_ok-add_use.ensures.gets;
-      refs = refs_more c.args.plans.now uses i c.args.turn c.of_read-item.result c.use_of.result c.in_ok-add_use.field-0 c.loop-of_read.refs c.push.new.self
+      refs = refs_more c.args.plans.now uses i c.args.turn c.of_read-item.result c.use_of.result c.in_ok-add_use.field-0
+          c.loop-of_read.refs c.push.new.self
           here c.use_of.ensures c.in_ok-add_use.ensures.named c.loop-of_read.invariant.refs c.push.ensures;
     }

@@ -6,7 +6,7 @@ use Rattle.process_derive.proofs.events.add_point.Given as goal
 
 abbrev pub invariant-loop-of_read : goal.invariant-loop-of_read
 invariant-loop-of_read l = record {
-  gets : l.events.items
-      ≡ l.fn.events.items ++ flat_map gets_of (usages_at l.plans (take l.of_read-index l.uses) l.turn);
+  gets : l.events
+      ≡ l.fn.events ++ flat_map gets_of (usages_at l.plans (take l.of_read-index l.uses) l.turn);
   refs : l.refs ≡ map ref_of (usages_at l.plans (take l.of_read-index l.uses) l.turn);
 }

@@ -4,5 +4,5 @@ use Rattle.process_derive.proofs.events.add_puts.Given as goal
 
 abbrev pub invariant-loop-channel : goal.invariant-loop-channel
 invariant-loop-channel l =
-    l.events.items ++ puts_to l.plans (drop l.channel-index l.outgoing) l.turn
-    ≡ l.fn.events.items ++ puts_to l.plans l.outgoing l.turn
+    l.events ++ puts_to l.plans (drop l.channel-index l.outgoing) l.turn
+    ≡ l.fn.events ++ puts_to l.plans l.outgoing l.turn

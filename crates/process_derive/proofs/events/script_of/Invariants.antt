@@ -4,4 +4,4 @@ use Rattle.process_derive.specs.Uses.{events_at}
 use Rattle.process_derive.proofs.events.script_of.Given as goal
 
 abbrev pub invariant-loop-turn : goal.invariant-loop-turn
-invariant-loop-turn l = l.events.items ≡ flat_map (events_at l.plans l.uses l.outgoing) (range_with_len 0 l.turn)
+invariant-loop-turn l = l.events ≡ flat_map (events_at l.plans l.uses l.outgoing) (range_with_len 0 l.turn)

@@ -4,5 +4,6 @@ use Rattle.process_derive.proofs.network.derive.Goals as goal
 
 pub returns : goal.returns
 returns c =
-    net_made c.args.nest.now c.in_ok-make_processes.field-0 c.in_ok-make_channels.field-0 c.as_slice-2.result.now c.in_ok-make_processes.ensures c.in_ok-make_channels.ensures
+    net_made c.args.nest.now c.in_ok-make_processes.field-0 c.in_ok-make_channels.field-0 c.as_slice-2.result.now
+    c.in_ok-make_processes.ensures c.in_ok-make_channels.ensures
     (c.as_slice-2.ensures ∙ c.in_ok-plans.ensures)

@@ -51,13 +51,15 @@ script_of-requires-clause-few c =
 
 pub script_of-requires-clause-fit : goal.script_of-requires-clause-fit
 script_of-requires-clause-fit c =
-    fits_as c.args.nest.now c.args.number c.args.plans.now c.as_slice.result.now c.args.sources.now c.as_slice-2.result.now c.requires.size c.requires.plans
+    fits_as c.args.nest.now c.args.number c.args.plans.now c.as_slice.result.now c.args.sources.now
+    c.as_slice-2.result.now c.requires.size c.requires.plans
     (c.as_slice.ensures.value ∙ c.in_ok-incoming.ensures) (c.as_slice-2.ensures.value ∙ c.in_ok-uses.ensures)
 
-pub folded-requires-clause-short : goal.folded-requires-clause-short
-folded-requires-clause-short c =
-    let made = c.as_slice-4.ensures ∙ c.in_ok-events.ensures
-    ∙ script_same c.args.nest.now c.args.number c.args.fires c.args.plans.now c.as_slice.result.now c.args.sources.now c.as_slice-2.result.now c.as_slice-3.result.now
+pub script-requires : goal.script-requires
+script-requires c =
+    let made = c.in_ok-events.ensures
+    ∙ script_same c.args.nest.now c.args.number c.args.fires c.args.plans.now c.as_slice.result.now c.args.sources.now
+    c.as_slice-2.result.now c.as_slice-3.result.now
     c.requires.plans (c.as_slice.ensures.value ∙ c.in_ok-incoming.ensures) c.requires.sources
     (c.as_slice-2.ensures.value ∙ c.in_ok-uses.ensures)
     (c.as_slice-3.ensures.value ∙ c.in_ok-outgoing.ensures) c.requires.fires in
@@ -66,8 +68,9 @@ folded-requires-clause-short c =
 pub returns : goal.returns
 returns c =
     let slots = c.slot_count.ensures ∙ ap (λ ps. slots_of ps c.args.number) c.requires.plans in
-    let events = c.in_ok-folded.ensures ∙ c.as_slice-4.ensures ∙ c.in_ok-events.ensures
-    ∙ script_same c.args.nest.now c.args.number c.args.fires c.args.plans.now c.as_slice.result.now c.args.sources.now c.as_slice-2.result.now c.as_slice-3.result.now
+    let events = c.in_ok-script.ensures ∙ c.in_ok-events.ensures
+    ∙ script_same c.args.nest.now c.args.number c.args.fires c.args.plans.now c.as_slice.result.now c.args.sources.now
+    c.as_slice-2.result.now c.as_slice-3.result.now
     c.requires.plans (c.as_slice.ensures.value ∙ c.in_ok-incoming.ensures) c.requires.sources
     (c.as_slice-2.ensures.value ∙ c.in_ok-uses.ensures)
     (c.as_slice-3.ensures.value ∙ c.in_ok-outgoing.ensures) c.requires.fires in

@@ -34,8 +34,10 @@ loop-source-preserved c =
     let here = slice_get-get_or sources i None c.loop-source-test.true in
     record {
       uses = uses_more c.args.incoming.now c.args.read sources i c.args.processes
-          (slice_index_or sources i None) c.loop-source.counts.items c.next_use.result c.loop-source.uses.items c.push.new.self.items
-          here (c.requires.exist i) c.loop-source.invariant.counts c.next_use.ensures.found c.loop-source.invariant.uses c.in_ok-push.ensures.items;
+          (slice_index_or sources i None) c.loop-source.counts.items c.next_use.result c.loop-source.uses.items
+          c.push.new.self.items
+          here (c.requires.exist i) c.loop-source.invariant.counts c.next_use.ensures.found c.loop-source.invariant.uses
+          c.in_ok-push.ensures.items;
       counts =
           c.next_use.ensures.counted
           ∙ counts_more sources i c.args.processes (slice_index_or sources i None) c.loop-source.counts.items here

@@ -8,5 +8,6 @@ capped_len_of_part-returns-in-Repeat g t c =
     let inner =
     c.capped_len.ensures ∙ ap (λ ps. min (length (parts_expansion ps)) 4611686018427387905) c.as_slice.ensures in
     let law =
-    capped_repeat c.in-Repeat.count c.in-Repeat.body c.args.part.now c.capped_len.result 18446744073709551615 4611686018427387905 (omega arith) c.in-Repeat.is inner in
+    capped_repeat c.in-Repeat.count c.in-Repeat.body c.args.part.now c.capped_len.result 18446744073709551615
+    4611686018427387905 (omega arith) c.in-Repeat.is inner in
     cc

@@ -7,7 +7,8 @@ use Rattle.script_blocks.proofs.cursor.+next.Goals as goal
 
 pub next_from_part-next_of_part-item-requires : goal.next_from_part-next_of_part-item-requires
 next_from_part-next_of_part-item-requires g t c κs within =
-    let below = nesting_within c.args.parts.now c.loop-frame.frame.part c.index-parts-frame.result c.loop-frame-test.true c.index-parts-frame.is in
+    let below = nesting_within c.args.parts.now c.loop-frame.frame.part c.index-parts-frame.result
+    c.loop-frame-test.true c.index-parts-frame.is in
     (search (rules, the_lemmas), (within, omega arith))
 
 pub next_from_part-returns-then-is_some : goal.next_from_part-returns-then-is_some

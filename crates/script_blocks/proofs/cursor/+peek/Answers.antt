@@ -11,5 +11,6 @@ peek_in-returns g t c =
     cc (c.in_ok-frame.ensures.cases.0) in
     c.first_in.ensures
     ∙ ap (λ ps. slice_get (parts_expansion ps) 0) (take_rest c.args.parts.now (c.in_ok-frame.frame.now.part + 1))
-    ∙ peek_later c.in_ok-frame.frame.now c.args.frames.now c.in_ok-frame.deeper.now c.args.parts.now c.index-parts-frame.result c.peek_of_part-item.result
+    ∙ peek_later c.in_ok-frame.frame.now c.args.frames.now c.in_ok-frame.deeper.now c.args.parts.now
+    c.index-parts-frame.result c.peek_of_part-item.result
     frames (omega arith) c.index-parts-frame.is c.peek_of_part-item.ensures (sym c.is_some.ensures ∙ c.if-is_some.false)

@@ -1,12 +1,14 @@
 use Rattle.std.proofs.Common.{◌≡◌, ◌+◌, ◌*◌, ◌≤◌, ◌++◌}
 use Rattle.std.specs.Prelude.{IsTrue}
 use Rattle.script_blocks.specs.Expansion.{parts_expansion}
+use Rattle.script_blocks.specs.Labels.{items_or}
 use Rattle.script_blocks.specs.Nesting.{are_proper, parts_nesting}
 use Rattle.script_blocks.proofs.folding.+build.Given as goal
 
 abbrev pub invariant-build-loop-symbol : goal.invariant-build-loop-symbol
 invariant-build-loop-symbol g l =
-    (parts_expansion l.initial.parts ++ l.items ≡ parts_expansion l.parts ++ l.rest)
+    (parts_expansion l.initial.parts ++ items_or l.kinds l.other l.labels
+    ≡ parts_expansion l.parts ++ items_or l.kinds l.other l.rest)
     × (parts_nesting l.parts ≤ l.depth)
     × IsTrue (are_proper l.parts)
 

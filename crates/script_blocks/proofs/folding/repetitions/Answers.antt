@@ -3,11 +3,12 @@ use Rattle.script_blocks.proofs.folding.repetitions.Goals as goal
 use Rattle.std.proofs.Common.{◌++◌}
 
 pub returns-then-is_empty : goal.returns-then-is_empty
-returns-then-is_empty g c = once c.args.first.now c.args.items.now
+returns-then-is_empty c = once c.args.first.now c.args.labels.now
 
 pub loop-times-init : goal.loop-times-init
-loop-times-init g c = once c.args.first.now c.args.items.now
+loop-times-init c = once c.args.first.now c.args.labels.now
 
 pub loop-times-preserved : goal.loop-times-preserved
-loop-times-preserved g c =
-    once_more c.loop-times.times (c.args.first.now ++ c.args.items.now) c.args.first.now c.loop-times.rest.now c.in-Some.next.now c.loop-times.invariant c.in-Some.ensures
+loop-times-preserved c =
+    once_more c.loop-times.times (c.args.first.now ++ c.args.labels.now) c.args.first.now c.loop-times.rest.now
+    c.in-Some.next.now c.loop-times.invariant c.in-Some.ensures

@@ -3,7 +3,7 @@ use Rattle.script_blocks.specs.Expansion.{repeated}
 use Rattle.script_blocks.proofs.folding.repetitions.Given as goal
 
 abbrev pub invariant-loop-times : goal.invariant-loop-times
-invariant-loop-times g l = l.first ++ l.items ≡ repeated l.times l.first ++ l.rest
+invariant-loop-times l = l.first ++ l.labels ≡ repeated l.times l.first ++ l.rest
 
 abbrev pub decreases-loop-times : goal.decreases-loop-times
-decreases-loop-times g l = l.most - l.times
+decreases-loop-times l = l.most - l.times

@@ -1,4 +1,5 @@
-use Rattle.std.proofs.Common.{◌≡◌, ◌∷◌, [], ◌++◌, ℤ, List, length, vec_capacity, subst, length-append, ap, sym, ◌∙◌, arith, true, false}
+use Rattle.std.proofs.Common.{◌≡◌, ◌∷◌, [], ◌++◌, ℤ, List, length, vec_capacity, subst, length-append, ap, sym, ◌∙◌}
+use Rattle.std.proofs.Common.{arith, true, false}
 use Rattle.std.specs.declared.vec.Vec.{Vec}
 use Rattle.std.specs.Global.{Global}
 use Rattle.sanlp.specs.Cells.{is_output}
@@ -16,7 +17,8 @@ loop-array-preserved g c =
     let nest = c.args.nest.now in
     let f = g.K.Keeper.values c.args.keeper.now in
     let here =
-    array_here nest.arrays c.as_slice-array-items.result.now at c.array-item.result c.as_slice-array-items.ensures c.loop-array-test.true c.array-item.is in
+    array_here nest.arrays c.as_slice-array-items.result.now at c.array-item.result c.as_slice-array-items.ensures
+    c.loop-array-test.true c.array-item.is in
     elim c.if-is_output.branch [
       | then-is_output+in-Some w ↦
           let out : is_output c.array-item.result.kind ≡ true = sym c.is_output.ensures ∙ w.if-is_output.true in
@@ -29,12 +31,25 @@ loop-array-preserved g c =
           ∙ ap (λ (v : Vec (Vec ℤ Global) Global). v.items ++ w.in-Some.list ∷ []) (sym w.lists-is) in
           let fewer = numbers_out nest.arrays at c.array-item.result here out in
           record {
-            added = rw w.sink-is (lists_out f c.loop-array.sink at nest.arrays c.array-item.result c.loop-array.arrays.items c.if-is_output.arrays.items here out grown) ∙ i.added;
+            added = rw w.sink-is (lists_out f c.loop-array.sink at nest.arrays c.array-item.result
+                c.loop-array.arrays.items c.if-is_output.arrays.items here out grown) ∙ i.added;
             sinks = omega (arith, i.sinks, fewer, w.sink-is);
-            lists = omega (arith, i.lists, fewer, ap length shrunk, length-append c.if-is_output.lists.items (w.in-Some.list ∷ []));
-            space = space_less (turns (points_of nest)) (length nest.statements) c.loop-array.lists.items c.if-is_output.lists.items w.in-Some.list i.space shrunk;
+            lists = omega (
+              arith,
+              i.lists,
+              fewer,
+              ap length shrunk,
+              length-append c.if-is_output.lists.items (w.in-Some.list ∷ []),
+            );
+            space = space_less (turns (points_of nest)) (length nest.statements) c.loop-array.lists.items
+                c.if-is_output.lists.items w.in-Some.list i.space shrunk;
             number =
-                omega (arith, i.number, ap length grown, length-append c.loop-array.arrays.items (f c.loop-array.sink ∷ []));
+                omega (
+                  arith,
+                  i.number,
+                  ap length grown,
+                  length-append c.loop-array.arrays.items (f c.loop-array.sink ∷ []),
+                );
             capacity =
                 ap (λ (v : Vec (List ℤ) Global). vec_capacity v) w.arrays-is ∙ w.push_reserved.ensures.capacity
                 ∙ i.capacity;
@@ -48,7 +63,8 @@ loop-array-preserved g c =
           ap (λ (v : Vec (Vec ℤ Global) Global). v.items) w.lists-is in
           let as_many = numbers_other nest.arrays at c.array-item.result here other in
           record {
-            added = rw w.sink-is (lists_other f c.loop-array.sink at nest.arrays c.array-item.result c.loop-array.arrays.items c.if-is_output.arrays.items here other grown) ∙ i.added;
+            added = rw w.sink-is (lists_other f c.loop-array.sink at nest.arrays c.array-item.result
+                c.loop-array.arrays.items c.if-is_output.arrays.items here other grown) ∙ i.added;
             sinks = omega (arith, i.sinks, as_many, w.sink-is);
             lists = omega (arith, i.lists, as_many, ap length same);
             space = subst (HaveSpace (turns (points_of nest)) (length nest.statements)) (sym same) i.space;

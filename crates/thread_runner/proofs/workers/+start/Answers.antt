@@ -47,7 +47,14 @@ returns-after-all-clause-kept g t c =
     let rooms = c.start-rooms.result.0.items in
     let back = c.join-back.result in
     let promise : c.in-Ok.worker.promise
-    ≡ record { nest = c.args.nest; points = c.args.points; inputs = c.args.inputs; network = c.args.network; process = c.len.result } = c.in-Ok.ensures in
+    ≡ record {
+      nest = c.args.nest;
+      points = c.args.points;
+      inputs = c.args.inputs;
+      network = c.args.network;
+      process =
+          c.len.result;
+    } = c.in-Ok.ensures in
     let kept : (back.ran ≡ true → back.room.kept ≡ values_of nest d c.len.result) =
     subst (λ (task : Task). back.ran ≡ true
     → back.room.kept ≡ values_of task.nest.now task.inputs.now task.process) promise c.join-back.ensures in

@@ -16,7 +16,8 @@ downward-requires-clause-channels c =
 
 pub returns-in-Seq-clause-run : goal.returns-in-Seq-clause-run
 returns-in-Seq-clause-run c =
-    ends_planned c.args.nest.now Seq c.args.network.now c.sequential.result c.requires.network c.sequential.ensures.schedule c.sequential.ensures.capacities
+    ends_planned c.args.nest.now Seq c.args.network.now c.sequential.result c.requires.network
+    c.sequential.ensures.schedule c.sequential.ensures.capacities
 
 pub returns-in-Down-clause-run : goal.returns-in-Down-clause-run
 returns-in-Down-clause-run c =

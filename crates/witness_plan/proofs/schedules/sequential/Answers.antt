@@ -5,7 +5,8 @@ use Rattle.net_core.specs.Machine.{net_of}
 use Rattle.witness_plan.specs.Sequential.{capacities}
 use Rattle.witness_plan.specs.Traffic.{NamesOwnChannels}
 use Rattle.witness_plan.proofs.OwnChannels.{names_own}
-use Rattle.witness_plan.proofs.Sequenced.{capacities_are, left_later, process_exists, sequenced, sequenced_all, sequenced_more}
+use Rattle.witness_plan.proofs.Sequenced.{capacities_are, left_later, process_exists, sequenced, sequenced_all}
+use Rattle.witness_plan.proofs.Sequenced.{sequenced_more}
 use Rattle.witness_plan.proofs.schedules.sequential.Goals as goal
 
 pub loop-point-init : goal.loop-point-init
@@ -24,7 +25,8 @@ pub make_point-requires-clause-process : goal.make_point-requires-clause-process
 make_point-requires-clause-process c =
     let n = c.args.nest.now in
     process_exists n
-    (rest n c.loop-point.walk) _ c.in-Some.point c.loop-point.invariant.left c.in-Some.ensures.next c.loop-point.progress.schedule c.loop-point.invariant.schedule c.args.network.now c.requires.network
+    (rest n c.loop-point.walk) _ c.in-Some.point c.loop-point.invariant.left c.in-Some.ensures.next
+    c.loop-point.progress.schedule c.loop-point.invariant.schedule c.args.network.now c.requires.network
 
 pub make_point-requires-clause-channels : goal.make_point-requires-clause-channels
 make_point-requires-clause-channels c =
@@ -40,7 +42,8 @@ loop-point-preserved c =
           (rest n c.loop-point.walk) _ c.in-Some.point c.loop-point.invariant.left c.in-Some.ensures.next;
       schedule =
           sequenced_more n
-          (rest n c.loop-point.walk) _ c.in-Some.point c.loop-point.invariant.left c.in-Some.ensures.next c.loop-point.progress.schedule c.loop-point.invariant.schedule c.args.network.now c.requires.network
+          (rest n c.loop-point.walk) _ c.in-Some.point c.loop-point.invariant.left c.in-Some.ensures.next
+          c.loop-point.progress.schedule c.loop-point.invariant.schedule c.args.network.now c.requires.network
           c.make_point.new.progress.schedule c.in_ok-make_point.ensures.schedule;
       progress = c.in_ok-make_point.ensures.progress;
     }
@@ -57,6 +60,7 @@ returns-clause-capacities c =
     let n = c.args.nest.now in
     let whole : length (trace n) - length (rest n c.loop-point.walk) ≡ length (trace n) =
     omega (arith, ap length c.in_default.ensures.next.0) in
-    capacities_are c.args.network.now c.loop-point.progress.schedule c.deref.result.now c.in_ok-lengths.lengths c.in_ok-lengths.ensures (c.deref.ensures.value ∙ c.loop-point.invariant.progress.traffic)
+    capacities_are c.args.network.now c.loop-point.progress.schedule c.deref.result.now c.in_ok-lengths.lengths
+    c.in_ok-lengths.ensures (c.deref.ensures.value ∙ c.loop-point.invariant.progress.traffic)
     ∙ ap (capacities c.args.network.now)
     (sequenced_all n c.loop-point.progress.schedule (c.loop-point.invariant.schedule ∙ ap (sequenced n) whole))

@@ -15,20 +15,26 @@ make_event-requires-clause-left c =
 pub returns-in-Fire-clause-schedule : goal.returns-in-Fire-clause-schedule
 returns-in-Fire-clause-schedule c =
     let net = net_of c.args.network.now in
-    fire_made net c.loop-event.progress.schedule c.make_event.new.self.schedule c.args.process c.in_ok-make_event.ensures.schedule c.in-Fire.refs (sym c.in-Some.ensures ∙ ap Some c.in-Fire.is)
+    fire_made net c.loop-event.progress.schedule c.make_event.new.self.schedule c.args.process
+    c.in_ok-make_event.ensures.schedule c.in-Fire.refs (sym c.in-Some.ensures ∙ ap Some c.in-Fire.is)
     ∙ c.loop-event.invariant.made
 
 pub loop-event-smaller : goal.loop-event-smaller
 loop-event-smaller c =
     let net = net_of c.args.network.now in
-    omega (arith, ap length (left_next net c.loop-event.progress.schedule c.make_event.new.self.schedule c.args.process c.in_ok-make_event.ensures.schedule c.in-Some.event (sym c.in-Some.ensures)))
+    omega (
+      arith,
+      ap length (left_next net c.loop-event.progress.schedule c.make_event.new.self.schedule c.args.process
+          c.in_ok-make_event.ensures.schedule c.in-Some.event (sym c.in-Some.ensures)),
+    )
 
 pub loop-event-preserved : goal.loop-event-preserved
 loop-event-preserved c =
     let net = net_of c.args.network.now in
     record {
       progress = c.in_ok-make_event.ensures.progress;
-      made = event_made net c.loop-event.progress.schedule c.make_event.new.self.schedule c.args.process c.in_ok-make_event.ensures.schedule c.in-Some.event (sym c.in-Some.ensures) c.in_default-event.not-Fire
+      made = event_made net c.loop-event.progress.schedule c.make_event.new.self.schedule c.args.process
+          c.in_ok-make_event.ensures.schedule c.in-Some.event (sym c.in-Some.ensures) c.in_default-event.not-Fire
           ∙ c.loop-event.invariant.made;
     }
 

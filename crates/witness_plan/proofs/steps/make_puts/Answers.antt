@@ -16,14 +16,19 @@ make_event-requires-clause-left c =
 pub loop-event-smaller : goal.loop-event-smaller
 loop-event-smaller c =
     let net = net_of c.args.network.now in
-    omega (arith, ap length (left_next net c.loop-event.progress.schedule c.make_event.new.self.schedule c.args.process c.in_ok-make_event-in-Put.ensures.schedule c.in-Some.event (sym c.in-Some.ensures)))
+    omega (
+      arith,
+      ap length (left_next net c.loop-event.progress.schedule c.make_event.new.self.schedule c.args.process
+          c.in_ok-make_event-in-Put.ensures.schedule c.in-Some.event (sym c.in-Some.ensures)),
+    )
 
 pub loop-event-preserved : goal.loop-event-preserved
 loop-event-preserved c =
     let net = net_of c.args.network.now in
     record {
       progress = c.in_ok-make_event-in-Put.ensures.progress;
-      made = put_made net c.loop-event.progress.schedule c.make_event.new.self.schedule c.args.process c.in_ok-make_event-in-Put.ensures.schedule c.in-Put.channel (sym c.in-Some.ensures ∙ ap Some c.in-Put.is)
+      made = put_made net c.loop-event.progress.schedule c.make_event.new.self.schedule c.args.process
+          c.in_ok-make_event-in-Put.ensures.schedule c.in-Put.channel (sym c.in-Some.ensures ∙ ap Some c.in-Put.is)
           ∙ c.loop-event.invariant.made;
     }
 

@@ -22,10 +22,12 @@ eval-requires c =
     let at = c.as_slice-at.result.now in
     let reads : List ℤ = c.as_slice-3.result.now in
     let at_is =
-    vector_read (points_of n) c.as_slice.result.now p f c.index-as_slice-process.result c.as_slice-2.result.now c.index-as_slice-turn.result at
+    vector_read (points_of n) c.as_slice.result.now p f c.index-as_slice-process.result c.as_slice-2.result.now
+    c.index-as_slice-turn.result at
     c.requires.limits.0
     (c.as_slice.ensures
-    ∙ c.args.self.now.points_of_nest) c.index-as_slice-process.is c.as_slice-2.ensures c.index-as_slice-turn.is c.as_slice-at.ensures.value in
+    ∙ c.args.self.now.points_of_nest) c.index-as_slice-process.is c.as_slice-2.ensures c.index-as_slice-turn.is
+    c.as_slice-at.ensures.value in
     let depth : length statement.loops ≡ length at =
     sym (ap length at_is ∙ vector_depth n p f statement c.requires.limits.0 is) in
     let many : length statement.reads ≡ length reads =
@@ -41,16 +43,19 @@ returns c =
     let p = c.args.process in
     let f = c.args.turn in
     let at_is =
-    vector_read (points_of n) c.as_slice.result.now p f c.index-as_slice-process.result c.as_slice-2.result.now c.index-as_slice-turn.result c.as_slice-at.result.now
+    vector_read (points_of n) c.as_slice.result.now p f c.index-as_slice-process.result c.as_slice-2.result.now
+    c.index-as_slice-turn.result c.as_slice-at.result.now
     c.requires.limits.0
     (c.as_slice.ensures
-    ∙ c.args.self.now.points_of_nest) c.index-as_slice-process.is c.as_slice-2.ensures c.index-as_slice-turn.is c.as_slice-at.ensures.value in
+    ∙ c.args.self.now.points_of_nest) c.index-as_slice-process.is c.as_slice-2.ensures c.index-as_slice-turn.is
+    c.as_slice-at.ensures.value in
     let given : FitsSigned w64 c.given_value-given.result = search rules in
     let result : FitsSigned w64 c.eval.result = search rules in
     let value = simp to_z-of_z at c.eval.ensures in
     simp to_z-of_z
     (
-    fire_value n c.args.self.now.inputs.now p f c.statement-statement.result.now c.args.refs.now c.args.slots.now c.as_slice-at.result.now c.as_slice-3.result.now
+    fire_value n c.args.self.now.inputs.now p f c.statement-statement.result.now c.args.refs.now c.args.slots.now
+    c.as_slice-at.result.now c.as_slice-3.result.now
     c.given_value-given.result c.eval.result c.statement-statement.ensures.value at_is
     (c.as_slice-3.ensures.value ∙ c.read_all-reads.ensures) c.given_value-given.ensures value
     )

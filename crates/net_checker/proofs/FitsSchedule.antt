@@ -6,7 +6,8 @@
 -- (`none_entries`). In the end every process is at its script's end, so every fire of every script was passed, which
 -- is why one schedule tells of all references. Names don't depend on the order, so whether any of them is wrong is the
 -- same for every such schedule.
-use Rattle.std.proofs.Common.{◌≡◌, ℕ, suc, ◌<◌, ◌≤◌, true, cond, ltb, eqb, Option, Some, None, List, [], ◌∷◌, length, slice_get, refl, sym, ap, ap₂, ◌∙◌, inl, inr, arith, eqb-true, eq-eqb}
+use Rattle.std.proofs.Common.{◌≡◌, ℕ, suc, ◌<◌, ◌≤◌, true, cond, ltb, eqb, Option, Some, None, List, [], ◌∷◌, length}
+use Rattle.std.proofs.Common.{slice_get, refl, sym, ap, ap₂, ◌∙◌, inl, inr, arith, eqb-true, eq-eqb}
 use Rattle.std.proofs.lemmas.Bool.{and_parts, and_from, cases_Bool, cases_lt, cases_eq, ltb-false, le-ltb}
 use Rattle.std.proofs.lemmas.Option.{slice_get_within}
 use Rattle.std.specs.Option.{option_or}
@@ -29,7 +30,8 @@ use Rattle.net_core.proofs.CutOrder.{advanced_here, advanced_there}
 use Rattle.net_core.proofs.Positions.{run_cut, cut_run, run_ends, start_counted, cut_inside}
 use Rattle.net_checker.specs.declared.verdict.Refusal.TheVariants as refusal
 use Rattle.net_checker.specs.Choice.{first_below}
-use Rattle.net_checker.specs.Entries.{is_wanted, seen_of, wanted_of, reference_refusal, event_refusal, entry_refusal, entries_refusal, unended, schedule_refusal}
+use Rattle.net_checker.specs.Entries.{is_wanted, seen_of, wanted_of, reference_refusal, event_refusal, entry_refusal}
+use Rattle.net_checker.specs.Entries.{entries_refusal, unended, schedule_refusal}
 use Rattle.net_checker.proofs.Choices.{or_none, first_none, none_first}
 use Rattle.net_checker.proofs.Lists.{passes_where_none, fails_where_none}
 
@@ -186,8 +188,11 @@ module _ (n : Nest) (network : Network) (schedule : List ℕ) (wired : IsWired (
             (fails_where_none (ltb (cut q) (length (net.script q))) (refusal.Unended q) none) in
             omega arith
         | inr past ↦ omega (arith, ap length (wired.bounded q past))
-      ] in
-      ((run, λ q. ap (λ k. k q) (run_ends net tags schedule (start net) run) ∙ full q), λ p k refs is. walked.1 p k (omega arith) (let lt = slice_get_within (net.script p) k (Fire refs) is in omega (arith, full p)) refs is)
+      ] in (
+        (run, λ q. ap (λ k. k q) (run_ends net tags schedule (start net) run) ∙ full q),
+        λ p k refs is. walked.1 p k
+            (omega arith) (let lt = slice_get_within (net.script p) k (Fire refs) is in omega (arith, full p)) refs is,
+      )
 
   pub ends_none : EndsAll net tags schedule → NamesLastWriters n net → schedule_refusal n network schedule ≡ None
   unfolding schedule_refusal

@@ -5,7 +5,9 @@
 -- below the points, so there are never more fires than points (`fires_bounded`, by induction on the place), and the
 -- test at the script's end says that there are no fewer. `first` tells the least process; that it is the least is a
 -- matter of Choices and not of this file.
-use Rattle.std.proofs.Common.{◌≡◌, ℕ, zero, suc, ◌<◌, ◌≤◌, true, false, cond, eqb, ltb, leb, ◌&&◌, Option, Some, None, List, [], ◌∷◌, length, take, slice_get, count_by, refl, sym, ap, ◌∙◌, inl, inr, arith, ltb-true, lt-ltb, eqb-true, eq-eqb}
+use Rattle.std.proofs.Common.{◌≡◌, ℕ, zero, suc, ◌<◌, ◌≤◌, true, false, cond, eqb, ltb, leb, ◌&&◌, Option, Some, None}
+use Rattle.std.proofs.Common.{List, [], ◌∷◌, length, take, slice_get, count_by, refl, sym, ap, ◌∙◌, inl, inr, arith}
+use Rattle.std.proofs.Common.{ltb-true, lt-ltb, eqb-true, eq-eqb}
 use Rattle.std.proofs.lemmas.Bool.{and_parts, and_from, cases_lt, le-ltb, leb-true, le-leb, ltb-false}
 use Rattle.std.proofs.lemmas.List.{get_or_past}
 use Rattle.std.proofs.lemmas.List.Elements.{All-nil, All-cons, All-head, All-tail}
@@ -32,14 +34,11 @@ use Rattle.net_checker.specs.declared.verdict.Refusal.TheVariants as refusal
 use Rattle.net_checker.specs.Choice.{first_below}
 use Rattle.net_checker.specs.Shapes.{read_total, channel_agrees, agrees, is_own_event, process_shape, shape_refusal}
 use Rattle.net_checker.specs.Firings.{is_within, may_stand, event_firing, process_firing, firing_refusal}
+use Rattle.sanlp.proofs.NestFacts.{points_length}
 use Rattle.net_checker.proofs.Choices.{or_none, first_none, none_first}
 use Rattle.net_checker.proofs.Lists.{passes_where_none, fails_where_none, item_at, all_at, each_all}
 
 -- Numbers of a nest's points
-
-pub points_length : (n : Nest) → length (points_of n) ≡ length n.statements
-unfolding points_of
-points_length n = length-map-range_with_len (vectors_of (trace n)) 0 (length n.statements)
 
 turns_past : (n : Nest) (p : ℕ) → length n.statements ≤ p → turns (points_of n) p ≡ 0
 turns_past n p le = ap length (get_or_past (points_of n) p [] (omega (arith, points_length n)))
@@ -152,7 +151,11 @@ none_shape net p h =
     let a = list_all (is_own_event net p) (net.script p) in
     let b = leb (net.slots p) (count_by is_any_get (net.script p)) in
     let parts = and_parts a b (passes_where_none (a && b) (refusal.Shape p) h) in
-    record { own = λ k e is. all_at (is_own_event net p) (net.script p) k e parts.0 is; few_slots = leb-true _ _ parts.1 }
+    record {
+      own = λ k e is. all_at (is_own_event net p) (net.script p) k e parts.0 is;
+      few_slots =
+          leb-true _ _ parts.1;
+    }
 
 pub shape_none : (net : Net) (p : ℕ) → KeepsShape net p → process_shape net p ≡ None
 shape_none net p keeps =
@@ -354,7 +357,12 @@ module _ (n : Nest) (network : Network) where
   pub turn_left : FitsNest n network → (p k : ℕ) (refs : List Ref) → slice_get (net.script p) k ≡ Some (Fire refs)
       → fires net p k < turns (points_of n) p
   turn_left fit p k refs is =
-      omega (arith, fit.shaped.turns p, count_next is_fire (net.script p) k (Fire refs) is, count_take (net.script p) (suc k))
+      omega (
+        arith,
+        fit.shaped.turns p,
+        count_next is_fire (net.script p) k (Fire refs) is,
+        count_take (net.script p) (suc k),
+      )
 
   event_may_stand : FitsNest n network → (p k : ℕ) (e : Event) → slice_get (net.script p) k ≡ Some e
       → may_stand n net p (fires net p k) e ≡ true
@@ -362,7 +370,12 @@ module _ (n : Nest) (network : Network) where
   event_may_stand fit p k (Put c) is = lt-ltb _ _ (fit.shaped.wired.put_fired p k c is)
   event_may_stand fit p k (Fire refs) is =
       stands_fire n net p (fires net p k) refs
-      (record { turn = turn_left fit p k refs is; references = fit.references p k refs is; slots = slots refs (fit.shaped.wired.reference_slots p k refs is) })
+      (record {
+        turn = turn_left fit p k refs is;
+        references = fit.references p k refs is;
+        slots =
+            slots refs (fit.shaped.wired.reference_slots p k refs is);
+      })
     where
       slots : (refs : List Ref) → All (IsWithin (net.slots p)) refs → list_all (is_within (net.slots p)) refs ≡ true
       slots [] h = refl

@@ -1,5 +1,6 @@
 -- What the code found is wrong first.
-use Rattle.std.proofs.Common.{◌≡◌, ℕ, zero, suc, ◌+◌, ◌^◌, take, inl, inr, ◌<◌, ◌≤◌, true, false, cond, ltb, Option, Some, None, List, [], length, slice_get, get_or, count_by, sym, ap, ◌∙◌, arith}
+use Rattle.std.proofs.Common.{◌≡◌, ℕ, zero, suc, ◌+◌, ◌^◌, take, inl, inr, ◌<◌, ◌≤◌, true, false, cond, ltb, Option}
+use Rattle.std.proofs.Common.{Some, None, List, [], length, slice_get, get_or, count_by, sym, ap, ◌∙◌, arith}
 use Rattle.std.proofs.lemmas.Bool.{le-ltb, lt-ltb, cases_eq, cases_lt, cond-true, cond-false}
 use Rattle.std.proofs.lemmas.Option.{slice_get_within, slice_get-get_or, get_or_from_slice_get}
 use Rattle.channel_class.specs.declared.ChannelClass.{ChannelClass}

@@ -1,5 +1,6 @@
 -- A fire is judged by the slots of the state and the table of sources.
-use Rattle.std.proofs.Common.{◌≡◌, ℕ, zero, suc, ◌+◌, ◌<◌, ◌≤◌, ℤ, true, Option, Some, None, List, length, take, slice_get, refl, sym, ap, ap₂, ◌∙◌, inl, inr, arith}
+use Rattle.std.proofs.Common.{◌≡◌, ℕ, zero, suc, ◌+◌, ◌<◌, ◌≤◌, ℤ, true, Option, Some, None, List, length, take}
+use Rattle.std.proofs.Common.{slice_get, refl, sym, ap, ap₂, ◌∙◌, inl, inr, arith}
 use Rattle.std.specs.List.{sum_by}
 use Rattle.std.specs.Option.{option_or, option_and_then}
 use Rattle.sanlp.specs.Access.{read_count}
@@ -28,8 +29,8 @@ use Rattle.net_checker.specs.Lookups.{source_in, refused_reference}
 use Rattle.std.proofs.lemmas.Bool.{cases_lt}
 use Rattle.std.proofs.lemmas.Option.{slice_get_within}
 use Rattle.net_checker.proofs.Choices.{first_found, first_none}
-use Rattle.net_checker.proofs.FitsShape.{points_length, turn_left}
-use Rattle.net_checker.proofs.Numbers.{few_read_count}
+use Rattle.net_checker.proofs.FitsShape.{turn_left}
+use Rattle.sanlp.proofs.NestFacts.{few_read_count, points_length}
 use Rattle.net_checker.proofs.Lists.{item_at}
 use Rattle.net_checker.proofs.Walk.{map_same, entry_event}
 

@@ -3,6 +3,11 @@ pub mod Lists
 pub mod FitsShape
 pub mod FitsSchedule
 pub mod FitsClasses
+pub mod Ready
+pub mod Turns
+pub mod Usable
+pub mod FitsNames
+pub mod Tables
 pub mod Fitting
 pub mod Found
 pub mod Walk

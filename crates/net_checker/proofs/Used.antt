@@ -1,5 +1,7 @@
 -- The uses of the channels, as a walk over each process's script collects them.
-use Rattle.std.proofs.Common.{◌≡◌, ℕ, zero, suc, ◌+◌, ◌<◌, ◌≤◌, ◌^◌, Bool, false, cond, eqb, Option, Some, None, List, [], ◌∷◌, ◌++◌, length, take, slice_get, get_or, count_by, refl, sym, ap, ap₂, ◌∙◌, inl, inr, ◌⊎◌, arith, add-one, append-nil, append_assoc, eq-eqb, ne_eqb}
+use Rattle.std.proofs.Common.{◌≡◌, ℕ, zero, suc, ◌+◌, ◌<◌, ◌≤◌, ◌^◌, Bool, false, cond, eqb, Option, Some, None, List}
+use Rattle.std.proofs.Common.{[], ◌∷◌, ◌++◌, length, take, slice_get, get_or, count_by, refl, sym, ap, ap₂, ◌∙◌, inl}
+use Rattle.std.proofs.Common.{inr, ◌⊎◌, arith, add-one, append-nil, append_assoc, eq-eqb, ne_eqb}
 use Rattle.std.specs.Prelude.{slice_set, replicate}
 use Rattle.std.specs.List.{flat_map}
 use Rattle.std.proofs.lemmas.Bool.{cases_eq, cases_lt, cond-true, cond-false}
@@ -242,7 +244,13 @@ get_short net p k c slot wired numbers is =
           let lt = slice_get_within (net.script p) k (Get c slot) is in
           absurd (omega (arith, ap length (wired.bounded p past)))
     ] in
-    omega (arith, count_next (is_get c) (net.script p) k (Get c slot) is, sum_by-take-le (λ e. cond {A = ℕ} (is_get c e) 1 0) (net.script p) (suc k), count_by-le-length (is_get c) (net.script p), script_short net p numbers there)
+    omega (
+      arith,
+      count_next (is_get c) (net.script p) k (Get c slot) is,
+      sum_by-take-le (λ e. cond {A = ℕ} (is_get c e) 1 0) (net.script p) (suc k),
+      count_by-le-length (is_get c) (net.script p),
+      script_short net p numbers there,
+    )
 
 length_after : (net : Net) (p k : ℕ) (o : Option Event) (slots : List (Option (ℕ × ℕ)))
     → length (with_get net p k o slots) ≡ length slots

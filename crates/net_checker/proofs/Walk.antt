@@ -4,7 +4,9 @@
 -- it names, what the definition would still refuse from these positions on is what it would refuse of the whole
 -- schedule, and i events were made. An entry that isn't refused is enabled, so the machine steps and all of it holds
 -- again. Since events are fewer than 2^32, so are the entries that are ever judged, however long the schedule is.
-use Rattle.std.proofs.Common.{◌≡◌, ℕ, zero, suc, ◌+◌, ◌<◌, ◌≤◌, ◌^◌, true, false, cond, Option, Some, None, List, [], ◌∷◌, length, map, drop, slice_get, option_map, refl, sym, ap, ◌∙◌, subst, drop_of_length-le, inl, inr, arith, lt-ltb}
+use Rattle.std.proofs.Common.{◌≡◌, ℕ, zero, suc, ◌+◌, ◌<◌, ◌≤◌, ◌^◌, true, false, cond, Option, Some, None, List, []}
+use Rattle.std.proofs.Common.{◌∷◌, length, map, drop, slice_get, option_map, refl, sym, ap, ◌∙◌, subst}
+use Rattle.std.proofs.Common.{drop_of_length-le, inl, inr, arith, lt-ltb}
 use Rattle.std.proofs.lemmas.Bool.{cases_Bool, cases_lt, cases_eq, le-ltb}
 use Rattle.std.specs.Option.{option_or}
 use Rattle.sanlp.specs.declared.nest.Nest.{Nest}

@@ -9,13 +9,14 @@ use Rattle.net_core.specs.declared.network.Network.{Network}
 use Rattle.net_core.specs.Machine.{net_of}
 use Rattle.net_core.specs.Orders.{EndsAll}
 use Rattle.net_core.specs.Rules.{tags}
-use Rattle.net_core.specs.Sound.{FitsNest, NamesLastWriters}
+use Rattle.net_core.specs.Sound.{FitsNest}
 use Rattle.net_core.specs.Uses.{uses}
 use Rattle.net_checker.specs.declared.verdict.Refusal.{Refusal}
 use Rattle.net_checker.specs.declared.verdict.Verdict.{Verdict}
 use Rattle.net_checker.specs.declared.verdict.Verdict.TheVariants.{Accepted, Refused}
 use Rattle.net_checker.specs.Shapes.{read_total, shape_refusal}
 use Rattle.net_checker.specs.Firings.{firing_refusal}
+use Rattle.net_checker.specs.Sources.{source_refusal, AreUsable, NamesWanted}
 use Rattle.net_checker.specs.Entries.{schedule_refusal}
 use Rattle.net_checker.specs.Classes.{class_refusal}
 
@@ -25,10 +26,12 @@ pub record Fits (n : Nest) (network : Network) (cert : Cert) : Type 0 where
   pub shape : FitsNest n network
   -- there is one source for each read
   pub sources : length cert.sources ≡ read_total n
+  -- every source is Sweep, or a checked tree that overflows at no point of its reader
+  pub trees : AreUsable n cert
   -- the schedule is a run, and its last state is ended
   pub ends : EndsAll (net_of network) tags cert.schedule
-  -- every reference of every fire names what its read wants
-  pub names : NamesLastWriters n (net_of network)
+  -- every reference of every fire names what its read wants under the certificate
+  pub names : NamesWanted n cert (net_of network)
   -- each channel has the class of its uses
   pub classes : (c : ℕ) (channel : Channel) → slice_get network.channels c ≡ Some channel
       → channel.class ≡ class_of (uses (net_of network) c)
@@ -38,7 +41,8 @@ abbrev pub first : Nest → Network → Cert → Option Refusal
 first n network cert =
     option_or (shape_refusal n network cert)
     (option_or (firing_refusal n network)
-    (option_or (schedule_refusal n network cert.schedule) (class_refusal network)))
+    (option_or (source_refusal n cert)
+    (option_or (schedule_refusal n network cert.schedule) (class_refusal network))))
 
 abbrev pub verdict_of : Option Refusal → Verdict
 verdict_of None = Accepted

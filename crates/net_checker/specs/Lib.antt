@@ -4,4 +4,6 @@ pub mod Firings
 pub mod Entries
 pub mod Lookups
 pub mod Classes
+pub mod Sources
+pub mod Tables
 pub mod Fits

@@ -10,10 +10,10 @@ use crate::classes::class_refusal;
 use crate::entries::schedule_refusal;
 use crate::firings::firing_refusal;
 use crate::shapes::shape_refusal;
+use crate::sources::{source_refusal, table};
 use crate::verdict::{Refusal, Verdict};
 use net_core::Network;
 use sanlp::{Nest, Points};
-use shadow_sweep::sweep;
 use source_tree::Cert;
 use std::alloc::{AllocError, Global};
 
@@ -36,7 +36,10 @@ fn first_refusal(
     if let Some(refusal) = firing_refusal(nest, points, network) {
         return Ok(Some(refusal));
     }
-    let table = sweep(alloc, nest, points)?;
+    if let Some(refusal) = source_refusal(alloc, nest, points, cert)? {
+        return Ok(Some(refusal));
+    }
+    let table = table(alloc, nest, points, cert)?;
     let schedule = cert.schedule.as_slice();
     if let Some(refusal) = schedule_refusal(alloc, nest, points, network, &table, schedule)? {
         return Ok(Some(refusal));
@@ -46,7 +49,8 @@ fn first_refusal(
 
 /// Accepted exactly where the network and the certificate fit the nest, and else what is wrong first. What is accepted is
 /// sound: in every order of events it computes what the nest computes (Kahn 1974). It takes the time of the network's
-/// events, of one sweep of the nest, and of sorting the uses of each channel.
+/// events, of sorting the uses of each channel, and of checking each tree and following it at each point of its reader;
+/// and where some origin is `Sweep`, of one sweep of the nest.
 pub fn check(
     alloc: Global,
     nest: &Nest,

@@ -21,7 +21,8 @@ fn add_use(
     requires { (k : ℕ) (got : ℕ × ℕ) → slice_get slots.now k ≡ Some (Some got)
         → got.0 < length uses.old }
     ensures { OnOk result ((c : ℕ) → c < length uses.old
-        → slice_index_or uses.new c [] ≡ slice_index_or uses.old c [] ++ use_of c slots.now reference) }
+        → slice_index_or uses.new c []
+        ≡ slice_index_or uses.old c [] ++ use_of c slots.now reference) }
 {
     match reference {
         Ref::Zero => Ok(()),
@@ -41,7 +42,8 @@ fn add_fire(
     requires { (k : ℕ) (got : ℕ × ℕ) → slice_get slots.now k ≡ Some (Some got)
         → got.0 < length uses.old }
     ensures { OnOk result ((c : ℕ) → c < length uses.old
-        → slice_index_or uses.new c [] ≡ slice_index_or uses.old c [] ++ flat_map (use_of c slots.now) refs.now) }
+        → slice_index_or uses.new c []
+        ≡ slice_index_or uses.old c [] ++ flat_map (use_of c slots.now) refs.now) }
 {
     for reference in refs {
         add_use(*reference, slots, uses)?;
@@ -66,9 +68,13 @@ fn add_events(
     requires fresh { (c : ℕ) → (net_of network.now).reader c ≡ process
         → slice_index gets.old c ≡ 0 }
     ensures gets { OnOk result ((c : ℕ) → c < length network.now.channels
-        → slice_index gets.new c ≡ slice_index gets.old c + count_by (is_get c) ((net_of network.now).script process)) }
+        → slice_index gets.new c
+        ≡ slice_index gets.old c + count_by (is_get c) ((net_of network.now).script process)) }
     ensures uses { OnOk result ((c : ℕ) → c < length network.now.channels
-        → slice_index_or uses.new c [] ≡ slice_index_or uses.old c [] ++ uses_before (net_of network.now) c process (length ((net_of network.now).script process))) }
+        → slice_index_or uses.new c []
+        ≡ slice_index_or uses.old c []
+        ++ uses_before (net_of network.now) c process
+        (length ((net_of network.now).script process))) }
 {
     for event in script_of(network, process).iter() {
         match event {
@@ -100,9 +106,13 @@ fn add_script(
     requires fresh { (c : ℕ) → (net_of network.now).reader c ≡ process
         → slice_index gets.old c ≡ 0 }
     ensures gets { OnOk result ((c : ℕ) → c < length network.now.channels
-        → slice_index gets.new c ≡ slice_index gets.old c + count_by (is_get c) ((net_of network.now).script process)) }
+        → slice_index gets.new c
+        ≡ slice_index gets.old c + count_by (is_get c) ((net_of network.now).script process)) }
     ensures uses { OnOk result ((c : ℕ) → c < length network.now.channels
-        → slice_index_or uses.new c [] ≡ slice_index_or uses.old c [] ++ uses_before (net_of network.now) c process (length ((net_of network.now).script process))) }
+        → slice_index_or uses.new c []
+        ≡ slice_index_or uses.old c []
+        ++ uses_before (net_of network.now) c process
+        (length ((net_of network.now).script process))) }
 {
     let mut slots = vec![in alloc; None; slots_of(network, process) as usize]?;
     add_events(network, process, &mut slots, gets, uses)

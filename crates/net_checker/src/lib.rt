@@ -8,6 +8,7 @@ mod firings;
 mod laws;
 mod parts;
 mod shapes;
+mod sources;
 mod verdict;
 
 pub use checker::check;

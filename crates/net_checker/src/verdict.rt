@@ -1,5 +1,6 @@
 use channel_class::ChannelClass;
 use sanlp::Point;
+use source_check::Rule;
 
 /// What a reference was found to name.
 #[derive(Drop, PartialEq, Eq)]
@@ -26,6 +27,9 @@ pub enum Refusal {
     Shape(u32),
     /// The least process whose fires aren't those of the nest's points, and the place in its script.
     Fires(u32, u32),
+    /// The first read whose tree is refused: its statement, its number among the statement's reads, and why. The rule is
+    /// `Overflow` where the tree is checked and overflows at a point of the statement, the first of which has this turn.
+    Source(u32, u32, Rule),
     /// The number of a schedule's entry that names no process, or one that isn't enabled.
     NotEnabled(u32),
     /// The number of a schedule's entry that is a fire, and what its first wrong reference names and wants.

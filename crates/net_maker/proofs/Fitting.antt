@@ -2,20 +2,24 @@
 --
 -- Of what the checker asks only the schedule depends on capacities. Shape, names and uses are read off the scripts and
 -- the channels' ends, so they stay when capacities change; each of these is one induction along a script. What is left
--- is given: that the network fits with the numbers of its tokens, and that some schedule ends all with the new
--- capacities. So a new policy has to prove nothing but its schedule.
-use Rattle.std.proofs.Common.{◌≡◌, ◌∙◌, ◌<◌, ℕ, zero, suc, Option, Some, List, [], ◌∷◌, ◌++◌, length, map, slice_get, refl, sym, ap, subst}
+-- is given: that the network fits with the numbers of its tokens, that the certificate's trees are usable, and that
+-- some schedule ends all with the new capacities. So a new policy has to prove nothing but its schedule.
+use Rattle.std.proofs.Common.{◌≡◌, ◌∙◌, ◌<◌, ℕ, zero, suc, Option, Some, None, List, [], ◌∷◌, ◌++◌, length, map}
+use Rattle.std.proofs.Common.{slice_get, replicate, refl, sym, ap, subst}
 use Rattle.std.specs.Option.{option_and_then}
 use mathlib.Core.Path.{fun_ext}
 use Rattle.channel_class.specs.Classes.{class_of}
 use Rattle.net_checker.specs.Fits.{Fits}
 use Rattle.net_checker.specs.Shapes.{read_total}
+use Rattle.net_checker.specs.Sources.{AreUsable}
+use Rattle.net_checker.proofs.FitsNames.{last_are_wanted}
 use Rattle.net_core.specs.declared.network.Channel.{Channel}
 use Rattle.net_core.specs.declared.network.Network.{Network}
 use Rattle.net_core.specs.declared.refs.Ref.{Ref}
 use Rattle.net_core.specs.declared.refs.Ref.TheVariants.{Zero, Slot}
 use Rattle.net_core.specs.Machine.{Net, net_of}
-use Rattle.net_core.specs.Names.{latest_gets, name_at, name_in, slot_names, token_at, tokens_before, with_get, with_token}
+use Rattle.net_core.specs.Names.{latest_gets, name_at, name_in, slot_names, token_at, tokens_before, with_get}
+use Rattle.net_core.specs.Names.{with_token}
 use Rattle.net_core.specs.Orders.{EndsAll}
 use Rattle.net_core.specs.Rules.{tags}
 use Rattle.net_core.specs.Shape.{IsWired}
@@ -25,6 +29,9 @@ use Rattle.sanlp.specs.Access.{read_count}
 use Rattle.sanlp.specs.declared.nest.Nest.{Nest}
 use Rattle.sanlp.specs.declared.nest.Tag.{Tag}
 use Rattle.source_tree.specs.declared.cert.Cert.{Cert}
+use Rattle.source_tree.specs.declared.cert.Origin.TheVariants as origin
+use Rattle.source_tree.specs.declared.tree.Tree.{Tree}
+use Rattle.source_tree.specs.Sources.{read_number}
 use Rattle.witness_plan.specs.Sequential.{channels_with, with_capacities}
 
 -- Names and uses without the capacities
@@ -71,32 +78,43 @@ pub channel_kept : (channels : List Channel) (capacities : List ℕ) (c : ℕ) (
     → (x : Channel) × (slice_get channels c ≡ Some x) × (channel ≡ record x { capacity = channel.capacity })
 channel_kept [] capacities c channel e = cc
 channel_kept (x ∷ channels) [] zero channel e =
-    let same : (let changed : Channel = record x { capacity = 0 } in changed) ≡ channel = cc in
-    (x, refl, sym same ∙ ap (λ m. let changed : Channel = record x { capacity = m } in changed) (ap (λ (y : Channel). y.capacity) same))
+    let same : (let changed : Channel = record x { capacity = 0 } in changed) ≡ channel = cc in (
+      x,
+      refl,
+      sym same ∙ ap (λ m. let changed : Channel = record x { capacity = m } in changed)
+          (ap (λ (y : Channel). y.capacity) same),
+    )
 channel_kept (x ∷ channels) [] (suc c) channel e = channel_kept channels [] c channel e
 channel_kept (x ∷ channels) (m ∷ capacities) zero channel e =
-    let same : (let changed : Channel = record x { capacity = m } in changed) ≡ channel = cc in
-    (x, refl, sym same ∙ ap (λ m. let changed : Channel = record x { capacity = m } in changed) (ap (λ (y : Channel). y.capacity) same))
+    let same : (let changed : Channel = record x { capacity = m } in changed) ≡ channel = cc in (
+      x,
+      refl,
+      sym same ∙ ap (λ m. let changed : Channel = record x { capacity = m } in changed)
+          (ap (λ (y : Channel). y.capacity) same),
+    )
 channel_kept (x ∷ channels) (m ∷ capacities) (suc c) channel e = channel_kept channels capacities c channel e
 
 -- The network of a nest
 
 abbrev pub HasClasses : Network → Type 0
-HasClasses network =
-    (c : ℕ) (channel : Channel) → slice_get network.channels c ≡ Some channel
-    → channel.class ≡ class_of (uses (net_of network) c)
+HasClasses network = (c : ℕ) (channel : Channel) → slice_get network.channels c ≡ Some channel → channel.class
+    ≡ class_of (uses (net_of network) c)
 
 abbrev pub KeepsRest : Network → List ℕ → Type 0
-KeepsRest network capacities =
-    net_of (with_capacities network capacities)
+KeepsRest network capacities = net_of (with_capacities network capacities)
     ≡ record (net_of network) { capacity = (net_of (with_capacities network capacities)).capacity }
 
 shape_stays : (nest : Nest) (network : Network) (capacities : List ℕ)
     → IsWired (net_of (with_capacities network capacities)) → FitsNest nest network
     → FitsNest nest (with_capacities network capacities)
 shape_stays nest network capacities wired fits = record {
-  shaped =
-      record { processes = fits.shaped.processes; wired = wired; turns = fits.shaped.turns; few_slots = fits.shaped.few_slots };
+  shaped = record {
+    processes = fits.shaped.processes;
+    wired = wired;
+    turns = fits.shaped.turns;
+    few_slots =
+        fits.shaped.few_slots;
+  };
   references = fits.references;
   reads = λ c channel e. (let kept = channel_kept network.channels capacities c channel e in
       subst (λ (x : Channel). x.read < read_count nest x.reader) (sym kept.2) (fits.reads c kept.0 kept.1));
@@ -108,21 +126,36 @@ classes_stay network capacities same classes c channel e =
     let kept = channel_kept network.channels capacities c channel e in
     ap (λ (x : Channel). x.class) kept.2
     ∙ classes c kept.0 kept.1
-    ∙ ap class_of
-    (sym (ap (λ (n : Net). uses n c) same
+    ∙ ap class_of (sym (ap (λ (n : Net). uses n c) same
     ∙ uses_stay (net_of network) (net_of (with_capacities network capacities)).capacity c))
+
+-- where every read is swept, there is no tree
+no_tree : (m i : ℕ) (tree : Tree) → slice_get (replicate m origin.Sweep) i ≡ Some (origin.Tree tree) → ⊥
+no_tree zero i tree is = let e : None ≡ Some (origin.Tree tree) = is in cc
+no_tree (suc m) zero tree is = let e : Some origin.Sweep ≡ Some (origin.Tree tree) = is in cc
+no_tree (suc m) (suc i) tree is = no_tree m i tree is
+
+pub swept_are_usable : (nest : Nest) (cert : Cert) (m : ℕ) → cert.sources ≡ replicate m origin.Sweep
+    → AreUsable nest cert
+swept_are_usable nest cert m swept s k tree lt is =
+    absurd (no_tree m (read_number nest s k) tree
+    (ap (λ sources. slice_get sources (read_number nest s k)) (sym swept) ∙ is))
 
 -- where the network fits but for its schedule, it does with capacities and a schedule that ends all
 pub fits_with : (nest : Nest) (network : Network) (capacities : List ℕ) (cert : Cert)
     → FitsNest nest network → NamesLastWriters nest (net_of network) → HasClasses network
     → KeepsRest network capacities → IsWired (net_of (with_capacities network capacities))
-    → length cert.sources ≡ read_total nest → EndsAll (net_of (with_capacities network capacities)) tags cert.schedule
+    → length cert.sources ≡ read_total nest → AreUsable nest cert
+    → EndsAll (net_of (with_capacities network capacities)) tags cert.schedule
     → Fits nest (with_capacities network capacities) cert
-fits_with nest network capacities cert fits names classes same wired sources ends = record {
+fits_with nest network capacities cert fits names classes same wired sources trees ends = record {
   shape = shape_stays nest network capacities wired fits;
   sources = sources;
+  trees = trees;
   ends = ends;
-  names = subst (NamesLastWriters nest) (sym same)
-      (names_stay (net_of network) (net_of (with_capacities network capacities)).capacity nest names);
+  names = last_are_wanted nest (with_capacities network capacities) cert
+      (shape_stays nest network capacities wired fits) trees sources
+      (subst (NamesLastWriters nest) (sym same)
+      (names_stay (net_of network) (net_of (with_capacities network capacities)).capacity nest names));
   classes = classes_stay network capacities same classes;
 }

@@ -11,4 +11,9 @@ pub numbers_stay : (n changed : Net) (room : ℕ → ℕ) → changed ≡ record
     → FitsNumbers changed
 numbers_stay n changed room is fits =
     subst FitsNumbers (sym is)
-    (record { processes = fits.processes; channels = fits.channels; events = subst (λ (k : ℕ). k < 2 ^ 32) (sym (same_events n room n.processes)) fits.events })
+    (record {
+      processes = fits.processes;
+      channels = fits.channels;
+      events =
+          subst (λ (k : ℕ). k < 2 ^ 32) (sym (same_events n room n.processes)) fits.events;
+    })

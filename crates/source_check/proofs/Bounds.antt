@@ -1,10 +1,11 @@
 -- A leaf has few systems.
 --
--- An order has a level for each common loop and at most one more, so at most seven, where one of its statements has at most
--- six loops; with a further order that is forty-nine systems for each writer. A nest has at most 64 statements, of at most 32
--- rows and six subscripts each. So the number of a leaf's systems is far below 2^64, and the count of the tests, which stops
--- there, is that number. How many there are isn't said, and is never asked.
-use Rattle.std.proofs.Common.{◌≡◌, ◌+◌, ◌*◌, ◌^◌, ◌≤◌, ◌<◌, ◌==◌, ℕ, zero, suc, List, [], ◌∷◌, ◌++◌, length, map, Bool, true, false, cond, refl, sym, subst, arith, length-append}
+-- An order has a level for each common loop and at most one more, so at most seven, where one of its statements has at
+-- most six loops; with a further order that is forty-nine systems for each writer. A nest has at most 64 statements, of
+-- at most 32 rows and six subscripts each. So the number of a leaf's systems is far below 2^64, and the count of the
+-- tests, which stops there, is that number. How many there are isn't said, and is never asked.
+use Rattle.std.proofs.Common.{◌≡◌, ◌+◌, ◌*◌, ◌^◌, ◌≤◌, ◌<◌, ◌==◌, ℕ, zero, suc, List, [], ◌∷◌, ◌++◌, length, map, Bool}
+use Rattle.std.proofs.Common.{true, false, cond, refl, sym, subst, arith, length-append}
 use Rattle.std.specs.Prelude.{Option, Some, None, IsTrue, nat_le, nat_lt}
 use Rattle.std.specs.List.{flat_map, list_all}
 use Rattle.std.proofs.Math.Nat.{mul-le-mul_left}
@@ -22,7 +23,10 @@ use Rattle.source_check.proofs.Levels.{both_orders}
 use Rattle.source_check.proofs.Readers.{named_parts, statement_fits_at, subscripts_of, write_fits_at, write_to_parts}
 use Rattle.source_tree.specs.Places.{at_place, before_rows, differ_rows, order_rows, same_rows}
 use Rattle.source_tree.specs.Rows.{RowExpr, Take, below_zero, equal_rows}
-use Rattle.source_tree.specs.Systems.{Occurrence, Context, every, named_write, write_to, with_write, writes_from, with_rows, with_write_at, writer_place, reader_place, write_systems, zero_systems, outside_systems, cell_systems, same_systems, after_systems, between_systems, writer_systems}
+use Rattle.source_tree.specs.Systems.{Occurrence, Context, every, named_write, write_to, with_write, writes_from}
+use Rattle.source_tree.specs.Systems.{with_rows, with_write_at, writer_place, reader_place, write_systems, zero_systems}
+use Rattle.source_tree.specs.Systems.{outside_systems, cell_systems, same_systems, after_systems, between_systems}
+use Rattle.source_tree.specs.Systems.{writer_systems}
 
 few_levels : (m : ℕ) (less : Bool) (a b : List Form) → length (order_rows m less a b) ≤ m + 1
 few_levels zero true a b = omega arith
@@ -30,7 +34,11 @@ few_levels zero false a b = omega arith
 few_levels (suc m) less [] b = omega arith
 few_levels (suc m) less (v ∷ a) [] = omega arith
 few_levels (suc m) less (v ∷ a) (w ∷ b) =
-    omega (arith, few_levels m less a b, length_map (λ rows. equal_rows (Take v) (Take w) ++ rows) (order_rows m less a b))
+    omega (
+      arith,
+      few_levels m less a b,
+      length_map (λ rows. equal_rows (Take v) (Take w) ++ rows) (order_rows m less a b),
+    )
 
 few_common : (ks ls : List ℕ) → (common_loops ks ls ≤ length ks) × (common_loops ks ls ≤ length ls)
 few_common [] ls = (omega arith, omega arith)
@@ -56,7 +64,12 @@ few_after u su a s ss b h =
 length_both : (c : Context) (ps qs : List (List RowExpr)) → length (both_orders c ps qs) ≡ length qs * length ps
 length_both c [] qs = omega arith
 length_both c (p ∷ ps) qs =
-    omega (arith, length-append (map (λ q. with_rows c (p ++ q)) qs) (both_orders c ps qs), length_map (λ q. with_rows c (p ++ q)) qs, length_both c ps qs)
+    omega (
+      arith,
+      length-append (map (λ q. with_rows c (p ++ q)) qs) (both_orders c ps qs),
+      length_map (λ q. with_rows c (p ++ q)) qs,
+      length_both c ps qs,
+    )
 
 seven_seven : (m n : ℕ) → m ≤ 7 → n ≤ 7 → m * n ≤ 49
 seven_seven m n h k = omega (arith, mul-le-mul_left m k)
@@ -94,7 +107,13 @@ module _ (r : Occurrence) (c : Context) (further : Occurrence → List (List Row
             let here : length u.statement.loops ≤ 6
             = write_to_parts array number s u is
             (λ n statement w a. subst (λ (s : Statement). length s.loops ≤ 6) (sym statement) short) in
-            omega (arith, more, few_write u here, length-append (write_systems r every c further u) (flat_map (write_systems r every c further) (writes_from array (number + 1) statements)))
+            omega (
+              arith,
+              more,
+              few_write u here,
+              length-append (write_systems r every c further u)
+                  (flat_map (write_systems r every c further) (writes_from array (number + 1) statements)),
+            )
 
 -- the statements of a nest have few loops
 pub short_statements : (n : Nest) → IsTrue (list_all (λ (s : Statement). nat_le (length s.loops) 6) n.statements)
@@ -109,7 +128,11 @@ short_statements n = go n.statements n.well_formed.statements_fit where
 
 pub zero_few : (n : Nest) (r : Occurrence) (c : Context) → length (zero_systems n r every c) < 2 ^ 64
 zero_few n r c =
-    omega (arith, few_writes r c (λ u. [] ∷ []) (λ u h. omega arith) r.access.array 0 n.statements (short_statements n), n.well_formed.few_statements)
+    omega (
+      arith,
+      few_writes r c (λ u. [] ∷ []) (λ u h. omega arith) r.access.array 0 n.statements (short_statements n),
+      n.well_formed.few_statements,
+    )
 
 few_differ : (writes reads place : List Form) → length (differ_rows writes reads place) ≤ 2 * length writes
 few_differ [] reads place = omega arith

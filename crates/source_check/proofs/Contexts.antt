@@ -1,9 +1,9 @@
 -- The context at the end of a path, test by test.
 --
--- A path is a chain of the tests on the way to a part of the tree, the last one first. Its rows are those of the chain before
--- its last test, and then those of that test; so the contexts of the two trees below a test are those of the paths with that
--- test at their end. The code makes the rows in that order, from the root on, over as many variables as it is asked for: the
--- rows of a path don't depend on how many there are.
+-- A path is a chain of the tests on the way to a part of the tree, the last one first. Its rows are those of the chain
+-- before its last test, and then those of that test; so the contexts of the two trees below a test are those of the
+-- paths with that test at their end. The code makes the rows in that order, from the root on, over as many variables as
+-- it is asked for: the rows of a path don't depend on how many there are.
 use Rattle.std.proofs.Common.{◌≡◌, ◌+◌, ℕ, ℤ, List, [], ◌∷◌, ◌++◌, length, map, Bool, true, false, sym, ap, ◌∙◌, Bor}
 use Rattle.std.specs.Prelude.{Option, Some}
 use Rattle.affine_core.specs.declared.form.Form.{Form}
@@ -15,7 +15,8 @@ use Rattle.source_check.specs.declared.path.Path.TheViews.{Test, Divides, rolls-
 use Rattle.source_check.specs.declared.path.Path.TheVariants.{Root}
 use Rattle.source_check.specs.declared.path.Path.TheFolds.{fold-roll-Path}
 use Rattle.source_check.specs.declared.reference.Reference.{Reference}
-use Rattle.source_check.specs.Making.{below_zero_of, forms_of, minus_of, one_less_of, plus_of, system_with, system_with_all, times_of}
+use Rattle.source_check.specs.Making.{below_zero_of, forms_of, minus_of, one_less_of, plus_of, system_with}
+use Rattle.source_check.specs.Making.{system_with_all, times_of}
 use Rattle.source_check.specs.Paths.{test_rows, quotient_rows, path_step, path_rows, occurrence_of, context_of}
 use Rattle.source_check.specs.Verdict.{made_system}
 use Rattle.source_check.proofs.Making.{below_zero_made, number_made, one_less_made, system_all}
@@ -128,7 +129,8 @@ module _ (vars : ℕ) (system : Option System) (form : Form) where
         → most ≡ one_less_of vars above → last ≡ minus_of most value
         → next ≡ system_with system least → more ≡ system_with next last
         → more ≡ system_with_all system (forms_of vars (quotient_rows q form d answer))
-    divides_no_is is below least constant above most last next more below_is least_is constant_is above_is most_is last_is next_is more_is =
+    divides_no_is is below least constant above most last next more below_is least_is constant_is above_is most_is
+        last_is next_is more_is =
         more_is ∙ ap (system_with next) last_is ∙ ap (λ s. system_with s (minus_of most value))
         (next_is ∙ ap (system_with system)
         (least_is ∙ ap (one_less_of vars)

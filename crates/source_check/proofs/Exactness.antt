@@ -4,7 +4,9 @@
 -- the rows of its context: a Test adds the row that its answer says, and a Divides the quotient and its two rows. At a
 -- leaf the proofs refute its systems, so that no whole point meets them, and the leaf gives the last writer or none. No
 -- point comes to a Dead leaf, since it would meet its context.
-use Rattle.std.proofs.Common.{◌≡◌, ◌+◌, ◌%◌, ◌≤◌, ◌==◌, ℕ, zero, suc, ℤ, pos, ◌≤ℤ◌, ◌<ℤ◌, List, [], ◌∷◌, ◌++◌, length, map, Bool, true, false, cond, refl, sym, ap, ◌∙◌, subst, arith, append_assoc, length-append}
+use Rattle.std.proofs.Common.{◌≡◌, ◌+◌, ◌%◌, ◌≤◌, ◌==◌, ℕ, zero, suc, ℤ, pos, ◌≤ℤ◌, ◌<ℤ◌, List, [], ◌∷◌, ◌++◌, length}
+use Rattle.std.proofs.Common.{map, Bool, true, false, cond, refl, sym, ap, ◌∙◌, subst, arith, append_assoc}
+use Rattle.std.proofs.Common.{length-append}
 use Rattle.std.specs.Prelude.{Some, None, slice_get, int_le, unsigned_abs}
 use Rattle.std.specs.Option.{option_and_then, option_map_or}
 use Rattle.std.proofs.lemmas.Int.{ints}
@@ -23,23 +25,28 @@ use Rattle.sanlp.specs.Access.{cell_at, reads_of}
 use Rattle.sanlp.specs.Order.{EnumeratesDomains}
 use Rattle.sanlp.specs.Trace.{trace}
 use Rattle.sanlp.specs.Writers.{last_before, cell_read}
-use Rattle.source_tree.specs.Checked.{HaveVariables, IsCheckedIn, at_test, at_divides, at_writer, at_zero, at_dead, IsChecked}
+use Rattle.source_tree.specs.Checked.{HaveVariables, IsCheckedIn, at_test, at_divides, at_writer, at_zero, at_dead}
+use Rattle.source_tree.specs.Checked.{IsChecked}
 use Rattle.source_tree.specs.Exact.{IsPointOf, IsExact}
 use Rattle.source_tree.specs.Gives.{values, gives, gives_step, quotient}
 use Rattle.source_tree.specs.Rows.{RowExpr, Take, row_at, below_zero}
-use Rattle.source_tree.specs.Systems.{Occurrence, Context, every, root_context, more_rows, one_more, test_yes, test_no, divides_yes, divides_no, divided_rows, undivided_rows, dead_systems, writer_systems, zero_systems}
+use Rattle.source_tree.specs.Systems.{Occurrence, Context, every, root_context, more_rows, one_more, test_yes, test_no}
+use Rattle.source_tree.specs.Systems.{divides_yes, divides_no, divided_rows, undivided_rows, dead_systems}
+use Rattle.source_tree.specs.Systems.{writer_systems, zero_systems}
 use Rattle.source_tree.specs.declared.tree.Found.{Found}
 use Rattle.source_tree.specs.declared.tree.Found.TheVariants as found
 use Rattle.source_tree.specs.declared.tree.Tree.{Tree}
 use Rattle.source_tree.specs.declared.tree.Tree.TheOpen as open_
 use Rattle.source_tree.specs.declared.tree.Tree.TheVariants.{Writer, Zero}
-use Rattle.source_tree.specs.declared.tree.Tree.TheViews.{Test, Divides, rolls-Test, rolls-Divides, rolls-Writer, rolls-Zero}
+use Rattle.source_tree.specs.declared.tree.Tree.TheViews.{Test, Divides, rolls-Test, rolls-Divides, rolls-Writer}
+use Rattle.source_tree.specs.declared.tree.Tree.TheViews.{rolls-Zero}
 use Rattle.source_tree.specs.declared.tree.Tree.TheFolds.{fold-roll-Tree}
 use Rattle.source_check.proofs.Leaves.{Holds, over_short, zero_leaf, writer_leaf}
 use Rattle.source_check.proofs.Made.{refuted_are_empty}
 use Rattle.source_check.proofs.Quotients.{divided_within, divided_met, undivided_within, undivided_met}
 use Rattle.source_check.proofs.Readers.{IsReader, IsTrace, IsPointAt, read_parts, is_reader, is_trace, named_parts}
-use Rattle.source_check.proofs.Values.{AreWithin, AreShort, AreMet, met_more, met_append, within_append, all_within_wider, taken_met, taken_within}
+use Rattle.source_check.proofs.Values.{AreWithin, AreShort, AreMet, met_more, met_append, within_append}
+use Rattle.source_check.proofs.Values.{all_within_wider, taken_met, taken_within}
 
 le_where : (a b : ℤ) → int_le a b ≡ true → a ≤ℤ b
 le_where a b e = grind (arith, ints)
@@ -84,8 +91,10 @@ module _ (at : List ℤ) where
 have_short : (vars m : ℕ) (forms : List Form) → vars ≡ m → HaveVariables vars forms → AreShort m forms
 have_short vars m [] e h = tt
 have_short vars m (f ∷ forms) e h =
-    let one : length f.coefs ≡ vars = All-head (λ form. length form.coefs ≡ vars) f forms h in
-    ((let l : length f.coefs ≤ m = omega (arith, one, e) in l), have_short vars m forms e (All-tail (λ form. length form.coefs ≡ vars) f forms h))
+    let one : length f.coefs ≡ vars = All-head (λ form. length form.coefs ≡ vars) f forms h in (
+      (let l : length f.coefs ≤ m = omega (arith, one, e) in l),
+      have_short vars m forms e (All-tail (λ form. length form.coefs ≡ vars) f forms h),
+    )
 
 module _ (n : Nest) (points : List Point) (follows : IsTrace n points) (r : Occurrence) (reads : IsReader n r)
     (x : List ℤ) (here : IsPointAt n r.number r.statement x) (t : ℕ)
@@ -99,7 +108,14 @@ module _ (n : Nest) (points : List Point) (follows : IsTrace n points) (r : Occu
   more_hold : (c : Context) (v : List ℤ) (rows : List RowExpr) → HoldsAt c v → AreWithin (length v) rows → AreMet rows v
       → HoldsAt (more_rows c rows) v
   more_hold c v rows h w m =
-      record { vars = h.vars; more = h.more; starts = h.starts; within = within_append (length v) c.rows rows h.within w; met = met_append c.rows rows v h.met m }
+      record {
+        vars = h.vars;
+        more = h.more;
+        starts = h.starts;
+        within =
+            within_append (length v) c.rows rows h.within w;
+        met = met_append c.rows rows v h.met m;
+      }
 
   one_hold : (c : Context) (v : List ℤ) (q : ℤ) (rows : List RowExpr) → HoldsAt c v
       → AreWithin (length (v ++ q ∷ [])) rows → AreMet rows (v ++ q ∷ []) → HoldsAt (one_more c rows) (v ++ q ∷ [])

@@ -1,10 +1,11 @@
 -- The systems that the code makes are those of a leaf.
 --
--- The code holds the system of a context, made or not, and adds rows to it; a leaf's systems are lists of rows. What is made
--- of the context's rows and then of more rows is what is made of all of them. So the tests of an order, of each level of two
--- orders, of the writes of the statements and of the parts of a Writer leaf, one after the other, are the tests of the leaf's
--- systems in their order. It isn't said here which context and which places the code has.
-use Rattle.std.proofs.Common.{◌≡◌, ◌+◌, ◌==◌, ℕ, List, [], ◌∷◌, ◌++◌, length, map, Bool, false, cond, refl, sym, ap, ◌∙◌, arith, append_assoc}
+-- The code holds the system of a context, made or not, and adds rows to it; a leaf's systems are lists of rows. What is
+-- made of the context's rows and then of more rows is what is made of all of them. So the tests of an order, of each
+-- level of two orders, of the writes of the statements and of the parts of a Writer leaf, one after the other, are the
+-- tests of the leaf's systems in their order. It isn't said here which context and which places the code has.
+use Rattle.std.proofs.Common.{◌≡◌, ◌+◌, ◌==◌, ℕ, List, [], ◌∷◌, ◌++◌, length, map, Bool, false, cond, refl, sym, ap}
+use Rattle.std.proofs.Common.{◌∙◌, arith, append_assoc}
 use Rattle.std.specs.Prelude.{Option, Some, None, nat_lt}
 use Rattle.std.specs.List.{flat_map}
 use Rattle.std.proofs.lemmas.Bool.{eq-eqb}
@@ -18,14 +19,17 @@ use Rattle.source_check.specs.declared.tested.Leaf.{Leaf}
 use Rattle.source_check.specs.declared.tested.Tested.{Tested}
 use Rattle.source_check.specs.Making.{forms_of, system_with_all}
 use Rattle.source_check.specs.Paths.{map_systems}
-use Rattle.source_check.specs.Tests.{after_one, after_all, made_systems, made_outside, made_differ, made_levels, made_order, made_both}
+use Rattle.source_check.specs.Tests.{after_one, after_all, made_systems, made_outside, made_differ, made_levels}
+use Rattle.source_check.specs.Tests.{made_order, made_both}
 use Rattle.source_check.specs.Verdict.{made_system}
 use Rattle.source_check.proofs.Levels.{levels_is, both_is, both_orders, none_further, outside_is, differ_is}
 use Rattle.source_check.proofs.Making.{system_all}
 use Rattle.source_check.proofs.Outcomes.{tests_append}
 use Rattle.source_tree.specs.Places.{before_rows, order_rows, same_rows}
 use Rattle.source_tree.specs.Rows.{RowExpr, RowSystem}
-use Rattle.source_tree.specs.Systems.{Occurrence, Context, every, write_to, with_write, writes_from, with_rows, with_write_at, writer_place, reader_place, write_systems, outside_systems, cell_systems, same_systems, after_systems, between_systems, writer_systems}
+use Rattle.source_tree.specs.Systems.{Occurrence, Context, every, write_to, with_write, writes_from, with_rows}
+use Rattle.source_tree.specs.Systems.{with_write_at, writer_place, reader_place, write_systems, outside_systems}
+use Rattle.source_tree.specs.Systems.{cell_systems, same_systems, after_systems, between_systems, writer_systems}
 
 differ_where : (m n : ℕ) → (m ≡ n → ⊥) → (m == n) ≡ false
 differ_where m n h = grind arith

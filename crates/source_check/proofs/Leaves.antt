@@ -1,11 +1,13 @@
 -- Where no point meets the systems of a leaf, the leaf gives the last writer, or there is none.
 --
--- Let x be a point of the reader that comes to the leaf, with the values of the variables of its context. A write of the
--- read's cell before x stands at a point j of one of the array's writers, and before x at some level: with j behind the
--- variables, it meets the rows of that system, unless the further order asked of j fails. So a Zero leaf has no writer
--- before x. The point of a Writer leaf is in the domain of its statement, writes the cell and stands before x, since it
--- would meet a system of the first three parts else; and a later write before x would meet a system of the last part.
-use Rattle.std.proofs.Common.{◌≡◌, ◌+◌, ◌<◌, ℕ, suc, ℤ, pos, ◌<ℤ◌, List, [], ◌∷◌, ◌++◌, length, map, true, false, cond, refl, sym, ap, ◌∙◌, subst, arith, append_assoc, length-append}
+-- Let x be a point of the reader that comes to the leaf, with the values of the variables of its context. A write of
+-- the read's cell before x stands at a point j of one of the array's writers, and before x at some level: with j behind
+-- the variables, it meets the rows of that system, unless the further order asked of j fails. So a Zero leaf has no
+-- writer before x. The point of a Writer leaf is in the domain of its statement, writes the cell and stands before x,
+-- since it would meet a system of the first three parts else; and a later write before x would meet a system of the
+-- last part.
+use Rattle.std.proofs.Common.{◌≡◌, ◌+◌, ◌<◌, ℕ, suc, ℤ, pos, ◌<ℤ◌, List, [], ◌∷◌, ◌++◌, length, map, true, false, cond}
+use Rattle.std.proofs.Common.{refl, sym, ap, ◌∙◌, subst, arith, append_assoc, length-append}
 use Rattle.std.specs.Prelude.{Option, Some, None, slice_get, nat_lt}
 use Rattle.std.specs.Option.{option_map, option_and_then, option_map_or}
 use Rattle.std.proofs.lemmas.Bool.{eq-eqb}
@@ -28,11 +30,15 @@ use Rattle.sanlp.proofs.Precedence.{common_first, common_second}
 use Rattle.source_tree.specs.Gives.{values}
 use Rattle.source_tree.specs.Places.{variables, at_place, domain_rows, cell_rows, differ_rows, before_rows, same_rows}
 use Rattle.source_tree.specs.Rows.{RowExpr, RowSystem, Take, row_at, below_zero, one_less, minus}
-use Rattle.source_tree.specs.Systems.{Occurrence, Context, every, reader_place, writer_place, with_rows, with_write_at, write_systems, array_writes, zero_systems, outside_systems, cell_systems, same_systems, after_systems, between_systems, writer_systems}
-use Rattle.source_check.proofs.Lists.{each_from_flat, cell_where, where_cell, map_or_true, greatest_none, greatest_some, false_where}
+use Rattle.source_tree.specs.Systems.{Occurrence, Context, every, reader_place, writer_place, with_rows, with_write_at}
+use Rattle.source_tree.specs.Systems.{write_systems, array_writes, zero_systems, outside_systems, cell_systems}
+use Rattle.source_tree.specs.Systems.{same_systems, after_systems, between_systems, writer_systems}
+use Rattle.source_check.proofs.Lists.{each_from_flat, cell_where, where_cell, map_or_true, greatest_none, greatest_some}
+use Rattle.source_check.proofs.Lists.{false_where}
 use Rattle.source_check.proofs.Orders.{some_level, compare, same_all, common_comm, common_same, neither_less}
 use Rattle.source_check.proofs.Readers.{IsReader, IsTrace, IsPointAt, IsBefore, among_writes}
-use Rattle.source_check.proofs.Values.{AreWithin, AreShort, AreMet, AllHold, met_more, met_append, values_more, variables_at, row_at_place, domain_met, cells_met, same_met}
+use Rattle.source_check.proofs.Values.{AreWithin, AreShort, AreMet, AllHold, met_more, met_append, values_more}
+use Rattle.source_check.proofs.Values.{variables_at, row_at_place, domain_met, cells_met, same_met}
 
 -- no whole point meets the system
 pub record IsEmpty (s : RowSystem) : Type 0 where

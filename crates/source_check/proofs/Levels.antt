@@ -1,9 +1,10 @@
 -- The systems of an order, level by level.
 --
--- At the outermost level the context has one row more, and at the inner levels the two rows that the values of that loop
--- are equal stand in the context. So the systems of an order are those of one level and then those of the inner order over
--- a larger context; likewise where each level of one order is taken with each level of another.
-use Rattle.std.proofs.Common.{◌≡◌, ℕ, zero, suc, List, [], ◌∷◌, ◌++◌, map, Bool, true, false, refl, sym, ap, ◌∙◌, append_assoc}
+-- At the outermost level the context has one row more, and at the inner levels the two rows that the values of that
+-- loop are equal stand in the context. So the systems of an order are those of one level and then those of the inner
+-- order over a larger context; likewise where each level of one order is taken with each level of another.
+use Rattle.std.proofs.Common.{◌≡◌, ℕ, zero, suc, List, [], ◌∷◌, ◌++◌, map, Bool, true, false, refl, sym, ap, ◌∙◌}
+use Rattle.std.proofs.Common.{append_assoc}
 use Rattle.std.specs.Prelude.{Option}
 use Rattle.std.specs.List.{flat_map}
 use Rattle.std.proofs.lemmas.List.{append-nil}
@@ -11,7 +12,8 @@ use Rattle.affine_core.specs.declared.form.Form.{Form}
 use Rattle.int_polyhedra.specs.declared.system.System.{System}
 use Rattle.source_check.specs.declared.reference.Order.{Order}
 use Rattle.source_check.specs.Making.{system_with, below_zero_of, less_of}
-use Rattle.source_check.specs.Tests.{made_systems, made_outside, made_differ, earlier_at, made_levels, made_order, made_both}
+use Rattle.source_check.specs.Tests.{made_systems, made_outside, made_differ, earlier_at, made_levels, made_order}
+use Rattle.source_check.specs.Tests.{made_both}
 use Rattle.source_check.specs.Verdict.{made_system}
 use Rattle.source_check.proofs.Making.{system_more, system_all, less_made, below_zero_made}
 use Rattle.source_tree.specs.Places.{at_place, differ_rows, order_rows}

@@ -1,5 +1,6 @@
 -- Facts of each element of a list, tests of cells, and the greatest number that passes.
-use Rattle.std.proofs.Common.{◌≡◌, ◌<◌, ◌==◌, ◌&&◌, ℕ, zero, suc, ℤ, List, [], ◌∷◌, Bool, true, false, cond, refl, sym, ap, ◌∙◌, arith, inl, inr}
+use Rattle.std.proofs.Common.{◌≡◌, ◌<◌, ◌==◌, ◌&&◌, ℕ, zero, suc, ℤ, List, [], ◌∷◌, Bool, true, false, cond, refl, sym}
+use Rattle.std.proofs.Common.{ap, ◌∙◌, arith, inl, inr}
 use Rattle.std.specs.Prelude.{Option, Some, None}
 use Rattle.std.specs.List.{flat_map}
 use Rattle.std.specs.Cmp.Lexicographic.{pointwise}

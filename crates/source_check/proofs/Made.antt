@@ -1,5 +1,6 @@
 -- Rows that were made have the value of what they were made from, and so a refuted system is met by no whole point.
-use Rattle.std.proofs.Common.{◌≡◌, ◌-◌, ◌≤◌, ◌==◌, ℕ, ℤ, pos, ◌+ℤ◌, ◌*ℤ◌, ◌≤ℤ◌, List, [], ◌∷◌, length, replicate, Bool, true, false, cond, refl, sym, ap, ◌∙◌, subst, arith, length-append}
+use Rattle.std.proofs.Common.{◌≡◌, ◌-◌, ◌≤◌, ◌==◌, ℕ, ℤ, pos, ◌+ℤ◌, ◌*ℤ◌, ◌≤ℤ◌, List, [], ◌∷◌, length, replicate, Bool}
+use Rattle.std.proofs.Common.{true, false, cond, refl, sym, ap, ◌∙◌, subst, arith, length-append}
 use Rattle.std.specs.Prelude.{Some, None, nat_le}
 use Rattle.std.specs.Option.{option_and_then}
 use Rattle.std.proofs.lemmas.Bool.{eq-eqb}
@@ -92,7 +93,10 @@ all_made_is vars (e ∷ es) rows is =
 refuted_is_empty : (s : RowSystem) (p : Proof) → IsRefuted s p → IsEmpty s
 refuted_is_empty s p h =
     let m = all_made_is s.vars s.rows h.rows h.are_made in
-    record { none = λ at long met. no_point s.vars h.rows p m.0 (follows_refuted s.vars h.rows p h.refuted) at long (m.1 at met) }
+    record {
+      none =
+          λ at long met. no_point s.vars h.rows p m.0 (follows_refuted s.vars h.rows p h.refuted) at long (m.1 at met);
+    }
 
 pub refuted_are_empty : (systems : List RowSystem) (proofs : List Proof) → AreRefuted systems proofs
     → Each IsEmpty systems

@@ -1,10 +1,11 @@
 -- The steps of the code make the rows of a system, one after the other.
 --
--- A form that can't be made is none, and so is what is made of it; a system is none from the first row on that is none. So
--- rows that are added to a system one by one give what is made of the rows before followed by these, and none exactly where
--- one of all these rows can't be made. What was made is over all variables. The rows of the code are those of the systems
--- since its sums and multiples come in the order in which the rows are written.
-use Rattle.std.proofs.Common.{◌≡◌, ◌+◌, ◌-◌, ◌≤◌, ℕ, ℤ, pos, negsuc, List, [], ◌∷◌, ◌++◌, length, replicate, Bool, true, false, cond, refl, sym, ap, ◌∙◌, subst, arith, append_assoc, length-append}
+-- A form that can't be made is none, and so is what is made of it; a system is none from the first row on that is none.
+-- So rows that are added to a system one by one give what is made of the rows before followed by these, and none
+-- exactly where one of all these rows can't be made. What was made is over all variables. The rows of the code are
+-- those of the systems since its sums and multiples come in the order in which the rows are written.
+use Rattle.std.proofs.Common.{◌≡◌, ◌+◌, ◌-◌, ◌≤◌, ℕ, ℤ, pos, negsuc, List, [], ◌∷◌, ◌++◌, length, replicate, Bool, true}
+use Rattle.std.proofs.Common.{false, cond, refl, sym, ap, ◌∙◌, subst, arith, append_assoc, length-append}
 use Rattle.std.specs.Prelude.{Option, Some, None, nat_le}
 use Rattle.std.specs.Option.{option_and_then, option_map}
 use Rattle.std.proofs.lemmas.Option.{same_Some}
@@ -14,7 +15,8 @@ use Rattle.affine_core.specs.Affine.{form_product, form_sum, constant_form, vari
 use Rattle.affine_core.specs.Within.{form_fits_128_bits, form_in_128_bits}
 use Rattle.int_polyhedra.specs.declared.system.System.{System}
 use Rattle.int_polyhedra.proofs.Variables.{length_map, length_sums, length_zeros, over_more}
-use Rattle.source_check.specs.Making.{with_terms, times_of, plus_of, one_less_of, below_zero_of, less_of, system_with, system_with_all, forms_of, IsMadeOver, FormIsOver}
+use Rattle.source_check.specs.Making.{with_terms, times_of, plus_of, one_less_of, below_zero_of, less_of, system_with}
+use Rattle.source_check.specs.Making.{system_with_all, forms_of, IsMadeOver, FormIsOver}
 use Rattle.source_check.specs.Verdict.{made_system}
 use Rattle.source_check.proofs.Made.{made_is, all_made_is}
 use Rattle.source_tree.specs.Places.{plus_terms, at_place}

@@ -1,10 +1,11 @@
 -- What the tests of a leaf's proofs, one system after the other, come to.
 --
--- After some tests the count is the number of systems so far, and the rule is that of the first proof, from the start of these
--- tests on, that doesn't refute its system. A further system with a proof at that number changes the rule only where there is
--- none yet, and one past the last proof changes nothing. So at the end the count tells whether there are as many proofs as
--- systems, and then the rule is that of the first proof that fails.
-use Rattle.std.proofs.Common.{◌≡◌, ◌+◌, ◌-◌, ◌^◌, ◌<◌, ◌==◌, ℕ, zero, suc, min, List, [], ◌∷◌, ◌++◌, length, drop, cond, refl, sym, ap, ◌∙◌, arith}
+-- After some tests the count is the number of systems so far, and the rule is that of the first proof, from the start
+-- of these tests on, that doesn't refute its system. A further system with a proof at that number changes the rule only
+-- where there is none yet, and one past the last proof changes nothing. So at the end the count tells whether there are
+-- as many proofs as systems, and then the rule is that of the first proof that fails.
+use Rattle.std.proofs.Common.{◌≡◌, ◌+◌, ◌-◌, ◌^◌, ◌<◌, ◌==◌, ℕ, zero, suc, min, List, [], ◌∷◌, ◌++◌, length, drop, cond}
+use Rattle.std.proofs.Common.{refl, sym, ap, ◌∙◌, arith}
 use Rattle.std.specs.Prelude.{Option, Some, None, slice_get}
 use Rattle.std.specs.Option.{option_and_then, option_map, option_or}
 use Rattle.int_polyhedra.specs.declared.system.Proof.{Proof}
@@ -15,7 +16,8 @@ use Rattle.source_check.specs.declared.tested.Tested.{Tested}
 use Rattle.source_check.specs.declared.verdict.Rule.{Rule}
 use Rattle.source_check.specs.declared.verdict.Rule.TheVariants as rule
 use Rattle.source_check.specs.Tests.{rule_of, no_test, after_one, after_all, made_systems, leaf_result}
-use Rattle.source_check.specs.Verdict.{made_system, refusal_of, system_refusal, proof_rule, proofs_refusal, leaf_refusal}
+use Rattle.source_check.specs.Verdict.{made_system, refusal_of, system_refusal, proof_rule, proofs_refusal}
+use Rattle.source_check.specs.Verdict.{leaf_refusal}
 use Rattle.source_check.proofs.Levels.{made_append}
 use Rattle.source_tree.specs.Rows.{RowSystem}
 

@@ -1,10 +1,11 @@
 -- What the check of each kind of tree comes to.
 --
--- The verdict on a tree is that of its first leaf that breaks a rule. So a wrong form or divisor refuses the leaf that would
--- come next, the second tree of a test is checked from the number at which the first one ended, and a leaf ends with its
--- number or the next. Each case of the code is one of these. A Writer leaf is tested in the order of the rules: its map, then
--- its statement, then its proofs.
-use Rattle.std.proofs.Common.{◌≡◌, ◌+◌, ◌<◌, ◌==◌, ◌&&◌, ◌≤ℤ◌, ℕ, ℤ, pos, List, [], ◌∷◌, length, Bool, true, false, cond, refl, sym, ap, ◌∙◌, arith}
+-- The verdict on a tree is that of its first leaf that breaks a rule. So a wrong form or divisor refuses the leaf that
+-- would come next, the second tree of a test is checked from the number at which the first one ended, and a leaf ends
+-- with its number or the next. Each case of the code is one of these. A Writer leaf is tested in the order of the
+-- rules: its map, then its statement, then its proofs.
+use Rattle.std.proofs.Common.{◌≡◌, ◌+◌, ◌<◌, ◌==◌, ◌&&◌, ◌≤ℤ◌, ℕ, ℤ, pos, List, [], ◌∷◌, length, Bool, true, false}
+use Rattle.std.proofs.Common.{cond, refl, sym, ap, ◌∙◌, arith}
 use Rattle.std.specs.Prelude.{Option, Some, None, Result, Err, slice_get, nat_lt, int_le}
 use Rattle.std.specs.Option.{option_and_then, option_map_or}
 use Rattle.std.proofs.lemmas.Bool.{eq-eqb}
@@ -17,10 +18,12 @@ use Rattle.sanlp.specs.declared.nest.Nest.{Nest}
 use Rattle.sanlp.specs.declared.nest.Statement.{Statement}
 use Rattle.source_check.specs.declared.verdict.Rule.{Rule}
 use Rattle.source_check.specs.declared.verdict.Rule.TheVariants as rule
-use Rattle.source_check.specs.Verdict.{made_system, refusal_of, proof_rule, leaf_refusal, named_refusal, writer_refusal, leaf_end, then_leaves, divisor_fits, check_from}
+use Rattle.source_check.specs.Verdict.{made_system, refusal_of, proof_rule, leaf_refusal, named_refusal, writer_refusal}
+use Rattle.source_check.specs.Verdict.{leaf_end, then_leaves, divisor_fits, check_from}
 use Rattle.source_check.proofs.Readers.{write_to_parts}
 use Rattle.source_check.proofs.Verdicts.{check_test, check_divides, check_writer, check_zero, check_dead}
-use Rattle.source_tree.specs.Systems.{Occurrence, Context, every, named_write, write_to, test_yes, test_no, divides_yes, divides_no, zero_systems, dead_systems}
+use Rattle.source_tree.specs.Systems.{Occurrence, Context, every, named_write, write_to, test_yes, test_no, divides_yes}
+use Rattle.source_tree.specs.Systems.{divides_no, zero_systems, dead_systems}
 use Rattle.source_tree.specs.Walk.{are_over}
 use Rattle.source_tree.specs.declared.tree.Tree.{Tree}
 use Rattle.source_tree.specs.declared.tree.Tree.TheVariants.{Writer, Zero, Dead}

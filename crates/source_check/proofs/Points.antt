@@ -1,9 +1,9 @@
 -- The tests of a leaf's systems, in the context at the end of its path.
 --
--- The code makes a system anew for each write and each map: the rows of the path, over as many variables as it has there, and
--- then those of the point. Here the places of the code are those of the systems: the reader's loops are the first variables,
--- and the point of a writer has the variables behind those of the context. So what was tested is what the leaf asks, in order.
--- It isn't said here that the proofs refute these systems: that is a matter of each test.
+-- The code makes a system anew for each write and each map: the rows of the path, over as many variables as it has
+-- there, and then those of the point. Here the places of the code are those of the systems: the reader's loops are the
+-- first variables, and the point of a writer has the variables behind those of the context. So what was tested is what
+-- the leaf asks, in order. It isn't said here that the proofs refute these systems: that is a matter of each test.
 use Rattle.std.proofs.Common.{◌≡◌, ◌+◌, ℕ, List, ◌++◌, length, sym, ap, ◌∙◌, Bor}
 use Rattle.std.specs.Prelude.{Option}
 use Rattle.affine_core.specs.declared.form.Form.{Form}
@@ -22,7 +22,8 @@ use Rattle.source_check.specs.Verdict.{made_system}
 use Rattle.source_check.proofs.Joined.{IsBefore, map_other, map_same, write_alone, write_between}
 use Rattle.source_tree.specs.Places.{cell_rows, domain_rows, same_rows, variables}
 use Rattle.source_tree.specs.Rows.{RowExpr}
-use Rattle.source_tree.specs.Systems.{Context, Occurrence, every, reader_place, with_write_at, write_systems, writer_place}
+use Rattle.source_tree.specs.Systems.{Context, Occurrence, every, reader_place, with_write_at, write_systems}
+use Rattle.source_tree.specs.Systems.{writer_place}
 
 module _ (leaf : Leaf) (read : Read) (place_is : read.place.now ≡ reader_place (occurrence_of read.reference))
     (writer : Reference) where
@@ -58,7 +59,13 @@ module _ (leaf : Leaf) (read : Read) (place_is : read.place.now ≡ reader_place
 
     before_at : IsBefore before the_write (writer_place the_context the_write) the_read (reader_place the_read)
     before_at =
-        record { common = before_is.common; less_is = before_is.less_is; first = before_is.first ∙ point_is; second = before_is.second ∙ place_is }
+        record {
+          common = before_is.common;
+          less_is = before_is.less_is;
+          first = before_is.first ∙ point_is;
+          second =
+              before_is.second ∙ place_is;
+        }
 
     pub alone_tested : (after : After) (c : Context) → after ≡ Nothing → c ≡ the_context
         → end ≡ after_all leaf t (made_order vars system before)
@@ -80,7 +87,13 @@ module _ (leaf : Leaf) (read : Read) (place_is : read.place.now ≡ reader_place
     between_tested named map further after c after_is is further_is end_is =
         let further_at : IsBefore further (occurrence_of named.now) map.now the_write
         (writer_place the_context the_write)
-        = record { common = further_is.common; less_is = further_is.less_is; first = further_is.first; second = further_is.second ∙ point_is } in
+        = record {
+          common = further_is.common;
+          less_is = further_is.less_is;
+          first = further_is.first;
+          second =
+              further_is.second ∙ point_is;
+        } in
         end_is ∙ ap (after_all leaf t)
         (write_between the_read the_context the_write
         (occurrence_of named.now) map.now vars system before further vars_is system_at before_at further_at)
@@ -102,7 +115,13 @@ module _ (leaf : Leaf) (read : Read) (place_is : read.place.now ≡ reader_place
       (third_is : third ≡ after_all leaf second (made_order leaf.vars copied after)) where
     after_at : IsBefore after the_read (reader_place the_read) the_write place
     after_at =
-        record { common = after_is.common; less_is = after_is.less_is; first = after_is.first ∙ place_is; second = after_is.second }
+        record {
+          common = after_is.common;
+          less_is = after_is.less_is;
+          first = after_is.first ∙ place_is;
+          second =
+              after_is.second;
+        }
 
     first_at : first ≡ after_all leaf t (made_outside leaf.vars system writer.statement.now.rows place)
     first_at = first_is ∙ ap (λ rows. after_all leaf t (made_outside leaf.vars system rows place)) rows_are
@@ -121,14 +140,16 @@ module _ (leaf : Leaf) (read : Read) (place_is : read.place.now ≡ reader_place
     pub other_tested : (c : Context) → c ≡ the_context → (writer.number ≡ read.reference.number → ⊥)
         → third ≡ after_made leaf t (map_systems the_read c the_write place)
     other_tested c is differ =
-        map_other leaf the_read the_context the_write place system system_is after after_at t first second third first_at second_at third_at differ
+        map_other leaf the_read the_context the_write place system system_is after after_at t first second third
+        first_at second_at third_at differ
         ∙ ap (λ c. after_made leaf t (map_systems the_read c the_write place)) (sym is)
 
     pub same_tested : (c : Context) (end : Tested) → c ≡ the_context → writer.number ≡ read.reference.number
         → end ≡ after_one leaf third (system_with_all system (forms_of leaf.vars (same_rows read.place.now place)))
         → end ≡ after_made leaf t (map_systems the_read c the_write place)
     same_tested c end is same end_is =
-        map_same leaf the_read the_context the_write place system system_is after after_at t first second third first_at second_at third_at end same
+        map_same leaf the_read the_context the_write place system system_is after after_at t first second third first_at
+        second_at third_at end same
         (end_is ∙ ap
         (λ a. after_one leaf third (system_with_all system (forms_of leaf.vars (same_rows a place)))) place_is)
         ∙ ap (λ c. after_made leaf t (map_systems the_read c the_write place)) (sym is)

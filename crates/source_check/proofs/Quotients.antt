@@ -2,7 +2,8 @@
 --
 -- At the form's value divided by the divisor and rounded down, the form's value lies between the quotient times the
 -- divisor and the next multiple. It is the multiple itself where the divisor divides it, and else above it.
-use Rattle.std.proofs.Common.{◌≡◌, ◌+◌, ◌-◌, ◌/◌, ◌%◌, ◌≤◌, ◌<◌, ℕ, suc, ℤ, pos, negsuc, ◌+ℤ◌, ◌*ℤ◌, ◌≤ℤ◌, ◌<ℤ◌, List, [], ◌∷◌, ◌++◌, length, replicate, refl, sym, ap, ◌∙◌, arith, inl, inr, length-append}
+use Rattle.std.proofs.Common.{◌≡◌, ◌+◌, ◌-◌, ◌/◌, ◌%◌, ◌≤◌, ◌<◌, ℕ, suc, ℤ, pos, negsuc, ◌+ℤ◌, ◌*ℤ◌, ◌≤ℤ◌, ◌<ℤ◌, List}
+use Rattle.std.proofs.Common.{[], ◌∷◌, ◌++◌, length, replicate, refl, sym, ap, ◌∙◌, arith, inl, inr, length-append}
 use Rattle.std.specs.Prelude.{unsigned_abs}
 use Rattle.std.proofs.lemmas.Bool.{cases_lt}
 use Rattle.std.proofs.lemmas.Int.{ints}
@@ -41,7 +42,12 @@ divisor_is (negsuc n) h = absurd (omega (arith, ints))
 
 pub length_variable : (i : ℕ) → length (variable_form (i + 1) i).coefs ≡ i + 1
 length_variable i =
-    omega (arith, length-append (replicate i (pos 0)) (pos 1 ∷ replicate ((i + 1) - (i + 1)) (pos 0)), length_zeros i, length_zeros ((i + 1) - (i + 1)))
+    omega (
+      arith,
+      length-append (replicate i (pos 0)) (pos 1 ∷ replicate ((i + 1) - (i + 1)) (pos 0)),
+      length_zeros i,
+      length_zeros ((i + 1) - (i + 1)),
+    )
 
 module _ (form : Form) (d : ℤ) (vars : ℕ) (v : List ℤ) (over : length form.coefs ≡ length v) (same : vars ≡ length v)
     (two : pos 2 ≤ℤ d) where
@@ -73,8 +79,10 @@ module _ (form : Form) (d : ℤ) (vars : ℕ) (v : List ℤ) (over : length form
       (form_is ∙ floor_exact (form_at form v) (unsigned_abs d) (divisor_is d two).1 e ∙ sym multiple_is)
 
   pub undivided_within : AreWithin (length at) (undivided_rows vars form d)
-  undivided_within =
-      (((form_within, variable_within), omega arith), ((((variable_within, omega arith), omega arith), form_within), tt))
+  undivided_within = (
+    ((form_within, variable_within), omega arith),
+    ((((variable_within, omega arith), omega arith), form_within), tt),
+  )
 
   pub undivided_met : (unsigned_abs (form_at form v) % unsigned_abs d ≡ 0 → ⊥) → AreMet (undivided_rows vars form d) at
   undivided_met e =

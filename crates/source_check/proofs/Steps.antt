@@ -1,9 +1,10 @@
 -- The tests of an order, level by level.
 --
--- Where loops are left and both places have one, the tests of that level come first, and then those of the inner loops over
--- the system where these loops are equal. Where none is left, there is one more level exactly where the first statement comes
--- first. So a recursion over the common loops tests each level once, the outermost first.
-use Rattle.std.proofs.Common.{◌≡◌, ◌-◌, ℕ, zero, suc, List, [], ◌∷◌, ◌++◌, length, Bool, true, false, refl, sym, ap, ◌∙◌, arith}
+-- Where loops are left and both places have one, the tests of that level come first, and then those of the inner loops
+-- over the system where these loops are equal. Where none is left, there is one more level exactly where the first
+-- statement comes first. So a recursion over the common loops tests each level once, the outermost first.
+use Rattle.std.proofs.Common.{◌≡◌, ◌-◌, ℕ, zero, suc, List, [], ◌∷◌, ◌++◌, length, Bool, true, false, refl, sym, ap}
+use Rattle.std.proofs.Common.{◌∙◌, arith}
 use Rattle.std.specs.Prelude.{Option}
 use Rattle.affine_core.specs.declared.form.Form.{Form}
 use Rattle.int_polyhedra.specs.declared.system.System.{System}

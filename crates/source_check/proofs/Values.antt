@@ -1,9 +1,10 @@
 -- The values of rows.
 --
--- A row is read over whole numbers: its value at the values of the variables. Variables behind those of its forms change
--- nothing, so that a context's rows hold on as variables are added. A form at a place has the form's value at the values
--- of the place, and so the rows about a place hold where what they say holds of that iteration vector.
-use Rattle.std.proofs.Common.{◌≡◌, ◌+◌, ◌≤◌, ℕ, zero, suc, ℤ, pos, ◌+ℤ◌, ◌*ℤ◌, ◌≤ℤ◌, List, [], ◌∷◌, ◌++◌, length, map, refl, sym, ap, ◌∙◌, subst, arith, append_assoc, length-append}
+-- A row is read over whole numbers: its value at the values of the variables. Variables behind those of its forms
+-- change nothing, so that a context's rows hold on as variables are added. A form at a place has the form's value at
+-- the values of the place, and so the rows about a place hold where what they say holds of that iteration vector.
+use Rattle.std.proofs.Common.{◌≡◌, ◌+◌, ◌≤◌, ℕ, zero, suc, ℤ, pos, ◌+ℤ◌, ◌*ℤ◌, ◌≤ℤ◌, List, [], ◌∷◌, ◌++◌, length, map}
+use Rattle.std.proofs.Common.{refl, sym, ap, ◌∙◌, subst, arith, append_assoc, length-append}
 use Rattle.std.specs.Prelude.{slice_index_or}
 use Rattle.std.proofs.lemmas.Int.{ints}
 use Rattle.affine_core.specs.declared.form.Form.{Form}

@@ -1,9 +1,10 @@
 -- A tree is accepted exactly where it is checked.
 --
 -- The verdict goes through the tree in preorder with the number of the next leaf and the context. Where it comes to the
--- end, each form, divisor and leaf on the way kept to its rule, which is what a checked tree is made of; and a part of a
--- checked tree never refuses. A leaf's proofs refute its systems one by one: made, and then refused by no step.
-use Rattle.std.proofs.Common.{◌≡◌, ◌+◌, ◌<◌, ◌==◌, ◌&&◌, ◌≤ℤ◌, ℕ, suc, ℤ, pos, List, [], ◌∷◌, length, Bool, true, false, cond, refl, sym, ap, ◌∙◌, subst, arith}
+-- end, each form, divisor and leaf on the way kept to its rule, which is what a checked tree is made of; and a part of
+-- a checked tree never refuses. A leaf's proofs refute its systems one by one: made, and then refused by no step.
+use Rattle.std.proofs.Common.{◌≡◌, ◌+◌, ◌<◌, ◌==◌, ◌&&◌, ◌≤ℤ◌, ℕ, suc, ℤ, pos, List, [], ◌∷◌, length, Bool, true, false}
+use Rattle.std.proofs.Common.{cond, refl, sym, ap, ◌∙◌, subst, arith}
 use Rattle.std.specs.Prelude.{Option, Some, None, Result, Ok, Err, slice_get, nat_lt, int_le, ◌↔◌}
 use Rattle.std.specs.Option.{option_map, option_map_or}
 use Rattle.std.proofs.lemmas.Bool.{eq-eqb}
@@ -20,16 +21,21 @@ use Rattle.sanlp.specs.declared.nest.Statement.{Statement}
 use Rattle.source_check.specs.declared.verdict.Rule.{Rule}
 use Rattle.source_check.specs.declared.verdict.Rule.TheVariants as rule
 use Rattle.source_check.specs.declared.verdict.TreeVerdict.TheVariants.{Accepted, Refused}
-use Rattle.source_check.specs.Verdict.{refusal_of, system_refusal, proof_rule, proofs_refusal, leaf_refusal, map_fits, named_refusal, writer_refusal, next_leaf, leaf_end, then_leaves, divisor_fits, Checks, check_step, check_from, verdict_of, verdict}
+use Rattle.source_check.specs.Verdict.{refusal_of, system_refusal, proof_rule, proofs_refusal, leaf_refusal, map_fits}
+use Rattle.source_check.specs.Verdict.{named_refusal, writer_refusal, next_leaf, leaf_end, then_leaves, divisor_fits}
+use Rattle.source_check.specs.Verdict.{Checks, check_step, check_from, verdict_of, verdict}
 use Rattle.source_check.proofs.Readers.{named_parts}
-use Rattle.source_tree.specs.Checked.{IsRefuted, AreRefuted, HaveVariables, IsCheckedIn, at_test, at_divides, at_writer, at_zero, at_dead}
+use Rattle.source_tree.specs.Checked.{IsRefuted, AreRefuted, HaveVariables, IsCheckedIn, at_test, at_divides, at_writer}
+use Rattle.source_tree.specs.Checked.{at_zero, at_dead}
 use Rattle.source_tree.specs.Rows.{RowSystem, row_forms}
-use Rattle.source_tree.specs.Systems.{Occurrence, Context, every, named_write, root_context, test_yes, test_no, divides_yes, divides_no, writer_systems, zero_systems, dead_systems}
+use Rattle.source_tree.specs.Systems.{Occurrence, Context, every, named_write, root_context, test_yes, test_no}
+use Rattle.source_tree.specs.Systems.{divides_yes, divides_no, writer_systems, zero_systems, dead_systems}
 use Rattle.source_tree.specs.Walk.{are_over}
 use Rattle.source_tree.specs.declared.tree.Tree.{Tree}
 use Rattle.source_tree.specs.declared.tree.Tree.TheOpen as open_
 use Rattle.source_tree.specs.declared.tree.Tree.TheVariants.{Writer, Zero, Dead}
-use Rattle.source_tree.specs.declared.tree.Tree.TheViews.{Test, Divides, roll-Tree, rolls-Test, rolls-Divides, rolls-Writer, rolls-Zero, rolls-Dead}
+use Rattle.source_tree.specs.declared.tree.Tree.TheViews.{Test, Divides, roll-Tree, rolls-Test, rolls-Divides}
+use Rattle.source_tree.specs.declared.tree.Tree.TheViews.{rolls-Writer, rolls-Zero, rolls-Dead}
 use Rattle.source_tree.specs.declared.tree.Tree.TheFolds.{map-Tree, fold-roll-Tree, ind-Tree}
 
 -- the proofs of a leaf
@@ -52,8 +58,11 @@ refuted_are_none leaf k [] [] h = (refl, refl)
 refuted_are_none leaf k [] (p ∷ proofs) h = absurd h
 refuted_are_none leaf k (s ∷ systems) [] h = absurd h
 refuted_are_none leaf k (s ∷ systems) (p ∷ proofs) h =
-    let more = refuted_are_none leaf (k + 1) systems proofs h.1 in
-    (ap suc more.0, ap (λ o. proof_rule leaf k o (proofs_refusal leaf (k + 1) systems proofs)) (refuted_is_none s p h.0) ∙ more.1)
+    let more = refuted_are_none leaf (k + 1) systems proofs h.1 in (
+      ap suc more.0,
+      ap (λ o. proof_rule leaf k o (proofs_refusal leaf (k + 1) systems proofs)) (refuted_is_none s p h.0)
+          ∙ more.1,
+    )
 
 none_are_refuted : (leaf k : ℕ) (systems : List RowSystem) (proofs : List Proof) → length proofs ≡ length systems
     → proofs_refusal leaf k systems proofs ≡ None → AreRefuted systems proofs
@@ -216,12 +225,21 @@ module _ (n : Nest) (r : Occurrence) where
             (λ next. check_from n r below next (divides_no c form d))) (Err (rule.BadForm leaf))) fits
             ∙ ap (λ o. then_leaves o (λ next. check_from n r below next (divides_no c form d))) a.1 ∙ b.1,
       )
-  checked_ends _ _ (at_writer c tree s place proofs w is named_is may deep have refuted) leaf =
-      (next_leaf leaf, check_writer leaf c tree s place proofs is ∙ ap (leaf_end leaf) (writer_is_none leaf c s place proofs w named_is deep have refuted))
-  checked_ends _ _ (at_zero c tree proofs is refuted) leaf =
-      (next_leaf leaf, check_zero leaf c tree proofs is ∙ ap (leaf_end leaf) (leaf_is_none leaf (zero_systems n r every c) proofs refuted))
-  checked_ends _ _ (at_dead c tree proof is refuted) leaf =
-      (next_leaf leaf, check_dead leaf c tree proof is ∙ ap (leaf_end leaf) (leaf_is_none leaf (dead_systems c) (proof ∷ []) refuted))
+  checked_ends _ _ (at_writer c tree s place proofs w is named_is may deep have refuted) leaf = (
+    next_leaf leaf,
+    check_writer leaf c tree s place proofs is
+        ∙ ap (leaf_end leaf) (writer_is_none leaf c s place proofs w named_is deep have refuted),
+  )
+  checked_ends _ _ (at_zero c tree proofs is refuted) leaf = (
+    next_leaf leaf,
+    check_zero leaf c tree proofs is
+        ∙ ap (leaf_end leaf) (leaf_is_none leaf (zero_systems n r every c) proofs refuted),
+  )
+  checked_ends _ _ (at_dead c tree proof is refuted) leaf = (
+    next_leaf leaf,
+    check_dead leaf c tree proof is
+        ∙ ap (leaf_end leaf) (leaf_is_none leaf (dead_systems c) (proof ∷ []) refuted),
+  )
 
   -- a part that comes to its end is checked
   IsSo : Tree → Type 0

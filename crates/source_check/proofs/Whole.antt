@@ -1,8 +1,8 @@
 -- The verdict on a whole tree, for a read that stands in the nest.
 --
--- The check of a part, at the empty path and with the reader's loops as variables, is that of the whole tree: its context is
--- the reader's domain. So the verdict is the one that the rules give, it accepts exactly the checked trees, and a checked tree
--- is exact.
+-- The check of a part, at the empty path and with the reader's loops as variables, is that of the whole tree: its
+-- context is the reader's domain. So the verdict is the one that the rules give, it accepts exactly the checked trees,
+-- and a checked tree is exact.
 use Rattle.std.proofs.Common.{◌≡◌, ◌<◌, ℕ, List, length, get_or, refl, sym, ap, ◌∙◌, arith}
 use Rattle.std.specs.Prelude.{Some, Result, slice_get, ◌↔◌}
 use Rattle.std.specs.Option.{option_and_then, option_map, option_map_or}

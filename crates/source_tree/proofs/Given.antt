@@ -1,5 +1,6 @@
 -- What a tree gives within the machine's numbers is what it gives.
-use Rattle.std.proofs.Common.{◌≡◌, ◌==◌, ◌%◌, ℕ, ℤ, pos, List, [], ◌∷◌, ◌++◌, Bool, true, false, cond, refl, sym, ap, ◌∙◌, subst}
+use Rattle.std.proofs.Common.{◌≡◌, ◌==◌, ◌%◌, ℕ, ℤ, pos, List, [], ◌∷◌, ◌++◌, Bool, true, false, cond, refl, sym, ap}
+use Rattle.std.proofs.Common.{◌∙◌, subst}
 use Rattle.std.specs.Prelude.{Option, Some, None, Result, Ok, Err, IfOk}
 use Rattle.std.specs.Result.{result_ok}
 use Rattle.std.specs.Option.{option_and_then, option_map}
@@ -10,7 +11,8 @@ use Rattle.affine_core.specs.Affine.{form_at}
 use Rattle.affine_core.specs.Within.{value_in_128_bits}
 use Rattle.affine_core.proofs.Linear.{combined_in_128_bits_is}
 use Rattle.source_tree.specs.Gives.{values, gives, gives_step, quotient}
-use Rattle.source_tree.specs.Walk.{Walks, walk_step, outcome_of, map_values, mapped_value, number_in_64_bits, fits_64_bits, divides, with_quotient}
+use Rattle.source_tree.specs.Walk.{Walks, walk_step, outcome_of, map_values, mapped_value, number_in_64_bits}
+use Rattle.source_tree.specs.Walk.{fits_64_bits, divides, with_quotient}
 use Rattle.source_tree.specs.declared.tree.Found.{Found}
 use Rattle.source_tree.specs.declared.tree.Found.TheVariants as found
 use Rattle.source_tree.specs.declared.tree.Tree.{Tree}

@@ -1,5 +1,6 @@
 -- The exact table by the numbers of its reads.
-use Rattle.std.proofs.Common.{◌≡◌, ◌<◌, ◌+◌, ℕ, zero, suc, List, [], ◌∷◌, ◌++◌, map, length, take, refl, sym, ap, ◌∙◌, arith, add_assoc}
+use Rattle.std.proofs.Common.{◌≡◌, ◌<◌, ◌+◌, ℕ, zero, suc, List, [], ◌∷◌, ◌++◌, map, length, take, refl, sym, ap, ◌∙◌}
+use Rattle.std.proofs.Common.{arith, add_assoc}
 use Rattle.std.specs.Prelude.{Some, slice_get}
 use Rattle.std.specs.List.{range_with_len, sum_by}
 use Rattle.std.specs.Option.{option_and_then, option_map, option_map_or}

@@ -1,5 +1,6 @@
 -- What each kind of tree gives within the machine's numbers, and what it asks.
-use Rattle.std.proofs.Common.{◌≡◌, ◌+◌, ◌==◌, ◌&&◌, ◌≤◌, ◌<◌, ◌≤ℤ◌, ℕ, ℤ, pos, List, [], ◌∷◌, ◌++◌, length, Bool, true, false, cond, refl, sym, ap, ◌∙◌, arith, length-append}
+use Rattle.std.proofs.Common.{◌≡◌, ◌+◌, ◌==◌, ◌&&◌, ◌≤◌, ◌<◌, ◌≤ℤ◌, ℕ, ℤ, pos, List, [], ◌∷◌, ◌++◌, length, Bool, true}
+use Rattle.std.proofs.Common.{false, cond, refl, sym, ap, ◌∙◌, arith, length-append}
 use Rattle.std.specs.Prelude.{Option, Some, None, nat_le, nat_lt}
 use Rattle.std.specs.Option.{option_and_then, option_map}
 use Rattle.std.specs.Int.RustNames.{int_le, unsigned_abs}
@@ -9,12 +10,14 @@ use Rattle.int_polyhedra.proofs.Variables.{and_both}
 use Rattle.affine_core.specs.declared.form.Form.{Form}
 use Rattle.affine_core.specs.Within.{value_in_128_bits}
 use Rattle.int_polyhedra.specs.declared.system.Proof.{Proof}
-use Rattle.source_tree.specs.Walk.{Walks, walk_step, outcome_of, ready_step, is_ready, are_over, map_values, divides, with_quotient}
+use Rattle.source_tree.specs.Walk.{Walks, walk_step, outcome_of, ready_step, is_ready, are_over, map_values, divides}
+use Rattle.source_tree.specs.Walk.{with_quotient}
 use Rattle.source_tree.specs.declared.tree.Found.{Found}
 use Rattle.source_tree.specs.declared.tree.Found.TheVariants as found
 use Rattle.source_tree.specs.declared.tree.Tree.{Tree}
 use Rattle.source_tree.specs.declared.tree.Tree.TheOpen as open_
-use Rattle.source_tree.specs.declared.tree.Tree.TheViews.{Test, Divides, rolls-Test, rolls-Divides, rolls-Writer, rolls-Zero, rolls-Dead}
+use Rattle.source_tree.specs.declared.tree.Tree.TheViews.{Test, Divides, rolls-Test, rolls-Divides, rolls-Writer}
+use Rattle.source_tree.specs.declared.tree.Tree.TheViews.{rolls-Zero, rolls-Dead}
 use Rattle.source_tree.specs.declared.tree.Tree.TheVariants.{Writer, Zero, Dead}
 use Rattle.source_tree.specs.declared.tree.Tree.TheFolds.{fold-roll-Tree}
 

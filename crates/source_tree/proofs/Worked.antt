@@ -14,7 +14,13 @@ use Rattle.source_tree.specs.Sources.{sources_from, sources_of}
 -- out y[3]; var v; for (i = 0; i < 3; i++) { y[i] = v; v = i; v = v + 10; }
 abbrev delayed : Nest
 delayed =
-    record { arrays = y_and_v (pos 3); statements = delayed_statements; body = delayed_body; well_formed = delayed_well_formed }
+    record {
+      arrays = y_and_v (pos 3);
+      statements = delayed_statements;
+      body = delayed_body;
+      well_formed =
+          delayed_well_formed;
+    }
 
 abbrev at : ℕ → ℕ → Point
 at s i = record { statement = s; at = pos i ∷ [] }

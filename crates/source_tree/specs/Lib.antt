@@ -6,3 +6,4 @@ pub mod Places
 pub mod Systems
 pub mod Checked
 pub mod Exact
+pub mod Wanted

@@ -1,3 +1,4 @@
+use crate::tree::Tree;
 use plain_data::Items;
 
 /// Where a certificate says that a read has its values from.
@@ -5,6 +6,8 @@ use plain_data::Items;
 pub enum Origin {
     /// From the last writers, which whoever checks the certificate finds.
     Sweep,
+    /// From the points that the tree gives.
+    Tree(Tree),
 }
 
 /// A certificate of a network: one origin for each read, in the order of reader and read, and a schedule, which is a

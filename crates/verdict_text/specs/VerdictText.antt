@@ -2,10 +2,14 @@
 use Rattle.std.specs.Prelude.{ℕ, ℤ, List, [], ◌∷◌, ◌++◌, Option, Some, None, codes, decimal, map, unwrap_or}
 use Rattle.std.specs.Fmt.{signed_decimal}
 use Rattle.std.specs.List.{join_with_byte}
-use Rattle.cert_text.specs.declared.error.CertError.{CertError}
-use Rattle.cert_text.specs.declared.error.CertError.TheVariants as error
+use Rattle.cert_lines.specs.declared.error.CertError.{CertError}
+use Rattle.cert_lines.specs.declared.error.CertError.TheVariants as error
+use Rattle.int_polyhedra.specs.declared.system.Reason.{Reason}
+use Rattle.int_polyhedra.specs.declared.system.Reason.TheVariants as reason
+use Rattle.source_check.specs.declared.verdict.Rule.{Rule}
+use Rattle.source_check.specs.declared.verdict.Rule.TheVariants as rule
 use Rattle.net_checker.specs.declared.verdict.Refusal.{Refusal}
-use Rattle.net_checker.specs.declared.verdict.Refusal.TheVariants.{Shape, Fires, NotEnabled, Tag, Unended, Class}
+use Rattle.net_checker.specs.declared.verdict.Refusal.TheVariants.{Shape, Fires, Source, NotEnabled, Tag, Unended, Class}
 use Rattle.net_checker.specs.declared.verdict.Seen.{Seen}
 use Rattle.net_checker.specs.declared.verdict.Seen.TheVariants as seen
 use Rattle.net_checker.specs.declared.verdict.Verdict.{Verdict}
@@ -35,10 +39,30 @@ abbrev pub wanted_word : Wanted → List ℕ
 wanted_word wanted.Zero = codes "zero"
 wanted_word (wanted.At point) = point_text point
 
+-- the name of the reason why a proof doesn't refute its system
+abbrev pub reason_word : Reason → List ℕ
+reason_word (reason.BadIndex number) = codes "BadIndex"
+reason_word (reason.Negative value) = codes "Negative"
+reason_word (reason.NotContradictory row) = codes "NotContradictory"
+reason_word (reason.NotDivisible value) = codes "NotDivisible"
+reason_word reason.Overflow = codes "Overflow"
+
+-- the name of the rule that refuses a tree with what it keeps
+abbrev pub rule_words : Rule → List (List ℕ)
+rule_words (rule.BadForm leaf) = codes "BadForm" ∷ decimal leaf ∷ []
+rule_words (rule.NoWriter leaf) = codes "NoWriter" ∷ decimal leaf ∷ []
+rule_words (rule.Proofs leaf got want) =
+    codes "Proofs" ∷ decimal leaf ∷ decimal got ∷ decimal want ∷ []
+rule_words (rule.Proof leaf number reason) =
+    codes "Proof" ∷ decimal leaf ∷ decimal number ∷ reason_word reason ∷ []
+rule_words (rule.Overflow turn) = codes "Overflow" ∷ decimal turn ∷ []
+
 -- the name of the reason with what it keeps
 abbrev pub refusal_words : Refusal → List (List ℕ)
 refusal_words (Shape process) = codes "Shape" ∷ decimal process ∷ []
 refusal_words (Fires process place) = codes "Fires" ∷ decimal process ∷ decimal place ∷ []
+refusal_words (Source statement read rule) =
+    codes "Source" ∷ decimal statement ∷ decimal read ∷ rule_words rule
 refusal_words (NotEnabled entry) = codes "NotEnabled" ∷ decimal entry ∷ []
 refusal_words (Tag entry found want) =
     codes "Tag" ∷ decimal entry ∷ seen_word found ∷ wanted_word want ∷ []
@@ -59,6 +83,8 @@ abbrev pub unread_text : CertError → Option (List ℕ)
 unread_text (error.Line line) = Some (refused_line (codes "Line" ∷ decimal line ∷ []))
 unread_text (error.Number line) = Some (refused_line (codes "Number" ∷ decimal line ∷ []))
 unread_text error.Truncated = Some (refused_line (codes "Truncated" ∷ []))
+unread_text (error.Deep line) = Some (refused_line (codes "Deep" ∷ decimal line ∷ []))
+unread_text (error.Long process) = Some (refused_line (codes "Long" ∷ decimal process ∷ []))
 unread_text error.Memory = None
 
 -- what is written of it: nothing where there is no such reason

@@ -1,18 +1,21 @@
-ghost use Rattle.std.specs.Prelude.{◌≡◌, ◌∷◌, [], decimal, OnOk, OnErr};
+ghost use Rattle.std.specs.Prelude.{◌≡◌, ◌∷◌, [], codes, decimal, OnOk, OnErr};
 ghost use Rattle.std.specs.Fmt.{signed_decimal};
 ghost use Rattle.std.specs.Io.KnownBytes.{Appends};
 ghost use Rattle.std.specs.List.{flat_map};
 ghost use Rattle.io_edge.specs.Causes.{Rose, AppendsFront};
-ghost use Rattle.net_checker.specs.declared.verdict.Refusal.TheVariants.{Tag, Class, Fires};
+ghost use Rattle.net_checker.specs.declared.verdict.Refusal.TheVariants.{Tag, Class, Fires, Source};
+ghost use Rattle.source_check.specs.declared.verdict.Rule.TheVariants.{Proof, Proofs};
 ghost use Rattle.text_out.specs.Wrote.{Wrote};
-ghost use Rattle.verdict_text.specs.VerdictText.{point_text, refusal_words, refused_line, seen_word, unread_line, values_text, verdict_text, wanted_word};
+ghost use Rattle.verdict_text.specs.VerdictText.{point_text, reason_word, refusal_words, refused_line, seen_word, unread_line, values_text, verdict_text, wanted_word};
 
-use cert_text::CertError;
+use cert_lines::CertError;
 use channel_class::ChannelClass;
+use int_polyhedra::Reason;
 use io_edge::{Sink, WriteFault};
 use net_checker::{Refusal, Seen, Verdict, Wanted};
 use net_text::class_word;
 use sanlp::Point;
+use source_check::Rule;
 use text_out::{TextWriter, Word, Writer, write_line, write_number};
 
 /// Writes loop values with a comma before each.
@@ -120,12 +123,109 @@ fn write_class<W: TextWriter>(channel: u32, said: ChannelClass, class: ChannelCl
     write_line(&words, out);
 }
 
+/// Writes the line of a tree that is refused by a rule which keeps one number.
+fn write_rule<W: TextWriter>(statement: u32, read: u32, rule: &[u8], number: u64, out: &mut W)
+    ensures { Wrote W.given out.old out.new
+        (refused_line
+        (codes "Source" ∷ decimal statement ∷ decimal read ∷ rule.now ∷ decimal number ∷ [])) }
+{
+    let words = [
+        Word::Text(b"refused"),
+        Word::Text(b"Source"),
+        Word::Number(u64::from(statement)),
+        Word::Number(u64::from(read)),
+        Word::Text(rule),
+        Word::Number(number),
+    ];
+    write_line(&words, out);
+}
+
+/// Writes the line of a leaf that has another number of proofs than it has to have.
+fn write_proofs<W: TextWriter>(
+    statement: u32,
+    read: u32,
+    leaf: u64,
+    got: u64,
+    want: u64,
+    out: &mut W,
+)
+    ensures { Wrote W.given out.old out.new
+        (refused_line (refusal_words (Source statement read (Proofs leaf got want)))) }
+{
+    let words = [
+        Word::Text(b"refused"),
+        Word::Text(b"Source"),
+        Word::Number(u64::from(statement)),
+        Word::Number(u64::from(read)),
+        Word::Text(b"Proofs"),
+        Word::Number(leaf),
+        Word::Number(got),
+        Word::Number(want),
+    ];
+    write_line(&words, out);
+}
+
+/// The name of a reason.
+fn reason_word(reason: &Reason) -> &'static [u8]
+    ensures { result.now ≡ reason_word reason.now }
+{
+    match reason {
+        Reason::BadIndex(_) => b"BadIndex",
+        Reason::Negative(_) => b"Negative",
+        Reason::NotContradictory(_) => b"NotContradictory",
+        Reason::NotDivisible(_) => b"NotDivisible",
+        Reason::Overflow => b"Overflow",
+    }
+}
+
+/// Writes the line of a proof that doesn't refute its system.
+fn write_proof<W: TextWriter>(
+    statement: u32,
+    read: u32,
+    leaf: u64,
+    number: u64,
+    reason: &Reason,
+    out: &mut W,
+)
+    ensures { Wrote W.given out.old out.new
+        (refused_line (refusal_words (Source statement read (Proof leaf number reason.now)))) }
+{
+    let words = [
+        Word::Text(b"refused"),
+        Word::Text(b"Source"),
+        Word::Number(u64::from(statement)),
+        Word::Number(u64::from(read)),
+        Word::Text(b"Proof"),
+        Word::Number(leaf),
+        Word::Number(number),
+        Word::Text(reason_word(reason)),
+    ];
+    write_line(&words, out);
+}
+
+/// Writes the line of a read whose tree is refused.
+fn write_source<W: TextWriter>(statement: u32, read: u32, rule: &Rule, out: &mut W)
+    ensures { Wrote W.given out.old out.new
+        (refused_line (refusal_words (Source statement read rule.now))) }
+{
+    match rule {
+        Rule::BadForm(leaf) => write_rule(statement, read, b"BadForm", *leaf, out),
+        Rule::NoWriter(leaf) => write_rule(statement, read, b"NoWriter", *leaf, out),
+        Rule::Proofs(leaf, got, want) => write_proofs(statement, read, *leaf, *got, *want, out),
+        Rule::Proof(leaf, number, reason) => {
+            write_proof(statement, read, *leaf, *number, reason, out)
+        }
+        Rule::Overflow(turn) => { write_rule(statement, read, b"Overflow", u64::from(*turn), out) }
+    }
+}
+
 fn write_refusal<W: TextWriter>(refusal: &Refusal, out: &mut W)
     ensures { Wrote W.given out.old out.new (refused_line (refusal_words refusal.now)) }
 {
     match refusal {
         Refusal::Shape(process) => write_numbered(b"Shape", u64::from(*process), out),
         Refusal::Fires(process, place) => write_fires(*process, *place, out),
+        Refusal::Source(statement, read, rule) => write_source(*statement, *read, rule, out),
         Refusal::NotEnabled(entry) => write_numbered(b"NotEnabled", u64::from(*entry), out),
         Refusal::Tag(entry, seen, wanted) => write_tag(*entry, seen, wanted, out),
         Refusal::Unended(process) => write_numbered(b"Unended", u64::from(*process), out),
@@ -151,6 +251,8 @@ fn write_unread_line<W: TextWriter>(error: CertError, out: &mut W)
         CertError::Truncated => {
             write_line(&[Word::Text(b"refused"), Word::Text(b"Truncated")], out)
         }
+        CertError::Deep(line) => write_numbered(b"Deep", line, out),
+        CertError::Long(process) => write_numbered(b"Long", u64::from(process), out),
         CertError::Memory => {}
     }
 }

@@ -1,12 +1,16 @@
 use Rattle.std.proofs.Common.{Some, length, ap, sym, ◌∙◌, arith}
 use Rattle.net_core.specs.Held.{run_of}
 use Rattle.net_checker.proofs.Judged.{enabled_there, few_references, fire_judged}
-use Rattle.net_checker.proofs.Numbers.{few_statements}
+use Rattle.sanlp.proofs.NestFacts.{few_statements}
 use Rattle.net_checker.proofs.entries.judge.Goals as goal
 
 pub reads_before-first_read-requires : goal.reads_before-first_read-requires
 reads_before-first_read-requires c =
-    omega (arith, enabled_there c.args.nest.now c.args.network.now (run_of c.args.state.now) c.args.process c.in-Fire.refs c.requires.fits (c.next.ensures ∙ ap Some c.in-Fire.is))
+    omega (
+      arith,
+      enabled_there c.args.nest.now c.args.network.now (run_of c.args.state.now) c.args.process
+          c.in-Fire.refs c.requires.fits (c.next.ensures ∙ ap Some c.in-Fire.is),
+    )
 
 pub judge_fire-requires : goal.judge_fire-requires
 judge_fire-requires c =
@@ -21,4 +25,7 @@ pub returns-in-Fire : goal.returns-in-Fire
 returns-in-Fire c =
     let s = run_of c.args.state.now in
     c.judge_fire.ensures
-    ∙ fire_judged c.args.nest.now c.args.network.now c.requires.fits s c.requires.state.counted c.requires.named c.args.points.now.of c.args.table.now.of c.args.process c.args.entry _ _ _ c.in-Fire.refs c.requires.points c.requires.table c.slots.ensures (ap length c.kept-turn.ensures) c.reads_before-first_read.ensures.value (sym c.enabled.ensures ∙ c.if-not-enabled.false) (c.next.ensures ∙ ap Some c.in-Fire.is)
+    ∙ fire_judged c.args.nest.now c.args.network.now c.requires.fits s c.requires.state.counted c.requires.named
+    c.args.points.now.of c.args.table.now.of c.args.process c.args.entry _ _ _ c.in-Fire.refs c.requires.points
+    c.requires.table c.slots.ensures (ap length c.kept-turn.ensures) c.reads_before-first_read.ensures.value
+    (sym c.enabled.ensures ∙ c.if-not-enabled.false) (c.next.ensures ∙ ap Some c.in-Fire.is)

@@ -13,7 +13,9 @@ returns-in-Some c =
     let items = c.as_slice-reference-items.result.now in
     let r = get_or items c.loop-read.read Zero in
     let is = read_or refs items c.loop-read.read Zero c.as_slice-reference-items.ensures (omega arith) in
-    reference_found c.args.points.now.of c.args.table.now.of c.args.first_read c.args.turn c.args.slots.now c.args.entry refs c.loop-read.read r c.in-Some.refusal is c.loop-read.invariant (sym c.judge_reference.ensures ∙ c.in-Some.is)
+    reference_found c.args.points.now.of c.args.table.now.of c.args.first_read c.args.turn c.args.slots.now c.args.entry
+    refs c.loop-read.read r c.in-Some.refusal is c.loop-read.invariant
+    (sym c.judge_reference.ensures ∙ c.in-Some.is)
 
 pub loop-read-preserved : goal.loop-read-preserved
 loop-read-preserved c =
@@ -21,9 +23,12 @@ loop-read-preserved c =
     let items = c.as_slice-reference-items.result.now in
     let r = get_or items c.loop-read.read Zero in
     let is = read_or refs items c.loop-read.read Zero c.as_slice-reference-items.ensures (omega arith) in
-    below_more _ _ c.loop-read.invariant (sym (reference_judged c.args.points.now.of c.args.table.now.of c.args.first_read c.args.turn c.args.slots.now c.args.entry refs c.loop-read.read r is) ∙ sym c.judge_reference.ensures ∙ c.in_default.is)
+    below_more _ _ c.loop-read.invariant (sym (reference_judged c.args.points.now.of c.args.table.now.of
+    c.args.first_read c.args.turn c.args.slots.now c.args.entry refs c.loop-read.read r is)
+    ∙ sym c.judge_reference.ensures ∙ c.in_default.is)
 
 pub returns : goal.returns
 returns c =
     let many = ap length c.as_slice-reference-items.ensures in
-    references_fine c.args.points.now.of c.args.table.now.of c.args.first_read c.args.turn c.args.slots.now c.args.entry c.args.refs.now (λ k lt. c.loop-read.invariant k (omega arith))
+    references_fine c.args.points.now.of c.args.table.now.of c.args.first_read c.args.turn c.args.slots.now c.args.entry
+    c.args.refs.now (λ k lt. c.loop-read.invariant k (omega arith))

@@ -12,7 +12,11 @@ loop-entry-init c =
 
 pub overflow_cast-entry : goal.overflow_cast-entry
 overflow_cast-entry c =
-    omega (arith, entry_short c.args.nest.now (net_of c.args.network.now) c.args.schedule.now (held_of c.loop-entry.state) c.loop-entry.entry c.loop-entry.invariant)
+    omega (
+      arith,
+      entry_short c.args.nest.now (net_of c.args.network.now) c.args.schedule.now
+          (held_of c.loop-entry.state) c.loop-entry.entry c.loop-entry.invariant,
+    )
 
 pub returns-in-Some : goal.returns-in-Some
 returns-in-Some c =

@@ -23,10 +23,12 @@ returns-then-not-may_stand c =
     let h = c.loop-event.invariant in
     let e = c.in-Some.event in
     let lt =
-    next_inside script c.loop-event.yielded c.loop-event.event-iterator h.whole e c.next.new.self c.in-Some.ensures.steps in
+    next_inside script c.loop-event.yielded c.loop-event.event-iterator h.whole e c.next.new.self
+    c.in-Some.ensures.steps in
     let is =
     ap (slice_get script) h.place
-    ∙ next_item script c.loop-event.yielded c.loop-event.event-iterator h.whole e c.next.new.self c.in-Some.ensures.steps in
+    ∙ next_item script c.loop-event.yielded c.loop-event.event-iterator h.whole e c.next.new.self
+    c.in-Some.ensures.steps in
     place_wrong c.args.nest.now net p c.loop-event.place c.loop-event.fired e (omega (arith, lt, h.place)) is h.fired
     (sym c.may_stand.ensures ∙ c.if-not-may_stand.true) h.fine
 
@@ -40,9 +42,11 @@ loop-event-preserved c =
     let e = c.in-Some.event in
     let is =
     ap (slice_get script) h.place
-    ∙ next_item script c.loop-event.yielded c.loop-event.event-iterator h.whole e c.next.new.self c.in-Some.ensures.steps in
+    ∙ next_item script c.loop-event.yielded c.loop-event.event-iterator h.whole e c.next.new.self
+    c.in-Some.ensures.steps in
     record {
-      whole = had_more script c.loop-event.yielded c.loop-event.event-iterator h.whole e c.next.new.self c.in-Some.ensures.steps;
+      whole = had_more script c.loop-event.yielded c.loop-event.event-iterator h.whole e c.next.new.self
+          c.in-Some.ensures.steps;
       place = omega (arith, h.place, one_longer c.loop-event.yielded e);
       fired = elim c.if-is_fire.branch [
         | then-is_fire w ↦ fired_yes net p k e c.loop-event.fired c.if-is_fire.fired is h.fired
@@ -66,7 +70,12 @@ returns-then-fired-turns_of c =
     let fired = fired_all net p c.loop-event.place c.loop-event.fired many h.fired in
     ap (λ k. Some (Fires p k)) (sym many)
     ∙ few_fires c.args.nest.now net p (λ j lt. h.fine j (omega (arith, many)))
-    (omega (arith, fired, c.turns_of.ensures ∙ ap (λ (points : List (List (List ℤ))). turns points p) c.requires.points))
+    (omega (
+      arith,
+      fired,
+      c.turns_of.ensures
+          ∙ ap (λ (points : List (List (List ℤ))). turns points p) c.requires.points,
+    ))
 
 pub returns : goal.returns
 returns c =
@@ -78,4 +87,9 @@ returns c =
     let many = sym (h.place ∙ ap length all) in
     let fired = fired_all net p c.loop-event.place c.loop-event.fired many h.fired in
     enough_fires c.args.nest.now net p (λ j lt. h.fine j (omega (arith, many)))
-    (omega (arith, fired, c.turns_of.ensures ∙ ap (λ (points : List (List (List ℤ))). turns points p) c.requires.points))
+    (omega (
+      arith,
+      fired,
+      c.turns_of.ensures
+          ∙ ap (λ (points : List (List (List ℤ))). turns points p) c.requires.points,
+    ))

@@ -4,10 +4,13 @@ use Rattle.std.proofs.lemmas.Int.{ints, to_z-of_z}
 use Rattle.std.proofs.lemmas.Result.{IfOk-weaker}
 use Rattle.source_check.specs.Paths.{occurrence_of}
 use Rattle.source_check.proofs.Contexts.{below_test, below_divides}
-use Rattle.source_check.proofs.Parts.{test_bad, test_end, divides_bad_form, divides_bad_divisor, divides_deep, divides_end, writer_end, zero_end, dead_end}
+use Rattle.source_check.proofs.Parts.{test_bad, test_end, divides_bad_form, divides_bad_divisor, divides_deep}
+use Rattle.source_check.proofs.Parts.{divides_end, writer_end, zero_end, dead_end}
 use Rattle.source_tree.specs.Systems.{Context, divides_no, divides_yes, test_no, test_yes}
 use Rattle.source_check.proofs.check.+check_part.Goals as goal
-use Rattle.source_check.proofs.check.+check_part.Goals.{then-len-vars-2-via-then-len-vars-2, then-len-vars-2-via-else-len-vars-2+then-divisor-lt2, then-len-vars-2-via-else-len-vars-2+else-divisor-lt2+then-vars-most}
+use Rattle.source_check.proofs.check.+check_part.Goals.{then-len-vars-2-via-then-len-vars-2}
+use Rattle.source_check.proofs.check.+check_part.Goals.{then-len-vars-2-via-else-len-vars-2+then-divisor-lt2}
+use Rattle.source_check.proofs.check.+check_part.Goals.{then-len-vars-2-via-else-len-vars-2+else-divisor-lt2+then-vars-most}
 
 too_low : (d e : ℤ) → e ≡ d → int_lt e (pos 2) ≡ true → pos 2 ≤ℤ d → ⊥
 too_low d e is low two = grind (arith, ints)
@@ -18,7 +21,8 @@ high_enough d e is high = grind (arith, ints)
 pub returns-then-len-vars : goal.returns-then-len-vars
 returns-then-len-vars t c = λ ctx e.
     test_bad c.args.read.now.nest.now
-    (occurrence_of c.args.read.now.reference) c.args.leaf ctx c.args.tree.now c.in-Test.form c.in-Test.yes c.in-Test.no c.in-Test.is
+    (occurrence_of c.args.read.now.reference) c.args.leaf ctx c.args.tree.now c.in-Test.form c.in-Test.yes c.in-Test.no
+    c.in-Test.is
     (λ same. c.if-len-vars.true (c.len.ensures.value ∙ same ∙ ap (λ (c : Context). c.vars) e))
 
 pub returns-then-len-vars-2 : goal.returns-then-len-vars-2
@@ -27,13 +31,20 @@ returns-then-len-vars-2 t c = λ ctx e.
     elim c.then-len-vars-2.branch [
       | then-len-vars-2-via-then-len-vars-2 w ↦
           divides_bad_form c.args.read.now.nest.now
-          (occurrence_of c.args.read.now.reference) c.args.leaf ctx c.args.tree.now c.in-Divides.form c.in-Divides.divisor c.in-Divides.yes c.in-Divides.no c.in-Divides.is (λ same. w.if-len-vars-2.true (c.len-in-Divides.ensures.value ∙ same ∙ vars))
+          (occurrence_of c.args.read.now.reference) c.args.leaf ctx c.args.tree.now c.in-Divides.form
+          c.in-Divides.divisor c.in-Divides.yes c.in-Divides.no c.in-Divides.is
+          (λ same. w.if-len-vars-2.true (c.len-in-Divides.ensures.value ∙ same ∙ vars))
       | then-len-vars-2-via-else-len-vars-2+then-divisor-lt2 w ↦
           divides_bad_divisor c.args.read.now.nest.now
-          (occurrence_of c.args.read.now.reference) c.args.leaf ctx c.args.tree.now c.in-Divides.form c.in-Divides.divisor c.in-Divides.yes c.in-Divides.no c.in-Divides.is (let fits : FitsSigned w128 c.in-Divides.divisor = search rules in too_low c.in-Divides.divisor _ (to_z-of_z w128 c.in-Divides.divisor fits) w.if-divisor-lt2.true)
+          (occurrence_of c.args.read.now.reference) c.args.leaf ctx c.args.tree.now c.in-Divides.form
+          c.in-Divides.divisor c.in-Divides.yes c.in-Divides.no c.in-Divides.is
+          (let fits : FitsSigned w128 c.in-Divides.divisor = search rules in too_low c.in-Divides.divisor _
+          (to_z-of_z w128 c.in-Divides.divisor fits) w.if-divisor-lt2.true)
       | then-len-vars-2-via-else-len-vars-2+else-divisor-lt2+then-vars-most w ↦
           divides_deep c.args.read.now.nest.now
-          (occurrence_of c.args.read.now.reference) c.args.leaf ctx c.args.tree.now c.in-Divides.form c.in-Divides.divisor c.in-Divides.yes c.in-Divides.no c.in-Divides.is (λ few. omega (arith, few, vars, w.if-vars-most.true, c.len-most.ensures))
+          (occurrence_of c.args.read.now.reference) c.args.leaf ctx c.args.tree.now c.in-Divides.form
+          c.in-Divides.divisor c.in-Divides.yes c.in-Divides.no c.in-Divides.is
+          (λ few. omega (arith, few, vars, w.if-vars-most.true, c.len-most.ensures))
     ]
 
 pub returns-in-Ok : goal.returns-in-Ok
@@ -41,7 +52,8 @@ returns-in-Ok t c =
     IfOk-weaker c.check_part-in-Ok.result _ _
     (λ end is ctx e.
     test_end c.args.read.now.nest.now
-    (occurrence_of c.args.read.now.reference) c.args.leaf ctx c.args.tree.now c.in-Test.form c.in-Test.yes c.in-Test.no _ _ _ end c.in-Test.is c.get.ensures c.get-in-Ok.ensures
+    (occurrence_of c.args.read.now.reference) c.args.leaf ctx c.args.tree.now c.in-Test.form c.in-Test.yes c.in-Test.no
+    _ _ _ end c.in-Test.is c.get.ensures c.get-in-Ok.ensures
     (sym c.len.ensures.value ∙ c.if-len-vars.false ∙ sym (ap (λ (c : Context). c.vars) e))
     (sym c.in-Ok.is
     ∙ c.in_ok-next-in-Test.ensures (test_yes ctx c.in-Test.form)
@@ -52,7 +64,8 @@ returns-in-Ok t c =
 pub returns-in-Err : goal.returns-in-Err
 returns-in-Err t c = λ ctx e.
     test_end c.args.read.now.nest.now
-    (occurrence_of c.args.read.now.reference) c.args.leaf ctx c.args.tree.now c.in-Test.form c.in-Test.yes c.in-Test.no _ _ _ _ c.in-Test.is c.get.ensures refl
+    (occurrence_of c.args.read.now.reference) c.args.leaf ctx c.args.tree.now c.in-Test.form c.in-Test.yes c.in-Test.no
+    _ _ _ _ c.in-Test.is c.get.ensures refl
     (sym c.len.ensures.value ∙ c.if-len-vars.false ∙ sym (ap (λ (c : Context). c.vars) e))
     (sym c.in-Err.is
     ∙ c.in_ok-next-in-Test.ensures (test_yes ctx c.in-Test.form)
@@ -66,15 +79,18 @@ returns-in-Ok-2 t c =
     let fits : FitsSigned w128 c.in-Divides.divisor = search rules in
     let divisor = to_z-of_z w128 c.in-Divides.divisor fits in
     divides_end c.args.read.now.nest.now
-    (occurrence_of c.args.read.now.reference) c.args.leaf ctx c.args.tree.now c.in-Divides.form c.in-Divides.divisor c.in-Divides.yes c.in-Divides.no _ _ _ end c.in-Divides.is c.get-in-Divides.ensures c.get-in-Ok-2.ensures
+    (occurrence_of c.args.read.now.reference) c.args.leaf ctx c.args.tree.now c.in-Divides.form c.in-Divides.divisor
+    c.in-Divides.yes c.in-Divides.no _ _ _ end c.in-Divides.is c.get-in-Divides.ensures c.get-in-Ok-2.ensures
     (sym c.len-in-Divides.ensures.value ∙ c.if-len-vars-2.false ∙ sym vars)
     (high_enough c.in-Divides.divisor _ divisor c.if-divisor-lt2.false)
     (omega (arith, vars, c.if-vars-most.false, c.len-most.ensures))
     (sym c.in-Ok-2.is
     ∙ c.in_ok-next-in-Divides.ensures (divides_yes ctx c.in-Divides.form c.in-Divides.divisor)
-    (below_divides c.args.read.now.reference c.args.vars c.args.path.now _ _ c.in-Divides.divisor _ _ ctx divisor refl e))
+    (below_divides c.args.read.now.reference c.args.vars c.args.path.now _ _ c.in-Divides.divisor _ _ ctx divisor refl
+    e))
     (is (divides_no ctx c.in-Divides.form c.in-Divides.divisor)
-    (below_divides c.args.read.now.reference c.args.vars c.args.path.now _ _ c.in-Divides.divisor _ _ ctx divisor refl e))) c.check_part-in-Ok-2.ensures
+    (below_divides c.args.read.now.reference c.args.vars c.args.path.now _ _ c.in-Divides.divisor _ _ ctx divisor refl
+    e))) c.check_part-in-Ok-2.ensures
 
 pub returns-in-Err-2 : goal.returns-in-Err-2
 returns-in-Err-2 t c = λ ctx e.
@@ -82,24 +98,28 @@ returns-in-Err-2 t c = λ ctx e.
     let fits : FitsSigned w128 c.in-Divides.divisor = search rules in
     let divisor = to_z-of_z w128 c.in-Divides.divisor fits in
     divides_end c.args.read.now.nest.now
-    (occurrence_of c.args.read.now.reference) c.args.leaf ctx c.args.tree.now c.in-Divides.form c.in-Divides.divisor c.in-Divides.yes c.in-Divides.no _ _ _ _ c.in-Divides.is c.get-in-Divides.ensures refl
+    (occurrence_of c.args.read.now.reference) c.args.leaf ctx c.args.tree.now c.in-Divides.form c.in-Divides.divisor
+    c.in-Divides.yes c.in-Divides.no _ _ _ _ c.in-Divides.is c.get-in-Divides.ensures refl
     (sym c.len-in-Divides.ensures.value ∙ c.if-len-vars-2.false ∙ sym vars)
     (high_enough c.in-Divides.divisor _ divisor c.if-divisor-lt2.false)
     (omega (arith, vars, c.if-vars-most.false, c.len-most.ensures))
     (sym c.in-Err-2.is
     ∙ c.in_ok-next-in-Divides.ensures (divides_yes ctx c.in-Divides.form c.in-Divides.divisor)
-    (below_divides c.args.read.now.reference c.args.vars c.args.path.now _ _ c.in-Divides.divisor _ _ ctx divisor refl e)) refl
+    (below_divides c.args.read.now.reference c.args.vars c.args.path.now _ _ c.in-Divides.divisor _ _ ctx divisor refl
+    e)) refl
 
 pub returns-in_ok-rule-in-Writer : goal.returns-in_ok-rule-in-Writer
 returns-in_ok-rule-in-Writer t c = λ ctx e.
     writer_end c.args.read.now.nest.now
-    (occurrence_of c.args.read.now.reference) c.args.leaf ctx c.args.tree.now c.in-Writer.statement c.in-Writer.map _ c.in-Writer.proofs _ _ _ c.in-Writer.is c.as_slice-in-Writer.ensures c.as_slice.ensures
+    (occurrence_of c.args.read.now.reference) c.args.leaf ctx c.args.tree.now c.in-Writer.statement c.in-Writer.map _
+    c.in-Writer.proofs _ _ _ c.in-Writer.is c.as_slice-in-Writer.ensures c.as_slice.ensures
     (c.in_ok-rule-in-Writer.ensures ctx e) c.leaf_end.ensures
 
 pub returns-in_ok-rule-in-Zero : goal.returns-in_ok-rule-in-Zero
 returns-in_ok-rule-in-Zero t c = λ ctx e.
     zero_end c.args.read.now.nest.now
-    (occurrence_of c.args.read.now.reference) c.args.leaf ctx c.args.tree.now c.in-Zero.proofs _ _ _ c.in-Zero.is c.as_slice-in-Zero.ensures (c.in_ok-rule-in-Zero.ensures ctx e) c.leaf_end-in-Zero.ensures
+    (occurrence_of c.args.read.now.reference) c.args.leaf ctx c.args.tree.now c.in-Zero.proofs _ _ _ c.in-Zero.is
+    c.as_slice-in-Zero.ensures (c.in_ok-rule-in-Zero.ensures ctx e) c.leaf_end-in-Zero.ensures
 
 pub returns-in_ok-rule-in-Dead : goal.returns-in_ok-rule-in-Dead
 returns-in_ok-rule-in-Dead t c = λ ctx e.

@@ -12,7 +12,8 @@ returns-in_default-write_of t c =
     (λ is ctx e.
     no_write c.args.leaf.now
     (write_systems (occurrence_of c.args.read.now.reference) every ctx (further_rows ctx c.args.after.now))
-    c.args.read.now.reference.access.now.array c.args.number c.in-Some.statement.now c.in-Some.statements.now c.args.statements.now first c.args.tested.now _ c.in_default-write_of.ensures (is ctx e)) c.test_writes.ensures
+    c.args.read.now.reference.access.now.array c.args.number c.in-Some.statement.now c.in-Some.statements.now
+    c.args.statements.now first c.args.tested.now _ c.in_default-write_of.ensures (is ctx e)) c.test_writes.ensures
 
 pub returns : goal.returns
 returns t c =
@@ -21,4 +22,6 @@ returns t c =
     (λ is ctx e.
     one_write c.args.leaf.now
     (write_systems (occurrence_of c.args.read.now.reference) every ctx (further_rows ctx c.args.after.now))
-    c.args.read.now.reference.access.now.array c.args.number c.in-Some.statement.now c.in-Some.statements.now c.args.statements.now first c.args.tested.now (occurrence_of c.in-Some-write_of.writer) _ _ c.in-Some-write_of.ensures (c.in_ok-test_write.ensures ctx e) (is ctx e)) c.test_writes-2.ensures
+    c.args.read.now.reference.access.now.array c.args.number c.in-Some.statement.now c.in-Some.statements.now
+    c.args.statements.now first c.args.tested.now (occurrence_of c.in-Some-write_of.writer) _ _
+    c.in-Some-write_of.ensures (c.in_ok-test_write.ensures ctx e) (is ctx e)) c.test_writes-2.ensures

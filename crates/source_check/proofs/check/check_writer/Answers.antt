@@ -9,20 +9,23 @@ use Rattle.source_check.proofs.check.check_writer.Goals as goal
 pub returns-then-not-map_is_over : goal.returns-then-not-map_is_over
 returns-then-not-map_is_over c = λ ctx e.
     writer_bad c.args.read.now.nest.now
-    (occurrence_of c.args.read.now.reference) c.args.leaf.now.number ctx c.args.number c.args.map.now c.args.leaf.now.proofs.now
+    (occurrence_of c.args.read.now.reference) c.args.leaf.now.number ctx c.args.number c.args.map.now
+    c.args.leaf.now.proofs.now
     (ap (λ (ctx : Context). are_over ctx.vars c.args.map.now) e ∙ sym c.map_is_over.ensures ∙ c.if-not-map_is_over.true)
 
 pub returns-in_default : goal.returns-in_default
 returns-in_default c = λ ctx e.
     writer_gone c.args.read.now.nest.now
-    (occurrence_of c.args.read.now.reference) c.args.leaf.now.number ctx c.args.number c.args.map.now c.args.leaf.now.proofs.now
+    (occurrence_of c.args.read.now.reference) c.args.leaf.now.number ctx c.args.number c.args.map.now
+    c.args.leaf.now.proofs.now
     (ap (λ (ctx : Context). are_over ctx.vars c.args.map.now) e ∙ sym c.map_is_over.ensures
     ∙ c.if-not-map_is_over.false) (sym c.in_default.ensures.value)
 
 pub returns-then-map-len : goal.returns-then-map-len
 returns-then-map-len c = λ ctx e.
     writer_long c.args.read.now.nest.now
-    (occurrence_of c.args.read.now.reference) c.args.leaf.now.number ctx c.args.number c.args.map.now c.args.leaf.now.proofs.now c.in-Some.statement.now
+    (occurrence_of c.args.read.now.reference) c.args.leaf.now.number ctx c.args.number c.args.map.now
+    c.args.leaf.now.proofs.now c.in-Some.statement.now
     (ap (λ (ctx : Context). are_over ctx.vars c.args.map.now) e ∙ sym c.map_is_over.ensures
     ∙ c.if-not-map_is_over.false) (sym c.in-Some.ensures.value)
     (λ same. c.if-map-len.true (same ∙ sym c.len.ensures))
@@ -30,7 +33,8 @@ returns-then-map-len c = λ ctx e.
 pub returns-in_default-write_of : goal.returns-in_default-write_of
 returns-in_default-write_of c = λ ctx e.
     writer_end_is c.args.read.now.nest.now
-    (occurrence_of c.args.read.now.reference) c.args.leaf.now.number ctx c.args.number c.args.map.now c.args.leaf.now.proofs.now c.in-Some.statement.now None
+    (occurrence_of c.args.read.now.reference) c.args.leaf.now.number ctx c.args.number c.args.map.now
+    c.args.leaf.now.proofs.now c.in-Some.statement.now None
     (ap (λ (ctx : Context). are_over ctx.vars c.args.map.now) e ∙ sym c.map_is_over.ensures
     ∙ c.if-not-map_is_over.false) (sym c.in-Some.ensures.value)
     (c.if-map-len.false ∙ c.len.ensures) c.in_default-write_of.ensures
@@ -45,7 +49,8 @@ returns c =
     IfOk-weaker c.check_map.result _ _
     (λ rule is ctx e. is ctx e
     ∙ writer_end_is c.args.read.now.nest.now
-    (occurrence_of c.args.read.now.reference) c.args.leaf.now.number ctx c.args.number c.args.map.now c.args.leaf.now.proofs.now c.in-Some.statement.now
+    (occurrence_of c.args.read.now.reference) c.args.leaf.now.number ctx c.args.number c.args.map.now
+    c.args.leaf.now.proofs.now c.in-Some.statement.now
     (Some (occurrence_of c.in-Some-write_of.writer))
     (ap (λ (ctx : Context). are_over ctx.vars c.args.map.now) e ∙ sym c.map_is_over.ensures
     ∙ c.if-not-map_is_over.false) (sym c.in-Some.ensures.value)

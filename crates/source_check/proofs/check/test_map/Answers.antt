@@ -10,11 +10,18 @@ use Rattle.source_check.proofs.check.test_map.Goals as goal
 
 pub returns-then-writer-reader : goal.returns-then-writer-reader
 returns-then-writer-reader c = λ ctx e.
-    other_tested c.args.leaf.now c.args.read.now c.requires.read.place c.args.writer.now c.args.map.now _ _ _ c.in_ok-system.system _ c.order_of-after.result c.args.tested.now _ _ _
+    other_tested c.args.leaf.now c.args.read.now c.requires.read.place c.args.writer.now c.args.map.now _ _ _
+    c.in_ok-system.system _ c.order_of-after.result c.args.tested.now _ _ _
     (c.in_ok-system.ensures.value
     ∙ ap (λ rows. made_system c.args.leaf.now.vars (path_rows rows c.args.leaf.now.path.now)) c.as_slice.ensures)
     c.in_ok-copy.ensures c.as_slice-rows.ensures c.as_slice-writes.ensures c.as_slice-reads.ensures
-    (record { common = c.order_of-after.ensures.common; less_is = c.order_of-after.ensures.less; first = c.order_of-after.ensures.first; second = c.order_of-after.ensures.second })
+    (record {
+      common = c.order_of-after.ensures.common;
+      less_is = c.order_of-after.ensures.less;
+      first =
+          c.order_of-after.ensures.first;
+      second = c.order_of-after.ensures.second;
+    })
     c.in_ok-test_outside.ensures c.in_ok-test_cell.ensures c.in_ok-test_levels.ensures ctx e c.if-writer-reader.true
 
 pub test-requires : goal.test-requires
@@ -25,10 +32,17 @@ test-requires c =
 
 pub returns : goal.returns
 returns c = λ ctx e.
-    same_tested c.args.leaf.now c.args.read.now c.requires.read.place c.args.writer.now c.args.map.now _ _ _ c.in_ok-system.system _ c.order_of-after.result c.args.tested.now _ _ _
+    same_tested c.args.leaf.now c.args.read.now c.requires.read.place c.args.writer.now c.args.map.now _ _ _
+    c.in_ok-system.system _ c.order_of-after.result c.args.tested.now _ _ _
     (c.in_ok-system.ensures.value
     ∙ ap (λ rows. made_system c.args.leaf.now.vars (path_rows rows c.args.leaf.now.path.now)) c.as_slice.ensures)
     c.in_ok-copy.ensures c.as_slice-rows.ensures c.as_slice-writes.ensures c.as_slice-reads.ensures
-    (record { common = c.order_of-after.ensures.common; less_is = c.order_of-after.ensures.less; first = c.order_of-after.ensures.first; second = c.order_of-after.ensures.second })
+    (record {
+      common = c.order_of-after.ensures.common;
+      less_is = c.order_of-after.ensures.less;
+      first =
+          c.order_of-after.ensures.first;
+      second = c.order_of-after.ensures.second;
+    })
     c.in_ok-test_outside.ensures c.in_ok-test_cell.ensures c.in_ok-test_levels.ensures ctx _ e c.if-writer-reader.false
     (c.test.ensures ∙ ap (after_one c.args.leaf.now c.test_levels.new.tested) c.in_ok-with_same.ensures)

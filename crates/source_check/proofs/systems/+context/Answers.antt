@@ -10,30 +10,37 @@ use Rattle.source_check.proofs.systems.+context.Goals as goal
 pub returns-in-Root-clause-value : goal.returns-in-Root-clause-value
 returns-in-Root-clause-value t c =
     IfOk-weaker c.with_taken.result _ _
-    (λ more is. context_root c.args.space.now.vars c.args.reader.now c.args.path.now c.no_rows.result more c.in-Root.is c.no_rows.ensures.value is) c.with_taken.ensures
+    (λ more is. context_root c.args.space.now.vars c.args.reader.now c.args.path.now c.no_rows.result more c.in-Root.is
+    c.no_rows.ensures.value is) c.with_taken.ensures
 
 pub returns-in-Root-clause-over : goal.returns-in-Root-clause-over
 returns-in-Root-clause-over t c =
     IfOk-weaker c.with_taken.result _ _
     (λ more is. system_over c.args.space.now.vars (path_rows c.args.reader.now c.args.path.now) more
-    (context_root c.args.space.now.vars c.args.reader.now c.args.path.now c.no_rows.result more c.in-Root.is c.no_rows.ensures.value is)) c.with_taken.ensures
+    (context_root c.args.space.now.vars c.args.reader.now c.args.path.now c.no_rows.result more c.in-Root.is
+    c.no_rows.ensures.value is)) c.with_taken.ensures
 
 pub returns-in_ok-system-in-Test-clause-value : goal.returns-in_ok-system-in-Test-clause-value
 returns-in_ok-system-in-Test-clause-value t c =
     IfOk-weaker c.with_test.result _ _
-    (λ more is. context_test c.args.space.now.vars c.args.reader.now c.args.path.now c.in-Test.above c.in-Test.form c.in-Test.yes c.in_ok-system-in-Test.system more c.in-Test.is c.in_ok-system-in-Test.ensures.value is) c.with_test.ensures
+    (λ more is. context_test c.args.space.now.vars c.args.reader.now c.args.path.now c.in-Test.above c.in-Test.form
+    c.in-Test.yes c.in_ok-system-in-Test.system more c.in-Test.is c.in_ok-system-in-Test.ensures.value is)
+    c.with_test.ensures
 
 pub returns-in_ok-system-in-Test-clause-over : goal.returns-in_ok-system-in-Test-clause-over
 returns-in_ok-system-in-Test-clause-over t c =
     IfOk-weaker c.with_test.result _ _
     (λ more is. system_over c.args.space.now.vars (path_rows c.args.reader.now c.args.path.now) more
-    (context_test c.args.space.now.vars c.args.reader.now c.args.path.now c.in-Test.above c.in-Test.form c.in-Test.yes c.in_ok-system-in-Test.system more c.in-Test.is c.in_ok-system-in-Test.ensures.value is)) c.with_test.ensures
+    (context_test c.args.space.now.vars c.args.reader.now c.args.path.now c.in-Test.above c.in-Test.form c.in-Test.yes
+    c.in_ok-system-in-Test.system more c.in-Test.is c.in_ok-system-in-Test.ensures.value is)) c.with_test.ensures
 
 pub returns-in_ok-system-in-Divides-clause-value : goal.returns-in_ok-system-in-Divides-clause-value
 returns-in_ok-system-in-Divides-clause-value t c =
     let fits : FitsSigned w128 c.in-Divides.divisor = search rules in
     IfOk-weaker c.with_quotient.result _ _
-    (λ more is. context_divides c.args.space.now.vars c.args.reader.now c.args.path.now c.in-Divides.above c.in-Divides.form c.in-Divides.divisor _ c.in-Divides.quotient c.in-Divides.yes c.in_ok-system-in-Divides.system more c.in-Divides.is
+    (λ more is. context_divides c.args.space.now.vars c.args.reader.now c.args.path.now c.in-Divides.above
+    c.in-Divides.form c.in-Divides.divisor _ c.in-Divides.quotient c.in-Divides.yes c.in_ok-system-in-Divides.system
+    more c.in-Divides.is
     (to_z-of_z w128 c.in-Divides.divisor fits) c.in_ok-system-in-Divides.ensures.value is) c.with_quotient.ensures
 
 pub returns-in_ok-system-in-Divides-clause-over : goal.returns-in_ok-system-in-Divides-clause-over
@@ -41,5 +48,7 @@ returns-in_ok-system-in-Divides-clause-over t c =
     let fits : FitsSigned w128 c.in-Divides.divisor = search rules in
     IfOk-weaker c.with_quotient.result _ _
     (λ more is. system_over c.args.space.now.vars (path_rows c.args.reader.now c.args.path.now) more
-    (context_divides c.args.space.now.vars c.args.reader.now c.args.path.now c.in-Divides.above c.in-Divides.form c.in-Divides.divisor _ c.in-Divides.quotient c.in-Divides.yes c.in_ok-system-in-Divides.system more c.in-Divides.is
+    (context_divides c.args.space.now.vars c.args.reader.now c.args.path.now c.in-Divides.above c.in-Divides.form
+    c.in-Divides.divisor _ c.in-Divides.quotient c.in-Divides.yes c.in_ok-system-in-Divides.system more
+    c.in-Divides.is
     (to_z-of_z w128 c.in-Divides.divisor fits) c.in_ok-system-in-Divides.ensures.value is)) c.with_quotient.ensures

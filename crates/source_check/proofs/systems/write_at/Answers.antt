@@ -32,7 +32,8 @@ returns-clause-value c =
     (λ system is.
     write_at_is c.args.space.now.vars (path_rows c.args.reader.now.statement.now.rows c.args.path.now)
     (domain_rows c.args.writer.now.statement.now.rows c.args.point.now)
-    (cell_rows c.args.writer.now.access.now.subscripts c.args.reader.now.access.now.subscripts c.args.point.now) c.in_ok-system.system c.in_ok-system-2.system system first second
+    (cell_rows c.args.writer.now.access.now.subscripts c.args.reader.now.access.now.subscripts c.args.point.now)
+    c.in_ok-system.system c.in_ok-system-2.system system first second
     (is ∙ ap (λ writes.
     system_with_all c.in_ok-system-2.system
     (forms_of c.args.space.now.vars
@@ -40,7 +41,8 @@ returns-clause-value c =
     ∙ ap (λ reads.
     system_with_all c.in_ok-system-2.system
     (forms_of c.args.space.now.vars
-    (cell_rows c.args.writer.now.access.now.subscripts reads c.args.point.now))) c.as_slice-4.ensures)) c.with_cell.ensures
+    (cell_rows c.args.writer.now.access.now.subscripts reads c.args.point.now))) c.as_slice-4.ensures))
+    c.with_cell.ensures
 
 pub returns-clause-over : goal.returns-clause-over
 returns-clause-over c =
@@ -48,4 +50,5 @@ returns-clause-over c =
     (λ system is. system_over c.args.space.now.vars
     (path_rows c.args.reader.now.statement.now.rows c.args.path.now
     ++ (domain_rows c.args.writer.now.statement.now.rows c.args.point.now
-    ++ cell_rows c.args.writer.now.access.now.subscripts c.args.reader.now.access.now.subscripts c.args.point.now)) system is) (returns-clause-value c)
+    ++ cell_rows c.args.writer.now.access.now.subscripts c.args.reader.now.access.now.subscripts c.args.point.now))
+    system is) (returns-clause-value c)

@@ -1,11 +1,13 @@
-use Rattle.std.proofs.Common.{rules, ◌≡◌, ◌+◌, ◌≤◌, ◌≤ℤ◌, pos, ◌∙◌, sym, ap, refl, length, true, false, ℤ, FitsSigned, to_z, of_z, arith}
+use Rattle.std.proofs.Common.{rules, ◌≡◌, ◌+◌, ◌≤◌, ◌≤ℤ◌, pos, ◌∙◌, sym, ap, refl, length, true, false, ℤ, FitsSigned}
+use Rattle.std.proofs.Common.{to_z, of_z, arith}
 use Rattle.std.proofs.Common.{List}
 use Rattle.affine_core.specs.declared.form.Form.{Form}
 use Rattle.std.specs.Int.{w128}
 use Rattle.std.proofs.lemmas.Int.{ints, to_z-of_z}
 use Rattle.source_tree.specs.declared.tree.Tree.TheViews.{the_lemmas}
 use Rattle.source_tree.specs.Walk.{outcome_of, is_ready, are_over}
-use Rattle.source_tree.proofs.Walked.{ready_test, ready_divides, ready_writer, test_taken, test_none, divides_taken, divides_none, more_ready, writer_some, writer_none, walked_zero, walked_dead}
+use Rattle.source_tree.proofs.Walked.{ready_test, ready_divides, ready_writer, test_taken, test_none, divides_taken}
+use Rattle.source_tree.proofs.Walked.{divides_none, more_ready, writer_some, writer_none, walked_zero, walked_dead}
 use Rattle.source_tree.proofs.walk.+follow.Goals as goal
 
 pub eval-requires : goal.eval-requires
@@ -15,48 +17,85 @@ eval-requires t c =
     ∙ sym (ap length c.as_slice.ensures.value)
 
 pub follow-requires : goal.follow-requires
-follow-requires t c =
-    (search (rules, the_lemmas), (c.requires.0, c.requires.1, ap (λ p. is_ready c.requires.0 p (length c.args.values)) c.get.ensures ∙ (ready_test c.requires.0 (length c.args.values) c.args.tree.now c.in-Test.form c.in-Test.yes c.in-Test.no c.in-Test.is c.requires.2).1))
+follow-requires t c = (
+  search (rules, the_lemmas),
+  (
+    c.requires.0,
+    c.requires.1,
+    ap (λ p. is_ready c.requires.0 p (length c.args.values)) c.get.ensures
+        ∙ (ready_test c.requires.0 (length c.args.values) c.args.tree.now c.in-Test.form c.in-Test.yes c.in-Test.no
+        c.in-Test.is c.requires.2).1,
+  ),
+)
 
 pub follow-requires-else-value-ge0 : goal.follow-requires-else-value-ge0
-follow-requires-else-value-ge0 t c =
-    (search (rules, the_lemmas), (c.requires.0, c.requires.1, ap (λ p. is_ready c.requires.0 p (length c.args.values)) c.get-else-value-ge0.ensures ∙ (ready_test c.requires.0 (length c.args.values) c.args.tree.now c.in-Test.form c.in-Test.yes c.in-Test.no c.in-Test.is c.requires.2).2))
+follow-requires-else-value-ge0 t c = (
+  search (rules, the_lemmas),
+  (
+    c.requires.0,
+    c.requires.1,
+    ap (λ p. is_ready c.requires.0 p (length c.args.values)) c.get-else-value-ge0.ensures
+        ∙ (ready_test c.requires.0 (length c.args.values) c.args.tree.now c.in-Test.form c.in-Test.yes c.in-Test.no
+        c.in-Test.is c.requires.2).2,
+  ),
+)
 
 pub returns-then-value-ge0 : goal.returns-then-value-ge0
 returns-then-value-ge0 t c =
     let fits : FitsSigned w128 c.in-Ok.value = search rules in
-    test_taken c.args.values c.as_slice.result.now c.args.tree.now c.in-Test.form c.in-Test.yes c.in-Test.no c.get.result.now c.in-Ok.value true _
+    test_taken c.args.values c.as_slice.result.now c.args.tree.now c.in-Test.form c.in-Test.yes c.in-Test.no
+    c.get.result.now c.in-Ok.value true _
     c.in-Test.is c.as_slice.ensures.value c.in-Ok.ensures.exact
     (simp to_z-of_z at c.if-value-ge0.true) c.get.ensures c.follow.ensures
 
 pub returns-in-Ok : goal.returns-in-Ok
 returns-in-Ok t c =
     let fits : FitsSigned w128 c.in-Ok.value = search rules in
-    test_taken c.args.values c.as_slice.result.now c.args.tree.now c.in-Test.form c.in-Test.yes c.in-Test.no c.get-else-value-ge0.result.now c.in-Ok.value false _
+    test_taken c.args.values c.as_slice.result.now c.args.tree.now c.in-Test.form c.in-Test.yes c.in-Test.no
+    c.get-else-value-ge0.result.now c.in-Ok.value false _
     c.in-Test.is c.as_slice.ensures.value c.in-Ok.ensures.exact
     (simp to_z-of_z at c.if-value-ge0.false) c.get-else-value-ge0.ensures c.follow-else-value-ge0.ensures
 
 pub returns-in-Test : goal.returns-in-Test
-returns-in-Test t c = test_none c.args.values c.as_slice.result.now c.args.tree.now c.in-Test.form c.in-Test.yes c.in-Test.no c.in-Test.is c.as_slice.ensures.value c.in-Err.ensures.exact
+returns-in-Test t c = test_none c.args.values c.as_slice.result.now c.args.tree.now c.in-Test.form c.in-Test.yes
+    c.in-Test.no c.in-Test.is c.as_slice.ensures.value c.in-Err.ensures.exact
 
 pub eval-requires-in-Divides : goal.eval-requires-in-Divides
 eval-requires-in-Divides t c =
     (ready_divides c.requires.0
-    (length c.args.values) c.args.tree.now c.in-Divides.form c.in-Divides.divisor c.in-Divides.yes c.in-Divides.no c.in-Divides.is c.requires.2).0 ∙ sym (ap length c.as_slice-in-Divides.ensures.value)
+    (length c.args.values) c.args.tree.now c.in-Divides.form c.in-Divides.divisor c.in-Divides.yes c.in-Divides.no
+    c.in-Divides.is c.requires.2).0 ∙ sym (ap length c.as_slice-in-Divides.ensures.value)
 
 pub push_quotient-more-requires-clause-room : goal.push_quotient-more-requires-clause-room
 push_quotient-more-requires-clause-room t c =
-    omega (arith, c.requires.1, (ready_divides c.requires.0 (length c.args.values) c.args.tree.now c.in-Divides.form c.in-Divides.divisor c.in-Divides.yes c.in-Divides.no c.in-Divides.is c.requires.2).2)
+    omega (
+      arith,
+      c.requires.1,
+      (ready_divides c.requires.0 (length c.args.values) c.args.tree.now c.in-Divides.form
+          c.in-Divides.divisor c.in-Divides.yes c.in-Divides.no c.in-Divides.is c.requires.2).2,
+    )
 
 pub push_quotient-more-requires-clause-divisor : goal.push_quotient-more-requires-clause-divisor
 push_quotient-more-requires-clause-divisor t c =
     let fits : FitsSigned w128 c.in-Divides.divisor = search rules in
-    omega (arith, ints, to_z-of_z w128 c.in-Divides.divisor fits, (ready_divides c.requires.0 (length c.args.values) c.args.tree.now c.in-Divides.form c.in-Divides.divisor c.in-Divides.yes c.in-Divides.no c.in-Divides.is c.requires.2).1)
+    omega (
+      arith,
+      ints,
+      to_z-of_z w128 c.in-Divides.divisor fits,
+      (ready_divides c.requires.0 (length c.args.values) c.args.tree.now c.in-Divides.form c.in-Divides.divisor
+          c.in-Divides.yes c.in-Divides.no c.in-Divides.is c.requires.2).1,
+    )
 
 pub is_divided-requires : goal.is_divided-requires
 is_divided-requires t c =
     let fits : FitsSigned w128 c.in-Divides.divisor = search rules in
-    omega (arith, ints, to_z-of_z w128 c.in-Divides.divisor fits, (ready_divides c.requires.0 (length c.args.values) c.args.tree.now c.in-Divides.form c.in-Divides.divisor c.in-Divides.yes c.in-Divides.no c.in-Divides.is c.requires.2).1)
+    omega (
+      arith,
+      ints,
+      to_z-of_z w128 c.in-Divides.divisor fits,
+      (ready_divides c.requires.0 (length c.args.values) c.args.tree.now c.in-Divides.form c.in-Divides.divisor
+          c.in-Divides.yes c.in-Divides.no c.in-Divides.is c.requires.2).1,
+    )
 
 pub follow-requires-then-is_divided : goal.follow-requires-then-is_divided
 follow-requires-then-is_divided t c = (
@@ -65,9 +104,11 @@ follow-requires-then-is_divided t c = (
     c.requires.0,
     c.requires.1,
     more_ready c.requires.0 c.args.values c.push_quotient-more.result (to_z w128 (of_z w128 c.in-Ok-eval.value))
-        (to_z w128 (of_z w128 c.in-Divides.divisor)) _ c.in-Divides.yes c.get-then-is_divided.ensures c.push_quotient-more.ensures
+        (to_z w128 (of_z w128 c.in-Divides.divisor)) _ c.in-Divides.yes c.get-then-is_divided.ensures
+        c.push_quotient-more.ensures
         (ready_divides c.requires.0
-        (length c.args.values) c.args.tree.now c.in-Divides.form c.in-Divides.divisor c.in-Divides.yes c.in-Divides.no c.in-Divides.is c.requires.2).3,
+        (length c.args.values) c.args.tree.now c.in-Divides.form c.in-Divides.divisor c.in-Divides.yes c.in-Divides.no
+        c.in-Divides.is c.requires.2).3,
   ),
 )
 
@@ -78,9 +119,11 @@ follow-requires-else-is_divided t c = (
     c.requires.0,
     c.requires.1,
     more_ready c.requires.0 c.args.values c.push_quotient-more.result (to_z w128 (of_z w128 c.in-Ok-eval.value))
-        (to_z w128 (of_z w128 c.in-Divides.divisor)) _ c.in-Divides.no c.get-else-is_divided.ensures c.push_quotient-more.ensures
+        (to_z w128 (of_z w128 c.in-Divides.divisor)) _ c.in-Divides.no c.get-else-is_divided.ensures
+        c.push_quotient-more.ensures
         (ready_divides c.requires.0
-        (length c.args.values) c.args.tree.now c.in-Divides.form c.in-Divides.divisor c.in-Divides.yes c.in-Divides.no c.in-Divides.is c.requires.2).4,
+        (length c.args.values) c.args.tree.now c.in-Divides.form c.in-Divides.divisor c.in-Divides.yes c.in-Divides.no
+        c.in-Divides.is c.requires.2).4,
   ),
 )
 
@@ -88,7 +131,8 @@ pub returns-then-is_divided : goal.returns-then-is_divided
 returns-then-is_divided t c =
     let fits : FitsSigned w128 c.in-Divides.divisor = search rules in
     let fits' : FitsSigned w128 c.in-Ok-eval.value = search rules in
-    divides_taken c.args.values c.as_slice-in-Divides.result.now c.push_quotient-more.result c.args.tree.now c.in-Divides.form c.in-Divides.divisor _ c.in-Divides.yes c.in-Divides.no c.get-then-is_divided.result.now
+    divides_taken c.args.values c.as_slice-in-Divides.result.now c.push_quotient-more.result c.args.tree.now
+    c.in-Divides.form c.in-Divides.divisor _ c.in-Divides.yes c.in-Divides.no c.get-then-is_divided.result.now
     c.in-Ok-eval.value _ c.is_divided.result true _
     c.in-Divides.is c.as_slice-in-Divides.ensures.value c.in-Ok-eval.ensures.exact
     (to_z-of_z w128 c.in-Ok-eval.value fits')
@@ -99,7 +143,8 @@ pub returns-in-Ok-eval : goal.returns-in-Ok-eval
 returns-in-Ok-eval t c =
     let fits : FitsSigned w128 c.in-Divides.divisor = search rules in
     let fits' : FitsSigned w128 c.in-Ok-eval.value = search rules in
-    divides_taken c.args.values c.as_slice-in-Divides.result.now c.push_quotient-more.result c.args.tree.now c.in-Divides.form c.in-Divides.divisor _ c.in-Divides.yes c.in-Divides.no c.get-else-is_divided.result.now
+    divides_taken c.args.values c.as_slice-in-Divides.result.now c.push_quotient-more.result c.args.tree.now
+    c.in-Divides.form c.in-Divides.divisor _ c.in-Divides.yes c.in-Divides.no c.get-else-is_divided.result.now
     c.in-Ok-eval.value _ c.is_divided.result false _
     c.in-Divides.is c.as_slice-in-Divides.ensures.value c.in-Ok-eval.ensures.exact
     (to_z-of_z w128 c.in-Ok-eval.value fits')
@@ -108,16 +153,20 @@ returns-in-Ok-eval t c =
 
 pub returns-in-Divides : goal.returns-in-Divides
 returns-in-Divides t c =
-    divides_none c.args.values c.as_slice-in-Divides.result.now c.args.tree.now c.in-Divides.form c.in-Divides.divisor c.in-Divides.yes c.in-Divides.no c.in-Divides.is c.as_slice-in-Divides.ensures.value c.in-Err-eval.ensures.exact
+    divides_none c.args.values c.as_slice-in-Divides.result.now c.args.tree.now c.in-Divides.form c.in-Divides.divisor
+    c.in-Divides.yes c.in-Divides.no c.in-Divides.is c.as_slice-in-Divides.ensures.value c.in-Err-eval.ensures.exact
 
 pub returns-in-Writer : goal.returns-in-Writer
 returns-in-Writer t c =
-    writer_none c.args.values c.as_slice-in-Writer-2.result.now c.args.tree.now c.in-Writer.statement c.in-Writer.forms c.as_slice-in-Writer.result.now c.in-Writer.field-2 c.in-Writer.is
+    writer_none c.args.values c.as_slice-in-Writer-2.result.now c.args.tree.now c.in-Writer.statement c.in-Writer.forms
+    c.as_slice-in-Writer.result.now c.in-Writer.field-2 c.in-Writer.is
     c.as_slice-in-Writer-2.ensures.value c.as_slice-in-Writer.ensures c.in-Err-append_mapped.ensures
 
 pub returns-in-Ok-append_mapped : goal.returns-in-Ok-append_mapped
 returns-in-Ok-append_mapped t c =
-    writer_some c.args.values c.as_slice-in-Writer-2.result.now c.empty-at.result c.append_mapped.new.out c.args.tree.now c.in-Writer.statement c.in-Writer.forms c.as_slice-in-Writer.result.now c.in-Writer.field-2 c.in-Writer.is
+    writer_some c.args.values c.as_slice-in-Writer-2.result.now c.empty-at.result c.append_mapped.new.out
+    c.args.tree.now c.in-Writer.statement c.in-Writer.forms c.as_slice-in-Writer.result.now c.in-Writer.field-2
+    c.in-Writer.is
     c.as_slice-in-Writer-2.ensures.value c.as_slice-in-Writer.ensures c.empty-at.ensures c.in-Ok-append_mapped.ensures
 
 pub append_mapped-requires-clause-room : goal.append_mapped-requires-clause-room
@@ -127,7 +176,8 @@ append_mapped-requires-clause-room t c =
       ap length c.empty-at.ensures,
       ap length c.as_slice-in-Writer.ensures,
       (ready_writer c.requires.0
-          (length c.args.values) c.args.tree.now c.in-Writer.statement c.in-Writer.forms c.in-Writer.field-2 c.in-Writer.is c.requires.2).0,
+          (length c.args.values) c.args.tree.now c.in-Writer.statement c.in-Writer.forms c.in-Writer.field-2
+          c.in-Writer.is c.requires.2).0,
     )
 
 pub append_mapped-requires-clause-over : goal.append_mapped-requires-clause-over
@@ -136,7 +186,8 @@ append_mapped-requires-clause-over t c =
     are_over (length values) c.as_slice-in-Writer.result.now) c.as_slice-in-Writer-2.ensures.value
     ∙ ap (are_over (length c.args.values)) c.as_slice-in-Writer.ensures
     ∙ (ready_writer c.requires.0
-    (length c.args.values) c.args.tree.now c.in-Writer.statement c.in-Writer.forms c.in-Writer.field-2 c.in-Writer.is c.requires.2).1
+    (length c.args.values) c.args.tree.now c.in-Writer.statement c.in-Writer.forms c.in-Writer.field-2 c.in-Writer.is
+    c.requires.2).1
 
 pub returns-in-Zero : goal.returns-in-Zero
 returns-in-Zero t c = sym (walked_zero c.args.values c.args.tree.now _ c.in-Zero.is)

@@ -1,0 +1,10 @@
+pub mod Codecs
+pub mod Counted
+pub mod Cuts
+pub mod Found
+pub mod Gathered
+pub mod Judged
+pub mod Many
+pub mod Numerals
+pub mod Spelled
+pub mod Worked

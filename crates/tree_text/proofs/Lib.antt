@@ -1,0 +1,5 @@
+pub mod Gathering
+pub mod Levels
+pub mod ReadBack
+pub mod Spaced
+pub mod Spellings

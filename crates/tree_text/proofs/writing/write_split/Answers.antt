@@ -1,0 +1,7 @@
+use Rattle.std.proofs.Common.{codes}
+use Rattle.tree_text.proofs.Spaced.{form_line_wrote}
+use Rattle.tree_text.proofs.writing.write_split.Goals as goal
+
+pub returns : goal.returns
+returns g c =
+    form_line_wrote g.W.TextWriter.given (codes "b") c.args.form.now c.put.ensures c.write_form.ensures c.put-2.ensures

@@ -1,0 +1,13 @@
+//! The texts of trees with their proofs.
+#![tactic(auto)]
+
+mod law;
+mod lines;
+mod reading;
+#[cfg(test)]
+mod tests;
+mod writing;
+
+pub use law::reads_what_is_written;
+pub use reading::read_tree;
+pub use writing::write_tree;

@@ -1,10 +1,15 @@
--- The network that a nest is compiled to, with its certificate, fits the nest and can be read from its text.
-use Rattle.std.proofs.Common.{◌≡◌, ℕ, zero, suc, ◌+◌, ◌<◌, ◌≤◌, ◌^◌, max, Option, Some, None, List, [], ◌∷◌, length, map, take, slice_get, refl, ap, arith}
+-- The network that a nest is compiled to, with its certificate, fits the nest and has a text.
+use Rattle.std.proofs.Common.{◌≡◌, ℕ, zero, suc, ◌+◌, ◌<◌, ◌≤◌, ◌^◌, max, Option, Some, None, List, [], ◌∷◌, length}
+use Rattle.std.proofs.Common.{map, replicate, take, slice_get, refl, sym, ap, subst, arith}
+use Rattle.std.specs.Prelude.{All}
 use Rattle.std.specs.List.{fold, range_with_len}
 use Rattle.std.specs.Option.{option_map_or}
 use Rattle.std.proofs.lemmas.List.{length-replicate, length-take}
+use Rattle.std.proofs.lemmas.List.Elements.{All-cons, All-nil}
 use Rattle.std.proofs.lemmas.List.Sums.{count_by-le-length}
-use Rattle.cert_text.specs.CertText.{AreInRange}
+use Rattle.cert_text.specs.CertText.{OriginIsInRange}
+use Rattle.cert_text.specs.Folding.{most_events}
+use Rattle.cert_text.specs.StandsFor.{HasText}
 use Rattle.derived_names.proofs.Classes.{has_classes_of_uses}
 use Rattle.derived_names.proofs.Names.{names_last_writers}
 use Rattle.sanlp.specs.Size.{SizeIsOk}
@@ -14,11 +19,12 @@ use Rattle.net_core.proofs.Ready.{script_short}
 use Rattle.net_core.specs.Cuts.{Cut, cut_after, opening}
 use Rattle.net_core.specs.declared.network.Channel.{Channel}
 use Rattle.net_core.specs.Machine.{Net, net_of}
-use Rattle.net_core.specs.Shape.{FitsNumbers, is_put}
-use Rattle.net_maker.proofs.Fitting.{fits_with}
+use Rattle.net_core.specs.Shape.{FitsNumbers, events_below, is_put}
+use Rattle.net_maker.proofs.Fitting.{fits_with, swept_are_usable}
 use Rattle.net_maker.proofs.Numbers.{numbers_stay}
 use Rattle.net_maker.specs.Certificates.{cert_of}
-use Rattle.process_derive.proofs.Numbers.{numbers_fit}
+use Rattle.process_derive.proofs.Bounds.{few_entries}
+use Rattle.process_derive.proofs.Numbers.{has_few_events, numbers_fit}
 use Rattle.process_derive.proofs.Wired.{is_wired}
 use Rattle.process_derive.proofs.Shaped.{fits_nest}
 use Rattle.process_derive.specs.Derived.{net}
@@ -30,7 +36,7 @@ use Rattle.witness_plan.proofs.Planned.{ends_all}
 use Rattle.witness_plan.specs.declared.schedules.Policy.{Policy}
 use Rattle.witness_plan.specs.Schedules.{planned_network, schedule}
 use Rattle.witness_plan.specs.Sequential.{capacities, channels_with, greatest_length, queue_length}
-use Rattle.cert_ranges.proofs.Ranges.{in_range}
+use Rattle.cert_ranges.proofs.Ranges.{has_text}
 
 pub planned_fits : (n : Nest) (policy : Policy) → Fits n (planned_network n policy) (cert_of n policy)
 planned_fits n policy =
@@ -38,7 +44,8 @@ planned_fits n policy =
     (has_classes_of_uses n)
     (net_kept (net n) (capacities (net n) (schedule n policy)))
     (wired_kept (net n) (capacities (net n) (schedule n policy)) (is_wired n))
-    (length-replicate (read_total n) Sweep) (ends_all n policy)
+    (length-replicate (read_total n) Sweep) (swept_are_usable n (cert_of n policy) (read_total n) refl)
+    (ends_all n policy)
 
 -- Capacities
 
@@ -50,7 +57,11 @@ greatest_within f limit first (k ∷ ks) all le = greatest_within f limit (max f
 -- a queue is never longer than its writer's script
 queue_within : (m : Net) (cut : Cut) (c : ℕ) → queue_length m cut c ≤ length (m.script (m.writer c))
 queue_within m cut c =
-    omega (arith, count_by-le-length (is_put c) (take (cut (m.writer c)) (m.script (m.writer c))), length-take (cut (m.writer c)) (m.script (m.writer c)))
+    omega (
+      arith,
+      count_by-le-length (is_put c) (take (cut (m.writer c)) (m.script (m.writer c))),
+      length-take (cut (m.writer c)) (m.script (m.writer c)),
+    )
 
 capacity_within : (channels : List Channel) (rooms : List ℕ) (limit : ℕ) → Each (λ room. room ≤ limit) rooms
     → (c : ℕ) (channel : Channel) → slice_get (channels_with channels rooms) c ≡ Some channel → channel.capacity ≤ limit
@@ -80,7 +91,11 @@ planned_small n policy sized c =
     let one : (d : ℕ) → greatest_length m run d ≤ 4294967295 = λ d.
     greatest_within (λ k. queue_length m (cut_after opening (take k run)) d) 4294967295 0
     (range_with_len 0 (length run + 1))
-    (λ k. omega (arith, queue_within m (cut_after opening (take k run)) d, script_short m (is_wired n) (numbers_fit n sized) (m.writer d))) (omega arith) in
+    (λ k. omega (
+      arith,
+      queue_within m (cut_after opening (take k run)) d,
+      script_short m (is_wired n) (numbers_fit n sized) (m.writer d),
+    )) (omega arith) in
     let all : Each (λ room. room ≤ 4294967295) (capacities (net n) run) =
     each_map (λ room. room ≤ 4294967295) (greatest_length m run) (range_with_len 0 (length (net n).channels))
     (each_of (λ d. greatest_length m run d ≤ 4294967295) (range_with_len 0 (length (net n).channels)) one) in
@@ -96,8 +111,30 @@ planned_few n policy sized =
     numbers_stay (net_of (net n)) (net_of (planned_network n policy)) (net_of (planned_network n policy)).capacity
     (net_kept (net n) (capacities (net n) (schedule n policy))) (numbers_fit n sized)
 
-pub planned_in_range : (n : Nest) (policy : Policy) → SizeIsOk n
-    → AreInRange (planned_network n policy) (cert_of n policy)
-planned_in_range n policy sized =
-    in_range n (planned_network n policy) (cert_of n policy) (planned_fits n policy) (planned_few n policy sized)
-    (planned_small n policy sized)
+-- where every read is swept, there is no tree
+swept_in_range : (m : ℕ) → All OriginIsInRange (replicate m Sweep)
+swept_in_range zero = All-nil OriginIsInRange
+swept_in_range (suc m) = All-cons OriginIsInRange Sweep (replicate m Sweep) tt (swept_in_range m)
+
+-- other capacities leave the events as they are
+same_events : (m : Net) (room : ℕ → ℕ) (p : ℕ) → events_below (record m { capacity = room }) p ≡ events_below m p
+same_events m room zero = refl
+same_events m room (suc p) = ap (λ (k : ℕ). k + length (m.script p)) (same_events m room p)
+
+events_stay : (m changed : Net) (room : ℕ → ℕ) (limit : ℕ) → changed ≡ record m { capacity = room }
+    → events_below m m.processes ≤ limit → events_below changed changed.processes ≤ limit
+events_stay m changed room limit is few =
+    subst (λ (other : Net). events_below other other.processes ≤ limit) (sym is)
+    (subst (λ (k : ℕ). k ≤ limit) (sym (same_events m room m.processes)) few)
+
+planned_events : (n : Nest) (policy : Policy) → SizeIsOk n
+    → events_below (net_of (planned_network n policy)) (net_of (planned_network n policy)).processes ≤ most_events
+planned_events n policy sized =
+    events_stay (net_of (net n)) (net_of (planned_network n policy))
+    (net_of (planned_network n policy)).capacity most_events
+    (net_kept (net n) (capacities (net n) (schedule n policy))) (omega (arith, has_few_events n, few_entries n sized))
+
+pub planned_has_text : (n : Nest) (policy : Policy) → SizeIsOk n → HasText (planned_network n policy) (cert_of n policy)
+planned_has_text n policy sized =
+    has_text n (planned_network n policy) (cert_of n policy) (planned_fits n policy) (planned_few n policy sized)
+    (planned_small n policy sized) (swept_in_range (read_total n)) (planned_events n policy sized)

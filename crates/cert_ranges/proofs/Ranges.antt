@@ -1,14 +1,20 @@
--- A network and a certificate that fit a nest can be read from their text, where the network's numbers are few and its capacities small.
-use Rattle.std.proofs.Common.{◌≡◌, ℕ, ◌<◌, ◌≤◌, ◌^◌, true, Option, Some, None, List, [], ◌∷◌, length, slice_get, get_or, refl, ap, ◌∙◌, subst, arith, take_all}
+-- A network and a certificate that fit a nest have a text, where the network's numbers and events are few, its
+-- capacities small, and the certificate's trees in range.
+use Rattle.std.proofs.Common.{◌≡◌, ℕ, ◌<◌, ◌≤◌, ◌^◌, true, Option, Some, None, List, [], ◌∷◌, length, slice_get, get_or}
+use Rattle.std.proofs.Common.{refl, ap, ◌∙◌, subst, arith, take_all}
 use Rattle.std.specs.Prelude.{All}
 use Rattle.std.specs.List.{sum_by}
 use Rattle.std.specs.Option.{option_map_or}
 use Rattle.std.proofs.lemmas.List.Elements.{All-cons, All-nil}
 use Rattle.std.proofs.lemmas.List.Sums.{count_by-le-length}
 use Rattle.std.proofs.lemmas.Option.{slice_get-get_or, slice_get_within}
-use Rattle.cert_text.specs.CertText.{AreInRange, ChannelIsInRange, EventIsInRange, IsInRange, ProcessIsInRange, RefIsInRange}
+use Rattle.cert_lines.specs.Words.{IsInRange}
+use Rattle.cert_text.specs.CertText.{ChannelIsInRange, EventIsInRange, OriginIsInRange, RefIsInRange}
+use Rattle.cert_text.specs.Folding.{most_events}
+use Rattle.cert_text.specs.StandsFor.{HasText}
+use Rattle.cert_text.proofs.Lengths.{all_events}
 use Rattle.channel_plan.proofs.Nests.{few_before}
-use Rattle.net_checker.proofs.Numbers.{few_read_count}
+use Rattle.sanlp.proofs.NestFacts.{few_read_count}
 use Rattle.net_checker.specs.Fits.{Fits}
 use Rattle.net_checker.specs.Shapes.{read_total}
 use Rattle.net_core.proofs.EveryOrder.{ends_always}
@@ -22,7 +28,7 @@ use Rattle.net_core.specs.declared.refs.Ref.{Ref}
 use Rattle.net_core.specs.declared.refs.Ref.TheVariants.{Zero, Slot}
 use Rattle.net_core.specs.Machine.{Net, Rule, State, can_come, net_of, next, step, IsRun}
 use Rattle.net_core.specs.Rules.{tags}
-use Rattle.net_core.specs.Shape.{FitsNumbers, IsWired, IsWithin, is_any_get}
+use Rattle.net_core.specs.Shape.{FitsNumbers, IsWired, IsWithin, events_below, is_any_get}
 use Rattle.sanlp.specs.declared.nest.Nest.{Nest}
 use Rattle.source_tree.specs.declared.cert.Cert.{Cert}
 
@@ -66,8 +72,10 @@ module _ (n : Nest) (network : Network) (cert : Cert) (fits : Fits n network cer
       omega (arith, fits.shape.shaped.few_slots p, count_by-le-length is_any_get ((net_of network).script p), short p)
 
   event_in_range : (p k : ℕ) (e : Event) → slice_get ((net_of network).script p) k ≡ Some e → EventIsInRange e
-  event_in_range p k (Get c slot) is =
-      (omega (arith, wired.get_channel p k c slot is, few.channels), omega (arith, wired.get_slot p k c slot is, few_slots p))
+  event_in_range p k (Get c slot) is = (
+    omega (arith, wired.get_channel p k c slot is, few.channels),
+    omega (arith, wired.get_slot p k c slot is, few_slots p),
+  )
   event_in_range p k (Fire refs) is = (
     omega (arith, fits.shape.references p k refs is, few_read_count n p),
     λ i d lt. ref_in_range ((net_of network).slots p) (get_or refs i d) (few_slots p)
@@ -75,20 +83,19 @@ module _ (n : Nest) (network : Network) (cert : Cert) (fits : Fits n network cer
   )
   event_in_range p k (Put c) is = omega (arith, wired.put_channel p k c is, few.channels)
 
-  process_in_range : (p : ℕ) (process : Process) → slice_get network.processes p ≡ Some process
-      → ProcessIsInRange process
-  process_in_range p process there =
-      let script : (net_of network).script p ≡ process.script =
-      ap (λ (o : Option Process). option_map_or (λ process. process.script) o []) there in
+  slots_in_range : (p : ℕ) (process : Process) → slice_get network.processes p ≡ Some process → IsInRange process.slots
+  slots_in_range p process there =
       let slots : (net_of network).slots p ≡ process.slots =
       ap (λ (o : Option Process). option_map_or (λ process. process.slots) o 0) there in
-      record {
-        slots = omega (arith, slots, few_slots p);
-        count = omega (arith, ap length script, short p);
-        events =
-            all_found EventIsInRange process.script
-            (λ k e is. event_in_range p k e (ap (λ es. slice_get es k) script ∙ is));
-      }
+      omega (arith, slots, few_slots p)
+
+  events_in_range : (p : ℕ) (process : Process) → slice_get network.processes p ≡ Some process
+      → All EventIsInRange process.script
+  events_in_range p process there =
+      let script : (net_of network).script p ≡ process.script =
+      ap (λ (o : Option Process). option_map_or (λ process. process.script) o []) there in
+      all_found EventIsInRange process.script
+      (λ k e is. event_in_range p k e (ap (λ es. slice_get es k) script ∙ is))
 
   channel_in_range : ((c : ℕ) → (net_of network).capacity c < 2 ^ 32) → (c : ℕ) (channel : Channel)
       → slice_get network.channels c ≡ Some channel → ChannelIsInRange channel
@@ -107,14 +114,25 @@ module _ (n : Nest) (network : Network) (cert : Cert) (fits : Fits n network cer
         capacity = omega (arith, capacity, small c);
       }
 
-  pub in_range : ((c : ℕ) → (net_of network).capacity c < 2 ^ 32) → AreInRange network cert
-  in_range small = record {
+  pub has_text : ((c : ℕ) → (net_of network).capacity c < 2 ^ 32) → All OriginIsInRange cert.sources
+      → events_below (net_of network) (net_of network).processes ≤ most_events → HasText network cert
+  has_text small sources short = record {
     process_count = omega (arith, few.processes);
     channel_count = omega (arith, few.channels);
     source_count = omega (arith, fits.sources, few_read_total n);
-    entry_count =
-        omega (arith, (ends_always (net_of network) tags wired cert.schedule fits.ends.0 fits.ends.1).events cert.schedule fits.ends, few.events);
-    processes = all_found ProcessIsInRange network.processes process_in_range;
+    slots = all_found (λ (process : Process). IsInRange process.slots) network.processes slots_in_range;
+    events = all_found (λ (process : Process). All EventIsInRange process.script) network.processes events_in_range;
     channels = all_found ChannelIsInRange network.channels (channel_in_range small);
+    sources = sources;
     schedule = entries_in_range (net_of network) tags wired few _ cert.schedule fits.ends.0;
+    short = record {
+      events = omega (arith, all_events network, short);
+      entries =
+          omega (
+            arith,
+            (ends_always (net_of network) tags wired cert.schedule fits.ends.0 fits.ends.1).events
+                cert.schedule fits.ends,
+            short,
+          );
+    };
   }

@@ -1,4 +1,4 @@
-ghost use Rattle.cert_text.specs.CertText.{AreInRange};
+ghost use Rattle.cert_text.specs.StandsFor.{HasText};
 ghost use Rattle.sanlp.specs.Size.{SizeIsOk};
 ghost use Rattle.net_checker.specs.Fits.{Fits};
 ghost use Rattle.net_maker.specs.Certificates.{cert_of};
@@ -14,9 +14,10 @@ pub fn planned_network_fits()
     ensures { (n : Nest) (policy : Policy) → Fits n (planned_network n policy) (cert_of n policy) }
 {}
 
-/// Where the size of the nest is within its limit, each number of that network and certificate is within 32 bits, and each
-/// fire has at most eight references. So they are read from their text.
-pub fn planned_network_is_in_range()
+/// Where the size of the nest is within its limit, each number of that network and certificate is within 32 bits, each fire has
+/// at most eight references, and all scripts together have at most 17 events for each entry of the trace, as the schedule has. So
+/// the pair has a text.
+pub fn planned_network_has_text()
     ensures { (n : Nest) (policy : Policy) → SizeIsOk n
-        → AreInRange (planned_network n policy) (cert_of n policy) }
+        → HasText (planned_network n policy) (cert_of n policy) }
 {}

@@ -1,14 +1,18 @@
-pub mod Codecs
-pub mod Counted
-pub mod Cuts
 pub mod Fires
-pub mod Found
 pub mod Judged
+pub mod KeptSame
 pub mod Lengths
-pub mod Many
-pub mod Numerals
+pub mod Levels
+pub mod Lists
+pub mod PartsBack
+pub mod Proper
 pub mod ReadBack
 pub mod References
-pub mod Spelled
+pub mod Shortness
 pub mod Spellings
-pub mod Worked
+pub mod Stands
+pub mod Stretching
+pub mod Texts
+pub mod Written
+pub mod Grown
+mod Worked

@@ -1,4 +1,4 @@
--- The text of a network with its certificate: lines of words.
+-- The text of a network with its certificate: lines of words. What it keeps is folded: scripts and schedule as blocks.
 use Rattle.std.specs.Prelude.{◌≤◌, ℕ, List, [], ◌∷◌, ◌++◌, All, codes, decimal, length, map}
 use Rattle.std.specs.List.{flat_map}
 use Rattle.net_core.specs.declared.refs.Ref.{Ref}
@@ -6,15 +6,20 @@ use Rattle.net_core.specs.declared.refs.Ref.TheVariants.{Zero, Slot}
 use Rattle.net_core.specs.declared.network.Channel.{Channel}
 use Rattle.net_core.specs.declared.network.Event.{Event}
 use Rattle.net_core.specs.declared.network.Event.TheVariants.{Get, Fire, Put}
-use Rattle.net_core.specs.declared.network.Network.{Network}
-use Rattle.net_core.specs.declared.network.Process.{Process}
-use Rattle.source_tree.specs.declared.cert.Cert.{Cert}
+use Rattle.script_blocks.specs.declared.blocks.BlockPart.{BlockPart}
+use Rattle.script_blocks.specs.declared.blocks.BlockPart.TheOpen.{BlockPart-F, Blocks-F, Item, Repeat}
+use Rattle.script_blocks.specs.declared.blocks.BlockPart.TheFolds.{fold-BlockPart}
 use Rattle.source_tree.specs.declared.cert.Origin.{Origin}
-use Rattle.source_tree.specs.declared.cert.Origin.TheVariants.{Sweep}
+use Rattle.source_tree.specs.declared.cert.Origin.TheVariants.{Sweep, Tree}
 use Rattle.text_out.specs.Words.{line_text}
 use Rattle.net_text.specs.NetworkText.{class_word}
+use Rattle.cert_lines.specs.Words.{IsInRange}
+use Rattle.tree_text.specs.TreeText.{TreeIsInRange, tree_text}
+use Rattle.cert_text.specs.declared.places.Version.{Version}
+use Rattle.cert_text.specs.declared.places.Version.TheVariants.{One, Two}
+use Rattle.cert_text.specs.Folding.{BlocksAreInRange, Folded, FoldedProcess}
 
--- Processes
+-- Events and entries
 
 -- a slot by its number, and no token by `z`
 abbrev pub ref_word : Ref → List ℕ
@@ -29,14 +34,40 @@ event_words (Put channel) = codes "p" ∷ decimal channel ∷ []
 abbrev pub event_text : Event → List ℕ
 event_text event = line_text (event_words event)
 
--- a process with its numbers of slots and of events
-abbrev pub process_head : Process → List ℕ
-process_head process =
-    line_text (codes "process" ∷ decimal process.slots ∷ decimal (length process.script) ∷ [])
+-- an entry of the schedule: a process number
+abbrev pub entry_text : ℕ → List ℕ
+entry_text process = line_text (decimal process ∷ [])
 
--- the same, and then its events
-abbrev pub process_text : Process → List ℕ
-process_text process = process_head process ++ flat_map event_text process.script
+-- Parts
+
+abbrev pub repeat_text : ℕ → ℕ → List ℕ
+repeat_text count parts = line_text (codes "r" ∷ decimal count ∷ decimal parts ∷ [])
+
+abbrev pub part_lines : {T : Type 0} → (T → List ℕ) → BlockPart-F T (List ℕ) (List (List ℕ)) → List ℕ
+part_lines item (Item x) = item x
+part_lines item (Repeat count body) =
+    repeat_text count (length body) ++ flat_map (λ part. part) body
+
+abbrev pub body_lines : {T : Type 0} → Blocks-F T (List ℕ) (List (List ℕ)) → List (List ℕ)
+body_lines blocks = blocks.parts
+
+-- an item is its line; a repeat is a line with its count and its number of parts, and then these
+abbrev pub part_text : {T : Type 0} → (T → List ℕ) → BlockPart T → List ℕ
+part_text {T} item = fold-BlockPart T (List ℕ) (List (List ℕ)) (part_lines item) body_lines
+
+abbrev pub parts_text : {T : Type 0} → (T → List ℕ) → List (BlockPart T) → List ℕ
+parts_text item parts = flat_map (part_text item) parts
+
+-- Processes
+
+-- a process with its numbers of slots and of parts
+abbrev pub process_head : FoldedProcess → List ℕ
+process_head process = line_text (
+    codes "process" ∷ decimal process.slots ∷ decimal (length process.script.parts) ∷ [])
+
+-- the same, and then its parts
+abbrev pub process_text : FoldedProcess → List ℕ
+process_text process = process_head process ++ parts_text event_text process.script.parts
 
 -- Channels
 
@@ -47,45 +78,48 @@ channel_text channel = line_text (
     ∷ decimal channel.capacity
     ∷ class_word channel.class ∷ [])
 
--- The certificate
+-- Sources
 
+-- a source: `sweep`, or `tree` and the lines of the tree
 abbrev pub source_text : Origin → List ℕ
 source_text Sweep = line_text (codes "sweep" ∷ [])
-
--- an entry of the schedule: a process number
-abbrev pub entry_text : ℕ → List ℕ
-entry_text process = line_text (decimal process ∷ [])
+source_text (Tree tree) = line_text (codes "tree" ∷ []) ++ tree_text tree
 
 -- The text
 
--- the version of the text
-abbrev pub head_text : List ℕ
-head_text = line_text (codes "cert" ∷ codes "1" ∷ [])
+abbrev pub version_word : Version → List ℕ
+version_word One = codes "1"
+version_word Two = codes "2"
 
--- how many processes, channels, sources and entries follow
-abbrev pub sizes_text : Network → Cert → List ℕ
-sizes_text network cert = line_text (
-    codes "sizes" ∷ decimal (length network.processes) ∷ decimal (length network.channels)
-    ∷ decimal (length cert.sources)
-    ∷ decimal (length cert.schedule) ∷ [])
+abbrev pub head_text : Version → List ℕ
+head_text version = line_text (codes "cert" ∷ version_word version ∷ [])
+
+-- how many processes, channels, sources and parts of the schedule follow
+abbrev pub sizes_text : Folded → List ℕ
+sizes_text folded = line_text (
+    codes "sizes" ∷ decimal (length folded.processes) ∷ decimal (length folded.channels)
+    ∷ decimal (length folded.sources)
+    ∷ decimal (length folded.schedule.parts) ∷ [])
 
 abbrev pub end_text : List ℕ
 end_text = line_text (codes "end" ∷ [])
 
-abbrev pub cert_text : Network → Cert → List ℕ
-cert_text network cert =
-    head_text
-    ++ (sizes_text network cert
-    ++ (flat_map process_text network.processes
-    ++ (flat_map channel_text network.channels
-    ++ (flat_map source_text cert.sources
-    ++ (flat_map entry_text cert.schedule
+abbrev pub folded_text : Version → Folded → List ℕ
+folded_text version folded =
+    head_text version
+    ++ (sizes_text folded
+    ++ (flat_map process_text folded.processes
+    ++ (flat_map channel_text folded.channels
+    ++ (flat_map source_text folded.sources
+    ++ (parts_text entry_text folded.schedule.parts
     ++ end_text)))))
 
--- Which pairs have a text that can be read: each number is at most 4,294,967,295, and a fire has at most eight references.
+-- What has a text of a version: each number is at most 4,294,967,295, a fire has at most eight references, each tree is one
+-- whose text can be read, and repeats nest at most 512 deep; version 1 has none.
 
-abbrev pub IsInRange : ℕ → Type 0
-IsInRange number = number ≤ 4294967295
+abbrev pub most_levels : Version → ℕ
+most_levels One = 0
+most_levels Two = 512
 
 abbrev pub RefIsInRange : Ref → Type 0
 RefIsInRange Zero = Unit {0}
@@ -96,10 +130,9 @@ EventIsInRange (Get channel slot) = IsInRange channel × IsInRange slot
 EventIsInRange (Fire refs) = (length refs ≤ 8) × All RefIsInRange refs
 EventIsInRange (Put channel) = IsInRange channel
 
-pub record ProcessIsInRange (process : Process) : Type 0 where
+pub record ProcessIsInRange (levels : ℕ) (process : FoldedProcess) : Type 0 where
   pub slots : IsInRange process.slots
-  pub count : IsInRange (length process.script)
-  pub events : All EventIsInRange process.script
+  pub script : BlocksAreInRange EventIsInRange levels process.script
 
 pub record ChannelIsInRange (channel : Channel) : Type 0 where
   pub writer : IsInRange channel.writer
@@ -107,11 +140,15 @@ pub record ChannelIsInRange (channel : Channel) : Type 0 where
   pub read : IsInRange channel.read
   pub capacity : IsInRange channel.capacity
 
-pub record AreInRange (network : Network) (cert : Cert) : Type 0 where
-  pub process_count : IsInRange (length network.processes)
-  pub channel_count : IsInRange (length network.channels)
-  pub source_count : IsInRange (length cert.sources)
-  pub entry_count : IsInRange (length cert.schedule)
-  pub processes : All ProcessIsInRange network.processes
-  pub channels : All ChannelIsInRange network.channels
-  pub schedule : All IsInRange cert.schedule
+abbrev pub OriginIsInRange : Origin → Type 0
+OriginIsInRange Sweep = Unit {0}
+OriginIsInRange (Tree tree) = TreeIsInRange tree
+
+pub record IsInRangeOf (version : Version) (folded : Folded) : Type 0 where
+  pub process_count : IsInRange (length folded.processes)
+  pub channel_count : IsInRange (length folded.channels)
+  pub source_count : IsInRange (length folded.sources)
+  pub processes : All (ProcessIsInRange (most_levels version)) folded.processes
+  pub channels : All ChannelIsInRange folded.channels
+  pub sources : All OriginIsInRange folded.sources
+  pub schedule : BlocksAreInRange IsInRange (most_levels version) folded.schedule

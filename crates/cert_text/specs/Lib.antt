@@ -1,4 +1,9 @@
-pub mod CertText
 pub mod Words
 pub mod Places
+pub mod Folding
+pub mod CertText
+pub mod Stretches
 pub mod Reading
+pub mod Kept
+pub mod StandsFor
+pub mod Writing

@@ -4,33 +4,41 @@ use Rattle.std.specs.List.{join_with_byte}
 use Rattle.net_core.specs.declared.network.Channel.{Channel}
 use Rattle.net_core.specs.declared.network.Event.{Event}
 use Rattle.net_core.specs.declared.network.Event.TheVariants.{Get, Fire, Put}
-use Rattle.source_tree.specs.declared.cert.Origin.{Origin}
-use Rattle.source_tree.specs.declared.cert.Origin.TheVariants.{Sweep}
-use Rattle.cert_text.specs.declared.error.Fault.{Fault}
-use Rattle.cert_text.specs.declared.error.Fault.TheVariants.{Words}
+use Rattle.cert_lines.specs.declared.error.Fault.{Fault}
+use Rattle.cert_lines.specs.declared.error.Fault.TheVariants.{Words}
+use Rattle.cert_lines.specs.Words.{both, made, number}
+use Rattle.cert_text.specs.declared.places.PartLine.{PartLine}
+use Rattle.cert_text.specs.declared.places.PartLine.TheVariants as of_part
 use Rattle.cert_text.specs.declared.places.Sizes.{Sizes}
 use Rattle.cert_text.specs.declared.places.ProcessHead.{ProcessHead}
-use Rattle.cert_text.specs.Words.{both, class, made, number, references}
+use Rattle.cert_text.specs.declared.places.SourceLine.{SourceLine}
+use Rattle.cert_text.specs.declared.places.SourceLine.TheVariants.{Sweep, Tree}
+use Rattle.cert_text.specs.declared.places.Version.{Version}
+use Rattle.cert_text.specs.declared.places.Version.TheVariants.{One, Two}
+use Rattle.cert_text.specs.Words.{at_least, class, references}
 
--- just this text
-abbrev pub just : List ℕ → List (List ℕ) → Result Unit Fault
-just text words = if bytes_eq (join_with_byte 32 words) text then Ok tt else Err Words
+-- `cert` and the version
+abbrev pub version_line : List (List ℕ) → Result Version Fault
+version_line words =
+    if bytes_eq (join_with_byte 32 words) (codes "cert 1") then Ok One
+    else if bytes_eq (join_with_byte 32 words) (codes "cert 2") then Ok Two
+    else Err Words
 
 -- `sizes` and four numbers
 abbrev pub sizes_line : List (List ℕ) → Result Sizes Fault
-sizes_line (word ∷ processes ∷ channels ∷ sources ∷ entries ∷ []) =
+sizes_line (word ∷ processes ∷ channels ∷ sources ∷ parts ∷ []) =
     if bytes_eq word (codes "sizes")
     then made
-    (λ n. record { processes = n.0.0; channels = n.0.1; sources = n.1.0; entries = n.1.1 })
-    (both (both (number processes) (number channels)) (both (number sources) (number entries)))
+    (λ n. record { processes = n.0.0; channels = n.0.1; sources = n.1.0; parts = n.1.1 })
+    (both (both (number processes) (number channels)) (both (number sources) (number parts)))
     else Err Words
 sizes_line words = Err Words
 
 -- `process` and two numbers
 abbrev pub process_line : List (List ℕ) → Result ProcessHead Fault
-process_line (word ∷ slots ∷ events ∷ []) =
+process_line (word ∷ slots ∷ parts ∷ []) =
     if bytes_eq word (codes "process")
-    then made (λ n. record { slots = n.0; events = n.1 }) (both (number slots) (number events))
+    then made (λ n. record { slots = n.0; parts = n.1 }) (both (number slots) (number parts))
     else Err Words
 process_line words = Err Words
 
@@ -67,11 +75,30 @@ channel_line (word ∷ writer ∷ reader ∷ read ∷ capacity ∷ order ∷ [])
     else Err Words
 channel_line words = Err Words
 
--- `sweep`
-abbrev pub source_line : List (List ℕ) → Result Origin Fault
-source_line words = made (λ _. Sweep) (just (codes "sweep") words)
+-- `sweep` or `tree`
+abbrev pub source_line : List (List ℕ) → Result SourceLine Fault
+source_line (word ∷ []) =
+    if bytes_eq word (codes "sweep") then Ok Sweep
+    else if bytes_eq word (codes "tree") then Ok Tree
+    else Err Words
+source_line words = Err Words
 
 -- one number
 abbrev pub entry_line : List (List ℕ) → Result ℕ Fault
 entry_line (process ∷ []) = number process
 entry_line words = Err Words
+
+-- what stands behind `r`: a count from 2, and a number of parts from 1
+abbrev pub repeat_words : {T : Type 0} → List (List ℕ) → Result (PartLine T) Fault
+repeat_words (count ∷ parts ∷ []) =
+    made (λ n. of_part.Repeat n.0 n.1) (both (at_least 2 (number count)) (at_least 1 (number parts)))
+repeat_words words = Err Words
+
+-- an item, or in version 2 a repeat
+abbrev pub part_line : {T : Type 0} → (List (List ℕ) → Result T Fault) → Version → List (List ℕ)
+    → Result (PartLine T) Fault
+part_line item One words = made of_part.Item (item words)
+part_line item Two [] = made of_part.Item (item [])
+part_line item Two (word ∷ words) =
+    if bytes_eq word (codes "r") then repeat_words words
+    else made of_part.Item (item (word ∷ words))

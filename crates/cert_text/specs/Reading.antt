@@ -1,121 +1,103 @@
 -- What the reading of a text comes to.
-use Rattle.std.specs.Prelude.{◌≡◌, ◌≢◌, ℕ, zero, suc, ◌+◌, Option, Some, None, List, [], ◌∷◌, codes, Result, Ok, Err, refl}
-use Rattle.std.specs.Coded.{Coded, code_by, coded×, coded_ℕ, coded_list}
+use Rattle.std.specs.Prelude.{ℕ, zero, suc, ◌+◌, List, Option, Some, None, codes, Result, Ok, Err}
 use Rattle.net_core.specs.declared.network.Network.{Network}
-use Rattle.net_core.specs.declared.network.Process.{Process}
+use Rattle.script_blocks.specs.declared.blocks.BlockPart.{BlockPart}
+use Rattle.script_blocks.specs.declared.blocks.BlockPart.TheVariants.{Item}
+use Rattle.script_blocks.specs.declared.blocks.BlockPart.TheViews.{Repeat}
 use Rattle.source_tree.specs.declared.cert.Cert.{Cert}
-use Rattle.cert_text.specs.declared.error.CertError.{CertError}
-use Rattle.cert_text.specs.declared.error.CertError.TheVariants.{Line, Number, Truncated, Memory}
-use Rattle.cert_text.specs.declared.error.Fault.{Fault}
-use Rattle.cert_text.specs.declared.error.Fault.TheVariants.{Words, Range}
+use Rattle.source_tree.specs.declared.cert.Origin.{Origin}
+use Rattle.source_tree.specs.declared.cert.Origin.TheVariants.{Sweep, Tree}
+use Rattle.cert_lines.specs.declared.error.CertError.{CertError}
+use Rattle.cert_lines.specs.declared.error.CertError.TheVariants.{Deep, Long}
+use Rattle.cert_lines.specs.declared.error.Fault.{Fault}
+use Rattle.cert_lines.specs.Words.{just}
+use Rattle.cert_lines.specs.Reading.{Part, followed_by, found, line, many, text_end}
+use Rattle.cert_text.specs.declared.places.PartLine.{PartLine}
+use Rattle.cert_text.specs.declared.places.PartLine.TheVariants as of_part
 use Rattle.cert_text.specs.declared.places.Sizes.{Sizes}
-use Rattle.cert_text.specs.Words.{cut_at, words_of}
-use Rattle.cert_text.specs.Places.{just, sizes_line, process_line, event_line, channel_line, source_line, entry_line}
+use Rattle.cert_text.specs.declared.places.SourceLine.{SourceLine}
+use Rattle.cert_text.specs.declared.places.SourceLine.TheVariants as of_source
+use Rattle.cert_text.specs.declared.places.Version.{Version}
+use Rattle.cert_text.specs.Folding.{Folded, FoldedProcess, cert_of, network_of, scripts, too_long}
+use Rattle.cert_text.specs.Places.{sizes_line, process_line, event_line, channel_line, source_line, entry_line, part_line, version_line}
+use Rattle.tree_text.specs.Reading.{tree}
 
--- the first line without its line feed, and what stands behind that; none where no line feed stands
-abbrev pub first_line : List ℕ → Option (List ℕ × List ℕ)
-first_line text = cut_at 10 text
+-- Parts
 
--- Parts of the text
+-- what follows a line of a part that may hold no repeat: nothing, and the repeat of line n is too deep
+abbrev pub shallow_behind : {T : Type 0} → ℕ → PartLine T → Part (BlockPart T)
+shallow_behind n (of_part.Item x) at = Ok (Item x, at)
+shallow_behind n (of_part.Repeat count parts) at = Err (Deep n)
 
--- where a part begins: the number of its first line, and the text from there on
-pub record Place : Type 0 where
-  pub line : ℕ
-  pub text : List ℕ
+-- what follows a line of a part, where `inner` reads the parts of a repeat
+abbrev pub part_behind : {T : Type 0} → Part (BlockPart T) → PartLine T → Part (BlockPart T)
+part_behind inner (of_part.Item x) at = Ok (Item x, at)
+part_behind inner (of_part.Repeat count parts) at =
+    followed_by (many inner parts at) (λ body at. Ok (Repeat count (record { parts = body }), at))
 
--- what a part says and where the next one begins, or why it is refused
-abbrev pub Part : Type 0 → Type 0
-Part A = Place → Result (A × Place) CertError
+-- a part whose repeats nest at most so many levels deep; the line of one that nests deeper is judged first
+unfoldable pub part : {T : Type 0} → (List (List ℕ) → Result T Fault) → Version → ℕ → Part (BlockPart T)
+part item version zero at =
+    followed_by (line (part_line item version) at) (shallow_behind at.line)
+part item version (suc levels) at =
+    followed_by (line (part_line item version) at) (part_behind (part item version levels))
 
--- what line n says, before this text
-abbrev pub line_read : {A : Type 0} → ℕ → List ℕ → Result A Fault → Result (A × Place) CertError
-line_read n text (Ok value) = Ok (value, record { line = n + 1; text = text })
-line_read n text (Err Words) = Err (Line n)
-line_read n text (Err Range) = Err (Number n)
+-- The network
 
--- one line, whose words are judged; a text without a line feed ends before it
-abbrev pub cut_read : {A : Type 0} → (List (List ℕ) → Result A Fault) → ℕ → Option (List ℕ × List ℕ)
-    → Result (A × Place) CertError
-cut_read judge n None = Err Truncated
-cut_read judge n (Some cut) = line_read n cut.1 (judge (words_of cut.0))
-
-abbrev pub line : {A : Type 0} → (List (List ℕ) → Result A Fault) → Part A
-line judge at = cut_read judge at.line (first_line at.text)
-
--- a part, and then one that goes by what it said
-abbrev pub followed_by : {A B : Type 0} → Result (A × Place) CertError → (A → Part B)
-    → Result (B × Place) CertError
-followed_by (Ok found) next = next found.0 found.1
-followed_by (Err refusal) next = Err refusal
-
--- so many parts of one kind
-unfoldable pub many : {A : Type 0} → Part A → ℕ → Part (List A)
-many part zero at = Ok ([], at)
-many part (suc count) at =
-    followed_by (part at)
-    (λ value at. followed_by (many part count at) (λ values at. Ok (value ∷ values, at)))
-
--- a line of a process, and its events
-abbrev pub process : Part Process
-process at =
+-- a line of a process, and its parts
+abbrev pub process : Version → Part FoldedProcess
+process version at =
     followed_by (line process_line at) (λ head at.
-    followed_by (many (line event_line) head.events at) (λ script at.
-    Ok (record { slots = head.slots; script = script }, at)))
+    followed_by (many (part event_line version 512) head.parts at) (λ parts at.
+    Ok (record { slots = head.slots; script = record { parts = parts } }, at)))
 
--- as many processes and channels as the sizes say
-abbrev pub network : Sizes → Part Network
-network sizes at =
-    followed_by (many process sizes.processes at) (λ processes at.
+-- a line of a source, and the tree that it announces
+abbrev pub source_behind : SourceLine → Part Origin
+source_behind of_source.Sweep at = Ok (Sweep, at)
+source_behind of_source.Tree at = followed_by (tree at) (λ tree at. Ok (Tree tree, at))
+
+abbrev pub source : Part Origin
+source at = followed_by (line source_line at) source_behind
+
+-- as many processes, channels, sources and parts of the schedule as the sizes say
+abbrev pub folded : Version → Sizes → Part Folded
+folded version sizes at =
+    followed_by (many (process version) sizes.processes at) (λ processes at.
     followed_by (many (line channel_line) sizes.channels at) (λ channels at.
-    Ok (record { processes = processes; channels = channels }, at)))
+    followed_by (many source sizes.sources at) (λ sources at.
+    followed_by (many (part entry_line version 512) sizes.parts at) (λ parts at.
+    Ok (
+      record {
+        processes = processes;
+        channels = channels;
+        sources = sources;
+        schedule = record { parts = parts };
+      },
+      at,
+    )))))
 
--- as many sources and entries of the schedule as the sizes say
-abbrev pub certificate : Sizes → Part Cert
-certificate sizes at =
-    followed_by (many (line source_line) sizes.sources at) (λ sources at.
-    followed_by (many (line entry_line) sizes.entries at) (λ schedule at.
-    Ok (record { sources = sources; schedule = schedule }, at)))
-
--- what is wrong with a text that goes on behind its last line
-abbrev pub goes_on : ℕ → Option (List ℕ × List ℕ) → CertError
-goes_on n None = Truncated
-goes_on n (Some cut) = Line n
-
--- nothing: a text that goes on is refused
-abbrev pub text_end : Part Unit
-text_end at = end_read at at.text
-  where
-    end_read : Place → List ℕ → Result (Unit × Place) CertError
-    end_read at [] = Ok (tt, at)
-    end_read at (byte ∷ bytes) = Err (goes_on at.line (first_line (byte ∷ bytes)))
-
--- the version, the sizes, the network, the certificate, `end`, and nothing behind it
-abbrev pub whole_text : Part (Network × Cert)
+-- the version, the sizes, what it keeps, `end`, and nothing behind it
+abbrev pub whole_text : Part (Version × Folded)
 whole_text at =
-    followed_by (line (just (codes "cert 1")) at) (λ version at.
+    followed_by (line version_line at) (λ version at.
     followed_by (line sizes_line at) (λ sizes at.
-    followed_by (network sizes at) (λ network at.
-    followed_by (certificate sizes at) (λ cert at.
+    followed_by (folded version sizes at) (λ folded at.
     followed_by (line (just (codes "end")) at) (λ last at.
     followed_by (text_end at) (λ nothing at.
-    Ok ((network, cert), at)))))))
+    Ok ((version, folded), at))))))
 
--- what was read, without the place behind it
-abbrev pub found : {A : Type 0} → Result (A × Place) CertError → Result A CertError
-found (Ok read) = Ok read.0
-found (Err refusal) = Err refusal
+-- the pair, unless its scripts or its schedule are too long
+abbrev pub pair_unless : Option ℕ → Network → Cert → Result (Network × Cert) CertError
+pair_unless None network cert = Ok (network, cert)
+pair_unless (Some process) network cert = Err (Long process)
+
+-- what stands for what was kept; that it is too long is told only where nothing else is wrong
+abbrev pub unfolded : Result (Version × Folded) CertError → Result (Network × Cert) CertError
+unfolded (Ok kept) =
+    pair_unless (too_long (scripts (network_of kept.1)) (cert_of kept.1).schedule)
+    (network_of kept.1) (cert_of kept.1)
+unfolded (Err refusal) = Err refusal
 
 -- the network and the certificate of a text, or why it is refused
 unfoldable pub reading : List ℕ → Result (Network × Cert) CertError
-reading text = found (whole_text (record { line = 1; text = text }))
-
--- a place is stored as its line and its text
-abbrev pub place_code : Coded Place
-place_code =
-    code_by (ℕ × List ℕ) (coded× coded_ℕ (coded_list coded_ℕ)) (λ at. (at.line, at.text))
-    (λ pair. record { line = pair.0; text = pair.1 }) (λ _. refl)
-
--- what a part answers and the place that it leaves are what the definition says, unless memory ran out
-abbrev pub Reads : {A : Type 0} → Result A CertError → Place → Result (A × Place) CertError → Type 0
-Reads (Ok value) at wanted = wanted ≡ Ok (value, at)
-Reads (Err refusal) at wanted = refusal ≢ Memory → wanted ≡ Err refusal
+reading text = unfolded (found (whole_text (record { line = 1; text = text })))

@@ -1,66 +1,13 @@
--- Lines, their words, and what a word may be.
-use Rattle.std.specs.Prelude.{ℕ, ◌+◌, ◌-◌, ◌*◌, ◌==◌, ◌&&◌, ◌||◌, Bool, true, false, not, nat_le, if◌then◌else◌, Option, Some, None, List, [], ◌∷◌, bytes_eq, codes, find, fold, length, ok_or, slice_index, Result, Ok, Err}
-use Rattle.std.specs.Char.{is_ascii_digit}
-use Rattle.std.specs.List.{list_all, slice_split}
-use Rattle.std.specs.Option.{option_map}
+-- The words of references, classes and repeats.
+use Rattle.std.specs.Prelude.{ℕ, true, false, nat_le, if◌then◌else◌, List, [], ◌∷◌, bytes_eq, codes, find, ok_or, Result, Ok, Err}
 use Rattle.channel_class.specs.declared.ChannelClass.{ChannelClass}
 use Rattle.channel_class.specs.declared.UseOrder.TheVariants.{InOrder, Reorder}
 use Rattle.net_core.specs.declared.refs.Ref.{Ref}
 use Rattle.net_core.specs.declared.refs.Ref.TheVariants.{Zero, Slot}
 use Rattle.net_text.specs.NetworkText.{class_word}
-use Rattle.cert_text.specs.declared.error.Fault.{Fault}
-use Rattle.cert_text.specs.declared.error.Fault.TheVariants.{Words, Range}
-
--- what stands before the first such byte, and what stands behind it; none where no such byte stands
-abbrev pub cut_at : ℕ → List ℕ → Option (List ℕ × List ℕ)
-cut_at wanted [] = None
-cut_at wanted (byte ∷ bytes) =
-    if byte == wanted then Some ([], bytes)
-    else option_map (λ cut. (byte ∷ cut.0, cut.1)) (cut_at wanted bytes)
-
--- the words of a line: what stands between its spaces
-abbrev pub words_of : List ℕ → List (List ℕ)
-words_of line = slice_split (λ byte. byte == 32) line
-
--- What is judged together: both values, or what is wrong. Wrong words are told before numbers out of range.
-abbrev pub both : {A B : Type 0} → Result A Fault → Result B Fault → Result (A × B) Fault
-both (Ok a) (Ok b) = Ok (a, b)
-both (Ok a) (Err fault) = Err fault
-both (Err Words) b = Err Words
-both (Err Range) (Err Words) = Err Words
-both (Err Range) (Err Range) = Err Range
-both (Err Range) (Ok b) = Err Range
-
--- what a value makes of another
-abbrev pub made : {A B : Type 0} → (A → B) → Result A Fault → Result B Fault
-made f (Ok a) = Ok (f a)
-made f (Err fault) = Err fault
-
--- Numbers
-
--- decimal digits, at least one, and no zero before another
-abbrev pub is_numeral : List ℕ → Bool
-is_numeral word =
-    not (length word == 0) && list_all is_ascii_digit word
-    && (not (slice_index word 0 == 48) || (length word == 1))
-
-abbrev pub numeral_value : List ℕ → ℕ
-numeral_value digits = fold (λ value digit. value * 10 + (digit - 48)) 0 digits
-
--- a `-` and a numeral other than 0
-abbrev pub is_negative : List ℕ → Bool
-is_negative [] = false
-is_negative (byte ∷ word) = (byte == 45) && is_numeral word && not (bytes_eq word (codes "0"))
-
--- a number within 0 to 4,294,967,295
-abbrev pub number : List ℕ → Result ℕ Fault
-number word =
-    if is_numeral word
-    then (if nat_le (numeral_value word) 4294967295 then Ok (numeral_value word) else Err Range)
-    else if is_negative word then Err Range
-    else Err Words
-
--- The other words
+use Rattle.cert_lines.specs.declared.error.Fault.{Fault}
+use Rattle.cert_lines.specs.declared.error.Fault.TheVariants.{Words, Range}
+use Rattle.cert_lines.specs.Words.{both, made, number}
 
 -- `z` for no token, or the number of a slot
 abbrev pub reference : List ℕ → Result Ref Fault
@@ -82,3 +29,8 @@ classes =
 -- the class that has this word
 abbrev pub class : List ℕ → Result ChannelClass Fault
 class word = ok_or (find (λ class. bytes_eq (class_word class) word) classes) Words
+
+-- a number that is not below the least
+abbrev pub at_least : ℕ → Result ℕ Fault → Result ℕ Fault
+at_least least (Ok n) = if nat_le least n then Ok n else Err Range
+at_least least (Err fault) = Err fault

@@ -1,17 +1,17 @@
 //! The texts of networks with their certificates.
 #![tactic(auto)]
 
-mod error;
+mod folded;
+mod gathering;
+mod kept;
 mod law;
 mod lines;
 mod places;
 mod reading;
 #[cfg(test)]
 mod tests;
-mod words;
 mod writing;
 
-pub use error::CertError;
-pub use law::reads_what_is_written;
+pub use law::{reads_what_is_written, what_is_written_stands};
 pub use reading::read_cert;
 pub use writing::write_cert;

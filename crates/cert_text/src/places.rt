@@ -1,51 +1,83 @@
 //! What each place of the text wants of its line.
 
-ghost use Rattle.std.specs.Prelude.{◌≡◌, ◌<◌, ◌++◌, ◌∷◌, [], ℕ, List, Result, IfOk, length};
+ghost use Rattle.std.specs.Prelude.{◌≡◌, ◌<◌, ◌++◌, ◌∷◌, [], IfOk, length};
 ghost use Rattle.net_core.specs.declared.network.Event.TheVariants.{Fire};
-ghost use Rattle.cert_text.specs.declared.error.Fault.{Fault as LineFault};
-ghost use Rattle.cert_text.specs.Words.{both as judged_together, made, words_of};
-ghost use Rattle.cert_text.specs.Places.{channel_line, entry_line, event_line, fire_words, get_words as behind_g, just, process_line, put_words as behind_p, sizes_line, source_line};
+ghost use Rattle.cert_lines.specs.Words.{both as judged_together, made, number as number_of, words_of};
+ghost use Rattle.cert_text.specs.Words.{at_least, class as class_of, reference as reference_of};
+ghost use Rattle.cert_text.specs.Places.{channel_line, entry_line, event_line, fire_words, get_words as behind_g, part_line, process_line, put_words as behind_p, repeat_words as behind_r, sizes_line, source_line, version_line};
+ghost use Rattle.cert_text.specs.declared.places.PartLine.TheVariants.{Item as ItemLine};
 
-use crate::error::Fault;
-use crate::words::{Words, both, class, number, reference};
-use channel_class::ChannelClass;
+use crate::lines::FromLine;
+use cert_lines::{Fault, Words, both, expect_text, number};
+use channel_class::{ChannelClass, UseOrder};
 use net_core::{Channel, Event, Ref, Refs};
-use source_tree::Origin;
 
-/// How many processes, channels, sources and entries of the schedule follow.
+/// The version of a text. Version 1 has no repeats.
+#[derive(Clone, Copy)]
+pub(crate) enum Version {
+    One,
+    Two,
+}
+
+/// What a line of a part says: an item, or a repeat with its count and how many parts follow.
+#[derive(Drop)]
+pub(crate) enum PartLine<T> {
+    Item(T),
+    Repeat(u32, u32),
+}
+
+/// How many processes, channels, sources and parts of the schedule follow.
 #[derive(Clone, Copy)]
 pub(crate) struct Sizes {
     pub(crate) processes: u32,
     pub(crate) channels: u32,
     pub(crate) sources: u32,
-    pub(crate) entries: u32,
+    pub(crate) parts: u32,
 }
 
-/// The number of slots of a process, and how many events follow.
+/// The number of slots of a process, and how many parts follow.
 #[derive(Clone, Copy)]
 pub(crate) struct ProcessHead {
     pub(crate) slots: u32,
-    pub(crate) events: u32,
+    pub(crate) parts: u32,
 }
 
-/// What one line says.
-pub(crate) trait FromLine: Drop {
-    /// What these words say, or what is wrong with them.
-    ghost judged: { List (List ℕ) → Result Self LineFault };
-
-    fn from_line(line: &[u8]) -> Result<Self, Fault>
-        ensures { result ≡ judged (words_of line.now) };
+/// Whether a source is found by a sweep, or a tree follows.
+#[derive(Clone, Copy)]
+pub(crate) enum SourceLine {
+    Sweep,
+    Tree,
 }
 
-/// Refuses a line that isn't just this text.
-pub(crate) fn expect(line: &[u8], text: &[u8]) -> Result<(), Fault>
-    ensures { result ≡ just text.now (words_of line.now) }
+/// A reference: `z` for no token, or the number of a slot.
+fn reference(word: &[u8]) -> Result<Ref, Fault>
+    ensures { result ≡ reference_of word.now }
 {
-    if line == text {
-        Ok(())
-    } else {
-        Err(Fault::Words)
+    if word == b"z".as_slice() {
+        return Ok(Ref::Zero);
     }
+    Ok(Ref::Slot(number(word)?))
+}
+
+/// The class that has this word.
+fn class(word: &[u8]) -> Result<ChannelClass, Fault>
+    ensures { result ≡ class_of word.now }
+{
+    let (order, multiplicity) = if word == b"inorder".as_slice() {
+        (UseOrder::InOrder, false)
+    } else if word == b"inorder+".as_slice() {
+        (UseOrder::InOrder, true)
+    } else if word == b"reorder".as_slice() {
+        (UseOrder::Reorder, false)
+    } else if word == b"reorder+".as_slice() {
+        (UseOrder::Reorder, true)
+    } else {
+        return Err(Fault::Words);
+    };
+    Ok(ChannelClass {
+        order,
+        multiplicity,
+    })
 }
 
 impl FromLine for ProcessHead {
@@ -53,7 +85,7 @@ impl FromLine for ProcessHead {
 
     fn from_line(line: &[u8]) -> Result<ProcessHead, Fault> {
         let mut words = Words::new(line);
-        let (Some(word), Some(slots), Some(events), None) = (
+        let (Some(word), Some(slots), Some(parts), None) = (
             words.next(),
             words.next(),
             words.next(),
@@ -64,22 +96,22 @@ impl FromLine for ProcessHead {
         if word != b"process".as_slice() {
             return Err(Fault::Words);
         }
-        let (slots, events) = both(number(slots), number(events))?;
-        Ok(ProcessHead { slots, events })
+        let (slots, parts) = both(number(slots), number(parts))?;
+        Ok(ProcessHead { slots, parts })
     }
 }
 
 /// The sizes with these numbers.
 fn sizes_of(numbers: Result<((u32, u32), (u32, u32)), Fault>) -> Result<Sizes, Fault>
     ensures { result
-        ≡ made (λ n. record { processes = n.0.0; channels = n.0.1; sources = n.1.0; entries = n.1.1 }) numbers }
+        ≡ made (λ n. record { processes = n.0.0; channels = n.0.1; sources = n.1.0; parts = n.1.1 }) numbers }
 {
-    let ((processes, channels), (sources, entries)) = numbers?;
+    let ((processes, channels), (sources, parts)) = numbers?;
     Ok(Sizes {
         processes,
         channels,
         sources,
-        entries,
+        parts,
     })
 }
 
@@ -88,7 +120,7 @@ impl FromLine for Sizes {
 
     fn from_line(line: &[u8]) -> Result<Sizes, Fault> {
         let mut words = Words::new(line);
-        let (Some(word), Some(processes), Some(channels), Some(sources), Some(entries), None) = (
+        let (Some(word), Some(processes), Some(channels), Some(sources), Some(parts), None) = (
             words.next(),
             words.next(),
             words.next(),
@@ -102,7 +134,7 @@ impl FromLine for Sizes {
             return Err(Fault::Words);
         }
         let first = both(number(processes), number(channels));
-        let second = both(number(sources), number(entries));
+        let second = both(number(sources), number(parts));
         sizes_of(both(first, second))
     }
 }
@@ -227,12 +259,21 @@ impl FromLine for Channel {
     }
 }
 
-impl FromLine for Origin {
+impl FromLine for SourceLine {
     ghost judged = { source_line };
 
-    fn from_line(line: &[u8]) -> Result<Origin, Fault> {
-        expect(line, b"sweep")?;
-        Ok(Origin::Sweep)
+    fn from_line(line: &[u8]) -> Result<SourceLine, Fault> {
+        let mut words = Words::new(line);
+        let (Some(word), None) = (words.next(), words.next()) else {
+            return Err(Fault::Words);
+        };
+        if word == b"sweep".as_slice() {
+            Ok(SourceLine::Sweep)
+        } else if word == b"tree".as_slice() {
+            Ok(SourceLine::Tree)
+        } else {
+            Err(Fault::Words)
+        }
     }
 }
 
@@ -247,4 +288,59 @@ impl FromLine for u32 {
         };
         number(process)
     }
+}
+
+impl FromLine for Version {
+    ghost judged = { version_line };
+
+    fn from_line(line: &[u8]) -> Result<Version, Fault> {
+        if expect_text(line, b"cert 1").is_ok() {
+            Ok(Version::One)
+        } else if expect_text(line, b"cert 2").is_ok() {
+            Ok(Version::Two)
+        } else {
+            Err(Fault::Words)
+        }
+    }
+}
+
+/// A number that is not below the least.
+fn number_from(least: u32, word: &[u8]) -> Result<u32, Fault>
+    ensures { result ≡ at_least least (number_of word.now) }
+{
+    let number = number(word)?;
+    if number < least {
+        return Err(Fault::Range);
+    }
+    Ok(number)
+}
+
+/// What stands behind `r`.
+fn repeat_words<T: Drop>(mut words: Words) -> Result<PartLine<T>, Fault>
+    ensures { result ≡ behind_r words.entry }
+{
+    let (Some(count), Some(parts), None) = (words.next(), words.next(), words.next()) else {
+        return Err(Fault::Words);
+    };
+    let (count, parts) = both(number_from(2, count), number_from(1, parts))?;
+    Ok(PartLine::Repeat(count, parts))
+}
+
+fn item_line<T: Drop>(item: Result<T, Fault>) -> Result<PartLine<T>, Fault>
+    ensures { result ≡ made ItemLine item }
+{
+    Ok(PartLine::Item(item?))
+}
+
+/// What a line of a part says.
+pub(crate) fn part_line_of<T: FromLine>(version: Version, line: &[u8]) -> Result<PartLine<T>, Fault>
+    ensures { result ≡ part_line T.judged version (words_of line.now) }
+{
+    if let Version::Two = version {
+        let mut words = Words::new(line);
+        if words.next() == Some(b"r".as_slice()) {
+            return repeat_words(words);
+        }
+    }
+    item_line(T::from_line(line))
 }

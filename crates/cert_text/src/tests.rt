@@ -1,6 +1,7 @@
 ghost use Rattle.std.specs.Prelude.{◌<◌, ◌^◌, length};
 
-use crate::{CertError, read_cert, write_cert};
+use crate::{read_cert, write_cert};
+use cert_lines::CertError;
 use channel_class::{ChannelClass, UseOrder};
 use io_edge::{MemSink, WriteFault};
 use net_core::{Channel, Event, Network, Process, Ref, Refs};
@@ -10,6 +11,7 @@ use source_tree::{Cert, Origin};
 use std::alloc::{AllocError, Global};
 use std::test::Fail;
 
+// Version 1.
 const TEXT: &[u8] = b"cert 1\n\
     sizes 3 2 2 7\n\
     process 0 2\n\
@@ -34,6 +36,41 @@ const TEXT: &[u8] = b"cert 1\n\
     2\n\
     2\n\
     end\n";
+
+// The same in version 2, as it is written.
+const FOLDED: &[u8] = b"cert 2\n\
+    sizes 3 2 2 3\n\
+    process 0 2\n\
+    f\n\
+    p 0\n\
+    process 1 3\n\
+    g 0 0\n\
+    f 0\n\
+    p 1\n\
+    process 1 2\n\
+    g 1 0\n\
+    f 0\n\
+    channel 0 1 0 1 inorder\n\
+    channel 1 2 0 1 inorder\n\
+    sweep\n\
+    sweep\n\
+    r 2 1\n\
+    0\n\
+    r 3 1\n\
+    1\n\
+    r 2 1\n\
+    2\n\
+    end\n";
+
+// A source as a tree of one leaf, with the proofs that a check of it wants.
+const LEAF: &[u8] = b"tree\n\
+    w 0 1 5\n\
+    m 0 1\n\
+    s 0 1 2 1\n\
+    s 1 1 2 1\n\
+    s 2 1\n\
+    s 2 1\n\
+    s 5 1 6 1\n";
 
 fn get(channel: u32, slot: u32) -> Event {
     Event::Get { channel, slot }
@@ -111,7 +148,7 @@ fn a_network_and_its_certificate_are_written_byte_for_byte(rt: HostRuntime) -> R
     let cert = cert(rt.alloc(), &[0, 0, 1, 1, 1, 2, 2])?;
     let mut sink = MemSink::new(rt.alloc(), 1_000, 7, &[])?;
     assert_eq!(rt; write_cert(&network, &cert, &mut sink), Ok(()));
-    assert_eq!(rt; sink.held(), TEXT);
+    assert_eq!(rt; sink.held(), FOLDED);
     Ok(())
 }
 
@@ -119,34 +156,27 @@ fn a_network_and_its_certificate_are_written_byte_for_byte(rt: HostRuntime) -> R
 fn a_sink_that_fails_midway_holds_a_front(rt: HostRuntime) -> Result<(), Fail> {
     let network = network(rt.alloc())?;
     let cert = cert(rt.alloc(), &[0, 0, 1, 1, 1, 2, 2])?;
-    for room in 0..TEXT.len() {
+    for room in 0..FOLDED.len() {
         let mut sink = MemSink::new(rt.alloc(), room, 100, &[])?;
         assert_eq!(rt; write_cert(&network, &cert, &mut sink), Err(WriteFault));
-        assert_eq!(rt; sink.held(), &TEXT[..room]);
+        assert_eq!(rt; sink.held(), &FOLDED[..room]);
     }
     Ok(())
 }
 
-/// The text of a pair that was read.
-fn written_again(alloc: Global, text: &[u8], network: &Network, cert: &Cert) -> Result<bool, Fail> {
-    let mut sink = MemSink::new(alloc, text.len(), text.len(), &[])?;
-    if write_cert(network, cert, &mut sink).is_err() {
+/// Why a text is refused, or `None` where it is read, and what is written of it then is read too.
+fn refusal(alloc: Global, text: &[u8]) -> Result<Option<CertError>, Fail> {
+    let (network, cert) = match read_cert(alloc, text) {
+        Ok(pair) => pair,
+        Err(error) => return Ok(Some(error)),
+    };
+    let mut sink = MemSink::new(alloc, 10_000, 10_000, &[])?;
+    if write_cert(&network, &cert, &mut sink).is_err() {
         return Err(Fail::from("no room"));
     }
-    Ok(sink.held() == text)
-}
-
-/// Why a text is refused, or `None` where it is read and what was read has this text again.
-fn refusal(alloc: Global, text: &[u8]) -> Result<Option<CertError>, Fail> {
-    match read_cert(alloc, text) {
-        Ok((network, cert)) => {
-            if written_again(alloc, text, &network, &cert)? {
-                Ok(None)
-            } else {
-                Err(Fail::from("another text"))
-            }
-        }
-        Err(error) => Ok(Some(error)),
+    match read_cert(alloc, sink.held()) {
+        Ok(_) => Ok(None),
+        Err(_) => Err(Fail::from("not read again")),
     }
 }
 
@@ -189,7 +219,7 @@ fn what_was_written_reads_back(rt: HostRuntime) -> Result<(), Fail> {
 #[test]
 fn a_changed_line_is_refused_by_its_number(rt: HostRuntime) -> Result<(), Fail> {
     // The number of the line, what stands in its place, and what the text then comes to.
-    let cases: [(usize, &[u8], Option<CertError>); 30] = [
+    let cases: [(usize, &[u8], Option<CertError>); 36] = [
         (24, b"end\n", None),
         (1, b"cert 3\n", Some(CertError::Line(1))),
         (1, b"cert  1\n", Some(CertError::Line(1))),
@@ -225,7 +255,13 @@ fn a_changed_line_is_refused_by_its_number(rt: HostRuntime) -> Result<(), Fail> 
             b"channel 0 1 0 1 inorder++\n",
             Some(CertError::Line(13)),
         ),
-        (15, b"tree\n", Some(CertError::Line(15))),
+        (15, b"sweep 1\n", Some(CertError::Line(15))),
+        (15, b"swee\n", Some(CertError::Line(15))),
+        (15, b"tree\n", Some(CertError::Line(16))),
+        (15, b"tree 0\nz 0\n", Some(CertError::Line(15))),
+        (15, b"tree\nz 0\n", None),
+        (15, b"tree\nz 4294967296\n", Some(CertError::Number(16))),
+        (15, b"tree\nz 0\nz 0\n", Some(CertError::Line(17))),
         (24, b"", Some(CertError::Truncated)),
         (24, b"end\nend\n", Some(CertError::Line(25))),
     ];
@@ -233,6 +269,49 @@ fn a_changed_line_is_refused_by_its_number(rt: HostRuntime) -> Result<(), Fail> 
         let text = with_line(rt.alloc(), number, line)?;
         assert_eq!(rt; refusal(rt.alloc(), &text)?, want, "{number} {line:?}");
     }
+    Ok(())
+}
+
+#[test]
+fn sources_may_be_trees(rt: HostRuntime) -> Result<(), Fail> {
+    let alloc = rt.alloc();
+    let first = with_line(alloc, 15, LEAF)?;
+    assert_eq!(rt; refusal(alloc, &first)?, None);
+    let second = with_line(alloc, 16, LEAF)?;
+    assert_eq!(rt; refusal(alloc, &second)?, None);
+    for len in 0..first.len() {
+        let cut = refusal(alloc, &first[..len])?;
+        assert_eq!(rt; cut, Some(CertError::Truncated), "{len}");
+    }
+    Ok(())
+}
+
+// A line of a tree, and then so many lines of Splits.
+fn deep_proof(alloc: Global, splits: u32) -> Result<Vec<u8>, AllocError> {
+    let mut lines = Vec::from_slice(alloc, b"tree\nx\n")?;
+    for _ in 0..splits {
+        lines.extend_from_slice(b"b 0\n")?;
+    }
+    Ok(lines)
+}
+
+#[test]
+fn a_proof_nests_at_most_512_deep(rt: HostRuntime) -> Result<(), Fail> {
+    let alloc = rt.alloc();
+    // The source stands in line 15, so that the first Split stands in line 17.
+    let lines = deep_proof(alloc, 513)?;
+    let text = with_line(alloc, 15, &lines)?;
+    assert_eq!(rt; refusal(alloc, &text)?, Some(CertError::Deep(529)));
+    let lines = deep_proof(alloc, 512)?;
+    let text = with_line(alloc, 15, &lines)?;
+    assert_eq!(rt; refusal(alloc, &text)?, Some(CertError::Line(529)));
+    // As deep as it may be: 511 Splits, and a Sum in each of their branches.
+    let mut lines = deep_proof(alloc, 511)?;
+    for _ in 0..512 {
+        lines.extend_from_slice(b"s\n")?;
+    }
+    let text = with_line(alloc, 15, &lines)?;
+    assert_eq!(rt; refusal(alloc, &text)?, None);
     Ok(())
 }
 
@@ -256,5 +335,128 @@ fn a_text_that_is_cut_short_is_truncated(rt: HostRuntime) -> Result<(), Fail> {
 #[test]
 fn an_empty_network_has_three_lines(rt: HostRuntime) -> Result<(), Fail> {
     assert_eq!(rt; refusal(rt.alloc(), b"cert 1\nsizes 0 0 0 0\nend\n")?, None);
+    Ok(())
+}
+
+/// The text of version 2 with these lines in place of so many from this number on.
+fn with_lines(
+    alloc: Global,
+    number: usize,
+    count: usize,
+    lines: &[u8],
+) -> Result<Vec<u8>, AllocError> {
+    let mut text = Vec::new(alloc);
+    for (at, old) in FOLDED.split(|byte| *byte == b'\n').enumerate() {
+        if at + 1 == number {
+            text.extend_from_slice(lines)?;
+        }
+        let stays = at + 1 < number || at + 1 >= number.saturating_add(count);
+        if stays && at < 23 {
+            text.extend_from_slice(old)?;
+            text.push(b'\n')?;
+        }
+    }
+    Ok(text)
+}
+
+#[test]
+fn repeats_are_judged_line_by_line(rt: HostRuntime) -> Result<(), Fail> {
+    // Which lines, what stands in their place, and what the text then comes to.
+    let cases: [(usize, usize, &[u8], Option<CertError>); 25] = [
+        (23, 1, b"end\n", None),
+        (19, 1, b"r 2 1\n", None),
+        (17, 1, b"r 1 1\n", Some(CertError::Number(17))),
+        (17, 1, b"r 0 1\n", Some(CertError::Number(17))),
+        (17, 1, b"r 2 0\n", Some(CertError::Number(17))),
+        (17, 1, b"r -2 1\n", Some(CertError::Number(17))),
+        (17, 1, b"r 4294967296 1\n", Some(CertError::Number(17))),
+        (17, 1, b"r 2 4294967296\n", Some(CertError::Number(17))),
+        (17, 1, b"r 4294967296 x\n", Some(CertError::Line(17))),
+        (17, 1, b"r 02 1\n", Some(CertError::Line(17))),
+        (17, 1, b"r 2\n", Some(CertError::Line(17))),
+        (17, 1, b"r 2 1 1\n", Some(CertError::Line(17))),
+        // A body that runs on to the end, and into the next process.
+        (17, 1, b"r 2 4294967295\n", Some(CertError::Line(23))),
+        (3, 1, b"process 0 1\nr 2 3\n", Some(CertError::Line(7))),
+        (1, 1, b"cert 1\n", Some(CertError::Line(17))),
+        (1, 1, b"cert 2 \n", Some(CertError::Line(1))),
+        (17, 1, b"r 4294967295 1\n", Some(CertError::Long(3))),
+        (17, 2, b"r 142606337 1\n0\n", Some(CertError::Long(3))),
+        (
+            3,
+            3,
+            b"process 0 1\nr 4294967295 1\nr 4294967295 1\nf\n",
+            Some(CertError::Long(0)),
+        ),
+        (
+            3,
+            3,
+            b"process 0 1\nr 142606337 1\nf\n",
+            Some(CertError::Long(0)),
+        ),
+        (
+            3,
+            3,
+            b"process 0 1\nr 142606336 1\nf\n",
+            Some(CertError::Long(1)),
+        ),
+        (
+            3,
+            3,
+            b"process 0 2\nr 142606331 1\nf\np 0\n",
+            Some(CertError::Long(2)),
+        ),
+        (3, 3, b"process 0 2\nr 142606330 1\nf\np 0\n", None),
+        // What is too long is told behind all else.
+        (
+            17,
+            7,
+            b"r 4294967295 1\n0\n1\n2\nx\n",
+            Some(CertError::Line(21)),
+        ),
+        (
+            17,
+            7,
+            b"r 4294967295 1\n0\n1\n2\nend",
+            Some(CertError::Truncated),
+        ),
+    ];
+    for (number, count, lines, want) in cases {
+        let text = with_lines(rt.alloc(), number, count, lines)?;
+        assert_eq!(rt; refusal(rt.alloc(), &text)?, want, "{number} {lines:?}");
+    }
+    Ok(())
+}
+
+#[test]
+fn repeats_nest_512_deep(rt: HostRuntime) -> Result<(), Fail> {
+    let alloc = rt.alloc();
+    for (depth, want) in [
+        (1, None),
+        (20, None),
+        (512, Some(CertError::Long(0))),
+        (513, Some(CertError::Deep(516))),
+    ] {
+        let mut lines = Vec::from_slice(alloc, b"process 0 1\n")?;
+        for _ in 0..depth {
+            lines.extend_from_slice(b"r 2 1\n")?;
+        }
+        lines.extend_from_slice(b"f\n")?;
+        let text = with_lines(alloc, 3, 3, lines.as_slice())?;
+        assert_eq!(rt; refusal(alloc, &text)?, want, "{depth}");
+    }
+    Ok(())
+}
+
+#[test]
+fn a_text_of_version_2_reads_back(rt: HostRuntime) -> Result<(), Fail> {
+    let Ok((network, cert)) = read_cert(rt.alloc(), FOLDED) else {
+        return Err(Fail::from("refused"));
+    };
+    assert_eq!(rt; network.processes.len(), 3);
+    assert_eq!(rt; cert.schedule.as_slice(), [0, 0, 1, 1, 1, 2, 2].as_slice());
+    let mut sink = MemSink::new(rt.alloc(), 1_000, 7, &[])?;
+    assert_eq!(rt; write_cert(&network, &cert, &mut sink), Ok(()));
+    assert_eq!(rt; sink.held(), FOLDED);
     Ok(())
 }

@@ -1,17 +1,21 @@
-ghost use Rattle.std.specs.Prelude.{◌≡◌, ℕ, List, ◌∷◌, ◌++◌, codes, decimal, map, OnOk, OnErr};
-ghost use Rattle.std.specs.List.{flat_map};
+ghost use Rattle.std.specs.Prelude.{◌≡◌, ◌≤◌, ◌==◌, ℕ, List, [], ◌∷◌, ◌++◌, codes, decimal, length, map, OnOk, OnErr};
+ghost use Rattle.std.specs.List.{flat_map, prefix_len};
 ghost use Rattle.std.specs.Io.KnownBytes.{Appends};
 ghost use Rattle.io_edge.specs.Causes.{Rose, AppendsFront};
 ghost use Rattle.text_out.specs.Wrote.{Wrote};
 ghost use Rattle.text_out.specs.Words.{line_text, word_text};
-ghost use Rattle.cert_text.specs.CertText.{cert_text, channel_text as text_of_channel, entry_text, event_text, process_head, process_text, ref_word, sizes_text, source_text};
+ghost use Rattle.cert_text.specs.CertText.{channel_text as text_of_channel, entry_text, event_text, part_text, parts_text, ref_word, repeat_text, source_text};
+ghost use Rattle.cert_text.specs.StandsFor.{IsWrittenOf};
+ghost use Rattle.cert_text.specs.Stretches.{stretch_blocks, stretch_part, stretches};
+ghost use Rattle.cert_text.specs.Writing.{WritesProcess, WritesProcesses, WritesText};
 
 use io_edge::{Sink, WriteFault};
 use net_core::{Channel, Event, Network, Process, Ref, Refs};
 use net_text::class_word;
-use script_blocks::Script;
+use script_blocks::BlockPart;
 use source_tree::{Cert, Origin};
 use text_out::{TextWriter, Word, Writer, write_line, write_spaced};
+use tree_text::write_tree;
 
 /// What has lines of its own in the text.
 trait WriteLines {
@@ -86,33 +90,58 @@ impl WriteLines for Event {
     }
 }
 
-/// Writes the line of each event of a script.
-fn write_script<W: TextWriter>(script: &Script<Event>, out: &mut W)
-    ensures { Wrote W.given out.old out.new (flat_map event_text script.now) }
+/// Writes the line of a repeat.
+fn write_repeat<W: TextWriter>(times: usize, parts: usize, out: &mut W)
+    ensures { Wrote W.given out.old out.new (repeat_text times parts) }
 {
-    for event in script.iter() {
-        event.write_lines(out);
+    write_line(&[Word::Text(b"r"), count(times), count(parts)], out);
+}
+
+/// Writes a part: an item, or a repeat and its parts. Its stack grows with the nesting.
+#[cycle(write_parts)]
+fn write_part<T: WriteLines, W: TextWriter>(part: &BlockPart<T>, out: &mut W)
+    ensures { Wrote W.given out.old out.new (part_text T.lines part.now) }
+{
+    match part {
+        BlockPart::Item(item) => item.write_lines(out),
+        BlockPart::Repeat(times, body) => {
+            write_repeat(*times as usize, body.parts.len(), out);
+            write_parts(body.parts.as_slice(), out);
+        }
+    }
+}
+
+#[cycle(write_parts)]
+fn write_parts<T: WriteLines, W: TextWriter>(parts: &[BlockPart<T>], out: &mut W)
+    ensures { Wrote W.given out.old out.new (parts_text T.lines parts.now) }
+{
+    for part in parts {
+        write_part(part, out);
     }
 }
 
 /// Writes the first line of a process.
-fn write_process_head<W: TextWriter>(process: &Process, out: &mut W)
-    ensures { Wrote W.given out.old out.new (process_head process.now) }
+fn write_process_head<W: TextWriter>(slots: u32, parts: usize, out: &mut W)
+    ensures { Wrote W.given out.old out.new
+        (line_text (codes "process" ∷ decimal slots ∷ decimal parts ∷ [])) }
 {
-    let words = [
-        Word::Text(b"process"),
-        number(process.slots),
-        number(process.script.len()),
-    ];
-    write_line(&words, out);
+    write_line(&[Word::Text(b"process"), number(slots), count(parts)], out);
 }
 
-impl WriteLines for Process {
-    ghost lines = { process_text };
+/// Writes a process, its script by its blocks.
+fn write_process<W: TextWriter>(process: &Process, out: &mut W)
+    ensures { WritesProcess W.given out.old out.new process.now }
+{
+    let blocks = process.script.blocks();
+    write_process_head(process.slots, blocks.parts.len(), out);
+    write_parts(blocks.parts.as_slice(), out);
+}
 
-    fn write_lines<W: TextWriter>(&self, out: &mut W) {
-        write_process_head(self, out);
-        write_script(&self.script, out);
+fn write_processes<W: TextWriter>(processes: &[Process], out: &mut W)
+    ensures { WritesProcesses W.given out.old out.new processes.now }
+{
+    for process in processes {
+        write_process(process, out);
     }
 }
 
@@ -138,6 +167,10 @@ impl WriteLines for Origin {
     fn write_lines<W: TextWriter>(&self, out: &mut W) {
         match self {
             Origin::Sweep => write_line(&[Word::Text(b"sweep")], out),
+            Origin::Tree(tree) => {
+                write_line(&[Word::Text(b"tree")], out);
+                write_tree(tree, out);
+            }
         }
     }
 }
@@ -151,40 +184,115 @@ impl WriteLines for u32 {
     }
 }
 
-fn write_sizes<W: TextWriter>(network: &Network, cert: &Cert, out: &mut W)
-    ensures { Wrote W.given out.old out.new (sizes_text network.now cert.now) }
+/// How many of these entries stand in front and are this one.
+fn equal_in_front(entry: u32, others: &[u32]) -> usize
+    ensures count { result ≡ prefix_len (λ other. other == entry) others.now }
+    ensures within { result ≤ length others.now }
+{
+    others.iter().take_while(|other| **other == entry).count()
+}
+
+/// How often an entry stands in front, itself and in front of others, and what follows.
+fn take_stretch(entry: u32, others: &[u32]) -> (usize, &[u32])
+    ensures first { stretches (entry ∷ others.now)
+        ≡ record { times = result.0; entry = entry } ∷ stretches result.1.now }
+    ensures shorter { length result.1.now ≤ length others.now }
+{
+    let more = equal_in_front(entry, others);
+    let (_, rest) = others.split_at(more);
+    (more + 1, rest)
+}
+
+/// How many greatest stretches of equal entries there are.
+fn stretch_count(entries: &[u32]) -> usize
+    ensures { result ≡ length (stretches entries.now) }
+{
+    let mut rest = entries;
+    let mut count = 0;
+    while let Some((entry, others)) = rest.split_first() {
+        let (_, later) = take_stretch(*entry, others);
+        rest = later;
+        count += 1;
+    }
+    count
+}
+
+/// Writes a stretch of equal entries: one entry as its line, and more of them as a repeat.
+fn write_stretch<W: TextWriter>(times: usize, entry: u32, out: &mut W)
+    ensures { Wrote W.given out.old out.new
+        (part_text entry_text (stretch_part (record { times = times; entry = entry }))) }
+{
+    if times == 1 {
+        entry.write_lines(out);
+    } else {
+        write_repeat(times, 1, out);
+        entry.write_lines(out);
+    }
+}
+
+/// Writes a schedule, each greatest stretch of equal entries as a repeat.
+fn write_schedule<W: TextWriter>(entries: &[u32], out: &mut W)
+    ensures { Wrote W.given out.old out.new
+        (parts_text entry_text (stretch_blocks entries.now).parts) }
+{
+    let mut rest = entries;
+    while let Some((entry, others)) = rest.split_first() {
+        let (times, later) = take_stretch(*entry, others);
+        write_stretch(times, *entry, out);
+        rest = later;
+    }
+}
+
+/// Writes how many processes, channels, sources and parts of the schedule follow.
+fn write_sizes<W: TextWriter>(
+    processes: usize,
+    channels: usize,
+    sources: usize,
+    parts: usize,
+    out: &mut W,
+)
+    ensures { Wrote W.given out.old out.new
+        (line_text (codes "sizes" ∷ decimal processes ∷ decimal channels ∷ decimal sources ∷ decimal parts ∷ [])) }
 {
     let words = [
         Word::Text(b"sizes"),
-        count(network.processes.len()),
-        count(network.channels.len()),
-        count(cert.sources.len()),
-        count(cert.schedule.len()),
+        count(processes),
+        count(channels),
+        count(sources),
+        count(parts),
     ];
     write_line(&words, out);
 }
 
 fn write_text<W: TextWriter>(network: &Network, cert: &Cert, out: &mut W)
-    ensures { Wrote W.given out.old out.new (cert_text network.now cert.now) }
+    ensures { WritesText W.given out.old out.new network.now cert.now }
 {
-    write_line(&[Word::Text(b"cert"), Word::Text(b"1")], out);
-    write_sizes(network, cert, out);
-    write_each(network.processes.as_slice(), out);
+    write_line(&[Word::Text(b"cert"), Word::Text(b"2")], out);
+    write_sizes(
+        network.processes.len(),
+        network.channels.len(),
+        cert.sources.len(),
+        stretch_count(cert.schedule.as_slice()),
+        out,
+    );
+    write_processes(network.processes.as_slice(), out);
     write_each(network.channels.as_slice(), out);
     write_each(cert.sources.as_slice(), out);
-    write_each(cert.schedule.as_slice(), out);
+    write_schedule(cert.schedule.as_slice(), out);
     write_line(&[Word::Text(b"end")], out);
 }
 
-/// Writes the text of a network with its certificate. It takes no memory.
+/// Writes a version 2 text of a network with its certificate: each script by its blocks, an item as its event and a repeat as
+/// its line with its body, and each greatest stretch of n equal entries of the schedule, where n is at least 2, as a repeat of
+/// one entry. It takes no memory.
 ///
+/// Each repeat of a script has a count of at least 2 and a body with a part, and nests at most 31 deep, by the script's type.
 /// At `WriteFault` the sink holds what it held and a front of the text, and its count rose in this call.
 pub fn write_cert<K: Sink>(network: &Network, cert: &Cert, sink: &mut K) -> Result<(), WriteFault>
-    ensures ok { OnOk result
-        (Appends (K.held sink.old) (K.held sink.new) (cert_text network.now cert.now)) }
+    ensures text { (text : List ℕ) × IsWrittenOf text network.now cert.now
+        × OnOk result (Appends (K.held sink.old) (K.held sink.new) text)
+        × OnErr result (AppendsFront (K.held sink.old) (K.held sink.new) text) }
     ensures quiet { OnOk result (K.faults sink.new ≡ K.faults sink.old) }
-    ensures front { OnErr result
-        (AppendsFront (K.held sink.old) (K.held sink.new) (cert_text network.now cert.now)) }
     ensures cause { OnErr result (Rose (K.faults sink.old) (K.faults sink.new)) }
 {
     let mut out = Writer::new(sink);

@@ -1,5 +1,5 @@
-use Rattle.cert_text.proofs.ReadBack.{is_its_text, reads_back}
+use Rattle.cert_text.proofs.ReadBack.{reads_back, stands_for}
 use Rattle.cert_text.proofs.law.reads_what_is_written.Goals as goal
 
 pub returns : goal.returns
-returns c = record { forth = is_its_text; back = reads_back }
+returns c = record { forth = stands_for; back = reads_back }

@@ -34,7 +34,8 @@ returns c =
     let vectors = c.index-as_slice-at-2.result in
     let points : slice_get (points_of nest) p ≡ Some vectors =
     item_found (points_of nest) c.as_slice-2.result.now p vectors (c.as_slice-2.ensures ∙ c.requires.points)
-    (omega (arith, ap length c.as_slice-2.ensures, c.requires.shaped.processes, c.requires.process)) c.index-as_slice-at-2.is in
+    (omega (arith, ap length c.as_slice-2.ensures, c.requires.shaped.processes, c.requires.process))
+    c.index-as_slice-at-2.is in
     let values : get_or (points_of nest) p [] ≡ c.in_ok-values.values =
     get_or_from_slice_get (points_of nest) p vectors [] points ∙ sym (c.in_ok-values.ensures ∙ c.as_slice-3.ensures) in
     made_at (λ numbered.

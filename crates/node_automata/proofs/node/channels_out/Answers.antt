@@ -17,7 +17,8 @@ loop-number-preserved c =
     let items = c.as_slice-channel-items.result.now in
     let test : ℕ → Bool = λ k. eqb ((net_of c.args.network.now).writer k) p in
     let none : Channel =
-    record { writer = 0; reader = 0; read = 0; capacity = 0; class = record { order = InOrder; multiplicity = false } } in
+    record { writer = 0; reader = 0; read = 0; capacity = 0; class = record { order = InOrder; multiplicity = false } }
+    in
     let channel = get_or items n none in
     let found : slice_get channels n ≡ Some channel =
     ap (λ list. slice_get list n) (sym c.as_slice-channel-items.ensures)

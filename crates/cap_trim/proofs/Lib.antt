@@ -1,0 +1,14 @@
+pub mod Found
+pub mod MoreRoom
+pub mod AtRest
+pub mod NoRoom
+pub mod LeastCapacities
+pub mod Flow
+pub mod GoingOn
+pub mod Standing
+pub mod Trying
+pub mod ChannelCapacities
+pub mod Turns
+pub mod Listed
+pub mod TokensWanted
+pub mod Planned

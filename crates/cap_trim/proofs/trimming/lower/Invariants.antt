@@ -1,0 +1,7 @@
+use Rattle.net_core.specs.Machine.{net_of}
+use Rattle.cap_trim.proofs.Trying.{IsTrying}
+use Rattle.cap_trim.proofs.trimming.lower.Given as goal
+
+abbrev pub invariant-loop-capacity : goal.invariant-loop-capacity
+invariant-loop-capacity l =
+    IsTrying (net_of l.network) l.fn.capacities l.channel l.capacity l.progress l.capacities

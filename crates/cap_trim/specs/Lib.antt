@@ -1,0 +1,3 @@
+pub mod Capacities
+pub mod Progress
+pub mod Rests

@@ -1,0 +1,5 @@
+pub mod Passing
+pub mod Clocking
+pub mod Passed
+pub mod Automata
+pub mod Gathered

@@ -1,0 +1,64 @@
+-- Numbers that pass a test.
+use Rattle.std.proofs.Common.{◌≡◌, ℕ, zero, suc, ◌+◌, ◌<◌, ◌≤◌, Bool, true, false, cond, List, [], ◌∷◌, ◌++◌, length}
+use Rattle.std.proofs.Common.{ap, sym, ◌∙◌, refl, inl, inr, arith, add-one, append-nil}
+use Rattle.std.specs.List.{filter, range_with_len}
+use Rattle.std.proofs.lemmas.Bool.{both_ways, cases_Bool, false_from_ne_true}
+use Rattle.std.proofs.lemmas.List.Elements.{filter-append}
+use Rattle.std.proofs.lemmas.List.FromFn.{length-range_with_len}
+use Rattle.std.proofs.lemmas.List.Sums.{count_by-le-length, length-filter}
+
+-- two tests agree where each passes what the other does
+pub same_Bool : (a b : Bool) → (a ≡ true → b ≡ true) → (b ≡ true → a ≡ true) → a ≡ b
+same_Bool a b there back =
+    elim (cases_Bool a) [
+      | inl on ↦ on ∙ sym (there on)
+      | inr off ↦ off ∙ sym (false_from_ne_true b (λ on. both_ways a off (back on)))
+    ]
+
+-- where a number of a range passes, the range has some that do
+pub some_passes : (test : ℕ → Bool) (m a p : ℕ) → a ≤ p → p < a + m → test p ≡ true
+    → 0 < length (filter test (range_with_len a m))
+some_passes test zero a p low high on = absurd (omega arith)
+some_passes test (suc m) a p low high on =
+    elim (cases_Bool (test a)) [
+      | inl here ↦ rw here (omega arith)
+      | inr off ↦
+          let other : p ≡ a → ⊥ = λ same. both_ways (test a) off (ap test (sym same) ∙ on) in
+          let above : a + 1 ≤ p = omega arith in
+          let below : p < a + 1 + m = omega arith in
+          rw off (some_passes test m (a + 1) p above below on)
+    ]
+
+-- where none passes, the range has none
+pub none_passes : (test : ℕ → Bool) → ((p : ℕ) → test p ≡ false) → (m a : ℕ) → filter test (range_with_len a m) ≡ []
+none_passes test off zero a = refl
+none_passes test off (suc m) a = rw (off a) (none_passes test off m (a + 1))
+
+-- one number more
+range_more : (a m j : ℕ) → a + m ≡ j → range_with_len a (suc m) ≡ range_with_len a m ++ j ∷ []
+range_more a zero j sum = let same : a ≡ j = omega arith in rw same refl
+range_more a (suc m) j sum = ap (λ (l : List ℕ). a ∷ l) (range_more (a + 1) m j (omega arith))
+
+more : (test : ℕ → Bool) (m : ℕ)
+    → filter test (range_with_len 0 (m + 1)) ≡ filter test (range_with_len 0 m) ++ filter test (m ∷ [])
+more test m =
+    rw add-one (ap (filter test) (range_more 0 m m (omega arith)) ∙ filter-append test (range_with_len 0 m) (m ∷ []))
+
+pub passing_more : (test : ℕ → Bool) (m : ℕ) → test m ≡ true
+    → filter test (range_with_len 0 (m + 1)) ≡ filter test (range_with_len 0 m) ++ m ∷ []
+passing_more test m passes = more test m ∙ ap (λ b. filter test (range_with_len 0 m) ++ cond b (m ∷ []) []) passes
+
+pub passing_same : (test : ℕ → Bool) (m : ℕ) → test m ≡ false
+    → filter test (range_with_len 0 (m + 1)) ≡ filter test (range_with_len 0 m)
+passing_same test m fails =
+    more test m ∙ ap (λ b. filter test (range_with_len 0 m) ++ cond b (m ∷ []) []) fails ∙ append-nil _
+
+-- no more pass than there are
+pub passing_short : (test : ℕ → Bool) (m : ℕ) → length (filter test (range_with_len 0 m)) ≤ m
+passing_short test m =
+    omega (
+      arith,
+      length-filter test (range_with_len 0 m),
+      count_by-le-length test (range_with_len 0 m),
+      length-range_with_len 0 m,
+    )

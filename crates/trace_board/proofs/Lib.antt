@@ -1,0 +1,5 @@
+pub mod Counted
+pub mod Laned
+pub mod Boarded
+pub mod Ended
+pub mod Starved

@@ -1,0 +1,4 @@
+pub mod Lanes
+pub mod Boards
+pub mod Advances
+pub mod Examples

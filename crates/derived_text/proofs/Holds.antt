@@ -1,5 +1,6 @@
 -- The slots that the Gets of a channel name are all that the channel holds.
-use Rattle.std.proofs.Common.{◌≡◌, ◌<◌, ◌≤◌, ◌+◌, ◌-◌, ℕ, true, eqb, List, [], ◌∷◌, map, length, take, refl, sym, ap, ◌∙◌, subst, inl, inr, arith}
+use Rattle.std.proofs.Common.{◌≡◌, ◌<◌, ◌≤◌, ◌+◌, ◌-◌, ℕ, true, eqb, List, [], ◌∷◌, map, length, take, refl, sym, ap}
+use Rattle.std.proofs.Common.{◌∙◌, subst, inl, inr, arith}
 use Rattle.std.specs.Prelude.{Option, Some, None, slice_get, slice_index}
 use Rattle.std.specs.List.{flat_map, list_any, range_with_len}
 use Rattle.std.specs.Option.{option_map_or}
@@ -59,7 +60,11 @@ slots_span uses base some =
     (each_range_with_len (λ m. slot m ≤ base + last) 0 gets
     (λ m first lt. omega (arith, keeps.made m (omega (arith, count))))) in
     let front : base + 0 ≡ base = omega arith in
-    omega (arith, span_is all base (base + last) above below (subst (λ k. In k all) front (there 0 made)) (there last (omega arith)))
+    omega (
+      arith,
+      span_is all base (base + last) above below (subst (λ k. In k all) front (there 0 made))
+          (there last (omega arith)),
+    )
 
 -- The Gets of a channel
 

@@ -30,4 +30,8 @@ pub span_is : (xs : List ℕ) (least greatest : ℕ) → Each (λ x. least ≤ x
     → In greatest xs → span xs ≡ suc (greatest - least)
 span_is [] least greatest above below low high = absurd low
 span_is (first ∷ others) least greatest above below low high =
-    omega (arith, greatest_is others first greatest below.0 below.1 high, least_is others first least above.0 above.1 low)
+    omega (
+      arith,
+      greatest_is others first greatest below.0 below.1 high,
+      least_is others first least above.0 above.1 low,
+    )

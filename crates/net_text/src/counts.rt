@@ -1,12 +1,14 @@
-ghost use Rattle.std.specs.Prelude.{◌≡◌, ◌≤◌, ◌+◌, ◌-◌, count_by, min, max, MatchOption};
+ghost use Rattle.std.specs.Prelude.{◌≡◌, ◌≤◌, ◌+◌, ◌-◌, count_by, min};
 ghost use Rattle.std.specs.List.{flat_map};
 ghost use Rattle.net_core.specs.Machine.{net_of};
 ghost use Rattle.net_core.specs.Shape.{is_put, turns, FitsNumbers};
+ghost use Rattle.script_blocks.specs.Expansion.{part_expansion, parts_expansion};
 ghost use Rattle.net_text.specs.NetworkText.{slot_got, span, event_count as count_of_events};
+ghost use Rattle.net_text.specs.Ranges.{joined as join_of_ranges, range_of};
 
 use net_core::{Event, Network};
 use sanlp::Points;
-use script_blocks::Script;
+use script_blocks::{BlockPart, Script};
 
 /// How often a process fires.
 pub(crate) fn fire_count(points: &Points, process: usize) -> usize
@@ -28,11 +30,37 @@ fn is_put(event: &Event, channel: usize) -> bool
     }
 }
 
+/// How often these parts put to a channel, or 2^64 - 1 where that is less.
+#[cycle(puts)]
+pub(crate) fn puts_of_parts(parts: &[BlockPart<Event>], channel: usize) -> u64
+    ensures { result ≡ min (count_by (is_put channel) (parts_expansion parts.now)) u64.MAX }
+{
+    let mut count: u64 = 0;
+    for part in parts {
+        count = count.saturating_add(puts_of_part(part, channel));
+    }
+    count
+}
+
+#[cycle(puts)]
+fn puts_of_part(part: &BlockPart<Event>, channel: usize) -> u64
+    ensures { result ≡ min (count_by (is_put channel) (part_expansion part.now)) u64.MAX }
+{
+    match part {
+        BlockPart::Item(event) => u64::from(is_put(event, channel)),
+        BlockPart::Repeat(count, body) => {
+            u64::from(*count).saturating_mul(puts_of_parts(body.parts.as_slice(), channel))
+        }
+    }
+}
+
 /// How often a script puts to a channel.
 fn puts_in(script: &Script<Event>, channel: usize) -> usize
     ensures { result ≡ count_by (is_put channel) script.now }
 {
-    script.iter().filter(|event| is_put(event, channel)).count()
+    // No script has more puts than events.
+    let most = u64::from(script.len());
+    puts_of_parts(script.blocks().parts.as_slice(), channel).min(most) as usize
 }
 
 /// How often a process puts to a channel.
@@ -45,19 +73,50 @@ pub(crate) fn put_count(network: &Network, process: u32, channel: usize) -> usiz
     }
 }
 
+/// The least and the greatest of the slots to which these parts get from a channel.
+#[cycle(slots)]
+pub(crate) fn slots_of_parts(parts: &[BlockPart<Event>], channel: usize) -> Option<(u32, u32)>
+    ensures { result ≡ range_of (flat_map (slot_got channel) (parts_expansion parts.now)) }
+{
+    let mut range = None;
+    for part in parts {
+        range = joined(range, slots_of_part(part, channel));
+    }
+    range
+}
+
+// However often a body is repeated, its slots are the same.
+#[cycle(slots)]
+fn slots_of_part(part: &BlockPart<Event>, channel: usize) -> Option<(u32, u32)>
+    ensures { result ≡ range_of (flat_map (slot_got channel) (part_expansion part.now)) }
+{
+    match part {
+        BlockPart::Item(event) => slots_of_event(event, channel),
+        BlockPart::Repeat(count, body) => {
+            if *count == 0 {
+                return None;
+            }
+            slots_of_parts(body.parts.as_slice(), channel)
+        }
+    }
+}
+
+fn slots_of_event(event: &Event, channel: usize) -> Option<(u32, u32)>
+    ensures { result ≡ range_of (slot_got channel event.now) }
+{
+    if let Event::Get { channel: got, slot } = event
+        && *got as usize == channel
+    {
+        return Some((*slot, *slot));
+    }
+    None
+}
+
 /// How many slots there are from the least to the greatest to which a script gets from a channel.
 fn hold_in(script: &Script<Event>, channel: usize) -> u64
     ensures { result ≡ span (flat_map (slot_got channel) script.now) }
 {
-    let mut range = None;
-    for event in script.iter() {
-        if let Event::Get { channel: got, slot } = event
-            && got as usize == channel
-        {
-            range = Some(widened(range, slot));
-        }
-    }
-    match range {
+    match slots_of_parts(script.blocks().parts.as_slice(), channel) {
         Some((least, greatest)) => count_between(least, greatest),
         None => 0,
     }
@@ -73,14 +132,13 @@ pub(crate) fn hold(network: &Network, process: u32, channel: usize) -> u64
     }
 }
 
-/// The least and the greatest of some numbers and one more.
-fn widened(range: Option<(u32, u32)>, slot: u32) -> (u32, u32)
-    ensures { MatchOption range (result ≡ (slot, slot))
-        (λ range. result ≡ (min range.0 slot, max range.1 slot)) }
+/// The least and the greatest of the numbers of two ranges.
+fn joined(range: Option<(u32, u32)>, other: Option<(u32, u32)>) -> Option<(u32, u32)>
+    ensures { result ≡ join_of_ranges range other }
 {
-    match range {
-        Some((least, greatest)) => (least.min(slot), greatest.max(slot)),
-        None => (slot, slot),
+    match (range, other) {
+        (Some((least, greatest)), Some((low, high))) => Some((least.min(low), greatest.max(high))),
+        (None, range) | (range, None) => range,
     }
 }
 

@@ -1,3 +1,4 @@
+use crate::counts::{puts_of_parts, slots_of_parts};
 use crate::network_text::write_channels;
 use crate::write_net;
 use channel_class::{ChannelClass, UseOrder};
@@ -5,7 +6,7 @@ use io_edge::{MemSink, WriteFault};
 use net_core::{Channel, Event, Network, Process, Refs};
 use plain_data::Items;
 use sanlp::{Nest, Points};
-use script_blocks::Script;
+use script_blocks::{BlockPart, Blocks, Script};
 use std::alloc::{AllocError, Global};
 use std::test::Fail;
 use text_out::Writer;
@@ -22,6 +23,12 @@ fn get(channel: u32, slot: u32) -> Event {
 
 fn put(channel: u32) -> Event {
     Event::Put { channel }
+}
+
+fn repeat(alloc: Global, count: u32, body: Blocks<Event>) -> Result<Blocks<Event>, AllocError> {
+    let mut blocks = Blocks::of_items(alloc, &[])?;
+    blocks.parts.push(BlockPart::Repeat(count, body))?;
+    Ok(blocks)
 }
 
 /// A channel with its writer, reader, read and capacity.
@@ -92,6 +99,44 @@ fn send_channels(network: &Network, sink: &mut MemSink) -> Result<(), WriteFault
     let mut out = Writer::new(sink);
     write_channels(network, &mut out);
     out.finish()
+}
+
+#[test]
+fn a_repeat_counts_as_what_it_stands_for(rt: HostRuntime) -> Result<(), Fail> {
+    let alloc = rt.alloc();
+    let inner = Blocks::of_items(alloc, &[put(0), put(1), get(1, 2)])?;
+    let mut body = Blocks::of_items(alloc, &[put(0), get(1, 5), fire()])?;
+    body.parts.push(BlockPart::Repeat(2, inner))?;
+    let never = Blocks::of_items(alloc, &[put(0), get(1, 9), get(3, 1)])?;
+    let mut blocks = Blocks::of_items(alloc, &[put(0), get(2, 8)])?;
+    blocks.parts.push(BlockPart::Repeat(3, body))?;
+    blocks.parts.push(BlockPart::Repeat(0, never))?;
+    blocks.parts.push(BlockPart::Item(get(1, 3)))?;
+    let parts = blocks.parts.as_slice();
+    for (channel, puts, slots) in [
+        (0, 10, None),
+        (1, 6, Some((2, 5))),
+        (2, 0, Some((8, 8))),
+        (3, 0, None),
+    ] {
+        assert_eq!(rt; puts_of_parts(parts, channel), puts, "{channel}");
+        assert_eq!(rt; slots_of_parts(parts, channel), slots, "{channel}");
+    }
+    Ok(())
+}
+
+#[test]
+fn puts_are_counted_to_the_limit(rt: HostRuntime) -> Result<(), Fail> {
+    let alloc = rt.alloc();
+    let many = repeat(alloc, u32::MAX, Blocks::of_items(alloc, &[put(4)])?)?;
+    let more = repeat(alloc, u32::MAX, many)?;
+    assert_eq!(rt;
+        puts_of_parts(more.parts.as_slice(), 4),
+        18_446_744_065_119_617_025
+    );
+    let most = repeat(alloc, 2, more)?;
+    assert_eq!(rt; puts_of_parts(most.parts.as_slice(), 4), u64::MAX);
+    Ok(())
 }
 
 #[test]

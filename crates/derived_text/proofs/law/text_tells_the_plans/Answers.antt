@@ -4,4 +4,9 @@ use Rattle.derived_text.proofs.TokenCounts.{puts_planned}
 use Rattle.derived_text.proofs.law.text_tells_the_plans.Goals as goal
 
 pub returns : goal.returns
-returns c = record { tokens = puts_planned c.args.nest.now; hold = hold_planned c.args.nest.now; class = class_planned c.args.nest.now }
+returns c = record {
+  tokens = puts_planned c.args.nest.now;
+  hold = hold_planned c.args.nest.now;
+  class =
+      class_planned c.args.nest.now;
+}

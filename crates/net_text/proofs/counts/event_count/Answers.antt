@@ -12,11 +12,19 @@ overflow_add-count c =
     let n = net_of network in
     let i = c.loop-process.process-index in
     let found =
-    item_found network.processes c.as_slice-process-items.result.now i c.process-item.result c.as_slice-process-items.ensures c.loop-process-test.true c.process-item.is in
+    item_found network.processes c.as_slice-process-items.result.now i c.process-item.result
+    c.as_slice-process-items.ensures c.loop-process-test.true c.process-item.is in
     let inside : suc i ≤ n.processes =
     omega (arith, c.loop-process-test.true, ap length c.as_slice-process-items.ensures) in
     let below : events_below n (suc i) ≤ events_below n n.processes = events_grow n (suc i) n.processes inside in
-    omega (arith, c.loop-process.invariant, c.len.ensures, events_next network i c.process-item.result found, below, c.requires.events)
+    omega (
+      arith,
+      c.loop-process.invariant,
+      c.len.ensures,
+      events_next network i c.process-item.result found,
+      below,
+      c.requires.events,
+    )
 
 pub loop-process-preserved : goal.loop-process-preserved
 loop-process-preserved c =
@@ -24,6 +32,7 @@ loop-process-preserved c =
     let n = net_of network in
     let i = c.loop-process.process-index in
     let found =
-    item_found network.processes c.as_slice-process-items.result.now i c.process-item.result c.as_slice-process-items.ensures c.loop-process-test.true c.process-item.is in
+    item_found network.processes c.as_slice-process-items.result.now i c.process-item.result
+    c.as_slice-process-items.ensures c.loop-process-test.true c.process-item.is in
     let next : events_below n (suc i) ≡ events_below n (i + 1) = ap (events_below n) (sym (add-one i)) in
     omega (arith, c.loop-process.invariant, c.len.ensures, events_next network i c.process-item.result found, next)

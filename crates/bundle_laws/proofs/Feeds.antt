@@ -1,10 +1,13 @@
 -- No input element has a line feed before its last byte, but for a block comment.
-use Rattle.std.proofs.Common.{◌≡◌, ◌+◌, ◌<◌, ◌&&◌, ◌||◌, ℕ, Bool, true, false, not, List, [], ◌∷◌, ◌++◌, length, refl, sym, subst, inl, inr, arith, nat_eq}
+use Rattle.std.proofs.Common.{◌≡◌, ◌+◌, ◌<◌, ◌&&◌, ◌||◌, ℕ, Bool, true, false, not, List, [], ◌∷◌, ◌++◌, length, refl}
+use Rattle.std.proofs.Common.{sym, subst, inl, inr, arith, nat_eq}
 use Rattle.std.specs.List.{list_all}
 use Rattle.std.specs.Str.{bytes_eq}
 use Rattle.std.proofs.lemmas.Bool.{cases_Bool}
 use Rattle.loop_lex.proofs.Elements.{and_no, long_sign, no_sign, none_of, not_and}
-use Rattle.loop_lex.specs.Lexical.{ends_at_first_close, is_block_comment, is_digit, is_digits, is_empty, is_input_element, is_letter, is_letter_or_digit, is_line_comment, is_line_feed, is_sign, is_white_space, is_word, signs}
+use Rattle.loop_lex.specs.Lexical.{ends_at_first_close, is_block_comment, is_digit, is_digits, is_empty}
+use Rattle.loop_lex.specs.Lexical.{is_input_element, is_letter, is_letter_or_digit, is_line_comment, is_line_feed}
+use Rattle.loop_lex.specs.Lexical.{is_sign, is_white_space, is_word, signs}
 
 all_but : (p : ℕ → Bool) (x : ℕ) (bytes more : List ℕ) → p x ≡ false → list_all p (bytes ++ x ∷ more) ≡ false
 all_but p x [] more e = rw e refl
@@ -20,7 +23,8 @@ no_close [] last e = refl
 no_close (a ∷ []) last e = rw (and_no (nat_eq a 42) (nat_eq last 47) e) refl
 no_close (a ∷ b ∷ bytes) last e =
     elim (cases_Bool
-    (nat_eq a 42 && nat_eq b 47)) [ inl closes ↦ rw closes (not_empty bytes last) | inr other ↦ rw other (no_close (b ∷ bytes) last e) ]
+    (nat_eq a 42 && nat_eq b 47))
+    [ inl closes ↦ rw closes (not_empty bytes last) | inr other ↦ rw other (no_close (b ∷ bytes) last e) ]
 
 no_block : (bytes : List ℕ) (last : ℕ) → nat_eq last 47 ≡ false → is_block_comment (bytes ++ last ∷ []) ≡ false
 no_block [] last e = refl

@@ -1,5 +1,6 @@
 -- A line feed behind a source changes none of its tokens.
-use Rattle.std.proofs.Common.{◌≡◌, ◌∙◌, ◌+◌, ◌-◌, ◌≤◌, ℕ, zero, suc, Bool, false, cond, List, [], ◌∷◌, ◌++◌, length, take, drop, map, refl, ap, inl, inr, arith, nat_eq, length-append, Result, Ok, Err}
+use Rattle.std.proofs.Common.{◌≡◌, ◌∙◌, ◌+◌, ◌-◌, ◌≤◌, ℕ, zero, suc, Bool, false, cond, List, [], ◌∷◌, ◌++◌, length}
+use Rattle.std.proofs.Common.{take, drop, map, refl, ap, inl, inr, arith, nat_eq, length-append, Result, Ok, Err}
 use Rattle.std.specs.Prelude.{◌==◌, if◌then◌else◌, All}
 use Rattle.std.proofs.lemmas.Bool.{cases_Bool}
 use Rattle.std.proofs.lemmas.List.{drop-append-le, length-drop, take-append-le, take_all}
@@ -10,7 +11,8 @@ use Rattle.loop_lex.proofs.Elements.{and_no}
 use Rattle.loop_lex.proofs.Longest.{longest_le}
 use Rattle.loop_lex.proofs.Order.{in_order}
 use Rattle.loop_lex.specs.Lexical.{is_input_element, is_large, is_separator, opens_comment}
-use Rattle.loop_lex.specs.Tokens.{IsTokenOf, before, element, longest, longest_up_to, text_of, token_at, token_limit, tokens, tokens_from}
+use Rattle.loop_lex.specs.Tokens.{IsTokenOf, before, element, longest, longest_up_to, text_of, token_at, token_limit}
+use Rattle.loop_lex.specs.Tokens.{tokens, tokens_from}
 use Rattle.loop_lex.specs.declared.token.LexError.{LexError}
 use Rattle.loop_lex.specs.declared.token.LexError.TheVariants.{LargeNumber, TooMany}
 use Rattle.loop_lex.specs.declared.token.Token.{Token}
@@ -94,7 +96,8 @@ from_same room at zero (b ∷ bytes) le =
 pub tokens_same : (source : List ℕ) → tokens (with_line_end source) ≡ tokens source
 tokens_same source =
     elim (cases_Bool
-    (ends_with_line source)) [ inl ends ↦ rw ends refl | inr open_line ↦ rw open_line (from_same token_limit 0 0 source (omega arith)) ]
+    (ends_with_line source))
+    [ inl ends ↦ rw ends refl | inr open_line ↦ rw open_line (from_same token_limit 0 0 source (omega arith)) ]
 
 -- What the tokens are to the grammar
 
@@ -130,4 +133,5 @@ pub sentence_same : (source : List ℕ) (found : List Token) → tokens source �
     → sentence (with_line_end source) found ≡ sentence source found
 sentence_same source found is =
     elim (cases_Bool
-    (ends_with_line source)) [ inl ends ↦ rw ends refl | inr open_line ↦ rw open_line (behind_same source (10 ∷ []) found is) ]
+    (ends_with_line source))
+    [ inl ends ↦ rw ends refl | inr open_line ↦ rw open_line (behind_same source (10 ∷ []) found is) ]

@@ -1,11 +1,13 @@
 -- The parts of a bundle that is put together of a source and a certificate.
-use Rattle.std.proofs.Common.{◌≡◌, ◌==◌, ◌∙◌, ◌<◌, ℕ, zero, suc, true, false, List, [], ◌∷◌, ◌++◌, Some, None, Option, length, take, refl, sym, ap, inl, inr, arith, append_assoc}
+use Rattle.std.proofs.Common.{◌≡◌, ◌==◌, ◌∙◌, ◌<◌, ℕ, zero, suc, true, false, List, [], ◌∷◌, ◌++◌, Some, None, Option}
+use Rattle.std.proofs.Common.{length, take, refl, sym, ap, inl, inr, arith, append_assoc}
 use Rattle.std.specs.Prelude.{codes, if◌then◌else◌, option_and_then}
 use Rattle.std.specs.List.{concat}
 use Rattle.std.specs.Option.{option_map_or}
 use Rattle.std.proofs.lemmas.Bool.{cases_Bool}
 use Rattle.std.proofs.lemmas.List.{append-nil}
-use Rattle.command_line.specs.Bundle.{after_separator, before_separator, certificate_part, data_part, is_separator, lines_after, lines_before, lines_of, source_part, with_byte}
+use Rattle.command_line.specs.Bundle.{after_separator, before_separator, certificate_part, data_part, is_separator}
+use Rattle.command_line.specs.Bundle.{lines_after, lines_before, lines_of, source_part, with_byte}
 use Rattle.command_line.proofs.Lines.{concat-lines_of}
 use Rattle.bundle_laws.specs.Certified.{certified, ends_with_line, with_line_end}
 
@@ -149,7 +151,10 @@ before_counted : (lines : List (List ℕ)) → lines_before lines ≡ concat (ta
 before_counted [] = refl
 before_counted (line ∷ lines) =
     elim (cases_Bool
-    (is_separator line)) [ inl here ↦ rw here refl | inr other ↦ rw other (ap (λ (rest : List ℕ). line ++ rest) (before_counted lines)) ]
+    (is_separator line)) [
+      | inl here ↦ rw here refl
+      | inr other ↦ rw other (ap (λ (rest : List ℕ). line ++ rest) (before_counted lines))
+    ]
 
 none_counted : (lines : List (List ℕ)) → lines_after (take (count_before lines) lines) ≡ None
 none_counted [] = refl

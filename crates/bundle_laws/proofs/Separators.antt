@@ -1,5 +1,7 @@
 -- A line end behind a source that has tokens makes no separator.
-use Rattle.std.proofs.Common.{◌≡◌, ◌==◌, ◌∙◌, ◌+◌, ◌-◌, ◌<◌, ◌≤◌, ◌||◌, ℕ, zero, suc, Bool, true, false, List, [], ◌∷◌, ◌++◌, Some, None, length, take, refl, sym, ap, subst, inl, inr, arith, nat_eq, append_assoc, length-append, eqb-true, Result, Ok, Err}
+use Rattle.std.proofs.Common.{◌≡◌, ◌==◌, ◌∙◌, ◌+◌, ◌-◌, ◌<◌, ◌≤◌, ◌||◌, ℕ, zero, suc, Bool, true, false, List, [], ◌∷◌}
+use Rattle.std.proofs.Common.{◌++◌, Some, None, length, take, refl, sym, ap, subst, inl, inr, arith, nat_eq}
+use Rattle.std.proofs.Common.{append_assoc, length-append, eqb-true, Result, Ok, Err}
 use Rattle.std.specs.Prelude.{codes}
 use Rattle.std.specs.List.{concat}
 use Rattle.std.specs.Str.{bytes_eq}
@@ -8,7 +10,8 @@ use Rattle.std.proofs.lemmas.List.{append_cancel_right}
 use Rattle.command_line.specs.Bundle.{after_separator, is_separator, lines_after, lines_of, with_byte}
 use Rattle.loop_lex.proofs.Longest.{longest_element}
 use Rattle.loop_lex.specs.Lexical.{is_input_element, is_large, is_separator as separates}
-use Rattle.loop_lex.specs.Tokens.{before, element, longest, longest_up_to, refusal, token_at, token_limit, tokens, tokens_from}
+use Rattle.loop_lex.specs.Tokens.{before, element, longest, longest_up_to, refusal, token_at, token_limit, tokens}
+use Rattle.loop_lex.specs.Tokens.{tokens_from}
 use Rattle.loop_lex.specs.declared.token.LexError.{LexError}
 use Rattle.loop_lex.specs.declared.token.LexError.TheVariants.{LargeNumber, TooMany}
 use Rattle.loop_lex.specs.declared.token.Token.{Token}
@@ -144,15 +147,33 @@ pub record HasOpenLine (source : List ℕ) : Type 0 where
 open_more : (b : ℕ) (line : List ℕ) → (b == 10) ≡ false → IsOpenLine line → IsOpenLine (b ∷ line)
 open_more b [] other line = record { closed = rw other refl; alone = λ some. rw other refl }
 open_more b (c ∷ rest) other line =
-    record { closed = rw other (ap (with_byte b) line.closed); alone = λ some. rw other (ap (with_byte b) (line.alone (omega arith))) }
+    record {
+      closed = rw other (ap (with_byte b) line.closed);
+      alone =
+          λ some. rw other (ap (with_byte b) (line.alone (omega arith)));
+    }
 
 more_in_front : (b : ℕ) (source : List ℕ) (later : HasOpenLine source) (front : List ℕ) → later.front ≡ front
     → HasOpenLine (b ∷ source)
 more_in_front b source later [] none =
     let own : source ≡ later.line = later.is ∙ ap (λ (front : List ℕ). front ++ later.line) none in
     elim (cases_Bool (b == 10)) [
-      | inl feed ↦ record { front = b ∷ []; line = later.line; is = ap (λ (rest : List ℕ). b ∷ rest) own; ends = feed; open_line = later.open_line }
-      | inr other ↦ record { front = []; line = b ∷ later.line; is = ap (λ (rest : List ℕ). b ∷ rest) own; ends = refl; open_line = open_more b later.line other later.open_line }
+      | inl feed ↦ record {
+        front = b ∷ [];
+        line = later.line;
+        is = ap (λ (rest : List ℕ). b ∷ rest) own;
+        ends =
+            feed;
+        open_line = later.open_line;
+      }
+      | inr other ↦ record {
+        front = [];
+        line = b ∷ later.line;
+        is = ap (λ (rest : List ℕ). b ∷ rest) own;
+        ends =
+            refl;
+        open_line = open_more b later.line other later.open_line;
+      }
     ]
 more_in_front b source later (c ∷ front) some = record {
   front = b ∷ c ∷ front;
@@ -164,7 +185,14 @@ more_in_front b source later (c ∷ front) some = record {
 
 last_line : (source : List ℕ) → HasOpenLine source
 last_line [] =
-    record { front = []; line = []; is = refl; ends = refl; open_line = record { closed = refl; alone = λ some. absurd (omega arith) } }
+    record {
+      front = [];
+      line = [];
+      is = refl;
+      ends = refl;
+      open_line =
+          record { closed = refl; alone = λ some. absurd (omega arith) };
+    }
 last_line (b ∷ source) = (let later = last_line source in more_in_front b source later later.front refl)
 
 -- Separators
@@ -173,7 +201,11 @@ front_none : (lines more : List (List ℕ)) → lines_after (lines ++ more) ≡ 
 front_none [] more none = refl
 front_none (line ∷ lines) more none =
     elim (cases_Bool
-    (is_separator line)) [ inl here ↦ let found : Some (concat (lines ++ more)) ≡ None = rw here at none in cc | inr other ↦ rw other (front_none lines more (rw other at none)) ]
+    (is_separator line)) [
+      | inl here ↦ let found : Some (concat (lines ++ more)) ≡ None =
+          rw here at none in cc
+      | inr other ↦ rw other (front_none lines more (rw other at none))
+    ]
 
 same_bytes : (xs ys : List ℕ) → bytes_eq xs ys ≡ true → xs ≡ ys
 same_bytes [] [] e = refl
@@ -210,7 +242,8 @@ no_late line is none other =
                 (already_separates line none
                 (append_cancel_right line (codes "%%") (10 ∷ []) (same_bytes (line ++ 10 ∷ []) (codes "%%\n") fed)))
             | inr rest ↦ elim
-                (or_cases (bytes_eq (line ++ 10 ∷ []) (codes "%%\r\n")) (bytes_eq (line ++ 10 ∷ []) (codes "%%")) rest) [
+                (or_cases (bytes_eq (line ++ 10 ∷ []) (codes "%%\r\n"))
+                (bytes_eq (line ++ 10 ∷ []) (codes "%%")) rest) [
                   | inl returned ↦ absurd
                       (other (append_cancel_right line stray (10 ∷ [])
                       (same_bytes (line ++ 10 ∷ []) (codes "%%\r\n") returned)))

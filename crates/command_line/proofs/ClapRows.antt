@@ -20,7 +20,14 @@ pub data Rows : Type 0 where
 
 abbrev row : Rule → List Text → Row
 row rule values =
-    record { id = rule.id; values = values; count = None; source = Some CommandLine; reading = reading_by (filled rule) }
+    record {
+      id = rule.id;
+      values = values;
+      count = None;
+      source = Some CommandLine;
+      reading =
+          reading_by (filled rule);
+    }
 
 abbrev pub rows_in : Rows → List Row
 rows_in neither = []

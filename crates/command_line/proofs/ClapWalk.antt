@@ -1,8 +1,10 @@
 -- What `clap` finds in the words is what they are split into.
-use Rattle.std.proofs.Common.{◌≡◌, refl, sym, ap, ap₂, subst, codes, true, false, List, [], ◌∷◌, ◌++◌, Some, None, Option, unwrap_or, fold, append_assoc, append-nil, ◌∙◌}
+use Rattle.std.proofs.Common.{◌≡◌, refl, sym, ap, ap₂, subst, codes, true, false, List, [], ◌∷◌, ◌++◌, Some, None}
+use Rattle.std.proofs.Common.{Option, unwrap_or, fold, append_assoc, append-nil, ◌∙◌}
 use Rattle.std.specs.List.{cons_option}
 use Rattle.std.specs.Option.{option_map}
-use Rattle.clap.specs.Walk.{Row, Walk, Waiting, idle, positional, option, all_of, first_of, walk_from, walked, settled_rows, nothing_held}
+use Rattle.clap.specs.Walk.{Row, Walk, Waiting, idle, positional, option, all_of, first_of, walk_from, walked}
+use Rattle.clap.specs.Walk.{settled_rows, nothing_held}
 use Rattle.clap.specs.Kinds.{Kinds, or_else}
 use Rattle.clap.specs.Faults.{turn_fault, settle_fault, walk_fault}
 use Rattle.clap.specs.declared.error.kind.ErrorKind.{ErrorKind}
@@ -10,15 +12,23 @@ use Rattle.clap.specs.declared.error.kind.ErrorKind.TheVariants as kind
 use Rattle.command_line.specs.Words.{Text, Split, with_item, with_policy, split_words, split_value, order_of_split}
 use Rattle.command_line.proofs.ClapCommand.{shape, rules, at, held}
 use Rattle.command_line.proofs.WordCases.{Case, case_of, ends, asks, gives, unknown, stray, plain}
-use Rattle.command_line.proofs.ClapRows.{Rows, Pending, Keeping, rows_in, pending_in, split_in, with_pending, kept, keeping, rows-kept, clean, twice, nothing, item, value, neither, items, policy, items_policy, policy_items}
-use Rattle.command_line.proofs.Refusals.{join, order_from, given_twice, no_such_policy, no_such_item, option_is_no_policy}
+use Rattle.command_line.proofs.ClapRows.{Rows, Pending, Keeping, rows_in, pending_in, split_in, with_pending, kept}
+use Rattle.command_line.proofs.ClapRows.{keeping, rows-kept, clean, twice, nothing, item, value, neither, items, policy}
+use Rattle.command_line.proofs.ClapRows.{items_policy, policy_items}
+use Rattle.command_line.proofs.Refusals.{join, order_from, given_twice, no_such_policy, no_such_item}
+use Rattle.command_line.proofs.Refusals.{option_is_no_policy}
 use Rattle.command_line.proofs.ClapSteps as step
-use Rattle.command_line.proofs.ClapSteps.{IsFree, when_idle, when_positional, IsPlain, IsUnknown, waiting_at, or_else-nil}
+use Rattle.command_line.proofs.ClapSteps.{IsFree, when_idle, when_positional, IsPlain, IsUnknown, waiting_at}
+use Rattle.command_line.proofs.ClapSteps.{or_else-nil}
 
 -- the items and the policy among some rows
 abbrev pub split_of : List Row → Split
 split_of rows =
-    record { items = unwrap_or (all_of (codes "items") rows) []; policies = cons_option (first_of (codes "policy") rows) [] }
+    record {
+      items = unwrap_or (all_of (codes "items") rows) [];
+      policies =
+          cons_option (first_of (codes "policy") rows) [];
+    }
 
 split_of-rows : (r : Rows) → split_of (rows_in r) ≡ split_in r
 split_of-rows neither = refl
@@ -325,8 +335,10 @@ all_words : (words : List Text) → Goes words × Waits words
 unfolding walk_fault
 all_words [] = ((λ p r waiting free. at_end p r), no_more_words)
 all_words (word ∷ words) =
-    let rest = all_words words in
-    ((λ p r waiting free. goes_word words p r waiting free word (case_of word) rest.0 rest.1), λ r. value_word words r word (case_of word) rest.0)
+    let rest = all_words words in (
+      (λ p r waiting free. goes_word words p r waiting free word (case_of word) rest.0 rest.1),
+      λ r. value_word words r word (case_of word) rest.0,
+    )
 
 -- the whole walk, from where nothing is held
 abbrev pub start : Walk

@@ -1,5 +1,7 @@
 -- What `clap` makes of all the words.
-use Rattle.std.proofs.Common.{◌≡◌, ◌||◌, refl, sym, ap, true, false, List, [], Some, None, Option, Bool, Result, Ok, Err, IfOk, IfErr, ◌≢◌, inl, inr, ap₂, subst, unwrap_or, codes, fold, is_some, if◌then◌else◌, ◌∙◌}
+use Rattle.std.proofs.Common.{◌≡◌, ◌||◌, refl, sym, ap, true, false, List, [], Some, None, Option, Bool, Result, Ok}
+use Rattle.std.proofs.Common.{Err, IfOk, IfErr, ◌≢◌, inl, inr, ap₂, subst, unwrap_or, codes, fold, is_some}
+use Rattle.std.proofs.Common.{if◌then◌else◌, ◌∙◌}
 use Rattle.std.specs.List.{cons_option}
 use Rattle.clap.specs.Matches.{found_of}
 use Rattle.clap.specs.Values.{kind_of}
@@ -12,7 +14,8 @@ use Rattle.clap.proofs.WalkLemmas.{first_value-rows, raw_values-rows}
 use Rattle.clap.specs.Walk.{Held, Row, Text, has_row, rows_of, walk, nothing_held, with_default, finished, settled}
 use Rattle.clap.specs.Simple.{HasMatchesOf, built, entered, filled, is_simple, matches_of, with_index}
 use Rattle.clap.specs.Kinds.{FailsBy, IsAmong, Kinds, or_else}
-use Rattle.clap.specs.Faults.{fault_of, is_simple_and_free, entered_fault, defaults_fault, check_fault, settle_fault, walk_fault}
+use Rattle.clap.specs.Faults.{fault_of, is_simple_and_free, entered_fault, defaults_fault, check_fault, settle_fault}
+use Rattle.clap.specs.Faults.{walk_fault}
 use Rattle.command_line.specs.Matches.{split_found}
 use Rattle.command_line.specs.Words.{Split, order_of, order_of_split}
 use Rattle.command_line.proofs.ClapCommand.{app, shape, rules, items_rule, policy_rule}
@@ -38,7 +41,10 @@ no_subcommand_fault (Some p) = refl
 no_default_fault : (rows : List Row) → defaults_fault rows rules ≡ []
 unfolding defaults_fault
 no_default_fault rows =
-    rw (or_true (has_row (codes "policy") rows), or_true (has_row (codes "items") (with_default rows (with_index 1 (filled policy_rule))))) refl
+    rw (
+      or_true (has_row (codes "policy") rows),
+      or_true (has_row (codes "items") (with_default rows (with_index 1 (filled policy_rule)))),
+    ) refl
 
 no_check_fault : (rows : List Row) (entered : Bool) → check_fault shape rows entered ≡ []
 no_check_fault rows true = refl
@@ -87,7 +93,8 @@ module _ (words : List Text) where
 split_of-found : (found : Found) → split_of (rows_of found) ≡ split_found found
 split_of-found found =
     ap₂ (λ (items : Option (List Text))
-    (policy : Option Text). let split : Split = record { items = unwrap_or items []; policies = cons_option policy [] } in split)
+    (policy : Option Text). let split : Split =
+    record { items = unwrap_or items []; policies = cons_option policy [] } in split)
     (sym (raw_values-rows found (codes "items"))) (sym (first_value-rows found (codes "policy")))
 
 -- the same of what `clap` answers

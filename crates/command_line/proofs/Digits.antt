@@ -1,5 +1,6 @@
 -- The value of at most 18 decimal digits.
-use Rattle.std.proofs.Common.{◌≡◌, ℕ, ◌+◌, ◌-◌, ◌*◌, ◌^◌, ◌<◌, ◌≤◌, List, true, false, length, get_or, take, arith, rules, refl, sym, ◌∙◌, lit≤}
+use Rattle.std.proofs.Common.{◌≡◌, ℕ, ◌+◌, ◌-◌, ◌*◌, ◌^◌, ◌<◌, ◌≤◌, List, true, false, length, get_or, take, arith}
+use Rattle.std.proofs.Common.{rules, refl, sym, ◌∙◌, lit≤}
 use Rattle.std.specs.Char.{is_ascii_digit}
 use Rattle.std.specs.Int.{IsInRange}
 use Rattle.std.specs.List.{list_all}
@@ -34,9 +35,18 @@ digit_at text at all within =
 pub digits_value-next : (text : List ℕ) (at : ℕ) → list_all is_ascii_digit text ≡ true → at < length text
     → digits_value 10 (take at text) * 10 + (get_or text at 0 - 48) ≡ digits_value 10 (take (at + 1) text)
 digits_value-next text at all within =
-    omega (arith, digits_value_more 10 text at within, digit_value_digit (get_or text at 0) (digit_at text at all within))
+    omega (
+      arith,
+      digits_value_more 10 text at within,
+      digit_value_digit (get_or text at 0) (digit_at text at all within),
+    )
 
 pub digits_value-next-le : (text : List ℕ) (at : ℕ) → list_all is_ascii_digit text ≡ true → length text ≤ 18
     → at < length text → digits_value 10 (take at text) * 10 + (get_or text at 0 - 48) < 10 ^ 18
 digits_value-next-le text at all few within =
-    omega (arith, digits_value-next text at all within, digits_value-take-le 10 text (at + 1) (lit≤ tt), digits_value-lt_limit text all few)
+    omega (
+      arith,
+      digits_value-next text at all within,
+      digits_value-take-le 10 text (at + 1) (lit≤ tt),
+      digits_value-lt_limit text all few,
+    )

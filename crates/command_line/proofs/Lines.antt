@@ -1,5 +1,6 @@
 -- The first line of some bytes, and all their lines together.
-use Rattle.std.proofs.Common.{◌≡◌, ℕ, ◌+◌, ◌<◌, ◌==◌, List, [], ◌∷◌, ◌++◌, true, false, suc, length, take, drop, refl, sym, ap, ◌∙◌, ◌≤◌, length-append, length-drop, arith, Some}
+use Rattle.std.proofs.Common.{◌≡◌, ℕ, ◌+◌, ◌<◌, ◌==◌, List, [], ◌∷◌, ◌++◌, true, false, suc, length, take, drop, refl}
+use Rattle.std.proofs.Common.{sym, ap, ◌∙◌, ◌≤◌, length-append, length-drop, arith, Some}
 use Rattle.std.proofs.lemmas.List.{drop-drop}
 use Rattle.std.proofs.Math.Seq.{take-add, take-append_seam, drop-append_seam}
 use Rattle.std.specs.List.{concat, position_or_len}

@@ -1,13 +1,16 @@
 -- Words that are refused whatever stands behind them.
-use Rattle.std.proofs.Common.{◌≡◌, ◌==◌, ◌&&◌, refl, ap, true, false, List, [], ◌∷◌, ◌++◌, Some, None, Option, Bool, option_and_then, is_some, length, nat_le, if◌then◌else◌, arith}
+use Rattle.std.proofs.Common.{◌≡◌, ◌==◌, ◌&&◌, refl, ap, true, false, List, [], ◌∷◌, ◌++◌, Some, None, Option, Bool}
+use Rattle.std.proofs.Common.{option_and_then, is_some, length, nat_le, if◌then◌else◌, arith}
 use Rattle.std.specs.Option.{option_map}
 use Rattle.std.proofs.lemmas.Bool.Decides.{nat_tests}
 use Rattle.witness_plan.specs.declared.schedules.Policy.{Policy}
 use Rattle.loop_class.specs.Names.{value_named}
 use Rattle.command_line.specs.declared.words.Command.{Command}
-use Rattle.command_line.specs.declared.words.Command.TheVariants.{Run, Seq, Net, Cert, Check, Vhdl, Load}
+use Rattle.command_line.specs.declared.words.Command.TheVariants.{Run, Seq, Net, Cert, Check, Vhdl, Load, Sim, Trim, Trace}
 use Rattle.command_line.specs.declared.words.Order.{Order}
-use Rattle.command_line.specs.Words.{Text, Param, Split, with_policy, is_option, command_of, number_of, param_of, params_with, policy_named, policy_of, load_order, params_order, order_with, order_of_items, order_of_split}
+use Rattle.command_line.specs.Words.{Text, Param, Split, with_policy, is_option, command_of, number_of, param_of}
+use Rattle.command_line.specs.Words.{params_with, policy_named, policy_of, load_order, params_order, order_with}
+use Rattle.command_line.specs.Words.{order_of_items, order_of_split}
 use Rattle.command_line.proofs.WordCases.{before-other}
 
 abbrev pub join : Split → Split → Split
@@ -114,6 +117,9 @@ with_none policy Cert before word later e = others_none policy Cert before word 
 with_none policy Check before word later e = others_none policy Check before word later e
 with_none policy Vhdl before word later e = others_none policy Vhdl before word later e
 with_none policy Load before word later e = load_none policy before word later e
+with_none policy Sim before word later e = others_none policy Sim before word later e
+with_none policy Trim before word later e = others_none policy Trim before word later e
+with_none policy Trace before word later e = others_none policy Trace before word later e
 
 items_none : (policy : Policy) (before : List Text) (word : Text) (later : List Text) → is_option word ≡ true
     → order_of_items policy ((before ++ word ∷ []) ++ later) ≡ None

@@ -1,5 +1,6 @@
 -- The words by what `clap` takes them for.
-use Rattle.std.proofs.Common.{◌≡◌, ◌⊎◌, ◌==◌, ◌+◌, ℕ, refl, sym, ap, subst, inl, inr, codes, true, false, [], ◌∷◌, ◌++◌, Bool, suc, take, drop, arith, ◌∙◌}
+use Rattle.std.proofs.Common.{◌≡◌, ◌⊎◌, ◌==◌, ◌+◌, ℕ, refl, sym, ap, subst, inl, inr, codes, true, false, [], ◌∷◌, ◌++◌}
+use Rattle.std.proofs.Common.{Bool, suc, take, drop, arith, ◌∙◌}
 use Rattle.std.specs.List.{before_first, position_or_len}
 use Rattle.std.specs.Str.{bytes_eq, chars}
 use Rattle.std.specs.Cmp.Lexicographic.{same_text}

@@ -34,6 +34,12 @@ pub enum Command {
     Vhdl,
     /// Multiply matrices of a size by the network, and write what that came to.
     Load,
+    /// Write what the loops compute, by the network's processes under one clock, and the number of clocks.
+    Sim,
+    /// Write capacities none of which can be lowered, and where the network sticks with one place less.
+    Trim,
+    /// Write a run of the network that workers make over one locked board.
+    Trace,
 }
 
 /// What the words order: a command, the schedule that is wanted, and values for parameters.
@@ -206,6 +212,12 @@ fn command_of(word: &[u8]) -> Option<Command>
         Some(Command::Vhdl)
     } else if word == b"load".as_slice() {
         Some(Command::Load)
+    } else if word == b"sim".as_slice() {
+        Some(Command::Sim)
+    } else if word == b"trim".as_slice() {
+        Some(Command::Trim)
+    } else if word == b"trace".as_slice() {
+        Some(Command::Trace)
     } else {
         None
     }

@@ -1,9 +1,10 @@
--- What `cert` writes is accepted. The values of parameters bear on a nest through the declarations alone, each of which looks up
--- its own name. So two lists that agree on the declared names bind a tree to the same nest, and the pair that `cert` wrote fits
--- the nest that `check` makes.
-use Rattle.std.proofs.Common.{◌≡◌, ◌∙◌, ◌++◌, arith, ℕ, ℤ, List, [], ◌∷◌, Option, Some, None, Result, Ok, Err, refl, sym, ap, subst}
+-- What `cert` writes is accepted. The values of parameters bear on a nest through the declarations alone, each of which
+-- looks up its own name. So two lists that agree on the declared names bind a tree to the same nest, and the pair that
+-- `cert` wrote fits the nest that `check` makes.
+use Rattle.std.proofs.Common.{◌≡◌, ◌∙◌, ◌++◌, arith, ℕ, ℤ, List, [], ◌∷◌, Option, Some, None, Result, Ok, Err, refl}
+use Rattle.std.proofs.Common.{sym, ap, subst}
 use Rattle.bundle_laws.specs.Certified.{certified, with_line_end}
-use Rattle.cert_text.specs.CertText.{AreInRange}
+use Rattle.cert_text.specs.StandsFor.{IsWrittenOf, StandsFor}
 use Rattle.command_line.specs.Bundle.{after_separator, certificate_part, source_part}
 use Rattle.command_line.specs.declared.words.Command.{Command}
 use Rattle.command_line.specs.declared.words.Command.TheVariants.{Cert}
@@ -34,11 +35,13 @@ use Rattle.sanlp.specs.declared.nest.Nest.{Nest}
 use Rattle.std.specs.Prelude.{Contains, IfOk}
 use Rattle.witness_plan.specs.declared.schedules.Policy.{Policy}
 use Rattle.witness_plan.specs.Schedules.{planned_network}
-use Rattle.compaan_top.specs.Certified.{Accepts, AgreeOn, Call, Certifies, HasCertificate, ReadCertificate, WroteCertificate}
+use Rattle.compaan_top.specs.Certified.{Accepts, AgreeOn, Call, Certifies, HasCertificate, ReadCertificate}
+use Rattle.compaan_top.specs.Certified.{StandsForPlanned, WroteCertificate}
 use Rattle.compaan_top.specs.Commands.{reads_of}
 use Rattle.compaan_top.specs.Headline.{AcceptsWhatFits, HasFittingCertificate, SaysAccepted}
-use Rattle.compaan_top.specs.Outcome.{Outcome, IsOutcome, Performs, outcome_of, words_refused, bundle_refused, performed}
-use Rattle.compaan_top.specs.Printing.{Prints, certificate_text, source_refused, printed}
+use Rattle.compaan_top.specs.Outcome.{Outcome, IsOutcome, Performs, outcome_of, words_refused, bundle_refused}
+use Rattle.compaan_top.specs.Outcome.{performed}
+use Rattle.compaan_top.specs.Certifying.{PrintsCertificate, source_refused, printed}
 use Rattle.compaan_top.specs.Refusals.{refusal_status}
 use Rattle.compaan_top.specs.Replies.{Reply}
 use Rattle.compaan_top.specs.Source as sized
@@ -54,8 +57,11 @@ use Rattle.compaan_top.proofs.Vouched.{five_is_not_zero, not_zero, same_order}
 abbrev pub PlannedFits : Type 0
 PlannedFits = (n : Nest) (policy : Policy) → Fits n (planned_network n policy) (cert_of n policy)
 
-abbrev pub PlannedIsInRange : Type 0
-PlannedIsInRange = (n : Nest) (policy : Policy) → SizeIsOk n → AreInRange (planned_network n policy) (cert_of n policy)
+abbrev pub PlannedStands : Type 0
+PlannedStands =
+    (n : Nest) (policy : Policy) (text : List ℕ) → SizeIsOk n
+    → IsWrittenOf text (planned_network n policy) (cert_of n policy)
+    → StandsFor text (planned_network n policy) (cert_of n policy)
 
 abbrev pub TokensStay : Type 0
 TokensStay = (source : List ℕ) → tokens (with_line_end source) ≡ tokens source
@@ -87,7 +93,14 @@ binding_of source params nest (no_tree found place lexed stops) e = absurd (no_n
 binding_of source params nest (not_bound found tree reason refusal lexed parsed least made) e =
     absurd (no_nest refusal nest e)
 binding_of source params nest (bound found tree m lexed parsed is) e =
-    record { found = found; tree = tree; lexed = lexed; parsed = parsed; is = subst (IsBound tree params) (same_nest m nest e) is }
+    record {
+      found = found;
+      tree = tree;
+      lexed = lexed;
+      parsed = parsed;
+      is =
+          subst (IsBound tree params) (same_nest m nest e) is;
+    }
 
 -- gives it with its last line ended, too
 gives_ended : TokensStay → SentenceStays → (source : List ℕ) (params : List (List ℕ × ℤ)) (nest : Nest)
@@ -177,7 +190,8 @@ rebound source a b nest agree binding = record {
   parsed = binding.parsed;
   is = bound_alike a b binding.tree nest (λ declaration named there is has.
       agree binding.found binding.tree named.name.text binding.lexed binding.parsed
-      (record { declaration = declaration; named = named; stands = there; word = is; is_declared = has; text = refl })) binding.is;
+      (record { declaration = declaration; named = named; stands = there; word = is; is_declared = has; text = refl }))
+      binding.is;
 }
 
 -- What `cert` comes to
@@ -187,7 +201,7 @@ pub record HasWritten (params : List (List ℕ × ℤ)) (policy : Policy) (bundl
   pub total : ℕ
   pub binding : HasBinding (source_part bundle) params nest
   pub counts : counted nest ≡ Ok total
-  pub is : text ≡ certificate_text policy nest
+  pub is : IsWrittenOf text (planned_network nest policy) (cert_of nest policy)
 
 record HasTotal (source : List ℕ) (params : List (List ℕ × ℤ)) (nest : Nest) : Type 0 where
   total : ℕ
@@ -202,14 +216,21 @@ total_of source params nest (sized.within_size m total gives counts) e =
     subst (HasTotal source params) (same_nest m nest e) (record { total = total; gives = gives; counts = counts })
 
 prints_written : (order : Order) (bundle : List ℕ) {answer : Result Reply Refusal}
-    → Prints (certificate_text order.policy) order.params bundle answer → (outcome_of answer).status ≡ 0
+    → PrintsCertificate order.policy order.params bundle answer → (outcome_of answer).status ≡ 0
     → HasWritten order.params order.policy bundle (outcome_of answer).output
 prints_written order bundle (source_refused refusal gives) zero =
     absurd (not_zero (refusal_status refusal) (sized_refused (source_part bundle) order.params gives) zero)
-prints_written order bundle (printed nest gives) zero =
+prints_written order bundle (printed nest text gives written) zero =
     let made : HasTotal (source_part bundle) order.params nest =
     total_of (source_part bundle) order.params nest gives refl in
-    record { nest = nest; total = made.total; binding = binding_of (source_part bundle) order.params nest made.gives refl; counts = made.counts; is = refl }
+    record {
+      nest = nest;
+      total = made.total;
+      binding =
+          binding_of (source_part bundle) order.params nest made.gives refl;
+      counts = made.counts;
+      is = written;
+    }
 
 performs_written : (order : Order) (bundle : List ℕ) (answer : Result Reply Refusal) → order.command ≡ Cert
     → Performs order.command order bundle answer
@@ -230,7 +251,14 @@ outcome_written order bundle is (performed other answer others within made) zero
 rewritten : (a b : List (List ℕ × ℤ)) (policy : Policy) (bundle text : List ℕ) → AgreeOn (source_part bundle) a b
     → HasWritten a policy bundle text → HasWritten b policy bundle text
 rewritten a b policy bundle text agree w =
-    record { nest = w.nest; total = w.total; binding = rebound (source_part bundle) a b w.nest agree w.binding; counts = w.counts; is = w.is }
+    record {
+      nest = w.nest;
+      total = w.total;
+      binding = rebound (source_part bundle) a b w.nest agree w.binding;
+      counts =
+          w.counts;
+      is = w.is;
+    }
 
 -- What `check` comes to on that
 
@@ -241,18 +269,19 @@ size_ok n total counts =
     (size_of_ok n (counted n) refl) in
     whole.1
 
-fitting : PlannedFits → PlannedIsInRange → TokensStay → SentenceStays
+fitting : PlannedFits → PlannedStands → TokensStay → SentenceStays
     → (params : List (List ℕ × ℤ)) (policy : Policy) (bundle other text : List ℕ) → HasWritten params policy bundle text
     → HasCertificate bundle other text → HasFittingCertificate params other
-fitting fits in_range tokens_stay sentence_stays params policy bundle other text w has = record {
+fitting fits stands tokens_stay sentence_stays params policy bundle other text w has = record {
   nest = w.nest;
   network = planned_network w.nest policy;
   cert = cert_of w.nest policy;
   gives = sized.within_size w.nest w.total
       (subst (λ (source : List ℕ). Gives source params (Ok w.nest)) (sym has.source)
       (gives_ended tokens_stay sentence_stays (source_part bundle) params w.nest w.binding)) w.counts;
-  text = has.certificate ∙ ap Some w.is;
-  in_range = in_range w.nest policy (size_ok w.nest w.total w.counts);
+  text = text;
+  is_part = has.certificate;
+  stands = stands w.nest policy text (size_ok w.nest w.total w.counts) w.is;
   fits = fits w.nest policy;
 }
 
@@ -275,8 +304,22 @@ appended (Some x) (Some y) held text gained grown before after =
     (sym grown ∙ same_value y (held ++ text) after
     ∙ ap (λ (h : List ℕ). h ++ text) (sym (same_value x held before)))
 
+-- what is written stands for the planned pair, which fits the nest
+pub stands_planned : PlannedFits → PlannedStands → (cert : Order) (bundle : List ℕ) (written : Outcome)
+    → Certifies cert bundle written → StandsForPlanned cert bundle written.output
+stands_planned fits stands cert bundle written made =
+    let w : HasWritten cert.params cert.policy bundle written.output =
+    outcome_written cert bundle made.command made.outcome made.done in
+    let b : HasBinding (source_part bundle) cert.params w.nest = w.binding in
+    record {
+      nest = w.nest;
+      gives = sized.within_size w.nest w.total (bound b.found b.tree w.nest b.lexed b.parsed b.is) w.counts;
+      stands = stands w.nest cert.policy written.output (size_ok w.nest w.total w.counts) w.is;
+      fits = fits w.nest cert.policy;
+    }
+
 module _ (accepts : (wanted : Option Order) (bundle : List ℕ) → AcceptsWhatFits wanted bundle) (fits : PlannedFits)
-    (in_range : PlannedIsInRange) (tokens_stay : TokensStay) (sentence_stays : SentenceStays) where
+    (stands : PlannedStands) (tokens_stay : TokensStay) (sentence_stays : SentenceStays) where
   pub accepts_parts : (cert check : Order) (bundle other : List ℕ) (written : Outcome)
       → AgreeOn (source_part bundle) cert.params check.params → Certifies cert bundle written
       → HasCertificate bundle other written.output → Accepts check other
@@ -285,7 +328,7 @@ module _ (accepts : (wanted : Option Order) (bundle : List ℕ) → AcceptsWhatF
       rewritten cert.params check.params cert.policy bundle written.output agree
       (outcome_written cert bundle made.command made.outcome made.done) in
       (accepts (Some check) other check refl is within outcome outcome_is).1
-      (fitting fits in_range tokens_stay sentence_stays check.params cert.policy bundle other written.output w has)
+      (fitting fits stands tokens_stay sentence_stays check.params cert.policy bundle other written.output w has)
 
   module _ (no_separator : (bundle : List ℕ) → after_separator (source_part bundle) ≡ None)
       (makes_none : (source : List ℕ) (found : List Token) → after_separator source ≡ None → tokens source ≡ Ok found
@@ -303,7 +346,11 @@ module _ (accepts : (wanted : Option Order) (bundle : List ℕ) → AcceptsWhatF
         let none : after_separator (with_line_end (source_part bundle)) ≡ None =
         makes_none (source_part bundle) w.binding.found (no_separator bundle) w.binding.lexed in
         accepts_parts cert check bundle (certified (source_part bundle) written.output) written agree made
-        (record { source = source_is (source_part bundle) written.output none; certificate = certificate_is (source_part bundle) written.output none })
+        (record {
+          source = source_is (source_part bundle) written.output none;
+          certificate =
+              certificate_is (source_part bundle) written.output none;
+        })
 
     pub accepts_calls : (cert check : Call) (bundle text : List ℕ)
         → AgreeOn (source_part bundle) cert.order.params check.order.params → WroteCertificate cert bundle text
@@ -319,7 +366,8 @@ module _ (accepts : (wanted : Option Order) (bundle : List ℕ) → AcceptsWhatF
         comes_to (Some check.order) check.input check.output check.complaint all check.ended
         (check_told check.order check.input.old all read.command read.left) answered in
         let gained : first.outcome.output ≡ text =
-        appended cert.output.old cert.output.new wrote.held text first.outcome.output first.writes.written wrote.before wrote.after in
+        appended cert.output.old cert.output.new wrote.held text first.outcome.output first.writes.written wrote.before
+        wrote.after in
         let accepted_bytes : Accepts check.order all =
         subst (λ (t : List ℕ). Accepts check.order (certified (source_part bundle) t)) gained
         (accepts_bytes cert.order check.order bundle first.outcome agree

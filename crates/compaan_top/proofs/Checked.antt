@@ -1,8 +1,8 @@
 -- What the command `check` comes to, from what its steps come to.
 use Rattle.std.proofs.Common.{◌≡◌, ◌≢◌, ℕ, ℤ, List, Some, Result, Ok, Err, sym, subst}
 use Rattle.cert_text.specs.Reading.{reading}
-use Rattle.cert_text.specs.declared.error.CertError.{CertError}
-use Rattle.cert_text.specs.declared.error.CertError.TheVariants as cert
+use Rattle.cert_lines.specs.declared.error.CertError.{CertError}
+use Rattle.cert_lines.specs.declared.error.CertError.TheVariants as cert
 use Rattle.command_line.specs.Bundle.{certificate_part, source_part}
 use Rattle.net_checker.specs.Fits.{first, verdict_of}
 use Rattle.net_checker.specs.declared.verdict.Verdict.{Verdict}
@@ -37,6 +37,8 @@ told_error : (error : CertError) (text : List ℕ) → unread_text error ≡ Som
 told_error (cert.Line line) text told = λ is. cc
 told_error (cert.Number line) text told = λ is. cc
 told_error cert.Truncated text told = λ is. cc
+told_error (cert.Deep line) text told = λ is. cc
+told_error (cert.Long process) text told = λ is. cc
 told_error cert.Memory text told = λ is. cc
 
 pub checks_unread : (params : List (List ℕ × ℤ)) (bundle source part : List ℕ) (nest : Nest) (error : CertError)

@@ -1,20 +1,27 @@
 -- How a call ends, from what its parts did.
-use Rattle.std.proofs.Common.{◌≡◌, ◌≢◌, ◌≤◌, ◌+◌, ℕ, List, [], length, Option, Some, Result, Ok, Err, refl, sym, subst, inl, inr, lit≤, arith}
+use Rattle.std.proofs.Common.{◌≡◌, ◌≢◌, ◌≤◌, ◌+◌, ℕ, List, [], length, Option, Some, Result, Ok, Err, refl, sym, subst}
+use Rattle.std.proofs.Common.{inl, inr, lit≤, arith}
 use Rattle.std.specs.Io.KnownBytes.{Appends}
 use Rattle.std.proofs.KnownBytes.{Appends-nil, Consumes-nil, Keeps-refl}
 use Rattle.io_edge.specs.Causes.{AppendsFront}
 use Rattle.command_line.specs.declared.words.Command.{Command}
-use Rattle.command_line.specs.declared.words.Command.TheVariants.{Run, Seq, Net, Cert, Check, Vhdl, Load}
+use Rattle.command_line.specs.declared.words.Command.TheVariants.{Run, Seq, Net, Cert, Check, Vhdl, Load, Sim, Trim, Trace}
 use Rattle.command_line.specs.declared.words.Order.{Order}
-use Rattle.compaan_top.specs.Answers.{Change, IsQuiet, HasFault, IsRead, ReadsFor, ReadsTo, TakesAtMost, most_taken, Ends, no_memory, read_fault, written, cut_short}
-use Rattle.compaan_top.specs.Commands.{Reads, source_alone, source_and_data, source_and_certificate, nothing, read_by, reads_of, WaitsForNobody}
+use Rattle.compaan_top.specs.Answers.{Change, IsQuiet, HasFault, IsRead, ReadsFor, ReadsTo, TakesAtMost, most_taken}
+use Rattle.compaan_top.specs.Answers.{Ends, no_memory, read_fault, written, cut_short}
+use Rattle.compaan_top.specs.Commands.{Reads, source_alone, source_and_data, source_and_certificate, nothing, read_by}
+use Rattle.compaan_top.specs.Commands.{reads_of, WaitsForNobody}
+use Rattle.compaan_top.specs.Certifying.{PrintsCertificate}
 use Rattle.compaan_top.specs.Judging.{Judges}
 use Rattle.compaan_top.specs.Load.{Loads}
 use Rattle.compaan_top.specs.Refusals.{refusal_line, refusal_status}
-use Rattle.compaan_top.specs.Replies.{Reply}
-use Rattle.compaan_top.specs.Outcome.{IsOutcome, outcome_of, bundle_limit, Performs, words_refused, bundle_refused, performed}
-use Rattle.compaan_top.specs.Planned.{as_reply, reply_of, IsOrdered, IsPlanned, ReadsBundle, ReadsAndJudges}
+use Rattle.compaan_top.specs.Replies.{Reply, done}
+use Rattle.compaan_top.specs.Outcome.{IsOutcome, outcome_of, bundle_limit, Performs, words_refused, bundle_refused}
+use Rattle.compaan_top.specs.Outcome.{performed}
+use Rattle.compaan_top.specs.Planned.{JudgesTexts, as_reply, reply_of, IsCertificatePlanned, IsOrdered, IsPlanned}
+use Rattle.compaan_top.specs.Planned.{ReadsBundle, ReadsAndJudges}
 use Rattle.compaan_top.specs.declared.answer.Answer.{Answer}
+use Rattle.compaan_top.specs.declared.answer.CertificateAnswer.{CertificateAnswer}
 use Rattle.compaan_top.specs.declared.refusal.Refusal.{Refusal}
 use Rattle.compaan_top.specs.declared.refusal.Stop.{Stop}
 use Rattle.compaan_top.specs.declared.refusal.Stop.TheVariants.{Refused, ReadFault, Memory}
@@ -65,13 +72,25 @@ pub ends_at_fault : (wanted : Option Order) (input : Change) (held other : Optio
     → IsPlanned wanted input (Err ReadFault) → Ends wanted input (kept held faults) (kept other others) 3
 ends_at_fault wanted input held other faults others fault =
     read_fault fault.0 fault.1 fault.2 fault.3 fault.4
-    (record { output_kept = Keeps-refl held; complaint_kept = Keeps-refl other; output_quiet = refl; complaint_quiet = refl })
+    (record {
+      output_kept = Keeps-refl held;
+      complaint_kept = Keeps-refl other;
+      output_quiet = refl;
+      complaint_quiet =
+          refl;
+    })
 
 pub ends_without_memory : (wanted : Option Order) (input : Change) (held other : Option (List ℕ)) (faults others : ℕ)
     → IsPlanned wanted input (Err Memory) → Ends wanted input (kept held faults) (kept other others) 10
 ends_without_memory wanted input held other faults others want =
     no_memory want.0 want.1
-    (record { output_kept = Keeps-refl held; complaint_kept = Keeps-refl other; output_quiet = refl; complaint_quiet = refl })
+    (record {
+      output_kept = Keeps-refl held;
+      complaint_kept = Keeps-refl other;
+      output_quiet = refl;
+      complaint_quiet =
+          refl;
+    })
 
 -- a command that waits for nobody reads a bundle
 pub quiet_reads : (command : Command) → WaitsForNobody command → reads_of command ≢ nothing
@@ -82,6 +101,9 @@ quiet_reads Cert quiet = λ e. cc
 quiet_reads Check quiet = λ e. cc
 quiet_reads Vhdl quiet = λ e. cc
 quiet_reads Load quiet = λ e. cc
+quiet_reads Sim quiet = λ e. cc
+quiet_reads Trim quiet = λ e. cc
+quiet_reads Trace quiet = λ e. cc
 
 run_reads_some : reads_of Run ≢ nothing
 run_reads_some = λ e. cc
@@ -89,6 +111,20 @@ run_reads_some = λ e. cc
 -- so does `run`
 pub run_reads : (command : Command) → command ≡ Run → reads_of command ≢ nothing
 run_reads command is = subst (λ (c : Command). reads_of c ≢ nothing) (sym is) run_reads_some
+
+cert_reads_some : reads_of Cert ≢ nothing
+cert_reads_some = λ e. cc
+
+-- and `cert`
+pub cert_reads : (command : Command) → command ≡ Cert → reads_of command ≢ nothing
+cert_reads command is = subst (λ (c : Command). reads_of c ≢ nothing) (sym is) cert_reads_some
+
+trace_reads_some : reads_of Trace ≢ nothing
+trace_reads_some = λ e. cc
+
+-- and so does `trace`
+pub trace_reads : (command : Command) → command ≡ Trace → reads_of command ≢ nothing
+trace_reads command is = subst (λ (c : Command). reads_of c ≢ nothing) (sym is) trace_reads_some
 
 -- what reads a bundle reads it so
 pub reads_bundle : (reads : Reads) (input : Change) (bundle : List ℕ) → reads ≢ nothing → ReadsTo input bundle
@@ -116,8 +152,14 @@ takes_none left faults most = ([], omega arith, Consumes-nil left)
 -- where the words are refused nothing is read
 pub planned_refusal_of_words : (wanted : Option Order) (left : Option (List ℕ)) (faults : ℕ) (stop : Stop)
     → Judges (IsOrdered wanted) (Err stop) → IsPlanned wanted (kept left faults) (Err stop)
-planned_refusal_of_words wanted left faults (Refused refusal) judged =
-    (refl, ([], rw judged.0 (Keeps-refl left, refl), subst (λ (r : Refusal). IsOutcome wanted [] (outcome_of (Err r))) (sym judged.1) (words_refused judged.0)))
+planned_refusal_of_words wanted left faults (Refused refusal) judged = (
+  refl,
+  (
+    [],
+    rw judged.0 (Keeps-refl left, refl),
+    subst (λ (r : Refusal). IsOutcome wanted [] (outcome_of (Err r))) (sym judged.1) (words_refused judged.0),
+  ),
+)
 planned_refusal_of_words wanted left faults ReadFault judged = absurd judged
 planned_refusal_of_words wanted left faults Memory judged = (refl, takes_none left faults (most_taken (read_by wanted)))
 
@@ -155,6 +197,44 @@ pub planned_work : (order : Order) (input : Change) (bundle : List ℕ) (answer 
 planned_work order input bundle answer some quiet read within judged =
     planned_answer order input bundle answer quiet (reads_bundle (reads_of order.command) input bundle some read)
     (takes_read (reads_of order.command) input bundle some read) within judged
+
+-- the same of `cert`, whichever text is written
+pub planned_certificate : (order : Order) (input : Change) (bundle : List ℕ) (answer : Result CertificateAnswer Stop)
+    → order.command ≡ Cert
+    → IsQuiet input → ReadsTo input bundle → length bundle ≤ bundle_limit
+    → Judges (JudgesTexts (PrintsCertificate order.policy order.params bundle)) answer
+    → IsCertificatePlanned (Some order) input answer
+planned_certificate order input bundle answer is quiet read within judged =
+    by_answer answer judged
+  where
+    some : reads_of order.command ≢ nothing
+    some = cert_reads order.command is
+
+    performs : (reply : Result Reply Refusal) → PrintsCertificate order.policy order.params bundle reply
+        → Performs order.command order bundle reply
+    performs reply made = subst (λ (c : Command). Performs c order bundle reply) (sym is) made
+
+    by_answer : (answer : Result CertificateAnswer Stop)
+        → Judges (JudgesTexts (PrintsCertificate order.policy order.params bundle)) answer
+        → IsCertificatePlanned (Some order) input answer
+    by_answer (Ok made) judged = (
+      quiet,
+      λ text written. (
+        bundle,
+        reads_bundle (reads_of order.command) input bundle some read,
+        performed order (Ok (done text)) refl within (performs (Ok (done text)) (judged text written)),
+      ),
+    )
+    by_answer (Err (Refused refusal)) judged = (
+      quiet,
+      (
+        bundle,
+        reads_bundle (reads_of order.command) input bundle some read,
+        performed order (Err refusal) refl within (performs (Err refusal) judged),
+      ),
+    )
+    by_answer (Err ReadFault) judged = absurd judged
+    by_answer (Err Memory) judged = (quiet, takes_read (reads_of order.command) input bundle some read)
 
 -- `load` reads nothing
 pub planned_load : (order : Order) (left : Option (List ℕ)) (faults : ℕ) (answer : Result Answer Stop)

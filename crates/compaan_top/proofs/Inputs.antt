@@ -2,7 +2,8 @@
 use Rattle.std.proofs.Common.{◌≡◌, ◌≢◌, ℕ, suc, ◌+◌, List, [], ◌∷◌, length, Some, Result, Err, refl, ap}
 use Rattle.array_data.specs.Data.{inputs_of, records_of}
 use Rattle.array_data.specs.declared.error.DataError.{DataError}
-use Rattle.array_data.specs.declared.error.DataError.TheVariants.{UnknownArray, Twice, Missing, Count, NotANumber, Memory}
+use Rattle.array_data.specs.declared.error.DataError.TheVariants.{UnknownArray, Twice, Missing, Count, NotANumber}
+use Rattle.array_data.specs.declared.error.DataError.TheVariants.{Memory}
 use Rattle.sanlp.specs.Memory.{Memory as CellMemory}
 use Rattle.sanlp.specs.Meaning.{arrays, arrays_from, exec}
 use Rattle.sanlp.specs.declared.nest.ArrayDecl.{ArrayDecl}

@@ -48,5 +48,6 @@ pub loads_summed : (policy : Policy) (rows : ℕ) (nest : Nest) (total : ℕ) (i
     → summary.events ≡ event_count network
     → summary.sum ≡ wrapping_sum (product_cells outputs)
     → Loads policy rows (Ok (done (summary_text summary.points summary.channels summary.events summary.sum)))
-loads_summed policy rows nest total inputs network outputs summary few is counts cells planned computed points channels events sum =
+loads_summed policy rows nest total inputs network outputs summary few is counts cells planned computed points channels
+    events sum =
     rw (points, channels, events, sum, computed, planned) (summed nest total inputs few is counts cells)

@@ -1,9 +1,10 @@
 -- The statuses with which each command may end.
-use Rattle.std.proofs.Common.{◌≡◌, ◌∙◌, ◌⊎◌, ◌==◌, ◌++◌, ℕ, ℤ, true, true≢false, List, [], ◌∷◌, Option, Some, None, Result, Ok, Err, refl, sym, subst, inl, inr}
+use Rattle.std.proofs.Common.{◌≡◌, ◌∙◌, ◌⊎◌, ◌==◌, ◌++◌, ℕ, ℤ, true, true≢false, List, [], ◌∷◌, Option, Some, None}
+use Rattle.std.proofs.Common.{Result, Ok, Err, refl, sym, subst, inl, inr}
 use Rattle.std.proofs.lemmas.Bool.{or_right}
 use Rattle.command_line.specs.Bundle.{source_part, data_part}
 use Rattle.command_line.specs.declared.words.Command.{Command}
-use Rattle.command_line.specs.declared.words.Command.TheVariants.{Run, Seq, Net, Cert, Check, Vhdl, Load}
+use Rattle.command_line.specs.declared.words.Command.TheVariants.{Run, Seq, Net, Cert, Check, Vhdl, Load, Sim, Trim, Trace}
 use Rattle.command_line.specs.declared.words.Order.{Order}
 use Rattle.io_edge.specs.InMemory.{is_among}
 use Rattle.loop_class.specs.declared.error.BindError.{BindError}
@@ -12,24 +13,33 @@ use Rattle.loop_lex.specs.declared.token.LexError.{LexError}
 use Rattle.loop_lex.specs.declared.token.LexError.TheVariants as lexical
 use Rattle.net_checker.specs.Fits.{first, verdict_of}
 use Rattle.net_checker.specs.declared.verdict.Refusal.{Refusal as NetRefusal}
+use Rattle.sanlp.specs.declared.nest.Inputs.{Inputs}
 use Rattle.sanlp.specs.declared.nest.Nest.{Nest}
 use Rattle.witness_plan.specs.declared.schedules.Policy.{Policy}
 use Rattle.witness_plan.specs.declared.schedules.Policy.TheVariants as policy
 use Rattle.compaan_top.specs.Answers.{Change, Ends, HasFault, no_memory, read_fault, written, cut_short}
+use Rattle.compaan_top.specs.Certifying as certify
+use Rattle.compaan_top.specs.Certifying.{PrintsCertificate}
 use Rattle.compaan_top.specs.Checking as check
 use Rattle.compaan_top.specs.Checking.{Checks, verdict_reply}
-use Rattle.compaan_top.specs.Commands.{Reads, source_alone, source_and_data, source_and_certificate, nothing, read_by, reads_of}
+use Rattle.compaan_top.specs.Commands.{Reads, source_alone, source_and_data, source_and_certificate, nothing, read_by}
+use Rattle.compaan_top.specs.Commands.{reads_of}
 use Rattle.compaan_top.specs.Describing as describe
 use Rattle.compaan_top.specs.Describing.{Describes}
 use Rattle.compaan_top.specs.Laws.{HasStatusOf, MayEndWith, command_statuses, outcome_statuses, read_statuses}
 use Rattle.compaan_top.specs.Load as load
 use Rattle.compaan_top.specs.Load.{Loads}
-use Rattle.compaan_top.specs.Outcome.{Outcome, IsOutcome, outcome_of, Performs, words_refused, bundle_refused, performed}
+use Rattle.compaan_top.specs.Outcome.{Outcome, IsOutcome, outcome_of, Performs, words_refused, bundle_refused}
+use Rattle.compaan_top.specs.Outcome.{performed}
 use Rattle.compaan_top.specs.Printing as print
-use Rattle.compaan_top.specs.Printing.{Prints, certificate_text, network_text}
+use Rattle.compaan_top.specs.Printing.{Prints, network_text}
 use Rattle.compaan_top.specs.Refusals.{byte_of, lex_refusal, bind_refusal, refusal_status}
 use Rattle.compaan_top.specs.Replies.{Reply}
-use Rattle.compaan_top.specs.Run.{Runs, IsInputs, source_refused, data_refused, answered}
+use Rattle.compaan_top.specs.Run.{Runs, IsInputs, run_text, source_refused, data_refused, answered}
+use Rattle.compaan_top.specs.Simulating.{simulation_text}
+use Rattle.compaan_top.specs.Tracing as tracing
+use Rattle.compaan_top.specs.Tracing.{Traces}
+use Rattle.compaan_top.specs.Trimming.{trimming_text}
 use Rattle.compaan_top.specs.Source as sized
 use Rattle.compaan_top.specs.Source.{Gives, GivesWithinSize, no_tokens, no_tree, not_bound, bound}
 use Rattle.compaan_top.specs.declared.refusal.Refusal.{Refusal}
@@ -97,13 +107,13 @@ inputs_status : (bytes : List ℕ) (n : Nest) (r : Refusal) → IsInputs n bytes
     → is_among (command_statuses source_and_data) (refusal_status r) ≡ true
 inputs_status bytes n r i = rw (data_status n.arrays i.0 r i.2) refl
 
-runs_own : (params : List (List ℕ × ℤ)) (bundle : List ℕ) {x : Result Reply Refusal} → Runs params bundle x
-    → HasStatus source_and_data x
-runs_own params bundle (source_refused r g) =
+runs_own : (text : Nest → Inputs → List ℕ) (params : List (List ℕ × ℤ)) (bundle : List ℕ) {x : Result Reply Refusal}
+    → Runs text params bundle x → HasStatus source_and_data x
+runs_own text params bundle (source_refused r g) =
     among (command_statuses source_and_data) (refusal_status r) refl refl refl
     (sized_refused (source_part bundle) params g)
-runs_own params bundle (data_refused n r g i) = inputs_status (data_part bundle) n r i
-runs_own params bundle (answered n d g i) = refl
+runs_own text params bundle (data_refused n r g i) = inputs_status (data_part bundle) n r i
+runs_own text params bundle (answered n d g i) = refl
 
 prints_own : (text : Nest → List ℕ) (params : List (List ℕ × ℤ)) (bundle : List ℕ) {x : Result Reply Refusal}
     → Prints text params bundle x → HasStatus source_alone x
@@ -111,6 +121,13 @@ prints_own text params bundle (print.source_refused r g) =
     among (command_statuses source_alone) (refusal_status r) refl refl refl
     (sized_refused (source_part bundle) params g)
 prints_own text params bundle (print.printed n g) = refl
+
+certificate_own : (policy : Policy) (params : List (List ℕ × ℤ)) (bundle : List ℕ) {x : Result Reply Refusal}
+    → PrintsCertificate policy params bundle x → HasStatus source_alone x
+certificate_own policy params bundle (certify.source_refused r g) =
+    among (command_statuses source_alone) (refusal_status r) refl refl refl
+    (sized_refused (source_part bundle) params g)
+certificate_own policy params bundle (certify.printed n t g w) = refl
 
 verdict_own : (found : Option NetRefusal)
     → is_among (command_statuses source_and_certificate) (verdict_reply (verdict_of found)).status ≡ true
@@ -139,15 +156,25 @@ loads_own policy rows (load.too_large a) = refl
 loads_own policy rows (load.size_refused n e a g c) = rw (size_status e) refl
 loads_own policy rows (load.summed n t k a g c i) = refl
 
+traces_own : (policy : Policy) (params : List (List ℕ × ℤ)) (bundle : List ℕ) {x : Result Reply Refusal}
+    → Traces policy params bundle x → HasStatus source_alone x
+traces_own policy params bundle (tracing.source_refused r g) =
+    among (command_statuses source_alone) (refusal_status r) refl refl refl
+    (sized_refused (source_part bundle) params g)
+traces_own policy params bundle (tracing.traced n run g e) = refl
+
 performs_own : (command : Command) (order : Order) (bundle : List ℕ) (x : Result Reply Refusal)
     → Performs command order bundle x → HasStatus (reads_of command) x
-performs_own Run order bundle x made = runs_own order.params bundle made
-performs_own Seq order bundle x made = runs_own order.params bundle made
+performs_own Run order bundle x made = runs_own run_text order.params bundle made
+performs_own Seq order bundle x made = runs_own run_text order.params bundle made
 performs_own Net order bundle x made = prints_own (network_text order.policy) order.params bundle made
-performs_own Cert order bundle x made = prints_own (certificate_text order.policy) order.params bundle made
+performs_own Cert order bundle x made = certificate_own order.policy order.params bundle made
 performs_own Check order bundle x made = checks_own order.params bundle made
 performs_own Vhdl order bundle x made = describes_own order.policy order.params bundle made
 performs_own Load order bundle x made = loads_own order.policy order.load made
+performs_own Sim order bundle x made = runs_own (simulation_text order.policy) order.params bundle made
+performs_own Trim order bundle x made = prints_own (trimming_text order.policy) order.params bundle made
+performs_own Trace order bundle x made = traces_own order.policy order.params bundle made
 
 -- where something is read, too long a bundle has its status
 long_status : (reads : Reads) → (reads ≡ nothing → ⊥) → is_among (command_statuses reads) 5 ≡ true
@@ -236,7 +263,8 @@ pub no_one_status : (status : ℕ) → ((wanted : Option Order) → MayEndWith w
 no_one_status status may =
     let refused = may None in
     let ordered = may (Some an_order) in
-    elim (refused_status None refused.input refused.output refused.complaint refl refused.output_sound refused.complaint_sound refused.ends) [
+    elim (refused_status None refused.input refused.output refused.complaint refl refused.output_sound
+    refused.complaint_sound refused.ends) [
       | inl two ↦ absurd
           (ordered_status status
           (calls_own (Some an_order) ordered.input ordered.output ordered.complaint ordered.ends) two)

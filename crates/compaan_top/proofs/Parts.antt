@@ -1,5 +1,6 @@
 -- The certificate part is no longer than the bundle.
-use Rattle.std.proofs.Common.{◌≡◌, ◌≤◌, ℕ, true, false, List, [], ◌∷◌, ◌++◌, Option, Some, None, length, length-append, subst, refl, arith, ap}
+use Rattle.std.proofs.Common.{◌≡◌, ◌≤◌, ℕ, true, false, List, [], ◌∷◌, ◌++◌, Option, Some, None, length, length-append}
+use Rattle.std.proofs.Common.{subst, refl, arith, ap}
 use Rattle.std.specs.Prelude.{if◌then◌else◌, option_and_then}
 use Rattle.std.specs.List.{concat}
 use Rattle.command_line.specs.Bundle.{after_separator, certificate_part, is_separator, lines_after, lines_of}

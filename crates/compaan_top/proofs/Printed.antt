@@ -1,9 +1,17 @@
 -- What the commands that print come to, from what their steps come to.
 use Rattle.std.proofs.Common.{◌≡◌, ℕ, ℤ, List, Result, Ok, Err, sym, subst}
+use Rattle.cert_text.specs.StandsFor.{IsWrittenOf}
 use Rattle.command_line.specs.Bundle.{source_part}
+use Rattle.net_core.specs.declared.network.Network.{Network}
+use Rattle.net_maker.specs.Certificates.{cert_of}
 use Rattle.sanlp.specs.declared.nest.Nest.{Nest}
+use Rattle.source_tree.specs.declared.cert.Cert.{Cert}
+use Rattle.witness_plan.specs.declared.schedules.Policy.{Policy}
+use Rattle.witness_plan.specs.Schedules.{planned_network}
+use Rattle.compaan_top.specs.Certifying as certify
+use Rattle.compaan_top.specs.Certifying.{PrintsCertificate}
 use Rattle.compaan_top.specs.Judging.{Judges}
-use Rattle.compaan_top.specs.Planned.{as_reply}
+use Rattle.compaan_top.specs.Planned.{JudgesTexts, as_reply}
 use Rattle.compaan_top.specs.Printing.{Prints, source_refused, printed}
 use Rattle.compaan_top.specs.Replies.{done}
 use Rattle.compaan_top.specs.Source.{GivesWithinSize}
@@ -35,3 +43,22 @@ pub prints_text : (text : Nest → List ℕ) (params : List (List ℕ × ℤ)) (
 prints_text text params bundle source written nest is gives made =
     subst (λ (t : List ℕ). Prints text params bundle (Ok (done t))) (sym made)
     (printed nest (nest_is params bundle source (Ok nest) is gives))
+
+-- the same of `cert`
+pub certificate_without_nest : (policy : Policy) (params : List (List ℕ × ℤ)) (bundle source : List ℕ) (stop : Stop)
+    → source ≡ source_part bundle
+    → Judges (HasSizedNest source params) (Err stop)
+    → Judges (JudgesTexts (PrintsCertificate policy params bundle)) (Err stop)
+certificate_without_nest policy params bundle source (Refused refusal) is step =
+    certify.source_refused refusal (nest_is params bundle source (Err refusal) is step)
+certificate_without_nest policy params bundle source ReadFault is step = step
+certificate_without_nest policy params bundle source Memory is step = tt
+
+pub prints_certificate : (policy : Policy) (params : List (List ℕ × ℤ)) (bundle source text : List ℕ) (nest : Nest)
+    (network : Network) (cert : Cert) → source ≡ source_part bundle
+    → GivesWithinSize source params (Ok nest) → network ≡ planned_network nest policy → cert ≡ cert_of nest policy
+    → IsWrittenOf text network cert → PrintsCertificate policy params bundle (Ok (done text))
+prints_certificate policy params bundle source text nest network cert is gives planned certified written =
+    certify.printed nest text (nest_is params bundle source (Ok nest) is gives)
+    (subst (λ (c : Cert). IsWrittenOf text (planned_network nest policy) c) certified
+    (subst (λ (n : Network). IsWrittenOf text n cert) planned written))

@@ -6,7 +6,8 @@ use Rattle.loop_grammar.specs.Lexemes.{IsTree}
 use Rattle.loop_grammar.specs.declared.tree.Tree.{Tree}
 use Rattle.sanlp.specs.declared.nest.Nest.{Nest}
 use Rattle.compaan_top.specs.Judging.{Judges}
-use Rattle.compaan_top.specs.Source.{Gives, GivesWithinSize, no_tokens, no_tree, not_bound, bound, source_refused, size_refused}
+use Rattle.compaan_top.specs.Source.{Gives, GivesWithinSize, no_tokens, no_tree, not_bound, bound, source_refused}
+use Rattle.compaan_top.specs.Source.{size_refused}
 use Rattle.compaan_top.specs.Steps.{HasSize, HasSizedNest, HasTokens, HasTree, HasNest}
 use Rattle.compaan_top.specs.declared.refusal.Refusal.{Refusal}
 use Rattle.compaan_top.specs.declared.refusal.Stop.{Stop}

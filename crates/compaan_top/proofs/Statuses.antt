@@ -1,5 +1,6 @@
 -- The order and the bundle determine the status, and where nothing is refused it is success.
-use Rattle.std.proofs.Common.{◌≡◌, ◌≤◌, ℕ, suc, ℤ, List, [], length, drop, Option, Some, None, Result, Ok, Err, refl, sym, ap, ◌∙◌, subst, arith, map, inl, inr, take-append-drop}
+use Rattle.std.proofs.Common.{◌≡◌, ◌≤◌, ℕ, suc, ℤ, List, [], length, drop, Option, Some, None, Result, Ok, Err, refl}
+use Rattle.std.proofs.Common.{sym, ap, ◌∙◌, subst, arith, map, inl, inr, take-append-drop}
 use Rattle.sanlp.specs.WellFormed.{IsWellFormed}
 use Rattle.std.proofs.lemmas.Bool.{cases_lt}
 use Rattle.loop_lex.specs.Tokens.{tokens}
@@ -16,14 +17,12 @@ use Rattle.loop_walk.specs.declared.count.SizeError.{SizeError}
 use Rattle.loop_walk.specs.declared.count.SizeError.TheVariants.{Limit, LoopValue}
 use Rattle.array_data.specs.Data.{Record, fault_of, inputs_of, lists_of, records_of, unless}
 use Rattle.array_data.specs.declared.error.DataError.{DataError}
-use Rattle.array_data.specs.declared.error.DataError.TheVariants.{UnknownArray, Twice, Missing, Count, NotANumber, Memory}
+use Rattle.array_data.specs.declared.error.DataError.TheVariants.{UnknownArray, Twice, Missing, Count, NotANumber}
+use Rattle.array_data.specs.declared.error.DataError.TheVariants.{Memory}
 use Rattle.witness_plan.specs.declared.schedules.Policy.{Policy}
 use Rattle.cert_text.specs.Reading.{reading}
-use Rattle.cert_text.specs.declared.error.CertError.{CertError}
-use Rattle.net_checker.specs.Entries.{schedule_refusal}
-use Rattle.net_checker.specs.Firings.{firing_refusal}
+use Rattle.cert_lines.specs.declared.error.CertError.{CertError}
 use Rattle.net_checker.specs.Fits.{first, verdict_of}
-use Rattle.net_checker.specs.Shapes.{shape_refusal}
 use Rattle.sanlp.specs.Points.{points_of}
 use Rattle.sanlp.specs.Trace.{trace}
 use Rattle.sanlp.specs.Writers.{last_before}
@@ -39,7 +38,9 @@ use Rattle.sanlp.specs.declared.nest.Inputs.{Inputs}
 use Rattle.command_line.specs.Bundle.{certificate_part, data_part, source_part}
 use Rattle.command_line.specs.declared.words.Order.{Order}
 use Rattle.command_line.specs.declared.words.Command.{Command}
-use Rattle.command_line.specs.declared.words.Command.TheVariants.{Run, Seq, Net, Cert, Check, Vhdl, Load}
+use Rattle.command_line.specs.declared.words.Command.TheVariants.{Run, Seq, Net, Cert, Check, Vhdl, Load, Sim, Trim, Trace}
+use Rattle.compaan_top.specs.Certifying as certify
+use Rattle.compaan_top.specs.Certifying.{PrintsCertificate}
 use Rattle.compaan_top.specs.Checking as check
 use Rattle.compaan_top.specs.Checking.{Checks, verdict_reply}
 use Rattle.compaan_top.specs.Commands.{reads_of, source_and_certificate}
@@ -56,14 +57,20 @@ use Rattle.compaan_top.specs.Load as load
 use Rattle.compaan_top.specs.Load.{Loads, load_limit}
 use Rattle.matrix_load.specs.Product.{IsMatrixNest, matrix_product, size_given}
 use Rattle.compaan_top.specs.Printing as print
-use Rattle.compaan_top.specs.Printing.{Prints, certificate_text, network_text}
-use Rattle.compaan_top.specs.Outcome.{Outcome, IsOutcome, outcome_of, Performs, words_refused, bundle_refused, performed}
+use Rattle.compaan_top.specs.Printing.{Prints, network_text}
+use Rattle.compaan_top.specs.Outcome.{Outcome, IsOutcome, outcome_of, Performs, words_refused, bundle_refused}
+use Rattle.compaan_top.specs.Outcome.{performed}
 use Rattle.compaan_top.specs.Replies.{Reply}
 use Rattle.compaan_top.specs.Refusals.{byte_of, lex_refusal, bind_refusal, size_refusal, data_refusal, refusal_status}
-use Rattle.compaan_top.specs.Run.{Runs, IsInputs, source_refused, data_refused, answered}
+use Rattle.compaan_top.specs.Run.{Runs, IsInputs, run_text, source_refused, data_refused, answered}
+use Rattle.compaan_top.specs.Simulating.{simulation_text}
+use Rattle.compaan_top.specs.Tracing as tracing
+use Rattle.compaan_top.specs.Tracing.{Traces}
+use Rattle.compaan_top.specs.Trimming.{trimming_text}
 use Rattle.compaan_top.specs.Source as sized
 use Rattle.compaan_top.specs.Source.{Gives, GivesWithinSize, no_tokens, no_tree, not_bound, bound}
 use Rattle.compaan_top.specs.declared.refusal.Refusal.{Refusal}
+use Rattle.compaan_top.proofs.Facts.{facts_aside}
 
 -- tokens have one tree
 abbrev pub OneTree : Type 0
@@ -121,14 +128,6 @@ none_least : (tree : Tree) (params : List (List ℕ × ℤ)) (reason : BindError
     → least_from None (findings tree params) ≡ Some reason → ⊥
 none_least tree params reason e f = let g : least_from None [] ≡ Some reason = rw e at f in cc
 
--- the facts that a nest keeps don't bear on what the checker finds wrong first
-facts_aside : (arrays : List ArrayDecl) (statements : List Statement) (body : List Node)
-    (w v : IsWellFormed arrays statements body) (network : Network) (cert : CertValue)
-    → first (record { arrays = arrays; statements = statements; body = body; well_formed = w }) network cert
-    ≡ first (record { arrays = arrays; statements = statements; body = body; well_formed = v }) network cert
-unfolding trace last_before points_of shape_refusal firing_refusal schedule_refusal
-facts_aside arrays statements body w v network cert = refl
-
 -- nests with the same parts are found wrong alike
 pub first_alike : (n m : Nest) → n.arrays ≡ m.arrays → n.statements ≡ m.statements → n.body ≡ m.body
     → (network : Network) (cert : CertValue)
@@ -145,7 +144,7 @@ first_alike n m arrays statements body network cert =
     ≡ first (record { arrays = n.arrays; statements = n.statements; body = z; well_formed = v }) network cert) body
     (λ v. facts_aside n.arrays n.statements n.body n.well_formed v network cert))) m.well_formed
 
--- nor on the automata of the network
+-- the automata of the network don't bear on those facts either
 automata_aside : (arrays : List ArrayDecl) (statements : List Statement) (body : List Node)
     (w v : IsWellFormed arrays statements body) (policy : Policy)
     → planned_automata policy (record { arrays = arrays; statements = statements; body = body; well_formed = w })
@@ -250,7 +249,7 @@ sized_alike one source params (sized.within_size n t g c) (sized.size_refused m 
 sized_alike one source params (sized.within_size n t g c) (sized.within_size m u h d) =
     gives_alike one source params g h
 
--- ---- and so do `run` and `seq`
+-- ---- and so do the commands that run a source on its data
 
 abbrev pub SameStatus : Result Reply Refusal → Result Reply Refusal → Type 0
 SameStatus x y = (outcome_of x).status ≡ (outcome_of y).status
@@ -289,24 +288,26 @@ inputs_alike bytes n m (Err r) (Ok e) same i j =
     absurd (no_both_inputs (inputs_of m (records_of bytes)) (inputs_of n (records_of bytes)) e i.0
     (sym (same_inputs n m (records_of bytes) same)) j i.1)
 
-runs_alike : OneTree → (params : List (List ℕ × ℤ)) (bundle : List ℕ) {x y : Result Reply Refusal}
-    → Runs params bundle x → Runs params bundle y → SameStatus x y
-runs_alike one params bundle (source_refused r g) (source_refused s h) = sized_alike one (source_part bundle) params g h
-runs_alike one params bundle (source_refused r g) (data_refused m s h j) =
+runs_alike : OneTree
+    → (text : Nest → Inputs → List ℕ) (params : List (List ℕ × ℤ)) (bundle : List ℕ) {x y : Result Reply Refusal}
+    → Runs text params bundle x → Runs text params bundle y → SameStatus x y
+runs_alike one text params bundle (source_refused r g) (source_refused s h) =
+    sized_alike one (source_part bundle) params g h
+runs_alike one text params bundle (source_refused r g) (data_refused m s h j) =
     absurd (sized_alike one (source_part bundle) params g h)
-runs_alike one params bundle (source_refused r g) (answered m d h j) =
+runs_alike one text params bundle (source_refused r g) (answered m d h j) =
     absurd (sized_alike one (source_part bundle) params g h)
-runs_alike one params bundle (data_refused n r g i) (source_refused s h) =
+runs_alike one text params bundle (data_refused n r g i) (source_refused s h) =
     absurd (sized_alike one (source_part bundle) params g h)
-runs_alike one params bundle (data_refused n r g i) (data_refused m s h j) =
+runs_alike one text params bundle (data_refused n r g i) (data_refused m s h j) =
     inputs_alike (data_part bundle) n m (Err r) (Err s) (sized_alike one (source_part bundle) params g h).0 i j
-runs_alike one params bundle (data_refused n r g i) (answered m d h j) =
+runs_alike one text params bundle (data_refused n r g i) (answered m d h j) =
     absurd (inputs_alike (data_part bundle) n m (Err r) (Ok d) (sized_alike one (source_part bundle) params g h).0 i j)
-runs_alike one params bundle (answered n d g i) (source_refused s h) =
+runs_alike one text params bundle (answered n d g i) (source_refused s h) =
     absurd (sized_alike one (source_part bundle) params g h)
-runs_alike one params bundle (answered n d g i) (data_refused m s h j) =
+runs_alike one text params bundle (answered n d g i) (data_refused m s h j) =
     absurd (inputs_alike (data_part bundle) n m (Ok d) (Err s) (sized_alike one (source_part bundle) params g h).0 i j)
-runs_alike one params bundle (answered n d g i) (answered m e h j) = refl
+runs_alike one text params bundle (answered n d g i) (answered m e h j) = refl
 
 prints_alike : OneTree
     → (text : Nest → List ℕ) (params : List (List ℕ × ℤ)) (bundle : List ℕ) {x y : Result Reply Refusal}
@@ -318,6 +319,17 @@ prints_alike one text params bundle (print.source_refused r g) (print.printed m 
 prints_alike one text params bundle (print.printed n g) (print.source_refused s h) =
     absurd (sized_alike one (source_part bundle) params g h)
 prints_alike one text params bundle (print.printed n g) (print.printed m h) = refl
+
+certificates_alike : OneTree
+    → (policy : Policy) (params : List (List ℕ × ℤ)) (bundle : List ℕ) {x y : Result Reply Refusal}
+    → PrintsCertificate policy params bundle x → PrintsCertificate policy params bundle y → SameStatus x y
+certificates_alike one policy params bundle (certify.source_refused r g) (certify.source_refused s h) =
+    sized_alike one (source_part bundle) params g h
+certificates_alike one policy params bundle (certify.source_refused r g) (certify.printed m t h w) =
+    absurd (sized_alike one (source_part bundle) params g h)
+certificates_alike one policy params bundle (certify.printed n t g w) (certify.source_refused s h) =
+    absurd (sized_alike one (source_part bundle) params g h)
+certificates_alike one policy params bundle (certify.printed n t g w) (certify.printed m u h v) = refl
 
 pub no_part_there : (bundle part : List ℕ) → certificate_part bundle ≡ None → certificate_part bundle ≡ Some part → ⊥
 no_part_there bundle part none there = cc
@@ -437,17 +449,32 @@ loads_alike one policy rows (load.summed n t k a g c i) (load.size_refused m f b
     absurd (no_both_sizes m n f t (matrix_alike one rows m n h g).2 d c)
 loads_alike one policy rows (load.summed n t k a g c i) (load.summed m u j b h d l) = refl
 
+traces_alike : OneTree → (policy : Policy) (params : List (List ℕ × ℤ)) (bundle : List ℕ) {x y : Result Reply Refusal}
+    → Traces policy params bundle x → Traces policy params bundle y → SameStatus x y
+traces_alike one policy params bundle (tracing.source_refused r g) (tracing.source_refused s h) =
+    sized_alike one (source_part bundle) params g h
+traces_alike one policy params bundle (tracing.source_refused r g) (tracing.traced m run h e) =
+    absurd (sized_alike one (source_part bundle) params g h)
+traces_alike one policy params bundle (tracing.traced n run g e) (tracing.source_refused s h) =
+    absurd (sized_alike one (source_part bundle) params g h)
+traces_alike one policy params bundle (tracing.traced n run g e) (tracing.traced m other h f) = refl
+
 performs_alike : OneTree → (command : Command) (order : Order) (bundle : List ℕ) (x y : Result Reply Refusal)
     → Performs command order bundle x → Performs command order bundle y → SameStatus x y
-performs_alike one Run order bundle x y made other = runs_alike one order.params bundle made other
-performs_alike one Seq order bundle x y made other = runs_alike one order.params bundle made other
+performs_alike one Run order bundle x y made other = runs_alike one run_text order.params bundle made other
+performs_alike one Seq order bundle x y made other = runs_alike one run_text order.params bundle made other
 performs_alike one Net order bundle x y made other =
     prints_alike one (network_text order.policy) order.params bundle made other
 performs_alike one Cert order bundle x y made other =
-    prints_alike one (certificate_text order.policy) order.params bundle made other
+    certificates_alike one order.policy order.params bundle made other
 performs_alike one Check order bundle x y made other = checks_alike one order.params bundle made other
 performs_alike one Vhdl order bundle x y made other = describes_alike one order.policy order.params bundle made other
 performs_alike one Load order bundle x y made other = loads_alike one order.policy order.load made other
+performs_alike one Sim order bundle x y made other =
+    runs_alike one (simulation_text order.policy) order.params bundle made other
+performs_alike one Trim order bundle x y made other =
+    prints_alike one (trimming_text order.policy) order.params bundle made other
+performs_alike one Trace order bundle x y made other = traces_alike one order.policy order.params bundle made other
 
 pub no_order : (wanted : Option Order) (order : Order) → wanted ≡ None → wanted ≡ Some order → ⊥
 no_order wanted order x y = cc
@@ -494,21 +521,34 @@ loads_done one policy rows n total within is counts (load.size_refused m e a g c
     absurd (no_both_sizes m n e total (matrix_alike one rows m n g is).2 c counts)
 loads_done one policy rows n total within is counts (load.summed m t k a g c i) = refl
 
+certificate_done : OneTree → (policy : Policy) (params : List (List ℕ × ℤ)) (bundle : List ℕ) (n : Nest)
+    → GivesWithinSize (source_part bundle) params (Ok n) → {x : Result Reply Refusal}
+    → PrintsCertificate policy params bundle x → (outcome_of x).status ≡ 0
+certificate_done one policy params bundle n gives (certify.source_refused r g) =
+    absurd (sized_alike one (source_part bundle) params gives g)
+certificate_done one policy params bundle n gives (certify.printed m t g w) = refl
+
+traces_done : OneTree → (policy : Policy) (params : List (List ℕ × ℤ)) (bundle : List ℕ) (n : Nest)
+    → GivesWithinSize (source_part bundle) params (Ok n)
+    → {x : Result Reply Refusal} → Traces policy params bundle x → (outcome_of x).status ≡ 0
+traces_done one policy params bundle n gives (tracing.source_refused r g) =
+    absurd (sized_alike one (source_part bundle) params gives g)
+traces_done one policy params bundle n gives (tracing.traced m run g e) = refl
+
 performs_done : OneTree → (command : Command) (order : Order) (bundle : List ℕ)
     → (n : Nest) (total : ℕ) (inputs : Inputs)
     → IsNestFor (reads_of command) order bundle n → counted n ≡ Ok total → IsWithinOwnLimit command order.policy n
     → HasParts (reads_of command) n bundle inputs
     → (x : Result Reply Refusal) → Performs command order bundle x → IsDone (reads_of command) (outcome_of x).status
 performs_done one Run order bundle n total inputs gives counts limited has x made =
-    runs_alike one order.params bundle made (answered n inputs (sized.within_size n total gives counts) has)
+    runs_alike one run_text order.params bundle made (answered n inputs (sized.within_size n total gives counts) has)
 performs_done one Seq order bundle n total inputs gives counts limited has x made =
-    runs_alike one order.params bundle made (answered n inputs (sized.within_size n total gives counts) has)
+    runs_alike one run_text order.params bundle made (answered n inputs (sized.within_size n total gives counts) has)
 performs_done one Net order bundle n total inputs gives counts limited has x made =
     prints_alike one (network_text order.policy) order.params bundle made
     (print.printed n (sized.within_size n total gives counts))
 performs_done one Cert order bundle n total inputs gives counts limited has x made =
-    prints_alike one (certificate_text order.policy) order.params bundle made
-    (print.printed n (sized.within_size n total gives counts))
+    certificate_done one order.policy order.params bundle n (sized.within_size n total gives counts) made
 performs_done one Check order bundle n total inputs gives counts limited has x made =
     checks_done one order.params bundle n has.0 (sized.within_size n total gives counts) has.1 made
 performs_done one Vhdl order bundle n total inputs gives counts limited has x made =
@@ -516,6 +556,14 @@ performs_done one Vhdl order bundle n total inputs gives counts limited has x ma
     (describe.described n (sized.within_size n total gives counts) limited)
 performs_done one Load order bundle n total inputs gives counts limited has x made =
     loads_done one order.policy order.load n total gives.0 gives.1 counts made
+performs_done one Sim order bundle n total inputs gives counts limited has x made =
+    runs_alike one (simulation_text order.policy) order.params bundle made
+    (answered n inputs (sized.within_size n total gives counts) has)
+performs_done one Trim order bundle n total inputs gives counts limited has x made =
+    prints_alike one (trimming_text order.policy) order.params bundle made
+    (print.printed n (sized.within_size n total gives counts))
+performs_done one Trace order bundle n total inputs gives counts limited has x made =
+    traces_done one order.policy order.params bundle n (sized.within_size n total gives counts) made
 
 pub outcomes_succeed : OneTree → (wanted : Option Order) (bundle : List ℕ) (v : IsValid wanted bundle) → {a : Outcome}
     → IsOutcome wanted bundle a

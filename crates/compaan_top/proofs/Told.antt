@@ -1,14 +1,17 @@
--- What a call comes to whose source tells its bytes. Within the limit what was read is all that the source had; past it, both
--- are too long, and too long a bundle is refused whatever it holds.
-use Rattle.std.proofs.Common.{◌≡◌, ◌∙◌, ◌⊎◌, ◌≤◌, ◌<◌, ◌++◌, arith, ℕ, List, length, length-append, append-nil, Option, Some, None, refl, sym, ap, subst, inl, inr}
+-- What a call comes to whose source tells its bytes. Within the limit what was read is all that the source had; past
+-- it, both are too long, and too long a bundle is refused whatever it holds.
+use Rattle.std.proofs.Common.{◌≡◌, ◌∙◌, ◌⊎◌, ◌≤◌, ◌<◌, ◌++◌, arith, ℕ, List, length, length-append, append-nil, Option}
+use Rattle.std.proofs.Common.{Some, None, refl, sym, ap, subst, inl, inr}
 use Rattle.std.specs.Io.KnownBytes.{Appends, Consumes, IsAtEnd}
 use Rattle.std.specs.Prelude.{◌↔◌}
 use Rattle.std.proofs.lemmas.Bool.{cases_lt}
 use Rattle.command_line.specs.declared.words.Command.{Command}
 use Rattle.command_line.specs.declared.words.Command.TheVariants.{Check}
 use Rattle.command_line.specs.declared.words.Order.{Order}
-use Rattle.compaan_top.specs.Answers.{Change, Ends, IsRead, ReadsFor, ReadsTo, no_memory, read_fault, written, cut_short}
-use Rattle.compaan_top.specs.Commands.{Reads, source_alone, source_and_data, source_and_certificate, nothing, read_by, reads_of}
+use Rattle.compaan_top.specs.Answers.{Change, Ends, IsRead, ReadsFor, ReadsTo, no_memory, read_fault, written}
+use Rattle.compaan_top.specs.Answers.{cut_short}
+use Rattle.compaan_top.specs.Commands.{Reads, source_alone, source_and_data, source_and_certificate, nothing, read_by}
+use Rattle.compaan_top.specs.Commands.{reads_of}
 use Rattle.compaan_top.specs.Headline.{AcceptsWhatFits, IsAcceptable, SaysAccepted, accepted}
 use Rattle.compaan_top.specs.Laws.{IsDone, IsValid, Succeeds}
 use Rattle.compaan_top.specs.Outcome.{Outcome, IsOutcome, bundle_limit, words_refused, bundle_refused, performed}
@@ -33,7 +36,12 @@ no_more_read : (old new : Option (List ℕ)) (read all : List ℕ) → Consumes 
 no_more_read None new read all taken is = absurd (no_bytes all is)
 no_more_read (Some x) None read all taken is = absurd taken
 no_more_read (Some x) (Some y) read all taken is =
-    omega (arith, length-append read y, ap (λ (l : List ℕ). length l) taken, ap (λ (l : List ℕ). length l) (same_value x all is))
+    omega (
+      arith,
+      length-append read y,
+      ap (λ (l : List ℕ). length l) taken,
+      ap (λ (l : List ℕ). length l) (same_value x all is),
+    )
 
 -- both are one bundle, or both are too long
 abbrev AreAlike : List ℕ → List ℕ → Type 0
@@ -79,7 +87,13 @@ comes_to wanted input output complaint bundle (no_memory quiet taken writes) tol
 comes_to wanted input output complaint bundle (read_fault order ordered some fault taken writes) told answered =
     absurd (answered.0 refl)
 comes_to wanted input output complaint bundle (written read outcome quiet gave is writes) told answered =
-    record { outcome = outcome; is = same_outcome wanted input read bundle outcome gave told is; has_status = refl; writes = writes }
+    record {
+      outcome = outcome;
+      is = same_outcome wanted input read bundle outcome gave told is;
+      has_status =
+          refl;
+      writes = writes;
+    }
 comes_to wanted input output complaint bundle (cut_short read outcome quiet gave is writes) told answered =
     absurd (answered.1 refl)
 
@@ -95,8 +109,10 @@ comes_done succeeds wanted output complaint bundle status valid comes =
 pub says_accepted : (wanted : Option Order) (output complaint : Change) (bundle : List ℕ) (status : ℕ)
     (comes : ComesTo wanted bundle output complaint status)
     → comes.outcome ≡ accepted → SaysAccepted output status
-says_accepted wanted output complaint bundle status comes same =
-    (comes.has_status ∙ ap (λ (o : Outcome). o.status) same, subst (λ (o : Outcome). Appends output.old output.new o.output) same comes.writes.written)
+says_accepted wanted output complaint bundle status comes same = (
+  comes.has_status ∙ ap (λ (o : Outcome). o.status) same,
+  subst (λ (o : Outcome). Appends output.old output.new o.output) same comes.writes.written,
+)
 
 two_is_not_zero : ◌≡◌ {A = ℕ} 2 0 → ⊥
 two_is_not_zero is = cc
@@ -114,8 +130,10 @@ accepted_exactly : VouchesFor → WhatFitsIsSound
     → wanted ≡ Some order → order.command ≡ Check
     → ComesTo wanted bundle output complaint status → SaysAccepted output status ↔ IsAcceptable order.params bundle
 accepted_exactly vouches sound accepts wanted output complaint bundle order status ordered is comes = (
-  λ says. let zero : comes.outcome.status ≡ 0 = sym comes.has_status ∙ says.0 in
-      (zero_within wanted bundle comes.is zero, with_sound sound order.params bundle (outcome_vouched vouches wanted bundle order ordered is comes.is zero)),
+  λ says. let zero : comes.outcome.status ≡ 0 = sym comes.has_status ∙ says.0 in (
+    zero_within wanted bundle comes.is zero,
+    with_sound sound order.params bundle (outcome_vouched vouches wanted bundle order ordered is comes.is zero),
+  ),
   λ has. says_accepted wanted output complaint bundle status comes
       ((accepts wanted bundle order ordered is has.0 comes.outcome comes.is).1 has.1.fitting),
 )

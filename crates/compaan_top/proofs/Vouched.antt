@@ -1,9 +1,10 @@
 -- What holds where `check` accepts.
-use Rattle.std.proofs.Common.{Err, ◌≡◌, ◌≤◌, ◌∙◌, arith, length, ℕ, ℤ, List, Option, Some, None, Result, Ok, refl, sym, ap, subst, inl, inr}
+use Rattle.std.proofs.Common.{Err, ◌≡◌, ◌≤◌, ◌∙◌, arith, length, ℕ, ℤ, List, Option, Some, None, Result, Ok, refl, sym}
+use Rattle.std.proofs.Common.{ap, subst, inl, inr}
 use Rattle.std.specs.Prelude.{◌↔◌}
-use Rattle.cert_text.specs.CertText.{AreInRange, cert_text}
+use Rattle.cert_text.specs.StandsFor.{StandsFor}
 use Rattle.cert_text.specs.Reading.{reading}
-use Rattle.cert_text.specs.declared.error.CertError.{CertError}
+use Rattle.cert_lines.specs.declared.error.CertError.{CertError}
 use Rattle.command_line.specs.Bundle.{certificate_part, source_part}
 use Rattle.command_line.specs.declared.words.Command.{Command}
 use Rattle.command_line.specs.declared.words.Command.TheVariants.{Check}
@@ -14,10 +15,12 @@ use Rattle.net_core.specs.Sound.{IsSound}
 use Rattle.net_core.specs.declared.network.Network.{Network}
 use Rattle.sanlp.specs.declared.nest.Nest.{Nest}
 use Rattle.source_tree.specs.declared.cert.Cert.{Cert}
-use Rattle.compaan_top.specs.Answers.{Change, Ends, IsRead, ReadsFor, ReadsTo, no_memory, read_fault, written, cut_short}
+use Rattle.compaan_top.specs.Answers.{Change, Ends, IsRead, ReadsFor, ReadsTo, no_memory, read_fault, written}
+use Rattle.compaan_top.specs.Answers.{cut_short}
 use Rattle.compaan_top.specs.Checking.{Checks, verdict_reply, part_missing, source_refused, unread, judged}
 use Rattle.compaan_top.specs.Headline.{AcceptsWhatFits, HasFittingCertificate, HasSoundCertificate, accepted}
-use Rattle.compaan_top.specs.Outcome.{Outcome, IsOutcome, Performs, bundle_limit, outcome_of, words_refused, bundle_refused, performed}
+use Rattle.compaan_top.specs.Outcome.{Outcome, IsOutcome, Performs, bundle_limit, outcome_of, words_refused}
+use Rattle.compaan_top.specs.Outcome.{bundle_refused, performed}
 use Rattle.compaan_top.specs.Refusals.{refusal_status}
 use Rattle.compaan_top.specs.Replies.{Reply}
 use Rattle.compaan_top.specs.declared.refusal.Refusal.{Refusal}
@@ -34,7 +37,7 @@ WhatFitsIsSound = (n : Nest) (network : Network) (cert : Cert) → Fits n networ
 abbrev pub ReadsItsText : Type 0
 ReadsItsText =
     (bytes : List ℕ) (network : Network) (cert : Cert) → reading bytes ≡ Ok (network, cert)
-    → (bytes ≡ cert_text network cert) × AreInRange network cert
+    → StandsFor bytes network cert
 
 -- a verdict with status 0 is that nothing is wrong
 nothing_wrong : (found : Option NetRefusal) → (verdict_reply (verdict_of found)).status ≡ 0 → found ≡ None
@@ -84,14 +87,14 @@ checks_vouched fitting reads params bundle (source_refused part refusal there gi
 checks_vouched fitting reads params bundle (unread part nest error text there gives read told) is =
     absurd (one_is_not_zero is)
 checks_vouched fitting reads params bundle (judged part nest network cert there gives read) is =
-    let is_text = reads part network cert read in
     record {
       nest = nest;
       network = network;
       cert = cert;
       gives = gives;
-      text = there ∙ ap Some is_text.0;
-      in_range = is_text.1;
+      text = part;
+      is_part = there;
+      stands = reads part network cert read;
       fits = (fitting nest network cert).0 (nothing_wrong (first nest network cert) is);
     }
 
@@ -139,8 +142,11 @@ ends_vouched vouches sound wanted input output complaint order (no_memory quiet 
 ends_vouched vouches sound wanted input output complaint order
     (read_fault other others some fault taken writes) ordered is zero = absurd (three_is_not_zero zero)
 ends_vouched vouches sound wanted input output complaint order
-    (written bundle outcome quiet reads outcome_is all) ordered is zero =
-    (bundle, reads_to wanted input bundle order ordered is reads, with_sound sound order.params bundle (outcome_vouched vouches wanted bundle order ordered is outcome_is zero))
+    (written bundle outcome quiet reads outcome_is all) ordered is zero = (
+      bundle,
+      reads_to wanted input bundle order ordered is reads,
+      with_sound sound order.params bundle (outcome_vouched vouches wanted bundle order ordered is outcome_is zero),
+    )
 ends_vouched vouches sound wanted input output complaint order
     (cut_short bundle outcome quiet reads outcome_is front) ordered is zero = absurd (four_is_not_zero zero)
 
@@ -148,14 +154,15 @@ ends_vouched vouches sound wanted input output complaint order
 
 abbrev pub TextIsRead : Type 0
 TextIsRead =
-    (network : Network) (cert : Cert) → AreInRange network cert → reading (cert_text network cert) ≡ Ok (network, cert)
+    (bytes : List ℕ) (network : Network) (cert : Cert) → StandsFor bytes network cert → reading bytes
+    ≡ Ok (network, cert)
 
 -- the part is read as the pair that it stands for
 part_read : TextIsRead → (params : List (List ℕ × ℤ)) (bundle part : List ℕ) (v : HasFittingCertificate params bundle)
     → certificate_part bundle ≡ Some part
     → reading part ≡ Ok (v.network, v.cert)
 part_read back params bundle part v there =
-    ap reading (same_part bundle part (cert_text v.network v.cert) there v.text) ∙ back v.network v.cert v.in_range
+    ap reading (same_part bundle part v.text there v.is_part) ∙ back v.text v.network v.cert v.stands
 
 no_error : (a : Result (Network × Cert) CertError) (e : CertError) (pair : Network × Cert) → a ≡ Err e → a ≡ Ok pair → ⊥
 no_error a e pair x y = cc
@@ -176,7 +183,7 @@ checks_accepted : OneTree → NothingWrongFits → TextIsRead
     (v : HasFittingCertificate params bundle) {answer : Result Reply Refusal}
     → Checks params bundle answer → outcome_of answer ≡ accepted
 checks_accepted one fitting back params bundle v (part_missing none) =
-    absurd (no_part_there bundle (cert_text v.network v.cert) none v.text)
+    absurd (no_part_there bundle v.text none v.is_part)
 checks_accepted one fitting back params bundle v (source_refused part refusal there gives) =
     absurd (sized_alike one (source_part bundle) params gives v.gives)
 checks_accepted one fitting back params bundle v (unread part nest error text there gives read told) =

@@ -1,6 +1,7 @@
 -- What `check` answers to what `cert` writes.
 use Rattle.std.specs.Prelude.{◌≡◌, ◌≤◌, ℕ, ℤ, List, ◌++◌, length, Contains, Some, Ok}
 use Rattle.bundle_laws.specs.Certified.{with_line_end}
+use Rattle.cert_text.specs.StandsFor.{StandsFor}
 use Rattle.command_line.specs.Bundle.{certificate_part, source_part}
 use Rattle.command_line.specs.declared.words.Command.TheVariants.{Cert, Check}
 use Rattle.command_line.specs.declared.words.Order.{Order}
@@ -12,9 +13,14 @@ use Rattle.loop_grammar.specs.declared.tree.Named.{Named}
 use Rattle.loop_grammar.specs.declared.tree.Tree.{Tree}
 use Rattle.loop_lex.specs.Tokens.{tokens}
 use Rattle.loop_lex.specs.declared.token.Token.{Token}
+use Rattle.net_checker.specs.Fits.{Fits}
+use Rattle.net_maker.specs.Certificates.{cert_of}
+use Rattle.sanlp.specs.declared.nest.Nest.{Nest}
+use Rattle.witness_plan.specs.Schedules.{planned_network}
 use Rattle.compaan_top.specs.Answers.{Change, Ends}
 use Rattle.compaan_top.specs.Headline.{accepted}
 use Rattle.compaan_top.specs.Outcome.{Outcome, IsOutcome, bundle_limit}
+use Rattle.compaan_top.specs.Source.{GivesWithinSize}
 
 -- a tree declares a parameter of this name
 pub record HasParameter (tree : Tree) (name : List ℕ) : Type 0 where
@@ -37,6 +43,14 @@ pub record Certifies (order : Order) (bundle : List ℕ) (written : Outcome) : T
   pub command : order.command ≡ Cert
   pub outcome : IsOutcome (Some order) bundle written
   pub done : written.status ≡ 0
+
+-- The source gives a nest within the limit on its size, and the text stands for the nest's network, with the capacities that
+-- its schedule needs, and for the certificate of that schedule, which fit the nest.
+pub record StandsForPlanned (order : Order) (bundle text : List ℕ) : Type 0 where
+  pub nest : Nest
+  pub gives : GivesWithinSize (source_part bundle) order.params (Ok nest)
+  pub stands : StandsFor text (planned_network nest order.policy) (cert_of nest order.policy)
+  pub fits : Fits nest (planned_network nest order.policy) (cert_of nest order.policy)
 
 -- another bundle has the same source, up to the end of its last line, and this certificate
 pub record HasCertificate (bundle other text : List ℕ) : Type 0 where

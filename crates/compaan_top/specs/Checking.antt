@@ -1,7 +1,7 @@
 -- What the command `check` comes to on a bundle: one case for each cause, in the order in which they decide.
 use Rattle.std.specs.Prelude.{◌≡◌, ℕ, ℤ, List, Some, None, Result, Ok, Err}
 use Rattle.cert_text.specs.Reading.{reading}
-use Rattle.cert_text.specs.declared.error.CertError.{CertError}
+use Rattle.cert_lines.specs.declared.error.CertError.{CertError}
 use Rattle.command_line.specs.Bundle.{certificate_part, source_part}
 use Rattle.net_checker.specs.Fits.{first, verdict_of}
 use Rattle.net_checker.specs.declared.verdict.Verdict.{Verdict}

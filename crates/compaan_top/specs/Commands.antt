@@ -1,7 +1,7 @@
 -- What each command reads, and whether it waits for threads.
 use Rattle.std.specs.Prelude.{◌≡◌, Bool, true, false, Option, Some, None}
 use Rattle.command_line.specs.declared.words.Command.{Command}
-use Rattle.command_line.specs.declared.words.Command.TheVariants.{Run, Seq, Net, Cert, Check, Vhdl, Load}
+use Rattle.command_line.specs.declared.words.Command.TheVariants.{Run, Seq, Net, Cert, Check, Vhdl, Load, Sim, Trim, Trace}
 use Rattle.command_line.specs.declared.words.Order.{Order}
 
 -- the parts of a bundle that are read
@@ -19,6 +19,9 @@ reads_of Cert = source_alone
 reads_of Check = source_and_certificate
 reads_of Vhdl = source_alone
 reads_of Load = nothing
+reads_of Sim = source_and_data
+reads_of Trim = source_alone
+reads_of Trace = source_alone
 
 abbrev pub waits : Command → Bool
 waits Run = true
@@ -28,6 +31,9 @@ waits Cert = false
 waits Check = false
 waits Vhdl = false
 waits Load = true
+waits Sim = false
+waits Trim = false
+waits Trace = true
 
 -- the commands that no thread is waited for in
 abbrev pub WaitsForNobody : Command → Type 0

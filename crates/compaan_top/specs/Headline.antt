@@ -1,6 +1,6 @@
 -- What the program vouches for where `check` accepts.
 use Rattle.std.specs.Prelude.{◌≡◌, ◌≤◌, ◌↔◌, ℕ, ℤ, List, [], length, codes, Option, Some, Ok}
-use Rattle.cert_text.specs.CertText.{AreInRange, cert_text}
+use Rattle.cert_text.specs.StandsFor.{StandsFor}
 use Rattle.command_line.specs.Bundle.{certificate_part, source_part}
 use Rattle.command_line.specs.declared.words.Command.TheVariants.{Check}
 use Rattle.command_line.specs.declared.words.Order.{Order}
@@ -21,8 +21,9 @@ pub record HasFittingCertificate (params : List (List ℕ × ℤ)) (bundle : Lis
   pub network : Network
   pub cert : Cert
   pub gives : GivesWithinSize (source_part bundle) params (Ok nest)
-  pub text : certificate_part bundle ≡ Some (cert_text network cert)
-  pub in_range : AreInRange network cert
+  pub text : List ℕ
+  pub is_part : certificate_part bundle ≡ Some text
+  pub stands : StandsFor text network cert
   pub fits : Fits nest network cert
 
 -- Besides, this network is sound for the nest: every run of it, in whatever order the processes step, can go on until all

@@ -8,11 +8,15 @@ pub mod Describing
 pub mod Headline
 pub mod Load
 pub mod Printing
+pub mod Certifying
 pub mod Replies
 pub mod Outcome
 pub mod Planned
 pub mod Refusals
 pub mod Run
+pub mod Simulating
 pub mod Source
 pub mod Steps
 pub mod Told
+pub mod Tracing
+pub mod Trimming

@@ -2,16 +2,20 @@
 -- words it takes the order that they give, or None where they are refused.
 use Rattle.std.specs.Prelude.{◌≡◌, ◌≢◌, ◌≤◌, ◌<◌, ℕ, List, [], length, Option, Some, None, Result, Ok, Err}
 use Rattle.command_line.specs.declared.words.Command.{Command}
-use Rattle.command_line.specs.declared.words.Command.TheVariants.{Run, Seq, Net, Cert, Check, Vhdl, Load}
+use Rattle.command_line.specs.declared.words.Command.TheVariants.{Run, Seq, Net, Cert, Check, Vhdl, Load, Sim, Trim, Trace}
 use Rattle.command_line.specs.declared.words.Order.{Order}
+use Rattle.compaan_top.specs.Certifying.{PrintsCertificate}
 use Rattle.compaan_top.specs.Checking.{Checks}
 use Rattle.compaan_top.specs.Commands.{nothing, reads_of}
 use Rattle.compaan_top.specs.Describing.{Describes}
 use Rattle.compaan_top.specs.Load.{Loads}
-use Rattle.compaan_top.specs.Printing.{Prints, certificate_text, network_text}
+use Rattle.compaan_top.specs.Printing.{Prints, network_text}
 use Rattle.compaan_top.specs.Refusals.{refusal_line, refusal_status}
 use Rattle.compaan_top.specs.Replies.{Reply}
-use Rattle.compaan_top.specs.Run.{Runs}
+use Rattle.compaan_top.specs.Run.{Runs, run_text}
+use Rattle.compaan_top.specs.Simulating.{simulation_text}
+use Rattle.compaan_top.specs.Tracing.{Traces}
+use Rattle.compaan_top.specs.Trimming.{trimming_text}
 use Rattle.compaan_top.specs.declared.refusal.Refusal.{Refusal}
 use Rattle.compaan_top.specs.declared.refusal.Refusal.TheVariants.{Usage, TooLong}
 
@@ -33,13 +37,16 @@ bundle_limit = 67_108_864
 
 -- what an order's command comes to on a bundle; `load` has none
 abbrev pub Performs : Command → Order → List ℕ → Result Reply Refusal → Type 0
-Performs Run order = Runs order.params
-Performs Seq order = Runs order.params
+Performs Run order = Runs run_text order.params
+Performs Seq order = Runs run_text order.params
 Performs Net order = Prints (network_text order.policy) order.params
-Performs Cert order = Prints (certificate_text order.policy) order.params
+Performs Cert order = PrintsCertificate order.policy order.params
 Performs Check order = Checks order.params
 Performs Vhdl order = Describes order.policy order.params
 Performs Load order = λ bundle. Loads order.policy order.load
+Performs Sim order = Runs (simulation_text order.policy) order.params
+Performs Trim order = Prints (trimming_text order.policy) order.params
+Performs Trace order = Traces order.policy order.params
 
 -- The words are refused, the bundle is too long, or the command is performed.
 pub data IsOutcome (wanted : Option Order) (bundle : List ℕ) : Outcome → Type 0 where

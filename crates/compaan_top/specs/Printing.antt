@@ -1,9 +1,6 @@
--- What the commands that print what a source is compiled to come to on a bundle: one case for each cause, in the order in
--- which they decide.
+-- What the command `net` comes to on a bundle: one case for each cause, in the order in which they decide.
 use Rattle.std.specs.Prelude.{ℕ, ℤ, List, Result, Ok, Err}
-use Rattle.cert_text.specs.CertText.{cert_text}
 use Rattle.command_line.specs.Bundle.{source_part}
-use Rattle.net_maker.specs.Certificates.{cert_of}
 use Rattle.net_text.specs.NetworkText.{net_text}
 use Rattle.sanlp.specs.declared.nest.Nest.{Nest}
 use Rattle.witness_plan.specs.declared.schedules.Policy.{Policy}
@@ -15,10 +12,6 @@ use Rattle.compaan_top.specs.declared.refusal.Refusal.{Refusal}
 -- what `net` prints of a nest: its network, with the capacities that its schedule needs
 abbrev pub network_text : Policy → Nest → List ℕ
 network_text policy nest = net_text nest (planned_network nest policy)
-
--- what `cert` prints of a nest: the same network, with the certificate of that schedule
-abbrev pub certificate_text : Policy → Nest → List ℕ
-certificate_text policy nest = cert_text (planned_network nest policy) (cert_of nest policy)
 
 -- The source gives no nest within the limit, or the text of the nest is written.
 pub data Prints (text : Nest → List ℕ) (params : List (List ℕ × ℤ))

@@ -13,7 +13,7 @@ use Rattle.loop_class.specs.declared.error.BindError.{BindError}
 use Rattle.sanlp.specs.Size.{SizeIsOk}
 use Rattle.loop_walk.specs.Counting.{counted}
 use Rattle.loop_walk.specs.declared.count.SizeError.{SizeError}
-use Rattle.cert_text.specs.declared.error.CertError.{CertError}
+use Rattle.cert_lines.specs.declared.error.CertError.{CertError}
 use Rattle.command_line.specs.Bundle.{data_part, source_part}
 use Rattle.net_core.specs.declared.network.Network.{Network}
 use Rattle.node_automata.specs.declared.node.NodeAuto.{NodeAuto}
@@ -61,12 +61,13 @@ abbrev pub HasInputs : Nest → List ℕ → Result (Nest × Inputs) Refusal →
 HasInputs nest bytes (Ok made) = (made.0 ≡ nest) × IsInputs nest bytes (Ok made.1)
 HasInputs nest bytes (Err refusal) = IsInputs nest bytes (Err refusal)
 
--- the nest and the inputs of a bundle, or why it has none
+-- the nest and the inputs of a bundle, or why it has none, whatever is to be written of them
 abbrev pub IsPrepared : List (List ℕ × ℤ) → List ℕ → Result (Nest × Inputs) Refusal → Type 0
 IsPrepared params bundle (Ok made) =
     GivesWithinSize (source_part bundle) params (Ok made.0)
     × IsInputs made.0 (data_part bundle) (Ok made.1) × SizeIsOk made.0
-IsPrepared params bundle (Err refusal) = Runs params bundle (Err refusal)
+IsPrepared params bundle (Err refusal) =
+    (text : Nest → Inputs → List ℕ) → Runs text params bundle (Err refusal)
 
 -- the automata are to be written with their network, or a script is too long
 abbrev pub HasNodes : Network → List NodeAuto → Result NodesAnswer Refusal → Type 0

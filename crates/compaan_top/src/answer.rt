@@ -4,7 +4,9 @@ ghost use Rattle.sanlp.specs.Points.{points_of};
 ghost use Rattle.net_core.specs.Machine.{net_of};
 ghost use Rattle.net_core.specs.Shape.{FitsNumbers};
 
-use cert_text::CertError;
+use cap_trim::Trimmed;
+use cert_lines::CertError;
+use clock_sim::Clocked;
 use matrix_load::Summary;
 use net_checker::Verdict;
 use net_core::Network;
@@ -46,16 +48,28 @@ pub(crate) struct NodesAnswer {
     ghost short: { first_too_long autos ≡ None },
 }
 
+/// What the clocked run of a nest's network gives.
+#[derive(Drop)]
+pub(crate) struct ClockedAnswer {
+    pub(crate) nest: Nest,
+    pub(crate) clocked: Clocked,
+    ghost whole: { length clocked.arrays.arrays ≡ length nest.arrays },
+}
+
 /// What is to be written on the output.
 #[derive(Drop)]
 pub(crate) enum Answer {
     Arrays(ArrayAnswer),
     Network(NetworkAnswer),
-    Certificate(CertificateAnswer),
     /// What the checker says of a certificate.
     Verdict(Verdict),
     /// Why a certificate can't be read. It isn't want of memory.
     Unread(CertError),
     Summary(Summary),
     Nodes(NodesAnswer),
+    Clocked(ClockedAnswer),
+    /// Least capacities, and where the network sticks with one place less.
+    Trimmed(Trimmed),
+    /// A run of a network: the process of each event.
+    Trace(Items<u32>),
 }

@@ -12,7 +12,8 @@ ghost use Rattle.compaan_top.specs.Steps.{TellsError};
 use crate::answer::Answer;
 use crate::refusal::{Refusal, Stop};
 use crate::source::sized_nest;
-use cert_text::{CertError, read_cert};
+use cert_lines::CertError;
+use cert_text::read_cert;
 use command_line::parts_of;
 use loop_class::Params;
 use loop_walk::points;
@@ -42,9 +43,11 @@ fn unread(error: CertError) -> Result<Answer, Stop>
     ensures { Judges (TellsError error) result }
 {
     match error {
-        CertError::Line(_) | CertError::Number(_) | CertError::Truncated => {
-            Ok(Answer::Unread(error))
-        }
+        CertError::Line(_)
+        | CertError::Number(_)
+        | CertError::Truncated
+        | CertError::Deep(_)
+        | CertError::Long(_) => Ok(Answer::Unread(error)),
         CertError::Memory => Err(Stop::Memory),
     }
 }

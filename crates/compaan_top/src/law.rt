@@ -5,7 +5,7 @@ ghost use Rattle.bundle_laws.specs.Certified.{certified};
 ghost use Rattle.command_line.specs.Bundle.{source_part};
 ghost use Rattle.command_line.specs.declared.words.Order.{Order};
 ghost use Rattle.compaan_top.specs.Answers.{Change, Ends};
-ghost use Rattle.compaan_top.specs.Certified.{Accepts, AgreeOn, Call, Certifies, HasCertificate, ReadCertificate, WroteCertificate};
+ghost use Rattle.compaan_top.specs.Certified.{Accepts, AgreeOn, Call, Certifies, HasCertificate, ReadCertificate, StandsForPlanned, WroteCertificate};
 ghost use Rattle.compaan_top.specs.Checking.{Checks};
 ghost use Rattle.compaan_top.specs.Headline.{AcceptsWhatFits, HasFittingCertificate, SaysAccepted};
 ghost use Rattle.compaan_top.specs.Outcome.{Outcome, outcome_of};
@@ -18,15 +18,15 @@ use bundle_laws::{
     certified_bundle_has_its_parts, line_end_changes_no_token, line_end_makes_no_separator,
     source_part_has_no_separator,
 };
-use cert_ranges::{planned_network_fits, planned_network_is_in_range};
-use cert_text::reads_what_is_written;
+use cert_ranges::{planned_network_fits, planned_network_has_text};
+use cert_text::{reads_what_is_written, what_is_written_stands};
 use loop_grammar::one_tree;
 use net_checker::accepts_what_fits;
 
 /// The status is determined by the order, or that the words are refused, and the bundle: two outcomes of theirs have the same.
-/// Each command has its own statuses: `check` alone comes to 1, `run` and `seq` alone to 9, refused words alone to 2, and `load`
-/// to none of 5, 6, 7 and 9. No command comes to the status of a failed read, a failed write or want of memory. Where nothing is
-/// refused the status is 0; for `check` it is 0, or 1 where a refusal of the certificate is told.
+/// Each command has its own statuses: `check` alone comes to 1, `run`, `seq` and `sim` alone to 9, refused words alone to 2, and
+/// `load` to none of 5, 6, 7 and 9. No command comes to the status of a failed read, a failed write or want of memory. Where
+/// nothing is refused the status is 0; for `check` it is 0, or 1 where a refusal of the certificate is told.
 pub fn status_is_determined()
     ensures determined { (wanted : Option Order) (bundle : List ℕ) → DetermineStatus wanted bundle }
     ensures own { (wanted : Option Order) (bundle : List ℕ) → HaveOwnStatuses wanted bundle }
@@ -43,14 +43,14 @@ pub fn calls_have_their_statuses()
         → HasStatusOf wanted status }
 {}
 
-/// A program that always answers one status, whatever that is, isn't what `compaan` promises: no status but that of want of memory
-/// may end every call, where no sink has a fault.
+/// A program that always answers one status other than 10, which is that of want of memory, isn't what `compaan` promises: no
+/// other status may end every call, where no sink has a fault.
 pub fn no_status_ends_every_call()
     ensures { (status : ℕ) → ((wanted : Option Order) → MayEndWith wanted status) → status ≡ 10 }
 {}
 
-/// An order to `check` comes to `accepted` exactly where the certificate part is the text of a network and a certificate
-/// that fit the source's nest.
+/// An order to `check` comes to `accepted` exactly where the certificate part stands for a network and a certificate that fit
+/// the source's nest.
 pub fn what_fits_is_accepted()
     ensures { (wanted : Option Order) (bundle : List ℕ) → AcceptsWhatFits wanted bundle }
 {
@@ -59,25 +59,32 @@ pub fn what_fits_is_accepted()
     reads_what_is_written();
 }
 
-/// Where `cert` comes to status 0, `check` comes to `accepted` on every bundle within the limit with that source and with what
-/// was written as its certificate; so on the source, two separators and what was written. The values of the parameters are to
-/// agree, name by name, on those that the source declares. `calls` says it of two calls: the first wrote a text, and the
-/// second read it behind the source.
+/// Where `cert` comes to status 0, what was written stands for the network of the source's nest, with the capacities that its
+/// schedule needs, and for the certificate of that schedule, which fit the nest. And `check` comes to `accepted` on every bundle
+/// within the limit with that source and with what was written as its certificate; so on the source, two separators and what was
+/// written. The values of the parameters are to agree, name by name, on those that the source declares. `calls` says it of two
+/// calls: the first wrote a text, and the second read it behind the source.
 pub fn what_cert_writes_is_accepted()
+    ensures stands { (cert : Order) (bundle : List ℕ) (written : Outcome)
+        → Certifies cert bundle written → StandsForPlanned cert bundle written.output }
     ensures parts { (cert check : Order) (bundle other : List ℕ) (written : Outcome)
         → AgreeOn (source_part bundle) cert.params check.params
-        → Certifies cert bundle written → HasCertificate bundle other written.output → Accepts check other }
+        → Certifies cert bundle written → HasCertificate bundle other written.output
+        → Accepts check other }
     ensures bytes { (cert check : Order) (bundle : List ℕ) (written : Outcome)
         → AgreeOn (source_part bundle) cert.params check.params
-        → Certifies cert bundle written → Accepts check (certified (source_part bundle) written.output) }
+        → Certifies cert bundle written
+        → Accepts check (certified (source_part bundle) written.output) }
     ensures calls { (cert check : Call) (bundle text : List ℕ)
         → AgreeOn (source_part bundle) cert.order.params check.order.params
-        → WroteCertificate cert bundle text → ReadCertificate check (certified (source_part bundle) text)
+        → WroteCertificate cert bundle text
+        → ReadCertificate check (certified (source_part bundle) text)
         → IsAnswered check.status → SaysAccepted check.output check.status }
 {
     what_fits_is_accepted();
     planned_network_fits();
-    planned_network_is_in_range();
+    planned_network_has_text();
+    what_is_written_stands();
     line_end_changes_no_token();
     line_end_makes_no_separator();
     source_part_has_no_separator();

@@ -12,7 +12,10 @@ mod network_run;
 mod printing;
 mod refusal;
 mod run;
+mod simulating;
 mod source;
+mod tracing;
+mod trimming;
 mod writing;
 
 pub use call::{compaan, quiet};

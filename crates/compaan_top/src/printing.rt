@@ -1,8 +1,9 @@
 ghost use Rattle.std.specs.Prelude.{◌≡◌, ◌≤◌, length};
+ghost use Rattle.compaan_top.specs.Certifying.{PrintsCertificate};
 ghost use Rattle.compaan_top.specs.Judging.{Judges};
 ghost use Rattle.compaan_top.specs.Outcome.{bundle_limit};
-ghost use Rattle.compaan_top.specs.Planned.{as_reply};
-ghost use Rattle.compaan_top.specs.Printing.{Prints, certificate_text, network_text};
+ghost use Rattle.compaan_top.specs.Planned.{JudgesTexts, as_reply};
+ghost use Rattle.compaan_top.specs.Printing.{Prints, network_text};
 
 use crate::answer::{Answer, CertificateAnswer, NetworkAnswer};
 use crate::refusal::Stop;
@@ -42,15 +43,13 @@ pub(crate) fn print_certificate(
     policy: Policy,
     params: &Params,
     bundle: &[u8],
-) -> Result<Answer, Stop>
+) -> Result<CertificateAnswer, Stop>
     requires { length bundle.now ≤ bundle_limit }
-    ensures { Judges
-        (λ answer. Prints (certificate_text policy) params.now bundle.now
-        (as_reply answer)) result }
+    ensures { Judges (JudgesTexts (PrintsCertificate policy params.now bundle.now)) result }
 {
     let parts = parts_of(bundle);
     let nest = sized_nest(alloc, parts.source, params)?;
     let points = points(alloc, &nest)?;
     let (network, cert) = compile(alloc, &nest, &points, policy)?;
-    Ok(Answer::Certificate(CertificateAnswer { network, cert }))
+    Ok(CertificateAnswer { network, cert })
 }

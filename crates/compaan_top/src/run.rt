@@ -3,7 +3,7 @@ ghost use Rattle.sanlp.specs.Meaning.{arrays};
 ghost use Rattle.compaan_top.specs.Judging.{Judges};
 ghost use Rattle.compaan_top.specs.Outcome.{bundle_limit};
 ghost use Rattle.compaan_top.specs.Planned.{as_reply};
-ghost use Rattle.compaan_top.specs.Run.{Runs};
+ghost use Rattle.compaan_top.specs.Run.{Runs, run_text};
 ghost use Rattle.compaan_top.specs.Steps.{HasInputs, IsPrepared};
 
 use crate::answer::{Answer, ArrayAnswer};
@@ -35,7 +35,11 @@ fn with_inputs(alloc: Global, nest: Nest, bytes: &[u8]) -> Result<(Nest, Inputs)
 }
 
 /// The nest of a bundle's source, with its inputs.
-fn prepared(alloc: Global, params: &Params, bundle: &[u8]) -> Result<(Nest, Inputs), Stop>
+pub(crate) fn prepared(
+    alloc: Global,
+    params: &Params,
+    bundle: &[u8],
+) -> Result<(Nest, Inputs), Stop>
     requires { length bundle.now ≤ bundle_limit }
     ensures { Judges (IsPrepared params.now bundle.now) result }
 {
@@ -51,7 +55,7 @@ pub(crate) fn run_by_interpreter(
     bundle: &[u8],
 ) -> Result<Answer, Stop>
     requires { length bundle.now ≤ bundle_limit }
-    ensures { Judges (λ answer. Runs params.now bundle.now (as_reply answer)) result }
+    ensures { Judges (λ answer. Runs run_text params.now bundle.now (as_reply answer)) result }
 {
     let (nest, inputs) = prepared(alloc, params, bundle)?;
     let arrays = interpret(alloc, &nest, &inputs)?;
@@ -68,7 +72,7 @@ pub(crate) fn run_by_network<R: Threads + Wait + Sync, G: Gate + Sync>(
     gate: &G,
 ) -> Result<Answer, Stop>
     requires { length bundle.now ≤ bundle_limit }
-    ensures { Judges (λ answer. Runs params.now bundle.now (as_reply answer)) result }
+    ensures { Judges (λ answer. Runs run_text params.now bundle.now (as_reply answer)) result }
 {
     let (nest, inputs) = prepared(alloc, params, bundle)?;
     let run = run_by_threads(rt, alloc, &nest, &inputs, policy, gate)?;

@@ -1,13 +1,16 @@
 mod automata;
+mod boards;
 mod certificates;
 mod kernels;
 mod meeting;
 mod networks;
 mod orders;
 mod scripts;
+mod simulations;
 mod sources;
 mod steps;
 mod threads;
+mod trims;
 mod vhdl;
 
 use crate::compaan;

@@ -1,16 +1,19 @@
-ghost use Rattle.std.specs.Prelude.{◌≡◌, OnOk, OnErr};
+ghost use Rattle.std.specs.Prelude.{◌≡◌, [], ◌∷◌, ℕ, codes, decimal, OnOk, OnErr};
 ghost use Rattle.std.specs.Io.KnownBytes.{Appends};
 ghost use Rattle.io_edge.specs.Causes.{Rose, AppendsFront};
 ghost use Rattle.vhdl_text.specs.VhdlText.{vhdl_text};
 ghost use Rattle.compaan_top.specs.Planned.{reply_of};
+ghost use Rattle.compaan_top.specs.Simulating.{clocked_text, clocks_line};
 
-use crate::answer::{Answer, NodesAnswer};
+use crate::answer::{Answer, ClockedAnswer, NodesAnswer};
 use array_data::write_answer;
-use cert_text::write_cert;
 use io_edge::{Sink, WriteFault};
 use matrix_load::write_summary;
 use net_checker::Verdict;
 use net_text::write_net;
+use text_out::{Word, Writer, write_line};
+use trace_text::write_trace;
+use trim_text::write_trim;
 use verdict_text::{write_unread, write_verdict};
 use vhdl_text::{VhdlError, write_vhdl};
 
@@ -31,6 +34,34 @@ fn write_nodes<K: Sink>(answer: &NodesAnswer, sink: &mut K) -> Result<(), WriteF
     }
 }
 
+fn write_clocks<K: Sink>(clocks: u64, sink: &mut K) -> Result<(), WriteFault>
+    ensures ok { OnOk result (Appends (K.held sink.old) (K.held sink.new) (clocks_line clocks)) }
+    ensures quiet { OnOk result (K.faults sink.new ≡ K.faults sink.old) }
+    ensures front { OnErr result
+        (AppendsFront (K.held sink.old) (K.held sink.new) (clocks_line clocks)) }
+    ensures cause { OnErr result (Rose (K.faults sink.old) (K.faults sink.new)) }
+{
+    let mut out = Writer::new(sink);
+    write_line(&[Word::Text(b"clocks"), Word::Number(clocks)], &mut out);
+    out.finish()
+}
+
+fn write_clocked<K: Sink>(answer: &ClockedAnswer, sink: &mut K) -> Result<(), WriteFault>
+    ensures ok { OnOk result
+        (Appends (K.held sink.old) (K.held sink.new)
+        (clocked_text answer.now.nest.arrays answer.now.clocked.arrays.arrays
+        answer.now.clocked.clocks)) }
+    ensures quiet { OnOk result (K.faults sink.new ≡ K.faults sink.old) }
+    ensures front { OnErr result
+        (AppendsFront (K.held sink.old) (K.held sink.new)
+        (clocked_text answer.now.nest.arrays answer.now.clocked.arrays.arrays
+        answer.now.clocked.clocks)) }
+    ensures cause { OnErr result (Rose (K.faults sink.old) (K.faults sink.new)) }
+{
+    write_answer(&answer.nest, &answer.clocked.arrays, sink)?;
+    write_clocks(answer.clocked.clocks, sink)
+}
+
 /// Writes an answer's text. It takes no memory.
 pub(crate) fn write_text<K: Sink>(answer: &Answer, sink: &mut K) -> Result<(), WriteFault>
     ensures ok { OnOk result
@@ -45,11 +76,19 @@ pub(crate) fn write_text<K: Sink>(answer: &Answer, sink: &mut K) -> Result<(), W
         Answer::Network(answer) => {
             write_net(&answer.nest, &answer.points, &answer.network, sink)
         }
-        Answer::Certificate(answer) => write_cert(&answer.network, &answer.cert, sink),
         Answer::Verdict(verdict) => write_verdict(verdict, sink),
         Answer::Unread(error) => write_unread(*error, sink),
         Answer::Summary(summary) => write_summary(summary, sink),
         Answer::Nodes(answer) => write_nodes(answer, sink),
+        Answer::Clocked(answer) => write_clocked(answer, sink),
+        Answer::Trimmed(trimmed) => {
+            write_trim(
+                trimmed.capacities.as_slice(),
+                trimmed.rests.as_slice(),
+                sink,
+            )
+        }
+        Answer::Trace(run) => write_trace(run.as_slice(), sink),
     }
 }
 
@@ -60,9 +99,11 @@ pub(crate) fn status_of(answer: &Answer) -> u8
     match answer {
         Answer::Arrays(_)
         | Answer::Network(_)
-        | Answer::Certificate(_)
         | Answer::Summary(_)
-        | Answer::Nodes(_) => 0,
+        | Answer::Nodes(_)
+        | Answer::Clocked(_)
+        | Answer::Trimmed(_)
+        | Answer::Trace(_) => 0,
         Answer::Verdict(Verdict::Accepted) => 0,
         Answer::Verdict(Verdict::Refused(_)) => 1,
         Answer::Unread(_) => 1,

@@ -1,18 +1,20 @@
-use super::{SOUND, expect_words, words_of};
+use super::{SOUND, expect_words, repeated, words_of, written_by};
+use cert_text::read_cert;
 use std::alloc::{AllocError, Global};
 use std::process::Abort;
 use std::sync::Wait;
 use std::test::Fail;
 use std::thread::Threads;
 
-const INCREMENT: &[u8] = b"param N; in x[N]; out y[N]; for (i = 0; i < N; i++) y[i] = x[i] + 1;";
+pub(super) const INCREMENT: &[u8] =
+    b"param N; in x[N]; out y[N]; for (i = 0; i < N; i++) y[i] = x[i] + 1;";
 
 const COPY: &[u8] = b"param N; in x[N]; out y[N];";
 
 const TRANSPOSE: &[u8] =
     b"in a[2][2]; out b[2][2]; for (j = 0; j < 2; j++) for (i = 0; i < 2; i++) b[j][i] = a[i][j];";
 
-const LAST_VALUE: &[u8] =
+pub(super) const LAST_VALUE: &[u8] =
     b"param N; in a[N]; out c[N]; var b[N]; for (i = 0; i < N; i++) b[i] = a[i]; for (i = 0; i < N; i++) c[i] = a[i] + b[N-1];";
 
 /// The certificate of the increment with N=1, under either policy.
@@ -26,7 +28,7 @@ const ONCE: &[u8] = b"cert 1\nsizes 3 2 2 7\n\
     end\n";
 
 /// That with N=3.
-const THRICE: &[u8] = b"cert 1\nsizes 3 2 2 21\n\
+pub(super) const THRICE: &[u8] = b"cert 1\nsizes 3 2 2 21\n\
     process 0 6\nf\np 0\nf\np 0\nf\np 0\n\
     process 1 9\ng 0 0\nf 0\np 1\ng 0 0\nf 0\np 1\ng 0 0\nf 0\np 1\n\
     process 1 6\ng 1 0\nf 0\ng 1 0\nf 0\ng 1 0\nf 0\n\
@@ -61,21 +63,75 @@ const DOWNWARD: &[u8] = b"cert 1\nsizes 4 4 4 42\n\
     2\n2\n2\n3\n3\n2\n2\n2\n3\n3\n2\n2\n2\n3\n3\n0\n2\n2\n2\n3\n3\n\
     end\n";
 
-/// Words behind the command, sources and what `cert` writes of them. The texts were worked out from the definitions by another
-/// program.
-const WRITTEN: [(&[&str], &[u8], &[u8]); 5] = [
-    (&["N=1", "--policy=seq"], INCREMENT, ONCE),
-    (&["N=1", "--policy=down"], INCREMENT, ONCE),
-    (&["N=3"], INCREMENT, THRICE),
-    (&[], TRANSPOSE, TRANSPOSED),
-    (&["N=4", "--policy=down"], LAST_VALUE, DOWNWARD),
+/// Words behind the command, sources, texts of the certificates that `cert` writes of them, and how those end in version 2, from
+/// the schedule on. The texts were worked out from the definitions by another program, and the ends from these by hand.
+const WRITTEN: [(&[&str], &[u8], &[u8], &[u8]); 5] = [
+    (
+        &["N=1", "--policy=seq"],
+        INCREMENT,
+        ONCE,
+        b"sweep\nr 2 1\n0\nr 3 1\n1\nr 2 1\n2\nend\n",
+    ),
+    (
+        &["N=1", "--policy=down"],
+        INCREMENT,
+        ONCE,
+        b"sweep\nr 2 1\n0\nr 3 1\n1\nr 2 1\n2\nend\n",
+    ),
+    (
+        &["N=3"],
+        INCREMENT,
+        THRICE,
+        b"sweep\nr 6 1\n0\nr 9 1\n1\nr 6 1\n2\nend\n",
+    ),
+    (
+        &[],
+        TRANSPOSE,
+        TRANSPOSED,
+        b"sweep\nr 8 1\n0\nr 12 1\n1\nr 8 1\n2\nend\n",
+    ),
+    (
+        &["N=4", "--policy=down"],
+        LAST_VALUE,
+        DOWNWARD,
+        b"sweep\nr 2 1\n0\nr 2 1\n1\n0\n2\nr 2 1\n0\nr 2 1\n1\nr 3 1\n0\nr 2 1\n1\nr 3 1\n0\nr 3 1\n1\n\
+            r 3 1\n2\nr 2 1\n3\nr 3 1\n2\nr 2 1\n3\nr 3 1\n2\nr 2 1\n3\n0\nr 3 1\n2\nr 2 1\n3\nend\n",
+    ),
+];
+
+/// The certificate of the increment with N=1 in version 2.
+const FOLDED: &[u8] = b"cert 2\nsizes 3 2 2 3\n\
+    process 0 2\nf\np 0\n\
+    process 1 3\ng 0 0\nf 0\np 1\n\
+    process 1 2\ng 1 0\nf 0\n\
+    channel 0 1 0 1 inorder\nchannel 1 2 0 1 inorder\n\
+    sweep\nsweep\n\
+    r 2 1\n0\nr 3 1\n1\nr 2 1\n2\n\
+    end\n";
+
+/// Changes of it, and the line that `check` answers.
+const FOLDED_CHANGES: [(Changes<'static>, &[u8]); 8] = [
+    (&[], b"accepted\n"),
+    (&[(19, b"r 2 1\n")], b"refused NotEnabled 4\n"),
+    (
+        &[
+            (3, b"process 0 1\nr 4294967295 1\nr 4294967295 1\n"),
+            (5, b""),
+        ],
+        b"refused Long 0\n",
+    ),
+    (&[(17, b"r 1 1\n")], b"refused Number 17\n"),
+    (&[(1, b"cert 1\n")], b"refused Line 17\n"),
+    (&[(1, b"cert 3\n")], b"refused Line 1\n"),
+    (&[(17, b"r 142606337 1\n")], b"refused Long 3\n"),
+    (&[(17, b"r 2 4294967295\n")], b"refused Line 23\n"),
 ];
 
 /// Changes of a certificate: the number of a line, from 1, and what stands in its place.
-type Changes = &'static [(usize, &'static [u8])];
+type Changes<'a> = &'a [(usize, &'a [u8])];
 
 /// Changes of the certificate of the increment with N=1, and the line that `check` answers.
-const CHANGES: [(Changes, &[u8]); 24] = [
+const CHANGES: [(Changes<'static>, &[u8]); 24] = [
     (&[], b"accepted\n"),
     (&[(1, b"cert 3\n")], b"refused Line 1\n"),
     (&[(2, b"sizes 3 2 2 4294967296\n")], b"refused Number 2\n"),
@@ -120,12 +176,46 @@ const CHANGES: [(Changes, &[u8]); 24] = [
         b"accepted\n",
     ),
     (&[(12, b"f 0 0 0 0 0 0 0 0 0\n")], b"refused Line 12\n"),
-    (&[(15, b"tree\n")], b"refused Line 15\n"),
+    (&[(15, b"tree\n")], b"refused Line 16\n"),
     (&[(7, b"g -5 0\n")], b"refused Number 7\n"),
 ];
 
+/// A tree with its proofs, which gives the last writer of what the increment with N=1 reads.
+const TREE: &[u8] = b"tree\nw 0 1 5\nm 0 1\ns 0 1 2 1\ns 1 1 2 1\ns 2 1\ns 2 1\ns 5 1 6 1\n";
+
+/// Changes of the certificate of the increment with N=1 where this tree, in lines 15 to 22, is the first source, and the line
+/// that `check` answers.
+const TREE_CHANGES: [(Changes<'static>, &[u8]); 8] = [
+    (&[], b"accepted\n"),
+    (
+        &[(17, b"m 1 1\n")],
+        b"refused Source 1 0 Proof 0 1 NotContradictory\n",
+    ),
+    (
+        &[(22, b"s 5 1\n")],
+        b"refused Source 1 0 Proof 0 4 NotContradictory\n",
+    ),
+    (
+        &[(22, b"s 5 1 7 1\n")],
+        b"refused Source 1 0 Proof 0 4 BadIndex\n",
+    ),
+    (
+        &[(22, b"s 5 -1 6 1\n")],
+        b"refused Source 1 0 Proof 0 4 Negative\n",
+    ),
+    (
+        &[(16, b"w 0 1 4\n"), (22, b"")],
+        b"refused Source 1 0 Proofs 0 4 5\n",
+    ),
+    (&[(16, b"w 1 1 5\n")], b"refused Source 1 0 NoWriter 0\n"),
+    (
+        &[(16, b"w 0 0 5\n"), (17, b"")],
+        b"refused Source 1 0 BadForm 0\n",
+    ),
+];
+
 /// Parameters, sources and certificates with their changes, and the line that `check` answers.
-const LONGER: [(&[&str], &[u8], &[u8], Changes, &[u8]); 6] = [
+const LONGER: [(&[&str], &[u8], &[u8], Changes<'static>, &[u8]); 6] = [
     // a smaller capacity, and a schedule that ends before the last event
     (
         &["N=3"],
@@ -172,7 +262,7 @@ fn joined(alloc: Global, parts: &[&[u8]]) -> Result<Vec<u8>, AllocError> {
 }
 
 /// What stands in the place of this line, if it is changed.
-fn changed_line(changes: Changes, number: usize) -> Option<&'static [u8]> {
+fn changed_line<'a>(changes: Changes<'a>, number: usize) -> Option<&'a [u8]> {
     for (at, other) in changes {
         if *at == number {
             return Some(*other);
@@ -182,7 +272,7 @@ fn changed_line(changes: Changes, number: usize) -> Option<&'static [u8]> {
 }
 
 /// A text with these changes.
-fn changed(alloc: Global, text: &[u8], changes: Changes) -> Result<Vec<u8>, AllocError> {
+fn changed(alloc: Global, text: &[u8], changes: Changes<'_>) -> Result<Vec<u8>, AllocError> {
     let mut made = Vec::new(alloc);
     let mut number = 1_usize;
     let mut begins = true;
@@ -218,12 +308,43 @@ pub(super) fn checks(
     expect_words(rt, SOUND, &words, &bundle, status, line, b"")
 }
 
+/// Whether both texts are read, as equal networks with sweeps and equal schedules.
+pub(super) fn stand_for_the_same(alloc: Global, text: &[u8], other: &[u8]) -> bool {
+    match (read_cert(alloc, text), read_cert(alloc, other)) {
+        (Ok((network, cert)), Ok((another, certificate))) => {
+            network.same(&another)
+                && cert.sources.len() == certificate.sources.len()
+                && cert.schedule.as_slice() == certificate.schedule.as_slice()
+        }
+        _ => false,
+    }
+}
+
 #[test]
 fn certificates_are_written(rt: HostRuntime) -> Result<(), Fail> {
-    for (params, source, text) in WRITTEN {
-        let words = words_of(rt.alloc(), "cert", params)?;
-        expect_words(&rt, SOUND, &words, source, 0, text, b"")?;
+    for (params, source, text, schedule) in WRITTEN {
+        let written = written_by(&rt, "cert", params, source, 1_000)?;
+        assert!(rt; written.held().starts_with(b"cert 2\n"));
+        assert!(rt; written.held().ends_with(schedule), "{params:?}");
+        assert!(rt; stand_for_the_same(rt.alloc(), written.held(), text));
+        checks(&rt, params, source, written.held(), b"accepted\n")?;
         checks(&rt, params, source, text, b"accepted\n")?;
+    }
+    Ok(())
+}
+
+#[test]
+fn a_certificate_of_equal_points_is_short(rt: HostRuntime) -> Result<(), Fail> {
+    let written = written_by(&rt, "cert", &["N=100000"], INCREMENT, 20_000)?;
+    assert!(rt; written.held().len() < 20_000);
+    checks(&rt, &["N=100000"], INCREMENT, written.held(), b"accepted\n")
+}
+
+#[test]
+fn folded_certificates_are_judged(rt: HostRuntime) -> Result<(), Fail> {
+    for (changes, line) in FOLDED_CHANGES {
+        let certificate = changed(rt.alloc(), FOLDED, changes)?;
+        checks(&rt, &["N=1"], INCREMENT, &certificate, line)?;
     }
     Ok(())
 }
@@ -238,6 +359,26 @@ fn changed_certificates_are_judged(rt: HostRuntime) -> Result<(), Fail> {
 }
 
 #[test]
+fn trees_are_judged(rt: HostRuntime) -> Result<(), Fail> {
+    let alloc = rt.alloc();
+    let with_tree = changed(alloc, ONCE, &[(15, TREE)])?;
+    for (changes, line) in TREE_CHANGES {
+        let certificate = changed(alloc, &with_tree, changes)?;
+        checks(&rt, &["N=1"], INCREMENT, &certificate, line)?;
+    }
+    // a proof of 513 splits, one in the other
+    let deep = repeated(alloc, b"tree\nx\n", b"b 0\n", 513)?;
+    let certificate = changed(alloc, ONCE, &[(15, &deep)])?;
+    checks(
+        &rt,
+        &["N=1"],
+        INCREMENT,
+        &certificate,
+        b"refused Deep 529\n",
+    )
+}
+
+#[test]
 fn certificates_of_longer_runs_are_judged(rt: HostRuntime) -> Result<(), Fail> {
     for (params, source, text, changes, line) in LONGER {
         let certificate = changed(rt.alloc(), text, changes)?;
@@ -249,8 +390,8 @@ fn certificates_of_longer_runs_are_judged(rt: HostRuntime) -> Result<(), Fail> {
 #[test]
 fn parameters_agree_by_name(rt: HostRuntime) -> Result<(), Fail> {
     let source = b"param N, M; in x[N]; out y[M]; for (i = 0; i < N; i++) y[i] = x[i] + 1;";
-    let words = words_of(rt.alloc(), "cert", &["N=1", "M=1"])?;
-    expect_words(&rt, SOUND, &words, source, 0, ONCE, b"")?;
+    let written = written_by(&rt, "cert", &["N=1", "M=1"], source, 1_000)?;
+    assert!(rt; stand_for_the_same(rt.alloc(), written.held(), ONCE));
     let params: [&[&str]; 2] = [&["M=1", "N=1"], &["K=7", "M=1", "N=1"]];
     for params in params {
         checks(&rt, params, source, ONCE, b"accepted\n")?;

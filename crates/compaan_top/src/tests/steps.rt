@@ -1,4 +1,4 @@
-use super::certificates::checks;
+use super::certificates::{checks, stand_for_the_same};
 use super::{SOUND, expect, expect_words, words_of, written_by};
 use command_line::parts_of;
 use std::alloc::{AllocError, Global};
@@ -256,7 +256,8 @@ fn wrong_loops_with_steps_are_refused(rt: HostRuntime) -> Result<(), Fail> {
 #[test]
 fn points_hold_turns(rt: HostRuntime) -> Result<(), Fail> {
     let whole = of_every_second(rt.alloc(), b"z", b"0")?;
-    expect(&rt, SOUND, &["cert", "N=3"], EVERY_SECOND, 0, &whole, b"")?;
+    let written = written_by(&rt, "cert", &["N=3"], EVERY_SECOND, 1_000)?;
+    assert!(rt; stand_for_the_same(rt.alloc(), written.held(), &whole));
     checks(&rt, &["N=3"], EVERY_SECOND, &whole, b"accepted\n")?;
     let found = of_every_second(rt.alloc(), b"0", b"0")?;
     checks(

@@ -119,12 +119,12 @@ const SUM: &[u8] = b"in x, z; out y; y = x + z;\n%%\nx,1\nz,2\n";
 const SUM_TELLS: [&[(u32, i64)]; 4] = [&[(0, 1)], &[(1, 2)], &[(2, 3)], &[]];
 
 // Calls the program with this gate, and compares what it writes.
-fn expect_heard(
+pub(super) fn expect_by<G: Gate + Sync>(
     rt: &(impl Abort + AllocGlobal + Threads + Wait + Sync),
     words: &[&str],
     bundle: &[u8],
     output: &[u8],
-    gate: &Listener,
+    gate: &G,
 ) -> Result<(), Fail> {
     let alloc = rt.alloc();
     let words = in_words(alloc, words)?;
@@ -143,6 +143,17 @@ fn expect_heard(
     assert_eq!(rt; status, 0);
     assert!(rt; written.held() == output);
     assert!(rt; complained.held().is_empty());
+    Ok(())
+}
+
+fn expect_heard(
+    rt: &(impl Abort + AllocGlobal + Threads + Wait + Sync),
+    words: &[&str],
+    bundle: &[u8],
+    output: &[u8],
+    gate: &Listener,
+) -> Result<(), Fail> {
+    expect_by(rt, words, bundle, output, gate)?;
     assert!(rt; gate.heard_all());
     Ok(())
 }

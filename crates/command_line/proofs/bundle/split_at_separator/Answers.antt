@@ -1,16 +1,22 @@
 use Rattle.std.proofs.Common.{◌++◌, List, ℕ, length, take, arith, ap, sym, ◌∙◌, length-append, append_assoc}
 use Rattle.command_line.specs.Bundle.{before_separator}
-use Rattle.command_line.proofs.Lines.{before_separator-line, after_separator-line, after_separator-here, drop-past_line, take-past_line, length-past_line}
+use Rattle.command_line.proofs.Lines.{before_separator-line, after_separator-line, after_separator-here, drop-past_line}
+use Rattle.command_line.proofs.Lines.{take-past_line, length-past_line}
 use Rattle.command_line.proofs.bundle.split_at_separator.Goals as goal
 
 pub returns-then-is_separator-clause-after : goal.returns-then-is_separator-clause-after
 returns-then-is_separator-clause-after c =
     sym (c.loop-rest.invariant.after
-    ∙ after_separator-here c.loop-rest.rest.now c.split_line.result.0.now c.split_line.result.1.now c.split_line.ensures.lines (sym c.if-is_separator.ensures))
+    ∙ after_separator-here c.loop-rest.rest.now c.split_line.result.0.now c.split_line.result.1.now
+    c.split_line.ensures.lines (sym c.if-is_separator.ensures))
 
 pub loop-rest-smaller : goal.loop-rest-smaller
 loop-rest-smaller c =
-    omega (arith, ap length c.split_line.ensures.whole ∙ length-append c.split_line.result.0.now c.split_line.result.1.now)
+    omega (
+      arith,
+      ap length c.split_line.ensures.whole
+          ∙ length-append c.split_line.result.0.now c.split_line.result.1.now,
+    )
 
 pub loop-rest-preserved : goal.loop-rest-preserved
 loop-rest-preserved c =

@@ -5,3 +5,6 @@ returns-in-Run g c = c.finish.ensures _ _ c.plan_run.ensures
 
 pub returns-in-Load : goal.returns-in-Load
 returns-in-Load g c = c.finish-in-Load.ensures _ _ (c.plan_load.ensures _ _)
+
+pub returns-in-Trace : goal.returns-in-Trace
+returns-in-Trace g c = c.finish-in-Trace.ensures _ _ c.plan_trace.ensures

@@ -1,5 +1,6 @@
 use Rattle.compaan_top.specs.Planned.{reply_of}
-use Rattle.compaan_top.proofs.Endings.{answer_written, answer_cut_short, refusal_written, refusal_cut_short, ends_at_fault, ends_without_memory}
+use Rattle.compaan_top.proofs.Endings.{answer_written, answer_cut_short, refusal_written, refusal_cut_short}
+use Rattle.compaan_top.proofs.Endings.{ends_at_fault, ends_without_memory}
 use Rattle.compaan_top.proofs.call.finish.Goals as goal
 
 pub returns-in-Ok-write_text : goal.returns-in-Ok-write_text
@@ -18,12 +19,14 @@ pub returns-in-Ok-write_refusal : goal.returns-in-Ok-write_refusal
 returns-in-Ok-write_refusal g c = λ wanted input planned.
     let p = rw (c.in-Err-Refused.is, c.in-Err-Refused.field-0-is) at planned in
     rw c.refusal_status.ensures
-    (refusal_written wanted input _ _ _ c.in-Err-Refused.refusal p.0 p.1 c.in-Ok-write_refusal.ensures.ok c.in-Ok-write_refusal.ensures.quiet)
+    (refusal_written wanted input _ _ _ c.in-Err-Refused.refusal p.0 p.1 c.in-Ok-write_refusal.ensures.ok
+    c.in-Ok-write_refusal.ensures.quiet)
 
 pub returns-in-Err-Refused : goal.returns-in-Err-Refused
 returns-in-Err-Refused g c = λ wanted input planned.
     let p = rw (c.in-Err-Refused.is, c.in-Err-Refused.field-0-is) at planned in
-    refusal_cut_short wanted input _ _ _ c.in-Err-Refused.refusal p.0 p.1 c.in-Err-write_refusal.ensures.front c.in-Err-write_refusal.ensures.cause
+    refusal_cut_short wanted input _ _ _ c.in-Err-Refused.refusal p.0 p.1 c.in-Err-write_refusal.ensures.front
+    c.in-Err-write_refusal.ensures.cause
 
 pub returns-in-Err-ReadFault : goal.returns-in-Err-ReadFault
 returns-in-Err-ReadFault g c = λ wanted input planned. ends_at_fault wanted input _ _ _ _

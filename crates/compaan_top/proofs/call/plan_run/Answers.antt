@@ -10,7 +10,12 @@ use Rattle.compaan_top.proofs.call.plan_run.Goals as goal
 
 pub returns-in_err-bundle : goal.returns-in_err-bundle
 returns-in_err-bundle g c =
-    let input : Change = record { old = g.S.Source.left c.args.input.now; new = g.S.Source.left c.bundle_of.new.input; faults_old = g.S.Source.faults c.args.input.now; faults_new = g.S.Source.faults c.bundle_of.new.input } in
+    let input : Change = record {
+      old = g.S.Source.left c.args.input.now;
+      new = g.S.Source.left c.bundle_of.new.input;
+      faults_old = g.S.Source.faults c.args.input.now;
+      faults_new = g.S.Source.faults c.bundle_of.new.input;
+    } in
     let stop = err_from_is_err_and c.from_residual.result c.from_residual.ensures.1 in
     rw (stop.1, stop.2)
     (planned_refusal_of_bundle c.args.order.now input _
@@ -18,7 +23,12 @@ returns-in_err-bundle g c =
 
 pub returns : goal.returns
 returns g c =
-    let input : Change = record { old = g.S.Source.left c.args.input.now; new = g.S.Source.left c.bundle_of.new.input; faults_old = g.S.Source.faults c.args.input.now; faults_new = g.S.Source.faults c.bundle_of.new.input } in
+    let input : Change = record {
+      old = g.S.Source.left c.args.input.now;
+      new = g.S.Source.left c.bundle_of.new.input;
+      faults_old = g.S.Source.faults c.args.input.now;
+      faults_new = g.S.Source.faults c.bundle_of.new.input;
+    } in
     let read = c.in_ok-bundle.ensures in
     planned_work c.args.order.now input c.in_ok-bundle.bundle.items c.run_by_network.result
     (run_reads c.args.order.now.command c.requires)

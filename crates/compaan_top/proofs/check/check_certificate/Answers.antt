@@ -1,7 +1,6 @@
-use Rattle.std.proofs.Common.{arith, ◌≤◌, length, sym}
+use Rattle.std.proofs.Common.{sym}
 use Rattle.std.proofs.lemmas.Result.{err_from_is_err_and}
 use Rattle.compaan_top.specs.Checking.{part_missing}
-use Rattle.compaan_top.proofs.Parts.{part_within}
 use Rattle.compaan_top.proofs.Checked.{checks_judged, checks_unread, checks_without_nest}
 use Rattle.compaan_top.proofs.check.check_certificate.Goals as goal
 
@@ -11,19 +10,19 @@ returns-in_default c = part_missing (sym (rw c.in_default.is at c.parts_of-parts
 pub returns-in_err-nest : goal.returns-in_err-nest
 returns-in_err-nest c =
     let stop = err_from_is_err_and c.from_residual.result c.from_residual.ensures.1 in
-    rw (stop.1, stop.2) (checks_without_nest c.args.params.now c.args.bundle.now c.parts_of-parts.result.source.now c.in-Some.part.now _ c.parts_of-parts.ensures.source
+    rw (stop.1, stop.2) (checks_without_nest c.args.params.now c.args.bundle.now c.parts_of-parts.result.source.now
+    c.in-Some.part.now _ c.parts_of-parts.ensures.source
     (sym (rw c.in-Some.is at c.parts_of-parts.ensures.certificate)) c.in_err-nest.ensures)
 
 pub verdict_on-requires-clause-numbers : goal.verdict_on-requires-clause-numbers
-verdict_on-requires-clause-numbers c =
-    let part : length c.in-Some.part.now ≤ length c.args.bundle.now =
-    part_within c.args.bundle.now c.in-Some.part.now (sym (rw c.in-Some.is at c.parts_of-parts.ensures.certificate)) in
-    c.in-Ok.ensures.few (omega (arith, part, c.requires))
+verdict_on-requires-clause-numbers c = c.in-Ok.ensures.few
 
 pub returns-in-Ok : goal.returns-in-Ok
 returns-in-Ok c =
-    checks_judged c.args.params.now c.args.bundle.now c.parts_of-parts.result.source.now c.in-Some.part.now c.in_ok-nest.nest c.in-Ok.network c.in-Ok.cert _ c.parts_of-parts.ensures.source
-    (sym (rw c.in-Some.is at c.parts_of-parts.ensures.certificate)) c.in_ok-nest.ensures.0 c.in-Ok.ensures.exact c.in_ok-verdict-in-Ok.ensures
+    checks_judged c.args.params.now c.args.bundle.now c.parts_of-parts.result.source.now c.in-Some.part.now
+    c.in_ok-nest.nest c.in-Ok.network c.in-Ok.cert _ c.parts_of-parts.ensures.source
+    (sym (rw c.in-Some.is at c.parts_of-parts.ensures.certificate)) c.in_ok-nest.ensures.0 c.in-Ok.ensures.exact
+    c.in_ok-verdict-in-Ok.ensures
 
 pub returns : goal.returns
 returns c =

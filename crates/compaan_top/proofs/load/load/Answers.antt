@@ -19,6 +19,9 @@ returns-in_err-size_of g c =
 pub returns : goal.returns
 returns g c =
     let few : c.args.rows ≤ load_limit = omega (arith, c.if-rows-gt-LOAD_LIMIT.false) in
-    loads_summed c.args.policy c.args.rows c.in_ok-nest.nest c.in_ok-size_of.field-0 c.in_ok-inputs.inputs c.in_ok-run.run'.network c.in_ok-run.run'.arrays.arrays c.summary_of.result
-    few c.in_ok-nest.ensures c.in_ok-size_of.ensures.0 c.in_ok-inputs.ensures.cells c.in_ok-run.ensures.network c.in_ok-run.ensures.arrays
-    (rw c.in_ok-points.ensures at c.summary_of.ensures.points) c.summary_of.ensures.channels c.summary_of.ensures.events c.summary_of.ensures.sum
+    loads_summed c.args.policy c.args.rows c.in_ok-nest.nest c.in_ok-size_of.field-0 c.in_ok-inputs.inputs
+    c.in_ok-run.run'.network c.in_ok-run.run'.arrays.arrays c.summary_of.result
+    few c.in_ok-nest.ensures c.in_ok-size_of.ensures.0 c.in_ok-inputs.ensures.cells c.in_ok-run.ensures.network
+    c.in_ok-run.ensures.arrays
+    (rw c.in_ok-points.ensures at c.summary_of.ensures.points) c.summary_of.ensures.channels c.summary_of.ensures.events
+    c.summary_of.ensures.sum

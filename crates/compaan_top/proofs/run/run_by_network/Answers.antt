@@ -1,13 +1,15 @@
 use Rattle.std.proofs.Common.{◌∙◌, ap, length}
 use Rattle.std.proofs.lemmas.Result.{err_from_is_err_and}
+use Rattle.array_data.specs.Answer.{answer_text}
+use Rattle.compaan_top.specs.Run.{run_text}
 use Rattle.compaan_top.proofs.Inputs.{length-arrays}
-use Rattle.compaan_top.proofs.Runs.{runs_to_answer, unprepared}
+use Rattle.compaan_top.proofs.Runs.{runs_to_text, unprepared}
 use Rattle.compaan_top.proofs.run.run_by_network.Goals as goal
 
 pub returns-in_err-nest : goal.returns-in_err-nest
 returns-in_err-nest g c =
     let stop = err_from_is_err_and c.from_residual.result c.from_residual.ensures.1 in
-    rw (stop.1, stop.2) (unprepared c.args.params.now c.args.bundle.now _ c.in_err-nest.ensures)
+    rw (stop.1, stop.2) (unprepared run_text c.args.params.now c.args.bundle.now _ c.in_err-nest.ensures)
 
 pub invariant_of-result : goal.invariant_of-result
 invariant_of-result g c =
@@ -15,4 +17,6 @@ invariant_of-result g c =
 
 pub returns : goal.returns
 returns g c =
-    runs_to_answer c.args.params.now c.args.bundle.now c.in_ok-nest.nest c.in_ok-nest.inputs c.in_ok-run.run'.arrays c.in_ok-nest.ensures c.in_ok-run.ensures.arrays
+    runs_to_text run_text c.args.params.now c.args.bundle.now c.in_ok-nest.nest c.in_ok-nest.inputs _
+    c.in_ok-nest.ensures
+    (ap (answer_text c.in_ok-nest.nest.arrays) c.in_ok-run.ensures.arrays)

@@ -18,4 +18,5 @@ returns-in_err-tree c =
 pub returns : goal.returns
 returns c =
     let lexed = c.in_ok-lexed.ensures ∙ ap Ok (sym c.as_slice-found.ensures.value) in
-    gives_nest c.args.source.now c.args.params.now c.as_slice-found.result.now c.in_ok-tree.tree c.bound.result lexed c.in_ok-tree.ensures c.bound.ensures
+    gives_nest c.args.source.now c.args.params.now c.as_slice-found.result.now c.in_ok-tree.tree c.bound.result lexed
+    c.in_ok-tree.ensures c.bound.ensures

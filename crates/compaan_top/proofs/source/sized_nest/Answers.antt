@@ -11,7 +11,11 @@ returns-in_err-nest c =
 pub returns-in_err-size_of : goal.returns-in_err-size_of
 returns-in_err-size_of c =
     let stop = err_from_is_err_and c.from_residual-in_err-size_of.result c.from_residual-in_err-size_of.ensures.1 in
-    rw (stop.1, stop.2) (sized_without_size c.args.source.now c.args.params.now c.in_ok-nest.nest _ c.in_ok-nest.ensures c.in_err-size_of.ensures)
+    rw (stop.1, stop.2) (sized_without_size c.args.source.now c.args.params.now c.in_ok-nest.nest _ c.in_ok-nest.ensures
+    c.in_err-size_of.ensures)
 
 pub returns : goal.returns
-returns c = (within_size c.in_ok-nest.nest c.in_ok-size_of.field-0 c.in_ok-nest.ensures c.in_ok-size_of.ensures.0, c.in_ok-size_of.ensures.1)
+returns c = (
+  within_size c.in_ok-nest.nest c.in_ok-size_of.field-0 c.in_ok-nest.ensures c.in_ok-size_of.ensures.0,
+  c.in_ok-size_of.ensures.1,
+)

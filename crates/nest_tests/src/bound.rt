@@ -3,8 +3,9 @@
 use loop_class::{BindError, Params, bind};
 use loop_grammar::parse;
 use loop_lex::lex;
-use sanlp::Nest;
-use std::alloc::Global;
+use plain_data::Items;
+use sanlp::{Inputs, Nest};
+use std::alloc::{AllocError, Global};
 use std::test::Fail;
 
 /// The nest of a source, or the reason why it has none, where these are the values of parameters.
@@ -24,6 +25,14 @@ pub(crate) fn binding(
 /// The nest of a source without parameters.
 pub(crate) fn nest(alloc: Global, source: &[u8]) -> Result<Nest, Fail> {
     Ok(binding(alloc, source, &Params::empty(alloc))??)
+}
+
+/// The values of the first array, where the second has none.
+pub(crate) fn inputs(alloc: Global, values: &[i64]) -> Result<Inputs, AllocError> {
+    let mut arrays = Items::new(alloc);
+    arrays.push(Items::from_slice(alloc, values)?)?;
+    arrays.push(Items::new(alloc))?;
+    Ok(Inputs { arrays })
 }
 
 /// Sums that run on from turn to turn.

@@ -1,15 +1,25 @@
-//! Tests of binding, walks, sources, trees and verdicts, on nests that are bound from sources. They stand apart from what they
-//! test, since a crate with tests of its own is proved twice.
+//! Tests of binding, walks, sources, trees, verdicts, nodes, clocked runs and least capacities, on nests that are bound from
+//! sources. They stand apart from what they test, since a crate with tests of its own is proved twice.
 #![tactic(auto)]
 
+#[cfg(test)]
+mod alone;
 #[cfg(test)]
 mod binding;
 #[cfg(test)]
 mod bound;
 #[cfg(test)]
+mod certificates;
+#[cfg(test)]
+mod clocks;
+#[cfg(test)]
+mod nodes;
+#[cfg(test)]
 mod sources;
 #[cfg(test)]
 mod trees;
+#[cfg(test)]
+mod trims;
 #[cfg(test)]
 mod verdicts;
 #[cfg(test)]

@@ -16,7 +16,7 @@ use source_tree::{Cert, Origin};
 use std::alloc::{AllocError, Global};
 use std::test::Fail;
 
-const IN_ORDER: ChannelClass = ChannelClass {
+pub(crate) const IN_ORDER: ChannelClass = ChannelClass {
     order: UseOrder::InOrder,
     multiplicity: false,
 };
@@ -31,17 +31,17 @@ const REORDERED: ChannelClass = ChannelClass {
     multiplicity: false,
 };
 
-// A network and its certificate. The words of a script are events: `g` with a channel and a slot is a Get, `f` with its
-// references a Fire, where `z` is `Zero`, and `p` with a channel a Put. A channel has its writer, reader, read and
-// capacity. A schedule has one digit for each entry.
+/// A network and its certificate. The words of a script are events: `g` with a channel and a slot is a Get, `f` with its
+/// references a Fire, where `z` is `Zero`, and `p` with a channel a Put. A channel has its writer, reader, read and
+/// capacity. A schedule has one digit for each entry.
 #[derive(Clone, Copy)]
-struct Row<'a> {
-    slots: &'a [u32],
-    scripts: &'a [&'a [u8]],
-    channels: &'a [(u32, u32, u32, u32)],
-    classes: &'a [ChannelClass],
-    sources: u32,
-    schedule: &'a [u8],
+pub(crate) struct Row<'a> {
+    pub slots: &'a [u32],
+    pub scripts: &'a [&'a [u8]],
+    pub channels: &'a [(u32, u32, u32, u32)],
+    pub classes: &'a [ChannelClass],
+    pub sources: u32,
+    pub schedule: &'a [u8],
 }
 
 // Each turn sums, and hands the sum on to the next turn and to the copy.
@@ -51,7 +51,7 @@ const COPY: &[u8] = b"g10 f0 p2 g10 f0 p2 g10 f0 p2 g10 f0 p2";
 
 const PRINT: &[u8] = b"g20 f0 g20 f0 g20 f0 g20 f0";
 
-const SUMS: Row = Row {
+pub(crate) const SUMS: Row = Row {
     slots: &[1, 1, 1],
     scripts: &[SUM, COPY, PRINT],
     channels: &[(0, 0, 0, 3), (0, 1, 0, 4), (1, 2, 0, 4)],
@@ -142,20 +142,16 @@ fn network(alloc: Global, row: &Row) -> Result<Network, AllocError> {
     })
 }
 
-fn certificate(alloc: Global, row: &Row) -> Result<Cert, AllocError> {
-    let mut sources = Items::new(alloc);
-    for _ in 0..row.sources {
-        sources.push(Origin::Sweep)?;
-    }
+fn schedule(alloc: Global, entries: &[u8]) -> Result<Items<u32>, AllocError> {
     let mut schedule = Items::new(alloc);
-    for entry in row.schedule {
+    for entry in entries {
         schedule.push(digit(*entry))?;
     }
-    Ok(Cert { sources, schedule })
+    Ok(schedule)
 }
 
 // Whether the numbers of a network are within their limits.
-fn numbers_fit(network: &Network) -> bool
+pub(crate) fn numbers_fit(network: &Network) -> bool
     ensures { IsTrue result → FitsNumbers (net_of network.now) }
 {
     let mut events = 0usize;
@@ -168,18 +164,35 @@ fn numbers_fit(network: &Network) -> bool
     network.processes.len() < 1 << 32 && network.channels.len() < 1 << 32 && events < 1 << 32
 }
 
-// Whether the checker gives this verdict.
-fn gives(alloc: Global, nest: &Nest, row: Row, verdict: Verdict) -> Result<bool, AllocError> {
-    let network = network(alloc, &row)?;
+/// The checker's verdict where the reads have these origins.
+pub(crate) fn verdict_of(
+    alloc: Global,
+    nest: &Nest,
+    row: &Row,
+    sources: Items<Origin>,
+) -> Result<Verdict, Fail> {
+    let network = network(alloc, row)?;
     if size(nest).is_err() || !numbers_fit(&network) {
-        return Ok(false);
+        return Err(Fail::from("the nest or the network is large"));
     }
     let points = points(alloc, nest)?;
-    let cert = certificate(alloc, &row)?;
-    Ok(check(alloc, nest, &points, &network, &cert)? == verdict)
+    let cert = Cert {
+        sources,
+        schedule: schedule(alloc, row.schedule)?,
+    };
+    Ok(check(alloc, nest, &points, &network, &cert)?)
 }
 
-fn refuses(alloc: Global, nest: &Nest, row: Row, refusal: Refusal) -> Result<bool, AllocError> {
+// Whether the checker gives this verdict where each read is swept.
+fn gives(alloc: Global, nest: &Nest, row: Row, verdict: Verdict) -> Result<bool, Fail> {
+    let mut sources = Items::new(alloc);
+    for _ in 0..row.sources {
+        sources.push(Origin::Sweep)?;
+    }
+    Ok(verdict_of(alloc, nest, &row, sources)? == verdict)
+}
+
+fn refuses(alloc: Global, nest: &Nest, row: Row, refusal: Refusal) -> Result<bool, Fail> {
     gives(alloc, nest, row, Verdict::Refused(refusal))
 }
 

@@ -1,0 +1,261 @@
+//! A process that runs alone, over ends in memory.
+ghost use Rattle.std.specs.Prelude.{◌≡◌, ◌+◌, ◌-◌, ◌<◌, ℕ, ℤ, true, false, [], ◌∷◌, ◌++◌, length, if◌then◌else◌, slice_get, Some, IfOk, IfSome, OnOk};
+ghost use Rattle.sanlp.specs.Points.{points_of};
+ghost use Rattle.net_core.specs.Held.{held_of, run_of, IsFor};
+ghost use Rattle.net_core.specs.Machine.{net_of, start};
+ghost use Rattle.net_core.specs.Names.{fired};
+ghost use Rattle.net_core.specs.Orders.{EndsAll};
+ghost use Rattle.net_core.specs.Rules.{tags};
+ghost use Rattle.net_core.specs.Shape.{fires, is_fire, is_put, FitsNumbers};
+ghost use Rattle.net_core.specs.Sound.{IsSound, tag_value};
+ghost use Rattle.node_runner.specs.Logs.{nth_stream};
+ghost use Rattle.node_runner.specs.Nodes.{stream};
+
+use io_edge::Open;
+use net_core::{Event, Network, Room, State, Values, every_order, kept, sound, start};
+use node_runner::{LogEnds, run_node};
+use plain_data::Items;
+use sanlp::{Inputs, Nest, Points, Tag};
+use script_blocks::Script;
+use std::alloc::{AllocError, Global};
+use std::sync::Wait;
+use witness_plan::run_by;
+
+// Runs a network along a schedule that ends all.
+fn run_along(
+    nest: &Nest,
+    points: &Points,
+    inputs: &Inputs,
+    network: &Network,
+    schedule: &[u32],
+    state: &mut State<i64>,
+)
+    requires points { points.now.of ≡ points_of nest.now }
+    requires sound { IsSound nest.now network.now }
+    requires ends { EndsAll (net_of network.now) tags schedule.now }
+    requires opening { run_of state.old ≡ start (net_of network.now) }
+    requires state { IsFor (net_of network.now) (held_of state.old) }
+    ensures kept { (p : ℕ)
+        → ((run_of state.new).local p).kept
+        ≡ fired (tag_value nest.now inputs.now) p
+        (fires (net_of network.now) p (length ((net_of network.now).script p))) }
+    ensures state { IsFor (net_of network.now) (held_of state.new) }
+{
+    every_order::<Tag, i64>();
+    sound();
+    let rule = Values {
+        nest,
+        points,
+        inputs,
+    };
+    run_by(state, network, &rule, schedule);
+}
+
+// Whether an event puts to this channel.
+fn is_put(event: &Event, channel: u32) -> bool
+    ensures { result ≡ is_put channel event.now }
+{
+    match event {
+        Event::Put { channel: to } => channel == *to,
+        _ => false,
+    }
+}
+
+// So many fires, and one more where the event is one.
+fn counted(fires: usize, event: &Event) -> Option<usize>
+    ensures { IfSome result (λ after. after ≡ fires + (if is_fire event.now then 1 else 0)) }
+{
+    match event {
+        Event::Fire { .. } => fires.checked_add(1),
+        _ => Some(fires),
+    }
+}
+
+// The last of the first so many values.
+fn last_of(values: &[i64], many: usize) -> Option<i64>
+    ensures { IfSome result (λ value. slice_get values.now (many - 1) ≡ Some value) }
+{
+    values.get(many.checked_sub(1)?).copied()
+}
+
+// Puts to the values of a channel what was kept last after so many fires, where the event is a Put of the channel.
+fn put_value(
+    values: &mut Vec<i64>,
+    kept: &[i64],
+    fires: usize,
+    event: &Event,
+    channel: u32,
+) -> Result<(), AllocError>
+    ensures put { OnOk result (is_put channel event.now ≡ true
+        → (value : ℤ) × (slice_get kept.now (fires - 1) ≡ Some value)
+        × (values.new.items ≡ values.old.items ++ value ∷ [])) }
+    ensures none { OnOk result (is_put channel event.now ≡ false
+        → values.new.items ≡ values.old.items) }
+{
+    if is_put(event, channel) {
+        let value = last_of(kept, fires).ok_or(AllocError)?;
+        values.push(value)?;
+    }
+    Ok(())
+}
+
+// Passes an event of a channel's writer: answers so many fires, and one more where the event is one.
+fn pass_event(
+    values: &mut Vec<i64>,
+    kept: &[i64],
+    fires: usize,
+    event: &Event,
+    channel: u32,
+) -> Result<usize, AllocError>
+    ensures fires { IfOk result
+        (λ after. after ≡ fires + (if is_fire event.now then 1 else 0)) }
+    ensures put { OnOk result (is_put channel event.now ≡ true
+        → (value : ℤ) × (slice_get kept.now (fires - 1) ≡ Some value)
+        × (values.new.items ≡ values.old.items ++ value ∷ [])) }
+    ensures none { OnOk result (is_put channel event.now ≡ false
+        → values.new.items ≡ values.old.items) }
+{
+    put_value(values, kept, fires, event, channel)?;
+    match counted(fires, event) {
+        Some(after) => Ok(after),
+        None => Err(AllocError),
+    }
+}
+
+// The stream of a channel whose writer has this script and has kept this: what it kept last before each of its Puts.
+fn values_put(
+    alloc: Global,
+    _nest: &Nest,
+    _inputs: &Inputs,
+    _network: &Network,
+    events: &[Event],
+    kept: &[i64],
+    channel: u32,
+) -> Result<Vec<i64>, AllocError>
+    requires events { events.now
+        ≡ (net_of _network.now).script ((net_of _network.now).writer channel) }
+    requires kept { kept.now
+        ≡ fired (tag_value _nest.now _inputs.now) ((net_of _network.now).writer channel)
+        (fires (net_of _network.now) ((net_of _network.now).writer channel) (length events.now)) }
+    ensures { IfOk result
+        (λ values. values.items ≡ stream _nest.now _network.now _inputs.now channel) }
+{
+    let mut values = Vec::new(alloc);
+    let mut fires = 0;
+    for event in events {
+        fires = pass_event(&mut values, kept, fires, event, channel)?;
+    }
+    Ok(values)
+}
+
+// The writer of a channel.
+fn writer_of(network: &Network, channel: u32) -> u32
+    requires { channel < length network.now.channels }
+    ensures { result ≡ (net_of network.now).writer channel }
+{
+    network.channels.as_slice()[channel as usize].writer
+}
+
+// The script of a process.
+fn script_of(network: &Network, process: u32) -> &Script<Event>
+    requires { process < length network.now.processes }
+    ensures { result.now ≡ (net_of network.now).script process }
+{
+    &network.processes.as_slice()[process as usize].script
+}
+
+// The events of a script, one by one.
+fn expanded(alloc: Global, script: &Script<Event>) -> Result<Items<Event>, AllocError>
+    ensures { IfOk result (λ events. events ≡ script.now) }
+{
+    let events = script.iter().collect(alloc)?;
+    Ok(Items::from_vec(events))
+}
+
+// The stream of a channel.
+fn stream_of(
+    alloc: Global,
+    nest: &Nest,
+    inputs: &Inputs,
+    network: &Network,
+    state: &State<i64>,
+    channel: u32,
+) -> Result<Vec<i64>, AllocError>
+    requires kept { (p : ℕ)
+        → ((run_of state.now).local p).kept
+        ≡ fired (tag_value nest.now inputs.now) p
+        (fires (net_of network.now) p (length ((net_of network.now).script p))) }
+    requires state { IsFor (net_of network.now) (held_of state.now) }
+    requires channel { channel < length network.now.channels }
+    requires sound { IsSound nest.now network.now }
+    ensures { IfOk result
+        (λ values. values.items ≡ stream nest.now network.now inputs.now channel) }
+{
+    let writer = writer_of(network, channel);
+    let kept = kept(state, writer);
+    let events = expanded(alloc, script_of(network, writer))?;
+    values_put(
+        alloc,
+        nest,
+        inputs,
+        network,
+        events.as_slice(),
+        kept,
+        channel,
+    )
+}
+
+// The streams of all channels, in order.
+fn streams_of(
+    alloc: Global,
+    nest: &Nest,
+    inputs: &Inputs,
+    network: &Network,
+    state: &State<i64>,
+) -> Result<Vec<Vec<i64>>, AllocError>
+    requires kept { (p : ℕ)
+        → ((run_of state.now).local p).kept
+        ≡ fired (tag_value nest.now inputs.now) p
+        (fires (net_of network.now) p (length ((net_of network.now).script p))) }
+    requires state { IsFor (net_of network.now) (held_of state.now) }
+    requires numbers { FitsNumbers (net_of network.now) }
+    requires sound { IsSound nest.now network.now }
+    ensures number { IfOk result (λ streams. length streams.items ≡ length network.now.channels) }
+    ensures each { IfOk result
+        (λ streams. (c : ℕ) → c < length network.now.channels
+        → nth_stream streams.items c ≡ stream nest.now network.now inputs.now c) }
+{
+    let mut streams = Vec::new(alloc);
+    for channel in 0..network.channels.len() {
+        streams.push(stream_of(alloc, nest, inputs, network, state, channel as u32)?)?;
+    }
+    Ok(streams)
+}
+
+// What a process of a sound network has kept, and the calls of its ends, where it runs alone over ends in memory.
+pub(crate) fn run_alone<R: Wait>(
+    rt: &R,
+    alloc: Global,
+    nest: &Nest,
+    points: &Points,
+    inputs: &Inputs,
+    network: &Network,
+    schedule: &[u32],
+    process: u32,
+) -> Result<(Room<i64>, LogEnds), AllocError>
+    requires points { points.now.of ≡ points_of nest.now }
+    requires numbers { FitsNumbers (net_of network.now) }
+    requires sound { IsSound nest.now network.now }
+    requires ends { EndsAll (net_of network.now) tags schedule.now }
+    requires process { process < length network.now.processes }
+{
+    let mut state = start(alloc, network, points)?;
+    run_along(nest, points, inputs, network, schedule, &mut state);
+    let streams = streams_of(alloc, nest, inputs, network, &state)?;
+    let mut room = Room::new(alloc, network, points, process)?;
+    let mut ends = LogEnds::new(alloc, network, process, &streams)?;
+    run_node(
+        rt, nest, points, inputs, network, process, &mut room, &mut ends, &Open,
+    );
+    Ok((room, ends))
+}

@@ -1,13 +1,16 @@
 -- The value of a form is linear in the form.
-use Rattle.std.proofs.Common.{◌≡◌, ℕ, zero, suc, ◌+◌, ◌-◌, ◌≤◌, ℤ, pos, ◌+ℤ◌, ◌*ℤ◌, List, [], ◌∷◌, ◌++◌, length, replicate, slice_index_or, Bool, true, false, cond, refl, sym, ap, ◌∙◌, arith}
+use Rattle.std.proofs.Common.{◌≡◌, ℕ, zero, suc, ◌+◌, ◌-◌, ◌≤◌, ℤ, pos, ◌+ℤ◌, ◌*ℤ◌, List, [], ◌∷◌, ◌++◌, length}
+use Rattle.std.proofs.Common.{replicate, slice_index_or, Bool, true, false, cond, refl, sym, ap, ◌∙◌, arith}
 use Rattle.std.specs.Prelude.{Some, None, Result, Ok, Err, IfOk}
 use Rattle.std.specs.Result.{result_ok}
 use Rattle.std.proofs.lemmas.Int.{ints}
 use Rattle.std.proofs.lemmas.Option.{same_Some, option_and_then_some}
 use Rattle.affine_core.proofs.Ring.{sum_times, times_swap}
 use Rattle.affine_core.specs.declared.form.Form.{Form}
-use Rattle.affine_core.specs.Affine.{combined, form_at, products, form_product, sums, form_sum, constant_form, variable_form, widened_form}
-use Rattle.affine_core.specs.Within.{fits_128_bits, form_fits_128_bits, number_in_128_bits, form_in_128_bits, sum_in_128_bits, combined_in_128_bits, value_in_128_bits}
+use Rattle.affine_core.specs.Affine.{combined, form_at, products, form_product, sums, form_sum, constant_form}
+use Rattle.affine_core.specs.Affine.{variable_form, widened_form}
+use Rattle.affine_core.specs.Within.{fits_128_bits, form_fits_128_bits, number_in_128_bits, form_in_128_bits}
+use Rattle.affine_core.specs.Within.{sum_in_128_bits, combined_in_128_bits, value_in_128_bits}
 
 -- the sum of products
 abbrev pub dot : List ℤ → List ℤ → ℤ

@@ -1,6 +1,9 @@
 -- Records that are judged in turn are judged as the definition of the inputs says.
-use Rattle.std.proofs.Common.{ℕ, zero, suc, ℤ, List, ◌≡◌, ◌≢◌, ◌⊎◌, ◌+◌, ◌<◌, ◌==◌, ◌∷◌, ◌++◌, [], Bool, true, false, cond, map, length, Option, Some, None, Result, Ok, Err, refl, sym, ◌∙◌, ap, arith, inl, inr, append_assoc}
-use Rattle.std.specs.Prelude.{IfOk, replicate, filter_map, find, is_some, is_none, ok_or, slice_get, slice_set, slice_index_or, option_map, if◌then◌else◌}
+use Rattle.std.proofs.Common.{ℕ, zero, suc, ℤ, List, ◌≡◌, ◌≢◌, ◌⊎◌, ◌+◌, ◌<◌, ◌==◌, ◌∷◌, ◌++◌, [], Bool, true, false}
+use Rattle.std.proofs.Common.{cond, map, length, Option, Some, None, Result, Ok, Err, refl, sym, ◌∙◌, ap, arith, inl}
+use Rattle.std.proofs.Common.{inr, append_assoc}
+use Rattle.std.specs.Prelude.{IfOk, replicate, filter_map, find, is_some, is_none, ok_or, slice_get, slice_set}
+use Rattle.std.specs.Prelude.{slice_index_or, option_map, if◌then◌else◌}
 use Rattle.std.specs.Option.{option_map_or, option_or}
 use Rattle.std.specs.List.{cons_option, position_from, range_with_len}
 use Rattle.std.proofs.lemmas.Bool.{cases_Bool, and_parts, eqb-true, ne_eqb, eq-eqb}
@@ -14,7 +17,8 @@ use Rattle.sanlp.proofs.Lists.{map-range_with_len_same, map-range_with_len_repli
 use Rattle.plain_data.specs.Answers.{IsUnlessMemory}
 use Rattle.array_data.specs.declared.error.DataError.{DataError}
 use Rattle.array_data.specs.declared.error.DataError.TheVariants.{UnknownArray, Missing, NotANumber, Memory}
-use Rattle.array_data.specs.Data.{Record, array_named, field_fault, first_fault, lists_or_fault, name_of, record_fault, record_of, unless, value_fields, value_of, values_fault, values_in, wanted_count}
+use Rattle.array_data.specs.Data.{Record, array_named, field_fault, first_fault, lists_or_fault, name_of, record_fault}
+use Rattle.array_data.specs.Data.{record_of, unless, value_fields, value_of, values_fault, values_in, wanted_count}
 use Rattle.array_data.specs.Judging.{Fits, Given, before, collected, given_by, placed, taken, values_from, values_taken}
 
 -- a result and a fault agree: there is a value of which P holds and no fault, or the same fault
@@ -288,7 +292,14 @@ fits_none (array ∷ arrays) = fits_none arrays
 -- no records have no values
 pub none_given : (arrays : List ArrayDecl) → HaveGiven arrays [] (replicate (length arrays) None)
 none_given arrays =
-    record { no_fault = refl; after = (sym (map-range_with_len_replicate (λ a. option_map values_in (record_of arrays [] a)) None 0 (length arrays) (λ a. refl)), fits_none arrays) }
+    record {
+      no_fault = refl;
+      after = (
+        sym (map-range_with_len_replicate
+            (λ a. option_map values_in (record_of arrays [] a)) None 0 (length arrays) (λ a. refl)),
+        fits_none arrays,
+      );
+    }
 
 -- there is a place for each array
 pub length-given : (arrays : List ArrayDecl) (rows : List Record) (given : Given) → HaveGiven arrays rows given

@@ -15,7 +15,15 @@ abbrev pub input_arrays : List ArrayDecl
 input_arrays = record { name = codes "x"; kind = kind.Input; extents = [] } ∷ []
 
 abbrev pub input_statements : List Statement
-input_statements = record { role = role.Source 0; loops = []; rows = []; write = Some (record { array = 0; subscripts = [] }); reads = []; expr = Given } ∷ []
+input_statements = record {
+  role = role.Source 0;
+  loops = [];
+  rows = [];
+  write =
+      Some (record { array = 0; subscripts = [] });
+  reads = [];
+  expr = Given;
+} ∷ []
 
 abbrev pub input_body : List Node
 input_body = Assign 0 ∷ []

@@ -1,5 +1,6 @@
 -- The sums of a form: its coefficients and small loop values are so small that no sum leaves 64 bits.
-use Rattle.std.proofs.Common.{◌≡◌, ◌≤◌, ◌<◌, ◌+◌, ◌*◌, ℕ, zero, suc, ℤ, pos, ◌+ℤ◌, ◌*ℤ◌, List, [], ◌∷◌, length, sym, subst, arith, lit≤}
+use Rattle.std.proofs.Common.{◌≡◌, ◌≤◌, ◌<◌, ◌+◌, ◌*◌, ℕ, zero, suc, ℤ, pos, ◌+ℤ◌, ◌*ℤ◌, List, [], ◌∷◌, length, sym}
+use Rattle.std.proofs.Common.{subst, arith, lit≤}
 use Rattle.std.specs.Prelude.{IsTrue, unsigned_abs, slice_index_or, FitsSigned}
 use mir.Syntax.{w64}
 use Rattle.std.proofs.lemmas.Int.{fits_signed_from_abs}

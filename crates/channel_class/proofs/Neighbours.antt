@@ -1,5 +1,6 @@
 -- How the test of a list follows from its neighbours, from a place on.
-use Rattle.std.proofs.Common.{◌≡◌, ℕ, zero, suc, ◌+◌, ◌<◌, ◌≤◌, true, false, List, [], ◌∷◌, length, get_or, drop, refl, sym, ap, ◌∙◌, arith, eq-eqb, ne_eqb, le-leb, ◌==◌, ◌&&◌, ◌||◌, length-drop, get_or-drop}
+use Rattle.std.proofs.Common.{◌≡◌, ℕ, zero, suc, ◌+◌, ◌<◌, ◌≤◌, true, false, List, [], ◌∷◌, length, get_or, drop, refl}
+use Rattle.std.proofs.Common.{sym, ap, ◌∙◌, arith, eq-eqb, ne_eqb, le-leb, ◌==◌, ◌&&◌, ◌||◌, length-drop, get_or-drop}
 use Rattle.std.proofs.Math.Seq.{drop-cons}
 use Rattle.std.proofs.lemmas.Bool.{lt-leb, or_left, or_from, cases_eq}
 use Rattle.std.specs.List.{list_any}
@@ -52,8 +53,12 @@ repeat_later xs k sorted lt other =
     let up : get_or xs k 0 ≤ get_or xs (suc k) 0 = sorted k (suc k) 0 (omega arith) lt in
     let none : list_any (λ n. get_or xs k 0 == n) rest ≡ false =
     none_equal (get_or xs k 0) rest
-    (λ j below. omega
-    (arith, cases_eq (get_or xs k 0) (get_or xs (suc k) 0), get_or-drop (suc k) xs j 0, sorted (suc k) (suc k + j) 0 (omega arith) (omega (arith, length-drop (suc k) xs)))) in
+    (λ j below. omega (
+      arith,
+      cases_eq (get_or xs k 0) (get_or xs (suc k) 0),
+      get_or-drop (suc k) xs j 0,
+      sorted (suc k) (suc k + j) 0 (omega arith) (omega (arith, length-drop (suc k) xs)),
+    )) in
     ap has_repeat (drop-cons xs k 0 (omega arith)) ∙ ap (λ b. b || has_repeat rest) none
 
 pub repeat_last : (xs : List ℕ) (k : ℕ) → length xs ≤ suc k → has_repeat (drop k xs) ≡ false

@@ -1,5 +1,6 @@
 -- A channel, from its parts.
-use Rattle.std.proofs.Common.{◌≡◌, ◌<◌, ◌≤◌, ◌+◌, ℕ, zero, suc, List, [], ◌∷◌, Bool, true, false, cond, Some, None, get_or, refl, ap, arith, ◌==◌}
+use Rattle.std.proofs.Common.{◌≡◌, ◌<◌, ◌≤◌, ◌+◌, ℕ, zero, suc, List, [], ◌∷◌, Bool, true, false, cond, Some, None}
+use Rattle.std.proofs.Common.{get_or, refl, ap, arith, ◌==◌}
 use Rattle.std.specs.Prelude.{Option}
 use Rattle.std.specs.List.{All, cons_option, list_any, range_with_len}
 use Rattle.std.proofs.lemmas.Bool.{eqb-true}
@@ -26,7 +27,8 @@ pub channel_is : (p k : ℕ) (sources : List (Option Tag)) (turns w : ℕ) (is_t
     → class ≡ class_of (uses_of (turns_used w sources))
     → slots ≡ slot_plan (uses_of (turns_used w sources))
     → ◌≡◌ {A = ChannelPlan}
-    (record { reader = p; read = k; writer = w; is_token = is_token; tokens = tokens; class = class; slots = slots }) (channel_of p k sources turns w)
+    (record { reader = p; read = k; writer = w; is_token = is_token; tokens = tokens; class = class; slots = slots })
+    (channel_of p k sources turns w)
 unfolding channel_of
 channel_is p k sources turns w is_token tokens class slots e f g h =
     λ i. record { reader = p; read = k; writer = w; is_token = e i; tokens = f i; class = g i; slots = h i }

@@ -1,5 +1,6 @@
 -- The channels of a nest, from the exact table and the numbers of turns.
-use Rattle.std.proofs.Common.{◌≡◌, ◌<◌, ◌≤◌, ◌+◌, ◌-◌, ℕ, zero, suc, List, [], ◌∷◌, ◌++◌, true, false, cond, Some, None, map, take, drop, length, get_or, count_by, refl, sym, ap, ◌∙◌, arith, ◌==◌}
+use Rattle.std.proofs.Common.{◌≡◌, ◌<◌, ◌≤◌, ◌+◌, ◌-◌, ℕ, zero, suc, List, [], ◌∷◌, ◌++◌, true, false, cond, Some, None}
+use Rattle.std.proofs.Common.{map, take, drop, length, get_or, count_by, refl, sym, ap, ◌∙◌, arith, ◌==◌}
 use Rattle.std.specs.Prelude.{Option, slice_get}
 use Rattle.std.specs.Option.{option_and_then, option_map, option_map_or}
 use Rattle.std.specs.List.{All, flat_map, sum_by, range_with_len}
@@ -87,7 +88,12 @@ turn_below points u p e =
     let test : Point → ℕ = λ q. cond (q.statement == p.statement) 1 0 in
     let own : test (get_or points u p) ≡ 1 =
     ap test (get_or_from_slice_get points u p p e) ∙ ap (λ b. cond b 1 0) (eq-eqb p.statement p.statement refl) in
-    omega (arith, own, sum_by_more_le test points u p (slice_get_within points u p e), counted_entries 0 points p.statement)
+    omega (
+      arith,
+      own,
+      sum_by_more_le test points u p (slice_get_within points u p e),
+      counted_entries 0 points p.statement,
+    )
 
 tag_among : (n : Nest) (u : ℕ) (o : Option Point) → slice_get (trace n) u ≡ o
     → IsTurnAmong (turns_of_all n)
@@ -98,7 +104,12 @@ tag_among n u (Some p) e =
     let is = (enumerates_domains n).entry u p e in
     let exists = slice_get_within n.statements p.statement is.statement is.found in (
       omega (arith, length-map-range_with_len (turn_count n) 0 (length n.statements), exists),
-      omega (arith, get_or-map-range_with_len (turn_count n) 0 (length n.statements) p.statement p.statement 0 exists (omega arith), turn_below (trace n) u p e),
+      omega (
+        arith,
+        get_or-map-range_with_len (turn_count n) 0 (length n.statements) p.statement p.statement 0 exists
+            (omega arith),
+        turn_below (trace n) u p e,
+      ),
     )
 
 source_among : (n : Nest) (o : Option ℕ) → IsTurnAmong (turns_of_all n) (option_and_then (tag_at (trace n)) o)
@@ -169,7 +180,13 @@ module _ (n : Nest) (table : List (List (Option Tag))) (exact : table ≡ source
   pub part_exists : first + count ≤ length table
   unfolding sources_of
   part_exists =
-      omega (arith, sum_more, sum_by-take-le (λ s. length s.reads) n.statements (p + 1), ap length exact, length-sources_from n (trace n) 0 n.statements)
+      omega (
+        arith,
+        sum_more,
+        sum_by-take-le (λ s. length s.reads) n.statements (p + 1),
+        ap length exact,
+        length-sources_from n (trace n) 0 n.statements,
+      )
 
   pub part_is : take (first + count - first) (drop first table)
       ≡ map (read_sources n (trace n) p) (range_with_len 0 (length s.reads))
@@ -192,7 +209,13 @@ module _ (n : Nest) (table : List (List (Option Tag))) (exact : table ≡ source
 
   pub part_short : length (take (first + count - first) (drop first table)) ≤ 8
   part_short =
-      omega (arith, ap length part_is, length-map-range_with_len (read_sources n (trace n) p) 0 (length s.reads), few_reads n.arrays s (list_all_at (statement_fits n.arrays) n.statements p s n.well_formed.statements_fit found))
+      omega (
+        arith,
+        ap length part_is,
+        length-map-range_with_len (read_sources n (trace n) p) 0 (length s.reads),
+        few_reads n.arrays s
+            (list_all_at (statement_fits n.arrays) n.statements p s n.well_formed.statements_fit found),
+      )
 
 -- all reads are few
 few_in_all : (n : Nest) → sum_by (λ s. length s.reads) n.statements ≤ 512

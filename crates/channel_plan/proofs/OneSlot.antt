@@ -1,10 +1,11 @@
 -- One slot is enough for a channel of a nest exactly where its class is in order.
 --
--- A channel is there only for a writer of which some source of the read is a turn, so it has a use. With a use, one slot
--- is enough exactly where no use names an earlier token than the use before it; and the class is in order exactly there.
--- So both sides are the same question on the uses, for each channel by itself. Nothing is said here of how many slots a
--- channel out of order needs.
-use Rattle.std.proofs.Common.{◌≡◌, ◌<◌, ◌==◌, ℕ, List, [], ◌∷◌, ◌||◌, Bool, true, false, cond, Some, None, length, refl, arith, IsTrue, ◌↔◌}
+-- A channel is there only for a writer of which some source of the read is a turn, so it has a use. With a use, one
+-- slot is enough exactly where no use names an earlier token than the use before it; and the class is in order exactly
+-- there. So both sides are the same question on the uses, for each channel by itself. Nothing is said here of how many
+-- slots a channel out of order needs.
+use Rattle.std.proofs.Common.{◌≡◌, ◌<◌, ◌==◌, ℕ, List, [], ◌∷◌, ◌||◌, Bool, true, false, cond, Some, None, length, refl}
+use Rattle.std.proofs.Common.{arith, IsTrue, ◌↔◌}
 use Rattle.std.specs.Prelude.{Option}
 use Rattle.std.specs.List.{All, cons_option, flat_map, list_any, range_with_len}
 use Rattle.std.proofs.lemmas.List.{length-map}

@@ -1,5 +1,6 @@
 -- Division with rounding down.
-use Rattle.std.proofs.Common.{◌≡◌, ◌*◌, ◌/◌, ◌%◌, ◌≤◌, ◌<◌, ◌==◌, ℕ, suc, ℤ, pos, negsuc, ◌+ℤ◌, ◌*ℤ◌, ◌<ℤ◌, List, [], ◌∷◌, map, not, false, ap, ◌∙◌, inl, inr, arith}
+use Rattle.std.proofs.Common.{◌≡◌, ◌*◌, ◌/◌, ◌%◌, ◌≤◌, ◌<◌, ◌==◌, ℕ, suc, ℤ, pos, negsuc, ◌+ℤ◌, ◌*ℤ◌, ◌<ℤ◌, List, []}
+use Rattle.std.proofs.Common.{◌∷◌, map, not, false, ap, ◌∙◌, inl, inr, arith}
 use Rattle.std.specs.Prelude.{None}
 use Rattle.std.specs.List.{find}
 use Rattle.std.specs.Int.RustNames.{unsigned_abs}
@@ -43,7 +44,13 @@ dot_quotients d (c ∷ cs) (v ∷ at) h e =
     let f = find_none (λ c. not (unsigned_abs c % d == 0)) c cs e in
     let exact : c ≡ floor c d *ℤ pos d = floor_exact c d h (divides_where (unsigned_abs c % d) f.0) in
     let front : c *ℤ v ≡ (floor c d *ℤ v) *ℤ pos d = ap (λ z. z *ℤ v) exact ∙ times_swap (floor c d) (pos d) v in
-    omega (arith, ints, front, dot_quotients d cs at h f.1, sum_times (floor c d *ℤ v) (dot (map (λ c. floor c d) cs) at) (pos d))
+    omega (
+      arith,
+      ints,
+      front,
+      dot_quotients d cs at h f.1,
+      sum_times (floor c d *ℤ v) (dot (map (λ c. floor c d) cs) at) (pos d),
+    )
 
 pub dot_floors : (d : ℕ) (cs at : List ℤ) → 0 < d → not_divisible d cs ≡ None
     → dot cs at ≡ dot (map (λ c. floor c d) cs) at *ℤ pos d

@@ -1,5 +1,6 @@
 -- Nothing refuses a proof exactly where it follows its rules.
-use Rattle.std.proofs.Common.{◌≡◌, ◌==◌, ◌<◌, ◌%◌, ℕ, ℤ, pos, ◌≤ℤ◌, ◌<ℤ◌, List, [], ◌∷◌, ◌++◌, length, Bool, true, false, not, cond, refl, sym, ap, ◌∙◌, subst, arith}
+use Rattle.std.proofs.Common.{◌≡◌, ◌==◌, ◌<◌, ◌%◌, ℕ, ℤ, pos, ◌≤ℤ◌, ◌<ℤ◌, List, [], ◌∷◌, ◌++◌, length, Bool, true}
+use Rattle.std.proofs.Common.{false, not, cond, refl, sym, ap, ◌∙◌, subst, arith}
 use Rattle.std.specs.Prelude.{Option, Some, None, Result, Ok, Err, ◌↔◌, IsOk, All, nat_lt, unsigned_abs, int_lt}
 use Rattle.std.specs.List.{find, list_all}
 use Rattle.std.specs.Option.{option_map, option_or, ok_or}
@@ -15,9 +16,12 @@ use Rattle.int_polyhedra.specs.declared.system.Proof.TheOpen as layer
 use Rattle.int_polyhedra.specs.declared.system.Proof.TheFolds.{map-Proof, ind-Proof}
 use Rattle.int_polyhedra.specs.declared.system.Proof.TheViews.{roll-Proof, rolls-Sum, rolls-Cut, rolls-Split}
 use Rattle.int_polyhedra.specs.declared.system.Reason.{Reason}
-use Rattle.int_polyhedra.specs.declared.system.Reason.TheVariants.{BadIndex, Negative, NotContradictory, NotDivisible, Overflow}
+use Rattle.int_polyhedra.specs.declared.system.Reason.TheVariants.{BadIndex, Negative, NotContradictory, NotDivisible}
+use Rattle.int_polyhedra.specs.declared.system.Reason.TheVariants.{Overflow}
 use Rattle.int_polyhedra.specs.declared.system.Term.{Term}
-use Rattle.int_polyhedra.specs.Steps.{row_unless, row_and_then, refusal_or, bad_row_number, negative_multiplier, bad_divisor, sum_onto, sum_of, is_contradictory, sum_refusal, not_divisible, quotient_row, divided_row, cut_row, negation_of, split_row}
+use Rattle.int_polyhedra.specs.Steps.{row_unless, row_and_then, refusal_or, bad_row_number, negative_multiplier}
+use Rattle.int_polyhedra.specs.Steps.{bad_divisor, sum_onto, sum_of, is_contradictory, sum_refusal, not_divisible}
+use Rattle.int_polyhedra.specs.Steps.{quotient_row, divided_row, cut_row, negation_of, split_row}
 use Rattle.int_polyhedra.specs.Refusal.{refusal, entailment_refusal}
 use Rattle.int_polyhedra.specs.Rules.{IsSumOf, IsContradictory, Refutes, by_sum, by_cut, by_split, ProvesEntailment}
 use Rattle.int_polyhedra.proofs.Found.{mapped_none, find_none}
@@ -247,8 +251,10 @@ module _ (vars : ℕ) where
 pub refutes_follows : {U : Type 0} (vars : ℕ) (rows : List Form) (p : Proof) (r : Result U Reason)
     → result_err r ≡ refusal vars p rows → IsOk r ↔ Refutes vars rows p
 refutes_follows vars rows p (Ok u) e = ((λ h. refuted_follows vars p rows (sym e)), (λ h. refl))
-refutes_follows vars rows p (Err x) e =
-    ((λ h. absurd (let k : false ≡ true = h in cc)), (λ h. absurd (let k : Some x ≡ None = e ∙ follows_refuted vars rows p h in cc)))
+refutes_follows vars rows p (Err x) e = (
+  (λ h. absurd (let k : false ≡ true = h in cc)),
+  (λ h. absurd (let k : Some x ≡ None = e ∙ follows_refuted vars rows p h in cc)),
+)
 
 entailment_follows : (vars : ℕ) (rows : List Form) (row : Form) (p : Proof) → entailment_refusal vars rows row p ≡ None
     → ProvesEntailment vars rows row p
@@ -266,5 +272,7 @@ pub entails_follows : {U : Type 0} (vars : ℕ) (rows : List Form) (row : Form) 
     → length row.coefs ≡ vars → result_err r ≡ entailment_refusal vars rows row p
     → IsOk r ↔ ProvesEntailment vars rows row p
 entails_follows vars rows row p (Ok u) over e = ((λ h. entailment_follows vars rows row p (sym e)), (λ h. refl))
-entails_follows vars rows row p (Err x) over e =
-    ((λ h. absurd (let k : false ≡ true = h in cc)), (λ h. absurd (let k : Some x ≡ None = e ∙ follows_entailment vars rows row p over h in cc)))
+entails_follows vars rows row p (Err x) over e = (
+  (λ h. absurd (let k : false ≡ true = h in cc)),
+  (λ h. absurd (let k : Some x ≡ None = e ∙ follows_entailment vars rows row p over h in cc)),
+)

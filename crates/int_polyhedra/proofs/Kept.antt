@@ -9,7 +9,8 @@ use Rattle.affine_core.specs.Within.{form_in_128_bits}
 use Rattle.affine_core.proofs.Linear.{form_in_128_bits_is}
 use Rattle.int_polyhedra.specs.declared.system.Reason.{Reason}
 use Rattle.int_polyhedra.specs.declared.system.Term.{Term}
-use Rattle.int_polyhedra.specs.Steps.{row_unless, row_and_then, refusal_or, bad_row_number, negative_multiplier, sum_with, sum_onto, sum_of}
+use Rattle.int_polyhedra.specs.Steps.{row_unless, row_and_then, refusal_or, bad_row_number, negative_multiplier}
+use Rattle.int_polyhedra.specs.Steps.{sum_with, sum_onto, sum_of}
 
 -- P of each, as nested pairs
 abbrev pub Each : {X : Type 0} → (X → Type 0) → List X → Type 0

@@ -1,5 +1,6 @@
 -- A refuted system has no whole point.
-use Rattle.std.proofs.Common.{◌≡◌, ◌<◌, ℕ, ℤ, pos, negsuc, ◌+ℤ◌, ◌*ℤ◌, ◌≤ℤ◌, ◌<ℤ◌, List, [], ◌∷◌, ◌++◌, length, map, Bool, true, false, ◌&&◌, cond, refl, sym, ap, ◌∙◌, subst, arith}
+use Rattle.std.proofs.Common.{◌≡◌, ◌<◌, ℕ, ℤ, pos, negsuc, ◌+ℤ◌, ◌*ℤ◌, ◌≤ℤ◌, ◌<ℤ◌, List, [], ◌∷◌, ◌++◌, length, map}
+use Rattle.std.proofs.Common.{Bool, true, false, ◌&&◌, cond, refl, sym, ap, ◌∙◌, subst, arith}
 use Rattle.std.specs.Prelude.{Option, Some, None, Result, Ok, Err, OnOk, All}
 use Rattle.std.specs.List.{find, list_all}
 use Rattle.std.specs.Ordering.{int_eq}
@@ -22,10 +23,13 @@ use Rattle.int_polyhedra.specs.declared.system.Reason.{Reason}
 use Rattle.int_polyhedra.specs.declared.system.Reason.TheVariants.{Negative, NotContradictory}
 use Rattle.int_polyhedra.specs.declared.system.Term.{Term}
 use Rattle.int_polyhedra.specs.Systems.{all_over, AreOver, HasNoPoint, Entails}
-use Rattle.int_polyhedra.specs.Steps.{sum_of, negative_multiplier, bad_divisor, is_contradictory, sum_refusal, floor, not_divisible, quotient_row, divided_row, cut_row, negation_of, split_row}
+use Rattle.int_polyhedra.specs.Steps.{sum_of, negative_multiplier, bad_divisor, is_contradictory, sum_refusal, floor}
+use Rattle.int_polyhedra.specs.Steps.{not_divisible, quotient_row, divided_row, cut_row, negation_of, split_row}
 use Rattle.int_polyhedra.specs.Refusal.{Refusal, refusal, refusal_step, entailment_refusal}
-use Rattle.int_polyhedra.proofs.Kept.{Each, each_more, sum_of_keeps, sum_of_divisor, row_and_then_ok, refusal_or_none, row_unless_ok, option_or_none}
-use Rattle.int_polyhedra.proofs.Variables.{length_map, length_sums, length_zeros, each_over, IsOver, split_is, split_over, over_more}
+use Rattle.int_polyhedra.proofs.Kept.{Each, each_more, sum_of_keeps, sum_of_divisor, row_and_then_ok, refusal_or_none}
+use Rattle.int_polyhedra.proofs.Kept.{row_unless_ok, option_or_none}
+use Rattle.int_polyhedra.proofs.Variables.{length_map, length_sums, length_zeros, each_over, IsOver, split_is}
+use Rattle.int_polyhedra.proofs.Variables.{split_over, over_more}
 use Rattle.int_polyhedra.proofs.Found.{mapped_none, find_none}
 use Rattle.int_polyhedra.proofs.Floor.{floor_above, dot_floors}
 
@@ -100,12 +104,17 @@ module _ (at : List ℤ) where
 
   add_met : (f g : Form) → IsMet f → IsMet g → IsMet (form_sum f g)
   add_met f g h k =
-      let e : length f.coefs ≡ length g.coefs = h.0 ∙ sym k.0 in
-      (length_sums f.coefs g.coefs e ∙ h.0, (let s : pos 0 ≤ℤ (form_at f at +ℤ form_at g at) = omega (arith, ints, h.1, k.1) in subst (λ z. pos 0 ≤ℤ z) (sym (sum_at f g at e)) s))
+      let e : length f.coefs ≡ length g.coefs = h.0 ∙ sym k.0 in (
+        length_sums f.coefs g.coefs e ∙ h.0,
+        (let s : pos 0 ≤ℤ (form_at f at +ℤ form_at g at) =
+            omega (arith, ints, h.1, k.1) in subst (λ z. pos 0 ≤ℤ z) (sym (sum_at f g at e)) s),
+      )
 
   zero_met : IsMet (constant_form (length at) (pos 0))
-  zero_met =
-      (length_zeros (length at), subst (λ z. pos 0 ≤ℤ z) (sym (constant_at (length at) (pos 0) at)) (omega (arith, ints)))
+  zero_met = (
+    length_zeros (length at),
+    subst (λ z. pos 0 ≤ℤ z) (sym (constant_at (length at) (pos 0) at)) (omega (arith, ints)),
+  )
 
   sum_met : (rows : List Form) (divisor : Option Reason) (terms : List Term) (f : Form) → Each IsMet rows
       → sum_of (length at) rows divisor terms ≡ Ok f → IsMet f
@@ -134,8 +143,10 @@ module _ (at : List ℤ) where
       let factor : pos 0 <ℤ ((floor f.constant d +ℤ pos 1) +ℤ s) =
       factor_positive ((floor f.constant d +ℤ pos 1) +ℤ s) (pos d) (omega (arith, ints)) product in
       let met : pos 0 ≤ℤ (floor f.constant d +ℤ s) = omega (arith, ints, factor) in
-      subst IsMet q
-      (length_map (λ c. floor c d) f.coefs ∙ h.0, subst (λ z. pos 0 ≤ℤ z) (sym (combined_is (floor f.constant d) (map (λ c. floor c d) f.coefs) at)) met)
+      subst IsMet q (
+        length_map (λ c. floor c d) f.coefs ∙ h.0,
+        subst (λ z. pos 0 ≤ℤ z) (sym (combined_is (floor f.constant d) (map (λ c. floor c d) f.coefs) at)) met,
+      )
 
   divisor_above : (d : ℤ) → bad_divisor d ≡ None → 0 < unsigned_abs d
   divisor_above d e = go (int_lt d (pos 1)) refl e where

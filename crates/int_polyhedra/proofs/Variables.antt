@@ -1,5 +1,6 @@
 -- The number of variables of rows, sums, quotients and negations.
-use Rattle.std.proofs.Common.{◌≡◌, ◌==◌, ℕ, zero, suc, ℤ, pos, negsuc, List, [], ◌∷◌, ◌++◌, length, map, replicate, Bool, true, false, cond, ◌&&◌, refl, sym, ap, ◌∙◌, arith}
+use Rattle.std.proofs.Common.{◌≡◌, ◌==◌, ℕ, zero, suc, ℤ, pos, negsuc, List, [], ◌∷◌, ◌++◌, length, map, replicate}
+use Rattle.std.proofs.Common.{Bool, true, false, cond, ◌&&◌, refl, sym, ap, ◌∙◌, arith}
 use Rattle.std.specs.Prelude.{Option, Some, Ok, Err, slice_get}
 use Rattle.std.specs.Option.{ok_or}
 use Rattle.std.proofs.lemmas.Bool.{eq-eqb}
@@ -12,8 +13,10 @@ use Rattle.int_polyhedra.specs.declared.system.Reason.{Reason}
 use Rattle.int_polyhedra.specs.declared.system.Reason.TheVariants.{BadIndex, Overflow}
 use Rattle.int_polyhedra.specs.declared.system.Term.{Term}
 use Rattle.int_polyhedra.specs.Systems.{all_over, AreOver}
-use Rattle.int_polyhedra.specs.Steps.{sum_with, sum_of, bad_divisor, floor, not_divisible, quotient_row, divided_row, cut_row, negation_of, split_row}
-use Rattle.int_polyhedra.proofs.Kept.{Each, each_get, sum_with_keeps, sum_of_keeps, row_and_then_ok, row_unless_ok, ok_or_ok}
+use Rattle.int_polyhedra.specs.Steps.{sum_with, sum_of, bad_divisor, floor, not_divisible, quotient_row, divided_row}
+use Rattle.int_polyhedra.specs.Steps.{cut_row, negation_of, split_row}
+use Rattle.int_polyhedra.proofs.Kept.{Each, each_get, sum_with_keeps, sum_of_keeps, row_and_then_ok, row_unless_ok}
+use Rattle.int_polyhedra.proofs.Kept.{ok_or_ok}
 
 pub length_map : {X Y : Type 0} (f : X → Y) (xs : List X) → length (map f xs) ≡ length xs
 length_map f [] = refl

@@ -1,5 +1,6 @@
 -- For a text that is written by several calls, one after the other: what a call that fails leaves behind.
-use Rattle.std.proofs.Common.{ℕ, List, Option, Result, Ok, Err, OnErr, ◌≡◌, ◌+◌, ◌≤◌, ◌++◌, length, take, ◌∙◌, ap, arith, length-append}
+use Rattle.std.proofs.Common.{ℕ, List, Option, Result, Ok, Err, OnErr, ◌≡◌, ◌+◌, ◌≤◌, ◌++◌, length, take, ◌∙◌, ap}
+use Rattle.std.proofs.Common.{arith, length-append}
 use Rattle.std.proofs.lemmas.List.{take-append-le}
 use Rattle.std.proofs.Math.Seq.{take-append-add}
 use Rattle.std.specs.Io.KnownBytes.{Appends}

@@ -1,5 +1,6 @@
 -- From what was read of a tree to its nest.
-use Rattle.std.proofs.Common.{◌≡◌, ℕ, ◌+◌, Bool, true, false, List, [], ◌∷◌, ◌++◌, length, Some, None, Err, if◌then◌else◌, refl, sym, ap, subst, ◌∙◌, append_assoc, length-append, arith}
+use Rattle.std.proofs.Common.{◌≡◌, ℕ, ◌+◌, Bool, true, false, List, [], ◌∷◌, ◌++◌, length, Some, None, Err}
+use Rattle.std.proofs.Common.{if◌then◌else◌, refl, sym, ap, subst, ◌∙◌, append_assoc, length-append, arith}
 use Rattle.std.specs.Prelude.{IsTrue}
 use Rattle.std.specs.List.{list_all}
 use Rattle.std.specs.Cmp.Derive.{both_true}
@@ -15,7 +16,10 @@ use Rattle.loop_class.specs.declared.context.Context.{Context}
 use Rattle.loop_class.specs.declared.context.Progress.{Progress}
 use Rattle.loop_class.specs.declared.declare.Table.{Table}
 use Rattle.loop_class.specs.declared.error.BindError.{BindError}
-use Rattle.loop_class.specs.declared.error.BindError.TheVariants.{UnknownName, Duplicate, Unbound, NotAffine, WrongCount, ElseForm, TooManyProcesses, TooDeep, TooManyReads, TooManyRows, Large, StepMax, StepRange, Memory}
+use Rattle.loop_class.specs.declared.error.BindError.TheVariants.{UnknownName, Duplicate, Unbound, NotAffine}
+use Rattle.loop_class.specs.declared.error.BindError.TheVariants.{WrongCount, ElseForm, TooManyProcesses, TooDeep}
+use Rattle.loop_class.specs.declared.error.BindError.TheVariants.{TooManyReads, TooManyRows, Large, StepMax, StepRange}
+use Rattle.loop_class.specs.declared.error.BindError.TheVariants.{Memory}
 use Rattle.loop_class.specs.Binding.{outer_context, body_made, findings, nest_of, Binds}
 use Rattle.loop_class.specs.Declarations.{Values, Declared, declared}
 use Rattle.loop_class.specs.Following.{IsReadingOf, Makes, Stands, next_statement}
@@ -87,7 +91,8 @@ pub reading_is : (tree : Tree) (params : Values) (t : Table) (c0 c1 : Context) (
     → p0.least ≡ t.least → n0 ≡ []
     → Makes c0 c1 p0 p1 n0 n1 (parts_made tree.parts c0 p0.next_loop (next_statement p0))
     → IsReadingOf
-    (record { arrays = t.arrays; statements = p1.statements; nodes = n1; next_loop = p1.next_loop; least = p1.least }) tree params
+    (record { arrays = t.arrays; statements = p1.statements; nodes = n1; next_loop = p1.next_loop; least = p1.least })
+    tree params
 unfolding findings
 reading_is tree params t c0 c1 p0 p1 n0 n1 stands context first loops none least nodes h =
     let d : Declared = declared params tree.declarations in

@@ -1,5 +1,6 @@
 -- Declarations one after another.
-use Rattle.std.proofs.Common.{◌≡◌, ℕ, ◌+◌, ◌<◌, List, [], ◌∷◌, ◌++◌, length, take, get_or, None, refl, sym, ap, subst, ◌∙◌, append_assoc, append-nil, ◌≤◌}
+use Rattle.std.proofs.Common.{◌≡◌, ℕ, ◌+◌, ◌<◌, List, [], ◌∷◌, ◌++◌, length, take, get_or, None, refl, sym, ap, subst}
+use Rattle.std.proofs.Common.{◌∙◌, append_assoc, append-nil, ◌≤◌}
 use Rattle.std.specs.List.{fold}
 use Rattle.std.proofs.lemmas.List.{take_more, take_all}
 use Rattle.loop_grammar.specs.declared.tree.Declaration.{Declaration}
@@ -11,7 +12,8 @@ use Rattle.loop_class.specs.declared.error.BindError.{BindError}
 use Rattle.sanlp.specs.declared.nest.Kind.TheVariants as kind
 use Rattle.loop_class.specs.Names.{value_named}
 use Rattle.loop_class.specs.Parts.{new_name_findings}
-use Rattle.loop_class.specs.Declarations.{Values, Declared, value_findings, array_findings, declare_name, declare, declared, nothing_declared}
+use Rattle.loop_class.specs.Declarations.{Values, Declared, value_findings, array_findings, declare_name, declare}
+use Rattle.loop_class.specs.Declarations.{declared, nothing_declared}
 use Rattle.loop_class.specs.Following.{Declares, Stands, seen}
 use Rattle.loop_class.specs.Reasons.{least_from}
 use Rattle.loop_class.proofs.JudgeLemmas.{least_append}
@@ -24,15 +26,22 @@ module _ (params : Values) (fs : List BindError) where
   name_earlier : (w : DeclWord) (d : Declared) (n : Named)
       → declare_name params w (with_earlier fs d) n ≡ with_earlier fs (declare_name params w d n)
   name_earlier Param d n =
-      λ i. record (declare_name params Param d n) { findings = append_assoc fs d.findings (new_name_findings d.scope n.name ++ value_findings n.name.token (value_named params n.name.text)) i }
+      λ i. record (declare_name params Param d n) {
+        findings = append_assoc fs d.findings
+            (new_name_findings d.scope n.name ++ value_findings n.name.token (value_named params n.name.text)) i;
+      }
   name_earlier Input d n =
-      λ i. record (declare_name params Input d n) { findings = append_assoc fs d.findings (array_findings d kind.Input n) i }
+      λ i. record (declare_name params Input d n)
+      { findings = append_assoc fs d.findings (array_findings d kind.Input n) i }
   name_earlier Output d n =
-      λ i. record (declare_name params Output d n) { findings = append_assoc fs d.findings (array_findings d kind.Output n) i }
+      λ i. record (declare_name params Output d n)
+      { findings = append_assoc fs d.findings (array_findings d kind.Output n) i }
   name_earlier Both d n =
-      λ i. record (declare_name params Both d n) { findings = append_assoc fs d.findings (array_findings d kind.Both n) i }
+      λ i. record (declare_name params Both d n)
+      { findings = append_assoc fs d.findings (array_findings d kind.Both n) i }
   name_earlier Var d n =
-      λ i. record (declare_name params Var d n) { findings = append_assoc fs d.findings (array_findings d kind.Var n) i }
+      λ i. record (declare_name params Var d n)
+      { findings = append_assoc fs d.findings (array_findings d kind.Var n) i }
 
   names_earlier : (w : DeclWord) (ns : List Named) (d : Declared)
       → fold (declare_name params w) (with_earlier fs d) ns ≡ with_earlier fs (fold (declare_name params w) d ns)
@@ -60,7 +69,13 @@ next_declaration params all i item t0 t1 t2 below at first second =
     let next : fold (declare params) nothing_declared (take (i + 1) all) ≡ declare params d item =
     ap (fold (declare params) nothing_declared) more ∙ fold_last (declare params) nothing_declared (take i all) item in
     let before : d ≡ with_earlier d.findings (seen t1) =
-    λ j. record { scope = sym first.scope j; arrays = sym first.arrays j; processes = sym first.processes j; findings = sym (append-nil d.findings) j } in
+    λ j. record {
+      scope = sym first.scope j;
+      arrays = sym first.arrays j;
+      processes = sym first.processes j;
+      findings =
+          sym (append-nil d.findings) j;
+    } in
     let same : fold (declare params) nothing_declared (take (i + 1) all)
     ≡ with_earlier d.findings (declare params (seen t1) item) =
     next ∙ ap (λ e. declare params e item) before ∙ declare_earlier params d.findings (seen t1) item in

@@ -1,5 +1,6 @@
 -- What noting the reasons of an operand comes to, by its kind.
-use Rattle.std.proofs.Common.{◌≡◌, ℕ, suc, arith, ◌==◌, Bool, true, false, List, [], ◌∷◌, ◌++◌, length, map, Option, refl, sym, ap, ◌∙◌}
+use Rattle.std.proofs.Common.{◌≡◌, ℕ, suc, arith, ◌==◌, Bool, true, false, List, [], ◌∷◌, ◌++◌, length, map, Option}
+use Rattle.std.proofs.Common.{refl, sym, ap, ◌∙◌}
 use Rattle.std.specs.Prelude.{IsTrue}
 use Rattle.std.proofs.lemmas.Bool.Decides.{nat_tests}
 use Rattle.loop_grammar.specs.declared.tree.BinarySign.{BinarySign}
@@ -14,7 +15,8 @@ use Rattle.loop_class.specs.declared.scope.What.{What}
 use Rattle.loop_class.specs.Judging.{Scope, judged, named, negated, combined, seen_from, all_findings, findings_of}
 use Rattle.loop_class.specs.Names.{value_named}
 use Rattle.loop_class.specs.Reasons.{lesser, least_from}
-use Rattle.loop_class.proofs.Operands.{judged_access, judged_binary, judged_neg, judged_min, judged_max, all_findings_of}
+use Rattle.loop_class.proofs.Operands.{judged_access, judged_binary, judged_neg, judged_min, judged_max}
+use Rattle.loop_class.proofs.Operands.{all_findings_of}
 
 pub least_append : (w : Option BindError) (xs ys : List BindError)
     → least_from w (xs ++ ys) ≡ least_from (least_from w xs) ys

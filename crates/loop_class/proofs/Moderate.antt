@@ -1,6 +1,7 @@
--- Limited numbers are moderate, and so are their differences, less 1. So are bounds of loops, and how far they reach above a
--- lower form.
-use Rattle.std.proofs.Common.{◌≡◌, ℕ, zero, suc, replicate, ℤ, pos, negsuc, ◌-ℤ◌, ◌≤ℤ◌, Bool, true, false, T, List, [], ◌∷◌, refl, arith}
+-- Limited numbers are moderate, and so are their differences, less 1. So are bounds of loops, and how far they reach
+-- above a lower form.
+use Rattle.std.proofs.Common.{◌≡◌, ℕ, zero, suc, replicate, ℤ, pos, negsuc, ◌-ℤ◌, ◌≤ℤ◌, Bool, true, false, T, List, []}
+use Rattle.std.proofs.Common.{◌∷◌, refl, arith}
 use Rattle.std.specs.Prelude.{IsTrue, slice_set}
 use Rattle.std.specs.Int.RustNames.{int_le}
 use Rattle.std.specs.List.{list_all}
@@ -11,7 +12,8 @@ use Rattle.std.proofs.lemmas.Int.{ints}
 use Rattle.sanlp.specs.Cells.{natural}
 use Rattle.sanlp.specs.WellFormed.{is_moderate}
 use Rattle.loop_class.specs.declared.affine.Affine.{Affine}
-use Rattle.loop_class.specs.Forms.{constant_form, multiple_form, is_limited_number, is_limited, difference_form, lowered_form, termwise}
+use Rattle.loop_class.specs.Forms.{constant_form, multiple_form, is_limited_number, is_limited, difference_form}
+use Rattle.loop_class.specs.Forms.{lowered_form, termwise}
 use Rattle.loop_class.specs.Ranges.{is_moderate_form, is_bound_number, is_bound_form}
 
 true_from_T : (b : Bool) → T b → b ≡ true

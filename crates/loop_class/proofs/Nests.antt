@@ -1,5 +1,6 @@
 -- Where no reason stands in a tree, what is built of it is well formed.
-use Rattle.std.proofs.Common.{◌≡◌, ◌≤◌, ℕ, ◌+◌, ◌-◌, ℤ, List, [], ◌∷◌, ◌++◌, map, length, take, drop, replicate, refl, sym, ap, ◌∙◌, arith, subst}
+use Rattle.std.proofs.Common.{◌≡◌, ◌≤◌, ℕ, ◌+◌, ◌-◌, ℤ, List, [], ◌∷◌, ◌++◌, map, length, take, drop, replicate, refl}
+use Rattle.std.proofs.Common.{sym, ap, ◌∙◌, arith, subst}
 use Rattle.std.specs.Prelude.{IsTrue, nat_le}
 use Rattle.std.specs.List.{list_all, range_with_len, sum_by}
 use Rattle.std.specs.Cmp.Derive.{both_true}
@@ -12,7 +13,9 @@ use Rattle.sanlp.specs.declared.nest.Node.{Node}
 use Rattle.sanlp.specs.declared.nest.Role.TheVariants as role
 use Rattle.sanlp.specs.declared.nest.Statement.{Statement}
 use Rattle.sanlp.specs.Cells.{is_input, is_output}
-use Rattle.sanlp.specs.WellFormed.{IsWellFormed, input_numbers, output_numbers, input_extents, output_extents, statement_fits, in_role, roles_of, all_forms_fit, all_loops, all_places, said_from, array_loops, between, framed}
+use Rattle.sanlp.specs.WellFormed.{IsWellFormed, input_numbers, output_numbers, input_extents, output_extents}
+use Rattle.sanlp.specs.WellFormed.{statement_fits, in_role, roles_of, all_forms_fit, all_loops, all_places, said_from}
+use Rattle.sanlp.specs.WellFormed.{array_loops, between, framed}
 use Rattle.sanlp.proofs.Each.{Each, each_append, each_then}
 use Rattle.sanlp.proofs.Roles.{length_numbers}
 use Rattle.loop_grammar.specs.declared.tree.Tree.{Tree}
@@ -23,7 +26,9 @@ use Rattle.loop_class.specs.Terminals.{sources_from, sinks_from, loop_count}
 use Rattle.loop_class.proofs.NestsArrays.{GivesArrays, FewExtents, declarations_sound}
 use Rattle.loop_class.proofs.NestsBody.{Numbered, numbered_append, placed_append, fit_append}
 use Rattle.loop_class.proofs.NestsParts.{IsAssignment, GivesParts, all_well}
-use Rattle.loop_class.proofs.NestsTerminals.{InRole, few_where, length_loops, loops_numbered, loops_fit, sources_length, sinks_length, sources_roles, sinks_roles, sources_in_role, sinks_in_role, sources_placed, sinks_placed, sources_fit, sinks_fit, from_start}
+use Rattle.loop_class.proofs.NestsTerminals.{InRole, few_where, length_loops, loops_numbered, loops_fit, sources_length}
+use Rattle.loop_class.proofs.NestsTerminals.{sinks_length, sources_roles, sinks_roles, sources_in_role, sinks_in_role}
+use Rattle.loop_class.proofs.NestsTerminals.{sources_placed, sinks_placed, sources_fit, sinks_fit, from_start}
 use Rattle.loop_class.proofs.NestsValues.{none_left, none_right, all_append}
 
 roles_assign : (arrays : List ArrayDecl) (statements : List Statement) → Each (IsAssignment arrays) statements
@@ -93,7 +98,13 @@ module _ (d : Declared) (h : GivesArrays d) (made : Made)
 
   length_statements : length statements ≡ length inputs + (length made.statements + length outputs)
   length_statements =
-      omega (arith, length-append sources (made.statements ++ sinks), length-append made.statements sinks, sources_length 0 0 d.arrays, sinks_length 0 made.next_loop d.arrays)
+      omega (
+        arith,
+        length-append sources (made.statements ++ sinks),
+        length-append made.statements sinks,
+        sources_length 0 0 d.arrays,
+        sinks_length 0 made.next_loop d.arrays,
+      )
 
   few_statements : length statements ≤ 64
   few_statements = omega (arith, length_statements, stands.few)

@@ -1,10 +1,12 @@
 -- The declarations of a source: where no reason stands in them, the arrays are those of a nest.
-use Rattle.std.proofs.Common.{◌≡◌, ◌≤◌, ℕ, zero, suc, ◌+◌, ℤ, pos, List, [], ◌∷◌, ◌++◌, map, length, Bool, true, false, cond, not, ◌&&◌, inl, inr, Option, Some, None, is_some, refl, sym, ap, ◌∙◌, arith, subst}
+use Rattle.std.proofs.Common.{◌≡◌, ◌≤◌, ℕ, zero, suc, ◌+◌, ℤ, pos, List, [], ◌∷◌, ◌++◌, map, length, Bool, true, false}
+use Rattle.std.proofs.Common.{cond, not, ◌&&◌, inl, inr, Option, Some, None, is_some, refl, sym, ap, ◌∙◌, arith, subst}
 use Rattle.std.specs.Prelude.{IsTrue, nat_lt, nat_le, slice_get, unwrap_or}
 use Rattle.std.specs.List.{list_all, list_any, fold}
 use Rattle.std.specs.Str.{bytes_eq}
 use Rattle.std.specs.Cmp.Derive.{both_true}
-use Rattle.std.proofs.lemmas.Bool.{and_parts, and_cases, or_parts, or_from, not-true, false≢true, le-leb, ltb-false, not_from_false}
+use Rattle.std.proofs.lemmas.Bool.{and_parts, and_cases, or_parts, or_from, not-true, false≢true, le-leb, ltb-false}
+use Rattle.std.proofs.lemmas.Bool.{not_from_false}
 use Rattle.std.proofs.lemmas.List.{length-append, length-map}
 use Rattle.std.proofs.lemmas.Slice.Eq.{bytes_eq-Decides}
 use Rattle.sanlp.specs.declared.nest.ArrayDecl.{ArrayDecl}
@@ -24,7 +26,8 @@ use Rattle.loop_class.specs.declared.error.BindError.TheVariants.{Duplicate, Too
 use Rattle.loop_class.specs.declared.scope.Place.TheVariants.{Extent}
 use Rattle.loop_class.specs.declared.scope.What.{What}
 use Rattle.loop_class.specs.declared.scope.What.TheVariants.{Parameter, Array, Loop, Progression}
-use Rattle.loop_class.specs.Declarations.{Values, Declared, nothing_declared, declare_parameter, processes_of, array_findings, extents_of, declare_array, declare_name, declare, declared}
+use Rattle.loop_class.specs.Declarations.{Values, Declared, nothing_declared, declare_parameter, processes_of}
+use Rattle.loop_class.specs.Declarations.{array_findings, extents_of, declare_array, declare_name, declare, declared}
 use Rattle.loop_class.specs.Forms.{is_limited_number}
 use Rattle.loop_class.specs.Judging.{Scope, forms_of, findings_of, judged, form_or_zero}
 use Rattle.loop_class.specs.Names.{value_named, with_name}
@@ -222,8 +225,14 @@ array_keeps k d array h none =
           (λ a j. with_name_keeps d.scope a.name name what j) h.names)
           (with_name_has d.scope name what, tt);
       differ = differ_append d.arrays new (none_same d.scope d.arrays name is_new h.names) h.differ;
-      extents = each_append FewExtents d.arrays (new ∷ []) h.extents
-          (record { few = omega (arith, count, few); limited = limited_constants (forms_of Extent d.scope array.extents) (forms_are d.arrays 0 d.scope h.scope Extent array.extents) }, tt);
+      extents = each_append FewExtents d.arrays (new ∷ []) h.extents (
+        record {
+          few = omega (arith, count, few);
+          limited = limited_constants (forms_of Extent d.scope array.extents)
+              (forms_are d.arrays 0 d.scope h.scope Extent array.extents);
+        },
+        tt,
+      );
       processes = omega (
         arith,
         h.processes,

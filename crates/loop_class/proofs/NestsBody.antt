@@ -1,5 +1,6 @@
 -- The loops, the places of statements and the forms of parts of a body.
-use Rattle.std.proofs.Common.{◌≡◌, ◌<◌, ℕ, suc, ◌+◌, ℤ, List, [], ◌∷◌, ◌++◌, map, length, Bool, refl, sym, ap, ◌∙◌, arith}
+use Rattle.std.proofs.Common.{◌≡◌, ◌<◌, ℕ, suc, ◌+◌, ℤ, List, [], ◌∷◌, ◌++◌, map, length, Bool, refl, sym, ap, ◌∙◌}
+use Rattle.std.proofs.Common.{arith}
 use Rattle.std.specs.Prelude.{IsTrue}
 use Rattle.std.specs.List.{list_all, flat_map, range_with_len}
 use Rattle.std.specs.Cmp.Derive.{both_true}
@@ -12,7 +13,8 @@ use Rattle.affine_core.specs.Affine.{widened_form}
 use Rattle.sanlp.specs.declared.nest.Node.{Node}
 use Rattle.sanlp.specs.declared.nest.Node as node
 use Rattle.sanlp.specs.declared.nest.Statement.{Statement}
-use Rattle.sanlp.specs.WellFormed.{form_fits, forms_fit_step, forms_fit, all_forms_fit, loops_step, loops_of, all_loops, step_fits, bound_rows, places_of, all_places, said_from}
+use Rattle.sanlp.specs.WellFormed.{form_fits, forms_fit_step, forms_fit, all_forms_fit, loops_step, loops_of, all_loops}
+use Rattle.sanlp.specs.WellFormed.{step_fits, bound_rows, places_of, all_places, said_from}
 use Rattle.sanlp.proofs.Domains.{places_loop, places_guard, places_assign}
 use Rattle.sanlp.proofs.Folds.{fold_loop, fold_guard, fold_assign, fold_loop_at, fold_guard_at, fold_assign_at}
 use Rattle.sanlp.proofs.Lists.{range_with_len-append}

@@ -1,8 +1,9 @@
--- A loop in whose head no reason stands has bounds. An operand in which no reason stands has a form, since each way in which
--- a form is missing is a reason; so the step has a value, which is limited as each number of a form. Where the value is 1 the
--- bounds are a range. Where it is above 1 there is at most one lower form, since more would be a reason, and at least one, as
--- in each loop. A value below 1 is a reason.
-use Rattle.std.proofs.Common.{◌≡◌, ◌<◌, ◌≤◌, ℕ, ℤ, pos, ◌<ℤ◌, List, [], ◌∷◌, ◌++◌, map, length, Bool, true, false, cond, ◌&&◌, Option, Some, None, is_some, refl, sym, arith, subst}
+-- A loop in whose head no reason stands has bounds. An operand in which no reason stands has a form, since each way in
+-- which a form is missing is a reason; so the step has a value, which is limited as each number of a form. Where the
+-- value is 1 the bounds are a range. Where it is above 1 there is at most one lower form, since more would be a reason,
+-- and at least one, as in each loop. A value below 1 is a reason.
+use Rattle.std.proofs.Common.{◌≡◌, ◌<◌, ◌≤◌, ℕ, ℤ, pos, ◌<ℤ◌, List, [], ◌∷◌, ◌++◌, map, length, Bool, true, false, cond}
+use Rattle.std.proofs.Common.{◌&&◌, Option, Some, None, is_some, refl, sym, arith, subst}
 use Rattle.std.specs.Prelude.{IsTrue, int_lt, nat_lt, ◌==◌}
 use Rattle.std.specs.List.{list_all}
 use Rattle.std.specs.Option.{option_map}
@@ -28,14 +29,18 @@ use Rattle.loop_class.specs.declared.scope.Place.{Place}
 use Rattle.loop_class.specs.declared.scope.Place.TheVariants.{Extent, Body}
 use Rattle.loop_class.specs.declared.scope.What.{What}
 use Rattle.loop_class.specs.declared.scope.What.TheVariants as what
-use Rattle.loop_class.specs.Bounds.{step_value, step_reasons, step_findings, unbounded, progression, bounds_by, loop_bounds}
-use Rattle.loop_class.specs.Forms.{constant_form, loop_form, sum_form, difference_form, scaled_form, negated_form, has_no_variable, is_limited_number, is_limited}
-use Rattle.loop_class.specs.Judging.{Scope, Judged, faulty, limited, after, named, negated, combined, judge_step, judged, all_findings, seen_from, lower_operands}
+use Rattle.loop_class.specs.Bounds.{step_value, step_reasons, step_findings, unbounded, progression, bounds_by}
+use Rattle.loop_class.specs.Bounds.{loop_bounds}
+use Rattle.loop_class.specs.Forms.{constant_form, loop_form, sum_form, difference_form, scaled_form, negated_form}
+use Rattle.loop_class.specs.Forms.{has_no_variable, is_limited_number, is_limited}
+use Rattle.loop_class.specs.Judging.{Scope, Judged, faulty, limited, after, named, negated, combined, judge_step}
+use Rattle.loop_class.specs.Judging.{judged, all_findings, seen_from, lower_operands}
 use Rattle.loop_class.specs.Names.{value_named}
 use Rattle.loop_class.specs.Reasons.{found_if}
 use Rattle.loop_class.specs.Rows.{lower_forms, upper_forms}
 use Rattle.loop_class.proofs.NestsSizes.{IsForm, AreBounds}
-use Rattle.loop_class.proofs.NestsScope.{KnownScope, IsFormIfAny, formed, forms_are, lower_bounds, upper_bounds, some_lower, some_upper}
+use Rattle.loop_class.proofs.NestsScope.{KnownScope, IsFormIfAny, formed, forms_are, lower_bounds, upper_bounds}
+use Rattle.loop_class.proofs.NestsScope.{some_lower, some_upper}
 use Rattle.loop_class.proofs.NestsValues.{none_left, none_right, found_none}
 
 -- where no reason stands there is a form

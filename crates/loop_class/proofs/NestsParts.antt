@@ -1,5 +1,6 @@
 -- The parts of a body: where no reason stands in them, their nodes and statements are those of a nest.
-use Rattle.std.proofs.Common.{◌≡◌, ◌<◌, ◌≤◌, ℕ, suc, ◌+◌, ℤ, pos, negsuc, ◌+ℤ◌, ◌<ℤ◌, List, [], ◌∷◌, ◌++◌, map, length, Bool, true, false, cond, not, ◌||◌, Option, Some, None, refl, sym, ap, ◌∙◌, arith, subst}
+use Rattle.std.proofs.Common.{◌≡◌, ◌<◌, ◌≤◌, ℕ, suc, ◌+◌, ℤ, pos, negsuc, ◌+ℤ◌, ◌<ℤ◌, List, [], ◌∷◌, ◌++◌, map, length}
+use Rattle.std.proofs.Common.{Bool, true, false, cond, not, ◌||◌, Option, Some, None, refl, sym, ap, ◌∙◌, arith, subst}
 use Rattle.std.specs.Prelude.{IsTrue, int_le, nat_lt, nat_le, ◌==◌}
 use Rattle.std.specs.Ordering.{int_eq}
 use Rattle.std.specs.Cmp.Derive.{both_true}
@@ -11,7 +12,8 @@ use Rattle.affine_core.specs.Affine.{variable_form, widened_form}
 use Rattle.sanlp.specs.declared.nest.ArrayDecl.{ArrayDecl}
 use Rattle.sanlp.specs.declared.nest.Role.TheVariants as role
 use Rattle.sanlp.specs.declared.nest.Statement.{Statement}
-use Rattle.sanlp.specs.WellFormed.{access_fits, uses_given, statement_fits, step_fits, all_forms_fit, lower_row, upper_row, turn_row, bound_rows, all_places, said_from}
+use Rattle.sanlp.specs.WellFormed.{access_fits, uses_given, statement_fits, step_fits, all_forms_fit, lower_row}
+use Rattle.sanlp.specs.WellFormed.{upper_row, turn_row, bound_rows, all_places, said_from}
 use Rattle.sanlp.proofs.Each.{Each, each_append, each_then}
 use Rattle.loop_grammar.specs.declared.tree.Comparison.{Comparison}
 use Rattle.loop_grammar.specs.declared.tree.Name.{Name}
@@ -20,14 +22,16 @@ use Rattle.loop_grammar.specs.declared.tree.Other.{Other}
 use Rattle.loop_grammar.specs.declared.tree.Part.{Part}
 use Rattle.loop_grammar.specs.declared.tree.Step.{Step}
 use Rattle.loop_grammar.specs.declared.tree.Part.TheOpen.{Part-F, For, If, Assign, Block, Other-F}
-use Rattle.loop_grammar.specs.declared.tree.Part.TheFolds.{map-Part, map-Other, fold-Other, fold-roll-Part, fold-roll-Other, ind-Part}
+use Rattle.loop_grammar.specs.declared.tree.Part.TheFolds.{map-Part, map-Other, fold-Other, fold-roll-Part}
+use Rattle.loop_grammar.specs.declared.tree.Part.TheFolds.{fold-roll-Other, ind-Part}
 use Rattle.loop_grammar.specs.declared.tree.Part.TheViews.{roll-Part, roll-Other}
 use Rattle.loop_class.specs.declared.affine.Affine.{Affine}
 use Rattle.loop_class.specs.declared.bounds.Bounds.{Bounds}
 use Rattle.loop_class.specs.declared.bounds.Bounds.TheVariants.{Range, Progression}
 use Rattle.loop_class.specs.declared.context.Context.{Context}
 use Rattle.loop_class.specs.declared.error.BindError.{BindError}
-use Rattle.loop_class.specs.declared.error.BindError.TheVariants.{WrongCount, ElseForm, TooManyProcesses, TooDeep, TooManyRows}
+use Rattle.loop_class.specs.declared.error.BindError.TheVariants.{WrongCount, ElseForm, TooManyProcesses, TooDeep}
+use Rattle.loop_class.specs.declared.error.BindError.TheVariants.{TooManyRows}
 use Rattle.loop_class.specs.declared.scope.Place.TheVariants.{Body}
 use Rattle.loop_class.specs.declared.scope.What.{What}
 use Rattle.loop_class.specs.declared.scope.What.TheVariants.{Parameter, Array, Loop}
@@ -36,17 +40,26 @@ use Rattle.loop_class.specs.Bounds.{step_findings, loop_bounds, lower_of, upper_
 use Rattle.loop_class.specs.Forms.{loop_form, multiple_form, difference_form, form_over}
 use Rattle.loop_class.specs.Judging.{Scope, findings_of, lower_operands, upper_operands}
 use Rattle.loop_class.specs.Names.{value_named}
-use Rattle.loop_class.specs.Parts.{Made, Meaning, nothing, both, in_order, Otherwise, new_name_findings, same_name_findings, inside_loop, for_findings, loop_body, loop_made, guarded, with_findings, else_made, array_number, assign_made, part_step, other_step, part_made, parts_made}
+use Rattle.loop_class.specs.Parts.{Made, Meaning, nothing, both, in_order, Otherwise, new_name_findings}
+use Rattle.loop_class.specs.Parts.{same_name_findings, inside_loop, for_findings, loop_body, loop_made, guarded}
+use Rattle.loop_class.specs.Parts.{with_findings, else_made, array_number, assign_made, part_step, other_step}
+use Rattle.loop_class.specs.Parts.{part_made, parts_made}
 use Rattle.loop_class.specs.Reasons.{found_if}
 use Rattle.loop_class.specs.Rows.{lower_forms, loop_rows, guard_rows, guard_findings, may_have_else, else_rows}
 use Rattle.loop_class.specs.Rows as rows
 use Rattle.loop_class.specs.Values.{Valued, valued, subscripts_over, access_findings}
-use Rattle.loop_class.proofs.NestsForms.{over_deeper, over_multiple, over_termwise, form_wider, lower_over, upper_over, turn_over, turn_row_over}
-use Rattle.loop_class.proofs.NestsSizes.{IsForm, IsRow, IsBound, AreBounds, row_deeper, loop_rows_are, lower_rows, upper_rows, has_lower, has_upper, all_fit}
-use Rattle.loop_class.proofs.NestsScope.{Known, KnownIfAny, KnownScope, value_known, with_name_known, known_deeper, guard_rows_are, else_rows_are}
-use Rattle.loop_class.proofs.NestsBody.{Numbered, numbered_none, numbered_append, numbered_loop, numbered_guard, numbered_assign, loop_places, loop_fits, guard_places, guard_fits, assign_places, assign_fits, placed_append, fit_append}
+use Rattle.loop_class.proofs.NestsForms.{over_deeper, over_multiple, over_termwise, form_wider, lower_over, upper_over}
+use Rattle.loop_class.proofs.NestsForms.{turn_over, turn_row_over}
+use Rattle.loop_class.proofs.NestsSizes.{IsForm, IsRow, IsBound, AreBounds, row_deeper, loop_rows_are, lower_rows}
+use Rattle.loop_class.proofs.NestsSizes.{upper_rows, has_lower, has_upper, all_fit}
+use Rattle.loop_class.proofs.NestsScope.{Known, KnownIfAny, KnownScope, value_known, with_name_known, known_deeper}
+use Rattle.loop_class.proofs.NestsScope.{guard_rows_are, else_rows_are}
+use Rattle.loop_class.proofs.NestsBody.{Numbered, numbered_none, numbered_append, numbered_loop, numbered_guard}
+use Rattle.loop_class.proofs.NestsBody.{numbered_assign, loop_places, loop_fits, guard_places, guard_fits}
+use Rattle.loop_class.proofs.NestsBody.{assign_places, assign_fits, placed_append, fit_append}
 use Rattle.loop_class.proofs.NestsBounds.{bounds_are}
-use Rattle.loop_class.proofs.NestsValues.{none_left, none_right, found_none, not_found, access_is, Fitting, subscripts_fit, subscripts_count, value_fits}
+use Rattle.loop_class.proofs.NestsValues.{none_left, none_right, found_none, not_found, access_is, Fitting}
+use Rattle.loop_class.proofs.NestsValues.{subscripts_fit, subscripts_count, value_fits}
 
 -- forms that say the same as rows, inside this many loops and more
 abbrev pub Shows : ℕ → List Form → List Affine → Type 0
@@ -209,7 +222,12 @@ module _ (arrays : List ArrayDecl) where
       let d : ℕ = length c.loops in
       let h : GivesParts inner l s (body inner l s) =
       well inner l s
-      (record { room = context.room; scope = context.scope; rows = each_append (IsRow d) c.rows rows context.rows each }) few none in
+      (record {
+        room = context.room;
+        scope = context.scope;
+        rows =
+            each_append (IsRow d) c.rows rows context.rows each;
+      }) few none in
       record {
         numbered =
             numbered_guard (map (form_over d) rows) (body inner l s).nodes l (body inner l s).next_loop h.numbered;

@@ -1,5 +1,6 @@
 -- What the names in scope stand for, and the forms that are read in such a scope.
-use Rattle.std.proofs.Common.{◌≡◌, ◌<◌, ℕ, suc, ℤ, pos, ◌+ℤ◌, ◌-ℤ◌, ◌*ℤ◌, List, [], ◌∷◌, ◌++◌, length, Bool, true, false, cond, Option, Some, None, is_some, refl, sym, arith, subst}
+use Rattle.std.proofs.Common.{◌≡◌, ◌<◌, ℕ, suc, ℤ, pos, ◌+ℤ◌, ◌-ℤ◌, ◌*ℤ◌, List, [], ◌∷◌, ◌++◌, length, Bool, true}
+use Rattle.std.proofs.Common.{false, cond, Option, Some, None, is_some, refl, sym, arith, subst}
 use Rattle.std.specs.Prelude.{slice_get, unwrap_or}
 use Rattle.std.specs.Str.{bytes_eq}
 use Rattle.std.proofs.lemmas.Int.{ints}
@@ -20,10 +21,13 @@ use Rattle.loop_class.specs.declared.scope.Place.{Place}
 use Rattle.loop_class.specs.declared.scope.Place.TheVariants.{Extent, Body}
 use Rattle.loop_class.specs.declared.scope.What.{What}
 use Rattle.loop_class.specs.declared.scope.What.TheVariants.{Parameter, Array, Loop, Progression}
-use Rattle.loop_class.specs.Forms.{constant_form, loop_form, sum_form, difference_form, scaled_form, negated_form, lowered_form, is_limited, has_no_variable}
-use Rattle.loop_class.specs.Judging.{Scope, Judged, limited, named, negated, combined, seen_from, judge_step, judged, form_or_zero, forms_of, lower_layer, upper_layer, lower_operands, upper_operands}
+use Rattle.loop_class.specs.Forms.{constant_form, loop_form, sum_form, difference_form, scaled_form, negated_form}
+use Rattle.loop_class.specs.Forms.{lowered_form, is_limited, has_no_variable}
+use Rattle.loop_class.specs.Judging.{Scope, Judged, limited, named, negated, combined, seen_from, judge_step, judged}
+use Rattle.loop_class.specs.Judging.{form_or_zero, forms_of, lower_layer, upper_layer, lower_operands, upper_operands}
 use Rattle.loop_class.specs.Names.{value_named, with_name}
-use Rattle.loop_class.specs.Rows.{lower_forms, upper_forms, sign_rows, comparison_rows, guard_rows, else_rows, negated_sign}
+use Rattle.loop_class.specs.Rows.{lower_forms, upper_forms, sign_rows, comparison_rows, guard_rows, else_rows}
+use Rattle.loop_class.specs.Rows.{negated_sign}
 use Rattle.loop_class.proofs.NestsForms.{IsOver, over_zeros, over_deeper, over_map, over_termwise, over_multiple}
 use Rattle.loop_class.proofs.NestsSizes.{IsForm, IsRow, IsBound, form_bound, form_lowered, difference_row, lowered_row}
 

@@ -1,5 +1,6 @@
 -- The forms, rows and bounds of a nest: which loops they name, and how large their numbers are.
-use Rattle.std.proofs.Common.{◌≡◌, ◌<◌, ◌≤◌, ℕ, zero, suc, ℤ, pos, negsuc, ◌-ℤ◌, ◌≤ℤ◌, ◌<ℤ◌, List, [], ◌∷◌, map, length, take, replicate, Bool, true, false, T, refl, sym, arith, subst}
+use Rattle.std.proofs.Common.{◌≡◌, ◌<◌, ◌≤◌, ℕ, zero, suc, ℤ, pos, negsuc, ◌-ℤ◌, ◌≤ℤ◌, ◌<ℤ◌, List, [], ◌∷◌, map, length}
+use Rattle.std.proofs.Common.{take, replicate, Bool, true, false, T, refl, sym, arith, subst}
 use Rattle.std.specs.Prelude.{IsTrue, slice_set}
 use Rattle.std.specs.Int.RustNames.{int_le}
 use Rattle.std.specs.List.{list_all}
@@ -12,11 +13,14 @@ use Rattle.sanlp.proofs.Each.{Each, each_append, each_map, each_then}
 use Rattle.loop_class.specs.declared.affine.Affine.{Affine}
 use Rattle.loop_class.specs.declared.bounds.Bounds.{Bounds}
 use Rattle.loop_class.specs.declared.bounds.Bounds.TheVariants.{Range, Progression}
-use Rattle.loop_class.specs.Forms.{loop_form, multiple_form, termwise, difference_form, lowered_form, is_limited_number, is_limited, form_over}
+use Rattle.loop_class.specs.Forms.{loop_form, multiple_form, termwise, difference_form, lowered_form, is_limited_number}
+use Rattle.loop_class.specs.Forms.{is_limited, form_over}
 use Rattle.loop_class.specs.Bounds.{lower_of, upper_of}
 use Rattle.loop_class.specs.Ranges.{is_bound_number}
 use Rattle.loop_class.specs.Rows.{turn_row, loop_rows}
-use Rattle.loop_class.proofs.Moderate.{moderate_number, moderate_bound_number, moderate_reach_number, moderate_gap, moderate_negated, moderate_form, bound_form, bound_lowered, moderate_difference, moderate_lowered_difference, limited_multiples}
+use Rattle.loop_class.proofs.Moderate.{moderate_number, moderate_bound_number, moderate_reach_number, moderate_gap}
+use Rattle.loop_class.proofs.Moderate.{moderate_negated, moderate_form, bound_form, bound_lowered, moderate_difference}
+use Rattle.loop_class.proofs.Moderate.{moderate_lowered_difference, limited_multiples}
 use Rattle.loop_class.proofs.NestsForms.{IsOver, over_length, over_deeper, over_termwise, over_multiple, take_length}
 
 -- a form inside so many loops, as it is written
@@ -39,11 +43,22 @@ pub record IsBound (d : ℕ) (f : Affine) : Type 0 where
 module _ (d : ℕ) (f : Affine) (h : IsForm d f) where
   pub form_bound : IsBound d f
   form_bound =
-      record { over = h.over; constant = (and_parts (is_bound_number f.constant) _ (bound_form f h.limited)).0; coefs = (and_parts (is_limited_number f.constant) _ h.limited).1 }
+      record {
+        over = h.over;
+        constant = (and_parts (is_bound_number f.constant) _ (bound_form f h.limited)).0;
+        coefs =
+            (and_parts (is_limited_number f.constant) _ h.limited).1;
+      }
 
   pub form_lowered : IsBound d (lowered_form f)
   form_lowered =
-      record { over = h.over; constant = (and_parts (is_bound_number (f.constant -ℤ pos 1)) (list_all is_limited_number f.coefs) (bound_lowered f h.limited)).0; coefs = (and_parts (is_limited_number f.constant) _ h.limited).1 }
+      record {
+        over = h.over;
+        constant = (and_parts (is_bound_number (f.constant -ℤ pos 1))
+            (list_all is_limited_number f.coefs) (bound_lowered f h.limited)).0;
+        coefs =
+            (and_parts (is_limited_number f.constant) _ h.limited).1;
+      }
 
   pub form_row : IsRow d f
   form_row = let m = and_parts _ _ (moderate_form f h.limited) in record { over = h.over; constant = m.0; coefs = m.1 }
@@ -195,15 +210,23 @@ module _ (d : ℕ) (room : d < 6) where
       (each_then (IsBound d) _ lower (λ f b. lower_row_is d f room b) h.lower_is))
       (each_map (IsRow (suc d)) (λ f. difference_form f (loop_form d)) upper
       (each_then (IsBound d) _ upper (λ f b. upper_row_is d f room b) h.upper_is))
-  loop_rows_are (Progression first upper step) h =
-      (variable_row_is, each_map (IsRow (suc d)) (turn_row d first step) upper (each_then (IsBound d) _ upper (λ f b. turn_row_is first f step h.first_is b h.limited) h.upper_is))
+  loop_rows_are (Progression first upper step) h = (
+    variable_row_is,
+    each_map (IsRow (suc d)) (turn_row d first step) upper
+        (each_then (IsBound d) _ upper (λ f b. turn_row_is first f step h.first_is b h.limited) h.upper_is),
+  )
 
 pub row_deeper : (d e : ℕ) (f : Affine) → d ≤ e → IsRow d f → IsRow e f
 row_deeper d e f le h = record { over = over_deeper 6 d e f.coefs le h.over; constant = h.constant; coefs = h.coefs }
 
 pub bound_row : (d : ℕ) (f : Affine) → IsBound d f → IsRow d f
 bound_row d f h =
-    record { over = h.over; constant = moderate_bound_number f.constant h.constant; coefs = moderate_all f.coefs h.coefs }
+    record {
+      over = h.over;
+      constant = moderate_bound_number f.constant h.constant;
+      coefs =
+          moderate_all f.coefs h.coefs;
+    }
 
 -- the lower and the upper forms of a loop
 pub lower_rows : (d : ℕ) (bounds : Bounds) → AreBounds d bounds → Each (IsRow d) (lower_of bounds)

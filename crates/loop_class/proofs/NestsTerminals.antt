@@ -1,5 +1,7 @@
 -- Sources and sinks, and the loops round them.
-use Rattle.std.proofs.Common.{◌≡◌, ◌<◌, ◌≤◌, ℕ, zero, suc, ◌+◌, ◌-◌, ℤ, pos, ◌-ℤ◌, List, [], ◌∷◌, ◌++◌, map, length, take, replicate, Bool, true, false, cond, Some, None, refl, sym, ap, ◌∙◌, arith, subst, append_assoc}
+use Rattle.std.proofs.Common.{◌≡◌, ◌<◌, ◌≤◌, ℕ, zero, suc, ◌+◌, ◌-◌, ℤ, pos, ◌-ℤ◌, List, [], ◌∷◌, ◌++◌, map, length}
+use Rattle.std.proofs.Common.{take, replicate, Bool, true, false, cond, Some, None, refl, sym, ap, ◌∙◌, arith, subst}
+use Rattle.std.proofs.Common.{append_assoc}
 use Rattle.std.specs.Prelude.{IsTrue, ◌==◌, slice_get}
 use Rattle.std.specs.List.{list_all, range_with_len, sum_by}
 use Rattle.std.specs.Option.{option_map_or}
@@ -21,7 +23,9 @@ use Rattle.sanlp.specs.declared.nest.Role.TheVariants as role
 use Rattle.sanlp.specs.declared.nest.Statement.{Statement}
 use Rattle.sanlp.specs.Around.{loops_round}
 use Rattle.sanlp.specs.Cells.{natural, is_input, is_output}
-use Rattle.sanlp.specs.WellFormed.{is_moderate, form_fits, access_fits, statement_fits, in_role, own_cell, numbers_from, extents_where, input_extents, output_extents, all_forms_fit, all_places, said_from, array_loops, lower_row, upper_row}
+use Rattle.sanlp.specs.WellFormed.{is_moderate, form_fits, access_fits, statement_fits, in_role, own_cell, numbers_from}
+use Rattle.sanlp.specs.WellFormed.{extents_where, input_extents, output_extents, all_forms_fit, all_places, said_from}
+use Rattle.sanlp.specs.WellFormed.{array_loops, lower_row, upper_row}
 use Rattle.sanlp.proofs.Each.{Each, each_append, each_then, range_with_len_below}
 use Rattle.sanlp.proofs.Folds.{fold_read, fold_given}
 use Rattle.loop_class.specs.declared.affine.Affine.{Affine}
@@ -33,7 +37,8 @@ use Rattle.loop_class.specs.Terminals.{extent_rows, source_statement, sink_state
 use Rattle.loop_class.proofs.Moderate.{bound_last_number}
 use Rattle.loop_class.proofs.NestsForms.{over_zeros}
 use Rattle.loop_class.proofs.NestsSizes.{IsRow, AreBounds, lower_rows, upper_rows, row_deeper, loop_rows_are, all_fit}
-use Rattle.loop_class.proofs.NestsBody.{Numbered, numbered_none, numbered_append, numbered_loop, numbered_assign, loop_places, loop_fits, assign_places, assign_fits, placed_append, fit_append}
+use Rattle.loop_class.proofs.NestsBody.{Numbered, numbered_none, numbered_append, numbered_loop, numbered_assign}
+use Rattle.loop_class.proofs.NestsBody.{loop_places, loop_fits, assign_places, assign_fits, placed_append, fit_append}
 use Rattle.loop_class.proofs.NestsParts.{Shows, shows_append, shows_deeper, shows_loop}
 use Rattle.loop_class.proofs.NestsValues.{all_append}
 use Rattle.loop_class.proofs.NestsArrays.{FewExtents}
@@ -89,13 +94,23 @@ round_place : (id k n : ℕ) (extents : List ℤ) (s : ℕ) (loops : List ℕ) (
     → length loops ≡ k → k + length extents ≡ n → n ≤ 6
     → Each (λ e. IsTrue (is_limited_number e)) extents → Shows k forms rows
     → all_places (loops_round id k extents s ∷ []) loops forms
-    ≡ record { statement = s; loops = loops ++ range_with_len id (length extents); rows = map (form_over n) (rows ++ extent_rows k extents) } ∷ []
+    ≡ record {
+      statement = s;
+      loops = loops ++ range_with_len id (length extents);
+      rows =
+          map (form_over n) (rows ++ extent_rows k extents);
+    } ∷ []
 round_place id k n [] s loops forms rows len all room limited shown =
     let same : n ≡ length loops = omega arith in
     assign_places s loops forms
     ∙ (let a : map (affine.widened_form (length loops)) forms
     ≡ map (form_over (length loops)) rows = shown (length loops) (omega arith) (omega arith) in
-    λ i. record { statement = s; loops = sym (append-nil loops) i; rows = (a ∙ (λ j. map (form_over (sym same j)) (sym (append-nil rows) j))) i } ∷ [])
+    λ i. record {
+      statement = s;
+      loops = sym (append-nil loops) i;
+      rows =
+          (a ∙ (λ j. map (form_over (sym same j)) (sym (append-nil rows) j))) i;
+    } ∷ [])
 round_place id k n (e ∷ extents) s loops forms rows len all room limited shown =
     let next : suc k ≡ k + 1 = omega arith in
     let low : List Form = map (form_over k) lowest in
@@ -140,7 +155,11 @@ extent_rows_are k n (e ∷ extents) le room limited =
 extent_rows_count : (k : ℕ) (extents : List ℤ) → length (extent_rows k extents) ≡ length extents + length extents
 extent_rows_count k [] = omega arith
 extent_rows_count k (e ∷ extents) =
-    omega (arith, length-append (loop_rows k (round_bounds e)) (extent_rows (k + 1) extents), extent_rows_count (k + 1) extents)
+    omega (
+      arith,
+      length-append (loop_rows k (round_bounds e)) (extent_rows (k + 1) extents),
+      extent_rows_count (k + 1) extents,
+    )
 
 -- the cell of the loop values
 zeros_moderate : (n : ℕ) → IsTrue (list_all is_moderate (replicate n (pos 0)))
@@ -176,11 +195,27 @@ own_cell_fits arrays depth a array found count =
 -- a source and a sink inside these loops
 abbrev source_at : ℕ → ℕ → List ℕ → List Form → Statement
 source_at a n loops rows =
-    record { role = role.Source a; loops = loops; rows = rows; write = Some (own_cell n a); reads = []; expr = expr.Given }
+    record {
+      role = role.Source a;
+      loops = loops;
+      rows = rows;
+      write = Some (own_cell n a);
+      reads = [];
+      expr =
+          expr.Given;
+    }
 
 abbrev sink_at : ℕ → ℕ → List ℕ → List Form → Statement
 sink_at a n loops rows =
-    record { role = role.Sink a; loops = loops; rows = rows; write = None; reads = own_cell n a ∷ []; expr = expr.Read 0 }
+    record {
+      role = role.Sink a;
+      loops = loops;
+      rows = rows;
+      write = None;
+      reads = own_cell n a ∷ [];
+      expr =
+          expr.Read 0;
+    }
 
 module _ (arrays : List ArrayDecl) (a : ℕ) (array : ArrayDecl) (found : slice_get arrays a ≡ Some array)
     (loops : List ℕ) (rows : List Form)
@@ -376,7 +411,8 @@ shows_none e le room = refl
 -- the loops round a source or a sink, and what it says of them
 round_said : (l : ℕ) (e : List ℤ) (s : ℕ) → FewList e
     → all_places (loops_round l 0 e s ∷ []) [] []
-    ≡ record { statement = s; loops = range_with_len l (length e); rows = map (form_over (length e)) (extent_rows 0 e) } ∷ []
+    ≡ record { statement = s; loops = range_with_len l (length e); rows = map (form_over (length e)) (extent_rows 0 e) }
+    ∷ []
 round_said l e s few =
     round_place l 0 (length e) e s [] [] [] refl (omega arith) few.0 (each_true is_limited_number e few.1) shows_none
 
@@ -441,8 +477,12 @@ module _ (a l : ℕ) (arrays : List ArrayDecl) where
 from_front : (front arrays : List ArrayDecl) → From (front ++ arrays) (length front) arrays
 from_front front [] = tt
 from_front front (x ∷ xs) =
-    let e : length (front ++ x ∷ []) ≡ length front + 1 = length_push front x in
-    (at_front front, subst (λ k. From (front ++ x ∷ xs) k xs) e (subst (λ all. From all (length (front ++ x ∷ [])) xs) (append_assoc front (x ∷ []) xs) (from_front (front ++ x ∷ []) xs))) where
+    let e : length (front ++ x ∷ []) ≡ length front + 1 = length_push front x in (
+      at_front front,
+      subst (λ k. From (front ++ x ∷ xs) k xs) e
+          (subst (λ all. From all (length (front ++ x ∷ [])) xs) (append_assoc front (x ∷ []) xs)
+          (from_front (front ++ x ∷ []) xs)),
+    ) where
       at_front : (front : List ArrayDecl) → slice_get (front ++ x ∷ xs) (length front) ≡ Some x
       at_front [] = refl
       at_front (y ∷ front) = at_front front

@@ -1,5 +1,7 @@
--- Right sides: where no reason stands in one, its reads fit and its expression names only loops and reads that are there.
-use Rattle.std.proofs.Common.{◌≡◌, ◌≤◌, ℕ, suc, ◌+◌, ℤ, pos, List, [], ◌∷◌, ◌++◌, map, length, Bool, true, false, cond, not, ◌&&◌, ◌||◌, take, length-take, Option, Some, None, refl, sym, ap, ◌∙◌, arith, subst}
+-- Right sides: where no reason stands in one, its reads fit and its expression names only loops and reads that are
+-- there.
+use Rattle.std.proofs.Common.{◌≡◌, ◌≤◌, ℕ, suc, ◌+◌, ℤ, pos, List, [], ◌∷◌, ◌++◌, map, length, Bool, true, false, cond}
+use Rattle.std.proofs.Common.{not, ◌&&◌, ◌||◌, take, length-take, Option, Some, None, refl, sym, ap, ◌∙◌, arith, subst}
 use Rattle.std.specs.Prelude.{IsTrue, ◌==◌}
 use Rattle.std.specs.List.{list_all}
 use Rattle.std.specs.Option.{option_map_or}
@@ -36,7 +38,9 @@ use Rattle.loop_class.specs.Forms.{form_over}
 use Rattle.loop_class.specs.Judging.{Scope, forms_of, findings_of, judged, form_or_zero}
 use Rattle.loop_class.specs.Names.{value_named}
 use Rattle.loop_class.specs.Reasons.{found_if}
-use Rattle.loop_class.specs.Values.{Valued, Value, without_reads, subscripts_over, with_multiple, with_multiples, form_expr, name_value, binary_expr, extreme_expr, joined, joined_all, list_value, value_parts, value_step, valued}
+use Rattle.loop_class.specs.Values.{Valued, Value, without_reads, subscripts_over, with_multiple, with_multiples}
+use Rattle.loop_class.specs.Values.{form_expr, name_value, binary_expr, extreme_expr, joined, joined_all, list_value}
+use Rattle.loop_class.specs.Values.{value_parts, value_step, valued}
 use Rattle.loop_class.proofs.NestsSizes.{IsForm, form_row, all_fit, IsRow}
 use Rattle.loop_class.proofs.NestsScope.{HasArray, KnownIfAny, KnownScope, value_known, forms_are}
 
@@ -140,7 +144,11 @@ multiples_of_loops depth before v (c ∷ coefs) room h =
 form_of_loops : (depth : ℕ) (f : Affine) → IsOfLoops depth (form_expr (form_over depth f))
 form_of_loops depth f =
     multiples_of_loops depth (expr.Const f.constant) 0 (take depth f.coefs) (omega (arith, length-take depth f.coefs))
-    (record { uses = λ slots. fold_const Bool (uses_step depth slots) f.constant; no_given = fold_const Bool gives_step f.constant })
+    (record {
+      uses = λ slots. fold_const Bool (uses_step depth slots) f.constant;
+      no_given =
+          fold_const Bool gives_step f.constant;
+    })
 
 -- subscripts that fit the array
 pub access_is : (arrays : List ArrayDecl) (d number extents : ℕ) (subscripts : List Form)

@@ -4,10 +4,13 @@ use Rattle.loop_grammar.specs.declared.tree.BinarySign.{BinarySign}
 use Rattle.loop_grammar.specs.declared.tree.Name.{Name}
 use Rattle.loop_grammar.specs.declared.tree.Operand.{Operand, out-Operand, roll-Operand, roll-out-Operand}
 use Rattle.loop_grammar.specs.declared.tree.Operand.TheOpen as layer
-use Rattle.loop_grammar.specs.declared.tree.Operand.TheVariants.{Number, Access, Binary, Neg, Min, Max, rolls-Number, rolls-Access, rolls-Binary, rolls-Neg, rolls-Min, rolls-Max, outs-Min, outs-Max}
+use Rattle.loop_grammar.specs.declared.tree.Operand.TheVariants.{Number, Access, Binary, Neg, Min, Max, rolls-Number}
+use Rattle.loop_grammar.specs.declared.tree.Operand.TheVariants.{rolls-Access, rolls-Binary, rolls-Neg, rolls-Min}
+use Rattle.loop_grammar.specs.declared.tree.Operand.TheVariants.{rolls-Max, outs-Min, outs-Max}
 use Rattle.loop_grammar.specs.declared.tree.Operand.TheFolds.{fold-roll-Operand}
 use Rattle.loop_class.specs.declared.scope.Place.{Place}
-use Rattle.loop_class.specs.Judging.{Scope, Judged, judge_step, judged, all_findings, findings_of, lower_layer, lower_operands, upper_layer, upper_operands}
+use Rattle.loop_class.specs.Judging.{Scope, Judged, judge_step, judged, all_findings, findings_of, lower_layer}
+use Rattle.loop_class.specs.Judging.{lower_operands, upper_layer, upper_operands}
 
 module _ (place : Place) (scope : Scope) where
   pub judged_number : (value : ℤ) (token : ℕ)

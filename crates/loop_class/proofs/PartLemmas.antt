@@ -1,5 +1,6 @@
 -- What binding a part comes to, by its kind.
-use Rattle.std.proofs.Common.{◌≡◌, ℕ, ◌+◌, ◌<◌, Bool, List, [], ◌∷◌, ◌++◌, length, map, take, get_or, Option, Some, None, Result, sym, ap, subst, ◌∙◌, append_assoc, append-nil, length-append, arith}
+use Rattle.std.proofs.Common.{◌≡◌, ℕ, ◌+◌, ◌<◌, Bool, List, [], ◌∷◌, ◌++◌, length, map, take, get_or, Option, Some}
+use Rattle.std.proofs.Common.{None, Result, sym, ap, subst, ◌∙◌, append_assoc, append-nil, length-append, arith}
 use Rattle.std.specs.Prelude.{OnOk}
 use Rattle.std.proofs.lemmas.List.{map-append, take_more}
 use Rattle.std.proofs.lemmas.Result.{on_ok_weaker}
@@ -11,7 +12,8 @@ use Rattle.loop_grammar.specs.declared.tree.Other.{Other}
 use Rattle.loop_grammar.specs.declared.tree.Part.{Part}
 use Rattle.loop_grammar.specs.declared.tree.Step.{Step}
 use Rattle.loop_grammar.specs.declared.tree.Part.TheOpen as layer
-use Rattle.loop_grammar.specs.declared.tree.Part.TheVariants.{For, If, Assign, Block, rolls-For, rolls-If, rolls-Assign, rolls-Block}
+use Rattle.loop_grammar.specs.declared.tree.Part.TheVariants.{For, If, Assign, Block, rolls-For, rolls-If, rolls-Assign}
+use Rattle.loop_grammar.specs.declared.tree.Part.TheVariants.{rolls-Block}
 use Rattle.loop_grammar.specs.declared.tree.Part.TheFolds.{fold-roll-Part, fold_out-Other}
 use Rattle.loop_class.specs.declared.affine.Affine.{Affine}
 use Rattle.loop_class.specs.declared.bounds.Bounds.{Bounds}
@@ -20,7 +22,9 @@ use Rattle.loop_class.specs.declared.context.Progress.{Progress}
 use Rattle.loop_class.specs.declared.error.BindError.{BindError}
 use Rattle.loop_class.specs.Bounds.{loop_bounds}
 use Rattle.loop_class.specs.Following.{Makes, next_statement, advanced}
-use Rattle.loop_class.specs.Parts.{Made, Meaning, Otherwise, nothing, both, in_order, depth_of, for_findings, loop_made, loop_body, guarded, with_findings, else_made, assign_made, part_step, other_step, part_made, parts_made}
+use Rattle.loop_class.specs.Parts.{Made, Meaning, Otherwise, nothing, both, in_order, depth_of, for_findings, loop_made}
+use Rattle.loop_class.specs.Parts.{loop_body, guarded, with_findings, else_made, assign_made, part_step, other_step}
+use Rattle.loop_class.specs.Parts.{part_made, parts_made}
 use Rattle.loop_class.specs.Reasons.{least_from}
 use Rattle.loop_class.specs.Rows.{guard_rows, guard_findings}
 use Rattle.loop_class.proofs.JudgeLemmas.{least_append}
@@ -67,7 +71,8 @@ noted c c1 p p1 nodes nodes1 l1 fs made first h =
       context = h.context;
       progress =
           h.progress
-          ∙ (λ i. record p { statements = p.statements ++ made.statements; next_loop = made.next_loop; least = least i });
+          ∙ (λ i. record p
+          { statements = p.statements ++ made.statements; next_loop = made.next_loop; least = least i });
       nodes = h.nodes;
     }
 

@@ -1,5 +1,6 @@
 -- What the value of an operand comes to, by its kind.
-use Rattle.std.proofs.Common.{◌≡◌, ℕ, suc, ◌+◌, ◌<◌, take, get_or, Result, ℤ, List, [], ◌∷◌, ◌++◌, length, map, Option, refl, sym, ap, subst, ◌∙◌, append_assoc, append-nil, length-append}
+use Rattle.std.proofs.Common.{◌≡◌, ℕ, suc, ◌+◌, ◌<◌, take, get_or, Result, ℤ, List, [], ◌∷◌, ◌++◌, length, map, Option}
+use Rattle.std.proofs.Common.{refl, sym, ap, subst, ◌∙◌, append_assoc, append-nil, length-append}
 use Rattle.std.specs.Prelude.{IfOk}
 use Rattle.std.proofs.lemmas.List.{map-append, take_more}
 use Rattle.std.proofs.lemmas.Result.{IfOk-weaker}
@@ -10,7 +11,9 @@ use Rattle.loop_grammar.specs.declared.tree.BinarySign.{BinarySign}
 use Rattle.loop_grammar.specs.declared.tree.Name.{Name}
 use Rattle.loop_grammar.specs.declared.tree.Operand.{Operand}
 use Rattle.loop_grammar.specs.declared.tree.Operand.TheOpen as layer
-use Rattle.loop_grammar.specs.declared.tree.Operand.TheVariants.{Number, Access, Binary, Neg, Min, Max, rolls-Number, rolls-Access, rolls-Binary, rolls-Neg, rolls-Min, rolls-Max}
+use Rattle.loop_grammar.specs.declared.tree.Operand.TheVariants.{Number, Access, Binary, Neg, Min, Max, rolls-Number}
+use Rattle.loop_grammar.specs.declared.tree.Operand.TheVariants.{rolls-Access, rolls-Binary, rolls-Neg, rolls-Min}
+use Rattle.loop_grammar.specs.declared.tree.Operand.TheVariants.{rolls-Max}
 use Rattle.loop_grammar.specs.declared.tree.Operand.TheFolds.{para-roll-Operand}
 use Rattle.loop_class.specs.declared.error.BindError.{BindError}
 use Rattle.loop_class.specs.declared.value.Extreme.{Extreme}
@@ -19,7 +22,8 @@ use Rattle.loop_class.specs.Judging.{Scope}
 use Rattle.loop_class.specs.Names.{value_named}
 use Rattle.loop_class.specs.Reasons.{least_from}
 use Rattle.loop_class.specs.Following.{Reads}
-use Rattle.loop_class.specs.Values.{Valued, Value, valued, value_step, value_parts, without_reads, name_value, binary_expr, extreme_expr, joined, joined_all, list_value}
+use Rattle.loop_class.specs.Values.{Valued, Value, valued, value_step, value_parts, without_reads, name_value}
+use Rattle.loop_class.specs.Values.{binary_expr, extreme_expr, joined, joined_all, list_value}
 use Rattle.loop_class.proofs.JudgeLemmas.{least_append}
 
 -- an operand beside its value

@@ -1,5 +1,6 @@
 -- Every expression is read, with its tree.
-use Rattle.std.proofs.Common.{◌≡◌, ℕ, Bool, true, false, List, [], ◌∷◌, ◌++◌, refl, sym, ap, ◌∙◌, append_assoc, Option, Some, None}
+use Rattle.std.proofs.Common.{◌≡◌, ℕ, Bool, true, false, List, [], ◌∷◌, ◌++◌, refl, sym, ap, ◌∙◌, append_assoc, Option}
+use Rattle.std.proofs.Common.{Some, None}
 use Rattle.std.proofs.lemmas.List.{append-nil}
 use Rattle.loop_grammar.specs.declared.lexeme.Lexeme.{Lexeme}
 use Rattle.loop_grammar.specs.declared.lexeme.Lexeme.TheVariants as word
@@ -15,8 +16,14 @@ use Rattle.loop_grammar.specs.declared.expression.Bracket.TheVariants as bracket
 use Rattle.loop_grammar.specs.declared.expression.Frame.{Frame}
 use Rattle.loop_grammar.specs.declared.expression.Reading.{Reading}
 use Rattle.loop_grammar.specs.declared.expression.Reading.TheVariants as reading
-use Rattle.loop_grammar.specs.Grammar.{Tok, SumSign, plus, minus, Expr, Term, Factor, Access, Exprs, term, sum, factor, product, negation, number, parentheses, access, choice, name, subscript, one, also, sum_word, binary_sign, chosen, expr_text, term_text, factor_text, access_text, exprs_text, expr_tree, term_tree, factor_tree, accessed, subscripts, expr_trees}
-use Rattle.loop_grammar.specs.ExpressionMachine.{State, level_with, fresh, negated, multiplied, summed, factor_value, factor_read, feed_factor, feed_read, feed_term, feed_access, feed, closed, subscripted, separated, finish, start, has_no_bracket, fed}
+use Rattle.loop_grammar.specs.Grammar.{Tok, SumSign, plus, minus, Expr, Term, Factor, Access, Exprs, term, sum, factor}
+use Rattle.loop_grammar.specs.Grammar.{product, negation, number, parentheses, access, choice, name, subscript, one}
+use Rattle.loop_grammar.specs.Grammar.{also, sum_word, binary_sign, chosen, expr_text, term_text, factor_text}
+use Rattle.loop_grammar.specs.Grammar.{access_text, exprs_text, expr_tree, term_tree, factor_tree, accessed, subscripts}
+use Rattle.loop_grammar.specs.Grammar.{expr_trees}
+use Rattle.loop_grammar.specs.ExpressionMachine.{State, level_with, fresh, negated, multiplied, summed, factor_value}
+use Rattle.loop_grammar.specs.ExpressionMachine.{factor_read, feed_factor, feed_read, feed_term, feed_access, feed}
+use Rattle.loop_grammar.specs.ExpressionMachine.{closed, subscripted, separated, finish, start, has_no_bracket, fed}
 use Rattle.loop_grammar.proofs.Negations.{negated_append}
 
 -- the state after a factor, a term, an expression
@@ -71,7 +78,11 @@ sum_ends minus = tt
 
 sum_fed : (k : List Frame) (s : Option Sum) (v : Operand) (sign : SumSign) (p : ℕ)
     → feed_term k s v (sum_word sign, p)
-    ≡ Some (k, reading.Factor (level_with (Some (record { left = summed s v; sign = binary_sign sign; token = p })) None))
+    ≡ Some (
+      k,
+      reading.Factor
+          (level_with (Some (record { left = summed s v; sign = binary_sign sign; token = p })) None),
+    )
 sum_fed k s v plus p = refl
 sum_fed k s v minus p = refl
 

@@ -1,5 +1,6 @@
 -- What the machine has read of an expression, and that it may be completed.
-use Rattle.std.proofs.Common.{◌≡◌, ◌⊎◌, inl, inr, ℕ, Bool, true, false, List, [], ◌∷◌, ◌++◌, refl, sym, ap, subst, ◌∙◌, append_assoc, Option, Some, None, pos}
+use Rattle.std.proofs.Common.{◌≡◌, ◌⊎◌, inl, inr, ℕ, Bool, true, false, List, [], ◌∷◌, ◌++◌, refl, sym, ap, subst, ◌∙◌}
+use Rattle.std.proofs.Common.{append_assoc, Option, Some, None, pos}
 use Rattle.std.proofs.lemmas.List.{append-nil}
 use Rattle.loop_grammar.specs.declared.lexeme.Lexeme.{Lexeme}
 use Rattle.loop_grammar.specs.declared.lexeme.Lexeme.TheVariants as word
@@ -15,8 +16,15 @@ use Rattle.loop_grammar.specs.declared.expression.Bracket.TheVariants as bracket
 use Rattle.loop_grammar.specs.declared.expression.Frame.{Frame}
 use Rattle.loop_grammar.specs.declared.expression.Reading.{Reading}
 use Rattle.loop_grammar.specs.declared.expression.Reading.TheVariants as reading
-use Rattle.loop_grammar.specs.Grammar.{Tok, SumSign, plus, minus, Expr, Term, Factor, Access, Exprs, term, sum, factor, product, negation, number, parentheses, access, choice, name, subscript, one, also, sum_word, binary_sign, chosen, expr_text, term_text, factor_text, access_text, exprs_text, expr_tree, term_tree, factor_tree, accessed, subscripts, expr_trees}
-use Rattle.loop_grammar.specs.ExpressionMachine.{State, level_with, fresh, negated, multiplied, summed, factor_value, factor_read, feed_factor, feed_arguments, feed_read, feed_term, feed_access, feed, closed, close_bracket, subscripted, close_subscript, separated, next_argument, finish, start, has_no_bracket, fed}
+use Rattle.loop_grammar.specs.Grammar.{Tok, SumSign, plus, minus, Expr, Term, Factor, Access, Exprs, term, sum, factor}
+use Rattle.loop_grammar.specs.Grammar.{product, negation, number, parentheses, access, choice, name, subscript, one}
+use Rattle.loop_grammar.specs.Grammar.{also, sum_word, binary_sign, chosen, expr_text, term_text, factor_text}
+use Rattle.loop_grammar.specs.Grammar.{access_text, exprs_text, expr_tree, term_tree, factor_tree, accessed, subscripts}
+use Rattle.loop_grammar.specs.Grammar.{expr_trees}
+use Rattle.loop_grammar.specs.ExpressionMachine.{State, level_with, fresh, negated, multiplied, summed, factor_value}
+use Rattle.loop_grammar.specs.ExpressionMachine.{factor_read, feed_factor, feed_arguments, feed_read, feed_term}
+use Rattle.loop_grammar.specs.ExpressionMachine.{feed_access, feed, closed, close_bracket, subscripted, close_subscript}
+use Rattle.loop_grammar.specs.ExpressionMachine.{separated, next_argument, finish, start, has_no_bracket, fed}
 use Rattle.loop_grammar.proofs.Fed.{some_is}
 
 -- ---- the tokens that stand for what waits
@@ -84,22 +92,36 @@ under_signs (p ∷ ps) f =
 in_product : (x : Option Product) (text : List Tok) → ProductText x text → (f : Factor)
     → (t : Term) × (term_tree t ≡ multiplied x (factor_tree f)) × (term_text t ≡ text ++ factor_text f)
 in_product None text h f = (factor f, refl, rw h refl)
-in_product (Some x) text h f =
-    (product h.0 x.token f, rw h.1 refl, rw h.2 (sym (append_assoc (term_text h.0) ((word.Times, x.token) ∷ []) (factor_text f))))
+in_product (Some x) text h f = (
+  product h.0 x.token f,
+  rw h.1 refl,
+  rw h.2 (sym (append_assoc (term_text h.0) ((word.Times, x.token) ∷ []) (factor_text f))),
+)
 
 in_sum : (x : Option Sum) (text : List Tok) → SumText x text → (t : Term)
     → (e : Expr) × (expr_tree e ≡ summed x (term_tree t)) × (expr_text e ≡ text ++ term_text t)
 in_sum None text h t = (term t, refl, rw h refl)
-in_sum (Some x) text h t =
-    (sum h.0 h.1 x.token t, rw (h.2, h.3) refl, rw h.4 (sym (append_assoc (expr_text h.0) ((sum_word h.1, x.token) ∷ []) (term_text t))))
+in_sum (Some x) text h t = (
+  sum h.0 h.1 x.token t,
+  rw (h.2, h.3) refl,
+  rw h.4 (sym (append_assoc (expr_text h.0) ((sum_word h.1, x.token) ∷ []) (term_text t))),
+)
 
 factor_stands : (k : List Frame) (outer : List Tok) (level : Level) (own : List Tok) → StackText k outer
     → LevelText level own → (f : Factor)
     → Stands (k, factor_read level (factor_tree f)) (outer ++ (own ++ factor_text f))
 factor_stands k outer level own stack h f =
     let g = under_signs level.negations f in
-    let t = in_product level.product h.1 h.3 g.0 in
-    (outer, h.0, t.0, stack, h.2, t.1 ∙ ap (λ (x : Operand). multiplied level.product x) g.1, rw (h.4, t.2, g.2) (simp append_assoc))
+    let t = in_product level.product h.1 h.3 g.0 in (
+      outer,
+      h.0,
+      t.0,
+      stack,
+      h.2,
+      t.1
+          ∙ ap (λ (x : Operand). multiplied level.product x) g.1,
+      rw (h.4, t.2, g.2) (simp append_assoc),
+    )
 
 -- the expression that a term ends
 abbrev pub Ended : List Frame → Operand → List Tok → Type 0
@@ -118,8 +140,13 @@ fresh_text = ([], [], refl, refl, refl)
 opens : (k : List Frame) (level : Level) (b : Bracket) (outer own opened : List Tok) → StackText k outer
     → LevelText level own → BracketText b opened
     → Stands (record { level = level; bracket = b } ∷ k, reading.Factor fresh) (outer ++ (own ++ opened))
-opens k level b outer own opened stack h is =
-    (outer ++ (own ++ opened), [], (outer, own, opened, stack, h, is, refl), fresh_text, sym (append-nil (outer ++ (own ++ opened))))
+opens k level b outer own opened stack h is = (
+  outer ++ (own ++ opened),
+  [],
+  (outer, own, opened, stack, h, is, refl),
+  fresh_text,
+  sym (append-nil (outer ++ (own ++ opened))),
+)
 
 end_arguments : (list : List Operand) (before : List Tok) → ArgumentsText list before → (e : Expr)
     → (es : Exprs) × (expr_trees es ≡ list ++ expr_tree e ∷ []) × (exprs_text es ≡ before ++ expr_text e)
@@ -163,7 +190,14 @@ argument_stands k level (bracket.Arguments c p list) e q next outer own opened s
     let text : opened ++ (expr_text e ++ (word.Comma, q) ∷ [])
     ≡ (word.Choice c, p) ∷ (word.Open, is.0) ∷ (exprs_text es.0 ++ (word.Comma, q) ∷ []) =
     rw (is.3, es.2) (simp append_assoc) in
-    rw (← some_is (record { level = level; bracket = bracket.Arguments c p (list ++ expr_tree e ∷ []) } ∷ k, reading.Factor fresh) next step, text)
+    rw (
+      ← some_is (
+        record { level = level; bracket = bracket.Arguments c p (list ++ expr_tree e ∷ []) }
+            ∷ k,
+        reading.Factor fresh,
+      ) next step,
+      text,
+    )
     (opens k level (bracket.Arguments c p (list ++ expr_tree e ∷ [])) outer own
     ((word.Choice c, p) ∷ (word.Open, is.0) ∷ (exprs_text es.0 ++ (word.Comma, q) ∷ [])) stack h
     (is.0, exprs_text es.0 ++ (word.Comma, q) ∷ [], inr (es.0, q, es.1, refl), refl))
@@ -199,14 +233,38 @@ separated_stands (f ∷ k) v q next read h step = let s = h.2 in
 sum_stands : (k : List Frame) (v : Operand) (s : SumSign) (q : ℕ) (read : List Tok) → Ended k v read
     → Stands (k, reading.Factor (level_with (Some (record { left = v; sign = binary_sign s; token = q })) None))
     (read ++ (sum_word s, q) ∷ [])
-sum_stands k v s q read h =
-    (h.0, expr_text h.1 ++ (sum_word s, q) ∷ [], h.2, (expr_text h.1 ++ (sum_word s, q) ∷ [], [], (h.1, s, h.3, refl, refl), refl, sym (append-nil (expr_text h.1 ++ (sum_word s, q) ∷ []))), rw h.4 (append_assoc h.0 (expr_text h.1) ((sum_word s, q) ∷ [])))
+sum_stands k v s q read h = (
+  h.0,
+  expr_text h.1 ++ (sum_word s, q) ∷ [],
+  h.2,
+  (
+    expr_text h.1 ++ (sum_word s, q)
+        ∷ [],
+    [],
+    (h.1, s, h.3, refl, refl),
+    refl,
+    sym (append-nil (expr_text h.1 ++ (sum_word s, q) ∷ [])),
+  ),
+  rw h.4 (append_assoc h.0 (expr_text h.1) ((sum_word s, q) ∷ [])),
+)
 
 product_stands : (k : List Frame) (s : Option Sum) (v : Operand) (q : ℕ) (read : List Tok)
     → Stands (k, reading.Term s v) read
     → Stands (k, reading.Factor (level_with s (Some (record { left = v; token = q })))) (read ++ (word.Times, q) ∷ [])
-product_stands k s v q read h =
-    (h.0, h.1 ++ (term_text h.2 ++ (word.Times, q) ∷ []), h.3, (h.1, term_text h.2 ++ (word.Times, q) ∷ [], h.4, (h.2, h.5, refl), ap (λ (x : List Tok). h.1 ++ x) (sym (append-nil (term_text h.2 ++ (word.Times, q) ∷ [])))), rw h.6 (simp append_assoc))
+product_stands k s v q read h = (
+  h.0,
+  h.1 ++ (term_text h.2 ++ (word.Times, q) ∷ []),
+  h.3,
+  (
+    h.1,
+    term_text h.2 ++ (word.Times, q) ∷ [],
+    h.4,
+    (h.2, h.5, refl),
+    ap (λ (x : List Tok). h.1 ++ x)
+        (sym (append-nil (term_text h.2 ++ (word.Times, q) ∷ []))),
+  ),
+  rw h.6 (simp append_assoc),
+)
 
 term_fed_stands : (k : List Frame) (s : Option Sum) (v : Operand) (t : Tok) (next : State) (read : List Tok)
     → Stands (k, reading.Term s v) read → feed_term k s v t ≡ Some next → Stands next (read ++ t ∷ [])
@@ -215,10 +273,12 @@ term_fed_stands k s v (word.Times, q) next read h step =
     (product_stands k s v q read h)
 term_fed_stands k s v (word.Plus, q) next read h step =
     rw (← some_is
-    (k, reading.Factor (level_with (Some (record { left = summed s v; sign = binary_sign plus; token = q })) None)) next step) (sum_stands k (summed s v) plus q read (term_ends k s v read h))
+    (k, reading.Factor (level_with (Some (record { left = summed s v; sign = binary_sign plus; token = q })) None)) next
+    step) (sum_stands k (summed s v) plus q read (term_ends k s v read h))
 term_fed_stands k s v (word.Minus, q) next read h step =
     rw (← some_is
-    (k, reading.Factor (level_with (Some (record { left = summed s v; sign = binary_sign minus; token = q })) None)) next step) (sum_stands k (summed s v) minus q read (term_ends k s v read h))
+    (k, reading.Factor (level_with (Some (record { left = summed s v; sign = binary_sign minus; token = q })) None))
+    next step) (sum_stands k (summed s v) minus q read (term_ends k s v read h))
 term_fed_stands k s v (word.Close, q) next read h step =
     closed_stands k (summed s v) q next read (term_ends k s v read h) step
 term_fed_stands k s v (word.CloseSquare, q) next read h step =
@@ -238,15 +298,38 @@ signed_level level own q h = (h.0, h.1, h.2, h.3, rw (h.4, more level.negations)
 factor_fed_stands : (k : List Frame) (level : Level) (t : Tok) (next : State) (read : List Tok)
     → Stands (k, reading.Factor level) read → feed_factor k level t ≡ Some next → Stands next (read ++ t ∷ [])
 factor_fed_stands k level (word.Number n, q) next read h step =
-    rw (← some_is (k, factor_read level (operand.Number n q)) next step, h.4, append_assoc h.0 h.1 ((word.Number n, q) ∷ [])) (factor_stands k h.0 level h.1 h.2 h.3 (number n q))
+    rw (
+      ← some_is (k, factor_read level (operand.Number n q)) next step,
+      h.4,
+      append_assoc h.0 h.1 ((word.Number n, q) ∷ []),
+    ) (factor_stands k h.0 level h.1 h.2 h.3 (number n q))
 factor_fed_stands k level (word.Minus, q) next read h step =
-    rw (← some_is (k, reading.Factor (record level { negations = level.negations ++ q ∷ [] })) next step)
-    (h.0, h.1 ++ (word.Minus, q) ∷ [], h.2, signed_level level h.1 q h.3, rw h.4 (append_assoc h.0 h.1 ((word.Minus, q) ∷ [])))
+    rw (← some_is (k, reading.Factor (record level { negations = level.negations ++ q ∷ [] })) next step) (
+      h.0,
+      h.1 ++ (word.Minus, q)
+          ∷ [],
+      h.2,
+      signed_level level h.1 q h.3,
+      rw h.4 (append_assoc h.0 h.1 ((word.Minus, q) ∷ [])),
+    )
 factor_fed_stands k level (word.Open, q) next read h step =
-    rw (← some_is (record { level = level; bracket = bracket.Parentheses } ∷ k, reading.Factor fresh) next step, h.4, append_assoc h.0 h.1 ((word.Open, q) ∷ [])) (opens k level bracket.Parentheses h.0 h.1 ((word.Open, q) ∷ []) h.2 h.3 (q, refl))
+    rw (
+      ← some_is (record { level = level; bracket = bracket.Parentheses } ∷ k, reading.Factor fresh) next step,
+      h.4,
+      append_assoc h.0 h.1 ((word.Open, q) ∷ []),
+    )
+    (opens k level bracket.Parentheses h.0 h.1 ((word.Open, q) ∷ []) h.2 h.3 (q, refl))
 factor_fed_stands k level (word.Name text, q) next read h step =
-    rw (← some_is (k, reading.Access level (record { text = text; token = q }) []) next step)
-    (h.0, h.1, name (record { text = text; token = q }), h.2, h.3, refl, refl, rw h.4 (append_assoc h.0 h.1 ((word.Name text, q) ∷ [])))
+    rw (← some_is (k, reading.Access level (record { text = text; token = q }) []) next step) (
+      h.0,
+      h.1,
+      name (record { text = text; token = q }),
+      h.2,
+      h.3,
+      refl,
+      refl,
+      rw h.4 (append_assoc h.0 h.1 ((word.Name text, q) ∷ [])),
+    )
 factor_fed_stands k level (word.Choice c, q) next read h step =
     rw (← some_is (k, reading.Arguments level c q) next step)
     (h.0, h.1, h.2, h.3, rw h.4 (append_assoc h.0 h.1 ((word.Choice c, q) ∷ [])))
@@ -258,7 +341,11 @@ arguments_fed_stands : (k : List Frame) (level : Level) (c : Choice) (p : ℕ) (
 arguments_fed_stands k level c p (word.Open, q) next read h step =
     let text : read ++ (word.Open, q) ∷ [] ≡ h.0 ++ (h.1 ++ (word.Choice c, p) ∷ (word.Open, q) ∷ []) =
     rw h.4 (simp append_assoc) in
-    rw (← some_is (record { level = level; bracket = bracket.Arguments c p [] } ∷ k, reading.Factor fresh) next step, text) (opens k level (bracket.Arguments c p []) h.0 h.1 ((word.Choice c, p) ∷ (word.Open, q) ∷ []) h.2 h.3 (q, [], inl (refl, refl), refl))
+    rw (
+      ← some_is (record { level = level; bracket = bracket.Arguments c p [] } ∷ k, reading.Factor fresh) next step,
+      text,
+    ) (opens k level (bracket.Arguments c p []) h.0 h.1 ((word.Choice c, p) ∷ (word.Open, q) ∷ []) h.2 h.3
+    (q, [], inl (refl, refl), refl))
 arguments_fed_stands k level c p (_, q) next read h step = absurd cc
 
 -- a name that takes no more subscripts is a factor
@@ -272,7 +359,11 @@ access_fed_stands : (k : List Frame) (level : Level) (n : Name) (list : List Ope
 access_fed_stands k level n list (word.OpenSquare, q) next read h step =
     let text : read ++ (word.OpenSquare, q) ∷ [] ≡ h.0 ++ (h.1 ++ (access_text h.2 ++ (word.OpenSquare, q) ∷ [])) =
     rw h.7 (simp append_assoc) in
-    rw (← some_is (record { level = level; bracket = bracket.Subscript n list } ∷ k, reading.Factor fresh) next step, text) (opens k level (bracket.Subscript n list) h.0 h.1 (access_text h.2 ++ (word.OpenSquare, q) ∷ []) h.3 h.4 (h.2, q, h.5, h.6, refl))
+    rw (
+      ← some_is (record { level = level; bracket = bracket.Subscript n list } ∷ k, reading.Factor fresh) next step,
+      text,
+    ) (opens k level (bracket.Subscript n list) h.0 h.1 (access_text h.2 ++ (word.OpenSquare, q) ∷ []) h.3 h.4
+    (h.2, q, h.5, h.6, refl))
 access_fed_stands k level n list (w, q) next read h step =
     term_fed_stands k level.sum (factor_value level (operand.Access n list)) (w, q) next read
     (access_stands k level n list read h) step
@@ -319,7 +410,15 @@ pub record Closes (s : State) : Type 0 where
 
 step_closes : (s : State) (t : Tok) (next : State) → feed s t ≡ Some next → Closes next → Closes s
 step_closes s t next step c =
-    record { rest = t ∷ c.rest; last = c.last; value = c.value; read = rw step c.read; outside = c.outside; finishes = c.finishes }
+    record {
+      rest = t ∷ c.rest;
+      last = c.last;
+      value = c.value;
+      read = rw step c.read;
+      outside = c.outside;
+      finishes =
+          c.finishes;
+    }
 
 -- outside a bracket that ends here
 abbrev pub TermCloses : List Frame → Type 0
@@ -366,13 +465,29 @@ inner_closes k level (bracket.Subscript m subs) outer accesses inner n list =
 mutual
   term_closes : (k : List Frame) (s : Option Sum) (v : Operand) → Closes (k, reading.Term s v)
   term_closes [] s v =
-      record { rest = []; last = ([], reading.Term s v); value = summed s v; read = refl; outside = refl; finishes = refl }
+      record {
+        rest = [];
+        last = ([], reading.Term s v);
+        value = summed s v;
+        read = refl;
+        outside = refl;
+        finishes =
+            refl;
+      }
   term_closes (f ∷ k) s v = bracket_closes k f.level f.bracket (term_closes k) (access_closes k) s v
 
   access_closes : (k : List Frame) (level : Level) (n : Name) (list : List Operand)
       → Closes (k, reading.Access level n list)
   access_closes [] level n list =
-      record { rest = []; last = ([], reading.Access level n list); value = summed level.sum (factor_value level (operand.Access n list)); read = refl; outside = refl; finishes = refl }
+      record {
+        rest = [];
+        last = ([], reading.Access level n list);
+        value =
+            summed level.sum (factor_value level (operand.Access n list));
+        read = refl;
+        outside = refl;
+        finishes = refl;
+      }
   access_closes (f ∷ k) level n list = inner_closes k f.level f.bracket (term_closes k) (access_closes k) level n list
 
 factor_closes : (k : List Frame) (level : Level) → Closes (k, reading.Factor level)

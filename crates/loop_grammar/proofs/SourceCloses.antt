@@ -1,5 +1,6 @@
 -- Any source that was begun can be completed.
-use Rattle.std.proofs.Common.{◌≡◌, ℕ, Bool, true, false, List, [], ◌∷◌, ◌++◌, refl, sym, ap, ◌∙◌, Option, Some, None, pos}
+use Rattle.std.proofs.Common.{◌≡◌, ℕ, Bool, true, false, List, [], ◌∷◌, ◌++◌, refl, sym, ap, ◌∙◌, Option, Some, None}
+use Rattle.std.proofs.Common.{pos}
 use Rattle.loop_grammar.specs.declared.lexeme.Lexeme.{Lexeme}
 use Rattle.loop_grammar.specs.declared.lexeme.Lexeme.TheVariants as word
 use Rattle.loop_grammar.specs.declared.tree.CompareSign.{CompareSign}
@@ -30,7 +31,9 @@ use Rattle.loop_grammar.specs.declared.place.Place.TheVariants as place
 use Rattle.loop_grammar.specs.declared.place.Nesting.{Nesting}
 use Rattle.loop_grammar.specs.Grammar.{Tok}
 use Rattle.loop_grammar.specs.ExpressionMachine as expression
-use Rattle.loop_grammar.specs.SourceMachine.{Where, at, within, State, begun, at_for, name_of, enclosed, for_part, landed, settled, at_declare, declared, named_of, comparison_of, ends_expression, fill, feed, finish, start, fed}
+use Rattle.loop_grammar.specs.SourceMachine.{Where, at, within, State, begun, at_for, name_of, enclosed, for_part}
+use Rattle.loop_grammar.specs.SourceMachine.{landed, settled, at_declare, declared, named_of, comparison_of}
+use Rattle.loop_grammar.specs.SourceMachine.{ends_expression, fill, feed, finish, start, fed}
 use Rattle.loop_grammar.proofs.Fed.{fed_append, some_is}
 use Rattle.loop_grammar.proofs.ExpressionSound as expressions
 use Rattle.loop_grammar.proofs.SourceComplete.{fed_within, ends_within}
@@ -64,8 +67,12 @@ as_statement : (k : List Enclosing) (m : Nesting) (ps : List Part)
     → ClosesBy (settled m (part.Block ps), at place.Statement) (curlies k)
     → ClosesBy (m, at (place.AfterBlock ps)) (curlies k)
 unfolding curlies
-as_statement [] m ps h =
-    ((m, at (place.AfterBlock ps)), h.1, refl, ap finish (some_is (settled m (part.Block ps), at place.Statement) h.0 h.2) ∙ h.3)
+as_statement [] m ps h = (
+  (m, at (place.AfterBlock ps)),
+  h.1,
+  refl,
+  ap finish (some_is (settled m (part.Block ps), at place.Statement) h.0 h.2) ∙ h.3,
+)
 as_statement (enclosing.Block outer ∷ k) m ps h = h
 as_statement (enclosing.For b third step ∷ k) m ps h = as_statement k m ps h
 as_statement (enclosing.If cond ∷ k) m ps h = as_statement k m ps h
@@ -74,8 +81,12 @@ as_statement (enclosing.Else cond block p ∷ k) m ps h = as_statement k m ps h
 settled_closes : (d : List Declaration) (k : List Enclosing) (parts : List Part) (v : Part)
     → ClosesBy (settled (record { declarations = d; enclosing = k; parts = parts }) v, at place.Statement) (curlies k)
 unfolding curlies
-settled_closes d [] parts v =
-    ((record { declarations = d; enclosing = []; parts = parts ++ v ∷ [] }, at place.Statement), record { declarations = d; parts = parts ++ v ∷ [] }, refl, refl)
+settled_closes d [] parts v = (
+  (record { declarations = d; enclosing = []; parts = parts ++ v ∷ [] }, at place.Statement),
+  record { declarations = d; parts = parts ++ v ∷ [] },
+  refl,
+  refl,
+)
 settled_closes d (enclosing.Block outer ∷ k) parts v =
     as_statement k (record { declarations = d; enclosing = k; parts = outer }) (parts ++ v ∷ [])
     (settled_closes d k outer (part.Block (parts ++ v ∷ [])))
@@ -157,7 +168,21 @@ for_step_closes m b =
 bound_fills : (m : Nesting) (n : Name) (first : Operand) (second : Name) (inclusive : Bool)
     → Fills m (slot.Bound n first second inclusive) word.Semi
 bound_fills m n first second inclusive =
-    λ v. ((m, at_for (for_place.Step (record { name = n; first = first; second = second; inclusive = inclusive; bound = v }))), refl, for_step_closes m (record { name = n; first = first; second = second; inclusive = inclusive; bound = v }))
+    λ v. (
+      (
+        m,
+        at_for (for_place.Step (record {
+          name = n;
+          first = first;
+          second = second;
+          inclusive = inclusive;
+          bound =
+              v;
+        })),
+      ),
+      refl,
+      for_step_closes m (record { name = n; first = first; second = second; inclusive = inclusive; bound = v }),
+    )
 
 bound_closes : (m : Nesting) (n : Name) (first : Operand) (second : Name) (inclusive : Bool) (x : expression.State)
     → Closes (m, within (slot.Bound n first second inclusive) x)
@@ -208,14 +233,22 @@ for_closes m (for_place.Close b third) = close_closes m b third
 
 step_fills : (m : Nesting) (b : Bounds) (third : Name) (token : ℕ) → Fills m (slot.Step b third token) word.Close
 step_fills m b third token =
-    λ v. ((enclosed m (enclosing.For b third (By token v)), at place.Statement), refl, statement_closes (enclosed m (enclosing.For b third (By token v))))
+    λ v. (
+      (enclosed m (enclosing.For b third (By token v)), at place.Statement),
+      refl,
+      statement_closes (enclosed m (enclosing.For b third (By token v))),
+    )
 
 -- ---- in an `if`, an assignment and a declaration
 
 right_fills : (m : Nesting) (cond : List Comparison) (left : Operand) (sign : CompareSign) (token : ℕ)
     → Fills m (slot.Right cond left sign token) word.Close
 right_fills m cond left sign token =
-    λ v. ((enclosed m (enclosing.If (cond ++ comparison_of left sign token v ∷ [])), at place.Statement), refl, statement_closes (enclosed m (enclosing.If (cond ++ comparison_of left sign token v ∷ []))))
+    λ v. (
+      (enclosed m (enclosing.If (cond ++ comparison_of left sign token v ∷ [])), at place.Statement),
+      refl,
+      statement_closes (enclosed m (enclosing.If (cond ++ comparison_of left sign token v ∷ []))),
+    )
 
 right_closes : (m : Nesting) (cond : List Comparison) (left : Operand) (sign : CompareSign) (token : ℕ)
     (x : expression.State) → Closes (m, within (slot.Right cond left sign token) x)
@@ -230,7 +263,11 @@ left_closes m cond x = within_closes m (slot.Left cond) (word.Compare Less) refl
 
 assigned_fills : (m : Nesting) (n : Name) (list : List Operand) → Fills m (slot.Assigned n list) word.Semi
 assigned_fills m n list =
-    λ v. ((settled m (part.Assign n list v), at place.Statement), refl, statement_closes (settled m (part.Assign n list v)))
+    λ v. (
+      (settled m (part.Assign n list v), at place.Statement),
+      refl,
+      statement_closes (settled m (part.Assign n list v)),
+    )
 
 assigned_closes : (m : Nesting) (n : Name) (list : List Operand) (x : expression.State)
     → Closes (m, within (slot.Assigned n list) x)
@@ -270,7 +307,11 @@ declare_closes m (declare.AfterArray w names n list) = array_closes m w names n 
 extent_fills : (m : Nesting) (w : DeclWord) (names : List Named) (n : Name) (list : List Operand)
     → Fills m (slot.Extent w names n list) word.CloseSquare
 extent_fills m w names n list =
-    λ v. ((m, at_declare (declare.AfterArray w names n (list ++ v ∷ []))), refl, array_closes m w names n (list ++ v ∷ []))
+    λ v. (
+      (m, at_declare (declare.AfterArray w names n (list ++ v ∷ []))),
+      refl,
+      array_closes m w names n (list ++ v ∷ []),
+    )
 
 slot_closes : (m : Nesting) (s : Slot) (x : expression.State) → Closes (m, within s x)
 slot_closes m (slot.Extent w names n list) x =

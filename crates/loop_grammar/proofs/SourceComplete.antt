@@ -1,5 +1,6 @@
 -- Every source is read, with its tree.
-use Rattle.std.proofs.Common.{◌≡◌, ℕ, Bool, true, false, List, [], ◌∷◌, ◌++◌, refl, sym, ap, ◌∙◌, append_assoc, Option, Some, None}
+use Rattle.std.proofs.Common.{◌≡◌, ℕ, Bool, true, false, List, [], ◌∷◌, ◌++◌, refl, sym, ap, ◌∙◌, append_assoc, Option}
+use Rattle.std.proofs.Common.{Some, None}
 use Rattle.std.proofs.lemmas.List.{append-nil}
 use Rattle.loop_grammar.specs.declared.lexeme.Lexeme.{Lexeme}
 use Rattle.loop_grammar.specs.declared.lexeme.Lexeme.TheVariants as word
@@ -28,10 +29,25 @@ use Rattle.loop_grammar.specs.declared.place.Place.{Place}
 use Rattle.loop_grammar.specs.declared.place.Place.TheVariants as place
 use Rattle.loop_grammar.specs.declared.place.Nesting.{Nesting}
 use Rattle.loop_grammar.specs.declared.expression.Reading.TheVariants as reading
-use Rattle.loop_grammar.specs.Grammar.{Tok, Expr, Access, name, subscript, access_text, accessed, subscripts, expr_text, expr_tree, name_token, Separated, single, more, separated_text, separated_list, Compared, compared, compared_text, compared_tree, Guard, guard, guard_text, guard_tree, Stepped, postfix, prefix, compound, stepped_text, stepped_name, stepped_tree, bound_sign, int_text, Header, header, header_text, Statement, loop, guarded, alternative, assign, block, Block, braces, Statements, no_statement, and_statement, statement_text, block_text, statements_text, loop_part, statement_tree, block_parts, statement_trees, ArrayWord, input, output, both, var, array_word, Declared, parameters, arrays, parameter_text, declared_text, parameter, array, declared_tree, Declarations, none_declared, also_declared, declarations_text, declaration_trees, Program, program, program_text, program_tree}
+use Rattle.loop_grammar.specs.Grammar.{Tok, Expr, Access, name, subscript, access_text, accessed, subscripts, expr_text}
+use Rattle.loop_grammar.specs.Grammar.{expr_tree, name_token, Separated, single, more, separated_text, separated_list}
+use Rattle.loop_grammar.specs.Grammar.{Compared, compared, compared_text, compared_tree, Guard, guard, guard_text}
+use Rattle.loop_grammar.specs.Grammar.{guard_tree, Stepped, postfix, prefix, compound, stepped_text, stepped_name}
+use Rattle.loop_grammar.specs.Grammar.{stepped_tree, bound_sign, int_text, Header, header, header_text, Statement, loop}
+use Rattle.loop_grammar.specs.Grammar.{guarded, alternative, assign, block, Block, braces, Statements, no_statement}
+use Rattle.loop_grammar.specs.Grammar.{and_statement, statement_text, block_text, statements_text, loop_part}
+use Rattle.loop_grammar.specs.Grammar.{statement_tree, block_parts, statement_trees, ArrayWord, input, output, both}
+use Rattle.loop_grammar.specs.Grammar.{var, array_word, Declared, parameters, arrays, parameter_text, declared_text}
+use Rattle.loop_grammar.specs.Grammar.{parameter, array, declared_tree, Declarations, none_declared, also_declared}
+use Rattle.loop_grammar.specs.Grammar.{declarations_text, declaration_trees, Program, program, program_text}
+use Rattle.loop_grammar.specs.Grammar.{program_tree}
 use Rattle.loop_grammar.specs.ExpressionMachine as expression
 use Rattle.loop_grammar.specs.Feeding.{fed_by}
-use Rattle.loop_grammar.specs.SourceMachine.{Where, at, within, State, begun, at_for, enclosed, feed_header, feed_statement, end_block, for_part, landed, settled, feed_after_block, at_declare, declared, named_of, declare_place, comparison_of, feed_comparison, fill, ends_expression, filled, within_again, feed_within, feed, finish, start, fed}
+use Rattle.loop_grammar.specs.SourceMachine.{Where, at, within, State, begun, at_for, enclosed, feed_header}
+use Rattle.loop_grammar.specs.SourceMachine.{feed_statement, end_block, for_part, landed, settled, feed_after_block}
+use Rattle.loop_grammar.specs.SourceMachine.{at_declare, declared, named_of, declare_place, comparison_of}
+use Rattle.loop_grammar.specs.SourceMachine.{feed_comparison, fill, ends_expression, filled, within_again, feed_within}
+use Rattle.loop_grammar.specs.SourceMachine.{feed, finish, start, fed}
 use Rattle.loop_grammar.proofs.Fed.{fed_append, fed_none, some_is, none_is}
 use Rattle.loop_grammar.proofs.ExpressionComplete.{behind, expr_finishes, expr_outside, whole_expr}
 
@@ -274,15 +290,39 @@ pub record Begins (text : List Tok) : Type 0 where
 
 begins_more : (text rest : List Tok) → Begins text → Begins (text ++ rest)
 begins_more text rest b =
-    record { lexeme = b.lexeme; token = b.token; tail = b.tail ++ rest; whole = ap (λ (x : List Tok). x ++ rest) b.whole; separates = b.separates }
+    record {
+      lexeme = b.lexeme;
+      token = b.token;
+      tail = b.tail ++ rest;
+      whole =
+          ap (λ (x : List Tok). x ++ rest) b.whole;
+      separates = b.separates;
+    }
 
 header_begins : (h : Header) → Begins (header_text h)
 header_begins (header p q int n r first s second inclusive t bound u step v) =
-    record { lexeme = word.For; token = p; tail = (word.Open, q) ∷ (int_text int ++ name_token n ∷ (word.Assign, r) ∷ (expr_text first ++ (word.Semi, s) ∷ name_token second ∷ (word.Compare (bound_sign inclusive), t) ∷ (expr_text bound ++ (word.Semi, u) ∷ (stepped_text step ++ (word.Close, v) ∷ [])))); whole = refl; separates = tt }
+    record {
+      lexeme = word.For;
+      token = p;
+      tail = (word.Open, q)
+          ∷ (int_text int ++ name_token n ∷ (word.Assign, r)
+          ∷ (expr_text first ++ (word.Semi, s) ∷ name_token second ∷ (word.Compare (bound_sign inclusive), t)
+          ∷ (expr_text bound ++ (word.Semi, u) ∷ (stepped_text step ++ (word.Close, v) ∷ []))));
+      whole =
+          refl;
+      separates = tt;
+    }
 
 guard_begins : (g : Guard) → Begins (guard_text g)
 guard_begins (guard p q cond r) =
-    record { lexeme = word.If; token = p; tail = (word.Open, q) ∷ (separated_text word.And compared_text cond ++ (word.Close, r) ∷ []); whole = refl; separates = tt }
+    record {
+      lexeme = word.If;
+      token = p;
+      tail = (word.Open, q)
+          ∷ (separated_text word.And compared_text cond ++ (word.Close, r) ∷ []);
+      whole = refl;
+      separates = tt;
+    }
 
 access_begins : (a : Access) → Begins (access_text a)
 access_begins (name n) = record { lexeme = word.Name n.text; token = n.token; tail = []; whole = refl; separates = tt }
@@ -291,7 +331,14 @@ access_begins (subscript a p e q) =
 
 block_begins : (b : Block) → Begins (block_text b)
 block_begins (braces p ss q) =
-    record { lexeme = word.OpenCurly; token = p; tail = statements_text ss ++ (word.CloseCurly, q) ∷ []; whole = refl; separates = tt }
+    record {
+      lexeme = word.OpenCurly;
+      token = p;
+      tail = statements_text ss ++ (word.CloseCurly, q) ∷ [];
+      whole =
+          refl;
+      separates = tt;
+    }
 
 statement_begins : (s : Statement) → Begins (statement_text s)
 statement_begins (loop h s) = begins_more (header_text h) (statement_text s) (header_begins h)
@@ -437,7 +484,11 @@ all_arrays (more xs p a) = refl
 
 arrays_read : (xs : Separated Access) (m : Nesting) (w : DeclWord) (rest : List Tok)
     → fed (Some (m, at_declare (declare.Array w []))) (separated_text word.Comma access_text xs ++ rest)
-    ≡ fed (Some (m, at_declare (declare.AfterArray w (first_arrays xs) (accessed (last_array xs)) (subscripts (last_array xs))))) rest
+    ≡ fed (Some (
+      m,
+      at_declare
+          (declare.AfterArray w (first_arrays xs) (accessed (last_array xs)) (subscripts (last_array xs))),
+    )) rest
 arrays_read (single a) m w rest = array_read a m w [] rest
 arrays_read (more xs p a) m w rest =
     ap (fed (Some (m, at_declare (declare.Array w []))))

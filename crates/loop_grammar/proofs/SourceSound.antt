@@ -1,5 +1,6 @@
 -- What the machine has read of a source, and that it may be completed.
-use Rattle.std.proofs.Common.{◌≡◌, ◌⊎◌, inl, inr, ℕ, Bool, true, false, List, [], ◌∷◌, ◌++◌, refl, sym, ap, subst, ◌∙◌, append_assoc, Option, Some, None, option_map, ◌&&◌, if◌then◌else◌}
+use Rattle.std.proofs.Common.{◌≡◌, ◌⊎◌, inl, inr, ℕ, Bool, true, false, List, [], ◌∷◌, ◌++◌, refl, sym, ap, subst, ◌∙◌}
+use Rattle.std.proofs.Common.{append_assoc, Option, Some, None, option_map, ◌&&◌, if◌then◌else◌}
 use Rattle.std.proofs.lemmas.List.{append-nil}
 use Rattle.loop_grammar.specs.declared.lexeme.Lexeme.{Lexeme}
 use Rattle.loop_grammar.specs.declared.lexeme.Lexeme.TheVariants as word
@@ -29,10 +30,27 @@ use Rattle.loop_grammar.specs.declared.place.Slot.TheVariants as slot
 use Rattle.loop_grammar.specs.declared.place.Place.{Place}
 use Rattle.loop_grammar.specs.declared.place.Place.TheVariants as place
 use Rattle.loop_grammar.specs.declared.place.Nesting.{Nesting}
-use Rattle.loop_grammar.specs.Grammar.{Tok, Expr, Access, name, subscript, access_text, accessed, subscripts, expr_text, expr_tree, name_token, Separated, single, more, separated_text, separated_list, Compared, compared, compared_text, compared_tree, Guard, guard, guard_text, guard_tree, Stepped, postfix, prefix, compound, stepped_text, stepped_name, stepped_tree, bound_sign, int_text, Header, header, header_text, Statement, loop, guarded, alternative, assign, block, Block, braces, Statements, no_statement, and_statement, statement_text, block_text, statements_text, loop_part, statement_tree, block_parts, statement_trees, ArrayWord, input, output, both, var, array_word, Declared, parameters, arrays, parameter_text, declared_text, parameter, array, declared_tree, Declarations, none_declared, also_declared, declarations_text, declaration_trees, Program, program, program_text, program_tree, Derives}
+use Rattle.loop_grammar.specs.Grammar.{Tok, Expr, Access, name, subscript, access_text, accessed, subscripts, expr_text}
+use Rattle.loop_grammar.specs.Grammar.{expr_tree, name_token, Separated, single, more, separated_text, separated_list}
+use Rattle.loop_grammar.specs.Grammar.{Compared, compared, compared_text, compared_tree, Guard, guard, guard_text}
+use Rattle.loop_grammar.specs.Grammar.{guard_tree, Stepped, postfix, prefix, compound, stepped_text, stepped_name}
+use Rattle.loop_grammar.specs.Grammar.{stepped_tree, bound_sign, int_text, Header, header, header_text, Statement, loop}
+use Rattle.loop_grammar.specs.Grammar.{guarded, alternative, assign, block, Block, braces, Statements, no_statement}
+use Rattle.loop_grammar.specs.Grammar.{and_statement, statement_text, block_text, statements_text, loop_part}
+use Rattle.loop_grammar.specs.Grammar.{statement_tree, block_parts, statement_trees, ArrayWord, input, output, both}
+use Rattle.loop_grammar.specs.Grammar.{var, array_word, Declared, parameters, arrays, parameter_text, declared_text}
+use Rattle.loop_grammar.specs.Grammar.{parameter, array, declared_tree, Declarations, none_declared, also_declared}
+use Rattle.loop_grammar.specs.Grammar.{declarations_text, declaration_trees, Program, program, program_text}
+use Rattle.loop_grammar.specs.Grammar.{program_tree, Derives}
 use Rattle.loop_grammar.specs.ExpressionMachine as expression
 use Rattle.loop_grammar.specs.Feeding.{fed_by}
-use Rattle.loop_grammar.specs.SourceMachine.{Where, at, within, State, begun, at_for, name_of, enclosed, feed_for, feed_step, feed_header, feed_begin, feed_statement, end_block, for_part, landed, settled, else_begun, feed_after_block, feed_if, feed_target, at_declare, declared, named_of, feed_declare, declare_place, feed_declaration, comparison_of, feed_comparison, feed_assigned, fill, ends_expression, filled, within_again, feed_within, feed_at, feed, end, finish, start, fed}
+use Rattle.loop_grammar.specs.SourceMachine.{Where, at, within, State, begun, at_for, name_of, enclosed, feed_for}
+use Rattle.loop_grammar.specs.SourceMachine.{feed_step, feed_header, feed_begin, feed_statement, end_block, for_part}
+use Rattle.loop_grammar.specs.SourceMachine.{landed, settled, else_begun, feed_after_block, feed_if, feed_target}
+use Rattle.loop_grammar.specs.SourceMachine.{at_declare, declared, named_of, feed_declare, declare_place}
+use Rattle.loop_grammar.specs.SourceMachine.{feed_declaration, comparison_of, feed_comparison, feed_assigned, fill}
+use Rattle.loop_grammar.specs.SourceMachine.{ends_expression, filled, within_again, feed_within, feed_at, feed, end}
+use Rattle.loop_grammar.specs.SourceMachine.{finish, start, fed}
 use Rattle.loop_grammar.proofs.Fed.{fed_append, fed_none, some_is, none_is}
 use Rattle.loop_grammar.proofs.SourceComplete.{bounds_of, third_of, step_of}
 use Rattle.loop_grammar.proofs.ExpressionSound as expressions
@@ -50,8 +68,11 @@ end_list : {A B : Type 0} (sign : Lexeme) (text : A → List Tok) (tree : A → 
     → (xs : Separated A) × (separated_list tree xs ≡ list ++ tree x ∷ [])
     × (separated_text sign text xs ≡ before ++ text x)
 end_list sign text tree list before (inl h) x = (single x, rw h.0 refl, rw h.1 refl)
-end_list sign text tree list before (inr h) x =
-    (more h.0 h.1 x, rw h.2 refl, rw h.3 (sym (append_assoc (separated_text sign text h.0) ((sign, h.1) ∷ []) (text x))))
+end_list sign text tree list before (inr h) x = (
+  more h.0 h.1 x,
+  rw h.2 refl,
+  rw h.3 (sym (append_assoc (separated_text sign text h.0) ((sign, h.1) ∷ []) (text x))),
+)
 
 -- ---- the brackets of a `for`
 
@@ -207,10 +228,21 @@ Stands (m, within s e) read =
 landed_holds : (d : List Declaration) (k : List Enclosing) (parts : List Part) (read : List Tok)
     → StackText d k parts read → (s : Statement)
     → StackText d (landed k parts (statement_tree s)).0 (landed k parts (statement_tree s)).1 (read ++ statement_text s)
-landed_holds d [] parts read h s =
-    (h.0, and_statement h.1 s, h.2, rw h.3 refl, rw h.4 (append_assoc (declarations_text h.0) (statements_text h.1) (statement_text s)))
-landed_holds d (enclosing.Block outer ∷ k) parts read h s =
-    (h.0, h.1, and_statement h.2 s, h.3, rw h.4 refl, rw h.5 (append_assoc h.0 ((word.OpenCurly, h.1) ∷ statements_text h.2) (statement_text s)))
+landed_holds d [] parts read h s = (
+  h.0,
+  and_statement h.1 s,
+  h.2,
+  rw h.3 refl,
+  rw h.4 (append_assoc (declarations_text h.0) (statements_text h.1) (statement_text s)),
+)
+landed_holds d (enclosing.Block outer ∷ k) parts read h s = (
+  h.0,
+  h.1,
+  and_statement h.2 s,
+  h.3,
+  rw h.4 refl,
+  rw h.5 (append_assoc h.0 ((word.OpenCurly, h.1) ∷ statements_text h.2) (statement_text s)),
+)
 landed_holds d (enclosing.For b third step ∷ k) parts read h s =
     subst (λ (x : Part). StackText d (landed k parts x).0 (landed k parts x).1 (read ++ statement_text s))
     (loop_lands h.1 b third step (statement_tree s) h.3 h.4 h.5)
@@ -269,52 +301,142 @@ header_of b third step own v h =
 for_fed : (p : ForPlace) (t : Tok) (next : Where) (m : Nesting) (before own read : List Tok) → Holds m before
     → ForText p own → read ≡ before ++ own → feed_for p t ≡ Some next → Stands (m, next) (read ++ t ∷ [])
 for_fed for_place.Open (word.Open, q) next m before own read h is e step =
-    rw (← some_is (at_for for_place.Int) next step)
-    (before, own ++ (word.Open, q) ∷ [], (h, (is.0, q, rw is.1 refl)), rw e (append_assoc before own ((word.Open, q) ∷ [])))
+    rw (← some_is (at_for for_place.Int) next step) (
+      before,
+      own ++ (word.Open, q)
+          ∷ [],
+      (h, (is.0, q, rw is.1 refl)),
+      rw e (append_assoc before own ((word.Open, q) ∷ [])),
+    )
 for_fed for_place.Open (_, q) next m before own read h is e step = absurd cc
 for_fed for_place.Int (word.Int, i) next m before own read h is e step =
-    rw (← some_is (at_for for_place.Name) next step)
-    (before, own ++ (word.Int, i) ∷ [], (h, (is.0, is.1, i, rw is.2 refl)), rw e (append_assoc before own ((word.Int, i) ∷ [])))
+    rw (← some_is (at_for for_place.Name) next step) (
+      before,
+      own ++ (word.Int, i)
+          ∷ [],
+      (h, (is.0, is.1, i, rw is.2 refl)),
+      rw e (append_assoc before own ((word.Int, i) ∷ [])),
+    )
 for_fed for_place.Int (word.Name text, q) next m before own read h is e step =
-    rw (← some_is (at_for (for_place.Assign (name_of text q))) next step)
-    (before, own ++ (word.Name text, q) ∷ [], (h, (is.0, is.1, None, rw is.2 refl)), rw e (append_assoc before own ((word.Name text, q) ∷ [])))
+    rw (← some_is (at_for (for_place.Assign (name_of text q))) next step) (
+      before,
+      own ++ (word.Name text, q)
+          ∷ [],
+      (h, (is.0, is.1, None, rw is.2 refl)),
+      rw e (append_assoc before own ((word.Name text, q) ∷ [])),
+    )
 for_fed for_place.Int (_, q) next m before own read h is e step = absurd cc
 for_fed for_place.Name (word.Name text, q) next m before own read h is e step =
-    rw (← some_is (at_for (for_place.Assign (name_of text q))) next step)
-    (before, own ++ (word.Name text, q) ∷ [], (h, (is.0, is.1, Some is.2, rw is.3 refl)), rw e (append_assoc before own ((word.Name text, q) ∷ [])))
+    rw (← some_is (at_for (for_place.Assign (name_of text q))) next step) (
+      before,
+      own ++ (word.Name text, q)
+          ∷ [],
+      (h, (is.0, is.1, Some is.2, rw is.3 refl)),
+      rw e (append_assoc before own ((word.Name text, q) ∷ [])),
+    )
 for_fed for_place.Name (_, q) next m before own read h is e step = absurd cc
 for_fed (for_place.Assign n) (word.Assign, q) next m before own read h is e step =
     rw (← some_is (begun (slot.First n)) next step)
     (before, own ++ (word.Assign, q) ∷ [], [], (h, (own, q, is, refl)), refl, rw e (simp (append-nil, append_assoc)))
 for_fed (for_place.Assign n) (_, q) next m before own read h is e step = absurd cc
 for_fed (for_place.Second n first) (word.Name text, q) next m before own read h is e step =
-    rw (← some_is (at_for (for_place.Compare n first (name_of text q))) next step)
-    (before, own ++ (word.Name text, q) ∷ [], (h, (own, is, refl)), rw e (append_assoc before own ((word.Name text, q) ∷ [])))
+    rw (← some_is (at_for (for_place.Compare n first (name_of text q))) next step) (
+      before,
+      own ++ (word.Name text, q)
+          ∷ [],
+      (h, (own, is, refl)),
+      rw e (append_assoc before own ((word.Name text, q) ∷ [])),
+    )
 for_fed (for_place.Second n first) (_, q) next m before own read h is e step = absurd cc
 for_fed (for_place.Compare n first second) (word.Compare Less, q) next m before own read h is e step =
-    rw (← some_is (begun (slot.Bound n first second false)) next step)
-    (before, own ++ (word.Compare Less, q) ∷ [], [], (h, (own, q, is, refl)), refl, rw e (simp (append-nil, append_assoc)))
+    rw (← some_is (begun (slot.Bound n first second false)) next step) (
+      before,
+      own ++ (word.Compare Less, q)
+          ∷ [],
+      [],
+      (h, (own, q, is, refl)),
+      refl,
+      rw e (simp (append-nil, append_assoc)),
+    )
 for_fed (for_place.Compare n first second) (word.Compare LessEq, q) next m before own read h is e step =
-    rw (← some_is (begun (slot.Bound n first second true)) next step)
-    (before, own ++ (word.Compare LessEq, q) ∷ [], [], (h, (own, q, is, refl)), refl, rw e (simp (append-nil, append_assoc)))
+    rw (← some_is (begun (slot.Bound n first second true)) next step) (
+      before,
+      own ++ (word.Compare LessEq, q)
+          ∷ [],
+      [],
+      (h, (own, q, is, refl)),
+      refl,
+      rw e (simp (append-nil, append_assoc)),
+    )
 for_fed (for_place.Compare n first second) (_, q) next m before own read h is e step = absurd cc
 for_fed (for_place.Step b) (word.Name text, q) next m before own read h is e step =
-    rw (← some_is (at_for (for_place.StepSign b (name_of text q))) next step)
-    (before, own ++ (word.Name text, q) ∷ [], (h, (own, is, refl)), rw e (append_assoc before own ((word.Name text, q) ∷ [])))
+    rw (← some_is (at_for (for_place.StepSign b (name_of text q))) next step) (
+      before,
+      own ++ (word.Name text, q)
+          ∷ [],
+      (h, (own, is, refl)),
+      rw e (append_assoc before own ((word.Name text, q) ∷ [])),
+    )
 for_fed (for_place.Step b) (word.Increment, q) next m before own read h is e step =
-    rw (← some_is (at_for (for_place.Third b)) next step)
-    (before, own ++ (word.Increment, q) ∷ [], (h, (own, q, is, refl)), rw e (append_assoc before own ((word.Increment, q) ∷ [])))
+    rw (← some_is (at_for (for_place.Third b)) next step) (
+      before,
+      own ++ (word.Increment, q)
+          ∷ [],
+      (h, (own, q, is, refl)),
+      rw e (append_assoc before own ((word.Increment, q) ∷ [])),
+    )
 for_fed (for_place.Step b) (_, q) next m before own read h is e step = absurd cc
 for_fed (for_place.StepSign b third) (word.Increment, q) next m before own read h is e step =
-    rw (← some_is (at_for (for_place.Close b third)) next step)
-    (before, own ++ (word.Increment, q) ∷ [], (h, (is.0, postfix third q, is.1, refl, refl, rw is.2 (append_assoc is.0 (name_token third ∷ []) ((word.Increment, q) ∷ [])))), rw e (append_assoc before own ((word.Increment, q) ∷ [])))
+    rw (← some_is (at_for (for_place.Close b third)) next step) (
+      before,
+      own ++ (word.Increment, q) ∷ [],
+      (
+        h,
+        (
+          is.0,
+          postfix third q,
+          is.1,
+          refl,
+          refl,
+          rw is.2 (append_assoc is.0 (name_token third ∷ []) ((word.Increment, q) ∷ [])),
+        ),
+      ),
+      rw e (append_assoc before own ((word.Increment, q) ∷ [])),
+    )
 for_fed (for_place.StepSign b third) (word.AddAssign, q) next m before own read h is e step =
-    rw (← some_is (begun (slot.Step b third q)) next step)
-    (before, own ++ (word.AddAssign, q) ∷ [], [], (h, (is.0, is.1, rw is.2 (append_assoc is.0 (name_token third ∷ []) ((word.AddAssign, q) ∷ [])))), refl, rw e (simp (append-nil, append_assoc)))
+    rw (← some_is (begun (slot.Step b third q)) next step) (
+      before,
+      own ++ (word.AddAssign, q) ∷ [],
+      [],
+      (
+        h,
+        (
+          is.0,
+          is.1,
+          rw is.2 (append_assoc is.0 (name_token third ∷ []) ((word.AddAssign, q) ∷ [])),
+        ),
+      ),
+      refl,
+      rw e (simp (append-nil, append_assoc)),
+    )
 for_fed (for_place.StepSign b third) (_, q) next m before own read h is e step = absurd cc
 for_fed (for_place.Third b) (word.Name text, q) next m before own read h is e step =
-    rw (← some_is (at_for (for_place.Close b (name_of text q))) next step)
-    (before, own ++ (word.Name text, q) ∷ [], (h, (is.0, prefix is.1 (name_of text q), is.2, refl, refl, rw is.3 (append_assoc is.0 ((word.Increment, is.1) ∷ []) ((word.Name text, q) ∷ [])))), rw e (append_assoc before own ((word.Name text, q) ∷ [])))
+    rw (← some_is (at_for (for_place.Close b (name_of text q))) next step) (
+      before,
+      own ++ (word.Name text, q) ∷ [],
+      (
+        h,
+        (
+          is.0,
+          prefix is.1 (name_of text q),
+          is.2,
+          refl,
+          refl,
+          rw is.3 (append_assoc is.0 ((word.Increment, is.1) ∷ []) ((word.Name text, q) ∷ [])),
+        ),
+      ),
+      rw e (append_assoc before own ((word.Name text, q) ∷ [])),
+    )
 for_fed (for_place.Third b) (_, q) next m before own read h is e step = absurd cc
 for_fed (for_place.Close b third) t next m before own read h is e step = absurd cc
 
@@ -360,8 +482,12 @@ end_block_fed : (d : List Declaration) (k : List Enclosing) (parts : List Part) 
     → Stands next (read ++ (word.CloseCurly, q) ∷ [])
 end_block_fed d (enclosing.Block outer ∷ k) parts q next read h step =
     let m : Nesting = record { declarations = d; enclosing = k; parts = outer } in
-    rw (← some_is (m, at (place.AfterBlock parts)) next step)
-    (h.0, block_text (braces h.1 h.2 q), (h.3, (braces h.1 h.2 q, h.4, refl)), rw h.5 (append_assoc h.0 ((word.OpenCurly, h.1) ∷ statements_text h.2) ((word.CloseCurly, q) ∷ [])))
+    rw (← some_is (m, at (place.AfterBlock parts)) next step) (
+      h.0,
+      block_text (braces h.1 h.2 q),
+      (h.3, (braces h.1 h.2 q, h.4, refl)),
+      rw h.5 (append_assoc h.0 ((word.OpenCurly, h.1) ∷ statements_text h.2) ((word.CloseCurly, q) ∷ [])),
+    )
 end_block_fed d [] parts q next read h step = absurd cc
 end_block_fed d (enclosing.For b third s ∷ k) parts q next read h step = absurd cc
 end_block_fed d (enclosing.If cond ∷ k) parts q next read h step = absurd cc
@@ -400,8 +526,15 @@ target_fed : (n : Name) (list : List Operand) (t : Tok) (next : State) (m : Nest
     → Holds m before → AccessText n list own → read ≡ before ++ own → feed_target m n list t ≡ Some next
     → Stands next (read ++ t ∷ [])
 target_fed n list (word.OpenSquare, q) next m before own read h is e step =
-    rw (← some_is (m, begun (slot.Subscript n list)) next step)
-    (before, own ++ (word.OpenSquare, q) ∷ [], [], (h, (own, q, is, refl)), refl, rw e (simp (append-nil, append_assoc)))
+    rw (← some_is (m, begun (slot.Subscript n list)) next step) (
+      before,
+      own ++ (word.OpenSquare, q)
+          ∷ [],
+      [],
+      (h, (own, q, is, refl)),
+      refl,
+      rw e (simp (append-nil, append_assoc)),
+    )
 target_fed n list (word.Assign, q) next m before own read h is e step =
     rw (← some_is (m, begun (slot.Assigned n list)) next step)
     (before, own ++ (word.Assign, q) ∷ [], [], (h, (own, q, is, refl)), refl, rw e (simp (append-nil, append_assoc)))
@@ -410,8 +543,14 @@ target_fed n list (_, q) next m before own read h is e step = absurd cc
 if_fed : (t : Tok) (next : State) (m : Nesting) (before own read : List Tok) (p : ℕ) → Holds m before
     → own ≡ (word.If, p) ∷ [] → read ≡ before ++ own → feed_if m t ≡ Some next → Stands next (read ++ t ∷ [])
 if_fed (word.Open, q) next m before own read p h is e step =
-    rw (← some_is (m, begun (slot.Left [])) next step)
-    (before, (word.If, p) ∷ (word.Open, q) ∷ [], [], (h, (p, q, [], inl (refl, refl), refl)), refl, rw (e, is) (append_assoc before ((word.If, p) ∷ []) ((word.Open, q) ∷ [])))
+    rw (← some_is (m, begun (slot.Left [])) next step) (
+      before,
+      (word.If, p) ∷ (word.Open, q) ∷ [],
+      [],
+      (h, (p, q, [], inl (refl, refl), refl)),
+      refl,
+      rw (e, is) (append_assoc before ((word.If, p) ∷ []) ((word.Open, q) ∷ [])),
+    )
 if_fed (_, q) next m before own read p h is e step = absurd cc
 
 -- ---- declarations
@@ -424,7 +563,16 @@ declared_stands : (m : Nesting) (w : DeclWord) (names : List Named) (d : Declare
 declared_stands m w names d before own read q h tree text e = (
   read ++ (word.Semi, q) ∷ [],
   [],
-  ((also_declared h.0 d, h.1, h.2, rw (h.3, tree) refl, rw (e, h.4, text) (append_assoc (declarations_text h.0) own ((word.Semi, q) ∷ []))), refl),
+  (
+    (
+      also_declared h.0 d,
+      h.1,
+      h.2,
+      rw (h.3, tree) refl,
+      rw (e, h.4, text) (append_assoc (declarations_text h.0) own ((word.Semi, q) ∷ [])),
+    ),
+    refl,
+  ),
   sym (append-nil (read ++ (word.Semi, q) ∷ [])),
 )
 
@@ -443,28 +591,81 @@ declare_fed : (p : DeclarePlace) (t : Tok) (next : State) (m : Nesting) (before 
     → DeclareText p own → read ≡ before ++ own → feed_declare m p t ≡ Some next → Stands next (read ++ t ∷ [])
 declare_fed (declare.Parameter names) (word.Name text, q) next m before own read h is e step =
     let ns = end_list word.Comma parameter_text parameter names is.1 is.2 (name_of text q) in
-    rw (← some_is (m, at_declare (declare.AfterParameter (names ++ named_of (name_of text q) [] ∷ []))) next step)
-    (before, own ++ (word.Name text, q) ∷ [], (h, (is.0, ns.0, ns.1, rw (is.3, ns.2) refl)), rw e (append_assoc before own ((word.Name text, q) ∷ [])))
+    rw (← some_is (m, at_declare (declare.AfterParameter (names ++ named_of (name_of text q) [] ∷ []))) next step) (
+      before,
+      own ++ (word.Name text, q)
+          ∷ [],
+      (h, (is.0, ns.0, ns.1, rw (is.3, ns.2) refl)),
+      rw e (append_assoc before own ((word.Name text, q) ∷ [])),
+    )
 declare_fed (declare.Parameter names) (_, q) next m before own read h is e step = absurd cc
 declare_fed (declare.AfterParameter names) (word.Comma, q) next m before own read h is e step =
-    rw (← some_is (m, at_declare (declare.Parameter names)) next step)
-    (before, own ++ (word.Comma, q) ∷ [], (h, (is.0, separated_text word.Comma parameter_text is.1 ++ (word.Comma, q) ∷ [], inr (is.1, q, is.2, refl), rw is.3 refl)), rw e (append_assoc before own ((word.Comma, q) ∷ [])))
+    rw (← some_is (m, at_declare (declare.Parameter names)) next step) (
+      before,
+      own ++ (word.Comma, q) ∷ [],
+      (
+        h,
+        (
+          is.0,
+          separated_text word.Comma parameter_text is.1 ++ (word.Comma, q)
+              ∷ [],
+          inr (is.1, q, is.2, refl),
+          rw is.3 refl,
+        ),
+      ),
+      rw e (append_assoc before own ((word.Comma, q) ∷ [])),
+    )
 declare_fed (declare.AfterParameter names) (word.Semi, q) next m before own read h is e step =
     rw (← some_is (declared m Param names) next step)
     (declared_stands m Param names (parameters is.0 is.1 q) before own read q h (rw is.2 refl)
     (sym (ap (λ (x : List Tok). x ++ (word.Semi, q) ∷ []) is.3)) e)
 declare_fed (declare.AfterParameter names) (_, q) next m before own read h is e step = absurd cc
 declare_fed (declare.Array w names) (word.Name text, q) next m before own read h is e step =
-    rw (← some_is (m, at_declare (declare.AfterArray w names (name_of text q) [])) next step)
-    (before, own ++ (word.Name text, q) ∷ [], (h, (own, (word.Name text, q) ∷ [], is, (name (name_of text q), refl, refl, refl), refl)), rw e (append_assoc before own ((word.Name text, q) ∷ [])))
+    rw (← some_is (m, at_declare (declare.AfterArray w names (name_of text q) [])) next step) (
+      before,
+      own ++ (word.Name text, q) ∷ [],
+      (
+        h,
+        (
+          own,
+          (word.Name text, q) ∷ [],
+          is,
+          (name (name_of text q), refl, refl, refl),
+          refl,
+        ),
+      ),
+      rw e (append_assoc before own ((word.Name text, q) ∷ [])),
+    )
 declare_fed (declare.Array w names) (_, q) next m before own read h is e step = absurd cc
 declare_fed (declare.AfterArray w names n list) (word.OpenSquare, q) next m before own read h is e step =
-    rw (← some_is (m, begun (slot.Extent w names n list)) next step)
-    (before, own ++ (word.OpenSquare, q) ∷ [], [], (h, (own, q, is, refl)), refl, rw e (simp (append-nil, append_assoc)))
+    rw (← some_is (m, begun (slot.Extent w names n list)) next step) (
+      before,
+      own ++ (word.OpenSquare, q)
+          ∷ [],
+      [],
+      (h, (own, q, is, refl)),
+      refl,
+      rw e (simp (append-nil, append_assoc)),
+    )
 declare_fed (declare.AfterArray w names n list) (word.Comma, q) next m before own read h is e step =
     let xs = arrays_end w names n list own is in
-    rw (← some_is (m, at_declare (declare.Array w (names ++ named_of n list ∷ []))) next step)
-    (before, own ++ (word.Comma, q) ∷ [], (h, (xs.0, xs.1, separated_text word.Comma access_text xs.2 ++ (word.Comma, q) ∷ [], xs.3, inr (xs.2, q, xs.4, refl), ap (λ (x : List Tok). x ++ (word.Comma, q) ∷ []) xs.5)), rw e (append_assoc before own ((word.Comma, q) ∷ [])))
+    rw (← some_is (m, at_declare (declare.Array w (names ++ named_of n list ∷ []))) next step) (
+      before,
+      own ++ (word.Comma, q) ∷ [],
+      (
+        h,
+        (
+          xs.0,
+          xs.1,
+          separated_text word.Comma access_text xs.2 ++ (word.Comma, q)
+              ∷ [],
+          xs.3,
+          inr (xs.2, q, xs.4, refl),
+          ap (λ (x : List Tok). x ++ (word.Comma, q) ∷ []) xs.5,
+        ),
+      ),
+      rw e (append_assoc before own ((word.Comma, q) ∷ [])),
+    )
 declare_fed (declare.AfterArray w names n list) (word.Semi, q) next m before own read h is e step =
     let xs = arrays_end w names n list own is in
     rw (← some_is (declared m w (names ++ named_of n list ∷ [])) next step)
@@ -496,12 +697,34 @@ comparison_fed : (m : Nesting) (before own read : List Tok) (p q : ℕ) (xs : Se
     → own ≡ (word.If, p) ∷ (word.Open, q) ∷ separated_text word.And compared_text xs → read ≡ before ++ own
     → feed_comparison m cond w ≡ Some next → Stands next (read ++ (w, r) ∷ [])
 comparison_fed m before own read p q xs cond word.And r next h is text e step =
-    rw (← some_is (m, begun (slot.Left cond)) next step)
-    (before, own ++ (word.And, r) ∷ [], [], (h, (p, q, separated_text word.And compared_text xs ++ (word.And, r) ∷ [], inr (xs, r, is, refl), rw text refl)), refl, rw e (simp (append-nil, append_assoc)))
+    rw (← some_is (m, begun (slot.Left cond)) next step) (
+      before,
+      own ++ (word.And, r) ∷ [],
+      [],
+      (
+        h,
+        (
+          p,
+          q,
+          separated_text word.And compared_text xs ++ (word.And, r)
+              ∷ [],
+          inr (xs, r, is, refl),
+          rw text refl,
+        ),
+      ),
+      refl,
+      rw e (simp (append-nil, append_assoc)),
+    )
 comparison_fed m before own read p q xs cond word.Close r next h is text e step =
     rw (← some_is (enclosed m (enclosing.If cond), at place.Statement) next step)
-    (at_statement (enclosed m (enclosing.If cond)) (read ++ (word.Close, r) ∷ [])
-    (before, guard p q xs r, h, is, rw (e, text) (append_assoc before ((word.If, p) ∷ (word.Open, q) ∷ separated_text word.And compared_text xs) ((word.Close, r) ∷ []))))
+    (at_statement (enclosed m (enclosing.If cond)) (read ++ (word.Close, r) ∷ []) (
+      before,
+      guard p q xs r,
+      h,
+      is,
+      rw (e, text) (append_assoc before
+          ((word.If, p) ∷ (word.Open, q) ∷ separated_text word.And compared_text xs) ((word.Close, r) ∷ [])),
+    ))
 comparison_fed m before own read p q xs cond _ r next h is text e step = absurd cc
 
 assigned_fed : (m : Nesting) (before own read : List Tok) (a : Access) (p : ℕ) (x : Expr) (w : Lexeme) (r : ℕ)
@@ -510,7 +733,10 @@ assigned_fed : (m : Nesting) (before own read : List Tok) (a : Access) (p : ℕ)
 assigned_fed m before own read a p x word.Semi r next h text e step =
     let whole : read ++ (word.Semi, r) ∷ [] ≡ before ++ statement_text (assign a p x r) =
     rw (e, text) (simp append_assoc) in
-    rw (← some_is (settled m (part.Assign (accessed a) (subscripts a) (expr_tree x)), at place.Statement) next step, whole)
+    rw (
+      ← some_is (settled m (part.Assign (accessed a) (subscripts a) (expr_tree x)), at place.Statement) next step,
+      whole,
+    )
     (at_statement (settled m (part.Assign (accessed a) (subscripts a) (expr_tree x)))
     (before ++ statement_text (assign a p x r)) (settled_holds m before h (assign a p x r)))
 assigned_fed m before own read a p x _ r next h text e step = absurd cc
@@ -518,8 +744,13 @@ assigned_fed m before own read a p x _ r next h text e step = absurd cc
 more_access : (n : Name) (list : List Operand) (text own : List Tok) (q : ℕ) (x : Expr) (r : ℕ) → AccessText n list text
     → own ≡ text ++ (word.OpenSquare, q) ∷ []
     → AccessText n (list ++ expr_tree x ∷ []) (own ++ (expr_text x ++ (word.CloseSquare, r) ∷ []))
-more_access n list text own q x r is e =
-    (subscript is.0 q x r, is.1, rw is.2 refl, rw (e, is.3) (append_assoc (access_text is.0) ((word.OpenSquare, q) ∷ []) (expr_text x ++ (word.CloseSquare, r) ∷ [])))
+more_access n list text own q x r is e = (
+  subscript is.0 q x r,
+  is.1,
+  rw is.2 refl,
+  rw (e, is.3)
+      (append_assoc (access_text is.0) ((word.OpenSquare, q) ∷ []) (expr_text x ++ (word.CloseSquare, r) ∷ [])),
+)
 
 -- `own` stands before the expression, whose text is `expr_text x`
 fill_fed : (s : Slot) (t : Tok) (next : State) (m : Nesting) (before own read : List Tok) (x : Expr)
@@ -530,7 +761,17 @@ fill_fed (slot.Extent w names n list) (word.CloseSquare, q) next m before own re
     rw (← some_is (m, at_declare (declare.AfterArray w names n (list ++ expr_tree x ∷ []))) next step) (
       before,
       own ++ (expr_text x ++ (word.CloseSquare, q) ∷ []),
-      (h.0, (a.0, (a.1 ++ (word.OpenSquare, is.1) ∷ []) ++ (expr_text x ++ (word.CloseSquare, q) ∷ []), a.2, more_access n list a.1 (a.1 ++ (word.OpenSquare, is.1) ∷ []) is.1 x q a.3 refl, rw (is.3, a.4) (simp append_assoc))),
+      (
+        h.0,
+        (
+          a.0,
+          (a.1 ++ (word.OpenSquare, is.1) ∷ []) ++ (expr_text x ++ (word.CloseSquare, q) ∷ []),
+          a.2,
+          more_access
+              n list a.1 (a.1 ++ (word.OpenSquare, is.1) ∷ []) is.1 x q a.3 refl,
+          rw (is.3, a.4) (simp append_assoc),
+        ),
+      ),
       rw e (simp append_assoc),
     )
 fill_fed (slot.Extent w names n list) (_, q) next m before own read x h e step = absurd cc
@@ -545,11 +786,23 @@ fill_fed (slot.Bound n first second inclusive) (word.Semi, q) next m before own 
 fill_fed (slot.Bound n first second inclusive) (_, q) next m before own read x h e step = absurd cc
 fill_fed (slot.Step b third token) (w, q) next m before own read x h e step =
     let is = h.1 in
-    step_fed b third (By token (expr_tree x)) w q next m before (own ++ expr_text x) read h.0
-    (is.0, compound third token x, is.1, refl, refl, rw is.2 (append_assoc is.0 (name_token third ∷ (word.AddAssign, token) ∷ []) (expr_text x))) e step
+    step_fed b third (By token (expr_tree x)) w q next m before (own ++ expr_text x) read h.0 (
+      is.0,
+      compound third token x,
+      is.1,
+      refl,
+      refl,
+      rw is.2 (append_assoc is.0 (name_token third ∷ (word.AddAssign, token) ∷ []) (expr_text x)),
+    ) e step
 fill_fed (slot.Left cond) (word.Compare sign, q) next m before own read x h e step =
-    rw (← some_is (m, begun (slot.Right cond (expr_tree x) sign q)) next step)
-    (before, own ++ (expr_text x ++ (word.Compare sign, q) ∷ []), [], (h.0, (own, x, h.1, refl, refl)), refl, rw e (simp (append-nil, append_assoc)))
+    rw (← some_is (m, begun (slot.Right cond (expr_tree x) sign q)) next step) (
+      before,
+      own ++ (expr_text x ++ (word.Compare sign, q) ∷ []),
+      [],
+      (h.0, (own, x, h.1, refl, refl)),
+      refl,
+      rw e (simp (append-nil, append_assoc)),
+    )
 fill_fed (slot.Left cond) (_, q) next m before own read x h e step = absurd cc
 fill_fed (slot.Right cond left sign token) (w, q) next m before own read x h e step =
     let l = h.1 in let c = l.2 in
@@ -559,8 +812,12 @@ fill_fed (slot.Right cond left sign token) (w, q) next m before own read x h e s
     (rw (l.4, c.4, xs.2) (simp append_assoc)) e step
 fill_fed (slot.Subscript n list) (word.CloseSquare, q) next m before own read x h e step =
     let is = h.1 in
-    rw (← some_is (m, at (place.Target n (list ++ expr_tree x ∷ []))) next step)
-    (before, own ++ (expr_text x ++ (word.CloseSquare, q) ∷ []), (h.0, more_access n list is.0 own is.1 x q is.2 is.3), rw e (simp append_assoc))
+    rw (← some_is (m, at (place.Target n (list ++ expr_tree x ∷ []))) next step) (
+      before,
+      own ++ (expr_text x ++ (word.CloseSquare, q) ∷ []),
+      (h.0, more_access n list is.0 own is.1 x q is.2 is.3),
+      rw e (simp append_assoc),
+    )
 fill_fed (slot.Subscript n list) (_, q) next m before own read x h e step = absurd cc
 fill_fed (slot.Assigned n list) (w, q) next m before own read x h e step =
     let is = h.1 in let a = is.2 in

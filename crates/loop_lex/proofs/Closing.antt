@@ -1,5 +1,6 @@
 -- Where the first `*/` of a comment ends.
-use Rattle.std.proofs.Common.{◌≡◌, ℕ, zero, suc, ◌+◌, ◌-◌, ◌<◌, ◌≤◌, Bool, false, ◌&&◌, drop-cons, length-drop, List, [], ◌∷◌, length, take, drop, refl, sym, ◌∙◌, arith, inl, inr, nat_eq, get_or, ◌==◌}
+use Rattle.std.proofs.Common.{◌≡◌, ℕ, zero, suc, ◌+◌, ◌-◌, ◌<◌, ◌≤◌, Bool, false, ◌&&◌, drop-cons, length-drop, List}
+use Rattle.std.proofs.Common.{[], ◌∷◌, length, take, drop, refl, sym, ◌∙◌, arith, inl, inr, nat_eq, get_or, ◌==◌}
 use Rattle.std.proofs.lemmas.Bool.{cases_lt}
 use Rattle.std.proofs.lemmas.Bool.Decides.{nat_tests}
 use Rattle.loop_lex.specs.Lexical.{ends_at_first_close}

@@ -1,9 +1,11 @@
 -- What an input element with a given first byte can be.
-use Rattle.std.proofs.Common.{◌≡◌, ℕ, ◌<◌, Bool, true, false, not, ◌&&◌, ◌||◌, List, [], ◌∷◌, length, refl, arith, nat_le, nat_eq}
+use Rattle.std.proofs.Common.{◌≡◌, ℕ, ◌<◌, Bool, true, false, not, ◌&&◌, ◌||◌, List, [], ◌∷◌, length, refl, arith}
+use Rattle.std.proofs.Common.{nat_le, nat_eq}
 use Rattle.std.specs.List.{list_all, list_any}
 use Rattle.std.specs.Str.{bytes_eq}
 use Rattle.std.proofs.lemmas.Bool.Decides.{nat_tests}
-use Rattle.loop_lex.specs.Lexical.{is_input_element, is_space, is_sign, signs, is_letter, is_digit, is_letter_or_digit, is_line_feed, ends_at_first_close}
+use Rattle.loop_lex.specs.Lexical.{is_input_element, is_space, is_sign, signs, is_letter, is_digit, is_letter_or_digit}
+use Rattle.loop_lex.specs.Lexical.{is_line_feed, ends_at_first_close}
 use Rattle.loop_lex.specs.Front.{BeginsSignOnly}
 
 pub or_false : (x : Bool) → (x || false) ≡ x
@@ -81,11 +83,25 @@ space_begins b h = grind (arith, nat_tests)
 
 pub of_letter : (b : ℕ) → is_letter b ≡ true → BeginsNoSign b true false
 of_letter b h =
-    record { space = grind (arith, nat_tests); letter_is = h; digit_is = grind (arith, nat_tests); slash = grind (arith, nat_tests); sign = λ t. no_sign b t (letter_begins b h) }
+    record {
+      space = grind (arith, nat_tests);
+      letter_is = h;
+      digit_is = grind (arith, nat_tests);
+      slash =
+          grind (arith, nat_tests);
+      sign = λ t. no_sign b t (letter_begins b h);
+    }
 
 pub of_digit : (b : ℕ) → is_digit b ≡ true → BeginsNoSign b false true
 of_digit b h =
-    record { space = grind (arith, nat_tests); letter_is = grind (arith, nat_tests); digit_is = h; slash = grind (arith, nat_tests); sign = λ t. no_sign b t (digit_begins b h) }
+    record {
+      space = grind (arith, nat_tests);
+      letter_is = grind (arith, nat_tests);
+      digit_is = h;
+      slash =
+          grind (arith, nat_tests);
+      sign = λ t. no_sign b t (digit_begins b h);
+    }
 
 space_is_no_other : (b : ℕ) → is_space b ≡ true → (is_letter b ≡ false) × (is_digit b ≡ false) × (nat_eq b 47 ≡ false)
 space_is_no_other b h = (grind (arith, nat_tests), grind (arith, nat_tests), grind (arith, nat_tests))

@@ -1,12 +1,16 @@
 -- The longest input element at the front.
-use Rattle.std.proofs.Common.{◌≡◌, ℕ, zero, suc, ◌+◌, ◌<◌, ◌≤◌, Bool, true, false, cond, if◌then◌else◌, not, ◌||◌, List, [], ◌∷◌, length, take, refl, ◌∙◌, arith, inl, inr, nat_eq, get_or}
+use Rattle.std.proofs.Common.{◌≡◌, ℕ, zero, suc, ◌+◌, ◌<◌, ◌≤◌, Bool, true, false, cond, if◌then◌else◌, not, ◌||◌, List}
+use Rattle.std.proofs.Common.{[], ◌∷◌, length, take, refl, ◌∙◌, arith, inl, inr, nat_eq, get_or}
 use Rattle.std.specs.List.{list_all, prefix_len}
 use Rattle.std.proofs.lemmas.Bool.{cases_lt}
-use Rattle.loop_lex.specs.Lexical.{is_input_element, is_separator, is_space, is_sign, is_reserved, is_letter, is_digit, is_letter_or_digit, is_line_feed, opens_comment}
+use Rattle.loop_lex.specs.Lexical.{is_input_element, is_separator, is_space, is_sign, is_reserved, is_letter, is_digit}
+use Rattle.loop_lex.specs.Lexical.{is_letter_or_digit, is_line_feed, opens_comment}
 use Rattle.loop_lex.specs.Front.{ClosesAt, NeverCloses, IsLongest, Begins, BeginsSignOnly, begins_double_sign}
 use Rattle.loop_lex.specs.Tokens.{longest_up_to, longest, kind_of}
 use Rattle.loop_lex.specs.declared.token.TokenKind.TheVariants.{Name, Number, Reserved, Sign}
-use Rattle.loop_lex.proofs.Elements.{of_letter, of_digit, and_no, space_alone, letter_element, digit_element, line_element, block_element, slash_element, sign_element_one, sign_element, long_sign}
+use Rattle.loop_lex.proofs.Elements.{of_letter, of_digit, and_no, space_alone, letter_element, digit_element}
+use Rattle.loop_lex.proofs.Elements.{line_element, block_element, slash_element, sign_element_one, sign_element}
+use Rattle.loop_lex.proofs.Elements.{long_sign}
 
 abbrev pub NoneOver : List ℕ → ℕ → Type 0
 NoneOver bytes n = (m : ℕ) → n < m → m ≤ length bytes → is_input_element (take m bytes) ≡ false
@@ -109,7 +113,13 @@ one_is b bs one more = longest_is (length (b ∷ bs)) (b ∷ bs) 0 (omega arith)
 
 pub space_found : (b : ℕ) (bs : List ℕ) → is_space b ≡ true → IsLongest (b ∷ bs) 1 true
 space_found b bs h =
-    record { some = omega arith; within = omega arith; greatest = one_is b bs (rw h refl) (λ c t. space_alone b c t h); sort = rw h refl }
+    record {
+      some = omega arith;
+      within = omega arith;
+      greatest =
+          one_is b bs (rw h refl) (λ c t. space_alone b c t h);
+      sort = rw h refl;
+    }
 
 pub no_separator : (b : ℕ) (t : List ℕ) → is_space b ≡ false → nat_eq b 47 ≡ false → is_separator (b ∷ t) ≡ false
 no_separator b [] s e = rw s refl

@@ -1,10 +1,14 @@
 -- What the tokens of a source keep.
-use Rattle.std.proofs.Common.{◌≡◌, ℕ, zero, suc, ◌+◌, ◌-◌, ◌<◌, ◌≤◌, Bool, true, false, if◌then◌else◌, ◌||◌, List, [], ◌∷◌, length, take, drop, refl, sym, ap, ◌∙◌, subst, arith, nat_eq, nat_lt, get_or, Result, Ok, Err, add-zero}
+use Rattle.std.proofs.Common.{◌≡◌, ℕ, zero, suc, ◌+◌, ◌-◌, ◌<◌, ◌≤◌, Bool, true, false, if◌then◌else◌, ◌||◌, List, []}
+use Rattle.std.proofs.Common.{◌∷◌, length, take, drop, refl, sym, ap, ◌∙◌, subst, arith, nat_eq, nat_lt, get_or, Result}
+use Rattle.std.proofs.Common.{Ok, Err, add-zero}
 use Rattle.std.specs.Prelude.{All, AllPairs}
 use Rattle.std.proofs.lemmas.List.{drop-drop, length-take}
 use Rattle.std.proofs.lemmas.Bool.Decides.{nat_tests}
-use Rattle.loop_lex.specs.Lexical.{is_input_element, is_separator, is_token, is_word, is_digits, is_reserved, is_sign, is_large, number_value, greatest_number}
-use Rattle.loop_lex.specs.Tokens.{token_limit, longest, tokens_from, tokens, element, before, token_at, kind_of, text_of, IsTextOf, IsTokenOf, AreTokensOf}
+use Rattle.loop_lex.specs.Lexical.{is_input_element, is_separator, is_token, is_word, is_digits, is_reserved, is_sign}
+use Rattle.loop_lex.specs.Lexical.{is_large, number_value, greatest_number}
+use Rattle.loop_lex.specs.Tokens.{token_limit, longest, tokens_from, tokens, element, before, token_at, kind_of}
+use Rattle.loop_lex.specs.Tokens.{text_of, IsTextOf, IsTokenOf, AreTokensOf}
 use Rattle.loop_lex.specs.declared.token.Token.{Token}
 use Rattle.loop_lex.specs.declared.token.LexError.{LexError}
 use Rattle.loop_lex.specs.declared.token.LexError.TheVariants.{LargeNumber, TooMany}

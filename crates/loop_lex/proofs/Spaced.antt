@@ -1,16 +1,19 @@
 -- Tokens that were written with a space behind each are read back.
-use Rattle.std.proofs.Common.{◌≡◌, ℕ, zero, suc, ◌+◌, ◌-◌, ◌<◌, ◌≤◌, Bool, true, false, not, ◌&&◌, List, [], ◌∷◌, ◌++◌, length, take, drop, refl, sym, ap, ◌∙◌, arith, nat_eq, Result, Ok, map, length-append}
+use Rattle.std.proofs.Common.{◌≡◌, ℕ, zero, suc, ◌+◌, ◌-◌, ◌<◌, ◌≤◌, Bool, true, false, not, ◌&&◌, List, [], ◌∷◌, ◌++◌}
+use Rattle.std.proofs.Common.{length, take, drop, refl, sym, ap, ◌∙◌, arith, nat_eq, Result, Ok, map, length-append}
 use Rattle.std.specs.List.{list_all}
 use Rattle.std.specs.Str.{bytes_eq}
 use Rattle.std.proofs.lemmas.Bool.Decides.{nat_tests}
 use Rattle.std.proofs.lemmas.List.{drop-drop}
-use Rattle.loop_lex.specs.Lexical.{is_input_element, is_separator, is_token, is_space, is_sign, signs, is_letter, is_digit, is_letter_or_digit, is_large}
+use Rattle.loop_lex.specs.Lexical.{is_input_element, is_separator, is_token, is_space, is_sign, signs, is_letter}
+use Rattle.loop_lex.specs.Lexical.{is_digit, is_letter_or_digit, is_large}
 use Rattle.loop_lex.specs.Front.{BeginsSignOnly, IsLongest}
 use Rattle.loop_lex.specs.Tokens.{token_limit, tokens, tokens_from, token_at, before, text_of}
 use Rattle.loop_lex.specs.Spaced.{are_token_texts, spaced, spaced_tokens}
 use Rattle.loop_lex.specs.declared.token.Token.{Token}
 use Rattle.loop_lex.specs.declared.token.LexError.{LexError}
-use Rattle.loop_lex.proofs.Elements.{BeginsNoSign, of_letter, of_digit, and_left, and_right, and_no, not_and, none_of, no_sign, space_begins, letter_element, digit_element, sign_element, long_sign}
+use Rattle.loop_lex.proofs.Elements.{BeginsNoSign, of_letter, of_digit, and_left, and_right, and_no, not_and, none_of}
+use Rattle.loop_lex.proofs.Elements.{no_sign, space_begins, letter_element, digit_element, sign_element, long_sign}
 use Rattle.loop_lex.proofs.Longest.{longest_is, NoneOver, no_separator, space_found}
 use Rattle.loop_lex.proofs.Loop.{at_element, element_separates, element_token}
 

@@ -18,8 +18,12 @@ use Rattle.loop_grammar.specs.declared.tree.Named.{Named}
 use Rattle.std.specs.List.{flat_map}
 use Rattle.loop_print.specs.declared.printer.Rank.{Rank}
 use Rattle.loop_print.specs.declared.printer.Rank.TheVariants as rank
-use Rattle.loop_print.specs.Printing.{Writes, written, named_words, declaration_words, phrase_at, phrase_of, phrase_words, in_parentheses, joined, binary_word, binary_rank, right_rank, expr_words, access_words, step_words, header_words, guard_words, in_braces, assign_words, part_words, other_words, parts_words}
-use Rattle.loop_print.proofs.Phrases.{choice_of, phrase_number, phrase_access, phrase_binary, phrase_neg, phrase_choice, words_for, words_if, words_assign, words_block}
+use Rattle.loop_print.specs.Printing.{Writes, written, named_words, declaration_words, phrase_at, phrase_of}
+use Rattle.loop_print.specs.Printing.{phrase_words, in_parentheses, joined, binary_word, binary_rank, right_rank}
+use Rattle.loop_print.specs.Printing.{expr_words, access_words, step_words, header_words, guard_words, in_braces}
+use Rattle.loop_print.specs.Printing.{assign_words, part_words, other_words, parts_words}
+use Rattle.loop_print.proofs.Phrases.{choice_of, phrase_number, phrase_access, phrase_binary, phrase_neg, phrase_choice}
+use Rattle.loop_print.proofs.Phrases.{words_for, words_if, words_assign, words_block}
 use Rattle.loop_print.proofs.Written.{behind, nothing, recast}
 
 pub number_written : (op : Operand) (value : ℤ) (token : ℕ) {o0 o1 : List ℕ} → op ≡ operand.Number value token

@@ -12,15 +12,23 @@ use Rattle.loop_grammar.specs.declared.tree.Name.{Name}
 use Rattle.loop_grammar.specs.declared.tree.Other.{Other}
 use Rattle.loop_grammar.specs.declared.tree.Operand.{Operand}
 use Rattle.loop_grammar.specs.declared.tree.Operand.TheOpen as layer
-use Rattle.loop_grammar.specs.declared.tree.Operand.TheVariants.{Number, Access, Binary, Neg, Min, Max, rolls-Number, rolls-Access, rolls-Binary, rolls-Neg, rolls-Min, rolls-Max}
+use Rattle.loop_grammar.specs.declared.tree.Operand.TheVariants.{Number, Access, Binary, Neg, Min, Max, rolls-Number}
+use Rattle.loop_grammar.specs.declared.tree.Operand.TheVariants.{rolls-Access, rolls-Binary, rolls-Neg, rolls-Min}
+use Rattle.loop_grammar.specs.declared.tree.Operand.TheVariants.{rolls-Max}
 use Rattle.loop_grammar.specs.declared.tree.Operand.TheFolds.{fold-roll-Operand}
 use Rattle.loop_grammar.specs.declared.tree.Step.{Step}
 use Rattle.loop_grammar.specs.declared.tree.Part.{Part}
 use Rattle.loop_grammar.specs.declared.tree.Part.TheOpen as part_layer
-use Rattle.loop_grammar.specs.declared.tree.Part.TheVariants.{For, If, Assign, Block, rolls-For, rolls-If, rolls-Assign, rolls-Block}
+use Rattle.loop_grammar.specs.declared.tree.Part.TheVariants.{For, If, Assign, Block, rolls-For, rolls-If, rolls-Assign}
+use Rattle.loop_grammar.specs.declared.tree.Part.TheVariants.{rolls-Block}
 use Rattle.loop_grammar.specs.declared.tree.Part.TheFolds.{fold-roll-Part, fold_out-Other}
-use Rattle.loop_print.specs.Printing.{Phrase, phrase_words, squared_phrase, in_parentheses, in_braces, joined, behind_sign, phrase_step, phrase_of, expr_words, access_words, choice_words, header_words, guard_words, assign_words, part_step, other_step, part_words, other_words, all_words, parts_words}
-use Rattle.loop_print.specs.Numbers.{unnumbered_name, unnumbered_operand_step, unnumbered_operand, unnumbered_comparison, unnumbered_step, unnumbered_part_step, unnumbered_other_step, unnumbered_part}
+use Rattle.loop_print.specs.Printing.{Phrase, phrase_words, squared_phrase, in_parentheses, in_braces, joined}
+use Rattle.loop_print.specs.Printing.{behind_sign, phrase_step, phrase_of, expr_words, access_words, choice_words}
+use Rattle.loop_print.specs.Printing.{header_words, guard_words, assign_words, part_step, other_step, part_words}
+use Rattle.loop_print.specs.Printing.{other_words, all_words, parts_words}
+use Rattle.loop_print.specs.Numbers.{unnumbered_name, unnumbered_operand_step, unnumbered_operand}
+use Rattle.loop_print.specs.Numbers.{unnumbered_comparison, unnumbered_step, unnumbered_part_step}
+use Rattle.loop_print.specs.Numbers.{unnumbered_other_step, unnumbered_part}
 
 -- ---- operands
 

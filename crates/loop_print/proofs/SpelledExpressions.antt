@@ -1,5 +1,7 @@
--- The words of an operand derive, whatever number the first token has, with the operand as their tree, token numbers aside.
-use Rattle.std.proofs.Common.{◌≡◌, ℕ, suc, ◌+◌, ℤ, List, [], ◌∷◌, ◌++◌, map, length, refl, sym, ap, subst, ◌∙◌, append_assoc, arith}
+-- The words of an operand derive, whatever number the first token has, with the operand as their tree, token numbers
+-- aside.
+use Rattle.std.proofs.Common.{◌≡◌, ℕ, suc, ◌+◌, ℤ, List, [], ◌∷◌, ◌++◌, map, length, refl, sym, ap, subst, ◌∙◌}
+use Rattle.std.proofs.Common.{append_assoc, arith}
 use Rattle.std.specs.List.{flat_map}
 use Rattle.std.proofs.lemmas.Grind.{flat_map-append}
 use Rattle.std.proofs.lemmas.List.{append-nil, map-append}
@@ -15,11 +17,17 @@ use Rattle.loop_grammar.specs.declared.tree.Name.{Name}
 use Rattle.loop_grammar.specs.declared.tree.Operand.{Operand}
 use Rattle.loop_grammar.specs.declared.tree.Operand as operand
 use Rattle.loop_grammar.specs.declared.tree.Operand.TheOpen as layer
-use Rattle.loop_grammar.specs.Grammar.{Tok, SumSign, plus, minus, Expr, Term, Factor, Access, Exprs, term, sum, factor, product, negation, number, parentheses, access, choice, name, subscript, one, also, binary_sign, chosen, expr_text, term_text, factor_text, access_text, exprs_text, expr_tree, term_tree, factor_tree, accessed, subscripts, expr_trees}
+use Rattle.loop_grammar.specs.Grammar.{Tok, SumSign, plus, minus, Expr, Term, Factor, Access, Exprs, term, sum, factor}
+use Rattle.loop_grammar.specs.Grammar.{product, negation, number, parentheses, access, choice, name, subscript, one}
+use Rattle.loop_grammar.specs.Grammar.{also, binary_sign, chosen, expr_text, term_text, factor_text, access_text}
+use Rattle.loop_grammar.specs.Grammar.{exprs_text, expr_tree, term_tree, factor_tree, accessed, subscripts, expr_trees}
 use Rattle.loop_grammar.specs.Lexemes.{numbered_from}
-use Rattle.loop_print.specs.Printing.{Phrase, placed, phrase_at, in_parentheses, joined, behind_sign, phrase_step, phrase_of, expr_words, subscript_words, access_words, choice_words}
+use Rattle.loop_print.specs.Printing.{Phrase, placed, phrase_at, in_parentheses, joined, behind_sign, phrase_step}
+use Rattle.loop_print.specs.Printing.{phrase_of, expr_words, subscript_words, access_words, choice_words}
 use Rattle.loop_print.specs.Numbers.{unnumbered_name, unnumbered_operand}
-use Rattle.loop_print.proofs.Phrases.{factor_phrase, choice_of, phrase_number, phrase_access, phrase_binary, phrase_neg, phrase_choice, unnumbered_number, unnumbered_access, unnumbered_binary, unnumbered_neg, unnumbered_choice}
+use Rattle.loop_print.proofs.Phrases.{factor_phrase, choice_of, phrase_number, phrase_access, phrase_binary, phrase_neg}
+use Rattle.loop_print.proofs.Phrases.{phrase_choice, unnumbered_number, unnumbered_access, unnumbered_binary}
+use Rattle.loop_print.proofs.Phrases.{unnumbered_neg, unnumbered_choice}
 
 -- ---- numbered words
 

@@ -18,12 +18,28 @@ use Rattle.loop_grammar.specs.declared.tree.Part as part
 use Rattle.loop_grammar.specs.declared.tree.Step.{Step}
 use Rattle.loop_grammar.specs.declared.tree.Step.TheVariants.{By}
 use Rattle.loop_grammar.specs.declared.tree.Tree.{Tree}
-use Rattle.loop_grammar.specs.Grammar.{Tok, Expr, Access, access_text, accessed, subscripts, expr_text, expr_tree, Separated, single, more, separated_text, separated_list, Compared, compared, compared_text, compared_tree, Guard, guard, guard_text, guard_tree, Stepped, postfix, prefix, compound, stepped_text, stepped_name, stepped_tree, bound_sign, Header, header, header_text, Statement, loop, guarded, alternative, assign, block, Block, braces, Statements, no_statement, and_statement, statement_text, block_text, statements_text, loop_part, statement_tree, block_parts, statement_trees, array_word, Declared, parameters, arrays, parameter_text, declared_text, parameter, array, declared_tree, Declarations, none_declared, also_declared, declarations_text, declaration_trees, Program, program, program_text, program_tree, Derives}
+use Rattle.loop_grammar.specs.Grammar.{Tok, Expr, Access, access_text, accessed, subscripts, expr_text, expr_tree}
+use Rattle.loop_grammar.specs.Grammar.{Separated, single, more, separated_text, separated_list, Compared, compared}
+use Rattle.loop_grammar.specs.Grammar.{compared_text, compared_tree, Guard, guard, guard_text, guard_tree, Stepped}
+use Rattle.loop_grammar.specs.Grammar.{postfix, prefix, compound, stepped_text, stepped_name, stepped_tree, bound_sign}
+use Rattle.loop_grammar.specs.Grammar.{Header, header, header_text, Statement, loop, guarded, alternative, assign}
+use Rattle.loop_grammar.specs.Grammar.{block, Block, braces, Statements, no_statement, and_statement, statement_text}
+use Rattle.loop_grammar.specs.Grammar.{block_text, statements_text, loop_part, statement_tree, block_parts}
+use Rattle.loop_grammar.specs.Grammar.{statement_trees, array_word, Declared, parameters, arrays, parameter_text}
+use Rattle.loop_grammar.specs.Grammar.{declared_text, parameter, array, declared_tree, Declarations, none_declared}
+use Rattle.loop_grammar.specs.Grammar.{also_declared, declarations_text, declaration_trees, Program, program}
+use Rattle.loop_grammar.specs.Grammar.{program_text, program_tree, Derives}
 use Rattle.loop_grammar.specs.Lexemes.{numbered_from}
-use Rattle.loop_print.specs.Printing.{joined, expr_words, access_words, comparison_words, step_words, header_words, guard_words, in_braces, part_words, parts_words, named_words, declaration_words, tree_words}
-use Rattle.loop_print.specs.Numbers.{unnumbered_name, unnumbered_operand, unnumbered_comparison, unnumbered_step, unnumbered_part, unnumbered_named, unnumbered_declaration, without_token_numbers}
-use Rattle.loop_print.proofs.Phrases.{words_for, words_if, words_assign, words_block, unnumbered_for, unnumbered_if, unnumbered_else, unnumbered_assign, unnumbered_block, unnumbered_other}
-use Rattle.loop_print.proofs.SpelledExpressions.{together, between, enclosed, IsCons, more_is_cons, flat_more, joined_more, map_more, AsExpr, AsAccess, expr_of, spelled_expr, spelled_access}
+use Rattle.loop_print.specs.Printing.{joined, expr_words, access_words, comparison_words, step_words, header_words}
+use Rattle.loop_print.specs.Printing.{guard_words, in_braces, part_words, parts_words, named_words, declaration_words}
+use Rattle.loop_print.specs.Printing.{tree_words}
+use Rattle.loop_print.specs.Numbers.{unnumbered_name, unnumbered_operand, unnumbered_comparison, unnumbered_step}
+use Rattle.loop_print.specs.Numbers.{unnumbered_part, unnumbered_named, unnumbered_declaration, without_token_numbers}
+use Rattle.loop_print.proofs.Phrases.{words_for, words_if, words_assign, words_block, unnumbered_for, unnumbered_if}
+use Rattle.loop_print.proofs.Phrases.{unnumbered_else, unnumbered_assign, unnumbered_block, unnumbered_other}
+use Rattle.loop_print.proofs.SpelledExpressions.{together, between, enclosed, IsCons, more_is_cons, flat_more}
+use Rattle.loop_print.proofs.SpelledExpressions.{joined_more, map_more, AsExpr, AsAccess, expr_of, spelled_expr}
+use Rattle.loop_print.proofs.SpelledExpressions.{spelled_access}
 
 -- ---- lists with a separator
 
@@ -115,7 +131,8 @@ spelled_guard (guard p q cond r) n =
     let list : List Comparison = separated_list compared_tree cond in
     let inside : List Lexeme = joined word.And comparison_words list in
     let x : AsSeparated word.And compared_text compared_tree unnumbered_comparison (n + 1 + 1) inside list =
-    spelled_separated word.And compared_text compared_tree unnumbered_comparison comparison_words spelled_comparison cond (n + 1 + 1) in
+    spelled_separated word.And compared_text compared_tree unnumbered_comparison comparison_words spelled_comparison
+    cond (n + 1 + 1) in
     record {
       new = guard n (n + 1) x.new (n + 1 + 1 + length inside);
       text = ap (λ (ts : List Tok). (word.If, n) ∷ ts)
@@ -426,7 +443,8 @@ spelled_declared : (d : Declared) (n : ℕ)
 spelled_declared (parameters p ns q) n =
     let list : List Named = separated_list parameter ns in
     let x : AsSeparated word.Comma parameter_text parameter unnumbered_named (n + 1)
-    (joined word.Comma named_words list) list = spelled_separated word.Comma parameter_text parameter unnumbered_named named_words spelled_parameter ns (n + 1) in
+    (joined word.Comma named_words list) list = spelled_separated word.Comma parameter_text parameter unnumbered_named
+    named_words spelled_parameter ns (n + 1) in
     record {
       new = parameters n x.new (n + 1 + length (joined word.Comma named_words list));
       text_is = declared_between Param n list (separated_text word.Comma parameter_text x.new) x.text_is;
@@ -435,7 +453,8 @@ spelled_declared (parameters p ns q) n =
 spelled_declared (arrays w p xs q) n =
     let list : List Named = separated_list array xs in
     let x : AsSeparated word.Comma access_text array unnumbered_named (n + 1)
-    (joined word.Comma named_words list) list = spelled_separated word.Comma access_text array unnumbered_named named_words spelled_array xs (n + 1) in
+    (joined word.Comma named_words list) list =
+    spelled_separated word.Comma access_text array unnumbered_named named_words spelled_array xs (n + 1) in
     record {
       new = arrays w n x.new (n + 1 + length (joined word.Comma named_words list));
       text_is = declared_between (array_word w) n list (separated_text word.Comma access_text x.new) x.text_is;

@@ -1,5 +1,7 @@
 -- The text of the words is read back as these words.
-use Rattle.std.proofs.Common.{rules, ◌≡◌, ℕ, suc, ◌+◌, ◌*◌, ◌-◌, ◌^◌, ◌<◌, ◌≤◌, pos, negsuc, Bool, true, false, not, ◌&&◌, ◌||◌, List, [], ◌∷◌, fold, map, length, refl, sym, ap, subst, ◌∙◌, arith, All, nat_lt, Ok}
+use Rattle.std.proofs.Common.{rules, ◌≡◌, ℕ, suc, ◌+◌, ◌*◌, ◌-◌, ◌^◌, ◌<◌, ◌≤◌, pos, negsuc, Bool, true, false, not}
+use Rattle.std.proofs.Common.{◌&&◌, ◌||◌, List, [], ◌∷◌, fold, map, length, refl, sym, ap, subst, ◌∙◌, arith, All}
+use Rattle.std.proofs.Common.{nat_lt, Ok}
 use Rattle.std.specs.Fmt.{decimal}
 use Rattle.std.specs.List.{list_all, list_any}
 use Rattle.std.specs.Str.{bytes_eq}
@@ -10,9 +12,11 @@ use Rattle.std.proofs.lemmas.List.{length-map}
 use Rattle.std.proofs.lemmas.List.Elements.{All-head, All-tail}
 use Rattle.std.proofs.lemmas.Slice.Eq.{bytes_eq-Decides}
 use Rattle.std.proofs.lemmas.Str.Parse.{IsDigitsTest, FoldsDigits, IsNumeralModel, numerals_by_fold}
-use Rattle.loop_lex.specs.Lexical.{is_word, is_letter, is_letter_or_digit, is_digit, is_digits, is_token, is_reserved, is_sign, reserved_words, signs, is_large, number_value, greatest_number}
+use Rattle.loop_lex.specs.Lexical.{is_word, is_letter, is_letter_or_digit, is_digit, is_digits, is_token, is_reserved}
+use Rattle.loop_lex.specs.Lexical.{is_sign, reserved_words, signs, is_large, number_value, greatest_number}
 use Rattle.loop_lex.specs.Spaced.{are_token_texts, spaced, spaced_tokens}
-use Rattle.loop_lex.specs.Tokens.{kind_of, token_at, tokens, token_limit, text_of, IsTextOf as IsKindOf, IsTokenOf, AreTokensOf}
+use Rattle.loop_lex.specs.Tokens.{kind_of, token_at, tokens, token_limit, text_of, IsTextOf as IsKindOf, IsTokenOf}
+use Rattle.loop_lex.specs.Tokens.{AreTokensOf}
 use Rattle.loop_lex.specs.declared.token.Token.{Token}
 use Rattle.loop_lex.specs.declared.token.TokenKind.{TokenKind}
 use Rattle.loop_lex.specs.declared.token.TokenKind.TheVariants as kind
@@ -23,7 +27,8 @@ use Rattle.loop_grammar.specs.declared.tree.CompareSign.TheVariants.{Less, LessE
 use Rattle.loop_grammar.specs.declared.tree.DeclWord.TheVariants.{Param, Input, Output, Both, Var}
 use Rattle.loop_grammar.specs.declared.tree.Tree.{Tree}
 use Rattle.loop_grammar.specs.Grammar.{Tok, Program, program_text, program_tree, Derives}
-use Rattle.loop_grammar.specs.Lexemes.{reserved_lexeme, bracket_lexeme, comparison_lexeme, sign_lexeme, lexeme_of, lexeme_at, numbered_from, sentence}
+use Rattle.loop_grammar.specs.Lexemes.{reserved_lexeme, bracket_lexeme, comparison_lexeme, sign_lexeme, lexeme_of}
+use Rattle.loop_grammar.specs.Lexemes.{lexeme_at, numbered_from, sentence}
 use Rattle.loop_print.specs.Printing.{lexeme_text, written, tree_words}
 use Rattle.loop_print.specs.Numbers.{without_token_numbers}
 use Rattle.loop_print.specs.ReadBack.{HasSource, ReadsBackAs}
@@ -279,8 +284,10 @@ lexeme_word bytes t h = token_word t.kind (text_of bytes t) h.text
 numbered_tokens : (bytes : List ℕ) (n : ℕ) (found : List Token) → All (IsTokenOf bytes) found
     → AreTokens (numbered_from n (map (lexeme_at bytes) found))
 numbered_tokens bytes n [] h = tt
-numbered_tokens bytes n (t ∷ found) h =
-    (lexeme_word bytes t (All-head (IsTokenOf bytes) t found h), numbered_tokens bytes (n + 1) found (All-tail (IsTokenOf bytes) t found h))
+numbered_tokens bytes n (t ∷ found) h = (
+  lexeme_word bytes t (All-head (IsTokenOf bytes) t found h),
+  numbered_tokens bytes (n + 1) found (All-tail (IsTokenOf bytes) t found h),
+)
 
 sentence_tokens : (bytes : List ℕ) (found : List Token) → AreTokensOf bytes found → AreTokens (sentence bytes found)
 unfolding sentence

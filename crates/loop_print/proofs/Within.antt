@@ -1,5 +1,6 @@
 -- The words of a tree are no more than the tokens of a source that has it, and each is a token where those are.
-use Rattle.std.proofs.Common.{◌≡◌, ℕ, ◌+◌, ◌≤◌, pos, negsuc, true, false, Option, Some, None, List, [], ◌∷◌, ◌++◌, length, sym, ap, subst, ◌∙◌, arith, length-append}
+use Rattle.std.proofs.Common.{◌≡◌, ℕ, ◌+◌, ◌≤◌, pos, negsuc, true, false, Option, Some, None, List, [], ◌∷◌, ◌++◌}
+use Rattle.std.proofs.Common.{length, sym, ap, subst, ◌∙◌, arith, length-append}
 use Rattle.std.specs.List.{flat_map}
 use Rattle.std.proofs.lemmas.List.{append-nil}
 use Rattle.loop_lex.specs.Lexical.{is_word, is_reserved, greatest_number}
@@ -16,10 +17,28 @@ use Rattle.loop_grammar.specs.declared.tree.Operand as operand
 use Rattle.loop_grammar.specs.declared.tree.Operand.TheOpen as layer
 use Rattle.loop_grammar.specs.declared.tree.Part.{Part}
 use Rattle.loop_grammar.specs.declared.tree.Part as part
-use Rattle.loop_grammar.specs.Grammar.{Tok, SumSign, plus, minus, Expr, Term, Factor, Access, Exprs, term, sum, factor, product, negation, number, parentheses, access, choice, name, subscript, one, also, sum_word, binary_sign, chosen, expr_text, term_text, factor_text, access_text, exprs_text, expr_tree, term_tree, factor_tree, accessed, subscripts, expr_trees, Separated, single, more, separated_text, separated_list, Compared, compared, compared_text, compared_tree, Guard, guard, guard_text, guard_tree, Stepped, postfix, prefix, compound, stepped_text, stepped_name, stepped_tree, bound_sign, int_text, Header, header, header_text, Statement, loop, guarded, alternative, assign, block, Block, braces, Statements, no_statement, and_statement, statement_text, block_text, statements_text, loop_part, statement_tree, block_parts, statement_trees, array_word, Declared, parameters, arrays, parameter_text, declared_text, parameter, array, declared_tree, Declarations, none_declared, also_declared, declarations_text, declaration_trees, Program, program, program_text, program_tree}
-use Rattle.loop_print.specs.Printing.{Phrase, placed, phrase_at, in_parentheses, joined, phrase_step, phrase_of, expr_words, subscript_words, access_words, choice_words, comparison_words, step_words, guard_words, in_braces, part_words, parts_words, named_words, declaration_words, tree_words}
-use Rattle.loop_print.proofs.Phrases.{factor_phrase, choice_of, phrase_number, phrase_access, phrase_binary, phrase_neg, phrase_choice, words_for, words_if, words_assign, words_block}
-use Rattle.loop_print.proofs.SpelledExpressions.{flat_more, joined_more, exprs_are_cons, IsPlural, more_is_plural, chosen_plural}
+use Rattle.loop_grammar.specs.Grammar.{Tok, SumSign, plus, minus, Expr, Term, Factor, Access, Exprs, term, sum, factor}
+use Rattle.loop_grammar.specs.Grammar.{product, negation, number, parentheses, access, choice, name, subscript, one}
+use Rattle.loop_grammar.specs.Grammar.{also, sum_word, binary_sign, chosen, expr_text, term_text, factor_text}
+use Rattle.loop_grammar.specs.Grammar.{access_text, exprs_text, expr_tree, term_tree, factor_tree, accessed, subscripts}
+use Rattle.loop_grammar.specs.Grammar.{expr_trees, Separated, single, more, separated_text, separated_list, Compared}
+use Rattle.loop_grammar.specs.Grammar.{compared, compared_text, compared_tree, Guard, guard, guard_text, guard_tree}
+use Rattle.loop_grammar.specs.Grammar.{Stepped, postfix, prefix, compound, stepped_text, stepped_name, stepped_tree}
+use Rattle.loop_grammar.specs.Grammar.{bound_sign, int_text, Header, header, header_text, Statement, loop, guarded}
+use Rattle.loop_grammar.specs.Grammar.{alternative, assign, block, Block, braces, Statements, no_statement}
+use Rattle.loop_grammar.specs.Grammar.{and_statement, statement_text, block_text, statements_text, loop_part}
+use Rattle.loop_grammar.specs.Grammar.{statement_tree, block_parts, statement_trees, array_word, Declared, parameters}
+use Rattle.loop_grammar.specs.Grammar.{arrays, parameter_text, declared_text, parameter, array, declared_tree}
+use Rattle.loop_grammar.specs.Grammar.{Declarations, none_declared, also_declared, declarations_text, declaration_trees}
+use Rattle.loop_grammar.specs.Grammar.{Program, program, program_text, program_tree}
+use Rattle.loop_print.specs.Printing.{Phrase, placed, phrase_at, in_parentheses, joined, phrase_step, phrase_of}
+use Rattle.loop_print.specs.Printing.{expr_words, subscript_words, access_words, choice_words, comparison_words}
+use Rattle.loop_print.specs.Printing.{step_words, guard_words, in_braces, part_words, parts_words, named_words}
+use Rattle.loop_print.specs.Printing.{declaration_words, tree_words}
+use Rattle.loop_print.proofs.Phrases.{factor_phrase, choice_of, phrase_number, phrase_access, phrase_binary, phrase_neg}
+use Rattle.loop_print.proofs.Phrases.{phrase_choice, words_for, words_if, words_assign, words_block}
+use Rattle.loop_print.proofs.SpelledExpressions.{flat_more, joined_more, exprs_are_cons, IsPlural, more_is_plural}
+use Rattle.loop_print.proofs.SpelledExpressions.{chosen_plural}
 use Rattle.loop_print.proofs.SpelledSources.{separated_is_cons}
 
 -- ---- words that stand for tokens
@@ -76,7 +95,11 @@ both {a} {b} {ts} {us} ha hb =
     let le' = hb.shorter in
     let ew : length (a ++ b) ≡ length a + length b = length-append a b in
     let et : length (ts ++ us) ≡ length ts + length us = length-append ts us in
-    record { shorter = omega arith; valid = λ v. words_together a b (ha.valid (tokens_left ts us v)) (hb.valid (tokens_right ts us v)) }
+    record {
+      shorter = omega arith;
+      valid =
+          λ v. words_together a b (ha.valid (tokens_left ts us v)) (hb.valid (tokens_right ts us v));
+    }
 
 only_left : {a : List Lexeme} {ts : List Tok} (us : List Tok) → Within a ts → Within a (ts ++ us)
 only_left {a} {ts} us ha =
@@ -221,7 +244,11 @@ swapped : (w v : Lexeme) (p q : ℕ) {a : List Lexeme} {ts : List Tok} → Withi
     → Within (w ∷ v ∷ a) ((v, p) ∷ (w, q) ∷ ts)
 swapped w v p q {a} {ts} h =
     let le =
-    h.shorter in record { shorter = omega arith; valid = λ x. let y : IsTokenWord w × AreTokens ts = x.1 in (y.0, (x.0, h.valid y.1)) }
+    h.shorter in record {
+      shorter = omega arith;
+      valid = λ x. let y : IsTokenWord w × AreTokens ts = x.1
+          in (y.0, (x.0, h.valid y.1));
+    }
 
 step_within : (s : Stepped) → Within (step_words (stepped_name s) (stepped_tree s)) (stepped_text s)
 step_within (postfix x p) = first_within (word.Name x.text) x.token (sign_within word.Increment p)

@@ -1,5 +1,6 @@
 -- Words that are written behind words.
-use Rattle.std.proofs.Common.{◌≡◌, ℕ, ◌+◌, ◌<◌, Bool, true, false, List, [], ◌∷◌, ◌++◌, map, length, take, get_or, refl, sym, ap, subst, ◌∙◌, append_assoc, arith, if◌then◌else◌}
+use Rattle.std.proofs.Common.{◌≡◌, ℕ, ◌+◌, ◌<◌, Bool, true, false, List, [], ◌∷◌, ◌++◌, map, length, take, get_or, refl}
+use Rattle.std.proofs.Common.{sym, ap, subst, ◌∙◌, append_assoc, arith, if◌then◌else◌}
 use Rattle.std.proofs.Math.Seq.{take-length}
 use Rattle.std.specs.List.{flat_map}
 use Rattle.std.proofs.lemmas.Grind.{flat_map-append}
@@ -9,7 +10,8 @@ use Rattle.loop_grammar.specs.declared.lexeme.Lexeme.{Lexeme}
 use Rattle.loop_grammar.specs.declared.lexeme.Lexeme.TheVariants as word
 use Rattle.loop_grammar.specs.declared.tree.Operand.{Operand}
 use Rattle.loop_print.specs.declared.printer.Rank.{Rank}
-use Rattle.loop_print.specs.Printing.{lexeme_text, written, Writes, needs_parentheses, in_parentheses, phrase_at, phrase_of, expr_words, joined, behind_sign}
+use Rattle.loop_print.specs.Printing.{lexeme_text, written, Writes, needs_parentheses, in_parentheses, phrase_at}
+use Rattle.loop_print.specs.Printing.{phrase_of, expr_words, joined, behind_sign}
 
 pub written_append : (a b : List Lexeme) → written (a ++ b) ≡ written a ++ written b
 unfolding written

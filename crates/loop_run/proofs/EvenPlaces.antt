@@ -1,6 +1,7 @@
 -- The places of an access along a loop: where its first and its last cell lie within the extents, so do those between,
 -- and their places change evenly.
-use Rattle.std.proofs.Common.{◌≡◌, ◌<◌, ◌+◌, ◌*◌, ℕ, ℤ, pos, negsuc, ◌+ℤ◌, ◌-ℤ◌, ◌*ℤ◌, ◌≤ℤ◌, ◌<ℤ◌, List, [], ◌∷◌, ◌++◌, map, refl, sym, ap, ◌∙◌, subst, ◌⊎◌, inl, inr, arith}
+use Rattle.std.proofs.Common.{◌≡◌, ◌<◌, ◌+◌, ◌*◌, ℕ, ℤ, pos, negsuc, ◌+ℤ◌, ◌-ℤ◌, ◌*ℤ◌, ◌≤ℤ◌, ◌<ℤ◌, List, [], ◌∷◌, ◌++◌}
+use Rattle.std.proofs.Common.{map, refl, sym, ap, ◌∙◌, subst, ◌⊎◌, inl, inr, arith}
 use Rattle.std.specs.Prelude.{Option, Some, None, nat_lt, cond}
 use Rattle.std.specs.Option.{option_and_then}
 use Rattle.std.proofs.Math.IntN.{*ℤ_comm, *ℤ-one, zero-*ℤ}
@@ -202,7 +203,8 @@ has_line (extent ∷ extents) (form ∷ forms) at start slope low high p q le th
     let high_parts =
     option_parts (rest high) (place_after (natural (start +ℤ (high *ℤ slope))) extent (f high)) q last in
     let step =
-    even_step extent start slope even.start even.slope low high f is le there low_parts.0 high_parts.0 low_parts.1 high_parts.1 in
+    even_step extent start slope even.start even.slope low high f is le there low_parts.0 high_parts.0 low_parts.1
+    high_parts.1 in
     let here : low ≤ℤ low = omega (arith, ints) in
     let end : high ≤ℤ high = omega (arith, ints) in
     let low_same = same_some _ _ _ low_parts.1 (step low here le).1 in
@@ -290,6 +292,12 @@ module _ (extents : List ℤ) (forms : List Form) (at : List ℤ) (first last : 
       same_some _ _ _ (g lt) (sym (from_none (first +ℤ pos 1)) ∙ line.places (first +ℤ pos 1) a b) in
       let value : pos next ≡ line.line_start +ℤ ((first +ℤ pos 1) *ℤ line.line_slope) =
       ap (λ n. pos n) second ∙ natural_pos _ (line.not_negative (first +ℤ pos 1) a b) in
-      omega (arith, ints, sum_times first (pos 1) line.line_slope, *ℤ_comm (pos 1) line.line_slope, *ℤ-one line.line_slope) in
+      omega (
+        arith,
+        ints,
+        sum_times first (pos 1) line.line_slope,
+        *ℤ_comm (pos 1) line.line_slope,
+        *ℤ-one line.line_slope,
+      ) in
       sym (from_none v) ∙ line.places v from to
       ∙ ap (λ z. Some (natural z)) (at_turn place next first last v line.line_start line.line_slope number step from to)

@@ -1,5 +1,6 @@
 -- Cells whose places along a loop are known.
-use Rattle.std.proofs.Common.{◌≡◌, ◌<◌, ◌≤◌, ◌+◌, ℕ, zero, suc, ℤ, pos, ◌≤ℤ◌, ◌<ℤ◌, ◌+ℤ◌, ◌-ℤ◌, List, [], ◌∷◌, ◌++◌, map, set, length, get_or, refl, sym, ap, ◌∙◌, subst, inl, inr, arith}
+use Rattle.std.proofs.Common.{◌≡◌, ◌<◌, ◌≤◌, ◌+◌, ℕ, zero, suc, ℤ, pos, ◌≤ℤ◌, ◌<ℤ◌, ◌+ℤ◌, ◌-ℤ◌, List, [], ◌∷◌, ◌++◌}
+use Rattle.std.proofs.Common.{map, set, length, get_or, refl, sym, ap, ◌∙◌, subst, inl, inr, arith}
 use Rattle.std.specs.Prelude.{Option, Some, IfSome, unsigned_abs}
 use Rattle.std.proofs.lemmas.Bool.{cases_lt}
 use Rattle.std.proofs.lemmas.Int.{ints}
@@ -15,7 +16,8 @@ use Rattle.cell_rows.proofs.CellPlaces.{has_extents}
 use Rattle.cell_rows.proofs.FormSums.{small_size}
 use Rattle.loop_run.specs.declared.along.Lines.{Lines}
 use Rattle.loop_run.specs.declared.lines.Line.{Line}
-use Rattle.loop_run.specs.LinePlaces.{AreLinesOf, ArePlacedBy, AreStatementLines, IsLineOf, IsPlacedBy, IsShortLine, IsStatementPlaced, Places, place_along}
+use Rattle.loop_run.specs.LinePlaces.{AreLinesOf, ArePlacedBy, AreStatementLines, IsLineOf, IsPlacedBy, IsShortLine}
+use Rattle.loop_run.specs.LinePlaces.{IsStatementPlaced, Places, place_along}
 use Rattle.loop_run.proofs.EvenPlaces.{either, line_places, place_limit}
 
 -- a place in rows is within the limit

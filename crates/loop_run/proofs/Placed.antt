@@ -1,5 +1,6 @@
 -- The statements that stand in the body of a nest exist, and have as many loops as stand round them.
-use Rattle.std.proofs.Common.{◌≡◌, ℕ, List, [], ◌∷◌, ◌++◌, map, length, refl, sym, ap, ◌∙◌, subst, append_assoc, length-append}
+use Rattle.std.proofs.Common.{◌≡◌, ℕ, List, [], ◌∷◌, ◌++◌, map, length, refl, sym, ap, ◌∙◌, subst, append_assoc}
+use Rattle.std.proofs.Common.{length-append}
 use Rattle.std.specs.Prelude.{Bool, true, false, ◌==◌, IsTrue, Some, slice_get}
 use Rattle.std.specs.List.{list_all}
 use Rattle.std.specs.Option.{option_map_or}
@@ -13,7 +14,8 @@ use Rattle.sanlp.specs.declared.nest.Node.TheOpen.{Node-F, Loop, Guard, Assign}
 use Rattle.sanlp.specs.declared.nest.Node.TheFolds.{map-Node, fold-roll-Node, ind-Node}
 use Rattle.sanlp.specs.declared.nest.Node.TheViews.{roll-Node}
 use Rattle.sanlp.specs.declared.nest.Statement.{Statement}
-use Rattle.sanlp.specs.WellFormed.{Place, Places, all_places, bound_rows, depth_of, in_each, places_of, places_step, said_from}
+use Rattle.sanlp.specs.WellFormed.{Place, Places, all_places, bound_rows, depth_of, in_each, places_of, places_step}
+use Rattle.sanlp.specs.WellFormed.{said_from}
 use Rattle.loop_run.specs.Execution.{all_placed, is_of_depth, node_placed, placed_step}
 
 -- the statement of a place exists and has the place's loops

@@ -1,5 +1,6 @@
 -- Steps of an execution, over plain variables.
-use Rattle.std.proofs.Common.{◌≡◌, ◌<◌, ◌+◌, ℕ, ℤ, pos, ◌+ℤ◌, ◌≤ℤ◌, ◌<ℤ◌, List, [], ◌∷◌, ◌++◌, map, length, sym, ap, ◌∙◌}
+use Rattle.std.proofs.Common.{◌≡◌, ◌<◌, ◌+◌, ℕ, ℤ, pos, ◌+ℤ◌, ◌≤ℤ◌, ◌<ℤ◌, List, [], ◌∷◌, ◌++◌, map, length, sym, ap}
+use Rattle.std.proofs.Common.{◌∙◌}
 use Rattle.std.specs.Prelude.{Bool, Result, Ok, Err, IsTrue, OnOk}
 use Rattle.affine_core.specs.declared.form.Form.{Form}
 use Rattle.sanlp.specs.declared.nest.Inputs.{Inputs}
@@ -37,7 +38,8 @@ pub loop_keeps : (statements : List Statement) (node : Node) (at : List ℤ) (id
     → (length at < 6)
     × (IsTrue (is_loop_value first) × (IsTrue (is_loop_value last) × (IsTrue (all_forms_fit parts (length at + 1))
     × (IsTrue (all_placed statements parts (length at + 1)) × IsTrue (turns_within parts at (interval first last))))))
-loop_keeps statements node at id lower upper lows ups step body parts first last is low up part range fits placed within =
+loop_keeps statements node at id lower upper lows ups step body parts first last is low up part range fits placed
+    within =
     let fit = loop_fits id lower upper step body (length at) (sym (ap (λ x. forms_fit x (length at)) is) ∙ fits) in
     let all =
     loop_placed id lower upper step body statements (length at)

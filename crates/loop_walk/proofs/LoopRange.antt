@@ -1,9 +1,11 @@
 -- The range of a loop.
 --
--- The greatest and the least value are found form by form, and they are loop values where the values of all forms are. With a
--- step above 1 the turns run from 0 to the quotient of their difference and the step, rounded down. The difference of two loop
--- values has up to twice their limit, and so its quotient by a step of at least 2 is a loop value again.
-use Rattle.std.proofs.Common.{◌≡◌, ◌<◌, ◌+◌, ℕ, zero, suc, ℤ, List, [], ◌∷◌, length, get_or, take, map, sym, ap, ◌∙◌, arith, add-one, pos, negsuc, ◌-ℤ◌, ◌*ℤ◌, ◌≤ℤ◌}
+-- The greatest and the least value are found form by form, and they are loop values where the values of all forms are.
+-- With a step above 1 the turns run from 0 to the quotient of their difference and the step, rounded down. The
+-- difference of two loop values has up to twice their limit, and so its quotient by a step of at least 2 is a loop
+-- value again.
+use Rattle.std.proofs.Common.{◌≡◌, ◌<◌, ◌+◌, ℕ, zero, suc, ℤ, List, [], ◌∷◌, length, get_or, take, map, sym, ap, ◌∙◌}
+use Rattle.std.proofs.Common.{arith, add-one, pos, negsuc, ◌-ℤ◌, ◌*ℤ◌, ◌≤ℤ◌}
 use Rattle.std.specs.List.{fold, list_all}
 use Rattle.std.specs.Prelude.{Bool, true, false, cond, ◌&&◌, IsTrue, if◌then◌else◌, int_lt}
 use Rattle.std.specs.Int.{int_div_euclid, int_max, int_min}

@@ -1,5 +1,6 @@
 -- The count is the size, where it is within its limit and all loops that are entered are too.
-use Rattle.std.proofs.Common.{◌≡◌, ◌<◌, ◌≤◌, ◌+◌, ◌*◌, ℕ, zero, suc, ℤ, pos, ◌+ℤ◌, ◌-ℤ◌, List, [], ◌∷◌, ◌++◌, map, length, refl, sym, ap, ◌∙◌, subst, inl, inr, arith, add-one, suc-mul, length-append}
+use Rattle.std.proofs.Common.{◌≡◌, ◌<◌, ◌≤◌, ◌+◌, ◌*◌, ℕ, zero, suc, ℤ, pos, ◌+ℤ◌, ◌-ℤ◌, List, [], ◌∷◌, ◌++◌, map}
+use Rattle.std.proofs.Common.{length, refl, sym, ap, ◌∙◌, subst, inl, inr, arith, add-one, suc-mul, length-append}
 use Rattle.std.specs.Prelude.{Bool, true, false, cond, ◌&&◌, Result, Ok, Err, IfOk, ◌↔◌, nat_le}
 use Rattle.std.specs.List.{list_all, sum_by}
 use Rattle.std.proofs.lemmas.List.{map-id}
@@ -13,10 +14,12 @@ use Rattle.sanlp.specs.declared.nest.Node.TheViews.{roll-Node}
 use Rattle.sanlp.specs.declared.nest.Point.{Point}
 use Rattle.sanlp.specs.Loops.{loop_values, all_hold, interval}
 use Rattle.sanlp.specs.Cells.{counted as counted_from, natural}
-use Rattle.sanlp.specs.Size.{size, turns_step, turns_of_node, SizeIsOk, loop_within, node_within, size_limit, within_step}
+use Rattle.sanlp.specs.Size.{size, turns_step, turns_of_node, SizeIsOk, loop_within, node_within, size_limit}
+use Rattle.sanlp.specs.Size.{within_step}
 use Rattle.sanlp.specs.Trace.{PointsAt, all_points, turn_points, trace_step, trace_node, trace}
 use Rattle.sanlp.proofs.Folds.{by_parts, fold_assign_at, fold_guard, fold_loop}
-use Rattle.loop_walk.specs.Counting.{Count, and_then, assignment_step, capped, count_step, counted, counted_node, counted_parts, counted_turn, counted_turns, in_order, is_assignment, one_more}
+use Rattle.loop_walk.specs.Counting.{Count, and_then, assignment_step, capped, count_step, counted, counted_node}
+use Rattle.loop_walk.specs.Counting.{counted_parts, counted_turn, counted_turns, in_order, is_assignment, one_more}
 use Rattle.loop_walk.specs.declared.count.SizeError.{SizeError}
 use Rattle.loop_walk.specs.declared.count.SizeError.TheVariants.{Limit, LoopValue}
 

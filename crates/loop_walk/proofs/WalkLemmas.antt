@@ -1,5 +1,6 @@
 -- Steps of a walk, over plain variables.
-use Rattle.std.proofs.Common.{◌≡◌, ◌<◌, ◌+◌, ℕ, zero, suc, ℤ, pos, ◌+ℤ◌, ◌≤ℤ◌, ◌<ℤ◌, List, [], ◌∷◌, ◌++◌, map, drop, set, length, get_or, false, cond, refl, sym, ap, ◌∙◌, arith}
+use Rattle.std.proofs.Common.{◌≡◌, ◌<◌, ◌+◌, ℕ, zero, suc, ℤ, pos, ◌+ℤ◌, ◌≤ℤ◌, ◌<ℤ◌, List, [], ◌∷◌, ◌++◌, map, drop}
+use Rattle.std.proofs.Common.{set, length, get_or, false, cond, refl, sym, ap, ◌∙◌, arith}
 use Rattle.std.specs.Prelude.{Bool, IsTrue, ◌&&◌, true, Option, Some, None, IfSome, OnSome}
 use Rattle.std.proofs.lemmas.Bool.{and_parts, and_from}
 use Rattle.std.proofs.lemmas.Int.{ints}
@@ -17,7 +18,9 @@ use Rattle.loop_walk.specs.declared.walk.Frame.{Frame}
 use Rattle.sanlp.specs.Size.{is_loop_value, node_within}
 use Rattle.loop_walk.specs.Counting.{IsLoopRange}
 use Rattle.loop_walk.specs.EnteredLoops.{parts_within, turns_within}
-use Rattle.loop_walk.specs.Walking.{Left, Valid, left, left_inside, left_of_node, left_of_parts, left_of_turns, inside_valid, node_room, node_valid, parts_room, parts_valid, room_step, turns_valid, valid}
+use Rattle.loop_walk.specs.Walking.{Left, Valid, left, left_inside, left_of_node, left_of_parts, left_of_turns}
+use Rattle.loop_walk.specs.Walking.{inside_valid, node_room, node_valid, parts_room, parts_valid, room_step}
+use Rattle.loop_walk.specs.Walking.{turns_valid, valid}
 use Rattle.loop_walk.proofs.EnteredLoops.{between_within, loop_fits, loop_turns_within, turn_within}
 
 -- before the first part of a body
@@ -71,7 +74,11 @@ turns_walk node id lower upper step body parts depth frames deeper is part same 
     = sym (ap (λ f. f frames) (fold_loop (ℕ → Bool) room_step id lower upper step body))
     ∙ sym (ap (λ x. node_room x frames) is) ∙ room in (
       fit.0,
-      (ap (λ ps. all_forms_fit ps (depth + 1)) part ∙ fit.2, ap (λ k. parts_room parts k) same ∙ ap (λ ps. parts_room ps frames) part ∙ enough),
+      (
+        ap (λ ps. all_forms_fit ps (depth + 1)) part ∙ fit.2,
+        ap (λ k. parts_room parts k) same
+            ∙ ap (λ ps. parts_room ps frames) part ∙ enough,
+      ),
     )
 
 -- a part that was not entered

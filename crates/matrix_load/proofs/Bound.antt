@@ -1,5 +1,6 @@
 -- The source is bound for every size: no reason stands in its tree, and its arrays have their extents.
-use Rattle.std.proofs.Common.{◌≡◌, ℕ, ◌≤◌, ◌+◌, ℤ, pos, List, [], ◌∷◌, Bool, true, refl, sym, ap, ◌∙◌, arith, length, map, ◌*◌}
+use Rattle.std.proofs.Common.{◌≡◌, ℕ, ◌≤◌, ◌+◌, ℤ, pos, List, [], ◌∷◌, Bool, true, refl, sym, ap, ◌∙◌, arith, length}
+use Rattle.std.proofs.Common.{map, ◌*◌}
 use Rattle.std.proofs.lemmas.Bool.Decides.{nat_tests}
 use Rattle.std.proofs.lemmas.Int.{ints}
 use Rattle.loop_grammar.specs.declared.tree.Name.{Name}
@@ -85,7 +86,19 @@ small_is_limited count small = grind (arith, nat_tests, ints)
 pub nothing_found : (count : ℕ) → count ≤ 2147483647 → findings matrix_tree (size_given count) ≡ []
 unfolding findings declared
 nothing_found count small =
-    simp (for_made, block_is, assign_is, judged_number, judged_access, lower_number, upper_name, value_number, value_access, value_binary, small_is_limited count small)
+    simp (
+      for_made,
+      block_is,
+      assign_is,
+      judged_number,
+      judged_access,
+      lower_number,
+      upper_name,
+      value_number,
+      value_access,
+      value_binary,
+      small_is_limited count small,
+    )
 
 pub input_counts : (count : ℕ) → count ≤ 2147483647 → map input_count (nest_of matrix_tree (size_given count)).arrays
     ≡ count * (count * 1) ∷ count * (count * 1) ∷ 0 ∷ []

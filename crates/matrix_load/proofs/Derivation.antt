@@ -1,9 +1,11 @@
 -- The matrix product as the grammar derives it.
 use Rattle.std.proofs.Common.{ℕ, ◌+◌, pos, List, false, None, refl}
 use Rattle.std.specs.Prelude.{codes}
-use Rattle.loop_grammar.specs.Grammar.{Expr, Term, Factor, Access, Statement, Statements, Declared, Declarations, Program, program_tree, program_text, plus, input, output}
+use Rattle.loop_grammar.specs.Grammar.{Expr, Term, Factor, Access, Statement, Statements, Declared, Declarations}
+use Rattle.loop_grammar.specs.Grammar.{Program, program_tree, program_text, plus, input, output}
 use Rattle.loop_grammar.specs.Grammar as grammar
-use Rattle.loop_grammar.specs.Lexemes.{IsTree, sentence, lexeme_at, reserved_lexeme, bracket_lexeme, comparison_lexeme, sign_lexeme}
+use Rattle.loop_grammar.specs.Lexemes.{IsTree, sentence, lexeme_at, reserved_lexeme, bracket_lexeme, comparison_lexeme}
+use Rattle.loop_grammar.specs.Lexemes.{sign_lexeme}
 use Rattle.loop_grammar.specs.declared.tree.Name.{Name}
 use Rattle.loop_grammar.specs.declared.tree.Tree.{Tree}
 use Rattle.matrix_load.specs.Product.{matrix_product}

@@ -1,6 +1,8 @@
 -- Which slots are free: after a Get, and after a use.
-use Rattle.std.proofs.Common.{◌≡◌, ℕ, ◌+◌, ◌<◌, ◌≤◌, ◌⊎◌, ◌&&◌, ◌==◌, not, Bool, true, false, cond, eqb, ltb, List, length, get_or, refl, sym, ap, ◌∙◌, inl, inr, arith}
-use Rattle.std.proofs.lemmas.Bool.{cases_lt, cases_eq, and_parts, and_cases, and_left, and_right, ltb-true, lt-ltb, le-ltb, eq-eqb, ne_eqb, not-true, not-false, not_from_true, not_from_false}
+use Rattle.std.proofs.Common.{◌≡◌, ℕ, ◌+◌, ◌<◌, ◌≤◌, ◌⊎◌, ◌&&◌, ◌==◌, not, Bool, true, false, cond, eqb, ltb, List}
+use Rattle.std.proofs.Common.{length, get_or, refl, sym, ap, ◌∙◌, inl, inr, arith}
+use Rattle.std.proofs.lemmas.Bool.{cases_lt, cases_eq, and_parts, and_cases, and_left, and_right, ltb-true, lt-ltb}
+use Rattle.std.proofs.lemmas.Bool.{le-ltb, eq-eqb, ne_eqb, not-true, not-false, not_from_true, not_from_false}
 use Rattle.std.proofs.lemmas.Bool.Decides.{nat_tests}
 use Rattle.std.specs.Ordering.{nat_cmp, is_eq}
 use Rattle.reorder_slots.specs.Slots.{Held, is_wanted, lowest_free, filled}
@@ -58,7 +60,11 @@ free_after_get uses q slots slot token k le wanted =
           let off : not (k == slot) ≡ true = not_from_false _ (ne_eqb k slot other) in
           rw off (elim (cases_lt k (length slots)) [
             | inl within ↦
-                rw (lt-ltb k (length slots) within, lt-ltb k (length (filled slots slot token)) (omega arith), filled-other slots slot token k le within other) refl
+                rw (
+                  lt-ltb k (length slots) within,
+                  lt-ltb k (length (filled slots slot token)) (omega arith),
+                  filled-other slots slot token k le within other,
+                ) refl
             | inr past ↦
                 rw (le-ltb k (length slots) past, le-ltb k (length (filled slots slot token)) (omega arith)) refl
           ])

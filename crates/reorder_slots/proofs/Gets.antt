@@ -1,5 +1,6 @@
 -- What is held before each use.
-use Rattle.std.proofs.Common.{◌≡◌, ℕ, zero, suc, ◌+◌, ◌-◌, ◌<◌, ◌≤◌, List, [], ◌∷◌, length, get_or, take, refl, sym, ap, ◌∙◌, subst, inl, inr, arith}
+use Rattle.std.proofs.Common.{◌≡◌, ℕ, zero, suc, ◌+◌, ◌-◌, ◌<◌, ◌≤◌, List, [], ◌∷◌, length, get_or, take, refl, sym, ap}
+use Rattle.std.proofs.Common.{◌∙◌, subst, inl, inr, arith}
 use Rattle.std.proofs.lemmas.Bool.{cases_lt}
 use Rattle.std.proofs.lemmas.List.{length_push, get_or_append_left}
 use Rattle.reorder_slots.specs.Slots.{Held, gets_for, held_after, after_get, after_gets, lowest_free, nothing_held}
@@ -21,7 +22,11 @@ pub length-after_gets : (uses : List ℕ) (q gets : ℕ) (held : Held)
     → length (after_gets uses q gets held).slot_of_get ≡ length held.slot_of_get + gets
 length-after_gets uses q zero held = omega arith
 length-after_gets uses q (suc gets) held =
-    omega (arith, length-after_gets uses q gets (after_get uses q held), length_push held.slot_of_get (lowest_free uses q held.slots))
+    omega (
+      arith,
+      length-after_gets uses q gets (after_get uses q held),
+      length_push held.slot_of_get (lowest_free uses q held.slots),
+    )
 
 -- the slot of a Get stays
 stays-gets : (uses : List ℕ) (q gets token : ℕ) (held : Held) → token < length held.slot_of_get
@@ -48,7 +53,14 @@ length-held uses (suc q) =
     let before = held_after uses q in
     let gets = gets_for (take (q + 1) uses) - length before.slot_of_get in
     let next : q + 1 ≡ suc q = omega arith in
-    omega (arith, ap (λ (held : Held). length held.slot_of_get) (held-suc uses q), length-after_gets uses q gets before, length-held uses q, gets_for-grows uses q, ap (λ n. gets_for (take n uses)) next)
+    omega (
+      arith,
+      ap (λ (held : Held). length held.slot_of_get) (held-suc uses q),
+      length-after_gets uses q gets before,
+      length-held uses q,
+      gets_for-grows uses q,
+      ap (λ n. gets_for (take n uses)) next,
+    )
 
 -- before use q stand so many Gets more than before the use before it
 pub held-more : (uses : List ℕ) (q : ℕ) → q < length uses

@@ -4,9 +4,11 @@
 -- that has a use numbered q or more lies in the slot of its Get. A Get keeps it, since it takes a slot whose token has
 -- no such use, or a new one: were it the slot of a wanted token, that slot wouldn't be free. Going on from use q to
 -- the next makes fewer tokens wanted, which keeps it too. Nothing is said of how few slots there are.
-use Rattle.std.proofs.Common.{◌≡◌, ℕ, zero, suc, ◌+◌, ◌<◌, ◌≤◌, max, true, false, List, [], ◌∷◌, ◌++◌, length, get_or, set, take, drop, refl, sym, ap, ◌∙◌, inl, inr, arith, add-one}
+use Rattle.std.proofs.Common.{◌≡◌, ℕ, zero, suc, ◌+◌, ◌<◌, ◌≤◌, max, true, false, List, [], ◌∷◌, ◌++◌, length, get_or}
+use Rattle.std.proofs.Common.{set, take, drop, refl, sym, ap, ◌∙◌, inl, inr, arith, add-one}
 use Rattle.std.proofs.lemmas.Bool.{cases_Bool, cases_lt, cases_eq, cond-true, cond-false}
-use Rattle.std.proofs.lemmas.List.{set_split, take_all, drop_all, length-set, get_or-set_same, get_or-set_other, get_or_append_left, get_or_push, length_push}
+use Rattle.std.proofs.lemmas.List.{set_split, take_all, drop_all, length-set, get_or-set_same, get_or-set_other}
+use Rattle.std.proofs.lemmas.List.{get_or_append_left, get_or_push, length_push}
 use Rattle.reorder_slots.specs.Slots.{Held, is_wanted, lowest_free, filled, after_get, after_gets}
 use Rattle.reorder_slots.specs.Readers.{KeepsTokens}
 use Rattle.reorder_slots.proofs.Uses.{wanted_earlier}
@@ -123,8 +125,12 @@ KeepsTokens-get uses q held keeps =
             elim (cases_eq (get_or gets token 0) slot) [
               | inl taken ↦ omega
                   (arith, here, ap (λ s. get_or (filled slots slot new) s 0) taken, filled-same slots slot new le)
-              | inr apart ↦ omega
-                  (arith, here, filled-other slots slot new (get_or gets token 0) le (keeps.made token old) apart, keeps.latest token old)
+              | inr apart ↦ omega (
+                arith,
+                here,
+                filled-other slots slot new (get_or gets token 0) le (keeps.made token old) apart,
+                keeps.latest token old,
+              )
             ]
       ];
       found = λ token lt wanted. elim (cases_eq token new) [

@@ -4,17 +4,21 @@
 -- slot of its Get; a Get's slot stays as later Gets come (`stays`), so that is the slot that the plan names. For the
 -- same reason no Get between takes that slot. Where the uses never fall, the only earlier token has no use left when a
 -- Get comes, so one slot serves; where a use falls, two tokens must be held at once, and one slot can't.
-use Rattle.std.proofs.Common.{◌≡◌, ◌↔◌, ℕ, zero, suc, ◌+◌, ◌-◌, ◌<◌, ◌≤◌, max, true, false, IsTrue, Some, List, [], ◌∷◌, length, get_or, take, refl, sym, ap, ◌∙◌, inl, inr, arith, leb}
+use Rattle.std.proofs.Common.{◌≡◌, ◌↔◌, ℕ, zero, suc, ◌+◌, ◌-◌, ◌<◌, ◌≤◌, max, true, false, IsTrue, Some, List, [], ◌∷◌}
+use Rattle.std.proofs.Common.{length, get_or, take, refl, sym, ap, ◌∙◌, inl, inr, arith, leb}
 use Rattle.std.specs.Option.{option_map}
 use Rattle.std.proofs.lemmas.Bool.{cases_lt, and_parts, and_from, leb-true, le-leb, false_from_ne_true}
 use Rattle.std.proofs.lemmas.List.{take_all, length_push}
-use Rattle.std.proofs.lemmas.Option.{slice_get_within, get_or_from_slice_get, slice_get-map, slice_get-get_or, same_Some}
+use Rattle.std.proofs.lemmas.Option.{slice_get_within, get_or_from_slice_get, slice_get-map, slice_get-get_or}
+use Rattle.std.proofs.lemmas.Option.{same_Some}
 use Rattle.channel_class.specs.Classes.{never_falls}
-use Rattle.reorder_slots.specs.Slots.{FindsItsToken, KeepsUntilUsed, Held, after_get, after_gets, gets_for, held_after, hold_of, is_wanted, lowest_free, slots_of_gets}
+use Rattle.reorder_slots.specs.Slots.{FindsItsToken, KeepsUntilUsed, Held, after_get, after_gets, gets_for, held_after}
+use Rattle.reorder_slots.specs.Slots.{hold_of, is_wanted, lowest_free, slots_of_gets}
 use Rattle.reorder_slots.specs.Readers.{KeepsTokens}
 use Rattle.reorder_slots.proofs.Uses.{named_before, named_below, wanted_at, wanted_from}
 use Rattle.reorder_slots.proofs.Held.{KeepsTokens-get, length-filled, lowest_free-is}
-use Rattle.reorder_slots.proofs.Gets.{KeepsTokens-got, KeepsTokens-held, held-more, held-zero, length-held, more_gets, stays}
+use Rattle.reorder_slots.proofs.Gets.{KeepsTokens-got, KeepsTokens-held, held-more, held-zero, length-held, more_gets}
+use Rattle.reorder_slots.proofs.Gets.{stays}
 
 -- the token of use q is in the slot of its Get when the Gets before use q are over
 in_its_slot : (uses : List ℕ) (q : ℕ) → q < length uses
@@ -66,7 +70,12 @@ keeps_until_used uses = λ q token get here later before same.
     ∙ stays uses (q + 1) (length uses) token (omega arith) within in
     let in_slot : get_or held.slots (get_or held.slot_of_get token 0) 0 ≡ token =
     ap (λ t. get_or held.slots (get_or held.slot_of_get t 0) 0) (sym named) ∙ in_its_slot uses q lt ∙ named in
-    omega (arith, (KeepsTokens-got uses q).latest get (omega (arith, length-held uses (q + 1))), ap (λ s. get_or held.slots s 0) same_slot, in_slot)
+    omega (
+      arith,
+      (KeepsTokens-got uses q).latest get (omega (arith, length-held uses (q + 1))),
+      ap (λ s. get_or held.slots s 0) same_slot,
+      in_slot,
+    )
 
 -- uses that never fall only rise
 rises : (uses : List ℕ) (q r : ℕ) → never_falls uses ≡ true → q ≤ r → r < length uses
@@ -104,7 +113,11 @@ single_get uses q held order lt keeps before single =
     in
     let lowest : lowest_free uses q held.slots ≡ 0 =
     lowest_free-is uses q held.slots 0 (omega arith) (λ k below. absurd (omega arith)) over in
-    omega (arith, lowest, length-filled held.slots (lowest_free uses q held.slots) (length held.slot_of_get) (omega arith))
+    omega (
+      arith,
+      lowest,
+      length-filled held.slots (lowest_free uses q held.slots) (length held.slot_of_get) (omega arith),
+    )
 
 single_gets : (uses : List ℕ) (q gets : ℕ) (held : Held) → never_falls uses ≡ true → q < length uses
     → KeepsTokens uses q held → length held.slot_of_get + gets ≤ max (length held.slot_of_get) (get_or uses q 0 + 1)
@@ -124,7 +137,11 @@ single uses (suc q) order le =
     let after =
     single_gets uses q gets before order (omega arith) (KeepsTokens-held uses q) (omega arith)
     (single uses q order (omega arith)) in
-    omega (arith, after, ap (λ (held : Held). length held.slots) (ap (held_after uses) next ∙ held-more uses q (omega arith)))
+    omega (
+      arith,
+      after,
+      ap (λ (held : Held). length held.slots) (ap (held_after uses) next ∙ held-more uses q (omega arith)),
+    )
 
 -- the end has the Gets of all uses
 length-end : (uses : List ℕ) → length (slots_of_gets uses) ≡ gets_for uses
@@ -132,7 +149,10 @@ length-end uses = length-held uses (length uses) ∙ ap gets_for (take_all (leng
 
 some_slot : (uses : List ℕ) → 0 < length uses → 0 < hold_of uses
 some_slot uses some =
-    omega (arith, (KeepsTokens-held uses (length uses)).made 0 (omega (arith, length-end uses, named_below uses 0 some)))
+    omega (
+      arith,
+      (KeepsTokens-held uses (length uses)).made 0 (omega (arith, length-end uses, named_below uses 0 some)),
+    )
 
 -- two tokens in one slot are one, so a use that falls needs a second slot
 no_fall : (uses : List ℕ) (k : ℕ) → hold_of uses ≡ 1 → k + 1 < length uses → get_or uses k 0 ≤ get_or uses (k + 1) 0

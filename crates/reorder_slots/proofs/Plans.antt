@@ -1,10 +1,12 @@
 -- What the reader has before each use of a channel, and what is written down for it.
-use Rattle.std.proofs.Common.{◌≡◌, ℕ, zero, suc, ◌+◌, ◌-◌, ◌<◌, ◌≤◌, ◌++◌, ◌∷◌, [], List, length, get_or, take, vec_len, sym, ap, ◌∙◌, subst, inl, inr, arith}
+use Rattle.std.proofs.Common.{◌≡◌, ℕ, zero, suc, ◌+◌, ◌-◌, ◌<◌, ◌≤◌, ◌++◌, ◌∷◌, [], List, length, get_or, take, vec_len}
+use Rattle.std.proofs.Common.{sym, ap, ◌∙◌, subst, inl, inr, arith}
 use Rattle.std.specs.List.{All}
 use Rattle.std.proofs.lemmas.Bool.{cases_lt}
 use Rattle.std.proofs.lemmas.List.{length-map, take_all, take_more, get_or-map}
 use Rattle.std.proofs.lemmas.List.FromFn.{get_or-map-range_with_len, length-map-range_with_len}
-use Rattle.reorder_slots.specs.Slots.{Held, NamesAllBelow, after_gets, gets_before, gets_for, held_after, slots_of_gets, slots_of_uses}
+use Rattle.reorder_slots.specs.Slots.{Held, NamesAllBelow, after_gets, gets_before, gets_for, held_after, slots_of_gets}
+use Rattle.reorder_slots.specs.Slots.{slots_of_uses}
 use Rattle.reorder_slots.specs.Readers.{AreWanted, Keeps, KeepsThroughGets}
 use Rattle.reorder_slots.specs.declared.reader.Reader.{Reader}
 use Rattle.reorder_slots.proofs.Uses.{gets_for-more, named_below, new_is_wanted}

@@ -1,5 +1,7 @@
 -- A value is one of a loop's exactly where the rows of the loop's bounds hold.
-use Rattle.std.proofs.Common.{◌≡◌, ◌+◌, ◌-◌, ℕ, suc, ℤ, pos, negsuc, neg_ℤ, ◌+ℤ◌, ◌-ℤ◌, ◌*ℤ◌, ◌<ℤ◌, ◌≤ℤ◌, List, [], ◌∷◌, ◌++◌, map, length, replicate, Bool, true, false, cond, refl, sym, ap, ◌∙◌, subst, arith, length-append}
+use Rattle.std.proofs.Common.{◌≡◌, ◌+◌, ◌-◌, ℕ, suc, ℤ, pos, negsuc, neg_ℤ, ◌+ℤ◌, ◌-ℤ◌, ◌*ℤ◌, ◌<ℤ◌, ◌≤ℤ◌, List, [], ◌∷◌}
+use Rattle.std.proofs.Common.{◌++◌, map, length, replicate, Bool, true, false, cond, refl, sym, ap, ◌∙◌, subst, arith}
+use Rattle.std.proofs.Common.{length-append}
 use Rattle.std.specs.Prelude.{int_le, nat_lt}
 use Rattle.std.specs.List.{flat_map, fold}
 use Rattle.std.specs.Int.{int_min, int_max}
@@ -74,7 +76,13 @@ dot_push (b ∷ cs) (x ∷ at) c v e =
 form_push : (form : Form) (at : List ℤ) (c v : ℤ) → length form.coefs ≡ length at
     → form_at (record form { coefs = form.coefs ++ c ∷ [] }) (at ++ v ∷ []) ≡ form_at form at +ℤ (c *ℤ v)
 form_push form at c v e =
-    omega (arith, ints, combined_is form.constant (form.coefs ++ c ∷ []) (at ++ v ∷ []), combined_is form.constant form.coefs at, dot_push form.coefs at c v e)
+    omega (
+      arith,
+      ints,
+      combined_is form.constant (form.coefs ++ c ∷ []) (at ++ v ∷ []),
+      combined_is form.constant form.coefs at,
+      dot_push form.coefs at c v e,
+    )
 
 abbrev negated : Form → Form
 negated form = form_product (negsuc 0) form
@@ -85,7 +93,12 @@ length_negated form n e = length-map form.coefs (λ c. c *ℤ negsuc 0) ∙ e
 lower_row_at : (form : Form) (at : List ℤ) (v : ℤ) → length form.coefs ≡ length at
     → form_at (lower_row form) (at ++ v ∷ []) ≡ v -ℤ form_at form at
 lower_row_at form at v e =
-    omega (arith, ints, form_push (negated form) at (pos 1) v (length_negated form (length at) e), product_at (negsuc 0) form at)
+    omega (
+      arith,
+      ints,
+      form_push (negated form) at (pos 1) v (length_negated form (length at) e),
+      product_at (negsuc 0) form at,
+    )
 
 upper_row_at : (form : Form) (at : List ℤ) (v : ℤ) → length form.coefs ≡ length at
     → form_at (upper_row form) (at ++ v ∷ []) ≡ form_at form at -ℤ v
@@ -94,7 +107,12 @@ upper_row_at form at v e = omega (arith, ints, form_push form at (negsuc 0) v e)
 pub length_turn_row : (step : ℤ) (lower upper : Form) (n : ℕ) → length lower.coefs ≡ n → length upper.coefs ≡ n
     → length (turn_row step lower upper).coefs ≡ n + 1
 length_turn_row step lower upper n e f =
-    omega (arith, length_push (sums upper.coefs (negated lower).coefs) (neg_ℤ step), length_sums upper.coefs (negated lower).coefs (f ∙ sym (length_negated lower n e)), f)
+    omega (
+      arith,
+      length_push (sums upper.coefs (negated lower).coefs) (neg_ℤ step),
+      length_sums upper.coefs (negated lower).coefs (f ∙ sym (length_negated lower n e)),
+      f,
+    )
 
 negative_times : (a b : ℤ) → neg_ℤ a *ℤ b ≡ pos 0 -ℤ (a *ℤ b)
 negative_times a b =
@@ -124,7 +142,12 @@ first_row_at depth at v e = variable_at (depth + 1) depth (at ++ v ∷ []) ∙ g
 pub length_first_row : (depth : ℕ) → length (variable_form (depth + 1) depth).coefs ≡ depth + 1
 length_first_row depth =
     let after : List ℤ = replicate (depth + 1 - (depth + 1)) (pos 0) in
-    omega (arith, length-append (replicate depth (pos 0)) (pos 1 ∷ after), length-replicate depth (pos 0), length-replicate (depth + 1 - (depth + 1)) (pos 0))
+    omega (
+      arith,
+      length-append (replicate depth (pos 0)) (pos 1 ∷ after),
+      length-replicate depth (pos 0),
+      length-replicate (depth + 1 - (depth + 1)) (pos 0),
+    )
 
 -- a value of a loop of step 1 meets the rows of its bounds
 lower_rows : (forms : List Form) (at : List ℤ) (v : ℤ) → Each (λ form. length form.coefs ≡ length at) forms
@@ -184,8 +207,8 @@ is_least : (xs : List ℤ) (v : ℤ) → nat_lt 0 (length xs) ≡ true → Each 
 is_least [] v some h = absurd (cc)
 is_least (x ∷ xs) v some h = above_min x xs v h
 
--- The forms of a loop's bounds, of which there are some below and above, over the loops round it, and its step, which is at
--- least 1; above 1 there is one lower form.
+-- The forms of a loop's bounds, of which there are some below and above, over the loops round it, and its step, which
+-- is at least 1; above 1 there is one lower form.
 pub record AreBounds (lower upper : List Form) (step : ℤ) (depth : ℕ) : Type 0 where
   pub some_lower : nat_lt 0 (length lower) ≡ true
   pub some_upper : nat_lt 0 (length upper) ≡ true

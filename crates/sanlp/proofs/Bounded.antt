@@ -4,7 +4,9 @@
 -- it has one at each place in the node. A loop adds the rows of its own bounds, of which that of its first upper form
 -- takes off the loop's own variable: `upper - v` with step 1, and else `upper - lower - step * v`. A guard only adds
 -- rows, and an assignment widens them with zeros. It isn't said which row it is, nor how far it lets the loop go.
-use Rattle.std.proofs.Common.{◌≡◌, ◌<◌, ℕ, zero, suc, ◌+◌, ◌-◌, ℤ, pos, negsuc, neg_ℤ, ◌<ℤ◌, ◌≤ℤ◌, List, [], ◌∷◌, ◌++◌, map, length, replicate, get_or, Bool, true, false, cond, inl, inr, refl, sym, ap, ◌∙◌, subst, arith}
+use Rattle.std.proofs.Common.{◌≡◌, ◌<◌, ℕ, zero, suc, ◌+◌, ◌-◌, ℤ, pos, negsuc, neg_ℤ, ◌<ℤ◌, ◌≤ℤ◌, List, [], ◌∷◌, ◌++◌}
+use Rattle.std.proofs.Common.{map, length, replicate, get_or, Bool, true, false, cond, inl, inr, refl, sym, ap, ◌∙◌}
+use Rattle.std.proofs.Common.{subst, arith}
 use Rattle.std.specs.Prelude.{nat_lt}
 use Rattle.std.specs.List.{flat_map}
 use Rattle.std.specs.Ordering.{int_eq}
@@ -20,7 +22,8 @@ use Rattle.sanlp.specs.declared.nest.Node.TheVariants.{Assign}
 use Rattle.sanlp.specs.Bounds.{BoundsAbove, IsBoundedAbove}
 use Rattle.sanlp.specs.WellFormed.{Place, bound_rows, in_each, lower_row, places_of, said_from, turn_row, upper_row}
 use Rattle.sanlp.proofs.BoundRows.{AreBounds, length_turn_row}
-use Rattle.sanlp.proofs.Domains.{FitsIn, GuardFits, LoopFits, each_fits, guard_fits, inner_rows, loop_fits, places_assign, places_guard, places_loop}
+use Rattle.sanlp.proofs.Domains.{FitsIn, GuardFits, LoopFits, each_fits, guard_fits, inner_rows, loop_fits}
+use Rattle.sanlp.proofs.Domains.{places_assign, places_guard, places_loop}
 use Rattle.sanlp.proofs.Each.{Each, each_append, each_of}
 use Rattle.sanlp.proofs.Enumerates.{in_said, place_of}
 use Rattle.sanlp.proofs.Folds.{by_parts}

@@ -6,7 +6,8 @@
 -- and two of different parts have just these, since the loops are numbered in ascending order, so that no part has a
 -- loop of another. That the outer two have no fewer in common than the middle one has with both holds of any lists
 -- (`common_least`). Nothing here speaks of rows or values.
-use Rattle.std.proofs.Common.{◌≡◌, ◌<◌, ◌≤◌, ℕ, zero, suc, ◌+◌, ℤ, List, [], ◌∷◌, ◌++◌, map, length, inl, inr, refl, sym, ap, ◌∙◌, subst, arith}
+use Rattle.std.proofs.Common.{◌≡◌, ◌<◌, ◌≤◌, ℕ, zero, suc, ◌+◌, ℤ, List, [], ◌∷◌, ◌++◌, map, length, inl, inr, refl}
+use Rattle.std.proofs.Common.{sym, ap, ◌∙◌, subst, arith}
 use Rattle.std.specs.Prelude.{Some, slice_get}
 use Rattle.std.proofs.lemmas.List.{append-nil, append_assoc}
 use Rattle.std.proofs.lemmas.Option.{same_Some}
@@ -22,7 +23,8 @@ use Rattle.sanlp.proofs.Domains.{inner_rows, places_assign, places_guard, places
 use Rattle.sanlp.proofs.Each.{Each, each_append, each_of, each_then}
 use Rattle.sanlp.proofs.Enumerates.{place_of, said_at}
 use Rattle.sanlp.proofs.Folds.{by_parts, fold_guard, fold_loop}
-use Rattle.sanlp.proofs.Members.{In, Pairwise, each_from_in, each_in, in_left, in_right, pairwise_across, pairwise_append, pairwise_at, pairwise_left, pairwise_right, range_with_len_ascends}
+use Rattle.sanlp.proofs.Members.{In, Pairwise, each_from_in, each_in, in_left, in_right, pairwise_across}
+use Rattle.sanlp.proofs.Members.{pairwise_append, pairwise_at, pairwise_left, pairwise_right, range_with_len_ascends}
 use Rattle.sanlp.proofs.Precedence.{common_front, common_least, common_none}
 
 -- the loops round a place are these, and then some of these numbers

@@ -1,5 +1,6 @@
 -- The points of a node are those of the domains of its statements.
-use Rattle.std.proofs.Common.{◌≡◌, ◌≤◌, ℕ, ◌+◌, ℤ, pos, negsuc, ◌*ℤ◌, ◌≤ℤ◌, List, [], ◌∷◌, ◌++◌, map, length, Bool, true, false, cond, ◌&&◌, ◌||◌, inl, inr, refl, sym, ap, ◌∙◌, subst, arith, append_assoc}
+use Rattle.std.proofs.Common.{◌≡◌, ◌≤◌, ℕ, ◌+◌, ℤ, pos, negsuc, ◌*ℤ◌, ◌≤ℤ◌, List, [], ◌∷◌, ◌++◌, map, length, Bool}
+use Rattle.std.proofs.Common.{true, false, cond, ◌&&◌, ◌||◌, inl, inr, refl, sym, ap, ◌∙◌, subst, arith, append_assoc}
 use Rattle.std.specs.Prelude.{◌==◌, int_le, nat_lt}
 use Rattle.std.specs.List.{flat_map, list_all}
 use Rattle.std.specs.Ordering.{int_eq}
@@ -14,10 +15,13 @@ use Rattle.sanlp.specs.declared.nest.Node.TheVariants.{Assign}
 use Rattle.sanlp.specs.declared.nest.Point.{Point}
 use Rattle.sanlp.specs.Loops.{all_hold, loop_values}
 use Rattle.sanlp.specs.Trace.{all_points, trace_node, trace_step}
-use Rattle.sanlp.specs.WellFormed.{Place, all_forms_fit, all_loops, bound_rows, form_fits, forms_fit, forms_fit_step, in_each, loops_of, loops_step, lower_row, places_of, places_step, step_fits, turn_row, upper_row}
+use Rattle.sanlp.specs.WellFormed.{Place, all_forms_fit, all_loops, bound_rows, form_fits, forms_fit, forms_fit_step}
+use Rattle.sanlp.specs.WellFormed.{in_each, loops_of, loops_step, lower_row, places_of, places_step, step_fits}
+use Rattle.sanlp.specs.WellFormed.{turn_row, upper_row}
 use Rattle.sanlp.proofs.BoundRows.{AllHold, AreBounds, hold_each, length_first_row, length_turn_row, values_meet}
 use Rattle.sanlp.proofs.Each.{Each, each_append, each_flat_map, each_map, each_then}
-use Rattle.sanlp.proofs.Folds.{by_parts, fold_assign_at, fold_assign_at_both, fold_guard, fold_guard_at, fold_guard_at_both, fold_loop, fold_loop_at, fold_loop_at_both}
+use Rattle.sanlp.proofs.Folds.{by_parts, fold_assign_at, fold_assign_at_both, fold_guard, fold_guard_at}
+use Rattle.sanlp.proofs.Folds.{fold_guard_at_both, fold_loop, fold_loop_at, fold_loop_at_both}
 use Rattle.sanlp.proofs.Intervals.{le_from_test}
 use Rattle.sanlp.proofs.Members.{In, from_flat_map, in_cases, in_left, in_right}
 
@@ -187,7 +191,8 @@ from_widened depth [] at h = tt
 from_widened depth (row ∷ rows) at h =
     (subst (λ z. pos 0 ≤ℤ z) (widened_at depth row at) h.0, from_widened depth rows at h.1)
 
--- Where a point comes from: a place among these, whose loops begin with those round the node and go on with some of these.
+-- Where a point comes from: a place among these, whose loops begin with those round the node and go on with some of
+-- these.
 pub record Origin (places : List Place) (ids : List ℕ) (loops : List ℕ) (at : List ℤ) (p : Point) : Type 0 where
   pub place : Place
   pub placed : In place places
@@ -289,8 +294,11 @@ origins_loop id lower upper step body h loops rows at fits r p k =
       rounds = o.rounds ∙ append_assoc loops (id ∷ []) o.inner;
       inside =
           subst (λ ids. Each (λ k. In k ids) (id ∷ o.inner))
-          (sym (fold_loop (List ℕ) loops_step id lower upper step body))
-          (inl refl, each_then (λ k. In k (all_loops body)) (λ k. In k (id ∷ all_loops body)) o.inner (λ k l. inr l) o.inside);
+          (sym (fold_loop (List ℕ) loops_step id lower upper step body)) (
+            inl refl,
+            each_then (λ k. In k (all_loops body)) (λ k. In k (id ∷ all_loops body)) o.inner
+                (λ k l. inr l) o.inside,
+          );
       deep = o.deep;
       holds = o.holds;
     }

@@ -5,7 +5,8 @@
 -- precedes stands first (Ordered). The facts of a nest say that the places are those that the statements name, in
 -- ascending order. No two points precede each other, so "each once" and "earlier exactly where it precedes" follow
 -- from the order alone.
-use Rattle.std.proofs.Common.{◌≡◌, ◌<◌, ◌≤◌, ℕ, zero, suc, ◌+◌, ℤ, List, [], ◌∷◌, length, Bool, true, inl, inr, refl, sym, ap, ◌∙◌, subst, arith}
+use Rattle.std.proofs.Common.{◌≡◌, ◌<◌, ◌≤◌, ℕ, zero, suc, ◌+◌, ℤ, List, [], ◌∷◌, length, Bool, true, inl, inr, refl}
+use Rattle.std.proofs.Common.{sym, ap, ◌∙◌, subst, arith}
 use Rattle.std.specs.Prelude.{nat_lt, Some, slice_get}
 use Rattle.std.proofs.lemmas.Bool.{cases_order, ltb-true}
 use Rattle.std.proofs.lemmas.Int.{ints}
@@ -32,7 +33,10 @@ within_asymmetric (suc c) less less' [] bt h k l = k
 within_asymmetric (suc c) less less' (v ∷ at) [] h k l = k
 within_asymmetric (suc c) less less' (v ∷ at) (w ∷ bt) h k l = elim k [
   | inl lt ↦ elim l [ inl gt ↦ omega (arith, ints) | inr q ↦ (let e : w ≡ v = q.0 in omega (arith, ints)) ]
-  | inr p ↦ elim l [ inl gt ↦ (let e : v ≡ w = p.0 in omega (arith, ints)) | inr q ↦ within_asymmetric c less less' at bt h p.1 q.1 ]
+  | inr p ↦ elim l [
+    | inl gt ↦ (let e : v ≡ w = p.0 in omega (arith, ints))
+    | inr q ↦ within_asymmetric c less less' at bt h p.1 q.1
+  ]
 ]
 
 pub precedes_asymmetric : (n : Nest) (p q : Point) → Precedes n p q → Precedes n q p → ⊥
@@ -43,7 +47,8 @@ precedes_asymmetric n p q h k =
     (common_symmetric (loops_round_point n q) (loops_round_point n p)) k in
     within_asymmetric (common_loops (loops_round_point n p) (loops_round_point n q)) (nat_lt p.statement q.statement)
     (nat_lt q.statement p.statement) p.at q.at
-    (λ e f. (let lt : p.statement < q.statement = ltb-true p.statement q.statement e in let gt : q.statement < p.statement = ltb-true q.statement p.statement f in omega arith)) h back
+    (λ e f. (let lt : p.statement < q.statement = ltb-true p.statement q.statement e
+    in let gt : q.statement < p.statement = ltb-true q.statement p.statement f in omega arith)) h back
 
 -- the places that statements say
 pub record SaidAt (k : ℕ) (statements : List Statement) (place : Place) : Type 0 where
@@ -60,11 +65,18 @@ said_in : (k : ℕ) (statements : List Statement) (place : Place) → In place (
 said_in k [] place h = absurd h
 said_in k (s ∷ statements) place h = elim h [
   | inl e ↦ (let first : k
-      ≡ k + 0 = omega arith in record { index = 0; statement = s; found = refl; is = sym e ∙ ap (λ m. place_of m s) first })
+      ≡ k + 0 = omega arith
+      in record { index = 0; statement = s; found = refl; is = sym e ∙ ap (λ m. place_of m s) first })
   | inr l ↦
       let rest : SaidAt (k + 1) statements place = said_in (k + 1) statements place l in
       let next : k + 1 + rest.index ≡ k + suc rest.index = omega arith in
-      record { index = suc rest.index; statement = rest.statement; found = rest.found; is = rest.is ∙ ap (λ m. place_of m rest.statement) next }
+      record {
+        index = suc rest.index;
+        statement = rest.statement;
+        found = rest.found;
+        is = rest.is
+            ∙ ap (λ m. place_of m rest.statement) next;
+      }
 ]
 
 pub said_at : (k : ℕ) (statements : List Statement) (i : ℕ) (s : Statement) → slice_get statements i ≡ Some s
@@ -100,7 +112,12 @@ module _ (n : Nest) where
   is_said place h =
       let said : SaidAt 0 n.statements place = said_in 0 n.statements place h in
       let numbered : place.statement ≡ said.index = ap (λ (place : Place). place.statement) said.is ∙ omega arith in
-      record { statement = said.statement; found = ap (slice_get n.statements) numbered ∙ said.found; loops = sym (ap (λ (place : Place). place.loops) said.is) }
+      record {
+        statement = said.statement;
+        found = ap (slice_get n.statements) numbered ∙ said.found;
+        loops =
+            sym (ap (λ (place : Place). place.loops) said.is);
+      }
 
   in_order : InOrder n (all_places n.body [] []) (all_loops n.body)
   in_order = record {

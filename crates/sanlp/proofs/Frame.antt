@@ -1,5 +1,6 @@
 -- The points of sources and sinks, and where they stand in the trace.
-use Rattle.std.proofs.Common.{◌≡◌, ◌<◌, ◌≤◌, ℕ, suc, ◌+◌, ◌-◌, ℤ, List, [], ◌∷◌, ◌++◌, map, length, refl, sym, ap, ◌∙◌, subst, arith, append_assoc}
+use Rattle.std.proofs.Common.{◌≡◌, ◌<◌, ◌≤◌, ℕ, suc, ◌+◌, ◌-◌, ℤ, List, [], ◌∷◌, ◌++◌, map, length, refl, sym, ap, ◌∙◌}
+use Rattle.std.proofs.Common.{subst, arith, append_assoc}
 use Rattle.std.specs.List.{flat_map, range_with_len, sum_by}
 use Rattle.std.proofs.lemmas.List.{append_cancel_right, map-append}
 use Rattle.std.proofs.lemmas.List.Concat.{flat_map-append}
@@ -8,7 +9,8 @@ use Rattle.sanlp.specs.declared.nest.Node.{Node}
 use Rattle.sanlp.specs.declared.nest.Point.{Point}
 use Rattle.sanlp.specs.Cells.{all_subscripts, is_input, is_output}
 use Rattle.sanlp.specs.Trace.{all_points, trace, trace_node}
-use Rattle.sanlp.specs.WellFormed.{all_loops, all_places, array_loops, between, input_extents, output_extents, places_of}
+use Rattle.sanlp.specs.WellFormed.{all_loops, all_places, array_loops, between, input_extents, output_extents}
+use Rattle.sanlp.specs.WellFormed.{places_of}
 use Rattle.sanlp.proofs.Each.{Each, each_append, each_right, each_of, each_map, each_from_map, range_with_len_below}
 use Rattle.sanlp.proofs.Lists.{range_with_len-append}
 use Rattle.sanlp.proofs.Places.{numbers_of, numbers_said, numbers_array_loops, points_carry}

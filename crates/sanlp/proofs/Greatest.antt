@@ -12,8 +12,11 @@ one_more : (f : ℕ → Bool) (t : ℕ) (o : Option ℕ) (b : Bool) → f t ≡ 
 one_more f t o true e h = (omega arith, e, λ w l r. absurd (omega arith))
 one_more f t None false e h =
     λ w lt. elim (cases_lt w t) [ inl k ↦ h w k | inr k ↦ (let s : w ≡ t = omega arith in ap f s ∙ e) ]
-one_more f t (Some u) false e h =
-    (omega (arith, h.0), h.1, λ w l r. elim (cases_lt w t) [ inl k ↦ h.2 w l k | inr k ↦ (let s : w ≡ t = omega arith in ap f s ∙ e) ])
+one_more f t (Some u) false e h = (
+  omega (arith, h.0),
+  h.1,
+  λ w l r. elim (cases_lt w t) [ inl k ↦ h.2 w l k | inr k ↦ (let s : w ≡ t = omega arith in ap f s ∙ e) ],
+)
 
 greatest_below_is : (f : ℕ → Bool) (t : ℕ) → IsGreatestBelow f t (greatest_below f t)
 greatest_below_is f zero = λ w lt. absurd (omega arith)

@@ -1,5 +1,6 @@
 -- Intervals of whole numbers.
-use Rattle.std.proofs.Common.{◌≡◌, ◌≤◌, ℕ, zero, suc, ℤ, pos, negsuc, ◌+ℤ◌, ◌-ℤ◌, ◌<ℤ◌, ◌≤ℤ◌, [], ◌∷◌, true, inl, inr, refl, ap, ◌∙◌, arith}
+use Rattle.std.proofs.Common.{◌≡◌, ◌≤◌, ℕ, zero, suc, ℤ, pos, negsuc, ◌+ℤ◌, ◌-ℤ◌, ◌<ℤ◌, ◌≤ℤ◌, [], ◌∷◌, true, inl, inr}
+use Rattle.std.proofs.Common.{refl, ap, ◌∙◌, arith}
 use Rattle.std.specs.Prelude.{int_le}
 use Rattle.std.proofs.lemmas.Int.{by_lt_z, ints}
 use Rattle.sanlp.specs.Cells.{natural, counted}
@@ -50,8 +51,11 @@ counted_in a v (suc n) h k = by_lt_z a v
 
 pub counted_ascends : (a : ℤ) (n : ℕ) → Pairwise (λ v w. v <ℤ w) (counted a n)
 counted_ascends a zero = tt
-counted_ascends a (suc n) =
-    (each_from_in (λ w. a <ℤ w) (counted (a +ℤ pos 1) n) (λ w k. let from = in_counted (a +ℤ pos 1) w n k in omega (arith, ints, from.0)), counted_ascends (a +ℤ pos 1) n)
+counted_ascends a (suc n) = (
+  each_from_in (λ w. a <ℤ w) (counted (a +ℤ pos 1) n)
+      (λ w k. let from = in_counted (a +ℤ pos 1) w n k in omega (arith, ints, from.0)),
+  counted_ascends (a +ℤ pos 1) n,
+)
 
 pub natural_pos : (z : ℤ) → pos 0 ≤ℤ z → pos (natural z) ≡ z
 natural_pos (pos n) h = refl

@@ -4,7 +4,8 @@
 -- its value is stored, any other leaves both. The values are defined without a memory, so the step needs that the
 -- reads of the entry see the same there as in the memory, which is the statement for the earlier entries. A value
 -- stays as entries are added (`value_stays`), so it doesn't matter how far it was computed.
-use Rattle.std.proofs.Common.{◌≡◌, ◌<◌, ℕ, zero, suc, pos, ℤ, List, [], ◌∷◌, length, get_or, take, Bool, true, false, cond, refl, sym, ap, ◌∙◌, subst, inl, inr, arith, add-one}
+use Rattle.std.proofs.Common.{◌≡◌, ◌<◌, ℕ, zero, suc, pos, ℤ, List, [], ◌∷◌, length, get_or, take, Bool, true, false}
+use Rattle.std.proofs.Common.{cond, refl, sym, ap, ◌∙◌, subst, inl, inr, arith, add-one}
 use Rattle.std.specs.Prelude.{Option, Some, None, slice_get, unwrap_or}
 use Rattle.std.specs.Option.{option_map, option_map_or}
 use Rattle.std.specs.List.{fold}

@@ -1,5 +1,6 @@
 -- Membership in lists, and lists in which each element relates to all later ones.
-use Rattle.std.proofs.Common.{◌≡◌, ◌<◌, ◌≤◌, ℕ, zero, suc, ◌+◌, Bool, true, List, [], ◌∷◌, ◌++◌, map, ◌⊎◌, inl, inr, refl, sym, ap, ◌∙◌, subst, arith}
+use Rattle.std.proofs.Common.{◌≡◌, ◌<◌, ◌≤◌, ℕ, zero, suc, ◌+◌, Bool, true, List, [], ◌∷◌, ◌++◌, map, ◌⊎◌, inl, inr}
+use Rattle.std.proofs.Common.{refl, sym, ap, ◌∙◌, subst, arith}
 use Rattle.std.specs.Prelude.{Some, slice_get}
 use Rattle.std.specs.List.{filter, flat_map, range_with_len}
 use Rattle.std.proofs.lemmas.Bool.{cases_Bool, cases_lt}
@@ -27,7 +28,10 @@ pub in_flat_map : {X Y : Type 0} (f : X → List Y) (x : X) (y : Y) (xs : List X
     → In y (flat_map f xs)
 in_flat_map f x y [] h k = h
 in_flat_map f x y (z ∷ xs) h k =
-    elim h [ inl e ↦ in_left y (f z) (flat_map f xs) (subst (λ w. In y (f w)) (sym e) k) | inr l ↦ in_right y (f z) (flat_map f xs) (in_flat_map f x y xs l k) ]
+    elim h [
+      | inl e ↦ in_left y (f z) (flat_map f xs) (subst (λ w. In y (f w)) (sym e) k)
+      | inr l ↦ in_right y (f z) (flat_map f xs) (in_flat_map f x y xs l k)
+    ]
 
 pub in_map : {X Y : Type 0} (f : X → Y) (xs : List X) (x : X) → In x xs → In (f x) (map f xs)
 in_map f [] x h = h
@@ -75,8 +79,10 @@ Pairwise R (x ∷ xs) = Each (R x) xs × Pairwise R xs
 pub pairwise_append : {X : Type 0} (R : X → X → Type 0) (xs ys : List X) → Pairwise R xs → Pairwise R ys
     → ((x y : X) → In x xs → In y ys → R x y) → Pairwise R (xs ++ ys)
 pairwise_append R [] ys h k f = k
-pairwise_append R (x ∷ xs) ys h k f =
-    (each_append (R x) xs ys h.0 (each_from_in (R x) ys (λ y. f x y (inl refl))), pairwise_append R xs ys h.1 k (λ w y l. f w y (inr l)))
+pairwise_append R (x ∷ xs) ys h k f = (
+  each_append (R x) xs ys h.0 (each_from_in (R x) ys (λ y. f x y (inl refl))),
+  pairwise_append R xs ys h.1 k (λ w y l. f w y (inr l)),
+)
 
 pub pairwise_left : {X : Type 0} (R : X → X → Type 0) (xs ys : List X) → Pairwise R (xs ++ ys) → Pairwise R xs
 pairwise_left R [] ys h = tt
@@ -116,10 +122,14 @@ pairwise_flat_map S R f (x ∷ xs) h each across =
 
 pub range_with_len_ascends : (a n : ℕ) → Pairwise (λ j k. j < k) (range_with_len a n)
 range_with_len_ascends a zero = tt
-range_with_len_ascends a (suc n) =
-    (each_then (λ k. a + 1 ≤ k) (λ k. a < k) (range_with_len (a + 1) n) (λ k h. omega arith) (range_with_len_above (a + 1) (a + 1) n (omega arith)), range_with_len_ascends (a + 1) n)
+range_with_len_ascends a (suc n) = (
+  each_then (λ k. a + 1 ≤ k) (λ k. a < k) (range_with_len (a + 1) n) (λ k h. omega arith)
+      (range_with_len_above (a + 1) (a + 1) n (omega arith)),
+  range_with_len_ascends (a + 1) n,
+)
 
 pub in_range_with_len : (a n k : ℕ) → a ≤ k → k < a + n → In k (range_with_len a n)
 in_range_with_len a zero k h l = absurd (omega arith)
 in_range_with_len a (suc n) k h l =
-    elim (cases_lt a k) [ inl lt ↦ inr (in_range_with_len (a + 1) n k (omega arith) (omega arith)) | inr le ↦ inl (omega arith) ]
+    elim (cases_lt a k)
+    [ inl lt ↦ inr (in_range_with_len (a + 1) n k (omega arith) (omega arith)) | inr le ↦ inl (omega arith) ]

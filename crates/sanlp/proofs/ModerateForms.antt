@@ -1,6 +1,7 @@
 -- What the forms of a nest are like: as many coefficients as variables, each of them moderate, so that a sum of
 -- products grows by no more than a known bound at each of them. At values of 64 bits no such sum leaves 128 bits.
-use Rattle.std.proofs.Common.{◌≡◌, ◌≤◌, ◌<◌, ◌+◌, ◌*◌, ℕ, zero, suc, ℤ, pos, negsuc, ◌+ℤ◌, ◌*ℤ◌, List, [], ◌∷◌, drop, length, sym, ap, ◌∙◌, subst, arith, lit≤}
+use Rattle.std.proofs.Common.{◌≡◌, ◌≤◌, ◌<◌, ◌+◌, ◌*◌, ℕ, zero, suc, ℤ, pos, negsuc, ◌+ℤ◌, ◌*ℤ◌, List, [], ◌∷◌, drop}
+use Rattle.std.proofs.Common.{length, sym, ap, ◌∙◌, subst, arith, lit≤}
 use Rattle.std.specs.Prelude.{IsTrue, FitsSigned, unsigned_abs, nat_le, slice_index_or, ◌&&◌, ◌==◌}
 use mir.Syntax.{w64, w128}
 use Rattle.std.specs.List.{list_all}

@@ -1,5 +1,6 @@
 -- The points of a node come in the order of execution.
-use Rattle.std.proofs.Common.{◌≡◌, ◌<◌, ℕ, suc, ◌+◌, ℤ, ◌<ℤ◌, List, [], ◌∷◌, ◌++◌, map, length, Bool, true, false, cond, inl, inr, refl, sym, ap, ◌∙◌, subst, arith, append_assoc}
+use Rattle.std.proofs.Common.{◌≡◌, ◌<◌, ℕ, suc, ◌+◌, ℤ, ◌<ℤ◌, List, [], ◌∷◌, ◌++◌, map, length, Bool, true, false, cond}
+use Rattle.std.proofs.Common.{inl, inr, refl, sym, ap, ◌∙◌, subst, arith, append_assoc}
 use Rattle.std.specs.Prelude.{nat_lt, Some, slice_get}
 use Rattle.std.proofs.lemmas.Bool.{lt-ltb}
 use Rattle.std.proofs.lemmas.List.{length_push}
@@ -15,10 +16,13 @@ use Rattle.sanlp.specs.Order.{Precedes, PrecedesWithin, common_loops, loops_roun
 use Rattle.sanlp.specs.Trace.{all_points, trace_node}
 use Rattle.sanlp.specs.WellFormed.{Place, all_loops, in_each, loops_of, loops_step, places_of}
 use Rattle.sanlp.proofs.BoundRows.{hold_each, values_ascend}
-use Rattle.sanlp.proofs.Domains.{FitsIn, GuardFits, LoopFits, Origin, HasOrigins, Round, guard_fits, inner_rows, loop_fits, origins, parts_origins, places_guard, places_loop, round_guard, round_turn, trace_assign, trace_guard, trace_loop}
+use Rattle.sanlp.proofs.Domains.{FitsIn, GuardFits, LoopFits, Origin, HasOrigins, Round, guard_fits, inner_rows}
+use Rattle.sanlp.proofs.Domains.{loop_fits, origins, parts_origins, places_guard, places_loop, round_guard, round_turn}
+use Rattle.sanlp.proofs.Domains.{trace_assign, trace_guard, trace_loop}
 use Rattle.sanlp.proofs.Each.{Each, each_left, each_of, each_right}
 use Rattle.sanlp.proofs.Folds.{by_parts, fold_guard, fold_loop}
-use Rattle.sanlp.proofs.Members.{In, Pairwise, each_in, pairwise_across, pairwise_append, pairwise_flat_map, pairwise_left, pairwise_right}
+use Rattle.sanlp.proofs.Members.{In, Pairwise, each_in, pairwise_across, pairwise_append, pairwise_flat_map}
+use Rattle.sanlp.proofs.Members.{pairwise_left, pairwise_right}
 use Rattle.sanlp.proofs.Precedence.{common_front, common_none, loops_found}
 
 -- vectors that begin with the same values
@@ -58,7 +62,8 @@ module _ (n : Nest) where
       → (p q : Point) → Origin places ids loops at p → Origin places' ids' loops at q → Precedes n p q
   across_parts places places' ids ids' loops at lengths said said' ascends apart p q o r =
       let less : nat_lt p.statement q.statement ≡ true =
-      (let lt : o.place.statement < r.place.statement = ascends o.place r.place o.placed r.placed in lt-ltb p.statement q.statement (omega (arith, o.numbered, r.numbered))) in
+      (let lt : o.place.statement < r.place.statement = ascends o.place r.place o.placed r.placed
+      in lt-ltb p.statement q.statement (omega (arith, o.numbered, r.numbered))) in
       let none : common_loops o.inner r.inner ≡ 0 =
       common_none o.inner r.inner
       (λ k l i j. apart k l (each_in (λ k. In k ids) k o.inner o.inside i)

@@ -1,5 +1,6 @@
 -- The values of the sinks' points are the arrays after the nest.
-use Rattle.std.proofs.Common.{◌≡◌, ℕ, zero, suc, ◌+◌, ◌-◌, ℤ, List, [], ◌∷◌, ◌++◌, map, length, replicate, Bool, true, false, cond, ◌⊎◌, inl, inr, refl, sym, ap, ◌∙◌, arith}
+use Rattle.std.proofs.Common.{◌≡◌, ℕ, zero, suc, ◌+◌, ◌-◌, ℤ, List, [], ◌∷◌, ◌++◌, map, length, replicate, Bool, true}
+use Rattle.std.proofs.Common.{false, cond, ◌⊎◌, inl, inr, refl, sym, ap, ◌∙◌, arith}
 use Rattle.std.specs.Prelude.{Option, Some, None, slice_get}
 use Rattle.std.specs.Option.{option_map, option_map_or}
 use Rattle.std.proofs.lemmas.List.{length-map, length-replicate}
@@ -24,7 +25,10 @@ get_cases : {X : Type 0} (xs ys : List X) (i : ℕ) (x : X) → slice_get (xs ++
 get_cases [] ys i x e = let i-is : i ≡ 0 + i = omega arith in inr (i, i-is, e)
 get_cases (y ∷ xs) ys zero x e = inl e
 get_cases (y ∷ xs) ys (suc i) x e =
-    elim (get_cases xs ys i x e) [ inl h ↦ inl h | inr h ↦ (let i-is : suc i ≡ suc (length xs) + h.0 = omega (arith, h.1) in inr (h.0, i-is, h.2)) ]
+    elim (get_cases xs ys i x e) [
+      | inl h ↦ inl h
+      | inr h ↦ (let i-is : suc i ≡ suc (length xs) + h.0 = omega (arith, h.1) in inr (h.0, i-is, h.2))
+    ]
 
 no_source : (numbers : List ℕ) (i a : ℕ) → slice_get (map Source numbers) i ≡ Some (Sink a) → ⊥
 no_source numbers i a e = by_found (slice_get numbers i) (sym (slice_get-map Source numbers i) ∙ e) where
@@ -59,7 +63,14 @@ sink_place n s a e =
         | inl k ↦ absurd (no_assignment _ h.0 a k)
         | inr k ↦
             let place : s ≡ first_sink n + k.0 =
-            omega (arith, h.1, k.1, length_statements n, length-map (input_numbers n.arrays) Source, length-replicate (length n.statements - (inputs n + length (output_numbers n.arrays))) Assign) in
+            omega (
+              arith,
+              h.1,
+              k.1,
+              length_statements n,
+              length-map (input_numbers n.arrays) Source,
+              length-replicate (length n.statements - (inputs n + length (output_numbers n.arrays))) Assign,
+            ) in
             (k.0, place, sink_number (output_numbers n.arrays) k.0 a k.2)
       ]
     ]

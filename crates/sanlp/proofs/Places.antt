@@ -1,5 +1,6 @@
 -- Where the statements of points stand.
-use Rattle.std.proofs.Common.{◌≡◌, ℕ, ◌+◌, ℤ, pos, ◌-ℤ◌, List, [], ◌∷◌, ◌++◌, map, length, Bool, true, false, cond, refl, sym, ap, ◌∙◌, subst}
+use Rattle.std.proofs.Common.{◌≡◌, ℕ, ◌+◌, ℤ, pos, ◌-ℤ◌, List, [], ◌∷◌, ◌++◌, map, length, Bool, true, false, cond}
+use Rattle.std.proofs.Common.{refl, sym, ap, ◌∙◌, subst}
 use Rattle.std.specs.List.{flat_map, range_with_len}
 use Rattle.std.proofs.lemmas.List.{append-nil, map-append}
 use Rattle.affine_core.specs.Affine.{constant_form}
@@ -14,7 +15,8 @@ use Rattle.sanlp.specs.Around.{loops_round}
 use Rattle.sanlp.specs.Cells.{natural}
 use Rattle.sanlp.specs.Loops.{loop_values, all_hold}
 use Rattle.sanlp.specs.Trace.{PointsAt, all_points, trace_step, trace_node}
-use Rattle.sanlp.specs.WellFormed.{Place, Places, in_each, places_step, places_of, all_places, said_from, array_loops, bound_rows}
+use Rattle.sanlp.specs.WellFormed.{Place, Places, in_each, places_step, places_of, all_places, said_from, array_loops}
+use Rattle.sanlp.specs.WellFormed.{bound_rows}
 use Rattle.sanlp.proofs.Each.{Each, each_append, each_left, each_right}
 use Rattle.sanlp.proofs.Folds.{fold_loop_at_both, fold_assign_at_both}
 

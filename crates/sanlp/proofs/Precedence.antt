@@ -1,5 +1,6 @@
 -- The loops that two lists have in common, and the order of iteration vectors and of points.
-use Rattle.std.proofs.Common.{◌≡◌, ◌<◌, ◌≤◌, ◌+◌, ℕ, zero, suc, ℤ, ◌<ℤ◌, List, [], ◌∷◌, ◌++◌, length, take, Bool, true, false, cond, inl, inr, refl, sym, ap, ◌∙◌, subst, arith}
+use Rattle.std.proofs.Common.{◌≡◌, ◌<◌, ◌≤◌, ◌+◌, ℕ, zero, suc, ℤ, ◌<ℤ◌, List, [], ◌∷◌, ◌++◌, length, take, Bool, true}
+use Rattle.std.proofs.Common.{false, cond, inl, inr, refl, sym, ap, ◌∙◌, subst, arith}
 use Rattle.std.specs.Prelude.{◌==◌, min, nat_lt, Some, slice_get}
 use Rattle.std.specs.Option.{option_map_or}
 use Rattle.std.specs.Ordering.{MatchOrdering, int_cmp, ordering_then}
@@ -33,7 +34,8 @@ decided_next : (r s : Ordering) (v w : ℤ) (c : ℕ) (less : Bool) (at bt : Lis
 decided_next Less s v w c less at bt m h = inl m
 decided_next Equal s v w c less at bt m h = decided_same s v w c less at bt m h
 decided_next Greater s v w c less at bt m h =
-    λ p. elim p [ inl lt ↦ absurd (omega (arith, ints)) | inr q ↦ (let e : v ≡ w = q.0 in absurd (omega (arith, ints))) ]
+    λ p. elim p
+    [ inl lt ↦ absurd (omega (arith, ints)) | inr q ↦ (let e : v ≡ w = q.0 in absurd (omega (arith, ints))) ]
 
 pub decided : (c : ℕ) (less : Bool) (at bt : List ℤ) → c ≤ length at → c ≤ length bt
     → IsDecided (slice_cmp int_cmp (take c at) (take c bt)) (PrecedesWithin c less at bt) less

@@ -1,5 +1,6 @@
 -- Each point of the domain of a statement is reached in the statement's node.
-use Rattle.std.proofs.Common.{◌≡◌, ◌≤◌, ℕ, ℤ, pos, ◌≤ℤ◌, List, [], ◌∷◌, ◌++◌, map, length, true, cond, inl, inr, sym, ap, ◌∙◌, subst, arith, append_assoc, length-append}
+use Rattle.std.proofs.Common.{◌≡◌, ◌≤◌, ℕ, ℤ, pos, ◌≤ℤ◌, List, [], ◌∷◌, ◌++◌, map, length, true, cond, inl, inr, sym}
+use Rattle.std.proofs.Common.{ap, ◌∙◌, subst, arith, append_assoc, length-append}
 use Rattle.std.proofs.lemmas.List.{append-nil, length_push, nil_from_length}
 use Rattle.affine_core.specs.Affine.{form_at}
 use Rattle.affine_core.specs.declared.form.Form.{Form}
@@ -11,7 +12,9 @@ use Rattle.sanlp.specs.Loops.{all_hold, loop_values}
 use Rattle.sanlp.specs.Trace.{all_points, trace_node}
 use Rattle.sanlp.specs.WellFormed.{Place, bound_rows, in_each, places_of}
 use Rattle.sanlp.proofs.BoundRows.{AllHold, each_holds, meeting_values}
-use Rattle.sanlp.proofs.Domains.{FitsIn, GuardFits, LoopFits, Over, from_widened, guard_fits, hold_less, inner_rows, loop_fits, places_assign, places_guard, places_loop, rows_over, trace_assign, trace_guard, trace_loop}
+use Rattle.sanlp.proofs.Domains.{FitsIn, GuardFits, LoopFits, Over, from_widened, guard_fits, hold_less, inner_rows}
+use Rattle.sanlp.proofs.Domains.{loop_fits, places_assign, places_guard, places_loop, rows_over, trace_assign}
+use Rattle.sanlp.proofs.Domains.{trace_guard, trace_loop}
 use Rattle.sanlp.proofs.Each.{Each, each_left, each_of, each_right, each_append, each_then}
 use Rattle.sanlp.proofs.Folds.{by_parts}
 use Rattle.sanlp.proofs.Members.{In, in_cases, in_flat_map, in_left, in_right}
@@ -39,8 +42,11 @@ fronts_loop : (id : ℕ) (lower upper : List Form) (step : ℤ) (body : List Nod
 fronts_loop id lower upper step body h loops rows place k =
     let inner =
     parts_fronts body h (loops ++ id ∷ []) (inner_rows (length loops) rows lower upper step) place
-    (subst (λ places. In place places) (places_loop id lower upper step body loops rows) k) in
-    (omega (arith, inner.0, length_push loops id), λ at l. each_left (λ row. pos 0 ≤ℤ form_at row at) rows (bound_rows (length loops) lower upper step) (inner.1 at l))
+    (subst (λ places. In place places) (places_loop id lower upper step body loops rows) k) in (
+      omega (arith, inner.0, length_push loops id),
+      λ at l. each_left (λ row. pos 0 ≤ℤ form_at row at) rows
+          (bound_rows (length loops) lower upper step) (inner.1 at l),
+    )
 
 fronts_guard : (guards : List Form) (body : List Node) → Each HasFronts body → HasFronts (Guard guards body)
 fronts_guard guards body h loops rows place k =

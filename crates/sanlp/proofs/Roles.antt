@@ -1,5 +1,6 @@
 -- The roles of statements, and what a statement of each role reads and writes.
-use Rattle.std.proofs.Common.{◌≡◌, ◌≤◌, ℕ, zero, suc, ◌+◌, ◌-◌, List, [], ◌∷◌, ◌++◌, map, length, replicate, Bool, true, false, cond, refl, sym, ap, ◌∙◌, arith}
+use Rattle.std.proofs.Common.{◌≡◌, ◌≤◌, ℕ, zero, suc, ◌+◌, ◌-◌, List, [], ◌∷◌, ◌++◌, map, length, replicate, Bool, true}
+use Rattle.std.proofs.Common.{false, cond, refl, sym, ap, ◌∙◌, arith}
 use Rattle.std.specs.Prelude.{Option, Some, None, slice_get, IsTrue, nat_le}
 use Rattle.std.specs.Option.{option_map, option_map_or}
 use Rattle.std.specs.List.{list_all}
@@ -12,7 +13,8 @@ use Rattle.sanlp.specs.declared.nest.Nest.{Nest}
 use Rattle.sanlp.specs.declared.nest.Role.{Role}
 use Rattle.sanlp.specs.declared.nest.Role.TheVariants.{Source, Assign, Sink}
 use Rattle.sanlp.specs.declared.nest.Statement.{Statement}
-use Rattle.sanlp.specs.WellFormed.{numbers_from, extents_where, input_numbers, output_numbers, depth_of, form_fits, access_fits, assigns, statement_fits, in_role}
+use Rattle.sanlp.specs.WellFormed.{numbers_from, extents_where, input_numbers, output_numbers, depth_of, form_fits}
+use Rattle.sanlp.specs.WellFormed.{access_fits, assigns, statement_fits, in_role}
 use Rattle.sanlp.proofs.Elements.{list_all_at}
 use Rattle.sanlp.proofs.Lists.{slice_get-append_right}
 
@@ -36,7 +38,17 @@ fits_of arrays s h =
     let e = and_parts _ (list_all (form_fits (depth_of s)) s.rows) d.0 in
     let f = and_parts _ (nat_le (length s.rows) 32) e.0 in
     let g = and_parts (nat_le (depth_of s) 6) (nat_le (length s.reads) 8) f.0 in
-    record { few_loops = g.0; few_reads = g.1; few_rows = f.1; rows_fit = e.1; write_fits = d.1; reads_fit = c.1; uses = b.1; assignment = a.1 }
+    record {
+      few_loops = g.0;
+      few_reads = g.1;
+      few_rows = f.1;
+      rows_fit = e.1;
+      write_fits = d.1;
+      reads_fit = c.1;
+      uses =
+          b.1;
+      assignment = a.1;
+    }
 
 -- an array that passes, at its place in the list of those that do
 pub record Passes (passes : ArrayDecl → Bool) (k : ℕ) (arrays : List ArrayDecl) (j a : ℕ) : Type 0 where
@@ -127,7 +139,13 @@ module _ (n : Nest) where
       sym (length-map n.statements (λ s. s.role)) ∙ ap length n.well_formed.roles_in_order
       ∙ length-append (map Source (input_numbers n.arrays))
       (replicate assignments Assign ++ map Sink (output_numbers n.arrays))
-      ∙ omega (arith, length-map (input_numbers n.arrays) Source, length-append (replicate assignments Assign) (map Sink (output_numbers n.arrays)), length-replicate assignments Assign, length-map (output_numbers n.arrays) Sink)
+      ∙ omega (
+        arith,
+        length-map (input_numbers n.arrays) Source,
+        length-append (replicate assignments Assign) (map Sink (output_numbers n.arrays)),
+        length-replicate assignments Assign,
+        length-map (output_numbers n.arrays) Sink,
+      )
 
   pub inputs_come_first : inputs ≤ first_sink
   inputs_come_first = omega (arith, length_statements)
@@ -140,7 +158,8 @@ module _ (n : Nest) where
       let middle : List Role = replicate assignments Assign in
       let sinks : List Role = map Sink (output_numbers n.arrays) in
       let place : first_sink + j ≡ length sources + (length middle + j) =
-      omega (arith, length_statements, length-map (input_numbers n.arrays) Source, length-replicate assignments Assign) in
+      omega (arith, length_statements, length-map (input_numbers n.arrays) Source, length-replicate assignments Assign)
+      in
       ap (λ roles. slice_get roles (first_sink + j)) n.well_formed.roles_in_order
       ∙ ap (slice_get (sources ++ (middle ++ sinks))) place
       ∙ slice_get-append_right sources (middle ++ sinks) (length middle + j)

@@ -5,7 +5,9 @@
 -- cell's last writer, which by LastWriter is what the memory has. It goes over the sink's vectors one by one, with the
 -- trace split before and behind. It isn't about which cells are printed: that is the order of `all_subscripts`, by
 -- Rounds.
-use Rattle.std.proofs.Common.{◌≡◌, ◌<◌, ◌≤◌, ◌+◌, ◌-◌, ℕ, suc, pos, ℤ, List, [], ◌∷◌, ◌++◌, length, take, drop, get_or, map, true, false, cond, refl, sym, ap, ◌∙◌, subst, inl, inr, arith, append_assoc, length-append}
+use Rattle.std.proofs.Common.{◌≡◌, ◌<◌, ◌≤◌, ◌+◌, ◌-◌, ℕ, suc, pos, ℤ, List, [], ◌∷◌, ◌++◌, length, take, drop, get_or}
+use Rattle.std.proofs.Common.{map, true, false, cond, refl, sym, ap, ◌∙◌, subst, inl, inr, arith, append_assoc}
+use Rattle.std.proofs.Common.{length-append}
 use Rattle.std.specs.Prelude.{Option, Some, None, slice_get, unwrap_or, IsTrue, ◌==◌}
 use Rattle.std.specs.Option.{option_map, option_and_then, option_map_or}
 use Rattle.std.specs.List.{fold, list_all}
@@ -34,7 +36,8 @@ use Rattle.sanlp.specs.Writers.{value_at, memory_before}
 use Rattle.sanlp.proofs.Each.{Each, each_append, each_then}
 use Rattle.sanlp.proofs.ExecTrace.{follows_trace}
 use Rattle.sanlp.proofs.Folds.{fold_read_at}
-use Rattle.sanlp.proofs.Frame.{array_points, array_points-append, array_points_above, array_points_below, before_sinks, before_sinks_below, outs, points_at, trace_framed}
+use Rattle.sanlp.proofs.Frame.{array_points, array_points-append, array_points_above, array_points_below, before_sinks}
+use Rattle.sanlp.proofs.Frame.{before_sinks_below, outs, points_at, trace_framed}
 use Rattle.sanlp.proofs.LastWriter.{holds_last_writers, value_at_is}
 use Rattle.sanlp.proofs.Lists.{split_at}
 use Rattle.sanlp.proofs.OwnCells.{length_subscripts, own_cell_at}
@@ -155,7 +158,12 @@ module _ (n : Nest) where
       let p : Point = record { statement = s; at = at } in
       ap (λ o. option_map_or
       (λ s. value_of s.expr
-      (record { at = at; reads = map look (option_map_or (λ s. map (cell_at at) s.reads) o []); given = given_at n d s.role at })) o (pos 0)) is.found
+      (record {
+        at = at;
+        reads = map look (option_map_or (λ s. map (cell_at at) s.reads) o []);
+        given =
+            given_at n d s.role at;
+      })) o (pos 0)) is.found
       ∙ ap (λ e. value_of e
       (record { at = at; reads = map look (map (cell_at at) st.reads); given = given_at n d st.role at })) reading
       ∙ fold_read_at Operands ℤ value_step 0

@@ -18,7 +18,9 @@ use Rattle.sanlp.specs.Points.{points_of}
 use Rattle.sanlp.specs.Trace.{trace}
 use Rattle.sanlp.specs.WellFormed.{IsWellFormed}
 use Rattle.sanlp.specs.Writers.{last_before, values_before}
-use Rattle.sanlp.proofs.Folds.{fold_add, fold_add_at, fold_assign, fold_assign_at, fold_assign_at_both, fold_const, fold_const_at, fold_given, fold_given_at, fold_loop, fold_loop_at, fold_loop_at_both, fold_mul, fold_mul_at, fold_read, fold_read_at, fold_var, fold_var_at}
+use Rattle.sanlp.proofs.Folds.{fold_add, fold_add_at, fold_assign, fold_assign_at, fold_assign_at_both, fold_const}
+use Rattle.sanlp.proofs.Folds.{fold_const_at, fold_given, fold_given_at, fold_loop, fold_loop_at, fold_loop_at_both}
+use Rattle.sanlp.proofs.Folds.{fold_mul, fold_mul_at, fold_read, fold_read_at, fold_var, fold_var_at}
 
 -- the variable of the loop
 abbrev turn : Form
@@ -27,7 +29,8 @@ turn = record { constant = pos 0; coefs = pos 1 ∷ [] }
 -- in x[5]; out y[5]; for (i = 0; i < 5; i += 2) y[i] = x[i];
 abbrev x_and_y : List ArrayDecl
 x_and_y =
-    record { name = codes "x"; kind = kind.Input; extents = pos 5 ∷ [] } ∷ record { name = codes "y"; kind = kind.Output; extents = pos 5 ∷ [] } ∷ []
+    record { name = codes "x"; kind = kind.Input; extents = pos 5 ∷ [] }
+    ∷ record { name = codes "y"; kind = kind.Output; extents = pos 5 ∷ [] } ∷ []
 
 abbrev cell : ℕ → Form → Access
 cell a subscript = record { array = a; subscripts = subscript ∷ [] }
@@ -38,9 +41,34 @@ doubled = record { constant = pos 0; coefs = pos 2 ∷ [] }
 
 abbrev copies : List Statement
 copies =
-    record { role = role.Source 0; loops = 0 ∷ []; rows = rows_to (pos 4); write = Some (cell 0 turn); reads = []; expr = Given }
-    ∷ record { role = role.Assign; loops = 1 ∷ []; rows = record { constant = pos 0; coefs = pos 1 ∷ [] } ∷ record { constant = pos 4; coefs = negsuc 1 ∷ [] } ∷ []; write = Some (cell 1 doubled); reads = cell 0 doubled ∷ []; expr = Read 0 }
-    ∷ record { role = role.Sink 1; loops = 2 ∷ []; rows = rows_to (pos 4); write = None; reads = cell 1 turn ∷ []; expr = Read 0 } ∷ []
+    record {
+      role = role.Source 0;
+      loops = 0 ∷ [];
+      rows = rows_to (pos 4);
+      write = Some (cell 0 turn);
+      reads =
+          [];
+      expr = Given;
+    }
+    ∷ record {
+      role = role.Assign;
+      loops = 1 ∷ [];
+      rows = record { constant = pos 0; coefs = pos 1 ∷ [] }
+          ∷ record { constant = pos 4; coefs = negsuc 1 ∷ [] } ∷ [];
+      write = Some (cell 1 doubled);
+      reads = cell 0 doubled
+          ∷ [];
+      expr = Read 0;
+    }
+    ∷ record {
+      role = role.Sink 1;
+      loops = 2 ∷ [];
+      rows = rows_to (pos 4);
+      write = None;
+      reads = cell 1 turn
+          ∷ [];
+      expr = Read 0;
+    } ∷ []
 
 abbrev copies_body : List Node
 copies_body =
@@ -80,7 +108,8 @@ at s i = record { statement = s; at = pos i ∷ [] }
 
 abbrev copies_points : List Point
 copies_points =
-    at 0 0 ∷ at 0 1 ∷ at 0 2 ∷ at 0 3 ∷ at 0 4 ∷ at 1 0 ∷ at 1 1 ∷ at 1 2 ∷ at 2 0 ∷ at 2 1 ∷ at 2 2 ∷ at 2 3 ∷ at 2 4 ∷ []
+    at 0 0 ∷ at 0 1 ∷ at 0 2 ∷ at 0 3 ∷ at 0 4 ∷ at 1 0 ∷ at 1 1 ∷ at 1 2 ∷ at 2 0 ∷ at 2 1 ∷ at 2 2 ∷ at 2 3 ∷ at 2 4
+    ∷ []
 
 copies_trace : trace stepped_copies ≡ copies_points
 unfolding trace
@@ -105,7 +134,15 @@ tripled = Add (Const (pos 1)) (Mul (Const (pos 3)) (Var 0))
 
 abbrev adds : List Statement
 adds =
-    record { role = role.Assign; loops = 0 ∷ []; rows = turn ∷ record { constant = pos 7; coefs = negsuc 2 ∷ [] } ∷ []; write = Some scalar_y; reads = scalar_y ∷ []; expr = Add (Read 0) tripled }
+    record {
+      role = role.Assign;
+      loops = 0 ∷ [];
+      rows = turn ∷ record { constant = pos 7; coefs = negsuc 2 ∷ [] }
+          ∷ [];
+      write = Some scalar_y;
+      reads = scalar_y ∷ [];
+      expr = Add (Read 0) tripled;
+    }
     ∷ record { role = role.Sink 0; loops = []; rows = []; write = None; reads = scalar_y ∷ []; expr = Read 0 } ∷ []
 
 abbrev adds_body : List Node

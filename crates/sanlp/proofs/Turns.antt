@@ -1,10 +1,11 @@
 -- The turns of a loop with a step.
 --
--- They are defined as the whole numbers from 0 on, as long as `first + step * turn` is at most `last`. This holds of a turn
--- exactly where the turn is at most the quotient, rounded down, of `last - first` and the step, and so the turns are the
--- interval from 0 to that quotient: what is left of them at each turn is an interval too. The quotient is std's `div_euclid`,
--- which for a positive divisor rounds down, also below 0, where there is no turn.
-use Rattle.std.proofs.Common.{◌≡◌, ◌≤◌, ℕ, zero, suc, ℤ, pos, negsuc, ◌+ℤ◌, ◌-ℤ◌, ◌*ℤ◌, ◌<ℤ◌, ◌≤ℤ◌, [], ◌∷◌, Bool, true, false, cond, refl, sym, ap, ◌∙◌, subst, arith}
+-- They are defined as the whole numbers from 0 on, as long as `first + step * turn` is at most `last`. This holds of a
+-- turn exactly where the turn is at most the quotient, rounded down, of `last - first` and the step, and so the turns
+-- are the interval from 0 to that quotient: what is left of them at each turn is an interval too. The quotient is std's
+-- `div_euclid`, which for a positive divisor rounds down, also below 0, where there is no turn.
+use Rattle.std.proofs.Common.{◌≡◌, ◌≤◌, ℕ, zero, suc, ℤ, pos, negsuc, ◌+ℤ◌, ◌-ℤ◌, ◌*ℤ◌, ◌<ℤ◌, ◌≤ℤ◌, [], ◌∷◌, Bool, true}
+use Rattle.std.proofs.Common.{false, cond, refl, sym, ap, ◌∙◌, subst, arith}
 use Rattle.std.specs.Prelude.{int_le}
 use Rattle.std.specs.List.{take_while}
 use Rattle.std.specs.Int.{int_div_euclid}

@@ -10,7 +10,9 @@ use Rattle.sanlp.specs.Order.{HasDepth}
 use Rattle.sanlp.specs.Trace.{trace}
 use Rattle.sanlp.specs.WellFormed.{IsWellFormed}
 use Rattle.sanlp.specs.Writers.{last_before, values_before}
-use Rattle.sanlp.proofs.Folds.{fold_add, fold_add_at, fold_assign, fold_assign_at, fold_assign_at_both, fold_const, fold_const_at, fold_loop, fold_loop_at, fold_loop_at_both, fold_read, fold_read_at, fold_var, fold_var_at}
+use Rattle.sanlp.proofs.Folds.{fold_add, fold_add_at, fold_assign, fold_assign_at, fold_assign_at_both, fold_const}
+use Rattle.sanlp.proofs.Folds.{fold_const_at, fold_loop, fold_loop_at, fold_loop_at_both, fold_read, fold_read_at}
+use Rattle.sanlp.proofs.Folds.{fold_var, fold_var_at}
 
 pub sums_well_formed : IsWellFormed (y_and_v (pos 4)) sums_statements sums_body
 sums_well_formed = record {
@@ -41,11 +43,23 @@ delayed_well_formed = record {
 }
 
 abbrev sums : Nest
-sums = record { arrays = y_and_v (pos 4); statements = sums_statements; body = sums_body; well_formed = sums_well_formed }
+sums = record {
+  arrays = y_and_v (pos 4);
+  statements = sums_statements;
+  body = sums_body;
+  well_formed =
+      sums_well_formed;
+}
 
 abbrev delayed : Nest
 delayed =
-    record { arrays = y_and_v (pos 3); statements = delayed_statements; body = delayed_body; well_formed = delayed_well_formed }
+    record {
+      arrays = y_and_v (pos 3);
+      statements = delayed_statements;
+      body = delayed_body;
+      well_formed =
+          delayed_well_formed;
+    }
 
 abbrev nothing : Inputs
 nothing = record { arrays = [] ∷ [] ∷ [] }
@@ -84,10 +98,16 @@ delayed_values = simp (fold_add_at, fold_const_at, fold_read_at, fold_var_at)
 -- each statement of the running sums has one loop
 pub depth_is_one : (n : Nest) (s : ℕ) (i : ℤ) → n.statements ≡ sums_statements → s < 3
     → HasDepth n (record { statement = s; at = i ∷ [] })
-depth_is_one n zero i e h =
-    (omega (arith, ap length e), sym (ap (λ statements. length (option_map_or (λ s. s.loops) (slice_get statements 0) [])) e))
-depth_is_one n (suc zero) i e h =
-    (omega (arith, ap length e), sym (ap (λ statements. length (option_map_or (λ s. s.loops) (slice_get statements 1) [])) e))
-depth_is_one n (suc (suc zero)) i e h =
-    (omega (arith, ap length e), sym (ap (λ statements. length (option_map_or (λ s. s.loops) (slice_get statements 2) [])) e))
+depth_is_one n zero i e h = (
+  omega (arith, ap length e),
+  sym (ap (λ statements. length (option_map_or (λ s. s.loops) (slice_get statements 0) [])) e),
+)
+depth_is_one n (suc zero) i e h = (
+  omega (arith, ap length e),
+  sym (ap (λ statements. length (option_map_or (λ s. s.loops) (slice_get statements 1) [])) e),
+)
+depth_is_one n (suc (suc zero)) i e h = (
+  omega (arith, ap length e),
+  sym (ap (λ statements. length (option_map_or (λ s. s.loops) (slice_get statements 2) [])) e),
+)
 depth_is_one n (suc (suc (suc s))) i e h = absurd (omega arith)

@@ -15,8 +15,9 @@ IsContiguous n =
     ≡ min (common_loops first.loops middle.loops) (common_loops middle.loops last.loops)
 
 -- A first statement comes before a middle one by the text, or this before a last one, or both. Where
--- no more loops are in common there than between the other two, the first comes before the last by
--- the text, with as many loops in common. Of the other two nothing is said of the order.
+-- one of the two pairs is in order by the text and has fewer loops in common than the other pair, or
+-- where both are in order and have as many in common, the first comes before the last by the text,
+-- with as many loops in common as that pair. In all other cases nothing is said.
 pub record TextComposes (a b c : ℕ) (first middle last : Statement) : Type 0 where
   pub outer : a < b
       → common_loops first.loops middle.loops < common_loops middle.loops last.loops

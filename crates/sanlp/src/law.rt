@@ -50,7 +50,8 @@ pub fn text_is_contiguous(nest: &Nest)
     ensures { IsContiguous nest.now }
 {}
 
-/// Orders of statements by the text compose, also with an order by a loop that two of them share.
+/// Orders of statements by the text compose: of three statements, an order by the text between two neighbours with fewer
+/// loops in common than the other two, or with as many where these are in order too, orders the outer two.
 pub fn orders_compose(nest: &Nest)
     ensures { OrdersCompose nest.now }
 {}

@@ -5,7 +5,9 @@
 -- shadow before its own write, then its write, then its turn. The last writer is defined by looking back over all
 -- earlier entries, and not by a shadow; that both agree is the induction. How the shadow is kept, in rows or in a map,
 -- is another file's.
-use Rattle.std.proofs.Common.{◌≡◌, ◌≢◌, ◌<◌, ◌≤◌, ◌+◌, ◌-◌, ℕ, zero, suc, List, [], ◌∷◌, ◌++◌, map, length, take, drop, set, get_or, Bool, true, false, cond, refl, sym, ap, ◌∙◌, subst, arith, add_assoc, length-append, length-drop}
+use Rattle.std.proofs.Common.{◌≡◌, ◌≢◌, ◌<◌, ◌≤◌, ◌+◌, ◌-◌, ℕ, zero, suc, List, [], ◌∷◌, ◌++◌, map, length, take, drop}
+use Rattle.std.proofs.Common.{set, get_or, Bool, true, false, cond, refl, sym, ap, ◌∙◌, subst, arith, add_assoc}
+use Rattle.std.proofs.Common.{length-append, length-drop}
 use Rattle.std.specs.Prelude.{Option, Some, None, slice_get, replicate, ◌==◌}
 use Rattle.std.specs.List.{sum_by, count_by, range_with_len}
 use Rattle.std.specs.Option.{option_and_then, option_map, option_map_or}
@@ -326,7 +328,12 @@ sum_within [] j s e = absurd (cc)
 sum_within (x ∷ statements) zero s e =
     omega (arith, sum_by-cons (λ x. length x.reads) x statements, ap (λ y. length y.reads) (same_Some x s e))
 sum_within (x ∷ statements) (suc j) s e =
-    omega (arith, sum_by-cons (λ x. length x.reads) x (take j statements), sum_by-cons (λ x. length x.reads) x statements, sum_within statements j s e)
+    omega (
+      arith,
+      sum_by-cons (λ x. length x.reads) x (take j statements),
+      sum_by-cons (λ x. length x.reads) x statements,
+      sum_within statements j s e,
+    )
 
 pub reads_have_lists : (n : Nest) (t : ℕ) (p : Point) (s : Statement) (turns : List ℕ) (writes : LastWrites)
     (lists : List (List (Option Tag)))
@@ -378,7 +385,13 @@ module _ (n : Nest) (left later : List Point) (p : Point) (e : drop (length (tra
       (swept : IsSwept n (length (trace n) - length left) turns writes lists) where
     pub turn_exists : p.statement < length turns
     turn_exists =
-        omega (arith, statement_exists, ap length swept.turns_are, length-map-range_with_len (turns_before (trace n) (length (trace n) - length left)) 0 (length n.statements))
+        omega (
+          arith,
+          statement_exists,
+          ap length swept.turns_are,
+          length-map-range_with_len
+              (turns_before (trace n) (length (trace n) - length left)) 0 (length n.statements),
+        )
 
     pub turn_is_small : size n ≤ size_limit → get_or turns p.statement 0 < 4294967295
     turn_is_small small =

@@ -1,7 +1,8 @@
--- A text that is handed to a sink in parts. As long as no write failed, the sink holds what it held and all of the text so
--- far, so the next part goes behind it; a write that fails leaves a front of that part, and so a front of the whole. From
--- then on nothing more is written, and a front of the text so far is a front of the longer text too.
-use Rattle.std.proofs.Common.{◌≡◌, ◌≤◌, ◌-◌, ℕ, Bool, true, false, List, [], ◌++◌, Option, None, Some, take, length, refl, ap, sym, subst, ◌∙◌, append-nil, arith, length-append}
+-- A text that is handed to a sink in parts. As long as no write failed, the sink holds what it held and all of the text
+-- so far, so the next part goes behind it; a write that fails leaves a front of that part, and so a front of the whole.
+-- From then on nothing more is written, and a front of the text so far is a front of the longer text too.
+use Rattle.std.proofs.Common.{◌≡◌, ◌≤◌, ◌-◌, ℕ, Bool, true, false, List, [], ◌++◌, Option, None, Some, take, length}
+use Rattle.std.proofs.Common.{refl, ap, sym, subst, ◌∙◌, append-nil, arith, length-append}
 use Rattle.std.proofs.lemmas.List.{take-append-le, length-take, length-take-le}
 use Rattle.std.proofs.KnownBytes.{Appends-trans}
 use Rattle.io_edge.proofs.Fronts.{front_after}
@@ -21,7 +22,12 @@ holds_front (Some xs) (Some ys) text (n, within, came) =
 bounded_front : (xs ys text : List ℕ) → ys ≡ xs ++ take (length ys - length xs) text
     → length ys - length xs ≤ length text
 bounded_front xs ys text came =
-    omega (arith, ap length came, length-append xs (take (length ys - length xs) text), length-take (length ys - length xs) text)
+    omega (
+      arith,
+      ap length came,
+      length-append xs (take (length ys - length xs) text),
+      length-take (length ys - length xs) text,
+    )
 
 pub appends_front : (held now : Option (List ℕ)) (text : List ℕ) → HoldsFront held now text → AppendsFront held now text
 appends_front None now text holds = (0, omega arith, tt)

@@ -1,5 +1,6 @@
 -- The entries of a column, event by event, and how many there are.
-use Rattle.std.proofs.Common.{◌≡◌, ℕ, suc, ◌+◌, List, [], ◌∷◌, ◌++◌, codes, count_by, decimal, length, map, slice_get, append_assoc, append-nil, refl, sym, ap, ◌∙◌, arith}
+use Rattle.std.proofs.Common.{◌≡◌, ℕ, suc, ◌+◌, List, [], ◌∷◌, ◌++◌, codes, count_by, decimal, length, map, slice_get}
+use Rattle.std.proofs.Common.{append_assoc, append-nil, refl, sym, ap, ◌∙◌, arith}
 use Rattle.std.specs.List.{concat, enumerate_from, flat_map, join_by}
 use Rattle.std.proofs.lemmas.List.{length-map}
 use Rattle.net_core.specs.declared.network.Event.{Event}
@@ -8,8 +9,10 @@ use Rattle.net_core.specs.Shape.{is_fire}
 use Rattle.net_core.proofs.Counting.{count_cons}
 use Rattle.vhdl_text.specs.declared.constants.Column.{Column}
 use Rattle.vhdl_text.specs.declared.constants.Column.TheVariants.{Op, Arg, Dst, Read}
-use Rattle.vhdl_text.specs.Constants.{args_from, column_values, constant_text, dst_of, entry, fires_of, op_of, slot_text}
-use Rattle.vhdl_text.specs.Pieces.{entries_from, entry_comma, event_entries, event_entry, fires_after, head_text, tail_text}
+use Rattle.vhdl_text.specs.Constants.{args_from, column_values, constant_text, dst_of, entry, fires_of, op_of}
+use Rattle.vhdl_text.specs.Constants.{slot_text}
+use Rattle.vhdl_text.specs.Pieces.{entries_from, entry_comma, event_entries, event_entry, fires_after, head_text}
+use Rattle.vhdl_text.specs.Pieces.{tail_text}
 
 -- Numbers of values
 

@@ -1,7 +1,8 @@
 -- Texts written one behind another. In a function that writes long literals `grind` takes up each byte of them, and
 -- finds no room for the steps that matter: there `and_then` says how what one call wrote goes before what the next one
 -- did, and `one_more` and `one_more_number` say the same of a loop.
-use Rattle.std.proofs.Common.{◌≡◌, ℕ, zero, suc, ◌+◌, ◌<◌, List, [], ◌∷◌, ◌++◌, length, take, get_or, add-one, append_assoc, append-nil, ap, ◌∙◌, arith}
+use Rattle.std.proofs.Common.{◌≡◌, ℕ, zero, suc, ◌+◌, ◌<◌, List, [], ◌∷◌, ◌++◌, length, take, get_or, add-one}
+use Rattle.std.proofs.Common.{append_assoc, append-nil, ap, ◌∙◌, arith}
 use Rattle.std.specs.List.{enumerate_from, flat_map, range_with_len}
 use Rattle.std.proofs.lemmas.Grind.{flat_map-append, take_at_read}
 use Rattle.text_out.specs.Wrote.{Given, Wrote}

@@ -1,4 +1,5 @@
-use Rattle.std.proofs.Common.{Bor, List, ℕ, ◌≡◌, ◌+◌, ◌∙◌, ◌++◌, ◌∷◌, [], sym, refl, ap, arith, inl, inr, length, Some, Result, Ok, Err}
+use Rattle.std.proofs.Common.{Bor, List, ℕ, ◌≡◌, ◌+◌, ◌∙◌, ◌++◌, ◌∷◌, [], sym, refl, ap, arith, inl, inr, length, Some}
+use Rattle.std.proofs.Common.{Result, Ok, Err}
 use Rattle.std.proofs.lemmas.List.{length_push}
 use Rattle.std.proofs.lemmas.Result.{err_from_is_err_and}
 use Rattle.csv.specs.Reading.{Reached, default_config, strip_bom}
@@ -51,7 +52,8 @@ returns-in_err-take_record c =
     let seen = inv.6 in
     let row = fields_of c.in-Ok.row in
     let s = rw (c.in-Some.is, c.in-Ok.is) at ((c.next.ensures.steps inv.2 inv.0).0 inv.1) in
-    let m = rows-more (λ (s : Bor (List ℕ)). Some s.now) c.loop-row.row-iterator.rdr c.next.new.self.rdr row default_config st.StartRecord (strip_bom c.args.bytes.now) inv.4 seen inv.3 inv.5 inv.7 s.0 in
+    let m = rows-more (λ (s : Bor (List ℕ)). Some s.now) c.loop-row.row-iterator.rdr c.next.new.self.rdr row
+    default_config st.StartRecord (strip_bom c.args.bytes.now) inv.4 seen inv.3 inv.5 inv.7 s.0 in
     let rest = reached_more c.args.bytes.now seen row c.next.new.self.rdr.state m.0 m.2 in
     let fault = c.in_err-take_record.field-0.0 in
     let arrays = c.args.arrays.now in
@@ -70,7 +72,8 @@ loop-row-preserved c =
     let seen = inv.6 in
     let row = fields_of c.in-Ok.row in
     let s = rw (c.in-Some.is, c.in-Ok.is) at ((c.next.ensures.steps inv.2 inv.0).0 inv.1) in
-    let m = rows-more (λ (s : Bor (List ℕ)). Some s.now) c.loop-row.row-iterator.rdr c.next.new.self.rdr row default_config st.StartRecord (strip_bom c.args.bytes.now) inv.4 seen inv.3 inv.5 inv.7 s.0 in
+    let m = rows-more (λ (s : Bor (List ℕ)). Some s.now) c.loop-row.row-iterator.rdr c.next.new.self.rdr row
+    default_config st.StartRecord (strip_bom c.args.bytes.now) inv.4 seen inv.3 inv.5 inv.7 s.0 in
     let took : taken c.args.arrays.now (length seen + 1) row c.loop-row.given ≡ Ok c.take_record.new.given =
     rw inv.8 at c.in_ok-take_record.ensures in (
       s.0.3 ∙ inv.0,
@@ -90,5 +93,6 @@ returns c =
     let inv = c.loop-row.invariant in
     let s = rw c.in-None.is at ((c.next.ensures.steps inv.2 inv.0).0 inv.1) in
     let all = reached_all c.args.bytes.now inv.6 c.loop-row.row-iterator.rdr.state inv.4 inv.7
-    (rows-end (λ (s : Bor (List ℕ)). Some s.now) c.loop-row.row-iterator.rdr c.next.new.self.rdr [] default_config inv.4 inv.3 inv.5 s) in
+    (rows-end (λ (s : Bor (List ℕ)). Some s.now) c.loop-row.row-iterator.rdr c.next.new.self.rdr [] default_config inv.4
+    inv.3 inv.5 s) in
     rw all (inv.9.no_fault, inv.9.after.0, inv.9.after.1)

@@ -12,11 +12,15 @@ narrow_statement-requires-clause-write c =
     let n = c.args.nest.now in
     let s = c.statement-item.result in
     ap (λ (depth : ℕ). option_map_or (access_short depth) s.write true) c.len-depth.ensures
-    ∙ short_write (depth_of s) s (statement_is_short n c.as_slice-statement-items.result.now c.loop-statement.statement-index s c.as_slice-statement-items.ensures c.loop-statement-test.true c.statement-item.is)
+    ∙ short_write (depth_of s) s (statement_is_short n c.as_slice-statement-items.result.now
+    c.loop-statement.statement-index s c.as_slice-statement-items.ensures c.loop-statement-test.true
+    c.statement-item.is)
 
 pub narrow_statement-requires-clause-reads : goal.narrow_statement-requires-clause-reads
 narrow_statement-requires-clause-reads c =
     let n = c.args.nest.now in
     let s = c.statement-item.result in
     ap (λ (depth : ℕ). list_all (access_short depth) s.reads) c.len-depth.ensures
-    ∙ short_reads (depth_of s) s (statement_is_short n c.as_slice-statement-items.result.now c.loop-statement.statement-index s c.as_slice-statement-items.ensures c.loop-statement-test.true c.statement-item.is)
+    ∙ short_reads (depth_of s) s (statement_is_short n c.as_slice-statement-items.result.now
+    c.loop-statement.statement-index s c.as_slice-statement-items.ensures c.loop-statement-test.true
+    c.statement-item.is)

@@ -2,7 +2,8 @@ use Rattle.std.proofs.Common.{◌<◌, ◌*ℤ◌, length, refl, arith, rules, p
 use mir.Syntax.{w64, w128}
 use Rattle.std.proofs.lemmas.Int.{to_z-of_z}
 use Rattle.affine_core.specs.Affine.{combined}
-use Rattle.sanlp.proofs.ModerateForms.{as_many, moderate_at, moderate_size, next_wide_sum, one_product_more, wide_product}
+use Rattle.sanlp.proofs.ModerateForms.{as_many, moderate_at, moderate_size, next_wide_sum, one_product_more}
+use Rattle.sanlp.proofs.ModerateForms.{wide_product}
 use Rattle.cell_rows.proofs.narrow_form.wide_sum.Goals as goal
 
 pub loop-place-preserved : goal.loop-place-preserved

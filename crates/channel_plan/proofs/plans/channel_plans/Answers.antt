@@ -3,7 +3,8 @@ use Rattle.std.specs.Prelude.{slice_get}
 use Rattle.std.specs.List.{All}
 use Rattle.std.proofs.lemmas.Option.{slice_get_read}
 use Rattle.channel_plan.specs.Reads.{AreFew, IsTurnAmong}
-use Rattle.channel_plan.proofs.Nests.{few_before, few_turns, part_among, part_exists, part_is, part_short, plans_all, plans_more, sum_more, turns_are}
+use Rattle.channel_plan.proofs.Nests.{few_before, few_turns, part_among, part_exists, part_is, part_short, plans_all}
+use Rattle.channel_plan.proofs.Nests.{plans_more, sum_more, turns_are}
 use Rattle.channel_plan.proofs.plans.channel_plans.Goals as goal
 
 pub overflow_add-next : goal.overflow_add-next
@@ -16,7 +17,12 @@ overflow_add-next c =
     ∙ slice_get_read c.as_slice-statement-items.result.now
     (length c.as_slice-statement-items.result.now) p s refl c.loop-reader-test.true c.statement-item.is in
     let exact = c.as_slice-table.ensures ∙ c.requires.sources in
-    omega (arith, few_before n (p + 1), sum_more n c.as_slice-table.result.now exact p s found c.loop-reader.first c.len.result c.loop-reader.invariant.first c.len.ensures)
+    omega (
+      arith,
+      few_before n (p + 1),
+      sum_more n c.as_slice-table.result.now exact p s found c.loop-reader.first
+          c.len.result c.loop-reader.invariant.first c.len.ensures,
+    )
 
 pub offset_bounds-table-first : goal.offset_bounds-table-first
 offset_bounds-table-first c =
@@ -32,7 +38,8 @@ slice_bounds-add_channels_to-end c =
     ∙ slice_get_read c.as_slice-statement-items.result.now
     (length c.as_slice-statement-items.result.now) p s refl c.loop-reader-test.true c.statement-item.is in
     let exact = c.as_slice-table.ensures ∙ c.requires.sources in
-    part_exists n c.as_slice-table.result.now exact p s found c.loop-reader.first c.len.result c.loop-reader.invariant.first c.len.ensures
+    part_exists n c.as_slice-table.result.now exact p s found c.loop-reader.first c.len.result
+    c.loop-reader.invariant.first c.len.ensures
 
 pub add_channels_to-requires-clause-few : goal.add_channels_to-requires-clause-few
 add_channels_to-requires-clause-few c =
@@ -50,7 +57,11 @@ add_channels_to-requires-clause-reads c =
     ∙ slice_get_read c.as_slice-statement-items.result.now
     (length c.as_slice-statement-items.result.now) p s refl c.loop-reader-test.true c.statement-item.is in
     let exact = c.as_slice-table.ensures ∙ c.requires.sources in
-    omega (arith, part_short n c.as_slice-table.result.now exact p s found c.loop-reader.first c.len.result c.loop-reader.invariant.first c.len.ensures)
+    omega (
+      arith,
+      part_short n c.as_slice-table.result.now exact p s found c.loop-reader.first c.len.result
+          c.loop-reader.invariant.first c.len.ensures,
+    )
 
 pub add_channels_to-requires-clause-among : goal.add_channels_to-requires-clause-among
 add_channels_to-requires-clause-among c =
@@ -67,7 +78,8 @@ add_channels_to-requires-clause-among c =
     take (c.loop-reader.first + c.len.result - c.loop-reader.first)
     (drop c.loop-reader.first c.as_slice-table.result.now) in
     subst (λ (ts : List ℕ). All (All (IsTurnAmong ts)) part) (sym turns)
-    (part_among n c.as_slice-table.result.now exact p s found c.loop-reader.first c.len.result c.loop-reader.invariant.first c.len.ensures)
+    (part_among n c.as_slice-table.result.now exact p s found c.loop-reader.first c.len.result
+    c.loop-reader.invariant.first c.len.ensures)
 
 pub loop-reader-preserved : goal.loop-reader-preserved
 loop-reader-preserved c =
@@ -81,9 +93,11 @@ loop-reader-preserved c =
     let exact = c.as_slice-table.ensures ∙ c.requires.sources in
     let turns = c.deref.ensures.value ∙ c.in_ok-turns.ensures ∙ ap (map length) c.requires.points ∙ turns_are n in
     record {
-      first = sum_more n c.as_slice-table.result.now exact p s found c.loop-reader.first c.len.result c.loop-reader.invariant.first c.len.ensures;
+      first = sum_more n c.as_slice-table.result.now exact p s found c.loop-reader.first c.len.result
+          c.loop-reader.invariant.first c.len.ensures;
       plans = plans_more n p s _ c.loop-reader.plans.items c.add_channels_to.new.plans.items c.deref.result.now found
-          (part_is n c.as_slice-table.result.now exact p s found c.loop-reader.first c.len.result c.loop-reader.invariant.first c.len.ensures)
+          (part_is n c.as_slice-table.result.now exact p s found c.loop-reader.first c.len.result
+          c.loop-reader.invariant.first c.len.ensures)
           turns c.loop-reader.invariant.plans c.in_ok-add_channels_to.ensures;
     }
 

@@ -28,15 +28,18 @@ refute-requires-clause-over c =
 
 pub returns-in-Ok-clause-exact : goal.returns-in-Ok-clause-exact
 returns-in-Ok-clause-exact c =
-    at_negation c.args.system.now.vars c.args.system.now.rows c.args.row.now c.in-Ok.other c.args.proof.now _ _ c.in-Ok.ensures
+    at_negation c.args.system.now.vars c.args.system.now.rows c.args.row.now c.in-Ok.other c.args.proof.now _ _
+    c.in-Ok.ensures
     (rows_of_more _ _
     ∙ ap (λ rows. rows ++ c.in-Ok.other ∷ [])
     (rows_of_given c.as_slice.result ∙ c.as_slice.ensures)) c.refute.ensures
 
 pub returns-in-Ok-clause-follows : goal.returns-in-Ok-clause-follows
 returns-in-Ok-clause-follows c =
-    entails_follows c.args.system.now.vars c.args.system.now.rows c.args.row.now c.args.proof.now c.refute.result c.requires.row_over (returns-in-Ok-clause-exact c)
+    entails_follows c.args.system.now.vars c.args.system.now.rows c.args.row.now c.args.proof.now c.refute.result
+    c.requires.row_over (returns-in-Ok-clause-exact c)
 
 pub returns-in-Ok-clause-sound : goal.returns-in-Ok-clause-sound
 returns-in-Ok-clause-sound c =
-    entails_sound c.args.system.now.vars c.args.system.now.rows c.args.row.now c.args.proof.now c.refute.result c.requires.over (returns-in-Ok-clause-exact c)
+    entails_sound c.args.system.now.vars c.args.system.now.rows c.args.row.now c.args.proof.now c.refute.result
+    c.requires.over (returns-in-Ok-clause-exact c)

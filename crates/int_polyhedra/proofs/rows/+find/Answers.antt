@@ -25,4 +25,11 @@ returns-in-Err-eq0 t c =
 
 pub returns-in-Err : goal.returns-in-Err
 returns-in-Err t c =
-    omega (arith, c.in-Err.ensures, ap (λ rows. length (rows_of rows)) c.in-More.is, ap length (rows_of_more c.in-More.above c.in-More.row), length_push (rows_of c.in-More.above.now) c.in-More.row.now)
+    omega (
+      arith,
+      c.in-Err.ensures,
+      ap (λ rows. length (rows_of rows)) c.in-More.is,
+      ap length
+          (rows_of_more c.in-More.above c.in-More.row),
+      length_push (rows_of c.in-More.above.now) c.in-More.row.now,
+    )

@@ -6,4 +6,6 @@ use Rattle.int_polyhedra.proofs.steps.add_term.Goals as goal
 pub add-requires : goal.add-requires
 add-requires c =
     c.requires.sum
-    ∙ sym (product_over c.args.vars _ c.in-Ok.row.now c.in_ok-more.more (over_at c.args.vars (rows_of c.args.rows.now) c.args.term.now.row c.in-Ok.row.now c.requires.rows c.in-Ok.ensures) c.in_ok-more.ensures.exact)
+    ∙ sym (product_over c.args.vars _ c.in-Ok.row.now c.in_ok-more.more
+    (over_at c.args.vars (rows_of c.args.rows.now) c.args.term.now.row c.in-Ok.row.now c.requires.rows
+    c.in-Ok.ensures) c.in_ok-more.ensures.exact)

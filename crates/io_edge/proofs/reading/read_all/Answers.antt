@@ -25,5 +25,8 @@ returns-then-is_err-clause-reads g c =
     let front : came ≡ take c.in-Ok.count c.read.new.buf =
     c.split_at.ensures.front
     ∙ take-append-le c.in-Ok.count c.read.new.buf c.split_at_mut-front.result.1.now bound.0 in
-    let consumed = rw (← front) at c.in-Ok.ensures.bytes.0 in
-    (before ++ came, Consumes-trans _ _ _ before came c.loop-bytes.invariant.1 consumed, rw length-append (omega (arith, c.read.ensures.one, c.loop-bytes.invariant.2)))
+    let consumed = rw (← front) at c.in-Ok.ensures.bytes.0 in (
+      before ++ came,
+      Consumes-trans _ _ _ before came c.loop-bytes.invariant.1 consumed,
+      rw length-append (omega (arith, c.read.ensures.one, c.loop-bytes.invariant.2)),
+    )

@@ -4,7 +4,8 @@ use Rattle.std.specs.List.{list_all}
 use Rattle.sanlp.specs.WellFormed.{input_extents, output_extents, array_loops}
 use Rattle.loop_class.specs.Ranges.{has_small_extents}
 use Rattle.loop_class.specs.Terminals.{sources_from, sinks_from}
-use Rattle.loop_class.proofs.AssembleLemmas.{no_findings, reading_small, arrays_bound, statements_bound, body_bound, reading_well_formed}
+use Rattle.loop_class.proofs.AssembleLemmas.{no_findings, reading_small, arrays_bound, statements_bound, body_bound}
+use Rattle.loop_class.proofs.AssembleLemmas.{reading_well_formed}
 use Rattle.loop_class.proofs.assemble.bind.Goals as goal
 
 pub assemble-requires : goal.assemble-requires
@@ -18,7 +19,8 @@ invariant_of-result c =
     let at = c.as_slice.ensures in
     record {
       well_formed =
-          reading_well_formed c.args.tree.now c.args.params.now r c.in_ok-arrays.ensures c.in_default.is c.in_ok-whole.whole.statements c.in_ok-whole.whole.body
+          reading_well_formed c.args.tree.now c.args.params.now r c.in_ok-arrays.ensures c.in_default.is
+          c.in_ok-whole.whole.statements c.in_ok-whole.whole.body
           (c.in_ok-whole.ensures.statements
           ∙ ap (λ arrays. sources_from 0 0 arrays ++ (r.statements ++ sinks_from 0 r.next_loop arrays)) at)
           (c.in_ok-whole.ensures.body
@@ -45,8 +47,11 @@ returns c =
     record {
       no_findings = no_findings tree params r c.in_ok-arrays.ensures c.in_default.is;
       arrays =
-          arrays_bound tree params r c.in_ok-arrays.ensures c.in_default.is c.in_ok-whole.whole.statements c.in_ok-whole.whole.body first second;
+          arrays_bound tree params r c.in_ok-arrays.ensures c.in_default.is c.in_ok-whole.whole.statements
+          c.in_ok-whole.whole.body first second;
       statements =
-          statements_bound tree params r c.in_ok-arrays.ensures c.in_default.is c.in_ok-whole.whole.statements c.in_ok-whole.whole.body first second;
-      body = body_bound tree params r c.in_ok-arrays.ensures c.in_default.is c.in_ok-whole.whole.statements c.in_ok-whole.whole.body first second;
+          statements_bound tree params r c.in_ok-arrays.ensures c.in_default.is c.in_ok-whole.whole.statements
+          c.in_ok-whole.whole.body first second;
+      body = body_bound tree params r c.in_ok-arrays.ensures c.in_default.is c.in_ok-whole.whole.statements
+          c.in_ok-whole.whole.body first second;
     }

@@ -17,7 +17,13 @@ returns c =
     let c0 : Context =
     record { scope = t.scope; loops = c.new.result; rows = c.new-2.result; sinks = c.in_ok-sink_count.field-0 } in
     let p0 : Progress =
-    record { first = c.in_ok-source_count.field-0; statements = c.new-3.result; next_loop = c.in_ok-source_loops.field-0; least = t.least } in
+    record {
+      first = c.in_ok-source_count.field-0;
+      statements = c.new-3.result;
+      next_loop =
+          c.in_ok-source_loops.field-0;
+      least = t.least;
+    } in
     let sinks =
     c.in_ok-sink_count.ensures ∙ ap (λ arrays. length (output_extents arrays)) (c.as_slice-2.ensures ∙ stands.1) in
     reading_is c.args.tree.now c.args.params.now t c0 c.bind_parts.new.context p0 c.bind_parts.new.progress

@@ -10,14 +10,16 @@ judge-returns-in-Access-clause-form t c =
     let place = c.args.place in
     let scope = c.args.scope.now in
     c.find_form.ensures.form
-    ∙ access_form place scope c.args.operand.now c.args.least.now c.in-Access.name c.in-Access.subscripts c.is_empty.result (seen_from place (value_named scope c.in-Access.name.text))
+    ∙ access_form place scope c.args.operand.now c.args.least.now c.in-Access.name c.in-Access.subscripts
+    c.is_empty.result (seen_from place (value_named scope c.in-Access.name.text))
     c.in-Access.is c.is_empty.ensures refl
 
 pub judge-returns-in-Access-clause-least : goal.judge-returns-in-Access-clause-least
 judge-returns-in-Access-clause-least t c =
     let place = c.args.place in
     let scope = c.args.scope.now in
-    access_least place scope c.args.operand.now c.args.least.now c.in-Access.name c.in-Access.subscripts c.is_empty.result (seen_from place (value_named scope c.in-Access.name.text))
+    access_least place scope c.args.operand.now c.args.least.now c.in-Access.name c.in-Access.subscripts
+    c.is_empty.result (seen_from place (value_named scope c.in-Access.name.text))
     c.in-Access.is c.is_empty.ensures refl c.judge_all.new.least c.find_form.new.least
     (c.judge_all.ensures
     ∙ ap (λ list.
@@ -27,7 +29,8 @@ pub judge-returns-in-Binary-clause-least : goal.judge-returns-in-Binary-clause-l
 judge-returns-in-Binary-clause-least t c =
     let p = c.args.place in
     let scope = c.args.scope.now in
-    binary_least p scope c.args.operand.now c.args.least.now c.in-Binary.sign c.in-Binary.token c.in-Binary.left c.in-Binary.right c.judge-left.result c.judge-right.result
+    binary_least p scope c.args.operand.now c.args.least.now c.in-Binary.sign c.in-Binary.token c.in-Binary.left
+    c.in-Binary.right c.judge-left.result c.judge-right.result
     c.judge-left.new.least c.judge-right.new.least c.combine.new.least c.in-Binary.is
     (c.judge-left.ensures.form ∙ ap (λ o. (judged p scope o).form) c.get.ensures)
     (c.judge-right.ensures.form ∙ ap (λ o. (judged p scope o).form) c.get-in-Binary.ensures)
@@ -40,7 +43,8 @@ pub judge-returns-in-Neg-clause-least : goal.judge-returns-in-Neg-clause-least
 judge-returns-in-Neg-clause-least t c =
     let p = c.args.place in
     let scope = c.args.scope.now in
-    neg_least p scope c.args.operand.now c.args.least.now c.in-Neg.token c.in-Neg.inner c.judge-form.result c.judge-form.new.least c.negate.new.least c.in-Neg.is
+    neg_least p scope c.args.operand.now c.args.least.now c.in-Neg.token c.in-Neg.inner c.judge-form.result
+    c.judge-form.new.least c.negate.new.least c.in-Neg.is
     (c.judge-form.ensures.form ∙ ap (λ o. (judged p scope o).form) c.get-in-Neg.ensures)
     (c.judge-form.ensures.least
     ∙ ap (λ o. least_from c.args.least.now (judged p scope o).findings) c.get-in-Neg.ensures)
@@ -50,7 +54,8 @@ pub judge-returns-in-Min-clause-least : goal.judge-returns-in-Min-clause-least
 judge-returns-in-Min-clause-least t c =
     let p = c.args.place in
     let scope = c.args.scope.now in
-    min_least p scope c.args.operand.now c.args.least.now c.in-Min.token c.in-Min.list c.judge_all-in-Min.new.least c.note.new.least c.in-Min.is
+    min_least p scope c.args.operand.now c.args.least.now c.in-Min.token c.in-Min.list c.judge_all-in-Min.new.least
+    c.note.new.least c.in-Min.is
     (c.judge_all-in-Min.ensures
     ∙ ap (λ list. least_from c.args.least.now (findings_of p scope list)) c.as_slice-in-Min.ensures) c.note.ensures
 
@@ -58,7 +63,8 @@ pub judge-returns-in-Max-clause-least : goal.judge-returns-in-Max-clause-least
 judge-returns-in-Max-clause-least t c =
     let p = c.args.place in
     let scope = c.args.scope.now in
-    max_least p scope c.args.operand.now c.args.least.now c.in-Max.token c.in-Max.list c.judge_all-in-Max.new.least c.note-in-Max.new.least c.in-Max.is
+    max_least p scope c.args.operand.now c.args.least.now c.in-Max.token c.in-Max.list c.judge_all-in-Max.new.least
+    c.note-in-Max.new.least c.in-Max.is
     (c.judge_all-in-Max.ensures
     ∙ ap (λ list.
     least_from c.args.least.now (findings_of p scope list)) c.as_slice-in-Max.ensures) c.note-in-Max.ensures

@@ -3,7 +3,8 @@ use Rattle.loop_grammar.specs.declared.tree.Operand.TheVariants.{Max}
 use Rattle.std.proofs.lemmas.Bool.{false≢true}
 use Rattle.loop_class.proofs.Operands.{lower_operands_max, lower_operands_none, lower_operands_one}
 use Rattle.loop_class.proofs.judge.lower_parts.Goals as goal
-use Rattle.loop_class.proofs.judge.lower_parts.Goals.{in_default-via-in-Max+else-not-is_empty, in_default-via-in_default}
+use Rattle.loop_class.proofs.judge.lower_parts.Goals.{in_default-via-in-Max+else-not-is_empty}
+use Rattle.loop_class.proofs.judge.lower_parts.Goals.{in_default-via-in_default}
 
 pub returns-in-Max : goal.returns-in-Max
 returns-in-Max c =

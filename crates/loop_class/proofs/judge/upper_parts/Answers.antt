@@ -3,7 +3,8 @@ use Rattle.loop_grammar.specs.declared.tree.Operand.TheVariants.{Min}
 use Rattle.std.proofs.lemmas.Bool.{false≢true}
 use Rattle.loop_class.proofs.Operands.{upper_operands_min, upper_operands_none, upper_operands_one}
 use Rattle.loop_class.proofs.judge.upper_parts.Goals as goal
-use Rattle.loop_class.proofs.judge.upper_parts.Goals.{in_default-via-in-Min+else-not-is_empty, in_default-via-in_default}
+use Rattle.loop_class.proofs.judge.upper_parts.Goals.{in_default-via-in-Min+else-not-is_empty}
+use Rattle.loop_class.proofs.judge.upper_parts.Goals.{in_default-via-in_default}
 
 pub returns-in-Min : goal.returns-in-Min
 returns-in-Min c =

@@ -7,7 +7,8 @@ use Rattle.loop_grammar.specs.declared.tree.Operand.TheVariants as operand
 use Rattle.loop_class.specs.declared.value.Extreme.TheVariants.{Least, Greatest}
 use Rattle.loop_class.specs.Names.{value_named}
 use Rattle.loop_class.specs.Values.{valued, name_value, binary_expr, extreme_expr, list_value, without_reads}
-use Rattle.loop_class.proofs.ValueLemmas.{valued_number, valued_access, valued_binary, valued_neg, valued_min, valued_max, no_reads, binary_ok, neg_reads, same_ok, next_reads}
+use Rattle.loop_class.proofs.ValueLemmas.{valued_number, valued_access, valued_binary, valued_neg, valued_min}
+use Rattle.loop_class.proofs.ValueLemmas.{valued_max, no_reads, binary_ok, neg_reads, same_ok, next_reads}
 use Rattle.loop_class.proofs.value.+value.Goals as goal
 
 pub value-returns-in-Number : goal.value-returns-in-Number
@@ -38,11 +39,13 @@ value-returns-in_ok-right-in-Binary t c =
     let scope = c.args.scope.now in
     let k = length c.args.reads.now in
     binary_ok c.binary.result (binary_expr c.in-Binary.sign) c.in_ok-left-in-Binary.left c.in_ok-right-in-Binary.right
-    c.args.reads.now c.value.new.reads c.value-in-Binary.new.reads c.args.least.now c.value.new.least c.value-in-Binary.new.least
+    c.args.reads.now c.value.new.reads c.value-in-Binary.new.reads c.args.least.now c.value.new.least
+    c.value-in-Binary.new.least
     (valued d scope c.get.result.now k) (valued d scope c.get-in-Binary.result.now)
     (valued d scope c.args.operand.now k)
     c.binary.ensures c.in_ok-left-in-Binary.ensures c.in_ok-right-in-Binary.ensures
-    (valued_binary d scope c.args.operand.now k c.in-Binary.sign c.in-Binary.token c.get.result.now c.get-in-Binary.result.now
+    (valued_binary d scope c.args.operand.now k c.in-Binary.sign c.in-Binary.token c.get.result.now
+    c.get-in-Binary.result.now
     (c.in-Binary.is
     ∙ (λ i. Binary c.in-Binary.sign c.in-Binary.token (sym c.get.ensures i) (sym c.get-in-Binary.ensures i))))
 
@@ -51,7 +54,8 @@ value-returns-in_ok-new-in-Neg t c =
     let d = c.args.depth in
     let scope = c.args.scope.now in
     let k = length c.args.reads.now in
-    neg_reads (Neg c.in_ok-new-in-Neg.field-0) c.in_ok-inner-in-Neg.inner c.args.reads.now c.value-in-Neg.new.reads c.args.least.now c.value-in-Neg.new.least
+    neg_reads (Neg c.in_ok-new-in-Neg.field-0) c.in_ok-inner-in-Neg.inner c.args.reads.now c.value-in-Neg.new.reads
+    c.args.least.now c.value-in-Neg.new.least
     (valued d scope c.get-in-Neg.result.now k) (valued d scope c.args.operand.now k)
     (ap Neg c.in_ok-new-in-Neg.ensures) c.in_ok-inner-in-Neg.ensures
     (valued_neg d scope c.args.operand.now k c.in-Neg.token c.get-in-Neg.result.now
@@ -73,7 +77,8 @@ pub value-returns-in-Max : goal.value-returns-in-Max
 value-returns-in-Max t c =
     let k = length c.args.reads.now in
     let scope = c.args.scope.now in
-    same_ok c.value_all-in-Max.result c.args.reads.now c.value_all-in-Max.new.reads c.args.least.now c.value_all-in-Max.new.least
+    same_ok c.value_all-in-Max.result c.args.reads.now c.value_all-in-Max.new.reads c.args.least.now
+    c.value_all-in-Max.new.least
     (list_value (extreme_expr Greatest) (map (valued c.args.depth scope) c.as_slice-in-Max.result.now) k)
     (valued c.args.depth scope c.args.operand.now k)
     c.value_all-in-Max.ensures
@@ -83,7 +88,10 @@ value-returns-in-Max t c =
 
 pub value_all-loop-operand-preserved : goal.value_all-loop-operand-preserved
 value_all-loop-operand-preserved t c =
-    next_reads c.args.which c.args.depth c.args.scope.now c.args.operands.now c.in-Some.others.now c.in-Some.first.now c.operand-item.result c.loop-operand.operand-index
-    c.in_ok-all-2.all c.loop-operand.all c.in_ok-next.next c.args.reads.now c.loop-operand.reads c.value-in-loop-operand.new.reads
+    next_reads c.args.which c.args.depth c.args.scope.now c.args.operands.now c.in-Some.others.now c.in-Some.first.now
+    c.operand-item.result c.loop-operand.operand-index
+    c.in_ok-all-2.all c.loop-operand.all c.in_ok-next.next c.args.reads.now c.loop-operand.reads
+    c.value-in-loop-operand.new.reads
     c.args.least.now c.loop-operand.least c.value-in-loop-operand.new.least
-    c.in-Some.ensures.cases.0 c.loop-operand-test.true c.operand-item.is c.loop-operand.invariant c.in_ok-next.ensures c.in_ok-all-2.ensures
+    c.in-Some.ensures.cases.0 c.loop-operand-test.true c.operand-item.is c.loop-operand.invariant c.in_ok-next.ensures
+    c.in_ok-all-2.ensures

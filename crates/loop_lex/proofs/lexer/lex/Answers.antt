@@ -1,4 +1,5 @@
-use Rattle.std.proofs.Common.{◌≡◌, ℕ, suc, ◌-◌, false, List, [], ◌∷◌, ◌++◌, length, take, drop, refl, sym, ap, ◌∙◌, arith}
+use Rattle.std.proofs.Common.{◌≡◌, ℕ, suc, ◌-◌, false, List, [], ◌∷◌, ◌++◌, length, take, drop, refl, sym, ap, ◌∙◌}
+use Rattle.std.proofs.Common.{arith}
 use Rattle.std.proofs.lemmas.List.{length-take, length-append}
 use Rattle.loop_lex.specs.Lexical.{is_large}
 use Rattle.loop_lex.specs.Front.{IsLongest}

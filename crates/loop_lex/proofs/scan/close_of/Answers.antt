@@ -1,7 +1,8 @@
 use Rattle.std.proofs.Common.{◌≡◌, suc, arith, add-one, false, get_or, rules, ◌∷◌, []}
 use Rattle.loop_lex.proofs.Closing.{begins_close, close_found, close_goes, none_more, close_none, no_close}
 use Rattle.loop_lex.proofs.scan.close_of.Goals as goal
-use Rattle.loop_lex.proofs.scan.close_of.Goals.{else-body-i-eq42-via-then-body-i-eq42+else-body-i-eq47, else-body-i-eq42-via-else-body-i-eq42}
+use Rattle.loop_lex.proofs.scan.close_of.Goals.{else-body-i-eq42-via-then-body-i-eq42+else-body-i-eq47}
+use Rattle.loop_lex.proofs.scan.close_of.Goals.{else-body-i-eq42-via-else-body-i-eq42}
 
 pub returns-then-body-i-eq47 : goal.returns-then-body-i-eq47
 returns-then-body-i-eq47 c =
@@ -16,8 +17,10 @@ loop-i-preserved c =
       | else-body-i-eq42-via-then-body-i-eq42+else-body-i-eq47 w ↦ λ a b. w.if-body-i-eq47.false (rw add-one b)
       | else-body-i-eq42-via-else-body-i-eq42 w ↦ λ a b. w.if-body-i-eq42.false a
     ]) in
-    rw (add-one)
-    (close_goes c.args.body.now c.loop-i.i (omega arith) c.loop-i.invariant.0 none, none_more c.args.body.now c.loop-i.i c.loop-i.invariant.0 c.loop-i.invariant.1)
+    rw (add-one) (
+      close_goes c.args.body.now c.loop-i.i (omega arith) c.loop-i.invariant.0 none,
+      none_more c.args.body.now c.loop-i.i c.loop-i.invariant.0 c.loop-i.invariant.1,
+    )
 
 pub returns : goal.returns
 returns c = close_none c.args.body.now c.loop-i.i (omega arith) c.loop-i.invariant.0 c.loop-i.invariant.1

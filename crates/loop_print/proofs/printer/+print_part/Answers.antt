@@ -2,7 +2,8 @@ use Rattle.std.proofs.Common.{arith, ◌∙◌, sym, ap}
 use Rattle.loop_grammar.specs.declared.tree.Part.TheVariants.{For, If}
 use Rattle.loop_print.specs.Printing.{part_words}
 use Rattle.loop_print.proofs.Written.{nothing, flat_turn, flat_end}
-use Rattle.loop_print.proofs.ByKind.{for_written, if_written, other_written, no_other_written, assign_written, block_written}
+use Rattle.loop_print.proofs.ByKind.{for_written, if_written, other_written, no_other_written, assign_written}
+use Rattle.loop_print.proofs.ByKind.{block_written}
 use Rattle.loop_print.proofs.printer.+print_part.Goals as goal
 
 pub print_part-returns-in_ok-print_part-in-For : goal.print_part-returns-in_ok-print_part-in-For
@@ -20,12 +21,14 @@ print_part-returns-in_ok-print_other-in-If t c =
 
 pub print_part-returns-in_ok-print_assign-in-Assign : goal.print_part-returns-in_ok-print_assign-in-Assign
 print_part-returns-in_ok-print_assign-in-Assign t c =
-    assign_written c.args.part.now c.in-Assign.target c.in-Assign.subscripts c.as_slice-in-Assign.result.now c.in-Assign.value
+    assign_written c.args.part.now c.in-Assign.target c.in-Assign.subscripts c.as_slice-in-Assign.result.now
+    c.in-Assign.value
     c.in-Assign.is c.as_slice-in-Assign.ensures c.in_ok-print_assign-in-Assign.ensures
 
 pub print_part-returns-in_ok-put-in-Block-2 : goal.print_part-returns-in_ok-put-in-Block-2
 print_part-returns-in_ok-put-in-Block-2 t c =
-    block_written c.args.part.now c.in-Block.parts c.as_slice-in-Block.result.now c.in-Block.is c.as_slice-in-Block.ensures
+    block_written c.args.part.now c.in-Block.parts c.as_slice-in-Block.result.now c.in-Block.is
+    c.as_slice-in-Block.ensures
     c.in_ok-put-in-Block.ensures c.in_ok-print_parts-in-Block.ensures c.in_ok-put-in-Block-2.ensures
 
 pub print_parts-loop-part-init : goal.print_parts-loop-part-init
@@ -33,7 +36,8 @@ print_parts-loop-part-init t c = nothing c.args.out.now.items
 
 pub print_parts-loop-part-preserved : goal.print_parts-loop-part-preserved
 print_parts-loop-part-preserved t c =
-    flat_turn part_words c.args.parts.now c.loop-part.part-index c.part-item.result c.loop-part-test.true c.part-item.is c.loop-part.invariant c.in_ok-print_part.ensures
+    flat_turn part_words c.args.parts.now c.loop-part.part-index c.part-item.result c.loop-part-test.true c.part-item.is
+    c.loop-part.invariant c.in_ok-print_part.ensures
 
 pub print_parts-returns : goal.print_parts-returns
 print_parts-returns t c =
@@ -41,7 +45,8 @@ print_parts-returns t c =
 
 pub print_other-returns-in_ok-print_part-in-Some : goal.print_other-returns-in_ok-print_part-in-Some
 print_other-returns-in_ok-print_part-in-Some t c =
-    other_written c.args.other.now c.in-Some.other c.get.result.now c.in-Some.is c.get.ensures c.in_ok-put-in-Some.ensures c.in_ok-print_part-in-Some.ensures
+    other_written c.args.other.now c.in-Some.other c.get.result.now c.in-Some.is c.get.ensures
+    c.in_ok-put-in-Some.ensures c.in_ok-print_part-in-Some.ensures
 
 pub print_other-returns-in-None : goal.print_other-returns-in-None
 print_other-returns-in-None t c = no_other_written c.args.other.now c.args.out.now.items c.in-None.is

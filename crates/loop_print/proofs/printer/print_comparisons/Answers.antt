@@ -9,11 +9,15 @@ loop-comparison-init c = nothing c.print_comparison.new.out.items
 
 pub loop-comparison-preserved : goal.loop-comparison-preserved
 loop-comparison-preserved c =
-    flat_turn (behind_sign word.And comparison_words) c.in-Some.others.now c.loop-comparison.comparison-index c.comparison-item.result c.loop-comparison-test.true c.comparison-item.is c.loop-comparison.invariant (behind c.in_ok-put.ensures c.in_ok-print_comparison-2.ensures)
+    flat_turn (behind_sign word.And comparison_words) c.in-Some.others.now c.loop-comparison.comparison-index
+    c.comparison-item.result c.loop-comparison-test.true c.comparison-item.is c.loop-comparison.invariant
+    (behind c.in_ok-put.ensures c.in_ok-print_comparison-2.ensures)
 
 pub returns-after-loop-comparison : goal.returns-after-loop-comparison
 returns-after-loop-comparison c =
-    joined_end word.And comparison_words c.args.cond.now c.in-Some.first.now c.in-Some.others.now c.loop-comparison.comparison-index c.in-Some.ensures.cases.0 (omega arith) c.in_ok-print_comparison.ensures c.loop-comparison.invariant
+    joined_end word.And comparison_words c.args.cond.now c.in-Some.first.now c.in-Some.others.now
+    c.loop-comparison.comparison-index c.in-Some.ensures.cases.0
+    (omega arith) c.in_ok-print_comparison.ensures c.loop-comparison.invariant
 
 pub returns-in_default : goal.returns-in_default
 returns-in_default c =

@@ -7,7 +7,9 @@ pub loop-declaration-init : goal.loop-declaration-init
 loop-declaration-init c = nothing c.args.out.now.items
 
 pub loop-declaration-preserved : goal.loop-declaration-preserved
-loop-declaration-preserved c = flat_turn declaration_words c.args.declarations.now c.loop-declaration.declaration-index c.declaration-item.result c.loop-declaration-test.true c.declaration-item.is c.loop-declaration.invariant c.in_ok-print_declaration.ensures
+loop-declaration-preserved c = flat_turn declaration_words c.args.declarations.now c.loop-declaration.declaration-index
+    c.declaration-item.result c.loop-declaration-test.true c.declaration-item.is c.loop-declaration.invariant
+    c.in_ok-print_declaration.ensures
 
 pub returns : goal.returns
 returns c = flat_end declaration_words c.args.declarations.now c.loop-declaration.declaration-index

@@ -7,4 +7,5 @@ returns-in_ok-put-in-One c =
 
 pub returns-in_ok-print_operand-in-By : goal.returns-in_ok-print_operand-in-By
 returns-in_ok-print_operand-in-By c =
-    by_written c.args.step.now c.args.third.now c.in-By.token c.in-By.value c.in-By.is c.in_ok-put_name.ensures c.in_ok-put-in-By.ensures c.in_ok-print_operand-in-By.ensures
+    by_written c.args.step.now c.args.third.now c.in-By.token c.in-By.value c.in-By.is c.in_ok-put_name.ensures
+    c.in_ok-put-in-By.ensures c.in_ok-print_operand-in-By.ensures

@@ -21,13 +21,15 @@ execute_turn-requires-clause-placed c =
     let along = if_some_at _ c.args.lines.now c.in-Some.lines c.in-Some.is c.requires.lines in
     let short =
     turn_is_short
-    (places_in c.args.cells.now) c.args.at.now c.args.first c.args.last c.args.value c.args.accesses.now c.in-Some.lines along c.requires.from c.requires.to in
+    (places_in c.args.cells.now) c.args.at.now c.args.first c.args.last c.args.value c.args.accesses.now c.in-Some.lines
+    along c.requires.from c.requires.to in
     let fits : FitsSigned w64 (c.args.value -ℤ c.args.first) =
     fits_signed_from_abs w64 (c.args.value -ℤ c.args.first) (omega arith) in
     let longer = simp to_z-of_z at c.set_last.ensures in
     simp to_z-of_z
     (statement_placed
-    (places_in c.args.cells.now) c.args.at.now c.as_slice-values.result.now c.args.first c.args.last c.args.value (c.args.value -ℤ c.args.first)
+    (places_in c.args.cells.now) c.args.at.now c.as_slice-values.result.now c.args.first c.args.last c.args.value
+    (c.args.value -ℤ c.args.first)
     c.args.accesses.now c.in-Some.lines along c.requires.from c.requires.to
     (c.as_slice-values.ensures.value ∙ longer) refl)
 
@@ -43,5 +45,6 @@ returns-in-Some-clause-lines c =
     on_ok_then c.execute_turn.result
     (λ places. if_some_from _ c.args.lines.now c.in-Some.lines c.in-Some.is
     (lines_kept (places_in c.args.cells.now)
-    (places_in c.execute_turn.new.cells) c.args.at.now c.args.first c.args.last c.args.accesses.now c.in-Some.lines places along))
+    (places_in c.execute_turn.new.cells) c.args.at.now c.args.first c.args.last c.args.accesses.now c.in-Some.lines
+    places along))
     c.execute_turn.ensures.places

@@ -1,4 +1,5 @@
-use Rattle.std.proofs.Common.{rules, ◌≡◌, ◌+◌, ℕ, ℤ, pos, ◌+ℤ◌, ◌≤ℤ◌, ◌<ℤ◌, length, take, ap, ◌∙◌, sym, subst, to_z, of_z, arith, FitsSigned, length-append}
+use Rattle.std.proofs.Common.{rules, ◌≡◌, ◌+◌, ℕ, ℤ, pos, ◌+ℤ◌, ◌≤ℤ◌, ◌<ℤ◌, length, take, ap, ◌∙◌, sym, subst, to_z}
+use Rattle.std.proofs.Common.{of_z, arith, FitsSigned, length-append}
 use Rattle.std.specs.Prelude.{IsTrue, true}
 use Rattle.std.specs.List.{list_all}
 use Rattle.std.specs.Option.{option_map_or}
@@ -22,7 +23,8 @@ lines_along-lines-requires-clause-reads_fit c =
     let n = c.args.nest.now in
     let s = c.statement-statement.result.now in
     let same =
-    narrow_of n.statements c.args.accesses.now c.args.number s c.index-accesses-number.result c.requires.same c.statement-statement.ensures.value c.index-accesses-number.is in
+    narrow_of n.statements c.args.accesses.now c.args.number s c.index-accesses-number.result c.requires.same
+    c.statement-statement.ensures.value c.index-accesses-number.is in
     let short =
     subst (λ (depth : ℕ). IsTrue (statement_short depth s))
     (depth_is n.statements
@@ -36,7 +38,8 @@ lines_along-lines-requires-clause-write_fits c =
     let n = c.args.nest.now in
     let s = c.statement-statement.result.now in
     let same =
-    narrow_of n.statements c.args.accesses.now c.args.number s c.index-accesses-number.result c.requires.same c.statement-statement.ensures.value c.index-accesses-number.is in
+    narrow_of n.statements c.args.accesses.now c.args.number s c.index-accesses-number.result c.requires.same
+    c.statement-statement.ensures.value c.index-accesses-number.is in
     let short =
     subst (λ (depth : ℕ). IsTrue (statement_short depth s))
     (depth_is n.statements
@@ -59,7 +62,8 @@ pub execute_value-requires-clause-same : goal.execute_value-requires-clause-same
 execute_value-requires-clause-same c =
     let n = c.args.nest.now in
     let s = c.statement-statement.result.now in
-    narrow_of n.statements c.args.accesses.now c.args.number s c.index-accesses-number.result c.requires.same c.statement-statement.ensures.value c.index-accesses-number.is
+    narrow_of n.statements c.args.accesses.now c.args.number s c.index-accesses-number.result c.requires.same
+    c.statement-statement.ensures.value c.index-accesses-number.is
 
 pub loop-value-preserved : goal.loop-value-preserved
 loop-value-preserved c =

@@ -11,11 +11,14 @@ loop-slot-preserved c =
     let f : FitsSigned w64 c.args.first = c.ranges.first in
     let g : FitsSigned w64 c.args.last = c.ranges.last in
     let room : c.loop-slot.slot < length c.loop-slot.reads = omega
-    (arith, c.loop-slot.invariant.0, c.loop-slot-test.true, c.requires.few, ap length c.as_slice-access-items.ensures) in
+    (arith, c.loop-slot.invariant.0, c.loop-slot-test.true, c.requires.few, ap length c.as_slice-access-items.ensures)
+    in
     let here = c.in_ok-line.ensures in (
       length-set c.loop-slot.reads c.loop-slot.slot c.in_ok-line.line ∙ c.loop-slot.invariant.0,
       simp to_z-of_z
-          (lines_more (places_in c.args.cells.now) c.args.at.now c.args.first c.args.last c.as_slice-access-items.result.now c.loop-slot.reads c.loop-slot.slot c.access-item.result c.in_ok-line.line
+          (lines_more (places_in c.args.cells.now) c.args.at.now c.args.first c.args.last
+          c.as_slice-access-items.result.now c.loop-slot.reads c.loop-slot.slot c.access-item.result
+          c.in_ok-line.line
           c.loop-slot-test.true room c.access-item.is (simp to_z-of_z at here)
           (simp to_z-of_z at c.loop-slot.invariant.1)),
     )
@@ -30,10 +33,12 @@ returns-in_ok-write-in-Some c =
       first_small = c.requires.first_small;
       last_small = c.requires.last_small;
       reads = lines_whole
-          (places_in c.args.cells.now) c.args.at.now c.args.first c.args.last c.args.accesses.now.reads c.as_slice-access-items.result.now c.loop-slot.reads c.loop-slot.slot
+          (places_in c.args.cells.now) c.args.at.now c.args.first c.args.last c.args.accesses.now.reads
+          c.as_slice-access-items.result.now c.loop-slot.reads c.loop-slot.slot
           c.as_slice-access-items.ensures c.loop-slot-test.false along;
       write = write_line
-          (places_in c.args.cells.now) c.args.at.now c.args.first c.args.last c.args.accesses.now.write c.in-Some.access c.in_ok-write-in-Some.write c.in-Some.is (simp to_z-of_z at here);
+          (places_in c.args.cells.now) c.args.at.now c.args.first c.args.last c.args.accesses.now.write c.in-Some.access
+          c.in_ok-write-in-Some.write c.in-Some.is (simp to_z-of_z at here);
     }
 
 pub returns-in-None : goal.returns-in-None
@@ -45,7 +50,8 @@ returns-in-None c =
       first_small = c.requires.first_small;
       last_small = c.requires.last_small;
       reads = lines_whole
-          (places_in c.args.cells.now) c.args.at.now c.args.first c.args.last c.args.accesses.now.reads c.as_slice-access-items.result.now c.loop-slot.reads c.loop-slot.slot
+          (places_in c.args.cells.now) c.args.at.now c.args.first c.args.last c.args.accesses.now.reads
+          c.as_slice-access-items.result.now c.loop-slot.reads c.loop-slot.slot
           c.as_slice-access-items.ensures c.loop-slot-test.false along;
       write = λ access e. let none = c.in-None.is in cc (e, none);
     }

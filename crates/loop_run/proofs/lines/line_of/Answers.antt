@@ -23,6 +23,7 @@ returns c =
     let end = simp to_z-of_z at c.place_inside-2.ensures in
     let second = simp to_z-of_z at c.in_ok-next.ensures.second in
     let none = simp to_z-of_z at c.in_ok-next.ensures.none in
-    line_in_rows c.args.cells.now c.args.at.now c.args.first c.args.last c.args.access.now c.in_ok-place.place c.in_ok-end.end c.in_ok-next.next c.line_through.result
+    line_in_rows c.args.cells.now c.args.at.now c.args.first c.args.last c.args.access.now c.in_ok-place.place
+    c.in_ok-end.end c.in_ok-next.next c.line_through.result
     c.requires.turns (sym start ∙ c.in_ok-place.was)
     (sym end ∙ c.in_ok-end.was) second none c.line_through.ensures.line c.line_through.ensures.short

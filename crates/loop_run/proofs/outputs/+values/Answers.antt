@@ -18,6 +18,7 @@ push_values-loop-subscript-preserved t c =
     let f : ℤ → List ℤ =
     λ v. values_inside (memory_of c.args.cells.now) c.args.array c.in-Some.inner.now (c.args.at.now ++ v ∷ []) in
     let more =
-    values_more f v end c.loop-subscript.values c.push_values_at.new.values _ lt c.in_ok-push_values_at.ensures c.loop-subscript.invariant in
+    values_more f v end c.loop-subscript.values c.push_values_at.new.values _ lt c.in_ok-push_values_at.ensures
+    c.loop-subscript.invariant in
     subst (λ v. c.push_values_at.new.values ++ flat_map f (counted v (natural (end -ℤ v)))
     ≡ c.args.values.now ++ flat_map f (counted (pos 0) (natural end))) (sym next) more

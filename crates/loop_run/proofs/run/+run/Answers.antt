@@ -26,8 +26,10 @@ run_node-run_turns-requires t c =
       (
         c.requires.same,
         simp to_z-of_z
-            (loop_keeps c.args.nest.now.statements c.args.node.now c.args.at.now _ _ _ c.as_slice.result.now c.as_slice-in-Loop.result.now _ _ c.as_slice-in-Loop-2.result.now c.in-Some.first c.in-Some.last
-            c.in-Loop.is c.as_slice.ensures c.as_slice-in-Loop.ensures c.as_slice-in-Loop-2.ensures range c.requires.fits c.requires.placed c.requires.within),
+            (loop_keeps c.args.nest.now.statements c.args.node.now c.args.at.now _ _ _ c.as_slice.result.now
+            c.as_slice-in-Loop.result.now _ _ c.as_slice-in-Loop-2.result.now c.in-Some.first c.in-Some.last
+            c.in-Loop.is c.as_slice.ensures c.as_slice-in-Loop.ensures c.as_slice-in-Loop-2.ensures range
+            c.requires.fits c.requires.placed c.requires.within),
       ),
     )
 
@@ -40,7 +42,8 @@ run_node-returns-in-Some t c =
     let h = simp to_z-of_z at c.run_turns.ensures in
     loop_done c.args.nest.now c.args.inputs.now c.args.node.now c.args.at.now (memory_of c.args.cells.now)
     (memory_of c.run_turns.new.cells)
-    _ _ _ c.as_slice.result.now c.as_slice-in-Loop.result.now _ _ c.as_slice-in-Loop-2.result.now c.in-Some.first c.in-Some.last c.run_turns.result
+    _ _ _ c.as_slice.result.now c.as_slice-in-Loop.result.now _ _ c.as_slice-in-Loop-2.result.now c.in-Some.first
+    c.in-Some.last c.run_turns.result
     c.in-Loop.is c.as_slice.ensures c.as_slice-in-Loop.ensures c.as_slice-in-Loop-2.ensures range h
 
 pub run_node-returns-in-Assign : goal.run_node-returns-in-Assign
@@ -57,11 +60,14 @@ run_parts-run_node-requires t c =
         c.requires.same,
         (
           part_passes forms_fit parts
-              (length c.args.at.now) c.loop-part.part-index c.part-item.result c.requires.fit c.loop-part-test.true c.part-item.is,
+              (length c.args.at.now) c.loop-part.part-index c.part-item.result c.requires.fit c.loop-part-test.true
+              c.part-item.is,
           (
             part_passes (node_placed c.args.nest.now.statements) parts
-                (length c.args.at.now) c.loop-part.part-index c.part-item.result c.requires.placed c.loop-part-test.true c.part-item.is,
-            part_passes node_within parts c.args.at.now c.loop-part.part-index c.part-item.result c.requires.within c.loop-part-test.true c.part-item.is,
+                (length c.args.at.now) c.loop-part.part-index c.part-item.result c.requires.placed c.loop-part-test.true
+                c.part-item.is,
+            part_passes node_within parts c.args.at.now c.loop-part.part-index c.part-item.result c.requires.within
+                c.loop-part-test.true c.part-item.is,
           ),
         ),
       ),

@@ -1,8 +1,10 @@
-use Rattle.std.proofs.Common.{◌≡◌, ◌<◌, ◌∙◌, ◌*ℤ◌, length, refl, sym, ap, arith, rules, pos, slice_index_or, FitsSigned, to_z}
+use Rattle.std.proofs.Common.{◌≡◌, ◌<◌, ◌∙◌, ◌*ℤ◌, length, refl, sym, ap, arith, rules, pos, slice_index_or, FitsSigned}
+use Rattle.std.proofs.Common.{to_z}
 use mir.Syntax.{w64, w128}
 use Rattle.std.proofs.lemmas.Int.{to_z-of_z}
 use Rattle.affine_core.specs.Affine.{form_at}
-use Rattle.sanlp.proofs.ModerateForms.{as_many, moderate_at, moderate_constant, moderate_size, next_wide_sum, one_product_more, wide_product}
+use Rattle.sanlp.proofs.ModerateForms.{as_many, moderate_at, moderate_constant, moderate_size, next_wide_sum}
+use Rattle.sanlp.proofs.ModerateForms.{one_product_more, wide_product}
 use Rattle.loop_walk.proofs.bounds.form_value.Goals as goal
 
 pub loop-place-init : goal.loop-place-init
@@ -19,7 +21,8 @@ moderate-coef-requires c =
     let coef : FitsSigned w128 (slice_index_or c.as_slice-coefs.result.now c.loop-place.place (pos 0)) = search rules in
     simp to_z-of_z
     (moderate_at c.args.form.now
-    (length c.args.at.now) c.as_slice-coefs.result.now c.loop-place.place c.requires c.as_slice-coefs.ensures.value within)
+    (length c.args.at.now) c.as_slice-coefs.result.now c.loop-place.place c.requires c.as_slice-coefs.ensures.value
+    within)
 
 pub add_product-sum-requires-clause-coef : goal.add_product-sum-requires-clause-coef
 add_product-sum-requires-clause-coef c =

@@ -13,7 +13,8 @@ narrowed-requires c =
     let step : FitsSigned w64 c.args.step = c.ranges.step in
     let wide : FitsSigned w128 c.quotient.result = search rules in
     let quotient = simp to_z-of_z at c.quotient.ensures in
-    simp to_z-of_z (ap is_loop_value quotient ∙ quotient_within c.args.first c.args.last c.args.step c.requires.first_within c.requires.last_within c.requires.more)
+    simp to_z-of_z (ap is_loop_value quotient ∙ quotient_within c.args.first c.args.last c.args.step
+    c.requires.first_within c.requires.last_within c.requires.more)
 
 pub returns-clause-value : goal.returns-clause-value
 returns-clause-value c =
@@ -35,4 +36,5 @@ returns-clause-within c =
     let quotient = simp to_z-of_z at c.quotient.ensures in
     let fits : FitsSigned w64 c.narrowed.result = search rules in
     let is = simp to_z-of_z at c.narrowed.ensures in
-    simp to_z-of_z (ap is_loop_value (is ∙ quotient) ∙ quotient_within c.args.first c.args.last c.args.step c.requires.first_within c.requires.last_within c.requires.more)
+    simp to_z-of_z (ap is_loop_value (is ∙ quotient) ∙ quotient_within c.args.first c.args.last c.args.step
+    c.requires.first_within c.requires.last_within c.requires.more)

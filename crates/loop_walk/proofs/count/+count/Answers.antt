@@ -1,4 +1,5 @@
-use Rattle.std.proofs.Common.{rules, ◌≡◌, map, ℕ, List, w64, ℤ, pos, ◌+ℤ◌, ◌≤ℤ◌, ◌<ℤ◌, FitsSigned, to_z, of_z, arith, sym, ap, ◌∙◌, ◌+◌, ◌*◌, length, subst}
+use Rattle.std.proofs.Common.{rules, ◌≡◌, map, ℕ, List, w64, ℤ, pos, ◌+ℤ◌, ◌≤ℤ◌, ◌<ℤ◌, FitsSigned, to_z, of_z, arith}
+use Rattle.std.proofs.Common.{sym, ap, ◌∙◌, ◌+◌, ◌*◌, length, subst}
 use Rattle.std.specs.Prelude.{Result}
 use Rattle.std.proofs.lemmas.Int.{ints, to_z-of_z}
 use Rattle.std.proofs.lemmas.Result.{err_from_is_err_and}
@@ -15,7 +16,8 @@ use Rattle.loop_walk.proofs.count.+count.Goals as goal
 pub count_parts-count_node-requires : goal.count_parts-count_node-requires
 count_parts-count_node-requires t c = (
   search (rules, the_lemmas),
-  part_passes forms_fit c.args.parts.now _ c.loop-part.part-index c.part-item.result c.requires c.loop-part-test.true c.part-item.is,
+  part_passes forms_fit c.args.parts.now _ c.loop-part.part-index c.part-item.result c.requires c.loop-part-test.true
+      c.part-item.is,
 )
 
 pub count_turns-returns-in_err-count : goal.count_turns-returns-in_err-count
@@ -26,7 +28,8 @@ count_turns-returns-in_err-count t c =
     let refused =
     simp to_z-of_z at
     (turn_refused
-    (map counted_node c.args.parts.now) c.args.at.now _ _ c.loop-value.count _ c.in_err-count.field-0.0 le c.in_err-count.ensures c.loop-value.invariant.0) in
+    (map counted_node c.args.parts.now) c.args.at.now _ _ c.loop-value.count _ c.in_err-count.field-0.0 le
+    c.in_err-count.ensures c.loop-value.invariant.0) in
     let p = err_from_is_err_and c.from_residual.result c.from_residual.ensures.1 in
     rw (p.1, p.2) refused
 
@@ -40,8 +43,11 @@ count_turns-loop-value-preserved t c =
     let all : Result ℕ SizeError =
     counted_turns body c.args.at.now (interval (to_z w64 (of_z w64 c.args.first)) last) c.args.count in
     let more =
-    turn_counted body c.args.at.now _ last c.loop-value.count all c.in_ok-count.count le c.in_ok-count.ensures c.loop-value.invariant.0 in
-    (subst (λ v. counted_turns body c.args.at.now (interval v last) c.in_ok-count.count ≡ all) (sym next) more, omega (arith, ints))
+    turn_counted body c.args.at.now _ last c.loop-value.count all c.in_ok-count.count le c.in_ok-count.ensures
+    c.loop-value.invariant.0 in (
+      subst (λ v. counted_turns body c.args.at.now (interval v last) c.in_ok-count.count ≡ all) (sym next) more,
+      omega (arith, ints),
+    )
 
 pub count_turns-returns-in_ok-count : goal.count_turns-returns-in_ok-count
 count_turns-returns-in_ok-count t c =
@@ -51,7 +57,8 @@ count_turns-returns-in_ok-count t c =
     let last : to_z w64 (of_z w64 c.args.last) <ℤ (to_z w64 c.loop-value.value-bits +ℤ pos 1) = omega (arith, ints) in
     let body : List (List ℤ → Count) = map counted_node c.args.parts.now in
     let more =
-    turn_counted body c.args.at.now _ _ c.loop-value.count _ c.in_ok-count.count le c.in_ok-count.ensures c.loop-value.invariant.0 in
+    turn_counted body c.args.at.now _ _ c.loop-value.count _ c.in_ok-count.count le c.in_ok-count.ensures
+    c.loop-value.invariant.0 in
     simp to_z-of_z at (turns_counted body c.args.at.now _ _ c.in_ok-count.count _ last more)
 
 pub count_turns-returns-then-are_assignments : goal.count_turns-returns-then-are_assignments

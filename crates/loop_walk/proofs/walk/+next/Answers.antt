@@ -21,7 +21,8 @@ next_part-next_of_node-point-requires t c =
               (ap (λ k. list_all (λ room. room k) (map node_room parts)) c.loop-frame.auto.deeper
               ∙ c.requires.room) c.loop-frame-test.true c.index-parts-frame.is,
           part_valid c.loop-frame.frame
-              (valid c.loop-frame.deeper) parts i part c.args.at.now c.loop-frame-test.true c.index-parts-frame.is c.loop-frame.invariant.1,
+              (valid c.loop-frame.deeper) parts i part c.args.at.now c.loop-frame-test.true c.index-parts-frame.is
+              c.loop-frame.invariant.1,
         ),
       ),
     )

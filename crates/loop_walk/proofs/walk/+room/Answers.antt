@@ -11,5 +11,6 @@ make_room-loop-part-preserved t c =
     (c.args.depth + 1) = omega arith in (
       omega arith,
       omega arith,
-      room_more c.args.parts.now c.loop-part.part-index c.part-item.result before after c.loop-part-test.true c.part-item.is le c.loop-part.invariant.2 c.in_ok-make_room_for_node.ensures.room,
+      room_more c.args.parts.now c.loop-part.part-index c.part-item.result before after c.loop-part-test.true
+          c.part-item.is le c.loop-part.invariant.2 c.in_ok-make_room_for_node.ensures.room,
     )

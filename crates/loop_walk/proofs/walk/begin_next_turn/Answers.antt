@@ -13,7 +13,8 @@ returns-clause-left c =
     let next : ℤ = to_z w64 (of_z w64 (to_z w64 (of_z w64 c.args.frame.now.value) +ℤ pos 1)) in
     let is : to_z w64 (of_z w64 (to_z w64 (of_z w64 c.args.frame.now.value) +ℤ pos 1))
     ≡ c.args.frame.now.value +ℤ pos 1 = omega (arith, ints) in
-    turn_begun c.args.frame.now next c.restart.new.frames c.args.body.now c.args.at.now c.extended.result is c.requires.later c.extended.ensures c.restart.ensures.left
+    turn_begun c.args.frame.now next c.restart.new.frames c.args.body.now c.args.at.now c.extended.result is
+    c.requires.later c.extended.ensures c.restart.ensures.left
 
 pub returns-clause-valid : goal.returns-clause-valid
 returns-clause-valid c =
@@ -22,5 +23,6 @@ returns-clause-valid c =
     let next : ℤ = to_z w64 (of_z w64 (to_z w64 (of_z w64 c.args.frame.now.value) +ℤ pos 1)) in
     let is : to_z w64 (of_z w64 (to_z w64 (of_z w64 c.args.frame.now.value) +ℤ pos 1))
     ≡ c.args.frame.now.value +ℤ pos 1 = omega (arith, ints) in
-    turn_begun_valid c.args.frame.now next c.restart.new.frames c.args.body.now c.args.at.now c.extended.result is c.requires.later c.extended.ensures
+    turn_begun_valid c.args.frame.now next c.restart.new.frames c.args.body.now c.args.at.now c.extended.result is
+    c.requires.later c.extended.ensures
     (valid c.args.deeper.now) c.requires.valid c.restart.ensures.valid

@@ -19,9 +19,12 @@ restart-requires-clause-within c =
     let le : c.in-Some.first ≤ℤ c.in-Some.last = omega (arith, ints) in
     let body = c.args.body.now in
     let within =
-    within_outside c.args.frame.now (valid c.args.deeper.now) (Loop c.args.id c.args.lower.now c.args.upper.now c.args.step body) c.args.at.now c.if-frame.false c.requires.valid in
+    within_outside c.args.frame.now (valid c.args.deeper.now)
+    (Loop c.args.id c.args.lower.now c.args.upper.now c.args.step body) c.args.at.now c.if-frame.false
+    c.requires.valid in
     let turns =
-    turns_are_within c.args.id c.args.lower.now c.args.upper.now c.args.step body c.args.at.now c.in-Some.first c.in-Some.last range le within in
+    turns_are_within c.args.id c.args.lower.now c.args.upper.now c.args.step body c.args.at.now c.in-Some.first
+    c.in-Some.last range le within in
     let inner = simp to_z-of_z at c.extended.ensures in
     ap (parts_within body) inner ∙ turns.0
 
@@ -39,7 +42,8 @@ returns-clause-turns c =
     let node = Loop c.args.id c.args.lower.now c.args.upper.now c.args.step body in
     simp to_z-of_z
     (left_outside c.args.frame.now (left c.args.deeper.now) node c.args.at.now c.if-frame.false
-    ∙ points_of_turns c.args.id c.args.lower.now c.args.upper.now c.args.step body c.args.at.now c.in-Some.first c.in-Some.last range le
+    ∙ points_of_turns c.args.id c.args.lower.now c.args.upper.now c.args.step body c.args.at.now c.in-Some.first
+    c.in-Some.last range le
     ∙ ap (λ at. all_points (map trace_node body) at ++ rest) (sym inner)
     ∙ ap (λ points. points ++ rest) (sym c.restart.ensures.left)
     ∙ ap (λ at. left c.restart.new.frames body at ++ rest) inner)
@@ -53,9 +57,12 @@ returns-clause-valid c =
     let le : c.in-Some.first ≤ℤ c.in-Some.last = omega (arith, ints) in
     let body = c.args.body.now in
     let within =
-    within_outside c.args.frame.now (valid c.args.deeper.now) (Loop c.args.id c.args.lower.now c.args.upper.now c.args.step body) c.args.at.now c.if-frame.false c.requires.valid in
+    within_outside c.args.frame.now (valid c.args.deeper.now)
+    (Loop c.args.id c.args.lower.now c.args.upper.now c.args.step body) c.args.at.now c.if-frame.false
+    c.requires.valid in
     let turns =
-    turns_are_within c.args.id c.args.lower.now c.args.upper.now c.args.step body c.args.at.now c.in-Some.first c.in-Some.last range le within in
+    turns_are_within c.args.id c.args.lower.now c.args.upper.now c.args.step body c.args.at.now c.in-Some.first
+    c.in-Some.last range le within in
     let inner = simp to_z-of_z at c.extended.ensures in
     simp to_z-of_z
     (and_from _ _ (and_from _ _ (and_from _ _ c.in-Some.ensures.first_within c.in-Some.ensures.last_within) turns.1)

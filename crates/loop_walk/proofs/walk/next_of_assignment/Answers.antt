@@ -19,7 +19,8 @@ returns-clause-next c =
     let point =
     c.point_of.ensures
     ∙ ap (λ (at : List ℤ). record { statement = c.args.statement; at = at }) c.extended.ensures in
-    next_assignment c.args.frame.now c.args.deeper.now c.args.body.now c.args.statement c.args.at.now c.requires.body c.requires.none_left next is (omega (arith, ints))
+    next_assignment c.args.frame.now c.args.deeper.now c.args.body.now c.args.statement c.args.at.now c.requires.body
+    c.requires.none_left next is (omega (arith, ints))
     ∙ ap (λ (p : Point). p ∷ rest) (sym point)
 
 pub returns-clause-valid : goal.returns-clause-valid

@@ -11,5 +11,7 @@ prove-unreachable-requires c =
     let found = c.as_slice-found.result.now in
     let lexed : tokens matrix_product ≡ Ok found = rw c.as_slice-found.ensures.value c.in_ok-tokens.ensures in
     let memory =
-    bound c.args.count found c.in_ok-tree.tree c.in_ok-params.params c.in-Err.error c.requires lexed c.in_ok-tree.ensures c.in_ok-params.ensures c.in-Err.ensures in
-    elim c.match-matches.branch [ in-Memory w ↦ cc (w.matches-is, c.if-prove.true) | in_default w ↦ absurd (w.in_default.not-Memory memory) ]
+    bound c.args.count found c.in_ok-tree.tree c.in_ok-params.params c.in-Err.error c.requires lexed
+    c.in_ok-tree.ensures c.in_ok-params.ensures c.in-Err.ensures in
+    elim c.match-matches.branch
+    [ in-Memory w ↦ cc (w.matches-is, c.if-prove.true) | in_default w ↦ absurd (w.in_default.not-Memory memory) ]

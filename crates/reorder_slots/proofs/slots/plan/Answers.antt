@@ -6,7 +6,8 @@ use Rattle.reorder_slots.specs.Readers.{Keeps}
 use Rattle.reorder_slots.proofs.Uses.{named_before, named_below}
 use Rattle.reorder_slots.proofs.Gets.{KeepsTokens-got, held-zero}
 use Rattle.reorder_slots.proofs.LastUses.{is_last_use}
-use Rattle.reorder_slots.proofs.Plans.{count_kept, gets_before-all, gets_before-more, gets_small, keeps_got, slots_of_uses-more}
+use Rattle.reorder_slots.proofs.Plans.{count_kept, gets_before-all, gets_before-more, gets_small, keeps_got}
+use Rattle.reorder_slots.proofs.Plans.{slots_of_uses-more}
 use Rattle.reorder_slots.proofs.slots.plan.Goals as goal
 
 pub loop-number-init : goal.loop-number-init
@@ -37,7 +38,11 @@ find-requires c =
     let keeps =
     keeps_got uses q c.loop-number.reader c.get_up_to.new.self c.requires.dense
     (omega arith) c.loop-number.invariant.keeps c.in_ok-get_up_to.ensures.kept in
-    omega (arith, count_kept uses (q + 1) q c.get_up_to.new.self keeps, named_before uses (q + 1) q (omega arith) (omega arith))
+    omega (
+      arith,
+      count_kept uses (q + 1) q c.get_up_to.new.self keeps,
+      named_before uses (q + 1) q (omega arith) (omega arith),
+    )
 
 pub loop-number-preserved : goal.loop-number-preserved
 loop-number-preserved c =
@@ -48,7 +53,8 @@ loop-number-preserved c =
     let last = c.in_ok-last_uses.last_uses in
     let got = c.get_up_to.new.self in
     let keeps =
-    keeps_got uses q c.loop-number.reader got c.requires.dense lt c.loop-number.invariant.keeps c.in_ok-get_up_to.ensures.kept in
+    keeps_got uses q c.loop-number.reader got c.requires.dense lt c.loop-number.invariant.keeps
+    c.in_ok-get_up_to.ensures.kept in
     let within : token < length last.items =
     omega (arith, last.ok.0, c.in_ok-last_uses.ensures.tokens, named_below uses q lt) in
     let read : c.index.result.now ≡ get_or last.items token 0 =
@@ -57,8 +63,14 @@ loop-number-preserved c =
     record {
       keeps = c.in_ok-find.ensures.kept uses q (held_after uses (q + 1)) keeps (KeepsTokens-got uses q)
           (slice_get-get_or uses q 0 lt) is_last;
-      hold = omega
-          (arith, c.in_ok-find.ensures.hold, c.in_ok-get_up_to.ensures.hold, got.slot_of_get.ok.0, c.find.new.self.slot_of_get.ok.0, ap length c.in_ok-find.ensures.gets);
+      hold = omega (
+        arith,
+        c.in_ok-find.ensures.hold,
+        c.in_ok-get_up_to.ensures.hold,
+        got.slot_of_get.ok.0,
+        c.find.new.self.slot_of_get.ok.0,
+        ap length c.in_ok-find.ensures.gets,
+      );
       gets = c.in_ok-push.ensures.ok
           ∙ ap (λ list. list ++ c.gets.result ∷ []) c.loop-number.invariant.gets
           ∙ ap (λ n. take q (gets_before uses) ++ n ∷ []) (c.gets.ensures ∙ count_kept uses (q + 1) q got keeps)

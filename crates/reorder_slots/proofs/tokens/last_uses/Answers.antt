@@ -11,5 +11,7 @@ loop-number-preserved c =
     let last = c.loop-number.last in
     record {
       tokens = c.loop-number.invariant.tokens;
-      last = HasLastUses-more c.args.uses.now c.loop-number.number last.items (omega (arith, last.ok.0, named_below c.args.uses.now c.loop-number.number (omega arith))) c.loop-number.invariant.last;
+      last = HasLastUses-more c.args.uses.now c.loop-number.number last.items
+          (omega (arith, last.ok.0, named_below c.args.uses.now c.loop-number.number (omega arith)))
+          c.loop-number.invariant.last;
     }

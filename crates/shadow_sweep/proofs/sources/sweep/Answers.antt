@@ -9,7 +9,8 @@ use Rattle.cell_rows.specs.declared.narrow_access.NarrowStatement.{NarrowStateme
 use Rattle.shadow_sweep.specs.LastWrites.{writes_in}
 use Rattle.source_tree.specs.Sources.{read_number}
 use Rattle.shadow_sweep.proofs.Accesses.{accesses_of, reads_are, reads_fit, write_fits, write_is}
-use Rattle.shadow_sweep.proofs.Swept.{IsSwept, first_is, left_later, reads_have_lists, statement_exists, swept_all, swept_later, swept_none, turn_exists, turn_is_small}
+use Rattle.shadow_sweep.proofs.Swept.{IsSwept, first_is, left_later, reads_have_lists, statement_exists, swept_all}
+use Rattle.shadow_sweep.proofs.Swept.{swept_later, swept_none, turn_exists, turn_is_small}
 use Rattle.shadow_sweep.proofs.sources.sweep.Goals as goal
 
 pub loop-point-init : goal.loop-point-init
@@ -35,14 +36,16 @@ next_turn-turn-requires-clause-exists c =
       arith,
       c.loop-point.turns.ok.0,
       turn_exists n
-          (rest n c.loop-point.walk) _ c.in-Some.point c.loop-point.invariant.left c.in-Some.ensures.next _ _ _ c.loop-point.invariant.swept,
+          (rest n c.loop-point.walk) _ c.in-Some.point c.loop-point.invariant.left c.in-Some.ensures.next _ _ _
+          c.loop-point.invariant.swept,
     )
 
 pub next_turn-turn-requires-clause-few : goal.next_turn-turn-requires-clause-few
 next_turn-turn-requires-clause-few c =
     let n = c.args.nest.now in
     turn_is_small n
-    (rest n c.loop-point.walk) _ c.in-Some.point c.loop-point.invariant.left c.in-Some.ensures.next _ _ _ c.loop-point.invariant.swept c.requires.sized.size_within
+    (rest n c.loop-point.walk) _ c.in-Some.point c.loop-point.invariant.left c.in-Some.ensures.next _ _ _
+    c.loop-point.invariant.swept c.requires.sized.size_within
 
 pub bounds-accesses-process : goal.bounds-accesses-process
 bounds-accesses-process c =
@@ -73,7 +76,8 @@ pass-requires-clause-reads_fit c =
     accesses_of n (rest n c.loop-point.walk) _ c.in-Some.point c.loop-point.invariant.left c.in-Some.ensures.next
     c.as_slice-accesses.result.now c.index-accesses-process.result
     (c.as_slice-accesses.ensures ∙ c.in_ok-narrow.ensures) c.index-accesses-process.is in
-    reads_fit n c.in-Some.point c.index-accesses-process.result c.as_slice-at.result.now here c.as_slice-at.ensures.value
+    reads_fit n c.in-Some.point c.index-accesses-process.result c.as_slice-at.result.now here
+    c.as_slice-at.ensures.value
 
 pub pass-requires-clause-write_fits : goal.pass-requires-clause-write_fits
 pass-requires-clause-write_fits c =
@@ -82,7 +86,8 @@ pass-requires-clause-write_fits c =
     accesses_of n (rest n c.loop-point.walk) _ c.in-Some.point c.loop-point.invariant.left c.in-Some.ensures.next
     c.as_slice-accesses.result.now c.index-accesses-process.result
     (c.as_slice-accesses.ensures ∙ c.in_ok-narrow.ensures) c.index-accesses-process.is in
-    write_fits n c.in-Some.point c.index-accesses-process.result c.as_slice-at.result.now here c.as_slice-at.ensures.value
+    write_fits n c.in-Some.point c.index-accesses-process.result c.as_slice-at.result.now here
+    c.as_slice-at.ensures.value
 
 pub pass-requires-clause-room : goal.pass-requires-clause-room
 pass-requires-clause-room c =
@@ -127,15 +132,18 @@ loop-point-preserved c =
       left = left_later (trace n)
           (rest n c.loop-point.walk) _ c.in-Some.point c.loop-point.invariant.left c.in-Some.ensures.next;
       swept = swept_later n
-          (rest n c.loop-point.walk) _ c.in-Some.point c.loop-point.invariant.left c.in-Some.ensures.next _ _ _ c.loop-point.invariant.swept here.statement _ _ _
+          (rest n c.loop-point.walk) _ c.in-Some.point c.loop-point.invariant.left c.in-Some.ensures.next _ _ _
+          c.loop-point.invariant.swept here.statement _ _ _
           c.next_turn-turn.result c.index-first.result.now here.found c.next_turn-turn.ensures.turn
-          (first ∙ first_is n c.in_ok-firsts.firsts.items c.in-Some.point.statement c.in_ok-firsts.ensures.firsts exists)
+          (first ∙ first_is n c.in_ok-firsts.firsts.items c.in-Some.point.statement c.in_ok-firsts.ensures.firsts
+          exists)
           c.next_turn-turn.ensures.counted
           (c.in_ok-pass.ensures.write
           ∙ write_is n c.in-Some.point c.index-accesses-process.result c.as_slice-at.result.now here same
           (writes_in c.loop-point.cells) _)
           (c.in_ok-pass.ensures.sources
-          ∙ reads_are n c.in-Some.point c.index-accesses-process.result c.as_slice-at.result.now here same c.loop-point.lists.items c.index-first.result.now (writes_in c.loop-point.cells));
+          ∙ reads_are n c.in-Some.point c.index-accesses-process.result c.as_slice-at.result.now here same
+          c.loop-point.lists.items c.index-first.result.now (writes_in c.loop-point.cells));
     }
 
 pub returns : goal.returns

@@ -4,4 +4,5 @@ use Rattle.vhdl_text.proofs.text.write_channels.Goals as goal
 
 pub loop-number-preserved : goal.loop-number-preserved
 loop-number-preserved g c =
-    one_more g.W.TextWriter.given channel_line c.args.channels.now c.loop-number.number _ c.loop-number-test.true c.loop-number.invariant c.write_channel.ensures
+    one_more g.W.TextWriter.given channel_line c.args.channels.now c.loop-number.number _ c.loop-number-test.true
+    c.loop-number.invariant c.write_channel.ensures

@@ -6,7 +6,8 @@ use Rattle.cell_rows.proofs.cells.Cells.read_at.Goals as goal
 pub returns-in-Some : goal.returns-in-Some
 returns-in-Some g c =
     value_at_place c.args.self.now
-    (cell_at c.args.at.now c.args.access.now) c.array.result c.args.place c.in-Some.value c.array.ensures c.requires.placed
+    (cell_at c.args.at.now c.args.access.now) c.array.result c.args.place c.in-Some.value c.array.ensures
+    c.requires.placed
     (sym c.in-Some.ensures)
 
 pub returns-in-None : goal.returns-in-None

@@ -22,7 +22,8 @@ returns-then-has_room-clause-values g c =
 pub returns-then-has_room-clause-places : goal.returns-then-has_room-clause-places
 returns-then-has_room-clause-places g c =
     on_ok_then c.put_in_rows.result
-    (λ rows. places_after_rows c.args.self.now c.put_in_rows.new.self c.array-then-has_room.result c.args.place c.args.value rows)
+    (λ rows. places_after_rows c.args.self.now c.put_in_rows.new.self c.array-then-has_room.result c.args.place
+    c.args.value rows)
     c.put_in_rows.ensures.rows
 
 pub returns-in_ok-insert-clause-values : goal.returns-in_ok-insert-clause-values

@@ -5,5 +5,10 @@ pub push-requires : goal.push-requires
 push-requires c =
     let coefs = c.args.self.now.coefs in (
       search rules,
-      omega (arith, ap length c.loop-coef.invariant, length-take c.loop-coef.coef-index (take c.args.depth coefs), length-take c.args.depth coefs),
+      omega (
+        arith,
+        ap length c.loop-coef.invariant,
+        length-take c.loop-coef.coef-index (take c.args.depth coefs),
+        length-take c.args.depth coefs,
+      ),
     )

@@ -5,8 +5,11 @@ use Rattle.loop_class.proofs.NameLemmas.{is_there, is_new, key_is_new, shown_ins
 use Rattle.loop_class.proofs.names.Names.add.Goals as goal
 
 pub returns-then-is_some-clause-ok : goal.returns-then-is_some-clause-ok
-returns-then-is_some-clause-ok g c =
-    (is_there c.args.name.now c.self.inside.entries.entries c.args.self.now c.get.result c.self.view_is c.get.ensures.value true (sym c.if-is_some.ensures), refl)
+returns-then-is_some-clause-ok g c = (
+  is_there c.args.name.now c.self.inside.entries.entries c.args.self.now c.get.result c.self.view_is
+      c.get.ensures.value true (sym c.if-is_some.ensures),
+  refl,
+)
 
 pub returns-clause-ok : goal.returns-clause-ok
 returns-clause-ok g c =
@@ -17,7 +20,8 @@ returns-clause-ok g c =
     let absent =
     key_is_new c.in_ok-key.key es c.args.self.now c.args.name.now c.self.view_is c.in_ok-key.ensures.items none in (
       none,
-      shown_insert c.in_ok-key.key c.args.value es c.insert.new.self.entries c.args.self.now c.args.name.now c.self.view_is c.in_ok-key.ensures.items
+      shown_insert c.in_ok-key.key c.args.value es c.insert.new.self.entries c.args.self.now c.args.name.now
+          c.self.view_is c.in_ok-key.ensures.items
           (c.in_ok-insert.ensures.entries
           ∙ insert_entry-new
           (λ a b. bytes_eq a.items b.items) c.self.inside.entries c.in_ok-key.key c.args.value absent),

@@ -27,7 +27,10 @@ returns-clause-kept c = λ uses number held keeps wanted.
           ∙ ap (λ s. held.slot_of_get ++ s ∷ []) (sym lowest);
       hold = count_after_get uses number held.slots before.hold c.take_slot-slot.new.self.hold slot
           (length held.slot_of_get) keeps.hold
-          (elim taken.free_or_new [ inl old ↦ inl (sym (keeps.free slot) ∙ old.0, old.1) | inr fresh ↦ inr (fresh.0, fresh.1) ]) ∙ ap length with_lowest;
+          (elim taken.free_or_new [
+            | inl old ↦ inl (sym (keeps.free slot) ∙ old.0, old.1)
+            | inr fresh ↦ inr (fresh.0, fresh.1)
+          ]) ∙ ap length with_lowest;
       free = λ k. taken.taken k ∙ ap (λ b. not (eqb k slot) && b) (keeps.free k)
           ∙ free_after_get uses number held.slots slot (length held.slot_of_get) k le next_wanted
           ∙ ap (λ slots. is_free uses number slots k) with_lowest;

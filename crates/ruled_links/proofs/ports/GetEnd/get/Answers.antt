@@ -14,5 +14,8 @@ recv_as-requires-clause-rule g c =
     let P : View
     → Type 0 = λ u. Pops Linked c.loop.self-inside.pass.id u
     (λ x w. (w ≡ get_view u.stream u.capacity (u.moved ++ x ∷ []))
-    × (slice_get u.stream (length u.moved) ≡ Some x)) in
-    (subst P (sym (c.loop.invariant.1 ∙ c.self.invariant.1)) (gets (ruled_capacity (receives_on c.self.inside.line)) c.loop.self-inside.pass.id v.stream v.moved), λ _ _ _ _. tt)
+    × (slice_get u.stream (length u.moved) ≡ Some x)) in (
+      subst P (sym (c.loop.invariant.1 ∙ c.self.invariant.1))
+          (gets (ruled_capacity (receives_on c.self.inside.line)) c.loop.self-inside.pass.id v.stream v.moved),
+      λ _ _ _ _. tt,
+    )

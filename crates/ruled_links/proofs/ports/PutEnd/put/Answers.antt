@@ -22,5 +22,7 @@ send_as-requires-clause-rule g c =
     (λ w. w ≡ put_view u.1.stream u.1.capacity (u.1.moved ++ c.args.value ∷ [])) in
     let is = sym (c.loop.invariant.1 ∙ c.self.invariant.1) in
     let same_line = sym (ap (λ l. ruled_capacity (sends_on l)) c.loop.invariant.2) in
-    rw (to_z-of_z w64 c.args.value c.ranges.value)
-    (subst P (λ i. (same_line i, is i)) (sends n c.loop.self-inside.pass.id v.stream v.moved c.args.value next), λ _ _ _ _. tt)
+    rw (to_z-of_z w64 c.args.value c.ranges.value) (
+      subst P (λ i. (same_line i, is i)) (sends n c.loop.self-inside.pass.id v.stream v.moved c.args.value next),
+      λ _ _ _ _. tt,
+    )

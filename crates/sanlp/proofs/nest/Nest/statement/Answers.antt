@@ -15,4 +15,5 @@ returns-clause-fits c =
     ap (λ xs. slice_get xs c.args.number) (sym c.as_slice.ensures)
     ∙ slice_get_read seen
     (length seen) c.args.number c.index-as_slice-number.result refl within c.index-as_slice-number.is in
-    list_all_at (statement_fits nest.arrays) nest.statements c.args.number c.index-as_slice-number.result nest.well_formed.statements_fit found
+    list_all_at (statement_fits nest.arrays) nest.statements c.args.number c.index-as_slice-number.result
+    nest.well_formed.statements_fit found

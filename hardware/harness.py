@@ -102,6 +102,15 @@ def text_of(program, command, policy, example):
     return done.stdout
 
 
+def clocks_of(program, policy, example):
+    """The clocks that the program counts of an example's network: the last line of `compaan sim`."""
+    last = text_of(program, "sim", policy, example).splitlines()[-1]
+    told = re.fullmatch(r"clocks (\d+)", last)
+    if not told:
+        raise Unfit("`compaan sim` ended with the line `%s`, which tells no clocks" % last)
+    return int(told[1])
+
+
 def design_of(program, policy, example):
     """The network of an example with its nodes, channels, wiring and test bench."""
     vhdl = text_of(program, "vhdl", policy, example)

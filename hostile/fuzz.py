@@ -4,8 +4,8 @@
 usage: hostile/fuzz.py [--seed SEED] [--count COUNT] [--jobs JOBS] [--minutes MINUTES] [--keep FOLDER] [--only NUMBER] [--space GB] [--compaan PROGRAM]
 
 Each of COUNT programs is run by `run` and by `seq`, whose answer or refusal must be what meaning.py says. What `cert` writes must be
-accepted by `check` and by meaning.py. Of each fourth program `net` must tell the same processes and channels, and of others `vhdl`
-must be written. Then one part of
+accepted by `check` and by meaning.py. Of each fourth program `net` must tell the same processes and channels, of others `vhdl`
+must be written, and of others `trim` must tell the least capacities and the positions that meaning.py finds by halving. Then one part of
 its bundle is damaged: bytes, tokens, numbers, lines or whole parts. A command on the damaged bundle must come to the status, the
 output and the complaint that meaning.py says. A run that ends by a signal, takes too long or takes more than 2 GB is a difference
 too. Prints one line for each difference, keeps its bundle and words in FOLDER, and fails where there is one. The same seed makes
@@ -282,7 +282,7 @@ def changed_lines(pick, text):
 def changed_counts(pick, text):
     """A certificate that announces other numbers than it has."""
     lines = text.splitlines(True)
-    heads = [at for at, it in enumerate(lines) if it.startswith((b"sizes", b"process", b"channel"))]
+    heads = [at for at, it in enumerate(lines) if it.startswith((b"sizes", b"process", b"channel", b"r "))]
     if heads:
         at = pick.choice(heads)
         lines[at] = changed_numbers(pick, lines[at])
@@ -301,6 +301,25 @@ def changed_schedule(pick, text):
     return b"".join(lines)
 
 
+def changed_repeats(pick, text):
+    """A repeat round a line or a part, or one that goes away, or a text of the other version."""
+    lines = text.splitlines(True)
+    heads = [at for at, it in enumerate(lines) if it.startswith(b"r ")]
+    kind = pick.random()
+    if kind < 0.2:
+        return re.sub(rb"\Acert [12]", lambda it: b"cert 1" if it.group() == b"cert 2" else b"cert 2", text)
+    if kind < 0.4 and heads:
+        del lines[pick.choice(heads)]
+    elif kind < 0.6 and heads:
+        at = pick.choice(heads)
+        lines[at] = pick.choice([b"r 1 1\n", b"r 2 0\n", b"r 0 1\n", b"r 4294967295 1\n", b"r 142606336 1\n", b"r 2\n", b"r 2 2\n", b"r 3 1\n", b"r -2 1\n"])
+    elif lines:
+        at = pick.randrange(len(lines))
+        count = pick.choice([1, 1, 2, 40, 511, 512, 513])
+        lines[at:at] = [b"r 2 1\n" if count > 2 else b"r %d 1\n" % pick.choice([2, 3, 5])] * count
+    return b"".join(lines)
+
+
 def changed_classes(pick, text):
     words = [b"inorder", b"inorder+", b"reorder", b"reorder+"]
     return re.sub(rb"(?:in|re)order\+?(?=\n)", lambda it: pick.choice([it.group(), *words]), text, count=pick.choice([1, 2, 99]))
@@ -313,6 +332,7 @@ DAMAGES = {
     "certificate: bytes": (2, changed_bytes), "certificate: lines": (2, changed_lines), "certificate: numbers": (2, changed_numbers),
     "certificate: words": (2, lambda pick, text: changed_tokens(pick, text, rb"[^ \n]+|.")),
     "certificate: counts": (2, changed_counts), "certificate: schedule": (2, changed_schedule), "certificate: classes": (2, changed_classes),
+    "certificate: repeats": (2, changed_repeats),
 }
 WHOLE = ["parts exchanged", "a part of another program", "bundle: bytes", "bundle: cut", "values of parameters", "words"]
 
@@ -441,6 +461,7 @@ class Job:
         net = number % 4 == 0 and self.compare(number, "net", words, bundle, done, policy)
         if number % 4 == 2:
             self.compare(number, "vhdl", words, bundle, done, policy)
+        trim = number % 4 == 1 and self.compare(number, "trim", words, bundle, done, policy)
         if cert.status == 0:
             checked = asking.bundled(source.source, data) if pick.random() < 0.5 else asking.bundled(source.source, b"")
             checked = checked + (b"%%\n" if checked.count(b"%%\n") < 2 else b"") + cert.output
@@ -449,6 +470,8 @@ class Job:
             self.compare(number, "check", words, checked, (0, b"accepted\n", b""))
             if net:
                 self.same_network(number, words, bundle, net.output, cert.output)
+            if trim:
+                self.same_capacities(number, words, bundle, trim.output, cert.output)
         self.damage(pick, number, source, data, cert.output)
 
     def same_network(self, number, words, bundle, net, cert):
@@ -473,6 +496,16 @@ class Job:
                 got.append(it)
         if got != wanted:
             self.differ(number, "net", words, bundle, got, wanted)
+
+    def same_capacities(self, number, words, bundle, trim, cert):
+        """The capacities and positions of `trim` are those that are found in the network of `cert`."""
+        try:
+            wanted = meaning.trimmed(meaning.certificate_of(cert))
+        except (meaning.Unread, MemoryError) as reason:
+            self.differ(number, "cert", words, bundle, reason, "a certificate")
+            return
+        if trim != wanted:
+            self.differ(number, "trim", words, bundle, trim, wanted)
 
     def damage(self, pick, number, source, data, cert):
         def other():

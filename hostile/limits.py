@@ -6,6 +6,8 @@ usage: hostile/limits.py [--only SECTION] [--space GB] [--compaan PROGRAM]
 Every run has a stack of 8 MB, 4 GB of address space and a time limit. Times are those of processors. Each section prints a table:
 
   deep      sources at the limit of 8,192 tokens, nested as deep as they can be, by each command, with the least stack that serves
+  trees     certificates whose trees and proofs nest 512 deep, and one deeper, by `check`, with the least stack that serves
+  repeats   certificates whose repeats nest 512 deep, and one deeper, and that stand for more than they may, by `check`
   size      programs at the limit on the size, by each command
   lines     `check` of certificates of 64 MiB, each of one kind of line
   announce  certificates that announce much and bring little
@@ -26,6 +28,9 @@ import tempfile
 sys.dont_write_bytecode = True
 import asking
 import meaning
+
+# repeats of a certificate nest up to 512 deep
+sys.setrecursionlimit(10_000)
 
 BAD = []
 SECONDS = 300
@@ -126,6 +131,89 @@ def least_stack(program, words, bundle, end):
     return high
 
 
+def tree_text(tests, cuts):
+    """A certificate of a copy of one value, whose first read has a tree of so many tests that always hold, and in its leaf a proof of so many cuts."""
+    rows = 2 + tests
+    tree = ["tree"] + ["t 0 0"] * tests
+    leaf = ["w 0 1 5", "m 0 1"] + ["c 1 0 1"] * cuts
+    leaf += [f"s 0 1 {rows} 1", f"s 1 1 {rows} 1", f"s {rows} 1", f"s {rows} 1", f"s {rows + 3} 1 {rows + 4} 1"]
+    # where a test doesn't hold no point comes: its row is -1 >= 0
+    others = [line for last in reversed(range(tests)) for line in ("x", f"s {2 + last} 1")]
+    text = ["cert 1", "sizes 3 2 2 7", "process 0 2", "f", "p 0", "process 1 3", "g 0 0", "f 0", "p 1", "process 1 2", "g 1 0", "f 0"]
+    text += ["channel 0 1 0 1 inorder", "channel 1 2 0 1 inorder"] + tree + leaf + others + ["sweep"] + list("0011122") + ["end"]
+    return ("\n".join(text) + "\n").encode()
+
+
+def deep_trees(program):
+    """Trees and proofs up to the limit of 512 and one beyond it, by `check` in the whole stack, and the least stack."""
+    source = b"param N; in x[N]; out y[N]; for (i = 0; i < N; i++) y[i] = x[i] + 1;\n%%\n%%\n"
+    first = 15
+    rows = []
+    for tests, cuts, wanted in [
+        (0, 0, b"accepted\n"),
+        (511, 0, b"accepted\n"),
+        (0, 511, b"accepted\n"),
+        (511, 511, b"accepted\n"),
+        (512, 0, b"refused Deep %d\n" % (first + 1 + 512)),
+        (0, 512, b"refused Deep %d\n" % (first + 1 + 2 + 512)),
+    ]:
+        bundle = source + tree_text(tests, cuts)
+        end = ask(program, ["check", "N=1"], bundle)
+        name = f"a tree nested {tests + 1} deep with a proof nested {cuts + 1} deep"
+        well = judge(name, end, (0 if wanted == b"accepted\n" else 1, wanted, b""))
+        stack = least_stack(program, ["check", "N=1"], bundle, end)
+        rows.append([name, "as wanted" if well else told(end), f"{end.cpu:.2f}", f"{stack} kB"])
+    asking.table(["Certificate", "check", "s", "Least stack"], rows)
+
+
+def repeat_texts():
+    """A name, a certificate and what `check` answers to it, for the source `out y;`, which has one process with one read."""
+    fire, entry, most = b"f z\n", b"0\n", 142_606_336
+
+    def text(script, schedule):
+        return b"cert 2\nsizes 1 0 1 1\nprocess 0 1\n" + script + b"sweep\n" + schedule + b"end\n"
+
+    def nest(times, depth, item):
+        return b"r %d 1\n" % times * depth + item
+
+    yield "no repeat", text(fire, entry), b"accepted\n"
+    for depth, script, schedule in [
+        (20, b"refused Fires 0 1\n", b"refused NotEnabled 1\n"),
+        (28, b"refused Long 0\n", b"refused Long 1\n"),
+        (512, b"refused Long 0\n", b"refused Long 1\n"),
+        (513, b"refused Deep 516\n", b"refused Deep 518\n"),
+    ]:
+        yield f"a script of repeats {depth} deep", text(nest(2, depth, fire), entry), script
+        yield f"a schedule of repeats {depth} deep", text(fire, nest(2, depth, entry)), schedule
+    yield "a script of 2^27 events, 27 deep", text(nest(2, 27, fire), entry), b"refused Fires 0 1\n"
+    for times, depth, name in [(1 << 30, 2, "2^60"), ((1 << 32) - 1, 512, "(2^32 - 1)^512")]:
+        yield f"a script of {name} events", text(nest(times, depth, fire), entry), b"refused Long 0\n"
+        yield f"a schedule of {name} entries", text(fire, nest(times, depth, entry)), b"refused Long 1\n"
+    yield f"a script of {most} events", text(nest(most, 1, fire), entry), b"refused Fires 0 1\n"
+    yield f"a script of {most + 1} events", text(nest(most + 1, 1, fire), entry), b"refused Long 0\n"
+    yield f"a schedule of {most} entries", text(fire, nest(most, 1, entry)), b"refused NotEnabled 1\n"
+    yield f"a schedule of {most + 1} entries", text(fire, nest(most + 1, 1, entry)), b"refused Long 1\n"
+    both = text(nest(most, 1, fire) + b"process 0 1\n" + fire, entry).replace(b"sizes 1", b"sizes 2")
+    yield f"two scripts of {most} events and of one", both, b"refused Long 1\n"
+    for line, answer in [(b"r 2 0\n", b"refused Number 4\n"), (b"r 1 1\n", b"refused Number 4\n"), (b"r 2 4294967295\n", b"refused Line 6\n"), (b"r 2\n", b"refused Line 4\n")]:
+        yield f"`{line.decode().strip()}`", text(line + fire, entry), answer
+    yield "the same in version 1", text(nest(2, 1, fire), entry).replace(b"cert 2", b"cert 1"), b"refused Line 4\n"
+    yield "64 MiB of `r 2 1`", text(nest(2, (BUNDLE - 100) // 6, fire), entry), b"refused Deep 516\n"
+
+
+def repeats(program):
+    rows = []
+    for name, text, answer in repeat_texts():
+        bundle = b"out y;\n%%\n%%\n" + text
+        # an event in repeats takes a step for each level that it stands in
+        end = ask(program, ["check"], bundle, limit=3 * SECONDS)
+        well = judge(f"{name}", end, (0 if answer == b"accepted\n" else 1, answer, b""), MOST_OF_CHECK)
+        stack = f"{least_stack(program, ['check'], bundle, end)} kB" if "512" in name or "513" in name else ""
+        rows.append([name, "as wanted" if well else told(end), f"{end.cpu:.2f}", megabytes(end), stack])
+        print(rows[-1], file=sys.stderr, flush=True)
+    asking.table(["Certificate", "check", "s", "MB", "Least stack"], rows)
+
+
 def deep(program):
     rows = []
     for name, source, wanted in deep_sources():
@@ -214,6 +302,14 @@ def line_texts(share):
     yield "channel 0 0 0 1 inorder, of one process", *filled(b"cert 1\nsizes 1 COUNT 1 1\nprocess 0 1\nf z\n", b"channel 0 0 0 1 inorder\n", b"sweep\n0\nend\n", most), b"accepted\n"
     yield "sweep", *filled(b"cert 1\nsizes 1 0 COUNT 0\nprocess 0 1\nf z\n", b"sweep\n", b"end\n", most), b"refused Shape 1\n"
     yield "0, of the schedule", *filled(b"cert 1\nsizes 1 0 1 COUNT\nprocess 0 1\nf z\nsweep\n", b"0\n", b"end\n", most), b"refused NotEnabled 1\n"
+    yield "r 2 1 and f", *filled(b"cert 2\nsizes 1 0 1 0\nprocess 0 COUNT\n", b"r 2 1\nf\n", end, most), b"refused Fires 0 0\n"
+    yield "r 2 1 and 0, of the schedule", *filled(b"cert 2\nsizes 1 0 1 COUNT\nprocess 0 1\nf z\nsweep\n", b"r 2 1\n0\n", b"end\n", most), b"refused NotEnabled 1\n"
+    tree = b"cert 1\nsizes 1 0 1 0\nprocess 0 1\nf z\ntree\n"
+    for line in (b"s\n", b"s 0 1\n", b"s 0 1 0 1 0 1 0 1\n"):
+        count, text = filled(tree + b"z COUNT\n", line, b"end\n", most)
+        yield f"{line[:-1].decode()}, of a proof", count, text, b"refused Source 0 0 Proofs 0 %d 0\n" % count
+    count, text = filled(tree + b"w 0 COUNT 0\n", b"m 0\n", b"end\n", most)
+    yield "m 0, of a leaf", count, text, b"refused Source 0 0 NoWriter 0\n"
     yield "empty lines", *filled(b"cert 1\nsizes 1 0 1 0\nprocess 0 COUNT\n", b"\n", end, most), b"refused Line 4\n"
     yield "one line of 64 MiB", 1, b"cert 1\nsizes 1 0 1 0\nprocess 0 1\nf" + b" z" * (most // 2 - 40), b"refused Truncated\n"
     yield "one ended line of 64 MiB", 1, b"cert 1\nsizes 1 0 1 0\nprocess 0 1\nf" + b" z" * (most // 2 - 40) + b"\n", b"refused Line 4\n"
@@ -246,6 +342,9 @@ def announcing():
             yield text + more
     for more in (b"process %s 1\nf z\nsweep\n0\nend\n" % most, b"process 0 1\nf %s\nsweep\n0\nend\n" % most, b"process 0 2\nf z\np %s\nsweep\n0\nend\n" % most):
         yield b"cert 1\nsizes 1 0 1 1\n" + more
+    for more in (b"process 0 1\nr %s %s\n" % (most, most), b"process 0 1\nr %s %s\nf z\nsweep\n0\nend\n" % (most, most), b"process 0 1\nr %s 1\nf z\nsweep\n0\nend\n" % most, b"process 0 1\nf z\nsweep\nr %s 1\n0\nend\n" % most,
+                 b"process 0 1\nf z\nsweep\nr %s %s\n" % (most, most), b"process 0 1\n" + b"r %s 1\n" % most * 512 + b"f z\nsweep\n0\nend\n"):
+        yield b"cert 2\nsizes 1 0 1 1\n" + more
     yield b"cert 1\nsizes 1 1 1 1\nprocess 0 1\nf z\nchannel 0 0 0 %s inorder\nsweep\n0\nend\n" % most
     yield b"cert 1\nsizes 1 1 1 3\nprocess 1 3\nf z\np 0\ng 0 0\nchannel 0 0 0 %s inorder\nsweep\n0\n0\n0\nend\n" % most
 
@@ -413,7 +512,7 @@ def refused_by_system(program, words, bundle, plain):
     asking.table(["Tasks that are allowed", "Statuses of 5 runs each", "The longest, s"], grouped(rows))
 
 
-SECTIONS = {"deep": deep, "size": size, "lines": lines, "announce": announce, "bundle": bundle, "threads": threads}
+SECTIONS = {"deep": deep, "trees": deep_trees, "repeats": repeats, "size": size, "lines": lines, "announce": announce, "bundle": bundle, "threads": threads}
 
 
 def main():

@@ -687,27 +687,77 @@ class Lines:
         return words[1:]
 
 
+# The most events of all scripts together, the most entries of a schedule, and how deep repeats nest.
+LENGTH_LIMIT, NESTING_LIMIT = 142_606_336, 512
+# What is longer isn't written out here.
+WRITTEN_OUT = 4_000_000
+
+
+class Folded(Lines):
+    """The lines of a certificate, with its lists as parts: items, and repeats as (count, parts)."""
+
+    def __init__(self, text):
+        super().__init__(text)
+        self.has_repeats = False
+
+    def version(self):
+        words = self.next()
+        if words not in ([b"cert", b"1"], [b"cert", b"2"]):
+            self.wrong()
+        self.has_repeats = words[1] == b"2"
+
+    def parts(self, count, item, level=1):
+        found = []
+        for _ in range(count):
+            words = self.next()
+            if not self.has_repeats or words[0] != b"r":
+                found.append((1, item(words)))
+                continue
+            if len(words) != 3:
+                self.wrong()
+            times, more = self.numbers(words[1:])
+            if times < 2 or more < 1:
+                raise Unread(f"Number {self.line}")
+            if level > NESTING_LIMIT:
+                raise Unread(f"Deep {self.line}")
+            found.append((times, self.parts(more, item, level + 1)))
+        return found
+
+    def event(self, words):
+        if words[0] == b"f" and len(words) <= 9:
+            return "f", self.numbers(words[1:], (b"z",))
+        if words[0] == b"g" and len(words) == 3:
+            return ("g", *self.numbers(words[1:]))
+        if words[0] == b"p" and len(words) == 2:
+            return ("p", *self.numbers(words[1:]))
+        self.wrong()
+
+    def entry(self, words):
+        if len(words) != 1:
+            self.wrong()
+        return self.numbers(words)[0]
+
+
+def length_of(parts):
+    return sum(times * (length_of(inner) if isinstance(inner, list) else 1) for times, inner in parts)
+
+
+def written_out(parts):
+    found = []
+    for times, inner in parts:
+        found += written_out(inner) * times if isinstance(inner, list) else [inner]
+    return found
+
+
 def certificate_of(text):
     """Processes as (slots, events), channels as (writer, reader, read, capacity, class), the count of sources, and the schedule."""
-    lines = Lines(text)
-    if lines.next() != [b"cert", b"1"]:
-        lines.wrong()
+    lines = Folded(text)
+    lines.version()
     counts = lines.numbers(lines.shaped(b"sizes", 4))
-    processes, channels, schedule = [], [], []
+    processes, channels = [], []
     for _ in range(counts[0]):
-        slots, events = lines.numbers(lines.shaped(b"process", 2))
-        script = []
-        for _ in range(events):
-            words = lines.next()
-            if words[0] == b"f" and len(words) <= 9:
-                script.append(("f", lines.numbers(words[1:], (b"z",))))
-            elif words[0] == b"g" and len(words) == 3:
-                script.append(("g", *lines.numbers(words[1:])))
-            elif words[0] == b"p" and len(words) == 2:
-                script.append(("p", *lines.numbers(words[1:])))
-            else:
-                lines.wrong()
-        processes.append((slots, script))
+        slots, parts = lines.numbers(lines.shaped(b"process", 2))
+        processes.append((slots, lines.parts(parts, lines.event)))
     for _ in range(counts[1]):
         words = lines.shaped(b"channel", 5)
         if words[4] not in CLASSES:
@@ -716,17 +766,62 @@ def certificate_of(text):
     for _ in range(counts[2]):
         if lines.next() != [b"sweep"]:
             lines.wrong()
-    for _ in range(counts[3]):
-        words = lines.next()
-        if len(words) != 1:
-            lines.wrong()
-        schedule += lines.numbers(words)
+    schedule = lines.parts(counts[3], lines.entry)
     if lines.next() != [b"end"]:
         lines.wrong()
     if lines.at < len(text):
         lines.next()
         lines.wrong()
-    return processes, channels, counts[2], schedule
+    events = 0
+    for p, (_, parts) in enumerate(processes):
+        events += length_of(parts)
+        if events > LENGTH_LIMIT:
+            raise Unread(f"Long {p}")
+    if length_of(schedule) > LENGTH_LIMIT:
+        raise Unread(f"Long {len(processes)}")
+    if max(events, length_of(schedule)) > WRITTEN_OUT:
+        raise MemoryError
+    return [(slots, written_out(parts)) for slots, parts in processes], channels, counts[2], written_out(schedule)
+
+
+def rest_of(scripts, channels, capacities):
+    """The positions at which no process can go on, which are those of every order of events."""
+    at, queued = [0] * len(scripts), [0] * len(channels)
+    waiting = list(range(len(scripts)))
+    while waiting:
+        p = waiting.pop()
+        for it in scripts[p][at[p] :]:
+            if it[0] == "g":
+                if not queued[it[1]]:
+                    break
+                queued[it[1]] -= 1
+                waiting.append(channels[it[1]][0])
+            elif it[0] == "p":
+                if queued[it[1]] >= capacities[it[1]]:
+                    break
+                queued[it[1]] += 1
+                waiting.append(channels[it[1]][1])
+            at[p] += 1
+    return at
+
+
+def trimmed(certificate):
+    """What `trim` writes of a certificate's network. Each least capacity is found by halving, with a whole run for each try."""
+    processes, channels, _, _ = certificate
+    scripts, capacities = [script for _, script in processes], [it[3] for it in channels]
+
+    def rest_with(c, capacity):
+        return rest_of(scripts, channels, [*capacities[:c], capacity, *capacities[c + 1 :]])
+
+    ends = [len(it) for it in scripts]
+    for c in range(len(channels)):
+        low, high = 0, capacities[c]
+        while low < high:
+            middle = (low + high) // 2
+            low, high = (low, middle) if rest_with(c, middle) == ends else (middle + 1, high)
+        capacities[c] = low
+    lines = (f"channel {c} capacity {it} rest {' '.join(map(str, rest_with(c, it - 1)))}\n" for c, it in enumerate(capacities))
+    return f"trim 1\n{''.join(lines)}end\n".encode()
 
 
 def judge(program, certificate):
@@ -836,7 +931,7 @@ def order_of(words):
         if not is_name or name in values or not re.fullmatch("-?[0-9]{1,18}", value):
             return None
         values[name] = int(value)
-    return (command, values, 0) if command in ("run", "seq", "net", "cert", "check", "vhdl") else None
+    return (command, values, 0) if command in ("run", "seq", "net", "cert", "check", "vhdl", "trim") else None
 
 
 def outcome(words, bundle):

@@ -309,7 +309,7 @@ def line_texts(share):
         count, text = filled(tree + b"z COUNT\n", line, b"end\n", most)
         yield f"{line[:-1].decode()}, of a proof", count, text, b"refused Source 0 0 Proofs 0 %d 0\n" % count
     count, text = filled(tree + b"w 0 COUNT 0\n", b"m 0\n", b"end\n", most)
-    yield "m 0, of a leaf", count, text, b"refused Source 0 0 NoWriter 0\n"
+    yield "m 0, of a leaf", count, text, b"refused Source 0 0 BadForm 0\n"
     yield "empty lines", *filled(b"cert 1\nsizes 1 0 1 0\nprocess 0 COUNT\n", b"\n", end, most), b"refused Line 4\n"
     yield "one line of 64 MiB", 1, b"cert 1\nsizes 1 0 1 0\nprocess 0 1\nf" + b" z" * (most // 2 - 40), b"refused Truncated\n"
     yield "one ended line of 64 MiB", 1, b"cert 1\nsizes 1 0 1 0\nprocess 0 1\nf" + b" z" * (most // 2 - 40) + b"\n", b"refused Line 4\n"

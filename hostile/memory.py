@@ -107,7 +107,9 @@ def kernel_asks(program, words, bundle, number, folder):
     """Runs the program with the Nth call for memory of each of its threads refused by strace; 0 refuses none. Returns how it ended and
     how many calls its first thread made, and how many any made."""
     log = os.path.join(folder, f"log-{os.getpid()}")
-    refusing = ["-e", f"inject={CALLS}:error=ENOMEM:when={number}"] if number else []
+    # where the kernel refuses brk it answers the old break and no error, so it answers less than was asked for
+    errors = CALLS.replace("brk,", "")
+    refusing = ["-e", f"inject={errors}:error=ENOMEM:when={number}", "-e", f"inject=brk:retval=0:when={number}"] if number else []
     end = asking.ask(program, words, bundle, SECONDS, before=["strace", "-f", "-qq", "-o", log, "-e", f"trace={CALLS}", *refusing])
     with open(log) as file:
         first = [line.split()[0] for line in file if "(" in line and "resumed" not in line]

@@ -57,7 +57,7 @@ pub record SticksAt (n : Net) (places : List ℕ) : Type 0 where
   pub unended : (p : ℕ) × (slice_index places p < length (n.script p))
   pub endless : (run : List ℕ) → EndsAll n tags run → ⊥
 
--- each channel of a network has one place less than would do, and sticks at these positions, one list for each channel
+-- with one place less in any one of its channels the network sticks, at that channel's list of these positions
 abbrev pub SticksBelow : Net → List (List ℕ) → Type 0
 SticksBelow n rests =
     (c : ℕ) → c < n.channels → SticksAt (lowered_network n c) (slice_index_or rests c [])

@@ -1,0 +1,12 @@
+pub mod Weights
+pub mod Combining
+pub mod Bound
+pub mod Ideal
+pub mod Showing
+pub mod Confirming
+pub mod Closing
+pub mod Holding
+pub mod Making
+pub mod Ending
+pub mod Widening
+pub mod Wider

@@ -1,0 +1,7 @@
+pub mod Parts
+pub mod Shown
+pub mod Carried
+pub mod Closure
+pub mod Laws
+pub mod Made
+pub mod MadeLaws

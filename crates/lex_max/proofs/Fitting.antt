@@ -1,0 +1,168 @@
+-- What is known of a read, of a write to its array and of a level between them.
+use Rattle.std.proofs.Common.{◌≡◌, ◌^◌, ◌≤◌, ◌==◌, ◌&&◌, ℕ, ℤ, List, [], ◌∷◌, length, Bool, true, false}
+use Rattle.std.proofs.Common.{cond, refl, sym, ap, ◌∙◌, subst, arith, inl, inr}
+use Rattle.std.specs.Prelude.{Option, Some, None, All, slice_get, nat_le, unsigned_abs}
+use Rattle.std.specs.List.{list_all}
+use Rattle.std.specs.Option.{option_map_or}
+use Rattle.std.proofs.lemmas.Bool.{leb-true}
+use Rattle.std.proofs.lemmas.List.Elements.{All-nil, All-cons}
+use Rattle.std.proofs.lemmas.Option.{same_Some, option_and_then_some}
+use Rattle.affine_core.specs.declared.form.Form.{Form}
+use Rattle.int_polyhedra.proofs.Variables.{and_both, equal_where}
+use Rattle.sanlp.proofs.Elements.{list_all_at}
+use Rattle.sanlp.proofs.ModerateForms.{moderate_size}
+use Rattle.sanlp.proofs.Precedence.{common_first, common_second}
+use Rattle.sanlp.proofs.Roles.{Fits, fits_of}
+use Rattle.sanlp.specs.declared.nest.Access.{Access}
+use Rattle.sanlp.specs.declared.nest.ArrayDecl.{ArrayDecl}
+use Rattle.sanlp.specs.declared.nest.Nest.{Nest}
+use Rattle.sanlp.specs.declared.nest.Statement.{Statement}
+use Rattle.sanlp.specs.WellFormed.{access_fits, form_fits, is_moderate, statement_fits}
+use Rattle.lex_max.specs.Asked.{read_of, write_of, AreAsked, IsAsked}
+use Rattle.lex_max.specs.declared.writes.Writes.{Writes}
+use Rattle.lex_max.specs.Class.{is_difference, is_shift}
+use Rattle.lex_max.specs.Level.{common_of}
+use Rattle.row_sums.specs.Parts.{IsWithin}
+use Rattle.source_tree.specs.Systems.{Occurrence, named_write, write_to}
+
+-- a form of a nest: so many variables, and numbers within 2^32
+pub record FormFits (depth : ℕ) (form : Form) : Type 0 where
+  pub over : length form.coefs ≡ depth
+  pub within : IsWithin (2 ^ 32) form
+
+moderate : (c : ℤ) → is_moderate c ≡ true → unsigned_abs c ≤ 2 ^ 32
+moderate c e = omega (arith, moderate_size c e)
+
+all_moderate : (cs : List ℤ) → list_all is_moderate cs ≡ true → All (λ c. unsigned_abs c ≤ 2 ^ 32) cs
+all_moderate [] e = All-nil _
+all_moderate (c ∷ cs) e =
+    let b = and_both (is_moderate c) (list_all is_moderate cs) e in
+    All-cons (λ c. unsigned_abs c ≤ 2 ^ 32) c cs (moderate c b.0) (all_moderate cs b.1)
+
+pub form_is : (depth : ℕ) (form : Form) → form_fits depth form ≡ true → FormFits depth form
+form_is depth form e =
+    let b = and_both (length form.coefs == depth && is_moderate form.constant) (list_all is_moderate form.coefs) e in
+    let c = and_both (length form.coefs == depth) (is_moderate form.constant) b.0 in
+    record {
+      over = equal_where (length form.coefs) depth c.0;
+      within =
+          record { constant = moderate form.constant c.1; coefs = all_moderate form.coefs b.1 };
+    }
+
+-- an access of a nest
+pub record AccessFits (arrays : List ArrayDecl) (depth : ℕ) (access : Access) : Type 0 where
+  pub array : ArrayDecl
+  pub found : slice_get arrays access.array ≡ Some array
+  pub count : length access.subscripts ≡ length array.extents
+  pub forms : list_all (form_fits depth) access.subscripts ≡ true
+
+pub access_is : (arrays : List ArrayDecl) (depth : ℕ) (access : Access) → access_fits arrays depth access ≡ true
+    → AccessFits arrays depth access
+access_is arrays depth access e =
+    let b = and_both (option_map_or (λ (array : ArrayDecl). length access.subscripts == length array.extents)
+    (slice_get arrays access.array) false)
+    (list_all (form_fits depth) access.subscripts) e in
+    go (slice_get arrays access.array) refl b.0 b.1 where
+      go : (o : Option ArrayDecl) → slice_get arrays access.array ≡ o
+          → option_map_or (λ (array : ArrayDecl). length access.subscripts == length array.extents) o false ≡ true
+          → list_all (form_fits depth) access.subscripts ≡ true → AccessFits arrays depth access
+      go None is e f = absurd (let h : false ≡ true = e in cc)
+      go (Some array) is e f = record {
+        array = array;
+        found = is;
+        count =
+            equal_where (length access.subscripts) (length array.extents) e;
+        forms = f;
+      }
+
+-- a write that a leaf may name
+pub record IsNamed (n : Nest) (r w : Occurrence) : Type 0 where
+  pub is : slice_get n.statements w.number ≡ Some w.statement
+  pub write_is : w.statement.write ≡ Some w.access
+  pub array : w.access.array ≡ r.access.array
+
+pub named_is : (n : Nest) (r w : Occurrence) → named_write n r w.number ≡ Some w → IsNamed n r w
+named_is n r w e =
+    option_and_then_some (write_to r.access.array w.number) (slice_get n.statements w.number) w e
+    (λ s found written. option_and_then_some (λ (access : Access). cond (access.array == r.access.array)
+    (Some (record { number = w.number; statement = s; access = access })) None) s.write w written
+    (λ access write_is kept. go s access (access.array == r.access.array) refl found write_is kept)) where
+      go : (s : Statement) (access : Access) (b : Bool) → (access.array == r.access.array) ≡ b
+          → slice_get n.statements w.number ≡ Some s → s.write ≡ Some access
+          → cond b (Some (record { number = w.number; statement = s; access = access })) None ≡ Some w → IsNamed n r w
+      go s access false e found write_is kept = absurd (let h : None ≡ Some w = kept in cc)
+      go s access true e found write_is kept =
+          let same : record { number = w.number; statement = s; access = access } ≡ w =
+          same_Some (record { number = w.number; statement = s; access = access }) w kept in
+          let statement : s ≡ w.statement = ap (λ (w : Occurrence). w.statement) same in
+          let written : access ≡ w.access = ap (λ (w : Occurrence). w.access) same in
+          record {
+            is = found ∙ ap Some statement;
+            write_is = ap (λ (s : Statement). s.write) (sym statement) ∙ write_is ∙ ap Some written;
+            array = ap (λ (a : Access). a.array) (sym written) ∙ equal_where access.array r.access.array e;
+          }
+
+-- all that is known
+pub record AreFitting (n : Nest) (r w : Occurrence) (p : ℕ) : Type 0 where
+  pub named : IsNamed n r w
+  pub few_vars : length r.statement.loops ≤ 6
+  pub few_loops : length w.statement.loops ≤ 6
+  pub few_rows : length w.statement.rows ≤ 32
+  pub few_reader_rows : length r.statement.rows ≤ 32
+  pub rows : list_all (form_fits (length w.statement.loops)) w.statement.rows ≡ true
+  pub reader_rows : list_all (form_fits (length r.statement.loops)) r.statement.rows ≡ true
+  pub writes : list_all (form_fits (length w.statement.loops)) w.access.subscripts ≡ true
+  pub reads : list_all (form_fits (length r.statement.loops)) r.access.subscripts ≡ true
+  pub few_subscripts : length w.access.subscripts ≤ 6
+  pub even : length w.access.subscripts ≡ length r.access.subscripts
+  pub shifts : list_all is_shift w.access.subscripts ≡ true
+  pub differences : list_all is_difference w.statement.rows ≡ true
+  pub common_vars : common_of w r ≤ length r.statement.loops
+  pub common_loops : common_of w r ≤ length w.statement.loops
+  pub level : p ≤ common_of w r
+
+pub are_fitting : (n : Nest) (r w : Occurrence) (p : ℕ) → AreAsked n r w p → AreFitting n r w p
+are_fitting n r w p a =
+    let named : IsNamed n r w = named_is n r w a.write in
+    let reading : Fits n.arrays r.statement = fits_of n.arrays r.statement
+    (list_all_at (statement_fits n.arrays) n.statements r.number r.statement n.well_formed.statements_fit a.reader)
+    in
+    let writing : Fits n.arrays w.statement = fits_of n.arrays w.statement
+    (list_all_at (statement_fits n.arrays) n.statements w.number w.statement n.well_formed.statements_fit named.is)
+    in
+    let read : AccessFits n.arrays (length r.statement.loops) r.access
+    = access_is n.arrays (length r.statement.loops) r.access
+    (list_all_at (access_fits n.arrays (length r.statement.loops)) r.statement.reads a.read.0 r.access
+    reading.reads_fit a.read.1) in
+    let written : option_map_or (access_fits n.arrays (length w.statement.loops)) (Some w.access) true ≡ true
+    = subst (λ o. option_map_or (access_fits n.arrays (length w.statement.loops)) o true ≡ true) named.write_is
+    writing.write_fits in
+    let write : AccessFits n.arrays (length w.statement.loops) w.access =
+    access_is n.arrays (length w.statement.loops) w.access written in
+    let one_array : write.array ≡ read.array =
+    same_Some write.array read.array (sym write.found ∙ ap (slice_get n.arrays) named.array ∙ read.found) in
+    let extents : length write.array.extents ≤ 6
+    = leb-true (length write.array.extents) 6 (list_all_at (λ (array : ArrayDecl). nat_le (length array.extents) 6)
+    n.arrays w.access.array write.array n.well_formed.few_extents write.found) in
+    let b = and_both (list_all is_shift w.access.subscripts) (list_all is_difference w.statement.rows) a.differences in
+    record {
+      named = named;
+      few_vars = leb-true (length r.statement.loops) 6 reading.few_loops;
+      few_loops = leb-true (length w.statement.loops) 6 writing.few_loops;
+      few_rows = leb-true (length w.statement.rows) 32 writing.few_rows;
+      few_reader_rows = leb-true (length r.statement.rows) 32 reading.few_rows;
+      rows = writing.rows_fit;
+      reader_rows = reading.rows_fit;
+      writes = write.forms;
+      reads = read.forms;
+      few_subscripts = omega (arith, write.count, extents);
+      even = write.count ∙ ap (λ (array : ArrayDecl). length array.extents) one_array ∙ sym read.count;
+      shifts = b.0;
+      differences = b.1;
+      common_vars = common_second w.statement.loops r.statement.loops;
+      common_loops = common_first w.statement.loops r.statement.loops;
+      level = elim a.level [ inl lt ↦ omega arith | inr at ↦ (let e : p ≡ common_of w r = at.0 in omega (arith, e)) ];
+    }
+
+pub asked_fits : (w : Writes) → IsAsked w → AreFitting w.nest.now (read_of w) (write_of w) w.level
+asked_fits w a = are_fitting w.nest.now (read_of w) (write_of w) w.level a.asked

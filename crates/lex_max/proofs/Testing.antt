@@ -1,0 +1,149 @@
+-- The tree of a Test, from those of its two contexts.
+use Rattle.std.proofs.Common.{◌≡◌, ◌+◌, ◌-◌, ◌^◌, ◌≤◌, ℕ, ℤ, pos, negsuc, ◌≤ℤ◌, ◌<ℤ◌, List, [], ◌∷◌, ◌++◌}
+use Rattle.std.proofs.Common.{length, replicate, Bool, true, false, cond, refl, sym, ap, ◌∙◌, subst, arith}
+use Rattle.std.specs.Prelude.{Some, None, int_le}
+use Rattle.std.specs.Option.{option_and_then}
+use Rattle.std.proofs.lemmas.Bool.{le-leb}
+use Rattle.std.proofs.lemmas.Int.{ints}
+use Rattle.std.proofs.lemmas.List.{append-nil}
+use Rattle.std.proofs.lemmas.List.Elements.{All-append, All-cons, All-nil}
+use Rattle.affine_core.specs.declared.form.Form.{Form}
+use Rattle.affine_core.specs.Affine.{constant_form, form_at, form_product, form_sum, widened_form}
+use Rattle.affine_core.specs.Within.{form_in_128_bits}
+use Rattle.int_polyhedra.specs.declared.system.Proof.{Proof}
+use Rattle.int_polyhedra.specs.declared.system.System.{System}
+use Rattle.int_polyhedra.specs.Steps.{negation_of}
+use Rattle.int_polyhedra.specs.Systems.{Meets}
+use Rattle.int_polyhedra.proofs.Soundness.{negation_at}
+use Rattle.lex_max.specs.Answer.{IsAnswer}
+use Rattle.lex_max.specs.Asked.{depth_of_read, read_of, write_of}
+use Rattle.lex_max.specs.Level.{IsGreatest}
+use Rattle.lex_max.specs.Simple.{at_test as simple_test}
+use Rattle.lex_max.specs.declared.writes.Writes.{Writes}
+use Rattle.lex_max.proofs.Writing.{forms_append}
+use Rattle.row_sums.specs.Parts.{IsWithin}
+use Rattle.source_tree.specs.Checked.{IsCheckedIn, at_test}
+use Rattle.source_tree.specs.Gives.{gives, gives_step, values}
+use Rattle.source_tree.specs.Rows.{RowExpr, Take, below_zero, number, row_form, row_forms}
+use Rattle.source_tree.specs.Systems.{Context, just, test_no, test_yes}
+use Rattle.source_tree.specs.declared.tree.Found.{Found}
+use Rattle.source_tree.specs.declared.tree.Found.TheVariants as found
+use Rattle.source_tree.specs.declared.tree.Tree.{Tree}
+use Rattle.source_tree.specs.declared.tree.Tree.TheOpen as open_
+use Rattle.source_tree.specs.declared.tree.Tree.TheVariants.{Writer, Zero}
+use Rattle.source_tree.specs.declared.tree.Tree.TheViews.{Test, rolls-Test, rolls-Writer, rolls-Zero}
+use Rattle.source_tree.specs.declared.tree.Tree.TheFolds.{fold-roll-Tree}
+
+-- What each kind of tree gives
+
+pub gives_test : (at : List ℤ) (tree : Tree) (form : Form) (a b : Tree) → tree ≡ Test form a b → gives tree at
+    ≡ cond (int_le (pos 0) (form_at form at)) (gives a at) (gives b at)
+unfolding gives
+gives_test at tree form a b e = ap (λ tree. gives tree at) (e ∙ sym (rolls-Test form a b))
+    ∙ ap (λ (k : List ℤ → Found). k at) (fold-roll-Tree (List ℤ → Found) gives_step (open_.Test form a b))
+
+pub gives_writer : (at : List ℤ) (tree : Tree) (s : ℕ) (place : List Form) (proofs : List Proof) → tree
+    ≡ Writer s place proofs → gives tree at ≡ found.At (record { statement = s; at = values place at })
+unfolding gives
+gives_writer at tree s place proofs e = ap (λ tree. gives tree at) (e ∙ sym (rolls-Writer s place proofs))
+    ∙ ap (λ (k : List ℤ → Found). k at) (fold-roll-Tree (List ℤ → Found) gives_step (open_.Writer s place proofs))
+
+pub gives_zero : (at : List ℤ) (tree : Tree) (proofs : List Proof) → tree ≡ Zero proofs → gives tree at ≡ found.Zero
+unfolding gives
+gives_zero at tree proofs e = ap (λ tree. gives tree at) (e ∙ sym (rolls-Zero proofs))
+    ∙ ap (λ (k : List ℤ → Found). k at) (fold-roll-Tree (List ℤ → Found) gives_step (open_.Zero proofs))
+
+-- The rows of a Test, as they are made
+
+pub widened_same : (vars : ℕ) (f : Form) → length f.coefs ≡ vars → widened_form vars f ≡ f
+widened_same vars f e =
+    let none : vars - length f.coefs ≡ 0 = omega (arith, e) in
+    ap (λ n. record f { coefs = f.coefs ++ replicate n (pos 0) }) none
+    ∙ ap (λ cs. record f { coefs = cs }) (append-nil f.coefs)
+
+pub taken_made : (vars : ℕ) (f : Form) → length f.coefs ≡ vars → row_form vars (Take f) ≡ Some f
+taken_made vars f e =
+    let le : length f.coefs ≤ vars = omega (arith, e) in
+    ap (λ b. cond b (Some (widened_form vars f)) None) (le-leb (length f.coefs) vars le)
+    ∙ ap Some (widened_same vars f e)
+
+number_made : (vars : ℕ) (k : ℤ) → row_form vars (number k) ≡ Some (constant_form vars k)
+number_made vars k =
+    let le : 0 ≤ vars = omega arith in
+    let m : vars - 0 ≡ vars = omega arith in
+    ap (λ b. cond b (Some (widened_form vars (record { constant = k; coefs = [] }))) None) (le-leb 0 vars le)
+    ∙ ap (λ n. Some (record { constant = k; coefs = replicate n (pos 0) })) m
+
+pub opposite_made : (vars : ℕ) (f other : Form) → length f.coefs ≡ vars → negation_of f ≡ Some other
+    → row_form vars (below_zero (Take f)) ≡ Some other
+opposite_made vars f other e is =
+    ap (λ o. option_and_then
+    (λ left. option_and_then (λ right. form_in_128_bits (form_sum left right)) (row_form vars (number (negsuc 0))))
+    (option_and_then (λ form. form_in_128_bits (form_product (negsuc 0) form)) o)) (taken_made vars f e)
+    ∙ ap (λ o. option_and_then (λ left. option_and_then (λ right. form_in_128_bits (form_sum left right)) o)
+    (form_in_128_bits (form_product (negsuc 0) f))) (number_made vars (negsuc 0))
+    ∙ ap (λ n. option_and_then (λ left. form_in_128_bits (form_sum left (constant_form n (negsuc 0))))
+    (form_in_128_bits (form_product (negsuc 0) f))) (sym e)
+    ∙ is
+
+one_form : (vars : ℕ) (e : RowExpr) (f : Form) → row_form vars e ≡ Some f → row_forms vars (e ∷ []) ≡ Some (f ∷ [])
+one_form vars e f is = ap (option_and_then (λ row. option_and_then (λ rest. Some (row ∷ rest)) (Some []))) is
+
+pub more_made : (c : Context) (rows : List Form) (e : RowExpr) (f : Form) → row_forms c.vars c.rows ≡ Some rows
+    → row_form c.vars e ≡ Some f → row_forms c.vars (c.rows ++ e ∷ []) ≡ Some (rows ++ f ∷ [])
+more_made c rows e f is one = forms_append c.vars c.rows (e ∷ []) rows (f ∷ []) is (one_form c.vars e f one)
+
+le_where : (a b : ℤ) → int_le a b ≡ true → a ≤ℤ b
+le_where a b e = grind (arith, ints)
+
+lt_where : (a b : ℤ) → int_le a b ≡ false → b <ℤ a
+lt_where a b e = grind (arith, ints)
+
+meets_more : (rows : List Form) (row : Form) (x : List ℤ) → Meets rows x → pos 0 ≤ℤ form_at row x
+    → Meets (rows ++ row ∷ []) x
+meets_more rows row x h k = All-append (λ row. pos 0 ≤ℤ form_at row x) rows (row ∷ []) h
+    (All-cons (λ row. pos 0 ≤ℤ form_at row x) row [] k (All-nil _))
+
+module _ (w : Writes) (context above below : System) (form other : Form) (tests : ℕ) (yes no tree : Tree)
+    (is : tree ≡ Test form yes no)
+    (over : length form.coefs ≡ depth_of_read w) (small : IsWithin (2 ^ 48) form)
+    (other_is : negation_of form ≡ Some other)
+    (above_is : above ≡ record context { rows = context.rows ++ form ∷ [] })
+    (below_is : below ≡ record context { rows = context.rows ++ other ∷ [] })
+    (yes_is : IsAnswer w above tests yes) (no_is : IsAnswer w below tests no) where
+  abbrev IsChecked : Context → Tree → Type 0
+  IsChecked = IsCheckedIn w.nest.now (read_of w) (just w.write.number w.level)
+
+  test_checked : (c : Context) → c.vars ≡ depth_of_read w → row_forms c.vars c.rows ≡ Some context.rows
+      → IsChecked c tree
+  test_checked c vars_is rows_is =
+      let here : length form.coefs ≡ c.vars = over ∙ sym vars_is in
+      at_test c tree form yes no is here
+      (yes_is.checked (test_yes c form) vars_is
+      (more_made c context.rows (Take form) form rows_is (taken_made c.vars form here)
+      ∙ ap (λ (s : System). Some s.rows) (sym above_is)))
+      (no_is.checked (test_no c form) vars_is
+      (more_made c context.rows (below_zero (Take form)) other rows_is (opposite_made c.vars form other here other_is)
+      ∙ ap (λ (s : System). Some s.rows) (sym below_is)))
+
+  test_greatest : (x : List ℤ) → length x ≡ depth_of_read w → Meets context.rows x
+      → IsGreatest (read_of w) (write_of w) w.level x (gives tree x)
+  test_greatest x long meets =
+      subst (IsGreatest (read_of w) (write_of w) w.level x) (sym (gives_test x tree form yes no is))
+      (go (int_le (pos 0) (form_at form x)) refl) where
+        go : (b : Bool) → int_le (pos 0) (form_at form x) ≡ b
+            → IsGreatest (read_of w) (write_of w) w.level x (cond b (gives yes x) (gives no x))
+        go true e = yes_is.greatest x long (subst (λ (s : System). Meets s.rows x) (sym above_is)
+            (meets_more context.rows form x meets (le_where (pos 0) (form_at form x) e)))
+        go false e =
+            let below_zero_at : pos 0 ≤ℤ form_at other x =
+            omega (arith, ints, negation_at form other x other_is, lt_where (pos 0) (form_at form x) e) in
+            no_is.greatest x long (subst (λ (s : System). Meets s.rows x) (sym below_is)
+            (meets_more context.rows other x meets below_zero_at))
+
+  pub answer_test : IsAnswer w context (tests + 1) tree
+  answer_test = record {
+    checked = test_checked;
+    simple = simple_test tests tree form yes no is small yes_is.simple no_is.simple;
+    greatest = test_greatest;
+  }

@@ -1,0 +1,190 @@
+-- Rows that were made have the value of what they were made from, and a point that writes the cell before the read
+-- meets the rows that say so.
+use Rattle.std.proofs.Common.{◌≡◌, ◌+◌, ◌<◌, ℕ, zero, suc, ℤ, pos, ◌+ℤ◌, ◌*ℤ◌, ◌≤ℤ◌, ◌<ℤ◌}
+use Rattle.std.proofs.Common.{List, [], ◌∷◌, ◌++◌, length, map, take, Bool, true, false, cond, refl, sym, ap, ◌∙◌}
+use Rattle.std.proofs.Common.{subst, arith, append_assoc, length-append}
+use Rattle.std.specs.Prelude.{Option, Some, None, All, slice_get, slice_index_or, nat_le, int_le, IsTrue}
+use Rattle.std.specs.Option.{option_and_then, option_map}
+use Rattle.std.proofs.lemmas.Int.{ints}
+use Rattle.std.proofs.lemmas.List.Elements.{All-nil, All-cons, All-head, All-tail}
+use Rattle.std.proofs.lemmas.Option.{same_Some, option_and_then_some, slice_get-map}
+use Rattle.std.proofs.Math.IntN.{*ℤ_comm}
+use Rattle.affine_core.specs.declared.form.Form.{Form}
+use Rattle.affine_core.specs.Affine.{combined, form_at, form_product, form_sum, widened_form}
+use Rattle.affine_core.specs.Within.{form_in_128_bits}
+use Rattle.affine_core.proofs.Linear.{form_at_more, form_in_128_bits_is, product_at, sum_at, variable_at, widened_at}
+use Rattle.int_polyhedra.specs.Systems.{Meets}
+use Rattle.int_polyhedra.proofs.Variables.{and_both, both_and}
+use Rattle.sanlp.specs.Loops.{all_hold}
+use Rattle.row_sums.proofs.Wider.{made_has_parts}
+use Rattle.source_tree.specs.Gives.{values}
+use Rattle.source_tree.specs.Places.{at_place, cell_rows, domain_rows, order_rows, plus_terms, variables}
+use Rattle.source_tree.specs.Rows.{RowExpr, Take, Plus, Times, equal_rows, minus, number, one_less, row_at, row_form}
+use Rattle.source_tree.specs.Rows.{row_forms}
+
+-- Values
+
+taken_at : (vars : ℕ) (form f : Form) (at : List ℤ) (b : Bool) → nat_le (length form.coefs) vars ≡ b
+    → cond b (Some (widened_form vars form)) None ≡ Some f → form_at f at ≡ form_at form at
+taken_at vars form f at false e is = absurd (let g : None ≡ Some f = is in cc)
+taken_at vars form f at true e is = ap (λ (f : Form). form_at f at) (sym (same_Some (widened_form vars form) f is))
+    ∙ widened_at vars form at
+
+pub made_at : (vars : ℕ) (e : RowExpr) (f : Form) (at : List ℤ) → row_form vars e ≡ Some f → form_at f at ≡ row_at e at
+made_at vars (Take form) f at is = taken_at vars form f at (nat_le (length form.coefs) vars) refl is
+made_at vars (Plus a b) f at is =
+    option_and_then_some (λ left. option_and_then (λ right. form_in_128_bits (form_sum left right)) (row_form vars b))
+    (row_form vars a) f is
+    (λ left is_left is'. option_and_then_some (λ right. form_in_128_bits (form_sum left right)) (row_form vars b) f is'
+    (λ right is_right sum.
+    let even : length left.coefs ≡ length right.coefs = (made_has_parts vars a left is_left).0
+    ∙ sym (made_has_parts vars b right is_right).0 in
+    ap (λ (f : Form). form_at f at) (sym (form_in_128_bits_is (form_sum left right) f sum)) ∙ sum_at left right at even
+    ∙ ap (λ z. z +ℤ form_at right at) (made_at vars a left at is_left)
+    ∙ ap (λ z. row_at a at +ℤ z) (made_at vars b right at is_right)))
+made_at vars (Times k e) f at is =
+    option_and_then_some (λ form. form_in_128_bits (form_product k form)) (row_form vars e) f is
+    (λ form is_form product.
+    ap (λ (f : Form). form_at f at) (sym (form_in_128_bits_is (form_product k form) f product)) ∙ product_at k form at
+    ∙ *ℤ_comm (form_at form at) k ∙ ap (λ z. k *ℤ z) (made_at vars e form at is_form))
+
+-- a point meets rows that aren't made
+abbrev pub AreMet : List RowExpr → List ℤ → Type 0
+AreMet [] at = Unit {0}
+AreMet (e ∷ es) at = (pos 0 ≤ℤ row_at e at) × AreMet es at
+
+pub met_append : (xs ys : List RowExpr) (at : List ℤ) → AreMet xs at → AreMet ys at → AreMet (xs ++ ys) at
+met_append [] ys at h k = k
+met_append (x ∷ xs) ys at h k = (h.0, met_append xs ys at h.1 k)
+
+pub met_made : (vars : ℕ) (es : List RowExpr) (rows : List Form) (at : List ℤ) → row_forms vars es ≡ Some rows
+    → AreMet es at → Meets rows at
+met_made vars [] rows at is met = subst (λ rows. Meets rows at) (same_Some [] rows is) (All-nil _)
+met_made vars (e ∷ es) rows at is met =
+    option_and_then_some (λ row. option_and_then (λ rest. Some (row ∷ rest)) (row_forms vars es))
+    (row_form vars e) rows is
+    (λ row is_row is'. option_and_then_some (λ rest. Some (row ∷ rest)) (row_forms vars es) rows is'
+    (λ rest is_rest whole.
+    subst (λ rows. Meets rows at) (same_Some (row ∷ rest) rows whole)
+    (All-cons (λ row. pos 0 ≤ℤ form_at row at) row rest
+    (subst (λ z. pos 0 ≤ℤ z) (sym (made_at vars e row at is_row)) met.0) (met_made vars es rest at is_rest met.1))))
+
+-- widened rows have their values at a longer point
+pub widened_met : (vars more : ℕ) (rows : List Form) (x j : List ℤ) → All (λ row. length row.coefs ≡ length x) rows
+    → Meets rows x → Meets (map (widened_form more) rows) (x ++ j)
+widened_met vars more [] x j over h = All-nil _
+widened_met vars more (row ∷ rows) x j over h =
+    let long : length row.coefs ≡ length x = All-head (λ (row : Form). length row.coefs ≡ length x) row rows over in
+    let same : form_at (widened_form more row) (x ++ j) ≡ form_at row x = widened_at more row (x ++ j)
+    ∙ form_at_more row x j (omega (arith, long)) in
+    All-cons (λ row. pos 0 ≤ℤ form_at row (x ++ j)) (widened_form more row) (map (widened_form more) rows)
+    (subst (λ z. pos 0 ≤ℤ z) (sym same) (All-head (λ row. pos 0 ≤ℤ form_at row x) row rows h))
+    (widened_met vars more rows x j (All-tail (λ (row : Form). length row.coefs ≡ length x) row rows over)
+    (All-tail (λ row. pos 0 ≤ℤ form_at row x) row rows h))
+
+-- Places
+
+value_at : (i : ℕ) (before : List ℤ) (x : ℤ) (after : List ℤ) → i ≡ length before
+    → slice_index_or (before ++ x ∷ after) i (pos 0) ≡ x
+value_at zero [] x after e = refl
+value_at (suc i) [] x after e = absurd (omega arith)
+value_at zero (y ∷ before) x after e = absurd (omega arith)
+value_at (suc i) (y ∷ before) x after e = value_at i before x after (omega arith)
+
+pub variables_at : (i : ℕ) (before xs after : List ℤ) → i ≡ length before
+    → values (variables i (length xs)) (before ++ (xs ++ after)) ≡ xs
+variables_at i before [] after e = refl
+variables_at i before (x ∷ xs) after e =
+    let rest : values (variables (i + 1) (length xs)) ((before ++ x ∷ []) ++ (xs ++ after)) ≡ xs
+    = variables_at (i + 1) (before ++ x ∷ []) xs after (omega (arith, length-append before (x ∷ []), e)) in
+    ap (λ z. z ∷ values (variables (i + 1) (length xs)) (before ++ x ∷ (xs ++ after)))
+    (variable_at (i + 1) i (before ++ x ∷ (xs ++ after)) ∙ value_at i before x (xs ++ after) e)
+    ∙ ap (λ at. x ∷ values (variables (i + 1) (length xs)) at) (sym (append_assoc before (x ∷ []) (xs ++ after)))
+    ∙ ap (λ zs. x ∷ zs) rest
+
+at_plus_terms : (sum : RowExpr) (cs : List ℤ) (place : List Form) (at : List ℤ) → row_at (plus_terms sum cs place) at
+    ≡ combined (row_at sum at) cs (values place at)
+at_plus_terms sum [] place at = refl
+at_plus_terms sum (c ∷ cs) [] at = refl
+at_plus_terms sum (c ∷ cs) (form ∷ place) at = at_plus_terms (Plus sum (Times c (Take form))) cs place at
+
+pub row_at_place : (form : Form) (place : List Form) (at : List ℤ) → row_at (at_place form place) at
+    ≡ form_at form (values place at)
+row_at_place form place at = at_plus_terms (number form.constant) form.coefs place at
+
+le_where : (a b : ℤ) → int_le a b ≡ true → a ≤ℤ b
+le_where a b e = grind (arith, ints)
+
+where_le : (a b : ℤ) → a ≤ℤ b → int_le a b ≡ true
+where_le a b e = grind (arith, ints)
+
+-- a point in a domain meets the domain rows at its place, and the other way round
+pub domain_met : (rows place : List Form) (at : List ℤ) → IsTrue (all_hold rows (values place at))
+    → AreMet (domain_rows rows place) at
+domain_met [] place at e = tt
+domain_met (row ∷ rows) place at e =
+    let b = and_both (int_le (pos 0) (form_at row (values place at))) (all_hold rows (values place at)) e in (
+      subst (λ z. pos 0 ≤ℤ z) (sym (row_at_place row place at)) (le_where (pos 0) (form_at row (values place at)) b.0),
+      domain_met rows place at b.1,
+    )
+
+pub met_domain : (rows place : List Form) (at : List ℤ) → AreMet (domain_rows rows place) at
+    → IsTrue (all_hold rows (values place at))
+met_domain [] place at h = refl
+met_domain (row ∷ rows) place at h =
+    both_and (int_le (pos 0) (form_at row (values place at))) (all_hold rows (values place at))
+    (where_le (pos 0) (form_at row (values place at)) (subst (λ z. pos 0 ≤ℤ z) (row_at_place row place at) h.0))
+    (met_domain rows place at h.1)
+
+equal_met : (a b : RowExpr) (at : List ℤ) → row_at a at ≡ row_at b at → AreMet (equal_rows a b) at
+equal_met a b at e = (omega (arith, ints, e), (omega (arith, ints, e), tt))
+
+head_of : (xs ys : List ℤ) (x y : ℤ) → x ∷ xs ≡ y ∷ ys → x ≡ y
+head_of xs ys x y e = cc
+
+tail_of : (xs ys : List ℤ) (x y : ℤ) → x ∷ xs ≡ y ∷ ys → xs ≡ ys
+tail_of xs ys x y e = cc
+
+pub cells_met : (writes reads place : List Form) (at : List ℤ) → values writes (values place at) ≡ values reads at
+    → AreMet (cell_rows writes reads place) at
+cells_met [] reads place at e = tt
+cells_met (w ∷ writes) [] place at e = tt
+cells_met (w ∷ writes) (r ∷ reads) place at e =
+    let h = head_of (values writes (values place at)) (values reads at) (form_at w (values place at)) (form_at r at) e
+    in
+    met_append (equal_rows (at_place w place) (Take r)) (cell_rows writes reads place) at
+    (equal_met (at_place w place) (Take r) at (row_at_place w place at ∙ h))
+    (cells_met writes reads place at
+    (tail_of (values writes (values place at)) (values reads at) (form_at w (values place at)) (form_at r at) e))
+
+-- The rows of a level
+
+pub mapped_some : (o : Option (List RowExpr)) (pair rows : List RowExpr) → option_map (λ inner. pair ++ inner) o
+    ≡ Some rows → (inner : List RowExpr) × (o ≡ Some inner) × (pair ++ inner ≡ rows)
+mapped_some None pair rows e = absurd (let h : None ≡ Some rows = e in cc)
+mapped_some (Some inner) pair rows e = (inner, refl, same_Some (pair ++ inner) rows e)
+
+pub level_met : (c p : ℕ) (less : Bool) (a b : List Form) (rows : List RowExpr) (at : List ℤ)
+    → slice_get (order_rows c less a b) p ≡ Some rows → take p (values a at) ≡ take p (values b at)
+    → (p < c → slice_index_or (values a at) p (pos 0) <ℤ slice_index_or (values b at) p (pos 0)) → AreMet rows at
+level_met zero zero true a b rows at e equal less = subst (λ rows. AreMet rows at) (same_Some [] rows e) tt
+level_met zero zero false a b rows at e equal less = absurd (let f : None ≡ Some rows = e in cc)
+level_met zero (suc p) true a b rows at e equal less = absurd (let f : None ≡ Some rows = e in cc)
+level_met zero (suc p) false a b rows at e equal less = absurd (let f : None ≡ Some rows = e in cc)
+level_met (suc c) p l [] b rows at e equal less = absurd (let f : None ≡ Some rows = e in cc)
+level_met (suc c) p l (v ∷ a) [] rows at e equal less = absurd (let f : None ≡ Some rows = e in cc)
+level_met (suc c) zero l (v ∷ a) (x ∷ b) rows at e equal less =
+    let low : form_at v at <ℤ form_at x at = less (omega arith) in
+    subst (λ rows. AreMet rows at) (same_Some (one_less (minus (Take x) (Take v)) ∷ []) rows e)
+    (omega (arith, ints, low), tt)
+level_met (suc c) (suc p) l (v ∷ a) (x ∷ b) rows at e equal less =
+    let pair : List RowExpr = equal_rows (Take v) (Take x) in
+    let i = mapped_some (slice_get (order_rows c l a b) p) pair rows
+    (sym (slice_get-map (λ inner. pair ++ inner) (order_rows c l a b) p) ∙ e) in
+    let first : form_at v at ≡ form_at x at =
+    head_of (take p (values a at)) (take p (values b at)) (form_at v at) (form_at x at) equal in
+    let rest : take p (values a at) ≡ take p (values b at) =
+    tail_of (take p (values a at)) (take p (values b at)) (form_at v at) (form_at x at) equal in
+    subst (λ rows. AreMet rows at) i.2
+    (met_append pair i.0 at (equal_met (Take v) (Take x) at first)
+    (level_met c p l a b i.0 at i.1 rest (λ lt. less (omega (arith, lt)))))

@@ -1,0 +1,86 @@
+use Rattle.std.proofs.Common.{◌≡◌, ◌∷◌, [], length, sym, ap, ◌∙◌, subst, arith, rules}
+use Rattle.std.proofs.lemmas.List.{nil_from_length}
+use Rattle.std.proofs.lemmas.Result.{IfOk-weaker}
+use Rattle.lex_max.specs.Asked.{depth_of_write}
+use Rattle.lex_max.specs.Choices.{choices_left, chosen_place, AreCertsSoFar, AreChoices}
+use Rattle.lex_max.proofs.Deciding.{certs_none, choosing_start, few_tests, few_uppers, next_first, none_chosen}
+use Rattle.lex_max.proofs.Deciding.{some_upper}
+use Rattle.lex_max.proofs.Fitting.{asked_fits}
+use Rattle.lex_max.proofs.Zeroing.{answer_wider, context_less}
+use Rattle.lex_max.proofs.decide.choose_all.Goals as goal
+
+pub confirm-requires-clause-context : goal.confirm-requires-clause-context
+confirm-requires-clause-context c = context_less c.args.w.now c.args.context.now (length c.args.graph.now.edges.now) 392
+    (omega (arith, c.requires.ready.graph.graph.few)) c.requires.context
+
+pub confirm-requires-clause-chosen : goal.confirm-requires-clause-chosen
+confirm-requires-clause-chosen c =
+    let none : c.as_slice.result.now ≡ [] = nil_from_length c.as_slice.result.now c.in_default.ensures.cases in
+    none_chosen c.args.w.now c.args.graph.now.edges.now c.args.graph.now.bounds.now c.requires.ready c.args.context.now
+    c.as_slice-none.result.now (sym none ∙ c.as_slice.ensures ∙ c.in_ok-all.ensures)
+    (c.as_slice-none.ensures ∙ c.new-choices.ensures)
+
+pub confirm-requires-clause-certs : goal.confirm-requires-clause-certs
+confirm-requires-clause-certs c =
+    let edges = c.args.graph.now.edges.now in
+    let place = chosen_place c.as_slice-none.result.now in
+    subst (AreCertsSoFar c.args.context.now place edges edges) (sym c.new-certs.ensures)
+    (certs_none c.args.context.now place edges)
+
+pub returns-in_default : goal.returns-in_default
+returns-in_default c =
+    IfOk-weaker c.confirm.result _ _
+    (λ tree h. answer_wider c.args.w.now c.args.context.now (length c.args.graph.now.edges.now) 392 tree
+    (omega (arith, c.requires.ready.graph.graph.few)) h) c.confirm.ensures
+
+pub start-first-requires-clause-few : goal.start-first-requires-clause-few
+start-first-requires-clause-few c =
+    let all : c.as_slice.result.now ≡ c.in-Some.forms.now ∷ c.in-Some.more.now = search rules in
+    let n = next_first c.args.w.now c.args.graph.now.edges.now c.args.graph.now.bounds.now c.requires.ready
+    c.in-Some.forms.now c.in-Some.more.now (sym all ∙ c.as_slice.ensures ∙ c.in_ok-all.ensures) in
+    few_uppers c.args.w.now c.args.graph.now.edges.now c.args.graph.now.bounds.now c.requires.ready 0
+    c.as_slice-forms.result.now (c.as_slice-forms.ensures ∙ n.forms)
+
+pub start-first-requires-clause-some : goal.start-first-requires-clause-some
+start-first-requires-clause-some c =
+    let all : c.as_slice.result.now ≡ c.in-Some.forms.now ∷ c.in-Some.more.now = search rules in
+    let n = next_first c.args.w.now c.args.graph.now.edges.now c.args.graph.now.bounds.now c.requires.ready
+    c.in-Some.forms.now c.in-Some.more.now (sym all ∙ c.as_slice.ensures ∙ c.in_ok-all.ensures) in
+    some_upper c.args.w.now c.args.graph.now.edges.now c.args.graph.now.bounds.now c.requires.ready 0
+    c.as_slice-forms.result.now n.inside (c.as_slice-forms.ensures ∙ n.forms)
+
+pub choose-requires-clause-context : goal.choose-requires-clause-context
+choose-requires-clause-context c =
+    let w = c.args.w.now in
+    let all : c.as_slice.result.now ≡ c.in-Some.forms.now ∷ c.in-Some.more.now = search rules in
+    let n = few_tests w c.args.graph.now.edges.now c.args.graph.now.bounds.now c.requires.ready c.in-Some.forms.now
+    c.in-Some.more.now (sym all ∙ c.as_slice.ensures ∙ c.in_ok-all.ensures)
+    (asked_fits w c.requires.ready.graph.asked).few_loops in
+    context_less w c.args.context.now (choices_left c.as_slice-forms.result.now c.in-Some.more.now) 392
+    (omega (arith, n, ap length c.as_slice-forms.ensures)) c.requires.context
+
+pub choose-requires-clause-choosing : goal.choose-requires-clause-choosing
+choose-requires-clause-choosing c =
+    let w = c.args.w.now in
+    let edges = c.args.graph.now.edges.now in
+    let bounds = c.args.graph.now.bounds.now in
+    let all : c.as_slice.result.now ≡ c.in-Some.forms.now ∷ c.in-Some.more.now = search rules in
+    let n = next_first w edges bounds c.requires.ready c.in-Some.forms.now c.in-Some.more.now
+    (sym all ∙ c.as_slice.ensures ∙ c.in_ok-all.ensures) in
+    choosing_start w edges bounds c.requires.ready c.args.context.now 0 c.as_slice-forms.result.now c.in-Some.more.now
+    c.start-first.result c.as_slice-none.result.now
+    (ap length (c.as_slice-none.ensures ∙ c.new-choices.ensures)) n.inside
+    (c.as_slice-forms.ensures ∙ n.forms) n.others c.start-first.ensures.edge c.start-first.ensures.empty
+    (subst (AreChoices (depth_of_write w) bounds edges c.args.context.now 0)
+    (sym (c.as_slice-none.ensures ∙ c.new-choices.ensures)) tt)
+
+pub returns : goal.returns
+returns c =
+    let w = c.args.w.now in
+    let all : c.as_slice.result.now ≡ c.in-Some.forms.now ∷ c.in-Some.more.now = search rules in
+    let n = few_tests w c.args.graph.now.edges.now c.args.graph.now.bounds.now c.requires.ready c.in-Some.forms.now
+    c.in-Some.more.now (sym all ∙ c.as_slice.ensures ∙ c.in_ok-all.ensures)
+    (asked_fits w c.requires.ready.graph.asked).few_loops in
+    IfOk-weaker c.choose.result _ _
+    (λ tree h. answer_wider w c.args.context.now (choices_left c.as_slice-forms.result.now c.in-Some.more.now) 392 tree
+    (omega (arith, n, ap length c.as_slice-forms.ensures)) h) c.choose.ensures

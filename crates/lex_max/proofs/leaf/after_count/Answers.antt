@@ -1,0 +1,14 @@
+use Rattle.lex_max.proofs.Finishing.{after_few, after_more, at_last, below_last}
+use Rattle.lex_max.proofs.leaf.after_count.Goals as goal
+
+pub returns-then-w-clause-levels : goal.returns-then-w-clause-levels
+returns-then-w-clause-levels c l lt = at_last c.args.w.now l lt c.if-w.true
+
+pub returns-then-w-clause-all : goal.returns-then-w-clause-all
+returns-then-w-clause-all c place = after_more c.args.w.now place c.requires.asked.common
+
+pub returns-else-w-clause-levels : goal.returns-else-w-clause-levels
+returns-else-w-clause-levels c l lt = below_last c.args.w.now l lt
+
+pub returns-else-w-clause-all : goal.returns-else-w-clause-all
+returns-else-w-clause-all c place = after_few c.args.w.now place c.requires.asked.common c.if-w.false

@@ -1,0 +1,32 @@
+-- What follows a choice among a variable's first forms, with one form more.
+use Rattle.std.specs.Prelude.{◌≡◌, ◌^◌, ◌+◌, ℕ, Option, Some, length, ◌++◌, [], ◌∷◌}
+use Rattle.affine_core.specs.declared.form.Form.{Form}
+use Rattle.int_polyhedra.specs.declared.system.System.{System}
+use Rattle.int_polyhedra.specs.Steps.{negation_of}
+use Rattle.lex_max.specs.Choices.{IsNextChoice}
+use Rattle.lex_max.specs.declared.decide.Choice.{Choice}
+use Rattle.lex_max.specs.declared.decide.ChoiceStep.{ChoiceStep}
+use Rattle.lex_max.specs.declared.decide.ChoiceStep.TheVariants.{Known, Either}
+use Rattle.row_sums.specs.Parts.{IsWithin}
+
+-- a form over so many variables with small numbers, as each form that bounds a loop variable is
+pub record IsSmallForm (vars : ℕ) (form : Form) : Type 0 where
+  pub over : length form.coefs ≡ vars
+  pub within : IsWithin (2 ^ 33 + 2 ^ 39) form
+
+-- choices of the context with a form behind, and of the one with the form's opposite behind
+pub record AreEither (context : System) (form : Option Form) (choice : Choice) (above : Form)
+    (same other : Choice) : Type 0 where
+  pub over : length above.coefs ≡ context.vars
+  pub within : IsWithin (2 ^ 34 + 2 ^ 40) above
+  pub least : (least : System) → least ≡ record context { rows = context.rows ++ above ∷ [] }
+      → IsNextChoice context least form choice same
+  pub below : (below : System) (row : Form) → negation_of above ≡ Some row
+      → below ≡ record context { rows = context.rows ++ row ∷ [] }
+      → IsNextChoice context below form choice other
+
+-- the next choice in this context, or one for each answer of a Test
+abbrev pub IsChoiceStep : System → Option Form → Choice → ChoiceStep → Type 0
+IsChoiceStep context form choice (Known next) = IsNextChoice context context form choice next
+IsChoiceStep context form choice (Either above same other) =
+    AreEither context form choice above same other

@@ -1,0 +1,14 @@
+pub mod Class
+pub mod Level
+pub mod Simple
+pub mod Asked
+pub mod Edges
+pub mod Paths
+pub mod Closed
+pub mod Facts
+pub mod Rounds
+pub mod Answer
+pub mod Choices
+pub mod Leaves
+pub mod EdgeStates
+pub mod ChoiceSteps

@@ -1,0 +1,652 @@
+ghost use Rattle.std.specs.Prelude.{◌≡◌, ◌≤◌, ◌<◌, ◌+◌, ◌^◌, ◌-ℤ◌, ◌++◌, [], ◌∷◌, ℕ, List, Some, None, length, map, slice_get, All, IfOk, IfSome, MatchOption};
+ghost use Rattle.std.specs.Option.{option_map};
+ghost use Rattle.int_polyhedra.specs.declared.system.System.{System as SystemOf};
+ghost use Rattle.int_polyhedra.specs.declared.system.Term.{Term as TermOf};
+ghost use Rattle.lex_max.specs.declared.closure.Bounds.{Bounds as BoundsOf};
+ghost use Rattle.lex_max.specs.declared.edges.Edge.{Edge as EdgeOf};
+ghost use Rattle.lex_max.specs.Answer.{IsAnswer, IsContextOf, IsCycle};
+ghost use Rattle.lex_max.specs.Asked.{depth_of_read, depth_of_write};
+ghost use Rattle.affine_core.specs.declared.form.Form.{Form as FormOf};
+ghost use Rattle.int_polyhedra.specs.Steps.{negation_of};
+ghost use Rattle.lex_max.specs.ChoiceSteps.{IsChoiceStep, IsSmallForm};
+ghost use Rattle.lex_max.specs.Choices.{chosen_place, choices_left, upper_of, uppers_from, uppers_of, with_terms, AllNone, AreCertsSoFar, AreChosen, AreReady, IsChoosing, IsNextChoice};
+ghost use Rattle.lex_max.specs.Edges.{edge_parts, IsEdge};
+ghost use Rattle.lex_max.specs.EdgeStates.{IsEdgeState};
+ghost use Rattle.lex_max.specs.Facts.{form_parts, IsContext, IsFact};
+ghost use Rattle.lex_max.specs.Paths.{IsPath};
+ghost use Rattle.lex_max.specs.Rounds.{AreClosedOf, IsGraphOf};
+ghost use Rattle.row_sums.specs.Parts.{weight, IsWithin, Part};
+
+use crate::closure::{Bounds, form_beyond};
+use crate::cycles::{Cycle, Graph, refuted_by, refuted_leaf, with_row, zero_below};
+use crate::edges::Edge;
+use crate::facts::known;
+use crate::forms::{difference, negative, opposite, sum};
+use crate::leaf::writer_leaf;
+use crate::terms::{append, joined, once};
+use crate::writes::Writes;
+use affine_core::Form;
+use int_polyhedra::{System, Term};
+use plain_data::{Boxed, Items};
+use source_tree::Tree;
+use std::alloc::{AllocError, Global};
+
+/// The least of the forms that bound a loop variable above: the number of the edge from 0 that its path begins with, the
+/// form, and per edge from 0 with a path the terms that show that its form is no less.
+#[derive(Drop)]
+pub struct Choice {
+    pub edge: usize,
+    pub form: Form,
+    pub less: Items<Option<Items<Term>>>,
+}
+
+/// The choice among one form more, or, where the context doesn't tell it, how far that form is above the chosen one, the choice
+/// where this is at least 0, and the one where it is below 0.
+#[derive(Drop)]
+pub enum ChoiceStep {
+    Known(Choice),
+    Either(Form, Choice, Choice),
+}
+
+/// What a context tells of an edge at the chosen point: terms that show it, the leaf of a context that refutes it, or a
+/// cycle whose form is yet to be tested.
+#[derive(Drop)]
+pub enum EdgeState {
+    Shown(Items<Term>),
+    Refuted(Tree),
+    Open(Cycle),
+}
+
+/// The Test of a form, its first tree and its second.
+pub fn test(alloc: Global, form: Form, yes: Tree, no: Tree) -> Result<Tree, AllocError>
+    ensures { IfOk result (λ tree. tree ≡ Tree.Test form yes no) }
+{
+    let yes = Boxed::new(alloc, yes)?;
+    let no = Boxed::new(alloc, no)?;
+    Ok(Tree::Test(form, yes, no))
+}
+
+// The form of the path that begins with this edge from 0 and leads to a variable.
+fn upper_form(w: &Writes, bounds: &Bounds, edge: &Edge, variable: usize) -> Option<Form>
+    requires { (edges : List EdgeOf) × AreClosedOf w.now edges bounds.now
+        × IsEdge (depth_of_read w.now) (depth_of_write w.now) edge.now }
+    ensures { result ≡ upper_of (depth_of_write w.now) bounds.now variable edge.now }
+{
+    if edge.from != w.depth() {
+        return None;
+    }
+    if edge.to >= w.depth() {
+        return None;
+    }
+    match bounds.at(edge.to, variable) {
+        Some(bound) => Some(form_beyond(&edge.weight, bound)),
+        None => None,
+    }
+}
+
+// Per edge the form of its path to a variable, if it has one.
+fn upper_forms(
+    w: &Writes,
+    graph: &Graph,
+    variable: usize,
+) -> Result<Items<Option<Form>>, AllocError>
+    requires { AreReady w.now graph.now.edges.now graph.now.bounds.now }
+    ensures { IfOk result (λ forms. forms
+        ≡ uppers_of (depth_of_write w.now) graph.now.bounds.now graph.now.edges.now variable) }
+{
+    let edges = graph.edges;
+    let mut forms = Items::new(w.alloc);
+    for edge in edges {
+        forms.push(upper_form(w, graph.bounds, edge, variable))?;
+    }
+    Ok(forms)
+}
+
+// Per loop variable the forms that bound it above.
+fn all_upper_forms(w: &Writes, graph: &Graph) -> Result<Items<Items<Option<Form>>>, AllocError>
+    requires { AreReady w.now graph.now.edges.now graph.now.bounds.now }
+    ensures { IfOk result (λ all. all ≡ uppers_from (depth_of_write w.now) graph.now.bounds.now
+        graph.now.edges.now 0 (depth_of_write w.now)) }
+{
+    let mut all = Items::new(w.alloc);
+    for variable in 0..w.depth() {
+        all.push(upper_forms(w, graph, variable)?)?;
+    }
+    Ok(all)
+}
+
+// The last form that is there, with its number, where the first has this number. Rows of the order before the read come
+// last, so that the choice begins with a reader's variable where it can.
+fn last_form(forms: &[Option<Form>], number: usize) -> Option<(usize, Form)>
+    requires { number + length forms.now < 2 ^ 32 }
+    ensures { MatchOption result (AllNone forms.now)
+        (λ last. (k : ℕ) × (last.0 ≡ number + k) × (slice_get forms.now k ≡ Some (Some last.1))) }
+{
+    let Some((form, rest)) = forms.split_first() else {
+        return None;
+    };
+    let later = last_form(rest, number + 1);
+    if let Some(last) = later {
+        return Some(last);
+    }
+    match form {
+        Some(form) => Some((number, form.copy())),
+        None => None,
+    }
+}
+
+fn start(w: &Writes, forms: &[Option<Form>]) -> Choice
+    requires few { length forms.now ≤ 56 }
+    requires some { AllNone forms.now → ⊥ }
+    ensures edge { slice_get forms.now result.edge ≡ Some (Some result.form) }
+    ensures empty { result.less ≡ [] }
+{
+    match last_form(forms, 0) {
+        Some((edge, form)) => Choice {
+            edge,
+            form,
+            less: Items::new(w.alloc),
+        },
+        None => unreachable!(),
+    }
+}
+
+fn copy_terms(alloc: Global, terms: &Option<Items<Term>>) -> Result<Option<Items<Term>>, AllocError>
+    ensures { IfOk result (λ copy. copy ≡ terms.now) }
+{
+    match terms {
+        Some(terms) => Ok(Some(Items::from_slice(alloc, terms.as_slice())?)),
+        None => Ok(None),
+    }
+}
+
+fn copy_less(
+    alloc: Global,
+    less: &[Option<Items<Term>>],
+) -> Result<Items<Option<Items<Term>>>, AllocError>
+    ensures { IfOk result (λ copies. copies ≡ less.now) }
+{
+    let mut copies = Items::new(alloc);
+    for terms in less {
+        copies.push(copy_terms(alloc, terms)?)?;
+    }
+    Ok(copies)
+}
+
+fn copy_choice(alloc: Global, choice: &Choice) -> Result<Choice, AllocError>
+    ensures { IfOk result (λ copy. copy ≡ choice.now) }
+{
+    let less = copy_less(alloc, choice.less.as_slice())?;
+    let form = choice.form.copy();
+    Ok(Choice {
+        edge: choice.edge,
+        form,
+        less,
+    })
+}
+
+fn copy_choices(alloc: Global, choices: &[Choice]) -> Result<Items<Choice>, AllocError>
+    ensures { IfOk result (λ copies. copies ≡ choices.now) }
+{
+    let mut copies = Items::new(alloc);
+    for choice in choices {
+        copies.push(copy_choice(alloc, choice)?)?;
+    }
+    Ok(copies)
+}
+
+// The choice stays, and these terms show that the next form, if it is there, is no less.
+fn kept(alloc: Global, choice: &Choice, terms: Option<Items<Term>>) -> Result<Choice, AllocError>
+    ensures { IfOk result
+        (λ next. next ≡ record choice.now { less = choice.now.less ++ terms ∷ [] }) }
+{
+    let mut less = copy_less(alloc, choice.less.as_slice())?;
+    less.push(terms)?;
+    let form = choice.form.copy();
+    Ok(Choice {
+        edge: choice.edge,
+        form,
+        less,
+    })
+}
+
+// The choice that stays.
+fn kept_choice(
+    alloc: Global,
+    choice: &Choice,
+    terms: Items<Term>,
+) -> Result<Option<Choice>, AllocError>
+    ensures { IfOk result (λ next. next
+        ≡ Some (record choice.now { less = choice.now.less ++ Some terms ∷ [] })) }
+{
+    let next = kept(alloc, choice, Some(terms))?;
+    Ok(Some(next))
+}
+
+// Terms with more terms behind them, if there are any.
+fn with_more(
+    alloc: Global,
+    old: &Option<Items<Term>>,
+    terms: &[Term],
+) -> Result<Option<Items<Term>>, AllocError>
+    ensures { IfOk result (λ more. more ≡ with_terms terms.now old.now) }
+{
+    match old {
+        Some(old) => Ok(Some(joined(alloc, old.as_slice(), terms)?)),
+        None => Ok(None),
+    }
+}
+
+// The next form is chosen: these terms show that the form that was chosen is no less.
+fn switched(
+    alloc: Global,
+    choice: &Choice,
+    terms: &[Term],
+    form: &Form,
+) -> Result<Choice, AllocError>
+    ensures { IfOk result (λ next. next ≡ record {
+      edge = length choice.now.less;
+      form = form.now;
+      less = map (with_terms terms.now) choice.now.less ++ Some [] ∷ [];
+    }) }
+{
+    let mut less = Items::new(alloc);
+    for old in choice.less.as_slice() {
+        less.push(with_more(alloc, old, terms)?)?;
+    }
+    less.push(Some(Items::new(alloc)))?;
+    Ok(Choice {
+        edge: choice.less.len(),
+        form: form.copy(),
+        less,
+    })
+}
+
+// The choice among one form more, which is no less or no greater than the chosen one by so much, where the context tells it.
+fn next_choice(
+    alloc: Global,
+    context: &System,
+    choice: &Choice,
+    form: &Form,
+    above: &Form,
+) -> Result<Option<Choice>, AllocError>
+    requires context { IsContext context.now }
+    requires over { length above.now.coefs ≡ context.now.vars }
+    requires small { IsWithin (2 ^ 60) above.now }
+    requires parts { (part : Part) → form_parts above.now part
+        ≡ form_parts form.now part -ℤ form_parts choice.now.form part }
+    ensures { IfOk result (λ next. IfSome next
+        (IsNextChoice context.now context.now (Some form.now) choice.now)) }
+{
+    let found = known(context, above)?;
+    if let Some(terms) = found {
+        return kept_choice(alloc, choice, terms);
+    }
+    let less = negative(above);
+    let shown = known(context, &less)?;
+    let Some(terms) = shown else {
+        return Ok(None);
+    };
+    let next = switched(alloc, choice, terms.as_slice(), form)?;
+    Ok(Some(next))
+}
+
+// The choice where the row behind the context says that the form is no less than the chosen one by so much.
+fn same_choice(
+    alloc: Global,
+    context: &System,
+    choice: &Choice,
+    form: &Form,
+    above: &Form,
+) -> Result<Choice, AllocError>
+    requires few { length context.now.rows < 2 ^ 32 }
+    requires parts { (part : Part) → form_parts above.now part
+        ≡ form_parts form.now part -ℤ form_parts choice.now.form part }
+    ensures { IfOk result (λ next. (least : SystemOf)
+        → least ≡ record context.now { rows = context.now.rows ++ above.now ∷ [] }
+        → IsNextChoice context.now least (Some form.now) choice.now next) }
+{
+    let own = once(alloc, context.rows.len() as u32)?;
+    kept(alloc, choice, Some(own))
+}
+
+// The choice where the row behind the context says that the form is less than the chosen one.
+fn other_choice(
+    alloc: Global,
+    context: &System,
+    choice: &Choice,
+    form: &Form,
+    above: &Form,
+) -> Result<Choice, AllocError>
+    requires few { length context.now.rows < 2 ^ 32 }
+    requires small { IsWithin (2 ^ 60) above.now }
+    requires parts { (part : Part) → form_parts above.now part
+        ≡ form_parts form.now part -ℤ form_parts choice.now.form part }
+    ensures { IfOk result (λ next. (below : SystemOf) (row : FormOf)
+        → negation_of above.now ≡ Some row
+        → below ≡ record context.now { rows = context.now.rows ++ row ∷ [] }
+        → IsNextChoice context.now below (Some form.now) choice.now next) }
+{
+    let own = once(alloc, context.rows.len() as u32)?;
+    switched(alloc, choice, own.as_slice(), form)
+}
+
+// The choices and one more.
+fn with_choice(
+    alloc: Global,
+    choices: &[Choice],
+    choice: &Choice,
+) -> Result<Items<Choice>, AllocError>
+    ensures { IfOk result (λ all. all ≡ choices.now ++ choice.now ∷ []) }
+{
+    let mut all = copy_choices(alloc, choices)?;
+    let last = copy_choice(alloc, choice)?;
+    all.push(last)?;
+    Ok(all)
+}
+
+// What follows a choice, with one form more.
+fn choice_step(
+    alloc: Global,
+    context: &System,
+    form: &Option<Form>,
+    choice: &Choice,
+) -> Result<ChoiceStep, AllocError>
+    requires context { IsContext context.now }
+    requires chosen { IsSmallForm context.now.vars choice.now.form }
+    requires form { IfSome form.now (IsSmallForm context.now.vars) }
+    ensures { IfOk result (IsChoiceStep context.now form.now choice.now) }
+{
+    let Some(form) = form else {
+        let next = kept(alloc, choice, None)?;
+        return Ok(ChoiceStep::Known(next));
+    };
+    let above = difference(form, &choice.form);
+    let looked = next_choice(alloc, context, choice, form, &above)?;
+    if let Some(next) = looked {
+        return Ok(ChoiceStep::Known(next));
+    }
+    let same = same_choice(alloc, context, choice, form, &above)?;
+    let other = other_choice(alloc, context, choice, form, &above)?;
+    Ok(ChoiceStep::Either(above, same, other))
+}
+
+/// What is chosen so far: for each of the first variables the least form.
+fn choose(
+    w: &Writes,
+    graph: &Graph,
+    context: &System,
+    forms: &[Option<Form>],
+    more: &[Items<Option<Form>>],
+    choice: &Choice,
+    choices: &[Choice],
+) -> Result<Tree, AllocError>
+    requires ready { AreReady w.now graph.now.edges.now graph.now.bounds.now }
+    requires context { IsContextOf w.now (choices_left forms.now more.now) context.now }
+    requires choosing { IsChoosing (depth_of_write w.now) graph.now.bounds.now graph.now.edges.now
+        context.now forms.now more.now choice.now choices.now }
+    ensures { IfOk result (IsAnswer w.now context.now (choices_left forms.now more.now)) }
+{
+    let Some((form, forms)) = forms.split_first() else {
+        let all = with_choice(w.alloc, choices, choice)?;
+        let chosen = all.as_slice();
+        let Some((next, more)) = more.split_first() else {
+            let mut certs = Items::new(w.alloc);
+            return confirm(w, graph, context, graph.edges, chosen, &mut certs);
+        };
+        let next = next.as_slice();
+        let first = start(w, next);
+        return choose(w, graph, context, next, more, &first, chosen);
+    };
+    let step = choice_step(w.alloc, context, form, choice)?;
+    match step {
+        ChoiceStep::Known(next) => choose(w, graph, context, forms, more, &next, choices),
+        ChoiceStep::Either(above, same, other) => {
+            let row = opposite(&above);
+            let below = with_row(context, row)?;
+            let no = choose(w, graph, &below, forms, more, &other, choices)?;
+            let least = with_row(context, above.copy())?;
+            let yes = choose(w, graph, &least, forms, more, &same, choices)?;
+            test(w.alloc, above, yes, no)
+        }
+    }
+}
+
+// The terms of the form of this number, which is there.
+fn terms_at(alloc: Global, choice: &Choice, number: usize) -> Result<Items<Term>, AllocError>
+    requires { (terms : List TermOf) × (slice_get choice.now.less number ≡ Some (Some terms)) }
+    ensures { IfOk result (λ terms. slice_get choice.now.less number ≡ Some (Some terms)) }
+{
+    match choice.less.get(number) {
+        Some(Some(terms)) => Items::from_slice(alloc, terms.as_slice()),
+        _ => unreachable!(),
+    }
+}
+
+// The terms that show an edge to a variable at the chosen point: those of the form that its path to the variable has.
+fn upper_terms(
+    w: &Writes,
+    edge: &Edge,
+    number: usize,
+    choices: &[Choice],
+) -> Result<Items<Term>, AllocError>
+    requires { (edges : List EdgeOf) × (bounds : BoundsOf) × (context : SystemOf)
+        × AreReady w.now edges bounds × AreChosen w.now edges bounds context choices.now
+        × (slice_get edges number ≡ Some edge.now) × (edge.now.to < depth_of_write w.now) }
+    ensures { IfOk result (λ terms. (edges : List EdgeOf) (bounds : BoundsOf) (context : SystemOf)
+        → AreReady w.now edges bounds → AreChosen w.now edges bounds context choices.now
+        → slice_get edges number ≡ Some edge.now → edge.now.to < depth_of_write w.now
+        → IsFact context (2 ^ 23) (edge_parts (chosen_place choices.now) edge.now) terms) }
+{
+    let last = &choices[edge.to];
+    if edge.from == w.depth() {
+        return terms_at(w.alloc, last, number);
+    }
+    let first = &choices[edge.from];
+    terms_at(w.alloc, last, first.edge)
+}
+
+// The variable that the edge of this number leads to.
+fn end_of(edges: &[Edge], number: usize) -> usize
+    requires { number < length edges.now }
+    ensures { option_map (λ g. g.to) (slice_get edges.now number) ≡ Some result }
+{
+    match edges.get(number) {
+        Some(edge) => edge.to,
+        None => unreachable!(),
+    }
+}
+
+/// The rows of the path to the form that is chosen for a variable. They show that it is no less than the variable.
+pub fn path_to(
+    w: &Writes,
+    graph: &Graph,
+    choice: &Choice,
+    variable: usize,
+) -> Result<Items<Term>, AllocError>
+    requires ready { AreReady w.now graph.now.edges.now graph.now.bounds.now }
+    requires chosen { slice_get
+        (uppers_of (depth_of_write w.now) graph.now.bounds.now graph.now.edges.now variable)
+        choice.now.edge ≡ Some (Some choice.now.form) }
+    ensures path { IfOk result (λ terms. IsPath graph.now.edges.now terms
+        (form_parts choice.now.form) (depth_of_write w.now) variable) }
+    ensures light { IfOk result (λ terms. weight terms ≤ 65) }
+{
+    let to = end_of(graph.edges, choice.edge);
+    let mut terms = once(w.alloc, choice.edge as u32)?;
+    match graph.bounds.at(to, variable) {
+        Some(bound) => {
+            append(&mut terms, bound.terms.as_slice())?;
+            Ok(terms)
+        }
+        None => unreachable!(),
+    }
+}
+
+// The cycle that an edge to 0 makes with the path to what is chosen for its variable: its form is the edge's value at the
+// chosen point.
+fn cycle_back(
+    w: &Writes,
+    graph: &Graph,
+    edge: &Edge,
+    number: usize,
+    choices: &[Choice],
+) -> Result<Cycle, AllocError>
+    requires ready { AreReady w.now graph.now.edges.now graph.now.bounds.now }
+    requires chosen { (context : SystemOf)
+        × AreChosen w.now graph.now.edges.now graph.now.bounds.now context choices.now }
+    requires edge { slice_get graph.now.edges.now number ≡ Some edge.now }
+    requires back { edge.now.to ≡ depth_of_write w.now }
+    ensures cycle { IfOk result (IsCycle (depth_of_read w.now) graph.now.edges.now) }
+    ensures form { IfOk result (λ cycle. (part : Part)
+        → form_parts cycle.form part ≡ edge_parts (chosen_place choices.now) edge.now part) }
+{
+    if edge.from == w.depth() {
+        let terms = once(w.alloc, number as u32)?;
+        let form = edge.weight.copy();
+        return Ok(Cycle { form, terms });
+    }
+    let choice = &choices[edge.from];
+    let mut rows = path_to(w, graph, choice, edge.from)?;
+    let own = once(w.alloc, number as u32)?;
+    append(&mut rows, own.as_slice())?;
+    let value = sum(&choice.form, &edge.weight);
+    Ok(Cycle {
+        form: value,
+        terms: rows,
+    })
+}
+
+// Finds what the context tells of an edge at the chosen point.
+fn edge_state(
+    w: &Writes,
+    graph: &Graph,
+    context: &System,
+    edge: &Edge,
+    number: usize,
+    choices: &[Choice],
+) -> Result<EdgeState, AllocError>
+    requires ready { AreReady w.now graph.now.edges.now graph.now.bounds.now }
+    requires context { IsContextOf w.now 0 context.now }
+    requires chosen { AreChosen w.now graph.now.edges.now graph.now.bounds.now context.now
+        choices.now }
+    requires edge { slice_get graph.now.edges.now number ≡ Some edge.now }
+    ensures { IfOk result (IsEdgeState w.now graph.now.edges.now context.now
+        (chosen_place choices.now) edge.now) }
+{
+    if edge.to < w.depth() {
+        let shown = upper_terms(w, edge, number, choices)?;
+        return Ok(EdgeState::Shown(shown));
+    }
+    let cycle = cycle_back(w, graph, edge, number, choices)?;
+    let found = known(context, &cycle.form)?;
+    if let Some(terms) = found {
+        return Ok(EdgeState::Shown(terms));
+    }
+    let refuted = refuted_by(w, context, &cycle)?;
+    if let Some(leaf) = refuted {
+        return Ok(EdgeState::Refuted(leaf));
+    }
+    Ok(EdgeState::Open(cycle))
+}
+
+// The Test of a cycle's form, where this is the tree of the context in which it is at least 0.
+fn cycle_test(w: &Writes, context: &System, cycle: &Cycle, yes: Tree) -> Result<Tree, AllocError>
+    requires context { IsContextOf w.now 1 context.now }
+    requires cycle { (edges : List EdgeOf) × IsGraphOf w.now edges
+        × IsCycle (depth_of_read w.now) edges cycle.now }
+    ensures { IfOk result (λ tree. (above : SystemOf) (tests : ℕ)
+        → above ≡ record context.now { rows = context.now.rows ++ cycle.now.form ∷ [] }
+        → IsAnswer w.now above tests yes → IsAnswer w.now context.now (tests + 1) tree) }
+{
+    let no = zero_below(w, context, cycle)?;
+    let form = cycle.form.copy();
+    test(w.alloc, form, yes, no)
+}
+
+// Finds for each of the edges that are left the terms that show it at the chosen point.
+fn confirm(
+    w: &Writes,
+    graph: &Graph,
+    context: &System,
+    edges: &[Edge],
+    choices: &[Choice],
+    certs: &mut Items<Items<Term>>,
+) -> Result<Tree, AllocError>
+    requires ready { AreReady w.now graph.now.edges.now graph.now.bounds.now }
+    requires context { IsContextOf w.now (length edges.now) context.now }
+    requires chosen { AreChosen w.now graph.now.edges.now graph.now.bounds.now context.now
+        choices.now }
+    requires certs { AreCertsSoFar context.now (chosen_place choices.now) graph.now.edges.now
+        edges.now certs.old }
+    ensures { IfOk result (IsAnswer w.now context.now (length edges.now)) }
+{
+    let Some((edge, edges)) = edges.split_first() else {
+        return writer_leaf(w, graph, context, choices, certs.as_slice());
+    };
+    let state = edge_state(w, graph, context, edge, certs.len(), choices)?;
+    match state {
+        EdgeState::Shown(terms) => {
+            certs.push(terms)?;
+            confirm(w, graph, context, edges, choices, certs)
+        }
+        EdgeState::Refuted(leaf) => Ok(leaf),
+        EdgeState::Open(cycle) => {
+            let own = once(w.alloc, context.rows.len() as u32)?;
+            certs.push(own)?;
+            let above = with_row(context, cycle.form.copy())?;
+            let yes = confirm(w, graph, &above, edges, choices, certs)?;
+            cycle_test(w, context, &cycle, yes)
+        }
+    }
+}
+
+// Chooses a form for each variable, from the outermost loop on.
+fn choose_all(w: &Writes, graph: &Graph, context: &System) -> Result<Tree, AllocError>
+    requires ready { AreReady w.now graph.now.edges.now graph.now.bounds.now }
+    requires context { IsContextOf w.now 392 context.now }
+    ensures { IfOk result (IsAnswer w.now context.now 392) }
+{
+    let all = all_upper_forms(w, graph)?;
+    let choices = Items::new(w.alloc);
+    let none = choices.as_slice();
+    let Some((forms, more)) = all.as_slice().split_first() else {
+        let mut certs = Items::new(w.alloc);
+        return confirm(w, graph, context, graph.edges, none, &mut certs);
+    };
+    let forms = forms.as_slice();
+    let first = start(w, forms);
+    choose(w, graph, context, forms, more, &first, none)
+}
+
+/// The tree of a context, where these cycles through 0 are yet to be tested: first it is tested that each is at least 0, and
+/// then the least form is chosen for each variable.
+pub fn conditions(
+    w: &Writes,
+    graph: &Graph,
+    context: &System,
+    cycles: &[Cycle],
+) -> Result<Tree, AllocError>
+    requires ready { AreReady w.now graph.now.edges.now graph.now.bounds.now }
+    requires context { IsContextOf w.now (length cycles.now + 392) context.now }
+    requires cycles { All (IsCycle (depth_of_read w.now) graph.now.edges.now) cycles.now }
+    ensures { IfOk result (IsAnswer w.now context.now (length cycles.now + 392)) }
+{
+    let Some((cycle, rest)) = cycles.split_first() else {
+        return choose_all(w, graph, context);
+    };
+    let found = known(context, &cycle.form)?;
+    if found.is_some() {
+        return conditions(w, graph, context, rest);
+    }
+    let refuted = refuted_leaf(w, context, cycles)?;
+    if let Some(leaf) = refuted {
+        return Ok(leaf);
+    }
+    let no = zero_below(w, context, cycle)?;
+    let row = cycle.form.copy();
+    let above = with_row(context, row)?;
+    let yes = conditions(w, graph, &above, rest)?;
+    let form = cycle.form.copy();
+    test(w.alloc, form, yes, no)
+}

@@ -1,0 +1,24 @@
+//! The greatest point of one writer at one level of order that writes the cell of a read before it, as a tree with proofs
+//! (Feautrier 1991): least sums of differences over symbolic constants, with tests between the forms that bound a loop.
+#![tactic(auto)]
+
+mod closure;
+mod cycles;
+mod decide;
+mod edges;
+mod facts;
+mod forms;
+mod greatest;
+mod leaf;
+mod terms;
+mod writes;
+
+pub use closure::{Bound, Bounds, Closure, closure_of, form_beyond};
+pub use cycles::{Cycle, Graph, cycles_of, with_row};
+pub use decide::test;
+pub use edges::{Edge, edges_of};
+pub use facts::{Sign, known, sign_of};
+pub use forms::{difference, negative, opposite, raised, sum};
+pub use greatest::{candidate, writes_of};
+pub use terms::{append, append_from, joined, once};
+pub use writes::{Reference, Writes, common_loops};

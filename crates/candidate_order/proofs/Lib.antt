@@ -1,0 +1,14 @@
+pub mod Absent
+pub mod Asked
+pub mod Asking
+pub mod Carrying
+pub mod Comparing
+pub mod Composing
+pub mod Counting
+pub mod Growing
+pub mod Joined
+pub mod Levels
+pub mod Made
+pub mod OrderEdges
+pub mod Outcomes
+pub mod Rounds

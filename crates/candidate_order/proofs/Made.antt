@@ -1,0 +1,336 @@
+-- Nodes of a tree that is checked and simple, one level further down.
+--
+-- What kind of node a tree is, is told by the tree, so a checked tree that is a Test is checked as a Test, and so on.
+-- On each side of a Test the candidate's own context has one row more, and so have the terms that show its rows in the
+-- joined one.
+use Rattle.std.proofs.Common.{◌≡◌, ◌≤◌, ◌^◌, ℕ, ℤ, List, [], ◌∷◌, ◌++◌, length, sym, ap, ◌∙◌, subst}
+use Rattle.std.proofs.Common.{arith}
+use Rattle.std.specs.Prelude.{Some, All}
+use Rattle.std.specs.List.{AllZip}
+use Rattle.affine_core.specs.declared.form.Form.{Form}
+use Rattle.int_polyhedra.specs.declared.system.Proof.{Proof}
+use Rattle.int_polyhedra.specs.declared.system.System.{System}
+use Rattle.int_polyhedra.specs.declared.system.Term.{Term}
+use Rattle.int_polyhedra.specs.Steps.{negation_of}
+use Rattle.candidate_order.specs.Candidates.{reading_of}
+use Rattle.candidate_order.specs.Positions.{IsNode}
+use Rattle.candidate_order.specs.declared.candidates.Candidate.{Candidate}
+use Rattle.candidate_order.specs.declared.candidates.Read.{Read}
+use Rattle.lex_max.specs.Facts.{form_parts, IsFact}
+use Rattle.lex_max.specs.Simple.{IsLightSum, IsSimple, at_test as simple_test, at_writer as simple_writer}
+use Rattle.lex_max.specs.Simple.{at_zero as simple_zero}
+use Rattle.lex_max.proofs.Testing.{more_made, opposite_made, taken_made}
+use Rattle.row_sums.specs.Parts.{IsWithin}
+use Rattle.sanlp.specs.declared.nest.Nest.{Nest}
+use Rattle.source_tree.specs.Checked.{AreRefuted, HaveVariables, IsCheckedIn, at_test, at_divides, at_writer, at_zero}
+use Rattle.source_tree.specs.Checked.{at_dead}
+use Rattle.source_tree.specs.Rows.{Take, below_zero}
+use Rattle.source_tree.specs.Systems.{Context, MayName, Occurrence, Which, just, named_write, test_no, test_yes}
+use Rattle.source_tree.specs.Systems.{writer_systems, zero_systems}
+use Rattle.source_tree.specs.declared.tree.Tree.{Tree, out-Tree}
+use Rattle.source_tree.specs.declared.tree.Tree.TheOpen as open_
+use Rattle.source_tree.specs.declared.tree.Tree.TheVariants.{Writer, Zero, Dead}
+use Rattle.source_tree.specs.declared.tree.Tree.TheViews.{Test, Divides, outs-Test, outs-Divides, outs-Writer}
+use Rattle.source_tree.specs.declared.tree.Tree.TheViews.{outs-Zero, outs-Dead}
+
+-- Kinds of nodes
+
+is_test : (tree : Tree) (form : Form) (yes_tree no_tree : Tree) → tree ≡ Test form yes_tree no_tree → out-Tree tree
+    ≡ open_.Test form yes_tree no_tree
+is_test tree form yes_tree no_tree e = ap out-Tree e ∙ outs-Test form yes_tree no_tree
+
+is_divides : (tree : Tree) (form : Form) (d : ℤ) (yes_tree no_tree : Tree) → tree ≡ Divides form d yes_tree no_tree
+    → out-Tree tree ≡ open_.Divides form d yes_tree no_tree
+is_divides tree form d yes_tree no_tree e = ap out-Tree e ∙ outs-Divides form d yes_tree no_tree
+
+is_writer : (tree : Tree) (s : ℕ) (place : List Form) (proofs : List Proof) → tree ≡ Writer s place proofs
+    → out-Tree tree ≡ open_.Writer s place proofs
+is_writer tree s place proofs e = ap out-Tree e ∙ outs-Writer s place proofs
+
+is_zero : (tree : Tree) (proofs : List Proof) → tree ≡ Zero proofs → out-Tree tree ≡ open_.Zero proofs
+is_zero tree proofs e = ap out-Tree e ∙ outs-Zero proofs
+
+is_dead : (tree : Tree) (proof : Proof) → tree ≡ Dead proof → out-Tree tree ≡ open_.Dead proof
+is_dead tree proof e = ap out-Tree e ∙ outs-Dead proof
+
+joined : (tree : Tree) (x y : open_.Tree-F Tree) → out-Tree tree ≡ x → out-Tree tree ≡ y → x ≡ y
+joined tree x y e h = sym e ∙ h
+
+-- Checked nodes
+
+pub record AreBothChecked (n : Nest) (r : Occurrence) (which : Which) (c : Context) (form : Form)
+    (yes_tree no_tree : Tree) : Type 0 where
+  pub over : length form.coefs ≡ c.vars
+  pub above : IsCheckedIn n r which (test_yes c form) yes_tree
+  pub below : IsCheckedIn n r which (test_no c form) no_tree
+
+pub record IsCheckedPoint (n : Nest) (r : Occurrence) (which : Which) (c : Context) (s : ℕ) (place : List Form)
+    (proofs : List Proof) : Type 0 where
+  pub w : Occurrence
+  pub named : named_write n r s ≡ Some w
+  pub may : MayName which s
+  pub deep : length place ≡ length w.statement.loops
+  pub over : HaveVariables c.vars place
+  pub refuted : AreRefuted (writer_systems n r which c w place) proofs
+
+module _ (n : Nest) (r : Occurrence) (which : Which) where
+  pub checked_test : (c : Context) (tree : Tree) (form : Form) (yes_tree no_tree : Tree) → IsCheckedIn n r which c tree
+      → tree ≡ Test form yes_tree no_tree → AreBothChecked n r which c form yes_tree no_tree
+  checked_test _ _ form yes_tree no_tree (at_test c tree f a b is over first second) e =
+      let same : open_.Test f a b ≡ open_.Test form yes_tree no_tree = joined tree (open_.Test f a b)
+      (open_.Test form yes_tree no_tree) (is_test tree f a b is) (is_test tree form yes_tree no_tree e) in
+      let forms : f ≡ form = cc in
+      let above : a ≡ yes_tree = cc in
+      let below : b ≡ no_tree = cc in
+      record {
+        over = ap (λ (f : Form). length f.coefs) (sym forms) ∙ over;
+        above = subst (λ f. IsCheckedIn n r which (test_yes c f) yes_tree) forms
+            (subst (IsCheckedIn n r which (test_yes c f)) above first);
+        below = subst (λ f. IsCheckedIn n r which (test_no c f) no_tree) forms
+            (subst (IsCheckedIn n r which (test_no c f)) below second);
+      }
+  checked_test _ _ form yes_tree no_tree (at_divides c tree f d a b is over two few first second) e =
+      absurd (let k : open_.Divides f d a b ≡ open_.Test form yes_tree no_tree = joined tree (open_.Divides f d a b)
+      (open_.Test form yes_tree no_tree) (is_divides tree f d a b is) (is_test tree form yes_tree no_tree e) in cc)
+  checked_test _ _ form yes_tree no_tree (at_writer c tree s place proofs w is named may deep have refuted) e =
+      absurd (let k : open_.Writer s place proofs ≡ open_.Test form yes_tree no_tree =
+      joined tree (open_.Writer s place proofs) (open_.Test form yes_tree no_tree)
+      (is_writer tree s place proofs is) (is_test tree form yes_tree no_tree e) in cc)
+  checked_test _ _ form yes_tree no_tree (at_zero c tree proofs is refuted) e =
+      absurd (let k : open_.Zero proofs ≡ open_.Test form yes_tree no_tree = joined tree (open_.Zero proofs)
+      (open_.Test form yes_tree no_tree) (is_zero tree proofs is) (is_test tree form yes_tree no_tree e) in cc)
+  checked_test _ _ form yes_tree no_tree (at_dead c tree proof is refuted) e =
+      absurd (let k : open_.Dead proof ≡ open_.Test form yes_tree no_tree = joined tree (open_.Dead proof)
+      (open_.Test form yes_tree no_tree) (is_dead tree proof is) (is_test tree form yes_tree no_tree e) in cc)
+
+  pub checked_zero : (c : Context) (tree : Tree) (proofs : List Proof) → IsCheckedIn n r which c tree → tree
+      ≡ Zero proofs → AreRefuted (zero_systems n r which c) proofs
+  checked_zero _ _ proofs (at_test c tree f a b is over first second) e =
+      absurd (let k : open_.Test f a b ≡ open_.Zero proofs =
+      joined tree (open_.Test f a b) (open_.Zero proofs) (is_test tree f a b is) (is_zero tree proofs e) in cc)
+  checked_zero _ _ proofs (at_divides c tree f d a b is over two few first second) e =
+      absurd (let k : open_.Divides f d a b ≡ open_.Zero proofs = joined tree (open_.Divides f d a b)
+      (open_.Zero proofs) (is_divides tree f d a b is) (is_zero tree proofs e) in cc)
+  checked_zero _ _ proofs (at_writer c tree s place own w is named may deep have refuted) e =
+      absurd (let k : open_.Writer s place own ≡ open_.Zero proofs = joined tree (open_.Writer s place own)
+      (open_.Zero proofs) (is_writer tree s place own is) (is_zero tree proofs e) in cc)
+  checked_zero _ _ proofs (at_zero c tree own is refuted) e =
+      let k : open_.Zero own ≡ open_.Zero proofs =
+      joined tree (open_.Zero own) (open_.Zero proofs) (is_zero tree own is) (is_zero tree proofs e) in
+      let same : own ≡ proofs = cc in
+      subst (AreRefuted (zero_systems n r which c)) same refuted
+  checked_zero _ _ proofs (at_dead c tree proof is refuted) e =
+      absurd (let k : open_.Dead proof ≡ open_.Zero proofs =
+      joined tree (open_.Dead proof) (open_.Zero proofs) (is_dead tree proof is) (is_zero tree proofs e) in cc)
+
+  pub checked_point : (c : Context) (tree : Tree) (s : ℕ) (place : List Form) (proofs : List Proof)
+      → IsCheckedIn n r which c tree → tree ≡ Writer s place proofs
+      → IsCheckedPoint n r which c s place proofs
+  checked_point _ _ s place proofs (at_test c tree f a b is over first second) e =
+      absurd (let k : open_.Test f a b ≡ open_.Writer s place proofs = joined tree (open_.Test f a b)
+      (open_.Writer s place proofs) (is_test tree f a b is) (is_writer tree s place proofs e) in cc)
+  checked_point _ _ s place proofs (at_divides c tree f d a b is over two few first second) e =
+      absurd (let k : open_.Divides f d a b ≡ open_.Writer s place proofs = joined tree (open_.Divides f d a b)
+      (open_.Writer s place proofs) (is_divides tree f d a b is) (is_writer tree s place proofs e) in cc)
+  checked_point _ _ s place proofs (at_writer c tree s' place' proofs' w is named may deep have refuted) e =
+      let k : open_.Writer s' place' proofs' ≡ open_.Writer s place proofs
+      = joined tree (open_.Writer s' place' proofs') (open_.Writer s place proofs) (is_writer tree s' place' proofs' is)
+      (is_writer tree s place proofs e) in
+      let number : s' ≡ s = cc in
+      let forms : place' ≡ place = cc in
+      let own : proofs' ≡ proofs = cc in
+      record {
+        w = w;
+        named = ap (named_write n r) (sym number) ∙ named;
+        may = subst (MayName which) number may;
+        deep = ap length (sym forms) ∙ deep;
+        over = subst (HaveVariables c.vars) forms have;
+        refuted = subst (AreRefuted (writer_systems n r which c w place)) own
+            (subst (λ place. AreRefuted (writer_systems n r which c w place) proofs') forms refuted);
+      }
+  checked_point _ _ s place proofs (at_zero c tree own is refuted) e =
+      absurd (let k : open_.Zero own ≡ open_.Writer s place proofs = joined tree (open_.Zero own)
+      (open_.Writer s place proofs) (is_zero tree own is) (is_writer tree s place proofs e) in cc)
+  checked_point _ _ s place proofs (at_dead c tree proof is refuted) e =
+      absurd (let k : open_.Dead proof ≡ open_.Writer s place proofs = joined tree (open_.Dead proof)
+      (open_.Writer s place proofs) (is_dead tree proof is) (is_writer tree s place proofs e) in cc)
+
+-- Simple nodes
+
+pub record AreBothSimple (tests : ℕ) (form : Form) (yes_tree no_tree : Tree) : Type 0 where
+  pub fewer : ℕ
+  pub less : fewer ≤ tests
+  pub within : IsWithin (2 ^ 48) form
+  pub above : IsSimple fewer yes_tree
+  pub below : IsSimple fewer no_tree
+
+pub simple_both : (m : ℕ) (tree : Tree) (form : Form) (yes_tree no_tree : Tree) → IsSimple m tree → tree
+    ≡ Test form yes_tree no_tree → AreBothSimple m form yes_tree no_tree
+simple_both m tree form yes_tree no_tree (simple_test tests tree' f a b is within upper lower) e =
+    let same : open_.Test f a b ≡ open_.Test form yes_tree no_tree = joined tree (open_.Test f a b)
+    (open_.Test form yes_tree no_tree) (is_test tree f a b is) (is_test tree form yes_tree no_tree e) in
+    let forms : f ≡ form = cc in
+    let above : a ≡ yes_tree = cc in
+    let below : b ≡ no_tree = cc in
+    record {
+      fewer = tests;
+      less = omega arith;
+      within = subst (IsWithin (2 ^ 48)) forms within;
+      above = subst (IsSimple tests) above upper;
+      below = subst (IsSimple tests) below lower;
+    }
+simple_both m tree form yes_tree no_tree (simple_writer m' tree' s place proofs is within light) e =
+    absurd (let k : open_.Writer s place proofs ≡ open_.Test form yes_tree no_tree =
+    joined tree (open_.Writer s place proofs) (open_.Test form yes_tree no_tree) (is_writer tree s place proofs is)
+    (is_test tree form yes_tree no_tree e) in cc)
+simple_both m tree form yes_tree no_tree (simple_zero m' tree' proofs is light) e =
+    absurd (let k : open_.Zero proofs ≡ open_.Test form yes_tree no_tree = joined tree (open_.Zero proofs)
+    (open_.Test form yes_tree no_tree) (is_zero tree proofs is) (is_test tree form yes_tree no_tree e) in cc)
+
+pub record IsSimplePoint (place : List Form) (proofs : List Proof) : Type 0 where
+  pub within : All (IsWithin (2 ^ 48)) place
+  pub light : All IsLightSum proofs
+
+pub simple_point : (m : ℕ) (tree : Tree) (s : ℕ) (place : List Form) (proofs : List Proof) → IsSimple m tree → tree
+    ≡ Writer s place proofs → IsSimplePoint place proofs
+simple_point m tree s place proofs (simple_test tests tree' f a b is within upper lower) e =
+    absurd (let k : open_.Test f a b ≡ open_.Writer s place proofs = joined tree (open_.Test f a b)
+    (open_.Writer s place proofs) (is_test tree f a b is) (is_writer tree s place proofs e) in cc)
+simple_point m tree s place proofs (simple_writer m' tree' s' place' proofs' is within light) e =
+    let k : open_.Writer s' place' proofs' ≡ open_.Writer s place proofs
+    = joined tree (open_.Writer s' place' proofs') (open_.Writer s place proofs) (is_writer tree s' place' proofs' is)
+    (is_writer tree s place proofs e) in
+    let forms : place' ≡ place = cc in
+    let own : proofs' ≡ proofs = cc in
+    record { within = subst (All (IsWithin (2 ^ 48))) forms within; light = subst (All IsLightSum) own light }
+simple_point m tree s place proofs (simple_zero m' tree' own is light) e =
+    absurd (let k : open_.Zero own ≡ open_.Writer s place proofs = joined tree (open_.Zero own)
+    (open_.Writer s place proofs) (is_zero tree own is) (is_writer tree s place proofs e) in cc)
+
+pub simple_none : (m : ℕ) (tree : Tree) (proofs : List Proof) → IsSimple m tree → tree ≡ Zero proofs
+    → All IsLightSum proofs
+simple_none m tree proofs (simple_test tests tree' f a b is within upper lower) e =
+    absurd (let k : open_.Test f a b ≡ open_.Zero proofs =
+    joined tree (open_.Test f a b) (open_.Zero proofs) (is_test tree f a b is) (is_zero tree proofs e) in cc)
+simple_none m tree proofs (simple_writer m' tree' s place own is within light) e =
+    absurd (let k : open_.Writer s place own ≡ open_.Zero proofs = joined tree (open_.Writer s place own)
+    (open_.Zero proofs) (is_writer tree s place own is) (is_zero tree proofs e) in cc)
+simple_none m tree proofs (simple_zero m' tree' own is light) e =
+    let k : open_.Zero own ≡ open_.Zero proofs =
+    joined tree (open_.Zero own) (open_.Zero proofs) (is_zero tree own is) (is_zero tree proofs e) in
+    let same : own ≡ proofs = cc in
+    subst (All IsLightSum) same light
+
+-- a simple tree has no Divides, and is no Dead leaf
+pub simple_divides : (m : ℕ) (tree : Tree) (form : Form) (d : ℤ) (yes_tree no_tree : Tree) → IsSimple m tree → tree
+    ≡ Divides form d yes_tree no_tree → ⊥
+simple_divides m tree form d yes_tree no_tree (simple_test tests tree' f a b is within upper lower) e =
+    let k : open_.Test f a b ≡ open_.Divides form d yes_tree no_tree =
+    joined tree (open_.Test f a b) (open_.Divides form d yes_tree no_tree) (is_test tree f a b is)
+    (is_divides tree form d yes_tree no_tree e) in cc
+simple_divides m tree form d yes_tree no_tree (simple_writer m' tree' s place proofs is within light) e =
+    let k : open_.Writer s place proofs ≡ open_.Divides form d yes_tree no_tree =
+    joined tree (open_.Writer s place proofs) (open_.Divides form d yes_tree no_tree)
+    (is_writer tree s place proofs is) (is_divides tree form d yes_tree no_tree e) in cc
+simple_divides m tree form d yes_tree no_tree (simple_zero m' tree' proofs is light) e =
+    let k : open_.Zero proofs ≡ open_.Divides form d yes_tree no_tree =
+    joined tree (open_.Zero proofs) (open_.Divides form d yes_tree no_tree) (is_zero tree proofs is)
+    (is_divides tree form d yes_tree no_tree e) in cc
+
+pub simple_dead : (m : ℕ) (tree : Tree) (proof : Proof) → IsSimple m tree → tree ≡ Dead proof → ⊥
+simple_dead m tree proof (simple_test tests tree' f a b is within upper lower) e =
+    let k : open_.Test f a b ≡ open_.Dead proof =
+    joined tree (open_.Test f a b) (open_.Dead proof) (is_test tree f a b is) (is_dead tree proof e) in cc
+simple_dead m tree proof (simple_writer m' tree' s place proofs is within light) e =
+    let k : open_.Writer s place proofs ≡ open_.Dead proof = joined tree (open_.Writer s place proofs)
+    (open_.Dead proof) (is_writer tree s place proofs is) (is_dead tree proof e) in cc
+simple_dead m tree proof (simple_zero m' tree' proofs is light) e =
+    let k : open_.Zero proofs ≡ open_.Dead proof =
+    joined tree (open_.Zero proofs) (open_.Dead proof) (is_zero tree proofs is) (is_dead tree proof e) in cc
+
+-- Positions below a Test
+
+zip_push : {A B : Type 0} (P : A → B → Type 0) (xs : List A) (ys : List B) (x : A) (y : B) → AllZip P xs ys → P x y
+    → AllZip P (xs ++ x ∷ []) (ys ++ y ∷ [])
+zip_push P [] [] x y h k = (k, tt)
+zip_push P [] (b ∷ ys) x y h k = absurd h
+zip_push P (a ∷ xs) [] x y h k = absurd h
+zip_push P (a ∷ xs) (b ∷ ys) x y h k = (h.0, zip_push P xs ys x y h.1 k)
+
+module _ (r : Read) (context : System) (c : Candidate) (node : Tree) (sums : List (List Term)) (form : Form)
+    (yes_tree no_tree : Tree) (is : node ≡ Test form yes_tree no_tree) (h : IsNode r context c node sums) where
+  parts : AreBothChecked r.nest.now (reading_of r)
+      (just c.writes.write.number c.writes.level) h.own form yes_tree no_tree
+  parts = checked_test r.nest.now (reading_of r)
+      (just c.writes.write.number c.writes.level) h.own node form yes_tree no_tree h.checked is
+
+  simple : AreBothSimple h.tests form yes_tree no_tree
+  simple = simple_both h.tests node form yes_tree no_tree h.simple is
+
+  pub test_over : length form.coefs ≡ context.vars
+  test_over = parts.over ∙ h.vars
+
+  pub test_within : IsWithin (2 ^ 48) form
+  test_within = simple.within
+
+  pub node_yes : (ts : List Term) → IsFact context 65536 (form_parts form) ts
+      → IsNode r context c yes_tree (sums ++ ts ∷ [])
+  node_yes ts fact = record {
+    own = test_yes h.own form;
+    made = h.made ++ form ∷ [];
+    vars = h.vars;
+    are_made = more_made h.own h.made (Take form) form h.are_made (taken_made h.own.vars form parts.over);
+    checked = parts.above;
+    shown = zip_push (λ row ts. IsFact context 65536 (form_parts row) ts) h.made sums form ts h.shown fact;
+    tests = simple.fewer;
+    simple = simple.above;
+    few = omega (arith, simple.less, h.few);
+  }
+
+  pub node_no : (other : Form) (ts : List Term) → negation_of form ≡ Some other
+      → IsFact context 65536 (form_parts other) ts → IsNode r context c no_tree (sums ++ ts ∷ [])
+  node_no other ts negated fact = record {
+    own = test_no h.own form;
+    made = h.made ++ other ∷ [];
+    vars = h.vars;
+    are_made = more_made h.own h.made (below_zero (Take form)) other h.are_made
+        (opposite_made h.own.vars form other parts.over negated);
+    checked = parts.below;
+    shown = zip_push (λ row ts. IsFact context 65536 (form_parts row) ts) h.made sums other ts h.shown fact;
+    tests = simple.fewer;
+    simple = simple.below;
+    few = omega (arith, simple.less, h.few);
+  }
+
+-- one point of a node
+pub same_place : (tree : Tree) (s u : ℕ) (y z : List Form) (ps qs : List Proof) → tree ≡ Writer s y ps → tree
+    ≡ Writer u z qs → y ≡ z
+same_place tree s u y z ps qs e h =
+    let k : open_.Writer s y ps ≡ open_.Writer u z qs = joined tree (open_.Writer s y ps) (open_.Writer u z qs)
+    (is_writer tree s y ps e) (is_writer tree u z qs h) in cc
+
+pub same_proofs : (tree : Tree) (s u : ℕ) (y z : List Form) (ps qs : List Proof) → tree ≡ Writer s y ps → tree
+    ≡ Writer u z qs → ps ≡ qs
+same_proofs tree s u y z ps qs e h =
+    let k : open_.Writer s y ps ≡ open_.Writer u z qs = joined tree (open_.Writer s y ps) (open_.Writer u z qs)
+    (is_writer tree s y ps e) (is_writer tree u z qs h) in cc
+
+pub same_none : (tree : Tree) (ps qs : List Proof) → tree ≡ Zero ps → tree ≡ Zero qs → ps ≡ qs
+same_none tree ps qs e h = let k : open_.Zero ps ≡ open_.Zero qs =
+    joined tree (open_.Zero ps) (open_.Zero qs) (is_zero tree ps e) (is_zero tree qs h) in cc
+
+pub same_writer : (tree : Tree) (s u : ℕ) (y z : List Form) (ps qs : List Proof) → tree ≡ Writer s y ps → tree
+    ≡ Writer u z qs → s ≡ u
+same_writer tree s u y z ps qs e h =
+    let k : open_.Writer s y ps ≡ open_.Writer u z qs = joined tree (open_.Writer s y ps) (open_.Writer u z qs)
+    (is_writer tree s y ps e) (is_writer tree u z qs h) in cc
+
+-- a simple tree is a Test, a Writer leaf or a Zero leaf
+pub simple_kinds : (m : ℕ) (tree : Tree) → IsSimple m tree
+    → ((form : Form) (above below : Tree) → tree ≡ Test form above below → ⊥)
+    → ((s : ℕ) (place : List Form) (proofs : List Proof) → tree ≡ Writer s place proofs → ⊥)
+    → ((proofs : List Proof) → tree ≡ Zero proofs → ⊥) → ⊥
+simple_kinds m tree (simple_test tests tree' f a b is within upper lower) test writer zero_leaf = test f a b is
+simple_kinds m tree (simple_writer m' tree' s place proofs is within light) test writer zero_leaf =
+    writer s place proofs is
+simple_kinds m tree (simple_zero m' tree' proofs is light) test writer zero_leaf = zero_leaf proofs is

@@ -1,0 +1,98 @@
+use Rattle.std.proofs.Common.{◌^◌, sym, ◌∙◌, subst, rules, arith}
+use Rattle.std.proofs.lemmas.Result.{IfOk-weaker}
+use Rattle.candidate_order.specs.Positions.{IsNode}
+use Rattle.candidate_order.proofs.Asking.{negation_over}
+use Rattle.candidate_order.proofs.Made.{node_no, node_yes, test_over, test_within}
+use Rattle.lex_max.specs.Facts.{form_parts, IsFact, IsSignOf}
+use Rattle.lex_max.proofs.Small.{farther}
+use Rattle.source_tree.specs.declared.tree.Tree.TheViews.{the_lemmas}
+use Rattle.candidate_order.proofs.walk.+follow.Goals as goal
+
+pub opposite-requires : goal.opposite-requires
+opposite-requires t c =
+    let n = c.requires.node in
+    farther (2 ^ 48) (2 ^ 60) c.in-Test.form (omega arith)
+    (test_within n.0 c.args.context.now n.1 c.args.node.now c.args.rows c.in-Test.form c.in-Test.yes c.in-Test.no
+    c.in-Test.is n.2)
+
+pub sign_of-requires-clause-over : goal.sign_of-requires-clause-over
+sign_of-requires-clause-over t c =
+    let n = c.requires.node in
+    test_over n.0 c.args.context.now n.1 c.args.node.now c.args.rows c.in-Test.form c.in-Test.yes c.in-Test.no
+    c.in-Test.is n.2
+
+pub sign_of-requires-clause-opposite : goal.sign_of-requires-clause-opposite
+sign_of-requires-clause-opposite t c =
+    let n = c.requires.node in
+    negation_over c.in-Test.form c.opposite.result
+    (farther (2 ^ 48) (2 ^ 60) c.in-Test.form (omega arith)
+    (test_within n.0 c.args.context.now n.1 c.args.node.now c.args.rows c.in-Test.form c.in-Test.yes c.in-Test.no
+    c.in-Test.is n.2)) c.opposite.ensures
+    ∙ test_over n.0 c.args.context.now n.1 c.args.node.now c.args.rows c.in-Test.form c.in-Test.yes c.in-Test.no
+    c.in-Test.is n.2
+
+pub follow-requires : goal.follow-requires
+follow-requires t c =
+    let n = c.requires.node in
+    let context = c.args.context.now in
+    let fact : IsFact context 65536 (form_parts c.in-Test.form) c.in-AtLeastZero.terms =
+    subst (IsSignOf context c.in-Test.form c.opposite.result) c.in-AtLeastZero.is c.in_ok-terms.ensures in (
+      search (rules, the_lemmas),
+      (
+        c.requires.context,
+        (
+          n.0,
+          n.1,
+          subst (λ node. IsNode n.0 context n.1 node c.push.new.self) (sym c.get.ensures)
+              (subst (IsNode n.0 context n.1 c.in-Test.yes) (sym c.in_ok-push-in-AtLeastZero.ensures.ok)
+              (node_yes n.0 context n.1 c.args.node.now c.args.rows c.in-Test.form c.in-Test.yes c.in-Test.no
+              c.in-Test.is n.2 c.in-AtLeastZero.terms fact)),
+        ),
+      ),
+    )
+
+pub follow-requires-in-BelowZero : goal.follow-requires-in-BelowZero
+follow-requires-in-BelowZero t c =
+    let n = c.requires.node in
+    let context = c.args.context.now in
+    let fact : IsFact context 65536 (form_parts c.opposite.result) c.in-BelowZero.terms =
+    subst (IsSignOf context c.in-Test.form c.opposite.result) c.in-BelowZero.is c.in_ok-terms.ensures in (
+      search (rules, the_lemmas),
+      (
+        c.requires.context,
+        (
+          n.0,
+          n.1,
+          subst (λ node. IsNode n.0 context n.1 node c.push-in-BelowZero.new.self) (sym c.get-in-BelowZero.ensures)
+              (subst (IsNode n.0 context n.1 c.in-Test.no) (sym c.in_ok-push-in-BelowZero.ensures.ok)
+              (node_no n.0 context n.1 c.args.node.now c.args.rows c.in-Test.form c.in-Test.yes c.in-Test.no
+              c.in-Test.is n.2 c.opposite.result c.in-BelowZero.terms c.opposite.ensures fact)),
+        ),
+      ),
+    )
+
+pub returns-in-AtLeastZero : goal.returns-in-AtLeastZero
+returns-in-AtLeastZero t c =
+    let context = c.args.context.now in
+    let fact : IsFact context 65536 (form_parts c.in-Test.form) c.in-AtLeastZero.terms =
+    subst (IsSignOf context c.in-Test.form c.opposite.result) c.in-AtLeastZero.is c.in_ok-terms.ensures in
+    IfOk-weaker c.follow.result _ _
+    (λ to rest r d h. rest r d
+    (subst (λ node. IsNode r context d node c.push.new.self) (sym c.get.ensures)
+    (subst (IsNode r context d c.in-Test.yes) (sym c.in_ok-push-in-AtLeastZero.ensures.ok)
+    (node_yes r context d c.args.node.now c.args.rows c.in-Test.form c.in-Test.yes c.in-Test.no c.in-Test.is h
+    c.in-AtLeastZero.terms fact))))
+    c.follow.ensures
+
+pub returns-in-BelowZero : goal.returns-in-BelowZero
+returns-in-BelowZero t c =
+    let context = c.args.context.now in
+    let fact : IsFact context 65536 (form_parts c.opposite.result) c.in-BelowZero.terms =
+    subst (IsSignOf context c.in-Test.form c.opposite.result) c.in-BelowZero.is c.in_ok-terms.ensures in
+    IfOk-weaker c.follow-in-BelowZero.result _ _
+    (λ to rest r d h. rest r d
+    (subst (λ node. IsNode r context d node c.push-in-BelowZero.new.self) (sym c.get-in-BelowZero.ensures)
+    (subst (IsNode r context d c.in-Test.no) (sym c.in_ok-push-in-BelowZero.ensures.ok)
+    (node_no r context d c.args.node.now c.args.rows c.in-Test.form c.in-Test.yes c.in-Test.no c.in-Test.is h
+    c.opposite.result c.in-BelowZero.terms c.opposite.ensures fact))))
+    c.follow-in-BelowZero.ensures

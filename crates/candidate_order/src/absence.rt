@@ -1,0 +1,336 @@
+ghost use Rattle.std.specs.Prelude.{◌≡◌, ◌≤◌, ◌<◌, ◌+◌, ◌^◌, ◌++◌, ◌∷◌, ℕ, List, length, nat_lt, All, Some, IfOk, IfSome, OnOk};
+ghost use Rattle.candidate_order.specs.declared.candidates.Read.{Read as ReadOf};
+ghost use Rattle.candidate_order.specs.Absence.{AddsOrderEdges, AreBack, AreOut, AreRefuting, IsContradicted, IsNearEdge, RoundIsNear};
+ghost use Rattle.candidate_order.specs.Candidates.{IsCandidate};
+ghost use Rattle.candidate_order.specs.Comparisons.{AreForms};
+ghost use Rattle.candidate_order.specs.Contexts.{IsPathContext};
+ghost use Rattle.candidate_order.specs.Refutations.{IsPointIn, RefutesBetween};
+ghost use Rattle.lex_max.specs.Answer.{IsCycle};
+ghost use Rattle.lex_max.specs.Asked.{depth_of_read, write_of};
+ghost use Rattle.lex_max.specs.Facts.{IsContext};
+ghost use Rattle.lex_max.specs.Level.{common_of};
+ghost use Rattle.lex_max.specs.Paths.{terms_from};
+ghost use Rattle.lex_max.specs.declared.edges.Edge.{Edge as EdgeOf};
+ghost use Rattle.int_polyhedra.specs.declared.system.Proof.TheVariants.{Sum};
+ghost use Rattle.source_tree.specs.Systems.{Occurrence};
+
+use crate::candidates::Candidate;
+use affine_core::Form;
+use int_polyhedra::{System, Term};
+use lex_max::{
+    Bound, Bounds, Closure, Cycle, Edge, append, append_from, form_beyond, known, negative,
+    opposite, raised, sum,
+};
+use plain_data::Items;
+use std::alloc::{AllocError, Global};
+
+// That a cycle of rows behind the context is below 0: terms of the context that show so, and the rows.
+fn refutation(context: &System, shown: &[Term], rows: &[Term]) -> Result<Items<Term>, AllocError>
+    requires few { length context.now.rows < 2 ^ 32 }
+    requires rows { All (λ t. length context.now.rows + t.row < 2 ^ 32) rows.now }
+    ensures { IfOk result
+        (λ ts. ts ≡ shown.now ++ terms_from (length context.now.rows) rows.now) }
+{
+    let mut terms = Items::from_slice(context.rows.allocator(), shown)?;
+    append_from(&mut terms, context.rows.len() as u32, rows)?;
+    Ok(terms)
+}
+
+// By the first of these cycles that is known to be below 0.
+fn by_cycles(context: &System, cycles: &[Cycle]) -> Result<Option<Items<Term>>, AllocError>
+    requires context { IsContext context.now }
+    requires cycles { (edges : List EdgeOf) × AreRefuting context.now edges
+        × All (IsCycle context.now.vars edges) cycles.now }
+    ensures { IfOk result (λ found. IfSome found (λ ts. (edges : List EdgeOf)
+        → AreRefuting context.now edges → All (IsCycle context.now.vars edges) cycles.now
+        → IsContradicted context.now edges ts)) }
+{
+    let Some((cycle, cycles)) = cycles.split_first() else {
+        return Ok(None);
+    };
+    let found = known(context, &opposite(&cycle.form))?;
+    match found {
+        Some(shown) => {
+            let rows = cycle.terms.as_slice();
+            Ok(Some(refutation(context, shown.as_slice(), rows)?))
+        }
+        None => by_cycles(context, cycles),
+    }
+}
+
+/// Terms that refute that the candidate writes the read's cell before the read, where one cycle of its rows does so. `None`
+/// says nothing.
+pub fn absence_of(
+    context: &System,
+    candidate: &Candidate,
+) -> Result<Option<Items<Term>>, AllocError>
+    requires candidate { (r : ReadOf) × IsCandidate r candidate.now }
+    requires context { IsPathContext (depth_of_read candidate.now.writes) 0 context.now }
+    ensures { IfOk result
+        (λ found. IfSome found (IsContradicted context.now candidate.now.edges)) }
+{
+    match &candidate.closure {
+        Closure::Negative(rows) => Ok(Some(refutation(context, &[], rows.as_slice())?)),
+        Closure::Closed(_) => by_cycles(context, candidate.cycles.as_slice()),
+    }
+}
+
+// Adds the edges of the rows that a place stands before the writer's point at this level: `place - j` and `j - place` above
+// it, and `j - place - 1` at it, where the level is one of a common loop. The place's first value is that of this loop.
+fn push_order_edges(
+    edges: &mut Items<Edge>,
+    place: &[Form],
+    at: usize,
+    zero: usize,
+    level: usize,
+    within: bool,
+) -> Result<(), AllocError>
+    requires forms { (vars : ℕ) × AreForms vars place.now }
+    requires few { at + length place.now < 2 ^ 32 }
+    ensures rows { OnOk result (AddsOrderEdges place.now at zero level within edges.old edges.new) }
+    ensures each { OnOk result ((vars : ℕ) → AreForms vars place.now
+        → All (IsNearEdge vars) edges.old → All (IsNearEdge vars) edges.new) }
+    ensures count { OnOk result (length edges.new ≤ length edges.old + (level + level + 1)) }
+{
+    let Some((value, place)) = place.split_first() else {
+        return Ok(());
+    };
+    if level == 0 {
+        if within {
+            return edges.push(Edge {
+                from: at,
+                to: zero,
+                weight: raised(&negative(value), -1),
+            });
+        }
+        return Ok(());
+    }
+    edges.push(Edge {
+        from: zero,
+        to: at,
+        weight: value.copy(),
+    })?;
+    edges.push(Edge {
+        from: at,
+        to: zero,
+        weight: negative(value),
+    })?;
+    push_order_edges(edges, place, at + 1, zero, level - 1, within)
+}
+
+// Edges whose rows have numbers from this one on.
+#[derive(Clone, Copy)]
+struct Numbered<'a> {
+    edges: &'a [Edge],
+    first: u32,
+}
+
+// The rows of an edge from 0, a path and an edge back to 0, where their sum is known to be below 0.
+fn by_round(
+    context: &System,
+    out: &Edge,
+    out_number: u32,
+    bound: &Bound,
+    back: &Edge,
+    back_number: u32,
+) -> Result<Option<Items<Term>>, AllocError>
+    requires context { IsContext context.now }
+    requires round { (edges : List EdgeOf) × AreRefuting context.now edges
+        × RoundIsNear edges context.now.vars out.now out_number bound.now back.now back_number }
+    ensures { IfOk result (λ found. IfSome found (λ ts. (edges : List EdgeOf)
+        → AreRefuting context.now edges
+        → RoundIsNear edges context.now.vars out.now out_number bound.now back.now back_number
+        → IsContradicted context.now edges ts)) }
+{
+    let form = form_beyond(&sum(&out.weight, &back.weight), bound);
+    let found = known(context, &opposite(&form))?;
+    let Some(shown) = found else {
+        return Ok(None);
+    };
+    let mut rows = Items::new(context.rows.allocator());
+    rows.push(Term {
+        row: out_number,
+        times: 1,
+    })?;
+    append(&mut rows, bound.terms.as_slice())?;
+    rows.push(Term {
+        row: back_number,
+        times: 1,
+    })?;
+    Ok(Some(refutation(context, shown.as_slice(), rows.as_slice())?))
+}
+
+// By this edge, if it is one from 0, and this edge back to 0.
+fn by_out(
+    context: &System,
+    bounds: &Bounds,
+    zero: usize,
+    out: &Edge,
+    number: u32,
+    back: &Edge,
+    back_number: u32,
+) -> Result<Option<Items<Term>>, AllocError>
+    requires context { IsContext context.now }
+    requires out { (own : List EdgeOf) × (edges : List EdgeOf) × (outs : List EdgeOf)
+        × AreOut context.now own edges bounds.now zero (out.now ∷ outs) number back.now
+        back_number }
+    ensures { IfOk result (λ found. IfSome found (λ ts. (own edges outs : List EdgeOf)
+        → AreOut context.now own edges bounds.now zero (out.now ∷ outs) number back.now back_number
+        → IsContradicted context.now edges ts)) }
+{
+    if out.from != zero || out.to == zero {
+        return Ok(None);
+    }
+    let Some(bound) = bounds.at(out.to, back.from) else {
+        return Ok(None);
+    };
+    by_round(context, out, number, bound, back, back_number)
+}
+
+// By one of these edges from 0 and this edge back to it. The first one has this number.
+fn by_outs(
+    context: &System,
+    bounds: &Bounds,
+    zero: usize,
+    outs: &[Edge],
+    number: u32,
+    back: &Edge,
+    back_number: u32,
+) -> Result<Option<Items<Term>>, AllocError>
+    requires context { IsContext context.now }
+    requires outs { (own : List EdgeOf) × (edges : List EdgeOf)
+        × AreOut context.now own edges bounds.now zero outs.now number back.now back_number }
+    ensures { IfOk result (λ found. IfSome found (λ ts. (own edges : List EdgeOf)
+        → AreOut context.now own edges bounds.now zero outs.now number back.now back_number
+        → IsContradicted context.now edges ts)) }
+{
+    let Some((out, outs)) = outs.split_first() else {
+        return Ok(None);
+    };
+    let found = by_out(context, bounds, zero, out, number, back, back_number)?;
+    match found {
+        Some(terms) => Ok(Some(terms)),
+        None => by_outs(context, bounds, zero, outs, number + 1, back, back_number),
+    }
+}
+
+// By one of these edges from 0 and this edge, if it is one back to 0.
+fn by_back(
+    context: &System,
+    bounds: &Bounds,
+    zero: usize,
+    outs: Numbered,
+    back: &Edge,
+    number: u32,
+) -> Result<Option<Items<Term>>, AllocError>
+    requires context { IsContext context.now }
+    requires back { (own : List EdgeOf) × (edges : List EdgeOf) × (backs : List EdgeOf)
+        × AreBack context.now own edges bounds.now zero outs.edges.now outs.first (back.now ∷ backs)
+        number }
+    ensures { IfOk result (λ found. IfSome found (λ ts. (own edges backs : List EdgeOf)
+        → AreBack context.now own edges bounds.now zero outs.entry.edges.now outs.entry.first
+        (back.now ∷ backs) number
+        → IsContradicted context.now edges ts)) }
+{
+    if back.to != zero || back.from == zero {
+        return Ok(None);
+    }
+    by_outs(context, bounds, zero, outs.edges, outs.first, back, number)
+}
+
+// By one of these edges from 0 and one of these edges back to it. The first of those has this number.
+fn by_rounds(
+    context: &System,
+    bounds: &Bounds,
+    zero: usize,
+    outs: Numbered,
+    backs: &[Edge],
+    number: u32,
+) -> Result<Option<Items<Term>>, AllocError>
+    requires context { IsContext context.now }
+    requires backs { (own : List EdgeOf) × (edges : List EdgeOf) × AreBack context.now own edges
+        bounds.now zero outs.edges.now outs.first backs.now number }
+    ensures { IfOk result (λ found. IfSome found (λ ts. (own edges : List EdgeOf)
+        → AreBack context.now own edges bounds.now zero outs.entry.edges.now outs.entry.first
+        backs.now number
+        → IsContradicted context.now edges ts)) }
+{
+    let Some((back, backs)) = backs.split_first() else {
+        return Ok(None);
+    };
+    let found = by_back(context, bounds, zero, outs, back, number)?;
+    match found {
+        Some(terms) => Ok(Some(terms)),
+        None => by_rounds(context, bounds, zero, outs, backs, number + 1),
+    }
+}
+
+// By one cycle that uses order rows behind the candidate's own.
+fn by_orders(
+    context: &System,
+    candidate: &Candidate,
+    bounds: &Bounds,
+    orders: &[Edge],
+) -> Result<Option<Items<Term>>, AllocError>
+    requires candidate { (r : ReadOf) × IsCandidate r candidate.now }
+    requires bounds { candidate.now.closure ≡ Closure.Closed bounds.now }
+    requires context { IsPathContext (depth_of_read candidate.now.writes) 0 context.now }
+    requires orders { All (IsNearEdge (depth_of_read candidate.now.writes)) orders.now }
+    requires few { length orders.now ≤ 13 }
+    ensures { IfOk result (λ found. IfSome found
+        (IsContradicted context.now (candidate.now.edges ++ orders.now))) }
+{
+    let zero = candidate.writes.depth();
+    let behind = candidate.edges.len() as u32;
+    let own = candidate.edges.as_slice();
+    let order = Numbered {
+        edges: orders,
+        first: behind,
+    };
+    let by_order = by_rounds(context, bounds, zero, order, orders, behind)?;
+    if let Some(terms) = by_order {
+        return Ok(Some(terms));
+    }
+    let first = Numbered {
+        edges: own,
+        first: 0,
+    };
+    let by_first = by_rounds(context, bounds, zero, first, orders, behind)?;
+    if let Some(terms) = by_first {
+        return Ok(Some(terms));
+    }
+    by_rounds(context, bounds, zero, order, own, 0)
+}
+
+/// Terms that refute that a write of the candidate stands after a place at this level, where one cycle of the candidate's
+/// rows and the order rows of the place and the writer's point does so. `within` says that the level is one of a common
+/// loop. `None` says nothing.
+pub fn exclusion(
+    context: &System,
+    candidate: &Candidate,
+    place: &[Form],
+    level: usize,
+    within: bool,
+) -> Result<Option<Items<Term>>, AllocError>
+    requires candidate { (r : ReadOf) × IsCandidate r candidate.now }
+    requires context { IsPathContext (depth_of_read candidate.now.writes) 0 context.now }
+    requires place { (r : ReadOf) × (w : Occurrence) × IsPointIn context.now r w place.now }
+    requires level { level ≤ 6 }
+    ensures { IfOk result (λ found. IfSome found (λ ts. (r : ReadOf) (w : Occurrence)
+        → IsCandidate r candidate.now → IsPointIn context.now r w place.now
+        → within ≡ nat_lt level (common_of w (write_of candidate.now.writes))
+        → RefutesBetween r context.now (write_of candidate.now.writes) candidate.now.writes.level
+        w place.now level (Sum ts))) }
+{
+    let Closure::Closed(bounds) = &candidate.closure else {
+        return absence_of(context, candidate);
+    };
+    let zero = candidate.writes.depth();
+    let mut orders = Items::new(candidate.writes.alloc);
+    push_order_edges(&mut orders, place, 0, zero, level, within)?;
+    let found = by_orders(context, candidate, bounds, orders.as_slice())?;
+    match found {
+        Some(terms) => Ok(Some(terms)),
+        None => absence_of(context, candidate),
+    }
+}

@@ -1,0 +1,74 @@
+ghost use Rattle.std.specs.Prelude.{◌≡◌, ◌<◌, ◌+◌, ◌^◌, ◌++◌, List, IfOk, OnOk};
+ghost use Rattle.int_polyhedra.specs.declared.system.Term.{Term as TermOf};
+ghost use Rattle.candidate_order.specs.Positions.{own_sums};
+ghost use Rattle.row_sums.specs.Carried.{carried_terms, sum_in_place, CarryFits};
+
+use int_polyhedra::{Proof, Term};
+use lex_max::once;
+use plain_data::Items;
+use row_sums::carry;
+use std::alloc::{AllocError, Global};
+
+/// The same lists of terms.
+pub fn copy_rows(alloc: Global, rows: &[Items<Term>]) -> Result<Items<Items<Term>>, AllocError>
+    ensures { IfOk result (λ copies. copies ≡ rows.now) }
+{
+    let mut copies = Items::new(alloc);
+    for terms in rows {
+        copies.push(Items::from_slice(alloc, terms.as_slice())?)?;
+    }
+    Ok(copies)
+}
+
+/// The first so many rows from this number on, each shown by itself.
+pub fn own_rows(alloc: Global, first: u32, count: usize) -> Result<Items<Items<Term>>, AllocError>
+    requires { first + count < 2 ^ 32 }
+    ensures { IfOk result (λ rows. rows ≡ own_sums first count) }
+{
+    let mut rows = Items::new(alloc);
+    push_own_rows(&mut rows, alloc, first, count)?;
+    Ok(rows)
+}
+
+fn push_own_rows(
+    rows: &mut Items<Items<Term>>,
+    alloc: Global,
+    first: u32,
+    count: usize,
+) -> Result<(), AllocError>
+    requires { first + count < 2 ^ 32 }
+    ensures { OnOk result (rows.new ≡ rows.old ++ own_sums first count) }
+{
+    for i in 0..count {
+        rows.push(once(alloc, first + i as u32)?)?;
+    }
+    Ok(())
+}
+
+/// Per row of a system of a candidate the terms that show it in the joined system: for the rows of its own context these,
+/// and for so many further rows those in their places behind the joined context, which has so many rows.
+pub fn places(
+    alloc: Global,
+    rows: &[Items<Term>],
+    here: u32,
+    further: usize,
+) -> Result<Items<Items<Term>>, AllocError>
+    requires { here + further < 2 ^ 32 }
+    ensures { IfOk result (λ sums. sums ≡ rows.now ++ own_sums here further) }
+{
+    let mut sums = copy_rows(alloc, rows)?;
+    push_own_rows(&mut sums, alloc, here, further)?;
+    Ok(sums)
+}
+
+/// The proof, where each row of its system has these terms in its place. A candidate's proofs are Sums.
+pub fn carried(alloc: Global, sums: &[Items<Term>], proof: &Proof) -> Result<Proof, AllocError>
+    requires { (ts : List TermOf) × (proof.now ≡ Proof.Sum ts) × CarryFits sums.now ts }
+    ensures { IfOk result (λ carried. (ts : List TermOf) → proof.now ≡ Proof.Sum ts
+        → carried ≡ Proof.Sum (carried_terms (sum_in_place sums.now) ts)) }
+{
+    match proof {
+        Proof::Sum(terms) => Ok(Proof::Sum(carry(alloc, sums, terms.as_slice())?)),
+        _ => unreachable!(),
+    }
+}

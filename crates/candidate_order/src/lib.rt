@@ -1,0 +1,21 @@
+//! Candidates for the last write before a read: the writes of one statement at one level of order, how the points of two
+//! statements stand to each other, and proofs of candidates in a joined context (Feautrier 1991).
+#![tactic(auto)]
+
+mod absence;
+mod candidates;
+mod carry;
+mod compare;
+mod order;
+mod seen;
+mod walk;
+
+pub use absence::{absence_of, exclusion};
+pub use candidates::{Candidate, Read, candidates_of, level_count, write_to};
+pub use carry::{carried, copy_rows, own_rows, places};
+pub use compare::{
+    Compared, Comparison, Pair, Question, compare_points, test_of_next_loop, unopened,
+};
+pub use order::{Equality, Order};
+pub use seen::{Outcome, Position, Seen, outcome_of};
+pub use walk::{Followed, follow};

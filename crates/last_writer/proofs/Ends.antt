@@ -1,0 +1,147 @@
+-- Where a path ends.
+--
+-- For each writer and level the proofs are those of its candidate, told of the writer. A candidate that is not the
+-- best, not excluded and not seen would be left, and at an end none of those is left: so there is none.
+use Rattle.std.proofs.Common.{◌≡◌, ◌+◌, ◌*◌, ◌==◌, ℕ, List, [], ◌∷◌, ◌++◌, length, map, take, Bool, true, false, refl}
+use Rattle.std.proofs.Common.{sym, ap, ◌∙◌, subst, arith}
+use Rattle.std.specs.Prelude.{Option, Some, None, IfSome, IsTrue, slice_get}
+use Rattle.std.specs.List.{flat_map}
+use Rattle.std.specs.Option.{option_copied}
+use Rattle.std.proofs.lemmas.List.{append-nil, append_assoc}
+use Rattle.std.proofs.lemmas.Option.{same_Some}
+use Rattle.affine_core.specs.declared.form.Form.{Form}
+use Rattle.int_polyhedra.specs.declared.system.Proof.{Proof}
+use Rattle.int_polyhedra.specs.declared.system.System.{System}
+use Rattle.int_polyhedra.proofs.Variables.{and_both, equal_where}
+use Rattle.candidate_order.specs.Candidates.{is_candidate_of, reading_of}
+use Rattle.last_writer.specs.Ending.{IsEmptyEnd, IsLeaf, IsNamed}
+use Rattle.last_writer.specs.Joining.{IsBest, IsPath}
+use Rattle.last_writer.specs.Leaves.{is_excluded}
+use Rattle.candidate_order.specs.Refutations.{RefutesBetween, RefutesWrites}
+use Rattle.candidate_order.specs.Positions.{IsAt}
+use Rattle.candidate_order.specs.Seen.{is_seen, sightings_of, IsOutcome}
+use Rattle.candidate_order.specs.declared.candidates.Candidate.{Candidate}
+use Rattle.candidate_order.specs.declared.candidates.Read.{Read}
+use Rattle.last_writer.specs.declared.join.State.{State}
+use Rattle.last_writer.specs.declared.leaf.Excluded.{Excluded}
+use Rattle.candidate_order.specs.declared.seen.Outcome.{Outcome}
+use Rattle.candidate_order.specs.declared.seen.Position.{Position}
+use Rattle.last_writer.proofs.Finding.{found, map_next, flat_next, more_refuted, is_left, was_seen, is_best}
+use Rattle.last_writer.proofs.Finding.{IsSameWrite}
+use Rattle.candidate_order.proofs.Outcomes.{outcome_wider, Tells}
+use Rattle.lex_max.specs.Asked.{write_of}
+use Rattle.lex_max.specs.Level.{HasLevel}
+use Rattle.lex_max.proofs.Walking.{all_at}
+use Rattle.source_tree.specs.Checked.{AreRefuted, IsRefuted}
+use Rattle.source_tree.specs.Rows.{RowSystem}
+use Rattle.source_tree.specs.Systems.{Occurrence}
+
+-- Proofs of a candidate, told of its writer and level
+
+pub moved_between : (r : Read) (context : System) (c : Candidate) (u w : Occurrence) (p q : ℕ) (place : List Form)
+    (proof : Proof) → IsSameWrite u p c
+    → RefutesBetween r context (write_of c.writes) c.writes.level w place q proof
+    → RefutesBetween r context u p w place q proof
+moved_between r context c u w p q place proof same h =
+    subst (λ p. RefutesBetween r context u p w place q proof) same.level
+    (subst (λ u. RefutesBetween r context u c.writes.level w place q proof) same.write h)
+
+pub moved_writes : (r : Read) (context : System) (c : Candidate) (u : Occurrence) (p : ℕ) (proof : Proof)
+    → IsSameWrite u p c → RefutesWrites r context (write_of c.writes) c.writes.level proof
+    → RefutesWrites r context u p proof
+moved_writes r context c u p proof same h =
+    subst (λ p. RefutesWrites r context u p proof) same.level
+    (subst (λ u. RefutesWrites r context u c.writes.level proof) same.write h)
+
+-- the point of the best, told of the writer
+pub moved_best : (r : Read) (context : System) (c : Candidate) (u : Occurrence) (p q : ℕ) (place : List Form)
+    (proof : Proof) → IsSameWrite u p c
+    → RefutesBetween r context (write_of c.writes) c.writes.level (write_of c.writes) place q proof
+    → RefutesBetween r context u p (write_of c.writes) place q proof
+moved_best r context c u p q place proof same h = moved_between r context c u (write_of c.writes) p q place proof same h
+
+-- What became of a candidate
+
+best_at : (r : Read) (context : System) (best : Option Position) → IfSome best (IsBest r context)
+    → IfSome best (IsAt r context)
+best_at r context None h = h
+best_at r context (Some b) h = h.0
+
+pub outcome_at : (state : State) (u p : ℕ) (out : Outcome) → IsPath state 0 None
+    → Tells u p (sightings_of state.seen.now) None out
+    → IsOutcome state.read.now state.context.now (65536 * 896) (option_copied state.best) u p out
+outcome_at state u p out path tells =
+    let r : Read = state.read.now in
+    let context : System = state.context.now in
+    let best : Option Position = option_copied state.best in
+    let at : IfSome best (IsAt r context) = best_at r context best path.best_is in
+    outcome_wider context (0 + 65536 * length (sightings_of state.seen.now)) (65536 * 896)
+    (omega (arith, path.few)) r best u p out (tells r context 0 best best path.seen at at refl)
+
+-- No candidate is left
+
+excluded_same : (u p : ℕ) (c : Candidate) (excluded : List Excluded) → IsTrue (is_candidate_of u p c)
+    → IsTrue (is_excluded c.writes.write.number c.writes.level excluded) → IsTrue (is_excluded u p excluded)
+excluded_same u p c excluded h k =
+    let b = and_both (c.writes.write.number == u) (c.writes.level == p) h in
+    subst (λ n. IsTrue (is_excluded u n excluded)) (equal_where c.writes.level p b.1)
+    (subst (λ n. IsTrue (is_excluded n c.writes.level excluded)) (equal_where c.writes.write.number u b.0) k)
+
+false_true : (b : Bool) → b ≡ false → IsTrue b → ⊥
+false_true b e h = let f : false ≡ true = sym e ∙ h in cc
+
+pub nowhere : (state : State) (best : Position) (excluded : List Excluded) (u : Occurrence) (p : ℕ)
+    → IsLeaf state best excluded → IsNamed state.read.now u → HasLevel (reading_of state.read.now) u p
+    → is_candidate_of u.number p best.candidate.now ≡ false → is_excluded u.number p excluded ≡ false
+    → is_seen u.number p (sightings_of state.seen.now) ≡ false → ⊥
+nowhere state best excluded u p l named has other out seen =
+    elim (found state.read.now state.candidates.now state.context.now (option_copied state.best)
+    (sightings_of state.seen.now) state.left.now 0 u p l.path named has) [
+      | is_left i c there is left ↦
+          false_true (is_excluded u.number p excluded) out
+          (excluded_same u.number p c excluded is
+          (all_at (λ i. (c : Candidate) → slice_get state.candidates.now i ≡ Some c
+          → IsTrue (is_excluded c.writes.write.number c.writes.level excluded)) state.left.now left.0 i l.excluded_are.1
+          left.1 c there))
+      | was_seen was ↦ false_true (is_seen u.number p (sightings_of state.seen.now)) seen was
+      | is_best at at_is is ↦
+          (let same : at ≡ best = same_Some at best (sym at_is ∙ l.best_is) in
+          false_true (is_candidate_of u.number p best.candidate.now) other
+          (subst (λ (at : Position). IsTrue (is_candidate_of u.number p at.candidate.now)) same is))
+    ]
+
+pub nowhere_left : (state : State) (u : Occurrence) (p : ℕ) → IsEmptyEnd state → IsNamed state.read.now u
+    → HasLevel (reading_of state.read.now) u p
+    → is_seen u.number p (sightings_of state.seen.now) ≡ false → ⊥
+nowhere_left state u p l named has seen =
+    elim (found state.read.now state.candidates.now state.context.now (option_copied state.best)
+    (sightings_of state.seen.now) state.left.now 0 u p l.path named has) [
+      | is_left i c there is left ↦
+          (let e : None ≡ Some i = sym (ap (λ xs. slice_get xs left.0) l.none_left) ∙ left.1 in cc)
+      | was_seen was ↦ false_true (is_seen u.number p (sightings_of state.seen.now)) seen was
+      | is_best at at_is is ↦ (let e : None ≡ Some at = sym l.no_best ∙ at_is in cc)
+    ]
+
+-- Proofs one after the other
+
+pub none_yet : (before : List RowSystem) (old : List Proof) → AreRefuted before old → AreRefuted (before ++ []) old
+none_yet before old h = subst (λ xs. AreRefuted xs old) (sym (append-nil before)) h
+
+pub push_next : {X : Type 0} (f : X → RowSystem) (xs : List X) (k : ℕ) (x : X) (before : List RowSystem)
+    (old new : List Proof) (proof : Proof) → slice_get xs k ≡ Some x → new ≡ old ++ proof ∷ []
+    → AreRefuted (before ++ map f (take k xs)) old → IsRefuted (f x) proof
+    → AreRefuted (before ++ map f (take (k + 1) xs)) new
+push_next f xs k x before old new proof is new_is h one =
+    subst (λ ys. AreRefuted (before ++ ys) new) (sym (map_next f xs k x is))
+    (subst (λ ys. AreRefuted ys new) (append_assoc before (map f (take k xs)) (f x ∷ []))
+    (more_refuted (before ++ map f (take k xs)) old (f x) proof new new_is h one))
+
+pub flat_push : {X : Type 0} (f : X → List RowSystem) (xs : List X) (k : ℕ) (x : X) (before : List RowSystem)
+    (old new : List Proof) → slice_get xs k ≡ Some x
+    → AreRefuted (before ++ flat_map f (take k xs)) old
+    → (AreRefuted (before ++ flat_map f (take k xs)) old
+    → AreRefuted ((before ++ flat_map f (take k xs)) ++ f x) new)
+    → AreRefuted (before ++ flat_map f (take (k + 1) xs)) new
+flat_push f xs k x before old new is h more =
+    subst (λ ys. AreRefuted (before ++ ys) new) (sym (flat_next f xs k x is))
+    (subst (λ ys. AreRefuted ys new) (append_assoc before (flat_map f (take k xs)) (f x)) (more h))

@@ -1,0 +1,118 @@
+-- The read that is asked, and its class.
+--
+-- A read is told by its statement and its number there. Whether it is in the class is told by the writes of its array,
+-- which come statement by statement.
+use Rattle.std.proofs.Common.{◌≡◌, ◌+◌, ◌&&◌, ◌==◌, cond, ℕ, List, ◌∷◌, length, true, false, refl, sym, ap, ◌∙◌, subst}
+use Rattle.std.specs.Prelude.{Option, Some, None, IsTrue, slice_get, ◌↔◌}
+use Rattle.std.specs.List.{list_all}
+use Rattle.std.specs.Option.{option_and_then, option_map, option_map_or}
+use Rattle.std.proofs.lemmas.Option.{option_and_then_some, same_Some}
+use Rattle.candidate_order.specs.Candidates.{reading_of, IsJoined}
+use Rattle.candidate_order.specs.Contexts.{IsJoinedTree, IsMadeAs}
+use Rattle.candidate_order.specs.declared.candidates.Read.{Read}
+use Rattle.int_polyhedra.specs.declared.system.System.{System}
+use Rattle.lex_max.specs.Class.{writes_differences, IsInDifferenceClass}
+use Rattle.sanlp.specs.declared.nest.Access.{Access}
+use Rattle.sanlp.specs.declared.nest.Nest.{Nest}
+use Rattle.sanlp.specs.declared.nest.Statement.{Statement}
+use Rattle.sanlp.proofs.Enumerates.{enumerates_domains}
+use Rattle.sanlp.specs.Access.{read_count}
+use Rattle.source_check.proofs.Exactness.{checked_is_exact}
+use Rattle.source_tree.specs.Checked.{IsChecked}
+use Rattle.source_tree.specs.Exact.{IsExact}
+use Rattle.source_tree.specs.Systems.{Occurrence, array_writes, read_at, root_context, with_write, write_to}
+use Rattle.source_tree.specs.Systems.{writes_from}
+use Rattle.source_tree.specs.declared.tree.Tree.{Tree}
+
+-- the read of a statement that is there
+pub read_is : (n : Nest) (s k : ℕ) (statement : Statement) (access : Access) → slice_get n.statements s ≡ Some statement
+    → slice_get statement.reads k ≡ Some access
+    → read_at n s k ≡ Some (record { number = s; statement = statement; access = access })
+read_is n s k statement access f g =
+    ap (option_and_then (λ (st : Statement). option_map
+    (λ (access : Access). record { number = s; statement = st; access = access }) (slice_get st.reads k))) f
+    ∙ ap (option_map (λ (access : Access). record { number = s; statement = statement; access = access })) g
+
+-- a read that is there
+pub record IsThere (n : Nest) (s k : ℕ) (r : Occurrence) : Type 0 where
+  pub statement : slice_get n.statements s ≡ Some r.statement
+  pub access : slice_get r.statement.reads k ≡ Some r.access
+
+pub reader_there : (n : Nest) (s k : ℕ) (r : Occurrence) → read_at n s k ≡ Some r → IsThere n s k r
+reader_there n s k r is =
+    option_and_then_some (λ (st : Statement). option_map
+    (λ (access : Access). record { number = s; statement = st; access = access }) (slice_get st.reads k))
+    (slice_get n.statements s) r is
+    (λ st at inner. of_access st at (slice_get st.reads k) refl inner) where
+      of_access : (st : Statement) → slice_get n.statements s ≡ Some st → (o : Option Access) → slice_get st.reads k ≡ o
+          → option_map (λ (access : Access). record { number = s; statement = st; access = access }) o ≡ Some r
+          → IsThere n s k r
+      of_access st at None e inner = absurd (let f : None ≡ Some r = inner in cc)
+      of_access st at (Some access) e inner =
+          let same : record { number = s; statement = st; access = access } ≡ r =
+          same_Some (record { number = s; statement = st; access = access }) r inner in
+          record {
+            statement = at ∙ ap (λ (o : Occurrence). Some o.statement) same;
+            access = ap (λ (o : Occurrence). slice_get o.statement.reads k) (sym same) ∙ e
+                ∙ ap (λ (o : Occurrence). Some o.access) same;
+          }
+
+pub count_is : (n : Nest) (p : ℕ) (s : Statement) → slice_get n.statements p ≡ Some s → read_count n p ≡ length s.reads
+count_is n p s is = ap (λ o. option_map_or (λ (s : Statement). length s.reads) o 0) is
+
+-- the class, of a read that is there
+pub class_of : (n : Nest) (s k : ℕ) (r : Occurrence) → read_at n s k ≡ Some r
+    → IsTrue (list_all writes_differences (array_writes n r)) ↔ IsInDifferenceClass n s k
+class_of n s k r is = (
+  λ h. (r, is, h),
+  λ h. (let same : h.0 ≡ r = same_Some h.0 r (sym h.1 ∙ is)
+      in subst (λ r. IsTrue (list_all writes_differences (array_writes n r))) same h.2),
+)
+
+-- The writes of statements
+
+pub writes_nothing : (array u : ℕ) (s : Statement) → s.write ≡ None → write_to array u s ≡ None
+writes_nothing array u s is = ap (option_and_then
+    (λ (a : Access). cond (a.array == array) (Some (record { number = u; statement = s; access = a })) None)) is
+
+pub writes_elsewhere : (array u : ℕ) (s : Statement) (access : Access) → s.write ≡ Some access → (access.array == array)
+    ≡ false → write_to array u s ≡ None
+writes_elsewhere array u s access is other =
+    ap (option_and_then
+    (λ (a : Access). cond (a.array == array) (Some (record { number = u; statement = s; access = a })) None)) is
+    ∙ ap (λ b. cond b (Some (record { number = u; statement = s; access = access })) None) other
+
+pub writes_here : (array u : ℕ) (s : Statement) (access : Access) → s.write ≡ Some access → (access.array == array)
+    ≡ true
+    → write_to array u s ≡ Some (record { number = u; statement = s; access = access })
+writes_here array u s access is same =
+    ap (option_and_then
+    (λ (a : Access). cond (a.array == array) (Some (record { number = u; statement = s; access = a })) None)) is
+    ∙ ap (λ b. cond b (Some (record { number = u; statement = s; access = access })) None) same
+
+pub differences_none : (array u : ℕ) (s : Statement) (statements : List Statement) → write_to array u s ≡ None
+    → list_all writes_differences (writes_from array u (s ∷ statements))
+    ≡ list_all writes_differences (writes_from array (u + 1) statements)
+differences_none array u s statements is =
+    ap (λ o. list_all writes_differences (with_write o (writes_from array (u + 1) statements))) is
+
+pub differences_some : (array u : ℕ) (s : Statement) (statements : List Statement) (w : Occurrence) → write_to array u s
+    ≡ Some w
+    → list_all writes_differences (writes_from array u (s ∷ statements))
+    ≡ (writes_differences w && list_all writes_differences (writes_from array (u + 1) statements))
+differences_some array u s statements w is =
+    ap (λ o. list_all writes_differences (with_write o (writes_from array (u + 1) statements))) is
+
+-- The whole tree
+
+pub checked_tree : (r : Read) (context : System) (tree : Tree) (n : Nest) (s k : ℕ) → IsJoined r → r.nest.now ≡ n
+    → r.reference.number ≡ s → r.number ≡ k → IsMadeAs context (root_context (reading_of r))
+    → IsJoinedTree r context tree → IsChecked n s k tree
+checked_tree r context tree n s k h nest_is statement_is number_is made is =
+    subst (λ n. IsChecked n s k tree) nest_is
+    (subst (λ s. IsChecked r.nest.now s k tree) statement_is
+    (subst (λ k. IsChecked r.nest.now r.reference.number k tree) number_is
+    (reading_of r, h.reader, is (root_context (reading_of r)) made)))
+
+pub exact_of : (n : Nest) (s k : ℕ) (tree : Tree) → IsChecked n s k tree → IsExact n s k tree
+exact_of n s k tree checked = checked_is_exact n s k tree (enumerates_domains n) checked

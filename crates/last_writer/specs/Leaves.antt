@@ -1,0 +1,69 @@
+-- Proofs of the systems of a joined leaf.
+use Rattle.std.specs.Prelude.{◌≡◌, ◌+◌, ◌==◌, ◌&&◌, ℕ, zero, suc, Bool, List, [], ◌∷◌, ◌++◌, length, All, Option, Some, None, slice_get}
+use Rattle.std.specs.List.{list_any}
+use Rattle.affine_core.specs.declared.form.Form.{Form}
+use Rattle.int_polyhedra.specs.declared.system.Proof.{Proof}
+use Rattle.int_polyhedra.specs.declared.system.Proof.TheVariants.{Sum}
+use Rattle.int_polyhedra.specs.declared.system.System.{System}
+use Rattle.int_polyhedra.specs.declared.system.Term.{Term}
+use Rattle.candidate_order.specs.Candidates.{levels_before, reading_of}
+use Rattle.candidate_order.specs.Contexts.{IsMadeAs}
+use Rattle.candidate_order.specs.Refutations.{RefutesBetween}
+use Rattle.candidate_order.specs.declared.candidates.Read.{Read}
+use Rattle.last_writer.specs.declared.leaf.Excluded.{Excluded}
+use Rattle.candidate_order.specs.declared.order.Equality.{Equality}
+use Rattle.lex_max.specs.Paths.{term_of}
+use Rattle.row_sums.specs.Carried.{carried_terms, sum_in_place, CarryFits}
+use Rattle.source_tree.specs.Checked.{AreRefuted}
+use Rattle.source_tree.specs.Rows.{RowSystem}
+use Rattle.source_tree.specs.Systems.{Context, Occurrence, after_systems, cell_systems, named_write, outside_systems}
+
+-- per level of order between the point and a write the terms that refute that the write stands
+-- after it
+pub record IsExcluded (context : System) (r : Read) (w : Occurrence) (place : List Form)
+    (u : Occurrence) (e : Excluded) : Type 0 where
+  pub all : length e.sums ≡ levels_before w u
+  pub each : (q : ℕ) (ts : List Term) → slice_get e.sums q ≡ Some ts
+      → RefutesBetween r context u e.level w place q (Sum ts)
+
+-- whether the candidate of this writer and level is excluded
+abbrev pub is_excluded : ℕ → ℕ → List Excluded → Bool
+is_excluded u p excluded = list_any (λ e. (e.writer == u) && (e.level == p)) excluded
+
+-- each is one of a writer of the array
+abbrev pub AreExcluded : System → Read → Occurrence → List Form → List Excluded → Type 0
+AreExcluded context r w place excluded =
+    All (λ e. (u : Occurrence) → named_write r.nest.now (reading_of r) e.writer ≡ Some u
+    → IsExcluded context r w place u e) excluded
+
+-- proofs were added that refute these systems, in each context that is made as these rows
+abbrev pub AddsRefutations : System → (Context → List RowSystem) → List Proof → List Proof → Type 0
+AddsRefutations context systems old new =
+    (c : Context) (before : List RowSystem) → IsMadeAs context c → AreRefuted before old
+    → AreRefuted (before ++ systems c) new
+
+-- the systems that a point of w is no write of the read's cell before the read
+abbrev pub head_systems : Occurrence → Occurrence → List Form → Context → List RowSystem
+head_systems r w place c =
+    outside_systems c w place ++ (cell_systems r c w place ++ after_systems r c w place)
+
+-- the proof is a Sum whose multiples stay within 128 bits
+abbrev pub CanBeCarried : List (List Term) → Proof → Type 0
+CanBeCarried sums proof = (ts : List Term) × (proof ≡ Sum ts) × CarryFits sums ts
+
+-- the Sum, where each row has these terms in its place
+abbrev pub IsCarried : List (List Term) → Proof → Proof → Type 0
+IsCarried sums proof carried =
+    (ts : List Term) → proof ≡ Sum ts → carried ≡ Sum (carried_terms (sum_in_place sums) ts)
+
+-- Terms in the places of the order rows of z before j, where z stands before y by equal loops and
+-- then strictly, and y before j at level q by order rows from this one on: each is an order row of
+-- y and j and terms.
+abbrev pub order_sums : List Equality → Option (List Term) → ℕ → ℕ → List (List Term)
+order_sums [] None q start = []
+order_sums [] (Some strict) zero start = (term_of start ∷ strict) ∷ []
+order_sums [] (Some strict) (suc q) start = (term_of (start + 1) ∷ strict) ∷ []
+order_sums (e ∷ equal) strict zero start = (term_of start ∷ e.below) ∷ []
+order_sums (e ∷ equal) strict (suc q) start =
+    (term_of start ∷ e.above) ∷ (term_of (start + 1) ∷ e.below)
+    ∷ order_sums equal strict q (start + 2)

@@ -10,4 +10,4 @@ mod writing;
 
 pub use law::reads_what_is_written;
 pub use reading::read_tree;
-pub use writing::write_tree;
+pub use writing::{write_divides, write_place, write_test, write_tree};

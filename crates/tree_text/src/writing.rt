@@ -113,8 +113,8 @@ fn write_proofs<W: TextWriter>(proofs: &[Proof], out: &mut W)
     }
 }
 
-/// Writes the line of a Test.
-fn write_test<W: TextWriter>(form: &Form, out: &mut W)
+/// Writes the line of a Test. It takes no memory.
+pub fn write_test<W: TextWriter>(form: &Form, out: &mut W)
     ensures { Wrote W.given out.old out.new (test_text form.now) }
 {
     out.put(b"t");
@@ -122,9 +122,9 @@ fn write_test<W: TextWriter>(form: &Form, out: &mut W)
     out.put(b"\n");
 }
 
-/// Writes the line of a Divides.
+/// Writes the line of a Divides. It takes no memory.
 #[tactic(auto, using(crate::proofs::Spaced::divides_steps))]
-fn write_divides<W: TextWriter>(form: &Form, divisor: i128, out: &mut W)
+pub fn write_divides<W: TextWriter>(form: &Form, divisor: i128, out: &mut W)
     ensures { Wrote W.given out.old out.new (divides_text form.now divisor) }
 {
     out.put(b"d");
@@ -155,7 +155,8 @@ fn write_map<W: TextWriter>(form: &Form, out: &mut W)
     out.put(b"\n");
 }
 
-fn write_place<W: TextWriter>(place: &[Form], out: &mut W)
+/// Writes the map of a Writer leaf, a line for each form. It takes no memory.
+pub fn write_place<W: TextWriter>(place: &[Form], out: &mut W)
     ensures { Wrote W.given out.old out.new (flat_map map_text place.now) }
 {
     for form in place {

@@ -1,14 +1,6 @@
--- Loop values with commas between them, and the line of a reference piece by piece.
-use Rattle.std.proofs.Common.{◌≡◌, ◌∙◌, ℕ, ℤ, List, [], ◌∷◌, ◌++◌, append-nil, append_assoc, codes, sym, ap}
-use Rattle.std.specs.Fmt.{signed_decimal}
-use Rattle.std.specs.List.{flat_map}
-use Rattle.verdict_text.specs.VerdictText.{refused_line, values_text}
-
--- the first value, and then each other behind a comma
-pub values_joined : (first : ℤ) (others : List ℤ)
-    → values_text (first ∷ others) ≡ signed_decimal first ++ flat_map (λ value. 44 ∷ signed_decimal value) others
-values_joined first [] = sym (append-nil (signed_decimal first))
-values_joined first (second ∷ others) = ap (λ text. signed_decimal first ++ 44 ∷ text) (values_joined second others)
+-- The line of a reference, piece by piece.
+use Rattle.std.proofs.Common.{◌≡◌, ◌∙◌, ℕ, List, [], ◌∷◌, ◌++◌, append_assoc, codes, ap}
+use Rattle.verdict_text.specs.VerdictText.{refused_line}
 
 -- two pieces, one behind the other
 behind : (start first all one other : List ℕ) → first ≡ start ++ one → all ≡ first ++ other

@@ -1,7 +1,5 @@
 -- The line that the checker's answer is told by.
-use Rattle.std.specs.Prelude.{ℕ, ℤ, List, [], ◌∷◌, ◌++◌, Option, Some, None, codes, decimal, map, unwrap_or}
-use Rattle.std.specs.Fmt.{signed_decimal}
-use Rattle.std.specs.List.{join_with_byte}
+use Rattle.std.specs.Prelude.{ℕ, List, [], ◌∷◌, Option, Some, None, codes, decimal, unwrap_or}
 use Rattle.cert_lines.specs.declared.error.CertError.{CertError}
 use Rattle.cert_lines.specs.declared.error.CertError.TheVariants as error
 use Rattle.int_polyhedra.specs.declared.system.Reason.{Reason}
@@ -18,15 +16,7 @@ use Rattle.net_checker.specs.declared.verdict.Wanted.{Wanted}
 use Rattle.net_checker.specs.declared.verdict.Wanted.TheVariants as wanted
 use Rattle.text_out.specs.Words.{line_text}
 use Rattle.net_text.specs.NetworkText.{class_word}
-use Rattle.sanlp.specs.declared.nest.Point.{Point}
-
--- the loop values with commas between them
-abbrev pub values_text : List ℤ → List ℕ
-values_text values = join_with_byte 44 (map signed_decimal values)
-
--- a point is its process number and its loop values in parentheses, as 1(2,3)
-abbrev pub point_text : Point → List ℕ
-point_text point = decimal point.statement ++ (codes "(" ++ (values_text point.at ++ codes ")"))
+use Rattle.point_text.specs.PointText.{point_text}
 
 -- what a reference names
 abbrev pub seen_word : Seen → List ℕ

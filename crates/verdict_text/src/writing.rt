@@ -1,12 +1,10 @@
 ghost use Rattle.std.specs.Prelude.{◌≡◌, ◌∷◌, [], codes, decimal, OnOk, OnErr};
-ghost use Rattle.std.specs.Fmt.{signed_decimal};
 ghost use Rattle.std.specs.Io.KnownBytes.{Appends};
-ghost use Rattle.std.specs.List.{flat_map};
 ghost use Rattle.io_edge.specs.Causes.{Rose, AppendsFront};
 ghost use Rattle.net_checker.specs.declared.verdict.Refusal.TheVariants.{Tag, Class, Fires, Source};
 ghost use Rattle.source_check.specs.declared.verdict.Rule.TheVariants.{Proof, Proofs};
 ghost use Rattle.text_out.specs.Wrote.{Wrote};
-ghost use Rattle.verdict_text.specs.VerdictText.{point_text, reason_word, refusal_words, refused_line, seen_word, unread_line, values_text, verdict_text, wanted_word};
+ghost use Rattle.verdict_text.specs.VerdictText.{reason_word, refusal_words, refused_line, seen_word, unread_line, verdict_text, wanted_word};
 
 use cert_lines::CertError;
 use channel_class::ChannelClass;
@@ -14,39 +12,9 @@ use int_polyhedra::Reason;
 use io_edge::{Sink, WriteFault};
 use net_checker::{Refusal, Seen, Verdict, Wanted};
 use net_text::class_word;
-use sanlp::Point;
+use point_text::write_point;
 use source_check::Rule;
 use text_out::{TextWriter, Word, Writer, write_line, write_number};
-
-/// Writes loop values with a comma before each.
-fn write_others<W: TextWriter>(values: &[i64], out: &mut W)
-    ensures { Wrote W.given out.old out.new
-        (flat_map (λ value. 44 ∷ signed_decimal value) values.now) }
-{
-    for value in values {
-        out.put(b",");
-        write_number(*value, out);
-    }
-}
-
-/// Writes loop values with commas between them.
-fn write_values<W: TextWriter>(values: &[i64], out: &mut W)
-    ensures { Wrote W.given out.old out.new (values_text values.now) }
-{
-    if let Some((first, others)) = values.split_first() {
-        write_number(*first, out);
-        write_others(others, out);
-    }
-}
-
-fn write_point<W: TextWriter>(point: &Point, out: &mut W)
-    ensures { Wrote W.given out.old out.new (point_text point.now) }
-{
-    write_number(point.statement, out);
-    out.put(b"(");
-    write_values(point.at.as_slice(), out);
-    out.put(b")");
-}
 
 /// Writes what a reference names.
 fn write_seen<W: TextWriter>(seen: &Seen, out: &mut W)
@@ -55,7 +23,7 @@ fn write_seen<W: TextWriter>(seen: &Seen, out: &mut W)
     match seen {
         Seen::Zero => out.put(b"zero"),
         Seen::Empty => out.put(b"empty"),
-        Seen::At(point) => write_point(point, out),
+        Seen::At(point) => write_point(point.statement, point.at.as_slice(), out),
     }
 }
 
@@ -65,7 +33,7 @@ fn write_wanted<W: TextWriter>(wanted: &Wanted, out: &mut W)
 {
     match wanted {
         Wanted::Zero => out.put(b"zero"),
-        Wanted::At(point) => write_point(point, out),
+        Wanted::At(point) => write_point(point.statement, point.at.as_slice(), out),
     }
 }
 

@@ -1,7 +1,7 @@
 use Rattle.std.proofs.Common.{arith}
 use Rattle.std.proofs.lemmas.Grind.{common_steps}
-use Rattle.verdict_text.proofs.Words.{values_joined}
-use Rattle.verdict_text.proofs.writing.write_values.Goals as goal
+use Rattle.point_text.proofs.Values.{values_joined}
+use Rattle.point_text.proofs.writing.write_values.Goals as goal
 
 pub returns-in-Some : goal.returns-in-Some
 returns-in-Some g c =

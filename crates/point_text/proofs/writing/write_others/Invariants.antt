@@ -2,7 +2,7 @@ use Rattle.std.proofs.Common.{◌∷◌, take}
 use Rattle.std.specs.Fmt.{signed_decimal}
 use Rattle.std.specs.List.{flat_map}
 use Rattle.text_out.specs.Wrote.{Wrote}
-use Rattle.verdict_text.proofs.writing.write_others.Given as goal
+use Rattle.point_text.proofs.writing.write_others.Given as goal
 
 -- the values so far were written
 abbrev pub invariant-loop-value : goal.invariant-loop-value

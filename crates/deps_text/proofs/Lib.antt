@@ -1,0 +1,4 @@
+mod Fires
+mod Lookups
+mod Statements
+mod Told

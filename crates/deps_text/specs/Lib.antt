@@ -1,0 +1,4 @@
+pub mod TreeLines
+pub mod Dependences
+pub mod DepsText
+pub mod FireLines

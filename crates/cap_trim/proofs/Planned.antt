@@ -16,6 +16,7 @@ use Rattle.net_core.specs.Orders.{EndsAll}
 use Rattle.net_core.specs.Rules.{tags}
 use Rattle.net_core.specs.Shape.{IsWired, put_count}
 use Rattle.net_core.specs.Sound.{FitsNest, NamesLastWriters}
+use Rattle.net_maker.specs.Certificates.{swept_cert}
 use Rattle.net_maker.proofs.Fitting.{HasClasses, fits_with, swept_are_usable}
 use Rattle.process_derive.specs.Derived.{net}
 use Rattle.process_derive.proofs.Wired.{is_wired}
@@ -26,7 +27,7 @@ use Rattle.witness_plan.specs.Sequential.{capacities, channels_with, with_capaci
 use Rattle.witness_plan.proofs.OtherCapacities.{net_kept, wired_kept}
 use Rattle.witness_plan.proofs.Planned.{ends_all}
 use Rattle.cap_trim.specs.Capacities.{IsPlanned, SticksAt, SticksBelow, capacity_list, lowered_network, lowered_rests}
-use Rattle.cap_trim.specs.Capacities.{swept_cert, trimmed_network}
+use Rattle.cap_trim.specs.Capacities.{trimmed_network}
 use Rattle.cap_trim.specs.Rests.{can_end, least_run, rest}
 use Rattle.cap_trim.proofs.AtRest.{can_end_since, least_ends}
 use Rattle.cap_trim.proofs.TokensWanted.{channel_puts}

@@ -1,14 +1,11 @@
 -- Least capacities: the channels of a network are given them one after the other.
-use Rattle.std.specs.Prelude.{◌≡◌, ◌<◌, ◌-◌, ℕ, zero, suc, List, map, length, replicate, slice_index, slice_index_or, []}
+use Rattle.std.specs.Prelude.{◌≡◌, ◌<◌, ◌-◌, ℕ, zero, suc, List, map, length, slice_index, slice_index_or, []}
 use Rattle.std.specs.List.{position_or_len, range_with_len}
 use Rattle.net_core.specs.declared.network.Network.{Network}
 use Rattle.net_core.specs.Machine.{Net, start, replaced, IsRun, IsStuck}
 use Rattle.net_core.specs.Orders.{EndsAll, reached}
 use Rattle.net_core.specs.Rules.{tags}
-use Rattle.net_checker.specs.Shapes.{read_total}
 use Rattle.sanlp.specs.declared.nest.Nest.{Nest}
-use Rattle.source_tree.specs.declared.cert.Cert.{Cert}
-use Rattle.source_tree.specs.declared.cert.Origin.TheVariants.{Sweep}
 use Rattle.witness_plan.specs.declared.schedules.Policy.{Policy}
 use Rattle.witness_plan.specs.Schedules.{planned_network}
 use Rattle.cap_trim.specs.Rests.{can_end, position_list, rest}
@@ -65,8 +62,3 @@ SticksBelow n rests =
 -- the network is that of a nest with the capacities that its schedule under a policy needs
 abbrev pub IsPlanned : Nest → Network → Type 0
 IsPlanned nest network = (policy : Policy) × (network ≡ planned_network nest policy)
-
--- a certificate by which every read has its values from the last writers, with this schedule
-abbrev pub swept_cert : Nest → List ℕ → Cert
-swept_cert nest schedule =
-    record { sources = replicate (read_total nest) Sweep; schedule = schedule }

@@ -1,10 +1,11 @@
 ghost use Rattle.std.specs.Prelude.{◌≡◌, ◌<◌, ◌≤◌, ℕ, length, slice_index, slice_set, IfOk, OnOk};
 ghost use Rattle.sanlp.specs.Points.{points_of};
 ghost use Rattle.net_checker.specs.Fits.{Fits};
+ghost use Rattle.net_maker.specs.Certificates.{swept_cert};
 ghost use Rattle.net_core.specs.Machine.{net_of};
 ghost use Rattle.net_core.specs.Shape.{FitsNumbers, IsWired};
 ghost use Rattle.witness_plan.specs.Sequential.{with_capacities};
-ghost use Rattle.cap_trim.specs.Capacities.{IsPlanned, SticksBelow, capacity_list, least_capacity, lowered_rests, swept_cert, trimmed_network};
+ghost use Rattle.cap_trim.specs.Capacities.{IsPlanned, SticksBelow, capacity_list, least_capacity, lowered_rests, trimmed_network};
 ghost use Rattle.cap_trim.specs.Progress.{at_capacities};
 ghost use Rattle.cap_trim.specs.Rests.{least_run};
 

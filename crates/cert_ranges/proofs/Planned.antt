@@ -1,51 +1,38 @@
--- The network that a nest is compiled to, with its certificate, fits the nest and has a text.
+-- The network that a nest is compiled to has a text with each certificate of it.
 use Rattle.std.proofs.Common.{◌≡◌, ℕ, zero, suc, ◌+◌, ◌<◌, ◌≤◌, ◌^◌, max, Option, Some, None, List, [], ◌∷◌, length}
-use Rattle.std.proofs.Common.{map, replicate, take, slice_get, refl, sym, ap, subst, arith}
+use Rattle.std.proofs.Common.{map, take, slice_get, refl, sym, ap, subst, arith}
 use Rattle.std.specs.Prelude.{All}
 use Rattle.std.specs.List.{fold, range_with_len}
 use Rattle.std.specs.Option.{option_map_or}
-use Rattle.std.proofs.lemmas.List.{length-replicate, length-take}
-use Rattle.std.proofs.lemmas.List.Elements.{All-cons, All-nil}
+use Rattle.std.proofs.lemmas.List.{length-take}
 use Rattle.std.proofs.lemmas.List.Sums.{count_by-le-length}
 use Rattle.cert_text.specs.CertText.{OriginIsInRange}
 use Rattle.cert_text.specs.Folding.{most_events}
 use Rattle.cert_text.specs.StandsFor.{HasText}
-use Rattle.derived_names.proofs.Classes.{has_classes_of_uses}
-use Rattle.derived_names.proofs.Names.{names_last_writers}
 use Rattle.sanlp.specs.Size.{SizeIsOk}
-use Rattle.net_checker.specs.Fits.{Fits}
-use Rattle.net_checker.specs.Shapes.{read_total}
 use Rattle.net_core.proofs.Ready.{script_short}
 use Rattle.net_core.specs.Cuts.{Cut, cut_after, opening}
 use Rattle.net_core.specs.declared.network.Channel.{Channel}
 use Rattle.net_core.specs.Machine.{Net, net_of}
 use Rattle.net_core.specs.Shape.{FitsNumbers, events_below, is_put}
-use Rattle.net_maker.proofs.Fitting.{fits_with, swept_are_usable}
 use Rattle.net_maker.proofs.Numbers.{numbers_stay}
-use Rattle.net_maker.specs.Certificates.{cert_of}
+use Rattle.net_maker.specs.Certificates.{IsCertificate}
 use Rattle.process_derive.proofs.Bounds.{few_entries}
 use Rattle.process_derive.proofs.Numbers.{has_few_events, numbers_fit}
 use Rattle.process_derive.proofs.Wired.{is_wired}
-use Rattle.process_derive.proofs.Shaped.{fits_nest}
 use Rattle.process_derive.specs.Derived.{net}
 use Rattle.sanlp.proofs.Each.{Each, each_map, each_of}
 use Rattle.sanlp.specs.declared.nest.Nest.{Nest}
-use Rattle.source_tree.specs.declared.cert.Origin.TheVariants.{Sweep}
-use Rattle.witness_plan.proofs.OtherCapacities.{net_kept, wired_kept}
-use Rattle.witness_plan.proofs.Planned.{ends_all}
+use Rattle.source_tree.specs.declared.cert.Cert.{Cert}
+use Rattle.source_tree.specs.declared.cert.Origin.{Origin}
+use Rattle.source_tree.specs.declared.cert.Origin.TheVariants as origin
+use Rattle.source_tree.specs.declared.tree.Tree.{Tree}
+use Rattle.tree_text.specs.TreeText.{TreeIsInRange}
+use Rattle.witness_plan.proofs.OtherCapacities.{net_kept}
 use Rattle.witness_plan.specs.declared.schedules.Policy.{Policy}
 use Rattle.witness_plan.specs.Schedules.{planned_network, schedule}
 use Rattle.witness_plan.specs.Sequential.{capacities, channels_with, greatest_length, queue_length}
-use Rattle.cert_ranges.proofs.Ranges.{has_text}
-
-pub planned_fits : (n : Nest) (policy : Policy) → Fits n (planned_network n policy) (cert_of n policy)
-planned_fits n policy =
-    fits_with n (net n) (capacities (net n) (schedule n policy)) (cert_of n policy) (fits_nest n) (names_last_writers n)
-    (has_classes_of_uses n)
-    (net_kept (net n) (capacities (net n) (schedule n policy)))
-    (wired_kept (net n) (capacities (net n) (schedule n policy)) (is_wired n))
-    (length-replicate (read_total n) Sweep) (swept_are_usable n (cert_of n policy) (read_total n) refl)
-    (ends_all n policy)
+use Rattle.cert_ranges.proofs.Ranges.{all_found, has_text}
 
 -- Capacities
 
@@ -111,10 +98,14 @@ planned_few n policy sized =
     numbers_stay (net_of (net n)) (net_of (planned_network n policy)) (net_of (planned_network n policy)).capacity
     (net_kept (net n) (capacities (net n) (schedule n policy))) (numbers_fit n sized)
 
--- where every read is swept, there is no tree
-swept_in_range : (m : ℕ) → All OriginIsInRange (replicate m Sweep)
-swept_in_range zero = All-nil OriginIsInRange
-swept_in_range (suc m) = All-cons OriginIsInRange Sweep (replicate m Sweep) tt (swept_in_range m)
+-- where each tree is in range, each origin is
+origins_in_range : (sources : List Origin)
+    → ((k : ℕ) (tree : Tree) → slice_get sources k ≡ Some (origin.Tree tree) → TreeIsInRange tree)
+    → All OriginIsInRange sources
+origins_in_range sources trees = all_found OriginIsInRange sources in_range where
+  in_range : (k : ℕ) (o : Origin) → slice_get sources k ≡ Some o → OriginIsInRange o
+  in_range k origin.Sweep is = tt
+  in_range k (origin.Tree tree) is = trees k tree is
 
 -- other capacities leave the events as they are
 same_events : (m : Net) (room : ℕ → ℕ) (p : ℕ) → events_below (record m { capacity = room }) p ≡ events_below m p
@@ -134,7 +125,8 @@ planned_events n policy sized =
     (net_of (planned_network n policy)).capacity most_events
     (net_kept (net n) (capacities (net n) (schedule n policy))) (omega (arith, has_few_events n, few_entries n sized))
 
-pub planned_has_text : (n : Nest) (policy : Policy) → SizeIsOk n → HasText (planned_network n policy) (cert_of n policy)
-planned_has_text n policy sized =
-    has_text n (planned_network n policy) (cert_of n policy) (planned_fits n policy) (planned_few n policy sized)
-    (planned_small n policy sized) (swept_in_range (read_total n)) (planned_events n policy sized)
+pub planned_has_text : (n : Nest) (policy : Policy) (cert : Cert) → IsCertificate n policy cert → SizeIsOk n
+    → HasText (planned_network n policy) cert
+planned_has_text n policy cert certificate sized =
+    has_text n (planned_network n policy) cert certificate.fits (planned_few n policy sized)
+    (planned_small n policy sized) (origins_in_range cert.sources certificate.in_range) (planned_events n policy sized)

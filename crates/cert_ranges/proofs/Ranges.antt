@@ -33,7 +33,7 @@ use Rattle.sanlp.specs.declared.nest.Nest.{Nest}
 use Rattle.source_tree.specs.declared.cert.Cert.{Cert}
 
 -- what holds of each element that is found holds of all
-all_found : {X : Type 0} (P : X → Type 0) (xs : List X) → ((k : ℕ) (x : X) → slice_get xs k ≡ Some x → P x) → All P xs
+pub all_found : {X : Type 0} (P : X → Type 0) (xs : List X) → ((k : ℕ) (x : X) → slice_get xs k ≡ Some x → P x) → All P xs
 all_found P xs each k d lt = each k (get_or xs k d) (slice_get-get_or xs k d lt)
 
 -- the reads of all statements are few

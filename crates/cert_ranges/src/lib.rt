@@ -1,6 +1,6 @@
-//! The network that a nest is compiled to, with its certificate, fits the nest and has a text.
+//! The network that a nest is compiled to has a text with each certificate of it.
 #![tactic(auto)]
 
 mod law;
 
-pub use law::{planned_network_fits, planned_network_has_text};
+pub use law::certificate_has_text;

@@ -1,12 +1,40 @@
--- The certificate of a nest's network.
-use Rattle.std.specs.Prelude.{replicate}
+-- The certificates of a nest's network.
+use Rattle.std.specs.Prelude.{◌≡◌, ◌<◌, ℕ, List, Some, length, replicate, slice_get}
+use Rattle.net_checker.specs.Fits.{Fits}
 use Rattle.net_checker.specs.Shapes.{read_total}
+use Rattle.net_checker.specs.Sources.{IsUsable}
+use Rattle.sanlp.specs.Access.{read_count}
 use Rattle.sanlp.specs.declared.nest.Nest.{Nest}
 use Rattle.source_tree.specs.declared.cert.Cert.{Cert}
-use Rattle.source_tree.specs.declared.cert.Origin.TheVariants.{Sweep}
+use Rattle.source_tree.specs.declared.cert.Origin.{Origin}
+use Rattle.source_tree.specs.declared.cert.Origin.TheVariants.{Sweep, Tree}
+use Rattle.source_tree.specs.declared.tree.Tree as any_tree
+use Rattle.source_tree.specs.Sources.{read_number}
+use Rattle.tree_text.specs.TreeText.{TreeIsInRange}
 use Rattle.witness_plan.specs.declared.schedules.Policy.{Policy}
-use Rattle.witness_plan.specs.Schedules.{schedule}
+use Rattle.witness_plan.specs.Schedules.{planned_network, schedule}
 
--- every read has its values from the last writers, and the schedule is that of the policy
-abbrev pub cert_of : Nest → Policy → Cert
-cert_of n policy = record { sources = replicate (read_total n) Sweep; schedule = schedule n policy }
+-- the certificate by which every read has its values from the last writers, with this schedule
+abbrev pub swept_cert : Nest → List ℕ → Cert
+swept_cert n run = record { sources = replicate (read_total n) Sweep; schedule = run }
+
+-- A certificate of the nest's network, with the capacities that its schedule under a policy needs: the schedule is the
+-- policy's, both fit the nest, and each tree has a text that can be read. Which reads have a tree is left open.
+pub record IsCertificate (n : Nest) (policy : Policy) (cert : Cert) : Type 0 where
+  pub of_policy : cert.schedule ≡ schedule n policy
+  pub fits : Fits n (planned_network n policy) cert
+  pub in_range : (k : ℕ) (tree : any_tree.Tree) → slice_get cert.sources k ≡ Some (Tree tree)
+      → TreeIsInRange tree
+
+-- the origin may stand for read k of statement s: Sweep, or a tree that is usable and has a text that can be read
+abbrev pub IsOriginOf : Nest → ℕ → ℕ → Origin → Type 0
+IsOriginOf n s k Sweep = Unit {0}
+IsOriginOf n s k (Tree tree) = IsUsable n s k tree × TreeIsInRange tree
+
+-- the origins of the first so many reads, each of which may stand for its read
+pub record HasOrigins (n : Nest) (count : ℕ) (sources : List Origin) : Type 0 where
+  pub total : length sources ≡ count
+  pub each : (s k : ℕ) (origin : Origin) → k < read_count n s
+      → slice_get sources (read_number n s k) ≡ Some origin → IsOriginOf n s k origin
+  pub in_range : (k : ℕ) (tree : any_tree.Tree) → slice_get sources k ≡ Some (Tree tree)
+      → TreeIsInRange tree

@@ -2,5 +2,7 @@
 #![tactic(auto)]
 
 mod making;
+mod origins;
+mod ranges;
 
-pub use making::compile;
+pub use making::{compile, compile_swept};

@@ -6,9 +6,10 @@ ghost use Rattle.net_checker.specs.Shapes.{read_total};
 ghost use Rattle.source_tree.specs.declared.cert.Origin.TheVariants.{Sweep};
 ghost use Rattle.net_core.specs.Machine.{net_of};
 ghost use Rattle.net_core.specs.Shape.{FitsNumbers};
-ghost use Rattle.witness_plan.specs.Schedules.{planned_network};
-ghost use Rattle.net_maker.specs.Certificates.{cert_of};
+ghost use Rattle.witness_plan.specs.Schedules.{planned_network, schedule};
+ghost use Rattle.net_maker.specs.Certificates.{swept_cert, IsCertificate};
 
+use crate::origins::origins;
 use derived_names::{has_classes_of_uses, names_last_writers};
 use net_core::Network;
 use plain_data::Items;
@@ -40,10 +41,10 @@ fn swept(alloc: Global, nest: &Nest) -> Result<Items<Origin>, AllocError>
     Ok(sources)
 }
 
-/// The network of a nest (Compaan 2000, pn 2007) with the capacities that its schedule under a policy needs, and a
-/// certificate with that schedule, whose reads have their values from the last writers. Both fit the nest, so the checker
+/// The network of a nest (Compaan 2000, pn 2007) with the capacities that its schedule under a policy needs, and the
+/// certificate with that schedule whose reads all have their values from the last writers. Both fit the nest, so the checker
 /// accepts them. Nothing is refused but want of memory.
-pub fn compile(
+pub fn compile_swept(
     alloc: Global,
     nest: &Nest,
     points: &Points,
@@ -53,7 +54,8 @@ pub fn compile(
     requires points { points.now.of ≡ points_of nest.now }
     ensures network { IfOk result (λ made. made.0 ≡ planned_network nest.now policy) }
     ensures numbers { IfOk result (λ made. FitsNumbers (net_of made.0)) }
-    ensures cert { IfOk result (λ made. made.1 ≡ cert_of nest.now policy) }
+    ensures cert { IfOk result
+        (λ made. made.1 ≡ swept_cert nest.now (schedule nest.now policy)) }
     ensures fits { IfOk result (λ made. Fits nest.now made.0 made.1) }
 {
     fits_nest(nest);
@@ -68,6 +70,31 @@ pub fn compile(
     let cert = Cert {
         sources: swept(alloc, nest)?,
         schedule: witness.schedule,
+    };
+    Ok((network, cert))
+}
+
+/// The network of `compile_swept`, and a certificate of it with trees: a read of the difference class has its values from the
+/// points that its tree gives, where a tree of at most 65,536 nodes is made, overflows at no point of the reader, and nests, as
+/// its proofs do, at most 512 deep. Other reads have theirs from the last writers. The checker accepts both, and they have a
+/// text. Nothing is refused but want of memory.
+pub fn compile(
+    alloc: Global,
+    nest: &Nest,
+    points: &Points,
+    policy: Policy,
+) -> Result<(Network, Cert), AllocError>
+    requires size { SizeIsOk nest.now }
+    requires points { points.now.of ≡ points_of nest.now }
+    ensures network { IfOk result (λ made. made.0 ≡ planned_network nest.now policy) }
+    ensures numbers { IfOk result (λ made. FitsNumbers (net_of made.0)) }
+    ensures certificate { IfOk result (λ made. IsCertificate nest.now policy made.1) }
+    ensures fits { IfOk result (λ made. Fits nest.now made.0 made.1) }
+{
+    let (network, swept) = compile_swept(alloc, nest, points, policy)?;
+    let cert = Cert {
+        sources: origins(alloc, nest, points)?,
+        schedule: swept.schedule,
     };
     Ok((network, cert))
 }

@@ -1,5 +1,5 @@
 use Rattle.cert_ranges.proofs.Planned.{planned_has_text}
-use Rattle.cert_ranges.proofs.law.planned_network_has_text.Goals as goal
+use Rattle.cert_ranges.proofs.law.certificate_has_text.Goals as goal
 
 pub returns : goal.returns
 returns c = planned_has_text

@@ -1,0 +1,133 @@
+-- The origins of reads, added one by one in the order of statements and reads.
+--
+-- Reads are numbered by their statement, and then by their place among its reads, so each number is that of one read alone.
+-- Therefore an origin that is added at the end stands for the read whose number is the count so far, and for no other:
+-- what held of the origins before it goes on to hold.
+use Rattle.std.proofs.Common.{◌≡◌, ◌∙◌, ◌+◌, ◌<◌, ◌≤◌, ℕ, zero, suc, List, [], ◌∷◌, ◌++◌, Some, None, length, take, refl}
+use Rattle.std.proofs.Common.{◌⊎◌, inl, inr, slice_get, sym, ap, subst, arith}
+use Rattle.std.specs.List.{sum_by}
+use Rattle.std.proofs.lemmas.Bool.{cases_order}
+use Rattle.std.proofs.lemmas.List.{length_push}
+use Rattle.std.proofs.lemmas.List.Sums.{sum_by-take-le}
+use Rattle.std.proofs.lemmas.Option.{same_Some}
+use Rattle.net_checker.specs.Shapes.{read_total}
+use Rattle.net_checker.specs.Sources.{AreUsable}
+use Rattle.net_checker.proofs.FitsShape.{take_all}
+use Rattle.net_checker.proofs.Lists.{item_at}
+use Rattle.net_checker.proofs.Numbers.{reads_more}
+use Rattle.net_checker.proofs.Usable.{statement_there}
+use Rattle.sanlp.specs.Access.{read_count}
+use Rattle.sanlp.specs.declared.nest.Nest.{Nest}
+use Rattle.sanlp.specs.declared.nest.Statement.{Statement}
+use Rattle.source_tree.specs.declared.cert.Cert.{Cert}
+use Rattle.source_tree.specs.declared.cert.Origin.{Origin}
+use Rattle.source_tree.specs.declared.cert.Origin.TheVariants as origin
+use Rattle.source_tree.specs.declared.tree.Tree.{Tree}
+use Rattle.source_tree.specs.Sources.{read_number}
+use Rattle.std.specs.Option.{option_map_or}
+use Rattle.tree_text.specs.TreeText.{TreeIsInRange}
+use Rattle.net_maker.specs.Certificates.{HasOrigins, IsOriginOf}
+
+-- Numbers of reads
+
+pub read_count_is : (n : Nest) (s : ℕ) (st : Statement) → slice_get n.statements s ≡ Some st
+    → read_count n s ≡ length st.reads
+read_count_is n s st is = ap (λ o. option_map_or (λ (st : Statement). length st.reads) o 0) is
+
+-- the first read of the next statement comes behind those of this one
+pub next_statement : (n : Nest) (s : ℕ) → s < length n.statements
+    → read_number n (s + 1) 0 ≡ read_number n s (read_count n s)
+next_statement n s lt =
+    let there = item_at n.statements s lt in
+    omega (arith, reads_more n.statements s there.0 there.1, read_count_is n s there.0 there.1)
+
+-- a front of a front
+take_less : {X : Type 0} (a b : ℕ) (xs : List X) → a ≤ b → take a (take b xs) ≡ take a xs
+take_less zero b xs le = refl
+take_less (suc a) zero xs le = absurd (omega arith)
+take_less (suc a) (suc b) [] le = refl
+take_less (suc a) (suc b) (x ∷ xs) le = ap (λ ys. x ∷ ys) (take_less a b xs (omega arith))
+
+reads_of_less : (n : Nest) (a b : ℕ) → a ≤ b → read_number n a 0 ≤ read_number n b 0
+reads_of_less n a b le =
+    let reads : List Statement → ℕ = λ sts. sum_by (λ (st : Statement). length st.reads) sts in
+    omega (
+      arith,
+      sum_by-take-le (λ (st : Statement). length st.reads) (take b n.statements) a,
+      ap reads (take_less a b n.statements le),
+    )
+
+-- a read of a statement before has a lower number
+before : (n : Nest) (p s q k : ℕ) → q < read_count n p → p < s → read_number n p q < read_number n s k
+before n p s q k lt less =
+    omega (arith, lt, next_statement n p (statement_there n p q lt), reads_of_less n (p + 1) s (omega arith))
+
+same_read : (n : Nest) (p s q k : ℕ) → q < read_count n p → k < read_count n s
+    → read_number n p q ≡ read_number n s k → (p ≡ s) × (q ≡ k)
+same_read n p s q k few less same = elim (cases_order p s) [
+  | inl at ↦ (at, omega (arith, same, ap (λ (i : ℕ). read_number n i 0) at))
+  | inr other ↦ elim other [
+    | inl below ↦ absurd (omega (arith, same, before n p s q k few below))
+    | inr above ↦ absurd (omega (arith, same, before n s p k q less above))
+  ]
+]
+
+-- One origin more
+
+more_at : {X : Type 0} (xs : List X) (x : X) (i : ℕ) (y : X) → slice_get (xs ++ x ∷ []) i ≡ Some y
+    → (slice_get xs i ≡ Some y) ⊎ ((i ≡ length xs) × (x ≡ y))
+more_at [] x zero y is = inr (refl, same_Some x y is)
+more_at [] x (suc i) y is = absurd (let none : None ≡ Some y = is in cc)
+more_at (z ∷ xs) x zero y is = inl is
+more_at (z ∷ xs) x (suc i) y is = elim (more_at xs x i y is) [
+  | inl front ↦ inl front
+  | inr end ↦ inr (ap suc end.0, end.1)
+]
+
+module _ (n : Nest) (s k : ℕ) (sources after : List Origin) (o : Origin) (few : k < read_count n s)
+    (h : HasOrigins n (read_number n s k) sources) (is : after ≡ sources ++ o ∷ []) (fit : IsOriginOf n s k o) where
+  each_more : (p q : ℕ) (x : Origin) → q < read_count n p → slice_get after (read_number n p q) ≡ Some x
+      → IsOriginOf n p q x
+  each_more p q x lt at =
+      elim (more_at sources o (read_number n p q) x (ap (λ xs. slice_get xs (read_number n p q)) (sym is) ∙ at)) [
+        | inl front ↦ h.each p q x lt front
+        | inr end ↦
+            (let same = same_read n p s q k lt few (omega (arith, h.total, end.0)) in
+            subst (λ p. IsOriginOf n p q x) (sym same.0)
+            (subst (λ q. IsOriginOf n s q x) (sym same.1) (subst (IsOriginOf n s k) end.1 fit)))
+      ]
+
+  range_more : (j : ℕ) (tree : Tree) → slice_get after j ≡ Some (origin.Tree tree) → TreeIsInRange tree
+  range_more j tree at =
+      elim (more_at sources o j (origin.Tree tree) (ap (λ xs. slice_get xs j) (sym is) ∙ at)) [
+        | inl front ↦ h.in_range j tree front
+        | inr end ↦ (subst (IsOriginOf n s k) end.1 fit).1
+      ]
+
+  pub origins_more : HasOrigins n (read_number n s (k + 1)) after
+  origins_more = record {
+    total = omega (arith, ap length is, length_push sources o, h.total);
+    each = each_more;
+    in_range = range_more;
+  }
+
+-- Before the first, and behind the last
+
+pub no_origins : (n : Nest) → HasOrigins n (read_number n 0 0) []
+no_origins n = record {
+  total = refl;
+  each = λ p q x lt at. absurd (let none : None ≡ Some x = at in cc);
+  in_range = λ j tree at. absurd (let none : None ≡ Some (origin.Tree tree) = at in cc);
+}
+
+pub origins_whole : (n : Nest) (s : ℕ) (sources : List Origin) → s ≡ length n.statements
+    → HasOrigins n (read_number n s 0) sources → HasOrigins n (read_total n) sources
+origins_whole n s sources all h =
+    let reads : List Statement → ℕ = λ sts. sum_by (λ (st : Statement). length st.reads) sts in
+    let whole : read_number n s 0 ≡ read_total n =
+    omega (arith, ap (λ (i : ℕ). read_number n i 0) all, ap reads (take_all n.statements)) in
+    subst (λ (count : ℕ). HasOrigins n count sources) whole h
+
+-- so the trees of a certificate with these origins are usable
+pub origins_are_usable : (n : Nest) (cert : Cert) → HasOrigins n (read_total n) cert.sources → AreUsable n cert
+origins_are_usable n cert h s k tree lt is = (h.each s k (origin.Tree tree) lt is).0

@@ -1,0 +1,6 @@
+use Rattle.net_maker.specs.Certificates.{HasOrigins}
+use Rattle.source_tree.specs.Sources.{read_number}
+use Rattle.net_maker.proofs.origins.add_origins.Given as goal
+
+abbrev pub invariant-loop-read : goal.invariant-loop-read
+invariant-loop-read l = HasOrigins l.nest (read_number l.nest l.statement l.read) l.sources

@@ -1,0 +1,16 @@
+use Rattle.std.proofs.Common.{ℤ, List, [], length, get_or, slice_get, sym, ap, ◌∙◌, arith}
+use Rattle.sanlp.proofs.NestFacts.{points_length}
+use Rattle.net_checker.proofs.Ready.{ready_at}
+use Rattle.net_maker.proofs.origins.origin.Goals as goal
+
+pub source_within-requires-clause-class : goal.source_within-requires-clause-class
+source_within-requires-clause-class c = c.in_difference_class.ensures.0 c.if-not-in_difference_class.false
+
+pub may_stand-requires-clause-statement : goal.may_stand-requires-clause-statement
+may_stand-requires-clause-statement c =
+    omega (arith, c.requires.statement, points_length c.args.nest.now, ap length c.requires.points)
+
+pub may_stand-requires-clause-ready : goal.may_stand-requires-clause-ready
+may_stand-requires-clause-ready c = λ f at is.
+    ready_at c.args.nest.now c.args.statement c.args.read c.in-Some.tree (rw c.in-Some.is at c.in_ok-made.ensures) f at
+    (ap (λ (of : List (List (List ℤ))). slice_get (get_or of c.args.statement []) f) (sym c.requires.points) ∙ is)

@@ -1,0 +1,6 @@
+use Rattle.net_maker.specs.Certificates.{HasOrigins}
+use Rattle.source_tree.specs.Sources.{read_number}
+use Rattle.net_maker.proofs.origins.origins.Given as goal
+
+abbrev pub invariant-loop-statement : goal.invariant-loop-statement
+invariant-loop-statement l = HasOrigins l.nest (read_number l.nest l.statement 0) l.sources

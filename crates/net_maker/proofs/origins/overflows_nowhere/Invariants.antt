@@ -1,0 +1,9 @@
+use Rattle.std.proofs.Common.{◌≡◌, ◌<◌, ℕ, ℤ, List}
+use Rattle.std.specs.Prelude.{None, Some, slice_get}
+use Rattle.source_tree.specs.Walk.{outcome_of}
+use Rattle.net_maker.proofs.origins.overflows_nowhere.Given as goal
+
+-- the tree overflows at none of the points so far
+abbrev pub invariant-loop-at : goal.invariant-loop-at
+invariant-loop-at l =
+    (f : ℕ) (at : List ℤ) → f < l.at-index → slice_get l.vectors f ≡ Some at → outcome_of l.tree at ≡ None → ⊥

@@ -6,7 +6,7 @@ use Rattle.std.proofs.lemmas.Bool.Decides.{nat_tests}
 use Rattle.witness_plan.specs.declared.schedules.Policy.{Policy}
 use Rattle.loop_class.specs.Names.{value_named}
 use Rattle.command_line.specs.declared.words.Command.{Command}
-use Rattle.command_line.specs.declared.words.Command.TheVariants.{Run, Seq, Net, Cert, Check, Vhdl, Load, Sim, Trim, Trace}
+use Rattle.command_line.specs.declared.words.Command.TheVariants.{Run, Seq, Net, Cert, Check, Deps, Vhdl, Load, Sim, Trim, Trace}
 use Rattle.command_line.specs.declared.words.Order.{Order}
 use Rattle.command_line.specs.Words.{Text, Param, Split, with_policy, is_option, command_of, number_of, param_of}
 use Rattle.command_line.specs.Words.{params_with, policy_named, policy_of, load_order, params_order, order_with}
@@ -115,6 +115,7 @@ with_none policy Seq before word later e = others_none policy Seq before word la
 with_none policy Net before word later e = others_none policy Net before word later e
 with_none policy Cert before word later e = others_none policy Cert before word later e
 with_none policy Check before word later e = others_none policy Check before word later e
+with_none policy Deps before word later e = others_none policy Deps before word later e
 with_none policy Vhdl before word later e = others_none policy Vhdl before word later e
 with_none policy Load before word later e = load_none policy before word later e
 with_none policy Sim before word later e = others_none policy Sim before word later e

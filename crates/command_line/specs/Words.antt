@@ -10,7 +10,7 @@ use Rattle.loop_lex.specs.Lexical.{is_name}
 use Rattle.witness_plan.specs.declared.schedules.Policy.{Policy}
 use Rattle.witness_plan.specs.declared.schedules.Policy.TheVariants as policy
 use Rattle.command_line.specs.declared.words.Command.{Command}
-use Rattle.command_line.specs.declared.words.Command.TheVariants.{Run, Seq, Net, Cert, Check, Vhdl, Load, Sim, Trim, Trace}
+use Rattle.command_line.specs.declared.words.Command.TheVariants.{Run, Seq, Net, Cert, Check, Deps, Vhdl, Load, Sim, Trim, Trace}
 use Rattle.command_line.specs.declared.words.Order.{Order}
 
 abbrev pub Text : Type 0
@@ -105,12 +105,13 @@ command_of word =
     else (if bytes_eq word (codes "net") then Some Net
     else (if bytes_eq word (codes "cert") then Some Cert
     else (if bytes_eq word (codes "check") then Some Check
+    else (if bytes_eq word (codes "deps") then Some Deps
     else (if bytes_eq word (codes "vhdl") then Some Vhdl
     else (if bytes_eq word (codes "load") then Some Load
     else (if bytes_eq word (codes "sim") then Some Sim
     else (if bytes_eq word (codes "trim") then Some Trim
     else (if bytes_eq word (codes "trace") then Some Trace
-    else None)))))))))
+    else None))))))))))
 
 abbrev pub policy_named : Text → Option Policy
 policy_named value =

@@ -25,7 +25,7 @@ fn order_of(alloc: Global, words: &[&str]) -> Result<Option<(Command, Policy)>, 
 
 #[test]
 fn a_command_is_taken(rt: HostRuntime) -> Result<(), Fail> {
-    let taken: [(&[&str], Command); 16] = [
+    let taken: [(&[&str], Command); 17] = [
         (&["run"], Command::Run),
         (
             &["run", "N=4", "_m1=-007", "inn=999999999999999999", "z=-0"],
@@ -41,6 +41,7 @@ fn a_command_is_taken(rt: HostRuntime) -> Result<(), Fail> {
         (&["net", "N=1"], Command::Net),
         (&["cert"], Command::Cert),
         (&["check", "M=2"], Command::Check),
+        (&["deps", "N=1"], Command::Deps),
         (&["vhdl", "N=1"], Command::Vhdl),
         (&["sim", "N=1"], Command::Sim),
         (&["trim", "N=1"], Command::Trim),

@@ -30,6 +30,8 @@ pub enum Command {
     Cert,
     /// Check the certificate that the bundle has.
     Check,
+    /// Write where each read has its values from.
+    Deps,
     /// Write the network as VHDL.
     Vhdl,
     /// Multiply matrices of a size by the network, and write what that came to.
@@ -208,6 +210,8 @@ fn command_of(word: &[u8]) -> Option<Command>
         Some(Command::Cert)
     } else if word == b"check".as_slice() {
         Some(Command::Check)
+    } else if word == b"deps".as_slice() {
+        Some(Command::Deps)
     } else if word == b"vhdl".as_slice() {
         Some(Command::Vhdl)
     } else if word == b"load".as_slice() {

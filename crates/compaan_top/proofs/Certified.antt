@@ -7,7 +7,7 @@ use Rattle.bundle_laws.specs.Certified.{certified, with_line_end}
 use Rattle.cert_text.specs.StandsFor.{IsWrittenOf, StandsFor}
 use Rattle.command_line.specs.Bundle.{after_separator, certificate_part, source_part}
 use Rattle.command_line.specs.declared.words.Command.{Command}
-use Rattle.command_line.specs.declared.words.Command.TheVariants.{Cert}
+use Rattle.command_line.specs.declared.words.Command.TheVariants as command
 use Rattle.command_line.specs.declared.words.Order.{Order}
 use Rattle.loop_class.specs.Binding.{IsBound, Parts, assembled, body_made, findings, nest_of}
 use Rattle.loop_grammar.specs.Grammar.{Derives}
@@ -29,9 +29,9 @@ use Rattle.std.specs.Io.KnownBytes.{Appends}
 use Rattle.std.proofs.lemmas.List.{append_cancel_left}
 use Rattle.std.proofs.lemmas.List.Elements.{Contains-append_right}
 use Rattle.loop_walk.specs.declared.count.SizeError.{SizeError}
-use Rattle.net_checker.specs.Fits.{Fits}
-use Rattle.net_maker.specs.Certificates.{cert_of}
+use Rattle.net_maker.specs.Certificates.{IsCertificate}
 use Rattle.sanlp.specs.declared.nest.Nest.{Nest}
+use Rattle.source_tree.specs.declared.cert.Cert.{Cert}
 use Rattle.std.specs.Prelude.{Contains, IfOk}
 use Rattle.witness_plan.specs.declared.schedules.Policy.{Policy}
 use Rattle.witness_plan.specs.Schedules.{planned_network}
@@ -54,14 +54,10 @@ use Rattle.compaan_top.proofs.Told.{check_told, comes_to, says_accepted}
 use Rattle.compaan_top.proofs.Vouched.{five_is_not_zero, not_zero, same_order}
 
 -- the laws below
-abbrev pub PlannedFits : Type 0
-PlannedFits = (n : Nest) (policy : Policy) → Fits n (planned_network n policy) (cert_of n policy)
-
-abbrev pub PlannedStands : Type 0
-PlannedStands =
-    (n : Nest) (policy : Policy) (text : List ℕ) → SizeIsOk n
-    → IsWrittenOf text (planned_network n policy) (cert_of n policy)
-    → StandsFor text (planned_network n policy) (cert_of n policy)
+abbrev pub WrittenStands : Type 0
+WrittenStands =
+    (n : Nest) (policy : Policy) (cert : Cert) (text : List ℕ) → SizeIsOk n → IsCertificate n policy cert
+    → IsWrittenOf text (planned_network n policy) cert → StandsFor text (planned_network n policy) cert
 
 abbrev pub TokensStay : Type 0
 TokensStay = (source : List ℕ) → tokens (with_line_end source) ≡ tokens source
@@ -198,10 +194,12 @@ rebound source a b nest agree binding = record {
 
 pub record HasWritten (params : List (List ℕ × ℤ)) (policy : Policy) (bundle text : List ℕ) : Type 0 where
   pub nest : Nest
+  pub cert : Cert
   pub total : ℕ
   pub binding : HasBinding (source_part bundle) params nest
   pub counts : counted nest ≡ Ok total
-  pub is : IsWrittenOf text (planned_network nest policy) (cert_of nest policy)
+  pub certificate : IsCertificate nest policy cert
+  pub is : IsWrittenOf text (planned_network nest policy) cert
 
 record HasTotal (source : List ℕ) (params : List (List ℕ × ℤ)) (nest : Nest) : Type 0 where
   total : ℕ
@@ -220,25 +218,27 @@ prints_written : (order : Order) (bundle : List ℕ) {answer : Result Reply Refu
     → HasWritten order.params order.policy bundle (outcome_of answer).output
 prints_written order bundle (source_refused refusal gives) zero =
     absurd (not_zero (refusal_status refusal) (sized_refused (source_part bundle) order.params gives) zero)
-prints_written order bundle (printed nest text gives written) zero =
+prints_written order bundle (printed nest cert text gives certificate written) zero =
     let made : HasTotal (source_part bundle) order.params nest =
     total_of (source_part bundle) order.params nest gives refl in
     record {
       nest = nest;
+      cert = cert;
       total = made.total;
       binding =
           binding_of (source_part bundle) order.params nest made.gives refl;
       counts = made.counts;
+      certificate = certificate;
       is = written;
     }
 
-performs_written : (order : Order) (bundle : List ℕ) (answer : Result Reply Refusal) → order.command ≡ Cert
+performs_written : (order : Order) (bundle : List ℕ) (answer : Result Reply Refusal) → order.command ≡ command.Cert
     → Performs order.command order bundle answer
     → (outcome_of answer).status ≡ 0 → HasWritten order.params order.policy bundle (outcome_of answer).output
 performs_written order bundle answer is made zero =
     prints_written order bundle (subst (λ (c : Command). Performs c order bundle answer) is made) zero
 
-outcome_written : (order : Order) (bundle : List ℕ) {written : Outcome} → order.command ≡ Cert
+outcome_written : (order : Order) (bundle : List ℕ) {written : Outcome} → order.command ≡ command.Cert
     → IsOutcome (Some order) bundle written → written.status ≡ 0
     → HasWritten order.params order.policy bundle written.output
 outcome_written order bundle is (words_refused none) zero = absurd (no_order (Some order) order none refl)
@@ -253,10 +253,11 @@ rewritten : (a b : List (List ℕ × ℤ)) (policy : Policy) (bundle text : List
 rewritten a b policy bundle text agree w =
     record {
       nest = w.nest;
+      cert = w.cert;
       total = w.total;
       binding = rebound (source_part bundle) a b w.nest agree w.binding;
-      counts =
-          w.counts;
+      counts = w.counts;
+      certificate = w.certificate;
       is = w.is;
     }
 
@@ -269,20 +270,20 @@ size_ok n total counts =
     (size_of_ok n (counted n) refl) in
     whole.1
 
-fitting : PlannedFits → PlannedStands → TokensStay → SentenceStays
+fitting : WrittenStands → TokensStay → SentenceStays
     → (params : List (List ℕ × ℤ)) (policy : Policy) (bundle other text : List ℕ) → HasWritten params policy bundle text
     → HasCertificate bundle other text → HasFittingCertificate params other
-fitting fits stands tokens_stay sentence_stays params policy bundle other text w has = record {
+fitting stands tokens_stay sentence_stays params policy bundle other text w has = record {
   nest = w.nest;
   network = planned_network w.nest policy;
-  cert = cert_of w.nest policy;
+  cert = w.cert;
   gives = sized.within_size w.nest w.total
       (subst (λ (source : List ℕ). Gives source params (Ok w.nest)) (sym has.source)
       (gives_ended tokens_stay sentence_stays (source_part bundle) params w.nest w.binding)) w.counts;
   text = text;
   is_part = has.certificate;
-  stands = stands w.nest policy text (size_ok w.nest w.total w.counts) w.is;
-  fits = fits w.nest policy;
+  stands = stands w.nest policy w.cert text (size_ok w.nest w.total w.counts) w.certificate w.is;
+  fits = w.certificate.fits;
 }
 
 -- ---- calls
@@ -304,22 +305,23 @@ appended (Some x) (Some y) held text gained grown before after =
     (sym grown ∙ same_value y (held ++ text) after
     ∙ ap (λ (h : List ℕ). h ++ text) (sym (same_value x held before)))
 
--- what is written stands for the planned pair, which fits the nest
-pub stands_planned : PlannedFits → PlannedStands → (cert : Order) (bundle : List ℕ) (written : Outcome)
+-- what is written stands for the planned network and a certificate of it
+pub stands_planned : WrittenStands → (cert : Order) (bundle : List ℕ) (written : Outcome)
     → Certifies cert bundle written → StandsForPlanned cert bundle written.output
-stands_planned fits stands cert bundle written made =
+stands_planned stands cert bundle written made =
     let w : HasWritten cert.params cert.policy bundle written.output =
     outcome_written cert bundle made.command made.outcome made.done in
     let b : HasBinding (source_part bundle) cert.params w.nest = w.binding in
     record {
       nest = w.nest;
+      cert = w.cert;
       gives = sized.within_size w.nest w.total (bound b.found b.tree w.nest b.lexed b.parsed b.is) w.counts;
-      stands = stands w.nest cert.policy written.output (size_ok w.nest w.total w.counts) w.is;
-      fits = fits w.nest cert.policy;
+      stands = stands w.nest cert.policy w.cert written.output (size_ok w.nest w.total w.counts) w.certificate w.is;
+      certificate = w.certificate;
     }
 
-module _ (accepts : (wanted : Option Order) (bundle : List ℕ) → AcceptsWhatFits wanted bundle) (fits : PlannedFits)
-    (stands : PlannedStands) (tokens_stay : TokensStay) (sentence_stays : SentenceStays) where
+module _ (accepts : (wanted : Option Order) (bundle : List ℕ) → AcceptsWhatFits wanted bundle)
+    (stands : WrittenStands) (tokens_stay : TokensStay) (sentence_stays : SentenceStays) where
   pub accepts_parts : (cert check : Order) (bundle other : List ℕ) (written : Outcome)
       → AgreeOn (source_part bundle) cert.params check.params → Certifies cert bundle written
       → HasCertificate bundle other written.output → Accepts check other
@@ -328,7 +330,7 @@ module _ (accepts : (wanted : Option Order) (bundle : List ℕ) → AcceptsWhatF
       rewritten cert.params check.params cert.policy bundle written.output agree
       (outcome_written cert bundle made.command made.outcome made.done) in
       (accepts (Some check) other check refl is within outcome outcome_is).1
-      (fitting fits stands tokens_stay sentence_stays check.params cert.policy bundle other written.output w has)
+      (fitting stands tokens_stay sentence_stays check.params cert.policy bundle other written.output w has)
 
   module _ (no_separator : (bundle : List ℕ) → after_separator (source_part bundle) ≡ None)
       (makes_none : (source : List ℕ) (found : List Token) → after_separator source ≡ None → tokens source ≡ Ok found

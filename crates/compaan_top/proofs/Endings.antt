@@ -5,7 +5,7 @@ use Rattle.std.specs.Io.KnownBytes.{Appends}
 use Rattle.std.proofs.KnownBytes.{Appends-nil, Consumes-nil, Keeps-refl}
 use Rattle.io_edge.specs.Causes.{AppendsFront}
 use Rattle.command_line.specs.declared.words.Command.{Command}
-use Rattle.command_line.specs.declared.words.Command.TheVariants.{Run, Seq, Net, Cert, Check, Vhdl, Load, Sim, Trim, Trace}
+use Rattle.command_line.specs.declared.words.Command.TheVariants.{Run, Seq, Net, Cert, Check, Deps, Vhdl, Load, Sim, Trim, Trace}
 use Rattle.command_line.specs.declared.words.Order.{Order}
 use Rattle.compaan_top.specs.Answers.{Change, IsQuiet, HasFault, IsRead, ReadsFor, ReadsTo, TakesAtMost, most_taken}
 use Rattle.compaan_top.specs.Answers.{Ends, no_memory, read_fault, written, cut_short}
@@ -99,6 +99,7 @@ quiet_reads Seq quiet = λ e. cc
 quiet_reads Net quiet = λ e. cc
 quiet_reads Cert quiet = λ e. cc
 quiet_reads Check quiet = λ e. cc
+quiet_reads Deps quiet = λ e. cc
 quiet_reads Vhdl quiet = λ e. cc
 quiet_reads Load quiet = λ e. cc
 quiet_reads Sim quiet = λ e. cc

@@ -15,4 +15,6 @@ pub mod Traced
 pub mod Vouched
 pub mod Loads
 pub mod Described
+pub mod TellsSources
+pub mod Unlimited
 mod Wrapped

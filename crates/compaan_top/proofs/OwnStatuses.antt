@@ -4,7 +4,7 @@ use Rattle.std.proofs.Common.{Result, Ok, Err, refl, sym, subst, inl, inr}
 use Rattle.std.proofs.lemmas.Bool.{or_right}
 use Rattle.command_line.specs.Bundle.{source_part, data_part}
 use Rattle.command_line.specs.declared.words.Command.{Command}
-use Rattle.command_line.specs.declared.words.Command.TheVariants.{Run, Seq, Net, Cert, Check, Vhdl, Load, Sim, Trim, Trace}
+use Rattle.command_line.specs.declared.words.Command.TheVariants.{Run, Seq, Net, Cert, Check, Deps, Vhdl, Load, Sim, Trim, Trace}
 use Rattle.command_line.specs.declared.words.Order.{Order}
 use Rattle.io_edge.specs.InMemory.{is_among}
 use Rattle.loop_class.specs.declared.error.BindError.{BindError}
@@ -37,6 +37,8 @@ use Rattle.compaan_top.specs.Refusals.{byte_of, lex_refusal, bind_refusal, refus
 use Rattle.compaan_top.specs.Replies.{Reply}
 use Rattle.compaan_top.specs.Run.{Runs, IsInputs, run_text, source_refused, data_refused, answered}
 use Rattle.compaan_top.specs.Simulating.{simulation_text}
+use Rattle.compaan_top.specs.Telling as telling
+use Rattle.compaan_top.specs.Telling.{TellsSources}
 use Rattle.compaan_top.specs.Tracing as tracing
 use Rattle.compaan_top.specs.Tracing.{Traces}
 use Rattle.compaan_top.specs.Trimming.{trimming_text}
@@ -127,7 +129,7 @@ certificate_own : (policy : Policy) (params : List (List ℕ × ℤ)) (bundle : 
 certificate_own policy params bundle (certify.source_refused r g) =
     among (command_statuses source_alone) (refusal_status r) refl refl refl
     (sized_refused (source_part bundle) params g)
-certificate_own policy params bundle (certify.printed n t g w) = refl
+certificate_own policy params bundle (certify.printed n c t g is w) = refl
 
 verdict_own : (found : Option NetRefusal)
     → is_among (command_statuses source_and_certificate) (verdict_reply (verdict_of found)).status ≡ true
@@ -163,6 +165,14 @@ traces_own policy params bundle (tracing.source_refused r g) =
     (sized_refused (source_part bundle) params g)
 traces_own policy params bundle (tracing.traced n run g e) = refl
 
+tells_own : (params : List (List ℕ × ℤ)) (bundle : List ℕ) {x : Result Reply Refusal} → TellsSources params bundle x
+    → HasStatus source_alone x
+tells_own params bundle (telling.source_refused r g) =
+    among (command_statuses source_alone) (refusal_status r) refl refl refl
+    (gives_refused (source_part bundle) params g)
+tells_own params bundle (telling.size_refused n e g some c) = rw (size_status e) refl
+tells_own params bundle (telling.told n t text g small tells) = refl
+
 performs_own : (command : Command) (order : Order) (bundle : List ℕ) (x : Result Reply Refusal)
     → Performs command order bundle x → HasStatus (reads_of command) x
 performs_own Run order bundle x made = runs_own run_text order.params bundle made
@@ -170,6 +180,7 @@ performs_own Seq order bundle x made = runs_own run_text order.params bundle mad
 performs_own Net order bundle x made = prints_own (network_text order.policy) order.params bundle made
 performs_own Cert order bundle x made = certificate_own order.policy order.params bundle made
 performs_own Check order bundle x made = checks_own order.params bundle made
+performs_own Deps order bundle x made = tells_own order.params bundle made
 performs_own Vhdl order bundle x made = describes_own order.policy order.params bundle made
 performs_own Load order bundle x made = loads_own order.policy order.load made
 performs_own Sim order bundle x made = runs_own (simulation_text order.policy) order.params bundle made

@@ -3,7 +3,7 @@ use Rattle.std.proofs.Common.{◌≡◌, ℕ, ℤ, List, Result, Ok, Err, sym, s
 use Rattle.cert_text.specs.StandsFor.{IsWrittenOf}
 use Rattle.command_line.specs.Bundle.{source_part}
 use Rattle.net_core.specs.declared.network.Network.{Network}
-use Rattle.net_maker.specs.Certificates.{cert_of}
+use Rattle.net_maker.specs.Certificates.{IsCertificate}
 use Rattle.sanlp.specs.declared.nest.Nest.{Nest}
 use Rattle.source_tree.specs.declared.cert.Cert.{Cert}
 use Rattle.witness_plan.specs.declared.schedules.Policy.{Policy}
@@ -56,9 +56,8 @@ certificate_without_nest policy params bundle source Memory is step = tt
 
 pub prints_certificate : (policy : Policy) (params : List (List ℕ × ℤ)) (bundle source text : List ℕ) (nest : Nest)
     (network : Network) (cert : Cert) → source ≡ source_part bundle
-    → GivesWithinSize source params (Ok nest) → network ≡ planned_network nest policy → cert ≡ cert_of nest policy
+    → GivesWithinSize source params (Ok nest) → network ≡ planned_network nest policy → IsCertificate nest policy cert
     → IsWrittenOf text network cert → PrintsCertificate policy params bundle (Ok (done text))
 prints_certificate policy params bundle source text nest network cert is gives planned certified written =
-    certify.printed nest text (nest_is params bundle source (Ok nest) is gives)
-    (subst (λ (c : Cert). IsWrittenOf text (planned_network nest policy) c) certified
-    (subst (λ (n : Network). IsWrittenOf text n cert) planned written))
+    certify.printed nest cert text (nest_is params bundle source (Ok nest) is gives) certified
+    (subst (λ (n : Network). IsWrittenOf text n cert) planned written)

@@ -2,6 +2,9 @@
 use Rattle.std.proofs.Common.{◌≡◌, ◌≤◌, ℕ, suc, ℤ, List, [], length, drop, Option, Some, None, Result, Ok, Err, refl}
 use Rattle.std.proofs.Common.{sym, ap, ◌∙◌, subst, arith, map, inl, inr, take-append-drop}
 use Rattle.sanlp.specs.WellFormed.{IsWellFormed}
+use Rattle.std.specs.Prelude.{◌<◌, IsTrue, slice_get}
+use Rattle.std.specs.List.{list_all}
+use Rattle.std.specs.Option.{option_and_then, option_map, option_map_or}
 use Rattle.std.proofs.lemmas.Bool.{cases_lt}
 use Rattle.loop_lex.specs.Tokens.{tokens}
 use Rattle.loop_lex.specs.declared.token.Token.{Token}
@@ -38,21 +41,23 @@ use Rattle.sanlp.specs.declared.nest.Inputs.{Inputs}
 use Rattle.command_line.specs.Bundle.{certificate_part, data_part, source_part}
 use Rattle.command_line.specs.declared.words.Order.{Order}
 use Rattle.command_line.specs.declared.words.Command.{Command}
-use Rattle.command_line.specs.declared.words.Command.TheVariants.{Run, Seq, Net, Cert, Check, Vhdl, Load, Sim, Trim, Trace}
+use Rattle.command_line.specs.declared.words.Command.TheVariants.{Run, Seq, Net, Cert, Check, Deps, Vhdl, Load, Sim, Trim, Trace}
 use Rattle.compaan_top.specs.Certifying as certify
 use Rattle.compaan_top.specs.Certifying.{PrintsCertificate}
 use Rattle.compaan_top.specs.Checking as check
 use Rattle.compaan_top.specs.Checking.{Checks, verdict_reply}
 use Rattle.compaan_top.specs.Commands.{reads_of, source_and_certificate}
 use Rattle.channel_plan.specs.Plans.{plans_of}
+use Rattle.lex_max.specs.Class.{writes_differences}
 use Rattle.node_automata.specs.declared.node.NodeAuto.{NodeAuto}
 use Rattle.process_derive.specs.Derived.{net}
 use Rattle.source_tree.specs.Sources.{sources_of}
+use Rattle.source_tree.specs.Systems.{Occurrence, writes_from}
 use Rattle.vhdl_text.specs.Refusal.{first_too_long}
 use Rattle.witness_plan.specs.Sequential.{sequential_schedule}
 use Rattle.compaan_top.specs.Describing as describe
 use Rattle.compaan_top.specs.Describing.{Describes, planned_automata}
-use Rattle.compaan_top.specs.Laws.{HasParts, IsDone, IsNestFor, IsValid, IsWithinOwnLimit}
+use Rattle.compaan_top.specs.Laws.{HasParts, IsDone, IsNestFor, IsValid, IsWithinOwnLimit, IsWithinSizeFor}
 use Rattle.compaan_top.specs.Load as load
 use Rattle.compaan_top.specs.Load.{Loads, load_limit}
 use Rattle.matrix_load.specs.Product.{IsMatrixNest, matrix_product, size_given}
@@ -64,6 +69,8 @@ use Rattle.compaan_top.specs.Replies.{Reply}
 use Rattle.compaan_top.specs.Refusals.{byte_of, lex_refusal, bind_refusal, size_refusal, data_refusal, refusal_status}
 use Rattle.compaan_top.specs.Run.{Runs, IsInputs, run_text, source_refused, data_refused, answered}
 use Rattle.compaan_top.specs.Simulating.{simulation_text}
+use Rattle.compaan_top.specs.Telling as telling
+use Rattle.compaan_top.specs.Telling.{IsSmallWhereSwept, IsSwept, TellsSources}
 use Rattle.compaan_top.specs.Tracing as tracing
 use Rattle.compaan_top.specs.Tracing.{Traces}
 use Rattle.compaan_top.specs.Trimming.{trimming_text}
@@ -325,11 +332,11 @@ certificates_alike : OneTree
     → PrintsCertificate policy params bundle x → PrintsCertificate policy params bundle y → SameStatus x y
 certificates_alike one policy params bundle (certify.source_refused r g) (certify.source_refused s h) =
     sized_alike one (source_part bundle) params g h
-certificates_alike one policy params bundle (certify.source_refused r g) (certify.printed m t h w) =
+certificates_alike one policy params bundle (certify.source_refused r g) (certify.printed m c t h is w) =
     absurd (sized_alike one (source_part bundle) params g h)
-certificates_alike one policy params bundle (certify.printed n t g w) (certify.source_refused s h) =
+certificates_alike one policy params bundle (certify.printed n c t g is w) (certify.source_refused s h) =
     absurd (sized_alike one (source_part bundle) params g h)
-certificates_alike one policy params bundle (certify.printed n t g w) (certify.printed m u h v) = refl
+certificates_alike one policy params bundle (certify.printed n c t g is w) (certify.printed m d u h was v) = refl
 
 pub no_part_there : (bundle part : List ℕ) → certificate_part bundle ≡ None → certificate_part bundle ≡ Some part → ⊥
 no_part_there bundle part none there = cc
@@ -459,6 +466,41 @@ traces_alike one policy params bundle (tracing.traced n run g e) (tracing.source
     absurd (sized_alike one (source_part bundle) params g h)
 traces_alike one policy params bundle (tracing.traced n run g e) (tracing.traced m other h f) = refl
 
+-- whether some read has no tree is a matter of the statements
+abbrev StatementsHaveTrees : List Statement → Type 0
+StatementsHaveTrees statements =
+    (s k : ℕ) → k < option_map_or (λ st. length st.reads) (slice_get statements s) 0
+    → (r : Occurrence)
+    × (option_and_then
+    (λ st. option_map (λ access. record { number = s; statement = st; access = access }) (slice_get st.reads k))
+    (slice_get statements s) ≡ Some r)
+    × IsTrue (list_all writes_differences (writes_from r.access.array 0 statements))
+
+swept_alike : (n m : Nest) → n.statements ≡ m.statements → IsSwept n → IsSwept m
+swept_alike n m same some all = some (subst StatementsHaveTrees (sym same) all)
+
+tells_alike : OneTree → (params : List (List ℕ × ℤ)) (bundle : List ℕ) {x y : Result Reply Refusal}
+    → TellsSources params bundle x → TellsSources params bundle y → SameStatus x y
+tells_alike one params bundle (telling.source_refused r g) (telling.source_refused s h) =
+    gives_alike one (source_part bundle) params g h
+tells_alike one params bundle (telling.source_refused r g) (telling.size_refused m f h some d) =
+    absurd (gives_alike one (source_part bundle) params g h)
+tells_alike one params bundle (telling.source_refused r g) (telling.told m u text h small tells) =
+    absurd (gives_alike one (source_part bundle) params g h)
+tells_alike one params bundle (telling.size_refused n e g some c) (telling.source_refused s h) =
+    absurd (gives_alike one (source_part bundle) params g h)
+tells_alike one params bundle (telling.size_refused n e g some c) (telling.size_refused m f h other d) =
+    size_status e ∙ sym (size_status f)
+tells_alike one params bundle (telling.size_refused n e g some c) (telling.told m u text h small tells) =
+    let same = gives_alike one (source_part bundle) params g h in
+    absurd (no_both_sizes n m e u same.2 c (small (swept_alike n m same.1 some)))
+tells_alike one params bundle (telling.told n t text g small tells) (telling.source_refused s h) =
+    absurd (gives_alike one (source_part bundle) params g h)
+tells_alike one params bundle (telling.told n t text g small tells) (telling.size_refused m f h some d) =
+    let same = gives_alike one (source_part bundle) params h g in
+    absurd (no_both_sizes m n f t same.2 d (small (swept_alike m n same.1 some)))
+tells_alike one params bundle (telling.told n t text g small tells) (telling.told m u other h few told) = refl
+
 performs_alike : OneTree → (command : Command) (order : Order) (bundle : List ℕ) (x y : Result Reply Refusal)
     → Performs command order bundle x → Performs command order bundle y → SameStatus x y
 performs_alike one Run order bundle x y made other = runs_alike one run_text order.params bundle made other
@@ -468,6 +510,7 @@ performs_alike one Net order bundle x y made other =
 performs_alike one Cert order bundle x y made other =
     certificates_alike one order.policy order.params bundle made other
 performs_alike one Check order bundle x y made other = checks_alike one order.params bundle made other
+performs_alike one Deps order bundle x y made other = tells_alike one order.params bundle made other
 performs_alike one Vhdl order bundle x y made other = describes_alike one order.policy order.params bundle made other
 performs_alike one Load order bundle x y made other = loads_alike one order.policy order.load made other
 performs_alike one Sim order bundle x y made other =
@@ -526,7 +569,7 @@ certificate_done : OneTree → (policy : Policy) (params : List (List ℕ × ℤ
     → PrintsCertificate policy params bundle x → (outcome_of x).status ≡ 0
 certificate_done one policy params bundle n gives (certify.source_refused r g) =
     absurd (sized_alike one (source_part bundle) params gives g)
-certificate_done one policy params bundle n gives (certify.printed m t g w) = refl
+certificate_done one policy params bundle n gives (certify.printed m c t g is w) = refl
 
 traces_done : OneTree → (policy : Policy) (params : List (List ℕ × ℤ)) (bundle : List ℕ) (n : Nest)
     → GivesWithinSize (source_part bundle) params (Ok n)
@@ -535,9 +578,20 @@ traces_done one policy params bundle n gives (tracing.source_refused r g) =
     absurd (sized_alike one (source_part bundle) params gives g)
 traces_done one policy params bundle n gives (tracing.traced m run g e) = refl
 
+tells_done : OneTree → (params : List (List ℕ × ℤ)) (bundle : List ℕ) (n : Nest) (total : ℕ)
+    → Gives (source_part bundle) params (Ok n) → IsSmallWhereSwept n total
+    → {x : Result Reply Refusal} → TellsSources params bundle x → (outcome_of x).status ≡ 0
+tells_done one params bundle n total gives small (telling.source_refused r g) =
+    absurd (gives_alike one (source_part bundle) params gives g)
+tells_done one params bundle n total gives small (telling.size_refused m e h some c) =
+    let same = gives_alike one (source_part bundle) params h gives in
+    absurd (no_both_sizes m n e total same.2 c (small (swept_alike m n same.1 some)))
+tells_done one params bundle n total gives small (telling.told m t text h few tells) = refl
+
 performs_done : OneTree → (command : Command) (order : Order) (bundle : List ℕ)
     → (n : Nest) (total : ℕ) (inputs : Inputs)
-    → IsNestFor (reads_of command) order bundle n → counted n ≡ Ok total → IsWithinOwnLimit command order.policy n
+    → IsNestFor (reads_of command) order bundle n → IsWithinSizeFor command n total
+    → IsWithinOwnLimit command order.policy n
     → HasParts (reads_of command) n bundle inputs
     → (x : Result Reply Refusal) → Performs command order bundle x → IsDone (reads_of command) (outcome_of x).status
 performs_done one Run order bundle n total inputs gives counts limited has x made =
@@ -551,6 +605,8 @@ performs_done one Cert order bundle n total inputs gives counts limited has x ma
     certificate_done one order.policy order.params bundle n (sized.within_size n total gives counts) made
 performs_done one Check order bundle n total inputs gives counts limited has x made =
     checks_done one order.params bundle n has.0 (sized.within_size n total gives counts) has.1 made
+performs_done one Deps order bundle n total inputs gives counts limited has x made =
+    tells_done one order.params bundle n total gives counts made
 performs_done one Vhdl order bundle n total inputs gives counts limited has x made =
     describes_alike one order.policy order.params bundle made
     (describe.described n (sized.within_size n total gives counts) limited)

@@ -3,7 +3,7 @@ use Rattle.std.specs.Prelude.{◌≡◌, ◌≤◌, ℕ, ℤ, List, ◌++◌, le
 use Rattle.bundle_laws.specs.Certified.{with_line_end}
 use Rattle.cert_text.specs.StandsFor.{StandsFor}
 use Rattle.command_line.specs.Bundle.{certificate_part, source_part}
-use Rattle.command_line.specs.declared.words.Command.TheVariants.{Cert, Check}
+use Rattle.command_line.specs.declared.words.Command.TheVariants as command
 use Rattle.command_line.specs.declared.words.Order.{Order}
 use Rattle.loop_class.specs.Names.{value_named}
 use Rattle.loop_grammar.specs.Lexemes.{IsTree}
@@ -13,9 +13,9 @@ use Rattle.loop_grammar.specs.declared.tree.Named.{Named}
 use Rattle.loop_grammar.specs.declared.tree.Tree.{Tree}
 use Rattle.loop_lex.specs.Tokens.{tokens}
 use Rattle.loop_lex.specs.declared.token.Token.{Token}
-use Rattle.net_checker.specs.Fits.{Fits}
-use Rattle.net_maker.specs.Certificates.{cert_of}
+use Rattle.net_maker.specs.Certificates.{IsCertificate}
 use Rattle.sanlp.specs.declared.nest.Nest.{Nest}
+use Rattle.source_tree.specs.declared.cert.Cert.{Cert}
 use Rattle.witness_plan.specs.Schedules.{planned_network}
 use Rattle.compaan_top.specs.Answers.{Change, Ends}
 use Rattle.compaan_top.specs.Headline.{accepted}
@@ -40,17 +40,18 @@ AgreeOn source a b =
 
 -- an order to `cert` comes to this outcome on a bundle, and the certificate was written
 pub record Certifies (order : Order) (bundle : List ℕ) (written : Outcome) : Type 0 where
-  pub command : order.command ≡ Cert
+  pub command : order.command ≡ command.Cert
   pub outcome : IsOutcome (Some order) bundle written
   pub done : written.status ≡ 0
 
 -- The source gives a nest within the limit on its size, and the text stands for the nest's network, with the capacities that
--- its schedule needs, and for the certificate of that schedule, which fit the nest.
+-- its schedule needs, and for a certificate of it, which has that schedule and fits the nest.
 pub record StandsForPlanned (order : Order) (bundle text : List ℕ) : Type 0 where
   pub nest : Nest
+  pub cert : Cert
   pub gives : GivesWithinSize (source_part bundle) order.params (Ok nest)
-  pub stands : StandsFor text (planned_network nest order.policy) (cert_of nest order.policy)
-  pub fits : Fits nest (planned_network nest order.policy) (cert_of nest order.policy)
+  pub stands : StandsFor text (planned_network nest order.policy) cert
+  pub certificate : IsCertificate nest order.policy cert
 
 -- another bundle has the same source, up to the end of its last line, and this certificate
 pub record HasCertificate (bundle other text : List ℕ) : Type 0 where
@@ -59,7 +60,7 @@ pub record HasCertificate (bundle other text : List ℕ) : Type 0 where
 
 -- an order to `check` comes to `accepted` on a bundle within the limit
 abbrev pub Accepts : Order → List ℕ → Type 0
-Accepts order bundle = order.command ≡ Check → length bundle ≤ bundle_limit → (outcome : Outcome)
+Accepts order bundle = order.command ≡ command.Check → length bundle ≤ bundle_limit → (outcome : Outcome)
     → IsOutcome (Some order) bundle outcome → outcome ≡ accepted
 
 -- a call with an order, and how it ended
@@ -73,7 +74,7 @@ pub record Call : Type 0 where
 
 -- a call to `cert` that had this bundle left to read and wrote this text
 pub record WroteCertificate (call : Call) (bundle text : List ℕ) : Type 0 where
-  pub command : call.order.command ≡ Cert
+  pub command : call.order.command ≡ command.Cert
   pub done : call.status ≡ 0
   pub left : call.input.old ≡ Some bundle
   pub held : List ℕ
@@ -82,6 +83,6 @@ pub record WroteCertificate (call : Call) (bundle text : List ℕ) : Type 0 wher
 
 -- a call to `check` that had this bundle left to read
 pub record ReadCertificate (call : Call) (bundle : List ℕ) : Type 0 where
-  pub command : call.order.command ≡ Check
+  pub command : call.order.command ≡ command.Check
   pub left : call.input.old ≡ Some bundle
   pub within : length bundle ≤ bundle_limit

@@ -2,20 +2,24 @@
 use Rattle.std.specs.Prelude.{ℕ, ℤ, List, Result, Ok, Err}
 use Rattle.cert_text.specs.StandsFor.{IsWrittenOf}
 use Rattle.command_line.specs.Bundle.{source_part}
-use Rattle.net_maker.specs.Certificates.{cert_of}
+use Rattle.net_maker.specs.Certificates.{IsCertificate}
 use Rattle.sanlp.specs.declared.nest.Nest.{Nest}
+use Rattle.source_tree.specs.declared.cert.Cert.{Cert}
 use Rattle.witness_plan.specs.declared.schedules.Policy.{Policy}
 use Rattle.witness_plan.specs.Schedules.{planned_network}
 use Rattle.compaan_top.specs.Replies.{Reply, done}
 use Rattle.compaan_top.specs.Source.{GivesWithinSize}
 use Rattle.compaan_top.specs.declared.refusal.Refusal.{Refusal}
 
--- The source gives no nest within the limit; or a text is written of its network, with the capacities that its schedule needs,
--- and of the certificate of that schedule. There are many such texts, since any blocks that stand for a script may write it.
+-- The source gives no nest within the limit; or a text is written of its network, with the capacities that its schedule
+-- needs, and of a certificate of it. There are many such texts, since any blocks that stand for a script may write it, and
+-- since a certificate may give any usable tree for a read or none.
 pub data PrintsCertificate (policy : Policy) (params : List (List ℕ × ℤ))
     (bundle : List ℕ) : Result Reply Refusal → Type 0 where
   source_refused : (refusal : Refusal) → GivesWithinSize (source_part bundle) params (Err refusal)
       → PrintsCertificate policy params bundle (Err refusal)
-  printed : (nest : Nest) (text : List ℕ) → GivesWithinSize (source_part bundle) params (Ok nest)
-      → IsWrittenOf text (planned_network nest policy) (cert_of nest policy)
+  printed : (nest : Nest) (cert : Cert) (text : List ℕ)
+      → GivesWithinSize (source_part bundle) params (Ok nest)
+      → IsCertificate nest policy cert
+      → IsWrittenOf text (planned_network nest policy) cert
       → PrintsCertificate policy params bundle (Ok (done text))

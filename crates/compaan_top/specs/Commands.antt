@@ -1,7 +1,7 @@
 -- What each command reads, and whether it waits for threads.
 use Rattle.std.specs.Prelude.{◌≡◌, Bool, true, false, Option, Some, None}
 use Rattle.command_line.specs.declared.words.Command.{Command}
-use Rattle.command_line.specs.declared.words.Command.TheVariants.{Run, Seq, Net, Cert, Check, Vhdl, Load, Sim, Trim, Trace}
+use Rattle.command_line.specs.declared.words.Command.TheVariants.{Run, Seq, Net, Cert, Check, Deps, Vhdl, Load, Sim, Trim, Trace}
 use Rattle.command_line.specs.declared.words.Order.{Order}
 
 -- the parts of a bundle that are read
@@ -17,6 +17,7 @@ reads_of Seq = source_and_data
 reads_of Net = source_alone
 reads_of Cert = source_alone
 reads_of Check = source_and_certificate
+reads_of Deps = source_alone
 reads_of Vhdl = source_alone
 reads_of Load = nothing
 reads_of Sim = source_and_data
@@ -29,6 +30,7 @@ waits Seq = false
 waits Net = false
 waits Cert = false
 waits Check = false
+waits Deps = false
 waits Vhdl = false
 waits Load = true
 waits Sim = false

@@ -2,7 +2,7 @@
 use Rattle.std.specs.Prelude.{◌≡◌, ◌⊎◌, ◌≤◌, ℕ, true, List, [], ◌∷◌, ◌++◌, length, Option, Some, None, Ok}
 use Rattle.command_line.specs.Bundle.{certificate_part, data_part, source_part}
 use Rattle.command_line.specs.declared.words.Command.{Command}
-use Rattle.command_line.specs.declared.words.Command.TheVariants.{Vhdl}
+use Rattle.command_line.specs.declared.words.Command.TheVariants.{Deps, Vhdl}
 use Rattle.command_line.specs.declared.words.Order.{Order}
 use Rattle.io_edge.specs.InMemory.{is_among}
 use Rattle.matrix_load.specs.Product.{IsMatrixNest}
@@ -18,6 +18,7 @@ use Rattle.compaan_top.specs.Load.{load_limit}
 use Rattle.compaan_top.specs.Outcome.{Outcome, IsOutcome, bundle_limit}
 use Rattle.compaan_top.specs.Run.{IsInputs}
 use Rattle.compaan_top.specs.Source.{Gives}
+use Rattle.compaan_top.specs.Telling.{IsSmallWhereSwept}
 
 -- the order and the bundle determine the status
 abbrev pub DetermineStatus : Option Order → List ℕ → Type 0
@@ -80,6 +81,11 @@ IsNestFor source_and_certificate order bundle nest =
     Gives (source_part bundle) order.params (Ok nest)
 IsNestFor nothing order bundle nest = (order.load ≤ load_limit) × IsMatrixNest order.load nest
 
+-- the nest is within the limit on its size, where the command asks for it: `deps` does where some read has no tree
+abbrev pub IsWithinSizeFor : Command → Nest → ℕ → Type 0
+IsWithinSizeFor Deps nest total = IsSmallWhereSwept nest total
+IsWithinSizeFor command nest total = counted nest ≡ Ok total
+
 -- the nest is within the command's own limit: for `vhdl` no script is too long
 abbrev pub IsWithinOwnLimit : Command → Policy → Nest → Type 0
 IsWithinOwnLimit Vhdl policy nest = first_too_long (planned_automata policy nest) ≡ None
@@ -94,7 +100,7 @@ pub record IsValid (wanted : Option Order) (bundle : List ℕ) : Type 0 where
   pub ordered : wanted ≡ Some order
   pub within : length bundle ≤ bundle_limit
   pub gives : IsNestFor (reads_of order.command) order bundle nest
-  pub counts : counted nest ≡ Ok total
+  pub counts : IsWithinSizeFor order.command nest total
   pub limited : IsWithinOwnLimit order.command order.policy nest
   pub has : HasParts (reads_of order.command) nest bundle inputs
 

@@ -17,6 +17,7 @@ pub mod Run
 pub mod Simulating
 pub mod Source
 pub mod Steps
+pub mod Telling
 pub mod Told
 pub mod Tracing
 pub mod Trimming

@@ -2,7 +2,7 @@
 -- words it takes the order that they give, or None where they are refused.
 use Rattle.std.specs.Prelude.{◌≡◌, ◌≢◌, ◌≤◌, ◌<◌, ℕ, List, [], length, Option, Some, None, Result, Ok, Err}
 use Rattle.command_line.specs.declared.words.Command.{Command}
-use Rattle.command_line.specs.declared.words.Command.TheVariants.{Run, Seq, Net, Cert, Check, Vhdl, Load, Sim, Trim, Trace}
+use Rattle.command_line.specs.declared.words.Command.TheVariants.{Run, Seq, Net, Cert, Check, Deps, Vhdl, Load, Sim, Trim, Trace}
 use Rattle.command_line.specs.declared.words.Order.{Order}
 use Rattle.compaan_top.specs.Certifying.{PrintsCertificate}
 use Rattle.compaan_top.specs.Checking.{Checks}
@@ -14,6 +14,7 @@ use Rattle.compaan_top.specs.Refusals.{refusal_line, refusal_status}
 use Rattle.compaan_top.specs.Replies.{Reply}
 use Rattle.compaan_top.specs.Run.{Runs, run_text}
 use Rattle.compaan_top.specs.Simulating.{simulation_text}
+use Rattle.compaan_top.specs.Telling.{TellsSources}
 use Rattle.compaan_top.specs.Tracing.{Traces}
 use Rattle.compaan_top.specs.Trimming.{trimming_text}
 use Rattle.compaan_top.specs.declared.refusal.Refusal.{Refusal}
@@ -42,6 +43,7 @@ Performs Seq order = Runs run_text order.params
 Performs Net order = Prints (network_text order.policy) order.params
 Performs Cert order = PrintsCertificate order.policy order.params
 Performs Check order = Checks order.params
+Performs Deps order = TellsSources order.params
 Performs Vhdl order = Describes order.policy order.params
 Performs Load order = λ bundle. Loads order.policy order.load
 Performs Sim order = Runs (simulation_text order.policy) order.params

@@ -12,7 +12,8 @@ use Rattle.compaan_top.specs.Replies.{Reply, done}
 use Rattle.compaan_top.specs.Simulating.{clocked_text}
 use Rattle.compaan_top.specs.declared.answer.Answer.{Answer}
 use Rattle.compaan_top.specs.declared.answer.CertificateAnswer.{CertificateAnswer}
-use Rattle.compaan_top.specs.declared.answer.Answer.TheVariants.{Arrays, Network, Verdict, Unread, Summary, Nodes, Clocked, Trimmed, Trace}
+use Rattle.compaan_top.specs.declared.answer.Answer.TheVariants.{Arrays, Network, Verdict, Unread, Summary, Nodes, Clocked, Trimmed, Trace, Dependences}
+use Rattle.deps_text.specs.DepsText.{deps_text}
 use Rattle.matrix_load.specs.Summary.{summary_text}
 use Rattle.net_text.specs.NetworkText.{net_text}
 use Rattle.trace_text.specs.TraceText.{trace_text}
@@ -37,6 +38,7 @@ reply_of (Clocked answer) =
     done (clocked_text answer.nest.arrays answer.clocked.arrays.arrays answer.clocked.clocks)
 reply_of (Trimmed trimmed) = done (trim_text trimmed.capacities trimmed.rests)
 reply_of (Trace run) = done (trace_text run)
+reply_of (Dependences answer) = done (deps_text answer.nest answer.dependences)
 
 abbrev pub as_reply : Result Answer Refusal → Result Reply Refusal
 as_reply (Ok answer) = Ok (reply_of answer)

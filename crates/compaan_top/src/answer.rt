@@ -1,4 +1,6 @@
-ghost use Rattle.std.specs.Prelude.{◌≡◌, None, length};
+ghost use Rattle.std.specs.Prelude.{◌≡◌, None, IsTrue, length};
+ghost use Rattle.std.specs.List.{list_all};
+ghost use Rattle.deps_text.specs.FireLines.{IsSweptOfIfAny, can_be_told};
 ghost use Rattle.vhdl_text.specs.Refusal.{first_too_long};
 ghost use Rattle.sanlp.specs.Points.{points_of};
 ghost use Rattle.net_core.specs.Machine.{net_of};
@@ -7,6 +9,7 @@ ghost use Rattle.net_core.specs.Shape.{FitsNumbers};
 use cap_trim::Trimmed;
 use cert_lines::CertError;
 use clock_sim::Clocked;
+use deps_text::{Dependence, Swept};
 use matrix_load::Summary;
 use net_checker::Verdict;
 use net_core::Network;
@@ -56,6 +59,16 @@ pub(crate) struct ClockedAnswer {
     ghost whole: { length clocked.arrays.arrays ≡ length nest.arrays },
 }
 
+/// Where each read of a nest has its values from, with what was swept of the nest where some read has no tree.
+#[derive(Drop)]
+pub(crate) struct DependencesAnswer {
+    pub(crate) nest: Nest,
+    pub(crate) dependences: Items<Dependence>,
+    pub(crate) swept: Option<Swept>,
+    ghost swept_of_nest: { IsSweptOfIfAny nest swept },
+    ghost told: { IsTrue (list_all (can_be_told nest swept) dependences) },
+}
+
 /// What is to be written on the output.
 #[derive(Drop)]
 pub(crate) enum Answer {
@@ -72,4 +85,5 @@ pub(crate) enum Answer {
     Trimmed(Trimmed),
     /// A run of a network: the process of each event.
     Trace(Items<u32>),
+    Dependences(DependencesAnswer),
 }

@@ -9,11 +9,13 @@ ghost use Rattle.compaan_top.specs.Judging.{Judges};
 ghost use Rattle.compaan_top.specs.Laws.{HasStatusOf, IsDone, IsValid};
 ghost use Rattle.compaan_top.specs.Outcome.{Performs, bundle_limit};
 ghost use Rattle.compaan_top.specs.Planned.{as_reply, IsCertificatePlanned, IsOrdered, IsPlanned, ReadsBundle};
+ghost use Rattle.compaan_top.specs.Telling.{GivesTrees};
 ghost use Rattle.compaan_top.specs.Told.{ComesTo, IsAnswered, IsTold};
 
 use crate::answer::{Answer, CertificateAnswer};
 use crate::check::check_certificate;
 use crate::complaint::{refusal_status, write_refusal};
+use crate::dependences::tell_dependences;
 use crate::describing::describe_network;
 use crate::law::{status_is_determined, what_fits_is_accepted, what_is_accepted_fits};
 use crate::load::load;
@@ -71,6 +73,7 @@ fn perform(alloc: Global, order: &Order, bundle: &[u8]) -> Result<Answer, Stop>
         Command::Seq => run_by_interpreter(alloc, &order.params, bundle),
         Command::Net => print_network(alloc, order.policy, &order.params, bundle),
         Command::Check => check_certificate(alloc, &order.params, bundle),
+        Command::Deps => tell_dependences(alloc, &order.params, bundle),
         Command::Vhdl => describe_network(alloc, order.policy, &order.params, bundle),
         Command::Sim => run_by_clock(alloc, order.policy, &order.params, bundle),
         Command::Trim => trim_network(alloc, order.policy, &order.params, bundle),
@@ -226,7 +229,8 @@ fn carry_out_quietly<S: Source, K: Sink, E: Sink>(
 /// `ends` says how the call may end, whatever the source and the sinks are, and `statuses` with which statuses: `check` alone
 /// answers 1, and 2 comes from words alone. The other clauses are about a source that tells its bytes, where no fault and no
 /// want of memory ended the call: it wrote what the order and these bytes come to, it is done where nothing is to be refused, and
-/// `check` writes `accepted` exactly where the bundle is within its limit and has a sound certificate.
+/// `check` writes `accepted` exactly where the bundle is within its limit and has a sound certificate. `unlimited` says
+/// that `deps` never passes a limit where each read of the source's nest has a tree, whatever the size of the nest.
 pub fn quiet<S: Source, K: Sink, E: Sink>(
     alloc: Global,
     order: &Order,
@@ -262,6 +266,9 @@ pub fn quiet<S: Source, K: Sink, E: Sink>(
         → SaysAccepted (change (K.held output.old) (K.held output.new)
         (K.faults output.old) (K.faults output.new)) result
         ↔ IsAcceptable order.now.params bundle }
+    ensures unlimited { order.now.command ≡ command.Deps
+        → (bundle : List ℕ) → S.left input.old ≡ Some bundle
+        → GivesTrees order.now.params bundle → result ≢ 8 }
 {
     what_is_accepted_fits();
     what_fits_is_accepted();
@@ -295,6 +302,7 @@ fn carry_out<R: Threads + Wait + Sync, S: Source, K: Sink, E: Sink, G: Gate + Sy
         | Command::Net
         | Command::Cert
         | Command::Check
+        | Command::Deps
         | Command::Vhdl
         | Command::Sim
         | Command::Trim => quiet(alloc, order, input, output, complaint),
@@ -307,7 +315,8 @@ fn carry_out<R: Threads + Wait + Sync, S: Source, K: Sink, E: Sink, G: Gate + Sy
 /// answers 1, `run`, `seq` and `sim` alone answer 9, words that are refused alone answer 2, and `load` answers none of 3, 5, 6, 7
 /// and 9. The other clauses are about a source that tells its bytes, where no fault and no want of memory ended the call: it wrote
 /// what the order and these bytes come to, it is done where nothing is to be refused, and `check` writes `accepted` exactly
-/// where the bundle is within its limit and has a sound certificate.
+/// where the bundle is within its limit and has a sound certificate. `unlimited` says that `deps` never passes a limit where each
+/// read of the source's nest has a tree, whatever the size of the nest.
 ///
 /// `run` and `load` have one thread for each process, so this may wait. Each of their workers asks the gate before it works,
 /// and tells it each value that its process puts. `trace` has four, each of which asks the gate before each lock, and so does
@@ -351,6 +360,10 @@ pub fn compaan<R: Threads + Wait + Sync, S: Source, K: Sink, E: Sink, G: Gate + 
         → SaysAccepted (change (K.held output.old) (K.held output.new)
         (K.faults output.old) (K.faults output.new)) result
         ↔ IsAcceptable order.params bundle }
+    ensures unlimited { (order : WordOrder) → order_of (map string_bytes words.now) ≡ Some order
+        → order.command ≡ command.Deps
+        → (bundle : List ℕ) → S.left input.old ≡ Some bundle
+        → GivesTrees order.params bundle → result ≢ 8 }
 {
     what_is_accepted_fits();
     what_fits_is_accepted();

@@ -16,7 +16,7 @@ use command_line::parts_of;
 use loop_class::Params;
 use loop_walk::points;
 use net_core::Network;
-use net_maker::compile;
+use net_maker::compile_swept;
 use node_automata::{NodeAuto, automata};
 use plain_data::Items;
 use sanlp::Nest;
@@ -35,7 +35,7 @@ fn nodes_of(
     ensures automata { IfOk result (λ made. made.1.items ≡ automata_of nest.now made.0) }
 {
     let points = points(alloc, nest)?;
-    let (network, _) = compile(alloc, nest, &points, policy)?;
+    let (network, _) = compile_swept(alloc, nest, &points, policy)?;
     let autos = automata(alloc, nest, &points, &network)?;
     Ok((network, autos))
 }

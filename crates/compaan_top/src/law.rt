@@ -18,7 +18,7 @@ use bundle_laws::{
     certified_bundle_has_its_parts, line_end_changes_no_token, line_end_makes_no_separator,
     source_part_has_no_separator,
 };
-use cert_ranges::{planned_network_fits, planned_network_has_text};
+use cert_ranges::certificate_has_text;
 use cert_text::{reads_what_is_written, what_is_written_stands};
 use loop_grammar::one_tree;
 use net_checker::accepts_what_fits;
@@ -60,7 +60,7 @@ pub fn what_fits_is_accepted()
 }
 
 /// Where `cert` comes to status 0, what was written stands for the network of the source's nest, with the capacities that its
-/// schedule needs, and for the certificate of that schedule, which fit the nest. And `check` comes to `accepted` on every bundle
+/// schedule needs, and for a certificate with that schedule, which fit the nest. And `check` comes to `accepted` on every bundle
 /// within the limit with that source and with what was written as its certificate; so on the source, two separators and what was
 /// written. The values of the parameters are to agree, name by name, on those that the source declares. `calls` says it of two
 /// calls: the first wrote a text, and the second read it behind the source.
@@ -82,8 +82,7 @@ pub fn what_cert_writes_is_accepted()
         → IsAnswered check.status → SaysAccepted check.output check.status }
 {
     what_fits_is_accepted();
-    planned_network_fits();
-    planned_network_has_text();
+    certificate_has_text();
     what_is_written_stands();
     line_end_changes_no_token();
     line_end_makes_no_separator();

@@ -5,6 +5,7 @@ mod answer;
 mod call;
 mod check;
 mod complaint;
+mod dependences;
 mod describing;
 mod law;
 mod load;

@@ -11,7 +11,7 @@ use crate::source::sized_nest;
 use command_line::parts_of;
 use loop_class::Params;
 use loop_walk::points;
-use net_maker::compile;
+use net_maker::{compile, compile_swept};
 use std::alloc::Global;
 use witness_plan::Policy;
 
@@ -29,7 +29,7 @@ pub(crate) fn print_network(
     let parts = parts_of(bundle);
     let nest = sized_nest(alloc, parts.source, params)?;
     let points = points(alloc, &nest)?;
-    let (network, _) = compile(alloc, &nest, &points, policy)?;
+    let (network, _) = compile_swept(alloc, &nest, &points, policy)?;
     Ok(Answer::Network(NetworkAnswer {
         nest,
         points,

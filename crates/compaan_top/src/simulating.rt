@@ -17,7 +17,7 @@ use clock_sim::{Clocked, simulate};
 use loop_class::Params;
 use loop_walk::points;
 use net_checker::is_sound;
-use net_maker::compile;
+use net_maker::compile_swept;
 use node_automata::automata;
 use sanlp::{Inputs, Nest};
 use std::alloc::{AllocError, Global};
@@ -38,7 +38,7 @@ fn clocked_run(
 {
     is_sound();
     let points = points(alloc, nest)?;
-    let (network, _) = compile(alloc, nest, &points, policy)?;
+    let (network, _) = compile_swept(alloc, nest, &points, policy)?;
     let autos = automata(alloc, nest, &points, &network)?;
     simulate(alloc, nest, &points, inputs, &network, &autos)
 }

@@ -1,6 +1,7 @@
 mod automata;
 mod boards;
 mod certificates;
+mod dependences;
 mod kernels;
 mod meeting;
 mod networks;
@@ -361,7 +362,7 @@ fn wrong_words_are_refused(rt: HostRuntime) -> Result<(), Fail> {
         &["run", "--policy"],
         &["run", "--policy=seq", "--policy=seq"],
         &["--help"],
-        &["deps"],
+        &["dependences"],
     ];
     for words in refused {
         expect(&rt, SOUND, words, b"var a;", 2, b"", USAGE)?;

@@ -13,7 +13,7 @@ use io_edge::Gate;
 use loop_class::Params;
 use loop_walk::points;
 use net_checker::is_sound;
-use net_maker::compile;
+use net_maker::compile_swept;
 use plain_data::Items;
 use sanlp::Nest;
 use std::alloc::{AllocError, Global};
@@ -38,7 +38,7 @@ fn traced<R: Threads + Wait + Sync, G: Gate + Sync>(
 {
     is_sound();
     let points = points(alloc, nest)?;
-    let (network, _) = compile(alloc, nest, &points, policy)?;
+    let (network, _) = compile_swept(alloc, nest, &points, policy)?;
     run_board(rt, alloc, nest, &network, &points, LANES, gate)
 }
 

@@ -16,7 +16,7 @@ use cap_trim::{Trimmed, trim};
 use command_line::parts_of;
 use loop_class::Params;
 use loop_walk::points;
-use net_maker::compile;
+use net_maker::compile_swept;
 use sanlp::Nest;
 use std::alloc::{AllocError, Global};
 use witness_plan::Policy;
@@ -32,7 +32,7 @@ fn trimmed(alloc: Global, policy: Policy, nest: &Nest) -> Result<Trimmed, AllocE
         ≡ lowered_rests (trimmed_network (net_of (planned_network nest.now policy)))) }
 {
     let points = points(alloc, nest)?;
-    let (network, _) = compile(alloc, nest, &points, policy)?;
+    let (network, _) = compile_swept(alloc, nest, &points, policy)?;
     trim(alloc, nest, &points, &network)
 }
 

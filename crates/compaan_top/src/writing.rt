@@ -7,6 +7,7 @@ ghost use Rattle.compaan_top.specs.Simulating.{clocked_text, clocks_line};
 
 use crate::answer::{Answer, ClockedAnswer, NodesAnswer};
 use array_data::write_answer;
+use deps_text::write_deps;
 use io_edge::{Sink, WriteFault};
 use matrix_load::write_summary;
 use net_checker::Verdict;
@@ -89,6 +90,14 @@ pub(crate) fn write_text<K: Sink>(answer: &Answer, sink: &mut K) -> Result<(), W
             )
         }
         Answer::Trace(run) => write_trace(run.as_slice(), sink),
+        Answer::Dependences(answer) => {
+            write_deps(
+                &answer.nest,
+                answer.dependences.as_slice(),
+                &answer.swept,
+                sink,
+            )
+        }
     }
 }
 
@@ -103,7 +112,8 @@ pub(crate) fn status_of(answer: &Answer) -> u8
         | Answer::Nodes(_)
         | Answer::Clocked(_)
         | Answer::Trimmed(_)
-        | Answer::Trace(_) => 0,
+        | Answer::Trace(_)
+        | Answer::Dependences(_) => 0,
         Answer::Verdict(Verdict::Accepted) => 0,
         Answer::Verdict(Verdict::Refused(_)) => 1,
         Answer::Unread(_) => 1,

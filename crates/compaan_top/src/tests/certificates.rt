@@ -63,39 +63,59 @@ const DOWNWARD: &[u8] = b"cert 1\nsizes 4 4 4 42\n\
     2\n2\n2\n3\n3\n2\n2\n2\n3\n3\n2\n2\n2\n3\n3\n0\n2\n2\n2\n3\n3\n\
     end\n";
 
-/// Words behind the command, sources, texts of the certificates that `cert` writes of them, and how those end in version 2, from
-/// the schedule on. The texts were worked out from the definitions by another program, and the ends from these by hand.
+/// Words behind the command, sources, certificates of the networks that `cert` writes of them, and how its texts end, from the
+/// schedule on. The certificates were worked out from the definitions by another program, and the ends from these by hand.
 const WRITTEN: [(&[&str], &[u8], &[u8], &[u8]); 5] = [
     (
         &["N=1", "--policy=seq"],
         INCREMENT,
         ONCE,
-        b"sweep\nr 2 1\n0\nr 3 1\n1\nr 2 1\n2\nend\n",
+        b"r 2 1\n0\nr 3 1\n1\nr 2 1\n2\nend\n",
     ),
     (
         &["N=1", "--policy=down"],
         INCREMENT,
         ONCE,
-        b"sweep\nr 2 1\n0\nr 3 1\n1\nr 2 1\n2\nend\n",
+        b"r 2 1\n0\nr 3 1\n1\nr 2 1\n2\nend\n",
     ),
     (
         &["N=3"],
         INCREMENT,
         THRICE,
-        b"sweep\nr 6 1\n0\nr 9 1\n1\nr 6 1\n2\nend\n",
+        b"r 6 1\n0\nr 9 1\n1\nr 6 1\n2\nend\n",
     ),
     (
         &[],
         TRANSPOSE,
         TRANSPOSED,
-        b"sweep\nr 8 1\n0\nr 12 1\n1\nr 8 1\n2\nend\n",
+        b"r 8 1\n0\nr 12 1\n1\nr 8 1\n2\nend\n",
     ),
     (
         &["N=4", "--policy=down"],
         LAST_VALUE,
         DOWNWARD,
-        b"sweep\nr 2 1\n0\nr 2 1\n1\n0\n2\nr 2 1\n0\nr 2 1\n1\nr 3 1\n0\nr 2 1\n1\nr 3 1\n0\nr 3 1\n1\n\
+        b"r 2 1\n0\nr 2 1\n1\n0\n2\nr 2 1\n0\nr 2 1\n1\nr 3 1\n0\nr 2 1\n1\nr 3 1\n0\nr 3 1\n1\n\
             r 3 1\n2\nr 2 1\n3\nr 3 1\n2\nr 2 1\n3\nr 3 1\n2\nr 2 1\n3\n0\nr 3 1\n2\nr 2 1\n3\nend\n",
+    ),
+];
+
+/// Sources with the values of their parameters; each read of theirs is of the difference class.
+const ALL_OF_CLASS: [(&[&str], &[u8]); 4] = [
+    (
+        &["N=3"],
+        b"param N; in x[N]; out s[N]; for (i = 0; i < N; i++) s[i] = s[i-1] + x[i];",
+    ),
+    (
+        &["N=3"],
+        b"param N; out y[N]; var t; for (i = 0; i < N; i++) { y[i] = t; t = i; t = t + 10; }",
+    ),
+    (
+        &["N=3"],
+        b"param N; in x[N]; out y[N]; var a[N]; for (i = 0; i < N; i++) { if (i < 2) { a[i] = x[i]; } else { a[i] = 0 - x[i]; } } for (i = 0; i < N; i++) y[i] = a[i];",
+    ),
+    (
+        &["N=2"],
+        b"param N; in A[N][N], B[N][N]; out C[N][N]; for (i = 0; i < N; i++) for (j = 0; j < N; j++) { C[i][j] = 0; for (k = 0; k < N; k++) C[i][j] = C[i][j] + A[i][k] * B[k][j]; }",
     ),
 ];
 
@@ -308,7 +328,7 @@ pub(super) fn checks(
     expect_words(rt, SOUND, &words, &bundle, status, line, b"")
 }
 
-/// Whether both texts are read, as equal networks with sweeps and equal schedules.
+/// Whether both texts are read, as equal networks and equal schedules, with as many sources.
 pub(super) fn stand_for_the_same(alloc: Global, text: &[u8], other: &[u8]) -> bool {
     match (read_cert(alloc, text), read_cert(alloc, other)) {
         (Ok((network, cert)), Ok((another, certificate))) => {
@@ -323,12 +343,28 @@ pub(super) fn stand_for_the_same(alloc: Global, text: &[u8], other: &[u8]) -> bo
 #[test]
 fn certificates_are_written(rt: HostRuntime) -> Result<(), Fail> {
     for (params, source, text, schedule) in WRITTEN {
-        let written = written_by(&rt, "cert", params, source, 1_000)?;
+        let written = written_by(&rt, "cert", params, source, 2_000)?;
         assert!(rt; written.held().starts_with(b"cert 2\n"));
         assert!(rt; written.held().ends_with(schedule), "{params:?}");
         assert!(rt; stand_for_the_same(rt.alloc(), written.held(), text));
         checks(&rt, params, source, written.held(), b"accepted\n")?;
         checks(&rt, params, source, text, b"accepted\n")?;
+    }
+    Ok(())
+}
+
+/// Whether this is one of the lines of a text.
+fn has_line(text: &[u8], line: &[u8]) -> bool {
+    text.split(|byte| *byte == b'\n').any(|found| found == line)
+}
+
+#[test]
+fn reads_of_the_class_have_trees(rt: HostRuntime) -> Result<(), Fail> {
+    for (params, source) in ALL_OF_CLASS {
+        let written = written_by(&rt, "cert", params, source, 10_000)?;
+        assert!(rt; has_line(written.held(), b"tree"), "{params:?}");
+        assert!(rt; !has_line(written.held(), b"sweep"), "{params:?}");
+        checks(&rt, params, source, written.held(), b"accepted\n")?;
     }
     Ok(())
 }
@@ -390,7 +426,7 @@ fn certificates_of_longer_runs_are_judged(rt: HostRuntime) -> Result<(), Fail> {
 #[test]
 fn parameters_agree_by_name(rt: HostRuntime) -> Result<(), Fail> {
     let source = b"param N, M; in x[N]; out y[M]; for (i = 0; i < N; i++) y[i] = x[i] + 1;";
-    let written = written_by(&rt, "cert", &["N=1", "M=1"], source, 1_000)?;
+    let written = written_by(&rt, "cert", &["N=1", "M=1"], source, 2_000)?;
     assert!(rt; stand_for_the_same(rt.alloc(), written.held(), ONCE));
     let params: [&[&str]; 2] = [&["M=1", "N=1"], &["K=7", "M=1", "N=1"]];
     for params in params {

@@ -256,7 +256,7 @@ fn wrong_loops_with_steps_are_refused(rt: HostRuntime) -> Result<(), Fail> {
 #[test]
 fn points_hold_turns(rt: HostRuntime) -> Result<(), Fail> {
     let whole = of_every_second(rt.alloc(), b"z", b"0")?;
-    let written = written_by(&rt, "cert", &["N=3"], EVERY_SECOND, 1_000)?;
+    let written = written_by(&rt, "cert", &["N=3"], EVERY_SECOND, 2_000)?;
     assert!(rt; stand_for_the_same(rt.alloc(), written.held(), &whole));
     checks(&rt, &["N=3"], EVERY_SECOND, &whole, b"accepted\n")?;
     let found = of_every_second(rt.alloc(), b"0", b"0")?;

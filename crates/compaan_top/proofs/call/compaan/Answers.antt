@@ -1,6 +1,7 @@
 use Rattle.compaan_top.proofs.Endings.{ends_ordered, planned_refusal_of_words}
 use Rattle.compaan_top.proofs.OwnStatuses.{calls_own}
 use Rattle.compaan_top.proofs.Told.{call_accepted, comes_done, comes_to}
+use Rattle.compaan_top.proofs.Unlimited.{call_unlimited}
 use Rattle.compaan_top.proofs.Vouched.{ends_vouched}
 use Rattle.compaan_top.proofs.call.compaan.Goals as goal
 
@@ -29,6 +30,11 @@ pub returns-in-Ok-clause-accepted : goal.returns-in-Ok-clause-accepted
 returns-in-Ok-clause-accepted g c = λ order ordered is bundle told answered.
     call_accepted c.what_is_accepted_fits.ensures c.is_sound.ensures c.what_fits_is_accepted.ensures _ _ _ _ _
     (ends_ordered _ c.in-Ok.order _ _ _ _ c.in-Ok.ensures c.carry_out.ensures) order ordered is bundle told answered
+
+pub returns-in-Ok-clause-unlimited : goal.returns-in-Ok-clause-unlimited
+returns-in-Ok-clause-unlimited g c = λ order ordered is bundle told trees.
+    call_unlimited c.status_is_determined.ensures.success _ _ _ _ _
+    (ends_ordered _ c.in-Ok.order _ _ _ _ c.in-Ok.ensures c.carry_out.ensures) order ordered is bundle told trees
 
 pub returns-in-Err-clause-ends : goal.returns-in-Err-clause-ends
 returns-in-Err-clause-ends g c =
@@ -71,3 +77,10 @@ returns-in-Err-clause-accepted g c = λ order ordered is bundle told answered.
     (c.finish.ensures _ _
     (planned_refusal_of_words _ (g.S.Source.left c.args.input.now)
     (g.S.Source.faults c.args.input.now) c.in-Err.stop c.in-Err.ensures)) order ordered is bundle told answered
+
+pub returns-in-Err-clause-unlimited : goal.returns-in-Err-clause-unlimited
+returns-in-Err-clause-unlimited g c = λ order ordered is bundle told trees.
+    call_unlimited c.status_is_determined.ensures.success _ _ _ _ _
+    (c.finish.ensures _ _
+    (planned_refusal_of_words _ (g.S.Source.left c.args.input.now)
+    (g.S.Source.faults c.args.input.now) c.in-Err.stop c.in-Err.ensures)) order ordered is bundle told trees

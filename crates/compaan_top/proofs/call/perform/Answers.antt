@@ -9,6 +9,9 @@ returns-in-Net c = rw c.in-Net.is c.print_network.ensures
 pub returns-in-Check : goal.returns-in-Check
 returns-in-Check c = rw c.in-Check.is c.check_certificate.ensures
 
+pub returns-in-Deps : goal.returns-in-Deps
+returns-in-Deps c = rw c.in-Deps.is c.tell_dependences.ensures
+
 pub returns-in-Vhdl : goal.returns-in-Vhdl
 returns-in-Vhdl c = rw c.in-Vhdl.is c.describe_network.ensures
 

@@ -1,6 +1,7 @@
 use Rattle.std.proofs.Common.{Some, refl}
 use Rattle.compaan_top.proofs.OwnStatuses.{calls_own}
 use Rattle.compaan_top.proofs.Told.{call_accepted, comes_done, comes_to}
+use Rattle.compaan_top.proofs.Unlimited.{call_unlimited}
 use Rattle.compaan_top.proofs.Vouched.{ends_vouched}
 use Rattle.compaan_top.proofs.call.quiet.Goals as goal
 
@@ -29,3 +30,8 @@ returns-clause-accepted g c = λ is bundle told answered.
     call_accepted c.what_is_accepted_fits.ensures c.is_sound.ensures c.what_fits_is_accepted.ensures
     (Some c.args.order.now) _ _ _ _
     c.carry_out_quietly.ensures c.args.order.now refl is bundle told answered
+
+pub returns-clause-unlimited : goal.returns-clause-unlimited
+returns-clause-unlimited g c = λ is bundle told trees.
+    call_unlimited c.status_is_determined.ensures.success (Some c.args.order.now) _ _ _ _
+    c.carry_out_quietly.ensures c.args.order.now refl is bundle told trees

@@ -12,4 +12,4 @@ pub returns : goal.returns
 returns c = λ text is.
     prints_certificate c.args.policy c.args.params.now c.args.bundle.now c.parts_of-parts.result.source.now text
     c.in_ok-nest.nest _ _ c.parts_of-parts.ensures.source c.in_ok-nest.ensures.0
-    c.in_ok-network.ensures.network c.in_ok-network.ensures.cert is
+    c.in_ok-network.ensures.network c.in_ok-network.ensures.certificate is

@@ -1,5 +1,5 @@
-//! Tests of binding, walks, sources, trees, verdicts, nodes, clocked runs and least capacities, on nests that are bound from
-//! sources. They stand apart from what they test, since a crate with tests of its own is proved twice.
+//! Tests of binding, walks, sources, trees, origins, verdicts, nodes, clocked runs and least capacities, on nests that are bound
+//! from sources. They stand apart from what they test, since a crate with tests of its own is proved twice.
 #![tactic(auto)]
 
 #[cfg(test)]
@@ -13,7 +13,11 @@ mod certificates;
 #[cfg(test)]
 mod clocks;
 #[cfg(test)]
+mod compiled;
+#[cfg(test)]
 mod nodes;
+#[cfg(test)]
+mod origins;
 #[cfg(test)]
 mod sources;
 #[cfg(test)]

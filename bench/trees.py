@@ -5,8 +5,9 @@ usage: bench/trees.py [PROGRAM]      (PROGRAM: crates/compaan/out/compaan, which
 
 A sweep keeps a cell's last writer in a row of its array, up to the greatest place that is written. So a program that writes one
 cell far within a large array makes the sweep keep a long row, while its certificate is a few lines and nothing else in `check`
-grows with the place. The certificate is written by `compaan cert`; in a second one the line `sweep` of each read is a tree
-with its proofs, and a third keeps one of the lines `sweep`. The least time of five runs counts. It is no test, and no part of the gate.
+grows with the place. The certificate is written by `compaan cert`, with a tree and its proofs for each read; a second one has the line
+`sweep` in place of one of these trees, and a third in place of both. The least time of five runs counts. It is no test, and no part of
+the gate.
 """
 import os
 import sys
@@ -18,17 +19,20 @@ sys.path.insert(0, os.path.join(HERE, "..", "hostile"))
 from asking import ask, bundled
 
 SOURCE = b"param N; var a[N]; out y; a[N - 1] = 5; y = a[N - 1];\n"
-# what the assignment to y reads, and what is given of y: each has one writer and no other writer comes between
-TREES = [["tree", "w 0 0 2", "s 0 1", "s 0 1"], ["tree", "w 1 0 0"]]
+# the words that begin the lines of a tree; behind the sources come entries and repeats
+TREE_WORDS = ("tree", "t", "d", "w", "m", "z", "x", "s", "c", "b")
 
 
-def with_trees(text, chosen):
-    """The certificate whose reads of these numbers have their trees."""
-    lines, read = [], 0
+def with_sweeps(text, chosen):
+    """The certificate in which the reads of these numbers have `sweep` in place of their trees."""
+    lines, read = [], -1
     for line in text.decode().splitlines():
-        is_read = line == "sweep"
-        lines += TREES[read] if is_read and read in chosen else [line]
-        read += is_read
+        read += line == "tree"
+        in_tree = read >= 0 and line.split()[0] in TREE_WORDS
+        if not (in_tree and read in chosen):
+            lines.append(line)
+        elif line == "tree":
+            lines.append("sweep")
     return ("\n".join(lines) + "\n").encode()
 
 
@@ -44,6 +48,6 @@ print("|---|---|---|---|---|")
 for cells in (1, 65536, 1048576, 4194304):
     words = [f"N={cells}"]
     text = ask(program, ["cert", *words], SOURCE).output
-    for name, chosen in (("both `sweep`", ()), ("a tree and `sweep`", (0,)), ("both trees", (0, 1))):
-        end, megabytes, seconds = measured(["check", *words], bundled(SOURCE, b"\n", with_trees(text, chosen)))
+    for name, chosen in (("both `sweep`", (0, 1)), ("a tree and `sweep`", (1,)), ("both trees", ())):
+        end, megabytes, seconds = measured(["check", *words], bundled(SOURCE, b"\n", with_sweeps(text, chosen)))
         print(f"| {cells} | {name} | {end.output.decode().strip()} | {megabytes:.1f} MB | {seconds:.2f} s |")

@@ -39,7 +39,7 @@ def commands(program):
     source, data, items = asking.example("fir")
     both = asking.bundled(source, data)
     cert = asking.ask(program, ["cert", *items], source).output
-    found = [(name, [name, *items], both) for name in ("run", "seq", "net", "cert", "vhdl")]
+    found = [(name, [name, *items], both) for name in ("run", "seq", "net", "cert", "deps", "vhdl")]
     found += [("check", ["check", *items], both + b"%%\n" + cert), ("check, refused", ["check", *items], both + b"%%\n" + cert[:-4])]
     found += [("load 2", ["load", "2"], b"")]
     complaining = [("no words", [], b""), ("a syntax error", ["run", *items], both[1:]), ("no value", ["net"], both), ("a limit", ["cert"], b"out y[2147483648];"),

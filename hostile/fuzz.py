@@ -4,8 +4,9 @@
 usage: hostile/fuzz.py [--seed SEED] [--count COUNT] [--jobs JOBS] [--minutes MINUTES] [--keep FOLDER] [--only NUMBER] [--space GB] [--compaan PROGRAM]
 
 Each of COUNT programs is run by `run` and by `seq`, whose answer or refusal must be what meaning.py says. What `cert` writes must be
-accepted by `check` and by meaning.py. Of each fourth program `net` must tell the same processes and channels, of others `vhdl`
-must be written, and of others `trim` must tell the least capacities and the positions that meaning.py finds by halving. Then one part of
+accepted by `check`, and with `sweep` in place of its trees by meaning.py too. Of each fourth program `net` must tell the same processes and channels, of others `vhdl`
+must be written, of others `trim` must tell the least capacities and the positions that meaning.py finds by halving, and of others `deps`
+must tell the last writers that meaning.py finds, by trees for just the reads that have one. Then one part of
 its bundle is damaged: bytes, tokens, numbers, lines or whole parts. A command on the damaged bundle must come to the status, the
 output and the complaint that meaning.py says. A run that ends by a signal, takes too long or takes more than 2 GB is a difference
 too. Prints one line for each difference, keeps its bundle and words in FOLDER, and fails where there is one. The same seed makes
@@ -26,7 +27,7 @@ import meaning
 
 MOST_KILOBYTES = 2 << 20
 MOST_SECONDS = 120
-COMMANDS = ("run", "seq", "net", "cert", "check", "vhdl")
+COMMANDS = ("run", "seq", "net", "cert", "check", "deps", "vhdl")
 EXTREMES = [2**63 - 1, 2**62, 2**32, 2**31, 2**31 - 1, 10**18, 3037000500, 255]
 LIMITS = [b"0", b"1", b"-1", b"2147483647", b"2147483648", b"4294967295", b"4294967296", b"9223372036854775807", b"9223372036854775808",
           b"18446744073709551616", b"00", b"007", b"8388608", b"8388609", b"99999999999999999999999999", b"64", b"65", b"8", b"9"]
@@ -462,17 +463,22 @@ class Job:
         if number % 4 == 2:
             self.compare(number, "vhdl", words, bundle, done, policy)
         trim = number % 4 == 1 and self.compare(number, "trim", words, bundle, done, policy)
+        without_trees = meaning.swept(cert.output)
+        if number % 4 == 3:
+            self.same_sources(number, words, bundle)
         if cert.status == 0:
-            checked = asking.bundled(source.source, data) if pick.random() < 0.5 else asking.bundled(source.source, b"")
-            checked = checked + (b"%%\n" if checked.count(b"%%\n") < 2 else b"") + cert.output
+            before = asking.bundled(source.source, data) if pick.random() < 0.5 else asking.bundled(source.source, b"")
+            before += b"%%\n" if before.count(b"%%\n") < 2 else b""
+            checked = before + without_trees
             if self.wanted(["check", *words], checked) != (0, b"accepted\n", b""):
                 self.differ(number, "cert", words, checked, "a certificate that meaning.py refuses", "one that it accepts")
-            self.compare(number, "check", words, checked, (0, b"accepted\n", b""))
+            for text in {cert.output, without_trees}:
+                self.compare(number, "check", words, before + text, (0, b"accepted\n", b""))
             if net:
-                self.same_network(number, words, bundle, net.output, cert.output)
+                self.same_network(number, words, bundle, net.output, without_trees)
             if trim:
-                self.same_capacities(number, words, bundle, trim.output, cert.output)
-        self.damage(pick, number, source, data, cert.output)
+                self.same_capacities(number, words, bundle, trim.output, without_trees)
+        self.damage(pick, number, source, data, without_trees)
 
     def same_network(self, number, words, bundle, net, cert):
         """The processes and channels of `net` are those of `cert`."""
@@ -496,6 +502,17 @@ class Job:
                 got.append(it)
         if got != wanted:
             self.differ(number, "net", words, bundle, got, wanted)
+
+    def same_sources(self, number, words, bundle):
+        """The sources of `deps` are the last writers."""
+        end = self.compare(number, "deps", words, bundle, self.wanted(["deps", *words], bundle))
+        if end.status != 0:
+            return
+        try:
+            source = meaning.parts_of(bundle)[0]
+            meaning.told(meaning.Program(source, meaning.order_of(["deps", *words])[1]), end.output)
+        except (meaning.Untold, ValueError, StopIteration) as reason:
+            self.differ(number, "deps", words, bundle, reason, "the last writers")
 
     def same_capacities(self, number, words, bundle, trim, cert):
         """The capacities and positions of `trim` are those that are found in the network of `cert`."""

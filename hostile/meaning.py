@@ -1,4 +1,5 @@
-"""What a bundle comes to by `run`, `seq` and `check`, computed without compaan, from docs/LANGUAGE.md, COMMANDS.md and CERTIFICATES.md.
+"""What a bundle comes to by `run`, `seq` and `check`, and what `deps` may write, computed without compaan, from docs/LANGUAGE.md,
+COMMANDS.md, CERTIFICATES.md and SOURCES.md.
 
 A source is turned into Python and run there: memory is a dictionary, numbers are Python's, wrapped to 64 bits where a value is kept
 or compared. A refusal is worked out with its place. It is a test's other side, and outside the proof.
@@ -273,8 +274,12 @@ class Program:
         self.sinks = sum(it.is_printed for it in self.arrays)
         self.next_loop = sum(len(it.extents) for it in given)
         self.first = self.next_statement = len(given)
-        # for each process how many reads it has
+        # for each process how many reads it has, the arrays that they read, and its write: its array, and whether it is by differences
         self.reads = [0] * self.first
+        self.arrays_read = [[] for _ in given]
+        self.writes = [(it.number, True) for it in given]
+        # the coefficients of the rows of the loops and guards around
+        self.domain = []
         self.code = {"values": [], "trace": []}
         self.rows = 0
         self.depth = 0
@@ -282,6 +287,8 @@ class Program:
         for it in statements:
             self.statement(it, "  ")
         self.reads += [1] * self.sinks
+        self.arrays_read += [[it.number] for it in self.arrays if it.is_printed]
+        self.writes += [None] * self.sinks
         if self.found:
             at, _, reason = min(self.found)
             raise Refused(8 if reason in LIMITS else 7, f"{'limit' if reason in LIMITS else 'class'}: {reason} {at}")
@@ -369,6 +376,7 @@ class Program:
                     self.form(it)
                 cell = self.cell(value.number, subscripts)
                 reads.append(cell)
+                self.arrays_now.append(value.number)
                 return f"G({cell},0)"
             if what is None or subscripts:
                 self.blame("UnknownName", at)
@@ -409,8 +417,7 @@ class Program:
         lowers = lower[2] if lower[0] == "max" else [lower]
         uppers = upper[2] if upper[0] == "min" else [upper]
         forms = [self.form(it) or (0, NO_VARIABLE) for it in lowers]
-        for it in uppers:
-            self.form(it)
+        ends = [self.form(it) or (0, NO_VARIABLE) for it in uppers]
         for other, other_at in ((second, second_at), (third, third_at)):
             if other != name:
                 self.blame("UnknownName", other_at)
@@ -442,6 +449,12 @@ class Program:
             start = forms[0] if by > 1 else (0, NO_VARIABLE)
             self.scope[name] = "loop", (start[0], tuple(x + y for x, y in zip(start[1], coefficients)))
         more = 1 + len(uppers) if by > 1 else len(lowers) + len(uppers)
+        turns = tuple(int(it == self.depth) for it in range(6))
+        if by > 1:
+            bounds = [turns] + [tuple(b - a - by * t for a, b, t in zip(forms[0][1], it[1], turns)) for it in ends]
+        else:
+            bounds = [tuple(t - a for a, t in zip(it[1], turns)) for it in forms] + [tuple(b - t for b, t in zip(it[1], turns)) for it in ends]
+        self.domain += bounds
         self.rows += more
         self.depth += 1
         self.turns.append(turn)
@@ -449,14 +462,16 @@ class Program:
         self.turns.pop()
         self.depth -= 1
         self.rows -= more
+        del self.domain[len(self.domain) - len(bounds) :]
         if is_new:
             del self.scope[name]
 
     def guard(self, tree, indent):
         _, conditions, body, other = tree
+        around = len(self.domain)
         for left, _, right in conditions:
-            self.form(left)
-            self.form(right)
+            a, b = self.form(left) or (0, NO_VARIABLE), self.form(right) or (0, NO_VARIABLE)
+            self.domain.append(tuple(x - y for x, y in zip(a[1], b[1])))
         test = " and ".join(f"{self.affine(left)}{sign}{self.affine(right)}" for left, sign, right in conditions)
         more = sum(2 if sign == "==" else 1 for _, sign, _ in conditions)
         self.emit(f"{indent}if {test}:")
@@ -472,6 +487,7 @@ class Program:
             self.rows += more
             self.statement(other[1], indent + " ")
             self.rows -= more
+        del self.domain[around:]
 
     def assign(self, tree, indent):
         _, (name, at), subscripts, value = tree
@@ -485,10 +501,12 @@ class Program:
             self.blame("UnknownName", at)
         elif len(subscripts) != array.subscripts:
             self.blame("WrongCount", at)
-        for it in subscripts:
-            self.form(it)
-        reads = []
+        written = [self.form(it) or (0, NO_VARIABLE) for it in subscripts]
+        reads, self.arrays_now = [], []
         text = self.value(value, reads)
+        by_differences = all(is_shift(it[1]) for it in written) and all(map(is_difference, self.domain))
+        self.writes.append((array.number if what == "array" else -1, by_differences))
+        self.arrays_read.append(self.arrays_now)
         target = self.cell(array.number if what == "array" else 0, subscripts)
         self.reads.append(len(reads))
         self.emit(f"{indent}n+=1")
@@ -497,6 +515,13 @@ class Program:
         self.emit(f"{indent}S[{number}].append(({''.join(f'G({it}),' for it in reads)}))", "trace")
         self.emit(f"{indent}M[{target}]=({number},len(P[{number}]))", "trace")
         self.emit(f"{indent}P[{number}].append(({''.join(it + ',' for it in self.turns)}))", "trace")
+
+    def has_tree(self, array):
+        """Whether every write of an array is by differences of loop variables."""
+        return all(it[1] for it in self.writes if it and it[0] == array)
+
+    def all_have_trees(self):
+        return all(self.has_tree(it) for arrays in self.arrays_read for it in arrays)
 
     # Runs
 
@@ -552,6 +577,16 @@ class Program:
                 points[number].append(at)
                 sources[number].append((memory.get((it.number, *at)),))
         return points, sources
+
+
+def is_shift(coefficients):
+    """A constant, or one variable with coefficient 1 plus a constant."""
+    return all(it in (0, 1) for it in coefficients) and sum(coefficients) <= 1
+
+
+def is_difference(coefficients):
+    """No variable, one with coefficient 1 or -1, or two with coefficients 1 and -1."""
+    return all(it in (-1, 0, 1) for it in coefficients) and coefficients.count(1) <= 1 and coefficients.count(-1) <= 1
 
 
 def cells_of(extents):
@@ -749,6 +784,11 @@ def written_out(parts):
     return found
 
 
+def swept(text):
+    """The certificate with the line `sweep` in place of each tree, whose check isn't told here."""
+    return re.sub(rb"(?m)^tree\n(?:[tdwmzxscb](?: [^\n]*)?\n)+", b"sweep\n", text)
+
+
 def certificate_of(text):
     """Processes as (slots, events), channels as (writer, reader, read, capacity, class), the count of sources, and the schedule."""
     lines = Folded(text)
@@ -898,6 +938,88 @@ def judge(program, certificate):
 # ------------------------------------------------------------------------------------------------------------ the commands
 
 
+# ------------------------------------------------------------------------------------------------------------ the sources
+
+
+class Untold(Exception):
+    """What is wrong with a text of `deps`."""
+
+
+def node_of(lines):
+    """A tree of such a text."""
+    word, *rest = next(lines)
+    if word == "t":
+        form = [int(it) for it in rest]
+        above = node_of(lines)
+        return word, form, above, node_of(lines)
+    if word == "w":
+        statement, count = map(int, rest)
+        maps = [next(lines) for _ in range(count)]
+        if any(it[0] != "m" for it in maps):
+            raise Untold(f"a map of {maps}")
+        return word, statement, [[int(it) for it in line[1:]] for line in maps]
+    if word not in ("z", "x") or rest:
+        raise Untold(f"a node {word} {rest}")
+    return (word,)
+
+
+def given_by(tree, at):
+    """The point that a tree gives at loop values, as (process, values), or None."""
+
+    def value(form):
+        constant, *coefficients = form
+        if len(coefficients) != len(at):
+            raise Untold(f"a form {form} over {at}")
+        return constant + sum(c * x for c, x in zip(coefficients, at))
+
+    while tree[0] == "t":
+        tree = tree[2] if value(tree[1]) >= 0 else tree[3]
+    if tree[0] == "x":
+        raise Untold(f"a dead leaf at {at}")
+    return (tree[1], tuple(map(value, tree[2]))) if tree[0] == "w" else None
+
+
+def told(program, text, follows=True):
+    """Judges a text of `deps`. Each tree is followed at every point of its reader, if that is wanted and the size is within its limit."""
+    if not text.endswith(b"\n"):
+        raise Untold("no line feed at the end")
+    lines = iter([it.split(" ") for it in text.decode().split("\n")[:-1]])
+    points = sources = None
+    if follows or not program.all_have_trees():
+        try:
+            points, sources = program.trace()
+        except Refused:
+            pass
+
+    def expect(*words):
+        line = next(lines, None)
+        if line != list(map(str, words)):
+            raise Untold(f"{line} for {words}")
+
+    def point(tag):
+        return (tag[0], tuple(points[tag[0]][tag[1]])) if tag else None
+
+    expect("deps", 1)
+    for statement, arrays in enumerate(program.arrays_read):
+        for read, array in enumerate(arrays):
+            expect("read", statement, read)
+            if program.has_tree(array):
+                expect("tree")
+                tree = node_of(lines)
+                for at, tags in zip(points[statement], sources[statement]) if points is not None else ():
+                    if given_by(tree, at) != point(tags[read]):
+                        raise Untold(f"{given_by(tree, at)} for {point(tags[read])} of read {read} of {statement} at {at}")
+                continue
+            expect("points", len(points[statement]))
+            for at, tags in zip(points[statement], sources[statement]):
+                values = "({})".format(",".join(map(str, at)))
+                source = point(tags[read])
+                expect(values, "{}({})".format(source[0], ",".join(map(str, source[1]))) if source else "zero")
+    expect("end")
+    if next(lines, None) is not None:
+        raise Untold("more lines")
+
+
 USAGE = b"usage: compaan COMMAND [--policy seq|down] [NAME=VALUE]...\n"
 
 
@@ -931,7 +1053,7 @@ def order_of(words):
         if not is_name or name in values or not re.fullmatch("-?[0-9]{1,18}", value):
             return None
         values[name] = int(value)
-    return (command, values, 0) if command in ("run", "seq", "net", "cert", "check", "vhdl", "trim") else None
+    return (command, values, 0) if command in ("run", "seq", "net", "cert", "check", "deps", "vhdl", "trim") else None
 
 
 def outcome(words, bundle):
@@ -965,7 +1087,8 @@ def outcome(words, bundle):
                 raise fault
             lines = (",".join([name, *map(str, cells)]) + "\n" for name, cells in answer)
             return 0, "".join(lines).encode(), b""
-        program.outputs({})
+        if command != "deps" or not program.all_have_trees():
+            program.outputs({})
         if command != "check":
             return 0, None, b""
         judge(program, certificate_of(certificate))

@@ -44,12 +44,16 @@ def rows(program):
     yield "check fir", ["check", *items], both + b"%%\n" + cert
     yield "check fir, a capacity less", ["check", *items], both + b"%%\n" + less
     yield "check fir, cut", ["check", *items], both + b"%%\n" + cert[: len(cert) // 2]
+    yield "deps fir", ["deps", *items], source
+    yield "deps fir, at any size", ["deps", "N=1000000000", "T=1000000000"], source
     yield "vhdl fir", ["vhdl", *items], source
     yield "load 2", ["load", "2"], b""
     yield "run fir, a value less", ["run", *items], both.replace(b",", b"", 1)
     yield "run fir, cut", ["run", *items], both[:100]
     yield "run fir, no values", ["run"], both
     yield "no words", [], b""
+    source, data, items = asking.example("nussinov")
+    yield "deps nussinov, with points", ["deps", *items], source
     for name in ("block_peaks", "sobel", "pipeline_60"):
         source, data, items = asking.example(name)
         yield f"run {name}", ["run", *items], asking.bundled(source, data)

@@ -1,4 +1,9 @@
 -- Edges of rows, added one after the other.
+--
+-- The edges so far have the parts of the rows so far, at every place of the writer. A row and its edge keep this,
+-- whatever rows stand before them, so lists of rows join. A domain row joins the variable with coefficient 1 and the
+-- one with -1, or 0 where it has none; equal subscripts are two rows, an edge there and one back. Whether a row can be
+-- made within 128 bits isn't asked here.
 use Rattle.std.proofs.Common.{◌≡◌, ◌+◌, ◌^◌, ◌≤◌, ◌<◌, ℕ, zero, suc, ℤ, pos, negsuc, ◌+ℤ◌, ◌-ℤ◌, List}
 use Rattle.std.proofs.Common.{[], ◌∷◌, ◌++◌, length, map, take, Bool, true, false, cond, refl, sym, ap}
 use Rattle.std.proofs.Common.{◌∙◌, subst, arith, append_assoc, inl, inr, ◌⊎◌}

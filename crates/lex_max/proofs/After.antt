@@ -1,4 +1,9 @@
 -- The proofs that the leaf's point stands before the read, and that no other point of the writer stands between.
+--
+-- The context shows the order rows of the leaf's point before the reader. Rows that say that the reader stands before
+-- it have one that contradicts a row shown: above the candidate's level their strict row an equal value, at that level
+-- the strict row, and below it an equal value does. Another point that stands behind the leaf's in a loop is above it
+-- there, and the path to that loop's form says that it is not. Each proof so takes one row that was added, once.
 use Rattle.std.proofs.Common.{◌≡◌, ◌+◌, ◌*◌, ◌^◌, ◌≤◌, ◌<◌, ◌==◌, ℕ, zero, suc, ℤ, pos, ◌+ℤ◌, ◌-ℤ◌}
 use Rattle.std.proofs.Common.{List, [], ◌∷◌, ◌++◌, length, map, true, false, cond, refl, sym, ap, ◌∙◌, subst}
 use Rattle.std.proofs.Common.{arith, length-append, inl, ◌⊎◌}

@@ -1,4 +1,8 @@
 -- The proofs that no other point of the writer is between, and the Writer leaf as the answer of its context.
+--
+-- The proofs of the levels are added one after the other: those so far refute the systems of the first levels of order
+-- behind the leaf's point, one for each loop. Of one statement there is no level behind its loops, so these are all.
+-- The terms of the leaf's rows are cut into those of the domain, of the cell and of the order, as the rows are.
 use Rattle.std.proofs.Common.{◌≡◌, ◌+◌, ◌*◌, ◌^◌, ◌≤◌, ◌<◌, ◌==◌, ℕ, zero, suc, List, [], ◌∷◌, ◌++◌, length, map, drop}
 use Rattle.std.proofs.Common.{take, false, cond, refl, sym, ap, ◌∙◌, subst, arith, inl, length-append}
 use Rattle.std.proofs.Common.{length-drop}

@@ -1,4 +1,8 @@
 -- What is asked where cycles and Zero leaves are made.
+--
+-- Nothing is proved of a cycle here. What the functions below ask is told by where edges come from: an edge of the
+-- graph has small numbers, the bound between two of its nodes is a path of at most 64 edges, and so the sums stay
+-- small. A list of cycles keeps its property where one is added or exchanged.
 use Rattle.std.proofs.Common.{◌≡◌, ◌+◌, ◌^◌, ◌≤◌, ◌<◌, ℕ, List, [], ◌∷◌, ◌++◌, length, sym, ◌∙◌, subst, arith}
 use Rattle.std.specs.Prelude.{Some, All, slice_get, slice_set, unsigned_abs, IfSome}
 use Rattle.std.proofs.lemmas.List.Elements.{All-append, All-cons, All-nil, All-set, All-weaker}

@@ -1,4 +1,8 @@
 -- What is known of a read, of a write to its array and of a level between them.
+--
+-- The nest is well formed, so its statements and accesses fit: at most six loops, 32 rows and six subscripts, with
+-- numbers within 2^32. The write is to the read's array, so both have equally many subscripts, and in the class those
+-- of the write are shifts and its domain rows differences. All of it is read off the tests that say so.
 use Rattle.std.proofs.Common.{◌≡◌, ◌^◌, ◌≤◌, ◌==◌, ◌&&◌, ℕ, ℤ, List, [], ◌∷◌, length, Bool, true, false}
 use Rattle.std.proofs.Common.{cond, refl, sym, ap, ◌∙◌, subst, arith, inl, inr}
 use Rattle.std.specs.Prelude.{Option, Some, None, All, slice_get, nat_le, unsigned_abs}

@@ -1,4 +1,8 @@
 -- The systems of one writer and one level.
+--
+-- A leaf for one writer and one level leaves out the systems of every other writer, so of the list over all writes of
+-- the array that of one remains: by induction over the statements, where those before it and behind it give nothing.
+-- Of its levels one is taken. That the writer is named by its number, and no other is, is what this rests on.
 use Rattle.std.proofs.Common.{◌≡◌, ◌+◌, ◌<◌, ◌==◌, ℕ, zero, suc, List, [], ◌∷◌, ◌++◌, map, take, drop}
 use Rattle.std.proofs.Common.{Bool, true, false, cond, refl, sym, ap, ◌∙◌, arith}
 use Rattle.std.specs.Prelude.{Option, Some, None, slice_get}

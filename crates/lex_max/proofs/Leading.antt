@@ -1,4 +1,9 @@
 -- What is chosen for a loop variable: the form of a path to it, with small numbers.
+--
+-- An upper form of a variable is the weight of an edge from 0 and the bound from that edge's end on, so it is the sum
+-- of a path from 0 to the variable of at most 65 edges. Its coefficients are those of the one edge, since the weights
+-- between loop variables are numbers, and so it stays small. That it is the least of the upper forms isn't needed
+-- here.
 use Rattle.std.proofs.Common.{◌≡◌, ◌+◌, ◌*◌, ◌^◌, ◌≤◌, ◌<◌, ℕ, suc, ℤ, ◌+ℤ◌, List, [], ◌∷◌, ◌++◌, length}
 use Rattle.std.proofs.Common.{Bool, true, false, cond, refl, sym, ap, ◌∙◌, subst, arith, ◌==◌, ◌&&◌}
 use Rattle.std.specs.Prelude.{Option, Some, None, All, nat_lt, slice_get, unsigned_abs, IfSome}

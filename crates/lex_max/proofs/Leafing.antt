@@ -1,4 +1,9 @@
 -- The proofs of a Writer leaf, part by part.
+--
+-- The proofs so far refute the systems so far, one for one, and a proof added keeps this. A system of a leaf has rows
+-- behind the context, one of which is the opposite of a row that the context shows: outside the domain it is one of
+-- its rows, in another cell one of the two rows of a subscript. The terms of the shown row and that last row, taken
+-- once, add up to a negative number.
 use Rattle.std.proofs.Common.{◌≡◌, ◌+◌, ◌^◌, ◌≤◌, ℕ, ℤ, negsuc, ◌+ℤ◌, ◌*ℤ◌}
 use Rattle.std.proofs.Common.{List, [], ◌∷◌, ◌++◌, length, map, true, refl, sym}
 use Rattle.std.proofs.Common.{subst, arith, append_assoc}

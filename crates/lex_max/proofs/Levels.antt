@@ -1,4 +1,8 @@
 -- The rows of one level of an order, by their numbers.
+--
+-- By induction over the common loops: each loop above the level has two rows for an equal value, which stand before
+-- those of the loops behind it, so loop i has numbers 2i and 2i + 1, and the strict row of level l has 2l. At the
+-- level behind all common loops there is no strict row.
 use Rattle.std.proofs.Common.{◌≡◌, ◌+◌, ◌*◌, ◌<◌, ℕ, zero, suc, List, [], ◌∷◌, ◌++◌, Bool, true}
 use Rattle.std.proofs.Common.{false, refl, sym, ap, ◌∙◌, arith}
 use Rattle.std.specs.Prelude.{Option, Some, None, slice_get}

@@ -1,5 +1,9 @@
--- A point of the writer that writes the cell before the read meets the rows of the edges, so that a refuted context has
--- none.
+-- A write of the cell before the read meets the rows of the edges, so that a refuted context has none.
+--
+-- The values of the reader's loops and behind them those of the writer's are one point of the system. The write is in
+-- its domain, has the read's cell and stands before the read at the level, which are the rows of the system, so the
+-- point meets them all. A refuted system has no such point. Where each value is no greater than another point's, that
+-- point is no earlier.
 use Rattle.std.proofs.Common.{◌≡◌, ◌+◌, ◌<◌, ◌==◌, ℕ, zero, suc, ℤ, pos, ◌≤ℤ◌, ◌<ℤ◌, List, [], ◌∷◌, ◌++◌, length}
 use Rattle.std.proofs.Common.{map, take, true, false, refl, sym, ap, ◌∙◌, subst, arith, inl, inr, ◌⊎◌}
 use Rattle.std.proofs.Common.{length-append}

@@ -1,5 +1,9 @@
--- What the place of a Writer leaf means: at each point of the reader it is a write before the read, and no other is
--- later.
+-- What the place of a Writer leaf means: at each point of the reader it is a write before the read, and no other is later.
+--
+-- Terms show each row of the place, so its values meet them: they are in the domain, write the cell and stand before
+-- the read. Each form of the place is the sum of a path from 0 to its loop, and any such write meets the rows of that
+-- path, so in each loop its value is no greater. So it is no later: the place is the greatest one in every loop at
+-- once, which is more than the order asks.
 use Rattle.std.proofs.Common.{◌≡◌, ◌+◌, ◌<◌, ℕ, zero, suc, ℤ, pos, ◌+ℤ◌, ◌-ℤ◌, ◌≤ℤ◌, ◌<ℤ◌, List}
 use Rattle.std.proofs.Common.{[], ◌∷◌, ◌++◌, length, take, Bool, true, false, refl, sym, ap, ◌∙◌, subst, arith}
 use Rattle.std.proofs.Common.{◌⊎◌}

@@ -1,4 +1,9 @@
 -- The read and the write of a candidate, from their numbers.
+--
+-- A read or a write that is found under a number is the only one there, so what is asked of all that these numbers
+-- name is asked of one, and what is answered of one holds of all. In the class every write of the array writes
+-- differences, so the one that is named does: by induction over the statements. The reader's domain rows are met at
+-- each of its points, so the answer of the whole domain is the promised tree.
 use Rattle.std.proofs.Common.{◌≡◌, ◌+◌, ◌<◌, ℕ, zero, suc, List, [], ◌∷◌, length, Bool, true}
 use Rattle.std.proofs.Common.{refl, sym, ap, ◌∙◌, subst, arith}
 use Rattle.std.specs.Prelude.{Option, Some, None, slice_get, IsTrue}

@@ -1,4 +1,8 @@
 -- The system of a write at a point before the read, and the Zero leaf.
+--
+-- The rows of the system are those of the context, over more variables, and those of the writer's point, which the
+-- edges tell. All are small, so all can be made, and the rows that were made have the edges' parts. What a context
+-- shows and a cycle of edges contradict each other in this system too, since on a cycle the writer's point cancels.
 use Rattle.std.proofs.Common.{◌≡◌, ◌+◌, ◌≤◌, ◌<◌, ℕ, zero, suc, List, [], ◌∷◌, ◌++◌, length, map, true}
 use Rattle.std.proofs.Common.{sym, ap, ◌∙◌, subst, arith, append_assoc, inl, inr, ◌⊎◌}
 use Rattle.std.specs.Prelude.{Some, All, nat_lt}

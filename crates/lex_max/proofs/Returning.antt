@@ -1,4 +1,8 @@
 -- The terms of the edges at the chosen place, and the cycles that edges back to 0 make.
+--
+-- At the chosen place each variable has the form of a path from 0 to it. An edge back to 0 closes that path, and the
+-- form of the cycle is the row of the edge at the place: its end is 0 there. So a test that the cycle is at least 0 is
+-- one that the row holds at the place. An edge from 0 to itself is a cycle alone.
 use Rattle.std.proofs.Common.{◌≡◌, ◌+◌, ◌^◌, ◌≤◌, ◌<◌, ℕ, zero, suc, pos, ◌+ℤ◌, List, [], ◌∷◌, ◌++◌}
 use Rattle.std.proofs.Common.{length, get_or, refl, sym, ap, ◌∙◌, subst, arith}
 use Rattle.std.specs.Prelude.{Option, Some, slice_get}

@@ -1,4 +1,8 @@
 -- The context of a whole tree, and the Zero leaf of a negative sum.
+--
+-- A reader's domain rows are forms of the nest, so they are made as they are, and a point of the domain meets them. A
+-- cycle of edges between loop variables whose sum is a negative number contradicts every context, with no term of it:
+-- so the tree is one Zero leaf then.
 use Rattle.std.proofs.Common.{◌≡◌, ◌^◌, ◌≤◌, ◌==◌, ℕ, ℤ, pos, ◌≤ℤ◌, List, [], ◌∷◌, length, map}
 use Rattle.std.proofs.Common.{true, refl, sym, ap, ◌∙◌, subst, arith}
 use Rattle.std.specs.Prelude.{Some, All, int_le, IsTrue}

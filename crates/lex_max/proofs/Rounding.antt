@@ -1,4 +1,8 @@
 -- Cycles through 0, and what refutes by one of them.
+--
+-- An edge from 0, a path between loop variables and an edge back are joined end to end, so their rows add up to the
+-- weights of both edges and the bound, whatever the writer's point is. A context that shows the opposite of that form,
+-- which is -form - 1, contradicts the cycle: both together are -1. Whether the cycle is the least one is not asked.
 use Rattle.std.proofs.Common.{◌≡◌, ◌+◌, ◌^◌, ◌≤◌, ℕ, zero, suc, ℤ, pos, negsuc, ◌+ℤ◌, ◌*ℤ◌, List, []}
 use Rattle.std.proofs.Common.{◌∷◌, ◌++◌, length, slice_index_or, refl, sym, ap, ◌∙◌, subst, arith}
 use Rattle.std.specs.Prelude.{Some, slice_get, unsigned_abs}

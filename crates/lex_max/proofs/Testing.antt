@@ -1,4 +1,9 @@
 -- The tree of a Test, from those of its two contexts.
+--
+-- On each side of a Test the context has one row more, the form or its negation, and a point that meets the context
+-- meets one of both, by the sign of the form there. So the tree gives what the side's tree gives, and is checked where
+-- both are. The rows are made in any context that is made as this one, since a form over the reader's variables is
+-- made as it is.
 use Rattle.std.proofs.Common.{◌≡◌, ◌+◌, ◌-◌, ◌^◌, ◌≤◌, ℕ, ℤ, pos, negsuc, ◌≤ℤ◌, ◌<ℤ◌, List, [], ◌∷◌, ◌++◌}
 use Rattle.std.proofs.Common.{length, replicate, Bool, true, false, cond, refl, sym, ap, ◌∙◌, subst, arith}
 use Rattle.std.specs.Prelude.{Some, None, int_le}

@@ -1,5 +1,8 @@
--- Rows that were made have the value of what they were made from, and a point that writes the cell before the read
--- meets the rows that say so.
+-- Rows that were made have the value of what they were made from, and a point that writes the cell before the read meets them.
+--
+-- By induction over how a row is made its value is the sum of the values of its forms, so what is said of rows as they
+-- are made can be said of values. A place has the values of its forms: a domain row, a subscript and an order row at a
+-- place hold exactly where the values say so. A longer point changes nothing of rows that are widened.
 use Rattle.std.proofs.Common.{◌≡◌, ◌+◌, ◌<◌, ℕ, zero, suc, ℤ, pos, ◌+ℤ◌, ◌*ℤ◌, ◌≤ℤ◌, ◌<ℤ◌}
 use Rattle.std.proofs.Common.{List, [], ◌∷◌, ◌++◌, length, map, take, Bool, true, false, cond, refl, sym, ap, ◌∙◌}
 use Rattle.std.proofs.Common.{subst, arith, append_assoc, length-append}

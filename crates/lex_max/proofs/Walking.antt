@@ -1,4 +1,9 @@
 -- Sums of edges along paths, and bounds of differences.
+--
+-- A path is told by its sum at every place: its weights and where it begins, less where it ends. So two paths join
+-- where one ends and the other begins, and an edge is a path. A bound is a path whose weights are numbers. Where the
+-- edges are gone through one by one, the bound so far is no greater than the edges so far, and stays a path: it is
+-- exchanged for a lesser one alone.
 use Rattle.std.proofs.Common.{◌≡◌, ◌+◌, ◌≤◌, ◌<◌, ℕ, zero, suc, ℤ, pos, ◌+ℤ◌, ◌≤ℤ◌, List}
 use Rattle.std.proofs.Common.{[], ◌∷◌, ◌++◌, length, drop, true, false, refl, ap, ◌∙◌, subst, arith}
 use Rattle.std.specs.Prelude.{Option, Some, None, All, slice_get, IfSome}

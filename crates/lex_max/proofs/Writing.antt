@@ -1,4 +1,9 @@
 -- The rows of a system over a writer's point can be made within 128 bits.
+--
+-- A row's reach is bounded by how it is made: a form at a place is a number and at most six products of two small
+-- numbers, and a difference of two such reaches as far as both, and 1 more where it is strict. So the rows of the
+-- domain, of the cell and of each level of an order are small, by induction over them, and small rows can be made.
+-- Rows that were made keep their number and their order, so they are told by the edges in their places.
 use Rattle.std.proofs.Common.{◌≡◌, ◌+◌, ◌*◌, ◌^◌, ◌≤◌, ◌<◌, ℕ, zero, suc, ℤ, pos, negsuc, List, []}
 use Rattle.std.proofs.Common.{◌∷◌, ◌++◌, length, Bool, true, refl, ap, ◌∙◌, arith, inl, inr}
 use Rattle.std.proofs.Common.{◌⊎◌}

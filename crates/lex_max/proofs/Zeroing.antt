@@ -1,4 +1,8 @@
 -- The Zero leaf of a contradiction is the answer of its context.
+--
+-- The leaf's proof takes the terms of the context and, behind it, the rows of the cycle: in the one system that a Zero
+-- leaf of one writer and one level has, these refute. So no point of the writer is left at any point of the reader
+-- that meets the context, and zero is the greatest. A tree with fewer Tests than it may have is an answer as well.
 use Rattle.std.proofs.Common.{◌≡◌, ◌+◌, ◌-◌, ◌^◌, ◌≤◌, ℕ, List, [], ◌∷◌, ◌++◌, length, refl, sym, ap, ◌∙◌, subst}
 use Rattle.std.proofs.Common.{arith}
 use Rattle.std.proofs.lemmas.List.Elements.{All-nil, All-cons}

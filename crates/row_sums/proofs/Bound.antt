@@ -1,4 +1,9 @@
 -- Sums of rows with small multipliers stay within 128 bits.
+--
+-- The invariant of a sum so far is a bound of its numbers: a term adds its multiplier's amount times the bound of the
+-- rows, so at the end the bound is the weight of the terms times that of the rows. Where this is below 2^127 no step
+-- leaves 128 bits, and the sum within 128 bits is the sum without bounds. The bound is of the numbers' amounts alone:
+-- that they cancel is used nowhere.
 use Rattle.std.proofs.Common.{◌≡◌, ℕ, zero, suc, ◌+◌, ◌*◌, ◌^◌, ◌<◌, ◌≤◌, ℤ, pos, negsuc, ◌+ℤ◌, ◌*ℤ◌, List, [], ◌∷◌}
 use Rattle.std.proofs.Common.{Bool, true, false, cond, refl, ap, ◌∙◌, arith}
 use Rattle.std.specs.Prelude.{Option, Some, None, All, slice_get}

@@ -1,4 +1,10 @@
--- Going bounds_through one more variable closes the bounds.
+-- Going through one more variable closes the bounds.
+--
+-- Each new bound is the lesser of the old one and of the way through the new variable, so a sum of two new bounds is
+-- one of four sums of old ones. At an earlier variable each of these four is no less than the new bound, since the old
+-- bounds were closed there; the one that goes through the new variable twice goes round it once, and that is not
+-- negative. At the new variable itself going round it betters nothing, for the same reason. Nothing is said of
+-- variables that are still to come.
 use Rattle.std.proofs.Common.{◌≡◌, ℤ, subst, inl, inr, arith}
 use Rattle.std.specs.Prelude.{Option, Some, None}
 use Rattle.std.proofs.lemmas.Int.{ints, int_min_is}

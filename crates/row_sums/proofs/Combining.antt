@@ -1,4 +1,9 @@
--- What sums show combines, and is carried_terms.
+-- What sums show combines, and is carried to other rows.
+--
+-- Part by part a sum of terms is a number, the weighted sum of the rows' parts, and of terms put together or
+-- multiplied it is the sum or the multiple, by induction over the terms. So what is shown combines. To carry terms,
+-- each is replaced by a multiple of what shows its row, and all of these add up to what the terms show. No multiplier
+-- is negative, so rows are never subtracted.
 use Rattle.std.proofs.Common.{◌≡◌, ◌<◌, ℕ, zero, suc, ℤ, pos, ◌+ℤ◌, ◌*ℤ◌, ◌≤ℤ◌, ◌-ℤ◌, List, [], ◌∷◌, ◌++◌, length, refl}
 use Rattle.std.proofs.Common.{ap, ◌∙◌, arith}
 use Rattle.std.specs.Prelude.{All, slice_get}

@@ -1,4 +1,8 @@
 -- Terms that a proof of an entailment confirms.
+--
+-- The terms refute the rows with the negation of a row f behind them, taken once: their weighted sum and the negation
+-- are a negative number without variables. The negation is -f - 1, so the weighted sum has f's coefficients, and its
+-- constant is f's at most. Taken twice, the last row would tell something of the double of f alone.
 use Rattle.std.proofs.Common.{◌≡◌, ◌<◌, ℕ, pos, negsuc, ◌+ℤ◌, ◌*ℤ◌, List, [], ◌∷◌, ◌++◌, length, refl, sym, ap, ◌∙◌}
 use Rattle.std.proofs.Common.{arith}
 use Rattle.std.specs.Prelude.{Some, All, slice_get}

@@ -1,4 +1,8 @@
 -- A last row that contradicts what terms show.
+--
+-- What the terms show of the rows they show with the last row behind them, and that row shows itself. Both together
+-- are a negative number without variables, so the terms with the last row, taken once, refute, where their weight
+-- keeps the sum within 128 bits.
 use Rattle.std.proofs.Common.{◌≡◌, ℕ, ◌+◌, ◌*◌, ◌^◌, ◌<◌, pos, ◌+ℤ◌, List, [], ◌∷◌, ◌++◌, length, refl, ap, ◌∙◌, arith}
 use Rattle.std.specs.Prelude.{Some, slice_get}
 use Rattle.std.specs.Option.{option_map_or}

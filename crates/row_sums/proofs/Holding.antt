@@ -1,4 +1,9 @@
 -- What rows show holds where they are met.
+--
+-- At a point that meets the rows each term adds a product of two numbers that are not negative, so the value of the
+-- sum grows from term to term. It begins at 0, so the value of the whole sum is not negative, and a form with the same
+-- coefficients and a constant that is no less is not negative either. The sum is the one without bounds, since nothing
+-- here keeps it within 128 bits.
 use Rattle.std.proofs.Common.{◌≡◌, ◌<◌, ℕ, zero, suc, ℤ, pos, ◌+ℤ◌, ◌*ℤ◌, ◌≤ℤ◌, List, [], ◌∷◌, length, slice_index_or}
 use Rattle.std.proofs.Common.{slice_get, refl, sym, ap, ◌∙◌, arith}
 use Rattle.std.specs.Prelude.{Some, All}

@@ -1,4 +1,9 @@
 -- The parts of a sum of rows.
+--
+-- A part of the sum so far is that of its start and the weighted sum of the rows' parts: each term adds its row's part
+-- times its multiplier, and sums and multiples of forms go part by part. The rows have equally many coefficients, so
+-- the sum has as many, and no coefficient is lost where forms are added. A sum that stays within 128 bits is the sum
+-- without bounds, so it has the same parts.
 use Rattle.std.proofs.Common.{◌≡◌, ◌<◌, ℕ, zero, suc, ℤ, pos, ◌+ℤ◌, ◌*ℤ◌, List, [], ◌∷◌, length, replicate, refl, sym}
 use Rattle.std.proofs.Common.{ap, ◌∙◌, arith}
 use Rattle.std.specs.Prelude.{Some, All, slice_get, slice_index_or}
@@ -45,7 +50,7 @@ pub sum_part : (part : Part) (f g : Form) → length f.coefs ≡ length g.coefs 
 sum_part the_constant f g e = refl
 sum_part (the_coefficient i) f g e = sums_part f.coefs g.coefs i e
 
--- the sum exists, has the right number of variables, and its parts are the weighted_sum ones
+-- the sum exists, has the right number of variables, and its parts are the weighted sums
 pub record IsSummed (vars : ℕ) (rows : List Form) (sum : Form) (ts : List Term) (f : Form) : Type 0 where
   pub is : ideal rows sum ts ≡ Some f
   pub over : length f.coefs ≡ vars

@@ -1,4 +1,8 @@
 -- Rows whose numbers are small can be made.
+--
+-- By induction over how a row is made: a form that is taken is widened by zeros, a sum reaches no farther than both
+-- its rows together, and a multiple no farther than its row's reach times the number. Where the reach of the whole is
+-- below 2^127, no step on the way leaves 128 bits, and the parts are those of the forms, summed and multiplied.
 use Rattle.std.proofs.Common.{◌≡◌, ℕ, zero, suc, ◌+◌, ◌-◌, ◌*◌, ◌≤◌, ℤ, pos, ◌+ℤ◌, ◌*ℤ◌, List, [], ◌∷◌, ◌++◌, length}
 use Rattle.std.proofs.Common.{replicate, slice_index_or, cond, refl, sym, ap, ◌∙◌, arith}
 use Rattle.std.specs.Prelude.{Some, None, unsigned_abs}

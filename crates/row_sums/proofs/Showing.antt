@@ -1,4 +1,10 @@
 -- Terms that show a negative number refute, and terms that refute show one.
+--
+-- Where the multipliers are small the sum of the terms stays within 128 bits, and its parts are the weighted sums: no
+-- variable is left, and the constant is negative, which is what the check of a Sum asks. The other way round the check
+-- has added the same rows within 128 bits, so its sum has the weighted parts too, without any bound on the
+-- multipliers. Together both carry a refutation to other rows: it shows a negative number, this is carried, and
+-- refutes there.
 use Rattle.std.proofs.Common.{◌≡◌, ◌*◌, ◌^◌, ◌≤◌, ℕ, ◌<◌, ◌≤◌, zero, suc, ℤ, pos, ◌+ℤ◌, ◌≤ℤ◌, ◌<ℤ◌, List, [], ◌∷◌}
 use Rattle.std.proofs.Common.{length, Bool, true, false, not, cond, refl, sym, ap, ◌∙◌, arith}
 use Rattle.std.specs.Prelude.{Some, None, All, slice_index_or, nat_lt, unsigned_abs}

@@ -1,4 +1,8 @@
 -- The weights of terms.
+--
+-- The weight of terms is the sum of the amounts of their multipliers, so it adds up where terms are put together, and
+-- grows by a factor at most where they are multiplied. Carried terms weigh at most the weight of the terms times the
+-- most that stands in a row's place, by induction over the terms.
 use Rattle.std.proofs.Common.{◌≡◌, ℕ, ◌+◌, ◌*◌, ◌≤◌, ℤ, pos, negsuc, ◌*ℤ◌, List, [], ◌∷◌, ◌++◌, arith}
 use Rattle.std.specs.Int.RustNames.{unsigned_abs}
 use Rattle.std.proofs.lemmas.Int.{ints}

@@ -1,4 +1,8 @@
 -- More variables change nothing of what rows show.
+--
+-- A widened row has zeros behind its coefficients, so its parts are those that it had, and so are the weighted sums of
+-- any terms. Of the new variables every row has the coefficient 0, and so has the sum; so what is shown must have it
+-- there too, which is asked.
 use Rattle.std.proofs.Common.{◌≡◌, ◌<◌, ◌≤◌, ℕ, zero, suc, ℤ, pos, ◌+ℤ◌, ◌*ℤ◌, List, [], ◌∷◌, length, map}
 use Rattle.std.proofs.Common.{slice_index_or, refl, sym, ap, ◌∙◌, inl, inr, arith}
 use Rattle.std.specs.Prelude.{Option, Some, None, slice_get}

@@ -1,5 +1,9 @@
--- Rows that were made have the parts of what they were made from, and are made over more variables as they are,
--- widened.
+-- Rows that were made have the parts of what they were made from, and are also made over more variables.
+--
+-- By induction over how a row is made, over both numbers of variables at once: zeros behind the coefficients stay
+-- zeros in sums and multiples, and fit in 128 bits. So what is made over more variables is the row that was made,
+-- widened, and no step of it overflows where none did before. Nothing is asked of the numbers' size: that the row was
+-- made once is enough.
 use Rattle.std.proofs.Common.{◌≡◌, ℕ, zero, suc, ◌+◌, ◌-◌, ◌≤◌, ◌&&◌, ℤ, pos, ◌+ℤ◌, ◌*ℤ◌, List, [], ◌∷◌, ◌++◌, length}
 use Rattle.std.proofs.Common.{map, replicate, Bool, true, false, cond, refl, sym, ap, ◌∙◌, subst, arith, append_assoc}
 use Rattle.std.proofs.Common.{length-append}

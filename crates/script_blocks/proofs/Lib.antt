@@ -7,5 +7,8 @@ pub mod Nestings
 pub mod Builds
 pub mod Depths
 pub mod Walks
+pub mod Batches
+pub mod Fills
+pub mod Given
 pub mod Loops
 mod Worked

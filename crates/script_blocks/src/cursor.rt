@@ -1,8 +1,9 @@
-ghost use Rattle.std.specs.Prelude.{◌≡◌, ◌+◌, ◌<◌, ◌≤◌, [], ◌∷◌, drop, length, slice_get, true, MatchOption, OnOk, vec_len};
+ghost use Rattle.std.specs.Prelude.{◌≡◌, ◌+◌, ◌<◌, ◌≤◌, [], ◌∷◌, ◌++◌, drop, length, slice_get, false, true, MatchOption, IsTrue, OnOk, vec_len};
 ghost use Rattle.script_blocks.specs.Expansion.{part_expansion, parts_expansion, repeated};
 ghost use Rattle.script_blocks.specs.Nesting.{part_nesting, parts_nesting};
 ghost use Rattle.script_blocks.specs.Places.{left, left_of_part, left_of_parts, left_of_repeat, left_of_turns};
 
+use crate::batch::{BATCH, Batch};
 use crate::{BlockPart, Blocks};
 use std::alloc::{AllocError, Global};
 
@@ -33,9 +34,9 @@ pub(crate) fn restart<T>(parts: &[BlockPart<T>], frames: &mut [Frame])
     frames[0] = START;
 }
 
-/// The next item of these parts.
+// The next item of these parts.
 #[cycle(next)]
-pub(crate) fn next_in<T: Copy>(parts: &[BlockPart<T>], frames: &mut [Frame]) -> Option<T>
+fn next_in<T: Copy>(parts: &[BlockPart<T>], frames: &mut [Frame]) -> Option<T>
     requires { parts_nesting parts.now < length frames.old }
     ensures { MatchOption result
         ((left frames.old parts.now ≡ []) × (left frames.new parts.now ≡ []))
@@ -159,6 +160,153 @@ fn next_of_new_turn<T: Copy>(
 {
     let _ = frame;
     next_in(body, deeper)
+}
+
+/// Adds the next items of these parts to a batch, until it is full or there is no more. Whether it is full.
+#[cycle(fill)]
+pub(crate) fn fill_in<T: Copy>(
+    parts: &[BlockPart<T>],
+    frames: &mut [Frame],
+    batch: &mut Batch<T>,
+) -> bool
+    requires room { parts_nesting parts.now < length frames.old }
+    ensures items { batch.old ++ left frames.old parts.now
+        ≡ batch.new ++ left frames.new parts.now }
+    ensures full { IsTrue result → length batch.new ≡ 16 }
+    ensures done { result ≡ false → left frames.new parts.now ≡ [] }
+{
+    let Some((frame, deeper)) = frames.split_first_mut() else {
+        unreachable!()
+    };
+    fill_from_part(parts, frame, deeper, batch)
+}
+
+// The same from the part on that the cursor is at.
+#[cycle(fill)]
+fn fill_from_part<T: Copy>(
+    parts: &[BlockPart<T>],
+    frame: &mut Frame,
+    deeper: &mut [Frame],
+    batch: &mut Batch<T>,
+) -> bool
+    requires room { parts_nesting parts.now ≤ length deeper.old }
+    ensures items { batch.old
+        ++ left_of_parts frame.old (left deeper.old) (drop frame.old.part parts.now)
+        ≡ batch.new ++ left_of_parts frame.new (left deeper.new) (drop frame.new.part parts.now) }
+    ensures full { IsTrue result → length batch.new ≡ 16 }
+    ensures done { result ≡ false
+        → left_of_parts frame.new (left deeper.new) (drop frame.new.part parts.now) ≡ [] }
+{
+    while frame.part < parts.len() {
+        if fill_of_part(&parts[frame.part], frame, deeper, batch) {
+            return true;
+        }
+        frame.part += 1;
+        frame.inside = false;
+    }
+    false
+}
+
+// The same of one part.
+#[cycle(fill)]
+#[tactic(auto, using(crate::proofs::Walks::left_of_repeat_is))]
+fn fill_of_part<T: Copy>(
+    part: &BlockPart<T>,
+    frame: &mut Frame,
+    deeper: &mut [Frame],
+    batch: &mut Batch<T>,
+) -> bool
+    requires room { part_nesting part.now ≤ length deeper.old }
+    ensures part { frame.new.part ≡ frame.old.part }
+    ensures items { batch.old ++ left_of_part frame.old (left deeper.old) part.now
+        ≡ batch.new ++ left_of_part frame.new (left deeper.new) part.now }
+    ensures full { IsTrue result → length batch.new ≡ 16 }
+    ensures done { result ≡ false → left_of_part frame.new (left deeper.new) part.now ≡ [] }
+{
+    match part {
+        BlockPart::Item(item) => {
+            if frame.inside {
+                return false;
+            }
+            if batch.len() == BATCH {
+                return true;
+            }
+            batch.push(*item);
+            frame.inside = true;
+            false
+        }
+        BlockPart::Repeat(count, body) => {
+            fill_of_repeat(*count, body.parts.as_slice(), frame, deeper, batch)
+        }
+    }
+}
+
+// Adds the next items of a repeat, until the batch is full or there is no more.
+#[cycle(fill)]
+#[tactic(auto, using(crate::proofs::Fills::fills))]
+fn fill_of_repeat<T: Copy>(
+    count: u32,
+    body: &[BlockPart<T>],
+    frame: &mut Frame,
+    deeper: &mut [Frame],
+    batch: &mut Batch<T>,
+) -> bool
+    requires room { parts_nesting body.now < length deeper.old }
+    ensures part { frame.new.part ≡ frame.old.part }
+    ensures items { batch.old ++ left_of_repeat frame.old (left deeper.old) count body.now
+        ≡ batch.new ++ left_of_repeat frame.new (left deeper.new) count body.now }
+    ensures full { IsTrue result → length batch.new ≡ 16 }
+    ensures done { result ≡ false
+        → left_of_repeat frame.new (left deeper.new) count body.now ≡ [] }
+{
+    if frame.inside {
+        if fill_in(body, deeper, batch) {
+            return true;
+        }
+        if frame.later == 0 {
+            return false;
+        }
+        let later = frame.later - 1;
+        begin_turn(later, body, frame, deeper);
+    } else {
+        if count == 0 {
+            return false;
+        }
+        begin_turn(count - 1, body, frame, deeper);
+    }
+    fill_of_new_turns(body, frame, deeper, batch)
+}
+
+// Adds the next items of a repetition that has just begun, and of the later ones. Where one has none, the later ones
+// have none either.
+#[cycle(fill)]
+fn fill_of_new_turns<T: Copy>(
+    body: &[BlockPart<T>],
+    frame: &mut Frame,
+    deeper: &mut [Frame],
+    batch: &mut Batch<T>,
+) -> bool
+    requires room { parts_nesting body.now < length deeper.old }
+    requires inside { frame.old.inside ≡ true }
+    requires begun { left deeper.old body.now ≡ parts_expansion body.now }
+    ensures part { frame.new.part ≡ frame.old.part }
+    ensures inside { frame.new.inside ≡ true }
+    ensures items { batch.old ++ left_of_turns frame.old (left deeper.old) body.now
+        ≡ batch.new ++ left_of_turns frame.new (left deeper.new) body.now }
+    ensures full { IsTrue result → length batch.new ≡ 16 }
+    ensures done { result ≡ false → left_of_turns frame.new (left deeper.new) body.now ≡ [] }
+{
+    'turns: loop {
+        let before = batch.len();
+        if fill_in(body, deeper, batch) {
+            return true;
+        }
+        if frame.later == 0 || batch.len() == before {
+            return false;
+        }
+        let later = frame.later - 1;
+        begin_turn(later, body, frame, deeper);
+    }
 }
 
 // The first item of these parts.

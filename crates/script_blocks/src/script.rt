@@ -3,9 +3,8 @@ ghost use Rattle.std.specs.Prelude.{◌≡◌, ◌<◌, ◌≤◌, ◌^◌, ◌�
 ghost use Rattle.std.specs.Iterator.{YieldsFirst, item_count};
 ghost use Rattle.script_blocks.specs.Expansion.{expansion, parts_expansion};
 ghost use Rattle.script_blocks.specs.Nesting.{is_proper, nesting, parts_nesting};
-ghost use Rattle.script_blocks.specs.Places.{left};
 
-use crate::cursor::{Frame, START, next_in, peek_in, restart};
+use crate::place::Place;
 use crate::{BlockPart, Blocks, fold};
 use std::alloc::{AllocError, Global};
 use std::marker::Model;
@@ -111,7 +110,9 @@ impl<T> Script<T> {
             len: self.len,
         })
     }
+}
 
+impl<T: Copy> Script<T> {
     /// The items, in order. It takes no memory.
     pub fn iter(&self) -> ScriptItems<'_, T>
         ensures items { result ≡ self.now }
@@ -126,42 +127,39 @@ impl<T> Script<T> {
 #[derive(Drop)]
 pub struct ScriptItems<'a, T> {
     parts: &'a [BlockPart<T>],
-    frames: [Frame; 32],
+    place: Place<T>,
 }
 
 impl<'a, T> Model for ScriptItems<'a, T> {
     ghost use Rattle.std.specs.Prelude.{◌≤◌, List};
     ghost use Rattle.std.specs.Coded.{coded_list};
     ghost use Rattle.script_blocks.specs.Nesting.{parts_nesting};
-    ghost use Rattle.script_blocks.specs.Places.{left};
+    ghost use Rattle.script_blocks.specs.Scripts.{items_left};
 
     ghost Value = { List T };
 
     ghost coded = { coded_list T.code };
 
-    ghost view = { λ items. left items.frames items.parts.now };
+    ghost view = { λ items. items_left items.place items.parts.now };
 
     ghost invariant = { λ items. parts_nesting items.parts.now ≤ 31 };
 }
 
-impl<'a, T> ScriptItems<'a, T> {
+impl<'a, T: Copy> ScriptItems<'a, T> {
     // All items of these parts.
     fn over(parts: &'a [BlockPart<T>]) -> ScriptItems<'a, T>
         requires { parts_nesting parts.now ≤ 31 }
         ensures { result ≡ parts_expansion parts.now }
     {
-        let mut frames = [START; 32];
-        restart(parts, &mut frames);
-        ScriptItems { parts, frames }
+        let place = Place::before(parts);
+        ScriptItems { parts, place }
     }
-}
 
-impl<'a, T: Copy> ScriptItems<'a, T> {
     /// The item that `next` would give, or `None` where there is no more. It takes no memory.
     pub fn peek(&self) -> Option<T>
         ensures { result ≡ slice_get self.now 0 }
     {
-        peek_in(self.parts, &self.frames)
+        self.place.peek(self.parts)
     }
 }
 
@@ -173,17 +171,15 @@ impl<'a, T: Copy> Iterator for ScriptItems<'a, T> {
     ghost remaining = { item_count (λ rest. rest) };
 
     fn next(&mut self) -> Option<T> {
-        next_in(self.parts, &mut self.frames)
+        self.place.next(self.parts)
     }
 }
 
-/// A place in a script, seen as the list of the items that are left. It owns its share of the blocks, and keeps the next
-/// item at hand.
+/// A place in a script, seen as the list of the items that are left. It owns its share of the blocks.
 #[derive(Drop)]
 pub struct ScriptCursor<T> {
     blocks: Arc<Blocks<T>>,
-    frames: [Frame; 32],
-    upcoming: Option<T>,
+    place: Place<T>,
 }
 
 impl<T> Model for ScriptCursor<T> {
@@ -191,15 +187,13 @@ impl<T> Model for ScriptCursor<T> {
     ghost use Rattle.std.specs.Arc.{arc_value};
     ghost use Rattle.std.specs.Coded.{coded_list};
     ghost use Rattle.script_blocks.specs.Nesting.{nesting};
-    ghost use Rattle.script_blocks.specs.Places.{left};
-    ghost use Rattle.script_blocks.specs.Scripts.{next_and_later};
+    ghost use Rattle.script_blocks.specs.Scripts.{items_left};
 
     ghost Value = { List T };
 
     ghost coded = { coded_list T.code };
 
-    ghost view = { λ cursor. next_and_later cursor.upcoming
-        (left cursor.frames (arc_value cursor.blocks).parts) };
+    ghost view = { λ cursor. items_left cursor.place (arc_value cursor.blocks).parts };
 
     ghost invariant = { λ cursor. nesting (arc_value cursor.blocks) ≤ 31 };
 }
@@ -210,21 +204,15 @@ impl<T: Copy> ScriptCursor<T> {
         ensures { IfOk result (λ cursor. cursor ≡ script.now) }
     {
         let blocks = Arc::try_clone(&script.blocks)?;
-        let mut frames = [START; 32];
-        restart(blocks.parts.as_slice(), &mut frames);
-        let upcoming = next_in(blocks.parts.as_slice(), &mut frames);
-        Ok(ScriptCursor {
-            blocks,
-            frames,
-            upcoming,
-        })
+        let place = Place::before(blocks.parts.as_slice());
+        Ok(ScriptCursor { blocks, place })
     }
 
     /// The item that `next` would give, or `None` where there is no more. It takes no memory.
     pub fn peek(&self) -> Option<T>
         ensures { result ≡ slice_get self.now 0 }
     {
-        self.upcoming
+        self.place.peek(self.blocks.parts.as_slice())
     }
 
     /// The next item, or `None` exactly where there is no more. It takes no memory.
@@ -232,8 +220,6 @@ impl<T: Copy> ScriptCursor<T> {
         ensures { MatchOption result ((self.old ≡ []) × (self.new ≡ []))
             (λ item. self.old ≡ item ∷ self.new) }
     {
-        let item = self.upcoming?;
-        self.upcoming = next_in(self.blocks.parts.as_slice(), &mut self.frames);
-        Some(item)
+        self.place.next(self.blocks.parts.as_slice())
     }
 }

@@ -1,0 +1,74 @@
+-- What is left at a place: the items of its batch that were not given, and those that the walk has left.
+use Rattle.std.proofs.Common.{◌≡◌, ◌+◌, ◌<◌, ◌≤◌, ℕ, zero, suc, Bool, Option, List, [], ◌∷◌, ◌++◌, drop, length}
+use Rattle.std.proofs.Common.{true, false, refl, sym, ap, ◌∙◌, arith}
+use Rattle.std.specs.Prelude.{Some, None, slice_get, is_some}
+use Rattle.std.proofs.lemmas.List.{drop_all}
+use Rattle.script_blocks.proofs.Firsts.{first_of_front, first_of_other}
+
+first_dropped : {T : Type 0} (n : ℕ) (xs : List T) → slice_get (drop n xs) 0 ≡ slice_get xs n
+first_dropped zero [] = refl
+first_dropped zero (x ∷ xs) = refl
+first_dropped (suc n) [] = refl
+first_dropped (suc n) (x ∷ xs) = first_dropped n xs
+
+dropped_more : {T : Type 0} (n : ℕ) (xs : List T) (x : T) → slice_get xs n ≡ Some x → drop n xs ≡ x ∷ drop (n + 1) xs
+dropped_more n [] x is = cc
+dropped_more zero (y ∷ xs) x is = cc
+dropped_more (suc n) (y ∷ xs) x is =
+    let more : suc n + 1 ≡ suc (n + 1) = omega arith in
+    dropped_more n xs x is ∙ ap (λ k. x ∷ drop k (y ∷ xs)) (sym more)
+
+none_first : {T : Type 0} (xs : List T) → slice_get xs 0 ≡ None → xs ≡ []
+none_first [] is = refl
+none_first (x ∷ xs) is = cc
+
+module _ {T : Type 0} (given : ℕ) (batch later : List T) where
+  pub given_some : (item : Option T) → item ≡ slice_get batch given → is_some item ≡ true
+      → item ≡ slice_get (drop given batch ++ later) 0
+  given_some item is some =
+      let here : item ≡ slice_get (drop given batch) 0 = is ∙ sym (first_dropped given batch) in
+      here ∙ sym (first_of_front (drop given batch) later (ap is_some (sym here) ∙ some))
+
+  pub given_none : (item : Option T) → item ≡ slice_get batch given → is_some item ≡ false
+      → slice_get later 0 ≡ slice_get (drop given batch ++ later) 0
+  given_none item is none =
+      let here : item ≡ slice_get (drop given batch) 0 = is ∙ sym (first_dropped given batch) in
+      sym (first_of_other (drop given batch) later (ap is_some (sym here) ∙ none))
+
+  pub given_next : (item : T) → slice_get batch given ≡ Some item
+      → drop given batch ++ later ≡ item ∷ (drop (given + 1) batch ++ later)
+  given_next item is = ap (λ xs. xs ++ later) (dropped_more given batch item is)
+
+  pub all_given : length batch ≤ given → drop given batch ++ later ≡ later
+  all_given le = ap (λ xs. xs ++ later) (drop_all given batch le)
+
+-- where a batch that was filled from nothing has no item, none is left
+pub none_filled : {T : Type 0} (full : Bool) (batch later : List T) → slice_get batch 0 ≡ None
+    → (full ≡ true → length batch ≡ 16) → (full ≡ false → later ≡ [])
+    → batch ++ later ≡ []
+none_filled true batch later none whole done =
+    absurd (omega (arith, ap length (none_first batch none), whole refl))
+none_filled false batch later none whole done =
+    ap (λ xs. xs ++ later) (none_first batch none) ∙ done refl
+
+-- a place whose batch was filled anew
+pub filled_left : {T : Type 0} (given : ℕ) (old cleared batch before after : List T) → length old ≤ given
+    → cleared ≡ [] → cleared ++ before ≡ batch ++ after
+    → batch ++ after ≡ drop given old ++ before
+filled_left given old cleared batch before after le none moved =
+    sym moved ∙ ap (λ xs. xs ++ before) none ∙ sym (all_given given old before le)
+
+pub not_past : {T : Type 0} (xs : List T) (given : ℕ) → given < length xs → slice_get xs given ≡ None → ⊥
+not_past [] given lt none = omega arith
+not_past (x ∷ xs) zero lt none = cc
+not_past (x ∷ xs) (suc given) lt none = not_past xs given (omega arith) none
+
+pub next_given : {T : Type 0} (given : ℕ) (batch later all : List T) (item : T) → Some item ≡ slice_get batch given
+    → drop given batch ++ later ≡ all → all ≡ item ∷ (drop (given + 1) batch ++ later)
+next_given given batch later all item is whole = sym whole ∙ given_next given batch later item (sym is)
+
+pub none_given : {T : Type 0} (given : ℕ) (batch : List T) (left all : List T) → None ≡ slice_get batch given
+    → (slice_get batch given ≡ None → left ≡ []) → left ≡ all → (all ≡ []) × (left ≡ [])
+none_given given batch left all is ready same = (sym same ∙ ready (sym is), ready (sym is))
+
+pub ruleset giving = (filled_left, none_filled, not_past, next_given, none_given, given_some, given_none)

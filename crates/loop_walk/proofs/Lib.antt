@@ -6,3 +6,4 @@ pub mod PointsAdded
 pub mod Rooms
 pub mod SizeLaw
 pub mod WalkLemmas
+pub mod RunLemmas

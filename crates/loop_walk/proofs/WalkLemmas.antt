@@ -12,7 +12,7 @@ use Rattle.sanlp.specs.declared.nest.Point.{Point}
 use Rattle.sanlp.specs.Loops.{interval}
 use Rattle.sanlp.specs.Trace.{all_points, trace_node, trace_step, turn_points}
 use Rattle.sanlp.specs.WellFormed.{all_forms_fit, forms_fit}
-use Rattle.sanlp.proofs.Folds.{fold_assign_at, fold_loop, fold_loop_at}
+use Rattle.sanlp.proofs.Folds.{fold_loop, fold_loop_at}
 use Rattle.sanlp.proofs.Intervals.{interval_step, interval_end}
 use Rattle.loop_walk.specs.declared.walk.Frame.{Frame}
 use Rattle.sanlp.specs.Size.{is_loop_value, node_within}
@@ -165,27 +165,3 @@ nothing_invalid (f ∷ frames) d body s room entered first is at =
     ap (λ (k : ℕ). parts_valid f (valid frames) (drop k body) at) first
     ∙ ap (λ (parts : List Node). parts_valid f (valid frames) (drop 0 parts) at) is
     ∙ assignment_valid f frames s entered at
-
--- the next turn of a loop over an assignment whose turn is done
-module _ (f : Frame) (frames : List Frame) (body : List Node) (s : ℕ) (at : List ℤ) (is : body ≡ Assign s ∷ [])
-    (done : (at : List ℤ) → left frames body at ≡ []) where
-  abbrev later : ℤ → List Point
-  later value = turn_points (all_points (map trace_node body)) (interval value f.last) at
-
-  one_point : (v : ℤ)
-      → all_points (map trace_node body) (at ++ v ∷ []) ≡ record { statement = s; at = at ++ v ∷ [] } ∷ []
-  one_point v =
-      ap (λ (parts : List Node). all_points (map trace_node parts) (at ++ v ∷ [])) is
-      ∙ ap (λ points. points ++ []) (fold_assign_at (List ℤ) (List Point) trace_step s (at ++ v ∷ []))
-
-  pub next_assignment : (next : ℤ) → next ≡ f.value +ℤ pos 1 → f.value <ℤ f.last
-      → left_of_turns f (left frames) body at
-      ≡ record { statement = s; at = at ++ next ∷ [] } ∷ left_of_turns (record f { value = next }) (left frames) body at
-  next_assignment next e lt =
-      ap (λ points. points ++ later (f.value +ℤ pos 1)) (done (at ++ f.value ∷ []))
-      ∙ ap later (sym e)
-      ∙ ap (λ values. turn_points (all_points (map trace_node body)) values at)
-      (interval_step next f.last (omega (arith, ints)))
-      ∙ ap (λ points. points ++ later (next +ℤ pos 1)) (one_point next)
-      ∙ ap (λ points. record { statement = s; at = at ++ next ∷ [] } ∷ (points ++ later (next +ℤ pos 1)))
-      (sym (done (at ++ next ∷ [])))

@@ -1,5 +1,5 @@
 -- A walk over the points of a nest.
-use Rattle.std.specs.Prelude.{List, [], IsTrue, vec_len}
+use Rattle.std.specs.Prelude.{List, [], ◌++◌, IsTrue, vec_len}
 use Rattle.sanlp.specs.declared.nest.Nest.{Nest}
 use Rattle.sanlp.specs.declared.nest.Point.{Point}
 use Rattle.loop_walk.specs.declared.walk.Walk.{Walk}
@@ -12,4 +12,4 @@ pub record IsWalkOf (n : Nest) (walk : Walk) : Type 0 where
 
 -- the points of the trace that the walk has not given yet
 unfoldable pub rest : Nest → Walk → List Point
-rest n walk = left walk.frames.items n.body []
+rest n walk = walk.run ++ left walk.frames.items n.body []

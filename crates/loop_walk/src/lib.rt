@@ -5,6 +5,7 @@ mod bounds;
 mod count;
 mod parts;
 mod process_points;
+mod run;
 mod vector;
 mod walk;
 

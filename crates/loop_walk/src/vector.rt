@@ -33,6 +33,16 @@ impl LoopValues {
         }
     }
 
+    /// The same loops again.
+    pub(crate) fn copy(&self) -> LoopValues
+        ensures { result ≡ self.now }
+    {
+        LoopValues {
+            values: self.values,
+            depth: self.depth,
+        }
+    }
+
     /// One loop more, inside the others.
     pub fn extended(&self, value: i64) -> LoopValues
         requires deep { length self.now < 6 }

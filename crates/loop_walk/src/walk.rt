@@ -1,6 +1,6 @@
 ghost use Rattle.std.specs.Bool.{OnTrue, OnFalse};
 ghost use Rattle.std.specs.List.{list_all};
-ghost use Rattle.std.specs.Prelude.{◌≡◌, ◌+◌, ◌-◌, ◌<◌, ◌≤◌, ◌+ℤ◌, ◌<ℤ◌, ◌≤ℤ◌, pos, ℤ, List, [], ◌∷◌, drop, length, map, true, IfSome, IsTrue, MatchOption, OnOk, OnSome, vec_len};
+ghost use Rattle.std.specs.Prelude.{◌≡◌, ◌+◌, ◌-◌, ◌<◌, ◌≤◌, ◌+ℤ◌, ◌<ℤ◌, ◌≤ℤ◌, pos, ℤ, List, [], ◌∷◌, ◌++◌, drop, length, map, true, IfSome, IsTrue, MatchOption, OnOk, OnSome, vec_len};
 ghost use Rattle.sanlp.specs.Loops.{interval};
 ghost use Rattle.sanlp.specs.WellFormed.{all_forms_fit, form_fits, forms_fit};
 ghost use Rattle.sanlp.specs.declared.nest.Node.TheVariants.{Assign};
@@ -11,8 +11,9 @@ ghost use Rattle.loop_walk.specs.Walking.{left, left_of_node, left_of_parts, lef
 
 use crate::bounds::{loop_range, rows_hold};
 use crate::parts::only_assignment;
+use crate::run::{Run, point_of};
 use crate::vector::LoopValues;
-use affine_core::{Form, Vector};
+use affine_core::Form;
 use sanlp::{Nest, Node, Point};
 use std::alloc::{AllocError, Global};
 
@@ -45,20 +46,6 @@ fn restart(parts: &[Node], at: &LoopValues, frames: &mut [Frame])
     ensures valid { IsTrue (valid frames.new parts.now at.now) }
 {
     frames[0] = START;
-}
-
-// A point of a statement.
-fn point_of(alloc: Global, statement: u32, at: &LoopValues) -> Point
-    ensures { result ≡ record { statement = statement; at = at.now } }
-{
-    let mut vector = Vector::empty(alloc);
-    for value in at.as_slice() {
-        vector.push(*value);
-    }
-    Point {
-        statement,
-        at: vector,
-    }
 }
 
 // Enters a loop, unless the walk is in it. It answers whether there is a turn.
@@ -169,15 +156,40 @@ fn entered_assignment(body: &[Node], deeper: &[Frame]) -> Option<u32>
     }
 }
 
-// The point of the next turn of a loop whose body is an assignment that was entered.
-fn next_of_assignment(
-    alloc: Global,
+// Moves the later turns of a loop over an assignment that was entered into the run, if that is over.
+fn take_later_turns(
+    body: &[Node],
+    at: &LoopValues,
+    frame: &mut Frame,
+    deeper: &[Frame],
+    run: &mut Run,
+)
+    requires shallow { length at.now < 6 }
+    requires room { 0 < length deeper.now }
+    requires valid { IsTrue (turns_valid frame.old (valid deeper.now) body.now at.now) }
+    ensures part { frame.new.part ≡ frame.old.part }
+    ensures inside { frame.new.inside ≡ frame.old.inside }
+    ensures left { run.new ++ left_of_turns frame.new (left deeper.now) body.now at.now
+        ≡ run.old ++ left_of_turns frame.old (left deeper.now) body.now at.now }
+    ensures valid { IsTrue (turns_valid frame.new (valid deeper.now) body.now at.now) }
+{
+    if !run.is_over() || frame.value >= frame.last {
+        return;
+    }
+    if let Some(statement) = entered_assignment(body, deeper) {
+        take_turns(statement, body, at, frame, deeper, run);
+    }
+}
+
+// Moves the later turns of a loop over this assignment into the run.
+fn take_turns(
     statement: u32,
     body: &[Node],
     at: &LoopValues,
     frame: &mut Frame,
     deeper: &[Frame],
-) -> Option<Point>
+    run: &mut Run,
+)
     requires shallow { length at.now < 6 }
     requires body { body.now ≡ Assign statement ∷ [] }
     requires none_left { (at : List ℤ) → left deeper.now body.now at ≡ [] }
@@ -185,36 +197,38 @@ fn next_of_assignment(
     requires valid { IsTrue (turns_valid frame.old (valid deeper.now) body.now at.now) }
     ensures part { frame.new.part ≡ frame.old.part }
     ensures inside { frame.new.inside ≡ frame.old.inside }
-    ensures next { MatchOption result
-        (left_of_turns frame.old (left deeper.now) body.now at.now ≡ [])
-        (λ point. left_of_turns frame.old (left deeper.now) body.now at.now
-        ≡ point ∷ left_of_turns frame.new (left deeper.now) body.now at.now) }
-    ensures valid { OnSome result
-        (IsTrue (turns_valid frame.new (valid deeper.now) body.now at.now)) }
+    ensures left { run.new ++ left_of_turns frame.new (left deeper.now) body.now at.now
+        ≡ left_of_turns frame.old (left deeper.now) body.now at.now }
+    ensures valid { IsTrue (turns_valid frame.new (valid deeper.now) body.now at.now) }
 {
-    if frame.value >= frame.last {
-        return None;
-    }
-    let value = frame.value + 1;
-    frame.value = value;
-    Some(point_of(alloc, statement, &at.extended(value)))
+    *run = Run::after(statement, at, frame.value, frame.last);
+    frame.value = frame.last;
 }
 
 // The next point of these parts.
 #[cycle(next)]
-fn next_in(alloc: Global, parts: &[Node], at: &LoopValues, frames: &mut [Frame]) -> Option<Point>
+fn next_in(
+    alloc: Global,
+    parts: &[Node],
+    at: &LoopValues,
+    frames: &mut [Frame],
+    run: &mut Run,
+) -> Option<Point>
+    requires over { run.old ≡ [] }
     requires fit { IsTrue (all_forms_fit parts.now (length at.now)) }
     requires room { IsTrue (parts_room parts.now (length frames.old)) }
     requires valid { IsTrue (valid frames.old parts.now at.now) }
     ensures next { MatchOption result
-        ((left frames.old parts.now at.now ≡ []) × (left frames.new parts.now at.now ≡ []))
-        (λ point. left frames.old parts.now at.now ≡ point ∷ left frames.new parts.now at.now) }
+        ((left frames.old parts.now at.now ≡ []) × (left frames.new parts.now at.now ≡ [])
+        × (run.new ≡ []))
+        (λ point. left frames.old parts.now at.now
+        ≡ point ∷ (run.new ++ left frames.new parts.now at.now)) }
     ensures valid { IsTrue (valid frames.new parts.now at.now) }
 {
     let Some((frame, deeper)) = frames.split_first_mut() else {
         unreachable!()
     };
-    next_part(alloc, parts, at, frame, deeper)
+    next_part(alloc, parts, at, frame, deeper, run)
 }
 
 // The next point of the part that the walk is at, or of a later one.
@@ -225,21 +239,25 @@ fn next_part(
     at: &LoopValues,
     frame: &mut Frame,
     deeper: &mut [Frame],
+    run: &mut Run,
 ) -> Option<Point>
+    requires over { run.old ≡ [] }
     requires fit { IsTrue (all_forms_fit parts.now (length at.now)) }
     requires room { IsTrue (list_all (λ part. part (length deeper.old)) (map node_room parts.now)) }
     requires valid { IsTrue
         (parts_valid frame.old (valid deeper.old) (drop frame.old.part parts.now) at.now) }
     ensures next { MatchOption result
         ((left_of_parts frame.old (left deeper.old) (drop frame.old.part parts.now) at.now ≡ [])
-        × (left_of_parts frame.new (left deeper.new) (drop frame.new.part parts.now) at.now ≡ []))
+        × (left_of_parts frame.new (left deeper.new) (drop frame.new.part parts.now) at.now ≡ [])
+        × (run.new ≡ []))
         (λ point. left_of_parts frame.old (left deeper.old) (drop frame.old.part parts.now) at.now
-        ≡ point ∷ left_of_parts frame.new (left deeper.new) (drop frame.new.part parts.now) at.now) }
+        ≡ point ∷ (run.new
+        ++ left_of_parts frame.new (left deeper.new) (drop frame.new.part parts.now) at.now)) }
     ensures valid { IsTrue
         (parts_valid frame.new (valid deeper.new) (drop frame.new.part parts.now) at.now) }
 {
     while frame.part < parts.len() {
-        let point = next_of_node(alloc, &parts[frame.part], at, frame, deeper);
+        let point = next_of_node(alloc, &parts[frame.part], at, frame, deeper, run);
         if point.is_some() {
             return point;
         }
@@ -257,15 +275,17 @@ fn next_of_node(
     at: &LoopValues,
     frame: &mut Frame,
     deeper: &mut [Frame],
+    run: &mut Run,
 ) -> Option<Point>
+    requires over { run.old ≡ [] }
     requires fits { IsTrue (forms_fit node.now (length at.now)) }
     requires room { IsTrue (node_room node.now (length deeper.old)) }
     requires valid { IsTrue (node_valid frame.old (valid deeper.old) node.now at.now) }
     ensures part { frame.new.part ≡ frame.old.part }
     ensures next { MatchOption result
-        (left_of_node frame.old (left deeper.old) node.now at.now ≡ [])
+        ((left_of_node frame.old (left deeper.old) node.now at.now ≡ []) × (run.new ≡ []))
         (λ point. left_of_node frame.old (left deeper.old) node.now at.now
-        ≡ point ∷ left_of_node frame.new (left deeper.new) node.now at.now) }
+        ≡ point ∷ (run.new ++ left_of_node frame.new (left deeper.new) node.now at.now)) }
     ensures valid { OnSome result
         (IsTrue (node_valid frame.new (valid deeper.new) node.now at.now)) }
 {
@@ -288,7 +308,7 @@ fn next_of_node(
                 frame,
                 deeper,
             ) {
-                next_of_turns(alloc, body, at, frame, deeper)
+                next_of_turns(alloc, body, at, frame, deeper, run)
             } else {
                 None
             }
@@ -296,7 +316,7 @@ fn next_of_node(
         Node::Guard { rows, body } => {
             let body = body.as_slice();
             if enter_guard(rows.as_slice(), body, at, frame, deeper) {
-                next_in(alloc, body, at, deeper)
+                next_in(alloc, body, at, deeper, run)
             } else {
                 None
             }
@@ -319,7 +339,9 @@ fn next_of_turns(
     at: &LoopValues,
     frame: &mut Frame,
     deeper: &mut [Frame],
+    run: &mut Run,
 ) -> Option<Point>
+    requires over { run.old ≡ [] }
     requires shallow { length at.now < 6 }
     requires fit { IsTrue (all_forms_fit body.now (length at.now + 1)) }
     requires room { IsTrue (parts_room body.now (length deeper.old)) }
@@ -327,19 +349,20 @@ fn next_of_turns(
     ensures part { frame.new.part ≡ frame.old.part }
     ensures inside { frame.new.inside ≡ frame.old.inside }
     ensures next { MatchOption result
-        (left_of_turns frame.old (left deeper.old) body.now at.now ≡ [])
+        ((left_of_turns frame.old (left deeper.old) body.now at.now ≡ []) × (run.new ≡ []))
         (λ point. left_of_turns frame.old (left deeper.old) body.now at.now
-        ≡ point ∷ left_of_turns frame.new (left deeper.new) body.now at.now) }
+        ≡ point ∷ (run.new ++ left_of_turns frame.new (left deeper.new) body.now at.now)) }
     ensures valid { OnSome result
         (IsTrue (turns_valid frame.new (valid deeper.new) body.now at.now)) }
 {
-    if let Some(statement) = entered_assignment(body, deeper) {
-        return next_of_assignment(alloc, statement, body, at, frame, deeper);
-    }
     'turns: loop {
-        let point = next_in(alloc, body, &at.extended(frame.value), deeper);
-        if point.is_some() || frame.value >= frame.last {
+        let point = next_in(alloc, body, &at.extended(frame.value), deeper, run);
+        if point.is_some() {
+            take_later_turns(body, at, frame, deeper, run);
             return point;
+        }
+        if frame.value >= frame.last {
+            return None;
         }
         begin_next_turn(body, at, frame, deeper);
     }
@@ -375,11 +398,13 @@ fn make_room_for_node(node: &Node, depth: usize, frames: &mut Vec<Frame>) -> Res
     }
 }
 
-/// A walk over the points of a nest, in the order of its trace. It counts along the loops and keeps no point.
+/// A walk over the points of a nest, in the order of its trace. It counts along the loops and keeps no point. The turns of
+/// a loop over one assignment it counts by themselves; for any other point it goes down from the outermost body.
 #[derive(Drop)]
 pub struct Walk {
     alloc: Global,
     frames: Vec<Frame>,
+    run: Run,
 }
 
 impl Walk {
@@ -397,7 +422,11 @@ impl Walk {
         let mut frames = Vec::new(alloc);
         make_room(nest.parts(), 0, &mut frames)?;
         restart(nest.parts(), &LoopValues::empty(), frames.as_mut_slice());
-        Ok(Walk { alloc, frames })
+        Ok(Walk {
+            alloc,
+            frames,
+            run: Run::over(),
+        })
     }
 
     /// The next point, or `None` exactly where there is no more. The nest is the one that the walk was made from. It
@@ -409,11 +438,16 @@ impl Walk {
             ((rest nest.now self.old ≡ []) × (rest nest.now self.new ≡ []))
             (λ point. rest nest.now self.old ≡ point ∷ rest nest.now self.new) }
     {
+        let point = self.run.next(self.alloc);
+        if point.is_some() {
+            return point;
+        }
         next_in(
             self.alloc,
             nest.parts(),
             &LoopValues::empty(),
             self.frames.as_mut_slice(),
+            &mut self.run,
         )
     }
 }

@@ -14,15 +14,18 @@ next_part-next_of_node-point-requires t c =
     let part = c.index-parts-frame.result in (
       search (rules, the_lemmas),
       (
-        part_passes forms_fit parts
-            (length c.args.at.now) i part c.requires.fit c.loop-frame-test.true c.index-parts-frame.is,
+        c.loop-frame.invariant.2,
         (
-          part_passes node_room parts (length c.loop-frame.deeper) i part
-              (ap (λ k. list_all (λ room. room k) (map node_room parts)) c.loop-frame.auto.deeper
-              ∙ c.requires.room) c.loop-frame-test.true c.index-parts-frame.is,
-          part_valid c.loop-frame.frame
-              (valid c.loop-frame.deeper) parts i part c.args.at.now c.loop-frame-test.true c.index-parts-frame.is
-              c.loop-frame.invariant.1,
+          part_passes forms_fit parts
+              (length c.args.at.now) i part c.requires.fit c.loop-frame-test.true c.index-parts-frame.is,
+          (
+            part_passes node_room parts (length c.loop-frame.deeper) i part
+                (ap (λ k. list_all (λ room. room k) (map node_room parts)) c.loop-frame.auto.deeper
+                ∙ c.requires.room) c.loop-frame-test.true c.index-parts-frame.is,
+            part_valid c.loop-frame.frame
+                (valid c.loop-frame.deeper) parts i part c.args.at.now c.loop-frame-test.true c.index-parts-frame.is
+                c.loop-frame.invariant.1,
+          ),
         ),
       ),
     )
@@ -32,4 +35,4 @@ next_of_node-next_of_turns-requires t c =
     let walks = turns_walk c.args.node.now c.in-Loop.id _ _ c.in-Loop.step _ c.as_slice-body.result.now
     (length c.args.at.now) (length c.args.deeper.now) (length c.enter_loop.new.deeper)
     c.in-Loop.is c.as_slice-body.ensures c.enter_loop.auto.deeper c.requires.fits c.requires.room in
-    (search (rules, the_lemmas), (walks.0, (walks.1.0, (walks.1.1, c.if-enter_loop.ensures.valid))))
+    (search (rules, the_lemmas), (c.requires.over, (walks.0, (walks.1.0, (walks.1.1, c.if-enter_loop.ensures.valid)))))

@@ -1,4 +1,4 @@
-use Rattle.std.proofs.Common.{◌≡◌, ◌-◌, ◌-ℤ◌, drop, length}
+use Rattle.std.proofs.Common.{◌≡◌, ◌-◌, ◌-ℤ◌, [], drop, length}
 use Rattle.std.specs.Prelude.{IsTrue}
 use Rattle.sanlp.specs.Cells.{natural}
 use Rattle.loop_walk.specs.Walking.{left, left_of_parts, left_of_turns, parts_valid, turns_valid, valid}
@@ -11,6 +11,7 @@ invariant-next_of_turns-turns l =
     × IsTrue (turns_valid l.frame (valid l.deeper) l.body l.at)
     × (l.frame.part ≡ l.initial.frame.part)
     × (l.frame.inside ≡ l.initial.frame.inside)
+    × (l.run ≡ [])
 
 abbrev pub decreases-next_of_turns-turns : goal.decreases-next_of_turns-turns
 decreases-next_of_turns-turns l = natural (l.frame.last -ℤ l.frame.value)
@@ -20,6 +21,7 @@ invariant-next_part-loop-frame l =
     (left_of_parts l.frame (left l.deeper) (drop l.frame.part l.parts) l.at
     ≡ left_of_parts l.initial.frame (left l.initial.deeper) (drop l.initial.frame.part l.parts) l.at)
     × IsTrue (parts_valid l.frame (valid l.deeper) (drop l.frame.part l.parts) l.at)
+    × (l.run ≡ [])
 
 abbrev pub decreases-next_part-loop-frame : goal.decreases-next_part-loop-frame
 decreases-next_part-loop-frame l = length l.parts - l.frame.part

@@ -1,4 +1,5 @@
-use Rattle.std.proofs.Common.{rules, ◌≡◌, [], length, map, sym, ap, ◌∙◌}
+use Rattle.std.proofs.Common.{rules, ◌≡◌, ◌++◌, [], length, map, sym, ap, ◌∙◌}
+use Rattle.std.specs.Vec.{with_items}
 use Rattle.std.proofs.lemmas.List.{with_items_is}
 use Rattle.sanlp.specs.Trace.{all_points, trace, trace_node}
 use Rattle.loop_walk.specs.Walking.{left}
@@ -11,7 +12,8 @@ returns-clause-rest c =
     let frames = c.restart.new.frames in
     let n = c.args.nest.now in
     let same : length frames ≡ c.make_room.new.frames.len = search rules in
-    ap (λ fs. left fs n.body []) (with_items_is c.make_room.new.frames frames same)
+    ap (λ run. run ++ left (with_items c.make_room.new.frames frames).items n.body []) c.over.ensures
+    ∙ ap (λ fs. left fs n.body []) (with_items_is c.make_room.new.frames frames same)
     ∙ ap (left frames n.body) (sym c.empty.ensures)
     ∙ ap (λ parts. left frames parts c.empty.result) (sym c.parts-2.ensures.value)
     ∙ c.restart.ensures.left

@@ -11,14 +11,12 @@ use Rattle.std.proofs.Common.{ltb-true, lt-ltb, eqb-true, eq-eqb}
 use Rattle.std.proofs.lemmas.Bool.{and_parts, and_from, cases_lt, le-ltb, leb-true, le-leb, ltb-false}
 use Rattle.std.proofs.lemmas.List.{get_or_past}
 use Rattle.std.proofs.lemmas.List.Elements.{All-nil, All-cons, All-head, All-tail}
-use Rattle.std.proofs.lemmas.List.FromFn.{length-map-range_with_len}
 use Rattle.std.proofs.lemmas.List.Sums.{sum_by-take-le}
 use Rattle.std.proofs.lemmas.Option.{slice_get_past, slice_get_within}
 use Rattle.std.specs.List.{list_all, All}
 use Rattle.sanlp.specs.Access.{read_count}
 use Rattle.sanlp.specs.declared.nest.Nest.{Nest}
-use Rattle.sanlp.specs.Points.{points_of, vectors_of}
-use Rattle.sanlp.specs.Trace.{trace}
+use Rattle.sanlp.specs.Points.{points_of}
 use Rattle.source_tree.specs.declared.cert.Cert.{Cert}
 use Rattle.net_core.specs.declared.network.Channel.{Channel}
 use Rattle.net_core.specs.declared.network.Event.{Event}

@@ -3,10 +3,10 @@
 -- By induction over how it is checked. The context counts the variables that there are at each part of the tree: those
 -- of the reader's loops, and one more below each Divides. That is what following it asks of its forms. A map has a form
 -- for each loop of a statement of the nest, so at most 6.
-use Rattle.std.proofs.Common.{◌≡◌, ◌+◌, ◌<◌, ◌≤◌, ◌==◌, ◌&&◌, ◌≤ℤ◌, ℕ, ℤ, pos, List, [], ◌∷◌, length, get_or, Bool}
+use Rattle.std.proofs.Common.{◌≡◌, ◌+◌, ◌==◌, ◌&&◌, ◌≤ℤ◌, ℕ, ℤ, pos, List, [], ◌∷◌, length, get_or, Bool}
 use Rattle.std.proofs.Common.{true, refl, sym, ap, ◌∙◌, arith}
 use Rattle.std.specs.Prelude.{Some, slice_get, nat_lt, nat_le, int_le, IsTrue}
-use Rattle.std.proofs.lemmas.Bool.{and_from, eq-eqb, leb-true, le-leb, lt-ltb}
+use Rattle.std.proofs.lemmas.Bool.{and_from, eq-eqb, lt-ltb}
 use Rattle.std.proofs.lemmas.Int.{ints}
 use Rattle.std.proofs.lemmas.List.Elements.{All-head, All-tail}
 use Rattle.std.proofs.lemmas.Option.{slice_get_within, get_or_from_slice_get}

@@ -3,14 +3,14 @@
 -- At each turn of its reader a tree gives the point of the last writer, so the tag of that point is the source there: a
 -- row is that of the exact table, turn by turn. The rows stand in the order of statements and reads, and one statement
 -- more adds those of its reads at the end.
-use Rattle.std.proofs.Common.{◌≡◌, ◌+◌, ◌<◌, ◌≤◌, ℕ, zero, suc, ℤ, List, [], ◌∷◌, ◌++◌, map, length, take, get_or, Bool}
-use Rattle.std.proofs.Common.{true, false, refl, sym, ap, ◌∙◌, subst, arith, append_assoc, append-nil, add-one}
+use Rattle.std.proofs.Common.{◌≡◌, ◌+◌, ◌<◌, ℕ, suc, ℤ, List, [], ◌∷◌, ◌++◌, map, length, take, get_or}
+use Rattle.std.proofs.Common.{refl, sym, ap, ◌∙◌, arith, append_assoc, append-nil, add-one}
 use Rattle.std.proofs.Common.{add-zero, zero-add}
 use Rattle.std.specs.Prelude.{Option, Some, None, slice_get}
-use Rattle.std.specs.List.{list_all, range_with_len}
+use Rattle.std.specs.List.{range_with_len}
 use Rattle.std.specs.Option.{option_and_then, option_map_or}
 use Rattle.std.proofs.lemmas.List.{map-append}
-use Rattle.std.proofs.lemmas.Option.{same_Some, slice_get_within, get_or_from_slice_get}
+use Rattle.std.proofs.lemmas.Option.{slice_get_within, get_or_from_slice_get}
 use Rattle.sanlp.specs.Access.{read_count}
 use Rattle.sanlp.specs.declared.nest.Nest.{Nest}
 use Rattle.sanlp.specs.declared.nest.Point.{Point}
@@ -21,21 +21,19 @@ use Rattle.sanlp.specs.Points.{points_of}
 use Rattle.sanlp.specs.Tags.{tag_at}
 use Rattle.sanlp.specs.Trace.{trace}
 use Rattle.sanlp.specs.Writers.{last_writer}
+use Rattle.sanlp.proofs.Enumerates.{enumerates_domains}
 use Rattle.sanlp.proofs.Lists.{range_with_len_more, split_at}
 use Rattle.sanlp.proofs.Lists.{take_next}
-use Rattle.source_tree.specs.declared.cert.Origin.{Origin}
-use Rattle.source_tree.specs.declared.cert.Origin.TheVariants as origin
+use Rattle.source_check.proofs.Exactness.{checked_is_exact}
 use Rattle.source_tree.specs.declared.tree.Tree.{Tree}
+use Rattle.source_tree.specs.Checked.{IsChecked}
 use Rattle.source_tree.specs.Exact.{IsPointOf}
 use Rattle.source_tree.specs.Gives.{gives}
 use Rattle.source_tree.specs.Sources.{read_sources, source_at, sources_from, sources_of}
 use Rattle.net_core.specs.Shape.{turns}
 use Rattle.net_core.proofs.Valued.{entry_count, turn_entry}
-use Rattle.net_checker.specs.Sources.{IsUsable}
-use Rattle.net_checker.specs.Tables.{is_tree}
-use Rattle.net_checker.proofs.FitsNames.{usable_is_exact}
 use Rattle.net_checker.proofs.FitsShape.{take_all}
-use Rattle.net_checker.proofs.Lists.{all_at, item_at}
+use Rattle.net_checker.proofs.Lists.{item_at}
 
 -- a turn of the reader, and what the tree gives there
 pub record GivenAt (n : Nest) (s k : ℕ) (tree : Tree) (f : ℕ) (at : List ℤ) : Type 0 where
@@ -43,15 +41,20 @@ pub record GivenAt (n : Nest) (s k : ℕ) (tree : Tree) (f : ℕ) (at : List ℤ
   pub is : slice_get (entries_of (trace n) s) f ≡ Some entry
   pub given : IsPointOf (trace n) (last_writer n entry k) (gives tree at)
 
-pub given_at : (n : Nest) (s k : ℕ) (tree : Tree) → IsUsable n s k tree → (f : ℕ) (at : List ℤ)
+pub given_at : (n : Nest) (s k : ℕ) (tree : Tree) → IsChecked n s k tree → (f : ℕ) (at : List ℤ)
     → slice_get (get_or (points_of n) s []) f ≡ Some at → GivenAt n s k tree f at
-given_at n s k tree usable f at is =
+given_at n s k tree checked f at is =
     let e = turn_entry n s f (slice_get_within (get_or (points_of n) s []) f at is) in
     let same : e.point.at ≡ at = sym e.vector ∙ get_or_from_slice_get (get_or (points_of n) s []) f at [] is in
     let found : slice_get (trace n) e.entry ≡ Some (record { statement = s; at = at }) =
     e.found ∙ ap (λ s. Some (record { statement = s; at = e.point.at })) e.process
     ∙ ap (λ at. Some (record { statement = s; at = at })) same in
-    record { entry = e.entry; is = e.is; given = usable_is_exact n s k tree usable e.entry at found }
+    record {
+      entry = e.entry;
+      is = e.is;
+      given =
+          checked_is_exact n s k tree (enumerates_domains n) checked e.entry at found;
+    }
 
 -- the sources at the first so many turns
 abbrev pub sources_upto : Nest → ℕ → ℕ → ℕ → List (Option Tag)
@@ -132,14 +135,3 @@ rows_more n s before after lt was added = go (slice_get n.statements s) refl whe
 pub rows_whole : (n : Nest) (s : ℕ) → s ≡ length n.statements → rows_upto n s ≡ sources_of n
 unfolding sources_of
 rows_whole n s all = ap (sources_from n (trace n) 0) (ap (λ i. take i n.statements) all ∙ take_all n.statements)
-
--- where every origin is a tree, there is one at each place
-pub tree_there : (sources : List Origin) (i : ℕ) → list_all is_tree sources ≡ true → i < length sources → (tree : Tree)
-    × (slice_get sources i ≡ Some (origin.Tree tree))
-tree_there sources i all lt =
-    let item = item_at sources i lt in
-    go item.0 item.1 (all_at is_tree sources i item.0 all item.1) where
-      go : (o : Origin) → slice_get sources i ≡ Some o → is_tree o ≡ true → (tree : Tree)
-          × (slice_get sources i ≡ Some (origin.Tree tree))
-      go origin.Sweep is h = absurd (cc)
-      go (origin.Tree tree) is h = (tree, is)

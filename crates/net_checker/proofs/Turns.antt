@@ -4,7 +4,7 @@
 -- iteration vectors do too, and each stands there once. A binary search therefore finds the place of a vector that is
 -- there: below that place all are less, and above it greater.
 use Rattle.std.proofs.Common.{◌≡◌, ◌+◌, ◌^◌, ◌<◌, ◌≤◌, ◌==◌, ℕ, zero, suc, ℤ, List, [], ◌∷◌, length, take, get_or, eqb}
-use Rattle.std.proofs.Common.{Bool, true, false, cond, refl, sym, ap, ◌∙◌, subst, inl, inr, arith, eqb-true, eq-eqb}
+use Rattle.std.proofs.Common.{Bool, true, false, refl, sym, ap, ◌∙◌, subst, inl, inr, arith}
 use Rattle.std.proofs.Common.{zero-add}
 use Rattle.std.specs.Prelude.{Option, Some, None, Result, Ok, Err, slice_get, count_by, nat_lt}
 use Rattle.std.specs.Cmp.{IsTotalOrder}
@@ -21,11 +21,10 @@ use Rattle.std.proofs.lemmas.Option.{same_Some, slice_get_within, slice_get-get_
 use Rattle.sanlp.specs.declared.nest.Nest.{Nest}
 use Rattle.sanlp.specs.declared.nest.Point.{Point}
 use Rattle.sanlp.specs.declared.nest.Statement.{Statement}
-use Rattle.sanlp.specs.declared.nest.Tag.{Tag}
 use Rattle.sanlp.specs.Laws.{entries_from}
-use Rattle.sanlp.specs.Order.{IsPoint, Precedes, PrecedesWithin, EnumeratesDomains, common_loops, loops_round_point}
+use Rattle.sanlp.specs.Order.{IsPoint, Precedes, common_loops, loops_round_point}
 use Rattle.sanlp.specs.Points.{points_of, vectors_of}
-use Rattle.sanlp.specs.Size.{SizeIsOk, size, size_limit}
+use Rattle.sanlp.specs.Size.{SizeIsOk}
 use Rattle.sanlp.specs.Tags.{tag_at}
 use Rattle.sanlp.specs.Trace.{trace}
 use Rattle.sanlp.proofs.Enumerates.{enumerates_domains}
@@ -110,6 +109,18 @@ module _ (vectors : List (List ℤ)) (sorted : AreInOrder vectors) (f : ℕ) (at
       elim (cases_lt f i) [
         | inl low ↦ absurd (let e : Equal ≡ Less = sym (equal_here []) ∙ (parted rises).0 f [] (omega arith) low in cc)
         | inr high ↦ absurd (let e : Equal ≡ Greater = sym (equal_here []) ∙ (parted rises).1 f [] high within in cc)
+      ]
+
+  -- a vector stands at one place alone
+  pub once : (g : ℕ) → slice_get vectors g ≡ Some at → Some g ≡ Some f
+  once g there =
+      elim (cases_lt g f) [
+        | inl low ↦ absurd (let e : Less ≡ Equal = sym (sorted g f at at low there here) ∙ itself at in cc)
+        | inr high ↦
+            elim (cases_lt f g) [
+              | inl later ↦ absurd (let e : Less ≡ Equal = sym (sorted f g at at later here there) ∙ itself at in cc)
+              | inr same ↦ ap Some (omega arith)
+            ]
       ]
 
 -- The vectors of a statement

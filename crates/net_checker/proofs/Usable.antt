@@ -4,10 +4,10 @@
 -- and where no outcome at a point of its reader is an overflow. Which read is told first is a matter of Choices and not
 -- of this file.
 use Rattle.std.proofs.Common.{◌≡◌, ◌<◌, ℕ, ℤ, List, [], length, get_or, refl, sym, ap, ◌∙◌, arith}
-use Rattle.std.specs.Prelude.{Option, Some, None, Result, Ok, Err, is_err, true, slice_get, ◌↔◌}
+use Rattle.std.specs.Prelude.{Option, Some, None, Result, Ok, Err, is_err, true, slice_get}
 use Rattle.std.specs.Result.{result_ok}
 use Rattle.std.specs.Option.{option_and_then, option_map, option_map_or, option_or}
-use Rattle.std.proofs.lemmas.Option.{same_Some, slice_get_within, get_or_from_slice_get, slice_get-get_or}
+use Rattle.std.proofs.lemmas.Option.{slice_get_within, get_or_from_slice_get, slice_get-get_or}
 use Rattle.sanlp.specs.Access.{read_count}
 use Rattle.sanlp.specs.declared.nest.Access.{Access}
 use Rattle.sanlp.specs.declared.nest.Nest.{Nest}
@@ -29,7 +29,6 @@ use Rattle.source_tree.specs.Systems.{Occurrence, read_at}
 use Rattle.source_tree.specs.Walk.{outcome_of}
 use Rattle.net_checker.specs.declared.verdict.Refusal.{Refusal}
 use Rattle.net_checker.specs.declared.verdict.Refusal.TheVariants as refusal
-use Rattle.net_checker.specs.Choice.{first_below}
 use Rattle.net_checker.specs.Sources.{refusing_rule, overflow_at, first_overflow, tree_refusal, origin_refusal}
 use Rattle.net_checker.specs.Sources.{reads_refusal, source_refusal, IsUsable, AreUsable}
 use Rattle.net_checker.proofs.Choices.{or_none, first_found, first_none, none_first}
@@ -168,24 +167,10 @@ module _ (n : Nest) (cert : Cert) where
   at_read s k = origin_refusal n s k (slice_get cert.sources (read_number n s k))
 
   -- what the code finds of one read
-  module _ (s k i : ℕ) (here : i ≡ read_number n s k) where
-    pub read_refused : (tree : Tree) (x : Rule) → slice_get cert.sources i ≡ Some (origin.Tree tree) → Some x
-        ≡ option_and_then (tree_refusal n s tree) (read_at n s k) → at_read s k ≡ Some (refusal.Source s k x)
-    read_refused tree x said is =
-        ap (origin_refusal n s k) (ap (slice_get cert.sources) (sym here) ∙ said)
-        ∙ ap (option_map (refusal.Source s k)) (sym is)
-
-    pub read_passed : (tree : Tree) → slice_get cert.sources i ≡ Some (origin.Tree tree) → None
-        ≡ option_and_then (tree_refusal n s tree) (read_at n s k) → at_read s k ≡ None
-    read_passed tree said is =
-        ap (origin_refusal n s k) (ap (slice_get cert.sources) (sym here) ∙ said)
-        ∙ ap (option_map (refusal.Source s k)) (sym is)
-
-    pub read_without : slice_get cert.sources i ≡ None → at_read s k ≡ None
-    read_without none = ap (origin_refusal n s k) (ap (slice_get cert.sources) (sym here) ∙ none)
-
-    pub read_swept : slice_get cert.sources i ≡ Some origin.Sweep → at_read s k ≡ None
-    read_swept said = ap (origin_refusal n s k) (ap (slice_get cert.sources) (sym here) ∙ said)
+  pub read_judged : (s k i : ℕ) (o : Origin) (found : Option Refusal) → i ≡ read_number n s k
+      → slice_get cert.sources i ≡ Some o → found ≡ origin_refusal n s k (Some o) → at_read s k ≡ found
+  read_judged s k i o found here said is =
+      ap (origin_refusal n s k) (ap (slice_get cert.sources) (sym here) ∙ said) ∙ sym is
 
   pub reads_found : (s k : ℕ) (x : Refusal) → k < read_count n s → ((j : ℕ) → j < k → at_read s j ≡ None) → at_read s k
       ≡ Some x → Some x ≡ reads_refusal n cert s

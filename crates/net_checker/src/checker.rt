@@ -13,6 +13,7 @@ use crate::shapes::shape_refusal;
 use crate::sources::{source_refusal, table};
 use crate::verdict::{Refusal, Verdict};
 use net_core::Network;
+use plain_data::Items;
 use sanlp::{Nest, Points};
 use source_tree::Cert;
 use std::alloc::{AllocError, Global};
@@ -36,10 +37,11 @@ fn first_refusal(
     if let Some(refusal) = firing_refusal(nest, points, network) {
         return Ok(Some(refusal));
     }
-    if let Some(refusal) = source_refusal(alloc, nest, points, cert)? {
+    let mut rows = Items::new(alloc);
+    if let Some(refusal) = source_refusal(alloc, nest, points, cert, &mut rows)? {
         return Ok(Some(refusal));
     }
-    let table = table(alloc, nest, points, cert)?;
+    let table = table(alloc, nest, points, cert, rows)?;
     let schedule = cert.schedule.as_slice();
     if let Some(refusal) = schedule_refusal(alloc, nest, points, network, &table, schedule)? {
         return Ok(Some(refusal));

@@ -1,4 +1,4 @@
-ghost use Rattle.std.specs.Prelude.{◌≡◌, ◌<◌, ◌≤◌, ◌^◌, ◌*◌, ◌++◌, ℕ, ℤ, [], List, Option, Some, None, length, map, slice_get, slice_index_or, IsTrue, IfOk, OnOk};
+ghost use Rattle.std.specs.Prelude.{◌≡◌, ◌<◌, ◌≤◌, ◌*◌, ◌++◌, ℕ, [], ◌∷◌, Option, None, Some, length, map, slice_get, slice_index_or, true, IsTrue, IfOk};
 ghost use Rattle.std.specs.List.{list_all, range_with_len};
 ghost use Rattle.std.specs.Option.{option_and_then};
 ghost use Rattle.sanlp.specs.Access.{read_count};
@@ -6,17 +6,15 @@ ghost use Rattle.sanlp.specs.Points.{points_of};
 ghost use Rattle.sanlp.specs.Size.{SizeIsOk};
 ghost use Rattle.sanlp.specs.Tags.{tag_at};
 ghost use Rattle.sanlp.specs.Trace.{trace};
+ghost use Rattle.source_tree.specs.Checked.{IsChecked};
 ghost use Rattle.source_tree.specs.Exact.{IsPointOf};
-ghost use Rattle.source_tree.specs.Gives.{gives};
 ghost use Rattle.source_tree.specs.Sources.{read_number, read_sources, sources_of};
 ghost use Rattle.source_tree.specs.Systems.{read_at};
-ghost use Rattle.source_tree.specs.Walk.{is_ready, outcome_of};
-ghost use Rattle.net_checker.specs.Sources.{first_overflow, origin_refusal, reads_refusal, source_refusal, tree_refusal, AreUsable, IsUsable};
-ghost use Rattle.source_tree.specs.declared.tree.Tree.{Tree};
 ghost use Rattle.net_checker.specs.Shapes.{read_total};
+ghost use Rattle.net_checker.specs.Sources.{first_overflow, origin_refusal, reads_refusal, source_refusal, tree_refusal};
 ghost use Rattle.net_checker.specs.Tables.{is_tree, AreInOrder};
 
-use crate::parts::{reads_before, reads_of};
+use crate::parts::{reads_before, reads_of, turns_of};
 use crate::verdict::Refusal;
 use affine_core::Vector;
 use plain_data::Items;
@@ -26,21 +24,6 @@ use source_check::{Rule, TreeVerdict, check_tree};
 use source_tree::{Cert, Found, Origin, SourceTable, Tree, eval};
 use std::alloc::{AllocError, Global};
 
-// The first of these points at which the tree overflows.
-fn first_overflow(tree: &Tree, vectors: &[Vector]) -> Option<Rule>
-    requires few { length vectors.now < 2 ^ 32 }
-    requires ready { (f : ℕ) (at : List ℤ) → slice_get vectors.now f ≡ Some at
-        → IsTrue (is_ready (length at) tree.now (length at)) }
-    ensures { result ≡ first_overflow tree.now vectors.now }
-{
-    for (turn, at) in vectors.iter().enumerate() {
-        if eval(tree, at).is_err() {
-            return Some(Rule::Overflow(turn as u32));
-        }
-    }
-    None
-}
-
 // The iteration vectors of a statement.
 fn vectors_of(points: &Points, statement: u32) -> &[Vector]
     requires { statement < length points.now.of }
@@ -49,7 +32,100 @@ fn vectors_of(points: &Points, statement: u32) -> &[Vector]
     points.of.as_slice()[statement as usize].as_slice()
 }
 
-// Why a tree is refused for this read, if it is.
+// Whether this vector stands at a place.
+fn is_at(vectors: &[Vector], place: usize, at: &Vector) -> bool
+    ensures { IsTrue result → slice_get vectors.now place ≡ Some at.now }
+{
+    match vectors.get(place) {
+        Some(there) => there.as_slice() == at.as_slice(),
+        None => false,
+    }
+}
+
+// The turn of a point among those of its statement, which is looked for at this place first.
+fn turn_of(vectors: &[Vector], at: &Vector, guess: usize) -> Option<usize>
+    ensures { (f : ℕ) → AreInOrder vectors.now → slice_get vectors.now f ≡ Some at.now
+        → result ≡ Some f }
+{
+    if is_at(vectors, guess, at) {
+        return Some(guess);
+    }
+    vectors.binary_search(at).ok()
+}
+
+// The turn that was found last, and how far it is from the one before. Nothing rests on them.
+#[derive(Drop)]
+struct Steps {
+    last: usize,
+    step: usize,
+}
+
+impl Steps {
+    // The turn that comes if the turns go on by equal steps.
+    fn guess(&self) -> usize {
+        self.last.wrapping_add(self.step)
+    }
+
+    fn note(&mut self, turn: usize) {
+        self.step = turn.wrapping_sub(self.last);
+        self.last = turn;
+    }
+}
+
+// The tag of the entry whose point was found, or none where zero was.
+fn tag_of(nest: &Nest, points: &Points, found: &Found, steps: &mut Steps) -> Option<Tag>
+    requires size { SizeIsOk nest.now }
+    requires points { points.now.of ≡ points_of nest.now }
+    requires writer { (writer : Option ℕ) × IsPointOf (trace nest.now) writer found.now }
+    ensures { (writer : Option ℕ) → IsPointOf (trace nest.now) writer found.now
+        → result ≡ option_and_then (tag_at (trace nest.now)) writer }
+{
+    match found {
+        Found::At(point) => {
+            let vectors = vectors_of(points, point.statement);
+            let turn = turn_of(vectors, &point.at, steps.guess())?;
+            steps.note(turn);
+            Some(Tag {
+                process: point.statement,
+                turn: turn as u32,
+            })
+        }
+        Found::Zero | Found::Dead => None,
+    }
+}
+
+// Adds the sources of a read by its checked tree, as long as the tree doesn't overflow. Where it does, tells the first
+// such point.
+fn add_sources(
+    nest: &Nest,
+    points: &Points,
+    statement: u32,
+    tree: &Tree,
+    sources: &mut Items<Option<Tag>>,
+) -> Result<Option<Rule>, AllocError>
+    requires size { SizeIsOk nest.now }
+    requires points { points.now.of ≡ points_of nest.now }
+    requires statement { statement < length nest.now.statements }
+    requires checked { (k : ℕ) × IsChecked nest.now statement k tree.now }
+    requires empty { sources.old ≡ [] }
+    ensures overflow { IfOk result
+        (λ rule. rule ≡ first_overflow tree.now (slice_index_or (points_of nest.now) statement [])) }
+    ensures sources { IfOk result
+        (λ rule. rule ≡ None → (k : ℕ) → IsChecked nest.now statement k tree.now
+        → sources.new ≡ read_sources nest.now (trace nest.now) statement k) }
+{
+    let vectors = vectors_of(points, statement);
+    let mut steps = Steps { last: 0, step: 0 };
+    for (turn, at) in vectors.iter().enumerate() {
+        match eval(tree, at) {
+            Ok(found) => sources.push(tag_of(nest, points, &found, &mut steps))?,
+            Err(_) => return Ok(Some(Rule::Overflow(turn as u32))),
+        }
+    }
+    Ok(None)
+}
+
+// Why a tree is refused for this read, if it is. Where it isn't, the sources of the read are added.
 fn tree_refusal(
     alloc: Global,
     nest: &Nest,
@@ -57,23 +133,67 @@ fn tree_refusal(
     statement: u32,
     read: u32,
     tree: &Tree,
+    sources: &mut Items<Option<Tag>>,
 ) -> Result<Option<Rule>, AllocError>
     requires size { SizeIsOk nest.now }
     requires points { points.now.of ≡ points_of nest.now }
     requires statement { statement < length nest.now.statements }
     requires read { read < read_count nest.now statement }
-    ensures { IfOk result
+    requires empty { sources.old ≡ [] }
+    ensures refusal { IfOk result
         (λ rule. rule
         ≡ option_and_then (tree_refusal nest.now statement tree.now)
         (read_at nest.now statement read)) }
+    ensures sources { IfOk result
+        (λ rule. rule ≡ None
+        → sources.new ≡ read_sources nest.now (trace nest.now) statement read) }
 {
     match check_tree(alloc, nest, statement, read, tree)? {
         TreeVerdict::Refused(rule) => Ok(Some(rule)),
-        TreeVerdict::Accepted => Ok(first_overflow(tree, vectors_of(points, statement))),
+        TreeVerdict::Accepted => add_sources(nest, points, statement, tree, sources),
     }
 }
 
-// The first read of a statement whose origin is refused. The first of its reads has this number.
+// Why an origin is refused for this read, if it is. Where it isn't, the read's row is added, which is empty at Sweep.
+fn origin_refusal(
+    alloc: Global,
+    nest: &Nest,
+    points: &Points,
+    statement: u32,
+    read: u32,
+    origin: &Origin,
+    rows: &mut Items<Items<Option<Tag>>>,
+) -> Result<Option<Refusal>, AllocError>
+    requires size { SizeIsOk nest.now }
+    requires points { points.now.of ≡ points_of nest.now }
+    requires statement { statement < length nest.now.statements }
+    requires read { read < read_count nest.now statement }
+    ensures refusal { IfOk result
+        (λ refusal. refusal ≡ origin_refusal nest.now statement read (Some origin.now)) }
+    ensures row { IfOk result
+        (λ refusal. refusal ≡ None → is_tree origin.now ≡ true
+        → rows.new
+        ≡ rows.old ++ read_sources nest.now (trace nest.now) statement read ∷ []) }
+{
+    match origin {
+        Origin::Sweep => {
+            rows.push(Items::new(alloc))?;
+            Ok(None)
+        }
+        Origin::Tree(tree) => {
+            let mut row = Items::from_vec(Vec::with_capacity(alloc, turns_of(points, statement))?);
+            let refusal = tree_refusal(alloc, nest, points, statement, read, tree, &mut row)?;
+            if let Some(rule) = refusal {
+                return Ok(Some(Refusal::Source(statement, read, rule)));
+            }
+            rows.push(row)?;
+            Ok(None)
+        }
+    }
+}
+
+// The first read of a statement whose origin is refused. Where there is none, their rows are added. The first of its reads
+// has this number.
 fn reads_refusal(
     alloc: Global,
     nest: &Nest,
@@ -81,136 +201,59 @@ fn reads_refusal(
     cert: &Cert,
     statement: u32,
     first: usize,
+    rows: &mut Items<Items<Option<Tag>>>,
 ) -> Result<Option<Refusal>, AllocError>
     requires size { SizeIsOk nest.now }
     requires points { points.now.of ≡ points_of nest.now }
     requires statement { statement < length nest.now.statements }
     requires first { first ≡ read_number nest.now statement 0 }
     requires small { first ≤ 8 * statement }
-    ensures { IfOk result (λ refusal. refusal ≡ reads_refusal nest.now cert.now statement) }
+    requires sources { length cert.now.sources ≡ read_total nest.now }
+    ensures refusal { IfOk result (λ refusal. refusal ≡ reads_refusal nest.now cert.now statement) }
+    ensures rows { IfOk result
+        (λ refusal. refusal ≡ None → IsTrue (list_all is_tree cert.now.sources)
+        → rows.new ≡ rows.old
+        ++ map (read_sources nest.now (trace nest.now) statement)
+        (range_with_len 0 (read_count nest.now statement))) }
 {
     for read in 0..reads_of(nest, statement) {
-        if let Some(Origin::Tree(tree)) = cert.sources.get(first + read) {
-            let number = read as u32;
-            if let Some(rule) = tree_refusal(alloc, nest, points, statement, number, tree)? {
-                return Ok(Some(Refusal::Source(statement, number, rule)));
-            }
-        }
-    }
-    Ok(None)
-}
-
-// The first read whose origin is refused, if there is one.
-pub(crate) fn source_refusal(
-    alloc: Global,
-    nest: &Nest,
-    points: &Points,
-    cert: &Cert,
-) -> Result<Option<Refusal>, AllocError>
-    requires size { SizeIsOk nest.now }
-    requires points { points.now.of ≡ points_of nest.now }
-    ensures { IfOk result (λ refusal. refusal ≡ source_refusal nest.now cert.now) }
-{
-    for statement in 0..nest.statements.len() {
-        let first = reads_before(nest, statement);
-        if let Some(refusal) = reads_refusal(alloc, nest, points, cert, statement as u32, first)? {
+        let origin = &cert.sources.as_slice()[first + read];
+        let number = read as u32;
+        if let Some(refusal) = origin_refusal(
+            alloc, nest, points, statement, number, origin, rows,
+        )? {
             return Ok(Some(refusal));
         }
     }
     Ok(None)
 }
 
-// The turn of a point among those of its statement.
-fn turn_of(vectors: &[Vector], at: &Vector) -> Option<usize>
-    ensures { (f : ℕ) → AreInOrder vectors.now → slice_get vectors.now f ≡ Some at.now
-        → result ≡ Some f }
-{
-    vectors.binary_search(at).ok()
-}
-
-// The tag of the entry whose point the tree gives, or none where it gives zero. The tree gives one of both.
-fn given_tag(nest: &Nest, points: &Points, tree: &Tree, at: &Vector) -> Option<Tag>
-    requires size { SizeIsOk nest.now }
-    requires points { points.now.of ≡ points_of nest.now }
-    requires ready { IsTrue (is_ready (length at.now) tree.now (length at.now)) }
-    requires fits { outcome_of tree.now at.now ≡ None → ⊥ }
-    requires writer { (writer : Option ℕ)
-        × IsPointOf (trace nest.now) writer (gives tree.now at.now) }
-    ensures { (writer : Option ℕ) → IsPointOf (trace nest.now) writer (gives tree.now at.now)
-        → result ≡ option_and_then (tag_at (trace nest.now)) writer }
-{
-    match eval(tree, at) {
-        Ok(Found::At(point)) => {
-            let turn = turn_of(vectors_of(points, point.statement), &point.at)?;
-            Some(Tag {
-                process: point.statement,
-                turn: turn as u32,
-            })
-        }
-        Ok(Found::Zero | Found::Dead) | Err(_) => None,
-    }
-}
-
-// The sources of a read by its tree.
-fn given_sources(
-    alloc: Global,
-    nest: &Nest,
-    points: &Points,
-    statement: u32,
-    tree: &Tree,
-) -> Result<Items<Option<Tag>>, AllocError>
-    requires size { SizeIsOk nest.now }
-    requires points { points.now.of ≡ points_of nest.now }
-    requires statement { statement < length nest.now.statements }
-    requires usable { (k : ℕ) × IsUsable nest.now statement k tree.now }
-    ensures { IfOk result (λ sources. (k : ℕ) → IsUsable nest.now statement k tree.now
-        → sources ≡ read_sources nest.now (trace nest.now) statement k) }
-{
-    let mut sources = Items::new(alloc);
-    for at in vectors_of(points, statement) {
-        sources.push(given_tag(nest, points, tree, at))?;
-    }
-    Ok(sources)
-}
-
-// The tree that a certificate gives for the read of this number.
-fn tree_of(cert: &Cert, number: usize) -> &Tree
-    requires { (tree : Tree) × (slice_get cert.now.sources number ≡ Some (Origin.Tree tree)) }
-    ensures { slice_get cert.now.sources number ≡ Some (Origin.Tree result.now) }
-{
-    match cert.sources.get(number) {
-        Some(Origin::Tree(tree)) => tree,
-        _ => unreachable!(),
-    }
-}
-
-// Adds the sources of the reads of a statement, of which the first has this number.
-fn add_sources(
+/// The first read whose origin is refused, if there is one. Where there is none, the rows of all reads are added: by a tree
+/// the last writers of the read, and none where the origin is Sweep.
+pub(crate) fn source_refusal(
     alloc: Global,
     nest: &Nest,
     points: &Points,
     cert: &Cert,
-    statement: u32,
-    first: usize,
-    lists: &mut Items<Items<Option<Tag>>>,
-) -> Result<(), AllocError>
+    rows: &mut Items<Items<Option<Tag>>>,
+) -> Result<Option<Refusal>, AllocError>
     requires size { SizeIsOk nest.now }
     requires points { points.now.of ≡ points_of nest.now }
-    requires statement { statement < length nest.now.statements }
-    requires first { first ≡ read_number nest.now statement 0 }
-    requires small { first ≤ 8 * statement }
-    requires trees { AreUsable nest.now cert.now }
-    requires swept { IsTrue (list_all is_tree cert.now.sources) }
     requires sources { length cert.now.sources ≡ read_total nest.now }
-    ensures { OnOk result (lists.new ≡ lists.old
-        ++ map (read_sources nest.now (trace nest.now) statement)
-        (range_with_len 0 (read_count nest.now statement))) }
+    requires empty { rows.old ≡ [] }
+    ensures refusal { IfOk result (λ refusal. refusal ≡ source_refusal nest.now cert.now) }
+    ensures rows { IfOk result
+        (λ refusal. refusal ≡ None → IsTrue (list_all is_tree cert.now.sources)
+        → rows.new ≡ sources_of nest.now) }
 {
-    for read in 0..reads_of(nest, statement) {
-        let tree = tree_of(cert, first + read);
-        lists.push(given_sources(alloc, nest, points, statement, tree)?)?;
+    for statement in 0..nest.statements.len() {
+        let first = reads_before(nest, statement);
+        let number = statement as u32;
+        if let Some(refusal) = reads_refusal(alloc, nest, points, cert, number, first, rows)? {
+            return Ok(Some(refusal));
+        }
     }
-    Ok(())
+    Ok(None)
 }
 
 // Whether no origin is Sweep.
@@ -222,26 +265,23 @@ fn are_trees(sources: &[Origin]) -> bool
         .all(|origin| matches!(origin, Origin::Tree(_)))
 }
 
-// The last writers of each read. The nest is swept only where some origin is Sweep.
+// The last writers of each read, which the rows have where each origin is a tree. The nest is swept only where some origin is
+// Sweep.
 pub(crate) fn table(
     alloc: Global,
     nest: &Nest,
     points: &Points,
     cert: &Cert,
+    rows: Items<Items<Option<Tag>>>,
 ) -> Result<SourceTable, AllocError>
     requires size { SizeIsOk nest.now }
     requires points { points.now.of ≡ points_of nest.now }
-    requires trees { AreUsable nest.now cert.now }
-    requires sources { length cert.now.sources ≡ read_total nest.now }
+    requires rows { IsTrue (list_all is_tree cert.now.sources) → rows ≡ sources_of nest.now }
     ensures { IfOk result (λ table. table.of ≡ sources_of nest.now) }
 {
-    if !are_trees(cert.sources.as_slice()) {
-        return sweep(alloc, nest, points);
+    if are_trees(cert.sources.as_slice()) {
+        return Ok(SourceTable { of: rows });
     }
-    let mut of = Items::new(alloc);
-    for statement in 0..nest.statements.len() {
-        let first = reads_before(nest, statement);
-        add_sources(alloc, nest, points, cert, statement as u32, first, &mut of)?;
-    }
-    Ok(SourceTable { of })
+    drop(rows);
+    sweep(alloc, nest, points)
 }

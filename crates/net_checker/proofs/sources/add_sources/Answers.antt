@@ -1,50 +1,118 @@
-use Rattle.std.proofs.Common.{◌≡◌, ◌+◌, sym, ap, ◌∙◌, slice_get, arith}
-use Rattle.sanlp.proofs.NestFacts.{few_read_count, few_statements}
-use Rattle.source_tree.specs.Sources.{read_number}
-use Rattle.net_checker.proofs.FitsNames.{read_within}
-use Rattle.net_checker.proofs.Tables.{reads_more, tree_there}
+use Rattle.std.proofs.Common.{◌≡◌, ◌<◌, ℕ, ℤ, List, [], Some, length, get_or, slice_get, refl, sym, ap, ◌∙◌}
+use Rattle.std.proofs.Common.{arith, subst, inl, inr}
+use Rattle.std.proofs.lemmas.Bool.{cases_lt}
+use Rattle.std.proofs.lemmas.Option.{slice_get_read}
+use Rattle.sanlp.specs.declared.nest.Nest.{Nest}
+use Rattle.sanlp.specs.Points.{points_of}
+use Rattle.sanlp.specs.Trace.{trace}
+use Rattle.sanlp.specs.Writers.{last_writer}
+use Rattle.sanlp.proofs.NestFacts.{points_length}
+use Rattle.source_tree.specs.Exact.{IsPointOf}
+use Rattle.net_checker.proofs.Choices.{first_none}
+use Rattle.net_checker.proofs.Ready.{ready_at}
+use Rattle.net_checker.proofs.Tables.{given_at, row_more, row_whole}
+use Rattle.net_checker.proofs.Turns.{few_vectors}
+use Rattle.net_checker.proofs.Usable.{at_vector, overflow_found, overflow_passed}
 use Rattle.net_checker.proofs.sources.add_sources.Goals as goal
 
-pub overflow_add-first : goal.overflow_add-first
-overflow_add-first c =
-    omega (
-      arith,
-      c.requires.small,
-      c.requires.statement,
-      few_statements c.args.nest.now,
-      c.reads_of-read-end.ensures,
-      few_read_count c.args.nest.now c.args.statement,
-    )
+-- the vectors of the statement, and that of a turn
+whole : (n : Nest) (s : ℕ) (of : List (List (List ℤ))) (items : List (List ℤ)) → of ≡ points_of n
+    → items ≡ get_or of s [] → items ≡ get_or (points_of n) s []
+whole n s of items points is = is ∙ ap (λ (of : List (List (List ℤ))). get_or of s []) points
 
-pub tree_of-tree-requires : goal.tree_of-tree-requires
-tree_of-tree-requires c =
-    tree_there c.args.cert.now.sources (c.args.first + c.loop-read.read) c.requires.swept
-    (omega (
-      arith,
-      c.requires.first,
-      c.requires.sources,
-      read_within c.args.nest.now c.args.statement c.loop-read.read (omega (arith, c.reads_of-read-end.ensures)),
-    ))
+here : (vectors items : List (List ℤ)) (f : ℕ) (at : List ℤ) → items ≡ vectors → f < length items
+    → at ≡ get_or items f at → slice_get vectors f ≡ Some at
+here vectors items f at same lt is =
+    ap (λ v. slice_get v f) (sym same) ∙ slice_get_read items (length items) f at refl lt is
 
-pub given_sources-requires-clause-usable : goal.given_sources-requires-clause-usable
-given_sources-requires-clause-usable c =
-    let number : read_number c.args.nest.now c.args.statement c.loop-read.read ≡ c.args.first + c.loop-read.read =
-    omega (arith, c.requires.first) in (
-      c.loop-read.read,
-      c.requires.trees c.args.statement c.loop-read.read c.tree_of-tree.result.now
-          (omega (arith, c.reads_of-read-end.ensures))
-          (ap (slice_get c.args.cert.now.sources) number ∙ c.tree_of-tree.ensures),
-    )
+pub vectors_of-vectors-requires : goal.vectors_of-vectors-requires
+vectors_of-vectors-requires c =
+    omega (arith, c.requires.statement, points_length c.args.nest.now, ap length c.requires.points)
 
-pub loop-read-preserved : goal.loop-read-preserved
-loop-read-preserved c =
+pub eval-requires : goal.eval-requires
+eval-requires c =
     let n = c.args.nest.now in
     let s = c.args.statement in
-    let k = c.loop-read.read in
-    let number : read_number n s k ≡ c.args.first + k = omega (arith, c.requires.first) in
-    reads_more n s k c.args.lists.now c.loop-read.lists c.push.new.self c.in_ok-given_sources.field-0
-    c.loop-read.invariant
-    (c.in_ok-given_sources.ensures k
-    (c.requires.trees s k c.tree_of-tree.result.now (omega (arith, c.reads_of-read-end.ensures))
-    (ap (slice_get c.args.cert.now.sources) number ∙ c.tree_of-tree.ensures)))
-    c.in_ok-push.ensures.ok
+    let items = c.vectors_of-vectors.result.now in
+    let all = whole n s c.args.points.now.of items c.requires.points c.vectors_of-vectors.ensures in
+    ready_at n s c.requires.checked.0 c.args.tree.now c.requires.checked.1 c.loop-turn.turn
+    c.index-vectors-turn.result
+    (here (get_or (points_of n) s []) items c.loop-turn.turn c.index-vectors-turn.result all c.loop-turn-test.true
+    c.index-vectors-turn.is)
+
+pub tag_of-requires-clause-writer : goal.tag_of-requires-clause-writer
+tag_of-requires-clause-writer c =
+    let n = c.args.nest.now in
+    let s = c.args.statement in
+    let items = c.vectors_of-vectors.result.now in
+    let all = whole n s c.args.points.now.of items c.requires.points c.vectors_of-vectors.ensures in
+    let g = given_at n s c.requires.checked.0 c.args.tree.now c.requires.checked.1 c.loop-turn.turn
+    c.index-vectors-turn.result
+    (here (get_or (points_of n) s []) items c.loop-turn.turn c.index-vectors-turn.result all c.loop-turn-test.true
+    c.index-vectors-turn.is) in
+    let w = last_writer n g.entry c.requires.checked.0 in
+    (w, subst (IsPointOf (trace n) w) (sym c.in-Ok.ensures.value) g.given)
+
+pub overflow_cast-result : goal.overflow_cast-result
+overflow_cast-result c =
+    let n = c.args.nest.now in
+    let s = c.args.statement in
+    let all = whole n s c.args.points.now.of c.vectors_of-vectors.result.now c.requires.points
+    c.vectors_of-vectors.ensures in
+    omega (arith, few_vectors n s c.requires.size, ap length all)
+
+pub returns-in-Err-clause-overflow : goal.returns-in-Err-clause-overflow
+returns-in-Err-clause-overflow c =
+    let n = c.args.nest.now in
+    let s = c.args.statement in
+    let items = c.vectors_of-vectors.result.now in
+    let all = whole n s c.args.points.now.of items c.requires.points c.vectors_of-vectors.ensures in
+    let vectors : List (List ℤ) = get_or (points_of n) s [] in
+    let there = here vectors items c.loop-turn.turn c.index-vectors-turn.result all c.loop-turn-test.true
+    c.index-vectors-turn.is in
+    overflow_found c.args.tree.now vectors c.loop-turn.turn c.index-vectors-turn.result there
+    c.loop-turn.invariant.passed (sym c.in-Err.ensures.exact)
+
+pub loop-turn-preserved : goal.loop-turn-preserved
+loop-turn-preserved c =
+    let n = c.args.nest.now in
+    let s = c.args.statement in
+    let tree = c.args.tree.now in
+    let turn = c.loop-turn.turn in
+    let at = c.index-vectors-turn.result in
+    let items = c.vectors_of-vectors.result.now in
+    let all = whole n s c.args.points.now.of items c.requires.points c.vectors_of-vectors.ensures in
+    let vectors : List (List ℤ) = get_or (points_of n) s [] in
+    let there = here vectors items turn at all c.loop-turn-test.true c.index-vectors-turn.is in
+    record {
+      passed = λ f lt. elim (cases_lt f turn) [
+        | inl before ↦ c.loop-turn.invariant.passed f before
+        | inr after ↦
+            let e : f ≡ turn = omega arith in
+            ap (at_vector tree vectors) e
+            ∙ overflow_passed tree vectors turn at c.in-Ok.found there (sym c.in-Ok.ensures.exact)
+      ];
+      added = λ k checked. row_more n s k turn at tree c.loop-turn.sources c.push.new.self c.tag_of.result
+          (given_at n s k tree checked turn at there) (c.loop-turn.invariant.added k checked)
+          (λ writer h. c.tag_of.ensures writer (subst (IsPointOf (trace n) writer) (sym c.in-Ok.ensures.value) h))
+          c.in_ok-push-in-Ok.ensures.ok;
+    }
+
+pub returns-clause-overflow : goal.returns-clause-overflow
+returns-clause-overflow c =
+    let n = c.args.nest.now in
+    let s = c.args.statement in
+    let all = whole n s c.args.points.now.of c.vectors_of-vectors.result.now c.requires.points
+    c.vectors_of-vectors.ensures in
+    let vectors : List (List ℤ) = get_or (points_of n) s [] in
+    sym (first_none (at_vector c.args.tree.now vectors) (length vectors)
+    (λ f lt. c.loop-turn.invariant.passed f (omega (arith, ap length all))))
+
+pub returns-clause-sources : goal.returns-clause-sources
+returns-clause-sources c _ k checked =
+    let n = c.args.nest.now in
+    let s = c.args.statement in
+    let all = whole n s c.args.points.now.of c.vectors_of-vectors.result.now c.requires.points
+    c.vectors_of-vectors.ensures in
+    c.loop-turn.invariant.added k checked
+    ∙ row_whole n s k c.loop-turn.turn (omega (arith, c.loop-turn.auto.turn-end, ap length all))

@@ -1,10 +1,13 @@
-use Rattle.std.proofs.Common.{◌≡◌, ◌++◌, map}
-use Rattle.std.specs.List.{range_with_len}
-use Rattle.sanlp.specs.Trace.{trace}
-use Rattle.source_tree.specs.Sources.{read_sources}
+use Rattle.std.proofs.Common.{◌≡◌, ℕ, ◌<◌, None, get_or, []}
+use Rattle.sanlp.specs.Points.{points_of}
+use Rattle.source_tree.specs.Checked.{IsChecked}
+use Rattle.net_checker.proofs.Tables.{sources_upto}
+use Rattle.net_checker.proofs.Usable.{at_vector}
 use Rattle.net_checker.proofs.sources.add_sources.Given as goal
 
--- the rows of the reads so far are added
-abbrev pub invariant-loop-read : goal.invariant-loop-read
-invariant-loop-read l = l.lists ≡ l.initial.lists
-    ++ map (read_sources l.nest (trace l.nest) l.statement) (range_with_len 0 l.read)
+-- the tree overflows at no turn so far, and their sources are added
+abbrev pub invariant-loop-turn : goal.invariant-loop-turn
+invariant-loop-turn l = record {
+  passed : (f : ℕ) → f < l.turn → at_vector l.tree (get_or (points_of l.nest) l.statement []) f ≡ None;
+  added : (k : ℕ) → IsChecked l.nest l.statement k l.tree → l.sources ≡ sources_upto l.nest l.statement k l.turn;
+}

@@ -1,38 +1,27 @@
-use Rattle.std.proofs.Common.{◌≡◌, ℤ, List, [], length, get_or, slice_get, sym, ap, ◌∙◌, arith}
-use Rattle.sanlp.proofs.NestFacts.{points_length}
-use Rattle.net_checker.specs.Sources.{first_overflow}
-use Rattle.net_checker.proofs.Ready.{ready_at}
-use Rattle.net_checker.proofs.Turns.{few_vectors}
+use Rattle.std.specs.Prelude.{Result, Ok, Err, IfOk}
 use Rattle.net_checker.proofs.Usable.{accepted_judged, refused_judged}
 use Rattle.net_checker.proofs.sources.tree_refusal.Goals as goal
 
-pub vectors_of-requires : goal.vectors_of-requires
-vectors_of-requires c = omega (arith, c.requires.statement, points_length c.args.nest.now, ap length c.requires.points)
+if_ok : {T E : Type 0} {P Q : T → Type 0} (r : Result T E) → ((x : T) → P x → Q x) → IfOk r P → IfOk r Q
+if_ok (Ok x) f p = f x p
+if_ok (Err e) f p = p
 
-pub first_overflow-requires-clause-few : goal.first_overflow-requires-clause-few
-first_overflow-requires-clause-few c =
-    omega (
-      arith,
-      few_vectors c.args.nest.now c.args.statement c.requires.size,
-      ap length (c.vectors_of.ensures
-          ∙ ap (λ (of : List (List (List ℤ))). get_or of c.args.statement []) c.requires.points),
-    )
-
-pub first_overflow-requires-clause-ready : goal.first_overflow-requires-clause-ready
-first_overflow-requires-clause-ready c f at is =
-    ready_at c.args.nest.now c.args.statement c.args.read c.args.tree.now
-    (c.in_ok-rule.ensures.checked.0 c.in-Accepted.is) f at
-    (ap (λ vectors. slice_get vectors f) (sym (c.vectors_of.ensures
-    ∙ ap (λ (of : List (List (List ℤ))). get_or of c.args.statement []) c.requires.points)) ∙ is)
-
-pub returns-in-Refused : goal.returns-in-Refused
-returns-in-Refused c =
+pub returns-in-Refused-clause-refusal : goal.returns-in-Refused-clause-refusal
+returns-in-Refused-clause-refusal c =
     refused_judged c.args.nest.now c.args.statement c.args.read c.args.tree.now c.requires.read c.in_ok-rule.field-0
     c.in_ok-rule.ensures.exact c.in-Refused.rule c.in-Refused.is
 
-pub returns-in-Accepted : goal.returns-in-Accepted
-returns-in-Accepted c =
-    accepted_judged c.args.nest.now c.args.statement c.args.read c.args.tree.now c.requires.read c.in_ok-rule.field-0
-    c.in_ok-rule.ensures.exact c.first_overflow.result c.in-Accepted.is
-    (c.first_overflow.ensures ∙ ap (first_overflow c.args.tree.now)
-    (c.vectors_of.ensures ∙ ap (λ (of : List (List (List ℤ))). get_or of c.args.statement []) c.requires.points))
+pub add_sources-requires-clause-checked : goal.add_sources-requires-clause-checked
+add_sources-requires-clause-checked c = (c.args.read, c.in_ok-rule.ensures.checked.0 c.in-Accepted.is)
+
+pub returns-in-Accepted-clause-refusal : goal.returns-in-Accepted-clause-refusal
+returns-in-Accepted-clause-refusal c =
+    if_ok c.add_sources.result
+    (λ o. accepted_judged c.args.nest.now c.args.statement c.args.read c.args.tree.now c.requires.read
+    c.in_ok-rule.field-0 c.in_ok-rule.ensures.exact o c.in-Accepted.is) c.add_sources.ensures.overflow
+
+pub returns-in-Accepted-clause-sources : goal.returns-in-Accepted-clause-sources
+returns-in-Accepted-clause-sources c =
+    if_ok c.add_sources.result
+    (λ o row none. row none c.args.read (c.in_ok-rule.ensures.checked.0 c.in-Accepted.is))
+    c.add_sources.ensures.sources

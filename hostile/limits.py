@@ -7,6 +7,7 @@ Every run has a stack of 8 MB, 4 GB of address space and a time limit. Times are
 
   deep      sources at the limit of 8,192 tokens, nested as deep as they can be, by each command, with the least stack that serves
   trees     certificates whose trees and proofs nest 512 deep, and one deeper, by `check`, with the least stack that serves
+  writers   sources with many guarded writers of one array, by `deps` and `cert`, with the least stack that serves
   repeats   certificates whose repeats nest 512 deep, and one deeper, and that stand for more than they may, by `check`
   size      programs at the limit on the size, by each command
   lines     `check` of certificates of 64 MiB, each of one kind of line
@@ -19,6 +20,7 @@ A run that ends by a signal, that isn't done in its time, or that ends otherwise
 script fail. The system's limit on tasks is tried by root alone, as a user of its own. It is a test, outside the proof.
 """
 import collections
+import itertools
 import os
 import resource
 import shutil
@@ -164,6 +166,50 @@ def deep_trees(program):
         stack = least_stack(program, ["check", "N=1"], bundle, end)
         rows.append([name, "as wanted" if well else told(end), f"{end.cpu:.2f}", f"{stack} kB"])
     asking.table(["Certificate", "check", "s", "Least stack"], rows)
+
+
+def guarded(loops, writers, guards, is_inside):
+    """Loops round so many writers of one cell, each under the guards that are made of its number, and a read of the cell, inside or behind."""
+    heads = "".join(f"for ({it} = 0; {it} < N; {it}++) " for it in loops)
+    cell = "a" + "".join(f"[{it}]" for it in loops)
+    writes = "".join(f"if ({' && '.join(guards(number))}) {cell} = 1; " for number in range(writers))
+    behind = "" if is_inside else "} " + heads + "{ "
+    return f"param N; var a{'[N]' * len(loops)}; out y; {heads}{{ {writes}{behind}y = {cell}; }}".encode()
+
+
+def differences(count, writers):
+    """So many guards on differences of six loops, with other numbers for each writer."""
+    pairs = list(itertools.permutations("ijklmn", 2))[: count - 1]
+    return lambda number: [f"{one} - {other} >= {writers - number - 1000}" for one, other in pairs] + [f"n - m >= {3000 - writers + number}"]
+
+
+def writer_sources():
+    """A name, a source, the value of N, and whether the tree of its read is beyond its room."""
+    for place, is_inside in [("inside", True), ("behind", False)]:
+        yield f"62 that never write in six loops, {place}", guarded("ijklmn", 62, lambda number: [f"i >= N + {number}"], is_inside), 4, False
+    for writers, is_beyond in [(4, False), (40, True)]:
+        yield f"{writers} under 2 guards in three loops, inside", guarded("ijk", writers, lambda number: [f"i - j > {number}", f"k >= {writers - number}"], True), 64, is_beyond
+    for writers, guards, is_beyond in [(3, 8, False), (6, 16, True), (20, 16, True), (47, 4, True), (47, 20, True)]:
+        yield f"{writers} under {guards} guards in six loops, behind", guarded("ijklmn", writers, differences(guards, writers), False), 10_000, is_beyond
+
+
+def writers(program):
+    """`deps` tells a tree within its room and else ends with 10; `cert` writes the tree or `sweep`, and is asked where the size is within its limit."""
+    rows = []
+    for name, source, n, is_beyond in writer_sources():
+        row = [name]
+        for command in ("deps", "cert") if n <= 64 else ("deps",):
+            words = [command, f"N={n}"]
+            end = ask(program, words, source)
+            wanted = (10, b"", b"") if is_beyond and command == "deps" else (0, end.output, b"")
+            well = judge(f"{name}, {command}", end, wanted)
+            if command == "cert" and (b"\nsweep\n" in end.output) != is_beyond:
+                BAD.append(f"{name}: `cert` has {'no ' if is_beyond else ''}`sweep`")
+            stack = f"{least_stack(program, words, source, end)} kB" if end.cpu < 5 else ""
+            row += [str(wanted[0]) if well else told(end), f"{end.cpu:.2f}", megabytes(end), stack]
+        rows.append([*row, *[""] * (9 - len(row))])
+        print(rows[-1], file=sys.stderr, flush=True)
+    asking.table(["Writers", "deps", "s", "MB", "Least stack", "cert", "s", "MB", "Least stack"], rows)
 
 
 def repeat_texts():
@@ -512,7 +558,7 @@ def refused_by_system(program, words, bundle, plain):
     asking.table(["Tasks that are allowed", "Statuses of 5 runs each", "The longest, s"], grouped(rows))
 
 
-SECTIONS = {"deep": deep, "trees": deep_trees, "repeats": repeats, "size": size, "lines": lines, "announce": announce, "bundle": bundle, "threads": threads}
+SECTIONS = {"deep": deep, "trees": deep_trees, "writers": writers, "repeats": repeats, "size": size, "lines": lines, "announce": announce, "bundle": bundle, "threads": threads}
 
 
 def main():

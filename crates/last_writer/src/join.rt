@@ -30,10 +30,13 @@ use plain_data::Items;
 use source_tree::Tree;
 use std::alloc::{AllocError, Global};
 
+// How deep Tests may nest. Each takes some 15 KB of the stack.
+const TESTS: usize = 128;
+
 /// Why no tree is made.
 #[derive(Clone, Copy, Debug, PartialEq, Eq)]
 pub enum Unmade {
-    /// It has more nodes than are wanted.
+    /// It has more nodes than are wanted, or nests more than 128 Tests deep.
     Large,
     Memory,
 }
@@ -91,6 +94,13 @@ fn take(room: &mut u64) -> Result<(), Unmade>
     }
     *room -= 1;
     Ok(())
+}
+
+// Whether so many Tests stand above as may nest: each has added a row to the reader's own.
+fn is_deep(state: &State) -> bool {
+    let (read, context) = (state.read, state.context);
+    let own = read.reference.statement.rows.len();
+    context.rows.len().saturating_sub(own) >= TESTS
 }
 
 // The numbers but this one.
@@ -444,6 +454,9 @@ fn test<'a>(
     ensures tree { IfOk result (IsJoinedTree state.now.read.now state.now.context.now) }
     ensures room { room.new ≤ room.old }
 {
+    if is_deep(state) {
+        return Err(Unmade::Large);
+    }
     take(room)?;
     let above = with_row(state.context, form.copy())?;
     let yes = branch(

@@ -18,7 +18,7 @@ use source_tree::Tree;
 use std::alloc::{AllocError, Global};
 
 // The room for one tree: so many nodes.
-const NODES: u64 = 1 << 20;
+const NODES: u64 = 1_024;
 
 fn numbers(alloc: Global, count: usize) -> Result<Items<u32>, AllocError>
     requires { count ≤ 896 }
@@ -76,8 +76,8 @@ fn copy_rows(alloc: Global, rows: &[Row]) -> Result<Items<Row>, AllocError>
 }
 
 /// The tree of `source_of`, with room for so many nodes. `None` tells that the tree made here would
-/// take more nodes than that. No more is promised of it: a smaller tree of the same read may be
-/// there.
+/// take more nodes than that, or nest more than 128 Tests deep. No more is promised of it: a smaller
+/// tree of the same read may be there.
 pub fn source_within(
     alloc: Global,
     nest: &Nest,
@@ -113,7 +113,8 @@ pub fn source_within(
 /// Which write a read has its value from at each point of the reader, as one tree, which is
 /// checked: so at each point it gives the last write of the cell that is read, or zero where there
 /// is none, whatever the size of the nest (Feautrier 1991). The read is in the difference class.
-/// Nothing is refused but want of memory: a tree has room for 2^20 nodes, and no more.
+/// Nothing is refused but want of memory: a tree has room for 1,024 nodes, and nests 128 Tests deep
+/// at most.
 pub fn source_of(alloc: Global, nest: &Nest, statement: u32, read: u32) -> Result<Tree, AllocError>
     requires { IsInDifferenceClass nest.now statement read }
     ensures checked { IfOk result (IsChecked nest.now statement read) }

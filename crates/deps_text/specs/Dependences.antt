@@ -4,6 +4,7 @@ use Rattle.std.specs.List.{flat_map, range_with_len}
 use Rattle.lex_max.specs.Class.{IsInDifferenceClass}
 use Rattle.sanlp.specs.Access.{read_count}
 use Rattle.sanlp.specs.declared.nest.Nest.{Nest}
+use Rattle.source_tree.specs.Checked.{IsChecked}
 use Rattle.source_tree.specs.Exact.{IsExact}
 use Rattle.source_tree.specs.declared.cert.Origin.{Origin}
 use Rattle.source_tree.specs.declared.cert.Origin.TheVariants.{Sweep, Tree}
@@ -25,10 +26,10 @@ reads_at n s = map (λ k. (s, k)) (range_with_len 0 (read_count n s))
 abbrev pub all_reads : Nest → List (ℕ × ℕ)
 all_reads n = flat_map (reads_at n) (range_with_len 0 (length n.statements))
 
--- read k of statement s has its values from here: from the points that an exact tree gives, where it
--- has a tree, and else from the last writers
+-- read k of statement s has its values from here: from the points that a tree gives, which is checked and exact,
+-- where it has a tree, and else from the last writers
 abbrev pub IsOriginOf : Nest → ℕ → ℕ → Origin → Type 0
-IsOriginOf n s k (Tree tree) = HasTree n s k × IsExact n s k tree
+IsOriginOf n s k (Tree tree) = HasTree n s k × IsChecked n s k tree × IsExact n s k tree
 IsOriginOf n s k Sweep = HasTree n s k → ⊥
 
 -- the read that a dependence is of

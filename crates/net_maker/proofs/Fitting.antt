@@ -130,7 +130,7 @@ classes_stay network capacities same classes c channel e =
     ∙ uses_stay (net_of network) (net_of (with_capacities network capacities)).capacity c))
 
 -- where every read is swept, there is no tree
-no_tree : (m i : ℕ) (tree : Tree) → slice_get (replicate m origin.Sweep) i ≡ Some (origin.Tree tree) → ⊥
+pub no_tree : (m i : ℕ) (tree : Tree) → slice_get (replicate m origin.Sweep) i ≡ Some (origin.Tree tree) → ⊥
 no_tree zero i tree is = let e : None ≡ Some (origin.Tree tree) = is in cc
 no_tree (suc m) zero tree is = let e : Some origin.Sweep ≡ Some (origin.Tree tree) = is in cc
 no_tree (suc m) (suc i) tree is = no_tree m i tree is

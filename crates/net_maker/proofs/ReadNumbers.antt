@@ -26,7 +26,7 @@ use Rattle.source_tree.specs.declared.tree.Tree.{Tree}
 use Rattle.source_tree.specs.Sources.{read_number}
 use Rattle.std.specs.Option.{option_map_or}
 use Rattle.tree_text.specs.TreeText.{TreeIsInRange}
-use Rattle.net_maker.specs.Certificates.{HasOrigins, IsOriginOf}
+use Rattle.net_maker.specs.Certificates.{HasOrigins, IsUsableOrigin}
 
 -- Numbers of reads
 
@@ -85,23 +85,23 @@ more_at (z ∷ xs) x (suc i) y is = elim (more_at xs x i y is) [
 ]
 
 module _ (n : Nest) (s k : ℕ) (sources after : List Origin) (o : Origin) (few : k < read_count n s)
-    (h : HasOrigins n (read_number n s k) sources) (is : after ≡ sources ++ o ∷ []) (fit : IsOriginOf n s k o) where
+    (h : HasOrigins n (read_number n s k) sources) (is : after ≡ sources ++ o ∷ []) (fit : IsUsableOrigin n s k o) where
   each_more : (p q : ℕ) (x : Origin) → q < read_count n p → slice_get after (read_number n p q) ≡ Some x
-      → IsOriginOf n p q x
+      → IsUsableOrigin n p q x
   each_more p q x lt at =
       elim (more_at sources o (read_number n p q) x (ap (λ xs. slice_get xs (read_number n p q)) (sym is) ∙ at)) [
         | inl front ↦ h.each p q x lt front
         | inr end ↦
             (let same = same_read n p s q k lt few (omega (arith, h.total, end.0)) in
-            subst (λ p. IsOriginOf n p q x) (sym same.0)
-            (subst (λ q. IsOriginOf n s q x) (sym same.1) (subst (IsOriginOf n s k) end.1 fit)))
+            subst (λ p. IsUsableOrigin n p q x) (sym same.0)
+            (subst (λ q. IsUsableOrigin n s q x) (sym same.1) (subst (IsUsableOrigin n s k) end.1 fit)))
       ]
 
   range_more : (j : ℕ) (tree : Tree) → slice_get after j ≡ Some (origin.Tree tree) → TreeIsInRange tree
   range_more j tree at =
       elim (more_at sources o j (origin.Tree tree) (ap (λ xs. slice_get xs j) (sym is) ∙ at)) [
         | inl front ↦ h.in_range j tree front
-        | inr end ↦ (subst (IsOriginOf n s k) end.1 fit).1
+        | inr end ↦ (subst (IsUsableOrigin n s k) end.1 fit).1
       ]
 
   pub origins_more : HasOrigins n (read_number n s (k + 1)) after

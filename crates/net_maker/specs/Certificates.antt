@@ -27,14 +27,14 @@ pub record IsCertificate (n : Nest) (policy : Policy) (cert : Cert) : Type 0 whe
       → TreeIsInRange tree
 
 -- the origin may stand for read k of statement s: Sweep, or a tree that is usable and has a text that can be read
-abbrev pub IsOriginOf : Nest → ℕ → ℕ → Origin → Type 0
-IsOriginOf n s k Sweep = Unit {0}
-IsOriginOf n s k (Tree tree) = IsUsable n s k tree × TreeIsInRange tree
+abbrev pub IsUsableOrigin : Nest → ℕ → ℕ → Origin → Type 0
+IsUsableOrigin n s k Sweep = Unit {0}
+IsUsableOrigin n s k (Tree tree) = IsUsable n s k tree × TreeIsInRange tree
 
 -- the origins of the first so many reads, each of which may stand for its read
 pub record HasOrigins (n : Nest) (count : ℕ) (sources : List Origin) : Type 0 where
   pub total : length sources ≡ count
   pub each : (s k : ℕ) (origin : Origin) → k < read_count n s
-      → slice_get sources (read_number n s k) ≡ Some origin → IsOriginOf n s k origin
+      → slice_get sources (read_number n s k) ≡ Some origin → IsUsableOrigin n s k origin
   pub in_range : (k : ℕ) (tree : any_tree.Tree) → slice_get sources k ≡ Some (Tree tree)
       → TreeIsInRange tree

@@ -1,8 +1,10 @@
 //! The network of a nest with the capacities that a schedule needs, and the certificate of that.
 #![tactic(auto)]
 
+mod law;
 mod making;
 mod origins;
 mod ranges;
 
+pub use law::has_certificate;
 pub use making::{compile, compile_swept};

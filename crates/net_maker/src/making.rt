@@ -6,6 +6,7 @@ ghost use Rattle.net_checker.specs.Shapes.{read_total};
 ghost use Rattle.source_tree.specs.declared.cert.Origin.TheVariants.{Sweep};
 ghost use Rattle.net_core.specs.Machine.{net_of};
 ghost use Rattle.net_core.specs.Shape.{FitsNumbers};
+ghost use Rattle.process_derive.specs.Derived.{net};
 ghost use Rattle.witness_plan.specs.Schedules.{planned_network, schedule};
 ghost use Rattle.net_maker.specs.Certificates.{swept_cert, IsCertificate};
 
@@ -41,6 +42,16 @@ fn swept(alloc: Global, nest: &Nest) -> Result<Items<Origin>, AllocError>
     Ok(sources)
 }
 
+// The network of a nest, each channel with the number of its tokens as its capacity. The table of sources ends here.
+fn derived_network(alloc: Global, nest: &Nest, points: &Points) -> Result<Network, AllocError>
+    requires size { SizeIsOk nest.now }
+    requires points { points.now.of ≡ points_of nest.now }
+    ensures { IfOk result (λ network. network ≡ net nest.now) }
+{
+    let table = sweep(alloc, nest, points)?;
+    derive(alloc, nest, points, &table)
+}
+
 /// The network of a nest (Compaan 2000, pn 2007) with the capacities that its schedule under a policy needs, and the
 /// certificate with that schedule whose reads all have their values from the last writers. Both fit the nest, so the checker
 /// accepts them. Nothing is refused but want of memory.
@@ -63,8 +74,7 @@ pub fn compile_swept(
     names_last_writers(nest);
     has_classes_of_uses(nest);
     other_capacities();
-    let table = sweep(alloc, nest, points)?;
-    let derived = derive(alloc, nest, points, &table)?;
+    let derived = derived_network(alloc, nest, points)?;
     let witness = plan(alloc, nest, points, &derived, policy)?;
     let network = with_capacities(alloc, derived, witness.capacities.as_slice())?;
     let cert = Cert {
@@ -75,9 +85,9 @@ pub fn compile_swept(
 }
 
 /// The network of `compile_swept`, and a certificate of it with trees: a read of the difference class has its values from the
-/// points that its tree gives, where a tree of at most 65,536 nodes is made, overflows at no point of the reader, and nests, as
-/// its proofs do, at most 512 deep. Other reads have theirs from the last writers. The checker accepts both, and they have a
-/// text. Nothing is refused but want of memory.
+/// points that its tree gives, where a tree of at most 1,024 nodes is made, at most 128 Tests deep, which overflows at no point
+/// of the reader, and whose proofs nest at most 512 deep. Other reads have theirs from the last writers. The checker accepts
+/// both, and they have a text. Nothing is refused but want of memory.
 pub fn compile(
     alloc: Global,
     nest: &Nest,

@@ -1,7 +1,7 @@
 ghost use Rattle.std.specs.Prelude.{◌≡◌, ◌<◌, ◌+◌, ◌↔◌, ℕ, ℤ, List, [], None, Some, length, slice_get, slice_index_or, IfOk, IsTrue, OnOk};
 ghost use Rattle.net_checker.specs.Shapes.{read_total};
 ghost use Rattle.net_checker.specs.Sources.{IsUsable};
-ghost use Rattle.net_maker.specs.Certificates.{HasOrigins, IsOriginOf};
+ghost use Rattle.net_maker.specs.Certificates.{HasOrigins, IsUsableOrigin};
 ghost use Rattle.sanlp.specs.Access.{read_count};
 ghost use Rattle.sanlp.specs.Points.{points_of};
 ghost use Rattle.source_tree.specs.Checked.{IsChecked};
@@ -17,8 +17,8 @@ use sanlp::{Nest, Points};
 use source_tree::{Origin, Tree, eval};
 use std::alloc::{AllocError, Global};
 
-// The room for a tree: so many nodes. A tree that has no room isn't made.
-const NODES: u64 = 65_536;
+// The room for a tree: so many nodes. A tree that has no room, or nests too deep to be made, isn't made.
+const NODES: u64 = 1_024;
 
 // Whether the tree overflows at none of these points.
 fn overflows_nowhere(tree: &Tree, vectors: &[Vector]) -> bool
@@ -62,7 +62,7 @@ fn origin(
     requires points { points.now.of ≡ points_of nest.now }
     requires statement { statement < length nest.now.statements }
     requires read { read < read_count nest.now statement }
-    ensures { IfOk result (IsOriginOf nest.now statement read) }
+    ensures { IfOk result (IsUsableOrigin nest.now statement read) }
 {
     if !in_difference_class(nest, statement, read) {
         return Ok(Origin::Sweep);

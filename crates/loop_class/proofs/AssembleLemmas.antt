@@ -1,6 +1,6 @@
 -- From what was read of a tree to its nest.
 use Rattle.std.proofs.Common.{◌≡◌, ℕ, ◌+◌, Bool, true, false, List, [], ◌∷◌, ◌++◌, length, Some, None, Err}
-use Rattle.std.proofs.Common.{if◌then◌else◌, refl, sym, ap, subst, ◌∙◌, append_assoc, length-append, arith}
+use Rattle.std.proofs.Common.{if◌then◌else◌, refl, sym, ap, subst, ◌∙◌, append_assoc, length-append}
 use Rattle.std.specs.Prelude.{IsTrue}
 use Rattle.std.specs.List.{list_all}
 use Rattle.std.specs.Cmp.Derive.{both_true}
@@ -11,23 +11,19 @@ use Rattle.sanlp.specs.declared.nest.Statement.{Statement}
 use Rattle.sanlp.specs.WellFormed.{IsWellFormed, input_extents, output_extents, array_loops}
 use Rattle.sanlp.proofs.Each.{Each}
 use Rattle.loop_grammar.specs.declared.tree.Tree.{Tree}
-use Rattle.loop_class.specs.declared.assemble.Reading.{Reading}
-use Rattle.loop_class.specs.declared.context.Context.{Context}
-use Rattle.loop_class.specs.declared.context.Progress.{Progress}
-use Rattle.loop_class.specs.declared.declare.Table.{Table}
-use Rattle.loop_class.specs.declared.error.BindError.{BindError}
-use Rattle.loop_class.specs.declared.error.BindError.TheVariants.{UnknownName, Duplicate, Unbound, NotAffine}
-use Rattle.loop_class.specs.declared.error.BindError.TheVariants.{WrongCount, ElseForm, TooManyProcesses, TooDeep}
-use Rattle.loop_class.specs.declared.error.BindError.TheVariants.{TooManyReads, TooManyRows, Large, StepMax, StepRange}
-use Rattle.loop_class.specs.declared.error.BindError.TheVariants.{Memory}
-use Rattle.loop_class.specs.Binding.{outer_context, body_made, findings, nest_of, Binds}
-use Rattle.loop_class.specs.Declarations.{Values, Declared, declared}
-use Rattle.loop_class.specs.Following.{IsReadingOf, Makes, Stands, next_statement}
-use Rattle.loop_class.specs.Parts.{parts_made}
-use Rattle.loop_class.specs.Ranges.{has_small_extents}
-use Rattle.loop_class.specs.Reasons.{comes_first, least_from}
-use Rattle.loop_class.specs.Terminals.{sources_from, sinks_from, loop_count}
-use Rattle.loop_class.proofs.JudgeLemmas.{least_append}
+use Rattle.loop_bind.specs.declared.reading.Reading.{Reading}
+use Rattle.loop_bind.specs.declared.error.BindError.{BindError}
+use Rattle.loop_bind.specs.declared.error.BindError.TheVariants.{UnknownName, Duplicate, Unbound, NotAffine}
+use Rattle.loop_bind.specs.declared.error.BindError.TheVariants.{WrongCount, ElseForm, TooManyProcesses, TooDeep}
+use Rattle.loop_bind.specs.declared.error.BindError.TheVariants.{TooManyReads, TooManyRows, Large, StepMax, StepRange}
+use Rattle.loop_bind.specs.declared.error.BindError.TheVariants.{Memory}
+use Rattle.loop_bind.specs.Findings.{body_made, findings}
+use Rattle.loop_class.specs.Binding.{nest_of, Binds}
+use Rattle.loop_bind.specs.Declarations.{Values, Declared, declared}
+use Rattle.loop_bind.specs.Following.{IsReadingOf}
+use Rattle.loop_bind.specs.Ranges.{has_small_extents}
+use Rattle.loop_bind.specs.Reasons.{comes_first, least_from}
+use Rattle.loop_bind.specs.Terminals.{sources_from, sinks_from}
 use Rattle.loop_class.proofs.Nests.{bound_nest_well_formed}
 use Rattle.loop_class.proofs.NestsArrays.{FewExtents, declarations_sound}
 use Rattle.loop_class.proofs.NestsTerminals.{sources_length}
@@ -82,36 +78,6 @@ whole_body arrays next_loop first assignments s0 s1 s2 nodes b0 b1 b2 b3 es eb h
     last ∙ (λ i. (mb ∙ ap (λ b. b ++ nodes) loops) i ++ array_loops next_loop (number i) (output_extents arrays))
     ∙ append_assoc (array_loops 0 0 (input_extents arrays)) nodes
     (array_loops next_loop (length (input_extents arrays) + length assignments) (output_extents arrays))
-
-pub reading_is : (tree : Tree) (params : Values) (t : Table) (c0 c1 : Context) (p0 p1 : Progress) (n0 n1 : List Node)
-    → Stands t (declared params tree.declarations)
-    → c0 ≡ outer_context (declared params tree.declarations)
-    → p0.first ≡ length (input_extents (declared params tree.declarations).arrays)
-    → p0.next_loop ≡ loop_count (input_extents (declared params tree.declarations).arrays) → p0.statements ≡ []
-    → p0.least ≡ t.least → n0 ≡ []
-    → Makes c0 c1 p0 p1 n0 n1 (parts_made tree.parts c0 p0.next_loop (next_statement p0))
-    → IsReadingOf
-    (record { arrays = t.arrays; statements = p1.statements; nodes = n1; next_loop = p1.next_loop; least = p1.least })
-    tree params
-unfolding findings
-reading_is tree params t c0 c1 p0 p1 n0 n1 stands context first loops none least nodes h =
-    let d : Declared = declared params tree.declarations in
-    let number : next_statement p0 ≡ length (input_extents d.arrays) =
-    ap (λ s. p0.first + length s) none ∙ plus_zero p0.first ∙ first in
-    let same : parts_made tree.parts c0 p0.next_loop (next_statement p0) ≡ body_made tree d =
-    λ i. parts_made tree.parts (context i) (loops i) (number i) in
-    record {
-      arrays = stands.1;
-      statements = ap (λ p. p.statements) h.progress ∙ (λ i. none i ++ (same i).statements);
-      nodes = h.nodes ∙ (λ i. nodes i ++ (same i).nodes);
-      next_loop = ap (λ p. p.next_loop) h.progress ∙ ap (λ m. m.next_loop) same;
-      least = ap (λ p. p.least) h.progress ∙ (λ i. least_from (least i) (same i).findings)
-          ∙ ap (λ l. least_from l (body_made tree d).findings) stands.2
-          ∙ sym (least_append None d.findings (body_made tree d).findings);
-    }
-  where
-    plus_zero : (n : ℕ) → n + 0 ≡ n
-    plus_zero n = omega arith
 
 small_extents : (arrays : List ArrayDecl) → Each FewExtents arrays → IsTrue (list_all has_small_extents arrays)
 small_extents [] h = refl

@@ -1,13 +1,3 @@
-pub mod NameLemmas
-pub mod AffineLemmas
-pub mod Products
-pub mod Operands
-pub mod Moderate
-pub mod JudgeLemmas
-pub mod ListLemmas
-pub mod ValueLemmas
-pub mod PartLemmas
-pub mod DeclareLemmas
 pub mod NestsForms
 pub mod NestsSizes
 pub mod NestsScope

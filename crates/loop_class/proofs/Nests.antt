@@ -19,10 +19,11 @@ use Rattle.sanlp.specs.WellFormed.{array_loops, between, framed}
 use Rattle.sanlp.proofs.Each.{Each, each_append, each_then}
 use Rattle.sanlp.proofs.Roles.{length_numbers}
 use Rattle.loop_grammar.specs.declared.tree.Tree.{Tree}
-use Rattle.loop_class.specs.Binding.{outer_context, body_made, findings, nest_of}
-use Rattle.loop_class.specs.Declarations.{Values, Declared, declared}
-use Rattle.loop_class.specs.Parts.{Made}
-use Rattle.loop_class.specs.Terminals.{sources_from, sinks_from, loop_count}
+use Rattle.loop_bind.specs.Findings.{outer_context, body_made, findings}
+use Rattle.loop_class.specs.Binding.{nest_of}
+use Rattle.loop_bind.specs.Declarations.{Values, Declared, declared}
+use Rattle.loop_bind.specs.Parts.{Made}
+use Rattle.loop_bind.specs.Terminals.{sources_from, sinks_from, loop_count}
 use Rattle.loop_class.proofs.NestsArrays.{GivesArrays, FewExtents, declarations_sound}
 use Rattle.loop_class.proofs.NestsBody.{Numbered, numbered_append, placed_append, fit_append}
 use Rattle.loop_class.proofs.NestsParts.{IsAssignment, GivesParts, all_well}

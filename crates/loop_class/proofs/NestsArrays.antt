@@ -20,19 +20,19 @@ use Rattle.loop_grammar.specs.declared.tree.DeclWord.{DeclWord}
 use Rattle.loop_grammar.specs.declared.tree.DeclWord.TheVariants.{Param, Input, Output, Both, Var}
 use Rattle.loop_grammar.specs.declared.tree.Name.{Name}
 use Rattle.loop_grammar.specs.declared.tree.Named.{Named}
-use Rattle.loop_class.specs.declared.affine.Affine.{Affine}
-use Rattle.loop_class.specs.declared.error.BindError.{BindError}
-use Rattle.loop_class.specs.declared.error.BindError.TheVariants.{Duplicate, TooManyProcesses, TooDeep}
-use Rattle.loop_class.specs.declared.scope.Place.TheVariants.{Extent}
-use Rattle.loop_class.specs.declared.scope.What.{What}
-use Rattle.loop_class.specs.declared.scope.What.TheVariants.{Parameter, Array, Loop, Progression}
-use Rattle.loop_class.specs.Declarations.{Values, Declared, nothing_declared, declare_parameter, processes_of}
-use Rattle.loop_class.specs.Declarations.{array_findings, extents_of, declare_array, declare_name, declare, declared}
-use Rattle.loop_class.specs.Forms.{is_limited_number}
-use Rattle.loop_class.specs.Judging.{Scope, forms_of, findings_of, judged, form_or_zero}
-use Rattle.loop_class.specs.Names.{value_named, with_name}
-use Rattle.loop_class.specs.Parts.{new_name_findings}
-use Rattle.loop_class.specs.Reasons.{found_if}
+use Rattle.loop_bind.specs.declared.affine.Affine.{Affine}
+use Rattle.loop_bind.specs.declared.error.BindError.{BindError}
+use Rattle.loop_bind.specs.declared.error.BindError.TheVariants.{Duplicate, TooManyProcesses, TooDeep}
+use Rattle.loop_bind.specs.declared.scope.Place.TheVariants.{Extent}
+use Rattle.loop_bind.specs.declared.scope.What.{What}
+use Rattle.loop_bind.specs.declared.scope.What.TheVariants.{Parameter, Array, Loop, Progression}
+use Rattle.loop_bind.specs.Declarations.{Values, Declared, nothing_declared, declare_parameter, processes_of}
+use Rattle.loop_bind.specs.Declarations.{array_findings, extents_of, declare_array, declare_name, declare, declared}
+use Rattle.loop_bind.specs.Forms.{is_limited_number}
+use Rattle.loop_bind.specs.Judging.{Scope, forms_of, findings_of, judged, form_or_zero}
+use Rattle.loop_bind.specs.Names.{value_named, with_name}
+use Rattle.loop_bind.specs.Parts.{new_name_findings}
+use Rattle.loop_bind.specs.Reasons.{found_if}
 use Rattle.loop_class.proofs.NestsSizes.{IsForm}
 use Rattle.loop_class.proofs.NestsScope.{HasArray, Known, KnownScope, with_name_known, forms_are}
 use Rattle.loop_class.proofs.NestsValues.{none_left, none_right, found_none}

@@ -20,24 +20,24 @@ use Rattle.loop_grammar.specs.declared.tree.Operand.TheFolds.{map-Operand, fold-
 use Rattle.loop_grammar.specs.declared.tree.Operand.TheViews.{roll-Operand}
 use Rattle.loop_grammar.specs.declared.tree.Step.{Step}
 use Rattle.loop_grammar.specs.declared.tree.Step.TheVariants.{One, By}
-use Rattle.loop_class.specs.declared.affine.Affine.{Affine}
-use Rattle.loop_class.specs.declared.bounds.Bounds.{Bounds}
-use Rattle.loop_class.specs.declared.bounds.Bounds.TheVariants.{Range}
-use Rattle.loop_class.specs.declared.error.BindError.{BindError}
-use Rattle.loop_class.specs.declared.error.BindError.TheVariants.{NotAffine, StepMax, StepRange}
-use Rattle.loop_class.specs.declared.scope.Place.{Place}
-use Rattle.loop_class.specs.declared.scope.Place.TheVariants.{Extent, Body}
-use Rattle.loop_class.specs.declared.scope.What.{What}
-use Rattle.loop_class.specs.declared.scope.What.TheVariants as what
-use Rattle.loop_class.specs.Bounds.{step_value, step_reasons, step_findings, unbounded, progression, bounds_by}
-use Rattle.loop_class.specs.Bounds.{loop_bounds}
-use Rattle.loop_class.specs.Forms.{constant_form, loop_form, sum_form, difference_form, scaled_form, negated_form}
-use Rattle.loop_class.specs.Forms.{has_no_variable, is_limited_number, is_limited}
-use Rattle.loop_class.specs.Judging.{Scope, Judged, faulty, limited, after, named, negated, combined, judge_step}
-use Rattle.loop_class.specs.Judging.{judged, all_findings, seen_from, lower_operands}
-use Rattle.loop_class.specs.Names.{value_named}
-use Rattle.loop_class.specs.Reasons.{found_if}
-use Rattle.loop_class.specs.Rows.{lower_forms, upper_forms}
+use Rattle.loop_bind.specs.declared.affine.Affine.{Affine}
+use Rattle.loop_bind.specs.declared.bounds.Bounds.{Bounds}
+use Rattle.loop_bind.specs.declared.bounds.Bounds.TheVariants.{Range}
+use Rattle.loop_bind.specs.declared.error.BindError.{BindError}
+use Rattle.loop_bind.specs.declared.error.BindError.TheVariants.{NotAffine, StepMax, StepRange}
+use Rattle.loop_bind.specs.declared.scope.Place.{Place}
+use Rattle.loop_bind.specs.declared.scope.Place.TheVariants.{Extent, Body}
+use Rattle.loop_bind.specs.declared.scope.What.{What}
+use Rattle.loop_bind.specs.declared.scope.What.TheVariants as what
+use Rattle.loop_bind.specs.Bounds.{step_value, step_reasons, step_findings, unbounded, progression, bounds_by}
+use Rattle.loop_bind.specs.Bounds.{loop_bounds}
+use Rattle.loop_bind.specs.Forms.{constant_form, loop_form, sum_form, difference_form, scaled_form, negated_form}
+use Rattle.loop_bind.specs.Forms.{has_no_variable, is_limited_number, is_limited}
+use Rattle.loop_bind.specs.Judging.{Scope, Judged, faulty, limited, after, named, negated, combined, judge_step}
+use Rattle.loop_bind.specs.Judging.{judged, all_findings, seen_from, lower_operands}
+use Rattle.loop_bind.specs.Names.{value_named}
+use Rattle.loop_bind.specs.Reasons.{found_if}
+use Rattle.loop_bind.specs.Rows.{lower_forms, upper_forms}
 use Rattle.loop_class.proofs.NestsSizes.{IsForm, AreBounds}
 use Rattle.loop_class.proofs.NestsScope.{KnownScope, IsFormIfAny, formed, forms_are, lower_bounds, upper_bounds}
 use Rattle.loop_class.proofs.NestsScope.{some_lower, some_upper}

@@ -5,9 +5,9 @@ use Rattle.std.specs.Prelude.{slice_set}
 use Rattle.std.proofs.lemmas.Int.{ints}
 use Rattle.affine_core.specs.Affine.{widened_form, variable_form, sums}
 use Rattle.sanlp.specs.WellFormed.{lower_row, upper_row, turn_row}
-use Rattle.loop_class.specs.declared.affine.Affine.{Affine}
-use Rattle.loop_class.specs.Forms.{termwise, loop_form, difference_form, form_over}
-use Rattle.loop_class.specs.Rows as rows
+use Rattle.loop_bind.specs.declared.affine.Affine.{Affine}
+use Rattle.loop_bind.specs.Forms.{termwise, loop_form, difference_form, form_over}
+use Rattle.loop_bind.specs.Rows as rows
 
 -- a list of so many numbers, which are 0 from place d on
 abbrev pub IsOver : ℕ → ℕ → List ℤ → Type 0

@@ -25,29 +25,29 @@ use Rattle.loop_grammar.specs.declared.tree.Part.TheOpen.{Part-F, For, If, Assig
 use Rattle.loop_grammar.specs.declared.tree.Part.TheFolds.{map-Part, map-Other, fold-Other, fold-roll-Part}
 use Rattle.loop_grammar.specs.declared.tree.Part.TheFolds.{fold-roll-Other, ind-Part}
 use Rattle.loop_grammar.specs.declared.tree.Part.TheViews.{roll-Part, roll-Other}
-use Rattle.loop_class.specs.declared.affine.Affine.{Affine}
-use Rattle.loop_class.specs.declared.bounds.Bounds.{Bounds}
-use Rattle.loop_class.specs.declared.bounds.Bounds.TheVariants.{Range, Progression}
-use Rattle.loop_class.specs.declared.context.Context.{Context}
-use Rattle.loop_class.specs.declared.error.BindError.{BindError}
-use Rattle.loop_class.specs.declared.error.BindError.TheVariants.{WrongCount, ElseForm, TooManyProcesses, TooDeep}
-use Rattle.loop_class.specs.declared.error.BindError.TheVariants.{TooManyRows}
-use Rattle.loop_class.specs.declared.scope.Place.TheVariants.{Body}
-use Rattle.loop_class.specs.declared.scope.What.{What}
-use Rattle.loop_class.specs.declared.scope.What.TheVariants.{Parameter, Array, Loop}
-use Rattle.loop_class.specs.declared.scope.What.TheVariants as what
-use Rattle.loop_class.specs.Bounds.{step_findings, loop_bounds, lower_of, upper_of, step_of, variable_of}
-use Rattle.loop_class.specs.Forms.{loop_form, multiple_form, difference_form, form_over}
-use Rattle.loop_class.specs.Judging.{Scope, findings_of, lower_operands, upper_operands}
-use Rattle.loop_class.specs.Names.{value_named}
-use Rattle.loop_class.specs.Parts.{Made, Meaning, nothing, both, in_order, Otherwise, new_name_findings}
-use Rattle.loop_class.specs.Parts.{same_name_findings, inside_loop, for_findings, loop_body, loop_made, guarded}
-use Rattle.loop_class.specs.Parts.{with_findings, else_made, array_number, assign_made, part_step, other_step}
-use Rattle.loop_class.specs.Parts.{part_made, parts_made}
-use Rattle.loop_class.specs.Reasons.{found_if}
-use Rattle.loop_class.specs.Rows.{lower_forms, loop_rows, guard_rows, guard_findings, may_have_else, else_rows}
-use Rattle.loop_class.specs.Rows as rows
-use Rattle.loop_class.specs.Values.{Valued, valued, subscripts_over, access_findings}
+use Rattle.loop_bind.specs.declared.affine.Affine.{Affine}
+use Rattle.loop_bind.specs.declared.bounds.Bounds.{Bounds}
+use Rattle.loop_bind.specs.declared.bounds.Bounds.TheVariants.{Range, Progression}
+use Rattle.loop_bind.specs.declared.context.Context.{Context}
+use Rattle.loop_bind.specs.declared.error.BindError.{BindError}
+use Rattle.loop_bind.specs.declared.error.BindError.TheVariants.{WrongCount, ElseForm, TooManyProcesses, TooDeep}
+use Rattle.loop_bind.specs.declared.error.BindError.TheVariants.{TooManyRows}
+use Rattle.loop_bind.specs.declared.scope.Place.TheVariants.{Body}
+use Rattle.loop_bind.specs.declared.scope.What.{What}
+use Rattle.loop_bind.specs.declared.scope.What.TheVariants.{Parameter, Array, Loop}
+use Rattle.loop_bind.specs.declared.scope.What.TheVariants as what
+use Rattle.loop_bind.specs.Bounds.{step_findings, loop_bounds, lower_of, upper_of, step_of, variable_of}
+use Rattle.loop_bind.specs.Forms.{loop_form, multiple_form, difference_form, form_over}
+use Rattle.loop_bind.specs.Judging.{Scope, findings_of, lower_operands, upper_operands}
+use Rattle.loop_bind.specs.Names.{value_named}
+use Rattle.loop_bind.specs.Parts.{Made, Meaning, nothing, both, in_order, Otherwise, new_name_findings}
+use Rattle.loop_bind.specs.Parts.{same_name_findings, inside_loop, for_findings, loop_body, loop_made, guarded}
+use Rattle.loop_bind.specs.Parts.{with_findings, else_made, array_number, assign_made, part_step, other_step}
+use Rattle.loop_bind.specs.Parts.{part_made, parts_made}
+use Rattle.loop_bind.specs.Reasons.{found_if}
+use Rattle.loop_bind.specs.Rows.{lower_forms, loop_rows, guard_rows, guard_findings, may_have_else, else_rows}
+use Rattle.loop_bind.specs.Rows as rows
+use Rattle.loop_bind.specs.Values.{Valued, valued, subscripts_over, access_findings}
 use Rattle.loop_class.proofs.NestsForms.{over_deeper, over_multiple, over_termwise, form_wider, lower_over, upper_over}
 use Rattle.loop_class.proofs.NestsForms.{turn_over, turn_row_over}
 use Rattle.loop_class.proofs.NestsSizes.{IsForm, IsRow, IsBound, AreBounds, row_deeper, loop_rows_are, lower_rows}

@@ -16,18 +16,18 @@ use Rattle.loop_grammar.specs.declared.tree.Operand.{Operand, out-Operand}
 use Rattle.loop_grammar.specs.declared.tree.Operand.TheOpen.{Operand-F, Number, Access, Binary, Neg, Min, Max}
 use Rattle.loop_grammar.specs.declared.tree.Operand.TheFolds.{map-Operand, fold-roll-Operand, ind-Operand}
 use Rattle.loop_grammar.specs.declared.tree.Operand.TheViews.{roll-Operand}
-use Rattle.loop_class.specs.declared.affine.Affine.{Affine}
-use Rattle.loop_class.specs.declared.scope.Place.{Place}
-use Rattle.loop_class.specs.declared.scope.Place.TheVariants.{Extent, Body}
-use Rattle.loop_class.specs.declared.scope.What.{What}
-use Rattle.loop_class.specs.declared.scope.What.TheVariants.{Parameter, Array, Loop, Progression}
-use Rattle.loop_class.specs.Forms.{constant_form, loop_form, sum_form, difference_form, scaled_form, negated_form}
-use Rattle.loop_class.specs.Forms.{lowered_form, is_limited, has_no_variable}
-use Rattle.loop_class.specs.Judging.{Scope, Judged, limited, named, negated, combined, seen_from, judge_step, judged}
-use Rattle.loop_class.specs.Judging.{form_or_zero, forms_of, lower_layer, upper_layer, lower_operands, upper_operands}
-use Rattle.loop_class.specs.Names.{value_named, with_name}
-use Rattle.loop_class.specs.Rows.{lower_forms, upper_forms, sign_rows, comparison_rows, guard_rows, else_rows}
-use Rattle.loop_class.specs.Rows.{negated_sign}
+use Rattle.loop_bind.specs.declared.affine.Affine.{Affine}
+use Rattle.loop_bind.specs.declared.scope.Place.{Place}
+use Rattle.loop_bind.specs.declared.scope.Place.TheVariants.{Extent, Body}
+use Rattle.loop_bind.specs.declared.scope.What.{What}
+use Rattle.loop_bind.specs.declared.scope.What.TheVariants.{Parameter, Array, Loop, Progression}
+use Rattle.loop_bind.specs.Forms.{constant_form, loop_form, sum_form, difference_form, scaled_form, negated_form}
+use Rattle.loop_bind.specs.Forms.{lowered_form, is_limited, has_no_variable}
+use Rattle.loop_bind.specs.Judging.{Scope, Judged, limited, named, negated, combined, seen_from, judge_step, judged}
+use Rattle.loop_bind.specs.Judging.{form_or_zero, forms_of, lower_layer, upper_layer, lower_operands, upper_operands}
+use Rattle.loop_bind.specs.Names.{value_named, with_name}
+use Rattle.loop_bind.specs.Rows.{lower_forms, upper_forms, sign_rows, comparison_rows, guard_rows, else_rows}
+use Rattle.loop_bind.specs.Rows.{negated_sign}
 use Rattle.loop_class.proofs.NestsForms.{IsOver, over_zeros, over_deeper, over_map, over_termwise, over_multiple}
 use Rattle.loop_class.proofs.NestsSizes.{IsForm, IsRow, IsBound, form_bound, form_lowered, difference_row, lowered_row}
 

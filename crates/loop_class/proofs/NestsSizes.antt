@@ -10,17 +10,17 @@ use Rattle.std.proofs.lemmas.Float.{T_from_true}
 use Rattle.std.proofs.lemmas.Int.{ints}
 use Rattle.sanlp.specs.WellFormed.{is_moderate, form_fits}
 use Rattle.sanlp.proofs.Each.{Each, each_append, each_map, each_then}
-use Rattle.loop_class.specs.declared.affine.Affine.{Affine}
-use Rattle.loop_class.specs.declared.bounds.Bounds.{Bounds}
-use Rattle.loop_class.specs.declared.bounds.Bounds.TheVariants.{Range, Progression}
-use Rattle.loop_class.specs.Forms.{loop_form, multiple_form, termwise, difference_form, lowered_form, is_limited_number}
-use Rattle.loop_class.specs.Forms.{is_limited, form_over}
-use Rattle.loop_class.specs.Bounds.{lower_of, upper_of}
-use Rattle.loop_class.specs.Ranges.{is_bound_number}
-use Rattle.loop_class.specs.Rows.{turn_row, loop_rows}
-use Rattle.loop_class.proofs.Moderate.{moderate_number, moderate_bound_number, moderate_reach_number, moderate_gap}
-use Rattle.loop_class.proofs.Moderate.{moderate_negated, moderate_form, bound_form, bound_lowered, moderate_difference}
-use Rattle.loop_class.proofs.Moderate.{moderate_lowered_difference, limited_multiples}
+use Rattle.loop_bind.specs.declared.affine.Affine.{Affine}
+use Rattle.loop_bind.specs.declared.bounds.Bounds.{Bounds}
+use Rattle.loop_bind.specs.declared.bounds.Bounds.TheVariants.{Range, Progression}
+use Rattle.loop_bind.specs.Forms.{loop_form, multiple_form, termwise, difference_form, lowered_form, is_limited_number}
+use Rattle.loop_bind.specs.Forms.{is_limited, form_over}
+use Rattle.loop_bind.specs.Bounds.{lower_of, upper_of}
+use Rattle.loop_bind.specs.Ranges.{is_bound_number}
+use Rattle.loop_bind.specs.Rows.{turn_row, loop_rows}
+use Rattle.loop_bind.proofs.Moderate.{moderate_number, moderate_bound_number, moderate_reach_number, moderate_gap}
+use Rattle.loop_bind.proofs.Moderate.{moderate_negated, moderate_form, bound_form, bound_lowered, moderate_difference}
+use Rattle.loop_bind.proofs.Moderate.{moderate_lowered_difference, limited_multiples}
 use Rattle.loop_class.proofs.NestsForms.{IsOver, over_length, over_deeper, over_termwise, over_multiple, take_length}
 
 -- a form inside so many loops, as it is written

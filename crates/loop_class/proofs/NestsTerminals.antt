@@ -28,13 +28,13 @@ use Rattle.sanlp.specs.WellFormed.{extents_where, input_extents, output_extents,
 use Rattle.sanlp.specs.WellFormed.{array_loops, lower_row, upper_row}
 use Rattle.sanlp.proofs.Each.{Each, each_append, each_then, range_with_len_below}
 use Rattle.sanlp.proofs.Folds.{fold_read, fold_given}
-use Rattle.loop_class.specs.declared.affine.Affine.{Affine}
-use Rattle.loop_class.specs.declared.bounds.Bounds.{Bounds}
-use Rattle.loop_class.specs.declared.bounds.Bounds.TheVariants.{Range}
-use Rattle.loop_class.specs.Forms.{constant_form, form_over, is_limited_number}
-use Rattle.loop_class.specs.Rows.{loop_rows}
-use Rattle.loop_class.specs.Terminals.{extent_rows, source_statement, sink_statement, sources_from, sinks_from}
-use Rattle.loop_class.proofs.Moderate.{bound_last_number}
+use Rattle.loop_bind.specs.declared.affine.Affine.{Affine}
+use Rattle.loop_bind.specs.declared.bounds.Bounds.{Bounds}
+use Rattle.loop_bind.specs.declared.bounds.Bounds.TheVariants.{Range}
+use Rattle.loop_bind.specs.Forms.{constant_form, form_over, is_limited_number}
+use Rattle.loop_bind.specs.Rows.{loop_rows}
+use Rattle.loop_bind.specs.Terminals.{extent_rows, source_statement, sink_statement, sources_from, sinks_from}
+use Rattle.loop_bind.proofs.Moderate.{bound_last_number}
 use Rattle.loop_class.proofs.NestsForms.{over_zeros}
 use Rattle.loop_class.proofs.NestsSizes.{IsRow, AreBounds, lower_rows, upper_rows, row_deeper, loop_rows_are, all_fit}
 use Rattle.loop_class.proofs.NestsBody.{Numbered, numbered_none, numbered_append, numbered_loop, numbered_assign}

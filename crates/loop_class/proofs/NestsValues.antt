@@ -26,21 +26,21 @@ use Rattle.loop_grammar.specs.declared.tree.Operand.{Operand}
 use Rattle.loop_grammar.specs.declared.tree.Operand.TheOpen.{Operand-F, Number, Access, Binary, Neg, Min, Max}
 use Rattle.loop_grammar.specs.declared.tree.Operand.TheFolds.{map-Operand, para-roll-Operand, ind-Operand}
 use Rattle.loop_grammar.specs.declared.tree.Operand.TheViews.{roll-Operand}
-use Rattle.loop_class.specs.declared.affine.Affine.{Affine}
-use Rattle.loop_class.specs.declared.error.BindError.{BindError}
-use Rattle.loop_class.specs.declared.error.BindError.TheVariants.{WrongCount, TooManyReads}
-use Rattle.loop_class.specs.declared.scope.Place.TheVariants.{Body}
-use Rattle.loop_class.specs.declared.scope.What.{What}
-use Rattle.loop_class.specs.declared.scope.What.TheVariants.{Parameter, Array, Loop, Progression}
-use Rattle.loop_class.specs.declared.value.Extreme.{Extreme}
-use Rattle.loop_class.specs.declared.value.Extreme.TheVariants.{Least, Greatest}
-use Rattle.loop_class.specs.Forms.{form_over}
-use Rattle.loop_class.specs.Judging.{Scope, forms_of, findings_of, judged, form_or_zero}
-use Rattle.loop_class.specs.Names.{value_named}
-use Rattle.loop_class.specs.Reasons.{found_if}
-use Rattle.loop_class.specs.Values.{Valued, Value, without_reads, subscripts_over, with_multiple, with_multiples}
-use Rattle.loop_class.specs.Values.{form_expr, name_value, binary_expr, extreme_expr, joined, joined_all, list_value}
-use Rattle.loop_class.specs.Values.{value_parts, value_step, valued}
+use Rattle.loop_bind.specs.declared.affine.Affine.{Affine}
+use Rattle.loop_bind.specs.declared.error.BindError.{BindError}
+use Rattle.loop_bind.specs.declared.error.BindError.TheVariants.{WrongCount, TooManyReads}
+use Rattle.loop_bind.specs.declared.scope.Place.TheVariants.{Body}
+use Rattle.loop_bind.specs.declared.scope.What.{What}
+use Rattle.loop_bind.specs.declared.scope.What.TheVariants.{Parameter, Array, Loop, Progression}
+use Rattle.loop_bind.specs.declared.value.Extreme.{Extreme}
+use Rattle.loop_bind.specs.declared.value.Extreme.TheVariants.{Least, Greatest}
+use Rattle.loop_bind.specs.Forms.{form_over}
+use Rattle.loop_bind.specs.Judging.{Scope, forms_of, findings_of, judged, form_or_zero}
+use Rattle.loop_bind.specs.Names.{value_named}
+use Rattle.loop_bind.specs.Reasons.{found_if}
+use Rattle.loop_bind.specs.Values.{Valued, Value, without_reads, subscripts_over, with_multiple, with_multiples}
+use Rattle.loop_bind.specs.Values.{form_expr, name_value, binary_expr, extreme_expr, joined, joined_all, list_value}
+use Rattle.loop_bind.specs.Values.{value_parts, value_step, valued}
 use Rattle.loop_class.proofs.NestsSizes.{IsForm, form_row, all_fit, IsRow}
 use Rattle.loop_class.proofs.NestsScope.{HasArray, KnownIfAny, KnownScope, value_known, forms_are}
 

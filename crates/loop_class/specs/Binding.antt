@@ -1,4 +1,4 @@
--- Binding: the nest of a tree with values for its parameters, and the reasons why it may have none.
+-- Binding: the nest of a tree with values for its parameters, or the least of the reasons why it has none.
 use Rattle.std.specs.Prelude.{◌≡◌, ◌+◌, List, [], ◌++◌, length, Some, None, Result, Ok, Err}
 use Rattle.sanlp.specs.WellFormed.{input_extents, output_extents, array_loops}
 use Rattle.sanlp.specs.declared.nest.ArrayDecl.{ArrayDecl}
@@ -6,31 +6,13 @@ use Rattle.sanlp.specs.declared.nest.Nest.{Nest}
 use Rattle.sanlp.specs.declared.nest.Node.{Node}
 use Rattle.sanlp.specs.declared.nest.Statement.{Statement}
 use Rattle.loop_grammar.specs.declared.tree.Tree.{Tree}
-use Rattle.loop_class.specs.declared.context.Context.{Context}
-use Rattle.loop_class.specs.declared.error.BindError.{BindError}
-use Rattle.loop_class.specs.declared.error.BindError.TheVariants.{Memory}
-use Rattle.loop_class.specs.Declarations.{Values, Declared, declared}
-use Rattle.loop_class.specs.Parts.{Made, parts_made}
-use Rattle.loop_class.specs.Reasons.{least_from}
-use Rattle.loop_class.specs.Terminals.{sources_from, sinks_from, loop_count}
-
--- the context of a whole source: no loops and no rows
-abbrev pub outer_context : Declared → Context
-outer_context d =
-    record { scope = d.scope; loops = []; rows = []; sinks = length (output_extents d.arrays) }
-
--- The statements of a source after its declarations. The loops and the statements of the sources
--- are numbered first.
-abbrev pub body_made : Tree → Declared → Made
-body_made tree d =
-    parts_made tree.parts (outer_context d) (loop_count (input_extents d.arrays))
-    (length (input_extents d.arrays))
-
--- each reason that stands in a tree with these values of its parameters
-unfoldable pub findings : Tree → Values → List BindError
-findings tree params =
-    let d = declared params tree.declarations in
-    d.findings ++ (body_made tree d).findings
+use Rattle.loop_bind.specs.declared.error.BindError.{BindError}
+use Rattle.loop_bind.specs.declared.error.BindError.TheVariants.{Memory}
+use Rattle.loop_bind.specs.Declarations.{Values, declared}
+use Rattle.loop_bind.specs.Findings.{body_made, findings}
+use Rattle.loop_bind.specs.Parts.{Made}
+use Rattle.loop_bind.specs.Reasons.{least_from}
+use Rattle.loop_bind.specs.Terminals.{sources_from, sinks_from}
 
 -- the arrays, the statements and the body of a nest
 pub record Parts : Type 0 where

@@ -1,78 +1,16 @@
-ghost use Rattle.std.specs.Prelude.{◌≡◌, ◌++◌, ◌+◌, length, None, OnOk, IfOk, IsTrue};
+ghost use Rattle.std.specs.Prelude.{◌≡◌, ◌++◌, ◌+◌, length, OnOk, IfOk, IsTrue};
 ghost use Rattle.std.specs.List.{list_all};
 ghost use Rattle.sanlp.specs.WellFormed.{input_extents, output_extents, array_loops};
-ghost use Rattle.loop_class.specs.Binding.{Binds, body_made, findings};
-ghost use Rattle.loop_class.specs.Declarations.{declared};
-ghost use Rattle.loop_class.specs.Following.{IsReadingOf};
-ghost use Rattle.loop_class.specs.Ranges.{has_small_extents};
-ghost use Rattle.loop_class.specs.Reasons.{least_from};
-ghost use Rattle.loop_class.specs.Terminals.{sources_from, sinks_from};
+ghost use Rattle.loop_bind.specs.Ranges.{has_small_extents};
+ghost use Rattle.loop_bind.specs.Terminals.{sources_from, sinks_from};
+ghost use Rattle.loop_class.specs.Binding.{Binds};
 
-use crate::context::{Context, Progress};
-use crate::declare::declare_all;
-use crate::error::BindError;
-use crate::params::Params;
-use crate::parts::bind_parts;
-use crate::terminals::{push_sinks, push_sources, sink_count, source_count, source_loops};
+use loop_bind::{BindError, Params, Reading, push_sinks, push_sources, read};
 use loop_grammar::Tree;
 use loop_lex::Token;
 use plain_data::Items;
 use sanlp::{ArrayDecl, Nest, Node, Statement};
 use std::alloc::{AllocError, Global};
-
-impl From<AllocError> for BindError {
-    ghost use Rattle.std.specs.Prelude.{◌≡◌};
-    ghost use Rattle.loop_class.specs.declared.error.BindError.TheVariants.{Memory};
-
-    ghost from_gives = { λ _ e. e ≡ Memory };
-
-    fn from(_: AllocError) -> BindError {
-        BindError::Memory
-    }
-}
-
-/// What a tree gives besides its sources and sinks, and the least reason that stands in it.
-#[derive(Drop)]
-pub struct Reading {
-    pub arrays: Items<ArrayDecl>,
-    pub statements: Items<Statement>,
-    pub nodes: Items<Node>,
-    pub next_loop: u32,
-    pub least: Option<BindError>,
-}
-
-fn read(alloc: Global, tree: &Tree, params: &Params) -> Result<Reading, AllocError>
-    ensures { IfOk result (λ reading. IsReadingOf reading tree.now params.now) }
-{
-    let table = declare_all(alloc, params, tree.declarations.as_slice())?;
-    let mut context = Context {
-        scope: table.scope,
-        loops: Items::new(alloc),
-        rows: Items::new(alloc),
-        sinks: sink_count(table.arrays.as_slice())?,
-    };
-    let mut progress = Progress {
-        first: source_count(table.arrays.as_slice())?,
-        statements: Items::new(alloc),
-        next_loop: source_loops(table.arrays.as_slice())?,
-        least: table.least,
-    };
-    let mut nodes = Items::new(alloc);
-    bind_parts(
-        alloc,
-        tree.parts.as_slice(),
-        &mut context,
-        &mut progress,
-        &mut nodes,
-    )?;
-    Ok(Reading {
-        arrays: table.arrays,
-        statements: progress.statements,
-        nodes,
-        next_loop: progress.next_loop,
-        least: progress.least,
-    })
-}
 
 // Moves items to the end of a list.
 fn append<T: Drop>(list: &mut Items<T>, more: Items<T>) -> Result<(), AllocError>

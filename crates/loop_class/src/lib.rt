@@ -2,21 +2,7 @@
 //! it doesn't.
 #![tactic(auto)]
 
-mod affine;
 mod assemble;
-mod bounds;
-mod context;
-mod declare;
-mod error;
-mod judge;
-mod names;
-mod params;
-mod parts;
-mod rows;
-mod scope;
-mod terminals;
-mod value;
 
 pub use assemble::bind;
-pub use error::BindError;
-pub use params::Params;
+pub use loop_bind::{BindError, Params};

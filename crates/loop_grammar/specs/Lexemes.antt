@@ -12,9 +12,7 @@ use Rattle.loop_grammar.specs.declared.lexeme.Choice.TheVariants.{Min, Max}
 use Rattle.loop_grammar.specs.declared.tree.CompareSign.TheVariants.{Less, LessEq, Greater, GreaterEq, Equal}
 use Rattle.loop_grammar.specs.declared.tree.DeclWord.TheVariants.{Param, Input, Output, Both, Var}
 use Rattle.loop_grammar.specs.declared.tree.Tree.{Tree}
-use Rattle.loop_grammar.specs.declared.parser.ParseError.{ParseError}
-use Rattle.loop_grammar.specs.declared.parser.ParseError.TheVariants.{Syntax, Memory}
-use Rattle.loop_grammar.specs.Grammar.{Tok, Derives, Stops}
+use Rattle.loop_grammar.specs.Grammar.{Tok, Derives}
 
 -- `Other` is what no token is
 unfoldable pub reserved_lexeme : List ℕ → Lexeme
@@ -85,8 +83,3 @@ sentence bytes tokens = numbered_from 0 (map (lexeme_at bytes) tokens)
 -- the tokens of the bytes derive with this tree
 abbrev pub IsTree : List ℕ → List Token → Tree → Type 0
 IsTree bytes tokens tree = Derives (sentence bytes tokens) tree
-
--- a refusal's place, where it has one
-abbrev pub IsPlace : List ℕ → List Token → ParseError → Type 0
-IsPlace bytes tokens (Syntax k) = Stops (sentence bytes tokens) k
-IsPlace bytes tokens Memory = Unit {0}

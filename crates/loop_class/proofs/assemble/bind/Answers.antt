@@ -2,8 +2,8 @@ use Rattle.std.proofs.Common.{◌∙◌, ◌++◌, ◌+◌, ap, subst, sym, leng
 use Rattle.std.specs.Prelude.{IsTrue}
 use Rattle.std.specs.List.{list_all}
 use Rattle.sanlp.specs.WellFormed.{input_extents, output_extents, array_loops}
-use Rattle.loop_class.specs.Ranges.{has_small_extents}
-use Rattle.loop_class.specs.Terminals.{sources_from, sinks_from}
+use Rattle.loop_bind.specs.Ranges.{has_small_extents}
+use Rattle.loop_bind.specs.Terminals.{sources_from, sinks_from}
 use Rattle.loop_class.proofs.AssembleLemmas.{no_findings, reading_small, arrays_bound, statements_bound, body_bound}
 use Rattle.loop_class.proofs.AssembleLemmas.{reading_well_formed}
 use Rattle.loop_class.proofs.assemble.bind.Goals as goal

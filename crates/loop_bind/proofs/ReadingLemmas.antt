@@ -1,0 +1,47 @@
+-- What was read of a tree: its parts are bound in the context of its declarations, from the numbers that the sources leave, so
+-- what was made of them is that of the whole tree. The least reason is kept from the declarations on, and the least of two
+-- lists one after the other is that of the second, begun with the least of the first. That a nest comes of it is not said here.
+use Rattle.std.proofs.Common.{◌≡◌, ℕ, ◌+◌, List, [], ◌++◌, length, None, sym, ap, ◌∙◌, arith}
+use Rattle.sanlp.specs.declared.nest.Node.{Node}
+use Rattle.sanlp.specs.WellFormed.{input_extents}
+use Rattle.loop_grammar.specs.declared.tree.Tree.{Tree}
+use Rattle.loop_bind.specs.declared.context.Context.{Context}
+use Rattle.loop_bind.specs.declared.context.Progress.{Progress}
+use Rattle.loop_bind.specs.declared.declare.Table.{Table}
+use Rattle.loop_bind.specs.Declarations.{Values, Declared, declared}
+use Rattle.loop_bind.specs.Findings.{outer_context, body_made, findings}
+use Rattle.loop_bind.specs.Following.{IsReadingOf, Makes, Stands, next_statement}
+use Rattle.loop_bind.specs.Parts.{parts_made}
+use Rattle.loop_bind.specs.Reasons.{least_from}
+use Rattle.loop_bind.specs.Terminals.{loop_count}
+use Rattle.loop_bind.proofs.JudgeLemmas.{least_append}
+
+pub reading_is : (tree : Tree) (params : Values) (t : Table) (c0 c1 : Context) (p0 p1 : Progress) (n0 n1 : List Node)
+    → Stands t (declared params tree.declarations)
+    → c0 ≡ outer_context (declared params tree.declarations)
+    → p0.first ≡ length (input_extents (declared params tree.declarations).arrays)
+    → p0.next_loop ≡ loop_count (input_extents (declared params tree.declarations).arrays) → p0.statements ≡ []
+    → p0.least ≡ t.least → n0 ≡ []
+    → Makes c0 c1 p0 p1 n0 n1 (parts_made tree.parts c0 p0.next_loop (next_statement p0))
+    → IsReadingOf
+    (record { arrays = t.arrays; statements = p1.statements; nodes = n1; next_loop = p1.next_loop; least = p1.least })
+    tree params
+unfolding findings
+reading_is tree params t c0 c1 p0 p1 n0 n1 stands context first loops none least nodes h =
+    let d : Declared = declared params tree.declarations in
+    let number : next_statement p0 ≡ length (input_extents d.arrays) =
+    ap (λ s. p0.first + length s) none ∙ plus_zero p0.first ∙ first in
+    let same : parts_made tree.parts c0 p0.next_loop (next_statement p0) ≡ body_made tree d =
+    λ i. parts_made tree.parts (context i) (loops i) (number i) in
+    record {
+      arrays = stands.1;
+      statements = ap (λ p. p.statements) h.progress ∙ (λ i. none i ++ (same i).statements);
+      nodes = h.nodes ∙ (λ i. nodes i ++ (same i).nodes);
+      next_loop = ap (λ p. p.next_loop) h.progress ∙ ap (λ m. m.next_loop) same;
+      least = ap (λ p. p.least) h.progress ∙ (λ i. least_from (least i) (same i).findings)
+          ∙ ap (λ l. least_from l (body_made tree d).findings) stands.2
+          ∙ sym (least_append None d.findings (body_made tree d).findings);
+    }
+  where
+    plus_zero : (n : ℕ) → n + 0 ≡ n
+    plus_zero n = omega arith

@@ -1,0 +1,13 @@
+pub mod Names
+pub mod Reasons
+pub mod Forms
+pub mod Judging
+pub mod Values
+pub mod Ranges
+pub mod Rows
+pub mod Bounds
+pub mod Parts
+pub mod Declarations
+pub mod Terminals
+pub mod Findings
+pub mod Following

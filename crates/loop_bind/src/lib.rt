@@ -1,0 +1,23 @@
+//! What a tree with values for its parameters says: its arrays, its statements and loops, and the least reason that stands
+//! in it.
+#![tactic(auto)]
+
+mod affine;
+mod bounds;
+mod context;
+mod declare;
+mod error;
+mod judge;
+mod names;
+mod params;
+mod parts;
+mod reading;
+mod rows;
+mod scope;
+mod terminals;
+mod value;
+
+pub use error::BindError;
+pub use params::Params;
+pub use reading::{Reading, read};
+pub use terminals::{push_sinks, push_sources};

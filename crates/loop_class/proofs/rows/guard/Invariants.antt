@@ -1,9 +1,0 @@
-use Rattle.std.proofs.Common.{◌≡◌, take}
-use Rattle.loop_class.specs.Reasons.{least_from}
-use Rattle.loop_class.specs.Rows.{guard_rows, guard_findings}
-use Rattle.loop_class.proofs.rows.guard.Given as goal
-
-abbrev pub invariant-loop-comparison : goal.invariant-loop-comparison
-invariant-loop-comparison l =
-    (l.rows ≡ guard_rows l.scope (take l.comparison-index l.cond))
-    × (l.least ≡ least_from l.initial.least (guard_findings l.scope (take l.comparison-index l.cond)))

@@ -1,6 +1,0 @@
-use Rattle.loop_grammar.specs.Lexemes.{sentence}
-use Rattle.loop_grammar.proofs.Runs.{unique}
-use Rattle.loop_grammar.proofs.law.one_tree.Goals as goal
-
-pub returns : goal.returns
-returns c = λ bytes tokens a b ha hb. unique (sentence bytes tokens) a b ha hb

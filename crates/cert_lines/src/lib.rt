@@ -3,8 +3,6 @@
 
 mod error;
 mod lines;
-#[cfg(test)]
-mod tests;
 mod words;
 
 pub use error::{CertError, Fault};

@@ -8,8 +8,6 @@ mod law;
 mod lines;
 mod places;
 mod reading;
-#[cfg(test)]
-mod tests;
 mod writing;
 
 pub use law::{reads_what_is_written, what_is_written_stands};

@@ -75,6 +75,3 @@ fn has_equal_neighbours(sorted: &[u32]) -> bool
     }
     false
 }
-
-#[cfg(test)]
-mod tests;

@@ -4,7 +4,7 @@ use Rattle.std.proofs.Common.{option_and_then, is_some, length, nat_le, if◌the
 use Rattle.std.specs.Option.{option_map}
 use Rattle.std.proofs.lemmas.Bool.Decides.{nat_tests}
 use Rattle.witness_plan.specs.declared.schedules.Policy.{Policy}
-use Rattle.loop_class.specs.Names.{value_named}
+use Rattle.loop_bind.specs.Names.{value_named}
 use Rattle.command_line.specs.declared.words.Command.{Command}
 use Rattle.command_line.specs.declared.words.Command.TheVariants.{Run, Seq, Net, Cert, Check, Deps, Vhdl, Load, Sim, Trim, Trace}
 use Rattle.command_line.specs.declared.words.Order.{Order}

@@ -5,7 +5,7 @@ use Rattle.std.specs.List.{list_all, before_first, after_first}
 use Rattle.std.specs.Option.{option_map}
 use Rattle.std.specs.Str.{bytes_eq}
 use Rattle.std.specs.Str.Parse.{digits_value}
-use Rattle.loop_class.specs.Names.{value_named}
+use Rattle.loop_bind.specs.Names.{value_named}
 use Rattle.loop_lex.specs.Lexical.{is_name}
 use Rattle.witness_plan.specs.declared.schedules.Policy.{Policy}
 use Rattle.witness_plan.specs.declared.schedules.Policy.TheVariants as policy

@@ -6,6 +6,3 @@ mod words;
 
 pub use bundle::{Parts, parts_of};
 pub use words::{Command, Order, WordsError, read_words};
-
-#[cfg(test)]
-mod tests;

@@ -11,7 +11,7 @@ ghost use Rattle.command_line.specs.declared.words.WordsError.TheVariants.{Memor
 
 use clap::error::ErrorKind;
 use clap::{Arg, ArgAction, ArgMatches};
-use loop_class::Params;
+use loop_bind::Params;
 use loop_lex::is_name;
 use std::alloc::{AllocError, Global};
 use thiserror::Error;

@@ -9,7 +9,8 @@ use Rattle.command_line.specs.Bundle.{after_separator, certificate_part, source_
 use Rattle.command_line.specs.declared.words.Command.{Command}
 use Rattle.command_line.specs.declared.words.Command.TheVariants as command
 use Rattle.command_line.specs.declared.words.Order.{Order}
-use Rattle.loop_class.specs.Binding.{IsBound, Parts, assembled, body_made, findings, nest_of}
+use Rattle.loop_bind.specs.Findings.{body_made, findings}
+use Rattle.loop_class.specs.Binding.{IsBound, Parts, assembled, nest_of}
 use Rattle.loop_grammar.specs.Grammar.{Derives}
 use Rattle.loop_grammar.specs.Lexemes.{IsTree, sentence}
 use Rattle.loop_grammar.specs.declared.tree.Tree.{Tree}
@@ -18,8 +19,8 @@ use Rattle.loop_lex.specs.declared.token.Token.{Token}
 use Rattle.loop_walk.proofs.SizeLaw.{size_of_ok}
 use Rattle.sanlp.specs.Size.{SizeIsOk, size}
 use Rattle.loop_walk.specs.Counting.{counted}
-use Rattle.loop_class.specs.Declarations.{Declared, declare, declare_name, declared, nothing_declared}
-use Rattle.loop_class.specs.Names.{value_named}
+use Rattle.loop_bind.specs.Declarations.{Declared, declare, declare_name, declared, nothing_declared}
+use Rattle.loop_bind.specs.Names.{value_named}
 use Rattle.loop_grammar.specs.declared.tree.Declaration.{Declaration}
 use Rattle.loop_grammar.specs.declared.tree.DeclWord.{DeclWord}
 use Rattle.loop_grammar.specs.declared.tree.DeclWord.TheVariants.{Param, Input, Output, Both, Var}

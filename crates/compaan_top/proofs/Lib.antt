@@ -17,4 +17,3 @@ pub mod Loads
 pub mod Described
 pub mod TellsSources
 pub mod Unlimited
-mod Wrapped

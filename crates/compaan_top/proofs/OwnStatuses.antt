@@ -7,8 +7,8 @@ use Rattle.command_line.specs.declared.words.Command.{Command}
 use Rattle.command_line.specs.declared.words.Command.TheVariants.{Run, Seq, Net, Cert, Check, Deps, Vhdl, Load, Sim, Trim, Trace}
 use Rattle.command_line.specs.declared.words.Order.{Order}
 use Rattle.io_edge.specs.InMemory.{is_among}
-use Rattle.loop_class.specs.declared.error.BindError.{BindError}
-use Rattle.loop_class.specs.declared.error.BindError.TheVariants as binding
+use Rattle.loop_bind.specs.declared.error.BindError.{BindError}
+use Rattle.loop_bind.specs.declared.error.BindError.TheVariants as binding
 use Rattle.loop_lex.specs.declared.token.LexError.{LexError}
 use Rattle.loop_lex.specs.declared.token.LexError.TheVariants as lexical
 use Rattle.net_checker.specs.Fits.{first, verdict_of}

@@ -8,7 +8,7 @@ use Rattle.sanlp.specs.declared.nest.Nest.{Nest}
 use Rattle.compaan_top.specs.Judging.{Judges}
 use Rattle.compaan_top.specs.Source.{Gives, GivesWithinSize, no_tokens, no_tree, not_bound, bound, source_refused}
 use Rattle.compaan_top.specs.Source.{size_refused}
-use Rattle.compaan_top.specs.Steps.{HasSize, HasSizedNest, HasTokens, HasTree, HasNest}
+use Rattle.compaan_top.specs.Steps.{HasSize, HasSizedNest, HasTokens, HasSyntaxTree, HasNest}
 use Rattle.compaan_top.specs.declared.refusal.Refusal.{Refusal}
 use Rattle.compaan_top.specs.declared.refusal.Stop.{Stop}
 use Rattle.compaan_top.specs.declared.refusal.Stop.TheVariants.{Refused, ReadFault, Memory}
@@ -20,7 +20,7 @@ gives_without_tokens source params ReadFault step = step
 gives_without_tokens source params Memory step = tt
 
 pub gives_without_tree : (source : List ℕ) (params : List (List ℕ × ℤ)) (found : List Token) (stop : Stop)
-    → tokens source ≡ Ok found → Judges (HasTree source found) (Err stop) → Judges (Gives source params) (Err stop)
+    → tokens source ≡ Ok found → Judges (HasSyntaxTree source found) (Err stop) → Judges (Gives source params) (Err stop)
 gives_without_tree source params found (Refused refusal) lexed step =
     subst (λ (r : Refusal). Gives source params (Err r)) (sym step.2) (no_tree found step.0 lexed step.1)
 gives_without_tree source params found ReadFault lexed step = step

@@ -12,9 +12,10 @@ use Rattle.loop_lex.specs.declared.token.LexError.{LexError}
 use Rattle.loop_grammar.specs.Grammar.{Stops, Derives, Tok}
 use Rattle.loop_grammar.specs.Lexemes.{IsTree, sentence}
 use Rattle.loop_grammar.specs.declared.tree.Tree.{Tree}
-use Rattle.loop_class.specs.Binding.{findings, nest_of}
-use Rattle.loop_class.specs.Reasons.{least_from}
-use Rattle.loop_class.specs.declared.error.BindError.{BindError}
+use Rattle.loop_bind.specs.Findings.{findings}
+use Rattle.loop_class.specs.Binding.{nest_of}
+use Rattle.loop_bind.specs.Reasons.{least_from}
+use Rattle.loop_bind.specs.declared.error.BindError.{BindError}
 use Rattle.loop_walk.specs.Counting.{counted, counted_parts, counted_node}
 use Rattle.loop_walk.specs.declared.count.SizeError.{SizeError}
 use Rattle.loop_walk.specs.declared.count.SizeError.TheVariants.{Limit, LoopValue}

@@ -5,7 +5,7 @@ use Rattle.cert_text.specs.StandsFor.{StandsFor}
 use Rattle.command_line.specs.Bundle.{certificate_part, source_part}
 use Rattle.command_line.specs.declared.words.Command.TheVariants as command
 use Rattle.command_line.specs.declared.words.Order.{Order}
-use Rattle.loop_class.specs.Names.{value_named}
+use Rattle.loop_bind.specs.Names.{value_named}
 use Rattle.loop_grammar.specs.Lexemes.{IsTree}
 use Rattle.loop_grammar.specs.declared.tree.Declaration.{Declaration}
 use Rattle.loop_grammar.specs.declared.tree.DeclWord.TheVariants.{Param}

@@ -5,8 +5,8 @@ use Rattle.std.specs.Option.{option_map_or}
 use Rattle.loop_lex.specs.declared.token.Token.{Token}
 use Rattle.loop_lex.specs.declared.token.LexError.{LexError}
 use Rattle.loop_lex.specs.declared.token.LexError.TheVariants as lexical
-use Rattle.loop_class.specs.declared.error.BindError.{BindError}
-use Rattle.loop_class.specs.declared.error.BindError.TheVariants as binding
+use Rattle.loop_bind.specs.declared.error.BindError.{BindError}
+use Rattle.loop_bind.specs.declared.error.BindError.TheVariants as binding
 use Rattle.loop_walk.specs.declared.count.SizeError.{SizeError}
 use Rattle.loop_walk.specs.declared.count.SizeError.TheVariants as counting
 use Rattle.array_data.specs.declared.error.DataError.{DataError}

@@ -6,9 +6,10 @@ use Rattle.loop_lex.specs.declared.token.LexError.{LexError}
 use Rattle.loop_grammar.specs.Grammar.{Stops}
 use Rattle.loop_grammar.specs.Lexemes.{IsTree, sentence}
 use Rattle.loop_grammar.specs.declared.tree.Tree.{Tree}
-use Rattle.loop_class.specs.Binding.{findings, IsBound}
-use Rattle.loop_class.specs.Reasons.{least_from}
-use Rattle.loop_class.specs.declared.error.BindError.{BindError}
+use Rattle.loop_bind.specs.Findings.{findings}
+use Rattle.loop_class.specs.Binding.{IsBound}
+use Rattle.loop_bind.specs.Reasons.{least_from}
+use Rattle.loop_bind.specs.declared.error.BindError.{BindError}
 use Rattle.sanlp.specs.declared.nest.Nest.{Nest}
 use Rattle.loop_walk.specs.Counting.{counted}
 use Rattle.loop_walk.specs.declared.count.SizeError.{SizeError}

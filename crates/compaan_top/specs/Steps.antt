@@ -7,9 +7,10 @@ use Rattle.loop_lex.specs.declared.token.LexError.{LexError}
 use Rattle.loop_grammar.specs.Grammar.{Stops}
 use Rattle.loop_grammar.specs.Lexemes.{IsTree, sentence}
 use Rattle.loop_grammar.specs.declared.tree.Tree.{Tree}
-use Rattle.loop_class.specs.Binding.{findings, IsBound}
-use Rattle.loop_class.specs.Reasons.{least_from}
-use Rattle.loop_class.specs.declared.error.BindError.{BindError}
+use Rattle.loop_bind.specs.Findings.{findings}
+use Rattle.loop_class.specs.Binding.{IsBound}
+use Rattle.loop_bind.specs.Reasons.{least_from}
+use Rattle.loop_bind.specs.declared.error.BindError.{BindError}
 use Rattle.sanlp.specs.Size.{SizeIsOk}
 use Rattle.loop_walk.specs.Counting.{counted}
 use Rattle.loop_walk.specs.declared.count.SizeError.{SizeError}
@@ -34,9 +35,9 @@ HasTokens source (Ok found) = tokens source ≡ Ok found.items
 HasTokens source (Err refusal) =
     (error : LexError) × (tokens source ≡ Err error) × (lex_refusal error ≡ Some refusal)
 
-abbrev pub HasTree : List ℕ → List Token → Result Tree Refusal → Type 0
-HasTree source found (Ok tree) = IsTree source found tree
-HasTree source found (Err refusal) =
+abbrev pub HasSyntaxTree : List ℕ → List Token → Result Tree Refusal → Type 0
+HasSyntaxTree source found (Ok tree) = IsTree source found tree
+HasSyntaxTree source found (Err refusal) =
     (place : ℕ) × Stops (sentence source found) place
     × (refusal ≡ syntax_refusal (byte_of source found place))
 

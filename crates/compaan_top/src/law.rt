@@ -20,7 +20,7 @@ use bundle_laws::{
 };
 use cert_ranges::certificate_has_text;
 use cert_text::{reads_what_is_written, what_is_written_stands};
-use loop_grammar::one_tree;
+use loop_parse::one_tree;
 use net_checker::accepts_what_fits;
 
 /// The status is determined by the order, or that the words are refused, and the bundle: two outcomes of theirs have the same.

@@ -24,6 +24,3 @@ pub use law::{
     calls_have_their_statuses, no_status_ends_every_call, status_is_determined,
     what_cert_writes_is_accepted, what_fits_is_accepted,
 };
-
-#[cfg(test)]
-mod tests;

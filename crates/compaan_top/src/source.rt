@@ -2,12 +2,13 @@ ghost use Rattle.std.specs.Prelude.{◌≡◌, ◌<◌, ◌^◌, length, Ok};
 ghost use Rattle.loop_lex.specs.Tokens.{tokens};
 ghost use Rattle.compaan_top.specs.Judging.{Judges};
 ghost use Rattle.compaan_top.specs.Source.{Gives};
-ghost use Rattle.compaan_top.specs.Steps.{HasNest, HasSize, HasSizedNest, HasTokens, HasTree};
+ghost use Rattle.compaan_top.specs.Steps.{HasNest, HasSize, HasSizedNest, HasTokens, HasSyntaxTree};
 
 use crate::refusal::{Stop, bind_refusal, lex_refusal, size_refusal, syntax_refusal};
 use loop_class::{Params, bind};
-use loop_grammar::{ParseError, Tree, parse};
+use loop_grammar::Tree;
 use loop_lex::{Token, lex};
+use loop_parse::{ParseError, parse};
 use loop_walk::size;
 use sanlp::Nest;
 use std::alloc::Global;
@@ -27,7 +28,7 @@ fn tokens_of(alloc: Global, source: &[u8]) -> Result<Vec<Token>, Stop>
 
 fn tree_of(alloc: Global, source: &[u8], found: &[Token]) -> Result<Tree, Stop>
     requires { tokens source.now ≡ Ok found.now }
-    ensures { Judges (HasTree source.now found.now) result }
+    ensures { Judges (HasSyntaxTree source.now found.now) result }
 {
     match parse(alloc, source, found) {
         Ok(tree) => Ok(tree),

@@ -5,8 +5,6 @@ mod refute;
 mod rows;
 mod steps;
 mod system;
-#[cfg(test)]
-mod tests;
 
 pub use refute::{entails, refutes};
 pub use steps::negation;

@@ -9,8 +9,6 @@ mod gate;
 mod memory;
 mod reading;
 mod streams;
-#[cfg(test)]
-mod tests;
 mod writing;
 
 pub use edge::{Failed, Sink, Source};

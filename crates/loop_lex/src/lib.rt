@@ -14,6 +14,3 @@ pub use law::{spaced_tokens_are_read_back, tokens_are_in_order};
 pub use lexer::lex;
 pub use slice::{number, text};
 pub use token::{LexError, MAX_NUMBER, MAX_TOKENS, Token, TokenKind};
-
-#[cfg(test)]
-mod tests;

@@ -5,8 +5,3 @@ mod printer;
 mod readable;
 
 pub use readable::print;
-
-#[cfg(test)]
-mod parsing_tests;
-#[cfg(test)]
-mod tests;

@@ -13,17 +13,18 @@ use Rattle.loop_grammar.specs.declared.tree.Part.TheFolds.{fold-roll-Part}
 use Rattle.loop_grammar.specs.declared.tree.BinarySign.{BinarySign}
 use Rattle.loop_grammar.specs.declared.tree.Step.{Step}
 use Rattle.wrap_expr.specs.declared.expr.Expr.{Const}
-use Rattle.loop_class.specs.declared.context.Context.{Context}
+use Rattle.loop_bind.specs.declared.context.Context.{Context}
 use Rattle.sanlp.specs.Cells.{input_count}
-use Rattle.loop_class.specs.Binding.{findings, nest_of}
-use Rattle.loop_class.specs.Declarations.{declared}
-use Rattle.loop_class.specs.Forms.{is_limited_number}
-use Rattle.loop_class.specs.Judging.{Scope, lower_layer, lower_operands, upper_layer, upper_operands}
-use Rattle.loop_class.specs.Names.{value_named}
-use Rattle.loop_class.specs.Parts.{Meaning, Otherwise, part_made, part_step, other_step, assign_made, parts_made}
-use Rattle.loop_class.proofs.Operands.{judged_access, judged_number}
-use Rattle.loop_class.specs.Values.{valued, without_reads, name_value, joined, binary_expr}
-use Rattle.loop_class.proofs.ValueLemmas.{valued_number, valued_access, valued_binary}
+use Rattle.loop_bind.specs.Findings.{findings}
+use Rattle.loop_class.specs.Binding.{nest_of}
+use Rattle.loop_bind.specs.Declarations.{declared}
+use Rattle.loop_bind.specs.Forms.{is_limited_number}
+use Rattle.loop_bind.specs.Judging.{Scope, lower_layer, lower_operands, upper_layer, upper_operands}
+use Rattle.loop_bind.specs.Names.{value_named}
+use Rattle.loop_bind.specs.Parts.{Meaning, Otherwise, part_made, part_step, other_step, assign_made, parts_made}
+use Rattle.loop_bind.proofs.Operands.{judged_access, judged_number}
+use Rattle.loop_bind.specs.Values.{valued, without_reads, name_value, joined, binary_expr}
+use Rattle.loop_bind.proofs.ValueLemmas.{valued_number, valued_access, valued_binary}
 use Rattle.matrix_load.specs.Product.{size_given}
 use Rattle.matrix_load.proofs.Derivation.{matrix_tree}
 

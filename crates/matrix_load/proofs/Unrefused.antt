@@ -8,12 +8,13 @@ use Rattle.loop_lex.specs.declared.token.LexError.{LexError}
 use Rattle.loop_lex.specs.declared.token.LexError.TheVariants as lexical
 use Rattle.loop_grammar.specs.Lexemes.{IsTree, sentence}
 use Rattle.loop_grammar.specs.declared.tree.Tree.{Tree}
-use Rattle.loop_grammar.proofs.Runs.{unique}
-use Rattle.loop_class.specs.Binding.{findings, Binds}
-use Rattle.loop_class.specs.Declarations.{Values}
-use Rattle.loop_class.specs.Reasons.{least_from}
-use Rattle.loop_class.specs.declared.error.BindError.{BindError}
-use Rattle.loop_class.specs.declared.error.BindError.TheVariants as binding
+use Rattle.loop_parse.proofs.Runs.{unique}
+use Rattle.loop_bind.specs.Findings.{findings}
+use Rattle.loop_class.specs.Binding.{Binds}
+use Rattle.loop_bind.specs.Declarations.{Values}
+use Rattle.loop_bind.specs.Reasons.{least_from}
+use Rattle.loop_bind.specs.declared.error.BindError.{BindError}
+use Rattle.loop_bind.specs.declared.error.BindError.TheVariants as binding
 use Rattle.matrix_load.specs.Product.{matrix_product, size_given}
 use Rattle.matrix_load.proofs.Bound.{nothing_found}
 use Rattle.matrix_load.proofs.Derivation.{matrix_tree, has_tree}

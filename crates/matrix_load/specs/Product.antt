@@ -5,7 +5,7 @@ use Rattle.loop_lex.specs.declared.token.Token.{Token}
 use Rattle.loop_grammar.specs.Lexemes.{IsTree}
 use Rattle.loop_grammar.specs.declared.tree.Tree.{Tree}
 use Rattle.loop_class.specs.Binding.{IsBound}
-use Rattle.loop_class.specs.Declarations.{Values}
+use Rattle.loop_bind.specs.Declarations.{Values}
 use Rattle.sanlp.specs.declared.nest.Nest.{Nest}
 
 -- C is the product of A and B

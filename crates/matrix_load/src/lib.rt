@@ -4,8 +4,6 @@
 mod cells;
 mod product;
 mod summary;
-#[cfg(test)]
-mod tests;
 
 pub use cells::matrix_inputs;
 pub use product::matrix_nest;

@@ -4,8 +4,9 @@ ghost use Rattle.loop_grammar.specs.Lexemes.{IsTree};
 ghost use Rattle.matrix_load.specs.Product.{IsMatrixNest, matrix_product, size_given};
 
 use loop_class::{BindError, Params, bind};
-use loop_grammar::{ParseError, Tree, parse};
+use loop_grammar::Tree;
 use loop_lex::{LexError, Token, lex};
+use loop_parse::{ParseError, parse};
 use sanlp::Nest;
 use std::alloc::{AllocError, Global};
 

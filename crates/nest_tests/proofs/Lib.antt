@@ -1,2 +1,3 @@
 mod Candidates
 mod Streams
+mod Starved

@@ -1,8 +1,8 @@
 //! Nests of sources.
 
 use loop_class::{BindError, Params, bind};
-use loop_grammar::parse;
 use loop_lex::lex;
+use loop_parse::parse;
 use plain_data::Items;
 use sanlp::{Inputs, Nest};
 use std::alloc::{AllocError, Global};

@@ -7,6 +7,8 @@ mod alone;
 #[cfg(test)]
 mod binding;
 #[cfg(test)]
+mod boards;
+#[cfg(test)]
 mod bound;
 #[cfg(test)]
 mod certificates;

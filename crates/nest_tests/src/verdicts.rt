@@ -217,108 +217,87 @@ fn the_networks_of_the_worked_nests_are_accepted(rt: HostRuntime) -> Result<(), 
     Ok(())
 }
 
+// The slots, the channels and the number of sources of networks that are told whole, by the number of the nest's processes.
+static NETWORKS: [(&[u32], [(u32, u32, u32, u32); 3], u32); 6] = [
+    (&[1, 1], [(0, 0, 0, 3), (0, 1, 0, 4), (1, 2, 0, 4)], 3),
+    (&[1, 1, 1], [(0, 0, 0, 3), (0, 1, 0, 4), (1, 2, 0, 4)], 2),
+    (&[1, 1, 1], [(0, 0, 0, 3), (0, 1, 0, 4), (1, 2, 0, 4)], 4),
+    (&[1, 1, 1], [(0, 0, 0, 3), (3, 1, 0, 4), (1, 2, 0, 4)], 3),
+    (&[1, 1, 1], [(0, 0, 0, 3), (0, 3, 0, 4), (1, 2, 0, 4)], 3),
+    (&[1, 1, 1], [(0, 0, 0, 3), (0, 1, 1, 4), (1, 2, 0, 4)], 3),
+];
+
+// Slots and scripts, and the process that is told.
+static PROCESSES: [(&[u32], [&[u8]; 3], u32); 6] = [
+    (&[1, 5, 5], [SUM, COPY, PRINT], 1),
+    (&[1, 1, 1], [SUM, COPY, b"g30 f0"], 2),
+    (&[1, 1, 1], [SUM, COPY, b"f0 p3"], 2),
+    (&[1, 1, 1], [SUM, b"g00 f0", b"g21 f0"], 1),
+    (&[1, 1, 1], [SUM, b"f0 p0", b"g21 f0"], 1),
+    (&[1, 1, 1], [SUM, COPY, b"g21 f0"], 2),
+];
+
 #[test]
 fn the_shape_is_refused(rt: HostRuntime) -> Result<(), Fail> {
     let alloc = rt.alloc();
     let nest = nest(alloc, bound::SUMS)?;
-    // The whole network is told by the number of the nest's processes.
-    for row in [
-        Row {
-            slots: &[1, 1],
+    for (slots, channels, sources) in &NETWORKS {
+        let row = Row {
+            slots: *slots,
+            channels,
+            sources: *sources,
             ..SUMS
-        },
-        Row { sources: 2, ..SUMS },
-        Row { sources: 4, ..SUMS },
-        Row {
-            channels: &[(0, 0, 0, 3), (3, 1, 0, 4), (1, 2, 0, 4)],
-            ..SUMS
-        },
-        Row {
-            channels: &[(0, 0, 0, 3), (0, 3, 0, 4), (1, 2, 0, 4)],
-            ..SUMS
-        },
-        Row {
-            channels: &[(0, 0, 0, 3), (0, 1, 1, 4), (1, 2, 0, 4)],
-            ..SUMS
-        },
-    ] {
+        };
         assert!(rt; refuses(alloc, &nest, row, Refusal::Shape(3))?);
     }
-    let two_slots = Row {
-        slots: &[1, 5, 5],
-        ..SUMS
-    };
-    let no_such_channel: &[u8] = b"g30 f0";
-    let no_such_put: &[u8] = b"f0 p3";
-    let other_reader: &[u8] = b"g00 f0";
-    let other_writer: &[u8] = b"f0 p0";
-    let no_such_slot: &[u8] = b"g21 f0";
-    for (row, process) in [
-        (two_slots, 1),
-        (
-            Row {
-                scripts: &[SUM, COPY, no_such_channel],
-                ..SUMS
-            },
-            2,
-        ),
-        (
-            Row {
-                scripts: &[SUM, COPY, no_such_put],
-                ..SUMS
-            },
-            2,
-        ),
-        (
-            Row {
-                scripts: &[SUM, other_reader, no_such_slot],
-                ..SUMS
-            },
-            1,
-        ),
-        (
-            Row {
-                scripts: &[SUM, other_writer, no_such_slot],
-                ..SUMS
-            },
-            1,
-        ),
-        (
-            Row {
-                scripts: &[SUM, COPY, no_such_slot],
-                ..SUMS
-            },
-            2,
-        ),
-    ] {
-        assert!(rt; refuses(alloc, &nest, row, Refusal::Shape(process))?);
+    for (slots, scripts, process) in &PROCESSES {
+        let row = Row {
+            slots: *slots,
+            scripts,
+            ..SUMS
+        };
+        assert!(rt; refuses(alloc, &nest, row, Refusal::Shape(*process))?);
     }
     Ok(())
 }
+
+// Scripts, and the process and the event that are told.
+static SCRIPTS: [([&[u8]; 3], u32, u32); 6] = [
+    (
+        [
+            b"g00 p0 fz p0 p1 g00 f0 p0 p1 g00 f0 p0 p1 g00 f0 p1",
+            COPY,
+            b"g20 f g20 f0 g20 f0 g20 f0",
+        ],
+        0,
+        1,
+    ),
+    (
+        [SUM, b"g10 f0 p2 g10 f0 p2 g10 f0 p2 g10 f0 p2 f0", PRINT],
+        1,
+        12,
+    ),
+    (
+        [
+            SUM,
+            b"g10 f0 p2 g10 f0 p2 g10 f0 p2 g10 p2",
+            b"g20 f g20 f0 g20 f0 g20 f0",
+        ],
+        1,
+        11,
+    ),
+    ([SUM, COPY, b"g20 f0 g20 f00 g20 f0 g20 f0"], 2, 3),
+    ([SUM, COPY, b"g20 f g20 f0 g20 f0 g20 f0"], 2, 1),
+    ([SUM, COPY, b"g20 f0 g20 f0 g20 f0 g20 f1"], 2, 7),
+];
 
 #[test]
 fn the_fires_are_refused(rt: HostRuntime) -> Result<(), Fail> {
     let alloc = rt.alloc();
     let nest = nest(alloc, bound::SUMS)?;
-    let put_first: &[u8] = b"g00 p0 fz p0 p1 g00 f0 p0 p1 g00 f0 p0 p1 g00 f0 p1";
-    let one_more: &[u8] = b"g10 f0 p2 g10 f0 p2 g10 f0 p2 g10 f0 p2 f0";
-    let too_few: &[u8] = b"g10 f0 p2 g10 f0 p2 g10 f0 p2 g10 p2";
-    let two_references: &[u8] = b"g20 f0 g20 f00 g20 f0 g20 f0";
-    let no_reference: &[u8] = b"g20 f g20 f0 g20 f0 g20 f0";
-    let no_such_slot: &[u8] = b"g20 f0 g20 f0 g20 f0 g20 f1";
-    for (scripts, process, place) in [
-        ([put_first, COPY, no_reference], 0, 1),
-        ([SUM, one_more, PRINT], 1, 12),
-        ([SUM, too_few, no_reference], 1, 11),
-        ([SUM, COPY, two_references], 2, 3),
-        ([SUM, COPY, no_reference], 2, 1),
-        ([SUM, COPY, no_such_slot], 2, 7),
-    ] {
-        let row = Row {
-            scripts: &scripts,
-            ..SUMS
-        };
-        assert!(rt; refuses(alloc, &nest, row, Refusal::Fires(process, place))?);
+    for (scripts, process, place) in &SCRIPTS {
+        let row = Row { scripts, ..SUMS };
+        assert!(rt; refuses(alloc, &nest, row, Refusal::Fires(*process, *place))?);
     }
     Ok(())
 }

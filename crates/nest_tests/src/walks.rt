@@ -44,76 +44,79 @@ fn a_nest_is_counted_and_walked(rt: HostRuntime) -> Result<(), Fail> {
     Ok(())
 }
 
+// By the turn, and by the variable of a loop with a step: -7, -3 and 1.
+static GROWN: [(&[u8], i64, i64); 6] = [
+    (GROWING, 0, 1),
+    (GROWING, -1, 0),
+    (GROWING, 41, 42),
+    (GROWING, i64::MAX, i64::MIN),
+    (
+        b"inout y; for (i = -7; i <= min(2, 9); i += 4) y = y + i;",
+        10,
+        1,
+    ),
+    (b"inout y; for (i = 3; i <= 2; i += 2) y = 0;", 10, 10),
+];
+
 #[test]
 fn a_nest_grows_its_input(rt: HostRuntime) -> Result<(), Fail> {
     let alloc = rt.alloc();
-    // By the turn, and by the variable of a loop with a step: -7, -3 and 1.
-    for (source, given, grown) in [
-        (GROWING, 0, 1),
-        (GROWING, -1, 0),
-        (GROWING, 41, 42),
-        (GROWING, i64::MAX, i64::MIN),
-        (
-            b"inout y; for (i = -7; i <= min(2, 9); i += 4) y = y + i;",
-            10,
-            1,
-        ),
-        (b"inout y; for (i = 3; i <= 2; i += 2) y = 0;", 10, 10),
-    ] {
+    for (source, given, grown) in &GROWN {
         let nest = nest(alloc, source)?;
         let Ok(_) = size(&nest) else {
             return Err(Fail::new("the size is refused"));
         };
         let inputs = Inputs {
-            arrays: one_value(alloc, given)?,
+            arrays: one_value(alloc, *given)?,
         };
-        let want = one_value(alloc, grown)?;
+        let want = one_value(alloc, *grown)?;
         assert_eq!(rt; interpret(alloc, &nest, &inputs)?.arrays, want, "{given}");
     }
     Ok(())
 }
 
+// Of each source the turns, and the size, which counts each turn, its point, a source and a sink.
+static TURNS: [(&[u8], usize, u64); 8] = [
+    (b"inout y; for (i = -7; i <= 2; i += 4) y = y + i;", 3, 8),
+    (b"inout y; for (i = -7; i < 2; i += 4) y = y + i;", 3, 8),
+    (b"inout y; for (i = -7; i <= 0; i += 4) y = y + i;", 2, 6),
+    (b"inout y; for (i = 3; i <= 2; i += 2) y = y + i;", 0, 2),
+    (
+        b"inout y; for (i = 0; i <= min(9, 4); i += 2) y = y + i;",
+        3,
+        8,
+    ),
+    (
+        b"inout y; for (i = 0; i < min(5, 9); i += 2) y = y + i;",
+        3,
+        8,
+    ),
+    (
+        b"inout y; for (i = 0; i <= 2147483647; i += 2147483647) y = y + i;",
+        2,
+        6,
+    ),
+    (
+        b"inout y; for (i = -2147483647; i <= 2147483647; i += 2147483647) y = y + i;",
+        3,
+        8,
+    ),
+];
+
 #[test]
 fn a_loop_with_a_step_counts_its_turns(rt: HostRuntime) -> Result<(), Fail> {
     let alloc = rt.alloc();
-    // Of each source the turns, and the size, which counts each turn, its point, a source and a sink.
-    let cases: [(&[u8], usize, u64); 8] = [
-        (b"inout y; for (i = -7; i <= 2; i += 4) y = y + i;", 3, 8),
-        (b"inout y; for (i = -7; i < 2; i += 4) y = y + i;", 3, 8),
-        (b"inout y; for (i = -7; i <= 0; i += 4) y = y + i;", 2, 6),
-        (b"inout y; for (i = 3; i <= 2; i += 2) y = y + i;", 0, 2),
-        (
-            b"inout y; for (i = 0; i <= min(9, 4); i += 2) y = y + i;",
-            3,
-            8,
-        ),
-        (
-            b"inout y; for (i = 0; i < min(5, 9); i += 2) y = y + i;",
-            3,
-            8,
-        ),
-        (
-            b"inout y; for (i = 0; i <= 2147483647; i += 2147483647) y = y + i;",
-            2,
-            6,
-        ),
-        (
-            b"inout y; for (i = -2147483647; i <= 2147483647; i += 2147483647) y = y + i;",
-            3,
-            8,
-        ),
-    ];
-    for (source, turns, count) in cases {
+    for (source, turns, count) in &TURNS {
         let nest = nest(alloc, source)?;
         let Ok(size) = size(&nest) else {
             return Err(Fail::new("the size is refused"));
         };
-        assert_eq!(rt; size, count);
+        assert_eq!(rt; size, *count);
         let lists = points(alloc, &nest)?.of;
         let Some(steps) = lists.get(1) else {
             return Err(Fail::new("no points"));
         };
-        assert_eq!(rt; steps.len(), turns);
+        assert_eq!(rt; steps.len(), *turns);
         for (at, turn) in steps.as_slice().iter().zip([0, 1, 2].iter()) {
             assert!(rt; at.as_slice() == [*turn].as_slice());
         }

@@ -152,20 +152,22 @@ fn a_channel_is_a_line(rt: HostRuntime) -> Result<(), Fail> {
     Ok(())
 }
 
+// The room, the most bytes of a call, the call that fails, and what is held then.
+static FRONTS: [(usize, usize, u32, &[u8]); 5] = [
+    (0, 100, 9, b""),
+    (12, 100, 99, b"channel 0 fr"),
+    (500, 100, 0, b""),
+    (500, 7, 1, b"channel"),
+    (500, 3, 3, b"channel 0"),
+];
+
 #[test]
 fn a_sink_that_fails_midway_holds_a_front(rt: HostRuntime) -> Result<(), Fail> {
-    // The room, the most bytes of a call, the call that fails, and what is held then.
-    for (room, most, failing, held) in [
-        (0, 100, 9, b"".as_slice()),
-        (12, 100, 99, b"channel 0 fr".as_slice()),
-        (500, 100, 0, b"".as_slice()),
-        (500, 7, 1, b"channel".as_slice()),
-        (500, 3, 3, b"channel 0".as_slice()),
-    ] {
+    for (room, most, failing, held) in &FRONTS {
         let network = network(rt.alloc())?;
-        let mut sink = MemSink::new(rt.alloc(), room, most, &[failing])?;
+        let mut sink = MemSink::new(rt.alloc(), *room, *most, &[*failing])?;
         assert_eq!(rt; send_channels(&network, &mut sink), Err(WriteFault));
-        assert_eq!(rt; sink.held(), held, "{room} {most} {failing}");
+        assert_eq!(rt; sink.held(), *held, "{room} {most} {failing}");
     }
     Ok(())
 }

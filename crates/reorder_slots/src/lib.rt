@@ -8,6 +8,3 @@ mod tokens;
 
 pub use law::keeps_until_used;
 pub use slots::{SlotPlan, plan};
-
-#[cfg(test)]
-mod tests;

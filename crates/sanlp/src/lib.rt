@@ -6,8 +6,6 @@ mod given;
 mod law;
 mod nest;
 mod order;
-#[cfg(test)]
-mod tests;
 
 pub use cells::{capped_count, natural_of};
 pub use given::given_value;

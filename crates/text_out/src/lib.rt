@@ -3,8 +3,6 @@
 #![tactic(auto)]
 
 mod past;
-#[cfg(test)]
-mod tests;
 mod waiting;
 mod words;
 mod writer;

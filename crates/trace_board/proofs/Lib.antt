@@ -2,4 +2,3 @@ pub mod Counted
 pub mod Laned
 pub mod Boarded
 pub mod Ended
-pub mod Starved

@@ -1,4 +1,3 @@
 pub mod Lanes
 pub mod Boards
 pub mod Advances
-pub mod Examples

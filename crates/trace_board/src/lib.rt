@@ -3,8 +3,6 @@
 
 mod board;
 mod lanes;
-#[cfg(test)]
-mod tests;
 mod workers;
 
 pub use board::Board;

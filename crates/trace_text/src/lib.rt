@@ -1,8 +1,6 @@
 //! The text of a run of a network: the number of the process of each of its events.
 #![tactic(auto)]
 
-#[cfg(test)]
-mod tests;
 mod writing;
 
 pub use writing::write_trace;

@@ -4,8 +4,6 @@
 mod law;
 mod lines;
 mod reading;
-#[cfg(test)]
-mod tests;
 mod writing;
 
 pub use law::reads_what_is_written;

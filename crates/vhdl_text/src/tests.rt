@@ -4,7 +4,7 @@ use crate::node::write_node;
 use crate::text::{too_long, write_vhdl};
 use affine_core::Vector;
 use channel_class::{ChannelClass, UseOrder};
-use io_edge::{MemSink, WriteFault, write_all};
+use io_edge::{MemSink, WriteFault};
 use net_core::{Channel, Event, Network, Ref, Refs};
 use node_automata::NodeAuto;
 use plain_data::{Boxed, Items};
@@ -14,144 +14,98 @@ use std::test::Fail;
 use text_out::Writer;
 use wrap_expr::Expr;
 
-fn write_lines(want: &mut MemSink, lines: &[&[u8]]) -> Result<(), WriteFault> {
-    for line in lines {
-        write_all(want, line)?;
-        write_all(want, b"\n")?;
-    }
-    Ok(())
-}
-
-/// The entity of the process that adds 1.
-fn entity(want: &mut MemSink) -> Result<(), WriteFault> {
-    let lines = [
-        b"library ieee;".as_slice(),
-        b"use ieee.std_logic_1164.all;".as_slice(),
-        b"use ieee.numeric_std.all;".as_slice(),
-        b"entity node_1 is".as_slice(),
-        b"  port (".as_slice(),
-        b"    clk : in std_logic;".as_slice(),
-        b"    rst : in std_logic;".as_slice(),
-        b"    c0_valid : in std_logic;".as_slice(),
-        b"    c0_data : in signed(63 downto 0);".as_slice(),
-        b"    c0_take : out std_logic;".as_slice(),
-        b"    c1_ready : in std_logic;".as_slice(),
-        b"    c1_data : out signed(63 downto 0);".as_slice(),
-        b"    c1_give : out std_logic;".as_slice(),
-        b"    done : out std_logic".as_slice(),
-        b"  );".as_slice(),
-        b"end entity;".as_slice(),
-    ];
-    write_lines(want, &lines)
-}
-
-/// Its constants and signals.
-fn declarations(want: &mut MemSink) -> Result<(), WriteFault> {
-    let lines = [
-        b"architecture rtl of node_1 is".as_slice(),
-        b"  type codes is array (natural range <>) of integer;".as_slice(),
-        b"  type words is array (natural range <>) of signed(63 downto 0);".as_slice(),
-        b"  constant zero : signed(63 downto 0) := x\"0000000000000000\";".as_slice(),
-        b"  constant op : codes(0 to 3) := (0 => 1, 1 => 2, 2 => 3, 3 => 0);".as_slice(),
-        b"  constant arg : codes(0 to 3) := (0 => 0, 1 => 0, 2 => 1, 3 => 0);".as_slice(),
-        b"  constant dst : codes(0 to 3) := (0 => 0, 1 => 0, 2 => 0, 3 => 0);".as_slice(),
-        b"  constant r0 : codes(0 to 1) := (0 => 0, 1 => -1);".as_slice(),
-        b"  constant v0 : words(0 to 1) := (0 => x\"0000000000000000\", 1 => x\"0000000000000000\");".as_slice(),
-        b"  signal pc : integer range 0 to 3 := 0;".as_slice(),
-        b"  signal slot : words(0 to 1);".as_slice(),
-        b"  signal fired : signed(63 downto 0);".as_slice(),
-    ];
-    write_lines(want, &lines)
-}
-
-/// Two of its functions.
-fn pick_and_mul(want: &mut MemSink) -> Result<(), WriteFault> {
-    let lines = [
-        b"  function pick(b : words; r : integer) return signed is".as_slice(),
-        b"  begin".as_slice(),
-        b"    if r < 0 then".as_slice(),
-        b"      return zero;".as_slice(),
-        b"    else".as_slice(),
-        b"      return b(r);".as_slice(),
-        b"    end if;".as_slice(),
-        b"  end function;".as_slice(),
-        b"  function mul(a, b : signed(63 downto 0)) return signed is".as_slice(),
-        b"    variable p : signed(127 downto 0);".as_slice(),
-        b"  begin".as_slice(),
-        b"    p := a * b;".as_slice(),
-        b"    return p(63 downto 0);".as_slice(),
-        b"  end function;".as_slice(),
-    ];
-    write_lines(want, &lines)
-}
-
-/// The other two.
-fn least_and_most(want: &mut MemSink) -> Result<(), WriteFault> {
-    let lines = [
-        b"  function least(a, b : signed(63 downto 0)) return signed is".as_slice(),
-        b"  begin".as_slice(),
-        b"    if a < b then".as_slice(),
-        b"      return a;".as_slice(),
-        b"    else".as_slice(),
-        b"      return b;".as_slice(),
-        b"    end if;".as_slice(),
-        b"  end function;".as_slice(),
-        b"  function most(a, b : signed(63 downto 0)) return signed is".as_slice(),
-        b"  begin".as_slice(),
-        b"    if a < b then".as_slice(),
-        b"      return b;".as_slice(),
-        b"    else".as_slice(),
-        b"      return a;".as_slice(),
-        b"    end if;".as_slice(),
-        b"  end function;".as_slice(),
-    ];
-    write_lines(want, &lines)
-}
-
-/// Its outputs and its reset.
-fn outputs(want: &mut MemSink) -> Result<(), WriteFault> {
-    let lines = [
-        b"begin".as_slice(),
-        b"  c0_take <= '1' when op(pc) = 1 and arg(pc) = 0 else '0';".as_slice(),
-        b"  c1_data <= fired;".as_slice(),
-        b"  c1_give <= '1' when op(pc) = 3 and arg(pc) = 1 else '0';".as_slice(),
-        b"  done <= '1' when op(pc) = 0 else '0';".as_slice(),
-        b"  process (clk)".as_slice(),
-        b"  begin".as_slice(),
-        b"    if rising_edge(clk) then".as_slice(),
-        b"      if rst = '1' then".as_slice(),
-        b"        pc <= 0;".as_slice(),
-        b"      else".as_slice(),
-    ];
-    write_lines(want, &lines)
-}
-
-/// What it does at each event.
-fn events(want: &mut MemSink) -> Result<(), WriteFault> {
-    let lines = [
-        b"        case op(pc) is".as_slice(),
-        b"          when 1 =>".as_slice(),
-        b"            if arg(pc) = 0 and c0_valid = '1' then".as_slice(),
-        b"              slot(dst(pc)) <= c0_data;".as_slice(),
-        b"              pc <= pc + 1;".as_slice(),
-        b"            end if;".as_slice(),
-        b"          when 2 =>".as_slice(),
-        b"            fired <= (pick(slot, r0(arg(pc))) + signed'(x\"0000000000000001\"));".as_slice(),
-        b"            pc <= pc + 1;".as_slice(),
-        b"          when 3 =>".as_slice(),
-        b"            if arg(pc) = 1 and c1_ready = '1' then".as_slice(),
-        b"              pc <= pc + 1;".as_slice(),
-        b"            end if;".as_slice(),
-        b"          when others =>".as_slice(),
-        b"            null;".as_slice(),
-        b"        end case;".as_slice(),
-        b"      end if;".as_slice(),
-        b"    end if;".as_slice(),
-        b"  end process;".as_slice(),
-        b"end architecture;".as_slice(),
-    ];
-    write_lines(want, &lines)
-}
+/// The entity of the process that adds 1, and its architecture.
+static ADDS_ONE: &[u8] = b"
+library ieee;
+use ieee.std_logic_1164.all;
+use ieee.numeric_std.all;
+entity node_1 is
+  port (
+    clk : in std_logic;
+    rst : in std_logic;
+    c0_valid : in std_logic;
+    c0_data : in signed(63 downto 0);
+    c0_take : out std_logic;
+    c1_ready : in std_logic;
+    c1_data : out signed(63 downto 0);
+    c1_give : out std_logic;
+    done : out std_logic
+  );
+end entity;
+architecture rtl of node_1 is
+  type codes is array (natural range <>) of integer;
+  type words is array (natural range <>) of signed(63 downto 0);
+  constant zero : signed(63 downto 0) := x\"0000000000000000\";
+  constant op : codes(0 to 3) := (0 => 1, 1 => 2, 2 => 3, 3 => 0);
+  constant arg : codes(0 to 3) := (0 => 0, 1 => 0, 2 => 1, 3 => 0);
+  constant dst : codes(0 to 3) := (0 => 0, 1 => 0, 2 => 0, 3 => 0);
+  constant r0 : codes(0 to 1) := (0 => 0, 1 => -1);
+  constant v0 : words(0 to 1) := (0 => x\"0000000000000000\", 1 => x\"0000000000000000\");
+  signal pc : integer range 0 to 3 := 0;
+  signal slot : words(0 to 1);
+  signal fired : signed(63 downto 0);
+  function pick(b : words; r : integer) return signed is
+  begin
+    if r < 0 then
+      return zero;
+    else
+      return b(r);
+    end if;
+  end function;
+  function mul(a, b : signed(63 downto 0)) return signed is
+    variable p : signed(127 downto 0);
+  begin
+    p := a * b;
+    return p(63 downto 0);
+  end function;
+  function least(a, b : signed(63 downto 0)) return signed is
+  begin
+    if a < b then
+      return a;
+    else
+      return b;
+    end if;
+  end function;
+  function most(a, b : signed(63 downto 0)) return signed is
+  begin
+    if a < b then
+      return b;
+    else
+      return a;
+    end if;
+  end function;
+begin
+  c0_take <= '1' when op(pc) = 1 and arg(pc) = 0 else '0';
+  c1_data <= fired;
+  c1_give <= '1' when op(pc) = 3 and arg(pc) = 1 else '0';
+  done <= '1' when op(pc) = 0 else '0';
+  process (clk)
+  begin
+    if rising_edge(clk) then
+      if rst = '1' then
+        pc <= 0;
+      else
+        case op(pc) is
+          when 1 =>
+            if arg(pc) = 0 and c0_valid = '1' then
+              slot(dst(pc)) <= c0_data;
+              pc <= pc + 1;
+            end if;
+          when 2 =>
+            fired <= (pick(slot, r0(arg(pc))) + signed'(x\"0000000000000001\"));
+            pc <= pc + 1;
+          when 3 =>
+            if arg(pc) = 1 and c1_ready = '1' then
+              pc <= pc + 1;
+            end if;
+          when others =>
+            null;
+        end case;
+      end if;
+    end if;
+  end process;
+end architecture;
+";
 
 fn get(channel: u32, slot: u32) -> Event {
     Event::Get { channel, slot }
@@ -312,15 +266,7 @@ fn node(auto: &NodeAuto, text: &mut MemSink) -> Result<(), WriteFault> {
 fn a_node_is_an_entity_with_its_architecture(rt: HostRuntime) -> Result<(), Fail> {
     let mut text = MemSink::new(rt.alloc(), 10_000, 10_000, &[])?;
     assert_eq!(rt; node(&assign(rt.alloc())?, &mut text), Ok(()));
-    let mut want = MemSink::new(rt.alloc(), 10_000, 10_000, &[])?;
-    assert_eq!(rt; write_all(&mut want, b"\n"), Ok(()));
-    assert_eq!(rt; entity(&mut want), Ok(()));
-    assert_eq!(rt; declarations(&mut want), Ok(()));
-    assert_eq!(rt; pick_and_mul(&mut want), Ok(()));
-    assert_eq!(rt; least_and_most(&mut want), Ok(()));
-    assert_eq!(rt; outputs(&mut want), Ok(()));
-    assert_eq!(rt; events(&mut want), Ok(()));
-    assert_eq!(rt; text.held(), want.held());
+    assert_eq!(rt; text.held(), ADDS_ONE);
     Ok(())
 }
 
@@ -334,51 +280,57 @@ fn has(text: &[u8], part: &[u8]) -> bool {
     false
 }
 
+static OF_A_SOURCE: [&[u8]; 3] = [
+    b"    rst : in std_logic;\n    given : in signed(63 downto 0);\n    given_take : out std_logic;\n    c0_ready : in",
+    b"begin\n  given_take <= '1' when op(pc) = 2 else '0';\n  c0_data <= fired;\n",
+    b"          when 1 =>\n            null;\n          when 2 =>\n            fired <= given;\n            pc",
+];
+
 #[test]
 fn a_source_is_given_its_values(rt: HostRuntime) -> Result<(), Fail> {
     let mut text = MemSink::new(rt.alloc(), 10_000, 10_000, &[])?;
     assert_eq!(rt; node(&source(rt.alloc())?, &mut text), Ok(()));
-    for part in [
-        b"    rst : in std_logic;\n    given : in signed(63 downto 0);\n    given_take : out std_logic;\n    c0_ready : in".as_slice(),
-        b"begin\n  given_take <= '1' when op(pc) = 2 else '0';\n  c0_data <= fired;\n".as_slice(),
-        b"          when 1 =>\n            null;\n          when 2 =>\n            fired <= given;\n            pc".as_slice(),
-    ] {
+    for part in &OF_A_SOURCE {
         assert!(rt; has(text.held(), part));
     }
     Ok(())
 }
+
+static OF_A_SINK: [&[u8]; 5] = [
+    b"    rst : in std_logic;\n    result : out signed(63 downto 0);\n    result_give : out std_logic;\n    c1_valid : in",
+    b"  signal fired : signed(63 downto 0);\n  signal gave : std_logic := '0';\n  function",
+    b"begin\n  result <= fired;\n  result_give <= gave;\n  c1_take <= ",
+    b"    if rising_edge(clk) then\n      gave <= '0';\n      if rst = '1' then\n",
+    b"r0(arg(pc)));\n            gave <= '1';\n            pc <= pc + 1;\n          when 3 =>\n            null;\n          when",
+];
 
 #[test]
 fn a_sink_gives_its_result_out(rt: HostRuntime) -> Result<(), Fail> {
     let mut text = MemSink::new(rt.alloc(), 10_000, 10_000, &[])?;
     assert_eq!(rt; node(&sink(rt.alloc())?, &mut text), Ok(()));
-    for part in [
-        b"    rst : in std_logic;\n    result : out signed(63 downto 0);\n    result_give : out std_logic;\n    c1_valid : in".as_slice(),
-        b"  signal fired : signed(63 downto 0);\n  signal gave : std_logic := '0';\n  function".as_slice(),
-        b"begin\n  result <= fired;\n  result_give <= gave;\n  c1_take <= ".as_slice(),
-        b"    if rising_edge(clk) then\n      gave <= '0';\n      if rst = '1' then\n".as_slice(),
-        b"r0(arg(pc)));\n            gave <= '1';\n            pc <= pc + 1;\n          when 3 =>\n            null;\n          when".as_slice(),
-    ] {
+    for part in &OF_A_SINK {
         assert!(rt; has(text.held(), part));
     }
     Ok(())
 }
 
+static OF_AN_OWN_CHANNEL: [&[u8]; 9] = [
+    b"    c2_data : in signed(63 downto 0);\n    c2_take",
+    b"    c4_in : in signed(63 downto 0);\n    c4_take",
+    b"    c4_data : out signed(63 downto 0);\n    c4_give",
+    b" arg : codes(0 to 7) := (0 => 2, 1 => 0, 2 => 4, 3 => 10, 4 => 4, 5 => 1, 6 => 10, 7 => 0);",
+    b" r1 : codes(0 to 2) := (0 => -1, 1 => 2, 2 => -1);",
+    b"(0 => x\"0000000000000005\", 1 => x\"fffffffffffffffe\", 2 => x\"0000000000000000\");",
+    b"              slot(dst(pc)) <= c4_in;\n",
+    b"most(least(mul(v0(arg(pc)), pick(slot, r1(arg(pc)))), (pick(slot, r0(arg(pc))) - ",
+    b" - signed'(x\"8000000000000000\"))), (zero - v1(arg(pc))));\n",
+];
+
 #[test]
 fn a_channel_to_itself_has_another_name_where_it_comes_in(rt: HostRuntime) -> Result<(), Fail> {
     let mut text = MemSink::new(rt.alloc(), 10_000, 10_000, &[])?;
     assert_eq!(rt; node(&own_channel(rt.alloc())?, &mut text), Ok(()));
-    for part in [
-        b"    c2_data : in signed(63 downto 0);\n    c2_take".as_slice(),
-        b"    c4_in : in signed(63 downto 0);\n    c4_take".as_slice(),
-        b"    c4_data : out signed(63 downto 0);\n    c4_give".as_slice(),
-        b" arg : codes(0 to 7) := (0 => 2, 1 => 0, 2 => 4, 3 => 10, 4 => 4, 5 => 1, 6 => 10, 7 => 0);".as_slice(),
-        b" r1 : codes(0 to 2) := (0 => -1, 1 => 2, 2 => -1);".as_slice(),
-        b"(0 => x\"0000000000000005\", 1 => x\"fffffffffffffffe\", 2 => x\"0000000000000000\");".as_slice(),
-        b"              slot(dst(pc)) <= c4_in;\n".as_slice(),
-        b"most(least(mul(v0(arg(pc)), pick(slot, r1(arg(pc)))), (pick(slot, r0(arg(pc))) - ".as_slice(),
-        b" - signed'(x\"8000000000000000\"))), (zero - v1(arg(pc))));\n".as_slice(),
-    ] {
+    for part in &OF_AN_OWN_CHANNEL {
         assert!(rt; has(text.held(), part));
     }
     Ok(())
@@ -407,6 +359,12 @@ fn network(alloc: Global) -> Result<Network, AllocError> {
     })
 }
 
+static OF_A_NETWORK: [&[u8]; 3] = [
+    b"-- compaan vhdl 1\n-- channel 0 node_0 node_1 capacity 1\n",
+    b"-- channel 1 node_1 node_2 capacity 17\n\nlibrary ieee;\n",
+    b"end architecture;\n\nlibrary ieee;\n",
+];
+
 #[test]
 fn the_text_has_the_channels_and_then_the_nodes(rt: HostRuntime) -> Result<(), Fail> {
     let alloc = rt.alloc();
@@ -416,11 +374,7 @@ fn the_text_has_the_channels_and_then_the_nodes(rt: HostRuntime) -> Result<(), F
     let mut text = MemSink::new(alloc, 10_000, 7, &[])?;
     let answer = write_vhdl(&network(alloc)?, autos.as_slice(), &mut text);
     assert_eq!(rt; answer, Ok(()));
-    for part in [
-        b"-- compaan vhdl 1\n-- channel 0 node_0 node_1 capacity 1\n".as_slice(),
-        b"-- channel 1 node_1 node_2 capacity 17\n\nlibrary ieee;\n".as_slice(),
-        b"end architecture;\n\nlibrary ieee;\n".as_slice(),
-    ] {
+    for part in &OF_A_NETWORK {
         assert!(rt; has(text.held(), part));
     }
     Ok(())
@@ -453,21 +407,23 @@ fn the_first_script_that_is_too_long_is_told(rt: HostRuntime) -> Result<(), Fail
     Ok(())
 }
 
+// The room, the call that fails, and what is held then, where a call takes 10 bytes.
+static FRONTS: [(usize, u32, &[u8]); 5] = [
+    (0, 99, b""),
+    (12, 99, b"-- compaan v"),
+    (500, 0, b""),
+    (500, 1, b"-- compaan"),
+    (500, 3, b"-- compaan vhdl 1\n-- channel 0"),
+];
+
 #[test]
 fn a_sink_that_fails_midway_holds_a_front(rt: HostRuntime) -> Result<(), Fail> {
     let alloc = rt.alloc();
-    // The room, the call that fails, and what is held then, where a call takes 10 bytes.
-    for (room, failing, held) in [
-        (0, 99, b"".as_slice()),
-        (12, 99, b"-- compaan v".as_slice()),
-        (500, 0, b"".as_slice()),
-        (500, 1, b"-- compaan".as_slice()),
-        (500, 3, b"-- compaan vhdl 1\n-- channel 0".as_slice()),
-    ] {
-        let mut text = MemSink::new(alloc, room, 10, &[failing])?;
+    for (room, failing, held) in &FRONTS {
+        let mut text = MemSink::new(alloc, *room, 10, &[*failing])?;
         let answer = write_vhdl(&network(alloc)?, &[], &mut text);
         assert_eq!(rt; answer, Err(VhdlError::WriteFault));
-        assert_eq!(rt; text.held(), held, "{room} {failing}");
+        assert_eq!(rt; text.held(), *held, "{room} {failing}");
     }
     Ok(())
 }

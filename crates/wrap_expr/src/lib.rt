@@ -2,8 +2,6 @@
 #![tactic(auto)]
 
 mod expr;
-#[cfg(test)]
-mod tests;
 mod value;
 
 pub use expr::Expr;

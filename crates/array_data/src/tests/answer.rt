@@ -25,30 +25,28 @@ fn declared(alloc: Global, name: &[u8], kind: Kind) -> Result<ArrayDecl, AllocEr
     })
 }
 
+static ANSWERS: [(Kind, &[i64], &[u8]); 7] = [
+    (Kind::Output, &[], b"sum\n"),
+    (Kind::Both, &[], b"sum\n"),
+    (Kind::Output, &[0], b"sum,0\n"),
+    (Kind::Both, &[6, -10, 200], b"sum,6,-10,200\n"),
+    (
+        Kind::Output,
+        &[i64::MIN, i64::MAX],
+        b"sum,-9223372036854775808,9223372036854775807\n",
+    ),
+    (Kind::Input, &[1, 2], b""),
+    (Kind::Var, &[1, 2], b""),
+];
+
 #[test]
 fn an_output_is_its_name_and_its_cells(rt: HostRuntime) -> Result<(), Fail> {
-    for (kind, cells, want) in [
-        (Kind::Output, [].as_slice(), b"sum\n".as_slice()),
-        (Kind::Both, [].as_slice(), b"sum\n".as_slice()),
-        (Kind::Output, [0].as_slice(), b"sum,0\n".as_slice()),
-        (
-            Kind::Both,
-            [6, -10, 200].as_slice(),
-            b"sum,6,-10,200\n".as_slice(),
-        ),
-        (
-            Kind::Output,
-            [i64::MIN, i64::MAX].as_slice(),
-            b"sum,-9223372036854775808,9223372036854775807\n".as_slice(),
-        ),
-        (Kind::Input, [1, 2].as_slice(), b"".as_slice()),
-        (Kind::Var, [1, 2].as_slice(), b"".as_slice()),
-    ] {
-        let arrays = [declared(rt.alloc(), b"sum", kind)?];
+    for (kind, cells, want) in &ANSWERS {
+        let arrays = [declared(rt.alloc(), b"sum", *kind)?];
         let lists = [Items::from_slice(rt.alloc(), cells)?];
         let mut sink = MemSink::new(rt.alloc(), 100, 100, &[])?;
         assert_eq!(rt; write(&arrays, &lists, &mut sink), Ok(()));
-        assert_eq!(rt; sink.held(), want, "{cells:?}");
+        assert_eq!(rt; sink.held(), *want, "{cells:?}");
     }
     Ok(())
 }
@@ -82,27 +80,29 @@ fn outputs_stand_in_declaration_order(rt: HostRuntime) -> Result<(), Fail> {
     Ok(())
 }
 
+// The room, the call that fails, and what is held then, where a call takes 2 bytes.
+static FRONTS: [(usize, u32, &[u8]); 7] = [
+    (0, 9, b""),
+    (4, 9, b"y,1,"),
+    (7, 9, b"y,1,2,3"),
+    (20, 0, b""),
+    (20, 1, b"y,"),
+    (20, 3, b"y,1,2,"),
+    (20, 4, b"y,1,2,3\n"),
+];
+
 #[test]
 fn a_sink_that_fails_midway_holds_a_front(rt: HostRuntime) -> Result<(), Fail> {
-    // The room, the call that fails, and what is held then, where a call takes 2 bytes.
-    for (room, failing, held) in [
-        (0, 9, b"".as_slice()),
-        (4, 9, b"y,1,".as_slice()),
-        (7, 9, b"y,1,2,3".as_slice()),
-        (20, 0, b"".as_slice()),
-        (20, 1, b"y,".as_slice()),
-        (20, 3, b"y,1,2,".as_slice()),
-        (20, 4, b"y,1,2,3\n".as_slice()),
-    ] {
+    for (room, failing, held) in &FRONTS {
         let alloc = rt.alloc();
         let arrays = [
             declared(alloc, b"y", Kind::Output)?,
             declared(alloc, b"z", Kind::Output)?,
         ];
         let lists = [Items::from_slice(alloc, &[1, 2, 3])?, Items::new(alloc)];
-        let mut sink = MemSink::new(alloc, room, 2, &[failing])?;
+        let mut sink = MemSink::new(alloc, *room, 2, &[*failing])?;
         assert_eq!(rt; write(&arrays, &lists, &mut sink), Err(WriteFault));
-        assert_eq!(rt; sink.held(), held, "{room} {failing}");
+        assert_eq!(rt; sink.held(), *held, "{room} {failing}");
     }
     Ok(())
 }

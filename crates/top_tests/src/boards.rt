@@ -1,0 +1,146 @@
+use crate::calls::{Devices, SOUND, ended, expect, words_of};
+use crate::certificates::{INCREMENT, THRICE, checks};
+use crate::meeting::MOST_TURNS;
+use crate::threads::expect_by;
+use io_edge::Gate;
+use std::sync::atomic::{AtomicU64, Ordering};
+use std::test::Fail;
+use std::thread;
+
+/// The number under which the caller asks the gate.
+const CALLER: usize = 4;
+
+/// The trace of the increment with N=1, which has one run.
+const ONCE: &[u8] = b"trace 1\n0\n0\n1\n1\n1\n2\n2\nend\n";
+
+/// A gate that holds workers 0 and 1 at their first pass until both have asked, and the caller at its first until worker 0 has
+/// asked twice.
+#[derive(Drop)]
+struct LaneGate {
+    first: AtomicU64,
+    second: AtomicU64,
+    caller: AtomicU64,
+    wrong: AtomicU64,
+}
+
+impl LaneGate {
+    fn new() -> LaneGate {
+        LaneGate {
+            first: AtomicU64::new(0),
+            second: AtomicU64::new(0),
+            caller: AtomicU64::new(0),
+            wrong: AtomicU64::new(0),
+        }
+    }
+
+    fn may_go(&self, who: usize) -> bool {
+        let first = self.first.load(Ordering::SeqCst);
+        let second = self.second.load(Ordering::SeqCst);
+        match who {
+            0 | 1 => first >= 1 && second >= 1,
+            CALLER => first >= 2,
+            _ => true,
+        }
+    }
+
+    /// Notes that one asks, and gives how often it had asked before.
+    fn note(&self, who: usize) -> u64 {
+        match who {
+            0 => self.first.fetch_add(1, Ordering::SeqCst),
+            1 => self.second.fetch_add(1, Ordering::SeqCst),
+            CALLER => self.caller.fetch_add(1, Ordering::SeqCst),
+            _ => 0,
+        }
+    }
+
+    /// Whether nobody waited in vain, and workers 0 and 1 and the caller asked.
+    fn met(&self) -> bool {
+        self.wrong.load(Ordering::SeqCst) == 0
+            && self.may_go(CALLER)
+            && self.second.load(Ordering::SeqCst) >= 1
+            && self.caller.load(Ordering::SeqCst) >= 1
+    }
+}
+
+impl Gate for LaneGate {
+    fn pass(&self, who: u32) {
+        let who = who as usize;
+        if self.note(who) > 0 {
+            return;
+        }
+        for _ in 0..MOST_TURNS {
+            if self.may_go(who) {
+                return;
+            }
+            thread::yield_now();
+        }
+        self.wrong.fetch_add(1, Ordering::SeqCst);
+    }
+
+    fn moved(&self, _who: u32, _channel: u32, _value: i64) {
+        self.wrong.fetch_add(1, Ordering::SeqCst);
+    }
+}
+
+#[test]
+fn two_lanes_meet(rt: HostRuntime) -> Result<(), Fail> {
+    let gate = LaneGate::new();
+    expect_by(&rt, &["trace", "N=1"], INCREMENT, ONCE, &gate)?;
+    assert!(rt; gate.met());
+    Ok(())
+}
+
+// The lines of a trace between its first and its last.
+fn entries_of(text: &[u8]) -> Option<&[u8]> {
+    text.strip_prefix(b"trace 1\n".as_slice())?
+        .strip_suffix(b"end\n".as_slice())
+}
+
+// What stands before the schedule of a certificate with this many lines of it, and `end`.
+fn front_of(text: &[u8], entries: usize) -> Option<&[u8]> {
+    let front = text.strip_suffix(b"end\n".as_slice())?;
+    let length = front.len().checked_sub(entries)?;
+    front.get(..length)
+}
+
+#[test]
+fn traces_are_runs(rt: HostRuntime) -> Result<(), Fail> {
+    for policy in ["--policy=seq", "--policy=down"] {
+        let words = ["trace", "N=1", policy];
+        expect(&rt, SOUND, &words, INCREMENT, 0, ONCE, b"")?;
+        let words = ["trace", "N=0", policy];
+        expect(&rt, SOUND, &words, INCREMENT, 0, b"trace 1\nend\n", b"")?;
+    }
+    // with N=3 the trace stands as the schedule of the certificate that `cert` writes, whose 21 entries have a digit each
+    let alloc = rt.alloc();
+    let words = words_of(alloc, "trace", &["N=3"])?;
+    let (status, written, _) = ended(&rt, SOUND, &words, INCREMENT)?;
+    assert_eq!(rt; status, 0);
+    let Some(entries) = entries_of(written.held()) else {
+        return Err(Fail::new("another text"));
+    };
+    assert_eq!(rt; entries.len(), 42);
+    let Some(front) = front_of(THRICE, 42) else {
+        return Err(Fail::new("a short certificate"));
+    };
+    let mut certificate = Vec::from_slice(alloc, front)?;
+    certificate.extend_from_slice(entries)?;
+    certificate.extend_from_slice(b"end\n")?;
+    checks(&rt, &["N=3"], INCREMENT, &certificate, b"accepted\n")?;
+    // the data part is passed over, and a source that fails is told
+    let unread = Devices {
+        failing: 0,
+        ..SOUND
+    };
+    expect(&rt, unread, &["trace"], b"$", 3, b"", b"")?;
+    let complaint = b"limit: Large 6\n";
+    expect(
+        &rt,
+        SOUND,
+        &["trace"],
+        b"out y[2147483648];\n%%\nz,1\n",
+        8,
+        b"",
+        complaint,
+    )
+}

@@ -1,0 +1,452 @@
+use crate::calls::{SOUND, expect_words, repeated, words_of, written_by};
+use cert_text::read_cert;
+use std::alloc::{AllocError, Global};
+use std::process::Abort;
+use std::sync::Wait;
+use std::test::Fail;
+use std::thread::Threads;
+
+pub(crate) const INCREMENT: &[u8] =
+    b"param N; in x[N]; out y[N]; for (i = 0; i < N; i++) y[i] = x[i] + 1;";
+
+const COPY: &[u8] = b"param N; in x[N]; out y[N];";
+
+const TRANSPOSE: &[u8] =
+    b"in a[2][2]; out b[2][2]; for (j = 0; j < 2; j++) for (i = 0; i < 2; i++) b[j][i] = a[i][j];";
+
+pub(crate) const LAST_VALUE: &[u8] =
+    b"param N; in a[N]; out c[N]; var b[N]; for (i = 0; i < N; i++) b[i] = a[i]; for (i = 0; i < N; i++) c[i] = a[i] + b[N-1];";
+
+/// The certificate of the increment with N=1, under either policy.
+const ONCE: &[u8] = b"cert 1\nsizes 3 2 2 7\n\
+    process 0 2\nf\np 0\n\
+    process 1 3\ng 0 0\nf 0\np 1\n\
+    process 1 2\ng 1 0\nf 0\n\
+    channel 0 1 0 1 inorder\nchannel 1 2 0 1 inorder\n\
+    sweep\nsweep\n\
+    0\n0\n1\n1\n1\n2\n2\n\
+    end\n";
+
+/// That with N=3.
+pub(crate) const THRICE: &[u8] = b"cert 1\nsizes 3 2 2 21\n\
+    process 0 6\nf\np 0\nf\np 0\nf\np 0\n\
+    process 1 9\ng 0 0\nf 0\np 1\ng 0 0\nf 0\np 1\ng 0 0\nf 0\np 1\n\
+    process 1 6\ng 1 0\nf 0\ng 1 0\nf 0\ng 1 0\nf 0\n\
+    channel 0 1 0 3 inorder\nchannel 1 2 0 3 inorder\n\
+    sweep\nsweep\n\
+    0\n0\n0\n0\n0\n0\n\
+    1\n1\n1\n1\n1\n1\n1\n1\n1\n\
+    2\n2\n2\n2\n2\n2\n\
+    end\n";
+
+/// That of the transpose.
+const TRANSPOSED: &[u8] = b"cert 1\nsizes 3 2 2 28\n\
+    process 0 8\nf\np 0\nf\np 0\nf\np 0\nf\np 0\n\
+    process 2 12\ng 0 0\nf 0\np 1\ng 0 0\ng 0 1\nf 1\np 1\nf 0\np 1\ng 0 0\nf 0\np 1\n\
+    process 1 8\ng 1 0\nf 0\ng 1 0\nf 0\ng 1 0\nf 0\ng 1 0\nf 0\n\
+    channel 0 1 0 4 reorder\nchannel 1 2 0 4 inorder\n\
+    sweep\nsweep\n\
+    0\n0\n0\n0\n0\n0\n0\n0\n\
+    1\n1\n1\n1\n1\n1\n1\n1\n1\n1\n1\n1\n\
+    2\n2\n2\n2\n2\n2\n2\n2\n\
+    end\n";
+
+/// That of the last value with N=4, under the policy that takes the highest process.
+const DOWNWARD: &[u8] = b"cert 1\nsizes 4 4 4 42\n\
+    process 0 12\nf\np 0\np 1\nf\np 0\np 1\nf\np 0\np 1\nf\np 0\np 1\n\
+    process 1 9\ng 0 0\nf 0\ng 0 0\nf 0\ng 0 0\nf 0\ng 0 0\nf 0\np 2\n\
+    process 2 13\ng 1 0\ng 2 1\nf 0 1\np 3\ng 1 0\nf 0 1\np 3\ng 1 0\nf 0 1\np 3\ng 1 0\nf 0 1\np 3\n\
+    process 1 8\ng 3 0\nf 0\ng 3 0\nf 0\ng 3 0\nf 0\ng 3 0\nf 0\n\
+    channel 0 1 0 1 inorder\nchannel 0 2 0 2 inorder\nchannel 1 2 1 1 inorder+\nchannel 2 3 0 1 inorder\n\
+    sweep\nsweep\nsweep\nsweep\n\
+    0\n0\n1\n1\n0\n2\n0\n0\n1\n1\n0\n0\n0\n1\n1\n0\n0\n0\n1\n1\n1\n\
+    2\n2\n2\n3\n3\n2\n2\n2\n3\n3\n2\n2\n2\n3\n3\n0\n2\n2\n2\n3\n3\n\
+    end\n";
+
+/// Words behind the command, sources, certificates of the networks that `cert` writes of them, and how its texts end, from the
+/// schedule on. The certificates were worked out from the definitions by another program, and the ends from these by hand.
+static WRITTEN: [(&[&str], &[u8], &[u8], &[u8]); 5] = [
+    (
+        &["N=1", "--policy=seq"],
+        INCREMENT,
+        ONCE,
+        b"r 2 1\n0\nr 3 1\n1\nr 2 1\n2\nend\n",
+    ),
+    (
+        &["N=1", "--policy=down"],
+        INCREMENT,
+        ONCE,
+        b"r 2 1\n0\nr 3 1\n1\nr 2 1\n2\nend\n",
+    ),
+    (
+        &["N=3"],
+        INCREMENT,
+        THRICE,
+        b"r 6 1\n0\nr 9 1\n1\nr 6 1\n2\nend\n",
+    ),
+    (
+        &[],
+        TRANSPOSE,
+        TRANSPOSED,
+        b"r 8 1\n0\nr 12 1\n1\nr 8 1\n2\nend\n",
+    ),
+    (
+        &["N=4", "--policy=down"],
+        LAST_VALUE,
+        DOWNWARD,
+        b"r 2 1\n0\nr 2 1\n1\n0\n2\nr 2 1\n0\nr 2 1\n1\nr 3 1\n0\nr 2 1\n1\nr 3 1\n0\nr 3 1\n1\n\
+            r 3 1\n2\nr 2 1\n3\nr 3 1\n2\nr 2 1\n3\nr 3 1\n2\nr 2 1\n3\n0\nr 3 1\n2\nr 2 1\n3\nend\n",
+    ),
+];
+
+/// Sources with the values of their parameters; each read of theirs is of the difference class.
+static ALL_OF_CLASS: [(&[&str], &[u8]); 4] = [
+    (
+        &["N=3"],
+        b"param N; in x[N]; out s[N]; for (i = 0; i < N; i++) s[i] = s[i-1] + x[i];",
+    ),
+    (
+        &["N=3"],
+        b"param N; out y[N]; var t; for (i = 0; i < N; i++) { y[i] = t; t = i; t = t + 10; }",
+    ),
+    (
+        &["N=3"],
+        b"param N; in x[N]; out y[N]; var a[N]; for (i = 0; i < N; i++) { if (i < 2) { a[i] = x[i]; } else { a[i] = 0 - x[i]; } } for (i = 0; i < N; i++) y[i] = a[i];",
+    ),
+    (
+        &["N=2"],
+        b"param N; in A[N][N], B[N][N]; out C[N][N]; for (i = 0; i < N; i++) for (j = 0; j < N; j++) { C[i][j] = 0; for (k = 0; k < N; k++) C[i][j] = C[i][j] + A[i][k] * B[k][j]; }",
+    ),
+];
+
+/// The certificate of the increment with N=1 in version 2.
+const FOLDED: &[u8] = b"cert 2\nsizes 3 2 2 3\n\
+    process 0 2\nf\np 0\n\
+    process 1 3\ng 0 0\nf 0\np 1\n\
+    process 1 2\ng 1 0\nf 0\n\
+    channel 0 1 0 1 inorder\nchannel 1 2 0 1 inorder\n\
+    sweep\nsweep\n\
+    r 2 1\n0\nr 3 1\n1\nr 2 1\n2\n\
+    end\n";
+
+/// Changes of it, and the line that `check` answers.
+static FOLDED_CHANGES: [(Changes<'static>, &[u8]); 8] = [
+    (&[], b"accepted\n"),
+    (&[(19, b"r 2 1\n")], b"refused NotEnabled 4\n"),
+    (
+        &[
+            (3, b"process 0 1\nr 4294967295 1\nr 4294967295 1\n"),
+            (5, b""),
+        ],
+        b"refused Long 0\n",
+    ),
+    (&[(17, b"r 1 1\n")], b"refused Number 17\n"),
+    (&[(1, b"cert 1\n")], b"refused Line 17\n"),
+    (&[(1, b"cert 3\n")], b"refused Line 1\n"),
+    (&[(17, b"r 142606337 1\n")], b"refused Long 3\n"),
+    (&[(17, b"r 2 4294967295\n")], b"refused Line 23\n"),
+];
+
+/// Changes of a certificate: the number of a line, from 1, and what stands in its place.
+type Changes<'a> = &'a [(usize, &'a [u8])];
+
+/// Changes of the certificate of the increment with N=1, and the line that `check` answers.
+static CHANGES: [(Changes<'static>, &[u8]); 24] = [
+    (&[], b"accepted\n"),
+    (&[(1, b"cert 3\n")], b"refused Line 1\n"),
+    (&[(2, b"sizes 3 2 2 4294967296\n")], b"refused Number 2\n"),
+    (&[(2, b"sizes 3 2 2 4294967295\n")], b"refused Line 24\n"),
+    (&[(3, b"process 0 02\n")], b"refused Line 3\n"),
+    (&[(24, b"")], b"refused Truncated\n"),
+    (&[(24, b"end")], b"refused Truncated\n"),
+    (&[(24, b"end\nend\n")], b"refused Line 25\n"),
+    (&[(13, b"channel 0 1 9 1 inorder\n")], b"refused Shape 3\n"),
+    (&[(11, b"g 0 0\n")], b"refused Shape 2\n"),
+    (&[(10, b"process 2 2\n")], b"refused Shape 2\n"),
+    (&[(4, b"p 0\n"), (5, b"f\n")], b"refused Fires 0 0\n"),
+    (&[(8, b"f\n")], b"refused Fires 1 1\n"),
+    (
+        &[(13, b"channel 0 1 0 0 inorder\n")],
+        b"refused NotEnabled 1\n",
+    ),
+    (&[(17, b"7\n")], b"refused NotEnabled 0\n"),
+    (&[(23, b"1\n")], b"refused NotEnabled 6\n"),
+    (&[(8, b"f z\n")], b"refused Tag 3 zero 0(0)\n"),
+    (
+        &[(7, b"f 0\n"), (8, b"g 0 0\n")],
+        b"refused Tag 2 empty 0(0)\n",
+    ),
+    (
+        &[(14, b"channel 1 2 0 1 reorder\n")],
+        b"refused Class 1 reorder inorder\n",
+    ),
+    (
+        &[(2, b"sizes 3 2 2 6\n"), (23, b"")],
+        b"refused Unended 2\n",
+    ),
+    // a token that nobody uses
+    (
+        &[
+            (2, b"sizes 3 2 2 8\n"),
+            (3, b"process 0 3\n"),
+            (5, b"p 0\np 0\n"),
+            (13, b"channel 0 1 0 2 inorder\n"),
+            (18, b"0\n0\n"),
+        ],
+        b"accepted\n",
+    ),
+    (&[(12, b"f 0 0 0 0 0 0 0 0 0\n")], b"refused Line 12\n"),
+    (&[(15, b"tree\n")], b"refused Line 16\n"),
+    (&[(7, b"g -5 0\n")], b"refused Number 7\n"),
+];
+
+/// A tree with its proofs, which gives the last writer of what the increment with N=1 reads.
+const TREE: &[u8] = b"tree\nw 0 1 5\nm 0 1\ns 0 1 2 1\ns 1 1 2 1\ns 2 1\ns 2 1\ns 5 1 6 1\n";
+
+/// Changes of the certificate of the increment with N=1 where this tree, in lines 15 to 22, is the first source, and the line
+/// that `check` answers.
+static TREE_CHANGES: [(Changes<'static>, &[u8]); 8] = [
+    (&[], b"accepted\n"),
+    (
+        &[(17, b"m 1 1\n")],
+        b"refused Source 1 0 Proof 0 1 NotContradictory\n",
+    ),
+    (
+        &[(22, b"s 5 1\n")],
+        b"refused Source 1 0 Proof 0 4 NotContradictory\n",
+    ),
+    (
+        &[(22, b"s 5 1 7 1\n")],
+        b"refused Source 1 0 Proof 0 4 BadIndex\n",
+    ),
+    (
+        &[(22, b"s 5 -1 6 1\n")],
+        b"refused Source 1 0 Proof 0 4 Negative\n",
+    ),
+    (
+        &[(16, b"w 0 1 4\n"), (22, b"")],
+        b"refused Source 1 0 Proofs 0 4 5\n",
+    ),
+    (&[(16, b"w 1 1 5\n")], b"refused Source 1 0 NoWriter 0\n"),
+    (
+        &[(16, b"w 0 0 5\n"), (17, b"")],
+        b"refused Source 1 0 BadForm 0\n",
+    ),
+];
+
+/// Parameters, sources and certificates with their changes, and the line that `check` answers.
+static LONGER: [(&[&str], &[u8], &[u8], Changes<'static>, &[u8]); 6] = [
+    // a smaller capacity, and a schedule that ends before the last event
+    (
+        &["N=3"],
+        INCREMENT,
+        THRICE,
+        &[(27, b"channel 0 1 0 2 inorder\n")],
+        b"refused NotEnabled 5\n",
+    ),
+    (
+        &["N=3"],
+        INCREMENT,
+        THRICE,
+        &[(2, b"sizes 3 2 2 20\n"), (51, b"")],
+        b"refused Unended 2\n",
+    ),
+    // other values of the parameter, and another source
+    (&["N=2"], INCREMENT, THRICE, &[], b"refused Fires 0 4\n"),
+    (&["N=3"], COPY, THRICE, &[], b"refused Shape 2\n"),
+    // the other slot
+    (
+        &[],
+        TRANSPOSE,
+        TRANSPOSED,
+        &[(18, b"f 0\n")],
+        b"refused Tag 13 0(0,1) 0(1,0)\n",
+    ),
+    // with a smaller capacity every run of this network sticks
+    (
+        &["N=4"],
+        LAST_VALUE,
+        DOWNWARD,
+        &[(50, b"channel 0 2 0 1 inorder\n")],
+        b"refused NotEnabled 15\n",
+    ),
+];
+
+/// These parts, one behind the other.
+fn joined(alloc: Global, parts: &[&[u8]]) -> Result<Vec<u8>, AllocError> {
+    let mut text = Vec::new(alloc);
+    for part in parts {
+        text.extend_from_slice(part)?;
+    }
+    Ok(text)
+}
+
+/// What stands in the place of this line, if it is changed.
+fn changed_line<'a>(changes: Changes<'a>, number: usize) -> Option<&'a [u8]> {
+    for (at, other) in changes {
+        if *at == number {
+            return Some(*other);
+        }
+    }
+    None
+}
+
+/// A text with these changes.
+fn changed(alloc: Global, text: &[u8], changes: Changes<'_>) -> Result<Vec<u8>, AllocError> {
+    let mut made = Vec::new(alloc);
+    let mut number = 1_usize;
+    let mut begins = true;
+    for byte in text {
+        match changed_line(changes, number) {
+            None => made.push(*byte)?,
+            Some(other) if begins => made.extend_from_slice(other)?,
+            Some(_) => {}
+        }
+        begins = *byte == b'\n';
+        if begins {
+            number = number.saturating_add(1);
+        }
+    }
+    Ok(made)
+}
+
+/// Has a certificate checked, and compares the status and the line.
+pub(crate) fn checks(
+    rt: &(impl Abort + AllocGlobal + Threads + Wait + Sync),
+    params: &[&str],
+    source: &[u8],
+    certificate: &[u8],
+    line: &[u8],
+) -> Result<(), Fail> {
+    let bundle = joined(rt.alloc(), &[source, b"\n%%\n%%\n", certificate])?;
+    let words = words_of(rt.alloc(), "check", params)?;
+    let status = if line == b"accepted\n".as_slice() {
+        0
+    } else {
+        1
+    };
+    expect_words(rt, SOUND, &words, &bundle, status, line, b"")
+}
+
+/// Whether both texts are read, as equal networks and equal schedules, with as many sources.
+pub(crate) fn stand_for_the_same(alloc: Global, text: &[u8], other: &[u8]) -> bool {
+    match (read_cert(alloc, text), read_cert(alloc, other)) {
+        (Ok((network, cert)), Ok((another, certificate))) => {
+            network.same(&another)
+                && cert.sources.len() == certificate.sources.len()
+                && cert.schedule.as_slice() == certificate.schedule.as_slice()
+        }
+        _ => false,
+    }
+}
+
+#[test]
+fn certificates_are_written(rt: HostRuntime) -> Result<(), Fail> {
+    for (params, source, text, schedule) in &WRITTEN {
+        let written = written_by(&rt, "cert", params, source, 2_000)?;
+        assert!(rt; written.held().starts_with(b"cert 2\n"));
+        assert!(rt; written.held().ends_with(schedule), "{params:?}");
+        assert!(rt; stand_for_the_same(rt.alloc(), written.held(), text));
+        checks(&rt, params, source, written.held(), b"accepted\n")?;
+        checks(&rt, params, source, text, b"accepted\n")?;
+    }
+    Ok(())
+}
+
+/// Whether this is one of the lines of a text.
+fn has_line(text: &[u8], line: &[u8]) -> bool {
+    text.split(|byte| *byte == b'\n').any(|found| found == line)
+}
+
+#[test]
+fn reads_of_the_class_have_trees(rt: HostRuntime) -> Result<(), Fail> {
+    for (params, source) in &ALL_OF_CLASS {
+        let written = written_by(&rt, "cert", params, source, 10_000)?;
+        assert!(rt; has_line(written.held(), b"tree"), "{params:?}");
+        assert!(rt; !has_line(written.held(), b"sweep"), "{params:?}");
+        checks(&rt, params, source, written.held(), b"accepted\n")?;
+    }
+    Ok(())
+}
+
+#[test]
+fn a_certificate_of_equal_points_is_short(rt: HostRuntime) -> Result<(), Fail> {
+    let written = written_by(&rt, "cert", &["N=100000"], INCREMENT, 20_000)?;
+    assert!(rt; written.held().len() < 20_000);
+    checks(&rt, &["N=100000"], INCREMENT, written.held(), b"accepted\n")
+}
+
+#[test]
+fn folded_certificates_are_judged(rt: HostRuntime) -> Result<(), Fail> {
+    for (changes, line) in &FOLDED_CHANGES {
+        let certificate = changed(rt.alloc(), FOLDED, changes)?;
+        checks(&rt, &["N=1"], INCREMENT, &certificate, line)?;
+    }
+    Ok(())
+}
+
+#[test]
+fn changed_certificates_are_judged(rt: HostRuntime) -> Result<(), Fail> {
+    for (changes, line) in &CHANGES {
+        let certificate = changed(rt.alloc(), ONCE, changes)?;
+        checks(&rt, &["N=1"], INCREMENT, &certificate, line)?;
+    }
+    checks(&rt, &["N=1"], INCREMENT, b"", b"refused Truncated\n")
+}
+
+#[test]
+fn trees_are_judged(rt: HostRuntime) -> Result<(), Fail> {
+    let alloc = rt.alloc();
+    let with_tree = changed(alloc, ONCE, &[(15, TREE)])?;
+    for (changes, line) in &TREE_CHANGES {
+        let certificate = changed(alloc, &with_tree, changes)?;
+        checks(&rt, &["N=1"], INCREMENT, &certificate, line)?;
+    }
+    // a proof of 513 splits, one in the other
+    let deep = repeated(alloc, b"tree\nx\n", b"b 0\n", 513)?;
+    let certificate = changed(alloc, ONCE, &[(15, &deep)])?;
+    checks(
+        &rt,
+        &["N=1"],
+        INCREMENT,
+        &certificate,
+        b"refused Deep 529\n",
+    )
+}
+
+#[test]
+fn certificates_of_longer_runs_are_judged(rt: HostRuntime) -> Result<(), Fail> {
+    for (params, source, text, changes, line) in &LONGER {
+        let certificate = changed(rt.alloc(), text, changes)?;
+        checks(&rt, params, source, &certificate, line)?;
+    }
+    Ok(())
+}
+
+#[test]
+fn parameters_agree_by_name(rt: HostRuntime) -> Result<(), Fail> {
+    let source = b"param N, M; in x[N]; out y[M]; for (i = 0; i < N; i++) y[i] = x[i] + 1;";
+    let written = written_by(&rt, "cert", &["N=1", "M=1"], source, 2_000)?;
+    assert!(rt; stand_for_the_same(rt.alloc(), written.held(), ONCE));
+    let params: [&[&str]; 2] = [&["M=1", "N=1"], &["K=7", "M=1", "N=1"]];
+    for params in params {
+        checks(&rt, params, source, ONCE, b"accepted\n")?;
+    }
+    Ok(())
+}
+
+#[test]
+fn a_check_wants_a_certificate_part(rt: HostRuntime) -> Result<(), Fail> {
+    let words = words_of(rt.alloc(), "check", &["N=1"])?;
+    let complaint = b"bundle: NoPart\n";
+    for bundle in [
+        b"".as_slice(),
+        b"$\n%%\n",
+        b"param N; in x[N]; out y[N];\n%%\nx,1\n",
+    ] {
+        expect_words(&rt, SOUND, &words, bundle, 5, b"", complaint)?;
+    }
+    // the source is judged before the certificate
+    let bundle = b"var a; $\n%%\n%%\ncert 3\n";
+    expect_words(&rt, SOUND, &words, bundle, 6, b"", b"text: BadByte 7\n")
+}

@@ -1,0 +1,38 @@
+//! Tests of the program by its top call, and of networks that run in other orders and by threads. They stand apart from what
+//! they test, since a crate with tests of its own is proved twice.
+#![tactic(auto)]
+
+#[cfg(test)]
+mod automata;
+#[cfg(test)]
+mod boards;
+#[cfg(test)]
+mod bound;
+#[cfg(test)]
+mod calls;
+#[cfg(test)]
+mod certificates;
+#[cfg(test)]
+mod dependences;
+#[cfg(test)]
+mod kernels;
+#[cfg(test)]
+mod meeting;
+#[cfg(test)]
+mod networks;
+#[cfg(test)]
+mod orders;
+#[cfg(test)]
+mod scripts;
+#[cfg(test)]
+mod simulations;
+#[cfg(test)]
+mod sources;
+#[cfg(test)]
+mod steps;
+#[cfg(test)]
+mod threads;
+#[cfg(test)]
+mod trims;
+#[cfg(test)]
+mod vhdl;

@@ -1,0 +1,39 @@
+use crate::calls::{SOUND, expect};
+use crate::certificates::{INCREMENT, LAST_VALUE};
+use std::test::Fail;
+
+const INCREMENT_TRIMMED: &[u8] =
+    b"trim 1\nchannel 0 capacity 1 rest 1 0 0\nchannel 1 capacity 1 rest 5 2 0\nend\n";
+
+const LAST_VALUE_TRIMMED: &[u8] = b"trim 1\n\
+    channel 0 capacity 1 rest 1 0 0 0\nchannel 1 capacity 2 rest 8 6 1 0\n\
+    channel 2 capacity 1 rest 11 8 1 0\nchannel 3 capacity 1 rest 11 9 3 0\n\
+    end\n";
+
+/// Words, sources, and what is written.
+static TRIMMED: [(&[&str], &[u8], &[u8]); 5] = [
+    (&["trim", "N=3"], INCREMENT, INCREMENT_TRIMMED),
+    (
+        &["trim", "N=3", "--policy=down"],
+        INCREMENT,
+        INCREMENT_TRIMMED,
+    ),
+    (&["trim", "N=4"], LAST_VALUE, LAST_VALUE_TRIMMED),
+    (
+        &["trim", "N=4", "--policy=down"],
+        LAST_VALUE,
+        LAST_VALUE_TRIMMED,
+    ),
+    (&["trim", "N=0"], INCREMENT, b"trim 1\nend\n"),
+];
+
+#[test]
+fn capacities_are_lowered(rt: HostRuntime) -> Result<(), Fail> {
+    for (words, source, output) in &TRIMMED {
+        expect(&rt, SOUND, words, source, 0, output, b"")?;
+    }
+    // the data part is passed over, and a size is refused
+    let bundle = b"in x; out y[2147483647][2147483647];\n%%\nz,1\n";
+    let complaint = b"limit: Size 8388609\n";
+    expect(&rt, SOUND, &["trim"], bundle, 8, b"", complaint)
+}

@@ -116,10 +116,14 @@ fn append_zeros(count: usize, coefs: &mut Coefs)
     }
 }
 
+// The product of two numbers of 64 bits has 128, and takes one multiplication.
 fn product(a: i128, b: i128) -> Result<i128, Overflow>
     ensures { result_ok result ≡ number_in_128_bits (a *ℤ b) }
 {
-    a.checked_mul(b).ok_or(Overflow)
+    match (i64::try_from(a), i64::try_from(b)) {
+        (Ok(a), Ok(b)) => Ok(i128::from(a) * i128::from(b)),
+        _ => a.checked_mul(b).ok_or(Overflow),
+    }
 }
 
 fn sum(a: i128, b: i128) -> Result<i128, Overflow>
@@ -128,9 +132,13 @@ fn sum(a: i128, b: i128) -> Result<i128, Overflow>
     a.checked_add(b).ok_or(Overflow)
 }
 
+// Adds a product. Most coefficients are 0, and add nothing.
 fn add_product(total: i128, coef: i128, value: i128) -> Result<i128, Overflow>
     ensures { result_ok result ≡ sum_in_128_bits total coef value }
 {
+    if coef == 0 {
+        return Ok(total);
+    }
     sum(total, product(coef, value)?)
 }
 

@@ -14,7 +14,8 @@ pub fn eval(tree: &Tree, at: &Vector) -> Result<Found, Overflow>
     ensures exact { result_ok result ≡ outcome_of tree.now at.now }
     ensures value { IfOk result (λ found. found ≡ gives tree.now at.now) }
 {
-    follow(tree, wide(at))
+    let mut values = wide(at);
+    follow(tree, &mut values)
 }
 
 fn wide(at: &Vector) -> Coefs
@@ -29,9 +30,9 @@ fn wide(at: &Vector) -> Coefs
 }
 
 // The values of the quotients follow those of the loops.
-fn follow(tree: &Tree, values: Coefs) -> Result<Found, Overflow>
-    requires { (depth : ℕ) × (depth ≤ 6) × IsTrue (is_ready depth tree.now (length values)) }
-    ensures { result_ok result ≡ outcome_of tree.now values }
+fn follow(tree: &Tree, values: &mut Coefs) -> Result<Found, Overflow>
+    requires { (depth : ℕ) × (depth ≤ 6) × IsTrue (is_ready depth tree.now (length values.old)) }
+    ensures { result_ok result ≡ outcome_of tree.now values.old }
 {
     match tree {
         Tree::Test(form, yes, no) => match form.eval(values.as_slice()) {
@@ -46,11 +47,11 @@ fn follow(tree: &Tree, values: Coefs) -> Result<Found, Overflow>
         },
         Tree::Divides(form, divisor, yes, no) => match form.eval(values.as_slice()) {
             Ok(value) => {
-                let more = push_quotient(values, value, *divisor);
+                push_quotient(values, value, *divisor);
                 if is_divided(value, *divisor) {
-                    follow(yes.get(), more)
+                    follow(yes.get(), values)
                 } else {
-                    follow(no.get(), more)
+                    follow(no.get(), values)
                 }
             }
             Err(overflow) => Err(overflow),
@@ -70,13 +71,12 @@ fn follow(tree: &Tree, values: Coefs) -> Result<Found, Overflow>
     }
 }
 
-fn push_quotient(mut values: Coefs, value: i128, divisor: i128) -> Coefs
-    requires room { length values + 1 ≤ 18 }
+fn push_quotient(values: &mut Coefs, value: i128, divisor: i128)
+    requires room { length values.old + 1 ≤ 18 }
     requires divisor { pos 1 ≤ℤ divisor }
-    ensures { result ≡ with_quotient values value divisor }
+    ensures { values.new ≡ with_quotient values.old value divisor }
 {
     values.push(value.div_euclid(divisor));
-    values
 }
 
 fn is_divided(value: i128, divisor: i128) -> bool

@@ -13,7 +13,7 @@ use Rattle.source_tree.proofs.walk.+follow.Goals as goal
 pub eval-requires : goal.eval-requires
 eval-requires t c =
     (ready_test c.requires.0
-    (length c.args.values) c.args.tree.now c.in-Test.form c.in-Test.yes c.in-Test.no c.in-Test.is c.requires.2).0
+    (length c.args.values.now) c.args.tree.now c.in-Test.form c.in-Test.yes c.in-Test.no c.in-Test.is c.requires.2).0
     ∙ sym (ap length c.as_slice.ensures.value)
 
 pub follow-requires : goal.follow-requires
@@ -22,8 +22,8 @@ follow-requires t c = (
   (
     c.requires.0,
     c.requires.1,
-    ap (λ p. is_ready c.requires.0 p (length c.args.values)) c.get.ensures
-        ∙ (ready_test c.requires.0 (length c.args.values) c.args.tree.now c.in-Test.form c.in-Test.yes c.in-Test.no
+    ap (λ p. is_ready c.requires.0 p (length c.args.values.now)) c.get.ensures
+        ∙ (ready_test c.requires.0 (length c.args.values.now) c.args.tree.now c.in-Test.form c.in-Test.yes c.in-Test.no
         c.in-Test.is c.requires.2).1,
   ),
 )
@@ -34,8 +34,8 @@ follow-requires-else-value-ge0 t c = (
   (
     c.requires.0,
     c.requires.1,
-    ap (λ p. is_ready c.requires.0 p (length c.args.values)) c.get-else-value-ge0.ensures
-        ∙ (ready_test c.requires.0 (length c.args.values) c.args.tree.now c.in-Test.form c.in-Test.yes c.in-Test.no
+    ap (λ p. is_ready c.requires.0 p (length c.args.values.now)) c.get-else-value-ge0.ensures
+        ∙ (ready_test c.requires.0 (length c.args.values.now) c.args.tree.now c.in-Test.form c.in-Test.yes c.in-Test.no
         c.in-Test.is c.requires.2).2,
   ),
 )
@@ -43,46 +43,46 @@ follow-requires-else-value-ge0 t c = (
 pub returns-then-value-ge0 : goal.returns-then-value-ge0
 returns-then-value-ge0 t c =
     let fits : FitsSigned w128 c.in-Ok.value = search rules in
-    test_taken c.args.values c.as_slice.result.now c.args.tree.now c.in-Test.form c.in-Test.yes c.in-Test.no
+    test_taken c.args.values.now c.as_slice.result.now c.args.tree.now c.in-Test.form c.in-Test.yes c.in-Test.no
     c.get.result.now c.in-Ok.value true _
     c.in-Test.is c.as_slice.ensures.value c.in-Ok.ensures.exact
     (simp to_z-of_z at c.if-value-ge0.true) c.get.ensures c.follow.ensures
 
-pub returns-in-Ok : goal.returns-in-Ok
-returns-in-Ok t c =
+pub returns-else-value-ge0 : goal.returns-else-value-ge0
+returns-else-value-ge0 t c =
     let fits : FitsSigned w128 c.in-Ok.value = search rules in
-    test_taken c.args.values c.as_slice.result.now c.args.tree.now c.in-Test.form c.in-Test.yes c.in-Test.no
+    test_taken c.args.values.now c.as_slice.result.now c.args.tree.now c.in-Test.form c.in-Test.yes c.in-Test.no
     c.get-else-value-ge0.result.now c.in-Ok.value false _
     c.in-Test.is c.as_slice.ensures.value c.in-Ok.ensures.exact
     (simp to_z-of_z at c.if-value-ge0.false) c.get-else-value-ge0.ensures c.follow-else-value-ge0.ensures
 
-pub returns-in-Test : goal.returns-in-Test
-returns-in-Test t c = test_none c.args.values c.as_slice.result.now c.args.tree.now c.in-Test.form c.in-Test.yes
+pub returns-in-Err : goal.returns-in-Err
+returns-in-Err t c = test_none c.args.values.now c.as_slice.result.now c.args.tree.now c.in-Test.form c.in-Test.yes
     c.in-Test.no c.in-Test.is c.as_slice.ensures.value c.in-Err.ensures.exact
 
 pub eval-requires-in-Divides : goal.eval-requires-in-Divides
 eval-requires-in-Divides t c =
     (ready_divides c.requires.0
-    (length c.args.values) c.args.tree.now c.in-Divides.form c.in-Divides.divisor c.in-Divides.yes c.in-Divides.no
+    (length c.args.values.now) c.args.tree.now c.in-Divides.form c.in-Divides.divisor c.in-Divides.yes c.in-Divides.no
     c.in-Divides.is c.requires.2).0 ∙ sym (ap length c.as_slice-in-Divides.ensures.value)
 
-pub push_quotient-more-requires-clause-room : goal.push_quotient-more-requires-clause-room
-push_quotient-more-requires-clause-room t c =
+pub push_quotient-requires-clause-room : goal.push_quotient-requires-clause-room
+push_quotient-requires-clause-room t c =
     omega (
       arith,
       c.requires.1,
-      (ready_divides c.requires.0 (length c.args.values) c.args.tree.now c.in-Divides.form
+      (ready_divides c.requires.0 (length c.args.values.now) c.args.tree.now c.in-Divides.form
           c.in-Divides.divisor c.in-Divides.yes c.in-Divides.no c.in-Divides.is c.requires.2).2,
     )
 
-pub push_quotient-more-requires-clause-divisor : goal.push_quotient-more-requires-clause-divisor
-push_quotient-more-requires-clause-divisor t c =
+pub push_quotient-requires-clause-divisor : goal.push_quotient-requires-clause-divisor
+push_quotient-requires-clause-divisor t c =
     let fits : FitsSigned w128 c.in-Divides.divisor = search rules in
     omega (
       arith,
       ints,
       to_z-of_z w128 c.in-Divides.divisor fits,
-      (ready_divides c.requires.0 (length c.args.values) c.args.tree.now c.in-Divides.form c.in-Divides.divisor
+      (ready_divides c.requires.0 (length c.args.values.now) c.args.tree.now c.in-Divides.form c.in-Divides.divisor
           c.in-Divides.yes c.in-Divides.no c.in-Divides.is c.requires.2).1,
     )
 
@@ -93,7 +93,7 @@ is_divided-requires t c =
       arith,
       ints,
       to_z-of_z w128 c.in-Divides.divisor fits,
-      (ready_divides c.requires.0 (length c.args.values) c.args.tree.now c.in-Divides.form c.in-Divides.divisor
+      (ready_divides c.requires.0 (length c.args.values.now) c.args.tree.now c.in-Divides.form c.in-Divides.divisor
           c.in-Divides.yes c.in-Divides.no c.in-Divides.is c.requires.2).1,
     )
 
@@ -103,11 +103,11 @@ follow-requires-then-is_divided t c = (
   (
     c.requires.0,
     c.requires.1,
-    more_ready c.requires.0 c.args.values c.push_quotient-more.result (to_z w128 (of_z w128 c.in-Ok-eval.value))
+    more_ready c.requires.0 c.args.values.now c.push_quotient.new.values (to_z w128 (of_z w128 c.in-Ok-eval.value))
         (to_z w128 (of_z w128 c.in-Divides.divisor)) _ c.in-Divides.yes c.get-then-is_divided.ensures
-        c.push_quotient-more.ensures
+        c.push_quotient.ensures
         (ready_divides c.requires.0
-        (length c.args.values) c.args.tree.now c.in-Divides.form c.in-Divides.divisor c.in-Divides.yes c.in-Divides.no
+        (length c.args.values.now) c.args.tree.now c.in-Divides.form c.in-Divides.divisor c.in-Divides.yes c.in-Divides.no
         c.in-Divides.is c.requires.2).3,
   ),
 )
@@ -118,11 +118,11 @@ follow-requires-else-is_divided t c = (
   (
     c.requires.0,
     c.requires.1,
-    more_ready c.requires.0 c.args.values c.push_quotient-more.result (to_z w128 (of_z w128 c.in-Ok-eval.value))
+    more_ready c.requires.0 c.args.values.now c.push_quotient.new.values (to_z w128 (of_z w128 c.in-Ok-eval.value))
         (to_z w128 (of_z w128 c.in-Divides.divisor)) _ c.in-Divides.no c.get-else-is_divided.ensures
-        c.push_quotient-more.ensures
+        c.push_quotient.ensures
         (ready_divides c.requires.0
-        (length c.args.values) c.args.tree.now c.in-Divides.form c.in-Divides.divisor c.in-Divides.yes c.in-Divides.no
+        (length c.args.values.now) c.args.tree.now c.in-Divides.form c.in-Divides.divisor c.in-Divides.yes c.in-Divides.no
         c.in-Divides.is c.requires.2).4,
   ),
 )
@@ -131,40 +131,40 @@ pub returns-then-is_divided : goal.returns-then-is_divided
 returns-then-is_divided t c =
     let fits : FitsSigned w128 c.in-Divides.divisor = search rules in
     let fits' : FitsSigned w128 c.in-Ok-eval.value = search rules in
-    divides_taken c.args.values c.as_slice-in-Divides.result.now c.push_quotient-more.result c.args.tree.now
+    divides_taken c.args.values.now c.as_slice-in-Divides.result.now c.push_quotient.new.values c.args.tree.now
     c.in-Divides.form c.in-Divides.divisor _ c.in-Divides.yes c.in-Divides.no c.get-then-is_divided.result.now
     c.in-Ok-eval.value _ c.is_divided.result true _
     c.in-Divides.is c.as_slice-in-Divides.ensures.value c.in-Ok-eval.ensures.exact
     (to_z-of_z w128 c.in-Ok-eval.value fits')
-    (to_z-of_z w128 c.in-Divides.divisor fits) c.push_quotient-more.ensures
+    (to_z-of_z w128 c.in-Divides.divisor fits) c.push_quotient.ensures
     c.is_divided.ensures c.if-is_divided.true c.get-then-is_divided.ensures c.follow-then-is_divided.ensures
 
-pub returns-in-Ok-eval : goal.returns-in-Ok-eval
-returns-in-Ok-eval t c =
+pub returns-else-is_divided : goal.returns-else-is_divided
+returns-else-is_divided t c =
     let fits : FitsSigned w128 c.in-Divides.divisor = search rules in
     let fits' : FitsSigned w128 c.in-Ok-eval.value = search rules in
-    divides_taken c.args.values c.as_slice-in-Divides.result.now c.push_quotient-more.result c.args.tree.now
+    divides_taken c.args.values.now c.as_slice-in-Divides.result.now c.push_quotient.new.values c.args.tree.now
     c.in-Divides.form c.in-Divides.divisor _ c.in-Divides.yes c.in-Divides.no c.get-else-is_divided.result.now
     c.in-Ok-eval.value _ c.is_divided.result false _
     c.in-Divides.is c.as_slice-in-Divides.ensures.value c.in-Ok-eval.ensures.exact
     (to_z-of_z w128 c.in-Ok-eval.value fits')
-    (to_z-of_z w128 c.in-Divides.divisor fits) c.push_quotient-more.ensures
+    (to_z-of_z w128 c.in-Divides.divisor fits) c.push_quotient.ensures
     c.is_divided.ensures c.if-is_divided.false c.get-else-is_divided.ensures c.follow-else-is_divided.ensures
 
-pub returns-in-Divides : goal.returns-in-Divides
-returns-in-Divides t c =
-    divides_none c.args.values c.as_slice-in-Divides.result.now c.args.tree.now c.in-Divides.form c.in-Divides.divisor
+pub returns-in-Err-eval : goal.returns-in-Err-eval
+returns-in-Err-eval t c =
+    divides_none c.args.values.now c.as_slice-in-Divides.result.now c.args.tree.now c.in-Divides.form c.in-Divides.divisor
     c.in-Divides.yes c.in-Divides.no c.in-Divides.is c.as_slice-in-Divides.ensures.value c.in-Err-eval.ensures.exact
 
-pub returns-in-Writer : goal.returns-in-Writer
-returns-in-Writer t c =
-    writer_none c.args.values c.as_slice-in-Writer-2.result.now c.args.tree.now c.in-Writer.statement c.in-Writer.forms
+pub returns-in-Err-append_mapped : goal.returns-in-Err-append_mapped
+returns-in-Err-append_mapped t c =
+    writer_none c.args.values.now c.as_slice-in-Writer-2.result.now c.args.tree.now c.in-Writer.statement c.in-Writer.forms
     c.as_slice-in-Writer.result.now c.in-Writer.field-2 c.in-Writer.is
     c.as_slice-in-Writer-2.ensures.value c.as_slice-in-Writer.ensures c.in-Err-append_mapped.ensures
 
 pub returns-in-Ok-append_mapped : goal.returns-in-Ok-append_mapped
 returns-in-Ok-append_mapped t c =
-    writer_some c.args.values c.as_slice-in-Writer-2.result.now c.empty-at.result c.append_mapped.new.out
+    writer_some c.args.values.now c.as_slice-in-Writer-2.result.now c.empty-at.result c.append_mapped.new.out
     c.args.tree.now c.in-Writer.statement c.in-Writer.forms c.as_slice-in-Writer.result.now c.in-Writer.field-2
     c.in-Writer.is
     c.as_slice-in-Writer-2.ensures.value c.as_slice-in-Writer.ensures c.empty-at.ensures c.in-Ok-append_mapped.ensures
@@ -176,7 +176,7 @@ append_mapped-requires-clause-room t c =
       ap length c.empty-at.ensures,
       ap length c.as_slice-in-Writer.ensures,
       (ready_writer c.requires.0
-          (length c.args.values) c.args.tree.now c.in-Writer.statement c.in-Writer.forms c.in-Writer.field-2
+          (length c.args.values.now) c.args.tree.now c.in-Writer.statement c.in-Writer.forms c.in-Writer.field-2
           c.in-Writer.is c.requires.2).0,
     )
 
@@ -184,13 +184,13 @@ pub append_mapped-requires-clause-over : goal.append_mapped-requires-clause-over
 append_mapped-requires-clause-over t c =
     ap (λ (values : List ℤ).
     are_over (length values) c.as_slice-in-Writer.result.now) c.as_slice-in-Writer-2.ensures.value
-    ∙ ap (are_over (length c.args.values)) c.as_slice-in-Writer.ensures
+    ∙ ap (are_over (length c.args.values.now)) c.as_slice-in-Writer.ensures
     ∙ (ready_writer c.requires.0
-    (length c.args.values) c.args.tree.now c.in-Writer.statement c.in-Writer.forms c.in-Writer.field-2 c.in-Writer.is
+    (length c.args.values.now) c.args.tree.now c.in-Writer.statement c.in-Writer.forms c.in-Writer.field-2 c.in-Writer.is
     c.requires.2).1
 
 pub returns-in-Zero : goal.returns-in-Zero
-returns-in-Zero t c = sym (walked_zero c.args.values c.args.tree.now _ c.in-Zero.is)
+returns-in-Zero t c = sym (walked_zero c.args.values.now c.args.tree.now _ c.in-Zero.is)
 
-pub returns : goal.returns
-returns t c = sym (walked_dead c.args.values c.args.tree.now _ c.in-Dead.is)
+pub returns-in-Dead : goal.returns-in-Dead
+returns-in-Dead t c = sym (walked_dead c.args.values.now c.args.tree.now _ c.in-Dead.is)

@@ -6,6 +6,7 @@ ghost use Rattle.script_blocks.specs.Expansion.{expansion, repeated};
 ghost use Rattle.script_blocks.specs.Nesting.{is_proper};
 
 use crate::folded::FoldedList;
+use crate::keys::Keyed;
 use plain_data::Items;
 use script_blocks::{BlockPart, Blocks, ScriptBuilder};
 use std::alloc::{AllocError, Global};
@@ -44,7 +45,7 @@ fn alone<T: Drop>(alloc: Global, item: T) -> Result<Blocks<T>, AllocError>
 }
 
 /// The blocks of these items and of the last one, with the stretches folded that repeat.
-fn blocks_of<T: Copy + Eq>(
+fn blocks_of<T: Copy + Eq + Keyed>(
     alloc: Global,
     items: &mut ScriptBuilder<T>,
     last: Option<T>,
@@ -59,7 +60,7 @@ fn blocks_of<T: Copy + Eq>(
     if items.is_empty() {
         return alone(alloc, last);
     }
-    items.push(last)?;
+    items.push_with_key(last.key(), last)?;
     items.blocks(alloc)
 }
 
@@ -74,14 +75,14 @@ impl<T> Run<T> {
     }
 }
 
-impl<T: Copy + Eq> Run<T> {
+impl<T: Copy + Eq + Keyed> Run<T> {
     fn push(&mut self, item: T) -> Result<(), AllocError>
         requires same { (a b : T) → T.eq a b ≡ true → a ≡ b }
         ensures { OnOk result (self.new ≡ self.old ++ item ∷ []) }
     {
         match self.last {
             Some(last) => {
-                self.items.push(last)?;
+                self.items.push_with_key(last.key(), last)?;
                 self.last = Some(item);
                 Ok(())
             }
@@ -135,7 +136,7 @@ impl<T> Gathering<T> {
     }
 }
 
-impl<T: Copy + Eq> Gathering<T> {
+impl<T: Copy + Eq + Keyed> Gathering<T> {
     /// Adds an item at the end, or answers want of memory. Two items that compare equal have to be the same value.
     pub(crate) fn push(&mut self, item: T) -> Result<(), AllocError>
         requires same { (a b : T) → T.eq a b ≡ true → a ≡ b }

@@ -4,6 +4,7 @@
 mod folded;
 mod gathering;
 mod kept;
+mod keys;
 mod law;
 mod lines;
 mod places;

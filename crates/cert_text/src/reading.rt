@@ -13,6 +13,7 @@ ghost use Rattle.cert_text.specs.StandsFor.{StandsFor};
 use crate::folded::FoldedList;
 use crate::gathering::Gathering;
 use crate::kept::{Kept, KeptProcess, too_long, unfold};
+use crate::keys::Keyed;
 use crate::lines::{FromLine, read_line, read_lines};
 use crate::places::{PartLine, ProcessHead, Sizes, SourceLine, Version, part_line_of};
 use cert_lines::{CertError, Lines, NESTING_LIMIT};
@@ -37,7 +38,7 @@ fn read_part_line<T: FromLine>(
 /// Reads so many parts, whose repeats nest at most so many levels deep. A level takes two frames of the stack. Two items that
 /// compare equal have to be the same value.
 #[cycle(read_parts)]
-fn read_parts<T: FromLine + Copy + Eq>(
+fn read_parts<T: FromLine + Copy + Eq + Keyed>(
     levels: u32,
     version: Version,
     count: u32,
@@ -56,7 +57,7 @@ fn read_parts<T: FromLine + Copy + Eq>(
 
 /// Reads a part, whose repeats nest at most so many levels deep, to the end of a list.
 #[cycle(read_parts)]
-fn read_part<T: FromLine + Copy + Eq>(
+fn read_part<T: FromLine + Copy + Eq + Keyed>(
     levels: u32,
     version: Version,
     alloc: Global,

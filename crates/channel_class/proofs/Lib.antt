@@ -1,2 +1,3 @@
 pub mod Neighbours
 pub mod Repeats
+pub mod Marks

@@ -14,7 +14,7 @@ count_cons m x xs = sum_by-cons (λ n. cond (m == n) 1 0) x xs
 count_yes : (m x : ℕ) (xs : List ℕ) → (m == x) ≡ true → count_by (λ n. m == n) (x ∷ xs) ≡ 1 + count_by (λ n. m == n) xs
 count_yes m x xs hit = count_cons m x xs ∙ ap (λ c. c + count_by (λ n. m == n) xs) (cond-true (m == x) 1 0 hit)
 
-count_no : (m x : ℕ) (xs : List ℕ) → (m == x) ≡ false → count_by (λ n. m == n) (x ∷ xs) ≡ 0 + count_by (λ n. m == n) xs
+pub count_no : (m x : ℕ) (xs : List ℕ) → (m == x) ≡ false → count_by (λ n. m == n) (x ∷ xs) ≡ 0 + count_by (λ n. m == n) xs
 count_no m x xs miss = count_cons m x xs ∙ ap (λ c. c + count_by (λ n. m == n) xs) (cond-false (m == x) 1 0 miss)
 
 count_not_less : (m x : ℕ) (xs : List ℕ) → count_by (λ n. m == n) xs ≤ count_by (λ n. m == n) (x ∷ xs)
@@ -22,7 +22,7 @@ count_not_less m x xs =
     elim (cases_Bool
     (m == x)) [ inl hit ↦ omega (arith, count_yes m x xs hit) | inr miss ↦ omega (arith, count_no m x xs miss) ]
 
-any_counts : (m : ℕ) (xs : List ℕ) → list_any (λ n. m == n) xs ≡ true → 0 < count_by (λ n. m == n) xs
+pub any_counts : (m : ℕ) (xs : List ℕ) → list_any (λ n. m == n) xs ≡ true → 0 < count_by (λ n. m == n) xs
 any_counts m [] h = cc
 any_counts m (x ∷ xs) h =
     elim (cases_Bool (m == x)) [
@@ -41,7 +41,7 @@ counts_any m (x ∷ xs) h =
     ]
 
 -- a list repeats exactly where it has some number more than once
-repeat_counts : (xs : List ℕ) → has_repeat xs ≡ true → (m : ℕ) × (1 < count_by (λ n. m == n) xs)
+pub repeat_counts : (xs : List ℕ) → has_repeat xs ≡ true → (m : ℕ) × (1 < count_by (λ n. m == n) xs)
 repeat_counts [] h = cc
 repeat_counts (x ∷ xs) h =
     elim (cases_Bool (list_any (λ n. x == n) xs)) [
@@ -52,7 +52,7 @@ repeat_counts (x ∷ xs) h =
           (more.0, omega (arith, more.1, count_not_less more.0 x xs))
     ]
 
-counts_repeat : (m : ℕ) (xs : List ℕ) → 1 < count_by (λ n. m == n) xs → has_repeat xs ≡ true
+pub counts_repeat : (m : ℕ) (xs : List ℕ) → 1 < count_by (λ n. m == n) xs → has_repeat xs ≡ true
 counts_repeat m [] h = absurd (omega arith)
 counts_repeat m (x ∷ xs) h =
     elim (cases_Bool (m == x)) [

@@ -1,7 +1,7 @@
 //! The class of a channel: whether its tokens are used in order, and whether some token is used more than once.
 #![tactic(auto)]
 
-ghost use Rattle.std.specs.Prelude.{◌≡◌, IfOk, IsPermutation, IsSorted};
+ghost use Rattle.std.specs.Prelude.{◌≡◌, ◌<◌, All, IfOk, IsPermutation, IsSorted, IsTrue};
 ghost use Rattle.std.specs.Ordering.{nat_cmp};
 ghost use Rattle.channel_class.specs.Classes.{class_of, never_falls, has_repeat};
 
@@ -24,7 +24,8 @@ pub struct ChannelClass {
 }
 
 /// The class of a channel with these uses: for each use, in the reader's order, the index of the token that it names.
-/// It takes memory for one copy of them, and the time of sorting it.
+/// Where each index is below the number of uses, it takes a byte for each use, and the time of going over them; else it
+/// takes memory for one copy of them, and the time of sorting it.
 pub fn class_of(alloc: Global, uses: &[u32]) -> Result<ChannelClass, AllocError>
     ensures { IfOk result (λ class. class ≡ class_of uses.now) }
 {
@@ -33,12 +34,49 @@ pub fn class_of(alloc: Global, uses: &[u32]) -> Result<ChannelClass, AllocError>
     } else {
         UseOrder::Reorder
     };
-    let sorted = sorted(alloc, uses)?;
-    let multiplicity = has_equal_neighbours(&sorted);
+    let multiplicity = has_repeat(alloc, uses)?;
     Ok(ChannelClass {
         order,
         multiplicity,
     })
+}
+
+// Whether an index is repeated.
+fn has_repeat(alloc: Global, uses: &[u32]) -> Result<bool, AllocError>
+    ensures { IfOk result (λ many. many ≡ has_repeat uses.now) }
+{
+    if are_below(uses, uses.len()) {
+        return has_marked_repeat(alloc, uses, uses.len());
+    }
+    let sorted = sorted(alloc, uses)?;
+    Ok(has_equal_neighbours(&sorted))
+}
+
+// Whether each use is below this number.
+fn are_below(uses: &[u32], limit: usize) -> bool
+    ensures { IsTrue result → All (λ named. named < limit) uses.now }
+{
+    for named in uses {
+        if *named as usize >= limit {
+            return false;
+        }
+    }
+    true
+}
+
+// Whether an index is repeated, where each is below this number. Each is marked where it is first used.
+fn has_marked_repeat(alloc: Global, uses: &[u32], limit: usize) -> Result<bool, AllocError>
+    requires { All (λ named. named < limit) uses.now }
+    ensures { IfOk result (λ many. many ≡ has_repeat uses.now) }
+{
+    let mut marks = vec![in alloc; false; limit]?;
+    for named in uses {
+        if marks[*named as usize] {
+            return Ok(true);
+        }
+        marks[*named as usize] = true;
+    }
+    Ok(false)
 }
 
 // The same numbers in ascending order.

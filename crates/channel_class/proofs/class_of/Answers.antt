@@ -1,10 +1,9 @@
-use Rattle.std.proofs.Common.{◌≡◌, Bool, List, ℕ, sym, ap, ◌∙◌, if◌then◌else◌}
+use Rattle.std.proofs.Common.{◌≡◌, Bool, List, ℕ, sym, ◌∙◌, if◌then◌else◌}
 use Rattle.std.proofs.lemmas.Bool.{cond-true, cond-false}
 use Rattle.channel_class.specs.declared.ChannelClass.{ChannelClass}
 use Rattle.channel_class.specs.declared.UseOrder.{UseOrder}
 use Rattle.channel_class.specs.declared.UseOrder.TheVariants.{InOrder, Reorder}
 use Rattle.channel_class.specs.Classes.{class_of, never_falls, has_repeat}
-use Rattle.channel_class.proofs.Repeats.{same_repeats}
 use Rattle.channel_class.proofs.class_of.Goals as goal
 use Rattle.channel_class.proofs.class_of.Goals.{then-never_falls, else-never_falls}
 
@@ -24,7 +23,4 @@ returns c =
           w.order-is
           ∙ sym (cond-false (never_falls uses) InOrder Reorder (sym c.never_falls.ensures ∙ w.if-never_falls.false))
     ] in
-    let many =
-    c.has_equal_neighbours-multiplicity.ensures ∙ ap has_repeat c.deref.ensures.value
-    ∙ same_repeats uses c.in_ok-sorted.sorted.items c.in_ok-sorted.ensures.same in
-    class_from uses c.if-never_falls.order c.has_equal_neighbours-multiplicity.result order many
+    class_from uses c.if-never_falls.order c.in_ok-multiplicity.multiplicity order c.in_ok-multiplicity.ensures

@@ -6,7 +6,7 @@ use Rattle.std.specs.List.{cons_option, range_with_len}
 use Rattle.std.specs.Option.{option_and_then}
 use Rattle.std.proofs.lemmas.Bool.{ne_eqb, eq-eqb}
 use Rattle.std.proofs.lemmas.List.Elements.{filter_map-append}
-use Rattle.std.proofs.lemmas.List.FromFn.{get_or-map-range_with_len, map-range_with_len_more}
+use Rattle.std.proofs.lemmas.List.FromFn.{get_or-map-range_with_len}
 use Rattle.sanlp.specs.declared.nest.Tag.{Tag}
 use Rattle.sanlp.proofs.Lists.{map-range_with_len_same, map-range_with_len_replicate, set_counted, take_next}
 use Rattle.channel_plan.specs.Tokens.{turn_of, turns_used}
@@ -100,16 +100,3 @@ used_here incoming k sources i processes (Some t) counts e below was =
     option_and_then
     (λ source. option_and_then
     (λ t. use_from incoming k t.process (uses_before sources i t.process)) source) o) e)
-
-pub uses_more : (incoming : List Incoming) (k : ℕ) (sources : List (Option Tag)) (i processes : ℕ) (source : Option Tag)
-    (counts : List ℕ) (found : Option ChannelUse) (before after : List (Option ChannelUse))
-    → slice_get sources i ≡ Some source → OnlyBelow processes source
-    → counts ≡ map (uses_before sources i) (range_with_len 0 processes)
-    → found ≡ option_and_then (λ t. use_from incoming k t.process (get_or counts t.process 0)) source
-    → before ≡ map (use_at incoming k sources) (range_with_len 0 i) → after ≡ before ++ found ∷ []
-    → after ≡ map (use_at incoming k sources) (range_with_len 0 (i + 1))
-uses_more incoming k sources i processes source counts found before after e below counts_are is was g =
-    g ∙ ap (λ xs. xs ++ found ∷ []) was
-    ∙ ap (λ o. map (use_at incoming k sources) (range_with_len 0 i) ++ o ∷ [])
-    (is ∙ used_here incoming k sources i processes source counts e below counts_are)
-    ∙ sym (map-range_with_len_more (use_at incoming k sources) 0 i i (omega arith))

@@ -1,6 +1,7 @@
 pub mod Lists
 pub mod Usages
 pub mod Counts
+pub mod Points
 pub mod Channels
 pub mod Tags
 pub mod Slots

@@ -102,19 +102,6 @@ used_fits n p k f sources (Some (Some t)) ok =
     (find (comes_from t.process k) (incoming_from 0 0 (plans_of n) p)) (channel_from 0 (plans_of n) t.process p k)
     (channel_same (plans_of n) p t.process k) (λ c plan e own. slots_fit n p c plan ok e own)
 
--- every use fits
-pub all_fit : (n : Nest) (p : ℕ) (sources : List (List (Option Tag))) → SizeIsOk n
-    → All (All (UseFits (plans_of n))) (uses_by_read (incoming_from 0 0 (plans_of n) p) sources)
-all_fit n p sources ok =
-    let incoming : List Incoming = incoming_from 0 0 (plans_of n) p in
-    All-map (All (UseFits (plans_of n))) (λ k. read_uses incoming k (slice_index_or sources k []))
-    (range_with_len 0 (length sources))
-    (λ i d lt. let k : ℕ = get_or (range_with_len 0 (length sources)) i d in
-    let list : List (Option Tag) = slice_index_or sources k [] in
-    All-map (UseFits (plans_of n)) (use_at incoming k list) (range_with_len 0 (length list))
-    (λ j e le. used_fits n p k (get_or (range_with_len 0 (length list)) j e) list
-    (slice_get list (get_or (range_with_len 0 (length list)) j e)) ok))
-
 map_map : {X Y Z : Type 0} (g : Y → Z) (f : X → Y) (xs : List X) → map g (map f xs) ≡ map (λ x. g (f x)) xs
 map_map g f [] = refl
 map_map g f (x ∷ xs) = ap (λ ys. g (f x) ∷ ys) (map_map g f xs)
@@ -170,15 +157,15 @@ events_same n p f fire =
 
 -- the events of all points are the script
 pub script_same : (n : Nest) (p fires : ℕ) (plans : List ChannelPlan) (incoming : List Incoming)
-    (sources : List (List (Option Tag))) (uses : List (List (Option ChannelUse))) (outgoing : List ℕ)
+    (sources : List (List (Option Tag))) (outgoing : List ℕ)
     → plans ≡ plans_of n → incoming ≡ incoming_from 0 0 plans p → sources ≡ sources_of_process n p
-    → uses ≡ uses_by_read incoming sources
     → outgoing ≡ outgoing_from 0 plans p → fires ≡ turn_count n p
-    → flat_map (events_at plans uses outgoing) (range_with_len 0 fires) ≡ script n p
-script_same n p fires plans incoming sources uses outgoing e_plans e_incoming e_sources e_uses e_outgoing e_fires =
+    → flat_map (events_at plans (uses_by_read incoming sources) outgoing) (range_with_len 0 fires) ≡ script n p
+script_same n p fires plans incoming sources outgoing e_plans e_incoming e_sources e_outgoing e_fires =
     let all : incoming ≡ incoming_from 0 0 (plans_of n) p = e_incoming ∙ ap (λ ps. incoming_from 0 0 ps p) e_plans in
+    let uses : List (List (Option ChannelUse)) = uses_by_read incoming sources in
     let used : uses ≡ uses_by_read (incoming_from 0 0 (plans_of n) p) (sources_of_process n p) =
-    e_uses ∙ ap (λ i. uses_by_read i sources) all
+    ap (λ i. uses_by_read i sources) all
     ∙ ap (uses_by_read (incoming_from 0 0 (plans_of n) p)) e_sources in
     let out : outgoing ≡ outgoing_from 0 (plans_of n) p = e_outgoing ∙ ap (λ ps. outgoing_from 0 ps p) e_plans in
     ap (λ ps. flat_map (events_at ps uses outgoing) (range_with_len 0 fires)) e_plans
@@ -194,15 +181,16 @@ script_same n p fires plans incoming sources uses outgoing e_plans e_incoming e_
     (outgoing_from 0 (plans_of n) p)) (point_events n p) 0 (turn_count n p)
     (λ f from below. events_same n p f (omega arith))
 
-pub fits_as : (n : Nest) (p : ℕ) (plans : List ChannelPlan) (incoming : List Incoming)
-    (sources : List (List (Option Tag))) (uses : List (List (Option ChannelUse)))
-    → SizeIsOk n → plans ≡ plans_of n → incoming ≡ incoming_from 0 0 plans p → uses ≡ uses_by_read incoming sources
-    → All (All (UseFits plans)) uses
-fits_as n p plans incoming sources uses ok e_plans e_incoming e_uses =
-    let all : uses ≡ uses_by_read (incoming_from 0 0 (plans_of n) p) sources =
-    e_uses ∙ ap (λ i. uses_by_read i sources) (e_incoming ∙ ap (λ ps. incoming_from 0 0 ps p) e_plans) in
-    subst (λ ps. All (All (UseFits ps)) uses) (sym e_plans)
-    (subst (All (All (UseFits (plans_of n)))) (sym all) (all_fit n p sources ok))
+-- and every use fits
+pub uses_fit : (n : Nest) (p k f : ℕ) (plans : List ChannelPlan) (incoming : List Incoming)
+    (sources : List (List (Option Tag)))
+    → SizeIsOk n → plans ≡ plans_of n → incoming ≡ incoming_from 0 0 plans p
+    → UseFits plans (use_at incoming k (slice_index_or sources k []) f)
+uses_fit n p k f plans incoming sources ok e_plans e_incoming =
+    let list : List (Option Tag) = slice_index_or sources k [] in
+    let all : incoming ≡ incoming_from 0 0 (plans_of n) p = e_incoming ∙ ap (λ ps. incoming_from 0 0 ps p) e_plans in
+    subst (λ ps. UseFits ps (use_at incoming k list f)) (sym e_plans)
+    (subst (λ i. UseFits (plans_of n) (use_at i k list f)) (sym all) (used_fits n p k f list (slice_get list f) ok))
 
 -- The sources of a process's reads
 
@@ -212,12 +200,20 @@ read_mapped P g [] k none all = none
 read_mapped P g (x ∷ xs) zero none all = all x
 read_mapped P g (x ∷ xs) (suc k) none all = read_mapped P g xs k none all
 
-pub few_sources : (n : Nest) (p k : ℕ) (sources : List (List (Option Tag))) → SizeIsOk n
-    → sources ≡ sources_of_process n p → length (get_or sources k []) < 2 ^ 32
-few_sources n p k sources ok e =
-    subst (λ ls. length (get_or ls k []) < 2 ^ 32) (sym e)
-    (read_mapped (λ list. length list < 2 ^ 32) (sources_at n p) (range_with_len 0 (read_count n p)) k (omega arith)
-    (λ j. omega (arith, length-sources n p j, few_turns n p, few_entries n ok)))
+pub few_fires : (n : Nest) (p fires : ℕ) → SizeIsOk n → fires ≡ turn_count n p → fires < 2 ^ 32
+few_fires n p fires ok e = omega (arith, few_turns n p, few_entries n ok)
+
+-- each read has a source for each fire
+pub sources_there : (n : Nest) (p k fires : ℕ) (sources : List (List (Option Tag)))
+    → sources ≡ sources_of_process n p → fires ≡ turn_count n p → k < length sources
+    → fires ≤ length (get_or sources k [])
+sources_there n p k fires sources e e_fires there =
+    let within : k < read_count n p =
+    omega (arith, ap length e, length-map-range_with_len (sources_at n p) 0 (read_count n p)) in
+    let read : get_or sources k [] ≡ sources_at n p k =
+    ap (λ ls. get_or ls k []) e
+    ∙ get_or-map-range_with_len (sources_at n p) 0 (read_count n p) k k [] within (omega arith) in
+    omega (arith, ap length read, length-sources n p k)
 
 pub sources_exist : (n : Nest) (p k f : ℕ) (sources : List (List (Option Tag))) → sources ≡ sources_of_process n p
     → OnlyBelow (length n.statements) (get_or (get_or sources k []) f None)
@@ -230,12 +226,3 @@ pub few_sources_read : (n : Nest) (p : ℕ) (sources : List (List (Option Tag)))
     → length sources ≤ 8
 few_sources_read n p sources e =
     omega (arith, ap length e, length-map-range_with_len (sources_at n p) 0 (read_count n p), few_read_count n p)
-
-pub few_uses : (incoming : List Incoming) (sources : List (List (Option Tag))) (uses : List (List (Option ChannelUse)))
-    → uses ≡ uses_by_read incoming sources → length sources ≤ 8 → length uses ≤ 8
-few_uses incoming sources uses e le =
-    omega (
-      arith,
-      ap length e,
-      length-map-range_with_len (λ k. read_uses incoming k (slice_index_or sources k [])) 0 (length sources),
-    )

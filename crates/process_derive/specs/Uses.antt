@@ -1,5 +1,5 @@
 -- The uses of the fires of one process, by read, and the events of its points.
-use Rattle.std.specs.Prelude.{◌<◌, ◌^◌, ℕ, ◌+◌, Option, Some, None, List, [], ◌∷◌, ◌++◌, map, take, length, slice_get, slice_index, slice_index_or, slice_set}
+use Rattle.std.specs.Prelude.{◌≡◌, ◌<◌, ◌^◌, ℕ, ◌+◌, Option, Some, None, List, [], ◌∷◌, ◌++◌, map, take, length, slice_get, slice_index, slice_index_or, slice_set}
 use Rattle.std.specs.List.{flat_map, find, range_with_len}
 use Rattle.std.specs.Option.{option_map, option_map_or, option_and_then}
 use Rattle.channel_plan.specs.declared.plans.ChannelPlan.{ChannelPlan}
@@ -89,3 +89,9 @@ OnlyBelow processes (Some t) = t.process < processes
 abbrev pub CountsBelow : ℕ → List ℕ → Option Tag → Type 0
 CountsBelow limit counts None = Unit {0}
 CountsBelow limit counts (Some t) = slice_index counts t.process < limit
+
+-- By read, so many processes have these counts: how often the fires before fire f used a token of each.
+pub record CountedBefore (sources : List (List (Option Tag))) (processes f : ℕ) (counts : List (List ℕ)) : Type 0 where
+  pub reads : length counts ≡ length sources
+  pub each : (k : ℕ) → k < length sources → slice_index_or counts k []
+      ≡ map (uses_before (slice_index_or sources k []) f) (range_with_len 0 processes)

@@ -1,16 +1,16 @@
-ghost use Rattle.std.specs.Prelude.{◌≡◌, ◌<◌, ◌≤◌, [], ◌∷◌, ◌++◌, All, Some, length, slice_index, IfOk, OnOk};
+ghost use Rattle.std.specs.Prelude.{◌≡◌, ◌<◌, ◌≤◌, ◌+◌, ◌^◌, ℕ, [], ◌∷◌, ◌++◌, None, Some, length, map, slice_index, slice_index_or, IfOk, OnOk};
 ghost use Rattle.std.specs.List.{flat_map, range_with_len};
-ghost use Rattle.std.specs.Option.{option_and_then};
-ghost use Rattle.std.specs.Prelude.{slice_get};
 ghost use Rattle.process_derive.specs.Incoming.{carries, puts_to};
 ghost use Rattle.process_derive.specs.Scripts.{gets_for_uses, gets_of, ref_of};
-ghost use Rattle.process_derive.specs.Uses.{events_at, slots_at, with_slots, SlotsFit, UseFits};
+ghost use Rattle.process_derive.specs.Uses.{events_at, usages_at, use_at, uses_by_read, with_slots, CountedBefore, OnlyBelow, SlotsFit, UseFits};
 
-use crate::uses::ChannelUse;
+use crate::incoming::Incoming;
+use crate::uses::{ChannelUse, next_use, no_counts};
 use channel_plan::ChannelPlan;
 use net_core::{Event, Ref, Refs, equal_is_same};
 use plain_data::Items;
 use reorder_slots::SlotPlan;
+use sanlp::Tag;
 use script_blocks::ScriptBuilder;
 use std::alloc::{AllocError, Global};
 
@@ -149,51 +149,114 @@ pub(crate) fn add_puts(
     Ok(())
 }
 
-// What a fire uses for a read, given what each fire uses for it.
-fn use_of(uses: &Items<Option<ChannelUse>>, turn: usize) -> Option<ChannelUse>
-    ensures { result ≡ option_and_then (λ found. found) (slice_get uses.now turn) }
+// The source of a read at a fire.
+fn source_at(sources: &Items<Option<Tag>>, turn: usize) -> Option<Tag>
+    requires { turn < length sources.now }
+    ensures { result ≡ slice_index_or sources.now turn None }
 {
-    uses.get(turn).copied().flatten()
+    sources.as_slice()[turn]
 }
 
-// Adds the events of a point: by read the Gets, one Fire, and by channel the Puts.
-fn add_point(
+// Adds by read the Gets of what a point uses, and answers what its Fire names. The uses are counted.
+fn add_uses(
     plans: &[ChannelPlan],
-    uses: &[Items<Option<ChannelUse>>],
-    outgoing: &[u32],
+    incoming: &[Incoming],
+    sources: &[Items<Option<Tag>>],
+    processes: usize,
     turn: usize,
+    counts: &mut Vec<Items<u32>>,
     events: &mut ScriptBuilder<Event>,
-) -> Result<(), AllocError>
-    requires few { length uses.now ≤ 8 }
-    requires fit { All (All (UseFits plans.now)) uses.now }
-    ensures { OnOk result
-        (events.new ≡ events.old ++ events_at plans.now uses.now outgoing.now turn) }
+) -> Result<Refs, AllocError>
+    requires few { length sources.now ≤ 8 }
+    requires turn { turn < 4294967295 }
+    requires there { (k : ℕ) → k < length sources.now
+        → turn < length (slice_index_or sources.now k []) }
+    requires exist { (k f : ℕ)
+        → OnlyBelow processes (slice_index_or (slice_index_or sources.now k []) f None) }
+    requires fit { (k f : ℕ) → UseFits plans.now
+        (use_at incoming.now k (slice_index_or sources.now k []) f) }
+    requires counted { CountedBefore sources.now processes turn counts.old.items }
+    ensures gets { let uses = uses_by_read incoming.now sources.now in
+        OnOk result
+        (events.new ≡ events.old ++ flat_map gets_of (usages_at plans.now uses turn)) }
+    ensures refs { let uses = uses_by_read incoming.now sources.now in
+        IfOk result (λ refs. refs ≡ map ref_of (usages_at plans.now uses turn)) }
+    ensures counted { OnOk result (CountedBefore sources.now processes (turn + 1) counts.new.items) }
 {
     let mut refs = Refs::empty();
-    for of_read in uses {
-        refs.push(add_use(plans, use_of(of_read, turn), events)?);
+    for (read, of_read) in sources.iter().enumerate() {
+        let found = next_use(incoming, read, source_at(of_read, turn), counts);
+        refs.push(add_use(plans, found, events)?);
     }
+    Ok(refs)
+}
+
+// Adds the events of a point: by read the Gets, one Fire, and by channel the Puts. Its uses are counted.
+fn add_point(
+    plans: &[ChannelPlan],
+    incoming: &[Incoming],
+    sources: &[Items<Option<Tag>>],
+    processes: usize,
+    outgoing: &[u32],
+    turn: usize,
+    counts: &mut Vec<Items<u32>>,
+    events: &mut ScriptBuilder<Event>,
+) -> Result<(), AllocError>
+    requires few { length sources.now ≤ 8 }
+    requires turn { turn < 4294967295 }
+    requires there { (k : ℕ) → k < length sources.now
+        → turn < length (slice_index_or sources.now k []) }
+    requires exist { (k f : ℕ)
+        → OnlyBelow processes (slice_index_or (slice_index_or sources.now k []) f None) }
+    requires fit { (k f : ℕ) → UseFits plans.now
+        (use_at incoming.now k (slice_index_or sources.now k []) f) }
+    requires counted { CountedBefore sources.now processes turn counts.old.items }
+    ensures events { OnOk result
+        (events.new
+        ≡ events.old
+        ++ events_at plans.now (uses_by_read incoming.now sources.now) outgoing.now turn) }
+    ensures counted { OnOk result (CountedBefore sources.now processes (turn + 1) counts.new.items) }
+{
+    let refs = add_uses(plans, incoming, sources, processes, turn, counts, events)?;
     push_event(Event::Fire { refs }, events)?;
     add_puts(plans, outgoing, turn, events)
 }
 
-/// The events of a process with so many points, in order, given what each fire uses by read, and the numbers of the
-/// channels that it writes. It keeps four bytes for each, and each different event once.
+/// The events of a process with so many points, in order, given the sources of its reads, of so many processes, and the
+/// numbers of the channels that it writes. It keeps four bytes for each, and each different event once.
 pub(crate) fn script_of(
     alloc: Global,
     plans: &[ChannelPlan],
-    uses: &[Items<Option<ChannelUse>>],
+    incoming: &[Incoming],
+    sources: &[Items<Option<Tag>>],
+    processes: usize,
     outgoing: &[u32],
     fires: usize,
 ) -> Result<ScriptBuilder<Event>, AllocError>
-    requires few { length uses.now ≤ 8 }
-    requires fit { All (All (UseFits plans.now)) uses.now }
-    ensures { IfOk result (λ script.
-        script ≡ flat_map (events_at plans.now uses.now outgoing.now) (range_with_len 0 fires)) }
+    requires few { length sources.now ≤ 8 }
+    requires fires { fires < 2 ^ 32 }
+    requires there { (k : ℕ) → k < length sources.now
+        → fires ≤ length (slice_index_or sources.now k []) }
+    requires exist { (k f : ℕ)
+        → OnlyBelow processes (slice_index_or (slice_index_or sources.now k []) f None) }
+    requires fit { (k f : ℕ) → UseFits plans.now
+        (use_at incoming.now k (slice_index_or sources.now k []) f) }
+    ensures { let uses = uses_by_read incoming.now sources.now in IfOk result (λ script.
+        script ≡ flat_map (events_at plans.now uses outgoing.now) (range_with_len 0 fires)) }
 {
+    let mut counts = no_counts(alloc, sources, processes)?;
     let mut events = ScriptBuilder::new(alloc);
     for turn in 0..fires {
-        add_point(plans, uses, outgoing, turn, &mut events)?;
+        add_point(
+            plans,
+            incoming,
+            sources,
+            processes,
+            outgoing,
+            turn,
+            &mut counts,
+            &mut events,
+        )?;
     }
     Ok(events)
 }

@@ -9,7 +9,6 @@ ghost use Rattle.process_derive.specs.Derived.{process_of};
 
 use crate::events::script_of;
 use crate::incoming::{incoming_channels, outgoing_channels, slot_count};
-use crate::uses::uses_of;
 use channel_plan::ChannelPlan;
 use net_core::Process;
 use plain_data::Items;
@@ -36,8 +35,15 @@ fn make_process(
 {
     let incoming = incoming_channels(alloc, plans, number)?;
     let outgoing = outgoing_channels(alloc, plans, number)?;
-    let uses = uses_of(alloc, incoming.as_slice(), sources, nest.statements.len())?;
-    let events = script_of(alloc, plans, uses.as_slice(), outgoing.as_slice(), fires)?;
+    let events = script_of(
+        alloc,
+        plans,
+        incoming.as_slice(),
+        sources,
+        nest.statements.len(),
+        outgoing.as_slice(),
+        fires,
+    )?;
     Ok(Process {
         slots: slot_count(plans, number),
         script: events.script(alloc)?,

@@ -1,6 +1,6 @@
 ghost use Rattle.std.specs.Option.{option_and_then};
-ghost use Rattle.std.specs.Prelude.{◌≡◌, ◌<◌, ◌≤◌, ◌+◌, ◌^◌, ℕ, None, [], length, slice_index, slice_index_or, slice_set, vec_len, IfOk};
-ghost use Rattle.process_derive.specs.Uses.{counted, read_uses, use_from, uses_by_read, CountsBelow, OnlyBelow};
+ghost use Rattle.std.specs.Prelude.{◌≡◌, ◌<◌, ◌≤◌, ◌+◌, [], length, replicate, slice_index, slice_index_or, slice_set, vec_len, IfOk};
+ghost use Rattle.process_derive.specs.Uses.{counted, use_from, CountedBefore, CountsBelow, OnlyBelow};
 
 use crate::incoming::{Incoming, channel_from};
 use plain_data::Items;
@@ -31,33 +31,32 @@ fn use_number(incoming: &[Incoming], read: u32, writer: u32, number: u32) -> Opt
 }
 
 // The count of a process, which is raised by one.
-fn count_one(counts: &mut Vec<u32>, process: usize) -> u32
-    requires exists { process < vec_len counts.old }
-    requires few { slice_index counts.old.items process < 4294967295 }
-    ensures count { result ≡ slice_index counts.old.items process }
-    ensures raised { counts.new.items
-        ≡ slice_set counts.old.items process (slice_index counts.old.items process + 1) }
+fn count_one(counts: &mut Items<u32>, process: usize) -> u32
+    requires exists { process < length counts.old }
+    requires few { slice_index counts.old process < 4294967295 }
+    ensures count { result ≡ slice_index counts.old process }
+    ensures raised { counts.new
+        ≡ slice_set counts.old process (slice_index counts.old process + 1) }
 {
-    let count = counts[process];
-    counts[process] = count + 1;
+    let count = counts.as_slice()[process];
+    counts.set(process, count + 1);
     count
 }
 
 // What a fire uses by a read that has this source, given how often the fires before it used a token of each process.
 // The use is counted.
-fn next_use(
+fn next_use_of(
     incoming: &[Incoming],
     read: u32,
     source: Option<Tag>,
-    counts: &mut Vec<u32>,
+    counts: &mut Items<u32>,
 ) -> Option<ChannelUse>
-    requires exists { OnlyBelow (vec_len counts.old) source }
-    requires few { CountsBelow 4294967295 counts.old.items source }
+    requires exists { OnlyBelow (length counts.old) source }
+    requires few { CountsBelow 4294967295 counts.old source }
     ensures found { result
         ≡ option_and_then
-        (λ t. use_from incoming.now read t.process
-        (slice_index counts.old.items t.process)) source }
-    ensures counted { counts.new.items ≡ counted counts.old.items source }
+        (λ t. use_from incoming.now read t.process (slice_index counts.old t.process)) source }
+    ensures counted { counts.new ≡ counted counts.old source }
 {
     match source {
         None => None,
@@ -68,42 +67,47 @@ fn next_use(
     }
 }
 
-// What each fire uses by a read that has these sources, of so many processes.
-fn uses_of_read(
-    alloc: Global,
+/// What a fire uses by a read that has this source, given by read how often the fires before it used a token of each
+/// process. The use is counted.
+pub(crate) fn next_use(
     incoming: &[Incoming],
-    read: u32,
-    sources: &[Option<Tag>],
-    processes: usize,
-) -> Result<Items<Option<ChannelUse>>, AllocError>
-    requires few { length sources.now < 2 ^ 32 }
-    requires exist { (f : ℕ) → OnlyBelow processes (slice_index_or sources.now f None) }
-    ensures { IfOk result (λ uses. uses ≡ read_uses incoming.now read sources.now) }
+    read: usize,
+    source: Option<Tag>,
+    counts: &mut Vec<Items<u32>>,
+) -> Option<ChannelUse>
+    requires read { read < vec_len counts.old }
+    requires few_reads { vec_len counts.old ≤ 8 }
+    requires exists { OnlyBelow (length (slice_index_or counts.old.items read [])) source }
+    requires few { CountsBelow 4294967295 (slice_index_or counts.old.items read []) source }
+    ensures found { let before = slice_index_or counts.old.items read [] in
+        result
+        ≡ option_and_then
+        (λ t. use_from incoming.now read t.process (slice_index before t.process)) source }
+    ensures counted { let before = slice_index_or counts.old.items read [] in
+        counts.new.items ≡ slice_set counts.old.items read (counted before source) }
 {
-    let mut uses = Vec::with_capacity(alloc, sources.len())?;
-    let mut counts = vec![in alloc; 0; processes]?;
-    for source in sources {
-        uses.push(next_use(incoming, read, *source, &mut counts))?;
-    }
-    Ok(Items::from_vec(uses))
+    next_use_of(incoming, read as u32, source, &mut counts[read])
 }
 
-/// What each fire of a process uses, by read. Its reads have these sources, of so many processes.
-pub(crate) fn uses_of(
+// So many counts of 0.
+fn zeros(alloc: Global, count: usize) -> Result<Items<u32>, AllocError>
+    ensures { IfOk result (λ counts. counts ≡ replicate count 0) }
+{
+    let zeros = vec![in alloc; 0; count]?;
+    Ok(Items::from_vec(zeros))
+}
+
+/// The counts before the first fire: by read none of each of so many processes.
+pub(crate) fn no_counts(
     alloc: Global,
-    incoming: &[Incoming],
     sources: &[Items<Option<Tag>>],
     processes: usize,
-) -> Result<Vec<Items<Option<ChannelUse>>>, AllocError>
-    requires few_reads { length sources.now ≤ 8 }
-    requires few { (k : ℕ) → length (slice_index_or sources.now k []) < 2 ^ 32 }
-    requires exist { (k f : ℕ)
-        → OnlyBelow processes (slice_index_or (slice_index_or sources.now k []) f None) }
-    ensures { IfOk result (λ uses. uses.items ≡ uses_by_read incoming.now sources.now) }
+) -> Result<Vec<Items<u32>>, AllocError>
+    ensures { IfOk result (λ counts. CountedBefore sources.now processes 0 counts.items) }
 {
-    let mut uses = Vec::new(alloc);
-    for (read, of_read) in sources.iter().enumerate() {
-        uses.push(uses_of_read(alloc, incoming, read as u32, of_read.as_slice(), processes)?)?;
+    let mut counts = Vec::new(alloc);
+    for _ in 0..sources.len() {
+        counts.push(zeros(alloc, processes)?)?;
     }
-    Ok(uses)
+    Ok(counts)
 }

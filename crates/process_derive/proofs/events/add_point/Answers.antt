@@ -1,19 +1,14 @@
-use Rattle.std.proofs.Common.{length, refl}
-use Rattle.std.proofs.lemmas.Option.{slice_get_read}
-use Rattle.process_derive.proofs.Usages.{gets_more, refs_more}
+use Rattle.std.proofs.lemmas.Result.{on_ok_weaker}
+use Rattle.process_derive.specs.Uses.{uses_by_read}
+use Rattle.process_derive.proofs.Points.{events_made}
 use Rattle.process_derive.proofs.events.add_point.Goals as goal
 
-pub loop-of_read-preserved : goal.loop-of_read-preserved
-loop-of_read-preserved c =
-    let uses = c.args.uses.now in
-    let i = c.loop-of_read.of_read-index in
-    let here =
-    slice_get_read uses (length uses) i c.of_read-item.result refl c.loop-of_read-test.true c.of_read-item.is in
-    record {
-      gets = gets_more c.args.plans.now uses i c.args.turn c.of_read-item.result c.use_of.result c.args.events.now
-          c.loop-of_read.events c.add_use.new.events
-          here c.use_of.ensures c.loop-of_read.invariant.gets c.in_ok-add_use.ensures.gets;
-      refs = refs_more c.args.plans.now uses i c.args.turn c.of_read-item.result c.use_of.result c.in_ok-add_use.field-0
-          c.loop-of_read.refs c.push.new.self
-          here c.use_of.ensures c.in_ok-add_use.ensures.named c.loop-of_read.invariant.refs c.push.ensures;
-    }
+pub returns : goal.returns
+returns c = record {
+  events = on_ok_weaker c.add_puts.result
+      (events_made c.args.plans.now (uses_by_read c.args.incoming.now c.args.sources.now) c.args.outgoing.now c.args.turn
+      c.args.events.now c.add_uses.new.events c.push_event.new.events c.add_puts.new.events c.in_ok-refs.refs
+      c.in_ok-refs.ensures.gets c.in_ok-refs.ensures.refs c.in_ok-push_event.ensures)
+      c.add_puts.ensures;
+  counted = on_ok_weaker c.add_puts.result (λ h. c.in_ok-refs.ensures.counted) c.add_puts.ensures;
+}

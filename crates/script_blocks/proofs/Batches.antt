@@ -1,4 +1,6 @@
--- Short lists that are kept in place.
+-- A batch is a short list that is kept in place: an array of cells and a count. Its items are the
+-- values of the first cells, as many as the count. Putting one behind them sets the next cell and
+-- raises the count, so the items before it stay. Cells from the count on mean nothing.
 use Rattle.std.proofs.Common.{◌≡◌, ◌+◌, ◌<◌, ◌≤◌, ℕ, Option, List, [], ◌∷◌, ◌++◌, map, set, take, length, get_or}
 use Rattle.std.proofs.Common.{sym, ap, ◌∙◌, arith}
 use Rattle.std.specs.Prelude.{Some, None, slice_get}

@@ -1,4 +1,7 @@
--- What is left at a place: the items of its batch that were not given, and those that the walk has left.
+-- What is left at a place of a cursor: the items of its batch that were not given, then those
+-- that the walk has left. Giving one item of the batch drops the first of what is left; taking
+-- a new batch moves items from the walk into the batch and leaves their order as it was.
+-- Nothing is said here of how large a batch is.
 use Rattle.std.proofs.Common.{◌≡◌, ◌+◌, ◌<◌, ◌≤◌, ℕ, zero, suc, Bool, Option, List, [], ◌∷◌, ◌++◌, drop, length}
 use Rattle.std.proofs.Common.{true, false, refl, sym, ap, ◌∙◌, arith}
 use Rattle.std.specs.Prelude.{Some, None, slice_get, is_some}

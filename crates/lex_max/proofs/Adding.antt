@@ -4,10 +4,10 @@
 -- whatever rows stand before them, so lists of rows join. A domain row joins the variable with coefficient 1 and the
 -- one with -1, or 0 where it has none; equal subscripts are two rows, an edge there and one back. Whether a row can be
 -- made within 128 bits isn't asked here.
-use Rattle.std.proofs.Common.{◌≡◌, ◌+◌, ◌^◌, ◌≤◌, ◌<◌, ℕ, zero, suc, ℤ, pos, negsuc, ◌+ℤ◌, ◌-ℤ◌, List}
+use Rattle.std.proofs.Common.{◌≡◌, ◌+◌, ◌-◌, ◌^◌, ◌≤◌, ◌<◌, ℕ, zero, suc, ℤ, pos, negsuc, ◌+ℤ◌, ◌-ℤ◌, List}
 use Rattle.std.proofs.Common.{[], ◌∷◌, ◌++◌, length, map, take, Bool, true, false, cond, refl, sym, ap}
 use Rattle.std.proofs.Common.{◌∙◌, subst, arith, append_assoc, inl, inr, ◌⊎◌}
-use Rattle.std.specs.Prelude.{All, IsTrue}
+use Rattle.std.specs.Prelude.{All, unsigned_abs}
 use Rattle.std.specs.List.{list_all}
 use Rattle.std.specs.Ordering.{int_eq}
 use Rattle.std.proofs.lemmas.Int.{ints}
@@ -16,8 +16,8 @@ use Rattle.std.proofs.lemmas.List.Elements.{All-nil, All-cons, All-append}
 use Rattle.affine_core.specs.declared.form.Form.{Form}
 use Rattle.affine_core.specs.Affine.{constant_form, form_product, form_sum}
 use Rattle.int_polyhedra.proofs.Variables.{and_both, length_zeros, length_sums}
-use Rattle.lex_max.specs.Asked.{depth_of_read, depth_of_write}
-use Rattle.lex_max.specs.Class.{is_difference, is_shift}
+use Rattle.lex_max.specs.Asked.{depth_of_write, AreCells, IsCell}
+use Rattle.lex_max.specs.Class.{is_difference}
 use Rattle.lex_max.specs.Edges.{domain_edge_of, edge_parts, node_of, AreEdges, AddsEdges, IsEdge, IsKept}
 use Rattle.lex_max.specs.declared.edges.Edge.{Edge}
 use Rattle.lex_max.specs.declared.writes.Writes.{Writes}
@@ -46,7 +46,7 @@ pub adds_next : (w : Writes) (first : List Form → RowExpr) (rest : List Form �
     (old middle new : List Edge) → middle ≡ old ++ g ∷ []
     → ((place : List Form) (part : Part) → length place ≡ depth_of_write w → parts_of (first place) part
     ≡ edge_parts place g part)
-    → IsEdge (depth_of_read w) (depth_of_write w) g → AddsEdges w rest middle new
+    → IsEdge w.vars (depth_of_write w) g → AddsEdges w rest middle new
     → AddsEdges w (λ place. first place ∷ rest place) old new
 adds_next w first rest g old middle new is parts edge more = record {
   added = λ place before deep h. subst (λ rows. AreEdges place rows new)
@@ -54,16 +54,16 @@ adds_next w first rest g old middle new is parts edge more = record {
       (more.added place (before ++ first place ∷ []) deep
       (subst (AreEdges place (before ++ first place ∷ [])) (sym is)
       (edges_more place before old (first place) g h (λ part. parts place part deep))));
-  each = λ h. more.each (subst (All (IsEdge (depth_of_read w) (depth_of_write w))) (sym is)
-      (All-append (IsEdge (depth_of_read w) (depth_of_write w)) old (g ∷ []) h
-      (All-cons (IsEdge (depth_of_read w) (depth_of_write w)) g [] edge (All-nil _))));
+  each = λ h. more.each (subst (All (IsEdge w.vars (depth_of_write w))) (sym is)
+      (All-append (IsEdge w.vars (depth_of_write w)) old (g ∷ []) h
+      (All-cons (IsEdge w.vars (depth_of_write w)) g [] edge (All-nil _))));
 }
 
 pub adds_none : (w : Writes) (old new : List Edge) → new ≡ old → AddsEdges w (λ place. []) old new
 adds_none w old new is = record {
   added = λ place before deep h. subst (λ rows. AreEdges place rows new) (sym (append-nil before))
       (subst (AreEdges place before) (sym is) h);
-  each = λ h. subst (All (IsEdge (depth_of_read w) (depth_of_write w))) (sym is) h;
+  each = λ h. subst (All (IsEdge w.vars (depth_of_write w))) (sym is) h;
 }
 
 pub node_few : (c : ℤ) (cs : List ℤ) → node_of c cs ≤ length cs
@@ -97,19 +97,26 @@ weight_part vars f g part e h =
       product_part part (negsuc 0) g,
     )
 
-weight_within : (f g : Form) → IsWithin (2 ^ 32) f → IsWithin (2 ^ 32) g
+weight_within : (a b : ℕ) (f g : Form) → a + b ≤ 2 ^ 33 → IsWithin a f → IsWithin b g
     → IsWithin (2 ^ 33) (form_sum f (form_product (negsuc 0) g))
-weight_within f g h k =
-    farther (2 ^ 32 + 2 ^ 32) (2 ^ 33) (form_sum f (form_product (negsuc 0) g)) (omega arith)
-    (sum_within (2 ^ 32) (2 ^ 32) f (form_product (negsuc 0) g) h (negative_within (2 ^ 32) g k))
+weight_within a b f g le h k =
+    farther (a + b) (2 ^ 33) (form_sum f (form_product (negsuc 0) g)) le
+    (sum_within a b f (form_product (negsuc 0) g) h (negative_within b g k))
 
-module _ (vars depth : ℕ) (write read : Form) (f : FormFits depth write) (h : FormFits vars read)
+module _ (vars depth : ℕ) (write read : Form) (f : FormFits depth write) (h : IsCell vars depth write read)
     (s : IsShifted write.coefs) where
   abbrev constant : Form
   constant = constant_form vars write.constant
 
-  constant_within : IsWithin (2 ^ 32) constant
-  constant_within = number_within vars write.constant (2 ^ 32) f.within.constant
+  -- the greatest number of the write's constant, and of the read
+  abbrev own : ℕ
+  own = unsigned_abs write.constant
+
+  abbrev other : ℕ
+  other = 2 ^ 33 - own
+
+  constant_within : IsWithin own constant
+  constant_within = number_within vars write.constant own (omega arith)
 
   abbrev pub write_edge : Edge
   write_edge = record {
@@ -135,7 +142,7 @@ module _ (vars depth : ℕ) (write read : Form) (f : FormFits depth write) (h : 
     from = node_is;
     to = omega arith;
     over = weight_over vars constant read (length_zeros vars) h.over;
-    within = weight_within constant read constant_within h.within;
+    within = weight_within own other constant read (omega (arith, f.within.constant)) constant_within h.within;
     inner = λ a b i. absurd (let lt : depth < depth = b in omega (arith, lt));
   }
 
@@ -144,7 +151,7 @@ module _ (vars depth : ℕ) (write read : Form) (f : FormFits depth write) (h : 
     from = omega arith;
     to = node_is;
     over = weight_over vars read constant h.over (length_zeros vars);
-    within = weight_within read constant h.within constant_within;
+    within = weight_within other own read constant (omega (arith, f.within.constant)) h.within constant_within;
     inner = λ a b i. absurd (let lt : depth < depth = a in omega (arith, lt));
   }
 
@@ -166,14 +173,13 @@ module _ (vars depth : ℕ) (write read : Form) (f : FormFits depth write) (h : 
 
 -- The functions that add edges
 
-pub adds_domain : (w : Writes) (vars : ℕ) (row : Form) (rest rows : List Form) (g : Edge) (old middle new : List Edge)
-    → vars ≡ depth_of_read w → rows ≡ row ∷ rest
-    → middle ≡ old ++ g ∷ [] → g ≡ domain_edge_of vars row → list_all is_difference rows ≡ true
+pub adds_domain : (w : Writes) (row : Form) (rest rows : List Form) (g : Edge) (old middle new : List Edge)
+    → rows ≡ row ∷ rest
+    → middle ≡ old ++ g ∷ [] → g ≡ domain_edge_of w.vars row → list_all is_difference rows ≡ true
     → list_all (form_fits (depth_of_write w)) rows ≡ true
     → AddsEdges w (λ place. domain_rows rest place) middle new → AddsEdges w (λ place. domain_rows rows place) old new
-adds_domain w vars row rest rows g old middle new vars_is first middle_is g_is differ fit more =
-    let own : Edge = domain_edge_of (depth_of_read w) row in
-    let is : g ≡ own = g_is ∙ ap (λ n. domain_edge_of n row) vars_is in
+adds_domain w row rest rows g old middle new first middle_is is differ fit more =
+    let own : Edge = domain_edge_of w.vars row in
     let d = and_both (is_difference row) (list_all is_difference rest)
     (ap (list_all is_difference) (sym first) ∙ differ) in
     let f = and_both (form_fits (depth_of_write w) row) (list_all (form_fits (depth_of_write w)) rest)
@@ -182,8 +188,8 @@ adds_domain w vars row rest rows g old middle new vars_is first middle_is g_is d
     subst (λ rows. AddsEdges w (λ place. domain_rows rows place) old new) (sym first)
     (adds_next w (λ place. at_place row place) (λ place. domain_rows rest place) own old middle new
     (middle_is ∙ ap (λ g. old ++ g ∷ []) is)
-    (λ place part deep. difference_at (depth_of_read w) row place part (fits.over ∙ sym deep) (differences_are row d.0))
-    (domain_is_edge (depth_of_read w) (depth_of_write w) row fits) more)
+    (λ place part deep. difference_at w.vars row place part (fits.over ∙ sym deep) (differences_are row d.0))
+    (domain_is_edge w.vars (depth_of_write w) row fits) more)
 
 -- rows added one after the other
 pub adds_both : (w : Writes) (first rest : List Form → List RowExpr) (old middle new : List Edge)
@@ -207,6 +213,12 @@ adds_cells w write read writes reads ws rs old middle new ws_is rs_is h k =
     (adds_both w (λ place. equal_rows (at_place write place) (Take read))
     (λ place. cell_rows writes reads place) old middle new h k))
 
+pub cells_first : (vars depth : ℕ) (write read : Form) (writes reads ws rs : List Form) → ws ≡ write ∷ writes
+    → rs ≡ read ∷ reads → AreCells vars depth ws rs
+    → IsCell vars depth write read × AreCells vars depth writes reads
+cells_first vars depth write read writes reads ws rs ws_is rs_is h =
+    subst (AreCells vars depth (write ∷ writes)) rs_is (subst (λ ws. AreCells vars depth ws rs) ws_is h)
+
 pub adds_no_cells : (w : Writes) (writes reads : List Form) (old new : List Edge) → length writes ≡ 0 ⊎ length reads ≡ 0
     → new ≡ old → AddsEdges w (λ place. cell_rows writes reads place) old new
 adds_no_cells w [] reads old new e is = adds_none w old new is
@@ -214,28 +226,27 @@ adds_no_cells w (write ∷ writes) [] old new e is = adds_none w old new is
 adds_no_cells w (write ∷ writes) (read ∷ reads) old new e is =
     elim e [ inl f ↦ absurd (omega arith) | inr f ↦ absurd (omega arith) ]
 
-pub adds_cell : (w : Writes) (write read : Form) (g h : Edge) (old middle new : List Edge) → IsTrue (is_shift write)
-    → IsTrue (form_fits (depth_of_write w) write) → IsTrue (form_fits (depth_of_read w) read)
+pub adds_cell : (w : Writes) (write read : Form) (g h : Edge) (old middle new : List Edge)
+    → IsCell w.vars (depth_of_write w) write read
     → g ≡ record {
       from = node_of (pos 1) write.coefs;
       to = depth_of_write w;
       weight =
-          form_sum (constant_form (depth_of_read w) write.constant) (form_product (negsuc 0) read);
+          form_sum (constant_form w.vars write.constant) (form_product (negsuc 0) read);
     }
     → h ≡ record {
       from = depth_of_write w;
       to = node_of (pos 1) write.coefs;
       weight =
-          form_sum read (form_product (negsuc 0) (constant_form (depth_of_read w) write.constant));
+          form_sum read (form_product (negsuc 0) (constant_form w.vars write.constant));
     }
     → middle ≡ old ++ g ∷ [] → new ≡ middle ++ h ∷ []
     → AddsEdges w (λ place. equal_rows (at_place write place) (Take read)) old new
-adds_cell w write read g h old middle new shift fits read_fits g_is h_is middle_is new_is =
-    let vars : ℕ = depth_of_read w in
+adds_cell w write read g h old middle new r g_is h_is middle_is new_is =
+    let vars : ℕ = w.vars in
     let depth : ℕ = depth_of_write w in
-    let f : FormFits depth write = form_is depth write fits in
-    let r : FormFits vars read = form_is vars read read_fits in
-    let s : IsShifted write.coefs = shifts_are write shift in
+    let f : FormFits depth write = form_is depth write r.fits in
+    let s : IsShifted write.coefs = shifts_are write r.shift in
     adds_next w (λ place. minus (at_place write place) (Take read))
     (λ place. minus (Take read) (at_place write place) ∷ []) (write_edge vars depth write read f r s) old middle new
     (middle_is ∙ ap (λ g. old ++ g ∷ []) g_is)
@@ -248,19 +259,19 @@ adds_cell w write read g h old middle new shift fits read_fits g_is h_is middle_
     (adds_none w new new refl))
 
 -- the numbers of subscripts are small
-pub constant_small : (vars depth : ℕ) (write constant : Form) → IsTrue (form_fits depth write) → constant
+pub constant_small : (vars depth : ℕ) (write read constant : Form) → IsCell vars depth write read → constant
     ≡ constant_form vars write.constant → IsWithin (2 ^ 60) constant
-constant_small vars depth write constant fits is =
-    let f : FormFits depth write = form_is depth write fits in
+constant_small vars depth write read constant cell is =
+    let f : FormFits depth write = form_is depth write cell.fits in
     subst (IsWithin (2 ^ 60)) (sym is) (number_within vars write.constant (2 ^ 60) (omega (arith, f.within.constant)))
 
-pub read_small : (vars : ℕ) (read : Form) → IsTrue (form_fits vars read) → IsWithin (2 ^ 60) read
-read_small vars read fits = farther (2 ^ 32) (2 ^ 60) read (omega arith) (form_is vars read fits).within
+pub read_small : (vars depth : ℕ) (write read : Form) → IsCell vars depth write read → IsWithin (2 ^ 60) read
+read_small vars depth write read cell =
+    farther (2 ^ 33 - unsigned_abs write.constant) (2 ^ 60) read (omega arith) cell.within
 
-pub constant_over : (vars : ℕ) (write constant read : Form) (v : ℕ) → v ≡ vars → IsTrue (form_fits vars read) → constant
-    ≡ constant_form v write.constant → length constant.coefs ≡ length read.coefs
-constant_over vars write _ read v v_is fits is =
-    ap (λ (f : Form). length f.coefs) is ∙ length_zeros v ∙ v_is ∙ sym (form_is vars read fits).over
+pub constant_over : (vars depth : ℕ) (write constant read : Form) → IsCell vars depth write read → constant
+    ≡ constant_form vars write.constant → length constant.coefs ≡ length read.coefs
+constant_over vars depth write _ read cell is = ap (λ (f : Form). length f.coefs) is ∙ length_zeros vars ∙ sym cell.over
 
 -- edges that were added behind others
 
@@ -273,12 +284,11 @@ kept_push old new g e = (g ∷ [], e)
 pub kept_same : (old : List Edge) → IsKept old old
 kept_same old = ([], sym (append-nil old))
 
-pub exact_domain : (vars v : ℕ) (row : Form) (rest rows : List Form) (g : Edge) (old middle new : List Edge) → v ≡ vars
-    → rows ≡ row ∷ rest → middle ≡ old ++ g ∷ [] → g ≡ domain_edge_of v row
+pub exact_domain : (vars : ℕ) (row : Form) (rest rows : List Form) (g : Edge) (old middle new : List Edge)
+    → rows ≡ row ∷ rest → middle ≡ old ++ g ∷ [] → g ≡ domain_edge_of vars row
     → new ≡ middle ++ map (domain_edge_of vars) rest → new ≡ old ++ map (domain_edge_of vars) rows
-exact_domain vars v row rest rows g old middle new v_is rows_is middle_is g_is new_is =
-    new_is ∙ ap (λ es. es ++ map (domain_edge_of vars) rest)
-    (middle_is ∙ ap (λ g. old ++ g ∷ []) (g_is ∙ ap (λ n. domain_edge_of n row) v_is))
+exact_domain vars row rest rows g old middle new rows_is middle_is g_is new_is =
+    new_is ∙ ap (λ es. es ++ map (domain_edge_of vars) rest) (middle_is ∙ ap (λ g. old ++ g ∷ []) g_is)
     ∙ append_assoc old (domain_edge_of vars row ∷ []) (map (domain_edge_of vars) rest)
     ∙ ap (λ rows. old ++ map (domain_edge_of vars) rows) (sym rows_is)
 

@@ -32,7 +32,7 @@ use Rattle.lex_max.specs.Simple.{IsLightSum}
 use Rattle.lex_max.specs.declared.edges.Edge.{Edge}
 use Rattle.lex_max.specs.declared.writes.Writes.{Writes}
 use Rattle.lex_max.proofs.Ending.{Opposes}
-use Rattle.lex_max.proofs.Fitting.{asked_fits, AreFitting}
+use Rattle.lex_max.proofs.Fitting.{asked_fits, IsKnown}
 use Rattle.lex_max.proofs.Leafing.{less_opposes, place_taken, shown_refuted}
 use Rattle.lex_max.proofs.Levels.{later_row, of_level, same_at, sooner_row, AreOfLevel}
 use Rattle.lex_max.proofs.Differences.{past_part}
@@ -100,7 +100,7 @@ module _ (w : Writes) (c : Context) (context : System) (place : List Form) (here
   abbrev readers : List Form
   readers = reader_place (read_of w)
 
-  abbrev fits : AreFitting w.nest.now (read_of w) (write_of w) w.level
+  abbrev fits : IsKnown w.vars (read_of w) (write_of w) w.level
   fits = asked_fits w leaf.asked
 
   own : AreOfLevel (common_of (write_of w) (read_of w)) w.level place readers level
@@ -109,10 +109,10 @@ module _ (w : Writes) (c : Context) (context : System) (place : List Form) (here
 
   pub place_taken_here : AreTaken c.vars place
   place_taken_here =
-      place_taken c.vars (depth_of_read w) place (omega (arith, leaf.vars)) leaf.placed.over leaf.placed.within
+      place_taken c.vars w.vars place (omega (arith, leaf.vars)) leaf.placed.over leaf.placed.within
 
   pub readers_taken : AreTaken c.vars readers
-  readers_taken = variables_taken c.vars 0 (depth_of_read w) (omega (arith, leaf.vars))
+  readers_taken = variables_taken c.vars 0 (depth_of_read w) (omega (arith, leaf.vars, fits.reader))
 
   -- the rows of a level of the reader before the leaf's point
   abbrev AreAfter : ℕ → List RowExpr → Type 0
@@ -232,7 +232,7 @@ nothing_less m = grind arith
 
 module _ (w : Writes) (c : Context) (context : System) (place : List Form) (here : ℕ)
     (leaf : IsLeafOf w c context place here) (edges : List Edge)
-    (s : IsPlaced w.nest.now (read_of w) (write_of w) w.level c context.rows edges) where
+    (s : IsPlaced (read_of w) (write_of w) w.level c context.rows edges) where
   abbrev depth : ℕ
   depth = depth_of_write w
 
@@ -265,7 +265,7 @@ module _ (w : Writes) (c : Context) (context : System) (place : List Form) (here
       q_rows.at y j (omega (arith, common_is, inside)) y_is j_is in
       let own : AreTaken more points = variables_taken more c.vars depth (omega arith) in
       let ys : AreTaken more place =
-      place_taken more (depth_of_read w) place (omega (arith, leaf.vars)) leaf.placed.over leaf.placed.within in
+      place_taken more w.vars place (omega (arith, leaf.vars)) leaf.placed.over leaf.placed.within in
       let small_level : IsSmallLevel more
       (order_rows (common_loops ls ls) (nat_lt w.write.number w.write.number) place points) q
       = level_at more (common_loops ls ls) q (nat_lt w.write.number w.write.number) place points

@@ -17,12 +17,13 @@ use Rattle.int_polyhedra.specs.declared.system.System.{System}
 use Rattle.int_polyhedra.specs.declared.system.Term.{Term}
 use Rattle.sanlp.specs.Order.{common_loops}
 use Rattle.lex_max.specs.Answer.{IsAnswer, IsContextOf}
-use Rattle.lex_max.specs.Asked.{depth_of_read, depth_of_write, read_of, write_of, IsAsked}
+use Rattle.lex_max.specs.Asked.{depth_of_write, read_of, write_of, IsAsked}
 use Rattle.lex_max.specs.Choices.{chosen_place, AreCerts, AreChosen, AreReady}
 use Rattle.lex_max.specs.Edges.{write_rows}
 use Rattle.lex_max.specs.Leaves.{after_levels, AddsProofs, AreOrderCerts, AreShown, IsBetweenProof, IsLeafOf, IsPlaceOf}
 use Rattle.lex_max.specs.Level.{IsGreatest}
 use Rattle.lex_max.specs.Simple.{at_writer as simple_writer, IsLightSum}
+use Rattle.lex_max.specs.Systems.{at_writer, later_systems, place_systems}
 use Rattle.lex_max.specs.declared.closure.Bounds.{Bounds}
 use Rattle.lex_max.specs.declared.decide.Choice.{Choice}
 use Rattle.lex_max.specs.declared.edges.Edge.{Edge}
@@ -31,8 +32,8 @@ use Rattle.lex_max.proofs.After.{between_refuted, common_same}
 use Rattle.lex_max.proofs.Finishing.{cells_count, certs_shown, domain_count, few_levels, leaf_of, level_of_place}
 use Rattle.lex_max.proofs.Finishing.{order_certs, plain_leaf, plain_of, proofs_more, proofs_whole, shown_count}
 use Rattle.lex_max.proofs.Finishing.{shown_first, shown_rest}
-use Rattle.lex_max.proofs.Fitting.{asked_fits, AreFitting}
-use Rattle.lex_max.proofs.Just.{between_just}
+use Rattle.lex_max.proofs.Fitting.{asked_fits, IsKnown}
+use Rattle.lex_max.proofs.Just.{later_system}
 use Rattle.lex_max.proofs.Leading.{is_place, led_at, IsLed}
 use Rattle.lex_max.proofs.Leafing.{adds_more_proofs, adds_no_proofs, place_taken}
 use Rattle.lex_max.proofs.Meant.{greatest_there}
@@ -43,11 +44,11 @@ use Rattle.lex_max.proofs.Testing.{gives_writer}
 use Rattle.lex_max.proofs.Writing.{level_at, most_taken, small_append, small_cells, small_domain, AreSmall, AreTaken}
 use Rattle.lex_max.proofs.Writing.{IsSmallLevel}
 use Rattle.row_sums.specs.Parts.{IsWithin}
-use Rattle.source_tree.specs.Checked.{at_writer, AreRefuted}
+use Rattle.source_tree.specs.Checked.{AreRefuted}
 use Rattle.source_tree.specs.Places.{before_rows, cell_rows, domain_rows, same_rows}
 use Rattle.source_tree.specs.Rows.{RowExpr, RowSystem, row_forms}
-use Rattle.source_tree.specs.Systems.{after_systems, between_systems, cell_systems, just, outside_systems, reader_place}
-use Rattle.source_tree.specs.Systems.{with_rows, with_write_at, writer_place, writer_systems, Context}
+use Rattle.source_tree.specs.Systems.{after_systems, cell_systems, outside_systems, reader_place, with_rows, with_write_at}
+use Rattle.source_tree.specs.Systems.{writer_place, Context}
 use Rattle.source_tree.specs.declared.tree.Tree.{Tree}
 use Rattle.source_tree.specs.declared.tree.Tree.TheVariants.{Writer}
 
@@ -64,7 +65,7 @@ between_system w c level rows = with_rows (with_write_at (read_of w) c (write_of
 abbrev pub AreBetween : Writes → List Edge → ℕ → List Form → ℕ → List Proof → List Proof → Type 0
 AreBetween w edges here place n old new =
     (c : Context) (context : System) → IsLeafOf w c context place here
-    → (s : IsPlaced w.nest.now (read_of w) (write_of w) w.level c context.rows edges)
+    → (s : IsPlaced (read_of w) (write_of w) w.level c context.rows edges)
     → AddsProofs (map (between_system w c s.level) (take n (further_levels w c place))) old new
 
 pub between_none : (w : Writes) (edges : List Edge) (here : ℕ) (place : List Form) (old : List Proof)
@@ -91,7 +92,7 @@ between_next w edges here level choices proof old middle new inside p h is c con
     let long : length points ≡ depth = length_variables c.vars depth in
     let own : AreTaken more points = variables_taken more c.vars depth (omega arith) in
     let ys : AreTaken more place =
-    place_taken more (depth_of_read w) place (omega (arith, leaf.vars)) leaf.placed.over leaf.placed.within in
+    place_taken more w.vars place (omega (arith, leaf.vars)) leaf.placed.over leaf.placed.within in
     let small : IsSmallLevel more (further_levels w c place) level
     = level_at more (common_loops ls ls) level (nat_lt w.write.number w.write.number) place points
     (omega (arith, common_is, leaf.placed.deep)) (omega (arith, common_is, long))
@@ -108,18 +109,18 @@ nothing_less m = grind arith
 pub between_all : (w : Writes) (edges : List Edge) (bounds : Bounds) (here n : ℕ) (place : List Form)
     (old new : List Proof) → AreReady w edges bounds → n ≡ depth_of_write w → AreBetween w edges here place n old new
     → (c : Context) (context : System) → IsLeafOf w c context place here
-    → AddsProofs (between_systems w.nest.now (read_of w) (just w.write.number w.level) c (write_of w) place) old new
+    → AddsProofs (later_systems (read_of w) (write_of w) w.level c place) old new
 between_all w edges bounds here n place old new ready n_is h c context leaf =
     let ls : List ℕ = w.write.statement.now.loops in
-    let s : IsPlaced w.nest.now (read_of w) (write_of w) w.level c context.rows edges
-    = placed w.nest.now (read_of w)
-    (write_of w) w.level c context.rows edges leaf.asked.asked leaf.vars leaf.made.rows ready.graph.edges_are in
+    let s : IsPlaced (read_of w) (write_of w) w.level c context.rows edges
+    = placed w.vars (read_of w)
+    (write_of w) w.level c context.rows edges leaf.asked.problem leaf.vars leaf.made.rows ready.graph.edges_are in
     let few : length (further_levels w c place) ≤ common_loops ls ls + cond (nat_lt w.write.number w.write.number) 1 0
     = few_levels (common_loops ls ls) (nat_lt w.write.number w.write.number) place (writer_place c (write_of w)) in
     let fewer : length (further_levels w c place) ≤ common_loops ls ls + 0 = subst
     (λ b. length (further_levels w c place) ≤ common_loops ls ls + cond b 1 0) (nothing_less w.write.number) few in
     subst (λ systems. AddsProofs systems old new) (sym
-    (between_just w.nest.now (read_of w) (write_of w) w.level c s.level place leaf.asked.asked.write s.level_is))
+    (later_system (read_of w) (write_of w) w.level c s.level place s.level_is))
     (proofs_whole (between_system w c s.level) (further_levels w c place) n old new
     (omega (arith, fewer, common_same ls, n_is)) (h c context leaf s))
 
@@ -148,15 +149,14 @@ pub leaf_refuted : (w : Writes) (c : Context) (place : List Form) (p0 p1 p2 p3 p
     → AddsProofs (outside_systems c (write_of w) place) p0 p1
     → AddsProofs (cell_systems (read_of w) c (write_of w) place) p1 p2
     → AddsProofs (after_systems (read_of w) c (write_of w) place) p2 p3
-    → AddsProofs (between_systems w.nest.now (read_of w) (just w.write.number w.level) c (write_of w) place) p3 p4
-    → AreRefuted (writer_systems w.nest.now (read_of w) (just w.write.number w.level) c (write_of w) place) p4
+    → AddsProofs (later_systems (read_of w) (write_of w) w.level c place) p3 p4
+    → AreRefuted (place_systems (read_of w) (write_of w) w.level c place) p4
     × All IsLightSum p4
 leaf_refuted w c place p0 p1 p2 p3 p4 none a b d e =
     let o : List RowSystem = outside_systems c (write_of w) place in
     let l : List RowSystem = cell_systems (read_of w) c (write_of w) place in
     let f : List RowSystem = after_systems (read_of w) c (write_of w) place in
-    let g : List RowSystem = between_systems w.nest.now (read_of w) (just w.write.number w.level) c (write_of w) place
-    in
+    let g : List RowSystem = later_systems (read_of w) (write_of w) w.level c place in
     let whole : AddsProofs (o ++ (l ++ (f ++ g))) p0 p4 = adds_more_proofs o (l ++ (f ++ g)) p0 p1 p4 a
     (adds_more_proofs l (f ++ g) p1 p2 p4 b (adds_more_proofs f g p2 p3 p4 d e)) in (
       whole.refuted [] (subst (AreRefuted []) (sym none) tt),
@@ -164,28 +164,27 @@ leaf_refuted w c place p0 p1 p2 p3 p4 none a b d e =
     )
 
 -- what the rows of the leaf's point are made of is small
-rows_small : (w : Writes) (vars : ℕ) (place : List Form) → IsAsked w → IsPlaceOf w place → vars ≡ depth_of_read w
+rows_small : (w : Writes) (vars : ℕ) (place : List Form) → IsAsked w → IsPlaceOf w place → vars ≡ w.vars
     → (s : IsSmallLevel vars (before_rows w.write.number w.write.statement.now place w.read.number w.read.statement.now
     (reader_place (read_of w))) w.level)
     → AreSmall vars (write_rows (read_of w) (write_of w) s.rows place)
 rows_small w vars place asked p vars_is s =
-    let f : AreFitting w.nest.now (read_of w) (write_of w) w.level = asked_fits w asked in
-    let own : AreTaken vars place = place_taken vars (depth_of_read w) place (omega (arith, vars_is)) p.over p.within in
-    let d : List RowExpr = domain_rows w.write.statement.now.rows place in
-    let cells : List RowExpr = cell_rows w.write.access.now.subscripts w.read.access.now.subscripts place in
+    let f : IsKnown w.vars (read_of w) (write_of w) w.level = asked_fits w asked in
+    let own : AreTaken vars place = place_taken vars w.vars place (omega (arith, vars_is)) p.over p.within in
+    let d : List RowExpr = domain_rows w.rows.now place in
+    let cells : List RowExpr = cell_rows w.write_forms.now w.read_forms.now place in
     small_append vars d (cells ++ s.rows)
-    (small_domain vars (depth_of_write w) w.write.statement.now.rows place f.few_loops f.rows own)
+    (small_domain vars (depth_of_write w) w.rows.now place f.few_loops f.rows own)
     (small_append vars cells s.rows
-    (small_cells vars (depth_of_read w) (depth_of_write w) w.write.access.now.subscripts w.read.access.now.subscripts
-    place (omega (arith, vars_is)) f.few_loops f.writes f.reads own) s.small)
+    (small_cells vars w.vars (depth_of_write w) w.write_forms.now w.read_forms.now
+    place (omega (arith, vars_is)) f.few_loops f.cells own) s.small)
 
 pub leaf_answer : (w : Writes) (edges : List Edge) (bounds : Bounds) (context : System) (choices : List Choice)
     (certs : List (List Term)) (tree : Tree) (place : List Form) (proofs : List Proof)
     → AreReady w edges bounds → IsContextOf w 0 context → AreChosen w edges bounds context choices
     → AreCerts context (chosen_place choices) edges certs
-    → ((c : Context) → c.vars ≡ depth_of_read w → row_forms c.vars c.rows ≡ Some context.rows
-    → AreRefuted (writer_systems w.nest.now (read_of w) (just w.write.number w.level) c (write_of w)
-    (chosen_place choices)) proofs)
+    → ((c : Context) → c.vars ≡ w.vars → row_forms c.vars c.rows ≡ Some context.rows
+    → AreRefuted (place_systems (read_of w) (write_of w) w.level c (chosen_place choices)) proofs)
     → All IsLightSum proofs → place ≡ chosen_place choices → tree ≡ Writer w.write.number place proofs → (tests : ℕ)
     → IsAnswer w context tests tree
 leaf_answer w edges bounds context choices certs tree place proofs ready of chosen shown refuted light place_is tree_is
@@ -198,8 +197,8 @@ leaf_answer w edges bounds context choices certs tree place proofs ready of chos
     let level : IsSmallLevel context.vars _ w.level = level_of_place w context.vars own asked p of.vars in
     record {
       checked = λ c vars_is rows_is.
-          at_writer c tree w.write.number own proofs (write_of w) is asked.asked.write refl p.deep
-          (subst (λ n. All (λ (form : Form). length form.coefs ≡ n) own) (sym vars_is) p.over)
+          at_writer c tree own proofs is p.deep
+          (subst (λ n. All (λ (form : Form). length form.coefs ≡ n) own) (sym vars_is) p.over) p.within
           (refuted c vars_is rows_is);
       simple = simple_writer tests tree w.write.number own proofs is
           (All-weaker (IsWithin (2 ^ 40)) (IsWithin (2 ^ 48))
@@ -233,18 +232,18 @@ leaf_answer w edges bounds context choices certs tree place proofs ready of chos
 module _ (w : Writes) (edges : List Edge) (bounds : Bounds) (context : System) (choices : List Choice)
     (certs : List (List Term)) (n m : ℕ) (ready : AreReady w edges bounds) (of : IsContextOf w 0 context)
     (chosen : AreChosen w edges bounds context choices) (shown : AreCerts context (chosen_place choices) edges certs)
-    (n_is : n ≡ length w.write.statement.now.rows)
-    (m_is : m ≡ 2 * length w.write.access.now.subscripts) where
+    (n_is : n ≡ length w.rows.now)
+    (m_is : m ≡ 2 * length w.write_forms.now) where
   abbrev place : List Form
   place = chosen_place choices
 
   abbrev domain_part : List RowExpr
-  domain_part = domain_rows w.write.statement.now.rows place
+  domain_part = domain_rows w.rows.now place
 
   abbrev cell_part : List RowExpr
-  cell_part = cell_rows w.write.access.now.subscripts w.read.access.now.subscripts place
+  cell_part = cell_rows w.write_forms.now w.read_forms.now place
 
-  fits : AreFitting w.nest.now (read_of w) (write_of w) w.level
+  fits : IsKnown w.vars (read_of w) (write_of w) w.level
   fits = asked_fits w ready.graph.asked
 
   pub placed_here : IsPlaceOf w place
@@ -260,10 +259,10 @@ module _ (w : Writes) (edges : List Edge) (bounds : Bounds) (context : System) (
       (ready.graph.edges_are place level_here.rows placed_here.deep level_here.is) shown
 
   domain_long : n ≡ length domain_part
-  domain_long = n_is ∙ sym (domain_count w.write.statement.now.rows place)
+  domain_long = n_is ∙ sym (domain_count w.rows.now place)
 
   cell_long : m ≡ length cell_part
-  cell_long = m_is ∙ sym (cells_count w.write.access.now.subscripts w.read.access.now.subscripts place fits.even)
+  cell_long = m_is ∙ sym (cells_count w.write_forms.now w.read_forms.now place fits.even)
 
   pub outside_part : AreShown context domain_part (take n certs)
   outside_part = shown_first context domain_part (cell_part ++ level_here.rows) certs n domain_long rows_shown
@@ -293,7 +292,7 @@ module _ (w : Writes) (edges : List Edge) (bounds : Bounds) (context : System) (
   pub many_behind : m ≤ length (drop n certs)
   many_behind = omega (arith, many, length-drop n certs)
 
-  pub leaf_here : (c : Context) (here : ℕ) → here ≡ length context.rows → c.vars ≡ depth_of_read w
+  pub leaf_here : (c : Context) (here : ℕ) → here ≡ length context.rows → c.vars ≡ w.vars
       → row_forms c.vars c.rows ≡ Some context.rows → IsLeafOf w c context place here
   leaf_here c here numbered vars_is rows_is =
       leaf_of w c context place here ready.graph.asked of placed_here numbered vars_is rows_is

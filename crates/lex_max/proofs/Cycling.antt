@@ -10,7 +10,7 @@ use Rattle.affine_core.specs.Affine.{form_sum}
 use Rattle.int_polyhedra.specs.declared.system.System.{System}
 use Rattle.int_polyhedra.specs.declared.system.Term.{Term}
 use Rattle.lex_max.specs.Answer.{IsContextOf, IsContradiction, IsCycle}
-use Rattle.lex_max.specs.Asked.{depth_of_read, depth_of_write}
+use Rattle.lex_max.specs.Asked.{depth_of_write}
 use Rattle.lex_max.specs.Closed.{bound_at, IsBound}
 use Rattle.lex_max.specs.Edges.{IsEdge}
 use Rattle.lex_max.specs.Rounds.{IsBack, IsGraphOf, RoundIsAsked}
@@ -28,12 +28,12 @@ use Rattle.row_sums.proofs.Bound.{sum_within}
 pub round_asked : (w : Writes) (whole : List Edge) (bounds : Bounds) (back out : Edge) (bound : Bound)
     (number back_number : ℕ) → IsBack w whole bounds back back_number
     → slice_get whole number ≡ Some out → out.from ≡ depth_of_write w → bound_at bounds out.to back.from ≡ Some bound
-    → RoundIsAsked whole (depth_of_read w) (depth_of_write w) out number bound back back_number
+    → RoundIsAsked whole w.vars (depth_of_write w) out number bound back back_number
 round_asked w whole bounds back out bound number back_number h out_is first is = record {
   out_is = out_is;
   back_is = h.is;
-  out_edge = all_at (IsEdge (depth_of_read w) (depth_of_write w)) whole number out h.graph.graph.each out_is;
-  back_edge = all_at (IsEdge (depth_of_read w) (depth_of_write w)) whole back_number back h.graph.graph.each h.is;
+  out_edge = all_at (IsEdge w.vars (depth_of_write w)) whole number out h.graph.graph.each out_is;
+  back_edge = all_at (IsEdge w.vars (depth_of_write w)) whole back_number back h.graph.graph.each h.is;
   path = subst (λ o. IfSome o (IsBound whole 64 out.to back.from)) is (h.closed.sound out.to back.from);
   first = first;
   last = h.last;

@@ -22,7 +22,7 @@ use Rattle.int_polyhedra.specs.Steps.{negation_of}
 use Rattle.int_polyhedra.specs.Systems.{AreOver}
 use Rattle.int_polyhedra.proofs.Variables.{both_and, length_sums, length_zeros}
 use Rattle.lex_max.specs.Answer.{IsContextOf, IsContradiction, IsCycle}
-use Rattle.lex_max.specs.Asked.{depth_of_read, depth_of_write, IsAsked}
+use Rattle.lex_max.specs.Asked.{depth_of_write, IsAsked}
 use Rattle.lex_max.specs.Choices.{choices_left, upper_of, uppers_from, uppers_of, AllNone, AreCerts}
 use Rattle.lex_max.specs.Choices.{AreCertsSoFar, AreChoices, AreChosen, AreNoLess, AreReady, IsChoice, IsChoosing}
 use Rattle.lex_max.specs.Choices.{IsNextChoice, with_terms}
@@ -64,7 +64,7 @@ context_is w room context asked of = record {
 }
 
 pub context_more : (w : Writes) (m n : ℕ) (context more : System) (row : Form) → IsMore context more row
-    → length row.coefs ≡ depth_of_read w → IsWithin (2 ^ 41) row → m + 1 ≤ n → IsContextOf w n context
+    → length row.coefs ≡ w.vars → IsWithin (2 ^ 41) row → m + 1 ≤ n → IsContextOf w n context
     → IsContextOf w m more
 context_more w m n context more row is long small le of =
     let here : length row.coefs ≡ context.vars = long ∙ sym of.vars in
@@ -115,33 +115,33 @@ opposite_small b f le h = farther (b + 1) (2 ^ 41) (opposite_form f) le (opposit
 
 -- a context with the opposite of a cycle's form contradicts the cycle
 pub added_contradicts : (w : Writes) (edges : List Edge) (context more : System) (cycle : Cycle) (row : Form)
-    (ts : List Term) (n : ℕ) → context.vars ≡ depth_of_read w → IsCycle (depth_of_read w) edges cycle
+    (ts : List Term) (n : ℕ) → context.vars ≡ w.vars → IsCycle w.vars edges cycle
     → negation_of cycle.form ≡ Some row → IsMore context more row → n ≡ length context.rows → ts ≡ term_of n ∷ []
     → IsContradiction more.vars more.rows edges ts cycle.terms
 added_contradicts w edges context more cycle row ts n vars_is c opposite is n_is ts_is =
     let row_is : row ≡ opposite_form cycle.form = opposite_is (2 ^ 40) cycle.form row (omega arith) c.within opposite in
     let own : IsFact more 65536 (form_parts (opposite_form cycle.form)) ts =
     subst (λ f. IsFact more 65536 (form_parts f) ts) row_is (own_fact context more row ts n is n_is ts_is) in
-    opposite_contradicts (depth_of_read w) more edges cycle ts (ap (λ (s : System). s.vars) is ∙ vars_is) c own
+    opposite_contradicts w.vars more edges cycle ts (ap (λ (s : System). s.vars) is ∙ vars_is) c own
 
 -- a fact that the opposite holds contradicts it
 pub known_contradicts : (w : Writes) (edges : List Edge) (context : System) (cycle : Cycle) (row : Form)
-    (ts : List Term) → context.vars ≡ depth_of_read w → IsCycle (depth_of_read w) edges cycle
+    (ts : List Term) → context.vars ≡ w.vars → IsCycle w.vars edges cycle
     → negation_of cycle.form ≡ Some row → IsFact context 65536 (form_parts row) ts
     → IsContradiction context.vars context.rows edges ts cycle.terms
 known_contradicts w edges context cycle row ts vars_is c opposite fact =
     let row_is : row ≡ opposite_form cycle.form = opposite_is (2 ^ 40) cycle.form row (omega arith) c.within opposite in
-    opposite_contradicts (depth_of_read w) context edges cycle ts vars_is c
+    opposite_contradicts w.vars context edges cycle ts vars_is c
     (subst (λ f. IsFact context 65536 (form_parts f) ts) row_is fact)
 
 pub cycle_row_over : (w : Writes) (edges : List Edge) (cycle : Cycle) (row : Form)
-    → IsCycle (depth_of_read w) edges cycle → negation_of cycle.form ≡ Some row → length row.coefs ≡ depth_of_read w
+    → IsCycle w.vars edges cycle → negation_of cycle.form ≡ Some row → length row.coefs ≡ w.vars
 cycle_row_over w edges cycle row c opposite =
     ap (λ (f : Form). length f.coefs) (opposite_is (2 ^ 40) cycle.form row (omega arith) c.within opposite)
     ∙ opposite_long cycle.form ∙ c.over
 
 pub cycle_row_small : (w : Writes) (edges : List Edge) (cycle : Cycle) (row : Form)
-    → IsCycle (depth_of_read w) edges cycle → negation_of cycle.form ≡ Some row → IsWithin (2 ^ 41) row
+    → IsCycle w.vars edges cycle → negation_of cycle.form ≡ Some row → IsWithin (2 ^ 41) row
 cycle_row_small w edges cycle row c opposite =
     subst (IsWithin (2 ^ 41)) (sym (opposite_is (2 ^ 40) cycle.form row (omega arith) c.within opposite))
     (opposite_small (2 ^ 40) cycle.form (omega arith) c.within)
@@ -481,9 +481,9 @@ module _ (w : Writes) (edges : List Edge) (bounds : Bounds) (ready : AreReady w 
     old_small = farther (2 ^ 40) (2 ^ 60) choice.form (omega arith) old_led.within
 
     module _ (above : Form) (above_is : above ≡ form_sum form (form_product (negsuc 0) choice.form)) where
-      pub above_over : length above.coefs ≡ depth_of_read w
+      pub above_over : length above.coefs ≡ w.vars
       above_over = ap (λ (f : Form). length f.coefs) above_is
-          ∙ weight_over (depth_of_read w) form choice.form new_led.over old_led.over
+          ∙ weight_over w.vars form choice.form new_led.over old_led.over
 
       pub above_small : IsWithin (2 ^ 34 + 2 ^ 40) above
       above_small =
@@ -495,7 +495,7 @@ module _ (w : Writes) (edges : List Edge) (bounds : Bounds) (ready : AreReady w 
 
       pub above_part : (part : Part) → form_parts above part ≡ form_parts form part -ℤ form_parts choice.form part
       above_part part = ap (part_of part) above_is
-          ∙ weight_part (depth_of_read w) form choice.form part new_led.over old_led.over
+          ∙ weight_part w.vars form choice.form part new_led.over old_led.over
 
       pub above_fact : (longer : System) (ts : List Term) → IsFact longer 65536 (form_parts above) ts
           → IsFact longer 65536 (λ part. form_parts form part -ℤ form_parts choice.form part) ts
@@ -503,7 +503,7 @@ module _ (w : Writes) (edges : List Edge) (bounds : Bounds) (ready : AreReady w 
           (λ part. form_parts form part -ℤ form_parts choice.form part) ts above_part fact
 
       -- its negative
-      pub negative_long : (below : Form) → below ≡ form_product (negsuc 0) above → length below.coefs ≡ depth_of_read w
+      pub negative_long : (below : Form) → below ≡ form_product (negsuc 0) above → length below.coefs ≡ w.vars
       negative_long below is = ap (λ (f : Form). length f.coefs) is ∙ negative_over above ∙ above_over
 
       pub negative_fact : (below : Form) (longer : System) (ts : List Term) → below ≡ form_product (negsuc 0) above
@@ -517,7 +517,7 @@ module _ (w : Writes) (edges : List Edge) (bounds : Bounds) (ready : AreReady w 
       pub opposite_row : (other : Form) → negation_of above ≡ Some other → other ≡ opposite_form above
       opposite_row other is = opposite_is (2 ^ 34 + 2 ^ 40) above other (omega arith) above_small is
 
-      pub opposite_over : (other : Form) → negation_of above ≡ Some other → length other.coefs ≡ depth_of_read w
+      pub opposite_over : (other : Form) → negation_of above ≡ Some other → length other.coefs ≡ w.vars
       opposite_over other is = ap (λ (f : Form). length f.coefs) (opposite_row other is) ∙ opposite_long above
           ∙ above_over
 

@@ -20,7 +20,7 @@ use Rattle.int_polyhedra.proofs.Variables.{and_both}
 use Rattle.sanlp.specs.Order.{common_loops}
 use Rattle.sanlp.specs.WellFormed.{form_fits}
 use Rattle.lex_max.specs.Answer.{IsContextOf}
-use Rattle.lex_max.specs.Asked.{depth_of_read, depth_of_write, read_of, write_of, IsAsked}
+use Rattle.lex_max.specs.Asked.{depth_of_read, depth_of_write, read_of, write_of, AreCells, IsAsked}
 use Rattle.lex_max.specs.Choices.{AreCerts}
 use Rattle.lex_max.specs.Edges.{edge_parts, write_rows, AreEdges}
 use Rattle.lex_max.specs.Leaves.{after_levels, AddsProofs, AreOrderCerts, AreShown, HasAfter, IsAfterProof, IsLeafOf}
@@ -34,7 +34,7 @@ use Rattle.lex_max.specs.declared.writes.Writes.{Writes}
 use Rattle.lex_max.proofs.After.{common_comm, after_above, after_at, after_below, place_taken_here, readers_taken}
 use Rattle.lex_max.proofs.After.{same_refuted, swapped_is}
 use Rattle.lex_max.proofs.Choosing.{fact_same}
-use Rattle.lex_max.proofs.Fitting.{asked_fits, AreFitting}
+use Rattle.lex_max.proofs.Fitting.{asked_fits, IsKnown}
 use Rattle.lex_max.proofs.Leafing.{adds_more_proofs, adds_no_proofs, adds_one_proof, cell_next, outside_next}
 use Rattle.lex_max.proofs.Leafing.{place_taken}
 use Rattle.lex_max.proofs.Levels.{of_level, AreOfLevel}
@@ -105,21 +105,21 @@ cells_count (write ∷ writes) (read ∷ reads) place e =
 -- The leaf
 
 pub level_of_place : (w : Writes) (vars : ℕ) (place : List Form) → IsAsked w → IsPlaceOf w place → vars
-    ≡ depth_of_read w
+    ≡ w.vars
     → IsSmallLevel vars (before_rows w.write.number w.write.statement.now place w.read.number w.read.statement.now
     (reader_place (read_of w))) w.level
 level_of_place w vars place asked placed vars_is =
-    let f : AreFitting w.nest.now (read_of w) (write_of w) w.level = asked_fits w asked in
+    let f : IsKnown w.vars (read_of w) (write_of w) w.level = asked_fits w asked in
     level_at vars (common_of (write_of w) (read_of w)) w.level (nat_lt w.write.number w.read.number) place
     (reader_place (read_of w)) (omega (arith, placed.deep, f.common_loops))
     (omega (arith, length_variables 0 (depth_of_read w), f.common_vars))
-    (level_exists (read_of w) (write_of w) w.level asked.asked.level)
-    (place_taken vars (depth_of_read w) place (omega (arith, vars_is)) placed.over placed.within)
-    (variables_taken vars 0 (depth_of_read w) (omega (arith, vars_is)))
+    (level_exists (read_of w) (write_of w) w.level asked.problem.level)
+    (place_taken vars w.vars place (omega (arith, vars_is)) placed.over placed.within)
+    (variables_taken vars 0 (depth_of_read w) (omega (arith, vars_is, f.reader)))
 
 pub leaf_of : (w : Writes) (c : Context) (context : System) (place : List Form) (here : ℕ) → IsAsked w
     → IsContextOf w 0 context → IsPlaceOf w place → here ≡ length context.rows
-    → c.vars ≡ depth_of_read w → row_forms c.vars c.rows ≡ Some context.rows → IsLeafOf w c context place here
+    → c.vars ≡ w.vars → row_forms c.vars c.rows ≡ Some context.rows → IsLeafOf w c context place here
 leaf_of w c context place here asked of placed numbered vars_is rows_is =
     let same : context.vars ≡ c.vars = of.vars ∙ sym vars_is in
     record {
@@ -139,25 +139,25 @@ leaf_of w c context place here asked of placed numbered vars_is rows_is =
 
 -- a context that makes these rows
 abbrev pub plain_of : Writes → System → Context
-plain_of w context = record { vars = depth_of_read w; rows = map Take context.rows }
+plain_of w context = record { vars = w.vars; rows = map Take context.rows }
 
 pub plain_leaf : (w : Writes) (context : System) (place : List Form) (here : ℕ) → IsAsked w → IsContextOf w 0 context
     → IsPlaceOf w place → here ≡ length context.rows
     → IsLeafOf w (plain_of w context) context place here
 plain_leaf w context place here asked of placed numbered =
     leaf_of w (plain_of w context) context place here asked of placed numbered refl
-    (taken_all (depth_of_read w) context.rows (subst (λ v. AreOver v context.rows) of.vars of.over))
+    (taken_all w.vars context.rows (subst (λ v. AreOver v context.rows) of.vars of.over))
 
 -- the terms of the order rows
 pub order_certs : (w : Writes) (edges : List Edge) (c : Context) (context : System) (place : List Form) (here n : ℕ)
     (certs : List (List Term)) → IsGraphOf w edges → IsLeafOf w c context place here
-    → AreCerts context place edges certs → n ≡ length w.write.statement.now.rows
-    + 2 * length w.write.access.now.subscripts → AreOrderCerts w here c context place (drop n certs)
+    → AreCerts context place edges certs → n ≡ length w.rows.now
+    + 2 * length w.write_forms.now → AreOrderCerts w here c context place (drop n certs)
 order_certs w edges c context place here n certs graph leaf h n_is =
-    let f : AreFitting w.nest.now (read_of w) (write_of w) w.level = asked_fits w leaf.asked in
+    let f : IsKnown w.vars (read_of w) (write_of w) w.level = asked_fits w leaf.asked in
     let s : IsSmallLevel c.vars _ w.level = level_of_place w c.vars place leaf.asked leaf.placed leaf.vars in
-    let d : List RowExpr = domain_rows w.write.statement.now.rows place in
-    let cells : List RowExpr = cell_rows w.write.access.now.subscripts w.read.access.now.subscripts place in
+    let d : List RowExpr = domain_rows w.rows.now place in
+    let cells : List RowExpr = cell_rows w.write_forms.now w.read_forms.now place in
     let shown : AreShown context (write_rows (read_of w) (write_of w) s.rows place) certs
     = certs_shown context place (write_rows (read_of w) (write_of w) s.rows place) edges certs
     (graph.edges_are place s.rows leaf.placed.deep s.is) h in
@@ -172,8 +172,8 @@ order_certs w edges c context place here n certs graph leaf h n_is =
             arith,
             n_is,
             length-append d cells,
-            domain_count w.write.statement.now.rows place,
-            cells_count w.write.access.now.subscripts w.read.access.now.subscripts place f.even,
+            domain_count w.rows.now place,
+            cells_count w.write_forms.now w.read_forms.now place f.even,
           )) whole;
     }
 
@@ -181,7 +181,7 @@ order_certs w edges c context place here n certs graph leaf h n_is =
 
 pub level_common : (w : Writes) (l : ℕ) → IsAsked w → HasAfter w l → w.level ≤ l
     → w.level < common_of (write_of w) (read_of w)
-level_common w l asked has le = elim asked.asked.level [
+level_common w l asked has le = elim asked.problem.level [
   | inl lt ↦ lt
   | inr at ↦ elim has [
     | inl lt ↦ absurd
@@ -192,14 +192,14 @@ level_common w l asked has le = elim asked.asked.level [
 ]
 
 pub level_same : (w : Writes) → IsAsked w → w.write.number ≡ w.read.number → w.level < w.common
-level_same w asked same = elim asked.asked.level [
+level_same w asked same = elim asked.problem.level [
   | inl lt ↦ omega (arith, lt, asked.common)
   | inr at ↦ absurd (let lt : w.write.number < w.read.number = at.1 in omega (arith, lt, same))
 ]
 
 module _ (w : Writes) (c : Context) (context : System) (place : List Form) (here : ℕ) (order : List (List Term))
     (k : AreOrderCerts w here c context place order) where
-  fits : AreFitting w.nest.now (read_of w) (write_of w) w.level
+  fits : IsKnown w.vars (read_of w) (write_of w) w.level
   fits = asked_fits w k.leaf.asked
 
   abbrev swapped : ℕ
@@ -288,7 +288,7 @@ module _ (w : Writes) (c : Context) (context : System) (place : List Form) (here
   here_small = omega (arith, k.leaf.numbered, k.leaf.few)
 
   pub level_small : w.level ≤ 6
-  level_small = omega (arith, fits.level, fits.common_vars, fits.few_vars)
+  level_small = omega (arith, fits.level, fits.common_loops, fits.few_loops)
 
 -- Proofs of levels
 
@@ -391,28 +391,25 @@ cells_odd context place (write ∷ writes) (read ∷ reads) ts rest certs is non
 pub cells_step : (w : Writes) (c : Context) (context : System) (place : List Form) (here : ℕ) (writes reads : List Form)
     (above below : List Term) (rest more certs : List (List Term)) (first second : Proof)
     (old middle middle' new : List Proof) → IsLeafOf w c context place here
-    → list_all (form_fits (depth_of_write w)) writes ≡ true → list_all (form_fits (depth_of_read w)) reads ≡ true
+    → AreCells w.vars (depth_of_write w) writes reads
     → certs ≡ above ∷ more → more ≡ below ∷ rest → AreShown context (cell_rows writes reads place) certs → first
     ≡ Sum (below ++ term_of here ∷ []) → second ≡ Sum (above ++ term_of here ∷ [])
     → middle ≡ old ++ first ∷ [] → middle' ≡ middle ++ second ∷ []
-    → ((writes reads : List Form) → list_all (form_fits (depth_of_write w)) writes ≡ true
-    → list_all (form_fits (depth_of_read w)) reads ≡ true → AreShown context (cell_rows writes reads place) rest
-    → AddsProofs (cells_of c place writes reads) middle' new)
+    → ((writes reads : List Form) → AreCells w.vars (depth_of_write w) writes reads
+    → AreShown context (cell_rows writes reads place) rest → AddsProofs (cells_of c place writes reads) middle' new)
     → AddsProofs (cells_of c place writes reads) old new
-cells_step w c context place here [] reads above below rest more certs first second old middle middle' new leaf fit _
+cells_step w c context place here [] reads above below rest more certs first second old middle middle' new leaf cells
     is more_is shown first_is second_is m_is n_is next = absurd (subst (AreShown context []) is shown)
 cells_step w c context place here (write ∷ writes) [] above below rest more certs first second old middle middle' new
-    leaf fit fits is more_is shown first_is second_is m_is n_is next = absurd (subst (AreShown context []) is shown)
+    leaf cells is more_is shown first_is second_is m_is n_is next = absurd (subst (AreShown context []) is shown)
 cells_step w c context place here (write ∷ writes) (read ∷ reads) above below rest more certs first second old middle
-    middle' new leaf fit fits is more_is shown first_is second_is m_is n_is next =
-    let b = and_both (form_fits (depth_of_write w) write) (list_all (form_fits (depth_of_write w)) writes) fit in
-    let r = and_both (form_fits (depth_of_read w) read) (list_all (form_fits (depth_of_read w)) reads) fits in
+    middle' new leaf cells is more_is shown first_is second_is m_is n_is next =
     let s : AreShown context (cell_rows (write ∷ writes) (read ∷ reads) place) (above ∷ below ∷ rest)
     = subst (AreShown context (cell_rows (write ∷ writes) (read ∷ reads) place))
     (is ∙ ap (λ more. above ∷ more) more_is) shown in
-    cell_next w c context place here leaf write read writes reads above below first second old middle middle' new b.0
-    r.0 (asked_fits w leaf.asked).few_loops s.0 s.1.0 first_is second_is m_is n_is
-    (next writes reads b.1 r.1 s.1.1)
+    cell_next w c context place here leaf write read writes reads above below first second old middle middle' new
+    cells.0 (asked_fits w leaf.asked).few_loops s.0 s.1.0 first_is second_is m_is n_is
+    (next writes reads cells.1 s.1.1)
 
 -- How many levels there may be
 

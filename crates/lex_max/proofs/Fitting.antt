@@ -1,9 +1,9 @@
--- What is known of a read, of a write to its array and of a level between them.
+-- What is known of a read, of a write to its array and of a level between them, and the problem that they are.
 --
 -- The nest is well formed, so its statements and accesses fit: at most six loops, 32 rows and six subscripts, with
 -- numbers within 2^32. The write is to the read's array, so both have equally many subscripts, and in the class those
 -- of the write are shifts and its domain rows differences. All of it is read off the tests that say so.
-use Rattle.std.proofs.Common.{◌≡◌, ◌^◌, ◌≤◌, ◌==◌, ◌&&◌, ℕ, ℤ, List, [], ◌∷◌, length, Bool, true, false}
+use Rattle.std.proofs.Common.{◌≡◌, ◌^◌, ◌≤◌, ◌-◌, ◌==◌, ◌&&◌, ℕ, suc, ℤ, List, [], ◌∷◌, length, Bool, true, false}
 use Rattle.std.proofs.Common.{cond, refl, sym, ap, ◌∙◌, subst, arith, inl, inr}
 use Rattle.std.specs.Prelude.{Option, Some, None, All, slice_get, nat_le, unsigned_abs}
 use Rattle.std.specs.List.{list_all}
@@ -22,11 +22,13 @@ use Rattle.sanlp.specs.declared.nest.ArrayDecl.{ArrayDecl}
 use Rattle.sanlp.specs.declared.nest.Nest.{Nest}
 use Rattle.sanlp.specs.declared.nest.Statement.{Statement}
 use Rattle.sanlp.specs.WellFormed.{access_fits, form_fits, is_moderate, statement_fits}
-use Rattle.lex_max.specs.Asked.{read_of, write_of, AreAsked, IsAsked}
+use Rattle.lex_max.specs.Asked.{read_of, write_of, AreAsked, AreCells, IsAsked, IsProblem}
 use Rattle.lex_max.specs.declared.writes.Writes.{Writes}
 use Rattle.lex_max.specs.Class.{is_difference, is_shift}
 use Rattle.lex_max.specs.Level.{common_of}
+use Rattle.lex_max.proofs.Small.{farther}
 use Rattle.row_sums.specs.Parts.{IsWithin}
+use Rattle.sanlp.proofs.Bounded.{bounded_above}
 use Rattle.source_tree.specs.Systems.{Occurrence, named_write, write_to}
 
 -- a form of a nest: so many variables, and numbers within 2^32
@@ -168,5 +170,90 @@ are_fitting n r w p a =
       level = elim a.level [ inl lt ↦ omega arith | inr at ↦ (let e : p ≡ common_of w r = at.0 in omega (arith, e)) ];
     }
 
-pub asked_fits : (w : Writes) → IsAsked w → AreFitting w.nest.now (read_of w) (write_of w) w.level
-asked_fits w a = are_fitting w.nest.now (read_of w) (write_of w) w.level a.asked
+-- The problem that such a read is
+
+pub cells_are : (vars depth : ℕ) (writes reads : List Form) → length writes ≡ length reads
+    → list_all is_shift writes ≡ true → list_all (form_fits depth) writes ≡ true
+    → list_all (form_fits vars) reads ≡ true → AreCells vars depth writes reads
+cells_are vars depth [] [] even shifts fit reads_fit = tt
+cells_are vars depth [] (read ∷ reads) even shifts fit reads_fit = absurd (omega arith)
+cells_are vars depth (write ∷ writes) [] even shifts fit reads_fit = absurd (omega arith)
+cells_are vars depth (write ∷ writes) (read ∷ reads) even shifts fit reads_fit =
+    let s = and_both (is_shift write) (list_all is_shift writes) shifts in
+    let f = and_both (form_fits depth write) (list_all (form_fits depth) writes) fit in
+    let r = and_both (form_fits vars read) (list_all (form_fits vars) reads) reads_fit in
+    let own : FormFits depth write = form_is depth write f.0 in
+    let other : FormFits vars read = form_is vars read r.0 in (
+      record {
+        shift = s.0;
+        fits = f.0;
+        over = other.over;
+        within = farther (2 ^ 32) (2 ^ 33 - unsigned_abs write.constant) read
+            (omega (arith, own.within.constant)) other.within;
+      },
+      cells_are vars depth writes reads (omega (arith, even)) s.1 f.1 r.1,
+    )
+
+pub problem_of : (n : Nest) (r w : Occurrence) (p : ℕ) → AreAsked n r w p
+    → IsProblem (length r.statement.loops) r w p
+problem_of n r w p a =
+    let f : AreFitting n r w p = are_fitting n r w p a in
+    record {
+      few_vars = omega (arith, f.few_vars);
+      reader = omega arith;
+      few_loops = f.few_loops;
+      few_rows = f.few_rows;
+      rows = f.rows;
+      differences = f.differences;
+      bounded = λ loop lt. bounded_above n w.number w.statement loop f.named.is lt;
+      few_subscripts = f.few_subscripts;
+      cells = cells_are (length r.statement.loops) (length w.statement.loops) w.access.subscripts r.access.subscripts
+          f.even f.shifts f.writes f.reads;
+      level = a.level;
+    }
+
+-- What is known of a problem
+
+pub cells_even : (vars depth : ℕ) (writes reads : List Form) → AreCells vars depth writes reads → length writes
+    ≡ length reads
+cells_even vars depth [] [] h = refl
+cells_even vars depth [] (read ∷ reads) h = absurd h
+cells_even vars depth (write ∷ writes) [] h = absurd h
+cells_even vars depth (write ∷ writes) (read ∷ reads) h = ap suc (cells_even vars depth writes reads h.1)
+
+pub record IsKnown (vars : ℕ) (r w : Occurrence) (p : ℕ) : Type 0 where
+  pub few_vars : vars ≤ 12
+  pub few_loops : length w.statement.loops ≤ 6
+  pub few_rows : length w.statement.rows ≤ 32
+  pub rows : list_all (form_fits (length w.statement.loops)) w.statement.rows ≡ true
+  pub differences : list_all is_difference w.statement.rows ≡ true
+  pub few_subscripts : length w.access.subscripts ≤ 6
+  pub cells : AreCells vars (length w.statement.loops) w.access.subscripts r.access.subscripts
+  pub even : length w.access.subscripts ≡ length r.access.subscripts
+  pub reader : length r.statement.loops ≤ vars
+  pub common_vars : common_of w r ≤ length r.statement.loops
+  pub common_within : common_of w r ≤ vars
+  pub common_loops : common_of w r ≤ length w.statement.loops
+  pub level : p ≤ common_of w r
+
+pub known_of : (vars : ℕ) (r w : Occurrence) (p : ℕ) → IsProblem vars r w p → IsKnown vars r w p
+known_of vars r w p a =
+    let inside : common_of w r ≤ length r.statement.loops = common_second w.statement.loops r.statement.loops in
+    record {
+      few_vars = a.few_vars;
+      few_loops = a.few_loops;
+      few_rows = a.few_rows;
+      rows = a.rows;
+      differences = a.differences;
+      few_subscripts = a.few_subscripts;
+      cells = a.cells;
+      even = cells_even vars (length w.statement.loops) w.access.subscripts r.access.subscripts a.cells;
+      reader = a.reader;
+      common_vars = inside;
+      common_within = omega (arith, inside, a.reader);
+      common_loops = common_first w.statement.loops r.statement.loops;
+      level = elim a.level [ inl lt ↦ omega arith | inr at ↦ (let e : p ≡ common_of w r = at.0 in omega (arith, e)) ];
+    }
+
+pub asked_fits : (w : Writes) → IsAsked w → IsKnown w.vars (read_of w) (write_of w) w.level
+asked_fits w a = known_of w.vars (read_of w) (write_of w) w.level a.problem

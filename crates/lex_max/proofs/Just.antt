@@ -1,10 +1,11 @@
 -- The systems of one writer and one level.
 --
--- A leaf for one writer and one level leaves out the systems of every other writer, so of the list over all writes of
--- the array that of one remains: by induction over the statements, where those before it and behind it give nothing.
--- Of its levels one is taken. That the writer is named by its number, and no other is, is what this rests on.
+-- Of the levels of the writer one is taken. In a nest a leaf for one writer and one level leaves out the systems of
+-- every other writer, so of the list over all writes of the array that of one remains: by induction over the
+-- statements, where those before it and behind it give nothing. That the writer is named by its number, and no other
+-- is, is what this rests on. So a tree that is checked for the writer alone is checked in the nest.
 use Rattle.std.proofs.Common.{◌≡◌, ◌+◌, ◌<◌, ◌==◌, ℕ, zero, suc, List, [], ◌∷◌, ◌++◌, map, take, drop}
-use Rattle.std.proofs.Common.{Bool, true, false, cond, refl, sym, ap, ◌∙◌, arith}
+use Rattle.std.proofs.Common.{Bool, true, false, cond, refl, sym, ap, ◌∙◌, subst, arith}
 use Rattle.std.specs.Prelude.{Option, Some, None, slice_get}
 use Rattle.std.specs.List.{flat_map}
 use Rattle.std.proofs.lemmas.Bool.{eq-eqb}
@@ -15,11 +16,16 @@ use Rattle.sanlp.specs.declared.nest.Access.{Access}
 use Rattle.sanlp.specs.declared.nest.Nest.{Nest}
 use Rattle.sanlp.specs.declared.nest.Statement.{Statement}
 use Rattle.lex_max.specs.Edges.{AreLevelRows}
+use Rattle.lex_max.specs.Systems.{at_test, at_writer, at_zero, later_systems, none_systems, IsCheckedFor}
+use Rattle.source_tree.specs.Checked.{at_test as test_in, at_writer as writer_in, at_zero as zero_in, AreRefuted}
+use Rattle.source_tree.specs.Checked.{IsCheckedIn}
 use Rattle.source_tree.specs.Places.{before_rows}
 use Rattle.source_tree.specs.Rows.{RowExpr, RowSystem}
 use Rattle.source_tree.specs.Systems.{Occurrence, Context, just, named_write, write_to, with_write, writes_from}
 use Rattle.source_tree.specs.Systems.{array_writes, reader_place, writer_place, with_rows, with_write_at, write_systems}
-use Rattle.source_tree.specs.Systems.{zero_systems, between_systems}
+use Rattle.source_tree.specs.Systems.{after_systems, between_systems, cell_systems, outside_systems, test_no, test_yes}
+use Rattle.source_tree.specs.Systems.{zero_systems}
+use Rattle.source_tree.specs.declared.tree.Tree.{Tree}
 
 differ_where : (m n : ℕ) → (m ≡ n → ⊥) → (m == n) ≡ false
 differ_where m n h = grind arith
@@ -76,8 +82,7 @@ module _ (f : Occurrence → List RowSystem) (u : ℕ) (others : (v : Occurrence
             ap (λ xs. xs ++ flat_map f (writes_from array (k + 1) statements))
             (others v (λ e. absurd (omega (arith, e, number, at)))) ∙ rest
 
-module _ (n : Nest) (r w : Occurrence) (p : ℕ) (c : Context) (named : named_write n r w.number ≡ Some w)
-    (further : Occurrence → List (List RowExpr)) where
+module _ (r w : Occurrence) (p : ℕ) (c : Context) (further : Occurrence → List (List RowExpr)) where
   abbrev systems_of : Occurrence → List RowSystem
   systems_of = write_systems r (just w.number p) c further
 
@@ -97,24 +102,59 @@ module _ (n : Nest) (r w : Occurrence) (p : ℕ) (c : Context) (named : named_wr
       ap (λ b. flat_map (of_level w) (cond b (take 1 (drop p (levels_of w))) [])) (eq-eqb w.number w.number refl)
       ∙ ap (flat_map (of_level w)) (one_at (levels_of w) p level is) ∙ append-nil (of_level w level)
 
-  pub just_systems : (level : List RowExpr) → AreLevelRows r w p (writer_place c w) level
-      → flat_map systems_of (array_writes n r) ≡ of_level w level
-  just_systems level is =
+  -- of all writes of a nest to the read's array
+  pub just_one : (n : Nest) → named_write n r w.number ≡ Some w → flat_map systems_of (array_writes n r) ≡ systems_of w
+  just_one n named =
       option_and_then_some (write_to r.access.array w.number) (slice_get n.statements w.number) w named
       (λ s found written.
       let zero_and : 0 + w.number ≡ w.number = omega arith in
       one_writer systems_of w.number others_none r.access.array 0 w.number n.statements s w found zero_and written)
-      ∙ own_systems level is
+
+pub none_system : (r w : Occurrence) (p : ℕ) (c : Context) (level : List RowExpr)
+    → AreLevelRows r w p (writer_place c w) level
+    → none_systems r w p c ≡ with_rows (with_write_at r c w) (level ++ []) ∷ []
+none_system r w p c level is = own_systems r w p c (λ v. [] ∷ []) level is
+
+pub later_system : (r w : Occurrence) (p : ℕ) (c : Context) (level : List RowExpr) (y : List Form)
+    → AreLevelRows r w p (writer_place c w) level
+    → later_systems r w p c y ≡ map (λ q. with_rows (with_write_at r c w) (level ++ q))
+    (before_rows w.number w.statement y w.number w.statement (writer_place c w))
+later_system r w p c level y is = own_systems r w p c
+    (λ v. before_rows w.number w.statement y v.number v.statement (writer_place c v)) level is
+
+-- In a nest
+
+zero_just : (n : Nest) (r w : Occurrence) (p : ℕ) (c : Context) → named_write n r w.number ≡ Some w
+    → zero_systems n r (just w.number p) c ≡ none_systems r w p c
+zero_just n r w p c named = just_one r w p c (λ v. [] ∷ []) n named
+
+later_just : (n : Nest) (r w : Occurrence) (p : ℕ) (c : Context) (y : List Form) → named_write n r w.number ≡ Some w
+    → between_systems n r (just w.number p) c w y ≡ later_systems r w p c y
+later_just n r w p c y named = just_one r w p c
+    (λ v. before_rows w.number w.statement y v.number v.statement (writer_place c v)) n named
 
 pub zero_system : (n : Nest) (r w : Occurrence) (p : ℕ) (c : Context) (level : List RowExpr) → named_write n r w.number
     ≡ Some w → AreLevelRows r w p (writer_place c w) level
     → zero_systems n r (just w.number p) c ≡ with_rows (with_write_at r c w) (level ++ []) ∷ []
-zero_system n r w p c level named is = just_systems n r w p c named (λ v. [] ∷ []) level is
+zero_system n r w p c level named is = zero_just n r w p c named ∙ none_system r w p c level is
 
 pub between_just : (n : Nest) (r w : Occurrence) (p : ℕ) (c : Context) (level : List RowExpr) (y : List Form)
     → named_write n r w.number ≡ Some w → AreLevelRows r w p (writer_place c w) level
     → between_systems n r (just w.number p) c w y
     ≡ map (λ q. with_rows (with_write_at r c w) (level ++ q))
     (before_rows w.number w.statement y w.number w.statement (writer_place c w))
-between_just n r w p c level y named is = just_systems n r w p c named
-    (λ v. before_rows w.number w.statement y v.number v.statement (writer_place c v)) level is
+between_just n r w p c level y named is = later_just n r w p c y named ∙ later_system r w p c level y is
+
+-- a tree that is checked for a write of the nest is checked in the nest for that writer and level
+pub checked_in : (n : Nest) (r w : Occurrence) (p : ℕ) → named_write n r w.number ≡ Some w → (c : Context) (tree : Tree)
+    → IsCheckedFor r w p c tree → IsCheckedIn n r (just w.number p) c tree
+checked_in n r w p named c tree (at_test c' tree' form above below is over upper lower) =
+    test_in c tree form above below is over (checked_in n r w p named (test_yes c form) above upper)
+    (checked_in n r w p named (test_no c form) below lower)
+checked_in n r w p named c tree (at_writer c' tree' place proofs is deep over within refuted) =
+    writer_in c tree w.number place proofs w is named refl deep over
+    (subst (λ systems. AreRefuted (outside_systems c w place
+    ++ (cell_systems r c w place ++ (after_systems r c w place ++ systems))) proofs)
+    (sym (later_just n r w p c place named)) refuted)
+checked_in n r w p named c tree (at_zero c' tree' proofs is refuted) =
+    zero_in c tree proofs is (subst (λ systems. AreRefuted systems proofs) (sym (zero_just n r w p c named)) refuted)

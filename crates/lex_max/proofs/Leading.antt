@@ -14,7 +14,7 @@ use Rattle.std.proofs.lemmas.Option.{same_Some, slice_get_within}
 use Rattle.affine_core.specs.declared.form.Form.{Form}
 use Rattle.int_polyhedra.specs.declared.system.System.{System}
 use Rattle.int_polyhedra.specs.declared.system.Term.{Term}
-use Rattle.lex_max.specs.Asked.{depth_of_read, depth_of_write}
+use Rattle.lex_max.specs.Asked.{depth_of_write}
 use Rattle.lex_max.specs.Choices.{chosen_place, upper_of, uppers_of, AreChoices, AreChosen, AreReady}
 use Rattle.lex_max.specs.Closed.{bound_at, number_parts, value_at, value_of, IsBound}
 use Rattle.lex_max.specs.Edges.{IsEdge}
@@ -46,7 +46,7 @@ place_count (choice ∷ choices) = ap suc (place_count choices)
 
 module _ (w : Writes) (edges : List Edge) (bounds : Bounds) (ready : AreReady w edges bounds) where
   abbrev vars : ℕ
-  vars = depth_of_read w
+  vars = w.vars
 
   abbrev depth : ℕ
   depth = depth_of_write w

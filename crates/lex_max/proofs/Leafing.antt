@@ -17,7 +17,7 @@ use Rattle.int_polyhedra.specs.declared.system.Proof.TheVariants.{Sum}
 use Rattle.int_polyhedra.specs.declared.system.System.{System}
 use Rattle.int_polyhedra.specs.declared.system.Term.{Term}
 use Rattle.sanlp.specs.WellFormed.{form_fits}
-use Rattle.lex_max.specs.Asked.{depth_of_read, depth_of_write}
+use Rattle.lex_max.specs.Asked.{depth_of_write, IsCell}
 use Rattle.lex_max.specs.Facts.{IsFact}
 use Rattle.lex_max.specs.Leaves.{AddsProofs, IsLeafOf}
 use Rattle.lex_max.specs.Paths.{term_of}
@@ -118,7 +118,7 @@ small_differ vars e f h k =
 module _ (w : Writes) (c : Context) (context : System) (place : List Form) (here : ℕ)
     (leaf : IsLeafOf w c context place here) where
   taken : AreTaken c.vars place
-  taken = place_taken c.vars (depth_of_read w) place (omega (arith, leaf.vars)) leaf.placed.over leaf.placed.within
+  taken = place_taken c.vars w.vars place (omega (arith, leaf.vars)) leaf.placed.over leaf.placed.within
 
   -- a row that is below another one that is shown
   pub shown_refuted : (extra : List RowExpr) (j : ℕ) (last : RowExpr) (ts : List Term) (a : Part → ℤ) (row : ℕ)
@@ -152,24 +152,23 @@ module _ (w : Writes) (c : Context) (context : System) (place : List Form) (here
 
   -- another cell
   pub cell_next : (write read : Form) (writes reads : List Form) (above below : List Term) (first second : Proof)
-      (old middle middle' new : List Proof) → form_fits (depth_of_write w) write ≡ true
-      → form_fits (depth_of_read w) read ≡ true → depth_of_write w ≤ 6
+      (old middle middle' new : List Proof) → IsCell w.vars (depth_of_write w) write read → depth_of_write w ≤ 6
       → IsFact context (2 ^ 23) (parts_of (minus (at_place write place) (Take read))) above
       → IsFact context (2 ^ 23) (parts_of (minus (Take read) (at_place write place))) below
       → first ≡ Sum (below ++ term_of here ∷ []) → second ≡ Sum (above ++ term_of here ∷ []) → middle ≡ old ++ first
       ∷ [] → middle' ≡ middle ++ second ∷ []
       → AddsProofs (map (λ row. with_rows c (row ∷ [])) (differ_rows writes reads place)) middle' new
       → AddsProofs (map (λ row. with_rows c (row ∷ [])) (differ_rows (write ∷ writes) (read ∷ reads) place)) old new
-  cell_next write read writes reads above below first second old middle middle' new fits read_fits few above_is below_is
+  cell_next write read writes reads above below first second old middle middle' new cell few above_is below_is
       first_is second_is is is' rest =
       let a : RowExpr = at_place write place in
       let b : RowExpr = Take read in
       let small_a : IsSmallRow c.vars a most_placed =
-      placed_row c.vars (depth_of_write w) write place few (form_is (depth_of_write w) write fits) taken in
+      placed_row c.vars (depth_of_write w) write place few (form_is (depth_of_write w) write cell.fits) taken in
       let small_b : IsSmallRow c.vars b most_placed
       = farther_row c.vars most_taken most_placed b (omega arith)
-      (taken_row c.vars read (read_taken c.vars (depth_of_read w) read (omega (arith, leaf.vars))
-      (form_is (depth_of_read w) read read_fits))) in
+      (taken_row c.vars read
+      (read_taken c.vars w.vars (depth_of_write w) write read (omega (arith, leaf.vars)) cell)) in
       let one = shown_refuted (one_less (minus a b) ∷ []) 0 (one_less (minus a b)) below
       (parts_of (minus b a)) here first (small_differ c.vars a b small_a small_b, tt) refl below_is
       (less_opposes a b) (omega arith) first_is in

@@ -14,7 +14,6 @@ pub mod Rounding
 pub mod Testing
 pub mod Choosing
 pub mod Ending
-pub mod Bounded
 pub mod Uppers
 pub mod Root
 pub mod Levels

@@ -4,13 +4,13 @@
 -- the read. Each form of the place is the sum of a path from 0 to its loop, and any such write meets the rows of that
 -- path, so in each loop its value is no greater. So it is no later: the place is the greatest one in every loop at
 -- once, which is more than the order asks.
-use Rattle.std.proofs.Common.{◌≡◌, ◌+◌, ◌<◌, ℕ, zero, suc, ℤ, pos, ◌+ℤ◌, ◌-ℤ◌, ◌≤ℤ◌, ◌<ℤ◌, List}
+use Rattle.std.proofs.Common.{◌≡◌, ◌+◌, ◌≤◌, ◌<◌, ℕ, zero, suc, ℤ, pos, ◌+ℤ◌, ◌-ℤ◌, ◌≤ℤ◌, ◌<ℤ◌, List}
 use Rattle.std.proofs.Common.{[], ◌∷◌, ◌++◌, length, take, Bool, true, false, refl, sym, ap, ◌∙◌, subst, arith}
 use Rattle.std.proofs.Common.{◌⊎◌}
 use Rattle.std.specs.Prelude.{Some, None, slice_get, slice_index_or, nat_lt}
 use Rattle.std.specs.Option.{option_map_or}
 use Rattle.std.proofs.lemmas.Int.{ints}
-use Rattle.std.proofs.lemmas.List.{append-nil}
+use Rattle.std.proofs.lemmas.List.{append-nil, take-take}
 use Rattle.std.proofs.lemmas.Option.{same_Some, slice_get-map}
 use Rattle.affine_core.specs.declared.form.Form.{Form}
 use Rattle.affine_core.specs.Affine.{form_at, variable_form}
@@ -30,12 +30,12 @@ use Rattle.lex_max.specs.Rounds.{IsGraphOf}
 use Rattle.lex_max.specs.declared.edges.Edge.{Edge}
 use Rattle.lex_max.specs.declared.writes.Writes.{Writes}
 use Rattle.lex_max.proofs.Differences.{past_part}
-use Rattle.lex_max.proofs.Fitting.{asked_fits, AreFitting}
+use Rattle.lex_max.proofs.Fitting.{asked_fits, IsKnown}
 use Rattle.lex_max.proofs.Meaning.{all_met, all_over_rows, all_rows, base, j_is, no_later, system}
 use Rattle.lex_max.proofs.Ordering.{length_variables, variable_at, variable_over, variable_within}
 use Rattle.lex_max.proofs.Refuting.{cycle_shows}
 use Rattle.lex_max.proofs.Small.{farther}
-use Rattle.lex_max.proofs.Valued.{made_at, mapped_some, met_domain, row_at_place, variables_at, AreMet}
+use Rattle.lex_max.proofs.Valued.{made_at, mapped_some, met_domain, row_at_place, taken_value, taken_values, AreMet}
 use Rattle.lex_max.proofs.Writing.{most_made, most_taken, small_minus, AreSmall, IsSmallRow, IsTaken}
 use Rattle.row_sums.specs.Made.{parts_of}
 use Rattle.row_sums.specs.MadeLaws.{IsMade}
@@ -139,33 +139,35 @@ values_at [] v f at e = absurd (let g : None ≡ Some f = e in cc)
 values_at (g ∷ fs) zero f at e = ap (λ f. form_at f at) (same_Some g f e)
 values_at (g ∷ fs) (suc v) f at e = values_at fs v f at e
 
-x_self : (d : ℕ) (x : List ℤ) → length x ≡ d → values (variables 0 d) x ≡ x
-x_self d x long =
-    ap (λ n. values (variables 0 n) x) (sym long) ∙ ap (values (variables 0 (length x))) (sym (append-nil x))
-    ∙ variables_at 0 [] x [] refl
+x_self : (d : ℕ) (x : List ℤ) → d ≤ length x → values (variables 0 d) x ≡ take d x
+x_self d x le = ap (values (variables 0 d)) (sym (append-nil x)) ∙ taken_values d x [] le
 
 -- a place whose rows are met is a write before the read
-pub writes_before : (w : Writes) (fits : AreFitting w.nest.now (read_of w) (write_of w) w.level) (place : List Form)
+pub writes_before : (w : Writes) (fits : IsKnown w.vars (read_of w) (write_of w) w.level) (place : List Form)
     (level : List RowExpr) (x : List ℤ) → length place ≡ depth_of_write w
-    → length x ≡ depth_of_read w → AreLevelRows (read_of w) (write_of w) w.level place level
+    → length x ≡ w.vars → AreLevelRows (read_of w) (write_of w) w.level place level
     → AreMet (write_rows (read_of w) (write_of w) level place) x
     → WritesBefore (read_of w) (write_of w) w.level x (values place x)
 writes_before w fits place level x deep long level_is met =
-    let d : List RowExpr = domain_rows w.write.statement.now.rows place in
-    let c : List RowExpr = cell_rows w.write.access.now.subscripts w.read.access.now.subscripts place in
-    let own : values (reader_place (read_of w)) x ≡ x = x_self (depth_of_read w) x long in
+    let d : List RowExpr = domain_rows w.rows.now place in
+    let c : List RowExpr = cell_rows w.write_forms.now w.read_forms.now place in
+    let reader : ℕ = depth_of_read w in
+    let own : values (reader_place (read_of w)) x ≡ take reader x =
+    x_self reader x (omega (arith, long, fits.reader)) in
     let after : AreMet (c ++ level) x = met_right d (c ++ level) x met in
     let order = met_level (common_of (write_of w) (read_of w)) w.level (nat_lt w.write.number w.read.number) place
     (reader_place (read_of w)) level x level_is (met_right c level x after) in
     record {
       deep = values_count place x ∙ deep;
-      in_domain = met_domain w.write.statement.now.rows place x (met_left d (c ++ level) x met);
-      same_cell = met_cells w.write.access.now.subscripts w.read.access.now.subscripts place x fits.even
+      in_domain = met_domain w.rows.now place x (met_left d (c ++ level) x met);
+      same_cell = met_cells w.write_forms.now w.read_forms.now place x fits.even
           (met_left c level x after);
       before = (
-        order.0 ∙ ap (take w.level) own,
-        λ lt. subst (λ xs. slice_index_or (values place x) w.level (pos 0) <ℤ slice_index_or xs w.level (pos 0)) own
-            (order.1 lt),
+        order.0 ∙ ap (take w.level) own ∙ take-take w.level reader x (omega (arith, fits.level, fits.common_vars)),
+        λ lt. subst (λ z. slice_index_or (values place x) w.level (pos 0) <ℤ z)
+            (taken_value reader w.level x (omega (arith, lt, fits.common_vars)))
+            (subst (λ xs. slice_index_or (values place x) w.level (pos 0) <ℤ slice_index_or xs w.level (pos 0)) own
+            (order.1 lt)),
       );
     }
 
@@ -179,10 +181,10 @@ own_taken d depth v lt = record {
 }
 
 module _ (w : Writes) (context : System) (edges : List Edge) (graph : IsGraphOf w edges) (of : IsContextOf w 0 context)
-    (x j : List ℤ) (long : length x ≡ depth_of_read w) (meets : Meets context.rows x)
+    (x j : List ℤ) (long : length x ≡ w.vars) (meets : Meets context.rows x)
     (h : WritesBefore (read_of w) (write_of w) w.level x j) where
   abbrev d : ℕ
-  d = depth_of_read w
+  d = w.vars
 
   abbrev depth : ℕ
   depth = depth_of_write w
@@ -224,12 +226,12 @@ pub greatest_there : (w : Writes) (context : System) (edges : List Edge) (graph 
     → AreSmall context.vars (write_rows (read_of w) (write_of w) level place)
     → AreCerts context place edges certs
     → ((v : ℕ) → v < depth_of_write w → (form : Form) × (slice_get place v ≡ Some form)
-    × (length form.coefs ≡ depth_of_read w) × IsTaken (depth_of_read w + depth_of_write w) form
+    × (length form.coefs ≡ w.vars) × IsTaken (w.vars + depth_of_write w) form
     × ((ts : List Term) × IsPath edges ts (form_parts form) (depth_of_write w) v))
-    → (x : List ℤ) → length x ≡ depth_of_read w → Meets context.rows x → IsGreatest (read_of w) (write_of w) w.level x
+    → (x : List ℤ) → length x ≡ w.vars → Meets context.rows x → IsGreatest (read_of w) (write_of w) w.level x
     (At (record { statement = w.write.number; at = values place x }))
 greatest_there w context edges graph of place level certs deep level_is small shown paths x long meets =
-    let fits : AreFitting w.nest.now (read_of w) (write_of w) w.level = asked_fits w graph.asked in
+    let fits : IsKnown w.vars (read_of w) (write_of w) w.level = asked_fits w graph.asked in
     let met : AreMet (write_rows (read_of w) (write_of w) level place) x
     = certs_met context place x (write_rows (read_of w) (write_of w) level place) edges certs of.over meets small
     (graph.edges_are place level deep level_is) shown in

@@ -17,13 +17,14 @@ use Rattle.sanlp.specs.declared.nest.Statement.{Statement}
 use Rattle.int_polyhedra.specs.Systems.{Meets}
 use Rattle.sanlp.specs.Loops.{all_hold}
 use Rattle.lex_max.specs.Answer.{root_of, IsAnswer}
-use Rattle.lex_max.specs.Asked.{depth_of_read, read_of, write_of, AreAsked, HasLevelOf, IsAsked}
+use Rattle.lex_max.specs.Asked.{depth_of_read, read_of, write_of, AreAsked, HasLevelOf, IsAsked, IsProblem}
 use Rattle.lex_max.specs.Class.{writes_differences, IsInDifferenceClass}
 use Rattle.lex_max.specs.Level.{common_of, GivesGreatest, IsGreatest}
 use Rattle.lex_max.specs.Simple.{IsSimple}
+use Rattle.lex_max.specs.Systems.{IsCheckedFor}
 use Rattle.lex_max.specs.declared.writes.Writes.{Writes}
-use Rattle.lex_max.proofs.Fitting.{asked_fits, named_is, AreFitting, IsNamed}
-use Rattle.lex_max.proofs.Just.{written_number}
+use Rattle.lex_max.proofs.Fitting.{are_fitting, named_is, problem_of, AreFitting, IsNamed}
+use Rattle.lex_max.proofs.Just.{checked_in, written_number}
 use Rattle.lex_max.proofs.Root.{are_root, domain_meets}
 use Rattle.lex_max.proofs.Zeroing.{simple_wider}
 use Rattle.source_tree.specs.Checked.{IsCheckedIn}
@@ -105,18 +106,20 @@ asked_of n s k u p r w class level read named =
       level = level r w read named;
     }
 
-pub asked_built : (n : Nest) (s k u p : ℕ) (w : Writes) → IsInDifferenceClass n s k → HasLevelOf n s k u p → w.nest.now
-    ≡ n → read_at n s k ≡ Some (read_of w)
-    → named_write n (read_of w) u ≡ Some (write_of w) → w.level ≡ p → w.common ≡ common_of (write_of w) (read_of w)
-    → IsAsked w
-asked_built n s k u p w class has nest_is read named level common =
-    let own : AreAsked n (read_of w) (write_of w) p = asked_of n s k u p (read_of w) (write_of w) class has read named
-    in
-    record {
-      asked = subst (λ n. AreAsked n (read_of w) (write_of w) w.level) (sym nest_is)
-          (subst (AreAsked n (read_of w) (write_of w)) (sym level) own);
-      common = common;
-    }
+pub asked_built : (n : Nest) (s k u p : ℕ) (w : Writes) → IsInDifferenceClass n s k → HasLevelOf n s k u p
+    → read_at n s k ≡ Some (read_of w) → named_write n (read_of w) u ≡ Some (write_of w) → w.level ≡ p
+    → AreAsked n (read_of w) (write_of w) w.level
+asked_built n s k u p w class has read named level =
+    subst (AreAsked n (read_of w) (write_of w)) (sym level)
+    (asked_of n s k u p (read_of w) (write_of w) class has read named)
+
+pub problem_built : (n : Nest) (w : Writes) → AreAsked n (read_of w) (write_of w) w.level → w.vars ≡ depth_of_read w
+    → w.common ≡ common_of (write_of w) (read_of w) → IsAsked w
+problem_built n w asked vars_is common = record {
+  problem = subst (λ v. IsProblem v (read_of w) (write_of w) w.level) (sym vars_is)
+      (problem_of n (read_of w) (write_of w) w.level asked);
+  common = common;
+}
 
 -- the statements and the accesses that are looked up
 pub record AreFound (n : Nest) (s k u : ℕ) (r w : Occurrence) : Type 0 where
@@ -148,24 +151,23 @@ are_found n s k u r w read named =
     }
 
 -- the tree of the reader's whole domain is what is promised
-module _ (n : Nest) (s k u p : ℕ) (w : Writes) (tree : Tree) (asked : IsAsked w) (nest_is : w.nest.now ≡ n)
-    (read : read_at n s k ≡ Some (read_of w)) (named : named_write n (read_of w) u ≡ Some (write_of w))
-    (level : w.level ≡ p) (h : IsAnswer w (root_of w) 3584 tree) where
+module _ (n : Nest) (s k u p : ℕ) (w : Writes) (tree : Tree) (asked : AreAsked n (read_of w) (write_of w) w.level)
+    (vars_is : w.vars ≡ depth_of_read w) (read : read_at n s k ≡ Some (read_of w))
+    (named : named_write n (read_of w) u ≡ Some (write_of w)) (level : w.level ≡ p) (h : IsAnswer w (root_of w) 3584 tree) where
   writer : w.write.number ≡ u
   writer = named_number n (read_of w) (write_of w) u named
 
   pub is_checked : (r : Occurrence) → read_at n s k ≡ Some r → IsCheckedIn n r (just u p) (root_context r) tree
   is_checked r r_is =
       let same : read_of w ≡ r = same_Some (read_of w) r (sym read ∙ r_is) in
-      let f : AreFitting w.nest.now (read_of w) (write_of w) w.level = asked_fits w asked in
-      let own : IsCheckedIn w.nest.now (read_of w) (just w.write.number w.level) (root_context (read_of w)) tree
-      = h.checked (root_context (read_of w)) refl
+      let f : AreFitting n (read_of w) (write_of w) w.level = are_fitting n (read_of w) (write_of w) w.level asked in
+      let own : IsCheckedFor (read_of w) (write_of w) w.level (root_context (read_of w)) tree
+      = h.checked (root_context (read_of w)) (sym vars_is)
       (are_root (depth_of_read w) w.read.statement.now.rows f.reader_rows).made in
       subst (λ r. IsCheckedIn n r (just u p) (root_context r) tree) same
       (subst (λ l. IsCheckedIn n (read_of w) (just u l) (root_context (read_of w)) tree) level
       (subst (λ v. IsCheckedIn n (read_of w) (just v w.level) (root_context (read_of w)) tree) writer
-      (subst (λ n. IsCheckedIn n (read_of w) (just w.write.number w.level) (root_context (read_of w)) tree) nest_is
-      own)))
+      (checked_in n (read_of w) (write_of w) w.level asked.write (root_context (read_of w)) tree own)))
 
   pub is_greatest : (r v : Occurrence) → read_at n s k ≡ Some r → named_write n r u ≡ Some v
       → GivesGreatest n r v p tree
@@ -183,7 +185,8 @@ module _ (n : Nest) (s k u p : ℕ) (w : Writes) (tree : Tree) (asked : IsAsked 
       (subst (λ (s : Statement). IsTrue (all_hold s.rows x)) statement point.holds) in
       subst (λ v. IsGreatest r v p x (gives tree x)) written
       (subst (λ r. IsGreatest r (write_of w) p x (gives tree x)) same
-      (subst (λ l. IsGreatest (read_of w) (write_of w) l x (gives tree x)) level (h.greatest x long meets)))
+      (subst (λ l. IsGreatest (read_of w) (write_of w) l x (gives tree x)) level
+      (h.greatest x (long ∙ sym vars_is) meets)))
 
   pub is_simple : IsSimple 65536 tree
   is_simple = simple_wider 3584 65536 tree (omega arith) h.simple

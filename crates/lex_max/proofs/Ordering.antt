@@ -22,7 +22,7 @@ use Rattle.lex_max.specs.declared.edges.Edge.{Edge}
 use Rattle.lex_max.specs.declared.writes.Writes.{Writes}
 use Rattle.lex_max.proofs.Adding.{edges_more}
 use Rattle.lex_max.proofs.Differences.{past_part}
-use Rattle.lex_max.proofs.Fitting.{AreFitting}
+use Rattle.lex_max.proofs.Fitting.{IsKnown}
 use Rattle.lex_max.proofs.Small.{farther, negative_over, negative_within}
 use Rattle.row_sums.specs.Made.{parts_of}
 use Rattle.row_sums.specs.Parts.{Part, the_constant, the_coefficient, part_of, row_part, IsWithin}
@@ -215,13 +215,16 @@ module _ (vars depth i : ℕ) (below : i < vars) (inside : i < depth) where
 
 module _ (w : Writes) (from : ℕ) (old : List Edge) where
   abbrev vars : ℕ
-  vars = depth_of_read w
+  vars = w.vars
 
   abbrev depth : ℕ
   depth = depth_of_write w
 
   abbrev readers : List Form
   readers = reader_place (read_of w)
+
+  abbrev own : ℕ
+  own = depth_of_read w
 
   -- behind the last common loop
   pub adds_no_order : (new : List Edge) → new ≡ old → w.common ≤ from → w.level ≤ from → AddsOrder w from old new
@@ -235,7 +238,7 @@ module _ (w : Writes) (from : ℕ) (old : List Edge) where
     each = λ h. subst (All (IsEdge vars depth)) (sym is) h;
   }
 
-  module _ (common : from < w.common) (below : from < vars) (inside : from < depth) where
+  module _ (common : from < w.common) (below : from < vars) (own_loop : from < own) (inside : from < depth) where
     -- what stands at this loop
     record IsHere (place : List Form) : Type 0 where
       v : IsDropped place from
@@ -244,11 +247,11 @@ module _ (w : Writes) (from : ℕ) (old : List Edge) where
 
     here : (place : List Form) → length place ≡ depth → IsHere place
     here place deep =
-        let x : IsDropped readers from = dropped readers from (omega (arith, length_variables 0 vars, below)) in
+        let x : IsDropped readers from = dropped readers from (omega (arith, length_variables 0 own, own_loop)) in
         record {
           v = dropped place from (omega (arith, deep, inside));
           x = x;
-          x_is = same_Some (variable_form (from + 1) from) x.first (sym (reader_at vars from below) ∙ x.is);
+          x_is = same_Some (variable_form (from + 1) from) x.first (sym (reader_at own from own_loop) ∙ x.is);
         }
 
     -- at the level
@@ -330,12 +333,12 @@ drop_none (f ∷ place) = refl
 
 -- all rows
 pub edges_are : (w : Writes) (e1 e2 e3 : List Edge) → w.common ≡ common_of (write_of w) (read_of w)
-    → AddsEdges w (λ place. domain_rows w.write.statement.now.rows place) [] e1
-    → AddsEdges w (λ place. cell_rows w.write.access.now.subscripts w.read.access.now.subscripts place) e1 e2
+    → AddsEdges w (λ place. domain_rows w.rows.now place) [] e1
+    → AddsEdges w (λ place. cell_rows w.write_forms.now w.read_forms.now place) e1 e2
     → AddsOrder w 0 e2 e3 → AreEdgesOf (read_of w) (write_of w) w.level e3
 edges_are w e1 e2 e3 common domain cells order place level deep is =
-    let d : List RowExpr = domain_rows w.write.statement.now.rows place in
-    let c : List RowExpr = cell_rows w.write.access.now.subscripts w.read.access.now.subscripts place in
+    let d : List RowExpr = domain_rows w.rows.now place in
+    let c : List RowExpr = cell_rows w.write_forms.now w.read_forms.now place in
     let less : Bool = nat_lt w.write.number w.read.number in
     let m : common_of (write_of w) (read_of w) ≡ w.common - 0 = sym common ∙ omega arith in
     let q : w.level ≡ w.level - 0 = omega arith in
@@ -351,12 +354,12 @@ edges_are w e1 e2 e3 common domain cells order place level deep is =
     order.added place (d ++ c) level deep rows (cells.added place d deep (domain.added place [] deep tt)) in
     subst (λ rows. AreEdges place rows e3) (append_assoc d c level) h
 
-pub are_graph : (w : Writes) (f : AreFitting w.nest.now (read_of w) (write_of w) w.level) (e1 e2 e3 : List Edge)
-    → AddsEdges w (λ place. domain_rows w.write.statement.now.rows place) [] e1
-    → length e1 ≡ 0 + length w.write.statement.now.rows
-    → AddsEdges w (λ place. cell_rows w.write.access.now.subscripts w.read.access.now.subscripts place) e1 e2
-    → length e2 ≤ length e1 + 2 * length w.write.access.now.subscripts → AddsOrder w 0 e2 e3 → length e3
-    + 2 * 0 ≤ length e2 + 12 → IsGraph (depth_of_read w) (depth_of_write w) e3
+pub are_graph : (w : Writes) (f : IsKnown w.vars (read_of w) (write_of w) w.level) (e1 e2 e3 : List Edge)
+    → AddsEdges w (λ place. domain_rows w.rows.now place) [] e1
+    → length e1 ≡ 0 + length w.rows.now
+    → AddsEdges w (λ place. cell_rows w.write_forms.now w.read_forms.now place) e1 e2
+    → length e2 ≤ length e1 + 2 * length w.write_forms.now → AddsOrder w 0 e2 e3 → length e3
+    + 2 * 0 ≤ length e2 + 12 → IsGraph w.vars (depth_of_write w) e3
 are_graph w f e1 e2 e3 domain n1 cells n2 order n3 = record {
   each = order.each (cells.each (domain.each (All-nil _)));
   few = omega (arith, n1, n2, n3, f.few_rows, f.few_subscripts);

@@ -13,15 +13,15 @@ use Rattle.int_polyhedra.specs.declared.system.Proof.{Proof}
 use Rattle.int_polyhedra.specs.declared.system.Proof.TheVariants.{Sum}
 use Rattle.int_polyhedra.specs.declared.system.Term.{Term}
 use Rattle.int_polyhedra.specs.Systems.{AreOver}
-use Rattle.sanlp.specs.declared.nest.Nest.{Nest}
 use Rattle.lex_max.specs.Answer.{IsContradiction}
-use Rattle.lex_max.specs.Asked.{AreAsked}
+use Rattle.lex_max.specs.Asked.{IsProblem}
 use Rattle.lex_max.specs.Edges.{write_rows, AreEdges, AreEdgesOf, AreLevelRows}
 use Rattle.lex_max.specs.Level.{common_of, HasLevel}
 use Rattle.lex_max.specs.Paths.{terms_from}
+use Rattle.lex_max.specs.Systems.{none_systems}
 use Rattle.lex_max.specs.declared.edges.Edge.{Edge}
-use Rattle.lex_max.proofs.Fitting.{AreFitting, are_fitting}
-use Rattle.lex_max.proofs.Just.{zero_system}
+use Rattle.lex_max.proofs.Fitting.{known_of, IsKnown}
+use Rattle.lex_max.proofs.Just.{none_system}
 use Rattle.lex_max.proofs.Ordering.{length_variables, variable_over, variable_within}
 use Rattle.lex_max.proofs.Refuting.{cycle_refutes, AreRowsOf, IsBase}
 use Rattle.lex_max.proofs.Small.{farther}
@@ -32,8 +32,7 @@ use Rattle.row_sums.proofs.Wider.{made_widens}
 use Rattle.source_tree.specs.Checked.{AreRefuted, IsRefuted}
 use Rattle.source_tree.specs.Places.{cell_rows, domain_rows, variables}
 use Rattle.source_tree.specs.Rows.{RowExpr, RowSystem, row_forms}
-use Rattle.source_tree.specs.Systems.{Occurrence, Context, just, reader_place, writer_place, with_rows, with_write_at}
-use Rattle.source_tree.specs.Systems.{zero_systems}
+use Rattle.source_tree.specs.Systems.{Occurrence, Context, reader_place, writer_place, with_rows, with_write_at}
 
 -- variables are small forms
 pub variables_taken : (vars i d : ℕ) → i + d ≤ vars → AreTaken vars (variables i d)
@@ -61,7 +60,7 @@ regroup c d e l m =
     ∙ ap (λ x. c ++ x) (sym (append_assoc d (e ++ l) m)) ∙ sym (append_assoc c (d ++ (e ++ l)) m)
 
 -- the system, as it is made
-pub record IsPlaced (n : Nest) (r w : Occurrence) (p : ℕ) (c : Context) (context : List Form)
+pub record IsPlaced (r w : Occurrence) (p : ℕ) (c : Context) (context : List Form)
     (edges : List Edge) : Type 0 where
   pub level : List RowExpr
   pub level_is : AreLevelRows r w p (writer_place c w) level
@@ -75,31 +74,31 @@ pub record IsPlaced (n : Nest) (r w : Occurrence) (p : ℕ) (c : Context) (conte
   pub rows_are : (m : List RowExpr) → (with_rows (with_write_at r c w) (level ++ m)).rows
       ≡ (c.rows ++ write_rows r w level (writer_place c w)) ++ m
 
-pub placed : (n : Nest) (r w : Occurrence) (p : ℕ) (c : Context) (context : List Form) (edges : List Edge)
-    → AreAsked n r w p → c.vars ≡ length r.statement.loops
-    → row_forms c.vars c.rows ≡ Some context → AreEdgesOf r w p edges → IsPlaced n r w p c context edges
-placed n r w p c context edges asked vars_is context_is edges_are =
-    let f : AreFitting n r w p = are_fitting n r w p asked in
+pub placed : (vars : ℕ) (r w : Occurrence) (p : ℕ) (c : Context) (context : List Form) (edges : List Edge)
+    → IsProblem vars r w p → c.vars ≡ vars
+    → row_forms c.vars c.rows ≡ Some context → AreEdgesOf r w p edges → IsPlaced r w p c context edges
+placed vars r w p c context edges problem vars_is context_is edges_are =
+    let f : IsKnown vars r w p = known_of vars r w p problem in
     let e : ℕ = length w.statement.loops in
     let more : ℕ = c.vars + e in
     let place : List Form = writer_place c w in
     let long : length place ≡ e = length_variables c.vars e in
     let own : AreTaken more place = variables_taken more c.vars e (omega arith) in
     let readers : AreTaken more (reader_place r) =
-    variables_taken more 0 (length r.statement.loops) (omega (arith, vars_is)) in
+    variables_taken more 0 (length r.statement.loops) (omega (arith, vars_is, f.reader)) in
     let level : IsSmallLevel more _ p
     = level_at more (common_of w r) p (nat_lt w.number r.number) place (reader_place r)
     (omega (arith, long, f.common_loops))
     (omega (arith, length_variables 0 (length r.statement.loops), f.common_vars))
-    (level_exists r w p asked.level) own readers in
+    (level_exists r w p problem.level) own readers in
     let rows : List RowExpr = write_rows r w level.rows place in
     let small : AreSmall more rows
     = small_append more (domain_rows w.statement.rows place)
     (cell_rows w.access.subscripts r.access.subscripts place ++ level.rows)
     (small_domain more e w.statement.rows place f.few_loops f.rows own)
     (small_append more (cell_rows w.access.subscripts r.access.subscripts place) level.rows
-    (small_cells more (length r.statement.loops) e w.access.subscripts r.access.subscripts place
-    (omega (arith, vars_is)) f.few_loops f.writes f.reads own) level.small) in
+    (small_cells more vars e w.access.subscripts r.access.subscripts place
+    (omega (arith, vars_is)) f.few_loops f.cells own) level.small) in
     let made : AreMade more rows = are_made more rows small in
     let are : AreEdges place rows edges = edges_are place level.rows long level.is in
     record {
@@ -120,13 +119,13 @@ placed n r w p c context edges asked vars_is context_is edges_are =
           (cell_rows w.access.subscripts r.access.subscripts place) level.rows m;
     }
 
-pub zero_refuted : (n : Nest) (r w : Occurrence) (p : ℕ) (c : Context) (context : List Form) (edges : List Edge)
-    (shown ts : List Term) → AreAsked n r w p
-    → c.vars ≡ length r.statement.loops → row_forms c.vars c.rows ≡ Some context → IsBase c.vars context
+pub none_refuted : (vars : ℕ) (r w : Occurrence) (p : ℕ) (c : Context) (context : List Form) (edges : List Edge)
+    (shown ts : List Term) → IsProblem vars r w p
+    → c.vars ≡ vars → row_forms c.vars c.rows ≡ Some context → IsBase c.vars context
     → AreEdgesOf r w p edges → IsContradiction c.vars context edges shown ts
-    → AreRefuted (zero_systems n r (just w.number p) c) (Sum (shown ++ terms_from (length context) ts) ∷ [])
-zero_refuted n r w p c context edges shown ts asked vars_is context_is base edges_are h =
-    let s : IsPlaced n r w p c context edges = placed n r w p c context edges asked vars_is context_is edges_are in
+    → AreRefuted (none_systems r w p c) (Sum (shown ++ terms_from (length context) ts) ∷ [])
+none_refuted vars r w p c context edges shown ts problem vars_is context_is base edges_are h =
+    let s : IsPlaced r w p c context edges = placed vars r w p c context edges problem vars_is context_is edges_are in
     let more : ℕ = c.vars + length w.statement.loops in
     let system : RowSystem = with_rows (with_write_at r c w) (s.level ++ []) in
     let proof : Proof = Sum (shown ++ terms_from (length context) ts) in
@@ -140,5 +139,5 @@ zero_refuted n r w p c context edges shown ts asked vars_is context_is base edge
       refuted = cycle_refutes c.vars more context s.forms (writer_place c w) edges (omega arith) base s.over s.within
           s.are shown ts h.row h.sum h.node h.narrow h.shows h.cycle h.negative h.no_variable h.light;
     } in
-    subst (λ systems. AreRefuted systems (proof ∷ [])) (sym (zero_system n r w p c s.level asked.write s.level_is))
+    subst (λ systems. AreRefuted systems (proof ∷ [])) (sym (none_system r w p c s.level s.level_is))
     (one, tt)

@@ -14,7 +14,7 @@ use Rattle.int_polyhedra.specs.declared.system.System.{System}
 use Rattle.int_polyhedra.specs.declared.system.Term.{Term}
 use Rattle.int_polyhedra.proofs.Variables.{length_sums}
 use Rattle.lex_max.specs.Answer.{IsCycle}
-use Rattle.lex_max.specs.Asked.{depth_of_read, depth_of_write}
+use Rattle.lex_max.specs.Asked.{depth_of_write}
 use Rattle.lex_max.specs.Choices.{chosen_place, uppers_of, AreChosen, AreReady}
 use Rattle.lex_max.specs.Edges.{edge_parts, IsEdge}
 use Rattle.lex_max.specs.Facts.{form_parts, IsFact}
@@ -41,7 +41,7 @@ item_at choices v choice lt is = slice_get_read choices (length choices) v choic
 module _ (w : Writes) (edges : List Edge) (bounds : Bounds) (ready : AreReady w edges bounds) (context : System)
     (choices : List Choice) (chosen : AreChosen w edges bounds context choices) where
   abbrev vars : ℕ
-  vars = depth_of_read w
+  vars = w.vars
 
   abbrev depth : ℕ
   depth = depth_of_write w

@@ -17,14 +17,15 @@ use Rattle.int_polyhedra.specs.declared.system.System.{System}
 use Rattle.int_polyhedra.specs.declared.system.Term.{Term}
 use Rattle.int_polyhedra.specs.Systems.{all_over, AreOver, Meets}
 use Rattle.int_polyhedra.proofs.Variables.{and_both, both_and}
+use Rattle.sanlp.specs.declared.nest.Nest.{Nest}
 use Rattle.sanlp.specs.Loops.{all_hold}
 use Rattle.sanlp.specs.WellFormed.{form_fits}
-use Rattle.lex_max.specs.Answer.{IsContextOf, IsContradiction}
-use Rattle.lex_max.specs.Asked.{depth_of_read, IsAsked}
+use Rattle.lex_max.specs.Answer.{root_of, IsContextOf, IsContradiction}
+use Rattle.lex_max.specs.Asked.{depth_of_read, read_of, write_of, AreAsked}
 use Rattle.lex_max.specs.Closed.{number_parts, IsNegativeCycle}
 use Rattle.lex_max.specs.declared.edges.Edge.{Edge}
 use Rattle.lex_max.specs.declared.writes.Writes.{Writes}
-use Rattle.lex_max.proofs.Fitting.{asked_fits, form_is, AreFitting, FormFits}
+use Rattle.lex_max.proofs.Fitting.{are_fitting, form_is, AreFitting, FormFits}
 use Rattle.lex_max.proofs.Small.{farther}
 use Rattle.lex_max.proofs.Testing.{taken_made}
 use Rattle.row_sums.specs.Parts.{IsWithin}
@@ -51,18 +52,20 @@ are_root depth (row ∷ rows) e =
       within = All-cons (IsWithin (2 ^ 41)) row rows (farther (2 ^ 32) (2 ^ 41) row (omega arith) f.within) rest.within;
     }
 
-pub root_context_of : (w : Writes) (context : System) (room : ℕ) → IsAsked w → context.vars ≡ depth_of_read w
-    → context.rows ≡ w.read.statement.now.rows → room ≤ 4064 → IsContextOf w room context
-root_context_of w context room asked vars_is rows_is le =
-    let f : AreFitting w.nest.now _ _ w.level = asked_fits w asked in
-    let r : AreRoot (depth_of_read w) w.read.statement.now.rows =
-    are_root (depth_of_read w) w.read.statement.now.rows f.reader_rows in
-    record {
-      vars = vars_is;
-      over = subst (λ v. AreOver v context.rows) (sym vars_is) (subst (AreOver (depth_of_read w)) (sym rows_is) r.over);
-      within = subst (All (IsWithin (2 ^ 41))) (sym rows_is) r.within;
-      few = omega (arith, ap length rows_is, f.few_reader_rows, le);
-    }
+pub root_context_of : (n : Nest) (w : Writes) (context : System) (room : ℕ)
+    → AreAsked n (read_of w) (write_of w) w.level → w.vars ≡ depth_of_read w → context ≡ root_of w → room ≤ 4064
+    → IsContextOf w room context
+root_context_of n w context room asked vars_is is le =
+    let f : AreFitting n (read_of w) (write_of w) w.level = are_fitting n (read_of w) (write_of w) w.level asked in
+    let rows : List Form = w.read.statement.now.rows in
+    let r : AreRoot (depth_of_read w) rows = are_root (depth_of_read w) rows f.reader_rows in
+    subst (IsContextOf w room) (sym is)
+    (record {
+      vars = refl;
+      over = subst (λ v. AreOver v rows) (sym vars_is) r.over;
+      within = r.within;
+      few = omega (arith, f.few_reader_rows, le);
+    })
 
 le_where : (a b : ℤ) → int_le a b ≡ true → a ≤ℤ b
 le_where a b e = grind (arith, ints)

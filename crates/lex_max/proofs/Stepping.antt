@@ -4,7 +4,7 @@ use Rattle.std.specs.Prelude.{Option, Some, None, IfSome}
 use Rattle.affine_core.specs.declared.form.Form.{Form}
 use Rattle.affine_core.specs.Affine.{form_product, form_sum}
 use Rattle.int_polyhedra.specs.declared.system.System.{System}
-use Rattle.lex_max.specs.Asked.{depth_of_read, depth_of_write}
+use Rattle.lex_max.specs.Asked.{depth_of_write}
 use Rattle.lex_max.specs.Choices.{AreReady, IsChoosing}
 use Rattle.lex_max.specs.ChoiceSteps.{IsSmallForm}
 use Rattle.lex_max.specs.Facts.{form_parts}
@@ -50,7 +50,7 @@ module _ (w : Writes) (edges : List Edge) (bounds : Bounds) (ready : AreReady w 
     (forms : List (Option Form)) (more : List (List (Option Form))) (choice : Choice) (choices : List Choice) where
   pub chosen_small : (x : Option Form)
       → IsChoosing (depth_of_write w) bounds edges context (x ∷ forms) more choice choices
-      → IsSmallForm (depth_of_read w) choice.form
+      → IsSmallForm w.vars choice.form
   chosen_small x h =
       let led : IsLed w edges bounds ready (length choices) choice.edge choice.form =
       is_led w edges bounds ready (length choices) choice.edge choice.form h.choosing.edge_is in
@@ -58,7 +58,7 @@ module _ (w : Writes) (edges : List Edge) (bounds : Bounds) (ready : AreReady w 
 
   pub next_small : (x : Option Form)
       → IsChoosing (depth_of_write w) bounds edges context (x ∷ forms) more choice choices
-      → IfSome x (IsSmallForm (depth_of_read w))
+      → IfSome x (IsSmallForm w.vars)
   next_small None h = tt
   next_small (Some form) h =
       let led : IsLed w edges bounds ready (length choices) (length h.done) form =

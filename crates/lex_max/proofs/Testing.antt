@@ -21,16 +21,16 @@ use Rattle.int_polyhedra.specs.Steps.{negation_of}
 use Rattle.int_polyhedra.specs.Systems.{Meets}
 use Rattle.int_polyhedra.proofs.Soundness.{negation_at}
 use Rattle.lex_max.specs.Answer.{IsAnswer}
-use Rattle.lex_max.specs.Asked.{depth_of_read, read_of, write_of}
+use Rattle.lex_max.specs.Asked.{read_of, write_of}
 use Rattle.lex_max.specs.Level.{IsGreatest}
 use Rattle.lex_max.specs.Simple.{at_test as simple_test}
+use Rattle.lex_max.specs.Systems.{at_test, IsCheckedFor}
 use Rattle.lex_max.specs.declared.writes.Writes.{Writes}
 use Rattle.lex_max.proofs.Writing.{forms_append}
 use Rattle.row_sums.specs.Parts.{IsWithin}
-use Rattle.source_tree.specs.Checked.{IsCheckedIn, at_test}
 use Rattle.source_tree.specs.Gives.{gives, gives_step, values}
 use Rattle.source_tree.specs.Rows.{RowExpr, Take, below_zero, number, row_form, row_forms}
-use Rattle.source_tree.specs.Systems.{Context, just, test_no, test_yes}
+use Rattle.source_tree.specs.Systems.{Context, test_no, test_yes}
 use Rattle.source_tree.specs.declared.tree.Found.{Found}
 use Rattle.source_tree.specs.declared.tree.Found.TheVariants as found
 use Rattle.source_tree.specs.declared.tree.Tree.{Tree}
@@ -111,15 +111,15 @@ meets_more rows row x h k = All-append (λ row. pos 0 ≤ℤ form_at row x) rows
 
 module _ (w : Writes) (context above below : System) (form other : Form) (tests : ℕ) (yes no tree : Tree)
     (is : tree ≡ Test form yes no)
-    (over : length form.coefs ≡ depth_of_read w) (small : IsWithin (2 ^ 48) form)
+    (over : length form.coefs ≡ w.vars) (small : IsWithin (2 ^ 48) form)
     (other_is : negation_of form ≡ Some other)
     (above_is : above ≡ record context { rows = context.rows ++ form ∷ [] })
     (below_is : below ≡ record context { rows = context.rows ++ other ∷ [] })
     (yes_is : IsAnswer w above tests yes) (no_is : IsAnswer w below tests no) where
   abbrev IsChecked : Context → Tree → Type 0
-  IsChecked = IsCheckedIn w.nest.now (read_of w) (just w.write.number w.level)
+  IsChecked = IsCheckedFor (read_of w) (write_of w) w.level
 
-  test_checked : (c : Context) → c.vars ≡ depth_of_read w → row_forms c.vars c.rows ≡ Some context.rows
+  test_checked : (c : Context) → c.vars ≡ w.vars → row_forms c.vars c.rows ≡ Some context.rows
       → IsChecked c tree
   test_checked c vars_is rows_is =
       let here : length form.coefs ≡ c.vars = over ∙ sym vars_is in
@@ -131,7 +131,7 @@ module _ (w : Writes) (context above below : System) (form other : Form) (tests 
       (more_made c context.rows (below_zero (Take form)) other rows_is (opposite_made c.vars form other here other_is)
       ∙ ap (λ (s : System). Some s.rows) (sym below_is)))
 
-  test_greatest : (x : List ℤ) → length x ≡ depth_of_read w → Meets context.rows x
+  test_greatest : (x : List ℤ) → length x ≡ w.vars → Meets context.rows x
       → IsGreatest (read_of w) (write_of w) w.level x (gives tree x)
   test_greatest x long meets =
       subst (IsGreatest (read_of w) (write_of w) w.level x) (sym (gives_test x tree form yes no is))

@@ -21,8 +21,9 @@ use Rattle.int_polyhedra.specs.declared.system.System.{System}
 use Rattle.int_polyhedra.specs.declared.system.Term.{Term}
 use Rattle.int_polyhedra.proofs.Variables.{and_both}
 use Rattle.sanlp.proofs.Elements.{list_all_at}
+use Rattle.sanlp.specs.Bounds.{BoundsAbove}
 use Rattle.sanlp.specs.WellFormed.{form_fits}
-use Rattle.lex_max.specs.Asked.{depth_of_read, depth_of_write, read_of, write_of}
+use Rattle.lex_max.specs.Asked.{depth_of_write, read_of, write_of}
 use Rattle.lex_max.specs.Choices.{chosen_place, upper_of, uppers_of, AreChosen, AreReady, IsChoice}
 use Rattle.lex_max.specs.Class.{is_difference}
 use Rattle.lex_max.specs.Closed.{value_at}
@@ -33,11 +34,10 @@ use Rattle.lex_max.specs.declared.closure.Bounds.{Bounds}
 use Rattle.lex_max.specs.declared.decide.Choice.{Choice}
 use Rattle.lex_max.specs.declared.edges.Edge.{Edge}
 use Rattle.lex_max.specs.declared.writes.Writes.{Writes}
-use Rattle.lex_max.proofs.Bounded.{bounded_above, IsBounded}
 use Rattle.lex_max.proofs.Choosing.{choices_at, fact_weaker, no_less_at, HasTerms}
 use Rattle.lex_max.proofs.Adding.{node_few}
 use Rattle.lex_max.proofs.Differences.{by_trit, differences_are, how_many, is_trit, past_part, AreTrits}
-use Rattle.lex_max.proofs.Fitting.{asked_fits, form_is, AreFitting, FormFits}
+use Rattle.lex_max.proofs.Fitting.{asked_fits, form_is, IsKnown, FormFits}
 use Rattle.lex_max.proofs.Walking.{all_at}
 use Rattle.row_sums.specs.Closure.{AtMost, bound_sum}
 use Rattle.row_sums.specs.Parts.{Part, the_constant, the_coefficient, part_of, row_part}
@@ -118,7 +118,7 @@ trit_below c h low = elim h [
 
 module _ (w : Writes) (edges : List Edge) (bounds : Bounds) (ready : AreReady w edges bounds) where
   abbrev vars : ℕ
-  vars = depth_of_read w
+  vars = w.vars
 
   abbrev depth : ℕ
   depth = depth_of_write w
@@ -241,26 +241,28 @@ module _ (w : Writes) (edges : List Edge) (bounds : Bounds) (ready : AreReady w 
 
   bounding : (v : ℕ) → v < depth → IsBounding v
   bounding v inside =
-      let f : AreFitting w.nest.now (read_of w) (write_of w) w.level = asked_fits w ready.graph.asked in
-      let b : IsBounded w.write.statement.now v =
-      bounded_above w.nest.now w.write.number w.write.statement.now v f.named.is inside in
-      let row : Form = b.row in
+      let f : IsKnown w.vars (read_of w) (write_of w) w.level = asked_fits w ready.graph.asked in
+      let b = ready.graph.asked.problem.bounded v inside in
+      let number : ℕ = b.0 in
+      let row : Form = b.1 in
+      let is : slice_get w.rows.now number ≡ Some row = b.2 in
+      let bounds : BoundsAbove v row = b.3 in
       let g : Edge = domain_edge_of vars row in
       let fits : FormFits depth row =
-      form_is depth row (list_all_at (form_fits depth) w.write.statement.now.rows b.number row f.rows b.is) in
+      form_is depth row (list_all_at (form_fits depth) w.rows.now number row f.rows is) in
       let t : AreTrits row.coefs =
-      differences_are row (list_all_at is_difference w.write.statement.now.rows b.number row f.differences b.is) in
-      let here : slice_get edges b.number ≡ Some g
-      = taken_at edges (length w.write.statement.now.rows) b.number g
-      (ap (λ es. slice_get es b.number) ready.graph.starts ∙ slice_get-map
-      (domain_edge_of vars) w.write.statement.now.rows b.number ∙ ap (option_map (domain_edge_of vars)) b.is) in
+      differences_are row (list_all_at is_difference w.rows.now number row f.differences is) in
+      let here : slice_get edges number ≡ Some g
+      = taken_at edges (length w.rows.now) number g
+      (ap (λ es. slice_get es number) ready.graph.starts ∙ slice_get-map
+      (domain_edge_of vars) w.rows.now number ∙ ap (option_map (domain_edge_of vars)) is) in
       let low : slice_index_or row.coefs v (pos 0) ≡ negsuc 0 =
-      trit_below (slice_index_or row.coefs v (pos 0)) (trit_at row.coefs v t.trits) b.bounds.taken_off in
+      trit_below (slice_index_or row.coefs v (pos 0)) (trit_at row.coefs v t.trits) bounds.taken_off in
       let to : node_of (negsuc 0) row.coefs ≡ v =
       once_node (negsuc 0) row.coefs v t.less low (omega (arith, fits.over, inside)) in
       let a : ℕ = node_of (pos 1) row.coefs in
       record {
-        number = b.number;
+        number = number;
         edge = g;
         is = here;
         to = to;
@@ -271,7 +273,7 @@ module _ (w : Writes) (edges : List Edge) (bounds : Bounds) (ready : AreReady w 
               elim (cases_lt a v) [
                 | inl below ↦ inr below
                 | inr above ↦ elim (cases_lt v a) [
-                  | inl beyond ↦ absurd (omega (arith, ints, one, b.bounds.none_inside a beyond))
+                  | inl beyond ↦ absurd (omega (arith, ints, one, bounds.none_inside a beyond))
                   | inr same ↦ absurd (let e : a ≡ v = omega (arith, above, same)
                       in omega (arith, ints, one, low, ap (λ k. slice_index_or row.coefs k (pos 0)) e))
                 ]

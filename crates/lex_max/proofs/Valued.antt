@@ -4,11 +4,12 @@
 -- are made can be said of values. A place has the values of its forms: a domain row, a subscript and an order row at a
 -- place hold exactly where the values say so. A longer point changes nothing of rows that are widened.
 use Rattle.std.proofs.Common.{◌≡◌, ◌+◌, ◌<◌, ℕ, zero, suc, ℤ, pos, ◌+ℤ◌, ◌*ℤ◌, ◌≤ℤ◌, ◌<ℤ◌}
-use Rattle.std.proofs.Common.{List, [], ◌∷◌, ◌++◌, length, map, take, Bool, true, false, cond, refl, sym, ap, ◌∙◌}
+use Rattle.std.proofs.Common.{List, [], ◌∷◌, ◌++◌, length, map, take, drop, ◌≤◌, Bool, true, false, cond, refl, sym, ap, ◌∙◌}
 use Rattle.std.proofs.Common.{subst, arith, append_assoc, length-append}
 use Rattle.std.specs.Prelude.{Option, Some, None, All, slice_get, slice_index_or, nat_le, int_le, IsTrue}
 use Rattle.std.specs.Option.{option_and_then, option_map}
 use Rattle.std.proofs.lemmas.Int.{ints}
+use Rattle.std.proofs.lemmas.List.{length-take-le, take-append-drop}
 use Rattle.std.proofs.lemmas.List.Elements.{All-nil, All-cons, All-head, All-tail}
 use Rattle.std.proofs.lemmas.Option.{same_Some, option_and_then_some, slice_get-map}
 use Rattle.std.proofs.Math.IntN.{*ℤ_comm}
@@ -104,6 +105,22 @@ variables_at i before (x ∷ xs) after e =
     (variable_at (i + 1) i (before ++ x ∷ (xs ++ after)) ∙ value_at i before x (xs ++ after) e)
     ∙ ap (λ at. x ∷ values (variables (i + 1) (length xs)) at) (sym (append_assoc before (x ∷ []) (xs ++ after)))
     ∙ ap (λ zs. x ∷ zs) rest
+
+-- the first variables have the first values
+pub taken_values : (d : ℕ) (x after : List ℤ) → d ≤ length x → values (variables 0 d) (x ++ after) ≡ take d x
+taken_values d x after le =
+    let first : List ℤ = take d x in
+    let whole : x ++ after ≡ first ++ (drop d x ++ after)
+    = ap (λ x. x ++ after) (sym (take-append-drop d x)) ∙ append_assoc first (drop d x) after in
+    let count : length first ≡ d = length-take-le d x le in
+    ap (values (variables 0 d)) whole ∙ ap (λ n. values (variables 0 n) (first ++ (drop d x ++ after))) (sym count)
+    ∙ variables_at 0 [] first (drop d x ++ after) refl
+
+pub taken_value : (d p : ℕ) (x : List ℤ) → p < d → slice_index_or (take d x) p (pos 0) ≡ slice_index_or x p (pos 0)
+taken_value zero p x lt = absurd (omega arith)
+taken_value (suc d) p [] lt = refl
+taken_value (suc d) zero (z ∷ x) lt = refl
+taken_value (suc d) (suc p) (z ∷ x) lt = taken_value d p x (omega (arith, lt))
 
 at_plus_terms : (sum : RowExpr) (cs : List ℤ) (place : List Form) (at : List ℤ) → row_at (plus_terms sum cs place) at
     ≡ combined (row_at sum at) cs (values place at)

@@ -4,7 +4,7 @@
 -- numbers, and a difference of two such reaches as far as both, and 1 more where it is strict. So the rows of the
 -- domain, of the cell and of each level of an order are small, by induction over them, and small rows can be made.
 -- Rows that were made keep their number and their order, so they are told by the edges in their places.
-use Rattle.std.proofs.Common.{◌≡◌, ◌+◌, ◌*◌, ◌^◌, ◌≤◌, ◌<◌, ℕ, zero, suc, ℤ, pos, negsuc, List, []}
+use Rattle.std.proofs.Common.{◌≡◌, ◌+◌, ◌-◌, ◌*◌, ◌^◌, ◌≤◌, ◌<◌, ℕ, zero, suc, ℤ, pos, negsuc, List, []}
 use Rattle.std.proofs.Common.{◌∷◌, ◌++◌, length, Bool, true, refl, ap, ◌∙◌, arith, inl, inr}
 use Rattle.std.proofs.Common.{◌⊎◌}
 use Rattle.std.specs.Prelude.{Some, All, slice_get, unsigned_abs, ◌==◌}
@@ -16,6 +16,7 @@ use Rattle.std.proofs.lemmas.Option.{same_Some, slice_get-map, option_and_then_s
 use Rattle.affine_core.specs.declared.form.Form.{Form}
 use Rattle.int_polyhedra.proofs.Variables.{and_both, both_and}
 use Rattle.int_polyhedra.specs.Systems.{all_over, AreOver}
+use Rattle.lex_max.specs.Asked.{AreCells, IsCell}
 use Rattle.lex_max.specs.Edges.{AreEdges}
 use Rattle.lex_max.specs.Paths.{edge_part}
 use Rattle.lex_max.specs.declared.edges.Edge.{Edge}
@@ -121,31 +122,28 @@ small_domain vars depth (row ∷ rows) place few fits taken =
       small_domain vars depth rows place few b.1 taken,
     )
 
-pub read_taken : (vars d : ℕ) (read : Form) → d ≤ vars → FormFits d read → IsTaken vars read
-read_taken vars d read le fits = record {
-  short = omega (arith, fits.over, le);
+pub read_taken : (vars d depth : ℕ) (write read : Form) → d ≤ vars → IsCell d depth write read → IsTaken vars read
+read_taken vars d depth write read le cell = record {
+  short = omega (arith, cell.over, le);
   within =
-      farther (2 ^ 32) most_taken read (omega arith) fits.within;
+      farther (2 ^ 33 - unsigned_abs write.constant) most_taken read (omega arith) cell.within;
 }
 
 pub small_cells : (vars d depth : ℕ) (writes reads place : List Form) → d ≤ vars → depth ≤ 6
-    → list_all (form_fits depth) writes ≡ true → list_all (form_fits d) reads ≡ true → AreTaken vars place
-    → AreSmall vars (cell_rows writes reads place)
-small_cells vars d depth [] reads place le few w r taken = tt
-small_cells vars d depth (write ∷ writes) [] place le few w r taken = tt
-small_cells vars d depth (write ∷ writes) (read ∷ reads) place le few w r taken =
-    let b = and_both (form_fits depth write) (list_all (form_fits depth) writes) w in
-    let c = and_both (form_fits d read) (list_all (form_fits d) reads) r in
+    → AreCells d depth writes reads → AreTaken vars place → AreSmall vars (cell_rows writes reads place)
+small_cells vars d depth [] reads place le few cells taken = tt
+small_cells vars d depth (write ∷ writes) [] place le few cells taken = tt
+small_cells vars d depth (write ∷ writes) (read ∷ reads) place le few cells taken =
     let at : IsSmallRow vars (at_place write place) most_placed =
-    placed_row vars depth write place few (form_is depth write b.0) taken in
+    placed_row vars depth write place few (form_is depth write cells.0.fits) taken in
     let of : IsSmallRow vars (Take read) most_taken =
-    taken_row vars read (read_taken vars d read le (form_is d read c.0)) in (
+    taken_row vars read (read_taken vars d depth write read le cells.0) in (
       farther_row vars (most_placed + (most_taken + most_taken)) most_made (minus (at_place write place) (Take read))
           (omega arith) (minus_row vars most_placed most_taken (at_place write place) (Take read) at of),
       (
         farther_row vars (most_taken + (most_placed + most_placed)) most_made (minus (Take read) (at_place write place))
             (omega arith) (minus_row vars most_taken most_placed (Take read) (at_place write place) of at),
-        small_cells vars d depth writes reads place le few b.1 c.1 taken,
+        small_cells vars d depth writes reads place le few cells.1 taken,
       ),
     )
 

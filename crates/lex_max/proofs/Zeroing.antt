@@ -18,16 +18,16 @@ use Rattle.lex_max.specs.Paths.{terms_from}
 use Rattle.lex_max.specs.Rounds.{IsGraphOf}
 use Rattle.lex_max.specs.Simple.{at_writer, at_zero as simple_zero, IsLightSum, IsSimple}
 use Rattle.lex_max.specs.Simple.{at_test as simple_test}
+use Rattle.lex_max.specs.Systems.{at_zero, none_systems}
 use Rattle.lex_max.specs.declared.edges.Edge.{Edge}
 use Rattle.lex_max.specs.declared.writes.Writes.{Writes}
 use Rattle.lex_max.proofs.Meaning.{none_where_refuted}
-use Rattle.lex_max.proofs.Placing.{zero_refuted}
+use Rattle.lex_max.proofs.Placing.{none_refuted}
 use Rattle.lex_max.proofs.Refuting.{weight_from, IsBase}
 use Rattle.lex_max.proofs.Testing.{gives_zero}
 use Rattle.row_sums.specs.Parts.{weight}
 use Rattle.row_sums.proofs.Weights.{weight_sum}
-use Rattle.source_tree.specs.Checked.{at_zero, AreRefuted}
-use Rattle.source_tree.specs.Systems.{just, zero_systems}
+use Rattle.source_tree.specs.Checked.{AreRefuted}
 use Rattle.source_tree.specs.declared.tree.Tree.{Tree}
 use Rattle.source_tree.specs.declared.tree.Tree.TheVariants.{Zero}
 
@@ -51,10 +51,10 @@ zero_answer w context edges shown ts terms tree graph of h terms_is is tests =
           let base : IsBase c.vars context.rows =
           record { over = subst (λ v. AreOver v context.rows) same of.over; within = of.within } in
           at_zero c tree (proof ∷ []) is
-          (subst (λ terms. AreRefuted (zero_systems w.nest.now (read_of w) (just w.write.number w.level) c)
-          (Sum terms ∷ [])) (sym terms_is)
-          (zero_refuted w.nest.now (read_of w)
-          (write_of w) w.level c context.rows edges shown ts graph.asked.asked vars_is rows_is base graph.edges_are
+          (subst (λ terms. AreRefuted (none_systems (read_of w) (write_of w) w.level c) (Sum terms ∷ []))
+          (sym terms_is)
+          (none_refuted w.vars (read_of w)
+          (write_of w) w.level c context.rows edges shown ts graph.asked.problem vars_is rows_is base graph.edges_are
           (subst (λ v. IsContradiction v context.rows edges shown ts) same h))));
       simple = simple_zero tests tree (proof ∷ []) is (All-cons IsLightSum proof [] (terms, refl, light) (All-nil _));
       greatest = λ x long meets.

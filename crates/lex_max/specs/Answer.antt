@@ -4,40 +4,40 @@ use Rattle.affine_core.specs.declared.form.Form.{Form}
 use Rattle.int_polyhedra.specs.declared.system.System.{System}
 use Rattle.int_polyhedra.specs.declared.system.Term.{Term}
 use Rattle.int_polyhedra.specs.Systems.{AreOver, Meets}
-use Rattle.lex_max.specs.Asked.{depth_of_read, read_of, write_of}
+use Rattle.lex_max.specs.Asked.{read_of, write_of}
 use Rattle.lex_max.specs.Facts.{form_parts}
 use Rattle.lex_max.specs.Level.{IsGreatest}
 use Rattle.lex_max.specs.Paths.{IsPath}
 use Rattle.lex_max.specs.Simple.{IsSimple}
+use Rattle.lex_max.specs.Systems.{IsCheckedFor}
 use Rattle.lex_max.specs.declared.cycles.Cycle.{Cycle}
 use Rattle.lex_max.specs.declared.edges.Edge.{Edge}
 use Rattle.lex_max.specs.declared.writes.Writes.{Writes}
 use Rattle.row_sums.specs.Parts.{the_constant, the_coefficient, weight, IsWithin}
 use Rattle.row_sums.specs.Shown.{RowParts, Shows}
-use Rattle.source_tree.specs.Checked.{IsCheckedIn}
 use Rattle.source_tree.specs.Gives.{gives}
 use Rattle.source_tree.specs.Rows.{row_forms}
-use Rattle.source_tree.specs.Systems.{Context, just}
+use Rattle.source_tree.specs.Systems.{Context}
 use Rattle.source_tree.specs.declared.tree.Tree.{Tree}
 
--- a context of the reader: rows over its loop variables with small numbers, and room for so many more
+-- a context: rows over its variables with small numbers, and room for so many more
 pub record IsContextOf (w : Writes) (room : ℕ) (context : System) : Type 0 where
-  pub vars : context.vars ≡ depth_of_read w
+  pub vars : context.vars ≡ w.vars
   pub over : AreOver context.vars context.rows
   pub within : All (IsWithin (2 ^ 41)) context.rows
   pub few : length context.rows + room ≤ 4096
 
 -- the reader's domain rows
 abbrev pub root_of : Writes → System
-root_of w = record { vars = depth_of_read w; rows = w.read.statement.now.rows }
+root_of w = record { vars = w.vars; rows = w.read.statement.now.rows }
 
 -- A tree is the answer of a context: it is checked there for the writer and the level, with at most so many
--- Tests on a path, and gives the greatest point at each point of the reader that meets the context.
+-- Tests on a path, and gives the greatest point at each point that meets the context.
 pub record IsAnswer (w : Writes) (context : System) (tests : ℕ) (tree : Tree) : Type 0 where
-  pub checked : (c : Context) → c.vars ≡ depth_of_read w → row_forms c.vars c.rows ≡ Some context.rows
-      → IsCheckedIn w.nest.now (read_of w) (just w.write.number w.level) c tree
+  pub checked : (c : Context) → c.vars ≡ w.vars → row_forms c.vars c.rows ≡ Some context.rows
+      → IsCheckedFor (read_of w) (write_of w) w.level c tree
   pub simple : IsSimple tests tree
-  pub greatest : (x : List ℤ) → length x ≡ depth_of_read w → Meets context.rows x
+  pub greatest : (x : List ℤ) → length x ≡ w.vars → Meets context.rows x
       → IsGreatest (read_of w) (write_of w) w.level x (gives tree x)
 
 -- A row that terms show in a context and the sum of a path of edges from a node back to itself add up to a
@@ -54,7 +54,7 @@ pub record IsContradiction (vars : ℕ) (context : List Form) (edges : List Edge
   pub no_variable : (i : ℕ) → row (the_coefficient i) +ℤ sum (the_coefficient i) ≡ pos 0
   pub light : weight shown + weight ts ≤ 2 ^ 25
 
--- a cycle: a form over the reader's loop variables that is the sum of a path from a node back to itself
+-- a cycle: a form over the variables of a context that is the sum of a path from a node back to itself
 pub record IsCycle (vars : ℕ) (edges : List Edge) (cycle : Cycle) : Type 0 where
   pub node : ℕ
   pub path : IsPath edges cycle.terms (form_parts cycle.form) node node

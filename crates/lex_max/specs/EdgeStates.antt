@@ -3,7 +3,6 @@ use Rattle.std.specs.Prelude.{◌≡◌, ◌^◌, ℕ, List}
 use Rattle.affine_core.specs.declared.form.Form.{Form}
 use Rattle.int_polyhedra.specs.declared.system.System.{System}
 use Rattle.lex_max.specs.Answer.{IsAnswer, IsCycle}
-use Rattle.lex_max.specs.Asked.{depth_of_read}
 use Rattle.lex_max.specs.Edges.{edge_parts}
 use Rattle.lex_max.specs.Facts.{form_parts, IsFact}
 use Rattle.lex_max.specs.declared.decide.EdgeState.{EdgeState}
@@ -17,5 +16,5 @@ abbrev pub IsEdgeState : Writes → List Edge → System → List Form → Edge 
 IsEdgeState w edges context place g (Shown ts) = IsFact context (2 ^ 23) (edge_parts place g) ts
 IsEdgeState w edges context place g (Refuted leaf) = (tests : ℕ) → IsAnswer w context tests leaf
 IsEdgeState w edges context place g (Open cycle) =
-    IsCycle (depth_of_read w) edges cycle
+    IsCycle w.vars edges cycle
     × ((part : Part) → form_parts cycle.form part ≡ edge_parts place g part)

@@ -3,7 +3,7 @@ use Rattle.std.specs.Prelude.{◌≡◌, ◌≤◌, ◌<◌, ◌^◌, ℕ, suc, 
 use Rattle.std.specs.Ordering.{int_eq}
 use Rattle.affine_core.specs.declared.form.Form.{Form}
 use Rattle.affine_core.specs.Affine.{constant_form}
-use Rattle.lex_max.specs.Asked.{depth_of_read, depth_of_write, read_of}
+use Rattle.lex_max.specs.Asked.{depth_of_write, read_of}
 use Rattle.lex_max.specs.declared.edges.Edge.{Edge}
 use Rattle.lex_max.specs.declared.writes.Writes.{Writes}
 use Rattle.row_sums.specs.Parts.{Part, part_of, row_part, IsWithin}
@@ -40,8 +40,8 @@ AreEdges place (row ∷ rows) [] = ⊥
 AreEdges place (row ∷ rows) (g ∷ edges) =
     ((part : Part) → parts_of row part ≡ edge_parts place g part) × AreEdges place rows edges
 
--- An edge between such nodes, with a weight over the reader's loop variables. Between two loop variables the
--- weight is a number.
+-- An edge between such nodes, with a weight over the variables of a context. Between two loop variables
+-- the weight is a number.
 pub record IsEdge (vars depth : ℕ) (g : Edge) : Type 0 where
   pub from : g.from ≤ depth
   pub to : g.to ≤ depth
@@ -83,8 +83,8 @@ pub record AddsEdges (w : Writes) (rows : List Form → List RowExpr) (old new :
     : Type 0 where
   pub added : (place : List Form) (before : List RowExpr) → length place ≡ depth_of_write w
       → AreEdges place before old → AreEdges place (before ++ rows place) new
-  pub each : All (IsEdge (depth_of_read w) (depth_of_write w)) old
-      → All (IsEdge (depth_of_read w) (depth_of_write w)) new
+  pub each : All (IsEdge w.vars (depth_of_write w)) old
+      → All (IsEdge w.vars (depth_of_write w)) new
 
 -- the order rows of a place of the writer before the reader at its level, from this loop on
 abbrev pub AreOrderRows : Writes → ℕ → List Form → List RowExpr → Type 0
@@ -98,5 +98,5 @@ pub record AddsOrder (w : Writes) (from : ℕ) (old new : List Edge) : Type 0 wh
   pub added : (place : List Form) (before rows : List RowExpr) → length place ≡ depth_of_write w
       → AreOrderRows w from place rows
       → AreEdges place before old → AreEdges place (before ++ rows) new
-  pub each : All (IsEdge (depth_of_read w) (depth_of_write w)) old
-      → All (IsEdge (depth_of_read w) (depth_of_write w)) new
+  pub each : All (IsEdge w.vars (depth_of_write w)) old
+      → All (IsEdge w.vars (depth_of_write w)) new

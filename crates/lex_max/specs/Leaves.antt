@@ -6,7 +6,7 @@ use Rattle.int_polyhedra.specs.declared.system.Proof.TheVariants.{Sum}
 use Rattle.int_polyhedra.specs.declared.system.System.{System}
 use Rattle.int_polyhedra.specs.declared.system.Term.{Term}
 use Rattle.int_polyhedra.specs.Systems.{AreOver}
-use Rattle.lex_max.specs.Asked.{depth_of_read, depth_of_write, read_of, write_of, IsAsked}
+use Rattle.lex_max.specs.Asked.{depth_of_write, read_of, write_of, IsAsked}
 use Rattle.lex_max.specs.Edges.{AreLevelRows}
 use Rattle.lex_max.specs.Facts.{form_parts, IsFact}
 use Rattle.lex_max.specs.Paths.{term_of, terms_from, IsPath}
@@ -28,10 +28,10 @@ pub record IsMadeFrom (c : Context) (context : System) : Type 0 where
   pub over : AreOver c.vars context.rows
   pub within : All (IsWithin (2 ^ 41)) context.rows
 
--- a place of the writer: one form over the reader's loop variables for each loop, with small numbers
+-- a place of the writer: one form over the variables of a context for each loop, with small numbers
 pub record IsPlaceOf (w : Writes) (place : List Form) : Type 0 where
   pub deep : length place ≡ depth_of_write w
-  pub over : All (λ form. length form.coefs ≡ depth_of_read w) place
+  pub over : All (λ form. length form.coefs ≡ w.vars) place
   pub within : All (IsWithin (2 ^ 40)) place
 
 -- what the proofs of a Writer leaf stand on; the rows of the context are numbered below `here`
@@ -39,7 +39,7 @@ pub record IsLeafOf (w : Writes) (c : Context) (context : System) (place : List 
     : Type 0 where
   pub asked : IsAsked w
   pub made : IsMadeFrom c context
-  pub vars : c.vars ≡ depth_of_read w
+  pub vars : c.vars ≡ w.vars
   pub few : length context.rows ≤ 4096
   pub numbered : here ≡ length context.rows
   pub placed : IsPlaceOf w place

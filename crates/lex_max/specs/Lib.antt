@@ -2,6 +2,7 @@ pub mod Class
 pub mod Level
 pub mod Simple
 pub mod Asked
+pub mod Systems
 pub mod Edges
 pub mod Paths
 pub mod Closed

@@ -1,6 +1,6 @@
 -- The graph of the rows on a writer's point, and cycles through 0.
 use Rattle.std.specs.Prelude.{◌≡◌, ℕ, List, length, map, take, Some, slice_get}
-use Rattle.lex_max.specs.Asked.{depth_of_read, depth_of_write, read_of, write_of, IsAsked}
+use Rattle.lex_max.specs.Asked.{depth_of_write, read_of, write_of, IsAsked}
 use Rattle.lex_max.specs.Closed.{AreClosed, IsBound}
 use Rattle.lex_max.specs.Edges.{domain_edge_of, AreEdgesOf, IsEdge, IsGraph}
 use Rattle.lex_max.specs.declared.closure.Bound.{Bound}
@@ -12,9 +12,9 @@ use Rattle.lex_max.specs.declared.writes.Writes.{Writes}
 pub record IsGraphOf (w : Writes) (edges : List Edge) : Type 0 where
   pub asked : IsAsked w
   pub edges_are : AreEdgesOf (read_of w) (write_of w) w.level edges
-  pub graph : IsGraph (depth_of_read w) (depth_of_write w) edges
-  pub starts : take (length w.write.statement.now.rows) edges
-      ≡ map (domain_edge_of (depth_of_read w)) w.write.statement.now.rows
+  pub graph : IsGraph w.vars (depth_of_write w) edges
+  pub starts : take (length w.rows.now) edges
+      ≡ map (domain_edge_of w.vars) w.rows.now
 
 -- the least sums of edges between its loop variables
 abbrev pub AreClosedOf : Writes → List Edge → Bounds → Type 0

@@ -4,7 +4,6 @@ ghost use Rattle.int_polyhedra.specs.declared.system.System.{System as SystemOf}
 ghost use Rattle.int_polyhedra.specs.Steps.{negation_of};
 ghost use Rattle.lex_max.specs.declared.edges.Edge.{Edge as EdgeOf};
 ghost use Rattle.lex_max.specs.Answer.{IsAnswer, IsContextOf, IsContradiction, IsCycle};
-ghost use Rattle.lex_max.specs.Asked.{depth_of_read};
 ghost use Rattle.lex_max.specs.Rounds.{AreClosedOf, IsBack, IsGraphOf, RoundIsAsked};
 
 use crate::closure::{Bound, Bounds, form_beyond};
@@ -26,7 +25,7 @@ pub struct Graph<'a> {
     pub bounds: &'a Bounds,
 }
 
-/// A form over the reader's loop variables and rows on the writer's point whose sum it is.
+/// A form over the variables of a context and rows on the writer's point whose sum it is.
 #[derive(Drop)]
 pub struct Cycle {
     pub form: Form,
@@ -74,7 +73,7 @@ pub fn zero_leaf(
 pub fn zero_below(w: &Writes, context: &System, cycle: &Cycle) -> Result<Tree, AllocError>
     requires context { IsContextOf w.now 1 context.now }
     requires cycle { (edges : List EdgeOf) × IsGraphOf w.now edges
-        × IsCycle (depth_of_read w.now) edges cycle.now }
+        × IsCycle w.now.vars edges cycle.now }
     ensures { IfOk result (λ tree. (below : SystemOf) (row : FormOf) (tests : ℕ)
         → negation_of cycle.now.form ≡ Some row
         → below ≡ record context.now { rows = context.now.rows ++ row ∷ [] }
@@ -165,8 +164,8 @@ fn push_round(
         × (slice_get whole number ≡ Some out.now) }
     ensures each { OnOk result ((whole : List EdgeOf)
         → IsBack w.now whole bounds.now back.now back_number → slice_get whole number ≡ Some out.now
-        → All (IsCycle (depth_of_read w.now) whole) cycles.old
-        → All (IsCycle (depth_of_read w.now) whole) cycles.new) }
+        → All (IsCycle w.now.vars whole) cycles.old
+        → All (IsCycle w.now.vars whole) cycles.new) }
     ensures count { OnOk result (length cycles.new ≤ length cycles.old + 1) }
 {
     if out.from != w.depth() {
@@ -192,8 +191,8 @@ fn push_rounds(
         × (drop number whole ≡ outs.now) × (number + length outs.now ≤ 56) }
     ensures each { OnOk result ((whole : List EdgeOf)
         → IsBack w.now whole bounds.now back.now back_number → drop number whole ≡ outs.now
-        → All (IsCycle (depth_of_read w.now) whole) cycles.old
-        → All (IsCycle (depth_of_read w.now) whole) cycles.new) }
+        → All (IsCycle w.now.vars whole) cycles.old
+        → All (IsCycle w.now.vars whole) cycles.new) }
     ensures count { OnOk result (length cycles.new ≤ length cycles.old + length outs.now) }
 {
     let Some((out, outs)) = outs.split_first() else {
@@ -214,8 +213,8 @@ fn push_back(
     requires graph { IsGraphOf w.now graph.now.edges.now }
     requires closed { AreClosedOf w.now graph.now.edges.now graph.now.bounds.now }
     requires is { slice_get graph.now.edges.now number ≡ Some edge.now }
-    ensures each { OnOk result (All (IsCycle (depth_of_read w.now) graph.now.edges.now) cycles.old
-        → All (IsCycle (depth_of_read w.now) graph.now.edges.now) cycles.new) }
+    ensures each { OnOk result (All (IsCycle w.now.vars graph.now.edges.now) cycles.old
+        → All (IsCycle w.now.vars graph.now.edges.now) cycles.new) }
     ensures count { OnOk result (length cycles.new ≤ length cycles.old + 57) }
 {
     if edge.to != w.depth() {
@@ -240,8 +239,8 @@ fn push_cycles(
     requires closed { AreClosedOf w.now graph.now.edges.now graph.now.bounds.now }
     requires rest { drop number graph.now.edges.now ≡ edges.now }
     requires count { number + length edges.now ≤ 56 }
-    ensures each { OnOk result (All (IsCycle (depth_of_read w.now) graph.now.edges.now) cycles.old
-        → All (IsCycle (depth_of_read w.now) graph.now.edges.now) cycles.new) }
+    ensures each { OnOk result (All (IsCycle w.now.vars graph.now.edges.now) cycles.old
+        → All (IsCycle w.now.vars graph.now.edges.now) cycles.new) }
     ensures count { OnOk result (length cycles.new ≤ length cycles.old + 57 * length edges.now) }
 {
     let Some((edge, edges)) = edges.split_first() else {
@@ -255,7 +254,7 @@ fn push_cycles(
 pub fn cycles_of(w: &Writes, graph: &Graph) -> Result<Items<Cycle>, AllocError>
     requires graph { IsGraphOf w.now graph.now.edges.now }
     requires closed { AreClosedOf w.now graph.now.edges.now graph.now.bounds.now }
-    ensures each { IfOk result (All (IsCycle (depth_of_read w.now) graph.now.edges.now)) }
+    ensures each { IfOk result (All (IsCycle w.now.vars graph.now.edges.now)) }
     ensures count { IfOk result (λ cycles. length cycles ≤ 3192) }
 {
     let mut cycles = Items::new(w.alloc);
@@ -267,7 +266,7 @@ pub fn cycles_of(w: &Writes, graph: &Graph) -> Result<Items<Cycle>, AllocError>
 pub fn refuted_by(w: &Writes, context: &System, cycle: &Cycle) -> Result<Option<Tree>, AllocError>
     requires context { IsContextOf w.now 0 context.now }
     requires cycle { (edges : List EdgeOf) × IsGraphOf w.now edges
-        × IsCycle (depth_of_read w.now) edges cycle.now }
+        × IsCycle w.now.vars edges cycle.now }
     ensures { IfOk result (λ leaf. IfSome leaf (λ tree. (tests : ℕ)
         → IsAnswer w.now context.now tests tree)) }
 {
@@ -288,7 +287,7 @@ pub fn refuted_leaf(
 ) -> Result<Option<Tree>, AllocError>
     requires context { IsContextOf w.now 0 context.now }
     requires cycles { (edges : List EdgeOf) × IsGraphOf w.now edges
-        × All (IsCycle (depth_of_read w.now) edges) cycles.now }
+        × All (IsCycle w.now.vars edges) cycles.now }
     ensures { IfOk result (λ leaf. IfSome leaf (λ tree. (tests : ℕ)
         → IsAnswer w.now context.now tests tree)) }
 {

@@ -5,7 +5,7 @@ ghost use Rattle.int_polyhedra.specs.declared.system.Term.{Term as TermOf};
 ghost use Rattle.lex_max.specs.declared.closure.Bounds.{Bounds as BoundsOf};
 ghost use Rattle.lex_max.specs.declared.edges.Edge.{Edge as EdgeOf};
 ghost use Rattle.lex_max.specs.Answer.{IsAnswer, IsContextOf, IsCycle};
-ghost use Rattle.lex_max.specs.Asked.{depth_of_read, depth_of_write};
+ghost use Rattle.lex_max.specs.Asked.{depth_of_write};
 ghost use Rattle.affine_core.specs.declared.form.Form.{Form as FormOf};
 ghost use Rattle.int_polyhedra.specs.Steps.{negation_of};
 ghost use Rattle.lex_max.specs.ChoiceSteps.{IsChoiceStep, IsSmallForm};
@@ -69,7 +69,7 @@ pub fn test(alloc: Global, form: Form, yes: Tree, no: Tree) -> Result<Tree, Allo
 // The form of the path that begins with this edge from 0 and leads to a variable.
 fn upper_form(w: &Writes, bounds: &Bounds, edge: &Edge, variable: usize) -> Option<Form>
     requires { (edges : List EdgeOf) × AreClosedOf w.now edges bounds.now
-        × IsEdge (depth_of_read w.now) (depth_of_write w.now) edge.now }
+        × IsEdge w.now.vars (depth_of_write w.now) edge.now }
     ensures { result ≡ upper_of (depth_of_write w.now) bounds.now variable edge.now }
 {
     if edge.from != w.depth() {
@@ -497,7 +497,7 @@ fn cycle_back(
         × AreChosen w.now graph.now.edges.now graph.now.bounds.now context choices.now }
     requires edge { slice_get graph.now.edges.now number ≡ Some edge.now }
     requires back { edge.now.to ≡ depth_of_write w.now }
-    ensures cycle { IfOk result (IsCycle (depth_of_read w.now) graph.now.edges.now) }
+    ensures cycle { IfOk result (IsCycle w.now.vars graph.now.edges.now) }
     ensures form { IfOk result (λ cycle. (part : Part)
         → form_parts cycle.form part ≡ edge_parts (chosen_place choices.now) edge.now part) }
 {
@@ -554,7 +554,7 @@ fn edge_state(
 fn cycle_test(w: &Writes, context: &System, cycle: &Cycle, yes: Tree) -> Result<Tree, AllocError>
     requires context { IsContextOf w.now 1 context.now }
     requires cycle { (edges : List EdgeOf) × IsGraphOf w.now edges
-        × IsCycle (depth_of_read w.now) edges cycle.now }
+        × IsCycle w.now.vars edges cycle.now }
     ensures { IfOk result (λ tree. (above : SystemOf) (tests : ℕ)
         → above ≡ record context.now { rows = context.now.rows ++ cycle.now.form ∷ [] }
         → IsAnswer w.now above tests yes → IsAnswer w.now context.now (tests + 1) tree) }
@@ -629,7 +629,7 @@ pub fn conditions(
 ) -> Result<Tree, AllocError>
     requires ready { AreReady w.now graph.now.edges.now graph.now.bounds.now }
     requires context { IsContextOf w.now (length cycles.now + 392) context.now }
-    requires cycles { All (IsCycle (depth_of_read w.now) graph.now.edges.now) cycles.now }
+    requires cycles { All (IsCycle w.now.vars graph.now.edges.now) cycles.now }
     ensures { IfOk result (IsAnswer w.now context.now (length cycles.now + 392)) }
 {
     let Some((cycle, rest)) = cycles.split_first() else {

@@ -1,8 +1,8 @@
 ghost use Rattle.std.specs.Prelude.{◌≡◌, ◌≤◌, ◌+◌, ◌*◌, ◌++◌, pos, negsuc, length, map, take, IsTrue, IfOk, OnOk};
 ghost use Rattle.std.specs.List.{list_all};
 ghost use Rattle.affine_core.specs.Affine.{constant_form};
-ghost use Rattle.lex_max.specs.Asked.{depth_of_read, depth_of_write, read_of, write_of, IsAsked};
-ghost use Rattle.lex_max.specs.Class.{is_difference, is_shift};
+ghost use Rattle.lex_max.specs.Asked.{depth_of_write, read_of, write_of, AreCells, IsAsked, IsCell};
+ghost use Rattle.lex_max.specs.Class.{is_difference};
 ghost use Rattle.lex_max.specs.Edges.{domain_edge_of, node_of, AddsEdges, AddsOrder, AreEdgesOf, IsGraph, IsKept};
 ghost use Rattle.sanlp.specs.WellFormed.{form_fits};
 ghost use Rattle.source_tree.specs.Places.{at_place, cell_rows, domain_rows};
@@ -15,7 +15,7 @@ use plain_data::Items;
 use std::alloc::{AllocError, Global};
 
 /// A row on a writer's point j, read as `weight + j_from - j_to >= 0`: an edge of a graph of difference constraints. Its
-/// nodes are the loop variables, and one more node, which stands for 0. The weight is over the reader's loop variables;
+/// nodes are the loop variables, and one more node, which stands for 0. The weight is over the variables of a context;
 /// between two loop variables of the writer it is a number.
 #[derive(Drop)]
 pub struct Edge {
@@ -37,7 +37,7 @@ fn variable_with(coefs: &[i128], wanted: i128) -> usize
 
 // The edge of a domain row.
 fn domain_edge(alloc: Global, vars: usize, row: &Row) -> Edge
-    requires { vars ≤ 6 }
+    requires { vars ≤ 12 }
     ensures { result ≡ domain_edge_of vars row.now }
 {
     let coefs = row.coefs.as_slice();
@@ -57,18 +57,18 @@ fn push_domain(edges: &mut Items<Edge>, w: &Writes, rows: &[Row]) -> Result<(), 
         (AddsEdges w.now (λ place. domain_rows rows.now place) edges.old edges.new) }
     ensures count { OnOk result (length edges.new ≡ length edges.old + length rows.now) }
     ensures exact { OnOk result
-        (edges.new ≡ edges.old ++ map (domain_edge_of (depth_of_read w.now)) rows.now) }
+        (edges.new ≡ edges.old ++ map (domain_edge_of w.now.vars) rows.now) }
 {
     let Some((row, rows)) = rows.split_first() else {
         return Ok(());
     };
-    edges.push(domain_edge(w.alloc, w.vars(), row))?;
+    edges.push(domain_edge(w.alloc, w.vars, row))?;
     push_domain(edges, w, rows)
 }
 
 // The form of the constant of a form, over so many variables.
 fn constant_of(alloc: Global, vars: usize, form: &Form) -> Form
-    requires { vars ≤ 6 }
+    requires { vars ≤ 12 }
     ensures { result ≡ constant_form vars form.now.constant }
 {
     Form::constant(alloc, vars, form.constant)
@@ -82,9 +82,7 @@ fn push_cell(
     read: &Form,
 ) -> Result<(), AllocError>
     requires asked { IsAsked w.now }
-    requires shift { IsTrue (is_shift write.now) }
-    requires fits { IsTrue (form_fits (depth_of_write w.now) write.now) }
-    requires read { IsTrue (form_fits (depth_of_read w.now) read.now) }
+    requires cell { IsCell w.now.vars (depth_of_write w.now) write.now read.now }
     ensures rows { OnOk result
         (AddsEdges w.now (λ place. equal_rows (at_place write.now place) (Take read.now)) edges.old
         edges.new) }
@@ -92,7 +90,7 @@ fn push_cell(
     ensures kept { OnOk result (IsKept edges.old edges.new) }
 {
     let node = variable_with(write.coefs.as_slice(), 1);
-    let constant = constant_of(w.alloc, w.vars(), write);
+    let constant = constant_of(w.alloc, w.vars, write);
     edges.push(Edge {
         from: node,
         to: w.depth(),
@@ -113,9 +111,7 @@ fn push_cells(
     reads: &[Form],
 ) -> Result<(), AllocError>
     requires asked { IsAsked w.now }
-    requires shifts { IsTrue (list_all is_shift writes.now) }
-    requires fit { IsTrue (list_all (form_fits (depth_of_write w.now)) writes.now) }
-    requires reads { IsTrue (list_all (form_fits (depth_of_read w.now)) reads.now) }
+    requires cells { AreCells w.now.vars (depth_of_write w.now) writes.now reads.now }
     ensures rows { OnOk result
         (AddsEdges w.now (λ place. cell_rows writes.now reads.now place) edges.old edges.new) }
     ensures count { OnOk result (length edges.new ≤ length edges.old + 2 * length writes.now) }
@@ -140,7 +136,7 @@ fn push_order(edges: &mut Items<Edge>, w: &Writes, from: usize) -> Result<(), Al
     if from >= w.common {
         return Ok(());
     }
-    let value = Form::variable(w.alloc, w.vars(), from);
+    let value = Form::variable(w.alloc, w.vars, from);
     if from == w.level {
         return edges.push(Edge {
             from: w.depth(),
@@ -166,14 +162,13 @@ fn push_order(edges: &mut Items<Edge>, w: &Writes, from: usize) -> Result<(), Al
 pub fn edges_of(w: &Writes) -> Result<Items<Edge>, AllocError>
     requires { IsAsked w.now }
     ensures rows { IfOk result (AreEdgesOf (read_of w.now) (write_of w.now) w.now.level) }
-    ensures graph { IfOk result (IsGraph (depth_of_read w.now) (depth_of_write w.now)) }
-    ensures domain { IfOk result (λ edges. take (length w.now.write.statement.now.rows) edges
-        ≡ map (domain_edge_of (depth_of_read w.now)) w.now.write.statement.now.rows) }
+    ensures graph { IfOk result (IsGraph w.now.vars (depth_of_write w.now)) }
+    ensures domain { IfOk result (λ edges. take (length w.now.rows.now) edges
+        ≡ map (domain_edge_of w.now.vars) w.now.rows.now) }
 {
     let mut edges = Items::new(w.alloc);
-    push_domain(&mut edges, w, w.write.statement.rows.as_slice())?;
-    let reads = w.read.access.subscripts.as_slice();
-    push_cells(&mut edges, w, w.write.access.subscripts.as_slice(), reads)?;
+    push_domain(&mut edges, w, w.rows)?;
+    push_cells(&mut edges, w, w.write_forms, w.read_forms)?;
     push_order(&mut edges, w, 0)?;
     Ok(edges)
 }

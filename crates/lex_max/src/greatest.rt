@@ -1,6 +1,6 @@
 ghost use Rattle.std.specs.Prelude.{◌≡◌, Some, IfOk};
 ghost use Rattle.lex_max.specs.Answer.{root_of, IsAnswer, IsContextOf};
-ghost use Rattle.lex_max.specs.Asked.{read_of, write_of, HasLevelOf, IsAsked, WritesArrayOf};
+ghost use Rattle.lex_max.specs.Asked.{depth_of_read, occurrence_of, read_of, write_of, AreAsked, HasLevelOf, IsAsked, WritesArrayOf};
 ghost use Rattle.lex_max.specs.Choices.{AreReady};
 ghost use Rattle.lex_max.specs.Class.{IsInDifferenceClass};
 ghost use Rattle.lex_max.specs.Level.{common_of, GivesGreatest};
@@ -29,9 +29,40 @@ fn root(w: &Writes) -> Result<System, AllocError>
         rows.push(row.copy())?;
     }
     Ok(System {
-        vars: w.vars() as u32,
+        vars: w.vars as u32,
         rows,
     })
+}
+
+// The writes that a read and a write of a nest name.
+fn writes_between<'a>(
+    alloc: Global,
+    read: Reference<'a>,
+    write: Reference<'a>,
+    level: usize,
+) -> Writes<'a>
+    ensures read { read_of result ≡ occurrence_of read.entry }
+    ensures write { write_of result ≡ occurrence_of write.entry }
+    ensures vars { result.vars ≡ depth_of_read result }
+    ensures level { result.level ≡ level }
+    ensures common { result.common ≡ common_of (write_of result) (read_of result) }
+{
+    let loops = read.statement.loops.as_slice();
+    let rows = write.statement.rows.as_slice();
+    let write_forms = write.access.subscripts.as_slice();
+    let read_forms = read.access.subscripts.as_slice();
+    let common = common_loops(write.statement.loops.as_slice(), loops);
+    Writes {
+        alloc,
+        vars: loops.len(),
+        read,
+        write,
+        rows,
+        write_forms,
+        read_forms,
+        common,
+        level,
+    }
 }
 
 // The read and the write of these numbers.
@@ -44,9 +75,9 @@ fn looked_up<'a>(
     level: u32,
 ) -> Writes<'a>
     requires { WritesArrayOf nest.now statement read writer }
-    ensures nest { result.nest.now ≡ nest.now }
     ensures read { read_at nest.now statement read ≡ Some (read_of result) }
     ensures write { named_write nest.now (read_of result) writer ≡ Some (write_of result) }
+    ensures vars { result.vars ≡ depth_of_read result }
     ensures level { result.level ≡ level }
     ensures common { result.common ≡ common_of (write_of result) (read_of result) }
 {
@@ -55,22 +86,17 @@ fn looked_up<'a>(
     let (Some(read), Some(write)) = (reading.reads.get(read as usize), &writing.write) else {
         unreachable!()
     };
-    Writes {
-        alloc,
-        nest,
-        read: Reference {
-            number: statement,
-            statement: reading,
-            access: read,
-        },
-        write: Reference {
-            number: writer,
-            statement: writing,
-            access: write,
-        },
-        common: common_loops(writing.loops.as_slice(), reading.loops.as_slice()),
-        level: level as usize,
-    }
+    let read = Reference {
+        number: statement,
+        statement: reading,
+        access: read,
+    };
+    let write = Reference {
+        number: writer,
+        statement: writing,
+        access: write,
+    };
+    writes_between(alloc, read, write, level as usize)
 }
 
 /// The writes of one statement at one level before a read.
@@ -86,7 +112,8 @@ pub fn writes_of<'a>(
     requires writes { WritesArrayOf nest.now statement read writer }
     requires level { HasLevelOf nest.now statement read writer level }
     ensures asked { IsAsked result }
-    ensures nest { result.nest.now ≡ nest.now }
+    ensures stands { AreAsked nest.now (read_of result) (write_of result) result.level }
+    ensures vars { result.vars ≡ depth_of_read result }
     ensures read { read_at nest.now statement read ≡ Some (read_of result) }
     ensures write { named_write nest.now (read_of result) writer ≡ Some (write_of result) }
     ensures level { result.level ≡ level }
@@ -104,27 +131,28 @@ fn closed_tree(w: &Writes, graph: &Graph, context: &System) -> Result<Tree, Allo
     conditions(w, graph, context, cycles.as_slice())
 }
 
-// The tree of the reader's whole domain.
-fn tree_of(w: &Writes) -> Result<Tree, AllocError>
-    requires { IsAsked w.now }
-    ensures { IfOk result (IsAnswer w.now (root_of w.now) 3584) }
+/// At each point that meets a context the greatest point of the writer at its level before the read, or zero where there is
+/// none (Feautrier 1991, over difference constraints).
+pub fn tree_of(w: &Writes, context: &System) -> Result<Tree, AllocError>
+    requires asked { IsAsked w.now }
+    requires context { IsContextOf w.now 3584 context.now }
+    ensures { IfOk result (IsAnswer w.now context.now 3584) }
 {
     let found = edges_of(w)?;
     let edges = found.as_slice();
-    let context = root(w)?;
     let nodes = w.depth();
     let closure = closure_of(w.alloc, edges, nodes)?;
     match closure {
         Closure::Negative(rows) => {
             let terms = rows.as_slice();
-            zero_leaf(w, &context, &[], terms)
+            zero_leaf(w, context, &[], terms)
         }
         Closure::Closed(bounds) => {
             let graph = Graph {
                 edges,
                 bounds: &bounds,
             };
-            closed_tree(w, &graph, &context)
+            closed_tree(w, &graph, context)
         }
     }
 }
@@ -153,5 +181,7 @@ pub fn candidate(
         → read_at nest.now statement read ≡ Some r → named_write nest.now r writer ≡ Some w
         → GivesGreatest nest.now r w level tree) }
 {
-    tree_of(&writes_of(alloc, nest, statement, read, writer, level))
+    let w = writes_of(alloc, nest, statement, read, writer, level);
+    let context = root(&w)?;
+    tree_of(&w, &context)
 }

@@ -3,15 +3,16 @@ ghost use Rattle.std.specs.List.{list_all};
 ghost use Rattle.affine_core.specs.declared.form.Form.{Form as FormOf};
 ghost use Rattle.int_polyhedra.specs.declared.system.System.{System as SystemOf};
 ghost use Rattle.lex_max.specs.Answer.{IsAnswer, IsContextOf};
-ghost use Rattle.lex_max.specs.Asked.{depth_of_read, depth_of_write, read_of, write_of, IsAsked};
+ghost use Rattle.lex_max.specs.Asked.{depth_of_write, read_of, write_of, AreCells, IsAsked};
 ghost use Rattle.lex_max.specs.Choices.{chosen_place, AreCerts, AreChosen, AreReady};
 ghost use Rattle.lex_max.specs.Leaves.{after_levels, AddsProofs, AreOrderCerts, AreShown, HasAfter, IsAfterProof, IsBetweenProof, IsLeafOf};
 ghost use Rattle.lex_max.specs.Simple.{IsLightSum};
+ghost use Rattle.lex_max.specs.Systems.{later_systems, place_systems};
 ghost use Rattle.sanlp.specs.WellFormed.{form_fits};
 ghost use Rattle.source_tree.specs.Checked.{AreRefuted, IsRefuted};
 ghost use Rattle.source_tree.specs.Places.{at_place, cell_rows, differ_rows, domain_rows, same_rows};
 ghost use Rattle.source_tree.specs.Rows.{below_zero, row_forms};
-ghost use Rattle.source_tree.specs.Systems.{after_systems, between_systems, just, reader_place, with_rows, writer_systems, Context};
+ghost use Rattle.source_tree.specs.Systems.{after_systems, reader_place, with_rows, Context};
 
 use crate::cycles::Graph;
 use crate::decide::{Choice, path_to};
@@ -53,8 +54,7 @@ fn push_cell(
 ) -> Result<(), AllocError>
     ensures { OnOk result ((c : Context) (context : SystemOf) (place writes reads : List FormOf)
         → IsLeafOf w.now c context place here
-        → IsTrue (list_all (form_fits (depth_of_write w.now)) writes)
-        → IsTrue (list_all (form_fits (depth_of_read w.now)) reads)
+        → AreCells w.now.vars (depth_of_write w.now) writes reads
         → AreShown context (cell_rows writes reads place) certs.now
         → AddsProofs (map (λ row. with_rows c (row ∷ [])) (differ_rows writes reads place))
         proofs.old proofs.new) }
@@ -235,9 +235,8 @@ fn push_between(
     requires here { here ≤ 4096 }
     ensures { OnOk result ((c : Context) (context : SystemOf)
         → IsLeafOf w.now c context (chosen_place choices.now) here
-        → AddsProofs (between_systems w.now.nest.now (read_of w.now)
-        (just w.now.write.number w.now.level) c (write_of w.now) (chosen_place choices.now))
-        proofs.old proofs.new) }
+        → AddsProofs (later_systems (read_of w.now) (write_of w.now) w.now.level c
+        (chosen_place choices.now)) proofs.old proofs.new) }
 {
     for level in 0..w.depth() {
         proofs.push(between_proof(w, graph, here, choices, level)?)?;
@@ -284,16 +283,15 @@ fn leaf_proofs(
     requires chosen { AreChosen w.now graph.now.edges.now graph.now.bounds.now context.now
         choices.now }
     requires certs { AreCerts context.now (chosen_place choices.now) graph.now.edges.now certs.now }
-    ensures refuted { IfOk result (λ proofs. (c : Context) → c.vars ≡ depth_of_read w.now
+    ensures refuted { IfOk result (λ proofs. (c : Context) → c.vars ≡ w.now.vars
         → row_forms c.vars c.rows ≡ Some context.now.rows
-        → AreRefuted (writer_systems w.now.nest.now (read_of w.now)
-        (just w.now.write.number w.now.level) c (write_of w.now) (chosen_place choices.now))
-        proofs) }
+        → AreRefuted (place_systems (read_of w.now) (write_of w.now) w.now.level c
+        (chosen_place choices.now)) proofs) }
     ensures light { IfOk result (All IsLightSum) }
 {
     let here = context.rows.len() as u32;
-    let domain = w.write.statement.rows.len();
-    let cells = 2 * w.write.access.subscripts.len();
+    let domain = w.rows.len();
+    let cells = 2 * w.write_forms.len();
     let mut proofs = Items::new(w.alloc);
     push_outside(&mut proofs, w, here, front(certs, domain))?;
     push_cell(&mut proofs, w, here, front(back(certs, domain), cells))?;

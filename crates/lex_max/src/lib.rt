@@ -19,6 +19,6 @@ pub use decide::test;
 pub use edges::{Edge, edges_of};
 pub use facts::{Sign, known, sign_of};
 pub use forms::{difference, negative, opposite, raised, sum};
-pub use greatest::{candidate, writes_of};
+pub use greatest::{candidate, tree_of, writes_of};
 pub use terms::{append, append_from, joined, once};
 pub use writes::{Reference, Writes, common_loops};

@@ -1,7 +1,8 @@
 ghost use Rattle.std.specs.Prelude.{◌≡◌, ◌≤◌, length};
 ghost use Rattle.sanlp.specs.Order.{common_loops as loops_in_common};
 
-use sanlp::{Access, Nest, Statement};
+use affine_core::{Form, Row};
+use sanlp::{Access, Statement};
 use std::alloc::Global;
 
 /// A read or a write of an array: a statement's number, the statement, and the access.
@@ -12,26 +13,24 @@ pub struct Reference<'a> {
     pub access: &'a Access,
 }
 
-/// The writes of one statement to the cell of a read that stand before the read at one level of order. `common` is how
-/// many loops stand round both statements.
+/// The writes of one statement to the cell of a read that stand before the read at one level of order, told over `vars`
+/// variables of a context, of which the reader's loops are the first. `rows` are the writer's domain rows; `write_forms` are
+/// its subscripts over its loops, and `read_forms` those of the read over the variables. `common` is how many loops stand
+/// round both statements.
 #[derive(Clone, Copy)]
 pub struct Writes<'a> {
     pub alloc: Global,
-    pub nest: &'a Nest,
+    pub vars: usize,
     pub read: Reference<'a>,
     pub write: Reference<'a>,
+    pub rows: &'a [Row],
+    pub write_forms: &'a [Form],
+    pub read_forms: &'a [Form],
     pub common: usize,
     pub level: usize,
 }
 
 impl Writes<'_> {
-    /// How many loops stand round the reader: the variables of a context.
-    pub fn vars(&self) -> usize
-        ensures { result ≡ length self.now.read.statement.now.loops }
-    {
-        self.read.statement.loops.len()
-    }
-
     /// How many loops stand round the writer. This is also the node that stands for 0.
     pub fn depth(&self) -> usize
         ensures { result ≡ length self.now.write.statement.now.loops }

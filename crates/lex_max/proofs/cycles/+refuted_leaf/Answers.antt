@@ -2,7 +2,6 @@ use Rattle.std.proofs.Common.{◌≡◌, ◌∷◌, ◌^◌, length, sym, ap, �
 use Rattle.std.specs.Prelude.{All, IfSome}
 use Rattle.std.proofs.lemmas.List.Elements.{All-head, All-tail}
 use Rattle.lex_max.specs.Answer.{IsContradiction, IsCycle}
-use Rattle.lex_max.specs.Asked.{depth_of_read}
 use Rattle.lex_max.specs.Facts.{form_parts, IsFact}
 use Rattle.lex_max.proofs.Deciding.{context_is, cycle_row_over, known_contradicts}
 use Rattle.lex_max.proofs.Small.{farther}
@@ -11,7 +10,7 @@ use Rattle.lex_max.proofs.cycles.+refuted_leaf.Goals as goal
 pub opposite-row-requires : goal.opposite-row-requires
 opposite-row-requires t c =
     let h = c.requires.cycles in
-    let P = IsCycle (depth_of_read c.args.w.now) h.0 in
+    let P = IsCycle c.args.w.now.vars h.0 in
     let first : c.args.cycles.now ≡ c.in-Some.cycle.now ∷ c.in-Some.cycles.now = search rules in
     let one = All-head P c.in-Some.cycle.now c.in-Some.cycles.now (subst (All P) first h.2) in
     farther (2 ^ 40) (2 ^ 60) c.in-Some.cycle.now.form (omega arith) one.within
@@ -23,7 +22,7 @@ known-requires-clause-context t c =
 pub known-requires-clause-over : goal.known-requires-clause-over
 known-requires-clause-over t c =
     let h = c.requires.cycles in
-    let P = IsCycle (depth_of_read c.args.w.now) h.0 in
+    let P = IsCycle c.args.w.now.vars h.0 in
     let first : c.args.cycles.now ≡ c.in-Some.cycle.now ∷ c.in-Some.cycles.now = search rules in
     let one = All-head P c.in-Some.cycle.now c.in-Some.cycles.now (subst (All P) first h.2) in
     cycle_row_over c.args.w.now h.0 c.in-Some.cycle.now c.opposite-row.result one c.opposite-row.ensures
@@ -32,7 +31,7 @@ known-requires-clause-over t c =
 pub refuted_leaf-requires : goal.refuted_leaf-requires
 refuted_leaf-requires t c =
     let h = c.requires.cycles in
-    let P = IsCycle (depth_of_read c.args.w.now) h.0 in
+    let P = IsCycle c.args.w.now.vars h.0 in
     let first : c.args.cycles.now ≡ c.in-Some.cycle.now ∷ c.in-Some.cycles.now = search rules in (
       omega (arith, ap length first),
       (
@@ -47,7 +46,7 @@ zero_leaf-requires-clause-refuted t c =
     let w = c.args.w.now in
     let context = c.args.context.now in
     let cycle = c.in-Some.cycle.now in
-    let P = IsCycle (depth_of_read w) h.0 in
+    let P = IsCycle w.vars h.0 in
     let first : c.args.cycles.now ≡ cycle ∷ c.in-Some.cycles.now = search rules in
     let one = All-head P cycle c.in-Some.cycles.now (subst (All P) first h.2) in
     let fact = subst (λ o. IfSome o (IsFact context 65536 (form_parts c.opposite-row.result))) c.in-Some-found.is

@@ -2,7 +2,6 @@ use Rattle.std.proofs.Common.{length, refl, sym, ap, subst, arith}
 use Rattle.std.specs.Prelude.{All}
 use Rattle.std.proofs.lemmas.List.Elements.{All-nil}
 use Rattle.lex_max.specs.Answer.{IsCycle}
-use Rattle.lex_max.specs.Asked.{depth_of_read}
 use Rattle.lex_max.proofs.cycles.cycles_of.Goals as goal
 
 pub push_cycles-requires-clause-rest : goal.push_cycles-requires-clause-rest
@@ -13,7 +12,7 @@ push_cycles-requires-clause-count c = omega (arith, c.requires.graph.graph.few)
 
 pub returns-clause-each : goal.returns-clause-each
 returns-clause-each c =
-    c.in_ok-push_cycles.ensures.each (subst (All (IsCycle (depth_of_read c.args.w.now) c.args.graph.now.edges.now))
+    c.in_ok-push_cycles.ensures.each (subst (All (IsCycle c.args.w.now.vars c.args.graph.now.edges.now))
     (sym c.new-cycles.ensures) (All-nil _))
 
 pub returns-clause-count : goal.returns-clause-count

@@ -1,6 +1,6 @@
 use Rattle.std.proofs.Common.{◌≡◌, refl, arith}
 use Rattle.std.proofs.lemmas.Result.{on_ok_weaker}
-use Rattle.lex_max.specs.Asked.{depth_of_read, depth_of_write}
+use Rattle.lex_max.specs.Asked.{depth_of_write}
 use Rattle.lex_max.specs.Edges.{IsEdge}
 use Rattle.lex_max.specs.Rounds.{IsBack}
 use Rattle.lex_max.proofs.Rounding.{self_is_cycle}
@@ -14,12 +14,12 @@ returns-then-edge-depth-2-clause-each c =
     let g = c.args.edge.now in
     let first : g.from ≡ depth_of_write w = omega (arith, c.depth-2.ensures) in
     let last : g.to ≡ depth_of_write w = omega (arith, c.depth.ensures) in
-    let edge = all_at (IsEdge (depth_of_read w) (depth_of_write w)) edges c.args.number g c.requires.graph.graph.each
+    let edge = all_at (IsEdge w.vars (depth_of_write w)) edges c.args.number g c.requires.graph.graph.each
     c.requires.is in
     on_ok_weaker c.push_least.result
     (λ h all.
-    h (depth_of_read w) edges all
-    (self_is_cycle edges (depth_of_read w) (depth_of_write w) g c.args.number
+    h w.vars edges all
+    (self_is_cycle edges w.vars (depth_of_write w) g c.args.number
     (record { form = c.copy-form.result; terms = c.in_ok-terms.terms }) c.requires.is edge first last
     c.copy-form.ensures c.in_ok-terms.ensures))
     c.push_least.ensures.each

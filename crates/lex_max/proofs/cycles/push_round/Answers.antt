@@ -1,7 +1,7 @@
 use Rattle.std.proofs.Common.{◌≡◌, sym, ap, ◌∙◌, arith}
 use Rattle.std.specs.Option.{option_copied}
 use Rattle.std.proofs.lemmas.Result.{on_ok_weaker}
-use Rattle.lex_max.specs.Asked.{depth_of_read, depth_of_write}
+use Rattle.lex_max.specs.Asked.{depth_of_write}
 use Rattle.lex_max.proofs.Cycling.{round_asked}
 use Rattle.lex_max.proofs.cycles.push_round.Goals as goal
 
@@ -11,7 +11,7 @@ round-requires c =
     let w = c.args.w.now in
     let first : c.args.out.now.from ≡ depth_of_write w = omega (arith, c.depth.ensures) in (
       h.0,
-      depth_of_read w,
+      w.vars,
       depth_of_write w,
       round_asked w h.0 c.args.bounds.now c.args.back.now c.args.out.now c.in-Some.bound.now c.args.number
           c.args.back_number h.1 h.2 first (sym c.at.ensures ∙ ap option_copied c.in-Some.is),
@@ -23,8 +23,8 @@ returns-in_ok-round-in-Some-clause-each c =
     let first : c.args.out.now.from ≡ depth_of_write w = omega (arith, c.depth.ensures) in
     on_ok_weaker c.push_least.result
     (λ h whole back is all.
-    h (depth_of_read w) whole all
-    (c.in_ok-round-in-Some.ensures whole (depth_of_read w) (depth_of_write w)
+    h w.vars whole all
+    (c.in_ok-round-in-Some.ensures whole w.vars (depth_of_write w)
     (round_asked w whole c.args.bounds.now c.args.back.now c.args.out.now c.in-Some.bound.now c.args.number
     c.args.back_number back is first (sym c.at.ensures ∙ ap option_copied c.in-Some.is))))
     c.push_least.ensures.each

@@ -6,7 +6,6 @@ use Rattle.std.proofs.lemmas.Result.{IfOk-weaker}
 use Rattle.affine_core.specs.declared.form.Form.{Form}
 use Rattle.int_polyhedra.specs.declared.system.System.{System}
 use Rattle.lex_max.specs.Answer.{IsAnswer, IsCycle}
-use Rattle.lex_max.specs.Asked.{depth_of_read}
 use Rattle.lex_max.proofs.Deciding.{context_is, context_more}
 use Rattle.lex_max.proofs.Small.{farther, opposite_fits, opposite_form}
 use Rattle.lex_max.proofs.Testing.{answer_test}
@@ -30,14 +29,14 @@ known-requires-clause-context t c = context_is c.args.w.now
 
 pub known-requires-clause-over : goal.known-requires-clause-over
 known-requires-clause-over t c =
-    let P = IsCycle (depth_of_read c.args.w.now) c.args.graph.now.edges.now in
+    let P = IsCycle c.args.w.now.vars c.args.graph.now.edges.now in
     let first : c.args.cycles.now ≡ c.in-Some.cycle.now ∷ c.in-Some.rest.now = search rules in
     let one = All-head P c.in-Some.cycle.now c.in-Some.rest.now (subst (All P) first c.requires.cycles) in
     one.over ∙ sym c.requires.context.vars
 
 pub conditions-requires : goal.conditions-requires
 conditions-requires t c =
-    let P = IsCycle (depth_of_read c.args.w.now) c.args.graph.now.edges.now in
+    let P = IsCycle c.args.w.now.vars c.args.graph.now.edges.now in
     let first : c.args.cycles.now ≡ c.in-Some.cycle.now ∷ c.in-Some.rest.now = search rules in
     let all = subst (All P) first c.requires.cycles in (
       omega (arith, ap length first),
@@ -77,7 +76,7 @@ zero_below-requires-clause-context t c =
 
 pub zero_below-requires-clause-cycle : goal.zero_below-requires-clause-cycle
 zero_below-requires-clause-cycle t c =
-    let P = IsCycle (depth_of_read c.args.w.now) c.args.graph.now.edges.now in
+    let P = IsCycle c.args.w.now.vars c.args.graph.now.edges.now in
     let first : c.args.cycles.now ≡ c.in-Some.cycle.now ∷ c.in-Some.rest.now = search rules in (
       c.args.graph.now.edges.now,
       c.requires.ready.graph,
@@ -90,7 +89,7 @@ conditions-requires-2 t c =
     let context = c.args.context.now in
     let cycle = c.in-Some.cycle.now in
     let rest = c.in-Some.rest.now in
-    let P = IsCycle (depth_of_read w) c.args.graph.now.edges.now in
+    let P = IsCycle w.vars c.args.graph.now.edges.now in
     let first : c.args.cycles.now ≡ cycle ∷ rest = search rules in
     let all = subst (All P) first c.requires.cycles in
     let one = All-head P cycle rest all in
@@ -114,7 +113,7 @@ returns t c =
     let context = c.args.context.now in
     let cycle = c.in-Some.cycle.now in
     let rest = c.in-Some.rest.now in
-    let P = IsCycle (depth_of_read w) c.args.graph.now.edges.now in
+    let P = IsCycle w.vars c.args.graph.now.edges.now in
     let first : c.args.cycles.now ≡ cycle ∷ rest = search rules in
     let one = All-head P cycle rest (subst (All P) first c.requires.cycles) in
     let above_is = c.in_ok-above.ensures

@@ -1,7 +1,7 @@
 use Rattle.std.proofs.Common.{ℕ, sym, ◌∙◌, subst, arith}
 use Rattle.std.specs.Prelude.{IfSome}
 use Rattle.lex_max.specs.Answer.{IsAnswer}
-use Rattle.lex_max.specs.Asked.{depth_of_read, depth_of_write}
+use Rattle.lex_max.specs.Asked.{depth_of_write}
 use Rattle.lex_max.specs.Choices.{chosen_place}
 use Rattle.lex_max.specs.Edges.{IsEdge}
 use Rattle.lex_max.specs.Facts.{form_parts, IsFact}
@@ -35,7 +35,7 @@ cycle_back-requires-clause-chosen c = (c.args.context.now, c.requires.chosen)
 pub cycle_back-requires-clause-back : goal.cycle_back-requires-clause-back
 cycle_back-requires-clause-back c =
     let w = c.args.w.now in
-    let edge : IsEdge (depth_of_read w) (depth_of_write w) c.args.edge.now =
+    let edge : IsEdge w.vars (depth_of_write w) c.args.edge.now =
     edge_at w c.args.graph.now.edges.now c.args.graph.now.bounds.now c.requires.ready c.args.number c.args.edge.now
     c.requires.edge in
     omega (arith, edge.to, c.depth.ensures)

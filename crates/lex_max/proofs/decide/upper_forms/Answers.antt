@@ -1,7 +1,7 @@
 use Rattle.std.proofs.Common.{◌<◌, ◌++◌, ◌∷◌, [], length, map, take, refl, sym, ap, ◌∙◌, arith}
 use Rattle.std.proofs.lemmas.List.{map_more}
 use Rattle.std.proofs.lemmas.Option.{slice_get_read}
-use Rattle.lex_max.specs.Asked.{depth_of_read, depth_of_write}
+use Rattle.lex_max.specs.Asked.{depth_of_write}
 use Rattle.lex_max.specs.Choices.{upper_of}
 use Rattle.lex_max.specs.Edges.{IsEdge}
 use Rattle.lex_max.proofs.Walking.{all_at}
@@ -14,7 +14,7 @@ upper_form-requires c =
     let ready = c.requires in (
       edges,
       ready.closed,
-      all_at (IsEdge (depth_of_read w) (depth_of_write w)) edges c.loop-edge.edge-index c.edge-item.result
+      all_at (IsEdge w.vars (depth_of_write w)) edges c.loop-edge.edge-index c.edge-item.result
           ready.graph.graph.each
           (slice_get_read edges (length edges) c.loop-edge.edge-index c.edge-item.result refl
           (omega arith) c.edge-item.is),

@@ -1,7 +1,25 @@
-use Rattle.std.proofs.Common.{◌≡◌, ◌∷◌, rules}
+use Rattle.std.proofs.Common.{◌≡◌, ◌∷◌, length, ap, arith, rules}
 use Rattle.std.proofs.lemmas.Result.{on_ok_weaker}
-use Rattle.lex_max.proofs.Adding.{adds_cells, kept_twice}
+use Rattle.lex_max.specs.Asked.{depth_of_write}
+use Rattle.lex_max.proofs.Adding.{adds_cells, cells_first, kept_twice}
 use Rattle.lex_max.proofs.edges.+push_cells.Goals as goal
+
+pub push_cell-requires-clause-cell : goal.push_cell-requires-clause-cell
+push_cell-requires-clause-cell t c =
+    let first : c.args.writes.now ≡ c.in-Some-Some.write.now ∷ c.in-Some-Some.writes.now = search rules in
+    let second : c.args.reads.now ≡ c.in-Some-Some.read.now ∷ c.in-Some-Some.reads.now = search rules in
+    (cells_first c.args.w.now.vars (depth_of_write c.args.w.now) c.in-Some-Some.write.now c.in-Some-Some.read.now
+    c.in-Some-Some.writes.now c.in-Some-Some.reads.now c.args.writes.now c.args.reads.now first second
+    c.requires.cells).0
+
+pub push_cells-requires : goal.push_cells-requires
+push_cells-requires t c =
+    let first : c.args.writes.now ≡ c.in-Some-Some.write.now ∷ c.in-Some-Some.writes.now = search rules in
+    let second : c.args.reads.now ≡ c.in-Some-Some.read.now ∷ c.in-Some-Some.reads.now = search rules in
+    let cells = cells_first c.args.w.now.vars (depth_of_write c.args.w.now) c.in-Some-Some.write.now
+    c.in-Some-Some.read.now c.in-Some-Some.writes.now c.in-Some-Some.reads.now c.args.writes.now c.args.reads.now first
+    second c.requires.cells in
+    (omega (arith, ap length first), (c.requires.asked, cells.1))
 
 pub returns-clause-rows : goal.returns-clause-rows
 returns-clause-rows t c =

@@ -15,36 +15,38 @@ one_below g = record g { constant = g.constant +ℤ negsuc 0 }
 pub returns-then-from-w-clause-count : goal.returns-then-from-w-clause-count
 returns-then-from-w-clause-count t c =
     let f = asked_fits c.args.w.now c.requires.asked in
-    omega (arith, f.level, f.common_vars, f.few_vars, c.requires.from)
+    omega (arith, f.level, f.common_loops, f.few_loops, c.requires.from)
 
 pub variable-value-requires-clause-short : goal.variable-value-requires-clause-short
 variable-value-requires-clause-short t c =
-    omega (arith, c.vars.ensures, (asked_fits c.args.w.now c.requires.asked).few_vars)
+    omega (arith, (asked_fits c.args.w.now c.requires.asked).few_vars)
 
 pub variable-value-requires-clause-within : goal.variable-value-requires-clause-within
 variable-value-requires-clause-within t c =
     let f = asked_fits c.args.w.now c.requires.asked in
-    omega (arith, c.vars.ensures, f.common_vars, c.requires.asked.common, c.if-from-w.false)
+    omega (arith, f.common_within, c.requires.asked.common, c.if-from-w.false)
 
 pub raised-requires-clause-small : goal.raised-requires-clause-small
 raised-requires-clause-small t c =
-    variable_small c.vars.result c.args.from c.variable-value.result c.variable-value.ensures.form
+    variable_small c.args.w.now.vars c.args.from c.variable-value.result c.variable-value.ensures.form
 
 pub negative-requires : goal.negative-requires
-negative-requires t c = variable_small c.vars.result c.args.from c.variable-value.result c.variable-value.ensures.form
+negative-requires t c =
+    variable_small c.args.w.now.vars c.args.from c.variable-value.result c.variable-value.ensures.form
 
 pub returns-then-from-w-2-clause-rows : goal.returns-then-from-w-2-clause-rows
 returns-then-from-w-2-clause-rows t c =
     let w = c.args.w.now in
     let f = asked_fits w c.requires.asked in
     let common : c.args.from < w.common = omega (arith, c.if-from-w.false) in
-    let below : c.args.from < depth_of_read w = omega (arith, common, f.common_vars, c.requires.asked.common) in
+    let below : c.args.from < w.vars = omega (arith, common, f.common_within, c.requires.asked.common) in
+    let own : c.args.from < depth_of_read w = omega (arith, common, f.common_vars, c.requires.asked.common) in
     let inside : c.args.from < depth_of_write w = omega (arith, common, f.common_loops, c.requires.asked.common) in
     let last : w.level ≡ c.args.from = omega (arith, c.if-from-w-2.true) in
-    let value : c.variable-value.result ≡ variable_form (depth_of_read w) c.args.from = c.variable-value.ensures.form
-    ∙ ap (λ n. variable_form n c.args.from) c.vars.ensures in
+    let value : c.variable-value.result ≡ variable_form w.vars c.args.from =
+    c.variable-value.ensures.form in
     on_ok_weaker c.push.result
-    (λ pushed. adds_strict w c.args.from c.args.edges.now common below inside c.push.new.self
+    (λ pushed. adds_strict w c.args.from c.args.edges.now common below own inside c.push.new.self
     (pushed
     ∙ ap (λ n. c.args.edges.now ++ record { from = n; to = c.args.from; weight = c.raised.result } ∷ []) c.depth.ensures
     ∙ ap (λ g. c.args.edges.now ++ record { from = depth_of_write w; to = c.args.from; weight = g } ∷ [])
@@ -60,8 +62,8 @@ returns-then-from-w-2-clause-count t c =
       ap length pushed,
       length_push c.args.edges.now
           (record { from = c.depth.result; to = c.args.from; weight = c.raised.result }),
-      f.common_vars,
-      f.few_vars,
+      f.common_loops,
+      f.few_loops,
       c.requires.asked.common,
       c.if-from-w.false,
     ))
@@ -72,13 +74,14 @@ returns-clause-rows t c =
     let w = c.args.w.now in
     let f = asked_fits w c.requires.asked in
     let common : c.args.from < w.common = omega (arith, c.if-from-w.false) in
-    let below : c.args.from < depth_of_read w = omega (arith, common, f.common_vars, c.requires.asked.common) in
+    let below : c.args.from < w.vars = omega (arith, common, f.common_within, c.requires.asked.common) in
+    let own : c.args.from < depth_of_read w = omega (arith, common, f.common_vars, c.requires.asked.common) in
     let inside : c.args.from < depth_of_write w = omega (arith, common, f.common_loops, c.requires.asked.common) in
     let above : c.args.from < w.level = omega (arith, c.requires.from, c.if-from-w-2.false) in
-    let value : c.variable-value.result ≡ variable_form (depth_of_read w) c.args.from = c.variable-value.ensures.form
-    ∙ ap (λ n. variable_form n c.args.from) c.vars.ensures in
+    let value : c.variable-value.result ≡ variable_form w.vars c.args.from =
+    c.variable-value.ensures.form in
     on_ok_weaker c.push_order.result
-    (λ rest. adds_equal w c.args.from c.args.edges.now common below inside c.push-2.new.self c.push-3.new.self
+    (λ rest. adds_equal w c.args.from c.args.edges.now common below own inside c.push-2.new.self c.push-3.new.self
     c.push_order.new.edges
     (c.in_ok-push.ensures.ok
     ∙ ap (λ n. c.args.edges.now ++ record { from = c.args.from; to = n; weight = c.negative.result } ∷ [])

@@ -1,7 +1,7 @@
 use Rattle.std.proofs.Common.{◌≡◌, pos, negsuc, sym, ap, ◌∙◌, arith}
 use Rattle.std.proofs.lemmas.Result.{on_ok_weaker}
 use Rattle.affine_core.specs.Affine.{constant_form, form_product, form_sum}
-use Rattle.lex_max.specs.Asked.{depth_of_read, depth_of_write}
+use Rattle.lex_max.specs.Asked.{depth_of_write}
 use Rattle.lex_max.specs.Edges.{node_of}
 use Rattle.lex_max.specs.declared.edges.Edge.{Edge}
 use Rattle.lex_max.proofs.Adding.{adds_cell, constant_over, constant_small, kept_push, kept_twice, read_small}
@@ -9,35 +9,33 @@ use Rattle.lex_max.proofs.Fitting.{asked_fits}
 use Rattle.lex_max.proofs.edges.push_cell.Goals as goal
 
 pub constant_of-constant-requires : goal.constant_of-constant-requires
-constant_of-constant-requires c = omega (arith, c.vars.ensures, (asked_fits c.args.w.now c.requires.asked).few_vars)
+constant_of-constant-requires c = omega (arith, (asked_fits c.args.w.now c.requires.asked).few_vars)
 
 pub difference-requires-clause-over : goal.difference-requires-clause-over
-difference-requires-clause-over c = constant_over (depth_of_read c.args.w.now) c.args.write.now
-    c.constant_of-constant.result c.args.read.now c.vars.result c.vars.ensures c.requires.read
-    c.constant_of-constant.ensures
+difference-requires-clause-over c = constant_over c.args.w.now.vars (depth_of_write c.args.w.now) c.args.write.now
+    c.constant_of-constant.result c.args.read.now c.requires.cell c.constant_of-constant.ensures
 
 pub difference-requires-clause-first : goal.difference-requires-clause-first
 difference-requires-clause-first c =
-    constant_small (depth_of_read c.args.w.now)
-    (depth_of_write c.args.w.now) c.args.write.now c.constant_of-constant.result c.requires.fits
-    (c.constant_of-constant.ensures ∙ ap (λ n. constant_form n c.args.write.now.constant) c.vars.ensures)
+    constant_small c.args.w.now.vars (depth_of_write c.args.w.now) c.args.write.now c.args.read.now
+    c.constant_of-constant.result c.requires.cell c.constant_of-constant.ensures
 
 pub difference-requires-clause-second : goal.difference-requires-clause-second
-difference-requires-clause-second c = read_small (depth_of_read c.args.w.now) c.args.read.now c.requires.read
+difference-requires-clause-second c =
+    read_small c.args.w.now.vars (depth_of_write c.args.w.now) c.args.write.now c.args.read.now c.requires.cell
 
 pub difference-requires-2-clause-over : goal.difference-requires-2-clause-over
-difference-requires-2-clause-over c = sym (constant_over
-    (depth_of_read c.args.w.now) c.args.write.now c.constant_of-constant.result c.args.read.now c.vars.result
-    c.vars.ensures c.requires.read c.constant_of-constant.ensures)
+difference-requires-2-clause-over c = sym (constant_over c.args.w.now.vars (depth_of_write c.args.w.now)
+    c.args.write.now c.constant_of-constant.result c.args.read.now c.requires.cell c.constant_of-constant.ensures)
 
 pub difference-requires-2-clause-first : goal.difference-requires-2-clause-first
-difference-requires-2-clause-first c = read_small (depth_of_read c.args.w.now) c.args.read.now c.requires.read
+difference-requires-2-clause-first c =
+    read_small c.args.w.now.vars (depth_of_write c.args.w.now) c.args.write.now c.args.read.now c.requires.cell
 
 pub difference-requires-2-clause-second : goal.difference-requires-2-clause-second
 difference-requires-2-clause-second c =
-    constant_small (depth_of_read c.args.w.now)
-    (depth_of_write c.args.w.now) c.args.write.now c.constant_of-constant.result c.requires.fits
-    (c.constant_of-constant.ensures ∙ ap (λ n. constant_form n c.args.write.now.constant) c.vars.ensures)
+    constant_small c.args.w.now.vars (depth_of_write c.args.w.now) c.args.write.now c.args.read.now
+    c.constant_of-constant.result c.requires.cell c.constant_of-constant.ensures
 
 pub returns-clause-rows : goal.returns-clause-rows
 returns-clause-rows c =
@@ -46,19 +44,19 @@ returns-clause-rows c =
     let read = c.args.read.now in
     let node : c.variable_with-node.result ≡ node_of (pos 1) write.coefs = c.variable_with-node.ensures.value
     ∙ ap (node_of (pos 1)) c.as_slice.ensures.value in
-    let constant : c.constant_of-constant.result ≡ constant_form (depth_of_read w) write.constant =
-    c.constant_of-constant.ensures ∙ ap (λ n. constant_form n write.constant) c.vars.ensures in
+    let constant : c.constant_of-constant.result ≡ constant_form w.vars write.constant =
+    c.constant_of-constant.ensures in
     let first : c.difference.result
-    ≡ form_sum (constant_form (depth_of_read w) write.constant) (form_product (negsuc 0) read)
+    ≡ form_sum (constant_form w.vars write.constant) (form_product (negsuc 0) read)
     = c.difference.ensures ∙ ap (λ f. form_sum f (form_product (negsuc 0) read)) constant in
     let second : c.difference-2.result
-    ≡ form_sum read (form_product (negsuc 0) (constant_form (depth_of_read w) write.constant))
+    ≡ form_sum read (form_product (negsuc 0) (constant_form w.vars write.constant))
     = c.difference-2.ensures ∙ ap (λ f. form_sum read (form_product (negsuc 0) f)) constant in
     on_ok_weaker c.push-2.result
     (λ last. adds_cell w write read
     (record { from = c.variable_with-node.result; to = c.depth.result; weight = c.difference.result })
     (record { from = c.depth-2.result; to = c.variable_with-node.result; weight = c.difference-2.result })
-    c.args.edges.now c.push.new.self c.push-2.new.self c.requires.shift c.requires.fits c.requires.read
+    c.args.edges.now c.push.new.self c.push-2.new.self c.requires.cell
     (ap (λ n. record { from = n; to = c.depth.result; weight = c.difference.result }) node
     ∙ ap (λ n. record { from = node_of (pos 1) write.coefs; to = n; weight = c.difference.result }) c.depth.ensures
     ∙ ap (λ f. record { from = node_of (pos 1) write.coefs; to = depth_of_write w; weight = f }) first)

@@ -2,7 +2,6 @@ use Rattle.std.proofs.Common.{◌+◌, length, sym, ap, subst, arith}
 use Rattle.std.specs.Prelude.{All}
 use Rattle.std.proofs.lemmas.Result.{IfOk-weaker}
 use Rattle.lex_max.specs.Answer.{IsCycle}
-use Rattle.lex_max.specs.Asked.{depth_of_read}
 use Rattle.lex_max.proofs.Zeroing.{answer_wider, context_less}
 use Rattle.lex_max.proofs.greatest.closed_tree.Goals as goal
 
@@ -18,7 +17,7 @@ conditions-requires-clause-context c =
     (omega (arith, ap length c.as_slice.ensures, c.in_ok-cycles.ensures.count)) c.requires.context
 
 pub conditions-requires-clause-cycles : goal.conditions-requires-clause-cycles
-conditions-requires-clause-cycles c = subst (All (IsCycle (depth_of_read c.args.w.now) c.args.graph.now.edges.now))
+conditions-requires-clause-cycles c = subst (All (IsCycle c.args.w.now.vars c.args.graph.now.edges.now))
     (sym c.as_slice.ensures) c.in_ok-cycles.ensures.each
 
 pub returns : goal.returns

@@ -3,4 +3,4 @@ use Rattle.lex_max.proofs.Fitting.{asked_fits}
 use Rattle.lex_max.proofs.greatest.root.Goals as goal
 
 pub overflow_cast-result : goal.overflow_cast-result
-overflow_cast-result c = omega (arith, (asked_fits c.args.w.now c.requires).few_vars, c.vars.ensures)
+overflow_cast-result c = omega (arith, (asked_fits c.args.w.now c.requires).few_vars)

@@ -1,40 +1,39 @@
-use Rattle.std.proofs.Common.{[], sym, ap, subst, arith}
+use Rattle.std.proofs.Common.{[], sym, subst, arith}
 use Rattle.std.proofs.lemmas.Result.{IfOk-weaker}
-use Rattle.int_polyhedra.specs.declared.system.System.{System}
-use Rattle.lex_max.specs.Answer.{IsAnswer, IsContradiction}
-use Rattle.lex_max.specs.Asked.{depth_of_read, depth_of_write}
+use Rattle.lex_max.specs.Answer.{IsContradiction}
+use Rattle.lex_max.specs.Asked.{depth_of_write}
 use Rattle.lex_max.specs.Closed.{IsClosure}
 use Rattle.lex_max.specs.Edges.{IsGraph}
 use Rattle.lex_max.specs.Rounds.{IsGraphOf}
 use Rattle.lex_max.proofs.Fitting.{asked_fits}
-use Rattle.lex_max.proofs.Root.{negative_contradicts, root_context_of}
+use Rattle.lex_max.proofs.Root.{negative_contradicts}
+use Rattle.lex_max.proofs.Zeroing.{context_less}
 use Rattle.lex_max.proofs.greatest.tree_of.Goals as goal
 
 pub closure_of-requires-clause-edges : goal.closure_of-requires-clause-edges
 closure_of-requires-clause-edges c =
     let w = c.args.w.now in (
-      depth_of_read w,
-      subst (λ n. IsGraph (depth_of_read w) n c.as_slice-edges.result.now) (sym c.depth-nodes.ensures)
-          (subst (IsGraph (depth_of_read w) (depth_of_write w))
+      w.vars,
+      subst (λ n. IsGraph w.vars n c.as_slice-edges.result.now) (sym c.depth-nodes.ensures)
+          (subst (IsGraph w.vars (depth_of_write w))
           (sym c.as_slice-edges.ensures) c.in_ok-found.ensures.graph),
     )
 
 pub closure_of-requires-clause-few : goal.closure_of-requires-clause-few
-closure_of-requires-clause-few c = omega (arith, c.depth-nodes.ensures, (asked_fits c.args.w.now c.requires).few_loops)
+closure_of-requires-clause-few c =
+    omega (arith, c.depth-nodes.ensures, (asked_fits c.args.w.now c.requires.asked).few_loops)
 
 pub zero_leaf-requires-clause-context : goal.zero_leaf-requires-clause-context
 zero_leaf-requires-clause-context c =
-    root_context_of c.args.w.now c.in_ok-context.context 0 c.requires
-    (ap (λ (s : System). s.vars) c.in_ok-context.ensures) (ap (λ (s : System). s.rows) c.in_ok-context.ensures)
-    (omega arith)
+    context_less c.args.w.now c.args.context.now 0 3584 (omega arith) c.requires.context
 
 pub zero_leaf-requires-clause-refuted : goal.zero_leaf-requires-clause-refuted
 zero_leaf-requires-clause-refuted c =
     let w = c.args.w.now in
     let edges = c.as_slice-edges.result.now in
-    let context = c.in_ok-context.context in
+    let context = c.args.context.now in
     let graph : IsGraphOf w c.in_ok-found.found = record {
-      asked = c.requires;
+      asked = c.requires.asked;
       edges_are =
           c.in_ok-found.ensures.rows;
       graph = c.in_ok-found.ensures.graph;
@@ -48,16 +47,14 @@ zero_leaf-requires-clause-refuted c =
     )
 
 pub returns-in-Negative : goal.returns-in-Negative
-returns-in-Negative c = IfOk-weaker c.zero_leaf.result _ _
-    (λ tree h. subst (λ context. IsAnswer c.args.w.now context 3584 tree) c.in_ok-context.ensures (h 3584))
-    c.zero_leaf.ensures
+returns-in-Negative c = IfOk-weaker c.zero_leaf.result _ _ (λ tree h. h 3584) c.zero_leaf.ensures
 
 pub closed_tree-requires-clause-ready : goal.closed_tree-requires-clause-ready
 closed_tree-requires-clause-ready c =
     let w = c.args.w.now in
     let edges = c.as_slice-edges.result.now in
     let graph : IsGraphOf w c.in_ok-found.found = record {
-      asked = c.requires;
+      asked = c.requires.asked;
       edges_are =
           c.in_ok-found.ensures.rows;
       graph = c.in_ok-found.ensures.graph;
@@ -66,14 +63,3 @@ closed_tree-requires-clause-ready c =
     let closed = subst (IsClosure edges (depth_of_write w)) c.in-Closed.is
     (subst (λ n. IsClosure edges n c.in_ok-closure.closure) c.depth-nodes.ensures c.in_ok-closure.ensures) in
     record { graph = subst (IsGraphOf w) (sym c.as_slice-edges.ensures) graph; closed = closed }
-
-pub closed_tree-requires-clause-context : goal.closed_tree-requires-clause-context
-closed_tree-requires-clause-context c =
-    root_context_of c.args.w.now c.in_ok-context.context 3584 c.requires
-    (ap (λ (s : System). s.vars) c.in_ok-context.ensures) (ap (λ (s : System). s.rows) c.in_ok-context.ensures)
-    (omega arith)
-
-pub returns : goal.returns
-returns c = IfOk-weaker c.closed_tree.result _ _
-    (λ tree h. subst (λ context. IsAnswer c.args.w.now context 3584 tree) c.in_ok-context.ensures h)
-    c.closed_tree.ensures

@@ -1,12 +1,13 @@
-use Rattle.std.proofs.Common.{◌≡◌, ◌*◌, length, take, sym, ap, ◌∙◌, subst, arith}
+use Rattle.std.proofs.Common.{◌*◌, length, take, refl, sym, ap, ◌∙◌, subst, arith}
 use Rattle.std.specs.Prelude.{All}
 use Rattle.source_tree.specs.Checked.{AreRefuted}
 use Rattle.source_tree.specs.Places.{cell_rows, domain_rows}
-use Rattle.source_tree.specs.Systems.{just, writer_systems, Context}
+use Rattle.source_tree.specs.Systems.{Context}
 use Rattle.lex_max.specs.Asked.{read_of, write_of}
 use Rattle.lex_max.specs.Choices.{chosen_place}
 use Rattle.lex_max.specs.Leaves.{AreOrderCerts, AreShown, IsLeafOf}
 use Rattle.lex_max.specs.Simple.{IsLightSum}
+use Rattle.lex_max.specs.Systems.{place_systems}
 use Rattle.lex_max.proofs.Concluding.{cells_part, leaf_here, leaf_refuted, many, many_behind, order_part}
 use Rattle.lex_max.proofs.Concluding.{outside_part, plain_here}
 use Rattle.lex_max.proofs.Finishing.{plain_of}
@@ -15,51 +16,43 @@ use Rattle.lex_max.proofs.leaf.leaf_proofs.Goals as goal
 
 pub overflow_mul-cells : goal.overflow_mul-cells
 overflow_mul-cells c =
-    omega (arith, (asked_fits c.args.w.now c.requires.ready.graph.asked).few_subscripts, c.len-cells.ensures)
+    omega (arith, (asked_fits c.args.w.now c.requires.ready.graph.asked).few_subscripts)
 
 pub overflow_add-before : goal.overflow_add-before
 overflow_add-before c =
     let f = asked_fits c.args.w.now c.requires.ready.graph.asked in
-    omega (arith, f.few_subscripts, f.few_rows, c.len-cells.ensures, c.len-domain.ensures)
+    omega (arith, f.few_subscripts, f.few_rows)
 
 pub front-requires : goal.front-requires
 front-requires c =
     let r = c.requires in
-    let m_is : 2 * c.len-cells.result ≡ 2 * length c.args.w.now.write.access.now.subscripts =
-    ap (λ k. 2 * k) c.len-cells.ensures in
     let all = many c.args.w.now c.args.graph.now.edges.now c.args.graph.now.bounds.now c.args.context.now
-    c.args.choices.now c.args.certs.now c.len-domain.result (2 * c.len-cells.result) r.ready r.context r.chosen
-    r.certs c.len-domain.ensures m_is in
+    c.args.choices.now c.args.certs.now (length c.args.w.now.rows.now) (2 * length c.args.w.now.write_forms.now)
+    r.ready r.context r.chosen r.certs refl refl in
     omega (arith, all)
 
 pub back-requires : goal.back-requires
 back-requires c =
     let r = c.requires in
-    let m_is : 2 * c.len-cells.result ≡ 2 * length c.args.w.now.write.access.now.subscripts =
-    ap (λ k. 2 * k) c.len-cells.ensures in
     let all = many c.args.w.now c.args.graph.now.edges.now c.args.graph.now.bounds.now c.args.context.now
-    c.args.choices.now c.args.certs.now c.len-domain.result (2 * c.len-cells.result) r.ready r.context r.chosen
-    r.certs c.len-domain.ensures m_is in
+    c.args.choices.now c.args.certs.now (length c.args.w.now.rows.now) (2 * length c.args.w.now.write_forms.now)
+    r.ready r.context r.chosen r.certs refl refl in
     omega (arith, all)
 
 pub front-requires-2 : goal.front-requires-2
 front-requires-2 c =
     let r = c.requires in
-    let m_is : 2 * c.len-cells.result ≡ 2 * length c.args.w.now.write.access.now.subscripts =
-    ap (λ k. 2 * k) c.len-cells.ensures in
     let all = many_behind c.args.w.now c.args.graph.now.edges.now c.args.graph.now.bounds.now c.args.context.now
-    c.args.choices.now c.args.certs.now c.len-domain.result (2 * c.len-cells.result) r.ready r.context
-    r.chosen r.certs c.len-domain.ensures m_is in
+    c.args.choices.now c.args.certs.now (length c.args.w.now.rows.now) (2 * length c.args.w.now.write_forms.now)
+    r.ready r.context r.chosen r.certs refl refl in
     omega (arith, all, ap length c.back.ensures)
 
 pub back-requires-2 : goal.back-requires-2
 back-requires-2 c =
     let r = c.requires in
-    let m_is : 2 * c.len-cells.result ≡ 2 * length c.args.w.now.write.access.now.subscripts =
-    ap (λ k. 2 * k) c.len-cells.ensures in
     let all = many c.args.w.now c.args.graph.now.edges.now c.args.graph.now.bounds.now c.args.context.now
-    c.args.choices.now c.args.certs.now c.len-domain.result (2 * c.len-cells.result) r.ready r.context r.chosen
-    r.certs c.len-domain.ensures m_is in
+    c.args.choices.now c.args.certs.now (length c.args.w.now.rows.now) (2 * length c.args.w.now.write_forms.now)
+    r.ready r.context r.chosen r.certs refl refl in
     omega (arith, all)
 
 pub push_after-requires-clause-certs : goal.push_after-requires-clause-certs
@@ -70,18 +63,17 @@ push_after-requires-clause-certs c =
     let bounds = c.args.graph.now.bounds.now in
     let context = c.args.context.now in
     let choices = c.args.choices.now in
-    let n = c.len-domain.result in
-    let m = 2 * c.len-cells.result in
-    let m_is : m ≡ 2 * length w.write.access.now.subscripts = ap (λ k. 2 * k) c.len-cells.ensures in
+    let n = length w.rows.now in
+    let m = 2 * length w.write_forms.now in
     let here = c.len-here.result in
     let leaf = plain_here w edges bounds context choices c.args.certs.now n m r.ready r.context r.chosen r.certs
-    c.len-domain.ensures m_is here c.len-here.ensures in (
+    refl refl here c.len-here.ensures in (
       plain_of w context,
       context,
       chosen_place choices,
       subst (AreOrderCerts w here (plain_of w context) context (chosen_place choices)) (sym c.back-2.ensures)
           (order_part w edges bounds context choices c.args.certs.now n m r.ready r.context r.chosen r.certs
-          c.len-domain.ensures m_is (plain_of w context) here leaf),
+          refl refl (plain_of w context) here leaf),
     )
 
 pub push_after-requires-clause-here : goal.push_after-requires-clause-here
@@ -90,12 +82,12 @@ push_after-requires-clause-here c = omega (arith, c.requires.context.few, c.len-
 pub push_after-requires-clause-deep : goal.push_after-requires-clause-deep
 push_after-requires-clause-deep c =
     let f = asked_fits c.args.w.now c.requires.ready.graph.asked in
-    omega (arith, f.level, f.common_vars, f.few_vars)
+    omega (arith, f.level, f.common_loops, f.few_loops)
 
 pub push_after-requires-clause-few : goal.push_after-requires-clause-few
 push_after-requires-clause-few c =
     let f = asked_fits c.args.w.now c.requires.ready.graph.asked in
-    omega (arith, f.common_vars, f.few_vars, c.requires.ready.graph.asked.common)
+    omega (arith, f.common_loops, f.few_loops, c.requires.ready.graph.asked.common)
 
 pub push_between-requires-clause-chosen : goal.push_between-requires-clause-chosen
 push_between-requires-clause-chosen c = (c.args.context.now, c.requires.chosen)
@@ -105,8 +97,7 @@ push_between-requires-clause-here c = omega (arith, c.requires.context.few, c.le
 
 both : (c : goal.In_ok-push_between) (cx : Context)
     → IsLeafOf c.args.w.now cx c.args.context.now (chosen_place c.args.choices.now) c.len-here.result
-    → AreRefuted (writer_systems c.args.w.now.nest.now (read_of c.args.w.now)
-    (just c.args.w.now.write.number c.args.w.now.level) cx (write_of c.args.w.now)
+    → AreRefuted (place_systems (read_of c.args.w.now) (write_of c.args.w.now) c.args.w.now.level cx
     (chosen_place c.args.choices.now))
     c.push_between.new.proofs × All IsLightSum c.push_between.new.proofs
 both c cx leaf =
@@ -118,46 +109,40 @@ both c cx leaf =
     let choices = c.args.choices.now in
     let certs = c.args.certs.now in
     let place = chosen_place choices in
-    let n = c.len-domain.result in
-    let m = 2 * c.len-cells.result in
-    let m_is : m ≡ 2 * length w.write.access.now.subscripts = ap (λ k. 2 * k) c.len-cells.ensures in
+    let n = length w.rows.now in
+    let m = 2 * length w.write_forms.now in
     let f = asked_fits w r.ready.graph.asked in
-    let rows = w.write.statement.now.rows in
-    let writes = w.write.access.now.subscripts in
-    let reads = w.read.access.now.subscripts in
+    let rows = w.rows.now in
+    let writes = w.write_forms.now in
+    let reads = w.read_forms.now in
     let here = c.len-here.result in
     leaf_refuted w cx place c.new-proofs.result c.push_outside.new.proofs c.push_cell.new.proofs c.push_after.new.proofs
     c.push_between.new.proofs c.new-proofs.ensures
     (c.in_ok-push_outside.ensures cx context place rows leaf f.rows
     (subst (AreShown context (domain_rows rows place)) (sym c.front.ensures)
-    (outside_part w edges bounds context choices certs n m r.ready r.context r.chosen r.certs c.len-domain.ensures
-    m_is)))
-    (c.in_ok-push_cell.ensures cx context place writes reads leaf f.writes f.reads
+    (outside_part w edges bounds context choices certs n m r.ready r.context r.chosen r.certs refl refl)))
+    (c.in_ok-push_cell.ensures cx context place writes reads leaf f.cells
     (subst (AreShown context (cell_rows writes reads place)) (sym (c.front-2.ensures ∙ ap (take m) c.back.ensures))
-    (cells_part w edges bounds context choices certs n m r.ready r.context r.chosen r.certs c.len-domain.ensures m_is)))
+    (cells_part w edges bounds context choices certs n m r.ready r.context r.chosen r.certs refl refl)))
     (c.in_ok-push_after.ensures cx context place
     (subst (AreOrderCerts w here cx context place) (sym c.back-2.ensures)
-    (order_part w edges bounds context choices certs n m r.ready r.context r.chosen r.certs c.len-domain.ensures
-    m_is cx here leaf)))
+    (order_part w edges bounds context choices certs n m r.ready r.context r.chosen r.certs refl refl
+    cx here leaf)))
     (c.in_ok-push_between.ensures cx context leaf)
 
 pub returns-clause-refuted : goal.returns-clause-refuted
 returns-clause-refuted c cx vars_is rows_is =
     let r = c.requires in
-    let m_is : 2 * c.len-cells.result ≡ 2 * length c.args.w.now.write.access.now.subscripts =
-    ap (λ k. 2 * k) c.len-cells.ensures in
     (both c cx
     (leaf_here c.args.w.now c.args.graph.now.edges.now c.args.graph.now.bounds.now c.args.context.now c.args.choices.now
-    c.args.certs.now c.len-domain.result (2 * c.len-cells.result) r.ready r.context r.chosen r.certs
-    c.len-domain.ensures m_is cx c.len-here.result c.len-here.ensures vars_is rows_is)).0
+    c.args.certs.now (length c.args.w.now.rows.now) (2 * length c.args.w.now.write_forms.now) r.ready r.context
+    r.chosen r.certs refl refl cx c.len-here.result c.len-here.ensures vars_is rows_is)).0
 
 pub returns-clause-light : goal.returns-clause-light
 returns-clause-light c =
     let r = c.requires in
-    let m_is : 2 * c.len-cells.result ≡ 2 * length c.args.w.now.write.access.now.subscripts =
-    ap (λ k. 2 * k) c.len-cells.ensures in
     (both c (plain_of c.args.w.now c.args.context.now)
     (plain_here c.args.w.now c.args.graph.now.edges.now c.args.graph.now.bounds.now c.args.context.now
-    c.args.choices.now c.args.certs.now c.len-domain.result
-    (2 * c.len-cells.result) r.ready r.context r.chosen r.certs
-    c.len-domain.ensures m_is c.len-here.result c.len-here.ensures)).1
+    c.args.choices.now c.args.certs.now (length c.args.w.now.rows.now)
+    (2 * length c.args.w.now.write_forms.now) r.ready r.context r.chosen r.certs
+    refl refl c.len-here.result c.len-here.ensures)).1

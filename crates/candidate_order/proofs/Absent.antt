@@ -18,17 +18,18 @@ use Rattle.int_polyhedra.specs.declared.system.Term.{Term}
 use Rattle.int_polyhedra.specs.Rules.{Refutes}
 use Rattle.int_polyhedra.specs.Systems.{AreOver}
 use Rattle.candidate_order.specs.Absence.{AddsOrderEdges, IsContradicted}
-use Rattle.candidate_order.specs.Candidates.{reading_of, IsCandidate}
+use Rattle.candidate_order.specs.Candidates.{IsCandidate}
 use Rattle.candidate_order.specs.Contexts.{IsMadeAs, IsPathContext}
+use Rattle.candidate_order.specs.Joint.{orders_behind}
+use Rattle.candidate_order.specs.Reads.{pair_of}
 use Rattle.candidate_order.specs.Refutations.{IsPointIn, RefutesBetween, RefutesWrites}
 use Rattle.candidate_order.specs.declared.candidates.Candidate.{Candidate}
 use Rattle.candidate_order.specs.declared.candidates.Read.{Read}
 use Rattle.candidate_order.proofs.Joined.{context_over, context_within, forms_within, near_forms, near_variables}
 use Rattle.candidate_order.proofs.Joined.{no_rows, orders_made, regroup, system, AreMadeRows}
 use Rattle.lex_max.specs.Answer.{IsContradiction}
-use Rattle.lex_max.specs.Asked.{depth_of_read, depth_of_write, write_of}
+use Rattle.lex_max.specs.Asked.{depth_of_write, read_of, write_of}
 use Rattle.lex_max.specs.Facts.{IsContext}
-use Rattle.lex_max.proofs.Fitting.{asked_fits}
 use Rattle.lex_max.specs.Edges.{edge_parts, write_rows, AreEdges, AreLevelRows}
 use Rattle.lex_max.specs.Level.{common_of}
 use Rattle.lex_max.specs.Paths.{edge_part, terms_from}
@@ -45,7 +46,7 @@ use Rattle.row_sums.proofs.Weights.{weight_sum}
 use Rattle.row_sums.proofs.Wider.{made_widens}
 use Rattle.row_sums.proofs.Widening.{shown_widens}
 use Rattle.source_tree.specs.Checked.{IsRefuted}
-use Rattle.source_tree.specs.Places.{before_rows, cell_rows, domain_rows}
+use Rattle.source_tree.specs.Places.{cell_rows, domain_rows}
 use Rattle.source_tree.specs.Rows.{RowExpr, row_forms}
 use Rattle.source_tree.specs.Systems.{Context, Occurrence, with_rows, with_write_at, writer_place}
 
@@ -124,9 +125,12 @@ module _ (vars more : ℕ) (context forms behind : List Form) (place : List Form
 
 -- A write in the joined context
 
-module _ (r : Read) (context : System) (room : ℕ) (path : IsPathContext
-    (length (reading_of r).statement.loops) room context) (cand : Candidate) (h : IsCandidate r cand) (c : Context)
+module _ (r : Read) (context : System) (room : ℕ) (path : IsPathContext r.context.now.vars room context)
+    (cand : Candidate) (h : IsCandidate r cand) (c : Context)
     (made : IsMadeAs context c) where
+  abbrev read : Occurrence
+  read = read_of cand.writes
+
   abbrev u : Occurrence
   u = write_of cand.writes
 
@@ -136,21 +140,21 @@ module _ (r : Read) (context : System) (room : ℕ) (path : IsPathContext
   abbrev place : List Form
   place = writer_place c u
 
-  abbrev sys : IsPlaced r.nest.now (reading_of r) u cand.writes.level c context.rows cand.edges
+  abbrev sys : IsPlaced read u cand.writes.level c context.rows cand.edges
   sys = system r context room path cand h c made.vars made.rows
 
   abbrev write : List RowExpr → List RowExpr
-  write level = write_rows (reading_of r) u level place
+  write level = write_rows read u level place
 
   -- terms that refute the rows, as they are made, refute the system
   refuted_system : (level order : List RowExpr) (all : AreMadeRows more order) (ts : List Term)
-      → AreLevelRows (reading_of r) u cand.writes.level place level
+      → AreLevelRows read u cand.writes.level place level
       → Refutes more (map (widened_form more) context.rows ++ (sys.forms ++ all.forms)) (Sum ts)
-      → IsRefuted (with_rows (with_write_at (reading_of r) c u) (level ++ order)) (Sum ts)
+      → IsRefuted (with_rows (with_write_at read c u) (level ++ order)) (Sum ts)
   refuted_system level order all ts level_is refuted =
       let same : level ≡ sys.level = same_Some level sys.level (sym level_is ∙ sys.level_is) in
       let d : List RowExpr = domain_rows u.statement.rows place in
-      let e : List RowExpr = cell_rows u.access.subscripts (reading_of r).access.subscripts place in
+      let e : List RowExpr = cell_rows u.access.subscripts read.access.subscripts place in
       let rows_are : (c.rows ++ (d ++ e)) ++ (level ++ order) ≡ c.rows ++ (write sys.level ++ order)
       = ap (λ level. (c.rows ++ (d ++ e)) ++ (level ++ order)) same ∙ regroup c.rows d e sys.level order in
       record {
@@ -168,8 +172,8 @@ module _ (r : Read) (context : System) (room : ℕ) (path : IsPathContext
 
   -- by rows on the point alone
   pub own_refuted : (level order : List RowExpr) (all : AreMadeRows more order) (ts : List Term)
-      → AreLevelRows (reading_of r) u cand.writes.level place level → IsContradicted context cand.edges ts
-      → IsRefuted (with_rows (with_write_at (reading_of r) c u) (level ++ order)) (Sum ts)
+      → AreLevelRows read u cand.writes.level place level → IsContradicted context cand.edges ts
+      → IsRefuted (with_rows (with_write_at read c u) (level ++ order)) (Sum ts)
   own_refuted level order all ts level_is k =
       refuted_system level order all ts level_is
       (subst (λ ts. Refutes more (map (widened_form more) context.rows ++ (sys.forms ++ all.forms)) (Sum ts)) (sym k.is)
@@ -181,9 +185,9 @@ module _ (r : Read) (context : System) (room : ℕ) (path : IsPathContext
 
   -- by order rows too
   pub orders_refuted : (level order : List RowExpr) (all : AreMadeRows more order) (orders : List Edge) (ts : List Term)
-      → AreLevelRows (reading_of r) u cand.writes.level place level → AreEdges place order orders
+      → AreLevelRows read u cand.writes.level place level → AreEdges place order orders
       → IsContradicted context (cand.edges ++ orders) ts
-      → IsRefuted (with_rows (with_write_at (reading_of r) c u) (level ++ order)) (Sum ts)
+      → IsRefuted (with_rows (with_write_at read c u) (level ++ order)) (Sum ts)
   orders_refuted level order all orders ts level_is edges_are k =
       let behind : AreRowsOf place orders all.forms
       = record {
@@ -211,32 +215,28 @@ module _ (r : Read) (context : System) (room : ℕ) (path : IsPathContext
 
 -- a context of a candidate
 pub candidate_context : (r : Read) (context : System) (room : ℕ) (cand : Candidate) → IsCandidate r cand
-    → IsPathContext (depth_of_read cand.writes) room context → IsContext context
+    → IsPathContext cand.writes.vars room context → IsContext context
 candidate_context r context room cand h path = record {
-  short = omega (arith, path.vars_are, (asked_fits cand.writes h.asked).few_vars);
+  short = omega (arith, path.vars_are, h.asked.problem.few_vars);
   over = path.over;
   few = omega (arith, path.few);
 }
 
--- the variables of a candidate's context are the reader's
+-- the variables of a candidate's context are those of the read's
 pub path_of : (r : Read) (context : System) (room : ℕ) (cand : Candidate) → IsCandidate r cand
-    → IsPathContext (depth_of_read cand.writes) room context
-    → IsPathContext (length (reading_of r).statement.loops) room context
-path_of r context room cand h path =
-    subst (λ n. IsPathContext n room context) (ap (λ (o : Occurrence). length o.statement.loops) h.read) path
+    → IsPathContext cand.writes.vars room context → IsPathContext r.context.now.vars room context
+path_of r context room cand h path = subst (λ n. IsPathContext n room context) h.vars path
 
 pub path_from : (r : Read) (context : System) (room : ℕ) (cand : Candidate) → IsCandidate r cand
-    → IsPathContext (length (reading_of r).statement.loops) room context
-    → IsPathContext (depth_of_read cand.writes) room context
-path_from r context room cand h path =
-    subst (λ n. IsPathContext n room context) (sym (ap (λ (o : Occurrence). length o.statement.loops) h.read)) path
+    → IsPathContext r.context.now.vars room context → IsPathContext cand.writes.vars room context
+path_from r context room cand h path = subst (λ n. IsPathContext n room context) (sym h.vars) path
 
 -- the order rows of a point before the writer's can be made
-pub orders_are_made : (r : Read) (context : System) (w u : Occurrence) (place : List Form) (q : ℕ) (c : Context)
-    (order : List RowExpr) → IsMadeAs context c → IsPointIn context r w place
-    → slice_get (before_rows w.number w.statement place u.number u.statement (writer_place c u)) q ≡ Some order
+pub orders_are_made : (context : System) (w u : Occurrence) (place : List Form) (q : ℕ) (c : Context)
+    (order : List RowExpr) → IsMadeAs context c → IsPointIn context w place
+    → slice_get (orders_behind w place c u) q ≡ Some order
     → AreMadeRows (c.vars + length u.statement.loops) order
-orders_are_made r context w u place q c order made point is =
+orders_are_made context w u place q c order made point is =
     orders_made (c.vars + length u.statement.loops) (common_of w u) q (nat_lt w.number u.number) place
     (writer_place c u) order
     (near_forms context.vars (c.vars + length u.statement.loops) place
@@ -244,32 +244,32 @@ orders_are_made r context w u place q c order made point is =
     (near_variables (c.vars + length u.statement.loops) c.vars (length u.statement.loops) (omega arith)) is
 
 pub writes_refuted : (r : Read) (context : System) (cand : Candidate) (ts : List Term) → IsCandidate r cand
-    → IsPathContext (length (reading_of r).statement.loops) 0 context → IsContradicted context cand.edges ts
-    → RefutesWrites r context (write_of cand.writes) cand.writes.level (Sum ts)
+    → IsPathContext r.context.now.vars 0 context → IsContradicted context cand.edges ts
+    → RefutesWrites (pair_of cand.writes) context cand.writes.level (Sum ts)
 writes_refuted r context cand ts h path k c level made level_is =
     own_refuted r context 0 path cand h c made level []
     (no_rows (c.vars + length (write_of cand.writes).statement.loops)) ts level_is k
 
 pub between_refuted : (r : Read) (context : System) (cand : Candidate) (ts : List Term) (w : Occurrence)
     (place : List Form) (q : ℕ) → IsCandidate r cand
-    → IsPathContext (length (reading_of r).statement.loops) 0 context → IsPointIn context r w place
+    → IsPathContext r.context.now.vars 0 context → IsPointIn context w place
     → IsContradicted context cand.edges ts
-    → RefutesBetween r context (write_of cand.writes) cand.writes.level w place q (Sum ts)
+    → RefutesBetween (pair_of cand.writes) context cand.writes.level w place q (Sum ts)
 between_refuted r context cand ts w place q h path point k c level order made level_is order_is =
     own_refuted r context 0 path cand h c made level order
-    (orders_are_made r context w (write_of cand.writes) place q c order made point order_is) ts level_is k
+    (orders_are_made context w (write_of cand.writes) place q c order made point order_is) ts level_is k
 
 pub between_by_orders : (r : Read) (context : System) (cand : Candidate) (ts : List Term) (w : Occurrence)
     (place : List Form) (q zero_node : ℕ) (within : Bool) (orders : List Edge) → IsCandidate r cand
-    → IsPathContext (length (reading_of r).statement.loops) 0 context → IsPointIn context r w place → zero_node
+    → IsPathContext r.context.now.vars 0 context → IsPointIn context w place → zero_node
     ≡ depth_of_write cand.writes → within ≡ nat_lt q (common_of w (write_of cand.writes))
     → AddsOrderEdges place 0 zero_node q within [] orders → IsContradicted context (cand.edges ++ orders) ts
-    → RefutesBetween r context (write_of cand.writes) cand.writes.level w place q (Sum ts)
+    → RefutesBetween (pair_of cand.writes) context cand.writes.level w place q (Sum ts)
 between_by_orders r context cand ts w place q zero_node within orders h path point zero_is within_is adds k c level
     order made level_is order_is =
     let u : Occurrence = write_of cand.writes in
     let long : zero_node ≡ length (writer_place c u) = zero_is
     ∙ sym (length_variables c.vars (length u.statement.loops)) in
     orders_refuted r context 0 path cand h c made level order
-    (orders_are_made r context w u place q c order made point order_is) orders ts level_is
+    (orders_are_made context w u place q c order made point order_is) orders ts level_is
     (adds (common_of w u) (nat_lt w.number u.number) (writer_place c u) [] order long within_is order_is tt) k

@@ -16,12 +16,15 @@ use Rattle.int_polyhedra.specs.declared.system.System.{System}
 use Rattle.int_polyhedra.specs.declared.system.Term.{Term}
 use Rattle.candidate_order.specs.Orders.{difference_parts, strict_parts, equal_both, AreEqual, AreWritesOf, Composes}
 use Rattle.candidate_order.specs.Orders.{DecidesAt, DecidesThrough}
+use Rattle.candidate_order.specs.Reads.{StandsInLoopsOf}
 use Rattle.candidate_order.specs.declared.order.Equality.{Equality}
 use Rattle.candidate_order.specs.declared.order.Order.{Order}
 use Rattle.lex_max.specs.Facts.{IsFact}
 use Rattle.lex_max.specs.Level.{common_of}
 use Rattle.lex_max.proofs.Choosing.{fact_same, fact_sum, fact_weaker}
 use Rattle.sanlp.specs.declared.nest.Nest.{Nest}
+use Rattle.sanlp.specs.declared.nest.Statement.{Statement}
+use Rattle.sanlp.specs.Order.{common_loops}
 use Rattle.sanlp.specs.Text.{TextComposes}
 use Rattle.sanlp.proofs.Composing.{orders_compose}
 use Rattle.sanlp.proofs.Precedence.{common_first, common_least, common_second}
@@ -127,19 +130,43 @@ decided_few context most u w z y l (Some ts) d = omega (arith, d.0)
 decided_few context most u w z y l None d = omega (arith, d.0)
 
 -- writes of one statement share all its loops
-same_depth : (n : Nest) (u v : Occurrence) → slice_get n.statements u.number ≡ Some u.statement
-    → slice_get n.statements v.number ≡ Some v.statement → u.number ≡ v.number
+same_loops : (n : Nest) (u v : Occurrence) → StandsInLoopsOf n u → StandsInLoopsOf n v → u.number ≡ v.number
+    → u.statement.loops ≡ v.statement.loops
+same_loops n u v e f same =
+    sym e.loops ∙ ap (λ (s : Statement). s.loops)
+    (same_Some e.statement f.statement (sym e.is ∙ ap (slice_get n.statements) same ∙ f.is)) ∙ f.loops
+
+same_depth : (n : Nest) (u v : Occurrence) → StandsInLoopsOf n u → StandsInLoopsOf n v → u.number ≡ v.number
     → common_of u v ≡ length v.statement.loops
 same_depth n u v e f same =
-    let is : u.statement ≡ v.statement =
-    same_Some u.statement v.statement (sym e ∙ ap (slice_get n.statements) same ∙ f) in
-    ap (λ s. common_of (record u { statement = s }) v) is ∙ common_same v.statement.loops
+    ap (λ loops. common_loops loops v.statement.loops) (same_loops n u v e f same) ∙ common_same v.statement.loops
+
+-- orders by the text are told by the loops alone
+text_of : (a b c : ℕ) (first middle last u v w : Statement) → first.loops ≡ u.loops → middle.loops ≡ v.loops
+    → last.loops ≡ w.loops → TextComposes a b c first middle last → TextComposes a b c u v w
+text_of a b c first middle last u v w e f g t =
+    let one : common_loops first.loops middle.loops ≡ common_loops u.loops v.loops
+    = ap (λ l. common_loops l middle.loops) e ∙ ap (common_loops u.loops) f in
+    let two : common_loops middle.loops last.loops ≡ common_loops v.loops w.loops
+    = ap (λ l. common_loops l last.loops) f ∙ ap (common_loops v.loops) g in
+    let both : common_loops first.loops last.loops ≡ common_loops u.loops w.loops
+    = ap (λ l. common_loops l last.loops) e ∙ ap (common_loops u.loops) g in
+    record {
+      outer = λ before less.
+          (let k = t.outer before (omega (arith, one, two, less)) in (k.0, omega (arith, one, both, k.1)));
+      inner = λ before less.
+          (let k = t.inner before (omega (arith, one, two, less)) in (k.0, omega (arith, two, both, k.1)));
+      both = λ before later same.
+          (let k = t.both before later (omega (arith, one, two, same)) in (k.0, omega (arith, one, both, k.1)));
+    }
 
 module _ (n : Nest) (context : System) (one two : ℕ) (u v w : Occurrence) (z x y : List Form)
     (writes : AreWritesOf n u v w) where
   text : TextComposes u.number v.number w.number u.statement v.statement w.statement
-  text = orders_compose n u.number v.number w.number u.statement v.statement w.statement writes.first writes.second
-      writes.third
+  text = text_of u.number v.number w.number writes.first.statement writes.second.statement writes.third.statement
+      u.statement v.statement w.statement writes.first.loops writes.second.loops writes.third.loops
+      (orders_compose n u.number v.number w.number writes.first.statement writes.second.statement
+      writes.third.statement writes.first.is writes.second.is writes.third.is)
 
   -- the first pair decides
   outer : (l m : ℕ) (strict : Option (List Term)) (e : Equality) → l < m → m ≤ common_of v w
@@ -212,8 +239,7 @@ module _ (n : Nest) (context : System) (one two : ℕ) (u v w : Occurrence) (z x
     ]
   ] where
     depth_of : v.number ≡ w.number → length v.statement.loops ≡ length w.statement.loops
-    depth_of same = ap (λ s. length s.loops)
-        (same_Some v.statement w.statement (sym writes.second ∙ ap (slice_get n.statements) same ∙ writes.third))
+    depth_of same = ap length (same_loops n v w writes.second writes.third same)
 
   -- both are less at one loop
   both : (l : ℕ) (strict : Option (List Term)) (us : List Term) → DecidesAt context one u v z x l strict
@@ -268,8 +294,7 @@ module _ (n : Nest) (context : System) (one two : ℕ) (u v w : Occurrence) (z x
     ]
   ] where
     depth_of : v.number ≡ w.number → length v.statement.loops ≡ length w.statement.loops
-    depth_of same = ap (λ s. length s.loops)
-        (same_Some v.statement w.statement (sym writes.second ∙ ap (slice_get n.statements) same ∙ writes.third))
+    depth_of same = ap length (same_loops n v w writes.second writes.third same)
   neither l None d k = elim (cases_order u.number v.number) [
     | inl same ↦ (omega (arith, k.0, from_second same), omega (arith, same, k.1))
     | inr other ↦ elim other [
@@ -286,12 +311,11 @@ module _ (n : Nest) (context : System) (one two : ℕ) (u v w : Occurrence) (z x
     ]
   ] where
     from_second : u.number ≡ v.number → common_of v w ≡ common_of u w
-    from_second same = ap (λ s. common_of (record v { statement = s }) w)
-        (same_Some v.statement u.statement (sym writes.second ∙ ap (slice_get n.statements) (sym same) ∙ writes.first))
+    from_second same = ap (λ loops. common_loops loops w.statement.loops)
+        (sym (same_loops n u v writes.first writes.second same))
 
     to_third : v.number ≡ w.number → common_of u v ≡ common_of u w
-    to_third same = ap (λ s. common_of u (record v { statement = s }))
-        (same_Some v.statement w.statement (sym writes.second ∙ ap (slice_get n.statements) same ∙ writes.third))
+    to_third same = ap (common_loops u.statement.loops) (same_loops n v w writes.second writes.third same)
 
 -- The functions
 

@@ -7,19 +7,16 @@
 use Rattle.std.proofs.Common.{◌≡◌, ◌+◌, ◌≤◌, ◌<◌, ℕ, zero, suc, inl, inr, List, []}
 use Rattle.std.proofs.Common.{◌∷◌, ◌++◌, length, Bool, true, false, cond, refl, ap}
 use Rattle.std.proofs.Common.{arith}
-use Rattle.std.specs.Prelude.{Some, nat_lt, slice_get}
-use Rattle.std.proofs.lemmas.Bool.{cases_order, leb-true}
+use Rattle.std.specs.Prelude.{Contains, nat_lt}
+use Rattle.std.proofs.lemmas.Bool.{cases_order}
 use Rattle.std.proofs.lemmas.List.{length-map}
 use Rattle.affine_core.specs.declared.form.Form.{Form}
-use Rattle.candidate_order.specs.Candidates.{IsJoined, levels_before, reading_of}
+use Rattle.candidate_order.specs.Candidates.{levels_before}
+use Rattle.candidate_order.specs.Reads.{pairs_of, IsJoined, ReadAndWrite}
 use Rattle.candidate_order.specs.declared.candidates.Read.{Read}
 use Rattle.lex_max.specs.Level.{common_of, HasLevel}
 use Rattle.lex_max.proofs.Ordering.{length_variables}
-use Rattle.sanlp.proofs.Elements.{list_all_at}
 use Rattle.sanlp.proofs.Precedence.{common_first, common_second}
-use Rattle.sanlp.proofs.Roles.{Fits, fits_of}
-use Rattle.sanlp.specs.WellFormed.{statement_fits}
-use Rattle.source_check.proofs.Readers.{is_reader}
 use Rattle.source_tree.specs.Places.{before_rows, order_rows}
 use Rattle.source_tree.specs.Rows.{Take, equal_rows}
 use Rattle.source_tree.specs.Systems.{Context, Occurrence, reader_place}
@@ -72,19 +69,17 @@ level_below r u p has = elim has [
       in omega (arith, at.0, ap (λ b. common_of u r + cond b 1 0) less))
 ]
 
-pub few_before : (w u : Occurrence) → length u.statement.loops ≤ 6 → levels_before w u ≤ 7
+pub few_before : (w u : Occurrence) → length w.statement.loops ≤ 6 → levels_before w u ≤ 7
 few_before w u few = go (nat_lt w.number u.number) refl where
   go : (b : Bool) → nat_lt w.number u.number ≡ b → common_of w u + cond b 1 0 ≤ 7
-  go true e = omega (arith, common_second w.statement.loops u.statement.loops, few)
-  go false e = omega (arith, common_second w.statement.loops u.statement.loops, few)
+  go true e = omega (arith, common_first w.statement.loops u.statement.loops, few)
+  go false e = omega (arith, common_first w.statement.loops u.statement.loops, few)
 
--- the reader has at most six loops
-pub reader_few : (r : Read) → IsJoined r → length (reading_of r).statement.loops ≤ 6
-reader_few r h =
-    let here : slice_get r.nest.now.statements (reading_of r).number ≡ Some (reading_of r).statement =
-    (is_reader r.nest.now r.reference.number r.number (reading_of r) h.reader).is in
-    let fits : Fits r.nest.now.arrays (reading_of r).statement
-    = fits_of r.nest.now.arrays (reading_of r).statement
-    (list_all_at (statement_fits r.nest.now.arrays) r.nest.now.statements (reading_of r).number
-    (reading_of r).statement r.nest.now.well_formed.statements_fit here) in
-    leb-true (length (reading_of r).statement.loops) 6 fits.few_loops
+-- a level before the read
+pub few_levels : (r : Read) (o : ReadAndWrite) (p : ℕ) → IsJoined r → Contains (pairs_of r) o
+    → HasLevel o.read o.write p → p < 7
+few_levels r o p h there has = omega (
+  arith,
+  level_below o.read o.write p has,
+  few_before o.write o.read (h.problems o p there has).few_loops,
+)

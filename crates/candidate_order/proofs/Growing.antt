@@ -67,9 +67,9 @@ module _ (context more : System) (row : Form) (is : more ≡ record context { ro
   shown_behind (f ∷ rows) (ts ∷ sums) h =
       (fact_behind context more 65536 (form_parts f) ts row is h.0, shown_behind rows sums h.1)
 
-  pub node_behind : (r : Read) (c : Candidate) (node : Tree) (sums : List (List Term)) → IsNode r context c node sums
-      → IsNode r more c node sums
-  node_behind r c node sums h = record {
+  pub node_behind : (c : Candidate) (node : Tree) (sums : List (List Term)) → IsNode context c node sums
+      → IsNode more c node sums
+  node_behind c node sums h = record {
     own = h.own;
     made = h.made;
     vars = h.vars ∙ sym (ap (λ (s : System). s.vars) is);
@@ -83,7 +83,7 @@ module _ (context more : System) (row : Form) (is : more ≡ record context { ro
 
   pub at_behind : (r : Read) (at : Position) → IsAt r context at → IsAt r more at
   at_behind r at h =
-      record { candidate = h.candidate; node = node_behind r at.candidate.now at.node.now at.rows h.node }
+      record { candidate = h.candidate; node = node_behind at.candidate.now at.node.now at.rows h.node }
 
   pub stands_behind : (most : ℕ) (first second : Position) (order : Order)
       → StandsBefore context most first second order → StandsBefore more most first second order

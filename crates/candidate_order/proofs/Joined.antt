@@ -23,17 +23,18 @@ use Rattle.int_polyhedra.specs.declared.system.System.{System}
 use Rattle.int_polyhedra.specs.declared.system.Term.{Term}
 use Rattle.int_polyhedra.specs.Systems.{AreOver, all_over}
 use Rattle.int_polyhedra.proofs.Variables.{and_both, both_and, equal_where}
-use Rattle.candidate_order.specs.Candidates.{reading_of, IsCandidate}
+use Rattle.candidate_order.specs.Candidates.{IsCandidate}
 use Rattle.candidate_order.specs.Contexts.{IsPathContext}
 use Rattle.candidate_order.specs.Positions.{own_sums, IsNode}
 use Rattle.candidate_order.specs.declared.candidates.Candidate.{Candidate}
 use Rattle.candidate_order.specs.declared.candidates.Read.{Read}
 use Rattle.candidate_order.proofs.Carrying.{carried_refuted, AreSystems, StandsIn}
-use Rattle.lex_max.specs.Asked.{read_of, write_of, AreAsked}
-use Rattle.lex_max.specs.Edges.{edge_parts, write_rows, AreEdgesOf, AreLevelRows, IsEdge}
+use Rattle.lex_max.specs.Asked.{read_of, write_of, IsProblem}
+use Rattle.lex_max.specs.Edges.{edge_parts, write_rows, AreLevelRows, IsEdge}
 use Rattle.lex_max.specs.Facts.{form_parts, IsFact}
 use Rattle.lex_max.specs.Paths.{edge_part, term_of}
 use Rattle.lex_max.specs.Simple.{IsSimple}
+use Rattle.lex_max.specs.Systems.{IsCheckedFor}
 use Rattle.lex_max.specs.declared.edges.Edge.{Edge}
 use Rattle.lex_max.proofs.Ordering.{variable_over, variable_within}
 use Rattle.lex_max.proofs.Placing.{placed, IsPlaced}
@@ -50,11 +51,10 @@ use Rattle.row_sums.proofs.Combining.{combines}
 use Rattle.row_sums.proofs.Making.{small_is_made}
 use Rattle.row_sums.proofs.Wider.{made_has_parts}
 use Rattle.sanlp.proofs.Lists.{slice_get-map-range_with_len}
-use Rattle.sanlp.specs.declared.nest.Nest.{Nest}
-use Rattle.source_tree.specs.Checked.{IsCheckedIn, IsRefuted}
+use Rattle.source_tree.specs.Checked.{IsRefuted}
 use Rattle.source_tree.specs.Places.{cell_rows, domain_rows, order_rows, variables}
 use Rattle.source_tree.specs.Rows.{RowExpr, Take, equal_rows, minus, number, one_less, row_form, row_forms}
-use Rattle.source_tree.specs.Systems.{Context, Occurrence, just, with_rows, with_write_at, writer_place}
+use Rattle.source_tree.specs.Systems.{Context, Occurrence, with_rows, with_write_at, writer_place}
 use Rattle.source_tree.specs.declared.tree.Tree.{Tree}
 
 -- Numbers of forms
@@ -374,24 +374,24 @@ carried_node vars more own joined extra further made rows back behind s context 
 -- A write in the joined context
 
 -- the node, where its own context is over these variables
-pub record IsNodeOver (r : Read) (context : System) (c : Candidate) (node : Tree) (sums : List (List Term))
+pub record IsNodeOver (context : System) (c : Candidate) (node : Tree) (sums : List (List Term))
     (vars : ℕ) : Type 0 where
   pub rows : List RowExpr
   pub made : List Form
   pub are_made : row_forms vars rows ≡ Some made
-  pub checked : IsCheckedIn r.nest.now (reading_of r) (just c.writes.write.number c.writes.level)
+  pub checked : IsCheckedFor (read_of c.writes) (write_of c.writes) c.writes.level
       (record { vars = vars; rows = rows }) node
   pub shown : AllZip (λ row ts. IsFact context 65536 (form_parts row) ts) made sums
   pub tests : ℕ
   pub simple : IsSimple tests node
 
-pub node_over : (r : Read) (context : System) (c : Candidate) (node : Tree) (sums : List (List Term)) (vars : ℕ)
-    → IsNode r context c node sums → context.vars ≡ vars → IsNodeOver r context c node sums vars
-node_over r context c node sums vars h e = record {
+pub node_over : (context : System) (c : Candidate) (node : Tree) (sums : List (List Term)) (vars : ℕ)
+    → IsNode context c node sums → context.vars ≡ vars → IsNodeOver context c node sums vars
+node_over context c node sums vars h e = record {
   rows = h.own.rows;
   made = h.made;
   are_made = subst (λ v. row_forms v h.own.rows ≡ Some h.made) (h.vars ∙ e) h.are_made;
-  checked = subst (λ v. IsCheckedIn r.nest.now (reading_of r) (just c.writes.write.number c.writes.level)
+  checked = subst (λ v. IsCheckedFor (read_of c.writes) (write_of c.writes) c.writes.level
       (record { vars = v; rows = h.own.rows }) node) (h.vars ∙ e) h.checked;
   shown = h.shown;
   tests = h.tests;
@@ -403,8 +403,8 @@ regroup c d e l m =
     append_assoc c (d ++ e) (l ++ m) ∙ ap (λ x. c ++ x)
     (append_assoc d e (l ++ m) ∙ ap (λ x. d ++ x) (sym (append_assoc e l m)) ∙ sym (append_assoc d (e ++ l) m))
 
-module _ (r : Read) (context : System) (room : ℕ) (path : IsPathContext
-    (length (reading_of r).statement.loops) room context) (cand : Candidate) (h : IsCandidate r cand) (c : Context)
+module _ (r : Read) (context : System) (room : ℕ) (path : IsPathContext r.context.now.vars room context)
+    (cand : Candidate) (h : IsCandidate r cand) (c : Context)
     (vars_is : c.vars ≡ context.vars) (made_is : row_forms c.vars c.rows ≡ Some context.rows) where
   abbrev u : Occurrence
   u = write_of cand.writes
@@ -412,19 +412,18 @@ module _ (r : Read) (context : System) (room : ℕ) (path : IsPathContext
   abbrev pub more_vars : ℕ
   more_vars = c.vars + length u.statement.loops
 
-  pub asked_is : AreAsked r.nest.now (reading_of r) u cand.writes.level
-  asked_is = subst (λ rr. AreAsked r.nest.now rr u cand.writes.level) h.read
-      (subst (λ (n : Nest). AreAsked n (read_of cand.writes) u cand.writes.level) h.nest h.asked.asked)
+  abbrev read : Occurrence
+  read = read_of cand.writes
 
-  edges_are : AreEdgesOf (reading_of r) u cand.writes.level cand.edges
-  edges_are = subst (λ rr. AreEdgesOf rr u cand.writes.level cand.edges) h.read h.graph.edges_are
+  problem : IsProblem c.vars read u cand.writes.level
+  problem = subst (λ v. IsProblem v read u cand.writes.level) (h.vars ∙ sym path.vars_are ∙ sym vars_is)
+      h.asked.problem
 
-  pub system : IsPlaced r.nest.now (reading_of r) u cand.writes.level c context.rows cand.edges
-  system = placed r.nest.now (reading_of r) u cand.writes.level c context.rows cand.edges asked_is
-      (vars_is ∙ path.vars_are) made_is edges_are
+  pub system : IsPlaced read u cand.writes.level c context.rows cand.edges
+  system = placed c.vars read u cand.writes.level c context.rows cand.edges problem refl made_is h.graph.edges_are
 
   pub forms_within : All (IsWithin (2 ^ 51)) system.forms
-  forms_within = rows_within (length cand.writes.read.statement.now.loops) (length u.statement.loops) c.vars
+  forms_within = rows_within cand.writes.vars (length u.statement.loops) c.vars
       (length u.statement.loops) cand.edges system.forms system.are h.graph.graph.each
 
   pub context_over : AreOver c.vars context.rows
@@ -479,13 +478,13 @@ module _ (r : Read) (context : System) (room : ℕ) (path : IsPathContext
     | inr rest ↦ inr (rest.0, omega (arith, rest.1), rest.2)
   ]
 
-  module _ (node : Tree) (sums : List (List Term)) (o : IsNodeOver r context cand node sums c.vars)
+  module _ (node : Tree) (sums : List (List Term)) (o : IsNodeOver context cand node sums c.vars)
       (own_extra order : List RowExpr) (own : AreMadeRows more_vars own_extra) (all : AreMadeRows more_vars order)
       (extra_sums : List (List Term)) (light : AreLightSums (2 ^ 26) extra_sums)
       (each : (j : ℕ) → j < length own.forms → Shows more_vars (joined_rows all.forms) (sum_in_place extra_sums j)
       (λ part. row_part own.forms part j)) where
     abbrev write : List RowExpr
-    write = write_rows (reading_of r) u system.level (writer_place c u)
+    write = write_rows read u system.level (writer_place c u)
 
     systems : AreSystems c.vars more_vars o.rows c.rows (write ++ own_extra) (write ++ order) o.made context.rows
         (system.forms ++ own.forms) (system.forms ++ all.forms)
@@ -555,16 +554,16 @@ module _ (r : Read) (context : System) (room : ℕ) (path : IsPathContext
 
     -- the same writes, with these order rows
     pub carried_write : (level : List RowExpr) (ts : List Term)
-        → AreLevelRows (reading_of r) u cand.writes.level (writer_place c u) level → weight ts ≤ 2 ^ 48
-        → IsRefuted (with_rows (with_write_at (reading_of r) (record { vars = c.vars; rows = o.rows }) u)
+        → AreLevelRows read u cand.writes.level (writer_place c u) level → weight ts ≤ 2 ^ 48
+        → IsRefuted (with_rows (with_write_at read (record { vars = c.vars; rows = o.rows }) u)
         (level ++ own_extra)) (Sum ts)
-        → IsRefuted (with_rows (with_write_at (reading_of r) c u) (level ++ order))
+        → IsRefuted (with_rows (with_write_at read c u) (level ++ order))
         (Sum (carried_terms (sum_in_place (sums ++ others_of)) ts))
     carried_write level ts level_is small refuted =
         let same : level ≡ system.level = same_Some level system.level (sym level_is ∙ system.level_is) in
         let place : List Form = writer_place c u in
         let d : List RowExpr = domain_rows u.statement.rows place in
-        let e : List RowExpr = cell_rows u.access.subscripts (reading_of r).access.subscripts place in
+        let e : List RowExpr = cell_rows u.access.subscripts read.access.subscripts place in
         let there : IsRefuted (record { vars = more_vars; rows = o.rows ++ (write ++ own_extra) }) (Sum ts)
         = subst (λ rows. IsRefuted (record { vars = more_vars; rows = rows }) (Sum ts))
         (ap (λ level. (o.rows ++ (d ++ e)) ++ (level ++ own_extra)) same

@@ -1,5 +1,4 @@
 pub mod Absent
-pub mod Asked
 pub mod Asking
 pub mod Carrying
 pub mod Comparing
@@ -11,4 +10,5 @@ pub mod Levels
 pub mod Made
 pub mod OrderEdges
 pub mod Outcomes
+pub mod Pairs
 pub mod Rounds

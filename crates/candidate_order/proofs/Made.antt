@@ -12,21 +12,18 @@ use Rattle.int_polyhedra.specs.declared.system.Proof.{Proof}
 use Rattle.int_polyhedra.specs.declared.system.System.{System}
 use Rattle.int_polyhedra.specs.declared.system.Term.{Term}
 use Rattle.int_polyhedra.specs.Steps.{negation_of}
-use Rattle.candidate_order.specs.Candidates.{reading_of}
 use Rattle.candidate_order.specs.Positions.{IsNode}
 use Rattle.candidate_order.specs.declared.candidates.Candidate.{Candidate}
-use Rattle.candidate_order.specs.declared.candidates.Read.{Read}
+use Rattle.lex_max.specs.Asked.{read_of, write_of}
 use Rattle.lex_max.specs.Facts.{form_parts, IsFact}
 use Rattle.lex_max.specs.Simple.{IsLightSum, IsSimple, at_test as simple_test, at_writer as simple_writer}
 use Rattle.lex_max.specs.Simple.{at_zero as simple_zero}
+use Rattle.lex_max.specs.Systems.{none_systems, place_systems, IsCheckedFor, at_test, at_writer, at_zero}
 use Rattle.lex_max.proofs.Testing.{more_made, opposite_made, taken_made}
 use Rattle.row_sums.specs.Parts.{IsWithin}
-use Rattle.sanlp.specs.declared.nest.Nest.{Nest}
-use Rattle.source_tree.specs.Checked.{AreRefuted, HaveVariables, IsCheckedIn, at_test, at_divides, at_writer, at_zero}
-use Rattle.source_tree.specs.Checked.{at_dead}
+use Rattle.source_tree.specs.Checked.{AreRefuted, HaveVariables}
 use Rattle.source_tree.specs.Rows.{Take, below_zero}
-use Rattle.source_tree.specs.Systems.{Context, MayName, Occurrence, Which, just, named_write, test_no, test_yes}
-use Rattle.source_tree.specs.Systems.{writer_systems, zero_systems}
+use Rattle.source_tree.specs.Systems.{Context, Occurrence, test_no, test_yes}
 use Rattle.source_tree.specs.declared.tree.Tree.{Tree, out-Tree}
 use Rattle.source_tree.specs.declared.tree.Tree.TheOpen as open_
 use Rattle.source_tree.specs.declared.tree.Tree.TheVariants.{Writer, Zero, Dead}
@@ -58,24 +55,22 @@ joined tree x y e h = sym e ∙ h
 
 -- Checked nodes
 
-pub record AreBothChecked (n : Nest) (r : Occurrence) (which : Which) (c : Context) (form : Form)
-    (yes_tree no_tree : Tree) : Type 0 where
+pub record AreBothChecked (r w : Occurrence) (p : ℕ) (c : Context) (form : Form) (yes_tree no_tree : Tree)
+    : Type 0 where
   pub over : length form.coefs ≡ c.vars
-  pub above : IsCheckedIn n r which (test_yes c form) yes_tree
-  pub below : IsCheckedIn n r which (test_no c form) no_tree
+  pub above : IsCheckedFor r w p (test_yes c form) yes_tree
+  pub below : IsCheckedFor r w p (test_no c form) no_tree
 
-pub record IsCheckedPoint (n : Nest) (r : Occurrence) (which : Which) (c : Context) (s : ℕ) (place : List Form)
+pub record IsCheckedPoint (r w : Occurrence) (p : ℕ) (c : Context) (s : ℕ) (place : List Form)
     (proofs : List Proof) : Type 0 where
-  pub w : Occurrence
-  pub named : named_write n r s ≡ Some w
-  pub may : MayName which s
+  pub is : s ≡ w.number
   pub deep : length place ≡ length w.statement.loops
   pub over : HaveVariables c.vars place
-  pub refuted : AreRefuted (writer_systems n r which c w place) proofs
+  pub refuted : AreRefuted (place_systems r w p c place) proofs
 
-module _ (n : Nest) (r : Occurrence) (which : Which) where
-  pub checked_test : (c : Context) (tree : Tree) (form : Form) (yes_tree no_tree : Tree) → IsCheckedIn n r which c tree
-      → tree ≡ Test form yes_tree no_tree → AreBothChecked n r which c form yes_tree no_tree
+module _ (r w : Occurrence) (p : ℕ) where
+  pub checked_test : (c : Context) (tree : Tree) (form : Form) (yes_tree no_tree : Tree) → IsCheckedFor r w p c tree
+      → tree ≡ Test form yes_tree no_tree → AreBothChecked r w p c form yes_tree no_tree
   checked_test _ _ form yes_tree no_tree (at_test c tree f a b is over first second) e =
       let same : open_.Test f a b ≡ open_.Test form yes_tree no_tree = joined tree (open_.Test f a b)
       (open_.Test form yes_tree no_tree) (is_test tree f a b is) (is_test tree form yes_tree no_tree e) in
@@ -84,76 +79,56 @@ module _ (n : Nest) (r : Occurrence) (which : Which) where
       let below : b ≡ no_tree = cc in
       record {
         over = ap (λ (f : Form). length f.coefs) (sym forms) ∙ over;
-        above = subst (λ f. IsCheckedIn n r which (test_yes c f) yes_tree) forms
-            (subst (IsCheckedIn n r which (test_yes c f)) above first);
-        below = subst (λ f. IsCheckedIn n r which (test_no c f) no_tree) forms
-            (subst (IsCheckedIn n r which (test_no c f)) below second);
+        above = subst (λ f. IsCheckedFor r w p (test_yes c f) yes_tree) forms
+            (subst (IsCheckedFor r w p (test_yes c f)) above first);
+        below = subst (λ f. IsCheckedFor r w p (test_no c f) no_tree) forms
+            (subst (IsCheckedFor r w p (test_no c f)) below second);
       }
-  checked_test _ _ form yes_tree no_tree (at_divides c tree f d a b is over two few first second) e =
-      absurd (let k : open_.Divides f d a b ≡ open_.Test form yes_tree no_tree = joined tree (open_.Divides f d a b)
-      (open_.Test form yes_tree no_tree) (is_divides tree f d a b is) (is_test tree form yes_tree no_tree e) in cc)
-  checked_test _ _ form yes_tree no_tree (at_writer c tree s place proofs w is named may deep have refuted) e =
-      absurd (let k : open_.Writer s place proofs ≡ open_.Test form yes_tree no_tree =
-      joined tree (open_.Writer s place proofs) (open_.Test form yes_tree no_tree)
-      (is_writer tree s place proofs is) (is_test tree form yes_tree no_tree e) in cc)
+  checked_test _ _ form yes_tree no_tree (at_writer c tree place proofs is deep have within refuted) e =
+      absurd (let k : open_.Writer w.number place proofs ≡ open_.Test form yes_tree no_tree =
+      joined tree (open_.Writer w.number place proofs) (open_.Test form yes_tree no_tree)
+      (is_writer tree w.number place proofs is) (is_test tree form yes_tree no_tree e) in cc)
   checked_test _ _ form yes_tree no_tree (at_zero c tree proofs is refuted) e =
       absurd (let k : open_.Zero proofs ≡ open_.Test form yes_tree no_tree = joined tree (open_.Zero proofs)
       (open_.Test form yes_tree no_tree) (is_zero tree proofs is) (is_test tree form yes_tree no_tree e) in cc)
-  checked_test _ _ form yes_tree no_tree (at_dead c tree proof is refuted) e =
-      absurd (let k : open_.Dead proof ≡ open_.Test form yes_tree no_tree = joined tree (open_.Dead proof)
-      (open_.Test form yes_tree no_tree) (is_dead tree proof is) (is_test tree form yes_tree no_tree e) in cc)
 
-  pub checked_zero : (c : Context) (tree : Tree) (proofs : List Proof) → IsCheckedIn n r which c tree → tree
-      ≡ Zero proofs → AreRefuted (zero_systems n r which c) proofs
+  pub checked_zero : (c : Context) (tree : Tree) (proofs : List Proof) → IsCheckedFor r w p c tree → tree
+      ≡ Zero proofs → AreRefuted (none_systems r w p c) proofs
   checked_zero _ _ proofs (at_test c tree f a b is over first second) e =
       absurd (let k : open_.Test f a b ≡ open_.Zero proofs =
       joined tree (open_.Test f a b) (open_.Zero proofs) (is_test tree f a b is) (is_zero tree proofs e) in cc)
-  checked_zero _ _ proofs (at_divides c tree f d a b is over two few first second) e =
-      absurd (let k : open_.Divides f d a b ≡ open_.Zero proofs = joined tree (open_.Divides f d a b)
-      (open_.Zero proofs) (is_divides tree f d a b is) (is_zero tree proofs e) in cc)
-  checked_zero _ _ proofs (at_writer c tree s place own w is named may deep have refuted) e =
-      absurd (let k : open_.Writer s place own ≡ open_.Zero proofs = joined tree (open_.Writer s place own)
-      (open_.Zero proofs) (is_writer tree s place own is) (is_zero tree proofs e) in cc)
+  checked_zero _ _ proofs (at_writer c tree place own is deep have within refuted) e =
+      absurd (let k : open_.Writer w.number place own ≡ open_.Zero proofs = joined tree
+      (open_.Writer w.number place own) (open_.Zero proofs) (is_writer tree w.number place own is)
+      (is_zero tree proofs e) in cc)
   checked_zero _ _ proofs (at_zero c tree own is refuted) e =
       let k : open_.Zero own ≡ open_.Zero proofs =
       joined tree (open_.Zero own) (open_.Zero proofs) (is_zero tree own is) (is_zero tree proofs e) in
       let same : own ≡ proofs = cc in
-      subst (AreRefuted (zero_systems n r which c)) same refuted
-  checked_zero _ _ proofs (at_dead c tree proof is refuted) e =
-      absurd (let k : open_.Dead proof ≡ open_.Zero proofs =
-      joined tree (open_.Dead proof) (open_.Zero proofs) (is_dead tree proof is) (is_zero tree proofs e) in cc)
+      subst (AreRefuted (none_systems r w p c)) same refuted
 
   pub checked_point : (c : Context) (tree : Tree) (s : ℕ) (place : List Form) (proofs : List Proof)
-      → IsCheckedIn n r which c tree → tree ≡ Writer s place proofs
-      → IsCheckedPoint n r which c s place proofs
+      → IsCheckedFor r w p c tree → tree ≡ Writer s place proofs → IsCheckedPoint r w p c s place proofs
   checked_point _ _ s place proofs (at_test c tree f a b is over first second) e =
       absurd (let k : open_.Test f a b ≡ open_.Writer s place proofs = joined tree (open_.Test f a b)
       (open_.Writer s place proofs) (is_test tree f a b is) (is_writer tree s place proofs e) in cc)
-  checked_point _ _ s place proofs (at_divides c tree f d a b is over two few first second) e =
-      absurd (let k : open_.Divides f d a b ≡ open_.Writer s place proofs = joined tree (open_.Divides f d a b)
-      (open_.Writer s place proofs) (is_divides tree f d a b is) (is_writer tree s place proofs e) in cc)
-  checked_point _ _ s place proofs (at_writer c tree s' place' proofs' w is named may deep have refuted) e =
-      let k : open_.Writer s' place' proofs' ≡ open_.Writer s place proofs
-      = joined tree (open_.Writer s' place' proofs') (open_.Writer s place proofs) (is_writer tree s' place' proofs' is)
-      (is_writer tree s place proofs e) in
-      let number : s' ≡ s = cc in
+  checked_point _ _ s place proofs (at_writer c tree place' proofs' is deep have within refuted) e =
+      let k : open_.Writer w.number place' proofs' ≡ open_.Writer s place proofs
+      = joined tree (open_.Writer w.number place' proofs') (open_.Writer s place proofs)
+      (is_writer tree w.number place' proofs' is) (is_writer tree s place proofs e) in
+      let number : w.number ≡ s = cc in
       let forms : place' ≡ place = cc in
       let own : proofs' ≡ proofs = cc in
       record {
-        w = w;
-        named = ap (named_write n r) (sym number) ∙ named;
-        may = subst (MayName which) number may;
+        is = sym number;
         deep = ap length (sym forms) ∙ deep;
         over = subst (HaveVariables c.vars) forms have;
-        refuted = subst (AreRefuted (writer_systems n r which c w place)) own
-            (subst (λ place. AreRefuted (writer_systems n r which c w place) proofs') forms refuted);
+        refuted = subst (AreRefuted (place_systems r w p c place)) own
+            (subst (λ place. AreRefuted (place_systems r w p c place) proofs') forms refuted);
       }
   checked_point _ _ s place proofs (at_zero c tree own is refuted) e =
       absurd (let k : open_.Zero own ≡ open_.Writer s place proofs = joined tree (open_.Zero own)
       (open_.Writer s place proofs) (is_zero tree own is) (is_writer tree s place proofs e) in cc)
-  checked_point _ _ s place proofs (at_dead c tree proof is refuted) e =
-      absurd (let k : open_.Dead proof ≡ open_.Writer s place proofs = joined tree (open_.Dead proof)
-      (open_.Writer s place proofs) (is_dead tree proof is) (is_writer tree s place proofs e) in cc)
 
 -- Simple nodes
 
@@ -257,12 +232,11 @@ zip_push P [] (b ∷ ys) x y h k = absurd h
 zip_push P (a ∷ xs) [] x y h k = absurd h
 zip_push P (a ∷ xs) (b ∷ ys) x y h k = (h.0, zip_push P xs ys x y h.1 k)
 
-module _ (r : Read) (context : System) (c : Candidate) (node : Tree) (sums : List (List Term)) (form : Form)
-    (yes_tree no_tree : Tree) (is : node ≡ Test form yes_tree no_tree) (h : IsNode r context c node sums) where
-  parts : AreBothChecked r.nest.now (reading_of r)
-      (just c.writes.write.number c.writes.level) h.own form yes_tree no_tree
-  parts = checked_test r.nest.now (reading_of r)
-      (just c.writes.write.number c.writes.level) h.own node form yes_tree no_tree h.checked is
+module _ (context : System) (c : Candidate) (node : Tree) (sums : List (List Term)) (form : Form)
+    (yes_tree no_tree : Tree) (is : node ≡ Test form yes_tree no_tree) (h : IsNode context c node sums) where
+  parts : AreBothChecked (read_of c.writes) (write_of c.writes) c.writes.level h.own form yes_tree no_tree
+  parts = checked_test (read_of c.writes) (write_of c.writes) c.writes.level h.own node form yes_tree no_tree
+      h.checked is
 
   simple : AreBothSimple h.tests form yes_tree no_tree
   simple = simple_both h.tests node form yes_tree no_tree h.simple is
@@ -274,7 +248,7 @@ module _ (r : Read) (context : System) (c : Candidate) (node : Tree) (sums : Lis
   test_within = simple.within
 
   pub node_yes : (ts : List Term) → IsFact context 65536 (form_parts form) ts
-      → IsNode r context c yes_tree (sums ++ ts ∷ [])
+      → IsNode context c yes_tree (sums ++ ts ∷ [])
   node_yes ts fact = record {
     own = test_yes h.own form;
     made = h.made ++ form ∷ [];
@@ -288,7 +262,7 @@ module _ (r : Read) (context : System) (c : Candidate) (node : Tree) (sums : Lis
   }
 
   pub node_no : (other : Form) (ts : List Term) → negation_of form ≡ Some other
-      → IsFact context 65536 (form_parts other) ts → IsNode r context c no_tree (sums ++ ts ∷ [])
+      → IsFact context 65536 (form_parts other) ts → IsNode context c no_tree (sums ++ ts ∷ [])
   node_no other ts negated fact = record {
     own = test_no h.own form;
     made = h.made ++ other ∷ [];

@@ -6,6 +6,7 @@
 use Rattle.std.proofs.Common.{◌≡◌, ◌+◌, ◌*◌, ◌≤◌, ◌||◌, ℕ, Bool, false, List, [], ◌∷◌, length}
 use Rattle.std.proofs.Common.{refl, sym, ap, ◌∙◌, subst, arith, Bor}
 use Rattle.std.specs.Prelude.{Option, Some, None, IfNone, IfSome, IsTrue, MatchOption, slice_get}
+use Rattle.std.proofs.lemmas.List.Elements.{All-contains}
 use Rattle.affine_core.specs.declared.form.Form.{Form}
 use Rattle.int_polyhedra.specs.declared.system.System.{System}
 use Rattle.int_polyhedra.specs.declared.system.Term.{Term}
@@ -13,6 +14,7 @@ use Rattle.candidate_order.specs.Candidates.{is_candidate_of, IsCandidate}
 use Rattle.candidate_order.specs.Orders.{difference_parts, strict_parts, AreEqual, AreWritesOf, Composes, DecidesAt}
 use Rattle.candidate_order.specs.Orders.{IsOrder}
 use Rattle.candidate_order.specs.Positions.{IsAt, IsPointAt}
+use Rattle.candidate_order.specs.Reads.{pair_of, pairs_of, IsJoined, ReadAndWrite, StandsInLoopsOf}
 use Rattle.candidate_order.specs.Seen.{Sighting, without, before, passed, is_seen, position_of, sightings_of}
 use Rattle.candidate_order.specs.Seen.{sightings_step, AreSeen, IsOutcome, LeadsOn, StandsBefore}
 use Rattle.candidate_order.specs.declared.candidates.Candidate.{Candidate}
@@ -29,11 +31,9 @@ use Rattle.candidate_order.specs.declared.seen.Seen.TheVariants.{Start}
 use Rattle.candidate_order.specs.declared.seen.Seen.TheViews.{Before, Passed, Without, rolls-Before, rolls-Passed}
 use Rattle.candidate_order.specs.declared.seen.Seen.TheViews.{rolls-Start, rolls-Without}
 use Rattle.candidate_order.proofs.Made.{same_place}
-use Rattle.lex_max.specs.Asked.{read_of, write_of}
+use Rattle.lex_max.specs.Asked.{write_of}
 use Rattle.lex_max.specs.Facts.{IsFact}
-use Rattle.lex_max.proofs.Fitting.{named_is}
 use Rattle.row_sums.specs.Shown.{RowParts}
-use Rattle.sanlp.specs.declared.nest.Nest.{Nest}
 use Rattle.source_tree.specs.Systems.{Occurrence}
 
 -- Chains
@@ -116,12 +116,11 @@ module _ (context : System) (m n : ℕ) (le : m ≤ n) where
 
 -- Orders that lead on
 
--- the statement of a candidate
-pub statement_of : (r : Read) (c : Candidate) → IsCandidate r c
-    → slice_get r.nest.now.statements (write_of c.writes).number ≡ Some (write_of c.writes).statement
-statement_of r c h =
-    subst (λ (n : Nest). slice_get n.statements (write_of c.writes).number ≡ Some (write_of c.writes).statement) h.nest
-    (named_is c.writes.nest.now (read_of c.writes) (write_of c.writes) h.asked.asked.write).is
+-- the writes of a candidate stand in the loops of the nest
+pub statement_of : (r : Read) (c : Candidate) (h : IsCandidate r c) (j : IsJoined r)
+    → StandsInLoopsOf j.nest (write_of c.writes)
+statement_of r c h j =
+    All-contains (λ (o : ReadAndWrite). StandsInLoopsOf j.nest o.write) (pairs_of r) (pair_of c.writes) j.stand h.pair
 
 pub same_point : (at : Position) (y z : List Form) → IsPointAt at y → IsPointAt at z → y ≡ z
 same_point at y z h k = same_place at.node.now at.candidate.now.writes.write.number at.candidate.now.writes.write.number
@@ -151,11 +150,12 @@ leads_to r context most at t (Some b) order whole (Some next) ha ht hb s leads a
     let v : Occurrence = write_of t.candidate.now.writes in
     let w : Occurrence = write_of b.candidate.now.writes in
     let same : leads.z ≡ s.y = same_point t leads.z s.y leads.first_at s.second_at in
-    let writes : AreWritesOf r.nest.now u v w
+    let j : IsJoined r = ha.candidate.joined in
+    let writes : AreWritesOf j.nest u v w
     = record {
-      first = statement_of r at.candidate.now ha.candidate;
-      second = statement_of r t.candidate.now ht.candidate;
-      third = statement_of r b.candidate.now hb.candidate;
+      first = statement_of r at.candidate.now ha.candidate j;
+      second = statement_of r t.candidate.now ht.candidate j;
+      third = statement_of r b.candidate.now hb.candidate j;
     } in
     let on : IsOrder context most v w s.y leads.y next =
     subst (λ z. IsOrder context most v w z leads.y next) same leads.stands in
@@ -169,7 +169,7 @@ leads_to r context most at t (Some b) order whole (Some next) ha ht hb s leads a
         first_at = s.first_at;
         second_at = leads.second_at;
         stands = subst (λ m. IsOrder context m u w s.z leads.y whole) sum
-            (through r.nest.now context 65536 most u v w s.z s.y leads.y writes s.stands on);
+            (through j.nest context 65536 most u v w s.z s.y leads.y writes s.stands on);
       };
     }
 

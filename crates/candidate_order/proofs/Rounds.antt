@@ -26,7 +26,7 @@ use Rattle.candidate_order.specs.declared.candidates.Read.{Read}
 use Rattle.candidate_order.proofs.Asking.{opposite_part}
 use Rattle.candidate_order.proofs.Joined.{past_coefficient}
 use Rattle.lex_max.specs.Answer.{IsCycle}
-use Rattle.lex_max.specs.Asked.{depth_of_read, depth_of_write}
+use Rattle.lex_max.specs.Asked.{depth_of_write}
 use Rattle.lex_max.specs.Closed.{bound_at, number_parts, AreClosed, IsBound, IsClosure, IsNegativeCycle}
 use Rattle.lex_max.specs.Edges.{edge_parts, IsEdge}
 use Rattle.lex_max.specs.Facts.{form_parts, IsFact}
@@ -286,7 +286,7 @@ back_out context own edges bounds node outs first back backs number h to = recor
 -- a candidate's edges and order edges behind them
 pub with_orders : (context : System) (r : Read) (c : Candidate) (bounds : Bounds) (orders outs backs : List Edge)
     (node first number : ℕ) → IsCandidate r c → c.closure ≡ Closed bounds
-    → IsPathContext (depth_of_read c.writes) 0 context → All (IsNearEdge (depth_of_read c.writes)) orders
+    → IsPathContext c.writes.vars 0 context → All (IsNearEdge c.writes.vars) orders
     → length orders ≤ 13 → AreNumbered (c.edges ++ orders) outs first
     → AreNumbered (c.edges ++ orders) backs number
     → AreBack context c.edges (c.edges ++ orders) bounds node outs first backs number
@@ -297,13 +297,13 @@ with_orders context r c bounds orders outs backs node first number h closed path
       fit = omega (arith, path.few, h.graph.graph.few, few, length-append c.edges orders);
       begins = (orders, refl);
       near = subst (λ v. All (IsNearEdge v) (c.edges ++ orders)) (sym path.vars_are)
-          (All-append (IsNearEdge (depth_of_read c.writes)) c.edges orders
-          (near_own (depth_of_read c.writes) (depth_of_write c.writes) c.edges h.graph.graph.each) near);
+          (All-append (IsNearEdge c.writes.vars) c.edges orders
+          (near_own c.writes.vars (depth_of_write c.writes) c.edges h.graph.graph.each) near);
       bounds_are = all.sound;
       numbered = outs_are;
       backs_numbered = backs_are;
     }
 
 pub own_fits : (context : System) (r : Read) (c : Candidate) → IsCandidate r c
-    → IsPathContext (depth_of_read c.writes) 0 context → AreRefuting context c.edges
+    → IsPathContext c.writes.vars 0 context → AreRefuting context c.edges
 own_fits context r c h path = omega (arith, path.few, h.graph.graph.few)

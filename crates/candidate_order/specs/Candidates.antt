@@ -1,26 +1,18 @@
--- The candidates of a read: for each writer of its array and each level of order before it, the writes at that level.
-use Rattle.std.specs.Prelude.{◌≡◌, ◌<◌, ℕ, ◌+◌, ◌≤◌, Bool, ◌&&◌, ◌==◌, nat_lt, List, length, All, Some, slice_get, IsTrue, if◌then◌else◌}
-use Rattle.std.specs.List.{list_all}
+-- The candidates of a read: for each write of its array and each level of order before it, the writes at that level.
+use Rattle.std.specs.Prelude.{◌≡◌, ℕ, ◌+◌, ◌≤◌, Bool, ◌&&◌, ◌==◌, nat_lt, List, length, All, Some, Contains, slice_get, IsTrue, if◌then◌else◌}
 use Rattle.lex_max.specs.Answer.{IsCycle}
-use Rattle.lex_max.specs.Asked.{occurrence_of, depth_of_read, depth_of_write, IsAsked}
-use Rattle.lex_max.specs.Class.{writes_differences}
+use Rattle.lex_max.specs.Asked.{depth_of_write, read_of, write_of, IsAsked}
 use Rattle.lex_max.specs.Closed.{IsClosure}
 use Rattle.lex_max.specs.Level.{common_of, HasLevel}
 use Rattle.lex_max.specs.Rounds.{IsGraphOf}
 use Rattle.lex_max.specs.Simple.{IsSimple}
+use Rattle.lex_max.specs.Systems.{IsCheckedFor}
+use Rattle.candidate_order.specs.Contexts.{IsMadeAs}
+use Rattle.candidate_order.specs.Reads.{pair_of, pairs_of, pairs_with, IsJoined, ReadAndWrite}
 use Rattle.candidate_order.specs.declared.candidates.Candidate.{Candidate}
+use Rattle.candidate_order.specs.declared.candidates.Problem.{Problem}
 use Rattle.candidate_order.specs.declared.candidates.Read.{Read}
-use Rattle.source_tree.specs.Checked.{IsCheckedIn}
-use Rattle.source_tree.specs.Systems.{Occurrence, array_writes, just, named_write, read_at, root_context}
-
--- the access that is read
-abbrev pub reading_of : Read → Occurrence
-reading_of r = occurrence_of r.reference
-
--- the read stands in its nest and is in the difference class
-pub record IsJoined (r : Read) : Type 0 where
-  pub reader : read_at r.nest.now r.reference.number r.number ≡ Some (reading_of r)
-  pub class : IsTrue (list_all writes_differences (array_writes r.nest.now (reading_of r)))
+use Rattle.source_tree.specs.Systems.{Context, Occurrence}
 
 -- the candidate is one of these
 abbrev pub IsAmong : Candidate → List Candidate → Type 0
@@ -34,47 +26,42 @@ levels_before u w = common_of u w + (if nat_lt u.number w.number then 1 else 0)
 abbrev pub is_candidate_of : ℕ → ℕ → Candidate → Bool
 is_candidate_of u p c = (c.writes.write.number == u) && (c.writes.level == p)
 
--- The writes of a statement at a level before the read, with their tree, the graph of their rows and its
--- cycles. Where a sum of the graph is negative, no cycle through 0 is kept.
+-- The writes of a statement at a level before a read, with their tree in the read's context, the graph of their
+-- rows and its cycles. Where a sum of the graph is negative, no cycle through 0 is kept.
 pub record IsCandidate (r : Read) (c : Candidate) : Type 0 where
+  pub joined : IsJoined r
   pub asked : IsAsked c.writes
-  pub nest : c.writes.nest.now ≡ r.nest.now
-  pub read : occurrence_of c.writes.read ≡ reading_of r
-  pub checked : IsCheckedIn r.nest.now (reading_of r) (just c.writes.write.number c.writes.level)
-      (root_context (reading_of r)) c.tree
+  pub pair : Contains (pairs_of r) (pair_of c.writes)
+  pub vars : c.writes.vars ≡ r.context.now.vars
+  pub checked : (own : Context) → IsMadeAs r.context.now own
+      → IsCheckedFor (read_of c.writes) (write_of c.writes) c.writes.level own c.tree
   pub simple : IsSimple 65536 c.tree
   pub graph : IsGraphOf c.writes c.edges
   pub closure : IsClosure c.edges (depth_of_write c.writes) c.closure
-  pub cycles : All (IsCycle (depth_of_read c.writes) c.edges) c.cycles
+  pub cycles : All (IsCycle c.writes.vars c.edges) c.cycles
 
--- a write of the read's array by one of so many statements from this number on, at this level before the read:
--- that of a common loop, or the one behind them
-pub record IsOfLevel (r : Read) (number count level : ℕ) (within : Bool) (u : Occurrence)
-    : Type 0 where
-  pub named : named_write r.nest.now (reading_of r) u.number ≡ Some u
-  pub first : number ≤ u.number
-  pub last : u.number < number + count
-  pub has : HasLevel (reading_of r) u level
-  pub within_is : nat_lt level (common_of u (reading_of r)) ≡ within
+-- the level is one before the read: that of a common loop, or the one behind them
+pub record IsOfLevel (o : ReadAndWrite) (level : ℕ) (within : Bool) : Type 0 where
+  pub has : HasLevel o.read o.write level
+  pub within_is : nat_lt level (common_of o.write o.read) ≡ within
 
 -- a candidate of this writer and level is there
 abbrev pub HasCandidate : ℕ → ℕ → List Candidate → Type 0
 HasCandidate u p candidates =
     (c : Candidate) × IsAmong c candidates × IsTrue (is_candidate_of u p c)
 
--- the candidates of one level were added, those of these writers, and nothing that is no candidate
-pub record AddsLevel (r : Read) (number count level : ℕ) (within : Bool)
+-- the candidates of one level were added, those of these problems, and nothing that is no candidate
+pub record AddsLevel (r : Read) (problems : List Problem) (level : ℕ) (within : Bool)
     (old new : List Candidate) : Type 0 where
   pub each : All (IsCandidate r) old → All (IsCandidate r) new
   pub kept : (u p : ℕ) → HasCandidate u p old → HasCandidate u p new
-  pub more : (u : Occurrence) → IsOfLevel r number count level within u
-      → HasCandidate u.number level new
-  pub few : length new ≤ length old + count
+  pub more : All (λ o. IsOfLevel o level within → HasCandidate o.write.number level new)
+      (pairs_with r problems)
+  pub few : length new ≤ length old + length problems
 
--- candidates of a read, one for each writer and level
+-- candidates of a read, one for each write and level
 pub record AreCandidates (r : Read) (candidates : List Candidate) : Type 0 where
   pub each : All (IsCandidate r) candidates
-  pub every : (u : Occurrence) (p : ℕ) → named_write r.nest.now (reading_of r) u.number ≡ Some u
-      → HasLevel (reading_of r) u p
-      → HasCandidate u.number p candidates
+  pub every : (o : ReadAndWrite) (p : ℕ) → Contains (pairs_of r) o → HasLevel o.read o.write p
+      → HasCandidate o.write.number p candidates
   pub few : length candidates ≤ 896

@@ -1,17 +1,12 @@
--- Contexts of the joined tree, and what a tree is there.
+-- Contexts of the joined tree.
 use Rattle.std.specs.Prelude.{◌≡◌, ◌≤◌, ◌^◌, ℕ, ◌+◌, length, All, Some}
 use Rattle.int_polyhedra.specs.declared.system.System.{System}
 use Rattle.int_polyhedra.specs.Systems.{AreOver}
-use Rattle.candidate_order.specs.Candidates.{reading_of}
-use Rattle.candidate_order.specs.declared.candidates.Read.{Read}
 use Rattle.row_sums.specs.Parts.{IsWithin}
-use Rattle.source_tree.specs.Checked.{IsCheckedIn}
 use Rattle.source_tree.specs.Rows.{row_forms}
-use Rattle.source_tree.specs.Systems.{Context, every}
-use Rattle.source_tree.specs.declared.tree.Tree.{Tree}
+use Rattle.source_tree.specs.Systems.{Context}
 
--- Rows over the reader's loop variables, and behind them quotients, with small numbers. There is room for
--- so many rows more.
+-- Rows over so many variables with small numbers. There is room for so many rows more.
 pub record IsPathContext (vars room : ℕ) (context : System) : Type 0 where
   pub vars_are : context.vars ≡ vars
   pub over : AreOver context.vars context.rows
@@ -22,8 +17,3 @@ pub record IsPathContext (vars room : ℕ) (context : System) : Type 0 where
 pub record IsMadeAs (context : System) (c : Context) : Type 0 where
   pub vars : c.vars ≡ context.vars
   pub rows : row_forms c.vars c.rows ≡ Some context.rows
-
--- the tree is checked for all writers and levels, in each context that is made as these rows
-abbrev pub IsJoinedTree : Read → System → Tree → Type 0
-IsJoinedTree r context tree =
-    (c : Context) → IsMadeAs context c → IsCheckedIn r.nest.now (reading_of r) every c tree

@@ -2,7 +2,9 @@ pub mod Absence
 pub mod Candidates
 pub mod Comparisons
 pub mod Contexts
+pub mod Joint
 pub mod Orders
 pub mod Positions
+pub mod Reads
 pub mod Refutations
 pub mod Seen

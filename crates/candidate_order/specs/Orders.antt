@@ -3,6 +3,7 @@ use Rattle.std.specs.Prelude.{◌≡◌, ◌≤◌, ◌<◌, ℕ, ◌+◌, negsu
 use Rattle.affine_core.specs.declared.form.Form.{Form}
 use Rattle.int_polyhedra.specs.declared.system.System.{System}
 use Rattle.int_polyhedra.specs.declared.system.Term.{Term}
+use Rattle.candidate_order.specs.Reads.{StandsInLoopsOf}
 use Rattle.candidate_order.specs.declared.order.Equality.{Equality}
 use Rattle.candidate_order.specs.declared.order.Order.{Order}
 use Rattle.lex_max.specs.Closed.{number_parts}
@@ -51,11 +52,11 @@ DecidesAt context most u w z y l None = (l ≡ common_of u w) × (u.number ≤ w
 abbrev pub turned_equal : List Equality → List Equality
 turned_equal equal = map (λ e. record { above = e.below; below = e.above }) equal
 
--- the statements of three writes of a nest
+-- three writes in the loops of a nest
 pub record AreWritesOf (n : Nest) (u v w : Occurrence) : Type 0 where
-  pub first : slice_get n.statements u.number ≡ Some u.statement
-  pub second : slice_get n.statements v.number ≡ Some v.statement
-  pub third : slice_get n.statements w.number ≡ Some w.statement
+  pub first : StandsInLoopsOf n u
+  pub second : StandsInLoopsOf n v
+  pub third : StandsInLoopsOf n w
 
 -- point z of writer u stands before point y of writer w
 pub record IsOrder (context : System) (most : ℕ) (u w : Occurrence) (z y : List Form)

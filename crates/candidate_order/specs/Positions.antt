@@ -5,19 +5,20 @@ use Rattle.affine_core.specs.declared.form.Form.{Form}
 use Rattle.int_polyhedra.specs.declared.system.Proof.{Proof}
 use Rattle.int_polyhedra.specs.declared.system.System.{System}
 use Rattle.int_polyhedra.specs.declared.system.Term.{Term}
-use Rattle.candidate_order.specs.Candidates.{reading_of, IsCandidate}
+use Rattle.candidate_order.specs.Candidates.{IsCandidate}
+use Rattle.candidate_order.specs.Joint.{orders_behind}
 use Rattle.candidate_order.specs.declared.candidates.Candidate.{Candidate}
 use Rattle.candidate_order.specs.declared.candidates.Read.{Read}
 use Rattle.candidate_order.specs.declared.seen.Position.{Position}
-use Rattle.lex_max.specs.Asked.{write_of}
+use Rattle.lex_max.specs.Asked.{read_of, write_of}
 use Rattle.lex_max.specs.Edges.{AreLevelRows}
 use Rattle.lex_max.specs.Facts.{form_parts, IsFact}
 use Rattle.lex_max.specs.Paths.{term_of}
 use Rattle.lex_max.specs.Simple.{IsLightSum, IsSimple}
-use Rattle.source_tree.specs.Checked.{IsCheckedIn, IsRefuted}
-use Rattle.source_tree.specs.Places.{before_rows}
+use Rattle.lex_max.specs.Systems.{IsCheckedFor}
+use Rattle.source_tree.specs.Checked.{IsRefuted}
 use Rattle.source_tree.specs.Rows.{RowExpr, row_forms}
-use Rattle.source_tree.specs.Systems.{Context, Occurrence, just, with_rows, with_write_at, writer_place}
+use Rattle.source_tree.specs.Systems.{Context, with_rows, with_write_at, writer_place}
 use Rattle.source_tree.specs.declared.tree.Tree.{Tree}
 use Rattle.source_tree.specs.declared.tree.Tree.TheVariants.{Writer, Zero}
 
@@ -25,16 +26,15 @@ use Rattle.source_tree.specs.declared.tree.Tree.TheVariants.{Writer, Zero}
 abbrev pub own_sums : ℕ → ℕ → List (List Term)
 own_sums first count = map (λ row. term_of row ∷ []) (range_with_len first count)
 
--- The node is checked for a candidate's writer and level in a context of the candidate's own, whose rows
--- are shown in the joined context.
-pub record IsNode (r : Read) (context : System) (c : Candidate) (node : Tree)
-    (sums : List (List Term)) : Type 0 where
+-- The node is checked for a candidate's writes in a context of the candidate's own, whose rows are shown in
+-- the joined context.
+pub record IsNode (context : System) (c : Candidate) (node : Tree) (sums : List (List Term))
+    : Type 0 where
   pub own : Context
   pub made : List Form
   pub vars : own.vars ≡ context.vars
   pub are_made : row_forms own.vars own.rows ≡ Some made
-  pub checked : IsCheckedIn r.nest.now (reading_of r)
-      (just c.writes.write.number c.writes.level) own node
+  pub checked : IsCheckedFor (read_of c.writes) (write_of c.writes) c.writes.level own node
   pub shown : AllZip (λ row ts. IsFact context 65536 (form_parts row) ts) made sums
   pub tests : ℕ
   pub simple : IsSimple tests node
@@ -43,12 +43,7 @@ pub record IsNode (r : Read) (context : System) (c : Candidate) (node : Tree)
 -- a node of a candidate of the read
 pub record IsAt (r : Read) (context : System) (at : Position) : Type 0 where
   pub candidate : IsCandidate r at.candidate.now
-  pub node : IsNode r context at.candidate.now at.node.now at.rows
-
--- per level of order the order rows of a place of a writer before its point in a context
-abbrev pub own_orders : Occurrence → List Form → Context → List (List RowExpr)
-own_orders u place c =
-    before_rows u.number u.statement place u.number u.statement (writer_place c u)
+  pub node : IsNode context at.candidate.now at.node.now at.rows
 
 -- the position is a Zero leaf
 abbrev pub IsEmptyAt : Position → Type 0
@@ -60,12 +55,13 @@ IsPointAt at place =
     (proofs : List Proof) × (at.node.now ≡ Writer at.candidate.now.writes.write.number place proofs)
 
 -- The proof of the leaf of a position that none of its candidate's writes stands after its point at this level.
-pub record IsOwnProof (r : Read) (context : System) (at : Position) (place : List Form) (level : ℕ)
+pub record IsOwnProof (context : System) (at : Position) (place : List Form) (level : ℕ)
     (proof : Proof) : Type 0 where
   pub light : IsLightSum proof
-  pub refuted : (h : IsNode r context at.candidate.now at.node.now at.rows)
-      (rows order : List RowExpr) → AreLevelRows (reading_of r) (write_of at.candidate.now.writes)
+  pub refuted : (h : IsNode context at.candidate.now at.node.now at.rows) (rows order : List RowExpr)
+      → AreLevelRows (read_of at.candidate.now.writes) (write_of at.candidate.now.writes)
       at.candidate.now.writes.level (writer_place h.own (write_of at.candidate.now.writes)) rows
-      → slice_get (own_orders (write_of at.candidate.now.writes) place h.own) level ≡ Some order
-      → IsRefuted (with_rows (with_write_at (reading_of r) h.own
+      → slice_get (orders_behind (write_of at.candidate.now.writes) place h.own
+      (write_of at.candidate.now.writes)) level ≡ Some order
+      → IsRefuted (with_rows (with_write_at (read_of at.candidate.now.writes) h.own
       (write_of at.candidate.now.writes)) (rows ++ order)) proof

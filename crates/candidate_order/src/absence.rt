@@ -4,9 +4,10 @@ ghost use Rattle.candidate_order.specs.Absence.{AddsOrderEdges, AreBack, AreOut,
 ghost use Rattle.candidate_order.specs.Candidates.{IsCandidate};
 ghost use Rattle.candidate_order.specs.Comparisons.{AreForms};
 ghost use Rattle.candidate_order.specs.Contexts.{IsPathContext};
+ghost use Rattle.candidate_order.specs.Reads.{pair_of};
 ghost use Rattle.candidate_order.specs.Refutations.{IsPointIn, RefutesBetween};
 ghost use Rattle.lex_max.specs.Answer.{IsCycle};
-ghost use Rattle.lex_max.specs.Asked.{depth_of_read, write_of};
+ghost use Rattle.lex_max.specs.Asked.{write_of};
 ghost use Rattle.lex_max.specs.Facts.{IsContext};
 ghost use Rattle.lex_max.specs.Level.{common_of};
 ghost use Rattle.lex_max.specs.Paths.{terms_from};
@@ -65,7 +66,7 @@ pub fn absence_of(
     candidate: &Candidate,
 ) -> Result<Option<Items<Term>>, AllocError>
     requires candidate { (r : ReadOf) × IsCandidate r candidate.now }
-    requires context { IsPathContext (depth_of_read candidate.now.writes) 0 context.now }
+    requires context { IsPathContext candidate.now.writes.vars 0 context.now }
     ensures { IfOk result
         (λ found. IfSome found (IsContradicted context.now candidate.now.edges)) }
 {
@@ -274,8 +275,8 @@ fn by_orders(
 ) -> Result<Option<Items<Term>>, AllocError>
     requires candidate { (r : ReadOf) × IsCandidate r candidate.now }
     requires bounds { candidate.now.closure ≡ Closure.Closed bounds.now }
-    requires context { IsPathContext (depth_of_read candidate.now.writes) 0 context.now }
-    requires orders { All (IsNearEdge (depth_of_read candidate.now.writes)) orders.now }
+    requires context { IsPathContext candidate.now.writes.vars 0 context.now }
+    requires orders { All (IsNearEdge candidate.now.writes.vars) orders.now }
     requires few { length orders.now ≤ 13 }
     ensures { IfOk result (λ found. IfSome found
         (IsContradicted context.now (candidate.now.edges ++ orders.now))) }
@@ -313,13 +314,13 @@ pub fn exclusion(
     within: bool,
 ) -> Result<Option<Items<Term>>, AllocError>
     requires candidate { (r : ReadOf) × IsCandidate r candidate.now }
-    requires context { IsPathContext (depth_of_read candidate.now.writes) 0 context.now }
-    requires place { (r : ReadOf) × (w : Occurrence) × IsPointIn context.now r w place.now }
+    requires context { IsPathContext candidate.now.writes.vars 0 context.now }
+    requires place { (w : Occurrence) × IsPointIn context.now w place.now }
     requires level { level ≤ 6 }
     ensures { IfOk result (λ found. IfSome found (λ ts. (r : ReadOf) (w : Occurrence)
-        → IsCandidate r candidate.now → IsPointIn context.now r w place.now
+        → IsCandidate r candidate.now → IsPointIn context.now w place.now
         → within ≡ nat_lt level (common_of w (write_of candidate.now.writes))
-        → RefutesBetween r context.now (write_of candidate.now.writes) candidate.now.writes.level
+        → RefutesBetween (pair_of candidate.now.writes) context.now candidate.now.writes.level
         w place.now level (Sum ts))) }
 {
     let Closure::Closed(bounds) = &candidate.closure else {

@@ -1,28 +1,39 @@
-ghost use Rattle.std.specs.Prelude.{◌≡◌, ◌≤◌, ◌+◌, length, drop, All, None, Some, MatchOption, IfOk, OnOk};
+ghost use Rattle.std.specs.Prelude.{◌≡◌, length, All, Contains, IfOk, OnOk};
 ghost use Rattle.lex_max.specs.Answer.{IsCycle};
-ghost use Rattle.lex_max.specs.Asked.{depth_of_read, depth_of_write, occurrence_of};
+ghost use Rattle.lex_max.specs.Asked.{depth_of_write, occurrence_of, read_of, write_of, IsAsked};
 ghost use Rattle.lex_max.specs.Closed.{IsClosure};
 ghost use Rattle.lex_max.specs.Level.{HasLevel};
 ghost use Rattle.lex_max.specs.Rounds.{IsGraphOf};
-ghost use Rattle.candidate_order.specs.Candidates.{is_candidate_of, levels_before, reading_of, AddsLevel, AreCandidates, IsCandidate, IsJoined};
-ghost use Rattle.source_tree.specs.Systems.{named_write, write_to as write_of, Occurrence};
+ghost use Rattle.candidate_order.specs.Candidates.{is_candidate_of, levels_before, AddsLevel, AreCandidates, IsCandidate};
+ghost use Rattle.candidate_order.specs.Reads.{read_in, write_in, IsJoined};
 
+use affine_core::{Form, Row};
+use int_polyhedra::System;
 use lex_max::{
-    Closure, Cycle, Edge, Graph, Reference, Writes, candidate as tree_of, closure_of, common_loops,
-    cycles_of, edges_of, writes_of,
+    Closure, Cycle, Edge, Graph, Reference, Writes, closure_of, common_loops, cycles_of, edges_of,
+    tree_of,
 };
 use plain_data::Items;
-use sanlp::{Nest, Statement};
 use source_tree::Tree;
 use std::alloc::{AllocError, Global};
 
-/// A read.
+/// A write of a read's array, told by differences over the variables of the read's context: `rows` are the writer's domain
+/// rows and `write_forms` its subscripts, over its loops, and `read_forms` those of the read, over the variables.
+#[derive(Clone, Copy)]
+pub struct Problem<'a> {
+    pub write: Reference<'a>,
+    pub rows: &'a [Row],
+    pub write_forms: &'a [Form],
+    pub read_forms: &'a [Form],
+}
+
+/// A read, the context in which its candidates are joined, and the writes of its array, one after the other in the text.
 #[derive(Clone, Copy)]
 pub struct Read<'a> {
     pub alloc: Global,
-    pub nest: &'a Nest,
     pub reference: Reference<'a>,
-    pub number: u32,
+    pub context: &'a System,
+    pub problems: &'a [Problem<'a>],
 }
 
 /// The writes of one statement to the read's cell at one level of order before the read: the tree of the greatest one, the
@@ -59,28 +70,10 @@ pub fn level_count(first: &Reference, second: &Reference) -> usize
     }
 }
 
-/// The statement's write, if it writes this array.
-pub fn write_to<'a>(array: u32, number: u32, statement: &'a Statement) -> Option<Reference<'a>>
-    ensures { MatchOption result (write_of array number statement.now ≡ None)
-        (λ r. write_of array number statement.now ≡ Some (occurrence_of r)) }
-{
-    let Some(access) = &statement.write else {
-        return None;
-    };
-    if access.array != array {
-        return None;
-    }
-    Some(Reference {
-        number,
-        statement,
-        access,
-    })
-}
-
 fn cycles_in(writes: &Writes, edges: &[Edge], closure: &Closure) -> Result<Items<Cycle>, AllocError>
     requires graph { IsGraphOf writes.now edges.now }
     requires closure { IsClosure edges.now (depth_of_write writes.now) closure.now }
-    ensures { IfOk result (All (IsCycle (depth_of_read writes.now) edges.now)) }
+    ensures { IfOk result (All (IsCycle writes.now.vars edges.now)) }
 {
     match closure {
         Closure::Closed(bounds) => cycles_of(writes, &Graph { edges, bounds }),
@@ -88,21 +81,48 @@ fn cycles_in(writes: &Writes, edges: &[Edge], closure: &Closure) -> Result<Items
     }
 }
 
-fn candidate_of<'a>(read: &Read<'a>, writer: u32, level: u32) -> Result<Candidate<'a>, AllocError>
+// The writes of a problem at one level before the read.
+fn writes_at<'a>(read: &Read<'a>, problem: &Problem<'a>, level: usize) -> Writes<'a>
+    requires asked { HasLevel (read_in read.now problem.now) (write_in problem.now) level }
     requires joined { IsJoined read.now }
-    requires asked { (u : Occurrence)
-        × (named_write read.now.nest.now (reading_of read.now) writer ≡ Some u)
-        × HasLevel (reading_of read.now) u level }
+    requires problem { Contains read.now.problems.now problem.now }
+    ensures asked { IsAsked result }
+    ensures vars { result.vars ≡ read.now.context.now.vars }
+    ensures read { read_of result ≡ read_in read.now problem.now }
+    ensures write { write_of result ≡ write_in problem.now }
+    ensures level { result.level ≡ level }
+{
+    let loops = problem.write.statement.loops.as_slice();
+    Writes {
+        alloc: read.alloc,
+        vars: read.context.vars as usize,
+        read: read.reference,
+        write: problem.write,
+        rows: problem.rows,
+        write_forms: problem.write_forms,
+        read_forms: problem.read_forms,
+        common: common_loops(loops, read.reference.statement.loops.as_slice()),
+        level,
+    }
+}
+
+fn candidate_of<'a>(
+    read: &Read<'a>,
+    problem: &Problem<'a>,
+    level: usize,
+) -> Result<Candidate<'a>, AllocError>
+    requires joined { IsJoined read.now }
+    requires problem { Contains read.now.problems.now problem.now }
+    requires asked { HasLevel (read_in read.now problem.now) (write_in problem.now) level }
     ensures candidate { IfOk result (IsCandidate read.now) }
-    ensures writer { IfOk result (λ c. c.writes.write.number ≡ writer) }
+    ensures writer { IfOk result (λ c. c.writes.write.number ≡ problem.now.write.number) }
     ensures level { IfOk result (λ c. c.writes.level ≡ level) }
 {
-    let (alloc, nest, statement) = (read.alloc, read.nest, read.reference.number);
-    let writes = writes_of(alloc, nest, statement, read.number, writer, level);
+    let writes = writes_at(read, problem, level);
     let edges = edges_of(&writes)?;
-    let closure = closure_of(alloc, edges.as_slice(), writes.depth())?;
+    let closure = closure_of(read.alloc, edges.as_slice(), writes.depth())?;
     let cycles = cycles_in(&writes, edges.as_slice(), &closure)?;
-    let tree = tree_of(alloc, nest, statement, read.number, writer, level)?;
+    let tree = tree_of(&writes, read.context)?;
     Ok(Candidate {
         writes,
         tree,
@@ -112,40 +132,34 @@ fn candidate_of<'a>(read: &Read<'a>, writer: u32, level: u32) -> Result<Candidat
     })
 }
 
-// Adds the candidates of these writers at one level, of those that have the reader in the loop of the level, or of the
-// others. The first statement has this number; the last one comes first.
+// Adds the candidates of these problems at one level, of those that have the reader in the loop of the level, or of the
+// others. The last one comes first.
 fn push_level<'a>(
     candidates: &mut Items<Candidate<'a>>,
     read: &Read<'a>,
-    statements: &[Statement],
-    number: u32,
-    level: u32,
+    problems: &[Problem<'a>],
+    level: usize,
     within: bool,
 ) -> Result<(), AllocError>
     requires joined { IsJoined read.now }
-    requires rest { drop number read.now.nest.now.statements ≡ statements.now }
-    requires count { number + length statements.now ≤ 64 }
-    ensures { OnOk result (AddsLevel read.now number (length statements.now) level within
-        candidates.old candidates.new) }
+    requires problems { All (Contains read.now.problems.now) problems.now }
+    ensures { OnOk result (AddsLevel read.now problems.now level within candidates.old
+        candidates.new) }
 {
-    let Some((statement, statements)) = statements.split_first() else {
+    let Some((problem, problems)) = problems.split_first() else {
         return Ok(());
     };
-    push_level(candidates, read, statements, number + 1, level, within)?;
-    let Some(write) = write_to(read.reference.access.array, number, statement) else {
-        return Ok(());
-    };
-    let loops = write.statement.loops.as_slice();
+    push_level(candidates, read, problems, level, within)?;
+    let loops = problem.write.statement.loops.as_slice();
     let common = common_loops(loops, read.reference.statement.loops.as_slice());
-    let at = level as usize;
-    if at >= level_count(&write, &read.reference) {
+    if level >= level_count(&problem.write, &read.reference) {
         return Ok(());
     }
-    let inside = at < common;
+    let inside = level < common;
     if inside != within {
         return Ok(());
     }
-    candidates.push(candidate_of(read, number, level)?)
+    candidates.push(candidate_of(read, problem, level)?)
 }
 
 /// The candidates of a read, those of the deepest level first. Of one level those within its loop come first, and then
@@ -155,10 +169,9 @@ pub fn candidates_of<'a>(read: &Read<'a>) -> Result<Items<Candidate<'a>>, AllocE
     ensures { IfOk result (AreCandidates read.now) }
 {
     let mut candidates = Items::new(read.alloc);
-    let statements = read.nest.statements.as_slice();
     for outer in 0..7 {
-        push_level(&mut candidates, read, statements, 0, 6 - outer, true)?;
-        push_level(&mut candidates, read, statements, 0, 6 - outer, false)?;
+        push_level(&mut candidates, read, read.problems, 6 - outer, true)?;
+        push_level(&mut candidates, read, read.problems, 6 - outer, false)?;
     }
     Ok(candidates)
 }

@@ -1,5 +1,6 @@
 ghost use Rattle.std.specs.Prelude.{◌≡◌, ◌<◌, ◌+◌, ◌^◌, ◌++◌, List, IfOk, OnOk};
 ghost use Rattle.int_polyhedra.specs.declared.system.Term.{Term as TermOf};
+ghost use Rattle.candidate_order.specs.Joint.{IsSum};
 ghost use Rattle.candidate_order.specs.Positions.{own_sums};
 ghost use Rattle.row_sums.specs.Carried.{carried_terms, sum_in_place, CarryFits};
 
@@ -64,8 +65,9 @@ pub fn places(
 /// The proof, where each row of its system has these terms in its place. A candidate's proofs are Sums.
 pub fn carried(alloc: Global, sums: &[Items<Term>], proof: &Proof) -> Result<Proof, AllocError>
     requires { (ts : List TermOf) × (proof.now ≡ Proof.Sum ts) × CarryFits sums.now ts }
-    ensures { IfOk result (λ carried. (ts : List TermOf) → proof.now ≡ Proof.Sum ts
+    ensures terms { IfOk result (λ carried. (ts : List TermOf) → proof.now ≡ Proof.Sum ts
         → carried ≡ Proof.Sum (carried_terms (sum_in_place sums.now) ts)) }
+    ensures sum { IfOk result IsSum }
 {
     match proof {
         Proof::Sum(terms) => Ok(Proof::Sum(carry(alloc, sums, terms.as_slice())?)),

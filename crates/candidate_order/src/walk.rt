@@ -1,6 +1,5 @@
 ghost use Rattle.std.specs.Prelude.{IfOk};
 ghost use Rattle.candidate_order.specs.declared.candidates.Candidate.{Candidate as CandidateOf};
-ghost use Rattle.candidate_order.specs.declared.candidates.Read.{Read as ReadOf};
 ghost use Rattle.candidate_order.specs.Positions.{IsNode};
 ghost use Rattle.lex_max.specs.Facts.{IsContext};
 
@@ -25,9 +24,9 @@ pub fn follow<'a>(
     mut rows: Items<Items<Term>>,
 ) -> Result<Followed<'a>, AllocError>
     requires context { IsContext context.now }
-    requires node { (r : ReadOf) × (c : CandidateOf) × IsNode r context.now c node.now rows }
-    ensures { IfOk result (λ to. (r : ReadOf) (c : CandidateOf)
-        → IsNode r context.now c node.now rows → IsNode r context.now c to.node.now to.rows) }
+    requires node { (c : CandidateOf) × IsNode context.now c node.now rows }
+    ensures { IfOk result (λ to. (c : CandidateOf)
+        → IsNode context.now c node.now rows → IsNode context.now c to.node.now to.rows) }
 {
     let Tree::Test(form, yes, no) = node else {
         return Ok(Followed { node, rows });

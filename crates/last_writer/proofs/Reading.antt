@@ -7,10 +7,6 @@ use Rattle.std.specs.Prelude.{Option, Some, None, IsTrue, slice_get, ◌↔◌}
 use Rattle.std.specs.List.{list_all}
 use Rattle.std.specs.Option.{option_and_then, option_map, option_map_or}
 use Rattle.std.proofs.lemmas.Option.{option_and_then_some, same_Some}
-use Rattle.candidate_order.specs.Candidates.{reading_of, IsJoined}
-use Rattle.candidate_order.specs.Contexts.{IsJoinedTree, IsMadeAs}
-use Rattle.candidate_order.specs.declared.candidates.Read.{Read}
-use Rattle.int_polyhedra.specs.declared.system.System.{System}
 use Rattle.lex_max.specs.Class.{writes_differences, IsInDifferenceClass}
 use Rattle.sanlp.specs.declared.nest.Access.{Access}
 use Rattle.sanlp.specs.declared.nest.Nest.{Nest}
@@ -20,7 +16,7 @@ use Rattle.sanlp.specs.Access.{read_count}
 use Rattle.source_check.proofs.Exactness.{checked_is_exact}
 use Rattle.source_tree.specs.Checked.{IsChecked}
 use Rattle.source_tree.specs.Exact.{IsExact}
-use Rattle.source_tree.specs.Systems.{Occurrence, array_writes, read_at, root_context, with_write, write_to}
+use Rattle.source_tree.specs.Systems.{Occurrence, array_writes, read_at, with_write, write_to}
 use Rattle.source_tree.specs.Systems.{writes_from}
 use Rattle.source_tree.specs.declared.tree.Tree.{Tree}
 
@@ -104,15 +100,6 @@ differences_some array u s statements w is =
     ap (λ o. list_all writes_differences (with_write o (writes_from array (u + 1) statements))) is
 
 -- The whole tree
-
-pub checked_tree : (r : Read) (context : System) (tree : Tree) (n : Nest) (s k : ℕ) → IsJoined r → r.nest.now ≡ n
-    → r.reference.number ≡ s → r.number ≡ k → IsMadeAs context (root_context (reading_of r))
-    → IsJoinedTree r context tree → IsChecked n s k tree
-checked_tree r context tree n s k h nest_is statement_is number_is made is =
-    subst (λ n. IsChecked n s k tree) nest_is
-    (subst (λ s. IsChecked r.nest.now s k tree) statement_is
-    (subst (λ k. IsChecked r.nest.now r.reference.number k tree) number_is
-    (reading_of r, h.reader, is (root_context (reading_of r)) made)))
 
 pub exact_of : (n : Nest) (s k : ℕ) (tree : Tree) → IsChecked n s k tree → IsExact n s k tree
 exact_of n s k tree checked = checked_is_exact n s k tree (enumerates_domains n) checked

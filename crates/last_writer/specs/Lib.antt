@@ -1,3 +1,1 @@
-pub mod Ending
-pub mod Joining
-pub mod Leaves
+pub mod Written

@@ -1,67 +1,47 @@
-ghost use Rattle.std.specs.Prelude.{◌≡◌, ◌≤◌, ◌^◌, length, IfOk, IfSome};
-ghost use Rattle.std.specs.List.{range_with_len};
-ghost use Rattle.candidate_order.specs.Candidates.{reading_of, IsJoined};
-ghost use Rattle.candidate_order.specs.Contexts.{IsMadeAs, IsPathContext};
+ghost use Rattle.std.specs.Prelude.{◌≡◌, ◌≤◌, ◌<◌, ◌+◌, ◌^◌, ◌++◌, length, None, Some, MatchOption, IfOk, IfSome, OnOk};
+ghost use Rattle.candidate_order.specs.declared.candidates.Read.{Read as ReadOf};
+ghost use Rattle.candidate_order.specs.Reads.{pair_in, pairs_with};
+ghost use Rattle.last_writer.specs.Written.{read_with};
+ghost use Rattle.lex_max.specs.Asked.{occurrence_of};
 ghost use Rattle.lex_max.specs.Class.{IsInDifferenceClass};
 ghost use Rattle.source_tree.specs.Checked.{IsChecked};
 ghost use Rattle.source_tree.specs.Exact.{IsExact};
-ghost use Rattle.source_tree.specs.Systems.{root_context};
+ghost use Rattle.source_tree.specs.Systems.{read_at, writes_from, write_to as write_of};
 
-use crate::join::{State, Unmade, step};
 use affine_core::Row;
-use candidate_order::{Read, Seen, candidates_of};
+use candidate_join::{Unmade, join};
+use candidate_order::{Problem, Read};
 use int_polyhedra::System;
 use lex_max::Reference;
 use plain_data::Items;
-use sanlp::Nest;
+use sanlp::{Nest, Statement};
 use source_tree::Tree;
 use std::alloc::{AllocError, Global};
 
 // The room for one tree: so many nodes.
 const NODES: u64 = 1_024;
 
-fn numbers(alloc: Global, count: usize) -> Result<Items<u32>, AllocError>
-    requires { count ≤ 896 }
-    ensures { IfOk result (λ numbers. numbers ≡ range_with_len 0 count) }
-{
-    let mut numbers = Items::new(alloc);
-    for number in 0..count {
-        numbers.push(number as u32)?;
-    }
-    Ok(numbers)
-}
-
-fn read_of<'a>(alloc: Global, nest: &'a Nest, statement: u32, read: u32) -> Read<'a>
+fn reference_of<'a>(nest: &'a Nest, statement: u32, read: u32) -> Reference<'a>
     requires { IsInDifferenceClass nest.now statement read }
-    ensures joined { IsJoined result }
-    ensures nest { result.nest.now ≡ nest.now }
-    ensures number { result.number ≡ read }
-    ensures statement { result.reference.number ≡ statement }
+    ensures { read_at nest.now statement read ≡ Some (occurrence_of result) }
 {
     let reader = nest.statement(statement);
-    Read {
-        alloc,
-        nest,
-        reference: Reference {
-            number: statement,
-            statement: reader,
-            access: &reader.reads.as_slice()[read as usize],
-        },
-        number: read,
+    Reference {
+        number: statement,
+        statement: reader,
+        access: &reader.reads.as_slice()[read as usize],
     }
 }
 
 // The reader's domain rows.
-fn root(read: &Read) -> Result<System, AllocError>
-    requires { IsJoined read.now }
-    ensures path { IfOk result
-        (IsPathContext (length (reading_of read.now).statement.loops) (2 ^ 30)) }
-    ensures made { IfOk result (λ context. IsMadeAs context (root_context (reading_of read.now))) }
-    ensures rows { IfOk result (λ context. context.rows ≡ (reading_of read.now).statement.rows) }
+fn root(alloc: Global, reader: &Statement) -> Result<System, AllocError>
+    requires { length reader.now.loops < 2 ^ 32 }
+    ensures { IfOk result (λ context. context
+        ≡ record { vars = length reader.now.loops; rows = reader.now.rows }) }
 {
     Ok(System {
-        vars: read.reference.statement.loops.len() as u32,
-        rows: copy_rows(read.alloc, read.reference.statement.rows.as_slice())?,
+        vars: reader.loops.len() as u32,
+        rows: copy_rows(alloc, reader.rows.as_slice())?,
     })
 }
 
@@ -73,6 +53,80 @@ fn copy_rows(alloc: Global, rows: &[Row]) -> Result<Items<Row>, AllocError>
         copies.push(row.copy())?;
     }
     Ok(copies)
+}
+
+/// The statement's write, if it writes this array.
+pub fn write_to<'a>(array: u32, number: u32, statement: &'a Statement) -> Option<Reference<'a>>
+    ensures { MatchOption result (write_of array number statement.now ≡ None)
+        (λ r. write_of array number statement.now ≡ Some (occurrence_of r)) }
+{
+    let Some(access) = &statement.write else {
+        return None;
+    };
+    if access.array != array {
+        return None;
+    }
+    Some(Reference {
+        number,
+        statement,
+        access,
+    })
+}
+
+// A write with its own domain rows and subscripts, and the read with its own.
+fn problem_of<'a>(read: &Reference<'a>, write: &Reference<'a>) -> Problem<'a>
+    ensures { (r : ReadOf) → r.reference ≡ read.now
+        → pair_in r result ≡ record { read = occurrence_of read.now; write = occurrence_of write.now } }
+{
+    Problem {
+        write: *write,
+        rows: write.statement.rows.as_slice(),
+        write_forms: write.access.subscripts.as_slice(),
+        read_forms: read.access.subscripts.as_slice(),
+    }
+}
+
+// Adds the writes of these statements to the array that is read. The first statement has this number.
+fn push_problems<'a>(
+    problems: &mut Items<Problem<'a>>,
+    read: &Reference<'a>,
+    statements: &'a [Statement],
+    number: u32,
+) -> Result<(), AllocError>
+    requires { number + length statements.now < 2 ^ 32 }
+    ensures { OnOk result ((r : ReadOf) → r.reference ≡ read.now
+        → pairs_with r problems.new ≡ pairs_with r problems.old ++ read_with (occurrence_of read.now)
+        (writes_from read.now.access.now.array number statements.now)) }
+{
+    let Some((statement, statements)) = statements.split_first() else {
+        return Ok(());
+    };
+    match write_to(read.access.array, number, statement) {
+        Some(write) => {
+            problems.push(problem_of(read, &write))?;
+            push_problems(problems, read, statements, number + 1)
+        }
+        None => push_problems(problems, read, statements, number + 1),
+    }
+}
+
+// The read with these problems, in this context.
+fn read_of<'a>(
+    alloc: Global,
+    reference: Reference<'a>,
+    context: &'a System,
+    problems: &'a [Problem<'a>],
+) -> Read<'a>
+    ensures reference { result.reference ≡ reference.entry }
+    ensures context { result.context.now ≡ context.now }
+    ensures problems { result.problems.now ≡ problems.now }
+{
+    Read {
+        alloc,
+        reference,
+        context,
+        problems,
+    }
 }
 
 /// The tree of `source_of`, with room for so many nodes. `None` tells that the tree made here would
@@ -89,20 +143,13 @@ pub fn source_within(
     requires room { nodes ≤ 2 ^ 30 }
     ensures { IfOk result (λ tree. IfSome tree (IsChecked nest.now statement read)) }
 {
-    let read = read_of(alloc, nest, statement, read);
-    let candidates = candidates_of(&read)?;
-    let left = numbers(alloc, candidates.len())?;
-    let context = root(&read)?;
-    let state = State {
-        read: &read,
-        candidates: candidates.as_slice(),
-        context: &context,
-        best: None,
-        seen: &Seen::Start,
-        left: left.as_slice(),
-    };
+    let reference = reference_of(nest, statement, read);
+    let context = root(alloc, reference.statement)?;
+    let mut problems = Items::new(alloc);
+    push_problems(&mut problems, &reference, nest.statements.as_slice(), 0)?;
+    let read = read_of(alloc, reference, &context, problems.as_slice());
     let mut room = nodes;
-    let made = step(&state, &mut room);
+    let made = join(&read, &mut room);
     match made {
         Ok(tree) => Ok(Some(tree)),
         Err(Unmade::Large) => Ok(None),

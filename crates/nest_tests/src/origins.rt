@@ -4,8 +4,8 @@
 
 use crate::bound::binding;
 use affine_core::{Form, Vector};
-use candidate_order::{level_count, write_to};
-use last_writer::{in_difference_class, source_of, source_within};
+use candidate_order::level_count;
+use last_writer::{in_difference_class, source_of, source_within, write_to};
 use lex_max::{Reference, candidate};
 use loop_class::Params;
 use loop_walk::{points, size};

@@ -5,8 +5,6 @@ use Rattle.std.proofs.lemmas.Option.{IfSome_then}
 use Rattle.std.proofs.lemmas.Result.{IfOk-weaker}
 use Rattle.candidate_order.specs.Absence.{AddsOrderEdges, IsContradicted, IsNearEdge}
 use Rattle.candidate_order.proofs.Absent.{between_by_orders, between_refuted, path_of}
-use Rattle.candidate_order.proofs.Levels.{few_values}
-use Rattle.lex_max.specs.Asked.{depth_of_read}
 use Rattle.candidate_order.proofs.absence.exclusion.Goals as goal
 
 pub returns-in_default : goal.returns-in_default
@@ -19,18 +17,18 @@ returns-in_default c =
     (path_of r context 0 candidate is c.requires.context) point told)) c.absence_of.ensures
 
 pub push_order_edges-requires-clause-forms : goal.push_order_edges-requires-clause-forms
-push_order_edges-requires-clause-forms c = let p = c.requires.place in (c.args.context.now.vars, p.2.forms)
+push_order_edges-requires-clause-forms c = let p = c.requires.place in (c.args.context.now.vars, p.1.forms)
 
 pub push_order_edges-requires-clause-few : goal.push_order_edges-requires-clause-few
 push_order_edges-requires-clause-few c = let p = c.requires.place
-    in omega (arith, few_values p.0 c.args.context.now p.1 c.args.place.now p.2)
+    in omega (arith, p.1.deep, p.1.few_loops)
 
 pub by_orders-requires-clause-orders : goal.by_orders-requires-clause-orders
 by_orders-requires-clause-orders c =
     let p = c.requires.place in
-    subst (All (IsNearEdge (depth_of_read c.args.candidate.now.writes))) (sym c.as_slice.ensures)
+    subst (All (IsNearEdge c.args.candidate.now.writes.vars)) (sym c.as_slice.ensures)
     (subst (λ v. All (IsNearEdge v) c.push_order_edges.new.edges) c.requires.context.vars_are
-    (c.in_ok-push_order_edges.ensures.each c.args.context.now.vars p.2.forms
+    (c.in_ok-push_order_edges.ensures.each c.args.context.now.vars p.1.forms
     (subst (All (IsNearEdge c.args.context.now.vars)) (sym c.new-orders.ensures) (All-nil _))))
 
 pub by_orders-requires-clause-few : goal.by_orders-requires-clause-few

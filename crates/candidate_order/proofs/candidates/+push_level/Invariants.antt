@@ -2,4 +2,4 @@ use Rattle.std.proofs.Common.{length}
 use Rattle.candidate_order.proofs.candidates.+push_level.Given as goal
 
 abbrev pub decreases-push_level : goal.decreases-push_level
-decreases-push_level l = length l.statements.now
+decreases-push_level l = length l.problems.now

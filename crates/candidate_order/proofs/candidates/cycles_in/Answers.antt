@@ -2,7 +2,7 @@ use Rattle.std.proofs.Common.{sym, subst}
 use Rattle.std.specs.Prelude.{All}
 use Rattle.std.proofs.lemmas.List.Elements.{All-nil}
 use Rattle.lex_max.specs.Answer.{IsCycle}
-use Rattle.lex_max.specs.Asked.{depth_of_read, depth_of_write}
+use Rattle.lex_max.specs.Asked.{depth_of_write}
 use Rattle.lex_max.specs.Closed.{IsClosure}
 use Rattle.candidate_order.proofs.candidates.cycles_in.Goals as goal
 
@@ -15,4 +15,4 @@ returns-in-Closed c = c.cycles_of.ensures.each
 
 pub returns-in-Negative : goal.returns-in-Negative
 returns-in-Negative c =
-    subst (All (IsCycle (depth_of_read c.args.writes.now) c.args.edges.now)) (sym c.new.ensures) (All-nil _)
+    subst (All (IsCycle c.args.writes.now.vars c.args.edges.now)) (sym c.new.ensures) (All-nil _)

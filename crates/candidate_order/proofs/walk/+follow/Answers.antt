@@ -12,24 +12,24 @@ pub opposite-requires : goal.opposite-requires
 opposite-requires t c =
     let n = c.requires.node in
     farther (2 ^ 48) (2 ^ 60) c.in-Test.form (omega arith)
-    (test_within n.0 c.args.context.now n.1 c.args.node.now c.args.rows c.in-Test.form c.in-Test.yes c.in-Test.no
-    c.in-Test.is n.2)
+    (test_within c.args.context.now n.0 c.args.node.now c.args.rows c.in-Test.form c.in-Test.yes c.in-Test.no
+    c.in-Test.is n.1)
 
 pub sign_of-requires-clause-over : goal.sign_of-requires-clause-over
 sign_of-requires-clause-over t c =
     let n = c.requires.node in
-    test_over n.0 c.args.context.now n.1 c.args.node.now c.args.rows c.in-Test.form c.in-Test.yes c.in-Test.no
-    c.in-Test.is n.2
+    test_over c.args.context.now n.0 c.args.node.now c.args.rows c.in-Test.form c.in-Test.yes c.in-Test.no
+    c.in-Test.is n.1
 
 pub sign_of-requires-clause-opposite : goal.sign_of-requires-clause-opposite
 sign_of-requires-clause-opposite t c =
     let n = c.requires.node in
     negation_over c.in-Test.form c.opposite.result
     (farther (2 ^ 48) (2 ^ 60) c.in-Test.form (omega arith)
-    (test_within n.0 c.args.context.now n.1 c.args.node.now c.args.rows c.in-Test.form c.in-Test.yes c.in-Test.no
-    c.in-Test.is n.2)) c.opposite.ensures
-    ∙ test_over n.0 c.args.context.now n.1 c.args.node.now c.args.rows c.in-Test.form c.in-Test.yes c.in-Test.no
-    c.in-Test.is n.2
+    (test_within c.args.context.now n.0 c.args.node.now c.args.rows c.in-Test.form c.in-Test.yes c.in-Test.no
+    c.in-Test.is n.1)) c.opposite.ensures
+    ∙ test_over c.args.context.now n.0 c.args.node.now c.args.rows c.in-Test.form c.in-Test.yes c.in-Test.no
+    c.in-Test.is n.1
 
 pub follow-requires : goal.follow-requires
 follow-requires t c =
@@ -42,11 +42,10 @@ follow-requires t c =
         c.requires.context,
         (
           n.0,
-          n.1,
-          subst (λ node. IsNode n.0 context n.1 node c.push.new.self) (sym c.get.ensures)
-              (subst (IsNode n.0 context n.1 c.in-Test.yes) (sym c.in_ok-push-in-AtLeastZero.ensures.ok)
-              (node_yes n.0 context n.1 c.args.node.now c.args.rows c.in-Test.form c.in-Test.yes c.in-Test.no
-              c.in-Test.is n.2 c.in-AtLeastZero.terms fact)),
+          subst (λ node. IsNode context n.0 node c.push.new.self) (sym c.get.ensures)
+              (subst (IsNode context n.0 c.in-Test.yes) (sym c.in_ok-push-in-AtLeastZero.ensures.ok)
+              (node_yes context n.0 c.args.node.now c.args.rows c.in-Test.form c.in-Test.yes c.in-Test.no
+              c.in-Test.is n.1 c.in-AtLeastZero.terms fact)),
         ),
       ),
     )
@@ -62,11 +61,10 @@ follow-requires-in-BelowZero t c =
         c.requires.context,
         (
           n.0,
-          n.1,
-          subst (λ node. IsNode n.0 context n.1 node c.push-in-BelowZero.new.self) (sym c.get-in-BelowZero.ensures)
-              (subst (IsNode n.0 context n.1 c.in-Test.no) (sym c.in_ok-push-in-BelowZero.ensures.ok)
-              (node_no n.0 context n.1 c.args.node.now c.args.rows c.in-Test.form c.in-Test.yes c.in-Test.no
-              c.in-Test.is n.2 c.opposite.result c.in-BelowZero.terms c.opposite.ensures fact)),
+          subst (λ node. IsNode context n.0 node c.push-in-BelowZero.new.self) (sym c.get-in-BelowZero.ensures)
+              (subst (IsNode context n.0 c.in-Test.no) (sym c.in_ok-push-in-BelowZero.ensures.ok)
+              (node_no context n.0 c.args.node.now c.args.rows c.in-Test.form c.in-Test.yes c.in-Test.no
+              c.in-Test.is n.1 c.opposite.result c.in-BelowZero.terms c.opposite.ensures fact)),
         ),
       ),
     )
@@ -77,10 +75,10 @@ returns-in-AtLeastZero t c =
     let fact : IsFact context 65536 (form_parts c.in-Test.form) c.in-AtLeastZero.terms =
     subst (IsSignOf context c.in-Test.form c.opposite.result) c.in-AtLeastZero.is c.in_ok-terms.ensures in
     IfOk-weaker c.follow.result _ _
-    (λ to rest r d h. rest r d
-    (subst (λ node. IsNode r context d node c.push.new.self) (sym c.get.ensures)
-    (subst (IsNode r context d c.in-Test.yes) (sym c.in_ok-push-in-AtLeastZero.ensures.ok)
-    (node_yes r context d c.args.node.now c.args.rows c.in-Test.form c.in-Test.yes c.in-Test.no c.in-Test.is h
+    (λ to rest d h. rest d
+    (subst (λ node. IsNode context d node c.push.new.self) (sym c.get.ensures)
+    (subst (IsNode context d c.in-Test.yes) (sym c.in_ok-push-in-AtLeastZero.ensures.ok)
+    (node_yes context d c.args.node.now c.args.rows c.in-Test.form c.in-Test.yes c.in-Test.no c.in-Test.is h
     c.in-AtLeastZero.terms fact))))
     c.follow.ensures
 
@@ -90,9 +88,9 @@ returns-in-BelowZero t c =
     let fact : IsFact context 65536 (form_parts c.opposite.result) c.in-BelowZero.terms =
     subst (IsSignOf context c.in-Test.form c.opposite.result) c.in-BelowZero.is c.in_ok-terms.ensures in
     IfOk-weaker c.follow-in-BelowZero.result _ _
-    (λ to rest r d h. rest r d
-    (subst (λ node. IsNode r context d node c.push-in-BelowZero.new.self) (sym c.get-in-BelowZero.ensures)
-    (subst (IsNode r context d c.in-Test.no) (sym c.in_ok-push-in-BelowZero.ensures.ok)
-    (node_no r context d c.args.node.now c.args.rows c.in-Test.form c.in-Test.yes c.in-Test.no c.in-Test.is h
+    (λ to rest d h. rest d
+    (subst (λ node. IsNode context d node c.push-in-BelowZero.new.self) (sym c.get-in-BelowZero.ensures)
+    (subst (IsNode context d c.in-Test.no) (sym c.in_ok-push-in-BelowZero.ensures.ok)
+    (node_no context d c.args.node.now c.args.rows c.in-Test.form c.in-Test.yes c.in-Test.no c.in-Test.is h
     c.opposite.result c.in-BelowZero.terms c.opposite.ensures fact))))
     c.follow-in-BelowZero.ensures

@@ -1,42 +1,69 @@
-use Rattle.std.proofs.Common.{◌^◌, [], length, sym, ap, ◌∙◌, subst, arith}
-use Rattle.std.specs.Prelude.{IfOk, None}
-use Rattle.std.specs.List.{range_with_len}
-use Rattle.candidate_order.specs.Candidates.{reading_of}
-use Rattle.candidate_order.specs.Contexts.{IsJoinedTree, IsPathContext}
-use Rattle.last_writer.specs.Joining.{IsPathOf}
-use Rattle.candidate_order.proofs.Outcomes.{seen_start}
-use Rattle.last_writer.proofs.Reading.{checked_tree}
-use Rattle.last_writer.proofs.Starting.{root_path}
-use Rattle.last_writer.proofs.Stepping.{path_context_less}
+use Rattle.std.proofs.Common.{◌≡◌, ◌++◌, ℕ, List, [], length, ap, ◌∙◌, subst, arith}
+use Rattle.std.specs.Prelude.{IfOk}
+use Rattle.candidate_order.specs.Joint.{IsCheckedForAll, IsJoinedTree}
+use Rattle.candidate_order.specs.Reads.{pairs_of, pairs_with}
+use Rattle.candidate_order.specs.declared.candidates.Problem.{Problem}
+use Rattle.candidate_order.specs.declared.candidates.Read.{Read}
+use Rattle.last_writer.specs.Written.{read_with}
+use Rattle.last_writer.proofs.Problems.{checked_all, few_loops, joined, root_made}
+use Rattle.last_writer.proofs.Reading.{class_of}
+use Rattle.lex_max.specs.Asked.{occurrence_of}
+use Rattle.sanlp.specs.declared.nest.Statement.{Statement}
+use Rattle.source_tree.specs.Systems.{array_writes, root_context, writes_from, Occurrence}
 use Rattle.last_writer.proofs.source.source_within.Goals as goal
 
-pub numbers-requires : goal.numbers-requires
-numbers-requires c = omega (arith, c.in_ok-candidates.ensures.few, c.len.ensures)
+pub root-requires : goal.root-requires
+root-requires c =
+    let rr = occurrence_of c.reference_of-reference.result in
+    let is = c.reference_of-reference.ensures in
+    omega (
+      arith,
+      few_loops c.args.nest.now c.args.statement c.args.read rr is
+          ((class_of c.args.nest.now c.args.statement c.args.read rr is).1 c.requires.class),
+    )
 
-pub step-made-requires : goal.step-made-requires
-step-made-requires c =
+pub push_problems-requires : goal.push_problems-requires
+push_problems-requires c = omega (arith, ap length c.as_slice.ensures, c.args.nest.now.well_formed.few_statements)
+
+-- the pairs are those of all writes
+pairs_are : (r : Read) (start made given : List Problem) (rr : Occurrence) (array : ℕ) (all statements : List Statement)
+    → given ≡ made → start ≡ [] → all ≡ statements
+    → pairs_with r made ≡ pairs_with r start ++ read_with rr (writes_from array 0 all)
+    → pairs_with r given ≡ read_with rr (writes_from array 0 statements)
+pairs_are r start made given rr array all statements e f g h =
+    ap (pairs_with r) e ∙ h ∙ ap (λ ps. pairs_with r ps ++ read_with rr (writes_from array 0 all)) f
+    ∙ ap (λ xs. read_with rr (writes_from array 0 xs)) g
+
+pub join-made-requires-clause-joined : goal.join-made-requires-clause-joined
+join-made-requires-clause-joined c =
+    let n = c.args.nest.now in
+    let rr = occurrence_of c.reference_of-reference.result in
+    let is = c.reference_of-reference.ensures in
     let r = c.read_of-read.result in
-    let candidates = c.in_ok-candidates.candidates in
-    let context = c.in_ok-context.context in
-    let path : IsPathContext (length (reading_of r).statement.loops) c.args.nodes context
-    = path_context_less (length (reading_of r).statement.loops)
-    (2 ^ 30) c.args.nodes context c.requires.room c.in_ok-context.ensures.path in
-    let left_is = c.as_slice-2.ensures ∙ c.in_ok-left.ensures ∙ ap (range_with_len 0) c.len.ensures in
-    record {
-      path = subst
-          (λ seen. IsPathOf r c.as_slice.result.now context None seen c.as_slice-2.result.now c.args.nodes None)
-          (sym seen_start)
-          (subst (λ all. IsPathOf r all context None [] c.as_slice-2.result.now c.args.nodes None)
-          (sym c.as_slice.ensures)
-          (root_path r candidates context c.as_slice-2.result.now c.args.nodes c.read_of-read.ensures.joined
-          c.in_ok-candidates.ensures path c.in_ok-context.ensures.rows left_is));
-    }
+    let read = c.read_of-read.ensures in
+    joined n c.args.statement c.args.read rr is ((class_of n c.args.statement c.args.read rr is).1 c.requires.class) r
+    (read.context ∙ c.in_ok-context.ensures)
+    (pairs_are r c.new-problems.result c.push_problems.new.problems r.problems.now rr rr.access.array
+    c.as_slice.result.now n.statements (read.problems ∙ c.as_slice-2.ensures) c.new-problems.ensures c.as_slice.ensures
+    (c.in_ok-push_problems.ensures r read.reference))
 
 pub returns-in-Ok : goal.returns-in-Ok
 returns-in-Ok c =
+    let n = c.args.nest.now in
+    let rr = occurrence_of c.reference_of-reference.result in
+    let is = c.reference_of-reference.ensures in
+    let class = (class_of n c.args.statement c.args.read rr is).1 c.requires.class in
     let r = c.read_of-read.result in
-    let context = c.in_ok-context.context in
-    let tree = subst (λ o. IfOk o (IsJoinedTree r context)) c.in-Ok.is c.step-made.ensures.tree in
-    checked_tree r context c.in-Ok.tree c.args.nest.now c.args.statement c.args.read c.read_of-read.ensures.joined
-    c.read_of-read.ensures.nest c.read_of-read.ensures.statement c.read_of-read.ensures.number
-    c.in_ok-context.ensures.made tree
+    let read = c.read_of-read.ensures in
+    let pairs : pairs_of r ≡ read_with rr (array_writes n rr) =
+    pairs_are r c.new-problems.result c.push_problems.new.problems r.problems.now rr rr.access.array
+    c.as_slice.result.now n.statements (read.problems ∙ c.as_slice-2.ensures) c.new-problems.ensures c.as_slice.ensures
+    (c.in_ok-push_problems.ensures r read.reference) in
+    let tree = subst (λ o. IfOk o (IsJoinedTree r r.context.now)) c.in-Ok.is c.join-made.ensures.tree in (
+      rr,
+      is,
+      checked_all n rr (root_context rr) c.in-Ok.tree
+          (subst (λ pairs. IsCheckedForAll pairs (root_context rr) c.in-Ok.tree) pairs
+          (tree (root_context rr)
+          (root_made n c.args.statement c.args.read rr is class r (read.context ∙ c.in_ok-context.ensures) pairs))),
+    )

@@ -1,0 +1,14 @@
+pub mod Between
+pub mod Choosing
+pub mod Ends
+pub mod Finding
+pub mod Heads
+pub mod Leafing
+pub mod Moves
+pub mod Sides
+pub mod Standing
+pub mod Starting
+pub mod Stepping
+pub mod Sums
+pub mod Told
+pub mod Without

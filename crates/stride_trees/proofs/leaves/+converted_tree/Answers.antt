@@ -1,0 +1,74 @@
+-- Each branch of a Test is made in its own context, which has one row more; a leaf is made at once.
+use Rattle.std.proofs.Common.{◌+◌, sym, subst, rules}
+use Rattle.std.proofs.lemmas.Result.{IfOk-weaker}
+use Rattle.lex_max.specs.Simple.{IsSimple}
+use Rattle.lex_max.specs.Systems.{IsCheckedFor}
+use Rattle.source_tree.specs.declared.tree.Tree.TheViews.{the_lemmas}
+use Rattle.stride_trees.specs.Contexts.{IsConvertedTree}
+use Rattle.stride_trees.specs.Problem.{told_read, told_write}
+use Rattle.stride_trees.specs.Strides.{read_of, write_of}
+use Rattle.stride_trees.proofs.Leafing.{branches_made, test_made}
+use Rattle.stride_trees.proofs.leaves.+converted_tree.Goals as goal
+
+pub converted_tree-requires : goal.converted_tree-requires
+converted_tree-requires t c =
+    let s = c.args.s.now in
+    let h = c.requires.checked in
+    let m = c.requires.simple in
+    let b = branches_made s c.args.places.now c.args.here h.0 m.0 c.args.tree.now c.in-Test.form c.in-Test.yes c.in-Test.no
+    c.in-Test.is h.1 h.2 m.1 m.2 in (
+      search (rules, the_lemmas),
+      (
+        c.requires.strided,
+        (
+          c.requires.places,
+          (
+            (
+              b.first,
+              b.first_at,
+              subst (IsCheckedFor (told_read b.first.vars c.args.places.now (read_of s) (write_of s))
+                  (told_write (write_of s)) s.level b.first) (sym c.get.ensures) b.first_checked,
+            ),
+            (b.fewer, b.few, subst (IsSimple b.fewer) (sym c.get.ensures) b.first_simple),
+          ),
+        ),
+      ),
+    )
+
+pub converted_tree-requires-in-Test : goal.converted_tree-requires-in-Test
+converted_tree-requires-in-Test t c =
+    let s = c.args.s.now in
+    let h = c.requires.checked in
+    let m = c.requires.simple in
+    let b = branches_made s c.args.places.now c.args.here h.0 m.0 c.args.tree.now c.in-Test.form c.in-Test.yes c.in-Test.no
+    c.in-Test.is h.1 h.2 m.1 m.2 in (
+      search (rules, the_lemmas),
+      (
+        c.requires.strided,
+        (
+          c.requires.places,
+          (
+            (
+              b.second,
+              b.second_at,
+              subst (IsCheckedFor (told_read b.second.vars c.args.places.now (read_of s) (write_of s))
+                  (told_write (write_of s)) s.level b.second) (sym c.get-in-Test.ensures) b.second_checked,
+            ),
+            (b.fewer, b.few, subst (IsSimple b.fewer) (sym c.get-in-Test.ensures) b.second_simple),
+          ),
+        ),
+      ),
+    )
+
+pub returns-in_ok-below-in-Test : goal.returns-in_ok-below-in-Test
+returns-in_ok-below-in-Test t c =
+    let s = c.args.s.now in
+    let m = c.requires.simple in
+    IfOk-weaker c.test.result _ _
+    (λ own is. test_made s c.args.places.now c.args.here c.args.tree.now c.in-Test.form c.copy.result c.in-Test.yes
+    c.in-Test.no c.in_ok-above-in-Test.above c.in_ok-below-in-Test.below own m.0 c.in-Test.is c.copy.ensures
+    (subst (λ told. IsConvertedTree s c.args.places.now (c.args.here + 1) told c.in_ok-above-in-Test.above) c.get.ensures
+    c.in_ok-above-in-Test.ensures)
+    (subst (λ told. IsConvertedTree s c.args.places.now (c.args.here + 1) told c.in_ok-below-in-Test.below) c.get-in-Test.ensures
+    c.in_ok-below-in-Test.ensures) is m.2)
+    c.test.ensures

@@ -1,0 +1,137 @@
+-- Contexts that have the tests of divisibility of a write, and places in them.
+use Rattle.std.specs.Prelude.{◌≡◌, ◌≤◌, ◌<◌, ◌^◌, ℕ, ◌+◌, ◌*◌, ℤ, List, [], ◌∷◌, ◌++◌, length, map, All, Some, slice_get}
+use Rattle.std.specs.List.{range_with_len}
+use Rattle.affine_core.specs.declared.form.Form.{Form}
+use Rattle.affine_core.specs.Affine.{widened_form}
+use Rattle.int_polyhedra.specs.declared.system.Proof.{Proof}
+use Rattle.int_polyhedra.specs.declared.system.Proof.TheVariants.{Sum}
+use Rattle.int_polyhedra.specs.declared.system.System.{System}
+use Rattle.int_polyhedra.specs.declared.system.Term.{Term}
+use Rattle.lex_max.specs.Answer.{IsAnswer}
+use Rattle.lex_max.specs.Asked.{read_of as asked_read, write_of as asked_write}
+use Rattle.lex_max.specs.Simple.{IsLightSum, IsSimple}
+use Rattle.lex_max.specs.Systems.{IsCheckedFor}
+use Rattle.lex_max.specs.declared.writes.Writes.{Writes}
+use Rattle.row_sums.specs.Parts.{IsWithin}
+use Rattle.source_tree.specs.Checked.{AreRefuted, HaveVariables}
+use Rattle.source_tree.specs.Gives.{gives}
+use Rattle.source_tree.specs.Places.{at_place, differ_rows}
+use Rattle.source_tree.specs.Rows.{RowExpr, RowSystem, Take, below_zero, minus, row_forms}
+use Rattle.source_tree.specs.Systems.{Context, Occurrence, cell_systems, multiple, outside_systems, with_rows, with_write_at}
+use Rattle.source_tree.specs.declared.tree.Tree.{Tree}
+use Rattle.stride_trees.specs.Candidates.{AreCutSums, IsCutTree}
+use Rattle.stride_trees.specs.Class.{stride_of}
+use Rattle.stride_trees.specs.Divisions.{division_of}
+use Rattle.stride_trees.specs.Problem.{told_read, told_write}
+use Rattle.stride_trees.specs.Sources.{next_place, places_behind}
+use Rattle.stride_trees.specs.Strides.{depth_of_read, read_of, root_of, tests_of, write_of, IsSmallContext}
+use Rattle.stride_trees.specs.declared.strides.Strides.{Strides}
+
+-- the two rows of a test that says yes stand in the context from this row on, for the quotient that is this variable
+pub record IsTestIn (c : Context) (row quotient : ℕ) (form : Form) (divisor : ℤ) : Type 0 where
+  pub inside : quotient < c.vars
+  pub low : slice_get c.rows row
+      ≡ Some (minus (Take (widened_form quotient form)) (multiple divisor quotient))
+  pub high : slice_get c.rows (row + 1)
+      ≡ Some (minus (multiple divisor quotient) (Take (widened_form quotient form)))
+
+-- one test for each subscript of the write with a stride, at these places behind so many loops and domain rows of
+-- the reader
+abbrev pub AreTestsIn : Context → ℕ → ℕ → List ℕ → List Form → List Form → Type 0
+AreTestsIn c depth root places [] reads = Unit {0}
+AreTestsIn c depth root places (write ∷ writes) [] = Unit {0}
+AreTestsIn c depth root places (write ∷ writes) (read ∷ reads) =
+    ((stride : ℤ) → stride_of write ≡ Some stride
+    → IsTestIn c (root + 2 * next_place places) (depth + next_place places)
+    (division_of 0 write read stride).form (division_of 0 write read stride).divisor)
+    × AreTestsIn c depth root (places_behind write places) writes reads
+
+-- a context with so many small rows over the reader's loops and more variables, that has the tests at their places
+pub record IsTestedContext (s : Strides) (places : List ℕ) (here : ℕ) (c : Context) : Type 0 where
+  pub small : IsSmallContext c here
+  pub reader : depth_of_read s ≤ c.vars
+  pub tests : AreTestsIn c (depth_of_read s) (root_of s) places (write_of s).access.subscripts
+      (read_of s).access.subscripts
+
+-- the system of a write before the read, with these order rows, and the same over quotients
+abbrev pub own_system : Strides → Context → List RowExpr → RowSystem
+own_system s c order = with_rows (with_write_at (read_of s) c (write_of s)) order
+
+abbrev pub told_system : Strides → List ℕ → Context → List RowExpr → RowSystem
+told_system s places c order =
+    with_rows
+    (with_write_at (told_read c.vars places (read_of s) (write_of s)) c (told_write (write_of s)))
+    order
+
+-- rows that can be made, with small numbers
+pub record AreMadeSmall (vars : ℕ) (rows : List RowExpr) : Type 0 where
+  pub forms : List Form
+  pub are_made : row_forms vars rows ≡ Some forms
+  pub within : All (IsWithin (2 ^ 90)) forms
+
+-- a place of a writer, one form over the variables of a context for each of so many loops
+pub record IsPlaceIn (c : Context) (depth : ℕ) (place : List Form) : Type 0 where
+  pub deep : length place ≡ depth
+  pub over : HaveVariables c.vars place
+  pub within : All (IsWithin (2 ^ 48)) place
+
+abbrev pub IsSum : Proof → Type 0
+IsSum proof = (terms : List Term) × (proof ≡ Sum terms)
+
+-- Proofs were added for these systems, made from those of the systems that are told: where those refute their
+-- systems, these refute theirs. They are Cuts and a Sum where those are light and the numbers small.
+pub record AddsConverted (order : ℕ) (small : Type 0) (told own : List RowSystem)
+    (from old new : List Proof) : Type 0 where
+  pub added : List Proof
+  pub is : new ≡ old ++ added
+  pub refuted : AreRefuted told from → AreRefuted own added
+  pub cuts : small → AreRefuted told from → All IsLightSum from → AreCutSums order own added
+
+-- the system with one row behind the context's
+abbrev pub last_system : Context → RowExpr → RowSystem
+last_system c row = with_rows c (row ∷ [])
+
+-- a place is outside a domain of these rows
+abbrev pub outside_of : Context → List Form → List Form → List RowSystem
+outside_of c rows place = map (λ row. last_system c (below_zero (at_place row place))) rows
+
+-- a place writes another cell
+abbrev pub differing : Context → List Form → List Form → List Form → List RowSystem
+differing c writes reads place = map (last_system c) (differ_rows writes reads place)
+
+-- a place is outside the domain, or writes another cell
+abbrev pub outside_cell_systems : Occurrence → Occurrence → Context → List Form → List RowSystem
+outside_cell_systems r w c place = outside_systems c w place ++ cell_systems r c w place
+
+-- the order rows of a level with further order rows behind, so many at first and two more each time
+abbrev pub AreOrders : ℕ → ℕ → List RowExpr → List (List RowExpr) → Type 0
+AreOrders vars more level [] = Unit {0}
+AreOrders vars more level (rows ∷ further) =
+    (length (level ++ rows) ≡ more) × AreMadeSmall vars (level ++ rows)
+    × AreOrders vars (more + 2) level further
+
+-- A tree was made from one of the problem over quotients, in each context that has the tests: it is checked there for
+-- the statement's own write and read, its proofs are Cuts and a Sum, and it gives the same.
+pub record IsConvertedTree (s : Strides) (places : List ℕ) (here : ℕ) (told own : Tree) : Type 0 where
+  pub checked : (c : Context) → IsTestedContext s places here c
+      → IsCheckedFor (told_read c.vars places (read_of s) (write_of s)) (told_write (write_of s)) s.level c
+      told
+      → IsCheckedFor (read_of s) (write_of s) s.level c own
+  pub cuts : (c : Context) (tests : ℕ) → IsTestedContext s places here c
+      → IsCheckedFor (told_read c.vars places (read_of s) (write_of s)) (told_write (write_of s)) s.level c
+      told
+      → IsSimple tests told → IsCutTree (read_of s) (write_of s) s.level tests c own
+  pub same : (x : List ℤ) → gives own x ≡ gives told x
+
+-- the places of its tests where no other tests are: 0, 1, 2 and so on
+abbrev pub first_places : Strides → List ℕ
+first_places s = range_with_len 0 (length (tests_of s))
+
+-- the answer of the problem over quotients in a context
+pub record IsToldTree (s : Strides) (places : List ℕ) (context : System) (tree : Tree) : Type 0 where
+  pub w : Writes
+  pub vars : w.vars ≡ context.vars
+  pub read : asked_read w ≡ told_read context.vars places (read_of s) (write_of s)
+  pub write : asked_write w ≡ told_write (write_of s)
+  pub level : w.level ≡ s.level
+  pub answer : IsAnswer w context 3584 tree

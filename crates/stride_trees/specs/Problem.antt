@@ -1,0 +1,54 @@
+-- What is left of a write before a read below its tests of divisibility: a problem of differences over the variables of a
+-- context, of which the tests' quotients are the last.
+use Rattle.std.specs.Prelude.{ℕ, ◌+◌, negsuc, ◌-ℤ◌, ◌||◌, List, [], ◌∷◌, map, length, if◌then◌else◌}
+use Rattle.affine_core.specs.declared.form.Form.{Form}
+use Rattle.affine_core.specs.Affine.{form_product, variable_form, widened_form}
+use Rattle.source_tree.specs.Systems.{Occurrence}
+use Rattle.stride_trees.specs.Class.{is_stride}
+use Rattle.stride_trees.specs.Sources.{divided_form, falls, loop_of, next_place, places_behind}
+
+-- A subscript of the write: its loop alone, where the loop's coefficient is neither 0 nor 1; else it stays.
+abbrev pub problem_write : Form → Form
+problem_write write =
+    if is_stride write || falls write then variable_form (length write.coefs) (loop_of write.coefs)
+    else write
+
+-- The read's subscript, over so many variables: the quotient where the write's has a stride, `d - read` where the
+-- write's is d less a loop, and else the read's own.
+abbrev pub problem_read : ℕ → ℕ → Form → Form → Form
+problem_read vars quotient write read =
+    if is_stride write then variable_form vars quotient
+    else (if falls write
+    then widened_form vars
+    (form_product (negsuc 0) (record read { constant = read.constant -ℤ write.constant }))
+    else widened_form vars read)
+
+-- the read's subscripts, where the tests of the write stand at these places behind so many loops
+abbrev pub problem_reads : ℕ → ℕ → List ℕ → List Form → List Form → List Form
+problem_reads vars depth places [] reads = []
+problem_reads vars depth places (write ∷ writes) [] = []
+problem_reads vars depth places (write ∷ writes) (read ∷ reads) =
+    problem_read vars (depth + next_place places) write read
+    ∷ problem_reads vars depth (places_behind write places) writes reads
+
+-- the write's domain rows, and its subscripts
+abbrev pub problem_rows : List Form → List Form
+problem_rows rows = map divided_form rows
+
+abbrev pub problem_writes : List Form → List Form
+problem_writes writes = map problem_write writes
+
+-- the write and the read over quotients
+abbrev pub told_write : Occurrence → Occurrence
+told_write w = record w {
+  statement = record w.statement { rows = problem_rows w.statement.rows };
+  access = record w.access { subscripts = problem_writes w.access.subscripts };
+}
+
+abbrev pub told_read : ℕ → List ℕ → Occurrence → Occurrence → Occurrence
+told_read vars places r w = record r {
+  access = record r.access {
+    subscripts = problem_reads vars (length r.statement.loops) places w.access.subscripts
+        r.access.subscripts;
+  };
+}

@@ -1,0 +1,220 @@
+//! The greatest points of one writer at one level before a read of the stride class.
+
+ghost use Rattle.std.specs.Prelude.{◌≡◌, ◌≤◌, ◌+◌, ◌++◌, Some, IfOk, OnOk};
+ghost use Rattle.std.specs.List.{range_with_len};
+ghost use Rattle.lex_max.specs.Asked.{occurrence_of, HasLevelOf, WritesArrayOf};
+ghost use Rattle.lex_max.specs.Leaves.{IsMadeFrom};
+ghost use Rattle.lex_max.specs.Level.{common_of, GivesGreatest};
+ghost use Rattle.source_tree.specs.Checked.{IsCheckedIn};
+ghost use Rattle.source_tree.specs.Systems.{just, named_write, read_at, root_context, Occurrence};
+ghost use Rattle.source_tree.specs.declared.tree.Tree.{Tree as TreeOf};
+ghost use Rattle.stride_trees.specs.Candidates.{IsStrideTree};
+ghost use Rattle.stride_trees.specs.Class.{IsInStrideClass};
+ghost use Rattle.stride_trees.specs.Contexts.{first_places, IsToldTree};
+ghost use Rattle.stride_trees.specs.Strides.{depth_of_read, read_of, root_of, tested_context, tests_of, write_of, IsLastTree, IsStrided, IsTested};
+
+use crate::contexts::context_of;
+use crate::divisions::{Division, divisions_of};
+use crate::leaves::converted_tree;
+use crate::problem::{divided_rows, told, told_reads, told_writes};
+use crate::strides::Strides;
+use crate::tests::with_tests;
+use int_polyhedra::System;
+use lex_max::{Reference, common_loops, tree_of};
+use plain_data::Items;
+use sanlp::Nest;
+use source_tree::Tree;
+use std::alloc::{AllocError, Global};
+
+// A read and a write of a nest, and a level.
+fn strides_between<'a>(
+    alloc: Global,
+    nest: &'a Nest,
+    read: Reference<'a>,
+    write: Reference<'a>,
+    level: usize,
+) -> Strides<'a>
+    ensures nest { result.nest.now ≡ nest.now }
+    ensures read { read_of result ≡ occurrence_of read.entry }
+    ensures write { write_of result ≡ occurrence_of write.entry }
+    ensures level { result.level ≡ level }
+    ensures common { result.common ≡ common_of (write_of result) (read_of result) }
+{
+    let common = common_loops(
+        write.statement.loops.as_slice(),
+        read.statement.loops.as_slice(),
+    );
+    Strides {
+        alloc,
+        nest,
+        read,
+        write,
+        common,
+        level,
+    }
+}
+
+// The read and the write of these numbers.
+fn looked_up<'a>(
+    alloc: Global,
+    nest: &'a Nest,
+    statement: u32,
+    read: u32,
+    writer: u32,
+    level: u32,
+) -> Strides<'a>
+    requires { WritesArrayOf nest.now statement read writer }
+    ensures nest { result.nest.now ≡ nest.now }
+    ensures read { read_at nest.now statement read ≡ Some (read_of result) }
+    ensures write { named_write nest.now (read_of result) writer ≡ Some (write_of result) }
+    ensures level { result.level ≡ level }
+    ensures common { result.common ≡ common_of (write_of result) (read_of result) }
+{
+    let reading = nest.statement(statement);
+    let writing = nest.statement(writer);
+    let (Some(read), Some(write)) = (reading.reads.get(read as usize), &writing.write) else {
+        unreachable!()
+    };
+    let read = Reference {
+        number: statement,
+        statement: reading,
+        access: read,
+    };
+    let write = Reference {
+        number: writer,
+        statement: writing,
+        access: write,
+    };
+    strides_between(alloc, nest, read, write, level as usize)
+}
+
+/// The writes of one statement at one level before a read of the stride class.
+pub fn strides_of<'a>(
+    alloc: Global,
+    nest: &'a Nest,
+    statement: u32,
+    read: u32,
+    writer: u32,
+    level: u32,
+) -> Strides<'a>
+    requires class { IsInStrideClass nest.now statement read }
+    requires writes { WritesArrayOf nest.now statement read writer }
+    requires level { HasLevelOf nest.now statement read writer level }
+    ensures strided { IsStrided result }
+    ensures nest { result.nest.now ≡ nest.now }
+    ensures read { read_at nest.now statement read ≡ Some (read_of result) }
+    ensures write { named_write nest.now (read_of result) writer ≡ Some (write_of result) }
+    ensures level { result.level ≡ level }
+{
+    looked_up(alloc, nest, statement, read, writer, level)
+}
+
+// Adds so many numbers from this one on.
+fn push_range(places: &mut Items<u32>, first: u32, count: usize) -> Result<(), AllocError>
+    requires { first + count ≤ 6 }
+    ensures { OnOk result (places.new ≡ places.old ++ range_with_len first count) }
+{
+    if count == 0 {
+        return Ok(());
+    }
+    places.push(first)?;
+    push_range(places, first + 1, count - 1)
+}
+
+// The tree of the problem over quotients in the context where all tests say yes, at these places.
+fn told_tree(s: &Strides, places: &[u32], context: &System) -> Result<Tree, AllocError>
+    requires strided { IsStrided s.now }
+    requires places { places.now ≡ first_places s.now }
+    requires context { IsMadeFrom (tested_context s.now) context.now }
+    ensures { IfOk result (IsToldTree s.now places.now context.now) }
+{
+    let vars = context.vars as usize;
+    let divided = divided_rows(s.alloc, s.write.statement.rows.as_slice())?;
+    let found_writes = told_writes(s.alloc, s.write.access.subscripts.as_slice())?;
+    let found_reads = told_reads(s, vars, places)?;
+    let rows = divided.as_slice();
+    let writes = found_writes.as_slice();
+    let reads = found_reads.as_slice();
+    // The same for as long as these rows and subscripts are there.
+    let here = Strides {
+        alloc: s.alloc,
+        nest: s.nest,
+        read: Reference {
+            number: s.read.number,
+            statement: s.read.statement,
+            access: s.read.access,
+        },
+        write: Reference {
+            number: s.write.number,
+            statement: s.write.statement,
+            access: s.write.access,
+        },
+        common: s.common,
+        level: s.level,
+    };
+    let w = told(&here, vars, rows, writes, reads);
+    tree_of(&w, context)
+}
+
+// The tree where all tests say yes.
+fn last_tree(s: &Strides, divisions: &[Division]) -> Result<Tree, AllocError>
+    requires strided { IsStrided s.now }
+    requires tests { divisions.now ≡ tests_of s.now }
+    ensures { IfOk result (IsLastTree s.now) }
+{
+    let context = context_of(s, divisions)?;
+    let mut found = Items::new(s.alloc);
+    push_range(&mut found, 0, divisions.len())?;
+    let places = found.as_slice();
+    let tree = told_tree(s, places, &context)?;
+    let count = context.rows.len() as u32;
+    converted_tree(s, places, count, &tree)
+}
+
+// The tree of a read and a write.
+fn tree_between(s: &Strides) -> Result<Tree, AllocError>
+    requires { IsStrided s.now }
+    ensures { IfOk result (λ tree. (last : TreeOf) × IsLastTree s.now last
+        × IsTested s.now (depth_of_read s.now) (root_of s.now) (tests_of s.now) last tree) }
+{
+    let found = divisions_of(
+        s.alloc,
+        s.write.access.subscripts.as_slice(),
+        s.read.access.subscripts.as_slice(),
+    )?;
+    let divisions = found.as_slice();
+    let last = last_tree(s, divisions)?;
+    let root = s.read.statement.rows.len() as u32;
+    with_tests(s, divisions, s.read.statement.loops.len(), root, last)
+}
+
+/// At each point of the reader the greatest point of one writer at one level of order that writes the read's cell before the
+/// read, or zero where there is none. The tree is checked for that writer and that level. It begins with tests whether the
+/// write's strides divide what the read's subscripts are from it, in the order of the subscripts, which are the same at each
+/// level; below them it has no Divides. Each of its proofs is at most 65,536 Cuts and then a Sum. Its numbers lie within
+/// 2^48, the multipliers of a Sum add up to 2^48 at most, and no path has more than 65,536 Tests. Nothing is refused but want
+/// of memory.
+pub fn stride_candidate(
+    alloc: Global,
+    nest: &Nest,
+    statement: u32,
+    read: u32,
+    writer: u32,
+    level: u32,
+) -> Result<Tree, AllocError>
+    requires class { IsInStrideClass nest.now statement read }
+    requires writes { WritesArrayOf nest.now statement read writer }
+    requires level { HasLevelOf nest.now statement read writer level }
+    ensures checked { IfOk result (λ tree. (r : Occurrence)
+        → read_at nest.now statement read ≡ Some r
+        → IsCheckedIn nest.now r (just writer level) (root_context r) tree) }
+    ensures strides { IfOk result (λ tree. (r w : Occurrence)
+        → read_at nest.now statement read ≡ Some r → named_write nest.now r writer ≡ Some w
+        → IsStrideTree r w level 65536 tree) }
+    ensures greatest { IfOk result (λ tree. (r w : Occurrence)
+        → read_at nest.now statement read ≡ Some r → named_write nest.now r writer ≡ Some w
+        → GivesGreatest nest.now r w level tree) }
+{
+    let s = strides_of(alloc, nest, statement, read, writer, level);
+    tree_between(&s)
+}

@@ -30,22 +30,22 @@ use Rattle.sanlp.specs.Bounds.{BoundsAbove}
 use Rattle.sanlp.specs.declared.nest.Nest.{Nest}
 use Rattle.sanlp.specs.WellFormed.{form_fits, is_moderate}
 use Rattle.source_tree.specs.Systems.{Context, Occurrence}
-use Rattle.stride_trees.specs.Class.{is_single, is_stride, stride_count, stride_of}
+use Rattle.stride_rows.specs.Class.{is_single, is_stride, stride_count, stride_of}
 use Rattle.stride_trees.specs.Contexts.{AreTestsIn}
 use Rattle.stride_trees.specs.Problem.{problem_read, problem_reads, problem_rows, problem_write, problem_writes, told_read}
 use Rattle.stride_trees.specs.Problem.{told_write}
-use Rattle.stride_trees.specs.Sources.{divided_form, falls, loop_of, next_place, places_behind}
+use Rattle.stride_rows.specs.Sources.{divided_form, falls, loop_of, next_place, places_behind}
 use Rattle.stride_trees.specs.Strides.{read_of, write_of, ArePlaces, AreStrided, IsStrided}
 use Rattle.stride_trees.specs.declared.strides.Strides.{Strides}
-use Rattle.stride_trees.proofs.Coefficients.{how_many, how_many_is, is_bit, is_less, is_one, is_other, is_outside}
-use Rattle.stride_trees.proofs.Coefficients.{outside_counts}
+use Rattle.stride_rows.proofs.Coefficients.{how_many, how_many_is, is_bit, is_less, is_one, is_other, is_outside}
+use Rattle.stride_rows.proofs.Coefficients.{outside_counts}
 use Rattle.stride_trees.proofs.Differing.{divided_bounds, rows_differ, rows_fit}
 use Rattle.stride_trees.proofs.Fitting.{are_fitting, AreFitting}
-use Rattle.stride_trees.proofs.Places.{behind_kept, enough_behind, next_kept, stride_has_place}
-use Rattle.stride_trees.proofs.Indivisible.{within_parts}
+use Rattle.stride_rows.proofs.Places.{behind_kept, enough_behind, next_kept, stride_has_place}
+use Rattle.stride_rows.proofs.Indivisible.{within_parts}
 use Rattle.stride_trees.proofs.Placing.{few_others, part_within}
-use Rattle.stride_trees.proofs.Singles.{less_counts, loop_inside}
-use Rattle.stride_trees.proofs.Sourcing.{counts_all}
+use Rattle.stride_rows.proofs.Singles.{less_counts, loop_inside}
+use Rattle.stride_rows.proofs.Sourcing.{counts_all}
 use Rattle.stride_trees.proofs.Systems.{moved_within, widened_test, IsTestForm}
 
 -- The write's subscript

@@ -4,12 +4,12 @@
 -- same order rows; between them each row over quotients is told by the statement's rows. So a Sum that refutes the one
 -- refutes the other as Cuts and a Sum.
 use Rattle.std.proofs.Common.{◌≡◌, ◌+◌, ◌*◌, ◌^◌, ◌≤◌, ◌<◌, ℕ, zero, suc, pos, negsuc, ◌+ℤ◌, ◌*ℤ◌, List, [], ◌∷◌, ◌++◌, length, map, true}
-use Rattle.std.proofs.Common.{refl, sym, ap, ◌∙◌, subst, arith, append_assoc, length-append}
-use Rattle.std.specs.Prelude.{Some, All, slice_get, unsigned_abs}
+use Rattle.std.proofs.Common.{refl, sym, ap, ◌∙◌, subst, arith, length-append}
+use Rattle.std.specs.Prelude.{Some, All, unsigned_abs}
 use Rattle.std.specs.List.{list_all}
 use Rattle.std.specs.Option.{option_map_or}
 use Rattle.std.proofs.lemmas.List.{length-map}
-use Rattle.std.proofs.lemmas.List.Elements.{All-nil, All-cons, All-append, All-weaker}
+use Rattle.std.proofs.lemmas.List.Elements.{All-nil, All-cons}
 use Rattle.std.proofs.lemmas.Option.{same_Some, slice_get_within}
 use Rattle.affine_core.specs.declared.form.Form.{Form}
 use Rattle.affine_core.specs.Affine.{variable_form, widened_form}
@@ -18,14 +18,10 @@ use Rattle.int_polyhedra.specs.declared.system.Term.{Term}
 use Rattle.int_polyhedra.specs.Rules.{Refutes}
 use Rattle.int_polyhedra.proofs.Variables.{and_both}
 use Rattle.lex_max.proofs.Fitting.{form_is}
-use Rattle.lex_max.proofs.Ordering.{length_variables, variable_part}
-use Rattle.lex_max.proofs.Placing.{variables_taken}
-use Rattle.lex_max.proofs.Refuting.{over_append, over_widened, within_widened}
-use Rattle.lex_max.proofs.Small.{farther}
-use Rattle.lex_max.proofs.Writing.{are_made, forms_append, most_made, small_domain, AreMade, AreTaken}
+use Rattle.lex_max.proofs.Ordering.{variable_part}
+use Rattle.lex_max.proofs.Writing.{are_made, AreMade}
 use Rattle.row_sums.specs.Parts.{Part, part_of, row_part, weight, IsWithin}
 use Rattle.row_sums.proofs.Making.{widened_part}
-use Rattle.row_sums.proofs.Wider.{made_widens}
 use Rattle.sanlp.specs.declared.nest.Nest.{Nest}
 use Rattle.sanlp.specs.WellFormed.{form_fits}
 use Rattle.source_tree.specs.Checked.{IsRefuted}
@@ -33,31 +29,29 @@ use Rattle.source_tree.specs.Places.{cell_rows, domain_rows}
 use Rattle.source_tree.specs.Rows.{RowExpr, RowSystem, Take, minus, row_forms}
 use Rattle.source_tree.specs.Systems.{Context, Occurrence, multiple, with_rows, with_write_at, writer_place}
 use Rattle.stride_trees.specs.Candidates.{order_number, IsCutSumOf}
-use Rattle.stride_trees.specs.Cuts.{added_of, converted_sum, AreSources, IsCutSum}
+use Rattle.stride_rows.specs.Cuts.{added_of, converted_sum, AreSources, IsCutSum}
 use Rattle.stride_trees.specs.Divisions.{division_of}
 use Rattle.stride_trees.specs.Problem.{problem_reads, problem_rows, problem_write, problem_writes, told_read, told_write}
 use Rattle.stride_trees.specs.Contexts.{AreMadeSmall, AreTestsIn, IsTestIn}
-use Rattle.stride_trees.specs.Sources.{divided_form, domain_sources, next_place, own_sources, places_behind}
-use Rattle.stride_trees.specs.Sources.{subscript_sources, write_sources}
+use Rattle.stride_rows.specs.Sources.{divided_form, domain_sources, next_place, own_sources, places_behind}
+use Rattle.stride_rows.specs.Sources.{subscript_sources, write_sources}
 use Rattle.stride_trees.specs.Strides.{AreStrided, IsSmallContext}
-use Rattle.stride_trees.specs.declared.cuts.Source.{Source}
+use Rattle.stride_rows.specs.declared.cuts.Source.{Source}
 use Rattle.stride_trees.proofs.Adding.{added_all, added_behind, added_both, added_own, cuts_few, sources_count, write_before}
 use Rattle.stride_trees.proofs.Asking.{tests_inside, told_cells as told_cells_are}
-use Rattle.stride_trees.proofs.Cutting.{converted_is_cut_sum, converted_refutes, get_before, get_behind}
-use Rattle.stride_trees.proofs.Fitting.{are_fitting, AreFitting}
+use Rattle.stride_rows.proofs.Cutting.{converted_is_cut_sum, converted_refutes, get_before}
+use Rattle.stride_trees.proofs.Fitting.{AreFitting}
 use Rattle.stride_trees.proofs.Gluing.{cells_are_told, made_both, rows_are_told, AreMadeBoth, AreTestRows, IsTestRow, StandAt}
-use Rattle.stride_trees.proofs.Lists.{forms_count, forms_over, row_made}
-use Rattle.stride_trees.proofs.Rows.{cells_count, domain_count, small_cells}
-use Rattle.stride_trees.proofs.Sourcing.{IsSmallSystem}
-use Rattle.stride_trees.proofs.Telling.{cells_told, domain_told, write_told, AreCellsTold, AreRowsTold}
+use Rattle.stride_trees.proofs.Lists.{forms_count, row_made}
+use Rattle.stride_trees.proofs.Rows.{cells_count, domain_count}
+use Rattle.stride_rows.proofs.Sourcing.{IsSmallSystem}
+use Rattle.stride_trees.proofs.Standing as standing
+use Rattle.stride_trees.proofs.Standing.{regroup}
+use Rattle.stride_rows.proofs.Telling.{cells_told, domain_told, write_told, AreCellsTold, AreRowsTold}
 use Rattle.stride_trees.proofs.ToldReach.{told_cells_reached, told_domain_reached, variables_bounded}
 use Rattle.stride_trees.proofs.Reaching.{made_within, AreBounded}
 
 -- Rows in a longer list
-
-stand_behind : (front rows more : List Form) → StandAt (front ++ (rows ++ more)) (length front) rows
-stand_behind front rows more i row is =
-    get_behind front (rows ++ more) i ∙ get_before rows more i (slice_get_within rows i row is) ∙ is
 
 test_row_behind : (vars : ℕ) (rows more : List Form) (test quotient : ℕ) (form : Form) (m : ℕ)
     → IsTestRow vars rows test quotient form m → IsTestRow vars (rows ++ more) test quotient form m
@@ -137,9 +131,6 @@ tests_made c rows depth root places (write ∷ writes) (read ∷ reads) made h =
 
 -- The system
 
-regroup : (c d e l : List RowExpr) → (c ++ (d ++ e)) ++ l ≡ c ++ (d ++ (e ++ l))
-regroup c d e l = append_assoc c (d ++ e) l ∙ ap (λ x. c ++ x) (append_assoc d e l)
-
 even_places : (depth : ℕ) (forms place : List Form) → depth ≡ length place → list_all (form_fits depth) forms ≡ true
     → All (λ form. length form.coefs ≡ length place) forms
 even_places depth [] place e h = All-nil _
@@ -177,13 +168,10 @@ module _ (n : Nest) (r w : Occurrence) (p : ℕ) (c : Context) (here root : ℕ)
   place = writer_place c w
 
   fits : AreFitting n r w p
-  fits = are_fitting n r w p strided
+  fits = standing.fits n r w p c here strided small reader order order_made
 
   long : length place ≡ e
-  long = length_variables c.vars e
-
-  place_taken : AreTaken more place
-  place_taken = variables_taken more c.vars e (omega arith)
+  long = standing.long n r w p c here strided small reader order order_made
 
   abbrev forms : List Form
   forms = w.statement.rows
@@ -194,19 +182,17 @@ module _ (n : Nest) (r w : Occurrence) (p : ℕ) (c : Context) (here root : ℕ)
   abbrev reads : List Form
   reads = r.access.subscripts
 
-  pub domain : AreMade more (domain_rows forms place)
-  domain = are_made more (domain_rows forms place) (small_domain more e forms place fits.few_loops fits.rows place_taken)
+  abbrev domain : AreMade more (domain_rows forms place)
+  domain = standing.domain n r w p c here strided small reader order order_made
 
-  pub cells : AreMade more (cell_rows writes reads place)
-  cells = are_made more (cell_rows writes reads place)
-      (small_cells more (length r.statement.loops) e writes reads place (omega (arith, reader)) fits.few_loops fits.writes
-      fits.reads place_taken)
+  abbrev cells : AreMade more (cell_rows writes reads place)
+  cells = standing.cells n r w p c here strided small reader order order_made
 
   abbrev last : List Form
   last = order_made.forms
 
   last_count : length last ≡ length order
-  last_count = forms_count more order last order_made.are_made
+  last_count = standing.last_count n r w p c here strided small reader order order_made
 
   abbrev wide : List Form
   wide = map (widened_form more) small.rows
@@ -215,43 +201,37 @@ module _ (n : Nest) (r w : Occurrence) (p : ℕ) (c : Context) (here root : ℕ)
   whole = wide ++ (domain.forms ++ (cells.forms ++ last))
 
   wide_made : row_forms more c.rows ≡ Some wide
-  wide_made = made_widens c.vars more c.rows small.rows (omega arith) small.made
+  wide_made = standing.wide_made n r w p c here strided small reader order order_made
 
   wide_count : length wide ≡ here
-  wide_count = length-map small.rows (widened_form more) ∙ small.count
+  wide_count = standing.wide_count n r w p c here strided small reader order order_made
 
   domain_is : length domain.forms ≡ length forms
-  domain_is = domain.count ∙ domain_count forms place
+  domain_is = standing.domain_is n r w p c here strided small reader order order_made
 
   cells_is : length cells.forms ≡ 2 * length writes
-  cells_is = cells.count ∙ cells_count writes reads place fits.even
+  cells_is = standing.cells_is n r w p c here strided small reader order order_made
 
   whole_small : IsSmallSystem more whole
-  whole_small = record {
-    over = over_append more wide (domain.forms ++ (cells.forms ++ last))
-        (over_widened c.vars more small.rows (omega arith) small.over)
-        (over_append more domain.forms (cells.forms ++ last) domain.over
-        (over_append more cells.forms last cells.over (forms_over more order last order_made.are_made)));
-    within = All-append (IsWithin (2 ^ 90)) wide (domain.forms ++ (cells.forms ++ last))
-        (within_widened more (2 ^ 50) (2 ^ 90) small.rows (omega arith) small.within)
-        (All-append (IsWithin (2 ^ 90)) domain.forms (cells.forms ++ last) (wider domain.forms domain.within)
-        (All-append (IsWithin (2 ^ 90)) cells.forms last (wider cells.forms cells.within) order_made.within));
-  } where
-    wider : (rows : List Form) → All (IsWithin most_made) rows → All (IsWithin (2 ^ 90)) rows
-    wider rows h = All-weaker (IsWithin most_made) (IsWithin (2 ^ 90))
-        (λ f k. farther most_made (2 ^ 90) f (omega arith) k) rows h
+  whole_small = standing.whole_small n r w p c here strided small reader order order_made
 
   abbrev own_system : RowSystem
   own_system = with_rows (with_write_at r c w) order
 
   own_made : row_forms more own_system.rows ≡ Some whole
-  own_made =
-      ap (row_forms more) (regroup c.rows (domain_rows forms place) (cell_rows writes reads place) order)
-      ∙ forms_append more c.rows (domain_rows forms place ++ (cell_rows writes reads place ++ order)) wide
-      (domain.forms ++ (cells.forms ++ last)) wide_made
-      (forms_append more (domain_rows forms place) (cell_rows writes reads place ++ order) domain.forms
-      (cells.forms ++ last) domain.are
-      (forms_append more (cell_rows writes reads place) order cells.forms last cells.are order_made.are_made))
+  own_made = standing.own_made n r w p c here strided small reader order order_made
+
+  domain_stand : StandAt whole here domain.forms
+  domain_stand = standing.domain_stand n r w p c here strided small reader order order_made
+
+  cells_stand : StandAt whole (here + length forms) cells.forms
+  cells_stand = standing.cells_stand n r w p c here strided small reader order order_made
+
+  last_stand : StandAt whole (here + length forms + 2 * length writes) last
+  last_stand = standing.last_stand n r w p c here strided small reader order order_made
+
+  whole_count : length whole ≡ here + (length forms + (2 * length writes + length order))
+  whole_count = standing.whole_count n r w p c here strided small reader order order_made
 
   abbrev told_system : RowSystem
   told_system = with_rows (with_write_at (told_read c.vars places r w) c (told_write w)) order
@@ -262,41 +242,8 @@ module _ (n : Nest) (r w : Occurrence) (p : ℕ) (c : Context) (here root : ℕ)
   abbrev told_cells : List RowExpr
   told_cells = cell_rows (problem_writes writes) (problem_reads c.vars (length r.statement.loops) places writes reads) place
 
-  domain_stand : StandAt whole here domain.forms
-  domain_stand = subst (λ n. StandAt whole n domain.forms) wide_count
-      (stand_behind wide domain.forms (cells.forms ++ last))
-
-  cells_stand : StandAt whole (here + length forms) cells.forms
-  cells_stand i row is =
-      let even : here + length forms + i ≡ length wide + (length domain.forms + i) =
-      omega (arith, wide_count, domain_is) in
-      ap (slice_get whole) even ∙ get_behind wide (domain.forms ++ (cells.forms ++ last)) (length domain.forms + i)
-      ∙ stand_behind domain.forms cells.forms last i row is
-
-  last_stand : StandAt whole (here + length forms + 2 * length writes) last
-  last_stand i row is =
-      let even : here + length forms + 2 * length writes + i
-      ≡ length wide + (length domain.forms + (length cells.forms + i)) =
-      omega (arith, wide_count, domain_is, cells_is) in
-      ap (slice_get whole) even
-      ∙ get_behind wide (domain.forms ++ (cells.forms ++ last)) (length domain.forms + (length cells.forms + i))
-      ∙ get_behind domain.forms (cells.forms ++ last) (length cells.forms + i)
-      ∙ get_behind cells.forms last i ∙ is
-
   abbrev sources : List Source
   sources = write_sources forms writes root places here (length order)
-
-  whole_count : length whole ≡ here + (length forms + (2 * length writes + length order))
-  whole_count = omega (
-    arith,
-    length-append wide (domain.forms ++ (cells.forms ++ last)),
-    length-append domain.forms (cells.forms ++ last),
-    length-append cells.forms last,
-    wide_count,
-    domain_is,
-    cells_is,
-    last_count,
-  )
 
   domain_told_all : (v : List Form) → row_forms more told_domain ≡ Some v → AreRowsTold more whole place here forms v
   domain_told_all v h = rows_are_told more whole forms place here domain.forms v domain.are h domain_stand fits.forms

@@ -19,14 +19,14 @@ use Rattle.int_polyhedra.proofs.Variables.{and_both, both_and, equal_where, leng
 use Rattle.lex_max.specs.Class.{count_of, is_difference}
 use Rattle.sanlp.specs.Bounds.{BoundsAbove}
 use Rattle.sanlp.specs.WellFormed.{form_fits, is_moderate}
-use Rattle.stride_trees.specs.Class.{is_pair, is_single, stride_of}
+use Rattle.stride_rows.specs.Class.{is_pair, is_single, stride_of}
 use Rattle.stride_trees.specs.Problem.{problem_rows}
-use Rattle.stride_trees.specs.Sources.{divided_form}
-use Rattle.stride_trees.proofs.Coefficients.{how_many, how_many_is, is_less, is_one, is_other, is_outside, is_trit, none_other}
-use Rattle.stride_trees.proofs.Coefficients.{once, outside_counts}
-use Rattle.stride_trees.proofs.Floors.{floor_multiple}
-use Rattle.stride_trees.proofs.Sourcing.{counts_all, single_where}
-use Rattle.stride_trees.proofs.Telling.{stride_positive}
+use Rattle.stride_rows.specs.Sources.{divided_form}
+use Rattle.stride_rows.proofs.Coefficients.{how_many, how_many_is, is_less, is_one, is_other, is_outside, is_trit, none_other}
+use Rattle.stride_rows.proofs.Coefficients.{once, outside_counts}
+use Rattle.stride_rows.proofs.Floors.{floor_multiple}
+use Rattle.stride_rows.proofs.Sourcing.{counts_all, single_where}
+use Rattle.stride_rows.proofs.Telling.{stride_positive}
 
 -- Coefficients without a stride
 

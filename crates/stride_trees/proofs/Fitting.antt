@@ -21,7 +21,7 @@ use Rattle.sanlp.specs.declared.nest.ArrayDecl.{ArrayDecl}
 use Rattle.sanlp.specs.declared.nest.Nest.{Nest}
 use Rattle.sanlp.specs.WellFormed.{access_fits, form_fits, statement_fits}
 use Rattle.source_tree.specs.Systems.{Occurrence}
-use Rattle.stride_trees.specs.Class.{is_pair, is_single}
+use Rattle.stride_rows.specs.Class.{is_pair, is_single}
 use Rattle.stride_trees.specs.Strides.{AreStrided}
 
 pub record AreFitting (n : Nest) (r w : Occurrence) (p : ℕ) : Type 0 where

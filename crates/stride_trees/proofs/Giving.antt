@@ -40,16 +40,16 @@ use Rattle.source_tree.specs.declared.tree.Tree.TheOpen as open_
 use Rattle.source_tree.specs.declared.tree.Tree.TheVariants.{Zero}
 use Rattle.source_tree.specs.declared.tree.Tree.TheViews.{Divides, rolls-Divides}
 use Rattle.stride_trees.specs.Candidates.{HasTests}
-use Rattle.stride_trees.specs.Class.{is_single}
+use Rattle.stride_rows.specs.Class.{is_single}
 use Rattle.stride_trees.specs.Contexts.{AreTestsIn, IsTestIn}
 use Rattle.stride_trees.specs.Divisions.{divided_context, division_of}
 use Rattle.stride_trees.specs.Problem.{problem_reads, problem_writes, told_read, told_write}
-use Rattle.stride_trees.specs.Sources.{loop_of, next_place, places_behind}
+use Rattle.stride_rows.specs.Sources.{loop_of, next_place, places_behind}
 use Rattle.stride_trees.specs.Strides.{depth_of_read, read_of, root_of, write_of, IsStrided, IsTestOf}
 use Rattle.stride_trees.specs.declared.divisions.Division.{Division}
 use Rattle.stride_trees.specs.declared.strides.Strides.{Strides}
 use Rattle.stride_trees.proofs.Fitting.{are_fitting, AreFitting}
-use Rattle.stride_trees.proofs.Floors.{divides_multiple}
+use Rattle.stride_rows.proofs.Floors.{divides_multiple}
 use Rattle.stride_trees.proofs.Systems.{test_form}
 use Rattle.stride_trees.proofs.Testing.{divisor_is, form_small, of_stride}
 use Rattle.stride_trees.proofs.Valuing.{rows_hold, subscript_means, test_value}

@@ -28,24 +28,24 @@ use Rattle.source_tree.specs.Checked.{IsRefuted}
 use Rattle.source_tree.specs.Places.{at_place}
 use Rattle.source_tree.specs.Rows.{RowExpr, below_zero, row_forms}
 use Rattle.source_tree.specs.Systems.{Context, with_rows}
-use Rattle.stride_trees.specs.Class.{is_pair, is_single}
+use Rattle.stride_rows.specs.Class.{is_pair, is_single}
 use Rattle.stride_trees.specs.Candidates.{IsCutSumOf}
-use Rattle.stride_trees.specs.Cuts.{added_of, converted_sum, cuts_of, AreSources, IsCutSum}
-use Rattle.stride_trees.specs.Sources.{cut_of, divided_form, own_sources, row_source}
+use Rattle.stride_rows.specs.Cuts.{added_of, converted_sum, cuts_of, AreSources, IsCutSum}
+use Rattle.stride_rows.specs.Sources.{cut_of, divided_form, own_sources, row_source}
 use Rattle.stride_trees.specs.Strides.{IsSmallContext}
-use Rattle.stride_trees.specs.declared.cuts.Source.{Source}
-use Rattle.stride_trees.specs.declared.cuts.Source.TheVariants.{Own}
+use Rattle.stride_rows.specs.declared.cuts.Source.{Source}
+use Rattle.stride_rows.specs.declared.cuts.Source.TheVariants.{Own}
 use Rattle.stride_trees.proofs.Adding.{added_all, added_behind, before_both, before_own, cuts_behind, cuts_few, TakeBefore}
-use Rattle.stride_trees.proofs.Cutting.{converted_is_cut_sum, converted_refutes, get_before, get_behind, IsMultipleOf}
-use Rattle.stride_trees.proofs.Dividing.{outside_multiple}
-use Rattle.stride_trees.proofs.Floors.{floor_shifted}
+use Rattle.stride_rows.proofs.Cutting.{converted_is_cut_sum, converted_refutes, get_before, get_behind, IsMultipleOf}
+use Rattle.stride_rows.proofs.Dividing.{outside_multiple}
+use Rattle.stride_rows.proofs.Floors.{floor_shifted}
 use Rattle.stride_trees.proofs.Gluing.{made_both, AreMadeBoth}
-use Rattle.stride_trees.proofs.Indivisible.{below_one, number_part, once_row}
+use Rattle.stride_rows.proofs.Indivisible.{below_one, number_part, once_row}
 use Rattle.stride_trees.proofs.Lists.{made_first, IsMadeFirst}
 use Rattle.stride_trees.proofs.Reaching.{made_within, IsMadeWithin, IsReached}
-use Rattle.stride_trees.proofs.Sourcing.{cut_told, multiple_as, row_told, same_row, sources_append, stride_divides}
-use Rattle.stride_trees.proofs.Sourcing.{IsSmallSystem}
-use Rattle.stride_trees.proofs.Telling.{own_told, stride_positive}
+use Rattle.stride_rows.proofs.Sourcing.{cut_told, multiple_as, row_told, same_row, sources_append, stride_divides}
+use Rattle.stride_rows.proofs.Sourcing.{IsSmallSystem}
+use Rattle.stride_rows.proofs.Telling.{own_told, stride_positive}
 
 -- the sum of two rows: so many times a row, and a number that comes through the division
 pub two_multiple : (rows : List Form) (d a b : ℕ) (z : RowParts) (less : ℤ) → 0 < d → floor less d ≡ less

@@ -42,7 +42,7 @@ use Rattle.stride_trees.specs.Candidates.{AreCutSums, AreNoneCutSums, AreWriterC
 use Rattle.stride_trees.specs.Contexts.{outside_cell_systems, own_system, told_system, AddsConverted, AreMadeSmall}
 use Rattle.stride_trees.specs.Contexts.{AreOrders, AreTestsIn, IsConvertedTree, IsPlaceIn, IsTestedContext}
 use Rattle.stride_trees.specs.Problem.{problem_reads, problem_write, told_read, told_write}
-use Rattle.stride_trees.specs.Sources.{divided_form, next_place, places_behind}
+use Rattle.stride_rows.specs.Sources.{divided_form, next_place, places_behind}
 use Rattle.stride_trees.specs.Strides.{depth_of_read, depth_of_write, read_of, root_of, write_of, IsStrided}
 use Rattle.stride_trees.specs.declared.strides.Strides.{Strides}
 use Rattle.stride_trees.proofs.Fitting.{are_fitting, AreFitting}

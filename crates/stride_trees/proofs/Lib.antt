@@ -1,26 +1,15 @@
 pub mod Multiples
-mod Coefficients
-mod Reading
-mod Shifts
-mod Floors
-mod Sums
-mod Places
 pub mod Lists
 mod Reaching
-mod Cutting
-mod Singles
-pub mod Indivisible
 mod Rows
 pub mod Fitting
 pub mod Placing
 pub mod Systems
 pub mod Testing
-pub mod Dividing
-mod Sourcing
-mod Subscripts
-mod Telling
 mod Gluing
+mod Standing
 mod Converting
+mod Unwritten
 mod LastRows
 mod Differing
 mod Tested

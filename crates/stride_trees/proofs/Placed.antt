@@ -22,11 +22,11 @@ use Rattle.source_tree.specs.Places.{at_place}
 use Rattle.source_tree.specs.Rows.{RowExpr, RowSystem, Take, below_zero, minus, one_less}
 use Rattle.source_tree.specs.Systems.{Context}
 use Rattle.stride_trees.specs.Candidates.{AreCutSums, IsCutSumOf}
-use Rattle.stride_trees.specs.Class.{is_pair, is_single, is_stride}
+use Rattle.stride_rows.specs.Class.{is_pair, is_single, is_stride}
 use Rattle.stride_trees.specs.Contexts.{differing, last_system, outside_of, AddsConverted, AreTestsIn, IsPlaceIn}
 use Rattle.stride_trees.specs.Problem.{problem_read, problem_reads, problem_rows, problem_write, problem_writes}
-use Rattle.stride_trees.specs.Sources.{cell_source, divided_form, is_turned, last_converted, next_place, places_behind}
-use Rattle.stride_trees.specs.Sources.{row_source, subscript_converted}
+use Rattle.stride_rows.specs.Sources.{cell_source, divided_form, is_turned, last_converted, next_place, places_behind}
+use Rattle.stride_rows.specs.Sources.{row_source, subscript_converted}
 use Rattle.stride_trees.specs.Strides.{IsSmallContext}
 use Rattle.stride_trees.proofs.Adding.{cell_before, row_before, test_before}
 use Rattle.stride_trees.proofs.Asking.{told_cell, tests_inside}

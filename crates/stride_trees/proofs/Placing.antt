@@ -21,12 +21,12 @@ use Rattle.row_sums.proofs.Ideal.{product_part}
 use Rattle.row_sums.proofs.Making.{widened_part}
 use Rattle.source_tree.specs.Places.{at_place}
 use Rattle.source_tree.specs.Rows.{Take, minus, number}
-use Rattle.stride_trees.specs.Class.{is_single, stride_of}
+use Rattle.stride_rows.specs.Class.{is_single, stride_of}
 use Rattle.stride_trees.specs.Divisions.{division_of}
-use Rattle.stride_trees.specs.Sources.{loop_of}
-use Rattle.stride_trees.proofs.Coefficients.{how_many, how_many_is, is_other}
-use Rattle.stride_trees.proofs.Indivisible.{number_part}
-use Rattle.stride_trees.proofs.Singles.{single_terms, stride_coefficient}
+use Rattle.stride_rows.specs.Sources.{loop_of}
+use Rattle.stride_rows.proofs.Coefficients.{how_many, how_many_is, is_other}
+use Rattle.stride_rows.proofs.Indivisible.{number_part}
+use Rattle.stride_rows.proofs.Singles.{single_terms, stride_coefficient}
 
 -- Parts
 

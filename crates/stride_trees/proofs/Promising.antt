@@ -41,7 +41,7 @@ use Rattle.source_tree.specs.Systems.{test_yes, with_write, write_to, writes_fro
 use Rattle.source_tree.specs.declared.tree.Tree.{Tree}
 use Rattle.stride_trees.specs.Candidates.{at_test as cut_test, at_writer as cut_writer, at_zero as cut_zero, IsCutTree}
 use Rattle.stride_trees.specs.Candidates.{IsStrideTree}
-use Rattle.stride_trees.specs.Class.{stride_count, writes_strides, IsInStrideClass}
+use Rattle.stride_rows.specs.Class.{stride_count, writes_strides, IsInStrideClass}
 use Rattle.stride_trees.specs.Contexts.{first_places, IsConvertedTree, IsTestedContext, IsToldTree}
 use Rattle.stride_trees.specs.Problem.{told_read, told_write}
 use Rattle.stride_trees.specs.Strides.{depth_of_read, read_of, root_of, tested_context, tests_of, write_of, ArePlaces, AreStrided}

@@ -14,13 +14,13 @@ use Rattle.row_sums.proofs.Ideal.{product_part}
 use Rattle.row_sums.proofs.Making.{widened_part}
 use Rattle.source_tree.specs.Places.{at_place}
 use Rattle.source_tree.specs.Rows.{number}
-use Rattle.stride_trees.specs.Class.{is_single, is_stride, stride_of}
+use Rattle.stride_rows.specs.Class.{is_single, is_stride, stride_of}
 use Rattle.stride_trees.specs.Problem.{problem_read, problem_write}
-use Rattle.stride_trees.specs.Sources.{falls, loop_of}
-use Rattle.stride_trees.proofs.Coefficients.{how_many, is_other, outside_counts}
-use Rattle.stride_trees.proofs.Indivisible.{number_part}
+use Rattle.stride_rows.specs.Sources.{falls, loop_of}
+use Rattle.stride_rows.proofs.Coefficients.{how_many, is_other, outside_counts}
+use Rattle.stride_rows.proofs.Indivisible.{number_part}
 use Rattle.stride_trees.proofs.Placing.{few_others, moved_part}
-use Rattle.stride_trees.proofs.Singles.{at_loop, less_coefficient, less_counts, loop_inside, single_terms}
+use Rattle.stride_rows.proofs.Singles.{at_loop, less_coefficient, less_counts, loop_inside, single_terms}
 
 abbrev pub loop_at : Form → List Form → RowParts
 loop_at write place part = row_part place part (loop_of write.coefs)

@@ -42,22 +42,22 @@ use Rattle.source_tree.specs.Systems.{with_write_at, writer_place, zero_systems}
 use Rattle.source_tree.specs.declared.tree.Tree.{Tree}
 use Rattle.source_tree.specs.declared.tree.Tree.TheVariants.{Zero}
 use Rattle.stride_trees.specs.Candidates.{order_number, AreCutSums, AreNoneCutSums}
-use Rattle.stride_trees.specs.Class.{is_single, stride_of}
-use Rattle.stride_trees.specs.Cuts.{IsCutSum}
+use Rattle.stride_rows.specs.Class.{is_single, stride_of}
+use Rattle.stride_rows.specs.Cuts.{IsCutSum}
 use Rattle.stride_trees.specs.Divisions.{division_of}
-use Rattle.stride_trees.specs.Sources.{loop_of}
+use Rattle.stride_rows.specs.Sources.{loop_of}
 use Rattle.stride_trees.specs.Strides.{AreStrided, IsSmallContext}
 use Rattle.stride_trees.specs.declared.divisions.Division.{Division}
-use Rattle.stride_trees.proofs.Coefficients.{found_passes, found_within, outside_counts}
-use Rattle.stride_trees.proofs.Cutting.{get_behind}
+use Rattle.stride_rows.proofs.Coefficients.{found_passes, found_within, outside_counts}
+use Rattle.stride_rows.proofs.Cutting.{get_behind}
 use Rattle.stride_trees.proofs.Fitting.{are_fitting, AreFitting}
-use Rattle.stride_trees.proofs.Indivisible.{number_part, undivided_is_cut_sum, undivided_proof, undivided_refutes}
-use Rattle.stride_trees.proofs.Indivisible.{within_parts, AreUndivided}
+use Rattle.stride_rows.proofs.Indivisible.{number_part, undivided_is_cut_sum, undivided_proof, undivided_refutes}
+use Rattle.stride_rows.proofs.Indivisible.{within_parts, AreUndivided}
 use Rattle.stride_trees.proofs.Lists.{forms_count}
 use Rattle.stride_trees.proofs.Placing.{part_within, stride_rows, AreStrideRows}
 use Rattle.stride_trees.proofs.Rows.{cells_at, cells_count, domain_count, get_behind_rows, get_behind_two, level_count}
 use Rattle.stride_trees.proofs.Rows.{small_cells, small_undivided, AreCellRows}
-use Rattle.stride_trees.proofs.Singles.{loop_inside}
+use Rattle.stride_rows.proofs.Singles.{loop_inside}
 
 -- a stride of a form with small numbers
 pub record IsStrideOf (c : ℤ) : Type 0 where
@@ -256,6 +256,10 @@ module _ (n : Nest) (r w : Occurrence) (p : ℕ) (c : Context) (here i : ℕ) (w
   whole_within = All-append (IsWithin most_made) wide made.forms
       (within_widened more (2 ^ 50) most_made s.small.rows (omega arith) s.small.within) made.within
 
+  whole_near : All (IsWithin (2 ^ 90)) whole
+  whole_near = All-weaker (IsWithin most_made) (IsWithin (2 ^ 90))
+      (λ f k. farther most_made (2 ^ 90) f (omega arith) k) whole whole_within
+
   own_count : length own ≡ 2 + (length w.statement.rows + (2 * length w.access.subscripts + length level.rows))
   own_count = omega (
     arith,
@@ -402,7 +406,7 @@ module _ (n : Nest) (r w : Occurrence) (p : ℕ) (c : Context) (here i : ℕ) (w
         rows = whole;
         are_made = system_made;
         refuted = subst (λ k. Refutes more whole (undivided_proof d here up down k)) whole_count
-            (undivided_refutes more whole d here up down f q v whole_over whole_within (undivided rises told));
+            (undivided_refutes more whole d here up down f q v whole_over whole_near (undivided rises told));
       }
 
   pub no_refuted : AreRefuted (zero_systems n r (just w.number p) no) (proof ∷ [])
@@ -444,7 +448,7 @@ module _ (n : Nest) (r w : Occurrence) (p : ℕ) (c : Context) (here i : ℕ) (w
           rows = whole;
           are_made = system_made;
           is_cut_sum = subst (λ k. IsCutSum more whole (order_number r w no) (undivided_proof d here up down k)) whole_count
-              (undivided_is_cut_sum more whole d here up down f q v whole_over whole_within (undivided rises told)
+              (undivided_is_cut_sum more whole d here up down f q v whole_over whole_near (undivided rises told)
               (order_number r w no) (omega (arith, before_order)) (up_before rises) (down_before rises));
         },
         tt,

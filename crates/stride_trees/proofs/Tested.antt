@@ -29,13 +29,13 @@ use Rattle.row_sums.proofs.Making.{widened_length, widened_part}
 use Rattle.row_sums.proofs.Wider.{made_widens}
 use Rattle.source_tree.specs.Rows.{RowExpr, Take, minus, row_forms}
 use Rattle.source_tree.specs.Systems.{Context, divided_rows, divides_yes, multiple, root_context}
-use Rattle.stride_trees.specs.Class.{stride_of}
+use Rattle.stride_rows.specs.Class.{stride_of}
 use Rattle.stride_trees.specs.Contexts.{AreTestsIn, IsTestIn}
 use Rattle.stride_trees.specs.Divisions.{divided_context, division_of, divisions_from, quotient_rows}
 use Rattle.stride_trees.specs.Strides.{depth_of_read, read_of, write_of, IsSmallContext, IsStrided, IsTestOf}
 use Rattle.stride_trees.specs.declared.divisions.Division.{Division}
 use Rattle.stride_trees.specs.declared.strides.Strides.{Strides}
-use Rattle.stride_trees.proofs.Dividing.{same_forms}
+use Rattle.stride_rows.proofs.Dividing.{same_forms}
 use Rattle.stride_trees.proofs.Fitting.{are_fitting, AreFitting}
 use Rattle.stride_trees.proofs.Systems.{widened_test, IsTestForm}
 use Rattle.stride_trees.proofs.Testing.{divisor_is, form_small, of_stride, yes_rows, yes_small, AreYesRows}

@@ -17,13 +17,10 @@ use Rattle.affine_core.specs.declared.form.Form.{Form}
 use Rattle.affine_core.specs.Affine.{variable_form, widened_form}
 use Rattle.int_polyhedra.specs.declared.system.Proof.{Proof}
 use Rattle.int_polyhedra.specs.declared.system.Proof.TheVariants.{Sum}
-use Rattle.int_polyhedra.specs.declared.system.Proof.TheViews.{Cut}
-use Rattle.int_polyhedra.specs.declared.system.Term.{Term}
 use Rattle.int_polyhedra.specs.Systems.{AreOver}
 use Rattle.int_polyhedra.proofs.Variables.{both_and}
 use Rattle.std.proofs.lemmas.Bool.{eq-eqb}
 use Rattle.lex_max.specs.Level.{common_of}
-use Rattle.lex_max.specs.Paths.{term_of}
 use Rattle.lex_max.proofs.Fitting.{form_is, FormFits}
 use Rattle.lex_max.proofs.Ordering.{variable_over, variable_within}
 use Rattle.lex_max.proofs.Refuting.{over_append, over_widened, within_widened}
@@ -49,7 +46,7 @@ use Rattle.stride_trees.specs.Strides.{IsSmallContext, IsStrided, IsTested, IsTe
 use Rattle.stride_trees.specs.declared.divisions.Division.{Division}
 use Rattle.stride_trees.specs.declared.strides.Strides.{Strides}
 use Rattle.stride_trees.proofs.Fitting.{are_fitting, AreFitting}
-use Rattle.stride_trees.proofs.Indivisible.{near_from, size_from, within_parts, IsNear}
+use Rattle.stride_rows.proofs.Indivisible.{indivisible_proof, near_from, size_from, within_parts, IsNear}
 use Rattle.stride_trees.proofs.Placing.{part_within}
 use Rattle.stride_trees.proofs.Systems.{no_checked, no_cut_sums, no_proof, stride_is, test_form, widened_test, IsStrideOf, IsSubscript}
 use Rattle.stride_trees.proofs.Systems.{IsTestForm}
@@ -85,9 +82,6 @@ subscript_room s d strided test =
 
 -- The no
 
-abbrev twice : ℕ → ℕ → List Term
-twice a b = term_of a ∷ term_of b ∷ []
-
 module _ (s : Strides) (d : Division) (strided : IsStrided s) (test : IsTestOf s d) where
   fits : AreFitting s.nest.now (read_of s) (write_of s) s.level
   fits = are_fitting s.nest.now (read_of s) (write_of s) s.level strided.strided
@@ -113,13 +107,10 @@ module _ (s : Strides) (d : Division) (strided : IsStrided s) (test : IsTestOf s
       write_fits read_fits)
 
   -- the no tree
-  module _ (here : ℕ) (sum high low : List Term) (rest proof : Proof) (tree : Tree) (above below count : ℕ)
-      (above_is : above ≡ cond d.rises (cell_number s here d.subscript) (cell_number s here d.subscript + 1))
-      (below_is : below ≡ cond d.rises (cell_number s here d.subscript + 1) (cell_number s here d.subscript))
-      (count_is : count ≡ row_count s here) (sum_is : sum ≡ twice count (count + 1))
-      (high_is : high ≡ twice (here + 1) below) (rest_is : rest ≡ Cut d.divisor high (Sum sum))
-      (low_is : low ≡ twice here above) (proof_is : proof ≡ Cut d.divisor low rest)
-      (tree_is : tree ≡ Zero (proof ∷ [])) where
+  module _ (here : ℕ) (proof : Proof) (tree : Tree) (row above below count : ℕ)
+      (row_is : row ≡ cell_number s here d.subscript) (above_is : above ≡ cond d.rises row (row + 1))
+      (below_is : below ≡ cond d.rises (row + 1) row) (count_is : count ≡ row_count s here)
+      (proof_is : proof ≡ indivisible_proof d.divisor here above below count) (tree_is : tree ≡ Zero (proof ∷ [])) where
     abbrev rises : Bool
     rises = int_lt (pos 0) test.stride
 
@@ -140,14 +131,13 @@ module _ (s : Strides) (d : Division) (strided : IsStrided s) (test : IsTestOf s
 
     own_proof : proof ≡ no_proof (read_of s) (write_of s) s.level here d.subscript test.stride
     own_proof =
-        proof_is ∙ ap (λ z. Cut z low rest) divisor_is
-        ∙ ap (λ ts. Cut size ts rest) (low_is ∙ ap (twice here) (above_is ∙ ap (λ b. cond b cell (cell + 1)) rises_is))
-        ∙ ap (Cut size (twice here (cond rises cell (cell + 1))))
-        (rest_is ∙ ap (λ z. Cut z high (Sum sum)) divisor_is
-        ∙ ap (λ ts. Cut size ts (Sum sum))
-        (high_is ∙ ap (twice (here + 1)) (below_is ∙ ap (λ b. cond b (cell + 1) cell) rises_is))
-        ∙ ap (λ ts. Cut size (twice (here + 1) (cond rises (cell + 1) cell)) (Sum ts))
-        (sum_is ∙ ap (λ n. twice n (n + 1)) (count_is ∙ whole_count)))
+        proof_is ∙ ap (λ z. indivisible_proof z here above below count) divisor_is
+        ∙ ap (λ up. indivisible_proof size here up below count)
+        (above_is ∙ ap (λ row. cond d.rises row (row + 1)) row_is ∙ ap (λ b. cond b cell (cell + 1)) rises_is)
+        ∙ ap (λ down. indivisible_proof size here (cond rises cell (cell + 1)) down count)
+        (below_is ∙ ap (λ row. cond d.rises (row + 1) row) row_is ∙ ap (λ b. cond b (cell + 1) cell) rises_is)
+        ∙ ap (indivisible_proof size here (cond rises cell (cell + 1)) (cond rises (cell + 1) cell))
+        (count_is ∙ whole_count)
 
     subscript_in : (c : Context) → depth_of_read s ≤ c.vars → IsSmallContext c here
         → IsSubscript s.nest.now (read_of s) (write_of s) s.level c here d.subscript test.write test.read test.stride

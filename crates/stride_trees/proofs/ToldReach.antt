@@ -20,10 +20,10 @@ use Rattle.lex_max.proofs.Small.{farther}
 use Rattle.sanlp.specs.WellFormed.{form_fits}
 use Rattle.source_tree.specs.Places.{at_place, cell_rows, domain_rows, variables}
 use Rattle.source_tree.specs.Rows.{Take, minus}
-use Rattle.stride_trees.specs.Class.{is_pair, is_single}
+use Rattle.stride_rows.specs.Class.{is_pair, is_single}
 use Rattle.stride_trees.specs.Problem.{problem_rows}
-use Rattle.stride_trees.specs.Sources.{divided_form}
-use Rattle.stride_trees.proofs.Coefficients.{is_bit, is_trit}
+use Rattle.stride_rows.specs.Sources.{divided_form}
+use Rattle.stride_rows.proofs.Coefficients.{is_bit, is_trit}
 use Rattle.stride_trees.proofs.Differing.{divided_difference, divided_fits}
 use Rattle.stride_trees.proofs.Reaching.{minus_reached, placed_reached, reached_farther, taken_reached, AreBounded}
 use Rattle.stride_trees.proofs.Reaching.{AreReached, IsBounded, IsReached}

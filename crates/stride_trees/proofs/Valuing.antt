@@ -20,17 +20,17 @@ use Rattle.int_polyhedra.specs.Steps.{floor, quotient_row}
 use Rattle.int_polyhedra.proofs.Floor.{floor_exact}
 use Rattle.int_polyhedra.proofs.Variables.{and_both}
 use Rattle.sanlp.specs.Loops.{all_hold}
-use Rattle.stride_trees.specs.Class.{is_pair, is_single, stride_of}
+use Rattle.stride_rows.specs.Class.{is_pair, is_single, stride_of}
 use Rattle.stride_trees.specs.Divisions.{division_of}
 use Rattle.stride_trees.specs.Problem.{problem_read, problem_rows, problem_write}
-use Rattle.stride_trees.specs.Sources.{divided_form, falls, loop_of}
-use Rattle.stride_trees.proofs.Coefficients.{how_many, is_other, none_other, once}
-use Rattle.stride_trees.proofs.Floors.{floor_multiple, floor_shifted}
+use Rattle.stride_rows.specs.Sources.{divided_form, falls, loop_of}
+use Rattle.stride_rows.proofs.Coefficients.{how_many, is_other, none_other, once}
+use Rattle.stride_rows.proofs.Floors.{floor_multiple, floor_shifted}
 use Rattle.stride_trees.proofs.Placing.{few_others}
 use Rattle.stride_trees.proofs.Quotients.{read_is, write_is}
-use Rattle.stride_trees.proofs.Singles.{coefficient_of, less_coefficient, stride_coefficient}
-use Rattle.stride_trees.proofs.Sourcing.{stride_divides}
-use Rattle.stride_trees.proofs.Telling.{stride_positive}
+use Rattle.stride_rows.proofs.Singles.{coefficient_of, less_coefficient, stride_coefficient}
+use Rattle.stride_rows.proofs.Sourcing.{stride_divides}
+use Rattle.stride_rows.proofs.Telling.{stride_positive}
 
 -- Domain rows
 

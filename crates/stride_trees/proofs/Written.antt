@@ -21,15 +21,15 @@ use Rattle.source_tree.specs.Rows.{RowExpr, RowSystem, below_zero}
 use Rattle.source_tree.specs.Places.{at_place}
 use Rattle.source_tree.specs.Systems.{Context, Occurrence, with_rows}
 use Rattle.stride_trees.specs.Candidates.{order_number, AreCutSums, IsCutSumOf}
-use Rattle.stride_trees.specs.Class.{is_pair, is_single}
+use Rattle.stride_rows.specs.Class.{is_pair, is_single}
 use Rattle.stride_trees.specs.Contexts.{differing, outside_of, own_system, outside_cell_systems, told_system, AddsConverted}
 use Rattle.stride_trees.specs.Contexts.{AreMadeSmall, AreOrders, AreTestsIn, IsPlaceIn, IsSum, IsTestedContext}
-use Rattle.stride_trees.specs.Cuts.{converted_sum}
+use Rattle.stride_rows.specs.Cuts.{converted_sum}
 use Rattle.stride_trees.specs.Problem.{problem_reads, problem_rows, problem_writes, told_read, told_write}
-use Rattle.stride_trees.specs.Sources.{divided_form, last_converted, next_place, places_behind, row_source}
-use Rattle.stride_trees.specs.Sources.{subscript_converted, write_sources}
+use Rattle.stride_rows.specs.Sources.{divided_form, last_converted, next_place, places_behind, row_source}
+use Rattle.stride_rows.specs.Sources.{subscript_converted, write_sources}
 use Rattle.stride_trees.specs.Strides.{depth_of_read, depth_of_write, read_of, root_of, write_of, IsSmallContext, IsStrided}
-use Rattle.stride_trees.specs.declared.cuts.Source.{Source}
+use Rattle.stride_rows.specs.declared.cuts.Source.{Source}
 use Rattle.stride_trees.specs.declared.strides.Strides.{Strides}
 use Rattle.stride_trees.proofs.Converting.{converted_write, write_cut_sum}
 use Rattle.stride_trees.proofs.Fitting.{are_fitting, AreFitting}

@@ -10,7 +10,7 @@ use Rattle.source_tree.specs.Systems.{Context, Occurrence, after_systems, cell_s
 use Rattle.source_tree.specs.declared.tree.Tree.{Tree}
 use Rattle.source_tree.specs.declared.tree.Tree.TheVariants.{Writer, Zero}
 use Rattle.source_tree.specs.declared.tree.Tree.TheViews.{Divides, Test}
-use Rattle.stride_trees.specs.Cuts.{IsCutSum}
+use Rattle.stride_rows.specs.Cuts.{IsCutSum}
 use Rattle.stride_trees.specs.Divisions.{divided_context, divisions_from}
 use Rattle.stride_trees.specs.declared.divisions.Division.{Division}
 

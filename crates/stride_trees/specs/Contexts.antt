@@ -17,14 +17,15 @@ use Rattle.source_tree.specs.Checked.{AreRefuted, HaveVariables}
 use Rattle.source_tree.specs.Gives.{gives}
 use Rattle.source_tree.specs.Places.{at_place, differ_rows}
 use Rattle.source_tree.specs.Rows.{RowExpr, RowSystem, Take, below_zero, minus, row_forms}
-use Rattle.source_tree.specs.Systems.{Context, Occurrence, cell_systems, multiple, outside_systems, with_rows, with_write_at}
+use Rattle.source_tree.specs.Systems.{Context, Occurrence, cell_systems, multiple, outside_systems, undivided_rows, with_rows, with_write_at}
 use Rattle.source_tree.specs.declared.tree.Tree.{Tree}
 use Rattle.stride_trees.specs.Candidates.{AreCutSums, IsCutTree}
-use Rattle.stride_trees.specs.Class.{stride_of}
+use Rattle.stride_rows.specs.Class.{stride_of}
 use Rattle.stride_trees.specs.Divisions.{division_of}
 use Rattle.stride_trees.specs.Problem.{told_read, told_write}
-use Rattle.stride_trees.specs.Sources.{next_place, places_behind}
+use Rattle.stride_rows.specs.Sources.{next_place, places_behind}
 use Rattle.stride_trees.specs.Strides.{depth_of_read, read_of, root_of, tests_of, write_of, IsSmallContext}
+use Rattle.stride_trees.specs.declared.divisions.Division.{Division}
 use Rattle.stride_trees.specs.declared.strides.Strides.{Strides}
 
 -- the two rows of a test that says yes stand in the context from this row on, for the quotient that is this variable
@@ -52,6 +53,21 @@ pub record IsTestedContext (s : Strides) (places : List ℕ) (here : ℕ) (c : C
   pub reader : depth_of_read s ≤ c.vars
   pub tests : AreTestsIn c (depth_of_read s) (root_of s) places (write_of s).access.subscripts
       (read_of s).access.subscripts
+
+-- the two rows of a test that says no at a place
+abbrev pub no_rows : Strides → Division → ℕ → List RowExpr
+no_rows s d place =
+    let quotient = depth_of_read s + place in
+    undivided_rows quotient (widened_form quotient d.form) d.divisor
+
+-- a context with so many small rows, where one test of the write says no: its two rows stand at this place
+pub record IsUndividedContext (s : Strides) (d : Division) (place here : ℕ) (c : Context) : Type 0 where
+  pub small : IsSmallContext c here
+  pub inside : depth_of_read s + place < c.vars
+  pub first : slice_get c.rows (root_of s + 2 * place)
+      ≡ slice_get (no_rows s d place) 0
+  pub second : slice_get c.rows (root_of s + 2 * place + 1)
+      ≡ slice_get (no_rows s d place) 1
 
 -- the system of a write before the read, with these order rows, and the same over quotients
 abbrev pub own_system : Strides → Context → List RowExpr → RowSystem

@@ -5,7 +5,7 @@ use Rattle.std.specs.Int.RustNames.{int_lt}
 use Rattle.affine_core.specs.declared.form.Form.{Form}
 use Rattle.affine_core.specs.Affine.{form_product, form_sum, variable_form, widened_form}
 use Rattle.source_tree.specs.Systems.{Context, divides_yes}
-use Rattle.stride_trees.specs.Class.{stride_of}
+use Rattle.stride_rows.specs.Class.{stride_of}
 use Rattle.stride_trees.specs.declared.divisions.Division.{Division}
 
 -- the form with the sign of a number

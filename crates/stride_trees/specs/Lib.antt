@@ -1,8 +1,5 @@
-pub mod Class
-pub mod Cuts
 pub mod Divisions
 pub mod Candidates
 pub mod Strides
-pub mod Sources
 pub mod Problem
 pub mod Contexts

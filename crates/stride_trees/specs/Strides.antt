@@ -14,7 +14,7 @@ use Rattle.source_tree.specs.Checked.{IsCheckedIn}
 use Rattle.source_tree.specs.Systems.{Context, Occurrence, divides_no, just, named_write, root_context}
 use Rattle.source_tree.specs.declared.tree.Tree.{Tree}
 use Rattle.source_tree.specs.declared.tree.Tree.TheVariants.{Zero}
-use Rattle.stride_trees.specs.Class.{stride_count, stride_of, writes_strides}
+use Rattle.stride_rows.specs.Class.{stride_count, stride_of, writes_strides}
 use Rattle.stride_trees.specs.Candidates.{AreNoneCutSums, HasTests, IsCutTree}
 use Rattle.stride_trees.specs.Divisions.{divided_context, division_of, divisions_from}
 use Rattle.stride_trees.specs.declared.divisions.Division.{Division}

@@ -9,7 +9,7 @@ ghost use Rattle.source_tree.specs.Checked.{IsCheckedIn};
 ghost use Rattle.source_tree.specs.Systems.{just, named_write, read_at, root_context, Occurrence};
 ghost use Rattle.source_tree.specs.declared.tree.Tree.{Tree as TreeOf};
 ghost use Rattle.stride_trees.specs.Candidates.{IsStrideTree};
-ghost use Rattle.stride_trees.specs.Class.{IsInStrideClass};
+ghost use Rattle.stride_rows.specs.Class.{IsInStrideClass};
 ghost use Rattle.stride_trees.specs.Contexts.{first_places, IsToldTree};
 ghost use Rattle.stride_trees.specs.Strides.{depth_of_read, read_of, root_of, tested_context, tests_of, write_of, IsLastTree, IsStrided, IsTested};
 

@@ -11,22 +11,22 @@ ghost use Rattle.source_tree.specs.Checked.{AreRefuted, IsRefuted};
 ghost use Rattle.source_tree.specs.Rows.{RowExpr};
 ghost use Rattle.source_tree.specs.Systems.{Context};
 ghost use Rattle.stride_trees.specs.Candidates.{order_number, AreCutSums, IsCutSumOf};
-ghost use Rattle.stride_trees.specs.Class.{is_pair, is_single};
+ghost use Rattle.stride_rows.specs.Class.{is_pair, is_single};
 ghost use Rattle.stride_trees.specs.Contexts.{differing, outside_of, own_system, outside_cell_systems, told_system, AddsConverted, AreMadeSmall, AreTestsIn, IsPlaceIn, IsSum, IsTestedContext};
-ghost use Rattle.stride_trees.specs.Cuts.{converted_sum};
+ghost use Rattle.stride_rows.specs.Cuts.{converted_sum};
 ghost use Rattle.stride_trees.specs.Problem.{problem_reads, problem_rows, problem_writes, told_read, told_write};
-ghost use Rattle.stride_trees.specs.Sources.{last_converted, subscript_converted, write_sources as write_sources_of};
+ghost use Rattle.stride_rows.specs.Sources.{last_converted, subscript_converted, write_sources as write_sources_of};
 ghost use Rattle.stride_trees.specs.Strides.{depth_of_read, depth_of_write, read_of, root_of, write_of, IsSmallContext, IsStrided};
 
-use crate::cuts::{Source, converted};
-use crate::sources::{
-    cell_source, is_turned, next_test, places_behind, push_own, row_source, write_sources,
-};
 use crate::strides::Strides;
 use affine_core::{Form, Row};
 use int_polyhedra::{Proof, Term};
 use plain_data::Items;
 use std::alloc::{AllocError, Global};
+use stride_rows::{
+    Source, cell_source, converted, is_turned, next_test, places_behind, push_own, row_source,
+    write_sources,
+};
 
 /// The terms of a Sum.
 pub fn sum_terms(proof: &Proof) -> &[Term]

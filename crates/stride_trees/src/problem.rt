@@ -4,19 +4,18 @@ ghost use Rattle.affine_core.specs.Affine.{variable_form};
 ghost use Rattle.int_polyhedra.specs.Steps.{floor, quotient_row};
 ghost use Rattle.lex_max.specs.Asked.{read_of as asked_read, write_of as asked_write, IsAsked};
 ghost use Rattle.row_sums.specs.Parts.{IsWithin};
-ghost use Rattle.stride_trees.specs.Class.{is_stride};
+ghost use Rattle.stride_rows.specs.Class.{is_stride};
 ghost use Rattle.stride_trees.specs.Problem.{problem_read as read_told, problem_reads, problem_rows, problem_write as write_told, problem_writes, told_read, told_write};
-ghost use Rattle.stride_trees.specs.Sources.{divided_form, falls as falls_of, loop_of as loop_of_coefs};
+ghost use Rattle.stride_rows.specs.Sources.{divided_form, falls as falls_of, loop_of as loop_of_coefs};
 ghost use Rattle.stride_trees.specs.Strides.{depth_of_read, read_of, write_of, ArePlaces, IsStrided};
 
-use crate::class::{small_stride, stride_of};
 use crate::divisions::moved;
-use crate::sources::{falls, next_quotient, places_behind, size};
 use crate::strides::Strides;
 use affine_core::{Coefs, Form, Row};
 use lex_max::{Writes, negative};
 use plain_data::Items;
 use std::alloc::{AllocError, Global};
+use stride_rows::{falls, next_quotient, places_behind, size, small_stride, stride_of};
 
 fn divide(value: i128, divisor: i128) -> i128
     requires { pos 1 ≤ℤ divisor }

@@ -1,66 +1,26 @@
 ghost use Rattle.std.specs.Prelude.{◌≡◌, ◌≤◌, ◌+◌, ◌*◌, [], ◌∷◌, length, nat_lt, All, IfOk, if◌then◌else◌};
-ghost use Rattle.int_polyhedra.specs.declared.system.Proof.TheViews.{Cut as CutOf};
-ghost use Rattle.lex_max.specs.Paths.{term_of};
 ghost use Rattle.source_tree.specs.declared.tree.Tree.TheViews.{Divides as DividesOf};
 ghost use Rattle.stride_trees.specs.Strides.{cell_number, depth_of_read, read_of, row_count as rows_of, IsNoLeaf, IsStrided, IsTested, IsTestOf};
 
 use crate::divisions::Division;
 use crate::strides::Strides;
+use crate::undivided::{indivisible, row_above, row_below};
 use affine_core::Form;
-use int_polyhedra::{Proof, Term};
+use int_polyhedra::Proof;
 use plain_data::{Boxed, Items};
 use source_tree::Tree;
 use std::alloc::{AllocError, Global};
-
-// Two rows, once each.
-fn both(alloc: Global, first: u32, second: u32) -> Result<Items<Term>, AllocError>
-    ensures { IfOk result (λ terms. terms ≡ term_of first ∷ term_of second ∷ []) }
-{
-    let mut terms = Items::new(alloc);
-    terms.push(Term {
-        row: first,
-        times: 1,
-    })?;
-    terms.push(Term {
-        row: second,
-        times: 1,
-    })?;
-    Ok(terms)
-}
 
 // The first row of a test's subscript, below the no of the test.
 fn cell(s: &Strides, division: &Division, here: u32) -> u32
     requires strided { IsStrided s.now }
     requires test { IsTestOf s.now division.now }
     requires here { here ≤ 4096 }
-    ensures { result ≡ cell_number s.now here division.now.subscript }
+    ensures value { result ≡ cell_number s.now here division.now.subscript }
+    ensures few { result ≤ 5000 }
 {
     let domain = s.write.statement.rows.len() as u32;
     here + (2 + (domain + 2 * division.subscript))
-}
-
-// The row that the subscript is no less than the read's, taken with the sign of its stride: `M v - form`.
-fn row_above(s: &Strides, division: &Division, here: u32) -> u32
-    requires strided { IsStrided s.now }
-    requires test { IsTestOf s.now division.now }
-    requires here { here ≤ 4096 }
-    ensures { result ≡ (if division.now.rises then cell_number s.now here division.now.subscript
-        else cell_number s.now here division.now.subscript + 1) }
-{
-    let row = cell(s, division, here);
-    if division.rises { row } else { row + 1 }
-}
-
-// The row that it is no greater: `form - M v`.
-fn row_below(s: &Strides, division: &Division, here: u32) -> u32
-    requires strided { IsStrided s.now }
-    requires test { IsTestOf s.now division.now }
-    requires here { here ≤ 4096 }
-    ensures { result ≡ (if division.now.rises then cell_number s.now here division.now.subscript + 1
-        else cell_number s.now here division.now.subscript) }
-{
-    let row = cell(s, division, here);
-    if division.rises { row + 1 } else { row }
 }
 
 // How many strict rows the level has.
@@ -82,18 +42,6 @@ fn row_count(s: &Strides, here: u32) -> u32
     let subscripts = s.write.access.subscripts.len() as u32;
     let level = s.level as u32;
     here + (2 + (domain + (2 * subscripts + (2 * level + strict_count(s)))))
-}
-
-// A Cut by the divisor of a test, and then the rest of a proof.
-fn cut(
-    alloc: Global,
-    division: &Division,
-    terms: Items<Term>,
-    rest: Proof,
-) -> Result<Proof, AllocError>
-    ensures { IfOk result (λ proof. proof ≡ CutOf division.now.divisor terms rest) }
-{
-    Ok(Proof::Cut(division.divisor, terms, Boxed::new(alloc, rest)?))
 }
 
 fn zero_leaf(alloc: Global, proof: Proof) -> Result<Tree, AllocError>
@@ -127,13 +75,10 @@ fn no_leaf(s: &Strides, division: &Division, here: u32) -> Result<Tree, AllocErr
     ensures { IfOk result (IsNoLeaf s.now here division.now) }
 {
     let count = row_count(s, here);
-    let above = row_above(s, division, here);
-    let below = row_below(s, division, here);
-    let sum = both(s.alloc, count, count + 1)?;
-    let high = both(s.alloc, here + 1, below)?;
-    let rest = cut(s.alloc, division, high, Proof::Sum(sum))?;
-    let low = both(s.alloc, here, above)?;
-    let proof = cut(s.alloc, division, low, rest)?;
+    let row = cell(s, division, here);
+    let above = row_above(division, row);
+    let below = row_below(division, row);
+    let proof = indivisible(s.alloc, division, here, above, below, count)?;
     zero_leaf(s.alloc, proof)
 }
 

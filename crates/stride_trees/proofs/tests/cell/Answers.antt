@@ -16,3 +16,6 @@ overflow_add-result-2 c = omega (arith, c.len-domain.ensures, (room c.args.s.now
 
 pub overflow_add-result-3 : goal.overflow_add-result-3
 overflow_add-result-3 c = omega (arith, c.requires.here, c.len-domain.ensures, (room c.args.s.now c.requires.strided).rows, subscript_room c.args.s.now c.args.division.now c.requires.strided c.requires.test)
+
+pub returns-clause-few : goal.returns-clause-few
+returns-clause-few c = omega (arith, c.requires.here, c.len-domain.ensures, (room c.args.s.now c.requires.strided).rows, subscript_room c.args.s.now c.args.division.now c.requires.strided c.requires.test)

@@ -1,0 +1,5 @@
+use Rattle.stride_rows.proofs.Cutting.{converted_refutes}
+use Rattle.stride_rows.proofs.law.converted_sums_refute.Goals as goal
+
+pub returns : goal.returns
+returns c = converted_refutes

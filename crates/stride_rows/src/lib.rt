@@ -1,0 +1,16 @@
+//! Reads whose writers have strides, and the rows of their loops from those over quotients: a subscript `c*i + e` is
+//! told by the quotient of what is left of a cell by `c` (Pugh 1991), and a Cut divides a row by a stride.
+#![tactic(auto)]
+
+mod class;
+mod cuts;
+mod law;
+mod sources;
+
+pub use class::{in_stride_class, small_stride, stride_of};
+pub use cuts::{Cut, Source, converted};
+pub use law::{converted_sums_are_cut_sums, converted_sums_refute, differences_are_strides};
+pub use sources::{
+    cell_source, falls, is_turned, next_quotient, next_test, places_behind, push_cell, push_own,
+    row_source, size, write_sources,
+};

@@ -367,12 +367,12 @@ path_absent r candidates context best sightings left room number at is there at_
 -- Trees
 
 pub joined_test : (r : Read) (context above below : System) (form other : Form) (tree first second : Tree) → tree
-    ≡ Test form first second → length form.coefs ≡ context.vars
+    ≡ Test form first second → length form.coefs ≡ context.vars → IsWithin (2 ^ 49 + 1) form
     → negation_of form ≡ Some other → above ≡ with_form context form → below ≡ with_form context other
     → IsJoinedTree r above first → IsJoinedTree r below second → IsJoinedTree r context tree
-joined_test r context above below form other tree first second is over negated above_is below_is h k c made =
+joined_test r context above below form other tree first second is over within negated above_is below_is h k c made =
     let here : length form.coefs ≡ c.vars = over ∙ sym made.vars in
-    at_test c tree form first second is here
+    at_test c tree form first second is here within
     (h (test_yes c form)
     (record {
       vars = made.vars ∙ sym (ap (λ (s : System). s.vars) above_is);

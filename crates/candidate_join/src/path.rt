@@ -32,7 +32,7 @@ use plain_data::Items;
 use source_tree::Tree;
 use std::alloc::{AllocError, Global};
 
-// How deep Tests may nest. Each takes 13 to 15 KB of the stack.
+// How deep Tests may nest. Each takes some 15 KB of the stack.
 const TESTS: usize = 128;
 
 /// Why no tree is made.

@@ -1,5 +1,5 @@
 -- The systems of the leaves of a joined tree, and when such a tree is checked.
-use Rattle.std.specs.Prelude.{◌≡◌, ◌^◌, ℕ, List, [], ◌∷◌, ◌++◌, length, All, Contains}
+use Rattle.std.specs.Prelude.{◌≡◌, ◌^◌, ◌+◌, ℕ, List, [], ◌∷◌, ◌++◌, length, All, Contains}
 use Rattle.std.specs.List.{flat_map}
 use Rattle.affine_core.specs.declared.form.Form.{Form}
 use Rattle.candidate_order.specs.Contexts.{IsMadeAs}
@@ -46,13 +46,13 @@ place_systems pairs o place c =
 abbrev pub IsSum : Proof → Type 0
 IsSum proof = (ts : List Term) × (proof ≡ Sum ts)
 
--- A tree of Tests in a context is checked for these reads and writes: its forms have as many variables as there are, a
--- Writer leaf names the statement of one of the writes and has a form with small numbers for each of its loops, and each
--- leaf's proofs refute its systems. Those of Writer and Zero leaves are Sums.
+-- A tree of Tests in a context is checked for these reads and writes: its forms have as many variables as there are and
+-- small numbers, a Writer leaf names the statement of one of the writes and has a form with small numbers for each of
+-- its loops, and each leaf's proofs refute its systems. Those of Writer and Zero leaves are Sums.
 pub data IsCheckedForAll (pairs : List ReadAndWrite) : Context → Tree → Type 0 where
   at_test : (c : Context) (tree : Tree) (form : Form) (above below : Tree)
       → tree ≡ Test form above below
-      → length form.coefs ≡ c.vars
+      → length form.coefs ≡ c.vars → IsWithin (2 ^ 49 + 1) form
       → IsCheckedForAll pairs (test_yes c form) above → IsCheckedForAll pairs (test_no c form) below
       → IsCheckedForAll pairs c tree
   at_writer : (c : Context) (tree : Tree) (o : ReadAndWrite) (place : List Form)

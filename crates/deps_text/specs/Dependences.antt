@@ -1,7 +1,6 @@
 -- Where the reads of a nest have their values from (Feautrier 1991).
 use Rattle.std.specs.Prelude.{◌≡◌, ◌<◌, ℕ, List, length, map, All}
 use Rattle.std.specs.List.{flat_map, range_with_len}
-use Rattle.lex_max.specs.Class.{IsInDifferenceClass}
 use Rattle.sanlp.specs.Access.{read_count}
 use Rattle.sanlp.specs.declared.nest.Nest.{Nest}
 use Rattle.source_tree.specs.Checked.{IsChecked}
@@ -9,10 +8,11 @@ use Rattle.source_tree.specs.Exact.{IsExact}
 use Rattle.source_tree.specs.declared.cert.Origin.{Origin}
 use Rattle.source_tree.specs.declared.cert.Origin.TheVariants.{Sweep, Tree}
 use Rattle.deps_text.specs.declared.dependence.Dependence.{Dependence}
+use Rattle.stride_rows.specs.Class.{IsInStrideClass}
 
--- the reads that have a tree: those of the difference class
+-- the reads that have a tree: those of the stride class
 abbrev pub HasTree : Nest → ℕ → ℕ → Type 0
-HasTree = IsInDifferenceClass
+HasTree = IsInStrideClass
 
 -- every read has one
 abbrev pub AllHaveTrees : Nest → Type 0

@@ -2,11 +2,12 @@ ghost use Rattle.std.specs.Prelude.{◌≡◌, ◌<◌, ◌↔◌, ◌++◌, All
 ghost use Rattle.deps_text.specs.Dependences.{AllHaveTrees, AreDependences, HasOrigin, HasTree, IsOriginOf, read_of, reads_at};
 ghost use Rattle.sanlp.specs.Access.{read_count};
 
-use last_writer::{in_difference_class, source_of};
+use last_writer::source_of;
 use plain_data::Items;
 use sanlp::Nest;
 use source_tree::Origin;
 use std::alloc::{AllocError, Global};
+use stride_rows::in_stride_class;
 
 /// Where a read has its values from. The read is told by the number of its statement and by its own number among the
 /// statement's reads.
@@ -19,11 +20,9 @@ pub struct Dependence {
 
 // Whether the read has a tree.
 fn has_tree(nest: &Nest, statement: u32, read: u32) -> bool
-    requires statement { statement < length nest.now.statements }
-    requires read { read < read_count nest.now statement }
     ensures { IsTrue result ↔ HasTree nest.now statement read }
 {
-    in_difference_class(nest, statement, read)
+    in_stride_class(nest, statement, read)
 }
 
 // Whether each read of a statement has a tree.
@@ -40,7 +39,7 @@ fn reads_have_trees(nest: &Nest, statement: u32) -> bool
     true
 }
 
-/// Whether every read of the nest has a tree: each is in the difference class. It takes no memory.
+/// Whether every read of the nest has a tree: each is in the stride class. It takes no memory.
 pub fn all_have_trees(nest: &Nest) -> bool
     ensures { IsTrue result ↔ AllHaveTrees nest.now }
 {
@@ -90,7 +89,7 @@ fn push_reads(
     Ok(())
 }
 
-/// Where each read of the nest has its values from, in the order of statements and reads: a read of the difference class
+/// Where each read of the nest has its values from, in the order of statements and reads: a read of the stride class
 /// has an exact tree, which is checked, whatever the size of the nest, and another read has its last writers. Nothing is
 /// refused but want of memory; one tree has room for 1,024 nodes, and nests 128 Tests deep at most.
 pub fn dependences(alloc: Global, nest: &Nest) -> Result<Items<Dependence>, AllocError>

@@ -1,1 +1,4 @@
-pub mod Written
+pub mod Answers
+pub mod Leaves
+pub mod Told
+pub mod Writers

@@ -1,29 +1,236 @@
-ghost use Rattle.std.specs.Prelude.{◌≡◌, ◌≤◌, ◌<◌, ◌+◌, ◌^◌, ◌++◌, length, None, Some, MatchOption, IfOk, IfSome, OnOk};
+ghost use Rattle.std.specs.Prelude.{◌≡◌, ◌≤◌, ◌<◌, ◌+◌, ◌*◌, ◌^◌, ◌++◌, [], ◌∷◌, ℕ, List, length, slice_get, All, Some, None, IfOk, IfSome, MatchOption, OnOk};
+ghost use Rattle.std.specs.List.{AllZip};
+ghost use Rattle.affine_core.specs.Affine.{widened_form};
+ghost use Rattle.candidate_order.specs.Contexts.{IsMadeAs};
+ghost use Rattle.candidate_order.specs.Reads.{pairs_with};
 ghost use Rattle.candidate_order.specs.declared.candidates.Read.{Read as ReadOf};
-ghost use Rattle.candidate_order.specs.Reads.{pair_in, pairs_with};
-ghost use Rattle.last_writer.specs.Written.{read_with};
+ghost use Rattle.last_writer.specs.Answers.{HasSmallRows};
+ghost use Rattle.last_writer.specs.Leaves.{context_of, told_pairs, vars_of, IsAnswered};
+ghost use Rattle.last_writer.specs.Told.{IsTold};
+ghost use Rattle.last_writer.specs.declared.source.Told.{Told as ToldOf};
 ghost use Rattle.lex_max.specs.Asked.{occurrence_of};
-ghost use Rattle.lex_max.specs.Class.{IsInDifferenceClass};
-ghost use Rattle.source_tree.specs.Checked.{IsChecked};
+ghost use Rattle.source_tree.specs.Checked.{IsChecked, IsCheckedIn};
 ghost use Rattle.source_tree.specs.Exact.{IsExact};
-ghost use Rattle.source_tree.specs.Systems.{read_at, writes_from, write_to as write_of};
+ghost use Rattle.source_tree.specs.Systems.{every, read_at, root_context};
+ghost use Rattle.source_tree.specs.declared.tree.Tree.TheViews.{Divides as DividesOf};
+ghost use Rattle.stride_rows.specs.Class.{IsInStrideClass};
+ghost use Rattle.stride_trees.specs.Strides.{read_of, ArePlaces, IsStrided};
 
-use affine_core::Row;
+use crate::contexts::{divided, undivided};
+use crate::leaves::{Answered, converted, refusal_of};
+use crate::writers::{Writer, push_writers};
+use affine_core::{Form, Row};
 use candidate_join::{Unmade, join};
 use candidate_order::{Problem, Read};
 use int_polyhedra::System;
 use lex_max::Reference;
-use plain_data::Items;
+use plain_data::{Boxed, Items};
 use sanlp::{Nest, Statement};
 use source_tree::Tree;
 use std::alloc::{AllocError, Global};
+use stride_trees::{Division, divided_rows, told_reads, told_writes};
 
 // The room for one tree: so many nodes.
 const NODES: u64 = 1_024;
 
+// A write over quotients: its domain rows and subscripts, and those of the read.
+#[derive(Drop)]
+struct Told {
+    rows: Items<Row>,
+    write_forms: Items<Form>,
+    read_forms: Items<Form>,
+}
+
+fn told_of(writer: &Writer, vars: usize) -> Result<Told, AllocError>
+    requires strided { IsStrided writer.now.strides }
+    requires places { ArePlaces writer.now.strides vars writer.now.places }
+    ensures { IfOk result (IsTold vars writer.now) }
+{
+    let s = &writer.strides;
+    Ok(Told {
+        rows: divided_rows(s.alloc, s.write.statement.rows.as_slice())?,
+        write_forms: told_writes(s.alloc, s.write.access.subscripts.as_slice())?,
+        read_forms: told_reads(s, vars, writer.places.as_slice())?,
+    })
+}
+
+// Adds these writers over so many variables.
+fn push_told(told: &mut Items<Told>, writers: &[Writer], vars: usize) -> Result<(), AllocError>
+    requires strided { All (λ w. IsStrided w.strides) writers.now }
+    requires places { All (λ w. ArePlaces w.strides vars w.places) writers.now }
+    ensures { OnOk result ((more : List ToldOf) × (told.new ≡ told.old ++ more)
+        × AllZip (IsTold vars) writers.now more) }
+{
+    let Some((writer, writers)) = writers.split_first() else {
+        return Ok(());
+    };
+    told.push(told_of(writer, vars)?)?;
+    push_told(told, writers, vars)
+}
+
+// Adds the problems of those of these writers whose tests all say yes.
+fn push_problems<'a>(
+    problems: &mut Items<Problem<'a>>,
+    writers: &'a [Writer<'a>],
+    told: &'a [Told],
+    answers: &[bool],
+) -> Result<(), AllocError>
+    requires { All (λ w. length w.divisions ≡ length w.places) writers.now }
+    ensures { OnOk result ((r : ReadOf) (vars : ℕ) → AllZip (IsTold vars) writers.now told.now
+        → All (λ w. read_of w.strides ≡ occurrence_of r.reference) writers.now
+        → pairs_with r problems.new
+        ≡ pairs_with r problems.old ++ told_pairs vars answers.now writers.now) }
+{
+    let Some((writer, writers)) = writers.split_first() else {
+        return Ok(());
+    };
+    let Some((first, told)) = told.split_first() else {
+        return Ok(());
+    };
+    match refusal_of(writer, answers) {
+        Some(_) => push_problems(problems, writers, told, answers),
+        None => {
+            problems.push(Problem {
+                write: writer.strides.write,
+                rows: first.rows.as_slice(),
+                write_forms: first.write_forms.as_slice(),
+                read_forms: first.read_forms.as_slice(),
+            })?;
+            push_problems(problems, writers, told, answers)
+        }
+    }
+}
+
+// The read with these problems, in this context.
+fn read_with<'a>(w: &Answered<'a>, context: &'a System, problems: &'a [Problem<'a>]) -> Read<'a>
+    ensures reference { result.reference ≡ w.now.read }
+    ensures context { result.context.now ≡ context.now }
+    ensures problems { result.problems.now ≡ problems.now }
+{
+    Read {
+        alloc: w.alloc,
+        reference: w.read,
+        context,
+        problems,
+    }
+}
+
+// The tree where all tests of divisibility have an answer.
+fn joined<'a>(
+    w: &Answered<'a>,
+    told: &'a [Told],
+    context: &'a System,
+    room: &mut u64,
+) -> Result<Tree, Unmade>
+    requires answered { IsAnswered w.now }
+    requires told { AllZip (IsTold (vars_of w.now)) w.now.writers.now told.now }
+    requires all { length w.now.answers.now ≡ length w.now.tests.now }
+    requires made { IsMadeAs context.now (context_of w.now) }
+    requires rows { HasSmallRows context.now }
+    requires few { length context.now.rows ≤ 64 }
+    requires room { room.old ≤ 2 ^ 30 }
+    ensures tree { IfOk result (IsCheckedIn w.now.nest.now (occurrence_of w.now.read) every
+        (context_of w.now)) }
+    ensures room { room.new ≤ room.old }
+{
+    let mut problems = Items::new(w.alloc);
+    push_problems(&mut problems, w.writers, told, w.answers)?;
+    let read = read_with(&*w, &*context, problems.as_slice());
+    let tree = join(&read, room)?;
+    converted(w, context.rows.len() as u32, tree)
+}
+
+// The test over the variables of a context, with the trees of its yes and its no.
+fn divides(
+    alloc: Global,
+    context: &System,
+    test: &Division,
+    yes: Tree,
+    no: Tree,
+) -> Result<Tree, Unmade>
+    requires wider { length test.now.form.coefs ≤ context.now.vars }
+    requires few { context.now.vars ≤ 18 }
+    ensures { IfOk result (λ tree. tree
+        ≡ DividesOf (widened_form context.now.vars test.now.form) test.now.divisor yes no) }
+{
+    let form = test.form.widened(context.vars as usize);
+    let yes = Boxed::new(alloc, yes)?;
+    let no = Boxed::new(alloc, no)?;
+    Ok(Tree::Divides(form, test.divisor, yes, no))
+}
+
+// One node of the tree more.
+fn take_node(room: &mut u64) -> Result<(), Unmade>
+    ensures { room.new ≤ room.old }
+{
+    if *room == 0 {
+        return Err(Unmade::Large);
+    }
+    *room -= 1;
+    Ok(())
+}
+
+// The answers and one more.
+fn with_answer(alloc: Global, answers: &[bool], answer: bool) -> Result<Items<bool>, AllocError>
+    ensures { IfOk result (λ more. more ≡ answers.now ++ answer ∷ []) }
+{
+    let mut more = Items::from_slice(alloc, answers)?;
+    more.push(answer)?;
+    Ok(more)
+}
+
+// The first test without an answer.
+fn next_test<'a>(w: &Answered<'a>) -> Option<&'a Division>
+    ensures { MatchOption result (length w.now.tests.now ≤ length w.now.answers.now)
+        (λ test. slice_get w.now.tests.now (length w.now.answers.now) ≡ Some test.now) }
+{
+    w.tests.get(w.answers.len())
+}
+
+// The tree below the answers, whose context this is.
+fn answered<'a>(
+    w: &Answered<'a>,
+    told: &'a [Told],
+    context: &'a System,
+    room: &mut u64,
+) -> Result<Tree, Unmade>
+    requires answered { IsAnswered w.now }
+    requires told { AllZip (IsTold (vars_of w.now)) w.now.writers.now told.now }
+    requires made { IsMadeAs context.now (context_of w.now) }
+    requires rows { HasSmallRows context.now }
+    requires count { length context.now.rows
+        ≡ length w.now.read.statement.now.rows + 2 * length w.now.answers.now }
+    requires room { room.old ≤ 2 ^ 30 }
+    ensures tree { IfOk result (IsCheckedIn w.now.nest.now (occurrence_of w.now.read) every
+        (context_of w.now)) }
+    ensures room { room.new ≤ room.old }
+{
+    let Some(test) = next_test(w) else {
+        return joined(w, told, context, room);
+    };
+    take_node(room)?;
+    let alloc = w.alloc;
+    let above = divided(alloc, context, test)?;
+    let with_yes = with_answer(alloc, w.answers, true)?;
+    let yes = Answered {
+        answers: with_yes.as_slice(),
+        ..*w
+    };
+    let yes = answered(&yes, told, &above, room)?;
+    let below = undivided(alloc, context, test)?;
+    let with_no = with_answer(alloc, w.answers, false)?;
+    let no = Answered {
+        answers: with_no.as_slice(),
+        ..*w
+    };
+    let no = answered(&no, told, &below, room)?;
+    divides(alloc, context, test, yes, no)
+}
+
 fn reference_of<'a>(nest: &'a Nest, statement: u32, read: u32) -> Reference<'a>
-    requires { IsInDifferenceClass nest.now statement read }
-    ensures { read_at nest.now statement read ≡ Some (occurrence_of result) }
+    requires { IsInStrideClass nest.now statement read }
+    ensures number { result.number ≡ statement }
+    ensures read { read_at nest.now statement read ≡ Some (occurrence_of result) }
 {
     let reader = nest.statement(statement);
     Reference {
@@ -55,78 +262,53 @@ fn copy_rows(alloc: Global, rows: &[Row]) -> Result<Items<Row>, AllocError>
     Ok(copies)
 }
 
-/// The statement's write, if it writes this array.
-pub fn write_to<'a>(array: u32, number: u32, statement: &'a Statement) -> Option<Reference<'a>>
-    ensures { MatchOption result (write_of array number statement.now ≡ None)
-        (λ r. write_of array number statement.now ≡ Some (occurrence_of r)) }
-{
-    let Some(access) = &statement.write else {
-        return None;
-    };
-    if access.array != array {
-        return None;
-    }
-    Some(Reference {
-        number,
-        statement,
-        access,
-    })
-}
-
-// A write with its own domain rows and subscripts, and the read with its own.
-fn problem_of<'a>(read: &Reference<'a>, write: &Reference<'a>) -> Problem<'a>
-    ensures { (r : ReadOf) → r.reference ≡ read.now
-        → pair_in r result ≡ record { read = occurrence_of read.now; write = occurrence_of write.now } }
-{
-    Problem {
-        write: *write,
-        rows: write.statement.rows.as_slice(),
-        write_forms: write.access.subscripts.as_slice(),
-        read_forms: read.access.subscripts.as_slice(),
-    }
-}
-
-// Adds the writes of these statements to the array that is read. The first statement has this number.
-fn push_problems<'a>(
-    problems: &mut Items<Problem<'a>>,
-    read: &Reference<'a>,
-    statements: &'a [Statement],
-    number: u32,
-) -> Result<(), AllocError>
-    requires { number + length statements.now < 2 ^ 32 }
-    ensures { OnOk result ((r : ReadOf) → r.reference ≡ read.now
-        → pairs_with r problems.new ≡ pairs_with r problems.old ++ read_with (occurrence_of read.now)
-        (writes_from read.now.access.now.array number statements.now)) }
-{
-    let Some((statement, statements)) = statements.split_first() else {
-        return Ok(());
-    };
-    match write_to(read.access.array, number, statement) {
-        Some(write) => {
-            problems.push(problem_of(read, &write))?;
-            push_problems(problems, read, statements, number + 1)
-        }
-        None => push_problems(problems, read, statements, number + 1),
-    }
-}
-
-// The read with these problems, in this context.
-fn read_of<'a>(
+// The writers of a read, none of whose tests has an answer.
+fn unanswered<'a>(
     alloc: Global,
-    reference: Reference<'a>,
-    context: &'a System,
-    problems: &'a [Problem<'a>],
-) -> Read<'a>
-    ensures reference { result.reference ≡ reference.entry }
-    ensures context { result.context.now ≡ context.now }
-    ensures problems { result.problems.now ≡ problems.now }
+    nest: &'a Nest,
+    read: &Reference<'a>,
+    writers: &'a [Writer<'a>],
+    tests: &'a [Division],
+) -> Answered<'a>
+    ensures nest { result.nest.now ≡ nest.now }
+    ensures read { result.read ≡ read.now }
+    ensures writers { result.writers.now ≡ writers.now }
+    ensures tests { result.tests.now ≡ tests.now }
+    ensures answers { result.answers.now ≡ [] }
 {
-    Read {
+    Answered {
         alloc,
-        reference,
-        context,
-        problems,
+        nest,
+        read: *read,
+        writers,
+        tests,
+        answers: &[],
     }
+}
+
+// The tree of a read.
+fn tree_of<'a>(
+    alloc: Global,
+    nest: &'a Nest,
+    read: &Reference<'a>,
+    room: &mut u64,
+) -> Result<Tree, Unmade>
+    requires class { (k : ℕ) × IsInStrideClass nest.now read.now.number k
+        × (read_at nest.now read.now.number k ≡ Some (occurrence_of read.now)) }
+    requires room { room.old ≤ 2 ^ 30 }
+    ensures { IfOk result (IsCheckedIn nest.now (occurrence_of read.now) every
+        (root_context (occurrence_of read.now))) }
+{
+    let mut writers = Items::new(alloc);
+    let mut tests = Items::new(alloc);
+    let statements = nest.statements.as_slice();
+    push_writers(&mut writers, &mut tests, nest, read, statements, 0)?;
+    let w = unanswered(alloc, &*nest, &*read, writers.as_slice(), tests.as_slice());
+    let vars = w.read.statement.loops.len() + w.tests.len();
+    let mut told = Items::new(alloc);
+    push_told(&mut told, w.writers, vars)?;
+    let context = root(alloc, read.statement)?;
+    answered(&w, told.as_slice(), &context, room)
 }
 
 /// The tree of `source_of`, with room for so many nodes. `None` tells that the tree made here would
@@ -139,17 +321,13 @@ pub fn source_within(
     read: u32,
     nodes: u64,
 ) -> Result<Option<Tree>, AllocError>
-    requires class { IsInDifferenceClass nest.now statement read }
+    requires class { IsInStrideClass nest.now statement read }
     requires room { nodes ≤ 2 ^ 30 }
     ensures { IfOk result (λ tree. IfSome tree (IsChecked nest.now statement read)) }
 {
     let reference = reference_of(nest, statement, read);
-    let context = root(alloc, reference.statement)?;
-    let mut problems = Items::new(alloc);
-    push_problems(&mut problems, &reference, nest.statements.as_slice(), 0)?;
-    let read = read_of(alloc, reference, &context, problems.as_slice());
     let mut room = nodes;
-    let made = join(&read, &mut room);
+    let made = tree_of(alloc, nest, &reference, &mut room);
     match made {
         Ok(tree) => Ok(Some(tree)),
         Err(Unmade::Large) => Ok(None),
@@ -159,11 +337,11 @@ pub fn source_within(
 
 /// Which write a read has its value from at each point of the reader, as one tree, which is
 /// checked: so at each point it gives the last write of the cell that is read, or zero where there
-/// is none, whatever the size of the nest (Feautrier 1991). The read is in the difference class.
+/// is none, whatever the size of the nest (Feautrier 1991). The read is in the stride class.
 /// Nothing is refused but want of memory: a tree has room for 1,024 nodes, and nests 128 Tests deep
-/// at most.
+/// at most, below at most 6 tests of divisibility.
 pub fn source_of(alloc: Global, nest: &Nest, statement: u32, read: u32) -> Result<Tree, AllocError>
-    requires { IsInDifferenceClass nest.now statement read }
+    requires { IsInStrideClass nest.now statement read }
     ensures checked { IfOk result (IsChecked nest.now statement read) }
     ensures exact { IfOk result (IsExact nest.now statement read) }
 {

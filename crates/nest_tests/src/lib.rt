@@ -23,6 +23,14 @@ mod origins;
 #[cfg(test)]
 mod sources;
 #[cfg(test)]
+mod stride_candidates;
+#[cfg(test)]
+mod stride_programs;
+#[cfg(test)]
+mod stride_sources;
+#[cfg(test)]
+mod strides;
+#[cfg(test)]
 mod trees;
 #[cfg(test)]
 mod trims;

@@ -15,22 +15,23 @@ use source_tree::Tree;
 use std::alloc::{AllocError, Global};
 use std::process::Abort;
 use std::test::Fail;
+use stride_rows::in_stride_class;
 
 // A point of a statement.
 #[derive(Clone, Copy)]
-struct Turn<'a> {
-    number: usize,
-    statement: &'a Statement,
-    at: &'a [i64],
+pub(crate) struct Turn<'a> {
+    pub(crate) number: usize,
+    pub(crate) statement: &'a Statement,
+    pub(crate) at: &'a [i64],
 }
 
 // A nest with its points, and a read of it.
 #[derive(Clone, Copy)]
-struct Asked<'a> {
-    nest: &'a Nest,
-    points: &'a Points,
-    statement: u32,
-    read: u32,
+pub(crate) struct Asked<'a> {
+    pub(crate) nest: &'a Nest,
+    pub(crate) points: &'a Points,
+    pub(crate) statement: u32,
+    pub(crate) read: u32,
 }
 
 // The nest of a source, where N has this value.
@@ -40,7 +41,7 @@ pub(crate) fn nest(alloc: Global, source: &[u8], n: i64) -> Result<Nest, Fail> {
     Ok(binding(alloc, source, &params)??)
 }
 
-fn value(form: &Form, at: &[i64]) -> Option<i128> {
+pub(crate) fn value(form: &Form, at: &[i64]) -> Option<i128> {
     let mut total = form.constant;
     for (coef, value) in form.coefs.as_slice().iter().zip(at) {
         total = total.checked_add(coef.checked_mul(i128::from(*value))?)?;
@@ -167,7 +168,7 @@ fn last_of<'a>(
 
 // The last turn of all statements that writes the cell of the read before the reader's turn, or of
 // one at one level.
-fn last_write<'a>(
+pub(crate) fn last_write<'a>(
     asked: &Asked<'a>,
     reader: &Turn,
     read: &Access,
@@ -255,7 +256,7 @@ fn tree_of(
 }
 
 // So many statements, or reads of one.
-fn count_of(count: usize) -> Result<u32, Fail> {
+pub(crate) fn count_of(count: usize) -> Result<u32, Fail> {
     match u32::try_from(count) {
         Ok(count) => Ok(count),
         Err(_) => Err(Fail::from("the nest is large")),
@@ -281,11 +282,16 @@ fn right_candidates(rt: &(impl Abort + AllocGlobal), asked: &Asked) -> Result<us
 }
 
 // The tree of a read in the class, which is accepted.
-fn accepted(alloc: Global, nest: &Nest, statement: u32, read: u32) -> Result<Tree, Fail> {
+pub(crate) fn accepted(
+    alloc: Global,
+    nest: &Nest,
+    statement: u32,
+    read: u32,
+) -> Result<Tree, Fail> {
     let Some(reading) = nest.statements.get(statement as usize) else {
         return Err(Fail::from("there is no such statement"));
     };
-    if read as usize >= reading.reads.len() || !in_difference_class(nest, statement, read) {
+    if read as usize >= reading.reads.len() || !in_stride_class(nest, statement, read) {
         return Err(Fail::from("the read is not in the class"));
     }
     let tree = source_of(alloc, nest, statement, read)?;
@@ -425,7 +431,7 @@ fn is_made_within(alloc: Global, source: &[u8], nodes: u64) -> Result<bool, Fail
     let Some(reading) = nest.statements.get(1) else {
         return Err(Fail::from("there is no statement 1"));
     };
-    if reading.reads.is_empty() || !in_difference_class(&nest, 1, 0) || nodes > 100 {
+    if reading.reads.is_empty() || !in_stride_class(&nest, 1, 0) || nodes > 100 {
         return Err(Fail::from("the read is not in the class"));
     }
     Ok(source_within(alloc, &nest, 1, 0, nodes)?.is_some())
@@ -444,6 +450,10 @@ fn a_tree_beyond_its_room_is_not_made(rt: HostRuntime) -> Result<(), Fail> {
 pub(crate) const STRIDED: &[u8] = b"param N; in x[N]; out y[N]; var a[N]; \
     for (i = 0; i < N; i++) a[2*i] = x[i]; for (i = 0; i < N; i++) y[i] = a[i];";
 
+// A loop with a step: its variable is the turn, so what it writes is at twice the turn.
+pub(crate) const STEPPED: &[u8] =
+    b"param N; in x[N]; out y[N]; for (i = 0; i < N; i += 2) y[i] = x[i];";
+
 const OF_A_SUM: &[u8] = b"param N; out y[N]; var a[N][N]; for (i = 0; i < N; i++) \
     for (j = 0; j < N; j++) { a[i][j] = 1; \
     if (i + j < N) { y[i+j] = a[i+2*j][3*i]; } y[i] = y[j]; }";
@@ -451,7 +461,11 @@ const OF_A_SUM: &[u8] = b"param N; out y[N]; var a[N][N]; for (i = 0; i < N; i++
 const UNWRITTEN: &[u8] = b"param N; out y[N]; var a; for (i = 0; i < N; i++) y[i] = a;";
 
 // Whether the first read of a statement is in the class.
-fn is_in_class(alloc: Global, source: &[u8], statement: u32) -> Result<bool, Fail> {
+pub(crate) fn is_in_differences(
+    alloc: Global,
+    source: &[u8],
+    statement: u32,
+) -> Result<bool, Fail> {
     let nest = nest(alloc, source, 3)?;
     let Some(reading) = nest.statements.get(statement as usize) else {
         return Err(Fail::from("there is no such statement"));
@@ -477,7 +491,7 @@ fn the_class_is_that_of_differences(rt: HostRuntime) -> Result<(), Fail> {
         (UNWRITTEN, 0, true),
     ] {
         assert_eq!(rt;
-            is_in_class(alloc, source, statement)?,
+            is_in_differences(alloc, source, statement)?,
             wanted,
             "{statement}"
         );

@@ -99,6 +99,59 @@ static WRITTEN: [(&[&str], &[u8], &[u8], &[u8]); 5] = [
     ),
 ];
 
+/// Writes to every second cell, and reads of each.
+const EVEN_CELLS: &[u8] =
+    b"param N; in x[N]; out y[N]; var a[N]; for (i = 0; i < N; i++) a[2*i] = x[i]; for (i = 0; i < N; i++) y[i] = a[i];";
+
+/// A certificate of it with N=3, worked out by hand. The second source is a tree: where 2 divides i the value is from process 1 at
+/// the quotient, and elsewhere nobody wrote the cell, since a quotient between would differ from it by less than 1.
+const HALVED: &[u8] = b"cert 1\nsizes 4 3 3 28\n\
+    process 0 6\nf\np 0\nf\np 0\nf\np 0\n\
+    process 1 8\ng 0 0\nf 0\np 1\ng 0 0\nf 0\np 1\ng 0 0\nf 0\n\
+    process 1 8\ng 1 0\nf 0\np 2\nf z\np 2\ng 1 0\nf 0\np 2\n\
+    process 1 6\ng 2 0\nf 0\ng 2 0\nf 0\ng 2 0\nf 0\n\
+    channel 0 1 0 3 inorder\nchannel 1 2 0 2 inorder\nchannel 2 3 0 3 inorder\n\
+    sweep\n\
+    tree\nd 2 0 1\nw 1 1 5\nm 0 0 1\n\
+    s 0 1 3 1 4 2\ns 1 1 2 1 4 2\ns 2 1 4 1\ns 3 1 4 1\ns 3 1 7 1 8 2\n\
+    z 1\nc 2 2 1 6 1\ns 3 1 7 1 8 2\n\
+    sweep\n\
+    0\n0\n0\n0\n0\n0\n\
+    1\n1\n1\n1\n1\n1\n1\n1\n\
+    2\n2\n2\n2\n2\n2\n2\n2\n\
+    3\n3\n3\n3\n3\n3\n\
+    end\n";
+
+/// Changes of it, and the line that `check` answers.
+static HALVED_CHANGES: [(Changes<'static>, &[u8]); 7] = [
+    (&[], b"accepted\n"),
+    // the reader's own loop value as the writer's
+    (
+        &[(42, b"m 0 1 0\n")],
+        b"refused Source 2 0 Proof 0 0 NotContradictory\n",
+    ),
+    // another divisor
+    (
+        &[(40, b"d 3 0 1\n")],
+        b"refused Source 2 0 Proof 0 0 NotContradictory\n",
+    ),
+    (&[(40, b"d 1 0 1\n")], b"refused Source 2 0 BadForm 0\n"),
+    // a Cut with another divisor, and none
+    (
+        &[(49, b"c 3 2 1 6 1\n")],
+        b"refused Source 2 0 Proof 1 0 NotDivisible\n",
+    ),
+    (
+        &[(49, b"s 3 1 7 1\n"), (50, b"")],
+        b"refused Source 2 0 Proof 1 0 NotContradictory\n",
+    ),
+    // the other cells
+    (
+        &[(40, b"d 2 1 1\n")],
+        b"refused Source 2 0 Proof 0 2 NotContradictory\n",
+    ),
+];
+
 /// Sources with the values of their parameters; each read of theirs is of the difference class.
 static ALL_OF_CLASS: [(&[&str], &[u8]); 4] = [
     (
@@ -412,6 +465,15 @@ fn trees_are_judged(rt: HostRuntime) -> Result<(), Fail> {
         &certificate,
         b"refused Deep 529\n",
     )
+}
+
+#[test]
+fn trees_with_tests_of_divisibility_are_judged(rt: HostRuntime) -> Result<(), Fail> {
+    for (changes, line) in &HALVED_CHANGES {
+        let certificate = changed(rt.alloc(), HALVED, changes)?;
+        checks(&rt, &["N=3"], EVEN_CELLS, &certificate, line)?;
+    }
+    Ok(())
 }
 
 #[test]

@@ -33,6 +33,8 @@ mod steps;
 #[cfg(test)]
 mod threads;
 #[cfg(test)]
+mod told;
+#[cfg(test)]
 mod trims;
 #[cfg(test)]
 mod vhdl;

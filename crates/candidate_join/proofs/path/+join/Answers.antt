@@ -388,7 +388,7 @@ test-returns-clause-tree t c =
     let h = c.requires.sides in
     joined_test s.read.now s.context.now c.in_ok-above.above c.in_ok-below.below c.args.form.now c.opposite.result
     c.in_ok-test.field-0 c.in_ok-yes.yes c.in_ok-no.no
-    (c.in_ok-test.ensures ∙ ap (λ form. Test form c.in_ok-yes.yes c.in_ok-no.no) c.copy-2.ensures) h.2.over
+    (c.in_ok-test.ensures ∙ ap (λ form. Test form c.in_ok-yes.yes c.in_ok-no.no) c.copy-2.ensures) h.2.over h.2.within
     c.opposite.ensures (c.in_ok-above.ensures ∙ ap (with_form c.args.state.now.context.now) c.copy.ensures)
     c.in_ok-below.ensures c.in_ok-yes.ensures.tree c.in_ok-no.ensures.tree
 

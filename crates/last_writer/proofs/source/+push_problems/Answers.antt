@@ -1,60 +1,107 @@
--- The statements that are left are those from the number on. The write of the first one, if it writes the array, is one
--- problem more, and behind it stand those of the others.
-use Rattle.std.proofs.Common.{◌≡◌, ◌+◌, ◌∷◌, ◌++◌, [], length, sym, ap, ◌∙◌, rules, arith}
+-- The first writer is the problem of the first that is told, where none of its tests says no: its pair is then the first of
+-- those that are told, and behind it stand those of the other writers.
+use Rattle.std.proofs.Common.{◌≡◌, ◌∷◌, ◌++◌, [], ℕ, List, length, refl, sym, ap, ◌∙◌, subst, rules, arith}
+use Rattle.std.specs.Prelude.{All}
+use Rattle.std.specs.List.{AllZip}
 use Rattle.std.proofs.lemmas.List.{append-nil, nil_from_length}
+use Rattle.std.proofs.lemmas.List.Elements.{All-head, All-tail}
 use Rattle.std.proofs.lemmas.Result.{on_ok_weaker}
 use Rattle.candidate_order.specs.Reads.{pair_in, pairs_with}
-use Rattle.last_writer.specs.Written.{read_with}
-use Rattle.last_writer.proofs.Problems.{one_more, writes_none, writes_some}
+use Rattle.candidate_order.specs.declared.candidates.Problem.{Problem}
+use Rattle.candidate_order.specs.declared.candidates.Read.{Read}
+use Rattle.last_writer.proofs.Standing.{refused}
+use Rattle.last_writer.proofs.Telling.{one_more, pairs_refused, pairs_told, problem_pair}
+use Rattle.last_writer.specs.Leaves.{told_pair, told_pairs}
+use Rattle.last_writer.specs.Told.{IsTold}
+use Rattle.last_writer.specs.declared.source.Told.{Told}
+use Rattle.last_writer.specs.declared.writers.Writer.{Writer}
 use Rattle.lex_max.specs.Asked.{occurrence_of}
-use Rattle.source_tree.specs.Systems.{writes_from}
+use Rattle.stride_trees.specs.Strides.{read_of}
 use Rattle.last_writer.proofs.source.+push_problems.Goals as goal
 
+abbrev IsOf : Read → Writer → Type 0
+IsOf r w = read_of w.strides ≡ occurrence_of r.reference
+
+-- both lists begin with one
+first_of : (vars : ℕ) (ws others : List Writer) (ts rest : List Told) (w : Writer) (t : Told) → ws ≡ w ∷ others
+    → ts ≡ t ∷ rest → AllZip (IsTold vars) ws ts → AllZip (IsTold vars) (w ∷ others) (t ∷ rest)
+first_of vars ws others ts rest w t e f h =
+    subst (AllZip (IsTold vars) (w ∷ others)) f (subst (λ ws. AllZip (IsTold vars) ws ts) e h)
+
 pub returns-in_default : goal.returns-in_default
-returns-in_default t c r is =
-    let rr = occurrence_of c.args.read.now in
-    let none : c.args.statements.now ≡ [] = nil_from_length c.args.statements.now c.in_default.ensures.cases in
+returns-in_default t c r vars told reads =
+    let none : c.args.writers.now ≡ [] = nil_from_length c.args.writers.now c.in_default.ensures.cases in
     sym (append-nil (pairs_with r c.args.problems.now))
-    ∙ ap (λ statements. pairs_with r c.args.problems.now
-    ++ read_with rr (writes_from rr.access.array c.args.number statements)) (sym none)
+    ∙ ap (λ ws. pairs_with r c.args.problems.now ++ told_pairs vars c.args.answers.now ws) (sym none)
+
+pub returns-in_default-split_first : goal.returns-in_default-split_first
+returns-in_default-split_first t c r vars told reads =
+    let first : c.args.writers.now ≡ c.in-Some.writer.now ∷ c.in-Some.writers.now = search rules in
+    let none : c.args.told.now ≡ [] = nil_from_length c.args.told.now c.in_default-split_first.ensures.cases in
+    absurd (subst (AllZip (IsTold vars) (c.in-Some.writer.now ∷ c.in-Some.writers.now)) none
+    (subst (λ ws. AllZip (IsTold vars) ws c.args.told.now) first told))
+
+pub refusal_of-requires : goal.refusal_of-requires
+refusal_of-requires t c =
+    let P = λ (w : Writer). length w.divisions ≡ length w.places in
+    let first : c.args.writers.now ≡ c.in-Some.writer.now ∷ c.in-Some.writers.now = search rules in
+    All-head P c.in-Some.writer.now c.in-Some.writers.now (subst (All P) first c.requires)
 
 pub push_problems-requires : goal.push_problems-requires
 push_problems-requires t c =
-    let first : c.args.statements.now ≡ c.in-Some.statement.now ∷ c.in-Some.statements.now = search rules in
-    let few = c.requires in
-    (omega (arith, ap length first), omega (arith, few, ap length first))
+    let P = λ (w : Writer). length w.divisions ≡ length w.places in
+    let first : c.args.writers.now ≡ c.in-Some.writer.now ∷ c.in-Some.writers.now = search rules in (
+      omega (arith, ap length first),
+      All-tail P c.in-Some.writer.now c.in-Some.writers.now (subst (All P) first c.requires),
+    )
 
 pub push_problems-requires-in-None : goal.push_problems-requires-in-None
 push_problems-requires-in-None t c =
-    let first : c.args.statements.now ≡ c.in-Some.statement.now ∷ c.in-Some.statements.now = search rules in
-    let few = c.requires in
-    (omega (arith, ap length first), omega (arith, few, ap length first))
+    let P = λ (w : Writer). length w.divisions ≡ length w.places in
+    let first : c.args.writers.now ≡ c.in-Some.writer.now ∷ c.in-Some.writers.now = search rules in (
+      omega (arith, ap length first),
+      All-tail P c.in-Some.writer.now c.in-Some.writers.now (subst (All P) first c.requires),
+    )
 
-pub returns-in_ok-push-in-Some-write_to : goal.returns-in_ok-push-in-Some-write_to
-returns-in_ok-push-in-Some-write_to t c =
-    let rr = occurrence_of c.args.read.now in
-    let s = c.in-Some.statement.now in
-    let statements = c.in-Some.statements.now in
-    let first : c.args.statements.now ≡ s ∷ statements = search rules in
-    let u = occurrence_of c.in-Some-write_to.write in
-    let array = rr.access.array in
+pub returns-in-Some-refusal_of : goal.returns-in-Some-refusal_of
+returns-in-Some-refusal_of t c =
+    let w = c.in-Some.writer.now in
+    let ws = c.in-Some.writers.now in
+    let answers = c.args.answers.now in
+    let first : c.args.writers.now ≡ w ∷ ws = search rules in
+    let one : c.args.told.now ≡ c.in-Some-split_first.first.now ∷ c.in-Some-split_first.told.now = search rules in
     on_ok_weaker c.push_problems.result
-    (λ rest r is.
-    one_more (pair_in r) c.args.problems.now c.push.new.self c.push_problems.new.problems c.problem_of.result
-    (record { read = rr; write = u }) (read_with rr (writes_from array (c.args.number + 1) statements))
-    (read_with rr (writes_from array c.args.number c.args.statements.now)) c.in_ok-push-in-Some-write_to.ensures.ok
-    (c.problem_of.ensures r is) (rest r is)
-    (ap (λ all. read_with rr (writes_from array c.args.number all)) first
-    ∙ writes_some rr array c.args.number s statements u c.in-Some-write_to.ensures)) c.push_problems.ensures
+    (λ rest r vars told reads.
+    rest r vars
+    (first_of vars c.args.writers.now ws c.args.told.now c.in-Some-split_first.told.now w c.in-Some-split_first.first.now
+    first one told).1
+    (All-tail (IsOf r) w ws (subst (All (IsOf r)) first reads))
+    ∙ ap (λ ps. pairs_with r c.args.problems.now ++ ps)
+    (sym (ap (told_pairs vars answers) first
+    ∙ pairs_refused vars answers w ws (refused answers w c.in-Some-refusal_of.field-0 c.in-Some-refusal_of.ensures))))
+    c.push_problems.ensures
 
-pub returns-in-None : goal.returns-in-None
-returns-in-None t c =
-    let rr = occurrence_of c.args.read.now in
-    let s = c.in-Some.statement.now in
-    let statements = c.in-Some.statements.now in
-    let first : c.args.statements.now ≡ s ∷ statements = search rules in
-    let array = rr.access.array in
+pub returns-in_ok-push-in-None : goal.returns-in_ok-push-in-None
+returns-in_ok-push-in-None t c =
+    let w = c.in-Some.writer.now in
+    let ws = c.in-Some.writers.now in
+    let t = c.in-Some-split_first.first.now in
+    let ts = c.in-Some-split_first.told.now in
+    let answers = c.args.answers.now in
+    let first : c.args.writers.now ≡ w ∷ ws = search rules in
+    let one : c.args.told.now ≡ t ∷ ts = search rules in
+    let p : Problem = record {
+      write = w.strides.write;
+      rows = c.as_slice.result;
+      write_forms = c.as_slice-in-None.result;
+      read_forms = c.as_slice-in-None-2.result;
+    } in
     on_ok_weaker c.push_problems-in-None.result
-    (λ rest r is. rest r is ∙ ap (λ xs. pairs_with r c.args.problems.now ++ xs)
-    (sym (ap (λ all. read_with rr (writes_from array c.args.number all)) first
-    ∙ writes_none rr array c.args.number s statements c.in-None.ensures))) c.push_problems-in-None.ensures
+    (λ rest r vars told reads.
+    (let both = first_of vars c.args.writers.now ws c.args.told.now ts w t first one told in
+    let all = subst (All (IsOf r)) first reads in
+    one_more (pair_in r) c.args.problems.now c.push.new.self c.push_problems-in-None.new.problems p (told_pair vars w)
+    (told_pairs vars answers ws) (told_pairs vars answers c.args.writers.now) c.in_ok-push-in-None.ensures.ok
+    (problem_pair r p vars w t both.0 (All-head (IsOf r) w ws all) refl c.as_slice.ensures c.as_slice-in-None.ensures
+    c.as_slice-in-None-2.ensures) (rest r vars both.1 (All-tail (IsOf r) w ws all))
+    (ap (told_pairs vars answers) first ∙ pairs_told vars answers w ws c.in-None.ensures))) c.push_problems-in-None.ensures

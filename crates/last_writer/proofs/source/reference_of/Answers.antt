@@ -9,34 +9,34 @@ use Rattle.last_writer.proofs.source.reference_of.Goals as goal
 pub statement-reader-requires : goal.statement-reader-requires
 statement-reader-requires c =
     let h = c.requires in
-    slice_get_within c.args.nest.now.statements c.args.statement h.0.statement
-    (reader_there c.args.nest.now c.args.statement c.args.read h.0 h.1).statement
+    slice_get_within c.args.nest.now.statements c.args.statement h.read.statement
+    (reader_there c.args.nest.now c.args.statement c.args.read h.read h.is_read).statement
 
 pub bounds-as_slice-read : goal.bounds-as_slice-read
 bounds-as_slice-read c =
     let h = c.requires in
-    let there = reader_there c.args.nest.now c.args.statement c.args.read h.0 h.1 in
-    let same : h.0.statement ≡ c.statement-reader.result.now = same_Some h.0.statement c.statement-reader.result.now
+    let there = reader_there c.args.nest.now c.args.statement c.args.read h.read h.is_read in
+    let same : h.read.statement ≡ c.statement-reader.result.now = same_Some h.read.statement c.statement-reader.result.now
     (sym there.statement ∙ c.statement-reader.ensures.value) in
     omega (
       arith,
-      slice_get_within h.0.statement.reads c.args.read h.0.access there.access,
+      slice_get_within h.read.statement.reads c.args.read h.read.access there.access,
       ap (λ (s : Statement). length s.reads) same,
       ap length c.as_slice.ensures,
     )
 
-pub returns : goal.returns
-returns c =
+pub returns-clause-read : goal.returns-clause-read
+returns-clause-read c =
     let h = c.requires in
     let n = c.args.nest.now in
-    let there = reader_there n c.args.statement c.args.read h.0 h.1 in
+    let there = reader_there n c.args.statement c.args.read h.read h.is_read in
     let s = c.statement-reader.result.now in
     let access = c.index-as_slice-read.result in
-    let same : h.0.statement ≡ s = same_Some h.0.statement s (sym there.statement ∙ c.statement-reader.ensures.value) in
+    let same : h.read.statement ≡ s = same_Some h.read.statement s (sym there.statement ∙ c.statement-reader.ensures.value) in
     let inside : c.args.read < length c.as_slice.result.now =
     omega (
       arith,
-      slice_get_within h.0.statement.reads c.args.read h.0.access there.access,
+      slice_get_within h.read.statement.reads c.args.read h.read.access there.access,
       ap (λ (s : Statement). length s.reads) same,
       ap length c.as_slice.ensures,
     ) in

@@ -1,0 +1,54 @@
+-- The writers that are left come one after the other: the first takes the proofs that are told for it, if all its tests say yes.
+use Rattle.std.proofs.Common.{◌≡◌, ◌∷◌, ◌++◌, [], length, sym, ap, subst, rules, arith}
+use Rattle.std.specs.Prelude.{All}
+use Rattle.std.specs.List.{flat_map}
+use Rattle.std.proofs.lemmas.List.{append-nil, append_assoc, nil_from_length}
+use Rattle.std.proofs.lemmas.List.Elements.{All-head, All-tail}
+use Rattle.std.proofs.lemmas.Result.{on_ok_weaker}
+use Rattle.last_writer.specs.Leaves.{own_systems, told_systems}
+use Rattle.last_writer.specs.Writers.{IsWriterOf}
+use Rattle.lex_max.specs.Asked.{occurrence_of}
+use Rattle.source_tree.specs.Checked.{AreRefuted}
+use Rattle.last_writer.proofs.leaves.+push_writers.Goals as goal
+
+pub returns-in_default : goal.returns-in_default
+returns-in_default t c cx further systems below behind old told =
+    let none : c.args.writers.now ≡ [] = nil_from_length c.args.writers.now c.in_default.ensures.cases in
+    subst (λ ws. AreRefuted (systems ++ flat_map (own_systems cx further) ws) c.args.proofs.now) (sym none)
+    (subst (λ xs. AreRefuted xs c.args.proofs.now) (sym (append-nil systems)) old)
+
+pub push_writer-requires-clause-writer : goal.push_writer-requires-clause-writer
+push_writer-requires-clause-writer t c =
+    let w = c.args.w.now in
+    let own = IsWriterOf w.nest.now (occurrence_of w.read) w.tests.now in
+    let first : c.args.writers.now ≡ c.in-Some.writer.now ∷ c.in-Some.writers.now = search rules in
+    All-head own c.in-Some.writer.now c.in-Some.writers.now (subst (All own) first c.requires.writers)
+
+pub push_writers-requires : goal.push_writers-requires
+push_writers-requires t c =
+    let w = c.args.w.now in
+    let own = IsWriterOf w.nest.now (occurrence_of w.read) w.tests.now in
+    let first : c.args.writers.now ≡ c.in-Some.writer.now ∷ c.in-Some.writers.now = search rules in (
+      omega (arith, ap length first),
+      (
+        All-tail own c.in-Some.writer.now c.in-Some.writers.now (subst (All own) first c.requires.writers),
+        (c.requires.answered, (c.requires.here, (c.requires.behind, c.in_ok-told.ensures.sums))),
+      ),
+    )
+
+pub returns : goal.returns
+returns t c =
+    let w = c.args.w.now in
+    let x = c.in-Some.writer.now in
+    let xs = c.in-Some.writers.now in
+    let first : c.args.writers.now ≡ x ∷ xs = search rules in
+    on_ok_weaker c.push_writers.result
+    (λ rest cx further systems below behind old told.
+    (let answers = w.answers.now in
+    let both = c.in_ok-told.ensures.proofs cx further below behind systems
+    (flat_map (told_systems answers cx further) xs) old
+    (subst (λ ws. AreRefuted (flat_map (told_systems answers cx further) ws) c.args.told.now) first told) in
+    let all = rest cx further (systems ++ own_systems cx further x) below behind both.0 both.1 in
+    subst (λ ws. AreRefuted (systems ++ flat_map (own_systems cx further) ws) c.push_writers.new.proofs) (sym first)
+    (subst (λ ys. AreRefuted ys c.push_writers.new.proofs)
+    (append_assoc systems (own_systems cx further x) (flat_map (own_systems cx further) xs)) all))) c.push_writers.ensures

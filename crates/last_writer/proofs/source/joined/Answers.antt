@@ -1,0 +1,60 @@
+-- The writes that are told are problems of differences in this context, so they can be joined, and the joined tree is one of the
+-- nest once its proofs are those for all writers.
+use Rattle.std.proofs.Common.{◌≡◌, length, sym, ap, subst, arith}
+use Rattle.std.proofs.lemmas.List.Elements.{All-weaker}
+use Rattle.std.proofs.lemmas.Result.{IfOk-weaker}
+use Rattle.candidate_order.specs.Contexts.{IsMadeAs}
+use Rattle.int_polyhedra.specs.declared.system.System.{System}
+use Rattle.last_writer.proofs.Joining.{below_here, joined_below, pairs_joined, read_joined}
+use Rattle.last_writer.proofs.Standing.{zip_count}
+use Rattle.last_writer.specs.Answers.{HasSmallRows}
+use Rattle.last_writer.specs.Leaves.{context_of}
+use Rattle.last_writer.specs.Writers.{IsTestAt, IsWriterOf}
+use Rattle.lex_max.specs.Asked.{occurrence_of}
+use Rattle.last_writer.proofs.source.joined.Goals as goal
+
+pub push_problems-requires : goal.push_problems-requires
+push_problems-requires c =
+    let w = c.args.w.now in
+    All-weaker (IsWriterOf w.nest.now (occurrence_of w.read) w.tests.now) (λ x. length x.divisions ≡ length x.places)
+    (λ x of. zip_count (IsTestAt w.tests.now) x.divisions x.places of.places) w.writers.now
+    c.requires.answered.writers.each
+
+pub join-requires-clause-joined : goal.join-requires-clause-joined
+join-requires-clause-joined c =
+    let w = c.args.w.now in
+    let r = c.read_with-read.result in
+    let read = c.read_with-read.ensures in
+    read_joined w r c.requires.answered c.requires.all
+    (subst (λ (s : System). IsMadeAs s (context_of w)) (sym read.context) c.requires.made)
+    (subst HasSmallRows (sym read.context) c.requires.rows)
+    (omega (arith, ap (λ (s : System). length s.rows) read.context, c.requires.few))
+    (pairs_joined w r c.new-problems.result c.push_problems.new.problems c.as_slice.result.now c.args.told.now
+    c.requires.answered c.requires.told read.reference read.problems c.as_slice.ensures c.new-problems.ensures
+    c.in_ok-push_problems.ensures)
+
+pub converted-requires-clause-tree : goal.converted-requires-clause-tree
+converted-requires-clause-tree c =
+    let w = c.args.w.now in
+    let r = c.read_with-read.result in
+    let read = c.read_with-read.ensures in
+    let pairs = pairs_joined w r c.new-problems.result c.push_problems.new.problems c.as_slice.result.now c.args.told.now
+    c.requires.answered c.requires.told read.reference read.problems c.as_slice.ensures c.new-problems.ensures
+    c.in_ok-push_problems.ensures in
+    let below = below_here w c.args.context.now c.len.result c.len.ensures c.requires.all c.requires.made c.requires.rows in
+    let checked = joined_below w r c.args.context.now c.in_ok-tree.tree c.requires.made read.context pairs
+    c.in_ok-tree.ensures.tree in
+    (context_of w, below, checked)
+
+pub returns-clause-tree : goal.returns-clause-tree
+returns-clause-tree c =
+    let w = c.args.w.now in
+    let r = c.read_with-read.result in
+    let read = c.read_with-read.ensures in
+    let pairs = pairs_joined w r c.new-problems.result c.push_problems.new.problems c.as_slice.result.now c.args.told.now
+    c.requires.answered c.requires.told read.reference read.problems c.as_slice.ensures c.new-problems.ensures
+    c.in_ok-push_problems.ensures in
+    let below = below_here w c.args.context.now c.len.result c.len.ensures c.requires.all c.requires.made c.requires.rows in
+    let checked = joined_below w r c.args.context.now c.in_ok-tree.tree c.requires.made read.context pairs
+    c.in_ok-tree.ensures.tree in
+    IfOk-weaker c.converted.result _ _ (λ own converts. converts (context_of w) below checked) c.converted.ensures

@@ -1,0 +1,13 @@
+use Rattle.std.proofs.Common.{◌^◌, sym, subst}
+use Rattle.std.specs.Prelude.{All}
+use Rattle.row_sums.specs.Parts.{IsWithin}
+use Rattle.stride_trees.proofs.Fitting.{all_within, are_fitting}
+use Rattle.stride_trees.specs.Strides.{depth_of_write, read_of, write_of}
+use Rattle.last_writer.proofs.source.told_of.Goals as goal
+
+pub divided_rows-requires : goal.divided_rows-requires
+divided_rows-requires c =
+    let s = c.args.writer.now.strides in
+    subst (All (IsWithin (2 ^ 32))) (sym c.as_slice.ensures)
+    (all_within (depth_of_write s) (write_of s).statement.rows
+    (are_fitting s.nest.now (read_of s) (write_of s) s.level c.requires.strided.strided).rows)

@@ -1,0 +1,176 @@
+-- Leaves below tests of divisibility: the writes that are joined there, and proofs for the writes of all writers.
+use Rattle.std.specs.Prelude.{◌≡◌, ◌≤◌, ◌<◌, ◌+◌, ◌*◌, ◌^◌, ◌==◌, ℕ, Bool, false, Contains, slice_get, List, [], ◌∷◌, ◌++◌, map, length, nat_lt, All, Option, Some, None, slice_index_or, if◌then◌else◌}
+use Rattle.std.specs.List.{filter, list_all, range_with_len}
+use Rattle.affine_core.specs.declared.form.Form.{Form}
+use Rattle.candidate_order.specs.Candidates.{levels_before}
+use Rattle.candidate_order.specs.Joint.{place_systems, IsCheckedForAll, IsSum}
+use Rattle.candidate_order.specs.Reads.{ReadAndWrite}
+use Rattle.int_polyhedra.specs.declared.system.Proof.{Proof}
+use Rattle.last_writer.specs.Answers.{answered_context}
+use Rattle.last_writer.specs.Writers.{AreWriters, IsReadOf}
+use Rattle.last_writer.specs.declared.leaves.Answered.{Answered}
+use Rattle.last_writer.specs.declared.leaves.Refusal.{Refusal}
+use Rattle.last_writer.specs.declared.writers.Writer.{Writer}
+use Rattle.lex_max.specs.Asked.{occurrence_of}
+use Rattle.lex_max.specs.Level.{common_of}
+use Rattle.lex_max.specs.declared.writes.Reference.{Reference}
+use Rattle.row_sums.specs.Parts.{IsWithin}
+use Rattle.source_tree.specs.Checked.{AreRefuted, HaveVariables, IsCheckedIn}
+use Rattle.source_tree.specs.Places.{before_rows}
+use Rattle.source_tree.specs.Rows.{RowExpr, RowSystem}
+use Rattle.source_tree.specs.Systems.{Context, Occurrence, array_writes, every, more_rows, named_write, root_context, write_systems, writer_place, writer_systems}
+use Rattle.source_tree.specs.declared.tree.Tree.{Tree}
+use Rattle.stride_trees.specs.Contexts.{AreMadeSmall, IsPlaceIn}
+use Rattle.stride_trees.specs.Problem.{told_read, told_write}
+use Rattle.stride_trees.specs.Strides.{depth_of_write, read_of, write_of, IsSmallContext, IsStrided, IsTestOf}
+use Rattle.stride_trees.specs.declared.divisions.Division.{Division}
+use Rattle.stride_trees.specs.declared.strides.Strides.{Strides}
+
+-- whether the test at this place says yes
+abbrev pub answer_at : List Bool → ℕ → Bool
+answer_at answers place = slice_index_or answers place false
+
+-- whether all tests of a writer say yes
+abbrev pub is_told : List Bool → Writer → Bool
+is_told answers w = list_all (answer_at answers) w.places
+
+-- its write over quotients and the read, over so many variables
+abbrev pub told_pair : ℕ → Writer → ReadAndWrite
+told_pair vars w = record {
+  read = told_read vars w.places (read_of w.strides) (write_of w.strides);
+  write = told_write (write_of w.strides);
+}
+
+-- of those of the writers whose tests all say yes
+abbrev pub told_pairs : ℕ → List Bool → List Writer → List ReadAndWrite
+told_pairs vars answers writers = map (told_pair vars) (filter (is_told answers) writers)
+
+-- a read of a nest, all writers of its array, and answers to the first of their tests
+pub record IsAnswered (w : Answered) : Type 0 where
+  pub read : IsReadOf w.nest.now w.read
+  pub writers : AreWriters w.nest.now (occurrence_of w.read)
+      (array_writes w.nest.now (occurrence_of w.read)) w.tests.now w.writers.now
+  pub few : length w.tests.now ≤ 6
+  pub answers : length w.answers.now ≤ length w.tests.now
+
+-- the context below the answers
+abbrev pub context_of : Answered → Context
+context_of w = answered_context (root_context (occurrence_of w.read)) w.tests.now w.answers.now
+
+-- how many variables there are below all tests
+abbrev pub vars_of : Answered → ℕ
+vars_of w = length w.read.statement.now.loops + length w.tests.now
+
+-- the writes over quotients that are joined
+abbrev pub pairs_of : Answered → List ReadAndWrite
+pairs_of w = told_pairs (vars_of w) w.answers.now w.writers.now
+
+-- a context below answers to all tests: so many rows with small numbers, of which those of the answers are the first
+pub record IsBelow (w : Answered) (here : ℕ) (c : Context) : Type 0 where
+  pub all : length w.answers.now ≡ length w.tests.now
+  pub small : IsSmallContext c here
+  pub more : List RowExpr
+  pub is : c ≡ more_rows (context_of w) more
+
+-- where a tree is checked for the writes that are joined, the other is checked for all writes
+abbrev pub Converts : Answered → ℕ → Tree → Tree → Type 0
+Converts w here tree own =
+    (c : Context) → IsBelow w here c → IsCheckedForAll (pairs_of w) c tree
+    → IsCheckedIn w.nest.now (occurrence_of w.read) every c own
+
+-- the tree is checked for the writes that are joined
+abbrev pub IsJoinedBelow : Answered → ℕ → Tree → Type 0
+IsJoinedBelow w here tree = (c : Context) × IsBelow w here c × IsCheckedForAll (pairs_of w) c tree
+
+-- Proofs were added that refute these systems, where the first of the proofs that were told refute others. The rest of
+-- those is for what comes behind.
+abbrev pub AddsProofs : List RowSystem → List RowSystem → List Proof → List Proof → List Proof → List Proof → Type 0
+AddsProofs from to told rest old new =
+    (before more : List RowSystem) → AreRefuted before old → AreRefuted (from ++ more) told
+    → AreRefuted (before ++ to) new × AreRefuted more rest
+
+-- how many rows a level of order has, where so many loops are common
+abbrev pub level_count_of : ℕ → ℕ → ℕ
+level_count_of common level = 2 * level + (if nat_lt level common then 1 else 0)
+
+-- how many rows each level of order of the first statement before the second has
+abbrev pub order_counts : Occurrence → Occurrence → List ℕ
+order_counts u w = map (level_count_of (common_of u w)) (range_with_len 0 (levels_before u w))
+
+-- the same behind a place of a writer, and without one no rows once
+abbrev pub counts_behind : Option Reference → Occurrence → List ℕ
+counts_behind None u = 0 ∷ []
+counts_behind (Some of) u = order_counts (occurrence_of of) u
+
+-- order rows in a context for a writer's point, so many each, with small numbers
+pub record AreOrderRows (s : Strides) (c : Context) (counts : List ℕ) (rows : List (List RowExpr))
+    : Type 0 where
+  pub counted : map length rows ≡ counts
+  pub made : All (AreMadeSmall (c.vars + depth_of_write s)) rows
+
+-- what stands behind the rows of a write before the read: nothing, or order rows of a place before it
+abbrev pub IsFurther : Option Reference → Context → (Occurrence → List (List RowExpr)) → Type 0
+IsFurther None c further = (u : Occurrence) → further u ≡ [] ∷ []
+IsFurther (Some of) c further =
+    (place : List Form) × IsPlaceIn c (length of.statement.now.loops) place
+    × ((u : Occurrence) → further u
+    ≡ before_rows of.number of.statement.now place u.number u.statement (writer_place c u))
+
+-- the systems of a writer's write before the read
+abbrev pub own_systems : Context → (Occurrence → List (List RowExpr)) → Writer → List RowSystem
+own_systems c further w = write_systems (read_of w.strides) every c further (write_of w.strides)
+
+-- the same over quotients, where its tests all say yes
+abbrev pub told_systems : List Bool → Context → (Occurrence → List (List RowExpr)) → Writer → List RowSystem
+told_systems answers c further w =
+    if is_told answers w
+    then write_systems (told_pair c.vars w).read every c further (told_pair c.vars w).write else []
+
+-- a test that says no among these, which stand at these places
+pub record IsRefusalAmong (answers : List Bool) (divisions : List Division) (places : List ℕ)
+    (refusal : Refusal) : Type 0 where
+  pub number : ℕ
+  pub division : slice_get divisions number ≡ Some refusal.division.now
+  pub place : slice_get places number ≡ Some refusal.place
+  pub no : answer_at answers refusal.place ≡ false
+
+-- it is one of the tests of the write, at a place there may be
+pub record IsRefusal (s : Strides) (refusal : Refusal) : Type 0 where
+  pub test : IsTestOf s refusal.division.now
+  pub place : refusal.place < 6
+
+-- proofs for its writes can be converted in a context of so many rows
+pub record CanBeConverted (w : Writer) (here : ℕ) : Type 0 where
+  pub strided : IsStrided w.strides
+  pub places : All (λ place. place < 6) w.places
+  pub few : here ≤ 8192
+
+-- one of the writers has this number
+abbrev pub HasWriter : List Writer → ℕ → Type 0
+HasWriter writers number =
+    (w : Writer) × Contains writers w × (w.strides.write.number ≡ number)
+
+-- how many systems say that a write is not before the read
+abbrev pub after_systems_count : Occurrence → Occurrence → ℕ
+after_systems_count r w = levels_before r w + (if w.number == r.number then 1 else 0)
+
+-- the proofs are those of a joined Writer leaf for the write of this number, in this context
+pub record IsJoinedPoint (w : Answered) (c : Context) (number : ℕ) (place : List Form)
+    (proofs : List Proof) : Type 0 where
+  pub pair : ReadAndWrite
+  pub among : Contains (pairs_of w) pair
+  pub number_is : number ≡ pair.write.number
+  pub deep : length place ≡ length pair.write.statement.loops
+  pub over : HaveVariables c.vars place
+  pub within : All (IsWithin (2 ^ 48)) place
+  pub refuted : AreRefuted (place_systems (pairs_of w) pair place c) proofs
+  pub sums : All IsSum proofs
+
+-- they are those of a Writer leaf of the nest
+pub record IsOwnPoint (w : Answered) (c : Context) (number : ℕ) (place : List Form)
+    (proofs : List Proof) : Type 0 where
+  pub write : Occurrence
+  pub named : named_write w.nest.now (occurrence_of w.read) number ≡ Some write
+  pub deep : length place ≡ length write.statement.loops
+  pub refuted : AreRefuted
+      (writer_systems w.nest.now (occurrence_of w.read) every c write place) proofs

@@ -1,0 +1,65 @@
+-- The writers of a read's array, and their tests of divisibility, each once.
+use Rattle.std.specs.Prelude.{◌≡◌, ◌≤◌, ◌^◌, ◌≤ℤ◌, ℕ, pos, Bool, List, ◌++◌, map, length, nat_lt, All, Some, Contains, slice_get, unsigned_abs}
+use Rattle.std.specs.List.{AllZip, filter, sum_by}
+use Rattle.candidate_order.specs.Candidates.{levels_before}
+use Rattle.last_writer.specs.declared.writers.Writer.{Writer}
+use Rattle.lex_max.specs.declared.writes.Reference.{Reference}
+use Rattle.row_sums.specs.Parts.{IsWithin}
+use Rattle.sanlp.specs.declared.nest.Nest.{Nest}
+use Rattle.source_tree.specs.Systems.{Occurrence}
+use Rattle.stride_rows.specs.Class.{stride_count}
+use Rattle.stride_trees.specs.Strides.{read_of, tests_of, write_of, IsStrided}
+use Rattle.stride_trees.specs.declared.divisions.Division.{Division}
+
+-- a test over so many loops of a reader: its numbers are small, and its divisor is at least 2
+pub record IsSmallTest (depth : ℕ) (d : Division) : Type 0 where
+  pub over : length d.form.coefs ≡ depth
+  pub within : IsWithin (2 ^ 33) d.form
+  pub divisor : pos 2 ≤ℤ d.divisor
+  pub small : unsigned_abs d.divisor ≤ 2 ^ 32
+
+-- the test at this place has the form and the divisor of this one
+pub record IsTestAt (tests : List Division) (d : Division) (place : ℕ) : Type 0 where
+  pub test : Division
+  pub is : slice_get tests place ≡ Some test
+  pub form : test.form ≡ d.form
+  pub divisor : test.divisor ≡ d.divisor
+
+-- tests of these were added at the end, none of them twice
+pub record AddsTests (from old new : List Division) : Type 0 where
+  pub more : List Division
+  pub grown : new ≡ old ++ more
+  pub among : All (Contains from) more
+  pub few : length more ≤ length from
+
+-- places were added, one for each of these tests
+pub record AddsPlaces (tests divisions : List Division) (old new : List ℕ) : Type 0 where
+  pub more : List ℕ
+  pub grown : new ≡ old ++ more
+  pub places : AllZip (IsTestAt tests) divisions more
+
+-- a writer of the read's array, with its tests and their places among the tests of all writers
+pub record IsWriterOf (n : Nest) (r : Occurrence) (tests : List Division)
+    (w : Writer) : Type 0 where
+  pub strided : IsStrided w.strides
+  pub nest : w.strides.nest.now ≡ n
+  pub read : read_of w.strides ≡ r
+  pub divisions : w.divisions ≡ tests_of w.strides
+  pub places : AllZip (IsTestAt tests) w.divisions w.places
+
+-- the reference is a read of its statement
+pub record IsReadOf (n : Nest) (r : Reference) : Type 0 where
+  pub statement : slice_get n.statements r.number ≡ Some r.statement.now
+  pub access : (k : ℕ) × (slice_get r.statement.now.reads k ≡ Some r.access.now)
+
+-- the statement of the write stands before the read at some level of order
+abbrev pub stands_before : Occurrence → Occurrence → Bool
+stands_before r w = nat_lt 0 (levels_before w r)
+
+-- the writers of those of these writes that stand before the read, and the tests of all of them
+pub record AreWriters (n : Nest) (r : Occurrence) (writes : List Occurrence) (tests : List Division)
+    (writers : List Writer) : Type 0 where
+  pub each : All (IsWriterOf n r tests) writers
+  pub are : map (λ w. write_of w.strides) writers ≡ filter (stands_before r) writes
+  pub small : All (IsSmallTest (length r.statement.loops)) tests
+  pub few : length tests ≤ sum_by stride_count writes

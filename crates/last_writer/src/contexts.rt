@@ -1,0 +1,102 @@
+ghost use Rattle.std.specs.Prelude.{◌≡◌, ◌<◌, ◌≤◌, ◌+◌, ◌^◌, ℕ, true, false, ◌++◌, length, map, All, unsigned_abs, IfOk, OnOk};
+ghost use Rattle.affine_core.specs.Affine.{form_product, variable_form, widened_form};
+ghost use Rattle.candidate_order.specs.Contexts.{IsMadeAs};
+ghost use Rattle.last_writer.specs.Answers.{below_answer, HasSmallRows};
+ghost use Rattle.last_writer.specs.Writers.{IsSmallTest};
+ghost use Rattle.source_tree.specs.Systems.{Context};
+
+use affine_core::{Form, Overflow, Row};
+use int_polyhedra::System;
+use lex_max::{difference, raised};
+use plain_data::Items;
+use std::alloc::{AllocError, Global};
+use stride_trees::Division;
+
+// Adds the rows over so many variables.
+fn push_widened(wide: &mut Items<Row>, rows: &[Row], vars: usize) -> Result<(), AllocError>
+    requires over { All (λ row. length row.coefs ≤ vars) rows.now }
+    requires few { vars ≤ 18 }
+    ensures { OnOk result (wide.new ≡ wide.old ++ map (widened_form vars) rows.now) }
+{
+    let Some((row, rows)) = rows.split_first() else {
+        return Ok(());
+    };
+    wide.push(row.widened(vars))?;
+    push_widened(wide, rows, vars)
+}
+
+// The rows of a context over one variable more.
+fn widened_rows(alloc: Global, context: &System) -> Result<Items<Row>, AllocError>
+    requires over { HasSmallRows context.now }
+    requires few { context.now.vars < 18 }
+    ensures { IfOk result (λ wide. wide
+        ≡ map (widened_form (context.now.vars + 1)) context.now.rows) }
+{
+    let mut wide = Items::new(alloc);
+    push_widened(
+        &mut wide,
+        context.rows.as_slice(),
+        context.vars as usize + 1,
+    )?;
+    Ok(wide)
+}
+
+// So many times the last of so many variables.
+fn multiple(alloc: Global, vars: usize, times: i128) -> Form
+    requires some { 0 < vars }
+    requires few { vars ≤ 18 }
+    requires small { unsigned_abs times ≤ 2 ^ 32 }
+    ensures { (q : ℕ) → vars ≡ q + 1 → result ≡ form_product times (variable_form vars q) }
+{
+    match Form::variable(alloc, vars, vars - 1).scale(times) {
+        Ok(multiple) => multiple,
+        Err(Overflow) => unreachable!(),
+    }
+}
+
+/// The context below the yes of a test: its divisor times the quotient, which is one variable more, is its form.
+pub fn divided(alloc: Global, context: &System, test: &Division) -> Result<System, AllocError>
+    requires rows { HasSmallRows context.now }
+    requires few { context.now.vars < 18 }
+    requires test { (depth : ℕ) × IsSmallTest depth test.now × (depth ≤ context.now.vars) }
+    ensures made { IfOk result (λ below. (c : Context) → IsMadeAs context.now c
+        → IsMadeAs below (below_answer c test.now true)) }
+    ensures rows { IfOk result HasSmallRows }
+    ensures vars { IfOk result (λ below. below.vars ≡ context.now.vars + 1) }
+    ensures count { IfOk result (λ below. length below.rows ≡ length context.now.rows + 2) }
+{
+    let vars = context.vars as usize + 1;
+    let mut rows = widened_rows(alloc, context)?;
+    let form = test.form.widened(vars);
+    let quotients = multiple(alloc, vars, test.divisor);
+    rows.push(difference(&form, &quotients))?;
+    rows.push(difference(&quotients, &form))?;
+    Ok(System {
+        vars: context.vars + 1,
+        rows,
+    })
+}
+
+/// The context below the no of a test: its form lies between two multiples of the divisor.
+pub fn undivided(alloc: Global, context: &System, test: &Division) -> Result<System, AllocError>
+    requires rows { HasSmallRows context.now }
+    requires few { context.now.vars < 18 }
+    requires test { (depth : ℕ) × IsSmallTest depth test.now × (depth ≤ context.now.vars) }
+    ensures made { IfOk result (λ below. (c : Context) → IsMadeAs context.now c
+        → IsMadeAs below (below_answer c test.now false)) }
+    ensures rows { IfOk result HasSmallRows }
+    ensures vars { IfOk result (λ below. below.vars ≡ context.now.vars + 1) }
+    ensures count { IfOk result (λ below. length below.rows ≡ length context.now.rows + 2) }
+{
+    let vars = context.vars as usize + 1;
+    let mut rows = widened_rows(alloc, context)?;
+    let form = test.form.widened(vars);
+    let quotients = multiple(alloc, vars, test.divisor);
+    let last = raised(&quotients, test.divisor - 1);
+    rows.push(raised(&difference(&form, &quotients), -1))?;
+    rows.push(difference(&last, &form))?;
+    Ok(System {
+        vars: context.vars + 1,
+        rows,
+    })
+}

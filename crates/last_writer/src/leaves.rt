@@ -1,0 +1,464 @@
+ghost use Rattle.std.specs.Prelude.{◌≡◌, ◌<◌, ◌≤◌, ◌+◌, ◌*◌, ◌++◌, ℕ, [], ◌∷◌, true, List, drop, map, length, take, All, Some, Contains, IfOk, IfSome, MatchOption, OnOk};
+ghost use Rattle.std.specs.List.{flat_map, list_all, range_with_len};
+ghost use Rattle.affine_core.specs.declared.form.Form.{Form as FormOf};
+ghost use Rattle.candidate_order.specs.Joint.{no_orders, write_systems_of, IsSum};
+ghost use Rattle.int_polyhedra.specs.declared.system.Proof.TheVariants.{Sum};
+ghost use Rattle.last_writer.specs.Leaves.{after_systems_count, answer_at as answer_of, counts_behind as behind_counts, is_told, level_count_of, order_counts, own_systems, pairs_of, told_systems, AddsProofs, AreOrderRows, CanBeConverted, Converts, HasWriter, IsAnswered, IsBelow, IsFurther, IsJoinedBelow, IsJoinedPoint, IsOwnPoint, IsRefusal, IsRefusalAmong};
+ghost use Rattle.last_writer.specs.Writers.{IsWriterOf};
+ghost use Rattle.lex_max.specs.Asked.{occurrence_of};
+ghost use Rattle.source_tree.specs.Checked.{AreRefuted};
+ghost use Rattle.source_tree.specs.Rows.{RowExpr, RowSystem};
+ghost use Rattle.source_tree.specs.Systems.{zero_systems, every, Context, Occurrence};
+ghost use Rattle.stride_trees.specs.Contexts.{own_system, told_system, IsTestedContext, IsUndividedContext};
+ghost use Rattle.stride_trees.specs.Strides.{IsStrided};
+
+use crate::writers::Writer;
+use candidate_join::Unmade;
+use candidate_order::level_count;
+use int_polyhedra::{Proof, Term};
+use lex_max::{Reference, common_loops, test};
+use plain_data::Items;
+use sanlp::Nest;
+use source_tree::Tree;
+use std::alloc::{AllocError, Global};
+use stride_trees::{Division, Strides, converted_place, converted_write, undivided_write};
+
+// How many rows the context of a leaf may have.
+const ROWS: u32 = 4_096;
+
+/// The writers of a read, where the first of their tests of divisibility have answers.
+#[derive(Clone, Copy)]
+pub struct Answered<'a> {
+    pub alloc: Global,
+    pub nest: &'a Nest,
+    pub read: Reference<'a>,
+    pub writers: &'a [Writer<'a>],
+    pub tests: &'a [Division],
+    pub answers: &'a [bool],
+}
+
+/// A test of a writer that says no, and which of the tests of all writers it is.
+#[derive(Clone, Copy)]
+pub struct Refusal<'a> {
+    pub division: &'a Division,
+    pub place: u32,
+}
+
+// Whether the test at this place says yes.
+fn answer_at(answers: &[bool], place: u32) -> bool
+    ensures { result ≡ answer_of answers.now place }
+{
+    match answers.get(place as usize) {
+        Some(answer) => *answer,
+        None => false,
+    }
+}
+
+// The first of these tests that says no, if there is one. They stand at these places.
+fn first_no<'a>(divisions: &'a [Division], places: &[u32], answers: &[bool]) -> Option<Refusal<'a>>
+    requires { length divisions.now ≡ length places.now }
+    ensures { MatchOption result (list_all (answer_of answers.now) places.now ≡ true)
+        (IsRefusalAmong answers.now divisions.now places.now) }
+{
+    let (division, divisions) = divisions.split_first()?;
+    let (place, places) = places.split_first()?;
+    if !answer_at(answers, *place) {
+        return Some(Refusal {
+            division,
+            place: *place,
+        });
+    }
+    first_no(divisions, places, answers)
+}
+
+/// The first test of a writer that says no, if there is one.
+pub fn refusal_of<'a>(writer: &'a Writer, answers: &[bool]) -> Option<Refusal<'a>>
+    requires { length writer.now.divisions ≡ length writer.now.places }
+    ensures { MatchOption result (is_told answers.now writer.now ≡ true)
+        (IsRefusalAmong answers.now writer.now.divisions writer.now.places) }
+{
+    first_no(
+        writer.divisions.as_slice(),
+        writer.places.as_slice(),
+        answers,
+    )
+}
+
+// Adds how many rows so many levels of order have, from this one on.
+fn push_counts(
+    counts: &mut Items<u32>,
+    common: usize,
+    level: usize,
+    more: usize,
+) -> Result<(), AllocError>
+    requires { level + more ≤ 8 }
+    ensures { OnOk result (counts.new
+        ≡ counts.old ++ map (level_count_of common) (range_with_len level more)) }
+{
+    if more == 0 {
+        return Ok(());
+    }
+    let equal = 2 * level as u32;
+    counts.push(if level < common { equal + 1 } else { equal })?;
+    push_counts(counts, common, level + 1, more - 1)
+}
+
+// Per level of order of the first statement before the second: how many rows it has.
+fn row_counts(
+    alloc: Global,
+    first: &Reference,
+    second: &Reference,
+) -> Result<Items<u32>, AllocError>
+    requires { length first.now.statement.now.loops ≤ 6 }
+    ensures { IfOk result (λ counts. counts
+        ≡ order_counts (occurrence_of first.now) (occurrence_of second.now)) }
+{
+    let (loops, others) = (&first.statement.loops, &second.statement.loops);
+    let common = common_loops(loops.as_slice(), others.as_slice());
+    let mut counts = Items::new(alloc);
+    push_counts(&mut counts, common, 0, level_count(first, second))?;
+    Ok(counts)
+}
+
+// The same behind a place of a writer, and without one no rows once.
+fn counts_behind(
+    alloc: Global,
+    behind: &Option<Reference>,
+    write: &Reference,
+) -> Result<Items<u32>, AllocError>
+    requires { IfSome behind.now (λ of. length of.statement.now.loops ≤ 6) }
+    ensures { IfOk result (λ counts. counts ≡ behind_counts behind.now (occurrence_of write.now)) }
+{
+    match behind {
+        Some(of) => row_counts(alloc, of, write),
+        None => {
+            let mut counts = Items::new(alloc);
+            counts.push(0)?;
+            Ok(counts)
+        }
+    }
+}
+
+// Adds the proofs for a write over quotients, for each of these numbers of order rows behind so many. Gives the proofs
+// that are left.
+fn push_orders<'t>(
+    proofs: &mut Items<Proof>,
+    writer: &Writer,
+    here: u32,
+    before: u32,
+    orders: &[u32],
+    told: &'t [Proof],
+) -> Result<&'t [Proof], AllocError>
+    requires writer { CanBeConverted writer.now here }
+    requires counts { All (λ order. before + order ≤ 64) orders.now }
+    requires sums { All IsSum told.now }
+    ensures proofs { IfOk result (λ rest. (c : Context) (level : List RowExpr)
+        (rows : List (List RowExpr)) → IsTestedContext writer.now.strides writer.now.places here c
+        → AreOrderRows writer.now.strides c (before ∷ []) (level ∷ [])
+        → AreOrderRows writer.now.strides c orders.now rows
+        → AddsProofs
+        (map (λ q. told_system writer.now.strides writer.now.places c (level ++ q)) rows)
+        (map (λ q. own_system writer.now.strides c (level ++ q)) rows)
+        told.now rest.now proofs.old proofs.new) }
+    ensures sums { IfOk result (λ rest. All IsSum rest.now) }
+{
+    let Some((order, orders)) = orders.split_first() else {
+        return Ok(told);
+    };
+    let Some((proof, told)) = told.split_first() else {
+        return Ok(told);
+    };
+    let places = writer.places.as_slice();
+    proofs.push(converted_write(&writer.strides, places, here, before + *order, proof)?)?;
+    push_orders(proofs, writer, here, before, orders, told)
+}
+
+// The same at each level before the read.
+fn push_levels<'t>(
+    proofs: &mut Items<Proof>,
+    writer: &Writer,
+    here: u32,
+    levels: &[u32],
+    orders: &[u32],
+    told: &'t [Proof],
+) -> Result<&'t [Proof], AllocError>
+    requires writer { CanBeConverted writer.now here }
+    requires levels { All (λ level. level ≤ 32) levels.now }
+    requires orders { All (λ order. order ≤ 32) orders.now }
+    requires sums { All IsSum told.now }
+    ensures proofs { IfOk result (λ rest. (c : Context) (at rows : List (List RowExpr))
+        → IsTestedContext writer.now.strides writer.now.places here c
+        → AreOrderRows writer.now.strides c levels.now at
+        → AreOrderRows writer.now.strides c orders.now rows
+        → AddsProofs
+        (flat_map (λ p. map
+        (λ q. told_system writer.now.strides writer.now.places c (p ++ q)) rows) at)
+        (flat_map (λ p. map (λ q. own_system writer.now.strides c (p ++ q)) rows) at)
+        told.now rest.now proofs.old proofs.new) }
+    ensures sums { IfOk result (λ rest. All IsSum rest.now) }
+{
+    let Some((level, levels)) = levels.split_first() else {
+        return Ok(told);
+    };
+    let told = push_orders(proofs, writer, here, *level, orders, told)?;
+    push_levels(proofs, writer, here, levels, orders, told)
+}
+
+// Adds the proofs for a write of which this test says no, for each of these numbers of order rows behind so many.
+fn push_undivided_orders(
+    proofs: &mut Items<Proof>,
+    s: &Strides,
+    test: &Refusal,
+    here: u32,
+    before: u32,
+    orders: &[u32],
+) -> Result<(), AllocError>
+    requires strided { IsStrided s.now }
+    requires test { IsRefusal s.now test.now }
+    requires here { here ≤ 8192 }
+    requires counts { All (λ order. before + order ≤ 64) orders.now }
+    ensures { OnOk result ((c : Context) (level : List RowExpr) (rows : List (List RowExpr))
+        → IsUndividedContext s.now test.now.division.now test.now.place here c
+        → AreOrderRows s.now c (before ∷ []) (level ∷ []) → AreOrderRows s.now c orders.now rows
+        → (systems : List RowSystem) → AreRefuted systems proofs.old
+        → AreRefuted (systems ++ map (λ q. own_system s.now c (level ++ q)) rows) proofs.new) }
+{
+    let Some((order, orders)) = orders.split_first() else {
+        return Ok(());
+    };
+    proofs.push(undivided_write(s, test.division, test.place, here, before + *order)?)?;
+    push_undivided_orders(proofs, s, test, here, before, orders)
+}
+
+// The same at each level before the read.
+fn push_undivided_levels(
+    proofs: &mut Items<Proof>,
+    s: &Strides,
+    test: &Refusal,
+    here: u32,
+    levels: &[u32],
+    orders: &[u32],
+) -> Result<(), AllocError>
+    requires strided { IsStrided s.now }
+    requires test { IsRefusal s.now test.now }
+    requires here { here ≤ 8192 }
+    requires levels { All (λ level. level ≤ 32) levels.now }
+    requires orders { All (λ order. order ≤ 32) orders.now }
+    ensures { OnOk result ((c : Context) (at rows : List (List RowExpr))
+        → IsUndividedContext s.now test.now.division.now test.now.place here c
+        → AreOrderRows s.now c levels.now at → AreOrderRows s.now c orders.now rows
+        → (systems : List RowSystem) → AreRefuted systems proofs.old
+        → AreRefuted (systems ++ flat_map (λ p. map (λ q. own_system s.now c (p ++ q)) rows) at)
+        proofs.new) }
+{
+    let Some((level, levels)) = levels.split_first() else {
+        return Ok(());
+    };
+    push_undivided_orders(proofs, s, test, here, *level, orders)?;
+    push_undivided_levels(proofs, s, test, here, levels, orders)
+}
+
+// Adds the proofs for the writes of one writer before the read. Gives those that are left of the proofs over quotients.
+fn push_writer<'t>(
+    proofs: &mut Items<Proof>,
+    w: &Answered,
+    here: u32,
+    behind: &Option<Reference>,
+    writer: &Writer,
+    told: &'t [Proof],
+) -> Result<&'t [Proof], AllocError>
+    requires writer { IsWriterOf w.now.nest.now (occurrence_of w.now.read) w.now.tests.now
+        writer.now }
+    requires answered { IsAnswered w.now }
+    requires here { here ≤ 8192 }
+    requires behind { IfSome behind.now (λ of. length of.statement.now.loops ≤ 6) }
+    requires sums { All IsSum told.now }
+    ensures proofs { IfOk result (λ rest. (c : Context) (further : Occurrence → List (List RowExpr))
+        → IsBelow w.now here c → IsFurther behind.now c further
+        → AddsProofs (told_systems w.now.answers.now c further writer.now)
+        (own_systems c further writer.now) told.now rest.now proofs.old proofs.new) }
+    ensures sums { IfOk result (λ rest. All IsSum rest.now) }
+{
+    let write = &writer.strides.write;
+    let levels = row_counts(w.alloc, write, &w.read)?;
+    let orders = counts_behind(w.alloc, behind, write)?;
+    let (levels, orders) = (levels.as_slice(), orders.as_slice());
+    match refusal_of(writer, w.answers) {
+        Some(test) => {
+            push_undivided_levels(proofs, &writer.strides, &test, here, levels, orders)?;
+            Ok(told)
+        }
+        None => push_levels(proofs, writer, here, levels, orders, told),
+    }
+}
+
+// Adds the proofs for the writes of these writers before the read.
+fn push_writers(
+    proofs: &mut Items<Proof>,
+    w: &Answered,
+    here: u32,
+    behind: &Option<Reference>,
+    writers: &[Writer],
+    told: &[Proof],
+) -> Result<(), AllocError>
+    requires writers { All (IsWriterOf w.now.nest.now (occurrence_of w.now.read) w.now.tests.now)
+        writers.now }
+    requires answered { IsAnswered w.now }
+    requires here { here ≤ 8192 }
+    requires behind { IfSome behind.now (λ of. length of.statement.now.loops ≤ 6) }
+    requires sums { All IsSum told.now }
+    ensures { OnOk result ((c : Context) (further : Occurrence → List (List RowExpr))
+        (systems : List RowSystem) → IsBelow w.now here c → IsFurther behind.now c further
+        → AreRefuted systems proofs.old
+        → AreRefuted (flat_map (told_systems w.now.answers.now c further) writers.now) told.now
+        → AreRefuted (systems ++ flat_map (own_systems c further) writers.now) proofs.new) }
+{
+    let Some((writer, writers)) = writers.split_first() else {
+        return Ok(());
+    };
+    let told = push_writer(proofs, w, here, behind, writer, told)?;
+    push_writers(proofs, w, here, behind, writers, told)
+}
+
+// The terms of a Sum.
+fn sum_terms(proof: &Proof) -> &[Term]
+    requires { IsSum proof.now }
+    ensures { proof.now ≡ Sum result.now }
+{
+    match proof {
+        Proof::Sum(terms) => terms.as_slice(),
+        _ => unreachable!(),
+    }
+}
+
+// Adds these Sums.
+fn push_sums(proofs: &mut Items<Proof>, sums: &[Proof]) -> Result<(), AllocError>
+    requires { All IsSum sums.now }
+    ensures { OnOk result (proofs.new ≡ proofs.old ++ sums.now) }
+{
+    let Some((proof, sums)) = sums.split_first() else {
+        return Ok(());
+    };
+    let terms = Items::from_slice(proofs.allocator(), sum_terms(proof))?;
+    proofs.push(Proof::Sum(terms))?;
+    push_sums(proofs, sums)
+}
+
+// The writer of this number.
+fn writer_at<'a>(writers: &'a [Writer<'a>], number: u32) -> &'a Writer<'a>
+    requires { HasWriter writers.now number }
+    ensures among { Contains writers.now result.now }
+    ensures number { result.now.strides.write.number ≡ number }
+{
+    let Some((writer, writers)) = writers.split_first() else {
+        unreachable!()
+    };
+    if writer.strides.write.number == number {
+        return writer;
+    }
+    writer_at(writers, number)
+}
+
+// The first so many proofs.
+fn front(proofs: &[Proof], count: usize) -> &[Proof]
+    requires { count ≤ length proofs.now }
+    ensures { result.now ≡ take count proofs.now }
+{
+    &proofs[..count]
+}
+
+// The proofs behind the first so many.
+fn back(proofs: &[Proof], count: usize) -> &[Proof]
+    requires { count ≤ length proofs.now }
+    ensures { result.now ≡ drop count proofs.now }
+{
+    &proofs[count..]
+}
+
+// How many proofs say that a write isn't before the read.
+fn after_count(read: &Reference, write: &Reference) -> usize
+    requires { length read.now.statement.now.loops ≤ 6 }
+    ensures value { result ≡ after_systems_count (occurrence_of read.now) (occurrence_of write.now) }
+    ensures few { result ≤ 8 }
+{
+    let levels = level_count(read, write);
+    if write.number == read.number {
+        levels + 1
+    } else {
+        levels
+    }
+}
+
+// The proofs of a Writer leaf.
+fn writer_proofs(
+    w: &Answered,
+    here: u32,
+    number: u32,
+    told: &[Proof],
+) -> Result<Items<Proof>, AllocError>
+    requires answered { IsAnswered w.now }
+    requires here { here ≤ 8192 }
+    requires point { (c : Context) × (place : List FormOf) × IsBelow w.now here c
+        × IsJoinedPoint w.now c number place told.now }
+    ensures { IfOk result (λ proofs. (c : Context) (place : List FormOf) → IsBelow w.now here c
+        → IsJoinedPoint w.now c number place told.now → IsOwnPoint w.now c number place proofs) }
+{
+    let writer = writer_at(w.writers, number);
+    let s = &writer.strides;
+    let (rows, subscripts) = (&s.write.statement.rows, &s.write.access.subscripts);
+    let cells = rows.len() + 2 * subscripts.len();
+    let behind = back(told, cells);
+    let after = after_count(&s.read, &s.write);
+    let mut proofs = converted_place(s, writer.places.as_slice(), here, front(told, cells))?;
+    push_sums(&mut proofs, front(behind, after))?;
+    push_writers(
+        &mut proofs,
+        w,
+        here,
+        &Some(s.write),
+        w.writers,
+        back(behind, after),
+    )?;
+    Ok(proofs)
+}
+
+// The proofs of a Zero leaf.
+fn zero_proofs(w: &Answered, here: u32, told: &[Proof]) -> Result<Items<Proof>, AllocError>
+    requires answered { IsAnswered w.now }
+    requires here { here ≤ 8192 }
+    requires sums { All IsSum told.now }
+    ensures { IfOk result (λ proofs. (c : Context) → IsBelow w.now here c
+        → AreRefuted (write_systems_of (pairs_of w.now) c no_orders) told.now
+        → AreRefuted (zero_systems w.now.nest.now (occurrence_of w.now.read) every c) proofs) }
+{
+    let mut proofs = Items::new(w.alloc);
+    push_writers(&mut proofs, w, here, &None, w.writers, told)?;
+    Ok(proofs)
+}
+
+/// A joined tree of the writers whose tests all say yes, with proofs for the writes of all writers as they stand in the nest.
+/// Its context has `here` rows.
+pub fn converted(w: &Answered, here: u32, tree: Tree) -> Result<Tree, Unmade>
+    requires answered { IsAnswered w.now }
+    requires here { here ≤ 4096 }
+    requires tree { IsJoinedBelow w.now here tree }
+    ensures { IfOk result (Converts w.now here tree) }
+{
+    match tree {
+        Tree::Test(form, yes, no) => {
+            if here >= ROWS {
+                return Err(Unmade::Large);
+            }
+            let above = converted(w, here + 1, yes.into_inner())?;
+            let below = converted(w, here + 1, no.into_inner())?;
+            Ok(test(w.alloc, form, above, below)?)
+        }
+        Tree::Writer(number, place, proofs) => {
+            let own = writer_proofs(w, here, number, proofs.as_slice())?;
+            Ok(Tree::Writer(number, place, own))
+        }
+        Tree::Zero(proofs) => Ok(Tree::Zero(zero_proofs(w, here, proofs.as_slice())?)),
+        Tree::Dead(proof) => Ok(Tree::Dead(proof)),
+        Tree::Divides(..) => unreachable!(),
+    }
+}

@@ -11,4 +11,4 @@ mod tokens;
 mod writers;
 
 pub use law::one_slot_in_order;
-pub use plans::{ChannelPlan, channel_plans};
+pub use plans::{ChannelPlan, channel_plans, channel_plans_by_turns, turn_counts};

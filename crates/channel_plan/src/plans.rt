@@ -30,8 +30,8 @@ pub struct ChannelPlan {
     pub slots: SlotPlan,
 }
 
-// How many turns each process has.
-fn turn_counts(alloc: Global, points: &Points) -> Result<Vec<usize>, AllocError>
+/// How many turns each process has.
+pub fn turn_counts(alloc: Global, points: &Points) -> Result<Vec<usize>, AllocError>
     ensures { IfOk result (λ turns. turns.items ≡ map length points.now.of) }
 {
     let mut turns = Vec::with_capacity(alloc, points.of.len())?;
@@ -41,9 +41,32 @@ fn turn_counts(alloc: Global, points: &Points) -> Result<Vec<usize>, AllocError>
     Ok(turns)
 }
 
-/// The channels of a nest, in the order of reader, read and writer (Compaan 2000 and pn 2007 for the general form). The
-/// table is the exact one. It takes near the time of the table's entries and of the turns that it marks. Nothing is
-/// refused but want of memory.
+/// The channels of a nest, in the order of reader, read and writer (Compaan 2000 and pn 2007 for the general form), where
+/// the statements have so many turns. The table is the exact one. It takes near the time of the table's entries and of the
+/// turns that it marks. Nothing is refused but want of memory.
+pub fn channel_plans_by_turns(
+    alloc: Global,
+    nest: &Nest,
+    turns: &[usize],
+    sources: &SourceTable,
+) -> Result<Items<ChannelPlan>, AllocError>
+    requires size { SizeIsOk nest.now }
+    requires turns { turns.now ≡ map length (points_of nest.now) }
+    requires sources { sources.now.of ≡ sources_of nest.now }
+    ensures { IfOk result (λ plans. plans ≡ plans_of nest.now) }
+{
+    let table = sources.of.as_slice();
+    let mut plans = Vec::new(alloc);
+    let mut first = 0;
+    for (reader, statement) in nest.statements.as_slice().iter().enumerate() {
+        let next = first + statement.reads.len();
+        add_channels_to(alloc, turns, reader as u32, &table[first..next], &mut plans)?;
+        first = next;
+    }
+    Ok(Items::from_vec(plans))
+}
+
+/// The channels of `channel_plans_by_turns`, where these are the points.
 pub fn channel_plans(
     alloc: Global,
     nest: &Nest,
@@ -56,19 +79,5 @@ pub fn channel_plans(
     ensures { IfOk result (λ plans. plans ≡ plans_of nest.now) }
 {
     let turns = turn_counts(alloc, points)?;
-    let table = sources.of.as_slice();
-    let mut plans = Vec::new(alloc);
-    let mut first = 0;
-    for (reader, statement) in nest.statements.as_slice().iter().enumerate() {
-        let next = first + statement.reads.len();
-        add_channels_to(
-            alloc,
-            &turns,
-            reader as u32,
-            &table[first..next],
-            &mut plans,
-        )?;
-        first = next;
-    }
-    Ok(Items::from_vec(plans))
+    channel_plans_by_turns(alloc, nest, &turns, sources)
 }

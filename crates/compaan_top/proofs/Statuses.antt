@@ -3,7 +3,7 @@ use Rattle.std.proofs.Common.{◌≡◌, ◌≤◌, ℕ, suc, ℤ, List, [], len
 use Rattle.std.proofs.Common.{sym, ap, ◌∙◌, subst, arith, map, inl, inr, take-append-drop}
 use Rattle.sanlp.specs.WellFormed.{IsWellFormed}
 use Rattle.std.specs.Prelude.{◌<◌, IsTrue, slice_get}
-use Rattle.std.specs.List.{list_all}
+use Rattle.std.specs.List.{list_all, sum_by}
 use Rattle.std.specs.Option.{option_and_then, option_map, option_map_or}
 use Rattle.std.proofs.lemmas.Bool.{cases_lt}
 use Rattle.loop_lex.specs.Tokens.{tokens}
@@ -49,11 +49,11 @@ use Rattle.compaan_top.specs.Checking as check
 use Rattle.compaan_top.specs.Checking.{Checks, verdict_reply}
 use Rattle.compaan_top.specs.Commands.{reads_of, source_and_certificate}
 use Rattle.channel_plan.specs.Plans.{plans_of}
-use Rattle.lex_max.specs.Class.{writes_differences}
 use Rattle.node_automata.specs.declared.node.NodeAuto.{NodeAuto}
 use Rattle.process_derive.specs.Derived.{net}
 use Rattle.source_tree.specs.Sources.{sources_of}
 use Rattle.source_tree.specs.Systems.{Occurrence, writes_from}
+use Rattle.stride_rows.specs.Class.{IsInStrideClass, stride_count, writes_strides}
 use Rattle.vhdl_text.specs.Refusal.{first_too_long}
 use Rattle.witness_plan.specs.Sequential.{sequential_schedule}
 use Rattle.compaan_top.specs.Describing as describe
@@ -467,18 +467,33 @@ traces_alike one policy params bundle (tracing.traced n run g e) (tracing.source
     absurd (sized_alike one (source_part bundle) params g h)
 traces_alike one policy params bundle (tracing.traced n run g e) (tracing.traced m other h f) = refl
 
--- whether some read has no tree is a matter of the statements
-abbrev StatementsHaveTrees : List Statement → Type 0
-StatementsHaveTrees statements =
-    (s k : ℕ) → k < option_map_or (λ st. length st.reads) (slice_get statements s) 0
-    → (r : Occurrence)
-    × (option_and_then
+-- how many reads a statement has is a matter of the statements, and so is which read is meant, and whether it has a tree
+abbrev IsReadIn : List Statement → ℕ → ℕ → Occurrence → Type 0
+IsReadIn statements s k r =
+    option_and_then
     (λ st. option_map (λ access. record { number = s; statement = st; access = access }) (slice_get st.reads k))
-    (slice_get statements s) ≡ Some r)
-    × IsTrue (list_all writes_differences (writes_from r.access.array 0 statements))
+    (slice_get statements s)
+    ≡ Some r
 
+same_class : (n m : Nest) → n.statements ≡ m.statements → (s k : ℕ) → IsInStrideClass m s k → IsInStrideClass n s k
+same_class n m same s k c = record {
+  read = c.read;
+  is_read = subst (λ statements. IsReadIn statements s k c.read) (sym same) c.is_read;
+  each =
+      subst (λ statements. IsTrue (list_all writes_strides (writes_from c.read.access.array 0 statements))) (sym same)
+      c.each;
+  few =
+      subst (λ statements. sum_by stride_count (writes_from c.read.access.array 0 statements) ≤ 6) (sym same) c.few;
+}
+
+-- so whether every read has one is too
 swept_alike : (n m : Nest) → n.statements ≡ m.statements → IsSwept n → IsSwept m
-swept_alike n m same some all = some (subst StatementsHaveTrees (sym same) all)
+swept_alike n m same some all =
+    some
+    (λ s k below.
+    same_class n m same s k
+    (all s k
+    (subst (λ statements. k < option_map_or (λ st. length st.reads) (slice_get statements s) 0) same below)))
 
 tells_alike : OneTree → (params : List (List ℕ × ℤ)) (bundle : List ℕ) {x y : Result Reply Refusal}
     → TellsSources params bundle x → TellsSources params bundle y → SameStatus x y

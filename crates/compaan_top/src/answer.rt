@@ -1,4 +1,4 @@
-ghost use Rattle.std.specs.Prelude.{◌≡◌, None, IsTrue, length};
+ghost use Rattle.std.specs.Prelude.{◌≡◌, None, IsTrue, length, map};
 ghost use Rattle.std.specs.List.{list_all};
 ghost use Rattle.deps_text.specs.FireLines.{IsSweptOfIfAny, can_be_told};
 ghost use Rattle.vhdl_text.specs.Refusal.{first_too_long};
@@ -15,7 +15,7 @@ use net_checker::Verdict;
 use net_core::Network;
 use node_automata::NodeAuto;
 use plain_data::Items;
-use sanlp::{Arrays, Nest, Points};
+use sanlp::{Arrays, Nest};
 use source_tree::Cert;
 
 /// The values of the output arrays of a nest.
@@ -26,13 +26,13 @@ pub(crate) struct ArrayAnswer {
     ghost whole: { length arrays.arrays ≡ length nest.arrays },
 }
 
-/// A network of a nest, with the nest's points.
+/// A network of a nest, with how many turns each process has.
 #[derive(Drop)]
 pub(crate) struct NetworkAnswer {
     pub(crate) nest: Nest,
-    pub(crate) points: Points,
+    pub(crate) turns: Vec<usize>,
     pub(crate) network: Network,
-    ghost points_of_nest: { points.of ≡ points_of nest },
+    ghost turns_of_nest: { turns.items ≡ map length (points_of nest) },
     ghost numbers: { FitsNumbers (net_of network) },
 }
 

@@ -9,7 +9,7 @@ use io_edge::Gate;
 use loop_walk::points;
 use net_checker::{Verdict, check};
 use net_core::Network;
-use net_maker::compile_swept;
+use net_maker::compile_nest;
 use sanlp::{Arrays, Inputs, Nest};
 use std::alloc::{AllocError, Global};
 use std::sync::Wait;
@@ -40,8 +40,8 @@ pub(crate) fn run_by_threads<R: Threads + Wait + Sync, G: Gate + Sync>(
     ensures numbers { IfOk result (λ run. FitsNumbers (net_of run.network)) }
     ensures arrays { IfOk result (λ run. run.arrays.arrays ≡ arrays nest.now inputs.now) }
 {
+    let (network, cert) = compile_nest(alloc, nest, policy)?;
     let points = points(alloc, nest)?;
-    let (network, cert) = compile_swept(alloc, nest, &points, policy)?;
     match check(alloc, nest, &points, &network, &cert)? {
         Verdict::Accepted => {
             let ends = make_ends(alloc, nest, &points, inputs, &network)?;

@@ -11,7 +11,7 @@ use crate::source::sized_nest;
 use command_line::parts_of;
 use loop_class::Params;
 use loop_walk::points;
-use net_maker::{compile, compile_swept};
+use net_maker::{compile, compile_network};
 use std::alloc::Global;
 use witness_plan::Policy;
 
@@ -28,12 +28,11 @@ pub(crate) fn print_network(
 {
     let parts = parts_of(bundle);
     let nest = sized_nest(alloc, parts.source, params)?;
-    let points = points(alloc, &nest)?;
-    let (network, _) = compile_swept(alloc, &nest, &points, policy)?;
+    let made = compile_network(alloc, &nest, policy)?;
     Ok(Answer::Network(NetworkAnswer {
         nest,
-        points,
-        network,
+        turns: made.turns,
+        network: made.network,
     }))
 }
 

@@ -11,7 +11,7 @@ use deps_text::write_deps;
 use io_edge::{Sink, WriteFault};
 use matrix_load::write_summary;
 use net_checker::Verdict;
-use net_text::write_net;
+use net_text::write_net_by_turns;
 use text_out::{Word, Writer, write_line};
 use trace_text::write_trace;
 use trim_text::write_trim;
@@ -75,7 +75,7 @@ pub(crate) fn write_text<K: Sink>(answer: &Answer, sink: &mut K) -> Result<(), W
     match answer {
         Answer::Arrays(answer) => write_answer(&answer.nest, &answer.arrays, sink),
         Answer::Network(answer) => {
-            write_net(&answer.nest, &answer.points, &answer.network, sink)
+            write_net_by_turns(&answer.nest, &answer.turns, &answer.network, sink)
         }
         Answer::Verdict(verdict) => write_verdict(verdict, sink),
         Answer::Unread(error) => write_unread(*error, sink),

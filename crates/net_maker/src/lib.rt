@@ -7,4 +7,4 @@ mod origins;
 mod ranges;
 
 pub use law::has_certificate;
-pub use making::{compile, compile_swept};
+pub use making::{CountedNetwork, compile, compile_nest, compile_network, compile_swept};

@@ -1,4 +1,4 @@
-ghost use Rattle.std.specs.Prelude.{◌≡◌, ◌++◌, IfOk, OnOk, replicate};
+ghost use Rattle.std.specs.Prelude.{◌≡◌, ◌++◌, length, map, IfOk, OnOk, replicate};
 ghost use Rattle.sanlp.specs.Size.{SizeIsOk};
 ghost use Rattle.sanlp.specs.Points.{points_of};
 ghost use Rattle.net_checker.specs.Fits.{Fits};
@@ -14,12 +14,12 @@ use crate::origins::origins;
 use derived_names::{has_classes_of_uses, names_last_writers};
 use net_core::Network;
 use plain_data::Items;
-use process_derive::{derive, fits_nest, numbers_fit};
+use process_derive::{derive_by_turns, fits_nest, numbers_fit};
 use sanlp::{Nest, Points};
-use shadow_sweep::sweep;
+use shadow_sweep::sweep_counted;
 use source_tree::{Cert, Origin};
 use std::alloc::{AllocError, Global};
-use witness_plan::{Policy, other_capacities, plan, with_capacities};
+use witness_plan::{Policy, other_capacities, plan_for, with_capacities};
 
 // Adds so many origins, each of which says that a read's values come from the last writers.
 fn add_swept(sources: &mut Items<Origin>, count: usize) -> Result<(), AllocError>
@@ -42,19 +42,81 @@ fn swept(alloc: Global, nest: &Nest) -> Result<Items<Origin>, AllocError>
     Ok(sources)
 }
 
+/// A network of a nest, and how many turns each of its processes has.
+#[derive(Drop)]
+pub struct CountedNetwork {
+    pub network: Network,
+    pub turns: Vec<usize>,
+}
+
 // The network of a nest, each channel with the number of its tokens as its capacity. The table of sources ends here.
-fn derived_network(alloc: Global, nest: &Nest, points: &Points) -> Result<Network, AllocError>
-    requires size { SizeIsOk nest.now }
-    requires points { points.now.of ≡ points_of nest.now }
-    ensures { IfOk result (λ network. network ≡ net nest.now) }
+fn derived_network(alloc: Global, nest: &Nest) -> Result<CountedNetwork, AllocError>
+    requires { SizeIsOk nest.now }
+    ensures network { IfOk result (λ made. made.network ≡ net nest.now) }
+    ensures turns { IfOk result (λ made. made.turns.items ≡ map length (points_of nest.now)) }
 {
-    let table = sweep(alloc, nest, points)?;
-    derive(alloc, nest, points, &table)
+    let swept = sweep_counted(alloc, nest)?;
+    let network = derive_by_turns(alloc, nest, &swept.turns, &swept.sources)?;
+    Ok(CountedNetwork {
+        network,
+        turns: swept.turns,
+    })
+}
+
+/// The network of `compile_nest`, and how many turns each process has. Nothing is refused but want of memory.
+pub fn compile_network(
+    alloc: Global,
+    nest: &Nest,
+    policy: Policy,
+) -> Result<CountedNetwork, AllocError>
+    requires { SizeIsOk nest.now }
+    ensures network { IfOk result (λ made. made.network ≡ planned_network nest.now policy) }
+    ensures numbers { IfOk result (λ made. FitsNumbers (net_of made.network)) }
+    ensures turns { IfOk result (λ made. made.turns.items ≡ map length (points_of nest.now)) }
+{
+    numbers_fit(nest);
+    other_capacities();
+    let derived = derived_network(alloc, nest)?;
+    let witness = plan_for(alloc, nest, &derived.network, policy)?;
+    let network = with_capacities(alloc, derived.network, witness.capacities.as_slice())?;
+    Ok(CountedNetwork {
+        network,
+        turns: derived.turns,
+    })
 }
 
 /// The network of a nest (Compaan 2000, pn 2007) with the capacities that its schedule under a policy needs, and the
 /// certificate with that schedule whose reads all have their values from the last writers. Both fit the nest, so the checker
 /// accepts them. Nothing is refused but want of memory.
+pub fn compile_nest(
+    alloc: Global,
+    nest: &Nest,
+    policy: Policy,
+) -> Result<(Network, Cert), AllocError>
+    requires { SizeIsOk nest.now }
+    ensures network { IfOk result (λ made. made.0 ≡ planned_network nest.now policy) }
+    ensures numbers { IfOk result (λ made. FitsNumbers (net_of made.0)) }
+    ensures cert { IfOk result
+        (λ made. made.1 ≡ swept_cert nest.now (schedule nest.now policy)) }
+    ensures fits { IfOk result (λ made. Fits nest.now made.0 made.1) }
+{
+    fits_nest(nest);
+    numbers_fit(nest);
+    names_last_writers(nest);
+    has_classes_of_uses(nest);
+    other_capacities();
+    let made = derived_network(alloc, nest)?;
+    let derived = made.network;
+    let witness = plan_for(alloc, nest, &derived, policy)?;
+    let network = with_capacities(alloc, derived, witness.capacities.as_slice())?;
+    let cert = Cert {
+        sources: swept(alloc, nest)?,
+        schedule: witness.schedule,
+    };
+    Ok((network, cert))
+}
+
+/// The answer of `compile_nest`, beside the nest's points, which it doesn't need.
 pub fn compile_swept(
     alloc: Global,
     nest: &Nest,
@@ -69,22 +131,11 @@ pub fn compile_swept(
         (λ made. made.1 ≡ swept_cert nest.now (schedule nest.now policy)) }
     ensures fits { IfOk result (λ made. Fits nest.now made.0 made.1) }
 {
-    fits_nest(nest);
-    numbers_fit(nest);
-    names_last_writers(nest);
-    has_classes_of_uses(nest);
-    other_capacities();
-    let derived = derived_network(alloc, nest, points)?;
-    let witness = plan(alloc, nest, points, &derived, policy)?;
-    let network = with_capacities(alloc, derived, witness.capacities.as_slice())?;
-    let cert = Cert {
-        sources: swept(alloc, nest)?,
-        schedule: witness.schedule,
-    };
-    Ok((network, cert))
+    let _ = points;
+    compile_nest(alloc, nest, policy)
 }
 
-/// The network of `compile_swept`, and a certificate of it with trees: a read of the difference class has its values from the
+/// The network of `compile_nest`, and a certificate of it with trees: a read of the difference class has its values from the
 /// points that its tree gives, where a tree of at most 1,024 nodes is made, at most 128 Tests deep, which overflows at no point
 /// of the reader, and whose proofs nest at most 512 deep. Other reads have theirs from the last writers. The checker accepts
 /// both, and they have a text. Nothing is refused but want of memory.

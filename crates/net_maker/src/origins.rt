@@ -16,6 +16,7 @@ use plain_data::Items;
 use sanlp::{Nest, Points};
 use source_tree::{Origin, Tree, eval};
 use std::alloc::{AllocError, Global};
+use stride_rows::differences_are_strides;
 
 // The room for a tree: so many nodes. A tree that has no room, or nests too deep to be made, isn't made.
 const NODES: u64 = 1_024;
@@ -67,6 +68,7 @@ fn origin(
     if !in_difference_class(nest, statement, read) {
         return Ok(Origin::Sweep);
     }
+    differences_are_strides();
     let made = source_within(alloc, nest, statement, read, NODES)?;
     match made {
         Some(tree) => {

@@ -109,11 +109,15 @@ channel_lines network =
 abbrev pub event_count : Network → ℕ
 event_count network = events_below (net_of network) (length network.processes)
 
+-- the line of the version, and those behind the channels
+abbrev pub version_line : List ℕ
+version_line = line_text (codes "net" ∷ codes "1" ∷ [])
+
+abbrev pub end_lines : Network → List ℕ
+end_lines network =
+    line_text (codes "events" ∷ decimal (event_count network) ∷ []) ++ line_text (codes "end" ∷ [])
+
 -- the version of the text, the processes, the channels and the number of events
 abbrev pub net_text : Nest → Network → List ℕ
 net_text nest network =
-    line_text (codes "net" ∷ codes "1" ∷ [])
-    ++ (process_lines nest network.processes
-    ++ (channel_lines network
-    ++ (line_text (codes "events" ∷ decimal (event_count network) ∷ [])
-    ++ line_text (codes "end" ∷ []))))
+    version_line ++ (process_lines nest network.processes ++ (channel_lines network ++ end_lines network))

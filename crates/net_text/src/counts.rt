@@ -1,4 +1,4 @@
-ghost use Rattle.std.specs.Prelude.{◌≡◌, ◌≤◌, ◌+◌, ◌-◌, count_by, min};
+ghost use Rattle.std.specs.Prelude.{◌≡◌, ◌≤◌, ◌+◌, ◌-◌, count_by, min, slice_index};
 ghost use Rattle.std.specs.List.{flat_map};
 ghost use Rattle.net_core.specs.Machine.{net_of};
 ghost use Rattle.net_core.specs.Shape.{is_put, turns, FitsNumbers};
@@ -18,6 +18,13 @@ pub(crate) fn fire_count(points: &Points, process: usize) -> usize
         Some(vectors) => vectors.len(),
         None => 0,
     }
+}
+
+/// The number at a place, 0 past the end.
+pub(crate) fn number_at(numbers: &[usize], place: usize) -> usize
+    ensures { result ≡ slice_index numbers.now place }
+{
+    numbers.get(place).copied().unwrap_or(0)
 }
 
 /// Whether an event puts to a channel.

@@ -1,11 +1,11 @@
-ghost use Rattle.std.specs.Prelude.{◌≡◌, slice_get, OnOk, OnErr};
+ghost use Rattle.std.specs.Prelude.{◌≡◌, ◌++◌, slice_get, OnOk, OnErr};
 ghost use Rattle.std.specs.Io.KnownBytes.{Appends};
 ghost use Rattle.io_edge.specs.Causes.{Rose, AppendsFront};
 ghost use Rattle.sanlp.specs.Points.{points_of};
 ghost use Rattle.net_core.specs.Machine.{net_of};
-ghost use Rattle.net_core.specs.Shape.{FitsNumbers};
+ghost use Rattle.net_core.specs.Shape.{turns, FitsNumbers};
 ghost use Rattle.text_out.specs.Wrote.{Wrote};
-ghost use Rattle.net_text.specs.NetworkText.{role_word as word_of_role, array_by_role, array_name as name_of_array, kind_word as word_of_kind, name_word as word_of_name, class_word as word_of_class, process_line, process_lines, channel_line, channel_lines, net_text};
+ghost use Rattle.net_text.specs.NetworkText.{role_word as word_of_role, array_by_role, array_name as name_of_array, kind_word as word_of_kind, name_word as word_of_name, class_word as word_of_class, process_line, process_lines, channel_line, channel_lines, version_line, end_lines, net_text};
 
 use crate::counts::{event_count, fire_count, hold, put_count};
 use channel_class::{ChannelClass, UseOrder};
@@ -68,14 +68,15 @@ fn name_word(nest: &Nest, process: usize) -> &[u8]
     }
 }
 
-fn write_process<W: TextWriter>(
+/// Writes the line of a process that fires so often.
+pub(crate) fn write_process<W: TextWriter>(
     nest: &Nest,
-    points: &Points,
+    fires: usize,
     number: usize,
     process: &Process,
     out: &mut W,
 )
-    requires { points.now.of ≡ points_of nest.now }
+    requires { fires ≡ turns (points_of nest.now) number }
     ensures { Wrote W.given out.old out.new (process_line nest.now number process.now) }
 {
     let words = [
@@ -84,7 +85,7 @@ fn write_process<W: TextWriter>(
         Word::Text(kind_word(nest, number)),
         Word::Text(name_word(nest, number)),
         Word::Text(b"fires"),
-        Word::Number(fire_count(points, number) as u64),
+        Word::Number(fires as u64),
         Word::Text(b"slots"),
         Word::Number(u64::from(process.slots)),
     ];
@@ -97,7 +98,7 @@ fn write_processes<W: TextWriter>(nest: &Nest, points: &Points, processes: &[Pro
     ensures { Wrote W.given out.old out.new (process_lines nest.now processes.now) }
 {
     for (number, process) in processes.iter().enumerate() {
-        write_process(nest, points, number, process, out);
+        write_process(nest, fire_count(points, number), number, process, out);
     }
 }
 
@@ -147,17 +148,32 @@ pub(crate) fn write_channels<W: TextWriter>(network: &Network, out: &mut W)
     }
 }
 
+/// Writes the line of the version.
+pub(crate) fn write_version<W: TextWriter>(out: &mut W)
+    ensures { Wrote W.given out.old out.new version_line }
+{
+    write_line(&[Word::Text(b"net"), Word::Text(b"1")], out);
+}
+
+/// Writes the lines behind those of the processes.
+pub(crate) fn write_rest<W: TextWriter>(network: &Network, out: &mut W)
+    requires { FitsNumbers (net_of network.now) }
+    ensures { Wrote W.given out.old out.new (channel_lines network.now ++ end_lines network.now) }
+{
+    write_channels(network, out);
+    let events = [Word::Text(b"events"), Word::Number(event_count(network))];
+    write_line(&events, out);
+    write_line(&[Word::Text(b"end")], out);
+}
+
 fn write_parts<W: TextWriter>(nest: &Nest, points: &Points, network: &Network, out: &mut W)
     requires points { points.now.of ≡ points_of nest.now }
     requires numbers { FitsNumbers (net_of network.now) }
     ensures { Wrote W.given out.old out.new (net_text nest.now network.now) }
 {
-    write_line(&[Word::Text(b"net"), Word::Text(b"1")], out);
+    write_version(out);
     write_processes(nest, points, network.processes.as_slice(), out);
-    write_channels(network, out);
-    let events = [Word::Text(b"events"), Word::Number(event_count(network))];
-    write_line(&events, out);
-    write_line(&[Word::Text(b"end")], out);
+    write_rest(network, out);
 }
 
 /// Writes the network text. It takes no memory.

@@ -10,15 +10,15 @@ use Rattle.sanlp.specs.Access.{read_count}
 use Rattle.sanlp.specs.declared.nest.Nest.{Nest}
 use Rattle.sanlp.specs.declared.nest.Statement.{Statement}
 use Rattle.sanlp.specs.declared.nest.Tag.{Tag}
-use Rattle.sanlp.specs.Points.{points_of, vectors_of}
+use Rattle.sanlp.specs.Points.{points_of}
 use Rattle.sanlp.specs.Trace.{trace}
 use Rattle.source_tree.specs.Sources.{sources_from, sources_of}
-use Rattle.net_core.proofs.Entries.{entries_length}
 use Rattle.net_core.specs.declared.network.Channel.{Channel}
 use Rattle.net_core.specs.declared.network.Network.{Network}
 use Rattle.net_core.specs.declared.network.Process.{Process}
 use Rattle.channel_plan.specs.declared.plans.ChannelPlan.{ChannelPlan}
 use Rattle.channel_plan.specs.Plans.{plans_of, sources_at, turn_count}
+use Rattle.channel_plan.proofs.Nests.{turns_are}
 use Rattle.process_derive.specs.Derived.{channel_of, net, process_of}
 use Rattle.process_derive.proofs.Lists.{drop_at}
 
@@ -74,21 +74,16 @@ pub all_sources : (n : Nest) (rest table : List (List (Option Tag))) → rest �
 unfolding sources_of
 all_sources n rest table e f = e ∙ f
 
-pub points_there : (n : Nest) (p : ℕ) (points : List (List (List ℤ))) → points ≡ points_of n → p < length n.statements
-    → p < length points
-unfolding points_of
-points_there n p points e lt =
-    omega (arith, ap length e, length-map-range_with_len (vectors_of (trace n)) 0 (length n.statements))
+pub turns_exist : (n : Nest) (p : ℕ) (turns : List ℕ) → turns ≡ map length (points_of n) → p < length n.statements
+    → p < length turns
+turns_exist n p turns e lt =
+    omega (arith, ap length (e ∙ turns_are n), length-map-range_with_len (turn_count n) 0 (length n.statements))
 
-pub turns_there : (n : Nest) (p fires : ℕ) (points : List (List (List ℤ))) (vectors : List (List ℤ))
-    → points ≡ points_of n → p < length n.statements
-    → vectors ≡ get_or points p vectors → fires ≡ length vectors → fires ≡ turn_count n p
-unfolding points_of
-turns_there n p fires points vectors e lt is counts =
-    counts ∙ ap length
-    (is ∙ ap (λ ps. get_or ps p vectors) e
-    ∙ get_or-map-range_with_len (vectors_of (trace n)) 0 (length n.statements) p p vectors lt (omega arith))
-    ∙ sym (entries_length 0 (trace n) p)
+pub turns_there : (n : Nest) (p : ℕ) (turns : List ℕ) → turns ≡ map length (points_of n) → p < length n.statements
+    → get_or turns p 0 ≡ turn_count n p
+turns_there n p turns e lt =
+    ap (λ ts. get_or ts p 0) (e ∙ turns_are n)
+    ∙ get_or-map-range_with_len (turn_count n) 0 (length n.statements) p p 0 lt (omega arith)
 
 -- the network of these processes and channels
 pub net_made : (n : Nest) (processes : List Process) (channels : List Channel) (plans : List ChannelPlan)

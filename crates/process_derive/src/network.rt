@@ -1,11 +1,11 @@
-ghost use Rattle.std.specs.Prelude.{◌≡◌, map, IfOk};
+ghost use Rattle.std.specs.Prelude.{◌≡◌, length, map, IfOk};
 ghost use Rattle.sanlp.specs.Size.{SizeIsOk};
 ghost use Rattle.sanlp.specs.Points.{points_of};
 ghost use Rattle.source_tree.specs.Sources.{sources_of};
 ghost use Rattle.process_derive.specs.Derived.{channel_of, net};
 
 use crate::process::make_processes;
-use channel_plan::{ChannelPlan, channel_plans};
+use channel_plan::{ChannelPlan, channel_plans_by_turns, turn_counts};
 use net_core::{Channel, Network};
 use plain_data::Items;
 use sanlp::{Nest, Points};
@@ -36,10 +36,29 @@ fn make_channels(alloc: Global, plans: &[ChannelPlan]) -> Result<Items<Channel>,
     Ok(Items::from_vec(channels))
 }
 
-/// The network of a nest (Compaan 2000, pn 2007): one process for each statement, and one channel for each reader, read
-/// and writer of which some point is the source of that read, with the number of its tokens as its capacity. Each script is
-/// folded. The table of sources is the exact one. It takes the time of the network's events. Nothing is refused but want of
-/// memory.
+/// The network of a nest (Compaan 2000, pn 2007), whose statements have so many turns: one process for each statement, and
+/// one channel for each reader, read and writer of which some point is the source of that read, with the number of its tokens
+/// as its capacity. Each script is folded. The table of sources is the exact one. It takes the time of the network's events.
+/// Nothing is refused but want of memory.
+pub fn derive_by_turns(
+    alloc: Global,
+    nest: &Nest,
+    turns: &[usize],
+    sources: &SourceTable,
+) -> Result<Network, AllocError>
+    requires size { SizeIsOk nest.now }
+    requires turns { turns.now ≡ map length (points_of nest.now) }
+    requires sources { sources.now.of ≡ sources_of nest.now }
+    ensures { IfOk result (λ network. network ≡ net nest.now) }
+{
+    let plans = channel_plans_by_turns(alloc, nest, turns, sources)?;
+    Ok(Network {
+        processes: make_processes(alloc, nest, turns, sources, plans.as_slice())?,
+        channels: make_channels(alloc, plans.as_slice())?,
+    })
+}
+
+/// The network of `derive_by_turns`, where these are the points.
 pub fn derive(
     alloc: Global,
     nest: &Nest,
@@ -51,9 +70,6 @@ pub fn derive(
     requires sources { sources.now.of ≡ sources_of nest.now }
     ensures { IfOk result (λ network. network ≡ net nest.now) }
 {
-    let plans = channel_plans(alloc, nest, points, sources)?;
-    Ok(Network {
-        processes: make_processes(alloc, nest, points, sources, plans.as_slice())?,
-        channels: make_channels(alloc, plans.as_slice())?,
-    })
+    let turns = turn_counts(alloc, points)?;
+    derive_by_turns(alloc, nest, &turns, sources)
 }

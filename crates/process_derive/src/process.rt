@@ -12,7 +12,7 @@ use crate::incoming::{incoming_channels, outgoing_channels, slot_count};
 use channel_plan::ChannelPlan;
 use net_core::Process;
 use plain_data::Items;
-use sanlp::{Nest, Points, Tag};
+use sanlp::{Nest, Tag};
 use source_tree::SourceTable;
 use std::alloc::{AllocError, Global};
 
@@ -55,12 +55,12 @@ fn make_process(
 pub(crate) fn make_processes(
     alloc: Global,
     nest: &Nest,
-    points: &Points,
+    turns: &[usize],
     sources: &SourceTable,
     plans: &[ChannelPlan],
 ) -> Result<Items<Process>, AllocError>
     requires size { SizeIsOk nest.now }
-    requires points { points.now.of ≡ points_of nest.now }
+    requires turns { turns.now ≡ map length (points_of nest.now) }
     requires sources { sources.now.of ≡ sources_of nest.now }
     requires plans { plans.now ≡ plans_of nest.now }
     ensures { IfOk result (λ processes.
@@ -70,7 +70,7 @@ pub(crate) fn make_processes(
     let mut rest = sources.of.as_slice();
     for (number, statement) in nest.statements.as_slice().iter().enumerate() {
         let (own, later) = rest.split_at(statement.reads.len());
-        let fires = points.of.as_slice()[number].len();
+        let fires = turns[number];
         processes.push(make_process(alloc, nest, plans, number as u32, fires, own)?)?;
         rest = later;
     }

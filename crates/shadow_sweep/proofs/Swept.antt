@@ -25,6 +25,7 @@ use Rattle.sanlp.specs.Cells.{Cell}
 use Rattle.sanlp.specs.Laws.{entries_from, entries_of}
 use Rattle.sanlp.specs.Memory.{is_cell}
 use Rattle.sanlp.specs.Order.{IsPoint}
+use Rattle.sanlp.specs.Points.{points_of, vectors_of}
 use Rattle.sanlp.specs.Size.{size, size_limit}
 use Rattle.sanlp.specs.Tags.{tag_at}
 use Rattle.sanlp.specs.Trace.{trace}
@@ -96,6 +97,30 @@ pub swept_all : (n : Nest) (turns : List ℕ) (writes : LastWrites) (lists : Lis
     → IsSwept n (length (trace n)) turns writes lists → lists ≡ sources_of n
 unfolding sources_of
 swept_all n turns writes lists swept = swept.lists_are ∙ all_before n (trace n) 0 n.statements
+
+-- As many turns as points.
+count_vectors : (points : List Point) (s : ℕ) → count_by (λ q. q.statement == s) points ≡ length (vectors_of points s)
+count_vectors [] s = refl
+count_vectors (p ∷ points) s =
+    sum_by-cons (λ q. cond (q.statement == s) 1 0) p points
+    ∙ ap (λ m. cond (p.statement == s) 1 0 + m) (count_vectors points s)
+    ∙ elim (p.statement == s) as
+    (λ b. cond b 1 0 + length (vectors_of points s)
+    ≡ length (cond b (p.at ∷ vectors_of points s) (vectors_of points s))) [ true ↦ omega arith | false ↦ omega arith ]
+
+counted_all : (points : List Point) (a m : ℕ)
+    → map (turns_before points (length points)) (range_with_len a m)
+    ≡ map length (map (vectors_of points) (range_with_len a m))
+counted_all points a zero = refl
+counted_all points a (suc m) =
+    ap (λ k. k ∷ map (turns_before points (length points)) (range_with_len (a + 1) m))
+    (ap (count_by (λ q. q.statement == a)) (take_all (length points) points (omega arith)) ∙ count_vectors points a)
+    ∙ ap (λ ks. length (vectors_of points a) ∷ ks) (counted_all points (a + 1) m)
+
+pub turns_all : (n : Nest) (turns : List ℕ) (writes : LastWrites) (lists : List (List (Option Tag)))
+    → IsSwept n (length (trace n)) turns writes lists → turns ≡ map length (points_of n)
+unfolding points_of
+turns_all n turns writes lists swept = swept.turns_are ∙ counted_all (trace n) 0 (length n.statements)
 
 -- How many lists there are, and how great the turns.
 pub length-sources_before : (n : Nest) (points : List Point) (t p : ℕ) (statements : List Statement)

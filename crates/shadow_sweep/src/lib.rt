@@ -5,4 +5,4 @@ mod entry;
 mod sources;
 mod state;
 
-pub use sources::sweep;
+pub use sources::{CountedSources, sweep, sweep_counted};

@@ -1,4 +1,4 @@
-ghost use Rattle.std.specs.Prelude.{◌≡◌, IfOk};
+ghost use Rattle.std.specs.Prelude.{◌≡◌, length, map, IfOk};
 ghost use Rattle.sanlp.specs.Points.{points_of};
 ghost use Rattle.sanlp.specs.Size.{SizeIsOk};
 ghost use Rattle.source_tree.specs.Sources.{sources_of};
@@ -12,16 +12,25 @@ use sanlp::{Nest, Points, Tag};
 use source_tree::SourceTable;
 use std::alloc::{AllocError, Global};
 
+/// What one walk over a nest's trace finds: where its reads have their values from, and how many turns each of its
+/// statements has.
+#[derive(Drop)]
+pub struct CountedSources {
+    pub sources: SourceTable,
+    pub turns: Vec<usize>,
+}
+
 /// The tag of the last writer of each read at each of its fires, or `None` where there is none: the exact table of the
-/// nest (Feautrier 1991). It walks once over the trace, with a shadow of the memory. Nothing is refused but want of
-/// memory.
-pub fn sweep(alloc: Global, nest: &Nest, points: &Points) -> Result<SourceTable, AllocError>
-    requires sized { SizeIsOk nest.now }
-    requires points { points.now.of ≡ points_of nest.now }
-    ensures { IfOk result (λ table. table.of ≡ sources_of nest.now) }
+/// nest (Feautrier 1991); and how many turns each statement has. It walks once over the trace, with a shadow of the memory.
+/// Nothing is refused but want of memory.
+pub fn sweep_counted(alloc: Global, nest: &Nest) -> Result<CountedSources, AllocError>
+    requires { SizeIsOk nest.now }
+    ensures sources { IfOk result (λ swept. swept.sources.of ≡ sources_of nest.now) }
+    ensures turns { IfOk result
+        (λ swept. swept.turns.items ≡ map length (points_of nest.now)) }
 {
     let mut lists = Vec::new(alloc);
-    let firsts = first_reads(alloc, nest, points, &mut lists)?;
+    let firsts = first_reads(alloc, nest, &mut lists)?;
     let mut turns = vec![in alloc; 0; nest.statements.len()]?;
     let narrow = narrow_statements(alloc, nest)?;
     let accesses = narrow.as_slice();
@@ -36,7 +45,21 @@ pub fn sweep(alloc: Global, nest: &Nest, points: &Points) -> Result<SourceTable,
         let tag = Tag { process, turn };
         pass(alloc, statement, at, tag, first, &mut cells, &mut lists)?;
     }
-    Ok(SourceTable {
-        of: Items::from_vec(lists),
+    Ok(CountedSources {
+        sources: SourceTable {
+            of: Items::from_vec(lists),
+        },
+        turns,
     })
+}
+
+/// The sources of `sweep_counted` alone.
+pub fn sweep(alloc: Global, nest: &Nest, points: &Points) -> Result<SourceTable, AllocError>
+    requires sized { SizeIsOk nest.now }
+    requires points { points.now.of ≡ points_of nest.now }
+    ensures { IfOk result (λ table. table.of ≡ sources_of nest.now) }
+{
+    let _ = points;
+    let swept = sweep_counted(alloc, nest)?;
+    Ok(swept.sources)
 }

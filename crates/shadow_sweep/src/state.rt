@@ -3,30 +3,28 @@ ghost use Rattle.std.specs.Prelude.{◌≡◌, ◌+◌, ◌<◌, [], ◌++◌, l
 ghost use Rattle.source_tree.specs.Sources.{read_number};
 
 use plain_data::Items;
-use sanlp::{Nest, Points, Tag};
+use sanlp::{Nest, Tag};
 use std::alloc::{AllocError, Global};
 
-// Adds so many empty lists, each with room for so many sources.
+// Adds so many empty lists.
 fn add_lists(
     alloc: Global,
     count: usize,
-    fires: usize,
     lists: &mut Vec<Items<Option<Tag>>>,
 ) -> Result<(), AllocError>
     ensures { OnOk result (lists.new.items ≡ lists.old.items ++ replicate count []) }
 {
     for _ in 0..count {
-        lists.push(Items::from_vec(Vec::with_capacity(alloc, fires)?))?;
+        lists.push(Items::new(alloc))?;
     }
     Ok(())
 }
 
-/// Adds an empty list for each read, in the order of reader and read, with room for the sources of all fires. It answers
-/// for each statement the number of its first read.
+/// Adds an empty list for each read, in the order of reader and read. It answers for each statement the number of its
+/// first read.
 pub(crate) fn first_reads(
     alloc: Global,
     nest: &Nest,
-    points: &Points,
     lists: &mut Vec<Items<Option<Tag>>>,
 ) -> Result<Vec<usize>, AllocError>
     requires { lists.old.items ≡ [] }
@@ -37,16 +35,15 @@ pub(crate) fn first_reads(
         (lists.new.items ≡ replicate (sum_by (λ s. length s.reads) nest.now.statements) []) }
 {
     let mut firsts = Vec::new(alloc);
-    for (process, statement) in nest.statements.as_slice().iter().enumerate() {
+    for statement in nest.statements.as_slice() {
         firsts.push(lists.len())?;
-        let fires = points.of.get(process).map_or(0, |turns| turns.len());
-        add_lists(alloc, statement.reads.len(), fires, lists)?;
+        add_lists(alloc, statement.reads.len(), lists)?;
     }
     Ok(firsts)
 }
 
 /// The number of the next turn of a process, which is counted.
-pub(crate) fn next_turn(turns: &mut Vec<u32>, process: usize) -> u32
+pub(crate) fn next_turn(turns: &mut Vec<usize>, process: usize) -> u32
     requires exists { process < vec_len turns.old }
     requires few { slice_index turns.old.items process < 4294967295 }
     ensures turn { result ≡ slice_index turns.old.items process }
@@ -55,5 +52,5 @@ pub(crate) fn next_turn(turns: &mut Vec<u32>, process: usize) -> u32
 {
     let turn = turns[process];
     turns[process] = turn + 1;
-    turn
+    turn as u32
 }

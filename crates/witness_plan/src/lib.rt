@@ -12,4 +12,4 @@ mod traffic;
 
 pub use laws::{goes_downward, other_capacities, schedule_runs};
 pub use running::run_by;
-pub use schedules::{Policy, Witness, plan, with_capacities};
+pub use schedules::{Policy, Witness, plan, plan_for, with_capacities};

@@ -86,6 +86,30 @@ fn downward(alloc: Global, network: &Network) -> Result<Witness, AllocError>
 
 /// The schedule of a nest's network under a policy, and the greatest length of each channel's queue along it. With these
 /// capacities it is a run of the network that ends all. Nothing is refused but want of memory.
+pub fn plan_for(
+    alloc: Global,
+    nest: &Nest,
+    network: &Network,
+    policy: Policy,
+) -> Result<Witness, AllocError>
+    requires size { SizeIsOk nest.now }
+    requires network { network.now ≡ net nest.now }
+    ensures schedule { IfOk result (λ witness. witness.schedule ≡ schedule nest.now policy) }
+    ensures capacities { IfOk result
+        (λ witness. witness.capacities ≡ capacities network.now (schedule nest.now policy)) }
+    ensures run { IfOk result
+        (λ witness. EndsAll
+        (net_of (with_capacities network.now witness.capacities)) tags witness.schedule) }
+{
+    schedule_runs(nest);
+    numbers_fit(nest);
+    match policy {
+        Policy::Seq => sequential(alloc, nest, network),
+        Policy::Down => downward(alloc, network),
+    }
+}
+
+/// The answer of `plan_for`, beside the nest's points, which it doesn't need.
 pub fn plan(
     alloc: Global,
     nest: &Nest,
@@ -103,12 +127,8 @@ pub fn plan(
         (λ witness. EndsAll
         (net_of (with_capacities network.now witness.capacities)) tags witness.schedule) }
 {
-    schedule_runs(nest);
-    numbers_fit(nest);
-    match policy {
-        Policy::Seq => sequential(alloc, nest, network),
-        Policy::Down => downward(alloc, network),
-    }
+    let _ = points;
+    plan_for(alloc, nest, network, policy)
 }
 
 // The channels with these capacities; a channel past the list has none.

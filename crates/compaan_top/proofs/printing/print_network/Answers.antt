@@ -16,4 +16,4 @@ returns c =
     prints_text (network_text c.args.policy) c.args.params.now c.args.bundle.now c.parts_of-parts.result.source.now _
     c.in_ok-nest.nest
     c.parts_of-parts.ensures.source c.in_ok-nest.ensures.0
-    (ap (net_text c.in_ok-nest.nest) c.in_ok-network.ensures.network)
+    (ap (net_text c.in_ok-nest.nest) c.in_ok-made.ensures.network)

@@ -4,7 +4,9 @@ use Rattle.net_checker.proofs.Ready.{ready_at}
 use Rattle.net_maker.proofs.origins.origin.Goals as goal
 
 pub source_within-requires-clause-class : goal.source_within-requires-clause-class
-source_within-requires-clause-class c = c.in_difference_class.ensures.0 c.if-not-in_difference_class.false
+source_within-requires-clause-class c =
+    c.differences_are_strides.ensures c.args.nest.now c.args.statement c.args.read
+    (c.in_difference_class.ensures.0 c.if-not-in_difference_class.false)
 
 pub may_stand-requires-clause-statement : goal.may_stand-requires-clause-statement
 may_stand-requires-clause-statement c =

@@ -1,9 +1,6 @@
-use Rattle.std.proofs.Common.{◌∙◌}
-use Rattle.process_derive.proofs.Parts.{net_made}
+use Rattle.std.proofs.Common.{ap, ◌∙◌, map, length}
 use Rattle.process_derive.proofs.network.derive.Goals as goal
 
-pub returns : goal.returns
-returns c =
-    net_made c.args.nest.now c.in_ok-make_processes.field-0 c.in_ok-make_channels.field-0 c.as_slice-2.result.now
-    c.in_ok-make_processes.ensures c.in_ok-make_channels.ensures
-    (c.as_slice-2.ensures ∙ c.in_ok-plans.ensures)
+pub derive_by_turns-requires-clause-turns : goal.derive_by_turns-requires-clause-turns
+derive_by_turns-requires-clause-turns c =
+    c.deref.ensures.value ∙ c.in_ok-turns.ensures ∙ ap (map length) c.requires.points

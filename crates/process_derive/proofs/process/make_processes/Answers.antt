@@ -4,8 +4,8 @@ use Rattle.std.specs.List.{range_with_len}
 use Rattle.std.proofs.lemmas.Option.{slice_get_read}
 use Rattle.std.proofs.lemmas.List.FromFn.{map-range_with_len_more}
 use Rattle.process_derive.specs.Derived.{process_of}
-use Rattle.process_derive.proofs.Parts.{all_sources, later_sources, own_sources, points_there, reads_within}
-use Rattle.process_derive.proofs.Parts.{turns_there}
+use Rattle.process_derive.proofs.Parts.{all_sources, later_sources, own_sources, reads_within}
+use Rattle.process_derive.proofs.Parts.{turns_exist, turns_there}
 use Rattle.process_derive.proofs.process.make_processes.Goals as goal
 
 pub loop-number-init : goal.loop-number-init
@@ -26,17 +26,15 @@ split_at-requires c =
     reads_within n c.loop-number.number c.len.result s c.loop-number.rest.now here c.len.ensures
     c.loop-number.invariant.left
 
-pub bounds-as_slice-number : goal.bounds-as_slice-number
-bounds-as_slice-number c =
-    points_there c.args.nest.now c.loop-number.number c.as_slice.result.now (c.as_slice.ensures ∙ c.requires.points)
+pub bounds-turns-number : goal.bounds-turns-number
+bounds-turns-number c =
+    turns_exist c.args.nest.now c.loop-number.number c.args.turns.now c.requires.turns
     (omega (arith, ap length c.as_slice-statement-items.ensures, c.loop-number-test.true))
 
 pub make_process-requires-clause-fires : goal.make_process-requires-clause-fires
 make_process-requires-clause-fires c =
-    turns_there c.args.nest.now c.loop-number.number c.len-fires.result c.as_slice.result.now
-    c.index-as_slice-number.result (c.as_slice.ensures ∙ c.requires.points)
-    (omega (arith, ap length c.as_slice-statement-items.ensures, c.loop-number-test.true)) c.index-as_slice-number.is
-    c.len-fires.ensures
+    turns_there c.args.nest.now c.loop-number.number c.args.turns.now c.requires.turns
+    (omega (arith, ap length c.as_slice-statement-items.ensures, c.loop-number-test.true))
 
 pub make_process-requires-clause-sources : goal.make_process-requires-clause-sources
 make_process-requires-clause-sources c =

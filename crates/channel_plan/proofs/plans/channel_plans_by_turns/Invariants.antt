@@ -2,7 +2,7 @@ use Rattle.std.proofs.Common.{◌≡◌, length, take}
 use Rattle.std.specs.List.{flat_map, sum_by, range_with_len}
 use Rattle.sanlp.specs.Access.{read_count}
 use Rattle.channel_plan.specs.Plans.{plans_at}
-use Rattle.channel_plan.proofs.plans.channel_plans.Given as goal
+use Rattle.channel_plan.proofs.plans.channel_plans_by_turns.Given as goal
 
 abbrev pub invariant-loop-reader : goal.invariant-loop-reader
 invariant-loop-reader l = record {

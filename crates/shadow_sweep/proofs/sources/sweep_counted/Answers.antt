@@ -10,8 +10,8 @@ use Rattle.shadow_sweep.specs.LastWrites.{writes_in}
 use Rattle.source_tree.specs.Sources.{read_number}
 use Rattle.shadow_sweep.proofs.Accesses.{accesses_of, reads_are, reads_fit, write_fits, write_is}
 use Rattle.shadow_sweep.proofs.Swept.{IsSwept, first_is, left_later, reads_have_lists, statement_exists, swept_all}
-use Rattle.shadow_sweep.proofs.Swept.{swept_later, swept_none, turn_exists, turn_is_small}
-use Rattle.shadow_sweep.proofs.sources.sweep.Goals as goal
+use Rattle.shadow_sweep.proofs.Swept.{swept_later, swept_none, turn_exists, turn_is_small, turns_all}
+use Rattle.shadow_sweep.proofs.sources.sweep_counted.Goals as goal
 
 pub loop-point-init : goal.loop-point-init
 loop-point-init c =
@@ -45,7 +45,7 @@ next_turn-turn-requires-clause-few c =
     let n = c.args.nest.now in
     turn_is_small n
     (rest n c.loop-point.walk) _ c.in-Some.point c.loop-point.invariant.left c.in-Some.ensures.next _ _ _
-    c.loop-point.invariant.swept c.requires.sized.size_within
+    c.loop-point.invariant.swept c.requires.size_within
 
 pub bounds-accesses-process : goal.bounds-accesses-process
 bounds-accesses-process c =
@@ -146,13 +146,23 @@ loop-point-preserved c =
           c.loop-point.lists.items c.index-first.result.now (writes_in c.loop-point.cells));
     }
 
-pub returns : goal.returns
-returns c =
+pub returns-clause-sources : goal.returns-clause-sources
+returns-clause-sources c =
     let n = c.args.nest.now in
     let whole : length (trace n) - length (rest n c.loop-point.walk) ≡ length (trace n) =
     omega (arith, ap length c.in_default.ensures.next.0) in
     c.from_vec.ensures
     ∙ swept_all n c.loop-point.turns.items (writes_in c.loop-point.cells) c.loop-point.lists.items
+    (subst (λ t.
+    IsSwept n t c.loop-point.turns.items
+    (writes_in c.loop-point.cells) c.loop-point.lists.items) whole c.loop-point.invariant.swept)
+
+pub returns-clause-turns : goal.returns-clause-turns
+returns-clause-turns c =
+    let n = c.args.nest.now in
+    let whole : length (trace n) - length (rest n c.loop-point.walk) ≡ length (trace n) =
+    omega (arith, ap length c.in_default.ensures.next.0) in
+    turns_all n c.loop-point.turns.items (writes_in c.loop-point.cells) c.loop-point.lists.items
     (subst (λ t.
     IsSwept n t c.loop-point.turns.items
     (writes_in c.loop-point.cells) c.loop-point.lists.items) whole c.loop-point.invariant.swept)

@@ -7,7 +7,7 @@ use Rattle.witness_plan.specs.Sequential.{capacities}
 use Rattle.witness_plan.specs.Traffic.{NamesOwnChannels}
 use Rattle.witness_plan.proofs.OwnChannels.{names_own}
 use Rattle.witness_plan.proofs.Planned.{ends_planned}
-use Rattle.witness_plan.proofs.schedules.plan.Goals as goal
+use Rattle.witness_plan.proofs.schedules.plan_for.Goals as goal
 
 pub downward-requires-clause-channels : goal.downward-requires-clause-channels
 downward-requires-clause-channels c =

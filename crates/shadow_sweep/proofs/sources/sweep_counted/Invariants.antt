@@ -3,7 +3,7 @@ use Rattle.sanlp.specs.Trace.{trace}
 use Rattle.loop_walk.specs.Walks.{IsWalkOf, rest}
 use Rattle.shadow_sweep.specs.LastWrites.{writes_in}
 use Rattle.shadow_sweep.proofs.Swept.{IsSwept}
-use Rattle.shadow_sweep.proofs.sources.sweep.Given as goal
+use Rattle.shadow_sweep.proofs.sources.sweep_counted.Given as goal
 
 abbrev pub invariant-loop-point : goal.invariant-loop-point
 invariant-loop-point l = record {

@@ -233,6 +233,31 @@ def wavelet(N, s):
     return {"s": flat(product(product(lifted(0, 8), details), [[it] for it in s]))}
 
 
+def upsampling(N, T, x, h):
+    # a product of polynomials, of which one is the signal's in the square of the variable
+    return {"y": convolved([it for sample in x for it in (sample, 0)], h)}
+
+
+def red_black(N, T, a):
+    # Each half of a sweep is a product with a matrix, and so is the whole.
+    def half(first):
+        def weight(i, j):
+            return int(abs(i - j) == 1 if i % 2 == first and 0 < i < N - 1 else i == j)
+
+        return [[weight(i, j) for j in range(N)] for i in range(N)]
+
+    column = [[it] for it in a]
+    for _ in range(T):
+        column = product(half(0), product(half(1), column))
+    return {"a": flat(column)}
+
+
+def butterfly(N, x):
+    # the sign of the i-th sample in the k-th place is that of the bits that both numbers have
+    signs = [[(-1) ** bin(k & i).count("1") for i in range(4)] for k in range(4)]
+    return {"y": [it for block in matrix(x, 4) for it in flat(product(signs, [[sample] for sample in block]))]}
+
+
 def block_peaks(N, B, x):
     blocks = [x[b : b + B] for b in range(0, N, B)]
     return {"y": [max(block) - it for block in blocks for it in block]}

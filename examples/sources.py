@@ -4,7 +4,7 @@
 usage: examples/sources.py [PROGRAM]      (PROGRAM: crates/compaan/out/compaan, which ./compaan build builds)
 
 Each example is run with its own parameters: every tree is followed at every point of its reader, every line of points is compared, and
-just the reads whose array is written by differences have trees. Each example all of whose reads have trees is run once more with
+just the reads whose array is written by differences or by strides have trees. Each example all of whose reads have trees is run once more with
 1,000,000,000 for every parameter, where `deps` has to end within a minute, with a tree for each read. Prints one line for each
 difference, and fails where there is one. It is a test, outside the proof.
 """

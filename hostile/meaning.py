@@ -277,7 +277,7 @@ class Program:
         # for each process how many reads it has, the arrays that they read, and its write: its array, and whether it is by differences
         self.reads = [0] * self.first
         self.arrays_read = [[] for _ in given]
-        self.writes = [(it.number, True) for it in given]
+        self.writes = [(it.number, True, 0) for it in given]
         # the coefficients of the rows of the loops and guards around
         self.domain = []
         self.code = {"values": [], "trace": []}
@@ -504,8 +504,9 @@ class Program:
         written = [self.form(it) or (0, NO_VARIABLE) for it in subscripts]
         reads, self.arrays_now = [], []
         text = self.value(value, reads)
-        by_differences = all(is_shift(it[1]) for it in written) and all(map(is_difference, self.domain))
-        self.writes.append((array.number if what == "array" else -1, by_differences))
+        by_strides = all(is_single(it[1]) for it in written) and all(is_single(it) or is_pair(it) for it in self.domain)
+        strides = sum(any(abs(c) > 1 for c in it[1]) for it in written)
+        self.writes.append((array.number if what == "array" else -1, by_strides, strides))
         self.arrays_read.append(self.arrays_now)
         target = self.cell(array.number if what == "array" else 0, subscripts)
         self.reads.append(len(reads))
@@ -517,8 +518,9 @@ class Program:
         self.emit(f"{indent}P[{number}].append(({''.join(it + ',' for it in self.turns)}))", "trace")
 
     def has_tree(self, array):
-        """Whether every write of an array is by differences of loop variables."""
-        return all(it[1] for it in self.writes if it and it[0] == array)
+        """Whether every write of an array is by differences of loop variables or by strides, of which there are at most 6."""
+        writes = [it for it in self.writes if it and it[0] == array]
+        return all(it[1] for it in writes) and sum(it[2] for it in writes) <= 6
 
     def all_have_trees(self):
         return all(self.has_tree(it) for arrays in self.arrays_read for it in arrays)
@@ -579,14 +581,14 @@ class Program:
         return points, sources
 
 
-def is_shift(coefficients):
-    """A constant, or one variable with coefficient 1 plus a constant."""
-    return all(it in (0, 1) for it in coefficients) and sum(coefficients) <= 1
+def is_single(coefficients):
+    """No variable, or one with any coefficient."""
+    return sum(it != 0 for it in coefficients) <= 1
 
 
-def is_difference(coefficients):
-    """No variable, one with coefficient 1 or -1, or two with coefficients 1 and -1."""
-    return all(it in (-1, 0, 1) for it in coefficients) and coefficients.count(1) <= 1 and coefficients.count(-1) <= 1
+def is_pair(coefficients):
+    """Two variables, with coefficients 1 and -1."""
+    return sorted(it for it in coefficients if it) == [-1, 1]
 
 
 def cells_of(extents):
@@ -952,6 +954,12 @@ def node_of(lines):
         form = [int(it) for it in rest]
         above = node_of(lines)
         return word, form, above, node_of(lines)
+    if word == "d":
+        divisor, *form = map(int, rest)
+        if divisor < 2:
+            raise Untold(f"a divisor {divisor}")
+        above = node_of(lines)
+        return word, form, above, node_of(lines), divisor
     if word == "w":
         statement, count = map(int, rest)
         maps = [next(lines) for _ in range(count)]
@@ -972,8 +980,14 @@ def given_by(tree, at):
             raise Untold(f"a form {form} over {at}")
         return constant + sum(c * x for c, x in zip(coefficients, at))
 
-    while tree[0] == "t":
-        tree = tree[2] if value(tree[1]) >= 0 else tree[3]
+    while tree[0] in "td":
+        chosen = value(tree[1])
+        if tree[0] == "d":
+            # the quotient is one variable more below, also where the divisor leaves a rest
+            quotient, rest = divmod(chosen, tree[4])
+            at = (*at, quotient)
+            chosen = -1 if rest else 0
+        tree = tree[2] if chosen >= 0 else tree[3]
     if tree[0] == "x":
         raise Untold(f"a dead leaf at {at}")
     return (tree[1], tuple(map(value, tree[2]))) if tree[0] == "w" else None

@@ -25,7 +25,7 @@ use Rattle.loop_parse.specs.ExpressionMachine.{State, level_with, fresh, negated
 use Rattle.loop_parse.specs.ExpressionMachine.{factor_read, feed_factor, feed_arguments, feed_read, feed_term}
 use Rattle.loop_parse.specs.ExpressionMachine.{feed_access, feed, closed, close_bracket, subscripted, close_subscript}
 use Rattle.loop_parse.specs.ExpressionMachine.{separated, next_argument, finish, start, has_no_bracket, fed}
-use Rattle.loop_parse.proofs.Fed.{some_is}
+use Rattle.loop_parse.proofs.Fed.{some_is, none_is}
 
 -- ---- the tokens that stand for what waits
 
@@ -285,7 +285,7 @@ term_fed_stands k s v (word.CloseSquare, q) next read h step =
     subscripted_stands k (summed s v) q next read (term_ends k s v read h) step
 term_fed_stands k s v (word.Comma, q) next read h step =
     separated_stands k (summed s v) q next read (term_ends k s v read h) step
-term_fed_stands k s v (_, q) next read h step = absurd cc
+term_fed_stands k s v (_, q) next read h step = absurd (none_is next step)
 
 signed_level : (level : Level) (own : List Tok) (q : ℕ) → LevelText level own
     → LevelText (record level { negations = level.negations ++ q ∷ [] }) (own ++ (word.Minus, q) ∷ [])
@@ -333,7 +333,7 @@ factor_fed_stands k level (word.Name text, q) next read h step =
 factor_fed_stands k level (word.Choice c, q) next read h step =
     rw (← some_is (k, reading.Arguments level c q) next step)
     (h.0, h.1, h.2, h.3, rw h.4 (append_assoc h.0 h.1 ((word.Choice c, q) ∷ [])))
-factor_fed_stands k level (_, q) next read h step = absurd cc
+factor_fed_stands k level (_, q) next read h step = absurd (none_is next step)
 
 arguments_fed_stands : (k : List Frame) (level : Level) (c : Choice) (p : ℕ) (t : Tok) (next : State) (read : List Tok)
     → Stands (k, reading.Arguments level c p) read → feed_arguments k level c p t ≡ Some next
@@ -346,7 +346,7 @@ arguments_fed_stands k level c p (word.Open, q) next read h step =
       text,
     ) (opens k level (bracket.Arguments c p []) h.0 h.1 ((word.Choice c, p) ∷ (word.Open, q) ∷ []) h.2 h.3
     (q, [], inl (refl, refl), refl))
-arguments_fed_stands k level c p (_, q) next read h step = absurd cc
+arguments_fed_stands k level c p (_, q) next read h step = absurd (none_is next step)
 
 -- a name that takes no more subscripts is a factor
 access_stands : (k : List Frame) (level : Level) (n : Name) (list : List Operand) (read : List Tok)

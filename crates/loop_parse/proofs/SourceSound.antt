@@ -308,7 +308,7 @@ for_fed for_place.Open (word.Open, q) next m before own read h is e step =
       (h, (is.0, q, rw is.1 refl)),
       rw e (append_assoc before own ((word.Open, q) ∷ [])),
     )
-for_fed for_place.Open (_, q) next m before own read h is e step = absurd cc
+for_fed for_place.Open (_, q) next m before own read h is e step = absurd (none_is next step)
 for_fed for_place.Int (word.Int, i) next m before own read h is e step =
     rw (← some_is (at_for for_place.Name) next step) (
       before,
@@ -325,7 +325,7 @@ for_fed for_place.Int (word.Name text, q) next m before own read h is e step =
       (h, (is.0, is.1, None, rw is.2 refl)),
       rw e (append_assoc before own ((word.Name text, q) ∷ [])),
     )
-for_fed for_place.Int (_, q) next m before own read h is e step = absurd cc
+for_fed for_place.Int (_, q) next m before own read h is e step = absurd (none_is next step)
 for_fed for_place.Name (word.Name text, q) next m before own read h is e step =
     rw (← some_is (at_for (for_place.Assign (name_of text q))) next step) (
       before,
@@ -334,11 +334,11 @@ for_fed for_place.Name (word.Name text, q) next m before own read h is e step =
       (h, (is.0, is.1, Some is.2, rw is.3 refl)),
       rw e (append_assoc before own ((word.Name text, q) ∷ [])),
     )
-for_fed for_place.Name (_, q) next m before own read h is e step = absurd cc
+for_fed for_place.Name (_, q) next m before own read h is e step = absurd (none_is next step)
 for_fed (for_place.Assign n) (word.Assign, q) next m before own read h is e step =
     rw (← some_is (begun (slot.First n)) next step)
     (before, own ++ (word.Assign, q) ∷ [], [], (h, (own, q, is, refl)), refl, rw e (simp (append-nil, append_assoc)))
-for_fed (for_place.Assign n) (_, q) next m before own read h is e step = absurd cc
+for_fed (for_place.Assign n) (_, q) next m before own read h is e step = absurd (none_is next step)
 for_fed (for_place.Second n first) (word.Name text, q) next m before own read h is e step =
     rw (← some_is (at_for (for_place.Compare n first (name_of text q))) next step) (
       before,
@@ -347,7 +347,7 @@ for_fed (for_place.Second n first) (word.Name text, q) next m before own read h 
       (h, (own, is, refl)),
       rw e (append_assoc before own ((word.Name text, q) ∷ [])),
     )
-for_fed (for_place.Second n first) (_, q) next m before own read h is e step = absurd cc
+for_fed (for_place.Second n first) (_, q) next m before own read h is e step = absurd (none_is next step)
 for_fed (for_place.Compare n first second) (word.Compare Less, q) next m before own read h is e step =
     rw (← some_is (begun (slot.Bound n first second false)) next step) (
       before,
@@ -368,7 +368,7 @@ for_fed (for_place.Compare n first second) (word.Compare LessEq, q) next m befor
       refl,
       rw e (simp (append-nil, append_assoc)),
     )
-for_fed (for_place.Compare n first second) (_, q) next m before own read h is e step = absurd cc
+for_fed (for_place.Compare n first second) (_, q) next m before own read h is e step = absurd (none_is next step)
 for_fed (for_place.Step b) (word.Name text, q) next m before own read h is e step =
     rw (← some_is (at_for (for_place.StepSign b (name_of text q))) next step) (
       before,
@@ -385,7 +385,7 @@ for_fed (for_place.Step b) (word.Increment, q) next m before own read h is e ste
       (h, (own, q, is, refl)),
       rw e (append_assoc before own ((word.Increment, q) ∷ [])),
     )
-for_fed (for_place.Step b) (_, q) next m before own read h is e step = absurd cc
+for_fed (for_place.Step b) (_, q) next m before own read h is e step = absurd (none_is next step)
 for_fed (for_place.StepSign b third) (word.Increment, q) next m before own read h is e step =
     rw (← some_is (at_for (for_place.Close b third)) next step) (
       before,
@@ -419,7 +419,7 @@ for_fed (for_place.StepSign b third) (word.AddAssign, q) next m before own read 
       refl,
       rw e (simp (append-nil, append_assoc)),
     )
-for_fed (for_place.StepSign b third) (_, q) next m before own read h is e step = absurd cc
+for_fed (for_place.StepSign b third) (_, q) next m before own read h is e step = absurd (none_is next step)
 for_fed (for_place.Third b) (word.Name text, q) next m before own read h is e step =
     rw (← some_is (at_for (for_place.Close b (name_of text q))) next step) (
       before,
@@ -437,8 +437,8 @@ for_fed (for_place.Third b) (word.Name text, q) next m before own read h is e st
       ),
       rw e (append_assoc before own ((word.Name text, q) ∷ [])),
     )
-for_fed (for_place.Third b) (_, q) next m before own read h is e step = absurd cc
-for_fed (for_place.Close b third) t next m before own read h is e step = absurd cc
+for_fed (for_place.Third b) (_, q) next m before own read h is e step = absurd (none_is next step)
+for_fed (for_place.Close b third) t next m before own read h is e step = absurd (none_is next step)
 
 step_fed : (b : Bounds) (third : Name) (step : Step) (w : Lexeme) (v : ℕ) (next : State) (m : Nesting)
     (before own read : List Tok) → Holds m before → StepText b third step own → read ≡ before ++ own
@@ -448,7 +448,7 @@ step_fed b third step word.Close v next m before own read h is e fed =
     rw (← some_is (enclosed m (enclosing.For b third step), at place.Statement) next fed)
     (at_statement (enclosed m (enclosing.For b third step)) (read ++ (word.Close, v) ∷ [])
     (before, x.0, h, x.1, x.2, x.3, rw (e, x.4) (append_assoc before own ((word.Close, v) ∷ []))))
-step_fed b third step _ v next m before own read h is e fed = absurd cc
+step_fed b third step _ v next m before own read h is e fed = absurd (none_is next fed)
 
 header_fed : (p : ForPlace) (t : Tok) (next : State) (m : Nesting) (before own read : List Tok) → Holds m before
     → ForText p own → read ≡ before ++ own → feed_header m p t ≡ Some next → Stands next (read ++ t ∷ [])
@@ -458,7 +458,7 @@ header_fed p t next m before own read h is e step = go (feed_for p t) refl step
   where
     go : (o : Option Where) → feed_for p t ≡ o → option_map (λ (w : Where). (m, w)) o ≡ Some next
         → Stands next (read ++ t ∷ [])
-    go None eo step = absurd cc
+    go None eo step = absurd (none_is next step)
     go (Some w) eo step = rw (← some_is (m, w) next step) (for_fed p t w m before own read h is e eo)
 
 begin_fed : (t : Tok) (next : State) (m : Nesting) (read : List Tok) → Holds m read → feed_begin m t ≡ Some next
@@ -475,7 +475,7 @@ begin_fed (word.If, q) next m read h step =
 begin_fed (word.Name text, q) next m read h step =
     rw (← some_is (m, at (place.Target (name_of text q) [])) next step)
     (read, (word.Name text, q) ∷ [], (h, (name (name_of text q), refl, refl, refl)), refl)
-begin_fed (_, q) next m read h step = absurd cc
+begin_fed (_, q) next m read h step = absurd (none_is next step)
 
 end_block_fed : (d : List Declaration) (k : List Enclosing) (parts : List Part) (q : ℕ) (next : State) (read : List Tok)
     → StackText d k parts read → end_block (record { declarations = d; enclosing = k; parts = parts }) k ≡ Some next
@@ -488,10 +488,10 @@ end_block_fed d (enclosing.Block outer ∷ k) parts q next read h step =
       (h.3, (braces h.1 h.2 q, h.4, refl)),
       rw h.5 (append_assoc h.0 ((word.OpenCurly, h.1) ∷ statements_text h.2) ((word.CloseCurly, q) ∷ [])),
     )
-end_block_fed d [] parts q next read h step = absurd cc
-end_block_fed d (enclosing.For b third s ∷ k) parts q next read h step = absurd cc
-end_block_fed d (enclosing.If cond ∷ k) parts q next read h step = absurd cc
-end_block_fed d (enclosing.Else cond ps p ∷ k) parts q next read h step = absurd cc
+end_block_fed d [] parts q next read h step = absurd (none_is next step)
+end_block_fed d (enclosing.For b third s ∷ k) parts q next read h step = absurd (none_is next step)
+end_block_fed d (enclosing.If cond ∷ k) parts q next read h step = absurd (none_is next step)
+end_block_fed d (enclosing.Else cond ps p ∷ k) parts q next read h step = absurd (none_is next step)
 
 statement_fed : (t : Tok) (next : State) (m : Nesting) (read : List Tok) → Holds m read → feed_statement m t ≡ Some next
     → Stands next (read ++ t ∷ [])
@@ -508,10 +508,12 @@ else_fed d (enclosing.If cond ∷ k) parts ps q next before own read b h is text
     let m : Nesting = record { declarations = d; enclosing = enclosing.Else cond ps q ∷ k; parts = parts } in
     rw (← some_is (m, at place.Statement) next step)
     (at_statement m (read ++ (word.Else, q) ∷ []) (h.0, h.1, b, h.2, h.3, is, rw (e, h.4, text) (simp append_assoc)))
-else_fed d [] parts ps q next before own read b h is text e step = absurd cc
-else_fed d (enclosing.Block outer ∷ k) parts ps q next before own read b h is text e step = absurd cc
-else_fed d (enclosing.For bounds third s ∷ k) parts ps q next before own read b h is text e step = absurd cc
-else_fed d (enclosing.Else cond inner p ∷ k) parts ps q next before own read b h is text e step = absurd cc
+else_fed d [] parts ps q next before own read b h is text e step = absurd (none_is next step)
+else_fed d (enclosing.Block outer ∷ k) parts ps q next before own read b h is text e step = absurd (none_is next step)
+else_fed d (enclosing.For bounds third s ∷ k) parts ps q next before own read b h is text e step =
+    absurd (none_is next step)
+else_fed d (enclosing.Else cond inner p ∷ k) parts ps q next before own read b h is text e step =
+    absurd (none_is next step)
 
 after_block_fed : (ps : List Part) (t : Tok) (next : State) (m : Nesting) (before own read : List Tok) (b : Block)
     → Holds m before → block_parts b ≡ ps → own ≡ block_text b → read ≡ before ++ own
@@ -538,7 +540,7 @@ target_fed n list (word.OpenSquare, q) next m before own read h is e step =
 target_fed n list (word.Assign, q) next m before own read h is e step =
     rw (← some_is (m, begun (slot.Assigned n list)) next step)
     (before, own ++ (word.Assign, q) ∷ [], [], (h, (own, q, is, refl)), refl, rw e (simp (append-nil, append_assoc)))
-target_fed n list (_, q) next m before own read h is e step = absurd cc
+target_fed n list (_, q) next m before own read h is e step = absurd (none_is next step)
 
 if_fed : (t : Tok) (next : State) (m : Nesting) (before own read : List Tok) (p : ℕ) → Holds m before
     → own ≡ (word.If, p) ∷ [] → read ≡ before ++ own → feed_if m t ≡ Some next → Stands next (read ++ t ∷ [])
@@ -551,7 +553,7 @@ if_fed (word.Open, q) next m before own read p h is e step =
       refl,
       rw (e, is) (append_assoc before ((word.If, p) ∷ []) ((word.Open, q) ∷ [])),
     )
-if_fed (_, q) next m before own read p h is e step = absurd cc
+if_fed (_, q) next m before own read p h is e step = absurd (none_is next step)
 
 -- ---- declarations
 
@@ -598,7 +600,7 @@ declare_fed (declare.Parameter names) (word.Name text, q) next m before own read
       (h, (is.0, ns.0, ns.1, rw (is.3, ns.2) refl)),
       rw e (append_assoc before own ((word.Name text, q) ∷ [])),
     )
-declare_fed (declare.Parameter names) (_, q) next m before own read h is e step = absurd cc
+declare_fed (declare.Parameter names) (_, q) next m before own read h is e step = absurd (none_is next step)
 declare_fed (declare.AfterParameter names) (word.Comma, q) next m before own read h is e step =
     rw (← some_is (m, at_declare (declare.Parameter names)) next step) (
       before,
@@ -619,7 +621,7 @@ declare_fed (declare.AfterParameter names) (word.Semi, q) next m before own read
     rw (← some_is (declared m Param names) next step)
     (declared_stands m Param names (parameters is.0 is.1 q) before own read q h (rw is.2 refl)
     (sym (ap (λ (x : List Tok). x ++ (word.Semi, q) ∷ []) is.3)) e)
-declare_fed (declare.AfterParameter names) (_, q) next m before own read h is e step = absurd cc
+declare_fed (declare.AfterParameter names) (_, q) next m before own read h is e step = absurd (none_is next step)
 declare_fed (declare.Array w names) (word.Name text, q) next m before own read h is e step =
     rw (← some_is (m, at_declare (declare.AfterArray w names (name_of text q) [])) next step) (
       before,
@@ -636,7 +638,7 @@ declare_fed (declare.Array w names) (word.Name text, q) next m before own read h
       ),
       rw e (append_assoc before own ((word.Name text, q) ∷ [])),
     )
-declare_fed (declare.Array w names) (_, q) next m before own read h is e step = absurd cc
+declare_fed (declare.Array w names) (_, q) next m before own read h is e step = absurd (none_is next step)
 declare_fed (declare.AfterArray w names n list) (word.OpenSquare, q) next m before own read h is e step =
     rw (← some_is (m, begun (slot.Extent w names n list)) next step) (
       before,
@@ -671,7 +673,7 @@ declare_fed (declare.AfterArray w names n list) (word.Semi, q) next m before own
     rw (← some_is (declared m w (names ++ named_of n list ∷ [])) next step)
     (declared_stands m w (names ++ named_of n list ∷ []) (arrays xs.0 xs.1 xs.2 q) before own read q h
     (rw (xs.3, xs.4) refl) (sym (ap (λ (x : List Tok). x ++ (word.Semi, q) ∷ []) xs.5)) e)
-declare_fed (declare.AfterArray w names n list) (_, q) next m before own read h is e step = absurd cc
+declare_fed (declare.AfterArray w names n list) (_, q) next m before own read h is e step = absurd (none_is next step)
 
 declare_begun : (w : DeclWord) (q : ℕ) (m : Nesting) (read : List Tok) → Declares m read
     → Stands (m, at_declare (declare_place w)) (read ++ (word.Declare w, q) ∷ [])
@@ -725,7 +727,7 @@ comparison_fed m before own read p q xs cond word.Close r next h is text e step 
       rw (e, text) (append_assoc before
           ((word.If, p) ∷ (word.Open, q) ∷ separated_text word.And compared_text xs) ((word.Close, r) ∷ [])),
     ))
-comparison_fed m before own read p q xs cond _ r next h is text e step = absurd cc
+comparison_fed m before own read p q xs cond _ r next h is text e step = absurd (none_is next step)
 
 assigned_fed : (m : Nesting) (before own read : List Tok) (a : Access) (p : ℕ) (x : Expr) (w : Lexeme) (r : ℕ)
     (next : State) → Holds m before → own ≡ access_text a ++ (word.Assign, p) ∷ expr_text x → read ≡ before ++ own
@@ -739,7 +741,7 @@ assigned_fed m before own read a p x word.Semi r next h text e step =
     )
     (at_statement (settled m (part.Assign (accessed a) (subscripts a) (expr_tree x)))
     (before ++ statement_text (assign a p x r)) (settled_holds m before h (assign a p x r)))
-assigned_fed m before own read a p x _ r next h text e step = absurd cc
+assigned_fed m before own read a p x _ r next h text e step = absurd (none_is next step)
 
 more_access : (n : Name) (list : List Operand) (text own : List Tok) (q : ℕ) (x : Expr) (r : ℕ) → AccessText n list text
     → own ≡ text ++ (word.OpenSquare, q) ∷ []
@@ -774,16 +776,16 @@ fill_fed (slot.Extent w names n list) (word.CloseSquare, q) next m before own re
       ),
       rw e (simp append_assoc),
     )
-fill_fed (slot.Extent w names n list) (_, q) next m before own read x h e step = absurd cc
+fill_fed (slot.Extent w names n list) (_, q) next m before own read x h e step = absurd (none_is next step)
 fill_fed (slot.First n) (word.Semi, q) next m before own read x h e step =
     rw (← some_is (m, at_for (for_place.Second n (expr_tree x))) next step)
     (before, own ++ (expr_text x ++ (word.Semi, q) ∷ []), (h.0, (own, x, q, h.1, refl, refl)), rw e (simp append_assoc))
-fill_fed (slot.First n) (_, q) next m before own read x h e step = absurd cc
+fill_fed (slot.First n) (_, q) next m before own read x h e step = absurd (none_is next step)
 fill_fed (slot.Bound n first second inclusive) (word.Semi, q) next m before own read x h e step =
     let b : Bounds = record { name = n; first = first; second = second; inclusive = inclusive; bound = expr_tree x } in
     rw (← some_is (m, at_for (for_place.Step b)) next step)
     (before, own ++ (expr_text x ++ (word.Semi, q) ∷ []), (h.0, (own, x, q, h.1, refl, refl)), rw e (simp append_assoc))
-fill_fed (slot.Bound n first second inclusive) (_, q) next m before own read x h e step = absurd cc
+fill_fed (slot.Bound n first second inclusive) (_, q) next m before own read x h e step = absurd (none_is next step)
 fill_fed (slot.Step b third token) (w, q) next m before own read x h e step =
     let is = h.1 in
     step_fed b third (By token (expr_tree x)) w q next m before (own ++ expr_text x) read h.0 (
@@ -803,7 +805,7 @@ fill_fed (slot.Left cond) (word.Compare sign, q) next m before own read x h e st
       refl,
       rw e (simp (append-nil, append_assoc)),
     )
-fill_fed (slot.Left cond) (_, q) next m before own read x h e step = absurd cc
+fill_fed (slot.Left cond) (_, q) next m before own read x h e step = absurd (none_is next step)
 fill_fed (slot.Right cond left sign token) (w, q) next m before own read x h e step =
     let l = h.1 in let c = l.2 in
     let xs = end_list word.And compared_text compared_tree cond c.2 c.3 (compared l.1 sign token x) in
@@ -818,7 +820,7 @@ fill_fed (slot.Subscript n list) (word.CloseSquare, q) next m before own read x 
       (h.0, more_access n list is.0 own is.1 x q is.2 is.3),
       rw e (simp append_assoc),
     )
-fill_fed (slot.Subscript n list) (_, q) next m before own read x h e step = absurd cc
+fill_fed (slot.Subscript n list) (_, q) next m before own read x h e step = absurd (none_is next step)
 fill_fed (slot.Assigned n list) (w, q) next m before own read x h e step =
     let is = h.1 in let a = is.2 in
     assigned_fed m before (own ++ expr_text x) read a.0 is.1 x w q next h.0 (rw (is.3, a.3) (simp append_assoc)) e
@@ -849,14 +851,14 @@ within_fed s x t next m before own tokens read h run e step =
     choose (expression.has_no_bracket x && ends_expression t.0) refl step
   where
     fills : (o : Option Operand) → expression.finish x ≡ o → filled m s o t ≡ Some next → Stands next (read ++ t ∷ [])
-    fills None eo step = absurd cc
+    fills None eo step = absurd (none_is next step)
     fills (Some v) eo step =
         let is = expressions.finish_stands x v tokens (expression_stands x tokens run) eo in
         fill_fed s t next m before own read is.0 h (rw (e, is.1) refl) (rw is.2 step)
 
     goes_on : (o : Option expression.State) → expression.feed x t ≡ o → within_again m s o ≡ Some next
         → Stands next (read ++ t ∷ [])
-    goes_on None eo step = absurd cc
+    goes_on None eo step = absurd (none_is next step)
     goes_on (Some y) eo step =
         let more_run : expression.fed (Some expression.start) (tokens ++ t ∷ []) ≡ Some y =
         fed_append expression.feed (Some expression.start) tokens (t ∷ [])
@@ -897,7 +899,7 @@ end_stands : (d : List Declaration) (k : List Enclosing) (parts : List Part) (tr
     → Derives read tree
 end_stands d [] parts tree read h step =
     (program h.0 h.1, sym h.4, rw (h.2, h.3) (some_is (record { declarations = d; parts = parts }) tree step))
-end_stands d (e ∷ k) parts tree read h step = absurd cc
+end_stands d (e ∷ k) parts tree read h step = absurd (none_is tree step)
 
 -- what the machine ends with is the tree
 pub finish_stands : (s : State) (tree : Tree) (read : List Tok) → Stands s read → finish s ≡ Some tree
@@ -912,8 +914,8 @@ finish_stands (m, at (place.AfterBlock ps)) tree read h step =
     let is = h.2 in let b = is.1 in let after : Nesting = settled m (part.Block ps) in
     end_stands after.declarations after.enclosing after.parts tree read
     (rw (h.3, b.2, ← b.1) (settled_holds m h.0 is.0 (block b.0))) step
-finish_stands (m, at (place.Declaring p)) tree read h step = absurd cc
-finish_stands (m, at (place.For p)) tree read h step = absurd cc
-finish_stands (m, at place.If) tree read h step = absurd cc
-finish_stands (m, at (place.Target n list)) tree read h step = absurd cc
-finish_stands (m, within s x) tree read h step = absurd cc
+finish_stands (m, at (place.Declaring p)) tree read h step = absurd (none_is tree step)
+finish_stands (m, at (place.For p)) tree read h step = absurd (none_is tree step)
+finish_stands (m, at place.If) tree read h step = absurd (none_is tree step)
+finish_stands (m, at (place.Target n list)) tree read h step = absurd (none_is tree step)
+finish_stands (m, within s x) tree read h step = absurd (none_is tree step)

@@ -1,4 +1,4 @@
-ghost use Rattle.std.specs.Prelude.{◌≡◌, ℕ, ◌∷◌, [], ◌++◌, IfOk, option_map};
+ghost use Rattle.std.specs.Prelude.{◌≡◌, ℕ, ◌∷◌, [], ◌++◌, IfOk, option_map, Some};
 ghost use Rattle.loop_parse.specs.SourceMachine.{at, inside_out, state_of, named_of, declared, declare_place, feed_declare, feed_declaration};
 
 use crate::place::{DeclarePlace, Nesting, Place, Position, Reader, Slot};
@@ -49,58 +49,133 @@ fn declaring(nesting: Nesting, place: DeclarePlace) -> Option<Reader>
     })
 }
 
-/// Goes on by one token in a declaration.
-pub(crate) fn feed_declare(
+/// Goes on by one token before a parameter.
+fn feed_parameter(
     alloc: Global,
     nesting: Nesting,
-    place: DeclarePlace,
+    names: Items<Named>,
     word: Lexeme,
     token: u32,
 ) -> Result<Option<Reader>, AllocError>
     ensures { IfOk result
-        (λ after. feed_declare (inside_out nesting) place (word, token)
+        (λ after. feed_declare (inside_out nesting) (DeclarePlace.Parameter names) (word, token)
         ≡ option_map state_of after) }
 {
-    match place {
-        DeclarePlace::Parameter(names) => match word {
-            Lexeme::Name(text) => {
-                let name = Name { text, token };
-                let names = with_named(names, name, Items::new(alloc))?;
-                Ok(declaring(nesting, DeclarePlace::AfterParameter(names)))
+    match word {
+        Lexeme::Name(text) => match with_named(names, Name { text, token }, Items::new(alloc)) {
+            Ok(names) => Ok(declaring(nesting, DeclarePlace::AfterParameter(names))),
+            Err(error) => {
+                drop(nesting);
+                Err(error)
             }
-            _ => Ok(None),
         },
-        DeclarePlace::AfterParameter(names) => match word {
-            Lexeme::Comma => Ok(declaring(nesting, DeclarePlace::Parameter(names))),
-            Lexeme::Semi => Ok(Some(declare(nesting, DeclWord::Param, names)?)),
-            _ => Ok(None),
-        },
-        DeclarePlace::Array {
-            word: declared,
-            names,
-        } => match word {
-            Lexeme::Name(text) => Ok(declaring(
-                nesting,
-                DeclarePlace::AfterArray {
-                    word: declared,
-                    names,
-                    name: Name { text, token },
-                    extents: Items::new(alloc),
-                },
-            )),
-            _ => Ok(None),
-        },
-        DeclarePlace::AfterArray {
-            word: declared,
-            names,
-            name,
-            extents,
-        } => feed_array(alloc, nesting, declared, names, name, extents, word),
+        _ => {
+            drop(word);
+            drop(nesting);
+            Ok(None)
+        }
+    }
+}
+
+/// Goes on by one token after a parameter.
+fn feed_after_parameter(
+    nesting: Nesting,
+    names: Items<Named>,
+    word: Lexeme,
+) -> Result<Option<Reader>, AllocError>
+    ensures { IfOk result
+        (λ after. (p : ℕ)
+        → feed_declare (inside_out nesting) (DeclarePlace.AfterParameter names) (word, p)
+        ≡ option_map state_of after) }
+{
+    match word {
+        Lexeme::Comma => Ok(declaring(nesting, DeclarePlace::Parameter(names))),
+        Lexeme::Semi => Ok(Some(declare(nesting, DeclWord::Param, names)?)),
+        _ => {
+            drop(word);
+            drop(nesting);
+            Ok(None)
+        }
+    }
+}
+
+/// Goes on by one token before an array.
+fn feed_array(
+    alloc: Global,
+    nesting: Nesting,
+    declared: DeclWord,
+    names: Items<Named>,
+    word: Lexeme,
+    token: u32,
+) -> Option<Reader>
+    ensures { feed_declare (inside_out nesting) (DeclarePlace.Array declared names) (word, token)
+        ≡ option_map state_of result }
+{
+    match word {
+        Lexeme::Name(text) => declaring(
+            nesting,
+            DeclarePlace::AfterArray {
+                word: declared,
+                names,
+                name: Name { text, token },
+                extents: Items::new(alloc),
+            },
+        ),
+        _ => {
+            drop(word);
+            drop(nesting);
+            None
+        }
+    }
+}
+
+/// Ends an array's declaration.
+fn declare_array(
+    nesting: Nesting,
+    word: DeclWord,
+    names: Items<Named>,
+    name: Name,
+    extents: Items<Operand>,
+) -> Result<Reader, AllocError>
+    ensures { IfOk result
+        (λ reader. state_of reader
+        ≡ declared (inside_out nesting) word (names ++ named_of name extents ∷ [])) }
+{
+    match with_named(names, name, extents) {
+        Ok(names) => declare(nesting, word, names),
+        Err(error) => {
+            drop(nesting);
+            Err(error)
+        }
+    }
+}
+
+/// Goes on by a `,` after an array.
+fn next_array(
+    nesting: Nesting,
+    word: DeclWord,
+    names: Items<Named>,
+    name: Name,
+    extents: Items<Operand>,
+) -> Result<Option<Reader>, AllocError>
+    ensures { IfOk result
+        (λ after. option_map state_of after
+        ≡ Some (
+          inside_out nesting,
+          at (Place.Declaring (DeclarePlace.Array word (names ++ named_of name extents ∷ []))),
+        )) }
+{
+    match with_named(names, name, extents) {
+        Ok(names) => Ok(declaring(nesting, DeclarePlace::Array { word, names })),
+        Err(error) => {
+            drop(nesting);
+            Err(error)
+        }
     }
 }
 
 /// Goes on by one token after an array and these extents.
-fn feed_array(
+fn feed_after_array(
     alloc: Global,
     nesting: Nesting,
     declared: DeclWord,
@@ -127,19 +202,42 @@ fn feed_array(
                 position: begin(alloc, slot),
             }))
         }
-        Lexeme::Comma => {
-            let names = with_named(names, name, extents)?;
-            let place = DeclarePlace::Array {
-                word: declared,
-                names,
-            };
-            Ok(declaring(nesting, place))
+        Lexeme::Comma => next_array(nesting, declared, names, name, extents),
+        Lexeme::Semi => Ok(Some(declare_array(nesting, declared, names, name, extents)?)),
+        _ => {
+            drop(word);
+            drop(nesting);
+            drop(name);
+            Ok(None)
         }
-        Lexeme::Semi => {
-            let names = with_named(names, name, extents)?;
-            Ok(Some(declare(nesting, declared, names)?))
-        }
-        _ => Ok(None),
+    }
+}
+
+/// Goes on by one token in a declaration.
+pub(crate) fn feed_declare(
+    alloc: Global,
+    nesting: Nesting,
+    place: DeclarePlace,
+    word: Lexeme,
+    token: u32,
+) -> Result<Option<Reader>, AllocError>
+    ensures { IfOk result
+        (λ after. feed_declare (inside_out nesting) place (word, token)
+        ≡ option_map state_of after) }
+{
+    match place {
+        DeclarePlace::Parameter(names) => feed_parameter(alloc, nesting, names, word, token),
+        DeclarePlace::AfterParameter(names) => feed_after_parameter(nesting, names, word),
+        DeclarePlace::Array {
+            word: declared,
+            names,
+        } => Ok(feed_array(alloc, nesting, declared, names, word, token)),
+        DeclarePlace::AfterArray {
+            word: declared,
+            names,
+            name,
+            extents,
+        } => feed_after_array(alloc, nesting, declared, names, name, extents, word),
     }
 }
 

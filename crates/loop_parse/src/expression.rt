@@ -1,6 +1,6 @@
 ghost use Rattle.std.specs.Prelude.{◌≡◌, ℕ, ◌∷◌, [], ◌++◌, IfOk, option_map, reverse, Some};
 ghost use Rattle.loop_grammar.specs.Grammar.{chosen};
-ghost use Rattle.loop_parse.specs.ExpressionMachine.{level_with, fresh, negated, multiplied, summed, factor_value, factor_read, start, state_of, feed_factor, feed_term, feed_access, feed_arguments, feed, finish, closed, subscripted, separated};
+ghost use Rattle.loop_parse.specs.ExpressionMachine.{level_with, fresh, negated, multiplied, summed, factor_value, factor_read, start, state_of, feed_factor, feed_term, feed_access, feed_arguments, feed, finish, close_bracket, closed, close_subscript, subscripted, next_argument, separated};
 ghost use Rattle.loop_grammar.specs.declared.tree.Operand as operand;
 
 use loop_grammar::{BinarySign, Choice, Lexeme, Name, Operand};
@@ -92,12 +92,18 @@ fn binary(
 ) -> Result<Operand, AllocError>
     ensures { IfOk result (λ tree. tree ≡ operand.Binary sign token left right) }
 {
-    Ok(Operand::Binary {
-        sign,
-        token,
-        left: Boxed::new(alloc, left)?,
-        right: Boxed::new(alloc, right)?,
-    })
+    match Boxed::new(alloc, left) {
+        Ok(left) => Ok(Operand::Binary {
+            sign,
+            token,
+            left,
+            right: Boxed::new(alloc, right)?,
+        }),
+        Err(error) => {
+            drop(right);
+            Err(error)
+        }
+    }
 }
 
 /// The factor under the signs that stand before it.
@@ -134,6 +140,24 @@ fn add(alloc: Global, sum: Option<Sum>, term: Operand) -> Result<Operand, AllocE
     }
 }
 
+/// The term that ends with the factor, of a product's left side and the signs between.
+fn end_term(
+    alloc: Global,
+    product: Option<Product>,
+    negations: Items<u32>,
+    factor: Operand,
+) -> Result<Operand, AllocError>
+    ensures { IfOk result (λ term. term ≡ multiplied product (negated negations factor)) }
+{
+    match negate(alloc, negations, factor) {
+        Ok(signed) => multiply(alloc, product, signed),
+        Err(error) => {
+            drop(product);
+            Err(error)
+        }
+    }
+}
+
 /// The sum that a factor is a part of, and the term that ends with the factor.
 fn read_factor(
     alloc: Global,
@@ -147,8 +171,13 @@ fn read_factor(
         product,
         negations,
     } = level;
-    let negated = negate(alloc, negations, factor)?;
-    Ok((sum, multiply(alloc, product, negated)?))
+    match end_term(alloc, product, negations, factor) {
+        Ok(term) => Ok((sum, term)),
+        Err(error) => {
+            drop(sum);
+            Err(error)
+        }
+    }
 }
 
 /// The expression after a factor that can't take more.
@@ -227,11 +256,18 @@ fn negated_level(level: Level, token: u32) -> Result<Level, AllocError>
         product,
         negations,
     } = level;
-    Ok(Level {
-        sum,
-        product,
-        negations: with_item(negations, token)?,
-    })
+    match with_item(negations, token) {
+        Ok(negations) => Ok(Level {
+            sum,
+            product,
+            negations,
+        }),
+        Err(error) => {
+            drop(sum);
+            drop(product);
+            Err(error)
+        }
+    }
 }
 
 /// Goes on by one token where a factor comes next, or answers `None` where none begins with it.
@@ -262,9 +298,50 @@ fn feed_factor(
             token,
         },
         Lexeme::Open => return Ok(Some(open(alloc, outer, level, Bracket::Parentheses)?)),
-        _ => return Ok(None),
+        _ => {
+            drop(word);
+            drop(level);
+            return Ok(None);
+        }
     };
     Ok(Some(Expression { outer, reading }))
+}
+
+/// A `)` after an expression that stands in this bracket.
+fn close_in(
+    alloc: Global,
+    outer: Items<Frame>,
+    frame: Frame,
+    value: Operand,
+) -> Result<Option<Expression>, AllocError>
+    ensures { IfOk result
+        (λ after. close_bracket (reverse outer) frame.level frame.bracket value
+        ≡ option_map state_of after) }
+{
+    let Frame { level, bracket } = frame;
+    match bracket {
+        Bracket::Parentheses => Ok(Some(after_factor(alloc, outer, level, value)?)),
+        Bracket::Arguments {
+            choice,
+            token,
+            list,
+        } => match with_item(list, value) {
+            Ok(list) => {
+                let chosen = choose(choice, token, list);
+                Ok(Some(after_factor(alloc, outer, level, chosen)?))
+            }
+            Err(error) => {
+                drop(level);
+                Err(error)
+            }
+        },
+        _ => {
+            drop(bracket);
+            drop(level);
+            drop(value);
+            Ok(None)
+        }
+    }
 }
 
 /// A `)` after an expression.
@@ -276,21 +353,48 @@ fn close(
     ensures { IfOk result (λ after. closed (reverse outer) value ≡ option_map state_of after) }
 {
     let mut outer = outer;
-    let Some(Frame { level, bracket }) = outer.pop() else {
-        return Ok(None);
-    };
-    match bracket {
-        Bracket::Parentheses => Ok(Some(after_factor(alloc, outer, level, value)?)),
-        Bracket::Arguments {
-            choice,
-            token,
-            list,
-        } => {
-            let list = with_item(list, value)?;
-            let chosen = choose(choice, token, list);
-            Ok(Some(after_factor(alloc, outer, level, chosen)?))
+    match outer.pop() {
+        Some(frame) => close_in(alloc, outer, frame, value),
+        None => {
+            drop(value);
+            Ok(None)
         }
-        Bracket::Subscript { .. } => Ok(None),
+    }
+}
+
+/// A `]` after an expression that stands in this bracket.
+fn close_subscript_in(
+    outer: Items<Frame>,
+    frame: Frame,
+    value: Operand,
+) -> Result<Option<Expression>, AllocError>
+    ensures { IfOk result
+        (λ after. close_subscript (reverse outer) frame.level frame.bracket value
+        ≡ option_map state_of after) }
+{
+    let Frame { level, bracket } = frame;
+    match bracket {
+        Bracket::Subscript { name, subscripts } => match with_item(subscripts, value) {
+            Ok(subscripts) => {
+                let reading = Reading::Access {
+                    level,
+                    name,
+                    subscripts,
+                };
+                Ok(Some(Expression { outer, reading }))
+            }
+            Err(error) => {
+                drop(level);
+                drop(name);
+                Err(error)
+            }
+        },
+        _ => {
+            drop(bracket);
+            drop(level);
+            drop(value);
+            Ok(None)
+        }
     }
 }
 
@@ -299,19 +403,52 @@ fn close_subscript(outer: Items<Frame>, value: Operand) -> Result<Option<Express
     ensures { IfOk result (λ after. subscripted (reverse outer) value ≡ option_map state_of after) }
 {
     let mut outer = outer;
-    let Some(Frame { level, bracket }) = outer.pop() else {
-        return Ok(None);
-    };
-    match bracket {
-        Bracket::Subscript { name, subscripts } => {
-            let reading = Reading::Access {
-                level,
-                name,
-                subscripts: with_item(subscripts, value)?,
-            };
-            Ok(Some(Expression { outer, reading }))
+    match outer.pop() {
+        Some(frame) => close_subscript_in(outer, frame, value),
+        None => {
+            drop(value);
+            Ok(None)
         }
-        _ => Ok(None),
+    }
+}
+
+/// A `,` after an expression that stands in this bracket.
+fn separate_in(
+    alloc: Global,
+    outer: Items<Frame>,
+    frame: Frame,
+    value: Operand,
+) -> Result<Option<Expression>, AllocError>
+    ensures { IfOk result
+        (λ after. next_argument (reverse outer) frame.level frame.bracket value
+        ≡ option_map state_of after) }
+{
+    let Frame { level, bracket } = frame;
+    match bracket {
+        Bracket::Arguments {
+            choice,
+            token,
+            list,
+        } => match with_item(list, value) {
+            Ok(list) => {
+                let bracket = Bracket::Arguments {
+                    choice,
+                    token,
+                    list,
+                };
+                Ok(Some(open(alloc, outer, level, bracket)?))
+            }
+            Err(error) => {
+                drop(level);
+                Err(error)
+            }
+        },
+        _ => {
+            drop(bracket);
+            drop(level);
+            drop(value);
+            Ok(None)
+        }
     }
 }
 
@@ -324,24 +461,12 @@ fn separate(
     ensures { IfOk result (λ after. separated (reverse outer) value ≡ option_map state_of after) }
 {
     let mut outer = outer;
-    let Some(Frame { level, bracket }) = outer.pop() else {
-        return Ok(None);
-    };
-    match bracket {
-        Bracket::Arguments {
-            choice,
-            token,
-            list,
-        } => {
-            let list = with_item(list, value)?;
-            let bracket = Bracket::Arguments {
-                choice,
-                token,
-                list,
-            };
-            Ok(Some(open(alloc, outer, level, bracket)?))
+    match outer.pop() {
+        Some(frame) => separate_in(alloc, outer, frame, value),
+        None => {
+            drop(value);
+            Ok(None)
         }
-        _ => Ok(None),
     }
 }
 
@@ -404,7 +529,12 @@ fn feed_term(
             let value = add(alloc, sum, value)?;
             return separate(alloc, outer, value);
         }
-        _ => return Ok(None),
+        _ => {
+            drop(word);
+            drop(sum);
+            drop(value);
+            return Ok(None);
+        }
     };
     Ok(Some(Expression {
         outer,
@@ -433,8 +563,13 @@ fn feed_access(
         }
         word => {
             let access = Operand::Access { name, subscripts };
-            let (sum, value) = read_factor(alloc, level, access)?;
-            feed_term(alloc, outer, sum, value, word, token)
+            match read_factor(alloc, level, access) {
+                Ok((sum, value)) => feed_term(alloc, outer, sum, value, word, token),
+                Err(error) => {
+                    drop(word);
+                    Err(error)
+                }
+            }
         }
     }
 }
@@ -462,7 +597,11 @@ fn feed_arguments(
             };
             Ok(Some(open(alloc, outer, level, bracket)?))
         }
-        _ => Ok(None),
+        _ => {
+            drop(word);
+            drop(level);
+            Ok(None)
+        }
     }
 }
 
@@ -504,14 +643,10 @@ impl Expression {
     }
 }
 
-/// The tree of an expression that may end here, or `None`.
-pub(crate) fn finish(alloc: Global, expression: Expression) -> Result<Option<Operand>, AllocError>
-    ensures { IfOk result (λ tree. finish (state_of expression) ≡ tree) }
+/// The tree of an expression that may end here, or `None`, outside all brackets.
+fn finish_reading(alloc: Global, reading: Reading) -> Result<Option<Operand>, AllocError>
+    ensures { IfOk result (λ tree. finish ([], reading) ≡ tree) }
 {
-    let Expression { outer, reading } = expression;
-    if !outer.is_empty() {
-        return Ok(None);
-    }
     match reading {
         Reading::Access {
             level,
@@ -523,7 +658,23 @@ pub(crate) fn finish(alloc: Global, expression: Expression) -> Result<Option<Ope
             Ok(Some(add(alloc, sum, value)?))
         }
         Reading::Term { sum, value } => Ok(Some(add(alloc, sum, value)?)),
-        _ => Ok(None),
+        _ => {
+            drop(reading);
+            Ok(None)
+        }
+    }
+}
+
+/// The tree of an expression that may end here, or `None`.
+pub(crate) fn finish(alloc: Global, expression: Expression) -> Result<Option<Operand>, AllocError>
+    ensures { IfOk result (λ tree. finish (state_of expression) ≡ tree) }
+{
+    let Expression { outer, reading } = expression;
+    if outer.is_empty() {
+        finish_reading(alloc, reading)
+    } else {
+        drop(reading);
+        Ok(None)
     }
 }
 

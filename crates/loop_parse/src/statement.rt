@@ -24,94 +24,236 @@ fn in_for(place: ForPlace) -> Option<Position>
     Some(Position::At(Place::For(place)))
 }
 
+/// Goes on by one token before the `(` of a `for`.
+fn for_open(word: Lexeme) -> Option<Position>
+    ensures { (p : ℕ) → feed_for ForPlace.Open (word, p) ≡ option_map where_of result }
+{
+    match word {
+        Lexeme::Open => in_for(ForPlace::Int),
+        _ => {
+            drop(word);
+            None
+        }
+    }
+}
+
+/// Goes on by one token before `int` or the first name of a `for`.
+fn for_int(word: Lexeme, token: u32) -> Option<Position>
+    ensures { feed_for ForPlace.Int (word, token) ≡ option_map where_of result }
+{
+    match word {
+        Lexeme::Int => in_for(ForPlace::Name),
+        Lexeme::Name(text) => in_for(ForPlace::Assign(Name { text, token })),
+        _ => {
+            drop(word);
+            None
+        }
+    }
+}
+
+/// Goes on by one token after the `int` of a `for`.
+fn for_name(word: Lexeme, token: u32) -> Option<Position>
+    ensures { feed_for ForPlace.Name (word, token) ≡ option_map where_of result }
+{
+    match word {
+        Lexeme::Name(text) => in_for(ForPlace::Assign(Name { text, token })),
+        _ => {
+            drop(word);
+            None
+        }
+    }
+}
+
+/// Goes on by one token before the `=` of a `for`.
+fn for_assign(alloc: Global, name: Name, word: Lexeme) -> Option<Position>
+    ensures { (p : ℕ) → feed_for (ForPlace.Assign name) (word, p) ≡ option_map where_of result }
+{
+    match word {
+        Lexeme::Assign => Some(begin(alloc, Slot::First(name))),
+        _ => {
+            drop(word);
+            drop(name);
+            None
+        }
+    }
+}
+
+/// Goes on by one token before the second name of a `for`.
+fn for_second(name: Name, first: Operand, word: Lexeme, token: u32) -> Option<Position>
+    ensures { feed_for (ForPlace.Second name first) (word, token) ≡ option_map where_of result }
+{
+    match word {
+        Lexeme::Name(text) => in_for(ForPlace::Compare {
+            name,
+            first,
+            second: Name { text, token },
+        }),
+        _ => {
+            drop(word);
+            drop(name);
+            drop(first);
+            None
+        }
+    }
+}
+
+/// Goes on by this sign before the bound of a `for`.
+fn for_sign(
+    alloc: Global,
+    name: Name,
+    first: Operand,
+    second: Name,
+    sign: CompareSign,
+) -> Option<Position>
+    ensures { (p : ℕ)
+        → feed_for (ForPlace.Compare name first second) (Lexeme.Compare sign, p)
+        ≡ option_map where_of result }
+{
+    match sign {
+        CompareSign::Less => Some(begin(
+            alloc,
+            Slot::Bound {
+                name,
+                first,
+                second,
+                inclusive: false,
+            },
+        )),
+        CompareSign::LessEq => Some(begin(
+            alloc,
+            Slot::Bound {
+                name,
+                first,
+                second,
+                inclusive: true,
+            },
+        )),
+        _ => {
+            drop(name);
+            drop(first);
+            drop(second);
+            None
+        }
+    }
+}
+
+/// Goes on by one token before the sign of the bound of a `for`.
+fn for_compare(
+    alloc: Global,
+    name: Name,
+    first: Operand,
+    second: Name,
+    word: Lexeme,
+) -> Option<Position>
+    ensures { (p : ℕ)
+        → feed_for (ForPlace.Compare name first second) (word, p) ≡ option_map where_of result }
+{
+    match word {
+        Lexeme::Compare(sign) => for_sign(alloc, name, first, second, sign),
+        _ => {
+            drop(word);
+            drop(name);
+            drop(first);
+            drop(second);
+            None
+        }
+    }
+}
+
+/// Goes on by one token before the third name or the `++` of a `for`.
+fn for_step(bounds: Bounds, word: Lexeme, token: u32) -> Option<Position>
+    ensures { feed_for (ForPlace.Step bounds) (word, token) ≡ option_map where_of result }
+{
+    match word {
+        Lexeme::Name(text) => in_for(ForPlace::StepSign {
+            bounds,
+            third: Name { text, token },
+        }),
+        Lexeme::Increment => in_for(ForPlace::Third(bounds)),
+        _ => {
+            drop(word);
+            drop(bounds);
+            None
+        }
+    }
+}
+
+/// Goes on by one token after the third name of a `for`.
+fn for_step_sign(
+    alloc: Global,
+    bounds: Bounds,
+    third: Name,
+    word: Lexeme,
+    token: u32,
+) -> Option<Position>
+    ensures { feed_for (ForPlace.StepSign bounds third) (word, token)
+        ≡ option_map where_of result }
+{
+    match word {
+        Lexeme::Increment => in_for(ForPlace::Close { bounds, third }),
+        Lexeme::AddAssign => Some(begin(
+            alloc,
+            Slot::Step {
+                bounds,
+                third,
+                token,
+            },
+        )),
+        _ => {
+            drop(word);
+            drop(bounds);
+            drop(third);
+            None
+        }
+    }
+}
+
+/// Goes on by one token after the `++` that stands before the third name of a `for`.
+fn for_third(bounds: Bounds, word: Lexeme, token: u32) -> Option<Position>
+    ensures { feed_for (ForPlace.Third bounds) (word, token) ≡ option_map where_of result }
+{
+    match word {
+        Lexeme::Name(text) => in_for(ForPlace::Close {
+            bounds,
+            third: Name { text, token },
+        }),
+        _ => {
+            drop(word);
+            drop(bounds);
+            None
+        }
+    }
+}
+
 /// Goes on by one token in the brackets of a `for`, or answers `None` where none of its places takes it.
 fn feed_for(alloc: Global, place: ForPlace, word: Lexeme, token: u32) -> Option<Position>
     ensures { feed_for place (word, token) ≡ option_map where_of result }
 {
     match place {
-        ForPlace::Open => match word {
-            Lexeme::Open => in_for(ForPlace::Int),
-            _ => None,
-        },
-        ForPlace::Int => match word {
-            Lexeme::Int => in_for(ForPlace::Name),
-            Lexeme::Name(text) => in_for(ForPlace::Assign(Name { text, token })),
-            _ => None,
-        },
-        ForPlace::Name => match word {
-            Lexeme::Name(text) => in_for(ForPlace::Assign(Name { text, token })),
-            _ => None,
-        },
-        ForPlace::Assign(name) => match word {
-            Lexeme::Assign => Some(begin(alloc, Slot::First(name))),
-            _ => None,
-        },
-        ForPlace::Second { name, first } => match word {
-            Lexeme::Name(text) => in_for(ForPlace::Compare {
-                name,
-                first,
-                second: Name { text, token },
-            }),
-            _ => None,
-        },
+        ForPlace::Open => for_open(word),
+        ForPlace::Int => for_int(word, token),
+        ForPlace::Name => for_name(word, token),
+        ForPlace::Assign(name) => for_assign(alloc, name, word),
+        ForPlace::Second { name, first } => for_second(name, first, word, token),
         ForPlace::Compare {
             name,
             first,
             second,
-        } => match word {
-            Lexeme::Compare(CompareSign::Less) => Some(begin(
-                alloc,
-                Slot::Bound {
-                    name,
-                    first,
-                    second,
-                    inclusive: false,
-                },
-            )),
-            Lexeme::Compare(CompareSign::LessEq) => Some(begin(
-                alloc,
-                Slot::Bound {
-                    name,
-                    first,
-                    second,
-                    inclusive: true,
-                },
-            )),
-            _ => None,
-        },
-        ForPlace::Step(bounds) => match word {
-            Lexeme::Name(text) => in_for(ForPlace::StepSign {
-                bounds,
-                third: Name { text, token },
-            }),
-            Lexeme::Increment => in_for(ForPlace::Third(bounds)),
-            _ => None,
-        },
-        ForPlace::StepSign { bounds, third } => match word {
-            Lexeme::Increment => in_for(ForPlace::Close { bounds, third }),
-            Lexeme::AddAssign => Some(begin(
-                alloc,
-                Slot::Step {
-                    bounds,
-                    third,
-                    token,
-                },
-            )),
-            _ => None,
-        },
-        ForPlace::Third(bounds) => match word {
-            Lexeme::Name(text) => in_for(ForPlace::Close {
-                bounds,
-                third: Name { text, token },
-            }),
-            _ => None,
-        },
-        ForPlace::Close { .. } => None,
+        } => for_compare(alloc, name, first, second, word),
+        ForPlace::Step(bounds) => for_step(bounds, word, token),
+        ForPlace::StepSign { bounds, third } => for_step_sign(alloc, bounds, third, word, token),
+        ForPlace::Third(bounds) => for_third(bounds, word, token),
+        ForPlace::Close { bounds, third } => {
+            drop(word);
+            drop(bounds);
+            drop(third);
+            None
+        }
     }
 }
 
 /// The state at this place, with nothing else changed.
-fn move_to(nesting: Nesting, place: Place) -> Reader
+pub(crate) fn move_to(nesting: Nesting, place: Place) -> Reader
     ensures { state_of result ≡ (inside_out nesting, at place) }
 {
     Reader {
@@ -164,7 +306,14 @@ pub(crate) fn feed_step(
             };
             Ok(Some(enclose(nesting, statement)?))
         }
-        _ => Ok(None),
+        _ => {
+            drop(word);
+            drop(nesting);
+            drop(bounds);
+            drop(third);
+            drop(step);
+            Ok(None)
+        }
     }
 }
 
@@ -184,7 +333,10 @@ pub(crate) fn feed_header(
         ForPlace::Close { bounds, third } => feed_step(nesting, bounds, third, Step::One, word),
         place => match feed_for(alloc, place, word, token) {
             Some(position) => Ok(Some(Reader { nesting, position })),
-            None => Ok(None),
+            None => {
+                drop(nesting);
+                Ok(None)
+            }
         },
     }
 }
@@ -236,9 +388,41 @@ fn feed_begin(
             name: Name { text, token },
             subscripts: Items::new(alloc),
         },
-        _ => return Ok(None),
+        _ => {
+            drop(word);
+            drop(nesting);
+            return Ok(None);
+        }
     };
     Ok(Some(move_to(nesting, place)))
+}
+
+/// Goes on by a `}` inside this statement.
+fn close_inside(around: Nesting, statement: Enclosing) -> Option<Reader>
+    ensures { end_block (enclosed (inside_out around) statement)
+        (statement ∷ reverse around.enclosing)
+        ≡ option_map state_of result }
+{
+    match statement {
+        Enclosing::Block(outer) => {
+            let Nesting {
+                declarations,
+                enclosing,
+                parts,
+            } = around;
+            let around = Nesting {
+                declarations,
+                enclosing,
+                parts: outer,
+            };
+            Some(move_to(around, Place::AfterBlock(parts)))
+        }
+        _ => {
+            drop(statement);
+            drop(around);
+            None
+        }
+    }
 }
 
 /// Goes on by a `}`.
@@ -252,17 +436,15 @@ fn close_block(nesting: Nesting) -> Option<Reader>
         parts,
     } = nesting;
     let mut enclosing = enclosing;
-    match enclosing.pop() {
-        Some(Enclosing::Block(outer)) => {
-            let around = Nesting {
-                declarations,
-                enclosing,
-                parts: outer,
-            };
-            Some(move_to(around, Place::AfterBlock(parts)))
-        }
-        _ => None,
-    }
+    let Some(statement) = enclosing.pop() else {
+        return None;
+    };
+    let around = Nesting {
+        declarations,
+        enclosing,
+        parts,
+    };
+    close_inside(around, statement)
 }
 
 /// Goes on by one token where a statement or the end of a block comes next.
@@ -290,23 +472,33 @@ fn for_part(
 ) -> Result<Part, AllocError>
     ensures { IfOk result (λ tree. tree ≡ for_part bounds third step body) }
 {
-    let Bounds {
-        name,
-        first,
-        second,
-        inclusive,
-        bound,
-    } = bounds;
-    Ok(Part::For {
-        name,
-        first,
-        second,
-        inclusive,
-        bound,
-        third,
-        step,
-        body: Boxed::new(alloc, body)?,
-    })
+    match Boxed::new(alloc, body) {
+        Ok(body) => {
+            let Bounds {
+                name,
+                first,
+                second,
+                inclusive,
+                bound,
+            } = bounds;
+            Ok(Part::For {
+                name,
+                first,
+                second,
+                inclusive,
+                bound,
+                third,
+                step,
+                body,
+            })
+        }
+        Err(error) => {
+            drop(bounds);
+            drop(third);
+            drop(step);
+            Err(error)
+        }
+    }
 }
 
 fn if_part(alloc: Global, cond: Items<Comparison>, body: Part) -> Result<Part, AllocError>
@@ -352,10 +544,13 @@ fn land(
     let mut part = part;
     while let Some(statement) = enclosing.pop() {
         match statement {
-            Enclosing::Block(outer) => {
-                enclosing.push(Enclosing::Block(outer))?;
-                break;
-            }
+            Enclosing::Block(outer) => match enclosing.push(Enclosing::Block(outer)) {
+                Ok(()) => break,
+                Err(error) => {
+                    drop(part);
+                    return Err(error);
+                }
+            },
             Enclosing::For {
                 bounds,
                 third,
@@ -390,6 +585,30 @@ pub(crate) fn settle(alloc: Global, nesting: Nesting, part: Part) -> Result<Nest
     })
 }
 
+/// Goes on by an `else` after this block inside this statement.
+fn else_inside(
+    around: Nesting,
+    statement: Enclosing,
+    block: Items<Part>,
+    token: u32,
+) -> Result<Option<Reader>, AllocError>
+    ensures { IfOk result
+        (λ after. else_begun (enclosed (inside_out around) statement)
+        (statement ∷ reverse around.enclosing)
+        block
+        token
+        ≡ option_map state_of after) }
+{
+    match statement {
+        Enclosing::If(cond) => Ok(Some(enclose(around, Enclosing::Else { cond, block, token })?)),
+        _ => {
+            drop(statement);
+            drop(around);
+            Ok(None)
+        }
+    }
+}
+
 /// Goes on by an `else` after this block.
 fn begin_else(
     nesting: Nesting,
@@ -406,17 +625,15 @@ fn begin_else(
         parts,
     } = nesting;
     let mut outer = enclosing;
-    match outer.pop() {
-        Some(Enclosing::If(cond)) => {
-            let around = Nesting {
-                declarations,
-                enclosing: outer,
-                parts,
-            };
-            Ok(Some(enclose(around, Enclosing::Else { cond, block, token })?))
-        }
-        _ => Ok(None),
-    }
+    let Some(statement) = outer.pop() else {
+        return Ok(None);
+    };
+    let around = Nesting {
+        declarations,
+        enclosing: outer,
+        parts,
+    };
+    else_inside(around, statement, block, token)
 }
 
 /// Goes on by one token after a block.
@@ -433,10 +650,13 @@ pub(crate) fn feed_after_block(
 {
     match word {
         Lexeme::Else => begin_else(nesting, block, token),
-        word => {
-            let around = settle(alloc, nesting, Part::Block(block))?;
-            feed_statement(alloc, around, word, token)
-        }
+        word => match settle(alloc, nesting, Part::Block(block)) {
+            Ok(around) => feed_statement(alloc, around, word, token),
+            Err(error) => {
+                drop(word);
+                Err(error)
+            }
+        },
     }
 }
 
@@ -454,7 +674,12 @@ pub(crate) fn feed_target(
     let slot = match word {
         Lexeme::OpenSquare => Slot::Subscript { name, subscripts },
         Lexeme::Assign => Slot::Assigned { name, subscripts },
-        _ => return None,
+        _ => {
+            drop(word);
+            drop(nesting);
+            drop(name);
+            return None;
+        }
     };
     Some(Reader {
         nesting,
@@ -471,8 +696,23 @@ pub(crate) fn feed_if(alloc: Global, nesting: Nesting, word: Lexeme) -> Option<R
             nesting,
             position: begin(alloc, Slot::Left(Items::new(alloc))),
         }),
-        _ => None,
+        _ => {
+            drop(word);
+            drop(nesting);
+            None
+        }
     }
+}
+
+fn with_comparison(
+    cond: Items<Comparison>,
+    comparison: Comparison,
+) -> Result<Items<Comparison>, AllocError>
+    ensures { IfOk result (λ longer. longer ≡ cond ++ comparison ∷ []) }
+{
+    let mut cond = cond;
+    cond.push(comparison)?;
+    Ok(cond)
 }
 
 /// Goes on by one token after an `if`'s comparison.
@@ -487,20 +727,30 @@ pub(crate) fn feed_comparison(
         (λ after. feed_comparison (inside_out nesting) (cond ++ comparison ∷ []) word
         ≡ option_map state_of after) }
 {
-    let mut cond = cond;
     match word {
-        Lexeme::And => {
-            cond.push(comparison)?;
-            Ok(Some(Reader {
+        Lexeme::And => match with_comparison(cond, comparison) {
+            Ok(cond) => Ok(Some(Reader {
                 nesting,
                 position: begin(alloc, Slot::Left(cond)),
-            }))
+            })),
+            Err(error) => {
+                drop(nesting);
+                Err(error)
+            }
+        },
+        Lexeme::Close => match with_comparison(cond, comparison) {
+            Ok(cond) => Ok(Some(enclose(nesting, Enclosing::If(cond))?)),
+            Err(error) => {
+                drop(nesting);
+                Err(error)
+            }
+        },
+        _ => {
+            drop(word);
+            drop(nesting);
+            drop(comparison);
+            Ok(None)
         }
-        Lexeme::Close => {
-            cond.push(comparison)?;
-            Ok(Some(enclose(nesting, Enclosing::If(cond))?))
-        }
-        _ => Ok(None),
     }
 }
 
@@ -527,6 +777,12 @@ pub(crate) fn feed_assigned(
             let around = settle(alloc, nesting, part)?;
             Ok(Some(move_to(around, Place::Statement)))
         }
-        _ => Ok(None),
+        _ => {
+            drop(word);
+            drop(nesting);
+            drop(name);
+            drop(value);
+            Ok(None)
+        }
     }
 }

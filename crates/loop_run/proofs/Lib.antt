@@ -1,6 +1,4 @@
-pub mod EvenPlaces
 pub mod HalfOpen
-pub mod LineCells
 pub mod Placed
 pub mod RunLemmas
 pub mod ValuesInside

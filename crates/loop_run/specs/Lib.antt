@@ -1,4 +1,3 @@
 pub mod CellMemory
 pub mod Execution
-pub mod LinePlaces
 pub mod Outputs

@@ -1,6 +1,6 @@
 ghost use Rattle.std.specs.List.{list_all};
-ghost use Rattle.std.specs.Option.{option_map, option_map_or};
-ghost use Rattle.std.specs.Prelude.{◌≡◌, ◌≤◌, ◌<◌, ◌+◌, ◌-ℤ◌, ◌≤ℤ◌, ◌∷◌, ◌++◌, [], length, map, slice_get, take, true, unsigned_abs, IfSome, IsTrue, OnOk, Some};
+ghost use Rattle.std.specs.Option.{option_map};
+ghost use Rattle.std.specs.Prelude.{◌≡◌, ◌≤◌, ◌<◌, ◌+◌, ◌≤ℤ◌, ◌∷◌, ◌++◌, [], length, map, slice_get, take, unsigned_abs, IfSome, IsTrue, OnOk, Some};
 ghost use Rattle.sanlp.specs.Access.{cell_at};
 ghost use Rattle.sanlp.specs.Loops.{interval};
 ghost use Rattle.sanlp.specs.Meaning.{execute, store, turns};
@@ -11,57 +11,16 @@ ghost use Rattle.cell_rows.specs.CellMap.{places_in};
 ghost use Rattle.sanlp.specs.Size.{is_loop_value};
 ghost use Rattle.cell_rows.specs.ShortAccesses.{access_short, statement_short};
 ghost use Rattle.loop_run.specs.Execution.{is_of_depth};
-ghost use Rattle.loop_run.specs.LinePlaces.{ArePlacedBy, AreStatementLines, IsStatementPlaced};
+ghost use Rattle.cell_lines.specs.LinePlaces.{ArePlacedBy, AreStatementLines, IsStatementPlaced};
 ghost use Rattle.cell_rows.specs.Narrow.{narrowed};
-ghost use Rattle.cell_rows.specs.SmallValues.{is_small_value};
 
 use crate::execute::execute_statement;
-use crate::lines::{Line, NO_LINE, line_of, place_at};
-use cell_rows::{Cells, NarrowAccess, NarrowStatement, is_small};
+use cell_lines::{Line, Lines, lines_along, place_at};
+use cell_rows::{Cells, NarrowAccess, NarrowStatement};
 use loop_walk::LoopValues;
 use sanlp::{Inputs, Nest, Statement, given_value};
 use std::alloc::{AllocError, Global};
 use wrap_expr::eval;
-
-/// The places of a statement's accesses along a loop: those of its reads, by slot, and that of its write.
-#[derive(Clone, Copy)]
-pub(crate) struct Lines {
-    reads: [Line; 8],
-    write: Line,
-}
-
-// The places of a statement's accesses along a loop, if the first and the last cell of each have places in rows.
-fn lines_of(
-    accesses: &NarrowStatement,
-    at: &LoopValues,
-    first: i64,
-    last: i64,
-    cells: &Cells<i64>,
-) -> Option<Lines>
-    requires shallow { length at.now < 6 }
-    requires few { length accesses.now.reads ≤ 8 }
-    requires reads_fit { IsTrue (list_all (access_short (length at.now + 1)) accesses.now.reads) }
-    requires write_fits { IsTrue
-        (option_map_or (access_short (length at.now + 1)) accesses.now.write true) }
-    requires first_within { IsTrue (is_loop_value first) }
-    requires last_within { IsTrue (is_loop_value last) }
-    requires turns { first ≤ℤ last }
-    requires first_small { IsTrue (is_small_value first) }
-    requires last_small { IsTrue (is_small_value last) }
-    ensures { IfSome result
-        (AreStatementLines (places_in cells.now) at.now first last accesses.now) }
-{
-    let mut reads = [NO_LINE; 8];
-    for (slot, access) in accesses.reads.as_slice().iter().enumerate() {
-        let line = line_of(cells, access, at, first, last)?;
-        reads[slot] = line;
-    }
-    let write = match &accesses.write {
-        Some(access) => line_of(cells, access, at, first, last)?,
-        None => NO_LINE,
-    };
-    Some(Lines { reads, write })
-}
 
 // Puts the values of the cells that a statement reads into the first places.
 fn read_along(
@@ -115,31 +74,6 @@ fn execute_turn(
     match &accesses.write {
         Some(access) => cells.write_at(alloc, access, at, place_at(lines.write, turn), value),
         None => Ok(()),
-    }
-}
-
-// The places along a loop whose values are small, if the first and the last cell of each access have places in rows.
-fn lines_along(
-    accesses: &NarrowStatement,
-    at: &LoopValues,
-    first: i64,
-    last: i64,
-    cells: &Cells<i64>,
-) -> Option<Lines>
-    requires shallow { length at.now < 6 }
-    requires few { length accesses.now.reads ≤ 8 }
-    requires reads_fit { IsTrue (list_all (access_short (length at.now + 1)) accesses.now.reads) }
-    requires write_fits { IsTrue
-        (option_map_or (access_short (length at.now + 1)) accesses.now.write true) }
-    requires first_within { IsTrue (is_loop_value first) }
-    requires last_within { IsTrue (is_loop_value last) }
-    ensures { IfSome result
-        (AreStatementLines (places_in cells.now) at.now first last accesses.now) }
-{
-    if first <= last && is_small(first) && is_small(last) {
-        lines_of(accesses, at, first, last, cells)
-    } else {
-        None
     }
 }
 
@@ -220,7 +154,7 @@ pub(crate) fn execute_values(
 {
     let statement = nest.statement(number);
     let narrow = &accesses[number as usize];
-    let lines = lines_along(narrow, at, first, last, cells);
+    let lines = lines_along(narrow, at.as_slice(), first, last, cells);
     let mut inner = at.extended(first);
     for value in first..=last {
         execute_value(

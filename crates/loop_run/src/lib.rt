@@ -3,7 +3,6 @@
 
 mod along;
 mod execute;
-mod lines;
 mod outputs;
 mod run;
 

@@ -1,8 +1,9 @@
 -- The accesses of an entry of the trace, by its statement's narrow forms.
-use Rattle.std.proofs.Common.{◌≡◌, ◌-◌, ℕ, ℤ, List, ◌∷◌, map, length, drop, get_or, sym, ap, ◌∙◌}
-use Rattle.std.specs.Prelude.{Option, Some, true, slice_get}
+use Rattle.std.proofs.Common.{◌≡◌, ◌≤◌, ◌-◌, ℕ, ℤ, List, ◌∷◌, map, length, drop, get_or, sym, ap, ◌∙◌, arith}
+use Rattle.std.specs.Prelude.{Option, Some, true, nat_le, slice_get}
 use Rattle.std.specs.List.{list_all}
 use Rattle.std.specs.Option.{option_map, option_map_or}
+use Rattle.std.proofs.lemmas.Bool.{and_parts, leb-true}
 use Rattle.sanlp.specs.declared.nest.Nest.{Nest}
 use Rattle.sanlp.specs.declared.nest.Point.{Point}
 use Rattle.sanlp.specs.declared.nest.Statement.{Statement}
@@ -17,11 +18,19 @@ use Rattle.cell_rows.proofs.ShortStatements.{found_is_short, short_reads, short_
 use Rattle.shadow_sweep.specs.LastWrites.{LastWrites, noted, with_sources}
 use Rattle.shadow_sweep.proofs.Swept.{depth_is, statement_exists}
 
+few_of : (depth : ℕ) (accesses : NarrowStatement) (s : Statement) → accesses ≡ narrowed s
+    → statement_short depth s ≡ true → length accesses.reads ≤ 8
+few_of depth accesses s same short =
+    let write = and_parts _ _ (and_parts _ _ short).0 in
+    let reads = and_parts (nat_le (length s.reads) 8) (list_all (access_short depth) s.reads) write.0 in
+    omega (arith, leb-true (length s.reads) 8 reads.0, ap (λ (a : NarrowStatement). length a.reads) same)
+
 -- these are the accesses of the point's statement, and fit its depth
 pub record AreAccessesOf (n : Nest) (p : Point) (accesses : NarrowStatement) : Type 0 where
   pub statement : Statement
   pub found : slice_get n.statements p.statement ≡ Some statement
   pub same : accesses ≡ narrowed statement
+  pub few_reads : length accesses.reads ≤ 8
   pub reads_short : list_all (access_short (length p.at)) accesses.reads ≡ true
   pub write_short : option_map_or (access_short (length p.at)) accesses.write true ≡ true
 
@@ -40,6 +49,7 @@ accesses_of n left later p e f all accesses same is =
       statement = s.0;
       found = s.1;
       same = s.2;
+      few_reads = few_of (length p.at) accesses s.0 s.2 short;
       reads_short =
           ap (λ (a : NarrowStatement). list_all (access_short (length p.at)) a.reads) s.2
           ∙ short_reads (length p.at) s.0 short;

@@ -2,3 +2,4 @@ pub mod Accesses
 pub mod Lists
 pub mod Starts
 pub mod Swept
+pub mod Stretched

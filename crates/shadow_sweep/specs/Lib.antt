@@ -1,1 +1,2 @@
 pub mod LastWrites
+pub mod Stretches

@@ -2,6 +2,7 @@ ghost use Rattle.std.specs.List.{list_all};
 ghost use Rattle.std.specs.Option.{option_map, option_map_or};
 ghost use Rattle.std.specs.Prelude.{◌≡◌, ◌+◌, ◌<◌, ◌≤◌, true, length, map, vec_len, IsTrue, OnOk};
 ghost use Rattle.sanlp.specs.Access.{cell_at};
+ghost use Rattle.cell_rows.specs.CellMap.{places_in};
 ghost use Rattle.cell_rows.specs.ShortAccesses.{access_short};
 ghost use Rattle.cell_rows.specs.SmallValues.{are_small_values};
 ghost use Rattle.shadow_sweep.specs.LastWrites.{noted, with_source, with_sources, writes_in};
@@ -11,8 +12,8 @@ use plain_data::Items;
 use sanlp::Tag;
 use std::alloc::{AllocError, Global};
 
-// Adds a source to the list of this number.
-fn add_source(
+/// Adds a source to the list of this number.
+pub(crate) fn add_source(
     lists: &mut Vec<Items<Option<Tag>>>,
     number: usize,
     source: Option<Tag>,
@@ -59,9 +60,10 @@ fn note_write(
 ) -> Result<(), AllocError>
     requires small { small ≡ true → IsTrue (are_small_values at.now) }
     requires fits { IsTrue (option_map_or (access_short (length at.now)) write.now true) }
-    ensures { OnOk result
+    ensures write { OnOk result
         (writes_in cells.new
         ≡ noted (writes_in cells.old) (option_map (cell_at at.now) write.now) tag) }
+    ensures places { OnOk result (places_in cells.new ≡ places_in cells.old) }
 {
     match write {
         Some(access) => cells.write(alloc, access, at, small, tag),
@@ -91,6 +93,7 @@ pub(crate) fn pass(
     ensures write { OnOk result
         (writes_in cells.new
         ≡ noted (writes_in cells.old) (option_map (cell_at at.now) accesses.now.write) tag) }
+    ensures places { OnOk result (places_in cells.new ≡ places_in cells.old) }
 {
     let small = are_small(at);
     add_sources(

@@ -3,8 +3,9 @@ ghost use Rattle.sanlp.specs.Points.{points_of};
 ghost use Rattle.sanlp.specs.Size.{SizeIsOk};
 ghost use Rattle.source_tree.specs.Sources.{sources_of};
 
-use crate::entry::pass;
+use crate::along::pass_along;
 use crate::state::{first_reads, next_turn};
+use crate::stretch::no_stretches;
 use cell_rows::{Cells, narrow_statements};
 use loop_walk::Walk;
 use plain_data::Items;
@@ -34,6 +35,7 @@ pub fn sweep_counted(alloc: Global, nest: &Nest) -> Result<CountedSources, Alloc
     let mut turns = vec![in alloc; 0; nest.statements.len()]?;
     let narrow = narrow_statements(alloc, nest)?;
     let accesses = narrow.as_slice();
+    let mut stretches = no_stretches(alloc, accesses.len())?;
     let mut cells = Cells::new(alloc, nest.arrays.as_slice())?;
     let mut walk = Walk::new(alloc, nest)?;
     while let Some(point) = walk.next(nest) {
@@ -43,7 +45,10 @@ pub fn sweep_counted(alloc: Global, nest: &Nest) -> Result<CountedSources, Alloc
         let at = point.at.as_slice();
         let first = firsts[process as usize];
         let tag = Tag { process, turn };
-        pass(alloc, statement, at, tag, first, &mut cells, &mut lists)?;
+        let stretch = &mut stretches[process as usize];
+        pass_along(
+            alloc, statement, stretch, at, tag, first, &mut cells, &mut lists,
+        )?;
     }
     Ok(CountedSources {
         sources: SourceTable {

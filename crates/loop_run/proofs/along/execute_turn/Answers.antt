@@ -2,7 +2,7 @@ use Rattle.std.proofs.Common.{FitsSigned}
 use Rattle.std.specs.Int.{w64}
 use Rattle.std.proofs.lemmas.Int.{to_z-of_z}
 use Rattle.cell_rows.specs.CellMap.{places_in}
-use Rattle.loop_run.proofs.LineCells.{placed_along}
+use Rattle.cell_lines.proofs.LineCells.{placed_along}
 use Rattle.loop_run.proofs.along.execute_turn.Goals as goal
 
 pub read_along-requires-clause-placed : goal.read_along-requires-clause-placed

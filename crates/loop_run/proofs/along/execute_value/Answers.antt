@@ -4,7 +4,7 @@ use Rattle.std.proofs.lemmas.Int.{fits_signed_from_abs, to_z-of_z}
 use Rattle.cell_rows.specs.CellMap.{places_in}
 use Rattle.cell_rows.specs.ShortAccesses.{statement_short}
 use Rattle.cell_rows.proofs.CellOrder.{on_ok_then}
-use Rattle.loop_run.proofs.LineCells.{if_some_at, if_some_from, lines_kept, statement_placed, turn_is_short}
+use Rattle.cell_lines.proofs.LineCells.{if_some_at, if_some_from, lines_kept, statement_placed, turn_is_short}
 use Rattle.loop_run.proofs.along.execute_value.Goals as goal
 
 pub execute_turn-requires-clause-short : goal.execute_turn-requires-clause-short

@@ -1,5 +1,5 @@
 use Rattle.std.proofs.Common.{rules, ◌≡◌, ◌+◌, ℕ, ℤ, pos, ◌+ℤ◌, ◌≤ℤ◌, ◌<ℤ◌, length, take, ap, ◌∙◌, sym, subst, to_z}
-use Rattle.std.proofs.Common.{of_z, arith, FitsSigned, length-append}
+use Rattle.std.proofs.Common.{List, of_z, arith, FitsSigned, length-append}
 use Rattle.std.specs.Prelude.{IsTrue, true}
 use Rattle.std.specs.List.{list_all}
 use Rattle.std.specs.Option.{option_map_or}
@@ -30,7 +30,9 @@ lines_along-lines-requires-clause-reads_fit c =
     (depth_is n.statements
     (length c.args.at.now + 1) c.args.number s c.requires.depth c.statement-statement.ensures.value)
     (short_statement n.arrays n.well_formed.few_extents s c.statement-statement.ensures.fits) in
-    ap (λ (accesses : NarrowStatement). list_all (access_short (length c.args.at.now + 1)) accesses.reads) same
+    ap (λ (outer : List ℤ). list_all (access_short (length outer + 1)) c.index-accesses-number.result.reads)
+    c.as_slice.ensures.value
+    ∙ ap (λ (accesses : NarrowStatement). list_all (access_short (length c.args.at.now + 1)) accesses.reads) same
     ∙ short_reads (length c.args.at.now + 1) s short
 
 pub lines_along-lines-requires-clause-write_fits : goal.lines_along-lines-requires-clause-write_fits
@@ -45,7 +47,9 @@ lines_along-lines-requires-clause-write_fits c =
     (depth_is n.statements
     (length c.args.at.now + 1) c.args.number s c.requires.depth c.statement-statement.ensures.value)
     (short_statement n.arrays n.well_formed.few_extents s c.statement-statement.ensures.fits) in
-    ap (λ (accesses : NarrowStatement).
+    ap (λ (outer : List ℤ).
+    option_map_or (access_short (length outer + 1)) c.index-accesses-number.result.write true) c.as_slice.ensures.value
+    ∙ ap (λ (accesses : NarrowStatement).
     option_map_or (access_short (length c.args.at.now + 1)) accesses.write true) same
     ∙ short_write (length c.args.at.now + 1) s short
 

@@ -4,7 +4,7 @@ use Rattle.sanlp.specs.Loops.{interval}
 use Rattle.sanlp.specs.Meaning.{execute, turns}
 use Rattle.loop_run.specs.CellMemory.{memory_of}
 use Rattle.cell_rows.specs.CellMap.{places_in}
-use Rattle.loop_run.specs.LinePlaces.{AreStatementLines}
+use Rattle.cell_lines.specs.LinePlaces.{AreStatementLines}
 use Rattle.loop_run.proofs.along.execute_values.Given as goal
 
 abbrev pub invariant-loop-value : goal.invariant-loop-value

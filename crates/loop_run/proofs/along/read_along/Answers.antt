@@ -1,8 +1,8 @@
 use Rattle.std.proofs.Common.{sym, ap, ◌∙◌, pos, Some, get_or, FitsSigned}
 use Rattle.std.specs.Int.{w64}
 use Rattle.std.proofs.lemmas.Int.{to_z-of_z}
-use Rattle.loop_run.specs.declared.lines.Line.{Line}
-use Rattle.loop_run.proofs.LineCells.{item_is}
+use Rattle.cell_lines.specs.declared.access_line.Line.{Line}
+use Rattle.cell_lines.proofs.LineCells.{item_is}
 use Rattle.loop_run.proofs.along.read_along.Goals as goal
 
 pub read_at-requires-clause-placed : goal.read_at-requires-clause-placed

@@ -1,14 +1,16 @@
-use Rattle.std.proofs.Common.{◌≡◌, ◌-◌, drop, length, arith, sym, ap, ◌∙◌, subst}
+use Rattle.std.proofs.Common.{◌≡◌, ◌<◌, ◌-◌, drop, length, refl, arith, sym, ap, ◌∙◌, subst}
 use Rattle.std.specs.Prelude.{replicate}
 use Rattle.std.proofs.lemmas.List.{get_or_read, length-map}
 use Rattle.std.proofs.lemmas.List.FromFn.{length-map-range_with_len}
 use Rattle.sanlp.specs.Trace.{trace}
 use Rattle.loop_walk.specs.Walks.{rest}
+use Rattle.cell_rows.specs.CellMap.{places_in}
 use Rattle.cell_rows.specs.Narrow.{narrowed}
 use Rattle.cell_rows.specs.declared.narrow_access.NarrowStatement.{NarrowStatement}
 use Rattle.shadow_sweep.specs.LastWrites.{writes_in}
 use Rattle.source_tree.specs.Sources.{read_number}
 use Rattle.shadow_sweep.proofs.Accesses.{accesses_of, reads_are, reads_fit, write_fits, write_is}
+use Rattle.shadow_sweep.proofs.Stretched.{none_known, one_more}
 use Rattle.shadow_sweep.proofs.Swept.{IsSwept, first_is, left_later, reads_have_lists, statement_exists, swept_all}
 use Rattle.shadow_sweep.proofs.Swept.{swept_later, swept_none, turn_exists, turn_is_small, turns_all}
 use Rattle.shadow_sweep.proofs.sources.sweep_counted.Goals as goal
@@ -19,6 +21,8 @@ loop-point-init c =
     let started : length (trace n) - length (rest n c.in_ok-walk.walk) ≡ 0 =
     omega (arith, ap length c.in_ok-walk.ensures.rest) in
     record {
+      stretches = none_known (places_in c.in_ok-cells.cells) c.as_slice-accesses.result.now
+          c.in_ok-stretches.stretches.items _ refl c.in_ok-stretches.ensures;
       walk = c.in_ok-walk.ensures.walk;
       left = ap (λ k. drop k (trace n)) started ∙ sym c.in_ok-walk.ensures.rest;
       swept = subst
@@ -69,8 +73,42 @@ index-first-requires c =
           (rest n c.loop-point.walk) _ c.in-Some.point c.loop-point.invariant.left c.in-Some.ensures.next,
     )
 
-pub pass-requires-clause-reads_fit : goal.pass-requires-clause-reads_fit
-pass-requires-clause-reads_fit c =
+pub index_mut-stretch-requires : goal.index_mut-stretch-requires
+index_mut-stretch-requires c =
+    let n = c.args.nest.now in
+    omega (
+      arith,
+      c.loop-point.stretches.ok.0,
+      c.loop-point.invariant.stretches.many,
+      ap length (c.as_slice-accesses.ensures ∙ c.in_ok-narrow.ensures) ∙ length-map n.statements narrowed,
+      statement_exists n
+          (rest n c.loop-point.walk) _ c.in-Some.point c.loop-point.invariant.left c.in-Some.ensures.next,
+    )
+
+pub pass_along-requires-clause-few : goal.pass_along-requires-clause-few
+pass_along-requires-clause-few c =
+    let n = c.args.nest.now in
+    let here =
+    accesses_of n (rest n c.loop-point.walk) _ c.in-Some.point c.loop-point.invariant.left c.in-Some.ensures.next
+    c.as_slice-accesses.result.now c.index-accesses-process.result
+    (c.as_slice-accesses.ensures ∙ c.in_ok-narrow.ensures) c.index-accesses-process.is in
+    here.few_reads
+
+pub pass_along-requires-clause-known : goal.pass_along-requires-clause-known
+pass_along-requires-clause-known c =
+    let n = c.args.nest.now in
+    let within : c.in-Some.point.statement < length c.as_slice-accesses.result.now =
+    omega (
+      arith,
+      ap length (c.as_slice-accesses.ensures ∙ c.in_ok-narrow.ensures) ∙ length-map n.statements narrowed,
+      statement_exists n
+          (rest n c.loop-point.walk) _ c.in-Some.point c.loop-point.invariant.left c.in-Some.ensures.next,
+    ) in
+    c.loop-point.invariant.stretches.known c.in-Some.point.statement within c.index-accesses-process.result
+    c.index-accesses-process.is c.index_mut-stretch.result.now c.index_mut-stretch.ensures.value
+
+pub pass_along-requires-clause-reads_fit : goal.pass_along-requires-clause-reads_fit
+pass_along-requires-clause-reads_fit c =
     let n = c.args.nest.now in
     let here =
     accesses_of n (rest n c.loop-point.walk) _ c.in-Some.point c.loop-point.invariant.left c.in-Some.ensures.next
@@ -79,8 +117,8 @@ pass-requires-clause-reads_fit c =
     reads_fit n c.in-Some.point c.index-accesses-process.result c.as_slice-at.result.now here
     c.as_slice-at.ensures.value
 
-pub pass-requires-clause-write_fits : goal.pass-requires-clause-write_fits
-pass-requires-clause-write_fits c =
+pub pass_along-requires-clause-write_fits : goal.pass_along-requires-clause-write_fits
+pass_along-requires-clause-write_fits c =
     let n = c.args.nest.now in
     let here =
     accesses_of n (rest n c.loop-point.walk) _ c.in-Some.point c.loop-point.invariant.left c.in-Some.ensures.next
@@ -89,8 +127,8 @@ pass-requires-clause-write_fits c =
     write_fits n c.in-Some.point c.index-accesses-process.result c.as_slice-at.result.now here
     c.as_slice-at.ensures.value
 
-pub pass-requires-clause-room : goal.pass-requires-clause-room
-pass-requires-clause-room c =
+pub pass_along-requires-clause-room : goal.pass_along-requires-clause-room
+pass_along-requires-clause-room c =
     let n = c.args.nest.now in
     let here =
     accesses_of n (rest n c.loop-point.walk) _ c.in-Some.point c.loop-point.invariant.left c.in-Some.ensures.next
@@ -126,8 +164,21 @@ loop-point-preserved c =
     ap length c.in_ok-firsts.ensures.firsts
     ∙ length-map-range_with_len (λ p. read_number n p 0) 0 (length n.statements) in
     let first = get_or_read c.in_ok-firsts.firsts.items _ _ (omega (arith, count, exists)) c.index-first.ensures 0 in
+    let within : c.in-Some.point.statement < length c.as_slice-accesses.result.now =
+    omega (
+      arith,
+      ap length (c.as_slice-accesses.ensures ∙ c.in_ok-narrow.ensures) ∙ length-map n.statements narrowed,
+      statement_exists n
+          (rest n c.loop-point.walk) _ c.in-Some.point c.loop-point.invariant.left c.in-Some.ensures.next,
+    ) in
     let same = c.as_slice-at.ensures.value in
     record {
+      stretches = one_more
+          (places_in c.loop-point.cells)
+          (places_in c.pass_along.new.cells) c.as_slice-accesses.result.now c.loop-point.stretches.items _
+          c.in-Some.point.statement c.index-accesses-process.result c.pass_along.new.stretch
+          c.in_ok-pass_along.ensures.places c.loop-point.invariant.stretches within c.index-accesses-process.is
+          c.in_ok-pass_along.ensures.known refl;
       walk = c.in-Some.ensures.walk;
       left = left_later (trace n)
           (rest n c.loop-point.walk) _ c.in-Some.point c.loop-point.invariant.left c.in-Some.ensures.next;
@@ -138,10 +189,10 @@ loop-point-preserved c =
           (first ∙ first_is n c.in_ok-firsts.firsts.items c.in-Some.point.statement c.in_ok-firsts.ensures.firsts
           exists)
           c.next_turn-turn.ensures.counted
-          (c.in_ok-pass.ensures.write
+          (c.in_ok-pass_along.ensures.write
           ∙ write_is n c.in-Some.point c.index-accesses-process.result c.as_slice-at.result.now here same
           (writes_in c.loop-point.cells) _)
-          (c.in_ok-pass.ensures.sources
+          (c.in_ok-pass_along.ensures.sources
           ∙ reads_are n c.in-Some.point c.index-accesses-process.result c.as_slice-at.result.now here same
           c.loop-point.lists.items c.index-first.result.now (writes_in c.loop-point.cells));
     }

@@ -1,4 +1,6 @@
--- Cells whose places along a loop are known.
+-- Cells whose places along a loop are known. A line has the place at the first value and the step to the next, which give
+-- all places between the first and the last value, since they change evenly. The lines of a statement's reads are made
+-- slot by slot: after each the first so many are lines. They speak of places alone, so they stay where places do.
 use Rattle.std.proofs.Common.{◌≡◌, ◌<◌, ◌≤◌, ◌+◌, ℕ, zero, suc, ℤ, pos, ◌≤ℤ◌, ◌<ℤ◌, ◌+ℤ◌, ◌-ℤ◌, List, [], ◌∷◌, ◌++◌}
 use Rattle.std.proofs.Common.{map, set, length, get_or, refl, sym, ap, ◌∙◌, subst, inl, inr, arith}
 use Rattle.std.specs.Prelude.{Option, Some, IfSome, unsigned_abs}
@@ -14,20 +16,21 @@ use Rattle.cell_rows.specs.CellMap.{places_in}
 use Rattle.cell_rows.specs.RowPlaces.{row_limit}
 use Rattle.cell_rows.proofs.CellPlaces.{has_extents}
 use Rattle.cell_rows.proofs.FormSums.{small_size}
-use Rattle.loop_run.specs.declared.along.Lines.{Lines}
-use Rattle.loop_run.specs.declared.lines.Line.{Line}
-use Rattle.loop_run.specs.LinePlaces.{AreLinesOf, ArePlacedBy, AreStatementLines, IsLineOf, IsPlacedBy, IsShortLine}
-use Rattle.loop_run.specs.LinePlaces.{IsStatementPlaced, Places, place_along}
-use Rattle.loop_run.proofs.EvenPlaces.{either, line_places, place_limit}
+use Rattle.cell_lines.specs.declared.statement_lines.Lines.{Lines}
+use Rattle.cell_lines.specs.declared.access_line.Line.{Line}
+use Rattle.cell_lines.specs.LinePlaces.{AreLinesOf, ArePlacedBy, AreStatementLines, IsLineOf, IsPlacedBy, IsShortLine}
+use Rattle.cell_lines.specs.LinePlaces.{IsStatementPlaced, Places, place_along}
+use Rattle.cell_lines.proofs.EvenPlaces.{either, line_places, place_limit}
 
 -- a place in rows is within the limit
-pub placed_limit : (cells : Cells ℤ) (cell : Cell) (place : ℕ) → places_in cells cell ≡ Some place → place < row_limit
+pub placed_limit : {T : Type 0} (cells : Cells T) (cell : Cell) (place : ℕ) → places_in cells cell ≡ Some place
+    → place < row_limit
 placed_limit cells cell place there =
     let row = has_extents cells cell place there in
     place_limit 0 row.0 cell.1 place (omega arith) (sym (row.1 cell.1) ∙ there)
 
 -- the place at the second turn too, where that at the last is
-pub second_limit : (cells : Cells ℤ) (cell : Cell) (first last : ℤ) (next end : ℕ) → end < row_limit
+pub second_limit : {T : Type 0} (cells : Cells T) (cell : Cell) (first last : ℤ) (next end : ℕ) → end < row_limit
     → (first <ℤ last → places_in cells cell ≡ Some next) → (last ≤ℤ first → next ≡ end) → next < row_limit
 second_limit cells cell first last next end h second none = elim (either first last) [
   | inl lt ↦ placed_limit cells cell next (second lt)
@@ -35,7 +38,8 @@ second_limit cells cell first last next end h second none = elim (either first l
 ]
 
 -- the line through the first place and the second
-pub line_in_rows : (cells : Cells ℤ) (at : List ℤ) (first last : ℤ) (access : Access) (place end next : ℕ) (line : Line)
+pub line_in_rows : {T : Type 0} (cells : Cells T) (at : List ℤ) (first last : ℤ) (access : Access) (place end next : ℕ)
+    (line : Line)
     → first ≤ℤ last
     → places_in cells (cell_at (at ++ first ∷ []) access) ≡ Some place
     → places_in cells (cell_at (at ++ last ∷ []) access) ≡ Some end

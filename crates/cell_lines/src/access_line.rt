@@ -1,27 +1,26 @@
 ghost use Rattle.std.specs.Prelude.{◌≡◌, ◌≤◌, ◌<◌, ◌+◌, ◌≤ℤ◌, ◌<ℤ◌, ◌+ℤ◌, ◌-ℤ◌, pos, [], ◌∷◌, ◌++◌, length, unsigned_abs, IfSome, IsTrue, Some};
 ghost use Rattle.sanlp.specs.Access.{cell_at};
-ghost use Rattle.sanlp.specs.Size.{is_loop_value};
 ghost use Rattle.cell_rows.specs.CellMap.{places_in};
 ghost use Rattle.cell_rows.specs.RowPlaces.{row_limit};
 ghost use Rattle.cell_rows.specs.ShortAccesses.{access_short};
-ghost use Rattle.loop_run.specs.LinePlaces.{IsLineOf, IsShortLine, place_along};
+ghost use Rattle.cell_lines.specs.LinePlaces.{IsLineOf, IsShortLine, place_along};
 
+use crate::kept_values::KeptValues;
 use cell_rows::{Cells, NarrowAccess, are_small};
-use loop_walk::LoopValues;
 use sanlp::natural_of;
 
 /// The places of an access along a loop, which change evenly: the place at the first turn, and the step to the next.
 #[derive(Clone, Copy)]
-pub(crate) struct Line {
-    place: usize,
-    step: i64,
+pub struct Line {
+    pub place: usize,
+    pub step: i64,
 }
 
 /// The line where there is no access.
 pub(crate) const NO_LINE: Line = Line { place: 0, step: 0 };
 
 /// The place at a turn.
-pub(crate) fn place_at(line: Line, turn: i64) -> usize
+pub fn place_at(line: Line, turn: i64) -> usize
     requires short { IsShortLine line }
     requires turn { unsigned_abs turn ≤ 268435456 }
     ensures { result ≡ place_along line turn }
@@ -30,41 +29,38 @@ pub(crate) fn place_at(line: Line, turn: i64) -> usize
 }
 
 // The place in rows of an access's cell, with one loop more.
-fn place_inside(
-    cells: &Cells<i64>,
+fn place_inside<T: Copy>(
+    cells: &Cells<T>,
     access: &NarrowAccess,
-    at: &LoopValues,
+    outer: &[i64],
     value: i64,
 ) -> Option<usize>
-    requires shallow { length at.now < 6 }
-    requires fits { IsTrue (access_short (length at.now + 1) access.now) }
-    requires within { IsTrue (is_loop_value value) }
-    ensures { result ≡ places_in cells.now (cell_at (at.now ++ value ∷ []) access.now) }
+    requires shallow { length outer.now < 6 }
+    requires fits { IsTrue (access_short (length outer.now + 1) access.now) }
+    ensures { result ≡ places_in cells.now (cell_at (outer.now ++ value ∷ []) access.now) }
 {
-    let inner = at.extended(value);
+    let inner = KeptValues::extended(outer, value);
     let values = inner.as_slice();
     cells.place(access, values, are_small(values))
 }
 
 // The place at the second turn, or at the last where there is no second.
-fn second_place(
-    cells: &Cells<i64>,
+fn second_place<T: Copy>(
+    cells: &Cells<T>,
     access: &NarrowAccess,
-    at: &LoopValues,
+    outer: &[i64],
     first: i64,
     last: i64,
     end: usize,
 ) -> Option<usize>
-    requires shallow { length at.now < 6 }
-    requires fits { IsTrue (access_short (length at.now + 1) access.now) }
-    requires first_within { IsTrue (is_loop_value first) }
-    requires last_within { IsTrue (is_loop_value last) }
-    ensures second { let next_at = at.now ++ (first +ℤ pos 1) ∷ [] in
+    requires shallow { length outer.now < 6 }
+    requires fits { IsTrue (access_short (length outer.now + 1) access.now) }
+    ensures second { let next_at = outer.now ++ (first +ℤ pos 1) ∷ [] in
         IfSome result (λ next. first <ℤ last → places_in cells.now (cell_at next_at access.now) ≡ Some next) }
     ensures none { IfSome result (λ next. last ≤ℤ first → next ≡ end) }
 {
     if first < last {
-        place_inside(cells, access, at, first + 1)
+        place_inside(cells, access, outer, first + 1)
     } else {
         Some(end)
     }
@@ -84,22 +80,20 @@ fn line_through(place: usize, next: usize) -> Line
 }
 
 /// The places of an access along a loop, if its first and its last cell have places in rows.
-pub(crate) fn line_of(
-    cells: &Cells<i64>,
+pub(crate) fn line_of<T: Copy>(
+    cells: &Cells<T>,
     access: &NarrowAccess,
-    at: &LoopValues,
+    outer: &[i64],
     first: i64,
     last: i64,
 ) -> Option<Line>
-    requires shallow { length at.now < 6 }
-    requires fits { IsTrue (access_short (length at.now + 1) access.now) }
-    requires first_within { IsTrue (is_loop_value first) }
-    requires last_within { IsTrue (is_loop_value last) }
+    requires shallow { length outer.now < 6 }
+    requires fits { IsTrue (access_short (length outer.now + 1) access.now) }
     requires turns { first ≤ℤ last }
-    ensures { IfSome result (IsLineOf (places_in cells.now) at.now first last access.now) }
+    ensures { IfSome result (IsLineOf (places_in cells.now) outer.now first last access.now) }
 {
-    let place = place_inside(cells, access, at, first)?;
-    let end = place_inside(cells, access, at, last)?;
-    let next = second_place(cells, access, at, first, last, end)?;
+    let place = place_inside(cells, access, outer, first)?;
+    let end = place_inside(cells, access, outer, last)?;
+    let next = second_place(cells, access, outer, first, last, end)?;
     Some(line_through(place, next))
 }

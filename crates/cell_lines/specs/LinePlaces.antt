@@ -6,8 +6,8 @@ use Rattle.sanlp.specs.Cells.{Cell, natural}
 use Rattle.cell_rows.specs.declared.narrow_access.NarrowStatement.{NarrowStatement}
 use Rattle.cell_rows.specs.RowPlaces.{row_limit}
 use Rattle.cell_rows.specs.SmallValues.{is_small_value}
-use Rattle.loop_run.specs.declared.along.Lines.{Lines}
-use Rattle.loop_run.specs.declared.lines.Line.{Line}
+use Rattle.cell_lines.specs.declared.statement_lines.Lines.{Lines}
+use Rattle.cell_lines.specs.declared.access_line.Line.{Line}
 
 -- the places of cells
 abbrev pub Places : Type 0

@@ -1,5 +1,8 @@
 -- The places of an access along a loop: where its first and its last cell lie within the extents, so do those between,
--- and their places change evenly.
+-- and their places change evenly. A subscript is a number plus the loop's value times another, so between two values at
+-- which it lies within its extent it lies there too, and so does the place with its limit. The induction goes over the
+-- subscripts: the place after each is again a number plus the value times another. Nothing is said of a cell before the
+-- first or behind the last.
 use Rattle.std.proofs.Common.{◌≡◌, ◌<◌, ◌+◌, ◌*◌, ℕ, ℤ, pos, negsuc, ◌+ℤ◌, ◌-ℤ◌, ◌*ℤ◌, ◌≤ℤ◌, ◌<ℤ◌, List, [], ◌∷◌, ◌++◌}
 use Rattle.std.proofs.Common.{map, refl, sym, ap, ◌∙◌, subst, ◌⊎◌, inl, inr, arith}
 use Rattle.std.specs.Prelude.{Option, Some, None, nat_lt, cond}

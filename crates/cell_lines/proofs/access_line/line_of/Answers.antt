@@ -1,11 +1,11 @@
 use Rattle.std.proofs.Common.{◌∙◌, sym, FitsSigned}
 use mir.Syntax.{w64}
 use Rattle.std.proofs.lemmas.Int.{to_z-of_z}
-use Rattle.loop_run.proofs.LineCells.{line_in_rows, placed_limit, second_limit}
-use Rattle.loop_run.proofs.lines.line_of.Goals as goal
+use Rattle.cell_lines.proofs.LineCells.{line_in_rows, placed_limit, second_limit}
+use Rattle.cell_lines.proofs.access_line.line_of.Goals as goal
 
 pub line_through-requires : goal.line_through-requires
-line_through-requires c =
+line_through-requires g c =
     let start = sym c.place_inside.ensures ∙ c.in_ok-place.was in
     let end = sym c.place_inside-2.ensures ∙ c.in_ok-end.was in
     let next = c.in_ok-next.ensures in
@@ -16,14 +16,14 @@ line_through-requires c =
     }
 
 pub returns : goal.returns
-returns c =
+returns g c =
     let f : FitsSigned w64 c.args.first = c.ranges.first in
     let g : FitsSigned w64 c.args.last = c.ranges.last in
     let start = simp to_z-of_z at c.place_inside.ensures in
     let end = simp to_z-of_z at c.place_inside-2.ensures in
     let second = simp to_z-of_z at c.in_ok-next.ensures.second in
     let none = simp to_z-of_z at c.in_ok-next.ensures.none in
-    line_in_rows c.args.cells.now c.args.at.now c.args.first c.args.last c.args.access.now c.in_ok-place.place
+    line_in_rows c.args.cells.now c.args.outer.now c.args.first c.args.last c.args.access.now c.in_ok-place.place
     c.in_ok-end.end c.in_ok-next.next c.line_through.result
     c.requires.turns (sym start ∙ c.in_ok-place.was)
     (sym end ∙ c.in_ok-end.was) second none c.line_through.ensures.line c.line_through.ensures.short

@@ -1,0 +1,54 @@
+ghost use Rattle.std.specs.Prelude.{◌≡◌, ◌<◌, ◌≤◌, [], ◌∷◌, ◌++◌, length};
+
+use std::marker::Model;
+
+/// A copy of the values of at most 6 loops, outermost first.
+#[derive(Drop)]
+pub struct KeptValues {
+    values: [i64; 6],
+    depth: usize,
+}
+
+impl Model for KeptValues {
+    ghost use Rattle.std.specs.Prelude.{List, ℤ, ◌≤◌, take};
+
+    ghost Value = { List ℤ };
+
+    ghost view = { λ kept. take kept.depth kept.values };
+
+    ghost invariant = { λ kept. kept.depth ≤ 6 };
+}
+
+impl KeptValues {
+    /// These values.
+    pub fn of(values: &[i64]) -> KeptValues
+        requires { length values.now ≤ 6 }
+        ensures { result ≡ values.now }
+    {
+        let mut kept = [0; 6];
+        kept[..values.len()].copy_from_slice(values);
+        KeptValues {
+            values: kept,
+            depth: values.len(),
+        }
+    }
+
+    /// These values, and behind them that of one loop more.
+    pub fn extended(outer: &[i64], value: i64) -> KeptValues
+        requires { length outer.now < 6 }
+        ensures { result ≡ outer.now ++ value ∷ [] }
+    {
+        let mut longer = KeptValues::of(outer);
+        longer.values[longer.depth] = value;
+        longer.depth += 1;
+        longer
+    }
+
+    /// The values, in order.
+    pub fn as_slice(&self) -> &[i64]
+        ensures value { result.now ≡ self.now }
+        ensures shallow { length self.now ≤ 6 }
+    {
+        &self.values[..self.depth]
+    }
+}

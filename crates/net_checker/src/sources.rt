@@ -21,8 +21,9 @@ use plain_data::Items;
 use sanlp::{Nest, Points, Tag};
 use shadow_sweep::sweep;
 use source_check::{Rule, TreeVerdict, check_tree};
-use source_tree::{Cert, Found, Origin, SourceTable, Tree, eval};
+use source_tree::{Cert, Found, Origin, SourceTable, Tree};
 use std::alloc::{AllocError, Global};
+use tree_eval::eval_narrow;
 
 // The iteration vectors of a statement.
 fn vectors_of(points: &Points, statement: u32) -> &[Vector]
@@ -117,7 +118,7 @@ fn add_sources(
     let vectors = vectors_of(points, statement);
     let mut steps = Steps { last: 0, step: 0 };
     for (turn, at) in vectors.iter().enumerate() {
-        match eval(tree, at) {
+        match eval_narrow(tree, at) {
             Ok(found) => sources.push(tag_of(nest, points, &found, &mut steps))?,
             Err(_) => return Ok(Some(Rule::Overflow(turn as u32))),
         }

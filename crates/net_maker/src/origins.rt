@@ -14,9 +14,10 @@ use affine_core::Vector;
 use last_writer::{in_difference_class, source_within};
 use plain_data::Items;
 use sanlp::{Nest, Points};
-use source_tree::{Origin, Tree, eval};
+use source_tree::{Origin, Tree};
 use std::alloc::{AllocError, Global};
 use stride_rows::differences_are_strides;
+use tree_eval::eval_narrow;
 
 // The room for a tree: so many nodes. A tree that has no room, or nests too deep to be made, isn't made.
 const NODES: u64 = 1_024;
@@ -29,7 +30,7 @@ fn overflows_nowhere(tree: &Tree, vectors: &[Vector]) -> bool
         → outcome_of tree.now at ≡ None → ⊥) }
 {
     for at in vectors {
-        if eval(tree, at).is_err() {
+        if eval_narrow(tree, at).is_err() {
             return false;
         }
     }

@@ -29,8 +29,8 @@ pub vectors_of-vectors-requires : goal.vectors_of-vectors-requires
 vectors_of-vectors-requires c =
     omega (arith, c.requires.statement, points_length c.args.nest.now, ap length c.requires.points)
 
-pub eval-requires : goal.eval-requires
-eval-requires c =
+pub eval_narrow-requires : goal.eval_narrow-requires
+eval_narrow-requires c =
     let n = c.args.nest.now in
     let s = c.args.statement in
     let items = c.vectors_of-vectors.result.now in

@@ -41,15 +41,15 @@ fn a_list_keeps_its_items_in_order(rt: HostRuntime) -> Result<(), Fail> {
     let mut items = Items::from_slice(rt.alloc(), &[7u32, 8, 9])?;
     items.push(10)?;
     items.set(1, 5);
-    assert_eq!(rt; items.as_slice(), [7, 5, 9, 10].as_slice());
-    assert_eq!(rt; items.get(3).copied(), Some(10));
-    assert_eq!(rt; items.get(4).copied(), None);
-    assert_eq!(rt; items.pop(), Some(10));
+    assert!(rt; items.as_slice() == [7, 5, 9, 10].as_slice());
+    assert!(rt; items.get(3).copied() == Some(10));
+    assert!(rt; items.get(4).is_none());
+    assert!(rt; items.pop() == Some(10));
     items.truncate(1);
-    assert_eq!(rt; items.len(), 1);
+    assert!(rt; items.len() == 1);
     assert!(rt; !items.is_empty());
     let vector = items.into_vec();
-    assert_eq!(rt; Items::from_vec(vector).as_slice(), [7].as_slice());
+    assert!(rt; Items::from_vec(vector).as_slice() == [7].as_slice());
     Ok(())
 }
 

@@ -4,6 +4,7 @@ use io_edge::{
     Failed, MemSink, MemSource, ReadError, Sink, Source, StdIn, StdOut, WriteFault, read_all,
     write_all,
 };
+use std::alloc::Global;
 use std::test::Fail;
 
 static PIECES: [(Result<usize, Failed>, &[u8]); 6] = [
@@ -26,31 +27,40 @@ fn a_source_gives_pieces_and_goes_on_after_a_failed_call(rt: HostRuntime) -> Res
     Ok(())
 }
 
+// The most bytes of a call, the call that fails, the limit, and why not all came.
+static LIMITS: [(usize, u32, usize, Option<ReadError>); 8] = [
+    (1, 9, 5, None),
+    (9, 9, 5, None),
+    (2, 9, usize::MAX, None),
+    (1, 9, 4, Some(ReadError::TooLong)),
+    (9, 9, 0, Some(ReadError::TooLong)),
+    (9, 0, 5, Some(ReadError::ReadFault)),
+    (2, 1, 5, Some(ReadError::ReadFault)),
+    (9, 1, 5, Some(ReadError::ReadFault)),
+];
+
+// Whether all of a large source is read, 5,000 bytes a call.
+fn large_is_read(alloc: Global) -> Result<bool, Fail> {
+    let large = vec![in alloc; 7u8; 100_000]?;
+    let mut source = MemSource::new(alloc, &large, 5_000, &[])?;
+    Ok(read_all(alloc, &mut source, 100_000)?.as_slice() == large.as_slice())
+}
+
 #[test]
 fn all_is_read_up_to_the_limit(rt: HostRuntime) -> Result<(), Fail> {
-    // The most bytes of a call, the call that fails, the limit, and why not all came.
-    for (piece, failing, limit, want) in [
-        (1, 9, 5, None),
-        (9, 9, 5, None),
-        (2, 9, usize::MAX, None),
-        (1, 9, 4, Some(ReadError::TooLong)),
-        (9, 9, 0, Some(ReadError::TooLong)),
-        (9, 0, 5, Some(ReadError::ReadFault)),
-        (2, 1, 5, Some(ReadError::ReadFault)),
-        (9, 1, 5, Some(ReadError::ReadFault)),
-    ] {
-        let mut source = MemSource::new(rt.alloc(), b"hello", piece, &[failing])?;
-        match read_all(rt.alloc(), &mut source, limit) {
+    for (piece, failing, limit, want) in &LIMITS {
+        assert!(rt; *piece > 0);
+        let mut source = MemSource::new(rt.alloc(), b"hello", *piece, &[*failing])?;
+        let why = match read_all(rt.alloc(), &mut source, *limit) {
             Ok(bytes) => {
-                assert_eq!(rt; None, want, "{piece} {failing} {limit}");
                 assert_eq!(rt; bytes.as_slice(), b"hello".as_slice());
+                None
             }
-            Err(error) => assert_eq!(rt; Some(error), want, "{piece} {failing} {limit}"),
-        }
+            Err(error) => Some(error),
+        };
+        assert_eq!(rt; why, *want, "{piece} {failing} {limit}");
     }
-    let large = vec![in rt.alloc(); 7u8; 100_000]?;
-    let mut source = MemSource::new(rt.alloc(), &large, 5_000, &[])?;
-    assert!(rt; read_all(rt.alloc(), &mut source, 100_000)?.as_slice() == large.as_slice());
+    assert!(rt; large_is_read(rt.alloc())?);
     Ok(())
 }
 
@@ -83,21 +93,18 @@ fn a_piece_is_written_until_the_sink_fails_or_is_full(rt: HostRuntime) -> Result
 #[test]
 fn real_readers_and_writers_pass_bytes_on(rt: HostRuntime) -> Result<(), Fail> {
     let mut input = StdIn::new(b"hello".as_slice());
-    assert_eq!(rt;
-        read_all(rt.alloc(), &mut input, 5)?.as_slice(),
-        b"hello".as_slice()
-    );
+    assert!(rt; read_all(rt.alloc(), &mut input, 5)?.as_slice() == b"hello".as_slice());
 
     let mut held = Vec::new(rt.alloc());
     let mut output = StdOut::new(&mut held);
-    assert_eq!(rt; write_all(&mut output, b"hello"), Ok(()));
+    assert!(rt; write_all(&mut output, b"hello") == Ok(()));
     drop(output);
-    assert_eq!(rt; held.as_slice(), b"hello".as_slice());
+    assert!(rt; held.as_slice() == b"hello".as_slice());
 
     let mut narrow = [0; 3];
     let mut output = StdOut::new(narrow.as_mut_slice());
-    assert_eq!(rt; write_all(&mut output, b"hello"), Err(WriteFault));
+    assert!(rt; write_all(&mut output, b"hello") == Err(WriteFault));
     drop(output);
-    assert_eq!(rt; narrow, *b"hel");
+    assert!(rt; narrow == *b"hel");
     Ok(())
 }

@@ -11,18 +11,21 @@ const MOST: i64 = i64::MAX;
 
 const LEAST: i64 = i64::MIN;
 
-// The first loop's value.
-fn left(alloc: Global) -> Result<Boxed<Expr>, AllocError>
+// The sum, difference, product, least and greatest of the first loop's value and the first value read, and the negation
+// of the former.
+fn expression(alloc: Global, number: usize) -> Result<Expr, AllocError>
     ensures { IfOk result (λ e. UsesOnly 1 1 e) }
 {
-    Boxed::new(alloc, Expr::Var(0))
-}
-
-// The first value read.
-fn right(alloc: Global) -> Result<Boxed<Expr>, AllocError>
-    ensures { IfOk result (λ e. UsesOnly 1 1 e) }
-{
-    Boxed::new(alloc, Expr::Read(0))
+    let left = Boxed::new(alloc, Expr::Var(0))?;
+    let right = Boxed::new(alloc, Expr::Read(0))?;
+    match number {
+        0 => Ok(Expr::Add(left, right)),
+        1 => Ok(Expr::Sub(left, right)),
+        2 => Ok(Expr::Mul(left, right)),
+        3 => Ok(Expr::Min(left, right)),
+        4 => Ok(Expr::Max(left, right)),
+        _ => Ok(Expr::Neg(left)),
+    }
 }
 
 // Two numbers, their sum, difference, product, least and greatest, and the negation of the first.
@@ -51,23 +54,12 @@ static WRAPPED: [(i64, i64, [i64; 6]); 5] = [
 
 #[test]
 fn wraps_at_64_bits(rt: HostRuntime) -> Result<(), Fail> {
-    let alloc = rt.alloc();
-    let sum = Expr::Add(left(alloc)?, right(alloc)?);
-    let difference = Expr::Sub(left(alloc)?, right(alloc)?);
-    let product = Expr::Mul(left(alloc)?, right(alloc)?);
-    let least = Expr::Min(left(alloc)?, right(alloc)?);
-    let greatest = Expr::Max(left(alloc)?, right(alloc)?);
-    let negation = Expr::Neg(left(alloc)?);
-    for (x, y, want) in &WRAPPED {
-        let found = [
-            eval(&sum, &[*x], &[*y], 0),
-            eval(&difference, &[*x], &[*y], 0),
-            eval(&product, &[*x], &[*y], 0),
-            eval(&least, &[*x], &[*y], 0),
-            eval(&greatest, &[*x], &[*y], 0),
-            eval(&negation, &[*x], &[*y], 0),
-        ];
-        assert_eq!(rt; found, *want, "{x} and {y}");
+    for number in 0..6usize {
+        let expr = expression(rt.alloc(), number)?;
+        for (x, y, wants) in &WRAPPED {
+            let found = eval(&expr, &[*x], &[*y], 0);
+            assert_eq!(rt; found, wants[number], "{number} of {x} and {y}");
+        }
     }
     Ok(())
 }

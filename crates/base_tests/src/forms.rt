@@ -10,9 +10,11 @@ const LEAST: i128 = i128::MIN;
 
 const HALF: i128 = 1 << 126;
 
-fn form(alloc: Global, constant: i128, first: i128, second: i128) -> Form
+// A constant and the coefficients of x and y.
+fn form(alloc: Global, row: [i128; 3]) -> Form
     ensures { length result.coefs ≡ 2 }
 {
+    let [constant, first, second] = row;
     let mut coefs = Coefs::empty(alloc);
     coefs.push(first);
     coefs.push(second);
@@ -36,7 +38,7 @@ static VALUES: [(i128, i128, i128, i128, i128, Result<i128, Overflow>); 9] = [
 fn evaluates_in_order(rt: HostRuntime) {
     let alloc = rt.alloc();
     for (constant, first, second, x, y, want) in &VALUES {
-        let got = form(alloc, *constant, *first, *second).eval(&[*x, *y]);
+        let got = form(alloc, [*constant, *first, *second]).eval(&[*x, *y]);
         assert_eq!(rt;
             got,
             *want,
@@ -45,28 +47,66 @@ fn evaluates_in_order(rt: HostRuntime) {
     }
 }
 
+fn wanted(alloc: Global, want: Result<[i128; 3], Overflow>) -> Result<Form, Overflow> {
+    Ok(form(alloc, want?))
+}
+
+fn is_sum(
+    alloc: Global,
+    left: [i128; 3],
+    right: [i128; 3],
+    want: Result<[i128; 3], Overflow>,
+) -> bool {
+    form(alloc, left).add(&form(alloc, right)) == wanted(alloc, want)
+}
+
+fn is_product(
+    alloc: Global,
+    row: [i128; 3],
+    times: i128,
+    want: Result<[i128; 3], Overflow>,
+) -> bool {
+    form(alloc, row).scale(times) == wanted(alloc, want)
+}
+
+// Two forms and their sum.
+static ADDED: [([i128; 3], [i128; 3], Result<[i128; 3], Overflow>); 3] = [
+    ([LEAST, 1, -7], [MOST, -1, 9], Ok([-1, 0, 2])),
+    ([MOST, -1, 9], [1, 0, 0], Err(Overflow)),
+    ([LEAST, 1, -7], [0, MOST, 0], Err(Overflow)),
+];
+
+// A form, a number and their product.
+static SCALED: [([i128; 3], i128, Result<[i128; 3], Overflow>); 4] = [
+    ([MOST, -1, 9], -1, Ok([LEAST + 1, 1, -9])),
+    ([LEAST, 1, -7], -1, Err(Overflow)),
+    ([0, 3, HALF], 2, Err(Overflow)),
+    ([4, 3, -HALF], 2, Ok([8, 6, LEAST])),
+];
+
 #[test]
 fn adds_and_scales_each_number(rt: HostRuntime) {
     let alloc = rt.alloc();
-    let low = form(alloc, LEAST, 1, -7);
-    let high = form(alloc, MOST, -1, 9);
-    assert!(rt; low.add(&high) == Ok(form(alloc, -1, 0, 2)));
-    assert!(rt; high.add(&form(alloc, 1, 0, 0)) == Err(Overflow));
-    assert!(rt; low.add(&form(alloc, 0, MOST, 0)) == Err(Overflow));
-    assert!(rt; high.scale(-1) == Ok(form(alloc, LEAST + 1, 1, -9)));
-    assert!(rt; low.scale(-1) == Err(Overflow));
-    assert!(rt; form(alloc, 0, 3, HALF).scale(2) == Err(Overflow));
-    assert!(rt; form(alloc, 4, 3, -HALF).scale(2) == Ok(form(alloc, 8, 6, LEAST)));
+    for (left, right, want) in &ADDED {
+        assert!(rt; is_sum(alloc, *left, *right, *want));
+    }
+    for (row, times, want) in &SCALED {
+        assert!(rt; is_product(alloc, *row, *times, *want));
+    }
+}
+
+fn is_form(alloc: Global, found: Form, row: [i128; 3]) -> bool {
+    found == form(alloc, row)
 }
 
 #[test]
 fn makes_and_widens(rt: HostRuntime) {
     let alloc = rt.alloc();
-    assert!(rt; Form::constant(alloc, 2, 7) == form(alloc, 7, 0, 0));
-    assert!(rt; Form::variable(alloc, 2, 0) == form(alloc, 0, 1, 0));
-    assert!(rt; Form::variable(alloc, 2, 1) == form(alloc, 0, 0, 1));
-    assert!(rt; Form::constant(alloc, 0, 7).widened(2) == form(alloc, 7, 0, 0));
-    assert!(rt; Form::variable(alloc, 1, 0).widened(2) == form(alloc, 0, 1, 0));
-    assert!(rt; form(alloc, 1, 2, 3).copy() == form(alloc, 1, 2, 3));
+    assert!(rt; is_form(alloc, Form::constant(alloc, 2, 7), [7, 0, 0]));
+    assert!(rt; is_form(alloc, Form::variable(alloc, 2, 0), [0, 1, 0]));
+    assert!(rt; is_form(alloc, Form::variable(alloc, 2, 1), [0, 0, 1]));
+    assert!(rt; is_form(alloc, Form::constant(alloc, 0, 7).widened(2), [7, 0, 0]));
+    assert!(rt; is_form(alloc, Form::variable(alloc, 1, 0).widened(2), [0, 1, 0]));
+    assert!(rt; is_form(alloc, form(alloc, [1, 2, 3]).copy(), [1, 2, 3]));
     assert_eq!(rt; Form::variable(alloc, 18, 17).coefs.len(), 18);
 }

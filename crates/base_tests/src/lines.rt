@@ -68,22 +68,22 @@ fn integers_have_128_signed_bits(rt: HostRuntime) {
 #[test]
 fn lines_are_taken_one_by_one(rt: HostRuntime) -> Result<(), Fail> {
     let mut lines = Lines::new(b"a b\n\nend\nx");
-    assert_eq!(rt; lines.next(), Some(b"a b".as_slice()));
-    assert_eq!(rt; lines.taken(), 1);
-    assert_eq!(rt; lines.expect(b"x"), Err(CertError::Line(2)));
-    assert_eq!(rt; lines.expect(b"end"), Ok(()));
-    assert_eq!(rt; lines.end(), Err(CertError::Truncated));
-    assert_eq!(rt; lines.next(), None);
-    assert_eq!(rt; lines.taken(), 3);
+    assert!(rt; lines.next() == Some(b"a b".as_slice()));
+    assert!(rt; lines.taken() == 1);
+    assert!(rt; lines.expect(b"x") == Err(CertError::Line(2)));
+    assert!(rt; lines.expect(b"end") == Ok(()));
+    assert!(rt; lines.end() == Err(CertError::Truncated));
+    assert!(rt; lines.next().is_none());
+    assert!(rt; lines.taken() == 3);
     Ok(())
 }
+
+static WORDS: [Option<&[u8]>; 5] = [Some(b"a"), Some(b""), Some(b"b"), None, None];
 
 #[test]
 fn words_stand_between_single_spaces(rt: HostRuntime) {
     let mut words = Words::new(b"a  b");
-    assert_eq!(rt; words.next(), Some(b"a".as_slice()));
-    assert_eq!(rt; words.next(), Some(b"".as_slice()));
-    assert_eq!(rt; words.next(), Some(b"b".as_slice()));
-    assert_eq!(rt; words.next(), None);
-    assert_eq!(rt; words.next(), None);
+    for want in &WORDS {
+        assert_eq!(rt; words.next(), *want);
+    }
 }

@@ -151,29 +151,43 @@ fn print_y(alloc: Global, last: i128) -> Result<Statement, AllocError>
     })
 }
 
+// v + ..
+fn v_and(alloc: Global, other: Expr) -> Result<Expr, AllocError>
+    ensures { IfOk result (λ sum. sum ≡ Expr.Add (Expr.Read 0) other) }
+{
+    let other = Boxed::new(alloc, other)?;
+    Ok(Expr::Add(Boxed::new(alloc, Expr::Read(0))?, other))
+}
+
+// v = v + ..;
+fn add_to_v(alloc: Global, last: i128, other: Expr) -> Result<Statement, AllocError>
+    ensures { IfOk result (λ statement. statement ≡
+        sets_v last (scalar ∷ []) (Expr.Add (Expr.Read 0) other)) }
+{
+    let sum = v_and(alloc, other)?;
+    let reads = one(alloc, access_v(alloc))?;
+    set_v(alloc, last, reads, sum)
+}
+
 // v = v + i; y[i] = v;
 fn sums(alloc: Global) -> Result<Items<Statement>, AllocError>
     ensures { IfOk result (λ statements. statements ≡ sums_statements) }
 {
-    let sum = Expr::Add(
-        Boxed::new(alloc, Expr::Read(0))?,
-        Boxed::new(alloc, Expr::Var(0))?,
-    );
-    let add = set_v(alloc, 3, one(alloc, access_v(alloc))?, sum)?;
-    three(alloc, add, set_y(alloc, 3)?, print_y(alloc, 3)?)
+    let mut statements = Items::new(alloc);
+    statements.push(add_to_v(alloc, 3, Expr::Var(0))?)?;
+    statements.push(set_y(alloc, 3)?)?;
+    statements.push(print_y(alloc, 3)?)?;
+    Ok(statements)
 }
 
 // y[i] = v; v = i; v = v + 10;
 fn delays(alloc: Global) -> Result<Items<Statement>, AllocError>
     ensures { IfOk result (λ statements. statements ≡ delayed_statements) }
 {
-    let sum = Expr::Add(
-        Boxed::new(alloc, Expr::Read(0))?,
-        Boxed::new(alloc, Expr::Const(10))?,
-    );
-    let take = set_v(alloc, 2, Items::new(alloc), Expr::Var(0))?;
-    let add = set_v(alloc, 2, one(alloc, access_v(alloc))?, sum)?;
-    let mut statements = three(alloc, set_y(alloc, 2)?, take, add)?;
+    let mut statements = Items::new(alloc);
+    statements.push(set_y(alloc, 2)?)?;
+    statements.push(set_v(alloc, 2, Items::new(alloc), Expr::Var(0))?)?;
+    statements.push(add_to_v(alloc, 2, Expr::Const(10))?)?;
     statements.push(print_y(alloc, 2)?)?;
     Ok(statements)
 }
@@ -221,10 +235,10 @@ fn delayed(alloc: Global) -> Result<Nest, AllocError>
 #[test]
 fn nests_are_built_by_pushes(rt: HostRuntime) -> Result<(), Fail> {
     let alloc = rt.alloc();
-    assert_eq!(rt; running_sums(alloc)?.parts().len(), 2);
+    assert!(rt; running_sums(alloc)?.parts().len() == 2);
     let delayed = delayed(alloc)?;
-    assert_eq!(rt; delayed.statement(1).reads.len(), 0);
-    assert_eq!(rt; delayed.statement(2).reads.len(), 1);
+    assert!(rt; delayed.statement(1).reads.len() == 0);
+    assert!(rt; delayed.statement(2).reads.len() == 1);
     Ok(())
 }
 
@@ -250,22 +264,37 @@ fn is_earlier(alloc: Global, nest: &Nest, first: (u32, i64), second: (u32, i64))
     )
 }
 
+// Two points, each by its statement and the value of its loop, and whether the first comes before the second.
+static ORDERED: [((u32, i64), (u32, i64), bool); 8] = [
+    ((0, 0), (1, 0), true),
+    ((1, 0), (0, 1), true),
+    ((1, 3), (2, 0), true),
+    ((2, 0), (2, 1), true),
+    ((1, 0), (0, 0), false),
+    ((0, 1), (1, 0), false),
+    ((2, 0), (1, 3), false),
+    ((2, 1), (2, 1), false),
+];
+
 #[test]
 fn points_come_by_their_common_loops_and_then_by_their_statements(
     rt: HostRuntime,
 ) -> Result<(), Fail> {
     let alloc = rt.alloc();
     let nest = running_sums(alloc)?;
-    assert!(rt; is_earlier(alloc, &nest, (0, 0), (1, 0)));
-    assert!(rt; is_earlier(alloc, &nest, (1, 0), (0, 1)));
-    assert!(rt; is_earlier(alloc, &nest, (1, 3), (2, 0)));
-    assert!(rt; is_earlier(alloc, &nest, (2, 0), (2, 1)));
-    assert!(rt; !is_earlier(alloc, &nest, (1, 0), (0, 0)));
-    assert!(rt; !is_earlier(alloc, &nest, (0, 1), (1, 0)));
-    assert!(rt; !is_earlier(alloc, &nest, (2, 0), (1, 3)));
-    assert!(rt; !is_earlier(alloc, &nest, (2, 1), (2, 1)));
+    for (first, second, want) in &ORDERED {
+        assert!(rt; first.0 < 3 && second.0 < 3);
+        assert!(rt; is_earlier(alloc, &nest, *first, *second) == *want);
+    }
     Ok(())
 }
+
+// A statement's role, its point, and the value.
+static GIVEN: [(Role, i64, i64); 3] = [
+    (Role::Source(0), 1, 6),
+    (Role::Source(0), 3, 0),
+    (Role::Assign, 1, 0),
+];
 
 #[test]
 fn a_source_is_given_the_value_at_its_cell(rt: HostRuntime) -> Result<(), Fail> {
@@ -274,18 +303,21 @@ fn a_source_is_given_the_value_at_its_cell(rt: HostRuntime) -> Result<(), Fail> 
     let inputs = Inputs {
         arrays: one(alloc, three(alloc, 5, 6, 7)?)?,
     };
-    assert_eq!(rt; given_value(&nest, &inputs, Role::Source(0), &[1]), 6);
-    assert_eq!(rt; given_value(&nest, &inputs, Role::Source(0), &[3]), 0);
-    assert_eq!(rt; given_value(&nest, &inputs, Role::Assign, &[1]), 0);
+    for (role, at, want) in &GIVEN {
+        assert_eq!(rt; given_value(&nest, &inputs, *role, &[*at]), *want);
+    }
     Ok(())
 }
+
+// The extents of an array, and how many cells it has.
+static COUNTS: [(&[i64], usize); 3] = [(&[3, 4], 12), (&[3, -1], 0), (&[i64::MAX, 4], usize::MAX)];
 
 #[test]
 fn an_extent_below_0_counts_as_0(rt: HostRuntime) -> Result<(), Fail> {
     assert_eq!(rt; natural_of(-3), 0);
-    assert_eq!(rt; capped_count(&[3, 4]), 12);
-    assert_eq!(rt; capped_count(&[3, -1]), 0);
-    assert_eq!(rt; capped_count(&[i64::MAX, 4]), usize::MAX);
+    for (extents, want) in &COUNTS {
+        assert_eq!(rt; capped_count(extents), *want);
+    }
     Ok(())
 }
 

@@ -221,16 +221,22 @@ fn entails_what_holds(rt: HostRuntime) -> Result<(), Fail> {
     Ok(())
 }
 
+static NEGATED: [([i128; 3], Result<[i128; 3], Overflow>); 4] = [
+    ([5, 2, -1], Ok([-6, -2, 1])),
+    ([MOST, MOST, 0], Ok([LEAST, -MOST, 0])),
+    ([LEAST, 0, 0], Err(Overflow)),
+    ([0, 0, LEAST], Err(Overflow)),
+];
+
+fn negated(alloc: Global, want: Result<[i128; 3], Overflow>) -> Result<Form, Overflow> {
+    Ok(form(alloc, want?))
+}
+
 #[test]
 fn negates_within_128_bits(rt: HostRuntime) {
     let alloc = rt.alloc();
-    for (row, want) in [
-        ([5, 2, -1], Ok(form(alloc, [-6, -2, 1]))),
-        ([MOST, MOST, 0], Ok(form(alloc, [LEAST, -MOST, 0]))),
-        ([LEAST, 0, 0], Err(Overflow)),
-        ([0, 0, LEAST], Err(Overflow)),
-    ] {
-        assert!(rt; negation(&form(alloc, row)) == want);
+    for (row, want) in &NEGATED {
+        assert!(rt; negation(&form(alloc, *row)) == negated(alloc, *want));
     }
 }
 

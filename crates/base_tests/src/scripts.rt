@@ -16,6 +16,27 @@ fn gives(alloc: Global, blocks: &Blocks<u32>, items: &[u32]) -> Result<bool, All
     Ok(cursor.peek(blocks).is_none() && cursor.next(blocks).is_none())
 }
 
+// Whether a walk over a script gives exactly these items, and tells each before.
+fn walk_gives(script: &Script<u32>, items: &[u32]) -> bool {
+    let mut walk = script.iter();
+    for item in items {
+        if walk.peek() != Some(*item) || walk.next() != Some(*item) {
+            return false;
+        }
+    }
+    walk.peek().is_none() && walk.next().is_none()
+}
+
+// Whether a cursor of a script gives exactly these items, tells each before, and stays at the end.
+fn cursor_gives(cursor: &mut ScriptCursor<u32>, items: &[u32]) -> bool {
+    for item in items {
+        if cursor.peek() != Some(*item) || cursor.next() != Some(*item) {
+            return false;
+        }
+    }
+    cursor.peek().is_none() && cursor.next().is_none() && cursor.peek().is_none()
+}
+
 // Adds these items so many times.
 fn add(script: &mut Vec<u32>, times: u32, items: &[u32]) -> Result<(), AllocError> {
     for _ in 0..times {
@@ -106,16 +127,22 @@ fn a_matrix_product_folds_to_its_loops(rt: HostRuntime) -> Result<(), Fail> {
     Ok(())
 }
 
-// Steps of a stencil whose ends differ from its middle.
+// A step of a stencil whose ends differ from its middle: how many times, and which items.
+static STENCIL: [(u32, &[u32]); 4] = [
+    (1, &[1, 2]),
+    (20, &[1, 2, 3, 4]),
+    (1, &[2, 3]),
+    (20, &[5, 6]),
+];
+
 #[test]
 fn a_stencil_folds_to_its_loops(rt: HostRuntime) -> Result<(), Fail> {
     let alloc = rt.alloc();
     let mut items = Vec::new(alloc);
     for _ in 0..12 {
-        add(&mut items, 1, &[1, 2])?;
-        add(&mut items, 20, &[1, 2, 3, 4])?;
-        add(&mut items, 1, &[2, 3])?;
-        add(&mut items, 20, &[5, 6])?;
+        for (times, part) in &STENCIL {
+            add(&mut items, *times, part)?;
+        }
     }
     assert!(rt; folded_nodes(alloc, items.as_slice())?.unwrap_or(99) <= 16);
     Ok(())
@@ -151,6 +178,18 @@ fn a_long_period_is_found(rt: HostRuntime) -> Result<(), Fail> {
     Ok(())
 }
 
+fn add_turn(builder: &mut ScriptBuilder<u32>, is_first: bool) -> Result<(), AllocError> {
+    for place in 100..164u32 {
+        builder.push_with_key(1, 1)?;
+        if is_first {
+            builder.push_with_key(place + 1_000, place + 1_000)?;
+        }
+        builder.push_with_key(place, place)?;
+        builder.push_with_key(2, 2)?;
+    }
+    Ok(())
+}
+
 // The outer loop of a matrix product: its first turn gets more, and the fires of a turn are all different.
 #[test]
 fn a_turn_of_the_outer_loop_is_found(rt: HostRuntime) -> Result<(), Fail> {
@@ -158,14 +197,7 @@ fn a_turn_of_the_outer_loop_is_found(rt: HostRuntime) -> Result<(), Fail> {
     let mut builder = ScriptBuilder::new(alloc);
     assert!(rt; builder.is_empty());
     for turn in 0..40 {
-        for place in 100..164 {
-            builder.push_with_key(1, 1u32)?;
-            if turn == 0 {
-                builder.push_with_key(place + 1_000, place + 1_000)?;
-            }
-            builder.push_with_key(place, place)?;
-            builder.push_with_key(2, 2)?;
-        }
+        add_turn(&mut builder, turn == 0)?;
     }
     assert_eq!(rt; builder.len(), 7_744);
     let blocks = builder.blocks(alloc)?;
@@ -182,11 +214,7 @@ fn a_list_that_grew_is_a_script(rt: HostRuntime) -> Result<(), Fail> {
     builder.push(6)?;
     builder.push(5)?;
     let script = builder.script(alloc)?;
-    let mut items = script.iter();
-    assert_eq!(rt; items.next(), Some(5));
-    assert_eq!(rt; items.next(), Some(6));
-    assert_eq!(rt; items.next(), Some(5));
-    assert_eq!(rt; items.next(), None);
+    assert!(rt; walk_gives(&script, &[5, 6, 5]));
     Ok(())
 }
 
@@ -201,34 +229,69 @@ fn unfolded_blocks_have_a_node_for_each_item(rt: HostRuntime) -> Result<(), Fail
     Ok(())
 }
 
+// Repeats of so many turns, one in another, round an item or nothing.
+fn nested(
+    alloc: Global,
+    depth: u32,
+    count: u32,
+    has_item: bool,
+) -> Result<Blocks<u32>, AllocError> {
+    let inside = if has_item {
+        item(alloc, 1)?
+    } else {
+        empty(alloc)
+    };
+    nest(alloc, depth, count, inside)
+}
+
+// One more item than the longest.
+fn length_past_the_limit(alloc: Global) -> Result<Option<u64>, AllocError> {
+    let mut past = nested(alloc, 2, 2_147_483_648, true)?;
+    past.parts.push(BlockPart::Item(2))?;
+    Ok(past.expanded_len())
+}
+
+fn length_in_no_turn(alloc: Global) -> Result<Option<u64>, AllocError> {
+    let huge = nested(alloc, 6, u32::MAX, true)?;
+    let never = repeat(alloc, 0, huge)?;
+    Ok(never.expanded_len())
+}
+
+// How many repeats, of how many turns, whether round an item, and the length.
+static LENGTHS: [(u32, u32, bool, Option<u64>); 3] = [
+    (2, 2_147_483_648, true, Some(4_611_686_018_427_387_904)),
+    (6, u32::MAX, true, None),
+    (6, u32::MAX, false, Some(0)),
+];
+
 #[test]
 fn lengths_are_told_to_the_limit(rt: HostRuntime) -> Result<(), Fail> {
     let alloc = rt.alloc();
-    let limit = nest(alloc, 2, 2_147_483_648, item(alloc, 1)?)?;
-    assert_eq!(rt; limit.expanded_len(), Some(4_611_686_018_427_387_904));
-    assert_eq!(rt; limit.nodes(), 3);
-    let mut past = limit;
-    past.parts.push(BlockPart::Item(2))?;
-    assert_eq!(rt; past.expanded_len(), None);
-    let huge = nest(alloc, 6, u32::MAX, item(alloc, 1)?)?;
-    assert_eq!(rt; huge.expanded_len(), None);
-    let none = nest(alloc, 6, u32::MAX, empty(alloc))?;
-    assert_eq!(rt; none.expanded_len(), Some(0));
-    let never = repeat(alloc, 0, huge)?;
-    assert_eq!(rt; never.expanded_len(), Some(0));
+    for (depth, count, has_item, want) in &LENGTHS {
+        let blocks = nested(alloc, *depth, *count, *has_item)?;
+        assert_eq!(rt; blocks.expanded_len(), *want);
+    }
+    assert_eq!(rt; nested(alloc, 2, 2_147_483_648, true)?.nodes(), 3);
+    assert_eq!(rt; length_past_the_limit(alloc)?, None);
+    assert_eq!(rt; length_in_no_turn(alloc)?, Some(0));
     Ok(())
+}
+
+// Twice: 9 in no turn, 4, what is empty in as many turns as can be, and 5.
+fn with_empty_parts(alloc: Global, none: Blocks<u32>) -> Result<Blocks<u32>, AllocError> {
+    let mut around = repeat(alloc, 0, item(alloc, 9)?)?;
+    around.parts.push(BlockPart::Item(4))?;
+    around.parts.push(BlockPart::Repeat(u32::MAX, none))?;
+    around.parts.push(BlockPart::Item(5))?;
+    repeat(alloc, 2, around)
 }
 
 #[test]
 fn a_cursor_passes_over_what_is_empty(rt: HostRuntime) -> Result<(), Fail> {
     let alloc = rt.alloc();
-    let none = nest(alloc, 6, u32::MAX, empty(alloc))?;
+    let none = nested(alloc, 6, u32::MAX, false)?;
     assert!(rt; gives(alloc, &none, &[])?);
-    let mut around = repeat(alloc, 0, item(alloc, 9)?)?;
-    around.parts.push(BlockPart::Item(4))?;
-    around.parts.push(BlockPart::Repeat(u32::MAX, none))?;
-    around.parts.push(BlockPart::Item(5))?;
-    let twice = repeat(alloc, 2, around)?;
+    let twice = with_empty_parts(alloc, none)?;
     assert!(rt; gives(alloc, &twice, &[4, 5, 4, 5])?);
     Ok(())
 }
@@ -255,33 +318,35 @@ fn a_script_gives_its_items_folded_or_not(rt: HostRuntime) -> Result<(), Fail> {
     assert!(rt; !shared.is_empty());
     let mut cursor = ScriptCursor::new(&shared)?;
     drop(shared);
-    for item in flat.iter() {
-        assert_eq!(rt; cursor.peek(), Some(item));
-        assert_eq!(rt; cursor.next(), Some(item));
-    }
-    assert_eq!(rt; cursor.next(), None);
-    assert_eq!(rt; cursor.peek(), None);
+    assert!(rt; walk_gives(&flat, &items));
+    assert!(rt; cursor_gives(&mut cursor, &items));
     Ok(())
 }
+
+// Whether the next item is only told, and that item.
+static TOLD: [(bool, Option<u32>); 7] = [
+    (true, Some(5)),
+    (false, Some(5)),
+    (false, Some(5)),
+    (false, Some(5)),
+    (true, Some(6)),
+    (false, Some(6)),
+    (true, None),
+];
 
 #[test]
 fn items_tell_the_next_one(rt: HostRuntime) -> Result<(), Fail> {
     let script = Script::folded(rt.alloc(), &[5u32, 5, 5, 6])?;
     let mut items = script.iter();
-    assert_eq!(rt; items.peek(), Some(5));
-    assert_eq!(rt; items.next(), Some(5));
-    assert_eq!(rt; items.next(), Some(5));
-    assert_eq!(rt; items.next(), Some(5));
-    assert_eq!(rt; items.peek(), Some(6));
-    assert_eq!(rt; items.next(), Some(6));
-    assert_eq!(rt; items.peek(), None);
+    for (is_told, want) in &TOLD {
+        let found = if *is_told { items.peek() } else { items.next() };
+        assert_eq!(rt; found, *want);
+    }
     Ok(())
 }
 
 // More items than a batch has, in repeats that end within one.
-#[test]
-fn a_long_script_gives_its_items(rt: HostRuntime) -> Result<(), Fail> {
-    let alloc = rt.alloc();
+fn long_items(alloc: Global) -> Result<Vec<u32>, AllocError> {
     let mut items = Vec::new(alloc);
     for row in 0..3 {
         for _ in 0..5 {
@@ -291,21 +356,19 @@ fn a_long_script_gives_its_items(rt: HostRuntime) -> Result<(), Fail> {
         add(&mut items, 23, &[40])?;
         items.push(50 + row)?;
     }
+    Ok(items)
+}
+
+#[test]
+fn a_long_script_gives_its_items(rt: HostRuntime) -> Result<(), Fail> {
+    let alloc = rt.alloc();
+    let items = long_items(alloc)?;
     assert!(rt; items.len() == 402);
     let script = Script::folded(alloc, items.as_slice())?;
     assert_eq!(rt; script.len(), 402);
     assert!(rt; script.blocks().nodes() < 40);
-    let mut walk = script.iter();
+    assert!(rt; walk_gives(&script, items.as_slice()));
     let mut cursor = ScriptCursor::new(&script)?;
-    for item in &items {
-        assert_eq!(rt; walk.peek(), Some(*item));
-        assert_eq!(rt; walk.next(), Some(*item));
-        assert_eq!(rt; cursor.peek(), Some(*item));
-        assert_eq!(rt; cursor.next(), Some(*item));
-    }
-    assert_eq!(rt; walk.peek(), None);
-    assert_eq!(rt; walk.next(), None);
-    assert_eq!(rt; cursor.peek(), None);
-    assert_eq!(rt; cursor.next(), None);
+    assert!(rt; cursor_gives(&mut cursor, items.as_slice()));
     Ok(())
 }

@@ -12,7 +12,7 @@ struct Row<'a> {
     hold: u32,
 }
 
-const ROWS: [Row<'static>; 5] = [
+static ROWS: [Row<'static>; 5] = [
     Row {
         uses: &[],
         gets_before: &[],

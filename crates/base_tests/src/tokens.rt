@@ -137,24 +137,26 @@ fn sources_are_refused_at_the_first_place(rt: HostRuntime) {
     }
 }
 
+// How many names follow the first, what stands after them, and the number of tokens or the error.
+static LONG: [(u32, &[u8], Result<usize, LexError>); 4] = [
+    (8191, b"", Ok(8192)),
+    (8191, b" $", Err(LexError::BadByte(16384))),
+    (8192, b"", Err(LexError::TooMany(16384))),
+    (
+        8191,
+        b" 9223372036854775808",
+        Err(LexError::LargeNumber(16384)),
+    ),
+];
+
 #[test]
 fn a_source_has_8192_tokens_at_most(rt: HostRuntime) -> Result<(), Fail> {
-    let mut source = names(rt.alloc(), 8191)?;
-    assert!(rt; source.len() < 20000);
-    assert_eq!(rt; lex(rt.alloc(), &source).map(|found| found.len()), Ok(8192));
-
-    source.extend_from_slice(b" $")?;
-    assert!(rt; source.len() < 20000);
-    assert!(rt; gives(rt.alloc(), &source, Err(LexError::BadByte(16384))));
-
-    let mut source = names(rt.alloc(), 8192)?;
-    assert!(rt; source.len() < 20000);
-    assert!(rt; gives(rt.alloc(), &source, Err(LexError::TooMany(16384))));
-
-    let mut source = names(rt.alloc(), 8191)?;
-    source.extend_from_slice(b" 9223372036854775808")?;
-    assert!(rt; source.len() < 20000);
-    assert!(rt; gives(rt.alloc(), &source, Err(LexError::LargeNumber(16384))));
+    for (more, end, want) in &LONG {
+        let mut source = names(rt.alloc(), *more)?;
+        source.extend_from_slice(end)?;
+        assert!(rt; source.len() < 20000);
+        assert_eq!(rt; lex(rt.alloc(), &source).map(|found| found.len()), *want);
+    }
     Ok(())
 }
 
@@ -164,7 +166,7 @@ fn a_number_has_its_decimal_value(rt: HostRuntime) -> Result<(), Fail> {
     let found = lex(rt.alloc(), source)?;
     tokens_are_in_order();
     assert!(rt; found.len() == 2 && found[1].kind == Number);
-    assert_eq!(rt; text(source, found[0]), b"x".as_slice());
-    assert_eq!(rt; number(source, found[1]), 42);
+    assert!(rt; text(source, found[0]) == b"x".as_slice());
+    assert!(rt; number(source, found[1]) == 42);
     Ok(())
 }

@@ -1,7 +1,7 @@
 //! Tests of `text_out`.
 
 use io_edge::{Failed, MemSink, Sink, WriteFault};
-use std::alloc::Global;
+use std::alloc::{AllocError, Global};
 use std::test::Fail;
 use text_out::{TextWriter, Word, Writer, write_line, write_number, write_spaced, write_words};
 
@@ -57,12 +57,8 @@ static CALLS: [(usize, u64, u64); 10] = [
 fn a_sink_is_called_once_for_4096_bytes(rt: HostRuntime) -> Result<(), Fail> {
     for (len, count, calls) in &CALLS {
         let sink = counted(rt.alloc(), *len, *count)?;
-        assert_eq!(rt; sink.calls, *calls, "{len} {count}");
-        assert_eq!(rt;
-            Some(sink.bytes as u64),
-            count.checked_mul(*len as u64),
-            "{len} {count}"
-        );
+        let is_counted = Some(sink.bytes as u64) == count.checked_mul(*len as u64);
+        assert!(rt; sink.calls == *calls && is_counted, "{len} {count}");
     }
     Ok(())
 }
@@ -77,58 +73,72 @@ static FAULTS: [(usize, usize, u32, usize); 6] = [
     (5_000, 20_000, 9, 5_000),
 ];
 
-#[test]
-fn a_fault_leaves_a_front_and_ends_the_writing(rt: HostRuntime) -> Result<(), Fail> {
-    let mut text = Vec::new(rt.alloc());
+// Each byte forty times.
+fn all_bytes(alloc: Global) -> Result<Vec<u8>, AllocError> {
+    let mut text = Vec::new(alloc);
     for byte in 0..=255 {
         for _ in 0..40 {
             text.push(byte)?;
         }
     }
+    Ok(text)
+}
+
+// Writes a text byte by byte.
+fn write_bytes(sink: &mut MemSink, text: &[u8]) -> Result<(), WriteFault> {
+    let mut out = Writer::new(sink);
+    for byte in text {
+        out.put(&[*byte]);
+    }
+    out.finish()
+}
+
+#[test]
+fn a_fault_leaves_a_front_and_ends_the_writing(rt: HostRuntime) -> Result<(), Fail> {
+    let text = all_bytes(rt.alloc())?;
     for (room, most, failing, held) in &FAULTS {
         let mut sink = MemSink::new(rt.alloc(), *room, *most, &[*failing])?;
-        let mut out = Writer::new(&mut sink);
-        for byte in text.as_slice() {
-            out.put(&[*byte]);
-        }
+        let found = write_bytes(&mut sink, text.as_slice());
         let want = if *held == text.len() {
             Ok(())
         } else {
             Err(WriteFault)
         };
-        assert_eq!(rt; out.finish(), want, "{room} {most} {failing}");
-        drop(out);
-        assert_eq!(rt; sink.held().len(), *held, "{room} {most} {failing}");
         assert!(rt;
-            text.as_slice().starts_with(sink.held()),
+            found == want && sink.held().len() == *held && text.as_slice().starts_with(sink.held()),
             "{room} {most} {failing}"
         );
     }
     Ok(())
 }
 
+fn put_numbers<W: TextWriter>(out: &mut W) {
+    write_number(0u64, out);
+    out.put(b" ");
+    write_number(u64::MAX, out);
+    out.put(b" ");
+    write_number(-7i64, out);
+    out.put(b" ");
+    write_number(i64::MIN, out);
+    out.put(b" ");
+    write_number(i128::MIN, out);
+    write_spaced(Word::Number(12), out);
+    out.put(b"\n");
+}
+
+static WORDS: [Word<'static>; 4] = [
+    Word::Text(b"fire"),
+    Word::Number(3),
+    Word::Text(b""),
+    Word::Text(b"x"),
+];
+
 #[test]
 fn numbers_and_words_have_their_texts(rt: HostRuntime) -> Result<(), Fail> {
     let mut sink = MemSink::new(rt.alloc(), 1_000, 1_000, &[])?;
     let mut out = Writer::new(&mut sink);
-    write_number(0u64, &mut out);
-    out.put(b" ");
-    write_number(u64::MAX, &mut out);
-    out.put(b" ");
-    write_number(-7i64, &mut out);
-    out.put(b" ");
-    write_number(i64::MIN, &mut out);
-    out.put(b" ");
-    write_number(i128::MIN, &mut out);
-    write_spaced(Word::Number(12), &mut out);
-    out.put(b"\n");
-    let words = [
-        Word::Text(b"fire"),
-        Word::Number(3),
-        Word::Text(b""),
-        Word::Text(b"x"),
-    ];
-    write_line(&words, &mut out);
+    put_numbers(&mut out);
+    write_line(&WORDS, &mut out);
     write_line(&[], &mut out);
     write_words(&[Word::Number(10)], &mut out);
     assert_eq!(rt; out.finish(), Ok(()));

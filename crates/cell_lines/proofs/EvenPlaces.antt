@@ -5,7 +5,7 @@
 -- first or behind the last.
 use Rattle.std.proofs.Common.{◌≡◌, ◌<◌, ◌+◌, ◌*◌, ℕ, ℤ, pos, negsuc, ◌+ℤ◌, ◌-ℤ◌, ◌*ℤ◌, ◌≤ℤ◌, ◌<ℤ◌, List, [], ◌∷◌, ◌++◌}
 use Rattle.std.proofs.Common.{map, refl, sym, ap, ◌∙◌, subst, ◌⊎◌, inl, inr, arith}
-use Rattle.std.specs.Prelude.{Option, Some, None, nat_lt, cond}
+use Rattle.std.specs.Prelude.{Option, Some, None, is_some, true, nat_lt, cond}
 use Rattle.std.specs.Option.{option_and_then}
 use Rattle.std.proofs.Math.IntN.{*ℤ_comm, *ℤ-one, zero-*ℤ}
 use Rattle.std.proofs.lemmas.Bool.{lt-ltb, ltb-true}
@@ -269,20 +269,32 @@ module _ (extents : List ℤ) (forms : List Form) (at : List ℤ) (first last : 
   abbrev place_of : ℤ → Option ℕ
   place_of v = place_from 0 extents (map (λ form. form_at form (at ++ v ∷ [])) forms)
 
+  from_none : (w : ℤ)
+      → place_from (natural (pos 0 +ℤ (w *ℤ pos 0))) extents (map (λ form. form_at form (at ++ w ∷ [])) forms)
+      ≡ place_of w
+  from_none w = ap (λ k. place_from k extents (map (λ form. form_at form (at ++ w ∷ [])) forms)) (none_before w)
+
+  the_line : (place end : ℕ) → place_of first ≡ Some place → place_of last ≡ Some end
+      → HasLine extents forms at (pos 0) (pos 0) first last
+  the_line place end e f =
+      has_line extents forms at (pos 0) (pos 0) first last place end le
+      (λ w a b. let z = *ℤ_comm w (pos 0) in let y = zero-*ℤ w in omega (arith, ints))
+      (from_none first ∙ e) (from_none last ∙ f)
+
+  -- where the first and the last turn have places, so have those between
+  pub placed_between : (place end : ℕ) → place_of first ≡ Some place → place_of last ≡ Some end
+      → (v : ℤ) → first ≤ℤ v → v ≤ℤ last → is_some (place_of v) ≡ true
+  placed_between place end e f v from to =
+      let line = the_line place end e f in
+      ap is_some (sym (from_none v) ∙ line.places v from to)
+
   -- the place at the first turn and at the next give all places
   pub line_places : (place end next : ℕ) → place_of first ≡ Some place → place_of last ≡ Some end
       → (first <ℤ last → place_of (first +ℤ pos 1) ≡ Some next) → (last ≤ℤ first → next ≡ end)
       → (v : ℤ) → first ≤ℤ v → v ≤ℤ last
       → place_of v ≡ Some (natural (pos place +ℤ ((v -ℤ first) *ℤ (pos next -ℤ pos place))))
   line_places place end next e f g h v from to =
-      let from_none : (w : ℤ)
-      → place_from (natural (pos 0 +ℤ (w *ℤ pos 0))) extents (map (λ form. form_at form (at ++ w ∷ [])) forms)
-      ≡ place_of w =
-      λ w. ap (λ k. place_from k extents (map (λ form. form_at form (at ++ w ∷ [])) forms)) (none_before w) in
-      let line =
-      has_line extents forms at (pos 0) (pos 0) first last place end le
-      (λ w a b. let z = *ℤ_comm w (pos 0) in let y = zero-*ℤ w in omega (arith, ints))
-      (from_none first ∙ e) (from_none last ∙ f) in
+      let line = the_line place end e f in
       let here : first ≤ℤ first = omega (arith, ints) in
       let start : place ≡ natural (line.line_start +ℤ (first *ℤ line.line_slope)) =
       same_some _ _ _ e (sym (from_none first) ∙ line.places first here le) in

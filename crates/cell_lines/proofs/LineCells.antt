@@ -2,10 +2,14 @@
 -- all places between the first and the last value, since they change evenly. The lines of a statement's reads are made
 -- slot by slot: after each the first so many are lines. They speak of places alone, so they stay where places do.
 use Rattle.std.proofs.Common.{◌≡◌, ◌<◌, ◌≤◌, ◌+◌, ℕ, zero, suc, ℤ, pos, ◌≤ℤ◌, ◌<ℤ◌, ◌+ℤ◌, ◌-ℤ◌, List, [], ◌∷◌, ◌++◌}
-use Rattle.std.proofs.Common.{map, set, length, get_or, refl, sym, ap, ◌∙◌, subst, inl, inr, arith}
-use Rattle.std.specs.Prelude.{Option, Some, IfSome, unsigned_abs}
-use Rattle.std.proofs.lemmas.Bool.{cases_lt}
+use Rattle.std.proofs.Common.{Bool, true, false, ◌&&◌, map, set, take, length, get_or, refl, sym, ap, ◌∙◌, subst, inl, inr, arith}
+use Rattle.std.specs.List.{list_all}
+use Rattle.std.specs.Option.{option_map_or}
+use Rattle.std.specs.Prelude.{Option, Some, None, is_some, IfSome, unsigned_abs}
+use Rattle.std.proofs.lemmas.Bool.{cases_lt, false≢true}
 use Rattle.std.proofs.lemmas.Int.{ints}
+use Rattle.std.proofs.lemmas.List.{take_all}
+use Rattle.std.proofs.lemmas.List.Folds.{list_all_at, list_all_more}
 use Rattle.affine_core.specs.Affine.{form_at}
 use Rattle.sanlp.specs.declared.nest.Access.{Access}
 use Rattle.sanlp.specs.Access.{cell_at}
@@ -20,7 +24,7 @@ use Rattle.cell_lines.specs.declared.statement_lines.Lines.{Lines}
 use Rattle.cell_lines.specs.declared.access_line.Line.{Line}
 use Rattle.cell_lines.specs.LinePlaces.{AreLinesOf, ArePlacedBy, AreStatementLines, IsLineOf, IsPlacedBy, IsShortLine}
 use Rattle.cell_lines.specs.LinePlaces.{IsStatementPlaced, Places, place_along}
-use Rattle.cell_lines.proofs.EvenPlaces.{either, line_places, place_limit}
+use Rattle.cell_lines.proofs.EvenPlaces.{either, line_places, place_limit, placed_between}
 
 -- a place in rows is within the limit
 pub placed_limit : {T : Type 0} (cells : Cells T) (cell : Cell) (place : ℕ) → places_in cells cell ≡ Some place
@@ -36,6 +40,24 @@ second_limit cells cell first last next end h second none = elim (either first l
   | inl lt ↦ placed_limit cells cell next (second lt)
   | inr le ↦ (let e = none le in subst (λ k. k < row_limit) (sym e) h)
 ]
+
+-- the second turn has a place where the first and the last have
+pub second_there : {T : Type 0} (cells : Cells T) (at : List ℤ) (first last : ℤ) (access : Access) (begin : Option ℕ)
+    (end : ℕ)
+    → first <ℤ last → places_in cells (cell_at (at ++ first ∷ []) access) ≡ begin → is_some begin ≡ true
+    → places_in cells (cell_at (at ++ last ∷ []) access) ≡ Some end
+    → is_some (places_in cells (cell_at (at ++ (first +ℤ pos 1) ∷ []) access)) ≡ true
+second_there cells at first last access None end lt start some stop = absurd (false≢true some)
+second_there cells at first last access (Some place) end lt start some stop =
+    let row = has_extents cells (cell_at (at ++ first ∷ []) access) place start in
+    let subscripts : ℤ → List ℤ = λ v. map (λ form. form_at form (at ++ v ∷ [])) access.subscripts in
+    let second : ℤ = first +ℤ pos 1 in
+    let le : first ≤ℤ last = omega (arith, ints) in
+    let from : first ≤ℤ (first +ℤ pos 1) = omega (arith, ints) in
+    let to : (first +ℤ pos 1) ≤ℤ last = omega (arith, ints) in
+    ap is_some (row.1 (subscripts second))
+    ∙ placed_between row.0 access.subscripts at first last le place end (sym (row.1 (subscripts first)) ∙ start)
+    (sym (row.1 (subscripts last)) ∙ stop) second from to
 
 -- the line through the first place and the second
 pub line_in_rows : {T : Type 0} (cells : Cells T) (at : List ℤ) (first last : ℤ) (access : Access) (place end next : ℕ)
@@ -111,6 +133,35 @@ pub lines_whole : (place_of : Places) (at : List ℤ) (first last : ℤ) (access
 lines_whole place_of at first last accesses items lines slot same le all i lt a ea l el =
     let count = ap length same in
     all i (omega arith) a (subst (λ (list : List Access). a ≡ get_or list i a) (sym same) ea) l el
+
+-- whether each access of a statement has something
+module _ (p : Access → Bool) (accesses items : List Access) (slot : ℕ) where
+  pub all_more : (item : Access) → slot < length items → item ≡ get_or items slot item
+      → list_all p (take slot items) ≡ true → p item ≡ true → list_all p (take (slot + 1) items) ≡ true
+  all_more item lt is before here =
+      list_all_more p items slot item lt ∙ ap (λ b. b && p (get_or items slot item)) before
+      ∙ ap p (sym is) ∙ here
+
+  pub all_whole : items ≡ accesses → length items ≤ slot → list_all p (take slot items) ≡ true
+      → list_all p accesses ≡ true
+  all_whole same le all = ap (list_all p) (sym same ∙ sym (take_all slot items le)) ∙ all
+
+  pub not_all : (item : Access) (other : Bool) → items ≡ accesses → slot < length items
+      → item ≡ get_or items slot item → p item ≡ false → false ≡ (list_all p accesses && other)
+  not_all item other same lt is none =
+      let here : list_all p items ≡ false = list_all_at p items slot item lt (ap p (sym is) ∙ none) in
+      ap (λ b. b && other) (sym (ap (list_all p) (sym same) ∙ here))
+
+  pub all_and_write : (write : Option Access) (known : Access) (b : Bool) → list_all p accesses ≡ true
+      → write ≡ Some known → b ≡ p known → b ≡ (list_all p accesses && option_map_or p write true)
+  all_and_write write known b all is here =
+      here ∙ sym (ap (λ w. option_map_or p w true) is)
+      ∙ sym (ap (λ b. b && option_map_or p write true) all)
+
+  pub all_without_write : (write : Option Access) → list_all p accesses ≡ true → write ≡ None
+      → true ≡ (list_all p accesses && option_map_or p write true)
+  all_without_write write all is =
+      sym (ap (λ w. option_map_or p w true) is) ∙ sym (ap (λ b. b && option_map_or p write true) all)
 
 pub placed_along : (place_of : Places) (at : List ℤ) (turn : ℤ) (accesses items : List Access) (lines : List Line)
     → items ≡ accesses → ArePlacedBy place_of at turn accesses lines (length accesses)

@@ -1,5 +1,7 @@
 -- The places of accesses along a loop: they change evenly. Each cell that has one has it by `place_of`.
-use Rattle.std.specs.Prelude.{◌≡◌, ℕ, ◌<◌, ◌≤◌, ℤ, pos, ◌+ℤ◌, ◌-ℤ◌, ◌*ℤ◌, ◌≤ℤ◌, List, [], ◌∷◌, ◌++◌, Option, Some, length, unsigned_abs, slice_index_or, IsTrue}
+use Rattle.std.specs.Prelude.{◌≡◌, ℕ, ◌<◌, ◌≤◌, ℤ, pos, ◌+ℤ◌, ◌-ℤ◌, ◌*ℤ◌, ◌≤ℤ◌, List, [], ◌∷◌, ◌++◌, Bool, true, ◌&&◌, Option, Some, is_some, length, unsigned_abs, slice_index_or, int_le, IsTrue}
+use Rattle.std.specs.List.{list_all}
+use Rattle.std.specs.Option.{option_map_or}
 use Rattle.sanlp.specs.declared.nest.Access.{Access}
 use Rattle.sanlp.specs.Access.{cell_at}
 use Rattle.sanlp.specs.Cells.{Cell, natural}
@@ -29,6 +31,12 @@ pub record IsLineOf (place_of : Places) (at : List ℤ) (first last : ℤ) (acce
   pub places : (v : ℤ) → first ≤ℤ v → v ≤ℤ last
       → place_of (cell_at (at ++ v ∷ []) access) ≡ Some (place_along line (v -ℤ first))
 
+-- there is one exactly where the first and the last cell have places, since those between then have too
+abbrev pub has_line : Places → List ℤ → ℤ → ℤ → Access → Bool
+has_line place_of at first last access =
+    is_some (place_of (cell_at (at ++ first ∷ []) access))
+    && is_some (place_of (cell_at (at ++ last ∷ []) access))
+
 -- at one turn
 pub record IsPlacedBy (place_of : Places) (at : List ℤ) (turn : ℤ) (access : Access)
     (line : Line) : Type 0 where
@@ -55,6 +63,18 @@ pub record AreStatementLines (place_of : Places) (at : List ℤ) (first last : �
   pub reads : AreLinesOf place_of at first last accesses.reads lines.reads (length accesses.reads)
   pub write : (access : Access) → accesses.write ≡ Some access
       → IsLineOf place_of at first last access lines.write
+
+-- each access of a statement has a line
+abbrev pub accesses_have_lines : Places → List ℤ → ℤ → ℤ → NarrowStatement → Bool
+accesses_have_lines place_of at first last accesses =
+    list_all (has_line place_of at first last) accesses.reads
+    && option_map_or (has_line place_of at first last) accesses.write true
+
+-- and the loop has a turn, and its first and its last value are small
+abbrev pub have_lines : Places → List ℤ → ℤ → ℤ → NarrowStatement → Bool
+have_lines place_of at first last accesses =
+    (int_le first last && is_small_value first && is_small_value last)
+    && accesses_have_lines place_of at first last accesses
 
 -- at one turn
 pub record IsStatementPlaced (place_of : Places) (at : List ℤ) (turn : ℤ)

@@ -1,9 +1,9 @@
-ghost use Rattle.std.specs.Prelude.{◌≡◌, ◌≤◌, ◌<◌, ◌+◌, ◌≤ℤ◌, ◌<ℤ◌, ◌+ℤ◌, ◌-ℤ◌, pos, [], ◌∷◌, ◌++◌, length, unsigned_abs, IfSome, IsTrue, Some};
+ghost use Rattle.std.specs.Prelude.{◌≡◌, ◌≤◌, ◌<◌, ◌+◌, ◌≤ℤ◌, ◌<ℤ◌, ◌+ℤ◌, ◌-ℤ◌, pos, [], ◌∷◌, ◌++◌, length, unsigned_abs, is_some, true, IfSome, IsTrue, Some};
 ghost use Rattle.sanlp.specs.Access.{cell_at};
 ghost use Rattle.cell_rows.specs.CellMap.{places_in};
 ghost use Rattle.cell_rows.specs.RowPlaces.{row_limit};
 ghost use Rattle.cell_rows.specs.ShortAccesses.{access_short};
-ghost use Rattle.cell_lines.specs.LinePlaces.{IsLineOf, IsShortLine, place_along};
+ghost use Rattle.cell_lines.specs.LinePlaces.{has_line, IsLineOf, IsShortLine, place_along};
 
 use crate::kept_values::KeptValues;
 use cell_rows::{Cells, NarrowAccess, are_small};
@@ -44,7 +44,25 @@ fn place_inside<T: Copy>(
     cells.place(access, values, are_small(values))
 }
 
-// The place at the second turn, or at the last where there is no second.
+// The place in rows of an access's cell at the turn after this one.
+fn next_place<T: Copy>(
+    cells: &Cells<T>,
+    access: &NarrowAccess,
+    outer: &[i64],
+    turn: i64,
+    last: i64,
+) -> Option<usize>
+    requires shallow { length outer.now < 6 }
+    requires fits { IsTrue (access_short (length outer.now + 1) access.now) }
+    requires later { turn <ℤ last }
+    ensures { result
+        ≡ places_in cells.now (cell_at (outer.now ++ (turn +ℤ pos 1) ∷ []) access.now) }
+{
+    place_inside(cells, access, outer, turn + 1)
+}
+
+// The place at the second turn, or at the last where there is no second. Where the first and the last have places, so has
+// the second.
 fn second_place<T: Copy>(
     cells: &Cells<T>,
     access: &NarrowAccess,
@@ -52,17 +70,24 @@ fn second_place<T: Copy>(
     first: i64,
     last: i64,
     end: usize,
-) -> Option<usize>
+) -> usize
     requires shallow { length outer.now < 6 }
     requires fits { IsTrue (access_short (length outer.now + 1) access.now) }
+    requires turns { first ≤ℤ last }
+    requires begin { is_some (places_in cells.now (cell_at (outer.now ++ first ∷ []) access.now))
+        ≡ true }
+    requires end { places_in cells.now (cell_at (outer.now ++ last ∷ []) access.now) ≡ Some end }
     ensures second { let next_at = outer.now ++ (first +ℤ pos 1) ∷ [] in
-        IfSome result (λ next. first <ℤ last → places_in cells.now (cell_at next_at access.now) ≡ Some next) }
-    ensures none { IfSome result (λ next. last ≤ℤ first → next ≡ end) }
+        first <ℤ last → places_in cells.now (cell_at next_at access.now) ≡ Some result }
+    ensures none { last ≤ℤ first → result ≡ end }
 {
     if first < last {
-        place_inside(cells, access, outer, first + 1)
+        match next_place(cells, access, outer, first, last) {
+            Some(next) => next,
+            None => unreachable!(),
+        }
     } else {
-        Some(end)
+        end
     }
 }
 
@@ -79,7 +104,7 @@ fn line_through(place: usize, next: usize) -> Line
     }
 }
 
-/// The places of an access along a loop, if its first and its last cell have places in rows.
+/// The places of an access along a loop: exactly if its first and its last cell have places in rows.
 pub(crate) fn line_of<T: Copy>(
     cells: &Cells<T>,
     access: &NarrowAccess,
@@ -90,10 +115,12 @@ pub(crate) fn line_of<T: Copy>(
     requires shallow { length outer.now < 6 }
     requires fits { IsTrue (access_short (length outer.now + 1) access.now) }
     requires turns { first ≤ℤ last }
-    ensures { IfSome result (IsLineOf (places_in cells.now) outer.now first last access.now) }
+    ensures come { is_some result
+        ≡ has_line (places_in cells.now) outer.now first last access.now }
+    ensures line { IfSome result (IsLineOf (places_in cells.now) outer.now first last access.now) }
 {
     let place = place_inside(cells, access, outer, first)?;
     let end = place_inside(cells, access, outer, last)?;
-    let next = second_place(cells, access, outer, first, last, end)?;
+    let next = second_place(cells, access, outer, first, last, end);
     Some(line_through(place, next))
 }

@@ -1,10 +1,10 @@
 ghost use Rattle.std.specs.List.{list_all};
 ghost use Rattle.std.specs.Option.{option_map_or};
-ghost use Rattle.std.specs.Prelude.{◌≤◌, ◌<◌, ◌+◌, ◌≤ℤ◌, length, true, IfSome, IsTrue};
+ghost use Rattle.std.specs.Prelude.{◌≡◌, ◌≤◌, ◌<◌, ◌+◌, ◌≤ℤ◌, is_some, length, true, IfSome, IsTrue};
 ghost use Rattle.cell_rows.specs.CellMap.{places_in};
 ghost use Rattle.cell_rows.specs.ShortAccesses.{access_short};
 ghost use Rattle.cell_rows.specs.SmallValues.{is_small_value};
-ghost use Rattle.cell_lines.specs.LinePlaces.{AreStatementLines};
+ghost use Rattle.cell_lines.specs.LinePlaces.{accesses_have_lines, have_lines, AreStatementLines};
 
 use crate::access_line::{Line, NO_LINE, line_of};
 use cell_rows::{Cells, NarrowStatement, is_small};
@@ -32,7 +32,9 @@ fn lines_of<T: Copy>(
     requires turns { first ≤ℤ last }
     requires first_small { IsTrue (is_small_value first) }
     requires last_small { IsTrue (is_small_value last) }
-    ensures { IfSome result
+    ensures come { is_some result
+        ≡ accesses_have_lines (places_in cells.now) outer.now first last accesses.now }
+    ensures lines { IfSome result
         (AreStatementLines (places_in cells.now) outer.now first last accesses.now) }
 {
     let mut reads = [NO_LINE; 8];
@@ -47,8 +49,8 @@ fn lines_of<T: Copy>(
     Some(Lines { reads, write })
 }
 
-/// The places of a statement's accesses along a loop whose values are small, if the first and the last cell of each
-/// access have places in rows. These are the values of the loops round it.
+/// The places of a statement's accesses along a loop, at these values of the loops round it. They come exactly where the
+/// loop has a turn, its first and its last value are small, and there the cell of each access has a place in rows.
 pub fn lines_along<T: Copy>(
     accesses: &NarrowStatement,
     outer: &[i64],
@@ -61,7 +63,9 @@ pub fn lines_along<T: Copy>(
     requires reads_fit { IsTrue (list_all (access_short (length outer.now + 1)) accesses.now.reads) }
     requires write_fits { IsTrue
         (option_map_or (access_short (length outer.now + 1)) accesses.now.write true) }
-    ensures { IfSome result
+    ensures come { is_some result
+        ≡ have_lines (places_in cells.now) outer.now first last accesses.now }
+    ensures lines { IfSome result
         (AreStatementLines (places_in cells.now) outer.now first last accesses.now) }
 {
     if first <= last && is_small(first) && is_small(last) {

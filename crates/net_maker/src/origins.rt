@@ -17,7 +17,7 @@ use sanlp::{Nest, Points};
 use source_tree::{Origin, Tree};
 use std::alloc::{AllocError, Global};
 use stride_rows::differences_are_strides;
-use tree_eval::eval_narrow;
+use tree_eval::Follower;
 
 // The room for a tree: so many nodes. A tree that has no room, or nests too deep to be made, isn't made.
 const NODES: u64 = 1_024;
@@ -29,8 +29,9 @@ fn overflows_nowhere(tree: &Tree, vectors: &[Vector]) -> bool
     ensures { IsTrue result ↔ ((f : ℕ) (at : List ℤ) → slice_get vectors.now f ≡ Some at
         → outcome_of tree.now at ≡ None → ⊥) }
 {
+    let mut follower = Follower::new();
     for at in vectors {
-        if eval_narrow(tree, at).is_err() {
+        if follower.overflows(tree, at) {
             return false;
         }
     }

@@ -1,1 +1,4 @@
 pub mod Known
+pub mod Lines
+pub mod Maps
+pub mod Rows

@@ -1,0 +1,112 @@
+ghost use Rattle.std.specs.Prelude.{◌≡◌, ◌≤◌, ◌≤ℤ◌, ◌+ℤ◌, ◌-ℤ◌, ◌*ℤ◌, ◌++◌, ℤ, pos, negsuc, [], ◌∷◌, int_le, unsigned_abs, IfSome};
+ghost use Rattle.affine_core.specs.Within.{combined_in_128_bits, sum_in_128_bits, value_in_128_bits};
+ghost use Rattle.tree_eval.specs.Stretches.{IsLine, IsSmallStep, line_at, step_limit};
+
+use crate::forms::add_product;
+use affine_core::Form;
+
+/// How a form's value changes along the innermost loop: its value at the first turn, and the step to the next.
+#[derive(Clone, Copy)]
+pub(crate) struct Line {
+    pub(crate) value: i64,
+    pub(crate) step: i64,
+}
+
+/// How large a step is at most.
+const STEP_LIMIT: u64 = 1_073_741_824;
+
+// A coefficient as the step of a line, if it is small.
+fn small_step(coef: i128) -> Option<i64>
+    ensures { IfSome result (IsSmallStep coef) }
+{
+    let step = i64::try_from(coef).ok()?;
+    if step.unsigned_abs() <= STEP_LIMIT {
+        Some(step)
+    } else {
+        None
+    }
+}
+
+// The line of a sum to which the innermost loop's value is added so many times.
+fn last_line(total: i64, coef: i128, first: i64) -> Option<Line>
+    ensures { IfSome result (IsLine (λ turn. sum_in_128_bits total coef (first +ℤ turn))) }
+{
+    let step = small_step(coef)?;
+    let value = add_product(total, coef, first)?;
+    Some(Line { value, step })
+}
+
+// The line of a sum to which products with the values of the loops are added, outermost first.
+fn line_from(total: i64, coefs: &[i128], outer: &[i64], first: i64) -> Option<Line>
+    ensures { IfSome result
+        (IsLine (λ turn. combined_in_128_bits total coefs.now (outer.now ++ (first +ℤ turn) ∷ []))) }
+{
+    let Some((coef, coefs)) = coefs.split_first() else {
+        return Some(Line {
+            value: total,
+            step: 0,
+        });
+    };
+    match outer.split_first() {
+        Some((value, outer)) => {
+            let next = add_product(total, *coef, *value)?;
+            line_from(next, coefs, outer, first)
+        }
+        None => last_line(total, *coef, first),
+    }
+}
+
+/// The form's values along the innermost loop from its first turn on, if its step is small and the value there needs no
+/// number of more than 64 bits. These are the values of the loops round it.
+pub(crate) fn line_of(form: &Form, outer: &[i64], first: i64) -> Option<Line>
+    ensures { IfSome result
+        (IsLine (λ turn. value_in_128_bits form.now (outer.now ++ (first +ℤ turn) ∷ []))) }
+{
+    let constant = i64::try_from(form.constant).ok()?;
+    line_from(constant, form.coefs.as_slice(), outer, first)
+}
+
+// For how many turns a number that isn't negative stays so: at most so many.
+fn turns_kept(value: i64, step: i64, turns: i64) -> i64
+    requires value { pos 0 ≤ℤ value }
+    requires step { unsigned_abs step ≤ step_limit }
+    requires turns { pos 0 ≤ℤ turns }
+    ensures begun { pos 0 ≤ℤ result }
+    ensures few { result ≤ℤ turns }
+    ensures kept { (turn : ℤ) → pos 0 ≤ℤ turn → turn ≤ℤ result
+        → pos 0 ≤ℤ (value +ℤ (turn *ℤ step)) }
+{
+    if step >= 0 {
+        return turns;
+    }
+    let most = (value.unsigned_abs() / step.unsigned_abs()) as i64;
+    if most < turns { most } else { turns }
+}
+
+// The line on the other side of zero: each value is -1 less what it was.
+fn flipped(line: Line) -> Line
+    requires { unsigned_abs line.step ≤ step_limit }
+    ensures value { result.value ≡ negsuc 0 -ℤ line.value }
+    ensures step { result.step ≡ pos 0 -ℤ line.step }
+{
+    Line {
+        value: -1 - line.value,
+        step: -line.step,
+    }
+}
+
+/// For how many turns a line stays on the side of zero where it begins: at most so many.
+pub(crate) fn turns_on_side(line: Line, turns: i64) -> i64
+    requires step { unsigned_abs line.step ≤ step_limit }
+    requires turns { pos 0 ≤ℤ turns }
+    ensures begun { pos 0 ≤ℤ result }
+    ensures few { result ≤ℤ turns }
+    ensures side { (turn : ℤ) → pos 0 ≤ℤ turn → turn ≤ℤ result
+        → int_le (pos 0) (line_at line turn) ≡ int_le (pos 0) line.value }
+{
+    if line.value >= 0 {
+        return turns_kept(line.value, line.step, turns);
+    }
+    let other = flipped(line);
+    turns_kept(other.value, other.step, turns)
+}

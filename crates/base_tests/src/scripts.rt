@@ -9,7 +9,7 @@ use std::test::Fail;
 fn gives(alloc: Global, blocks: &Blocks<u32>, items: &[u32]) -> Result<bool, AllocError> {
     let mut cursor = Cursor::new(alloc, blocks)?;
     for item in items {
-        if cursor.peek(blocks) != Some(*item) || cursor.next(blocks) != Some(*item) {
+        if cursor.peek(blocks).copied() != Some(*item) || cursor.next(blocks) != Some(*item) {
             return Ok(false);
         }
     }
@@ -20,7 +20,7 @@ fn gives(alloc: Global, blocks: &Blocks<u32>, items: &[u32]) -> Result<bool, All
 fn walk_gives(script: &Script<u32>, items: &[u32]) -> bool {
     let mut walk = script.iter();
     for item in items {
-        if walk.peek() != Some(*item) || walk.next() != Some(*item) {
+        if walk.peek().copied() != Some(*item) || walk.next() != Some(*item) {
             return false;
         }
     }
@@ -30,7 +30,7 @@ fn walk_gives(script: &Script<u32>, items: &[u32]) -> bool {
 // Whether a cursor of a script gives exactly these items, tells each before, and stays at the end.
 fn cursor_gives(cursor: &mut ScriptCursor<u32>, items: &[u32]) -> bool {
     for item in items {
-        if cursor.peek() != Some(*item) || cursor.next() != Some(*item) {
+        if cursor.peek().copied() != Some(*item) || cursor.next() != Some(*item) {
             return false;
         }
     }
@@ -180,12 +180,12 @@ fn a_long_period_is_found(rt: HostRuntime) -> Result<(), Fail> {
 
 fn add_turn(builder: &mut ScriptBuilder<u32>, is_first: bool) -> Result<(), AllocError> {
     for place in 100..164u32 {
-        builder.push_with_key(1, 1)?;
+        builder.push_with_key(1, &1)?;
         if is_first {
-            builder.push_with_key(place + 1_000, place + 1_000)?;
+            builder.push_with_key(place + 1_000, &(place + 1_000))?;
         }
-        builder.push_with_key(place, place)?;
-        builder.push_with_key(2, 2)?;
+        builder.push_with_key(place, &place)?;
+        builder.push_with_key(2, &2)?;
     }
     Ok(())
 }
@@ -339,7 +339,11 @@ fn items_tell_the_next_one(rt: HostRuntime) -> Result<(), Fail> {
     let script = Script::folded(rt.alloc(), &[5u32, 5, 5, 6])?;
     let mut items = script.iter();
     for (is_told, want) in &TOLD {
-        let found = if *is_told { items.peek() } else { items.next() };
+        let found = if *is_told {
+            items.peek().copied()
+        } else {
+            items.next()
+        };
         assert_eq!(rt; found, *want);
     }
     Ok(())

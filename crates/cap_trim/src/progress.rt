@@ -67,10 +67,10 @@ impl Progress {
     {
         let _ = network;
         match self.cursors[process as usize].peek() {
-            Some(Event::Get { channel, .. }) => self.queued[channel as usize] > 0,
+            Some(Event::Get { channel, .. }) => self.queued[*channel as usize] > 0,
             Some(Event::Fire { .. }) => true,
             Some(Event::Put { channel }) => {
-                self.queued[channel as usize] < capacities[channel as usize]
+                self.queued[*channel as usize] < capacities[*channel as usize]
             }
             None => false,
         }

@@ -60,7 +60,7 @@ fn blocks_of<T: Copy + Eq + Keyed>(
     if items.is_empty() {
         return alone(alloc, last);
     }
-    items.push_with_key(last.key(), last)?;
+    items.push_with_key(last.key(), &last)?;
     items.blocks(alloc)
 }
 
@@ -82,7 +82,7 @@ impl<T: Copy + Eq + Keyed> Run<T> {
     {
         match self.last {
             Some(last) => {
-                self.items.push_with_key(last.key(), last)?;
+                self.items.push_with_key(last.key(), &last)?;
                 self.last = Some(item);
                 Ok(())
             }

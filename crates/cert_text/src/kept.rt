@@ -1,13 +1,14 @@
 //! What is kept of a text before its scripts and its schedule are known to be short enough.
 
-ghost use Rattle.std.specs.Prelude.{◌≡◌, ◌+◌, ◌≤◌, IfOk, All, None, length, map, min};
+ghost use Rattle.std.specs.Prelude.{◌≡◌, ◌+◌, ◌≤◌, ◌++◌, IfOk, OnOk, All, None, length, map, min};
+ghost use Rattle.script_blocks.specs.Expansion.{part_expansion, parts_expansion};
 ghost use Rattle.cert_text.specs.Folding.{long_script, most_events, too_long as long_of};
 ghost use Rattle.cert_text.specs.Kept.{cert_of_kept, network_of_kept, process_of_kept, scripts_of};
 
 use crate::folded::FoldedList;
 use net_core::{Channel, Event, Network, Process};
 use plain_data::Items;
-use script_blocks::Script;
+use script_blocks::{BlockPart, Script};
 use source_tree::{Cert, Origin};
 use std::alloc::{AllocError, Global};
 
@@ -93,14 +94,38 @@ fn unfold_processes(alloc: Global, kept: Items<KeptProcess>) -> Result<Items<Pro
     Ok(processes)
 }
 
+// Adds the entries for which these parts stand.
+#[cycle(entries)]
+fn add_entries(parts: &[BlockPart<u32>], entries: &mut Items<u32>) -> Result<(), AllocError>
+    ensures { OnOk result (entries.new ≡ entries.old ++ parts_expansion parts.now) }
+{
+    for part in parts {
+        add_entries_of(part, entries)?;
+    }
+    Ok(())
+}
+
+#[cycle(entries)]
+fn add_entries_of(part: &BlockPart<u32>, entries: &mut Items<u32>) -> Result<(), AllocError>
+    ensures { OnOk result (entries.new ≡ entries.old ++ part_expansion part.now) }
+{
+    match part {
+        BlockPart::Item(entry) => entries.push(*entry),
+        BlockPart::Repeat(count, body) => {
+            for _ in 0..*count {
+                add_entries(body.parts.as_slice(), entries)?;
+            }
+            Ok(())
+        }
+    }
+}
+
 /// The entries of a script, or want of memory.
 fn entries_in(alloc: Global, script: &Script<u32>) -> Result<Items<u32>, AllocError>
     ensures { IfOk result (λ entries. entries ≡ script.now) }
 {
     let mut entries = Items::new(alloc);
-    for entry in script.iter() {
-        entries.push(entry)?;
-    }
+    add_entries(script.blocks().parts.as_slice(), &mut entries)?;
     Ok(entries)
 }
 

@@ -2,6 +2,7 @@
 use Rattle.std.proofs.Common.{◌≡◌, ℕ, zero, suc, ◌+◌, ◌<◌, ◌≤◌, ℤ, true, Option, Some, None, List, length, take}
 use Rattle.std.proofs.Common.{slice_get, refl, sym, ap, ap₂, ◌∙◌, inl, inr, arith}
 use Rattle.std.specs.List.{sum_by}
+use Rattle.std.specs.Prelude.{if◌then◌else◌}
 use Rattle.std.specs.Option.{option_or, option_and_then}
 use Rattle.sanlp.specs.Access.{read_count}
 use Rattle.sanlp.specs.declared.nest.Nest.{Nest}
@@ -24,7 +25,9 @@ use Rattle.net_core.specs.Sound.{source_tag, FitsNest}
 use Rattle.net_core.proofs.Valued.{entry_count}
 use Rattle.net_checker.specs.declared.verdict.Refusal.{Refusal}
 use Rattle.net_checker.specs.Choice.{first_from, first_below}
-use Rattle.net_checker.specs.Entries.{name_refusal, reference_refusal, entry_refusal}
+use Rattle.net_checker.specs.Entries.{entry_refusal, is_wanted, name_refusal, reference_refusal, seen_of, wanted_of}
+use Rattle.net_checker.specs.declared.verdict.Refusal.TheVariants as refusal
+use Rattle.net_core.specs.Names.{Name}
 use Rattle.net_checker.specs.Lookups.{source_in, refused_reference}
 use Rattle.std.proofs.lemmas.Bool.{cases_lt}
 use Rattle.std.proofs.lemmas.Option.{slice_get_within}
@@ -100,6 +103,12 @@ pub reference_judged : (points : List (List (List ℤ))) (table : List (List (Op
     ≡ refused_reference points table read turn slots i j (slice_get refs j)
 reference_judged points table read turn slots i refs j r is =
     ap (refused_reference points table read turn slots i j) (sym is)
+
+-- a reference that names what its read wants isn't refused
+pub reference_wanted : (points : List (List (List ℤ))) (i : ℕ) (name : Name) (source : Option Tag)
+    → is_wanted name source ≡ true → name_refusal points i name source ≡ None
+reference_wanted points i name source is =
+    ap (λ b. if b then None else Some (refusal.Tag i (seen_of points name) (wanted_of points source))) is
 
 pub reference_found : (points : List (List (List ℤ))) (table : List (List (Option Tag))) (read turn : ℕ)
     (slots : List (Option Tag)) (i : ℕ) (refs : List Ref) (j : ℕ) (r : Ref) (x : Refusal) → slice_get refs j ≡ Some r

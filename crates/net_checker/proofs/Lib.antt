@@ -1,5 +1,6 @@
 pub mod Choices
 pub mod Lists
+pub mod BlockTests
 pub mod FitsShape
 pub mod FitsSchedule
 pub mod FitsClasses
@@ -10,6 +11,7 @@ pub mod FitsNames
 pub mod Tables
 pub mod Fitting
 pub mod Found
+pub mod FittingFires
 pub mod Walk
 pub mod Judged
 pub mod Used

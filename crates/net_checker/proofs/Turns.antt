@@ -10,7 +10,7 @@ use Rattle.std.specs.Prelude.{Option, Some, None, Result, Ok, Err, slice_get, co
 use Rattle.std.specs.Cmp.{IsTotalOrder}
 use Rattle.std.specs.Cmp.Lexicographic.{slice_cmp, lists_total}
 use Rattle.std.specs.List.Sorted.{IsBinarySearchResult, IsNonDecreasingBy, IsSearchInRange}
-use Rattle.std.specs.Option.{option_map, option_map_or}
+use Rattle.std.specs.Option.{option_and_then, option_map, option_map_or}
 use Rattle.std.specs.Ordering.{int_cmp, ordering_index, ordering_reverse}
 use Rattle.std.specs.Result.{result_ok}
 use Rattle.std.specs.declared.cmp.Ordering.{Ordering}
@@ -22,6 +22,7 @@ use Rattle.sanlp.specs.declared.nest.Nest.{Nest}
 use Rattle.sanlp.specs.declared.nest.Point.{Point}
 use Rattle.sanlp.specs.declared.nest.Statement.{Statement}
 use Rattle.sanlp.specs.Laws.{entries_from}
+use Rattle.sanlp.specs.declared.nest.Tag.{Tag}
 use Rattle.sanlp.specs.Order.{IsPoint, Precedes, common_loops, loops_round_point}
 use Rattle.sanlp.specs.Points.{points_of, vectors_of}
 use Rattle.sanlp.specs.Size.{SizeIsOk}
@@ -32,12 +33,15 @@ use Rattle.sanlp.proofs.NestFacts.{trace_within}
 use Rattle.sanlp.proofs.Precedence.{IsDecided, decided, loops_found}
 use Rattle.source_tree.specs.declared.tree.Found.{Found}
 use Rattle.source_tree.specs.declared.tree.Found.TheVariants.{At}
+use Rattle.source_tree.specs.declared.tree.Tree.{Tree}
 use Rattle.source_tree.specs.Exact.{IsPointOf}
+use Rattle.source_tree.specs.Gives.{gives}
+use Rattle.source_tree.proofs.Given.{eval_gives}
 use Rattle.net_core.specs.Shape.{turns}
 use Rattle.net_core.proofs.Entries.{entry_at_turn, turn_of_entry}
 use Rattle.net_core.proofs.Valued.{turn_entry, vectors_at}
 use Rattle.source_check.proofs.Orders.{common_same}
-use Rattle.net_checker.specs.Tables.{AreInOrder}
+use Rattle.net_checker.specs.Tables.{AreInOrder, IsTagGiven}
 use Rattle.net_checker.proofs.FitsShape.{take_all}
 
 -- Order
@@ -261,3 +265,16 @@ module _ (n : Nest) (u : ℕ) (p : Point) (is : slice_get (trace n) u ≡ Some p
             (vector_at_turn n u p is),
         few_vectors n p.statement ok,
       )
+
+-- the tag of a point that is given
+pub given_tag : (n : Nest) (points : List (List (List ℤ))) (tree : Tree) (at : List ℤ) (tag : Tag)
+    → points ≡ points_of n → IsTagGiven points tree at tag → (writer : Option ℕ)
+    → IsPointOf (trace n) writer (gives tree at) → Some tag ≡ option_and_then (tag_at (trace n)) writer
+given_tag n points tree at tag whole told writer h =
+    let p : Point = record { statement = tag.process; at = told.point } in
+    let is : At p ≡ gives tree at = eval_gives {E = Unit {0}} tree at (Ok (At p)) (sym told.given) in
+    let entry = entry_found n writer (gives tree at) p is h in
+    let turn = turn_is n entry.0 p entry.2 points (get_or points tag.process []) whole refl (Some tag.turn)
+    (λ f sorted here. once (get_or points tag.process []) sorted f p.at here tag.turn told.there) in
+    ap (λ t. Some (record { process = tag.process; turn = t })) (same_Some _ _ turn)
+    ∙ tag_of_entry n entry.0 p entry.2 ∙ sym (ap (option_and_then (tag_at (trace n))) entry.1)

@@ -1,6 +1,7 @@
 pub mod Choice
 pub mod Shapes
 pub mod Firings
+pub mod FittingFires
 pub mod Entries
 pub mod Lookups
 pub mod Classes

@@ -1,14 +1,26 @@
 -- How the table of sources is made of trees.
-use Rattle.std.specs.Prelude.{◌≡◌, ◌<◌, ℕ, ℤ, Bool, true, false, List, Some, slice_get}
+use Rattle.std.specs.Prelude.{◌≡◌, ◌<◌, ℕ, ℤ, Bool, true, false, List, [], Some, slice_get, slice_index_or}
 use Rattle.std.specs.Cmp.Lexicographic.{slice_cmp}
 use Rattle.std.specs.Ordering.{int_cmp}
 use Rattle.std.specs.declared.cmp.Ordering.TheVariants.{Less}
+use Rattle.sanlp.specs.declared.nest.Tag.{Tag}
 use Rattle.source_tree.specs.declared.cert.Origin.{Origin}
 use Rattle.source_tree.specs.declared.cert.Origin.TheVariants.{Sweep, Tree}
+use Rattle.source_tree.specs.declared.tree.Found.TheVariants as found
+use Rattle.source_tree.specs.declared.tree.Tree.{Tree as SourceTree}
+use Rattle.source_tree.specs.Walk.{outcome_of}
 
 abbrev pub is_tree : Origin → Bool
 is_tree Sweep = false
 is_tree (Tree tree) = true
+
+-- the tag is that of the point which a tree gives at these loop values, among these points of each statement
+pub record IsTagGiven (points : List (List (List ℤ))) (tree : SourceTree) (at : List ℤ) (tag : Tag)
+    : Type 0 where
+  pub point : List ℤ
+  pub there : slice_get (slice_index_or points tag.process []) tag.turn ≡ Some point
+  pub given : outcome_of tree at
+      ≡ Some (found.At (record { statement = tag.process; at = point }))
 
 -- iteration vectors in lexicographic order, each once
 abbrev pub AreInOrder : List (List ℤ) → Type 0

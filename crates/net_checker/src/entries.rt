@@ -1,9 +1,10 @@
-ghost use Rattle.std.specs.Prelude.{◌≡◌, ◌<◌, ◌+◌, ◌^◌, length, slice_get, IfOk};
+ghost use Rattle.std.specs.Bool.{OnTrue};
+ghost use Rattle.std.specs.Prelude.{◌≡◌, ◌<◌, ◌+◌, ◌^◌, ℕ, ℤ, List, None, length, slice_get, true, IfOk};
 ghost use Rattle.sanlp.specs.Points.{points_of};
 ghost use Rattle.source_tree.specs.Sources.{sources_of};
 ghost use Rattle.net_core.specs.Cuts.{positions};
 ghost use Rattle.net_core.specs.Held.{held_of, run_of, IsFor};
-ghost use Rattle.net_core.specs.Machine.{net_of};
+ghost use Rattle.net_core.specs.Machine.{enabled, net_of};
 ghost use Rattle.net_core.specs.Names.{name_of, IsNamed};
 ghost use Rattle.net_core.specs.Rules.{vector_at};
 ghost use Rattle.net_core.specs.Shape.{FitsNumbers};
@@ -177,8 +178,62 @@ fn judge(
                 turn,
                 entry,
                 slots(state, process),
-                &refs,
+                refs,
             )
+        }
+    }
+}
+
+// Whether each reference of a fire names what its read wants. The first read has this number in the table.
+fn names_are_wanted(
+    table: &SourceTable,
+    first_read: usize,
+    turn: usize,
+    slots: &[Option<Tag>],
+    refs: &Refs,
+) -> bool
+    requires { first_read + length refs.now < 2 ^ 64 }
+    ensures { OnTrue result
+        ((points : List (List (List ℤ))) (entry : ℕ) → first_below
+        (λ j. refused_reference points table.now.of first_read turn slots.now entry j
+        (slice_get refs.now j)) (length refs.now) ≡ None) }
+{
+    for (read, reference) in refs.as_slice().iter().enumerate() {
+        let source = source_in(table, first_read + read, turn);
+        if !is_wanted(slots, *reference, source) {
+            return false;
+        }
+    }
+    true
+}
+
+// Whether an entry of the schedule is fine in this state. A refusal is a large value, so it is made only where one is.
+fn is_fine(
+    nest: &Nest,
+    network: &Network,
+    table: &SourceTable,
+    state: &State<Tag>,
+    process: u32,
+) -> bool
+    requires fits { FitsNest nest.now network.now }
+    requires table { table.now.of ≡ sources_of nest.now }
+    requires state { IsFor (net_of network.now) (held_of state.now) }
+    requires named { IsNamed (net_of network.now) (λ t. t) (run_of state.now) }
+    ensures enabled { OnTrue result
+        (enabled (net_of network.now) (run_of state.now) process ≡ true) }
+    ensures fine { OnTrue result
+        ((entry : ℕ) → entry_refusal nest.now (net_of network.now) (positions (run_of state.now))
+        entry process ≡ None) }
+{
+    if !enabled(state, network, process) {
+        return false;
+    }
+    match next(state, network, process) {
+        Event::Get { .. } | Event::Put { .. } => true,
+        Event::Fire { refs } => {
+            let first_read = reads_before(nest, process as usize);
+            let turn = kept(state, process).len();
+            names_are_wanted(table, first_read, turn, slots(state, process), refs)
         }
     }
 }
@@ -201,6 +256,10 @@ pub(crate) fn schedule_refusal(
 {
     let mut state = start(alloc, network, points)?;
     for (entry, process) in schedule.iter().enumerate() {
+        if is_fine(nest, network, table, &state, *process) {
+            step(&mut state, network, &Tags {}, *process);
+            continue;
+        }
         if let Some(refusal) = judge(nest, points, network, table, &state, entry as u32, *process) {
             return Ok(Some(refusal));
         }

@@ -1,32 +1,15 @@
 ghost use Rattle.std.specs.Prelude.{◌≡◌, ◌<◌, ◌^◌, length};
-ghost use Rattle.std.specs.List.{list_all};
 ghost use Rattle.sanlp.specs.Points.{points_of};
 ghost use Rattle.net_core.specs.Machine.{net_of};
-ghost use Rattle.net_core.specs.Shape.{is_fire, FitsNumbers};
-ghost use Rattle.net_checker.specs.Firings.{firing_refusal, is_within, may_stand, process_firing};
+ghost use Rattle.net_core.specs.Shape.{FitsNumbers};
+ghost use Rattle.net_checker.specs.Firings.{firing_refusal, may_stand, process_firing};
 
-use crate::parts::{reads_of, script_of, slots_of, turns_of};
+use crate::event_counts::is_fire;
+use crate::fitting_fires::{fires_fit, fits_reads};
+use crate::parts::{script_of, turns_of};
 use crate::verdict::Refusal;
-use net_core::{Event, Network, Ref, Refs};
+use net_core::{Event, Network};
 use sanlp::{Nest, Points};
-
-// Whether a reference is `Zero` or a slot that is there.
-fn is_within(slots: u32, reference: Ref) -> bool
-    ensures { result ≡ is_within slots reference }
-{
-    match reference {
-        Ref::Zero => true,
-        Ref::Slot(slot) => slot < slots,
-    }
-}
-
-fn are_within(slots: u32, refs: &Refs) -> bool
-    ensures { result ≡ list_all (is_within slots) refs.now }
-{
-    refs.as_slice()
-        .iter()
-        .all(|reference| is_within(slots, *reference))
-}
 
 // Whether an event may stand in a process's script after so many fires.
 fn may_stand(
@@ -42,23 +25,15 @@ fn may_stand(
 {
     match event {
         Event::Get { .. } => true,
-        Event::Fire { refs } => {
-            before < turns_of(points, process)
-                && refs.len() == reads_of(nest, process)
-                && are_within(slots_of(network, process), refs)
+        Event::Fire { .. } => {
+            before < turns_of(points, process) && fits_reads(nest, network, process, event)
         }
         Event::Put { .. } => before > 0,
     }
 }
 
-fn is_fire(event: &Event) -> bool
-    ensures { result ≡ is_fire event.now }
-{
-    matches!(event, Event::Fire { .. })
-}
-
-// Where the fires of a process go wrong, if they do.
-fn process_firing(nest: &Nest, points: &Points, network: &Network, process: u32) -> Option<Refusal>
+// Where the fires of a process go wrong, if they do, found event by event.
+fn first_misfire(nest: &Nest, points: &Points, network: &Network, process: u32) -> Option<Refusal>
     requires points { points.now.of ≡ points_of nest.now }
     requires process { process < length network.now.processes }
     requires short { length ((net_of network.now).script process) < 2 ^ 32 }
@@ -79,6 +54,19 @@ fn process_firing(nest: &Nest, points: &Points, network: &Network, process: u32)
         return Some(Refusal::Fires(process, place));
     }
     None
+}
+
+// Where the fires of a process go wrong, if they do. Where its blocks tell that they don't, no place is sought.
+fn process_firing(nest: &Nest, points: &Points, network: &Network, process: u32) -> Option<Refusal>
+    requires points { points.now.of ≡ points_of nest.now }
+    requires process { process < length network.now.processes }
+    requires short { length ((net_of network.now).script process) < 2 ^ 32 }
+    ensures { result ≡ process_firing nest.now (net_of network.now) process }
+{
+    if fires_fit(nest, points, network, process) {
+        return None;
+    }
+    first_misfire(nest, points, network, process)
 }
 
 // The least process whose fires go wrong, and where, if there is one.

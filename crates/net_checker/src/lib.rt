@@ -4,7 +4,9 @@
 mod checker;
 mod classes;
 mod entries;
+mod event_counts;
 mod firings;
+mod fitting_fires;
 mod laws;
 mod parts;
 mod shapes;

@@ -1,14 +1,15 @@
-ghost use Rattle.std.specs.Prelude.{◌≡◌, ◌<◌, ◌^◌, length, count_by};
+ghost use Rattle.std.specs.Prelude.{◌≡◌, ◌<◌, ◌^◌, length};
 ghost use Rattle.std.specs.List.{list_all};
 ghost use Rattle.net_core.specs.Machine.{net_of};
-ghost use Rattle.net_core.specs.Shape.{is_any_get};
+ghost use Rattle.script_blocks.specs.Expansion.{part_expansion, parts_expansion};
 ghost use Rattle.net_checker.specs.Shapes.{agrees, channel_agrees, is_own_event, keeps_shape, shape_refusal};
 
+use crate::event_counts::get_count;
 use crate::parts::{read_total, reads_of, script_of, slots_of};
 use crate::verdict::Refusal;
 use net_core::{Channel, Event, Network};
 use sanlp::Nest;
-use script_blocks::Script;
+use script_blocks::{BlockPart, Script};
 use source_tree::Cert;
 
 // Whether a channel's ends are statements, and its read one of its reader's.
@@ -53,27 +54,41 @@ fn is_own_event(network: &Network, process: u32, event: &Event) -> bool
     }
 }
 
-fn events_are_own(network: &Network, process: u32, script: &Script<Event>) -> bool
-    ensures { result ≡ list_all (is_own_event (net_of network.now) process) script.now }
+// Whether all events for which these parts stand are the process's own.
+#[cycle(own)]
+fn parts_are_own(network: &Network, process: u32, parts: &[BlockPart<Event>]) -> bool
+    ensures { result
+        ≡ list_all (is_own_event (net_of network.now) process) (parts_expansion parts.now) }
 {
-    for event in script.iter() {
-        if !is_own_event(network, process, &event) {
+    for part in parts {
+        if !part_is_own(network, process, part) {
             return false;
         }
     }
     true
 }
 
-fn is_get(event: &Event) -> bool
-    ensures { result ≡ is_any_get event.now }
+// A repeat that stands for nothing has no event of another.
+#[cycle(own)]
+fn part_is_own(network: &Network, process: u32, part: &BlockPart<Event>) -> bool
+    ensures { result
+        ≡ list_all (is_own_event (net_of network.now) process) (part_expansion part.now) }
 {
-    matches!(event, Event::Get { .. })
+    match part {
+        BlockPart::Item(event) => is_own_event(network, process, event),
+        BlockPart::Repeat(count, body) => {
+            if *count == 0 {
+                return true;
+            }
+            parts_are_own(network, process, body.parts.as_slice())
+        }
+    }
 }
 
-fn get_count(script: &Script<Event>) -> usize
-    ensures { result ≡ count_by is_any_get script.now }
+fn events_are_own(network: &Network, process: u32, script: &Script<Event>) -> bool
+    ensures { result ≡ list_all (is_own_event (net_of network.now) process) script.now }
 {
-    script.iter().filter(|event| is_get(event)).count()
+    parts_are_own(network, process, script.blocks().parts.as_slice())
 }
 
 // Whether all events are the process's own, and it has no more slots than Gets.

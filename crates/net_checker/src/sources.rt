@@ -1,6 +1,6 @@
-ghost use Rattle.std.specs.Prelude.{◌≡◌, ◌<◌, ◌≤◌, ◌*◌, ◌++◌, ℕ, [], ◌∷◌, Option, None, Some, length, map, slice_get, slice_index_or, true, IsTrue, IfOk};
+ghost use Rattle.std.specs.Prelude.{◌≡◌, ◌<◌, ◌≤◌, ◌*◌, ◌++◌, ℕ, [], ◌∷◌, Option, None, Some, length, map, slice_get, slice_index_or, true, IsTrue, IfOk, IfSome};
 ghost use Rattle.std.specs.List.{list_all, range_with_len};
-ghost use Rattle.std.specs.Option.{option_and_then};
+ghost use Rattle.std.specs.Option.{option_and_then, option_copied};
 ghost use Rattle.sanlp.specs.Access.{read_count};
 ghost use Rattle.sanlp.specs.Points.{points_of};
 ghost use Rattle.sanlp.specs.Size.{SizeIsOk};
@@ -12,7 +12,9 @@ ghost use Rattle.source_tree.specs.Sources.{read_number, read_sources, sources_o
 ghost use Rattle.source_tree.specs.Systems.{read_at};
 ghost use Rattle.net_checker.specs.Shapes.{read_total};
 ghost use Rattle.net_checker.specs.Sources.{first_overflow, origin_refusal, reads_refusal, source_refusal, tree_refusal};
-ghost use Rattle.net_checker.specs.Tables.{is_tree, AreInOrder};
+ghost use Rattle.net_checker.specs.Tables.{is_tree, AreInOrder, IsTagGiven};
+ghost use Rattle.source_tree.specs.declared.tree.Tree.{Tree};
+ghost use Rattle.tree_eval.specs.Stretches.{IsStretchOf};
 
 use crate::parts::{reads_before, reads_of, turns_of};
 use crate::verdict::Refusal;
@@ -23,7 +25,7 @@ use shadow_sweep::sweep;
 use source_check::{Rule, TreeVerdict, check_tree};
 use source_tree::{Cert, Found, Origin, SourceTable, Tree};
 use std::alloc::{AllocError, Global};
-use tree_eval::eval_narrow;
+use tree_eval::Follower;
 
 // The iteration vectors of a statement.
 fn vectors_of(points: &Points, statement: u32) -> &[Vector]
@@ -54,9 +56,10 @@ fn turn_of(vectors: &[Vector], at: &Vector, guess: usize) -> Option<usize>
     vectors.binary_search(at).ok()
 }
 
-// The turn that was found last, and how far it is from the one before. Nothing rests on them.
+// The turn that was found last, of which statement, and how far it is from the one before. Nothing rests on them.
 #[derive(Drop)]
 struct Steps {
+    statement: u32,
     last: usize,
     step: usize,
 }
@@ -67,7 +70,8 @@ impl Steps {
         self.last.wrapping_add(self.step)
     }
 
-    fn note(&mut self, turn: usize) {
+    fn note(&mut self, statement: u32, turn: usize) {
+        self.statement = statement;
         self.step = turn.wrapping_sub(self.last);
         self.last = turn;
     }
@@ -85,13 +89,44 @@ fn tag_of(nest: &Nest, points: &Points, found: &Found, steps: &mut Steps) -> Opt
         Found::At(point) => {
             let vectors = vectors_of(points, point.statement);
             let turn = turn_of(vectors, &point.at, steps.guess())?;
-            steps.note(turn);
+            steps.note(point.statement, turn);
             Some(Tag {
                 process: point.statement,
                 turn: turn as u32,
             })
         }
         Found::Zero | Found::Dead => None,
+    }
+}
+
+// The iteration vector of a statement's turn, if there is one.
+#[tactic(auto, using(crate::proofs::Lists::default_where_none))]
+fn vector_of_turn(points: &Points, statement: u32, turn: u32) -> Option<&Vector>
+    ensures { option_copied result
+        ≡ slice_get (slice_index_or points.now.of statement []) turn }
+{
+    match points.of.get(statement as usize) {
+        Some(vectors) => vectors.get(turn as usize),
+        None => None,
+    }
+}
+
+// The tag of the point at the turn that comes if the turns go on by equal steps, where it is known that a tree gives it.
+fn guessed_tag(points: &Points, follower: &Follower, at: &Vector, steps: &Steps) -> Option<Tag>
+    requires { (tree : Tree) × IsStretchOf tree follower.now }
+    ensures { IfSome result
+        (λ tag. (tree : Tree) → IsStretchOf tree follower.now
+        → IsTagGiven points.now.of tree at.now tag) }
+{
+    let turn = u32::try_from(steps.guess()).ok()?;
+    let there = vector_of_turn(points, steps.statement, turn)?;
+    if follower.tells(at, steps.statement, there.as_slice()) {
+        Some(Tag {
+            process: steps.statement,
+            turn,
+        })
+    } else {
+        None
     }
 }
 
@@ -116,9 +151,19 @@ fn add_sources(
         → sources.new ≡ read_sources nest.now (trace nest.now) statement k) }
 {
     let vectors = vectors_of(points, statement);
-    let mut steps = Steps { last: 0, step: 0 };
+    let mut follower = Follower::new();
+    let mut steps = Steps {
+        statement: 0,
+        last: 0,
+        step: 0,
+    };
     for (turn, at) in vectors.iter().enumerate() {
-        match eval_narrow(tree, at) {
+        if let Some(tag) = guessed_tag(points, &follower, at, &steps) {
+            steps.note(tag.process, tag.turn as usize);
+            sources.push(Some(tag))?;
+            continue;
+        }
+        match follower.eval(tree, at) {
             Ok(found) => sources.push(tag_of(nest, points, &found, &mut steps))?,
             Err(_) => return Ok(Some(Rule::Overflow(turn as u32))),
         }

@@ -9,6 +9,7 @@ pub mod Naming
 pub mod LastOf
 pub mod Ready
 pub mod PutCounts
+pub mod BlockCounts
 pub mod Entries
 pub mod Valued
 pub mod Fresh

@@ -1,4 +1,5 @@
 ghost use Rattle.std.specs.Prelude.{◌≡◌, ◌<◌, ◌+◌, ◌^◌, ℕ, [], ◌∷◌, length, All, Some, true, IsTrue, ◌↔◌, IfSome, IfNone};
+ghost use Rattle.std.specs.Option.{option_copied};
 ghost use Rattle.net_core.specs.Machine.{Rule, net_of, last_of, next, enabled, step, after_event, HasEnded};
 ghost use Rattle.net_core.specs.Shape.{IsWithin};
 ghost use Rattle.net_core.specs.Rooms.{store_past_event, store_with_token, store_with_value};
@@ -119,9 +120,9 @@ impl<T: Copy> State<T> {
 }
 
 // The next event of a process, if it has one.
-fn upcoming<T: Copy>(state: &State<T>, network: &Network, process: u32) -> Option<Event>
+fn upcoming<'a, T: Copy>(state: &'a State<T>, network: &Network, process: u32) -> Option<&'a Event>
     requires { IsFor (net_of network.now) (held_of state.now) }
-    ensures { result ≡ next (net_of network.now) (run_of state.now) process }
+    ensures { option_copied result ≡ next (net_of network.now) (run_of state.now) process }
 {
     let _ = network;
     match state.locals.get(process as usize) {
@@ -138,14 +139,14 @@ pub fn enabled<T: Copy>(state: &State<T>, network: &Network, process: u32) -> bo
 {
     match upcoming(state, network, process) {
         None => false,
-        Some(Event::Get { channel, .. }) => match state.queues.get(channel as usize) {
+        Some(Event::Get { channel, .. }) => match state.queues.get(*channel as usize) {
             None => false,
             Some(queue) => queue.len() > 0,
         },
         Some(Event::Fire { .. }) => true,
         Some(Event::Put { channel }) => match (
-            state.queues.get(channel as usize),
-            network.channels.get(channel as usize),
+            state.queues.get(*channel as usize),
+            network.channels.get(*channel as usize),
         ) {
             (Some(queue), Some(channel)) => queue.len() < channel.capacity as usize,
             _ => false,
@@ -154,10 +155,10 @@ pub fn enabled<T: Copy>(state: &State<T>, network: &Network, process: u32) -> bo
 }
 
 /// The next event of an enabled process. It takes no memory.
-pub fn next<T: Copy>(state: &State<T>, network: &Network, process: u32) -> Event
+pub fn next<'a, T: Copy>(state: &'a State<T>, network: &Network, process: u32) -> &'a Event
     requires state { IsFor (net_of network.now) (held_of state.now) }
     requires enabled { enabled (net_of network.now) (run_of state.now) process ≡ true }
-    ensures { next (net_of network.now) (run_of state.now) process ≡ Some result }
+    ensures { next (net_of network.now) (run_of state.now) process ≡ Some result.now }
 {
     match upcoming(state, network, process) {
         Some(event) => event,
@@ -175,7 +176,7 @@ pub fn step<T: Copy, F: Firing<T>>(state: &mut State<T>, network: &Network, rule
     ensures state { IsFor (net_of network.now) (held_of state.new) }
 {
     let at = process as usize;
-    match next(state, network, process) {
+    match *next(state, network, process) {
         Event::Get { channel, slot } => state.get(at, channel as usize, slot as usize),
         Event::Fire { refs } => state.fire(rule, process, &refs),
         Event::Put { channel } => state.put(at, channel as usize),

@@ -1,13 +1,14 @@
-ghost use Rattle.std.specs.Prelude.{◌≡◌, ◌<◌, ◌≤◌, ◌+◌, ◌^◌, ℕ, length, slice_index, count_by, IfOk, slice_get, Some};
+ghost use Rattle.std.specs.Prelude.{◌≡◌, ◌<◌, ◌≤◌, ◌+◌, ◌*◌, ◌^◌, ℕ, [], ◌∷◌, length, slice_index, count_by, IfOk, slice_get, Some};
 ghost use Rattle.net_core.specs.Machine.{net_of, start};
 ghost use Rattle.net_core.specs.Shape.{is_put, put_count, IsWired, IsShaped, FitsNumbers};
+ghost use Rattle.script_blocks.specs.Expansion.{part_expansion, parts_expansion};
 ghost use Rattle.net_core.specs.Held.{held_of, run_of, IsFor, AreFresh, AreEmpty};
 
 use crate::machine::{Local, State};
 use crate::network::{Event, Network};
 use crate::room::Room;
 use sanlp::Points;
-use script_blocks::Script;
+use script_blocks::{BlockPart, Script};
 use std::alloc::{AllocError, Global};
 use std::collections::VecDeque;
 
@@ -46,6 +47,60 @@ fn fresh_locals<T: Copy>(
     Ok(locals)
 }
 
+// Adds so many to the count of the channel to which an event puts, if it is a Put.
+fn count_put(event: &Event, times: u32, counts: &mut [u32])
+    requires channels { (c : ℕ) → 0 < count_by (is_put c) (event.now ∷ []) → c < length counts.old }
+    requires room { (c : ℕ) → c < length counts.old
+        → slice_index counts.old c + times * count_by (is_put c) (event.now ∷ []) < 2 ^ 32 }
+    ensures { (c : ℕ) → c < length counts.old
+        → slice_index counts.new c
+        ≡ slice_index counts.old c + times * count_by (is_put c) (event.now ∷ []) }
+{
+    if let Event::Put { channel } = event {
+        counts[*channel as usize] += times;
+    }
+}
+
+// Adds to each channel's count how often so many copies of these parts put to it. All channels are counted in one walk.
+#[cycle(puts)]
+fn count_puts_of_parts(parts: &[BlockPart<Event>], times: u32, counts: &mut [u32])
+    requires channels { (c : ℕ) → 0 < count_by (is_put c) (parts_expansion parts.now)
+        → c < length counts.old }
+    requires room { (c : ℕ) → c < length counts.old
+        → slice_index counts.old c + times * count_by (is_put c) (parts_expansion parts.now)
+        < 2 ^ 32 }
+    ensures { (c : ℕ) → c < length counts.old
+        → slice_index counts.new c
+        ≡ slice_index counts.old c + times * count_by (is_put c) (parts_expansion parts.now) }
+{
+    for part in parts {
+        count_puts_of_part(part, times, counts);
+    }
+}
+
+// Only a body without Puts may have copies past the greatest number, so it doesn't matter that they are cut off there.
+#[cycle(puts)]
+fn count_puts_of_part(part: &BlockPart<Event>, times: u32, counts: &mut [u32])
+    requires channels { (c : ℕ) → 0 < count_by (is_put c) (part_expansion part.now)
+        → c < length counts.old }
+    requires room { (c : ℕ) → c < length counts.old
+        → slice_index counts.old c + times * count_by (is_put c) (part_expansion part.now)
+        < 2 ^ 32 }
+    ensures { (c : ℕ) → c < length counts.old
+        → slice_index counts.new c
+        ≡ slice_index counts.old c + times * count_by (is_put c) (part_expansion part.now) }
+{
+    match part {
+        BlockPart::Item(event) => count_put(event, times, counts),
+        BlockPart::Repeat(count, body) => {
+            if *count == 0 {
+                return;
+            }
+            count_puts_of_parts(body.parts.as_slice(), times.saturating_mul(*count), counts);
+        }
+    }
+}
+
 // Adds to each channel's count how often a script puts to it.
 fn count_puts(script: &Script<Event>, counts: &mut [u32])
     requires channels { (k c : ℕ) → slice_get script.now k ≡ Some (Event.Put c)
@@ -55,11 +110,7 @@ fn count_puts(script: &Script<Event>, counts: &mut [u32])
     ensures { (c : ℕ) → c < length counts.old
         → slice_index counts.new c ≡ slice_index counts.old c + count_by (is_put c) script.now }
 {
-    for event in script.iter() {
-        if let Event::Put { channel } = event {
-            counts[channel as usize] += 1;
-        }
-    }
+    count_puts_of_parts(script.blocks().parts.as_slice(), 1, counts);
 }
 
 // How many Puts each channel has.

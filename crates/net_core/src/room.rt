@@ -1,4 +1,5 @@
 ghost use Rattle.std.specs.Prelude.{◌≡◌, ◌<◌, [], ◌∷◌, length, slice_get, Some, IfOk};
+ghost use Rattle.std.specs.Option.{option_copied};
 ghost use Rattle.net_core.specs.Machine.{last_of, net_of};
 ghost use Rattle.net_core.specs.Shape.{IsShaped};
 ghost use Rattle.net_core.specs.Rooms.{fresh_store, store_past_event, store_with_token, store_with_value};
@@ -50,8 +51,8 @@ impl<T: Copy> Room<T> {
     }
 
     /// The next event of the script, or `None` at its end. It takes no memory.
-    pub fn upcoming(&self) -> Option<Event>
-        ensures { result ≡ slice_get self.now.left 0 }
+    pub fn upcoming(&self) -> Option<&Event>
+        ensures { option_copied result ≡ slice_get self.now.left 0 }
     {
         self.script.peek()
     }

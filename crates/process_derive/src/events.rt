@@ -42,7 +42,7 @@ fn push_event(event: Event, events: &mut ScriptBuilder<Event>) -> Result<(), All
     ensures { OnOk result (events.new ≡ events.old ++ event ∷ []) }
 {
     equal_is_same();
-    events.push_with_key(key_of(&event), event)
+    events.push_with_key(key_of(&event), &event)
 }
 
 // The number at a place, 0 past the end.

@@ -1,4 +1,5 @@
 ghost use Rattle.std.specs.Prelude.{◌≡◌, ◌<◌, ◌≤◌, [], ◌∷◌, ◌++◌, length, slice_get};
+ghost use Rattle.std.specs.Option.{option_copied};
 
 use std::marker::Model;
 
@@ -46,11 +47,11 @@ impl<T: Copy> Batch<T> {
     }
 
     /// The item at a place, or `None` past the last.
-    pub(crate) fn get(&self, place: usize) -> Option<T>
-        ensures { result ≡ slice_get self.now place }
+    pub(crate) fn get(&self, place: usize) -> Option<&T>
+        ensures { option_copied result ≡ slice_get self.now place }
     {
         if place < self.len {
-            self.items[place]
+            self.items[place].as_ref()
         } else {
             None
         }

@@ -68,14 +68,14 @@ impl<T: Copy + Eq> ScriptBuilder<T> {
         ensures ok { OnOk result (self.new ≡ self.old ++ item ∷ []) }
         ensures err { OnErr result (self.new ≡ self.old) }
     {
-        self.push_with_key(0, item)
+        self.push_with_key(0, &item)
     }
 
     /// Adds an item, as `push` does. Its kind is sought among those with this key: it is soon found where items have the
     /// same key exactly if they are the same, and nothing else depends on the key.
-    pub fn push_with_key(&mut self, key: u32, item: T) -> Result<(), AllocError>
+    pub fn push_with_key(&mut self, key: u32, item: &T) -> Result<(), AllocError>
         requires same { (a b : T) → T.eq a b ≡ true → a ≡ b }
-        ensures ok { OnOk result (self.new ≡ self.old ++ item ∷ []) }
+        ensures ok { OnOk result (self.new ≡ self.old ++ item.now ∷ []) }
         ensures err { OnErr result (self.new ≡ self.old) }
     {
         let kind = kind_of(&mut self.finder, &mut self.kinds, key, item)?;

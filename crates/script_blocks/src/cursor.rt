@@ -1,4 +1,5 @@
 ghost use Rattle.std.specs.Prelude.{◌≡◌, ◌+◌, ◌<◌, ◌≤◌, [], ◌∷◌, ◌++◌, drop, length, slice_get, false, true, MatchOption, IsTrue, OnOk, vec_len};
+ghost use Rattle.std.specs.Option.{option_copied};
 ghost use Rattle.script_blocks.specs.Expansion.{part_expansion, parts_expansion, repeated};
 ghost use Rattle.script_blocks.specs.Nesting.{part_nesting, parts_nesting};
 ghost use Rattle.script_blocks.specs.Places.{left, left_of_part, left_of_parts, left_of_repeat, left_of_turns};
@@ -312,8 +313,8 @@ fn fill_of_new_turns<T: Copy>(
 // The first item of these parts.
 #[cycle(first)]
 #[tactic(auto, using(crate::proofs::Firsts::firsts))]
-fn first_in<T: Copy>(parts: &[BlockPart<T>]) -> Option<T>
-    ensures { result ≡ slice_get (parts_expansion parts.now) 0 }
+fn first_in<T>(parts: &[BlockPart<T>]) -> Option<&T>
+    ensures { option_copied result ≡ slice_get (parts_expansion parts.now) 0 }
 {
     for part in parts {
         let item = first_of_part(part);
@@ -326,11 +327,11 @@ fn first_in<T: Copy>(parts: &[BlockPart<T>]) -> Option<T>
 
 #[cycle(first)]
 #[tactic(auto, using(crate::proofs::Firsts::firsts))]
-fn first_of_part<T: Copy>(part: &BlockPart<T>) -> Option<T>
-    ensures { result ≡ slice_get (part_expansion part.now) 0 }
+fn first_of_part<T>(part: &BlockPart<T>) -> Option<&T>
+    ensures { option_copied result ≡ slice_get (part_expansion part.now) 0 }
 {
     match part {
-        BlockPart::Item(item) => Some(*item),
+        BlockPart::Item(item) => Some(item),
         BlockPart::Repeat(count, body) => {
             if *count == 0 {
                 None
@@ -344,8 +345,8 @@ fn first_of_part<T: Copy>(part: &BlockPart<T>) -> Option<T>
 /// The next item of these parts, where the frames stay as they are.
 #[cycle(peek)]
 #[tactic(auto, using(crate::proofs::Walks::peeks))]
-pub(crate) fn peek_in<T: Copy>(parts: &[BlockPart<T>], frames: &[Frame]) -> Option<T>
-    ensures { result ≡ slice_get (left frames.now parts.now) 0 }
+pub(crate) fn peek_in<'a, T>(parts: &'a [BlockPart<T>], frames: &[Frame]) -> Option<&'a T>
+    ensures { option_copied result ≡ slice_get (left frames.now parts.now) 0 }
 {
     let (frame, deeper) = frames.split_first()?;
     if frame.part >= parts.len() {
@@ -360,8 +361,8 @@ pub(crate) fn peek_in<T: Copy>(parts: &[BlockPart<T>], frames: &[Frame]) -> Opti
 
 #[cycle(peek)]
 #[tactic(auto, using(crate::proofs::Walks::peeks))]
-fn peek_of_part<T: Copy>(part: &BlockPart<T>, frame: &Frame, deeper: &[Frame]) -> Option<T>
-    ensures { result ≡ slice_get (left_of_part frame.now (left deeper.now) part.now) 0 }
+fn peek_of_part<'a, T>(part: &'a BlockPart<T>, frame: &Frame, deeper: &[Frame]) -> Option<&'a T>
+    ensures { option_copied result ≡ slice_get (left_of_part frame.now (left deeper.now) part.now) 0 }
 {
     if !frame.inside {
         return first_of_part(part);
@@ -374,8 +375,8 @@ fn peek_of_part<T: Copy>(part: &BlockPart<T>, frame: &Frame, deeper: &[Frame]) -
 
 #[cycle(peek)]
 #[tactic(auto, using(crate::proofs::Walks::peeks))]
-fn peek_of_turns<T: Copy>(body: &[BlockPart<T>], frame: &Frame, deeper: &[Frame]) -> Option<T>
-    ensures { result ≡ slice_get (left_of_turns frame.now (left deeper.now) body.now) 0 }
+fn peek_of_turns<'a, T>(body: &'a [BlockPart<T>], frame: &Frame, deeper: &[Frame]) -> Option<&'a T>
+    ensures { option_copied result ≡ slice_get (left_of_turns frame.now (left deeper.now) body.now) 0 }
 {
     let item = peek_in(body, deeper);
     if item.is_some() || frame.later == 0 {
@@ -428,6 +429,7 @@ pub struct Cursor {
 }
 
 impl Cursor {
+    ghost use Rattle.std.specs.Option.{option_copied};
     ghost use Rattle.std.specs.Prelude.{◌≡◌, [], ◌∷◌, slice_get, IfOk, MatchOption};
     ghost use Rattle.script_blocks.specs.Expansion.{expansion};
     ghost use Rattle.script_blocks.specs.Cursors.{HasFramesFor, rest};
@@ -459,8 +461,8 @@ impl Cursor {
 
     /// The item that `next` would give, where the cursor stays as it is. It takes no memory.
     #[tactic(auto, unfolding(crate::specs::Cursors::rest))]
-    pub fn peek<T: Copy>(&self, blocks: &Blocks<T>) -> Option<T>
-        ensures { result ≡ slice_get (rest blocks.now self.now) 0 }
+    pub fn peek<'a, T>(&self, blocks: &'a Blocks<T>) -> Option<&'a T>
+        ensures { option_copied result ≡ slice_get (rest blocks.now self.now) 0 }
     {
         peek_in(blocks.parts.as_slice(), self.frames.as_slice())
     }

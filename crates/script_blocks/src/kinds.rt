@@ -70,20 +70,20 @@ impl Finder {
 }
 
 // Whether the item is of this kind.
-fn is_kind<T: Copy + Eq>(kinds: &[T], kind: u32, item: T) -> bool
+fn is_kind<T: Copy + Eq>(kinds: &[T], kind: u32, item: &T) -> bool
     requires { (a b : T) → T.eq a b ≡ true → a ≡ b }
-    ensures { OnTrue result (slice_get kinds.now kind ≡ Some item) }
+    ensures { OnTrue result (slice_get kinds.now kind ≡ Some item.now) }
 {
     match kinds.get(kind as usize) {
-        Some(known) => *known == item,
+        Some(known) => known == item,
         None => false,
     }
 }
 
 // The item's kind, if it is found.
-fn find_kind<T: Copy + Eq>(finder: &mut Finder, kinds: &[T], key: u32, item: T) -> Option<u32>
+fn find_kind<T: Copy + Eq>(finder: &mut Finder, kinds: &[T], key: u32, item: &T) -> Option<u32>
     requires { (a b : T) → T.eq a b ≡ true → a ≡ b }
-    ensures { IfSome result (λ kind. slice_get kinds.now kind ≡ Some item) }
+    ensures { IfSome result (λ kind. slice_get kinds.now kind ≡ Some item.now) }
 {
     let guess = finder.guess();
     if is_kind(kinds, guess, item) {
@@ -93,9 +93,9 @@ fn find_kind<T: Copy + Eq>(finder: &mut Finder, kinds: &[T], key: u32, item: T) 
 }
 
 // The item's kind, if it is found among those whose keys have the same hash.
-fn look_for<T: Copy + Eq>(finder: &mut Finder, kinds: &[T], key: u32, item: T) -> Option<u32>
+fn look_for<T: Copy + Eq>(finder: &mut Finder, kinds: &[T], key: u32, item: &T) -> Option<u32>
     requires { (a b : T) → T.eq a b ≡ true → a ≡ b }
-    ensures { IfSome result (λ kind. slice_get kinds.now kind ≡ Some item) }
+    ensures { IfSome result (λ kind. slice_get kinds.now kind ≡ Some item.now) }
 {
     let mut candidate = finder.chains.latest(mixed(0, key));
     for looks in 0..finder.looks.max(FEWEST) {
@@ -118,9 +118,9 @@ fn add_kind<T: Copy>(
     finder: &mut Finder,
     kinds: &mut Vec<T>,
     key: u32,
-    item: T,
+    item: &T,
 ) -> Result<u32, AllocError>
-    ensures kind { IfOk result (λ kind. slice_get kinds.new.items kind ≡ Some item) }
+    ensures kind { IfOk result (λ kind. slice_get kinds.new.items kind ≡ Some item.now) }
     ensures front { take (length kinds.old.items) kinds.new.items ≡ kinds.old.items }
 {
     let Ok(kind) = u32::try_from(kinds.len()) else {
@@ -128,7 +128,7 @@ fn add_kind<T: Copy>(
     };
     let alloc = *kinds.allocator();
     finder.add(alloc, key)?;
-    kinds.push(item)?;
+    kinds.push(*item)?;
     Ok(kind)
 }
 
@@ -137,10 +137,10 @@ pub(crate) fn kind_of<T: Copy + Eq>(
     finder: &mut Finder,
     kinds: &mut Vec<T>,
     key: u32,
-    item: T,
+    item: &T,
 ) -> Result<u32, AllocError>
     requires { (a b : T) → T.eq a b ≡ true → a ≡ b }
-    ensures kind { IfOk result (λ kind. slice_get kinds.new.items kind ≡ Some item) }
+    ensures kind { IfOk result (λ kind. slice_get kinds.new.items kind ≡ Some item.now) }
     ensures front { take (length kinds.old.items) kinds.new.items ≡ kinds.old.items }
 {
     match find_kind(finder, kinds.as_slice(), key, item) {

@@ -1,4 +1,5 @@
 ghost use Rattle.std.specs.Prelude.{◌≡◌, ◌≤◌, [], ◌∷◌, slice_get, None, MatchOption};
+ghost use Rattle.std.specs.Option.{option_copied};
 ghost use Rattle.script_blocks.specs.Expansion.{parts_expansion};
 ghost use Rattle.script_blocks.specs.Nesting.{parts_nesting};
 ghost use Rattle.script_blocks.specs.Scripts.{items_left};
@@ -34,8 +35,8 @@ impl<T: Copy> Place<T> {
     }
 
     /// The item that `next` would give, or `None` where there is no more.
-    pub(crate) fn peek(&self, parts: &[BlockPart<T>]) -> Option<T>
-        ensures { result ≡ slice_get (items_left self.now parts.now) 0 }
+    pub(crate) fn peek<'a>(&'a self, parts: &'a [BlockPart<T>]) -> Option<&'a T>
+        ensures { option_copied result ≡ slice_get (items_left self.now parts.now) 0 }
     {
         let item = self.batch.get(self.given);
         if item.is_some() {
@@ -70,7 +71,7 @@ impl<T: Copy> Place<T> {
             (λ item. items_left self.old parts.now ≡ item ∷ items_left self.new parts.now) }
     {
         self.prepare(parts);
-        let item = self.batch.get(self.given)?;
+        let item = self.batch.get(self.given).copied()?;
         self.given += 1;
         Some(item)
     }

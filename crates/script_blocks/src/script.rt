@@ -1,5 +1,6 @@
 //! Lists kept as blocks, which contracts see as what they stand for.
 ghost use Rattle.std.specs.Prelude.{◌≡◌, ◌<◌, ◌≤◌, ◌^◌, ◌↔◌, [], ◌∷◌, length, slice_get, true, IfOk, IsTrue, MatchOption};
+ghost use Rattle.std.specs.Option.{option_copied};
 ghost use Rattle.std.specs.Iterator.{YieldsFirst, item_count};
 ghost use Rattle.script_blocks.specs.Expansion.{expansion, parts_expansion};
 ghost use Rattle.script_blocks.specs.Nesting.{is_proper, nesting, parts_nesting};
@@ -156,8 +157,8 @@ impl<'a, T: Copy> ScriptItems<'a, T> {
     }
 
     /// The item that `next` would give, or `None` where there is no more. It takes no memory.
-    pub fn peek(&self) -> Option<T>
-        ensures { result ≡ slice_get self.now 0 }
+    pub fn peek(&self) -> Option<&T>
+        ensures { option_copied result ≡ slice_get self.now 0 }
     {
         self.place.peek(self.parts)
     }
@@ -209,8 +210,8 @@ impl<T: Copy> ScriptCursor<T> {
     }
 
     /// The item that `next` would give, or `None` where there is no more. It takes no memory.
-    pub fn peek(&self) -> Option<T>
-        ensures { result ≡ slice_get self.now 0 }
+    pub fn peek(&self) -> Option<&T>
+        ensures { option_copied result ≡ slice_get self.now 0 }
     {
         self.place.peek(self.blocks.parts.as_slice())
     }

@@ -58,7 +58,7 @@ impl Progress {
             (cut_after opening self.now.schedule process) }
     {
         let _ = network;
-        self.cursors[process as usize].peek()
+        self.cursors[process as usize].peek().copied()
     }
 
     // Whether a process's next event could come if no channel were ever full.

@@ -1,4 +1,5 @@
 use Rattle.std.proofs.Common.{sym, ◌∙◌, arith, add-one}
+use Rattle.std.proofs.lemmas.Bool.{OnTrue_at}
 use Rattle.std.proofs.lemmas.Option.{slice_get-get_or}
 use Rattle.net_core.specs.Held.{held_of}
 use Rattle.net_core.specs.Machine.{net_of}
@@ -29,9 +30,17 @@ pub loop-entry-preserved : goal.loop-entry-preserved
 loop-entry-preserved c =
     rw (add-one)
     (walked_more c.args.nest.now (net_of c.args.network.now) c.args.schedule.now (held_of c.loop-entry.state)
+    (held_of c.step-in-loop-entry.new.state) c.loop-entry.entry _ c.loop-entry.invariant
+    (slice_get-get_or c.args.schedule.now c.loop-entry.entry 0 (omega arith))
+    (sym c.judge.ensures ∙ c.in_default.is) c.step-in-loop-entry.ensures.run c.step-in-loop-entry.ensures.state)
+
+pub loop-entry-preserved-then-is_fine : goal.loop-entry-preserved-then-is_fine
+loop-entry-preserved-then-is_fine c =
+    rw (add-one)
+    (walked_more c.args.nest.now (net_of c.args.network.now) c.args.schedule.now (held_of c.loop-entry.state)
     (held_of c.step.new.state) c.loop-entry.entry _ c.loop-entry.invariant
     (slice_get-get_or c.args.schedule.now c.loop-entry.entry 0 (omega arith))
-    (sym c.judge.ensures ∙ c.in_default.is) c.step.ensures.run c.step.ensures.state)
+    (OnTrue_at c.if-is_fine.true c.is_fine.ensures.fine c.loop-entry.entry) c.step.ensures.run c.step.ensures.state)
 
 pub returns-in-Some-unended : goal.returns-in-Some-unended
 returns-in-Some-unended c =

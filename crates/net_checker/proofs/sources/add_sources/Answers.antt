@@ -11,7 +11,7 @@ use Rattle.source_tree.specs.Exact.{IsPointOf}
 use Rattle.net_checker.proofs.Choices.{first_none}
 use Rattle.net_checker.proofs.Ready.{ready_at}
 use Rattle.net_checker.proofs.Tables.{given_at, row_more, row_whole}
-use Rattle.net_checker.proofs.Turns.{few_vectors}
+use Rattle.net_checker.proofs.Turns.{few_vectors, given_tag}
 use Rattle.net_checker.proofs.Usable.{at_vector, overflow_found, overflow_passed}
 use Rattle.net_checker.proofs.sources.add_sources.Goals as goal
 
@@ -29,8 +29,8 @@ pub vectors_of-vectors-requires : goal.vectors_of-vectors-requires
 vectors_of-vectors-requires c =
     omega (arith, c.requires.statement, points_length c.args.nest.now, ap length c.requires.points)
 
-pub eval_narrow-requires : goal.eval_narrow-requires
-eval_narrow-requires c =
+pub eval-requires-clause-ready : goal.eval-requires-clause-ready
+eval-requires-clause-ready c =
     let n = c.args.nest.now in
     let s = c.args.statement in
     let items = c.vectors_of-vectors.result.now in
@@ -92,10 +92,37 @@ loop-turn-preserved c =
             ap (at_vector tree vectors) e
             ∙ overflow_passed tree vectors turn at c.in-Ok.found there (sym c.in-Ok.ensures.exact)
       ];
-      added = λ k checked. row_more n s k turn at tree c.loop-turn.sources c.push.new.self c.tag_of.result
+      added = λ k checked. row_more n s k turn at tree c.loop-turn.sources c.push-in-Ok.new.self c.tag_of.result
           (given_at n s k tree checked turn at there) (c.loop-turn.invariant.added k checked)
           (λ writer h. c.tag_of.ensures writer (subst (IsPointOf (trace n) writer) (sym c.in-Ok.ensures.value) h))
           c.in_ok-push-in-Ok.ensures.ok;
+      known = c.eval.ensures.known;
+    }
+
+pub loop-turn-preserved-in-Some : goal.loop-turn-preserved-in-Some
+loop-turn-preserved-in-Some c =
+    let n = c.args.nest.now in
+    let s = c.args.statement in
+    let tree = c.args.tree.now in
+    let turn = c.loop-turn.turn in
+    let at = c.index-vectors-turn.result in
+    let items = c.vectors_of-vectors.result.now in
+    let all = whole n s c.args.points.now.of items c.requires.points c.vectors_of-vectors.ensures in
+    let vectors : List (List ℤ) = get_or (points_of n) s [] in
+    let there = here vectors items turn at all c.loop-turn-test.true c.index-vectors-turn.is in
+    let told = c.in-Some.ensures tree c.loop-turn.invariant.known in
+    record {
+      passed = λ f lt. elim (cases_lt f turn) [
+        | inl before ↦ c.loop-turn.invariant.passed f before
+        | inr after ↦
+            let e : f ≡ turn = omega arith in
+            ap (at_vector tree vectors) e ∙ overflow_passed tree vectors turn at _ there told.given
+      ];
+      added = λ k checked. row_more n s k turn at tree c.loop-turn.sources c.push.new.self (Some c.in-Some.tag)
+          (given_at n s k tree checked turn at there) (c.loop-turn.invariant.added k checked)
+          (λ writer h. given_tag n c.args.points.now.of tree at c.in-Some.tag c.requires.points told writer h)
+          c.in_ok-push.ensures.ok;
+      known = c.loop-turn.invariant.known;
     }
 
 pub returns-clause-overflow : goal.returns-clause-overflow

@@ -1,7 +1,7 @@
 use Rattle.std.proofs.Common.{ap, ◌∙◌, count_by, min}
 use Rattle.net_core.specs.Shape.{is_put}
 use Rattle.script_blocks.specs.Expansion.{parts_expansion}
-use Rattle.net_text.proofs.Puts.{capped_count}
+use Rattle.net_core.proofs.BlockCounts.{capped_count}
 use Rattle.net_text.proofs.counts.+puts.Goals as goal
 
 pub puts_of_part-returns-in-Repeat : goal.puts_of_part-returns-in-Repeat

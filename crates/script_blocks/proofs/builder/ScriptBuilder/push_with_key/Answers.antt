@@ -21,12 +21,12 @@ returns-in_err-push-clause-err g c =
 pub invariant_of-self-2 : goal.invariant_of-self-2
 invariant_of-self-2 g c =
     label_below c.self.inside.kinds.items c.kind_of.new.kinds.items c.self.inside.labels.items c.push.new.self.items
-    c.in_ok-kind.kind c.args.item c.kind_of.ensures.front c.self.invariant c.in_ok-kind.ensures.kind
+    c.in_ok-kind.kind c.args.item.now c.kind_of.ensures.front c.self.invariant c.in_ok-kind.ensures.kind
     c.in_ok-push.ensures.items
 
 pub returns-clause-ok : goal.returns-clause-ok
 returns-clause-ok g c =
     label_added c.self.inside.kinds.items c.kind_of.new.kinds.items c.self.inside.labels.items c.push.new.self.items
-    c.in_ok-kind.kind c.args.item c.kind_of.ensures.front c.self.invariant c.in_ok-kind.ensures.kind
+    c.in_ok-kind.kind c.args.item.now c.kind_of.ensures.front c.self.invariant c.in_ok-kind.ensures.kind
     c.in_ok-push.ensures.items
-    ∙ ap (λ xs. xs ++ c.args.item ∷ []) c.self.view_is
+    ∙ ap (λ xs. xs ++ c.args.item.now ∷ []) c.self.view_is

@@ -20,7 +20,8 @@ pub returns : goal.returns
 returns c =
     let net = net_of c.args.network.now in
     let self = c.args.self.now in
-    c.peek.ensures
+    c.copied.ensures
+    ∙ c.peek.ensures
     ∙ ap (λ (left : List Event). slice_get left 0) (left_read net self.schedule self.cursors.items c.args.process
     c.index.result.now c.requires.progress.left c.requires.process c.index.ensures)
     ∙ first_left (net.script c.args.process) (cut_after opening self.schedule c.args.process)

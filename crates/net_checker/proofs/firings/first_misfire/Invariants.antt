@@ -2,7 +2,7 @@ use Rattle.std.proofs.Common.{◌≡◌, ℕ, ◌<◌, ◌++◌, None, length, s
 use Rattle.net_core.specs.Machine.{net_of}
 use Rattle.net_core.specs.Shape.{fires}
 use Rattle.net_checker.specs.Firings.{event_firing}
-use Rattle.net_checker.proofs.firings.process_firing.Given as goal
+use Rattle.net_checker.proofs.firings.first_misfire.Given as goal
 
 abbrev pub invariant-loop-event : goal.invariant-loop-event
 invariant-loop-event l = record {

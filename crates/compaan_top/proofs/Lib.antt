@@ -1,4 +1,5 @@
 pub mod Endings
+pub mod EntryCounts
 pub mod Facts
 pub mod Inputs
 pub mod Certified

@@ -1,10 +1,8 @@
-ghost use Rattle.std.specs.Prelude.{◌≡◌, [], length, slice_index_or, IfOk};
-ghost use Rattle.sanlp.specs.Size.{SizeIsOk};
+ghost use Rattle.std.specs.Prelude.{◌≡◌, [], length, slice_index_or};
 ghost use Rattle.matrix_load.specs.Summary.{wrapping_sum as sum_of};
 ghost use Rattle.net_core.specs.Machine.{net_of};
 ghost use Rattle.net_core.specs.Shape.{FitsNumbers};
 ghost use Rattle.net_text.specs.NetworkText.{event_count as count_of_events};
-ghost use Rattle.sanlp.specs.Trace.{trace};
 ghost use Rattle.compaan_top.specs.Judging.{Judges};
 ghost use Rattle.compaan_top.specs.Load.{Loads, product_cells};
 ghost use Rattle.compaan_top.specs.Planned.{as_reply};
@@ -14,29 +12,16 @@ use crate::network_run::{NetworkRun, run_by_threads};
 use crate::refusal::{Stop, too_many_rows};
 use crate::source::size_of;
 use io_edge::Gate;
-use loop_walk::Walk;
 use matrix_load::{Summary, matrix_inputs, matrix_nest, wrapping_sum};
 use net_text::event_count;
-use sanlp::{Arrays, Nest};
-use std::alloc::{AllocError, Global};
+use sanlp::Arrays;
+use std::alloc::Global;
 use std::sync::Wait;
 use std::thread::Threads;
 use witness_plan::Policy;
 
 /// The most rows that the matrices may have.
 const LOAD_LIMIT: u64 = 2_147_483_647;
-
-fn trace_length(alloc: Global, nest: &Nest) -> Result<u64, AllocError>
-    requires { SizeIsOk nest.now }
-    ensures { IfOk result (λ count. count ≡ length (trace nest.now)) }
-{
-    let mut walk = Walk::new(alloc, nest)?;
-    let mut count = 0;
-    while walk.next(nest).is_some() {
-        count += 1;
-    }
-    Ok(count)
-}
 
 fn product_sum(arrays: &Arrays) -> i64
     ensures { result ≡ sum_of (product_cells arrays.now.arrays) }
@@ -47,15 +32,15 @@ fn product_sum(arrays: &Arrays) -> i64
     }
 }
 
-fn summary_of(points: u64, run: &NetworkRun) -> Summary
+fn summary_of(run: &NetworkRun) -> Summary
     requires { FitsNumbers (net_of run.now.network) }
-    ensures points { result.points ≡ points }
+    ensures points { result.points ≡ run.now.entries }
     ensures channels { result.channels ≡ length run.now.network.channels }
     ensures events { result.events ≡ count_of_events run.now.network }
     ensures sum { result.sum ≡ sum_of (product_cells run.now.arrays.arrays) }
 {
     Summary {
-        points,
+        points: run.entries,
         channels: run.network.channels.len() as u64,
         events: event_count(&run.network),
         sum: product_sum(&run.arrays),
@@ -79,7 +64,6 @@ pub(crate) fn load<R: Threads + Wait + Sync, G: Gate + Sync>(
     let nest = matrix_nest(alloc, count)?;
     size_of(&nest)?;
     let inputs = matrix_inputs(alloc, count)?;
-    let points = trace_length(alloc, &nest)?;
     let run = run_by_threads(rt, alloc, &nest, &inputs, policy, gate)?;
-    Ok(Answer::Summary(summary_of(points, &run)))
+    Ok(Answer::Summary(summary_of(&run)))
 }

@@ -5,15 +5,17 @@ use crate::origins::{
     DELAYED, PRODUCT, RUNNING_SUM, STENCIL, STRIDED, TWO_CASES, have_values, leaf, nest,
 };
 use affine_core::Vector;
+use channel_plan::channel_plans;
 use loop_walk::{points, size};
 use net_checker::{Verdict, check};
 use net_maker::compile;
+use process_derive::derive;
 use sanlp::{Points, Tag};
 use shadow_sweep::sweep;
 use source_tree::{Origin, SourceTable, Tree};
 use std::process::Abort;
 use std::test::Fail;
-use witness_plan::Policy;
+use witness_plan::{Policy, plan, with_capacities};
 
 // Whether the tree gives this write, or none, at these loop values.
 fn gives(tree: &Tree, at: &[i64], points: &Points, wanted: Option<Tag>) -> bool {
@@ -89,6 +91,37 @@ fn each_read_has_a_right_tree(rt: HostRuntime) -> Result<(), Fail> {
     all_have_trees(&rt, PRODUCT, 2, Policy::Seq)?;
     all_have_trees(&rt, STENCIL, 4, Policy::Seq)?;
     all_have_trees(&rt, FOUR_WRITERS, 4, Policy::Down)
+}
+
+// That the network of a source which is made step by step of its points is accepted with the certificate of `compile`.
+fn is_made_of_points(
+    rt: &(impl Abort + AllocGlobal),
+    source: &[u8],
+    n: i64,
+    policy: Policy,
+) -> Result<(), Fail> {
+    let alloc = rt.alloc();
+    let nest = nest(alloc, source, n)?;
+    if size(&nest).is_err() {
+        return Err(Fail::from("the nest is large"));
+    }
+    let points = points(alloc, &nest)?;
+    let table = sweep(alloc, &nest, &points)?;
+    let plans = channel_plans(alloc, &nest, &points, &table)?;
+    let derived = derive(alloc, &nest, &points, &table)?;
+    let witness = plan(alloc, &nest, &points, &derived, policy)?;
+    let network = with_capacities(alloc, derived, witness.capacities.as_slice())?;
+    let (_, cert) = compile(alloc, &nest, &points, policy)?;
+    let verdict = check(alloc, &nest, &points, &network, &cert)?;
+    assert!(rt; plans.len() == network.channels.len());
+    assert!(rt; verdict == Verdict::Accepted);
+    Ok(())
+}
+
+#[test]
+fn networks_made_of_points_are_accepted(rt: HostRuntime) -> Result<(), Fail> {
+    is_made_of_points(&rt, RUNNING_SUM, 3, Policy::Seq)?;
+    is_made_of_points(&rt, PRODUCT, 2, Policy::Down)
 }
 
 #[test]

@@ -1,4 +1,4 @@
-use Rattle.std.proofs.Common.{arith, ◌≤◌}
+use Rattle.std.proofs.Common.{arith, ◌≤◌, ◌∙◌}
 use Rattle.std.proofs.lemmas.Result.{err_from_is_err_and}
 use Rattle.compaan_top.specs.Load.{load_limit}
 use Rattle.compaan_top.proofs.Loads.{loads_too_many, loads_without_size, loads_summed}
@@ -23,5 +23,5 @@ returns g c =
     c.in_ok-run.run'.network c.in_ok-run.run'.arrays.arrays c.summary_of.result
     few c.in_ok-nest.ensures c.in_ok-size_of.ensures.0 c.in_ok-inputs.ensures.cells c.in_ok-run.ensures.network
     c.in_ok-run.ensures.arrays
-    (rw c.in_ok-points.ensures at c.summary_of.ensures.points) c.summary_of.ensures.channels c.summary_of.ensures.events
+    (c.summary_of.ensures.points ∙ c.in_ok-run.ensures.entries) c.summary_of.ensures.channels c.summary_of.ensures.events
     c.summary_of.ensures.sum

@@ -1,7 +1,7 @@
 -- The candidates of a leaf, and its systems in order.
 --
--- Each write and level has a candidate, which at a leaf is the best, is excluded or was seen. The systems come writer by writer,
--- level by level, and, behind a Writer leaf's point, order by order: proofs are added in this order.
+-- Each write and level has a candidate, which at a leaf is the best, is excluded or was seen. The systems come writer
+-- by writer, level by level, and, behind a Writer leaf's point, order by order: proofs are added in this order.
 use Rattle.std.proofs.Common.{◌≡◌, ◌+◌, ◌<◌, ◌==◌, ℕ, zero, suc, inl, inr, List, [], ◌∷◌, ◌++◌, length, map, take}
 use Rattle.std.proofs.Common.{refl, sym, ap, ◌∙◌, subst, arith}
 use Rattle.std.specs.Prelude.{Option, Some, None, All, Contains, IsTrue, nat_lt, slice_get}

@@ -14,7 +14,7 @@ use Rattle.int_polyhedra.specs.declared.system.Proof.TheVariants.{Sum}
 use Rattle.int_polyhedra.specs.declared.system.System.{System}
 use Rattle.int_polyhedra.specs.declared.system.Term.{Term}
 use Rattle.int_polyhedra.specs.Steps.{negation_of}
-use Rattle.candidate_order.specs.Comparisons.{with_form, IsComparedSoFar, IsComparison, IsHad, IsQuestion}
+use Rattle.candidate_order.specs.Comparisons.{IsComparedSoFar, IsComparison, IsHad, IsQuestion}
 use Rattle.candidate_join.specs.Joining.{ArePair, AreSides, IsBest, IsNext, IsPath, IsPathOf, IsStanding, IsTaken}
 use Rattle.candidate_order.specs.Reads.{pair_of}
 use Rattle.candidate_order.specs.Refutations.{RefutesWrites}
@@ -37,6 +37,7 @@ use Rattle.candidate_join.proofs.Sides.{standing_there}
 use Rattle.candidate_join.proofs.Stepping.{is_other, path_absent, path_before, path_behind, path_first, path_less}
 use Rattle.candidate_join.proofs.Stepping.{path_passed, path_taken, path_without}
 use Rattle.lex_max.specs.Asked.{write_of}
+use Rattle.lex_max.specs.Facts.{with_form}
 use Rattle.lex_max.proofs.Small.{farther}
 use Rattle.row_sums.specs.Parts.{IsWithin}
 use Rattle.source_tree.specs.declared.tree.Tree.TheVariants.{Zero}

@@ -11,7 +11,7 @@ use Rattle.int_polyhedra.specs.declared.system.System.{System}
 use Rattle.int_polyhedra.specs.declared.system.Term.{Term}
 use Rattle.int_polyhedra.specs.Steps.{negation_of}
 use Rattle.candidate_order.specs.Candidates.{IsCandidate}
-use Rattle.candidate_order.specs.Comparisons.{with_form, AreForms, IsComparison}
+use Rattle.candidate_order.specs.Comparisons.{AreForms, IsComparison}
 use Rattle.candidate_join.specs.Joining.{ArePair, AreSides, IsStanding}
 use Rattle.candidate_order.specs.Refutations.{IsPointIn}
 use Rattle.candidate_order.specs.Positions.{IsAt, IsNode, IsPointAt}
@@ -27,7 +27,7 @@ use Rattle.candidate_join.proofs.Between.{point_is}
 use Rattle.candidate_order.proofs.Growing.{at_behind, node_behind}
 use Rattle.candidate_order.proofs.Made.{checked_point, node_no, node_yes, test_over, test_within, IsCheckedPoint}
 use Rattle.lex_max.specs.Asked.{read_of, write_of}
-use Rattle.lex_max.specs.Facts.{form_parts}
+use Rattle.lex_max.specs.Facts.{form_parts, with_form}
 use Rattle.lex_max.specs.Level.{common_of}
 use Rattle.lex_max.specs.Paths.{term_of}
 use Rattle.lex_max.specs.declared.writes.Writes.{Writes}

@@ -22,7 +22,6 @@ use Rattle.int_polyhedra.proofs.RowsOf.{length_push}
 use Rattle.int_polyhedra.proofs.Variables.{both_and, equal_where}
 use Rattle.candidate_order.specs.Candidates.{is_candidate_of}
 use Rattle.candidate_order.specs.Reads.{IsJoined}
-use Rattle.candidate_order.specs.Comparisons.{with_form}
 use Rattle.candidate_order.specs.Contexts.{IsPathContext}
 use Rattle.candidate_order.specs.Joint.{at_dead, at_test, IsJoinedTree}
 use Rattle.candidate_join.specs.Joining.{IsAccountedFor, IsBest, IsLeft, IsPathOf}
@@ -33,7 +32,7 @@ use Rattle.candidate_order.specs.declared.candidates.Read.{Read}
 use Rattle.candidate_order.specs.declared.order.Order.{Order}
 use Rattle.candidate_order.specs.declared.seen.Position.{Position}
 use Rattle.candidate_order.proofs.Growing.{at_behind, seen_behind}
-use Rattle.lex_max.specs.Facts.{IsContext}
+use Rattle.lex_max.specs.Facts.{with_form, IsContext}
 use Rattle.lex_max.proofs.Refuting.{over_append}
 use Rattle.lex_max.proofs.Testing.{more_made, opposite_made, taken_made}
 use Rattle.row_sums.specs.Parts.{IsWithin}

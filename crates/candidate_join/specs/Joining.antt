@@ -6,7 +6,7 @@ use Rattle.int_polyhedra.specs.declared.system.Proof.TheVariants.{Sum}
 use Rattle.int_polyhedra.specs.declared.system.System.{System}
 use Rattle.int_polyhedra.specs.Steps.{negation_of}
 use Rattle.candidate_order.specs.Candidates.{is_candidate_of, AreCandidates}
-use Rattle.candidate_order.specs.Comparisons.{with_form, ArePoints, IsComparison}
+use Rattle.candidate_order.specs.Comparisons.{ArePoints, IsComparison}
 use Rattle.candidate_order.specs.Contexts.{IsPathContext}
 use Rattle.candidate_order.specs.Reads.{pair_of, IsJoined}
 use Rattle.candidate_join.specs.Leaves.{is_excluded, AreExcluded}
@@ -25,6 +25,7 @@ use Rattle.candidate_join.specs.declared.path.State.{State}
 use Rattle.candidate_join.specs.declared.leaf.Excluded.{Excluded}
 use Rattle.candidate_order.specs.declared.seen.Position.{Position}
 use Rattle.lex_max.specs.Asked.{write_of}
+use Rattle.lex_max.specs.Facts.{with_form}
 use Rattle.row_sums.specs.Parts.{weight, IsWithin}
 
 -- the best is a position with a point

@@ -16,7 +16,7 @@ use Rattle.int_polyhedra.specs.declared.system.Term.{Term}
 use Rattle.int_polyhedra.specs.Steps.{negation_of}
 use Rattle.int_polyhedra.proofs.RowsOf.{get_last, length_push}
 use Rattle.int_polyhedra.proofs.Variables.{length_sums, length_zeros}
-use Rattle.candidate_order.specs.Comparisons.{with_form, AreForms, ArePoints, IsComparedSoFar, IsComparison, IsGap}
+use Rattle.candidate_order.specs.Comparisons.{AreForms, ArePoints, IsComparedSoFar, IsComparison, IsGap}
 use Rattle.candidate_order.specs.Comparisons.{IsHad, IsQuestion}
 use Rattle.candidate_order.specs.Orders.{difference_parts, strict_parts, turned_equal, AreEqual}
 use Rattle.candidate_order.specs.declared.compare.Compared.{Compared}
@@ -28,7 +28,7 @@ use Rattle.candidate_order.proofs.Comparing.{by_loop, by_text, difference_is, eq
 use Rattle.candidate_order.proofs.Comparing.{turned_loop, turned_text}
 use Rattle.candidate_order.proofs.Growing.{equal_behind}
 use Rattle.lex_max.specs.Closed.{number_parts}
-use Rattle.lex_max.specs.Facts.{form_parts, IsFact}
+use Rattle.lex_max.specs.Facts.{form_parts, with_form, IsFact}
 use Rattle.lex_max.specs.Level.{common_of}
 use Rattle.lex_max.specs.Paths.{term_of}
 use Rattle.lex_max.proofs.Choosing.{fact_behind, fact_same}

@@ -1,7 +1,7 @@
 -- Candidates that are added, level by level.
 --
--- The problems come one after the other; each has at each level of order before the read one candidate, and of one level
--- it is added with the writers within the loop, or with the others.
+-- The problems come one after the other; each has at each level of order before the read one candidate, and of one
+-- level it is added with the writers within the loop, or with the others.
 use Rattle.std.proofs.Common.{◌≡◌, ◌+◌, ◌<◌, ◌==◌, ℕ, inl, inr, List, [], ◌∷◌, ◌++◌, length, Bool}
 use Rattle.std.proofs.Common.{true, false, refl, sym, subst, arith}
 use Rattle.std.specs.Prelude.{All, Contains, nat_lt}

@@ -1,5 +1,5 @@
 -- Two points, the best and a new one, compared loop by loop.
-use Rattle.std.specs.Prelude.{◌≡◌, ◌≤◌, ◌<◌, ◌^◌, ◌+◌, ℕ, ◌++◌, [], ◌∷◌, List, length, All, Option, Some, slice_get, IfSome}
+use Rattle.std.specs.Prelude.{◌≡◌, ◌≤◌, ◌<◌, ◌^◌, ◌+◌, ℕ, List, length, All, Option, Some, slice_get, IfSome}
 use Rattle.affine_core.specs.declared.form.Form.{Form}
 use Rattle.int_polyhedra.specs.declared.system.System.{System}
 use Rattle.int_polyhedra.specs.declared.system.Term.{Term}
@@ -10,7 +10,7 @@ use Rattle.candidate_order.specs.declared.compare.Comparison.{Comparison}
 use Rattle.candidate_order.specs.declared.compare.Comparison.TheVariants.{Earlier, Later, Open}
 use Rattle.candidate_order.specs.declared.compare.Pair.{Pair}
 use Rattle.candidate_order.specs.declared.compare.Question.{Question}
-use Rattle.lex_max.specs.Facts.{form_parts, IsFact}
+use Rattle.lex_max.specs.Facts.{form_parts, with_form, IsFact}
 use Rattle.lex_max.specs.Level.{common_of}
 use Rattle.row_sums.specs.Parts.{Part, IsWithin}
 use Rattle.source_tree.specs.Systems.{Occurrence}
@@ -63,9 +63,6 @@ abbrev pub HasNextLoop : Pair → Comparison → Type 0
 HasNextLoop pair (Earlier order) = Unit {0}
 HasNextLoop pair (Later order) = Unit {0}
 HasNextLoop pair (Open c) = length c.equal < pair.common
-
-abbrev pub with_form : System → Form → System
-with_form context form = record context { rows = context.rows ++ form ∷ [] }
 
 -- the Test's form is over the variables, and both sides of it are told
 pub record IsQuestion (context : System) (w u : Occurrence) (pair : Pair) (q : Question)

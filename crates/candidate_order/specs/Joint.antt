@@ -28,8 +28,10 @@ orders_behind w place c u =
     before_rows w.number w.statement place u.number u.statement (writer_place c u)
 
 -- each of the writes at a point before its read, with each of these orders
-abbrev pub write_systems_of : List ReadAndWrite → Context → (Occurrence → List (List RowExpr)) → List RowSystem
-write_systems_of pairs c further = flat_map (λ o. write_systems o.read every c further o.write) pairs
+abbrev pub write_systems_of : List ReadAndWrite → Context → (Occurrence → List (List RowExpr))
+    → List RowSystem
+write_systems_of pairs c further =
+    flat_map (λ o. write_systems o.read every c further o.write) pairs
 
 -- a place of a write is outside its domain, writes another cell than its read reads, or isn't before the read
 abbrev pub head_systems : ReadAndWrite → List Form → Context → List RowSystem

@@ -58,7 +58,8 @@ IsPointAt at place =
 pub record IsOwnProof (context : System) (at : Position) (place : List Form) (level : ℕ)
     (proof : Proof) : Type 0 where
   pub light : IsLightSum proof
-  pub refuted : (h : IsNode context at.candidate.now at.node.now at.rows) (rows order : List RowExpr)
+  pub refuted : (h : IsNode context at.candidate.now at.node.now at.rows)
+      (rows order : List RowExpr)
       → AreLevelRows (read_of at.candidate.now.writes) (write_of at.candidate.now.writes)
       at.candidate.now.writes.level (writer_place h.own (write_of at.candidate.now.writes)) rows
       → slice_get (orders_behind (write_of at.candidate.now.writes) place h.own

@@ -1,12 +1,14 @@
 -- What follows a choice among a variable's first forms, with one form more.
-use Rattle.std.specs.Prelude.{◌≡◌, ◌^◌, ◌+◌, ℕ, Option, Some, length, ◌++◌, [], ◌∷◌}
+use Rattle.std.specs.Prelude.{◌≡◌, ◌^◌, ◌+◌, ℕ, List, Option, Some, length, ◌++◌, [], ◌∷◌}
 use Rattle.affine_core.specs.declared.form.Form.{Form}
 use Rattle.int_polyhedra.specs.declared.system.System.{System}
 use Rattle.int_polyhedra.specs.Steps.{negation_of}
-use Rattle.lex_max.specs.Choices.{IsNextChoice}
+use Rattle.lex_max.specs.Choices.{IsChoosing, IsNextChoice}
+use Rattle.lex_max.specs.declared.closure.Bounds.{Bounds}
 use Rattle.lex_max.specs.declared.decide.Choice.{Choice}
 use Rattle.lex_max.specs.declared.decide.ChoiceStep.{ChoiceStep}
 use Rattle.lex_max.specs.declared.decide.ChoiceStep.TheVariants.{Known, Either}
+use Rattle.lex_max.specs.declared.edges.Edge.{Edge}
 use Rattle.row_sums.specs.Parts.{IsWithin}
 
 -- a form over so many variables with small numbers, as each form that bounds a loop variable is
@@ -30,3 +32,12 @@ abbrev pub IsChoiceStep : System → Option Form → Choice → ChoiceStep → T
 IsChoiceStep context form choice (Known next) = IsNextChoice context context form choice next
 IsChoiceStep context form choice (Either above same other) =
     AreEither context form choice above same other
+
+-- what follows a choice among the first forms of a variable, with one more, so that these are left
+pub record IsFollowed (depth : ℕ) (bounds : Bounds) (edges : List Edge) (context : System)
+    (forms : List (Option Form)) (more : List (List (Option Form))) (step : ChoiceStep)
+    (choices : List Choice) : Type 0 where
+  pub form : Option Form
+  pub choice : Choice
+  pub choosing : IsChoosing depth bounds edges context (form ∷ forms) more choice choices
+  pub follows : IsChoiceStep context form choice step

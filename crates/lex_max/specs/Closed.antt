@@ -69,7 +69,8 @@ pub record IsThrough (edges : List Edge) (most : ℕ) (bounds : Bounds) (middle 
 
 -- bounds of so many variables
 abbrev pub AreAll : ℕ → (ℕ → ℕ → Option Bound → Type 0) → Bounds → Type 0
-AreAll depth P bounds = AreEach depth (λ from row. AreEach depth (λ to bound. P from to bound) row) bounds.of
+AreAll depth P bounds =
+    AreEach depth (λ from row. AreEach depth (λ to bound. P from to bound) row) bounds.of
 
 -- Bounds of so many variables that no path through the first of them betters: sums of at most so many edges,
 -- no greater than any edge, and not above 0 from a variable to itself.

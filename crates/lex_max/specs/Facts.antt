@@ -1,5 +1,5 @@
 -- What a context tells of a form.
-use Rattle.std.specs.Prelude.{◌≤◌, ◌<◌, ◌^◌, ℕ, ℤ, pos, ◌≤ℤ◌, List, length, All}
+use Rattle.std.specs.Prelude.{◌≤◌, ◌<◌, ◌^◌, ℕ, ℤ, pos, ◌≤ℤ◌, List, length, ◌++◌, [], ◌∷◌, All}
 use Rattle.affine_core.specs.declared.form.Form.{Form}
 use Rattle.int_polyhedra.specs.declared.system.System.{System}
 use Rattle.int_polyhedra.specs.declared.system.Term.{Term}
@@ -14,6 +14,10 @@ pub record IsContext (context : System) : Type 0 where
   pub short : context.vars ≤ 18
   pub over : AreOver context.vars context.rows
   pub few : length context.rows < 2 ^ 32
+
+-- the context with one row behind
+abbrev pub with_form : System → Form → System
+with_form context row = record context { rows = context.rows ++ row ∷ [] }
 
 -- the terms show a row in a context, and their multipliers add up to so much at most
 pub record IsFact (context : System) (most : ℕ) (row : RowParts) (ts : List Term) : Type 0 where

@@ -54,7 +54,8 @@ AreShown context (row ∷ rows) (terms ∷ certs) =
 
 -- light Sums were added that refute these systems, behind the proofs of other systems
 pub record AddsProofs (systems : List RowSystem) (old new : List Proof) : Type 0 where
-  pub refuted : (before : List RowSystem) → AreRefuted before old → AreRefuted (before ++ systems) new
+  pub refuted : (before : List RowSystem) → AreRefuted before old
+      → AreRefuted (before ++ systems) new
   pub light : All IsLightSum old → All IsLightSum new
 
 -- the terms that show the order rows of a leaf's point before the read

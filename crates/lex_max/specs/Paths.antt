@@ -18,7 +18,8 @@ terms_from first ts = map (λ t. record { row = first + t.row; times = t.times }
 
 -- a part of the row of the edge of this number, at a place
 abbrev pub edge_part : List Form → List Edge → Part → ℕ → ℤ
-edge_part place edges part k = option_map_or (λ g. edge_parts place g part) (slice_get edges k) (pos 0)
+edge_part place edges part k =
+    option_map_or (λ g. edge_parts place g part) (slice_get edges k) (pos 0)
 
 -- these terms name edges, and at each place their sum is `sum + place_from - place_to`
 pub record IsPath (edges : List Edge) (ts : List Term) (sum : RowParts) (from to : ℕ) : Type 0 where

@@ -1,10 +1,12 @@
-ghost use Rattle.std.specs.Prelude.{◌≡◌, ◌≤◌, ◌+◌, ◌*◌, [], ◌∷◌, ◌++◌, ℕ, List, length, drop, slice_get, Some, All, IfOk, IfSome, OnOk};
+ghost use Rattle.std.specs.Prelude.{◌≡◌, ◌≤◌, ◌+◌, ◌*◌, ◌^◌, [], ◌∷◌, ◌++◌, ℕ, List, length, drop, slice_get, Some, All, IfOk, IfSome, OnOk};
 ghost use Rattle.affine_core.specs.declared.form.Form.{Form as FormOf};
 ghost use Rattle.int_polyhedra.specs.declared.system.System.{System as SystemOf};
 ghost use Rattle.int_polyhedra.specs.Steps.{negation_of};
 ghost use Rattle.lex_max.specs.declared.edges.Edge.{Edge as EdgeOf};
 ghost use Rattle.lex_max.specs.Answer.{IsAnswer, IsContextOf, IsContradiction, IsCycle};
+ghost use Rattle.lex_max.specs.Facts.{form_parts, IsContext, IsFact};
 ghost use Rattle.lex_max.specs.Rounds.{AreClosedOf, IsBack, IsGraphOf, RoundIsAsked};
+ghost use Rattle.row_sums.specs.Parts.{IsWithin};
 
 use crate::closure::{Bound, Bounds, form_beyond};
 use crate::edges::Edge;
@@ -262,6 +264,18 @@ pub fn cycles_of(w: &Writes, graph: &Graph) -> Result<Items<Cycle>, AllocError>
     Ok(cycles)
 }
 
+// Terms that show `-form - 1`, if the form is known to be below 0.
+fn known_below(context: &System, form: &Form) -> Result<Option<Items<Term>>, AllocError>
+    requires context { IsContext context.now }
+    requires over { length form.now.coefs ≡ context.now.vars }
+    requires small { IsWithin (2 ^ 60) form.now }
+    ensures { IfOk result (λ found. IfSome found (λ terms. (row : FormOf)
+        → negation_of form.now ≡ Some row → IsFact context.now 65536 (form_parts row) terms)) }
+{
+    let row = opposite(form);
+    known(context, &row)
+}
+
 /// The Zero leaf by a cycle, if it is known to be below 0.
 pub fn refuted_by(w: &Writes, context: &System, cycle: &Cycle) -> Result<Option<Tree>, AllocError>
     requires context { IsContextOf w.now 0 context.now }
@@ -270,13 +284,14 @@ pub fn refuted_by(w: &Writes, context: &System, cycle: &Cycle) -> Result<Option<
     ensures { IfOk result (λ leaf. IfSome leaf (λ tree. (tests : ℕ)
         → IsAnswer w.now context.now tests tree)) }
 {
-    let row = opposite(&cycle.form);
-    let found = known(context, &row)?;
-    let Some(shown) = found else {
-        return Ok(None);
-    };
-    let leaf = zero_leaf(w, context, shown.as_slice(), cycle.terms.as_slice())?;
-    Ok(Some(leaf))
+    match known_below(context, &cycle.form)? {
+        Some(shown) => {
+            let leaf = zero_leaf(w, context, shown.as_slice(), cycle.terms.as_slice());
+            drop(shown);
+            Ok(Some(leaf?))
+        }
+        None => Ok(None),
+    }
 }
 
 /// The Zero leaf by the first cycle that is known to be below 0, if there is one.
@@ -294,11 +309,8 @@ pub fn refuted_leaf(
     let Some((cycle, cycles)) = cycles.split_first() else {
         return Ok(None);
     };
-    let row = opposite(&cycle.form);
-    let found = known(context, &row)?;
-    let Some(shown) = found else {
-        return refuted_leaf(w, context, cycles);
-    };
-    let leaf = zero_leaf(w, context, shown.as_slice(), cycle.terms.as_slice())?;
-    Ok(Some(leaf))
+    match refuted_by(w, context, cycle)? {
+        Some(leaf) => Ok(Some(leaf)),
+        None => refuted_leaf(w, context, cycles),
+    }
 }

@@ -1,4 +1,5 @@
 ghost use Rattle.std.specs.Prelude.{◌≡◌, ◌≤◌, ◌<◌, ◌+◌, ◌^◌, ◌-ℤ◌, ◌++◌, [], ◌∷◌, ℕ, List, Some, None, length, map, slice_get, All, IfOk, IfSome, MatchOption};
+ghost use Rattle.std.specs.Bool.{OnTrue};
 ghost use Rattle.std.specs.Option.{option_map};
 ghost use Rattle.int_polyhedra.specs.declared.system.System.{System as SystemOf};
 ghost use Rattle.int_polyhedra.specs.declared.system.Term.{Term as TermOf};
@@ -8,11 +9,11 @@ ghost use Rattle.lex_max.specs.Answer.{IsAnswer, IsContextOf, IsCycle};
 ghost use Rattle.lex_max.specs.Asked.{depth_of_write};
 ghost use Rattle.affine_core.specs.declared.form.Form.{Form as FormOf};
 ghost use Rattle.int_polyhedra.specs.Steps.{negation_of};
-ghost use Rattle.lex_max.specs.ChoiceSteps.{IsChoiceStep, IsSmallForm};
+ghost use Rattle.lex_max.specs.ChoiceSteps.{IsChoiceStep, IsFollowed, IsSmallForm};
 ghost use Rattle.lex_max.specs.Choices.{chosen_place, choices_left, upper_of, uppers_from, uppers_of, with_terms, AllNone, AreCertsSoFar, AreChosen, AreReady, IsChoosing, IsNextChoice};
 ghost use Rattle.lex_max.specs.Edges.{edge_parts, IsEdge};
 ghost use Rattle.lex_max.specs.EdgeStates.{IsEdgeState};
-ghost use Rattle.lex_max.specs.Facts.{form_parts, IsContext, IsFact};
+ghost use Rattle.lex_max.specs.Facts.{form_parts, with_form, IsContext, IsFact};
 ghost use Rattle.lex_max.specs.Paths.{IsPath};
 ghost use Rattle.lex_max.specs.Rounds.{AreClosedOf, IsGraphOf};
 ghost use Rattle.row_sums.specs.Parts.{weight, IsWithin, Part};
@@ -61,9 +62,21 @@ pub enum EdgeState {
 pub fn test(alloc: Global, form: Form, yes: Tree, no: Tree) -> Result<Tree, AllocError>
     ensures { IfOk result (λ tree. tree ≡ Tree.Test form yes no) }
 {
-    let yes = Boxed::new(alloc, yes)?;
-    let no = Boxed::new(alloc, no)?;
-    Ok(Tree::Test(form, yes, no))
+    match Boxed::new(alloc, yes) {
+        Ok(yes) => match Boxed::new(alloc, no) {
+            Ok(no) => Ok(Tree::Test(form, yes, no)),
+            Err(error) => {
+                drop(form);
+                drop(yes);
+                Err(error)
+            }
+        },
+        Err(error) => {
+            drop(form);
+            drop(no);
+            Err(error)
+        }
+    }
 }
 
 // The form of the path that begins with this edge from 0 and leads to a variable.
@@ -372,6 +385,7 @@ fn choice_step(
 }
 
 /// What is chosen so far: for each of the first variables the least form.
+#[cycle(choose)]
 fn choose(
     w: &Writes,
     graph: &Graph,
@@ -388,28 +402,96 @@ fn choose(
     ensures { IfOk result (IsAnswer w.now context.now (choices_left forms.now more.now)) }
 {
     let Some((form, forms)) = forms.split_first() else {
-        let all = with_choice(w.alloc, choices, choice)?;
-        let chosen = all.as_slice();
-        let Some((next, more)) = more.split_first() else {
-            let mut certs = Items::new(w.alloc);
-            return confirm(w, graph, context, graph.edges, chosen, &mut certs);
-        };
-        let next = next.as_slice();
-        let first = start(w, next);
-        return choose(w, graph, context, next, more, &first, chosen);
+        return choose_next(w, graph, context, more, choice, choices);
     };
     let step = choice_step(w.alloc, context, form, choice)?;
+    let tree = follow(w, graph, context, forms, more, &step, choices);
+    drop(step);
+    tree
+}
+
+// All forms of a variable were looked at: goes on with the next variable.
+#[cycle(choose)]
+fn choose_next(
+    w: &Writes,
+    graph: &Graph,
+    context: &System,
+    more: &[Items<Option<Form>>],
+    choice: &Choice,
+    choices: &[Choice],
+) -> Result<Tree, AllocError>
+    requires ready { AreReady w.now graph.now.edges.now graph.now.bounds.now }
+    requires context { IsContextOf w.now (choices_left [] more.now) context.now }
+    requires choosing { IsChoosing (depth_of_write w.now) graph.now.bounds.now graph.now.edges.now
+        context.now [] more.now choice.now choices.now }
+    ensures { IfOk result (IsAnswer w.now context.now (choices_left [] more.now)) }
+{
+    let all = with_choice(w.alloc, choices, choice)?;
+    let chosen = all.as_slice();
+    let Some((next, more)) = more.split_first() else {
+        return confirm_all(w, graph, context, chosen);
+    };
+    let next = next.as_slice();
+    let first = start(w, next);
+    choose(w, graph, context, next, more, &first, chosen)
+}
+
+// Goes on with what follows a choice.
+#[cycle(choose)]
+fn follow(
+    w: &Writes,
+    graph: &Graph,
+    context: &System,
+    forms: &[Option<Form>],
+    more: &[Items<Option<Form>>],
+    step: &ChoiceStep,
+    choices: &[Choice],
+) -> Result<Tree, AllocError>
+    requires ready { AreReady w.now graph.now.edges.now graph.now.bounds.now }
+    requires context { IsContextOf w.now (choices_left forms.now more.now + 1) context.now }
+    requires step { IsFollowed (depth_of_write w.now) graph.now.bounds.now graph.now.edges.now
+        context.now forms.now more.now step.now choices.now }
+    ensures { IfOk result (IsAnswer w.now context.now (choices_left forms.now more.now + 1)) }
+{
     match step {
-        ChoiceStep::Known(next) => choose(w, graph, context, forms, more, &next, choices),
+        ChoiceStep::Known(next) => choose(w, graph, context, forms, more, next, choices),
         ChoiceStep::Either(above, same, other) => {
-            let row = opposite(&above);
-            let below = with_row(context, row)?;
-            let no = choose(w, graph, &below, forms, more, &other, choices)?;
-            let least = with_row(context, above.copy())?;
-            let yes = choose(w, graph, &least, forms, more, &same, choices)?;
-            test(w.alloc, above, yes, no)
+            let row = opposite(above);
+            let no = choose_with(w, graph, context, row, forms, more, other, choices)?;
+            let row = above.copy();
+            match choose_with(w, graph, context, row, forms, more, same, choices) {
+                Ok(yes) => test(w.alloc, above.copy(), yes, no),
+                Err(error) => {
+                    drop(no);
+                    Err(error)
+                }
+            }
         }
     }
+}
+
+// Goes on in the context with this row behind.
+#[cycle(choose)]
+fn choose_with(
+    w: &Writes,
+    graph: &Graph,
+    context: &System,
+    row: Form,
+    forms: &[Option<Form>],
+    more: &[Items<Option<Form>>],
+    choice: &Choice,
+    choices: &[Choice],
+) -> Result<Tree, AllocError>
+    requires ready { AreReady w.now graph.now.edges.now graph.now.bounds.now }
+    requires context { IsContextOf w.now (choices_left forms.now more.now)
+        (with_form context.now row) }
+    requires choosing { IsChoosing (depth_of_write w.now) graph.now.bounds.now graph.now.edges.now
+        (with_form context.now row) forms.now more.now choice.now choices.now }
+    ensures { IfOk result
+        (IsAnswer w.now (with_form context.now row) (choices_left forms.now more.now)) }
+{
+    let longer = with_row(context, row)?;
+    choose(w, graph, &longer, forms, more, choice, choices)
 }
 
 // The terms of the form of this number, which is there.
@@ -508,13 +590,34 @@ fn cycle_back(
     }
     let choice = &choices[edge.from];
     let mut rows = path_to(w, graph, choice, edge.from)?;
-    let own = once(w.alloc, number as u32)?;
-    append(&mut rows, own.as_slice())?;
+    rows.push(Term {
+        row: number as u32,
+        times: 1,
+    })?;
     let value = sum(&choice.form, &edge.weight);
     Ok(Cycle {
         form: value,
         terms: rows,
     })
+}
+
+// What the context tells of a cycle, if it shows or refutes it.
+fn cycle_state(w: &Writes, context: &System, cycle: &Cycle) -> Result<Option<EdgeState>, AllocError>
+    requires context { IsContextOf w.now 0 context.now }
+    requires cycle { (edges : List EdgeOf) × IsGraphOf w.now edges
+        × IsCycle w.now.vars edges cycle.now }
+    ensures { IfOk result (λ told. IfSome told (λ state. (edges : List EdgeOf)
+        (place : List FormOf) (edge : EdgeOf)
+        → ((part : Part) → form_parts cycle.now.form part ≡ edge_parts place edge part)
+        → IsEdgeState w.now edges context.now place edge state)) }
+{
+    match known(context, &cycle.form)? {
+        Some(terms) => Ok(Some(EdgeState::Shown(terms))),
+        None => match refuted_by(w, context, cycle)? {
+            Some(leaf) => Ok(Some(EdgeState::Refuted(leaf))),
+            None => Ok(None),
+        },
+    }
 }
 
 // Finds what the context tells of an edge at the chosen point.
@@ -539,15 +642,17 @@ fn edge_state(
         return Ok(EdgeState::Shown(shown));
     }
     let cycle = cycle_back(w, graph, edge, number, choices)?;
-    let found = known(context, &cycle.form)?;
-    if let Some(terms) = found {
-        return Ok(EdgeState::Shown(terms));
+    match cycle_state(w, context, &cycle) {
+        Ok(Some(state)) => {
+            drop(cycle);
+            Ok(state)
+        }
+        Ok(None) => Ok(EdgeState::Open(cycle)),
+        Err(error) => {
+            drop(cycle);
+            Err(error)
+        }
     }
-    let refuted = refuted_by(w, context, &cycle)?;
-    if let Some(leaf) = refuted {
-        return Ok(EdgeState::Refuted(leaf));
-    }
-    Ok(EdgeState::Open(cycle))
 }
 
 // The Test of a cycle's form, where this is the tree of the context in which it is at least 0.
@@ -559,12 +664,17 @@ fn cycle_test(w: &Writes, context: &System, cycle: &Cycle, yes: Tree) -> Result<
         → above ≡ record context.now { rows = context.now.rows ++ cycle.now.form ∷ [] }
         → IsAnswer w.now above tests yes → IsAnswer w.now context.now (tests + 1) tree) }
 {
-    let no = zero_below(w, context, cycle)?;
-    let form = cycle.form.copy();
-    test(w.alloc, form, yes, no)
+    match zero_below(w, context, cycle) {
+        Ok(no) => test(w.alloc, cycle.form.copy(), yes, no),
+        Err(error) => {
+            drop(yes);
+            Err(error)
+        }
+    }
 }
 
 // Finds for each of the edges that are left the terms that show it at the chosen point.
+#[cycle(confirm)]
 fn confirm(
     w: &Writes,
     graph: &Graph,
@@ -592,13 +702,57 @@ fn confirm(
         }
         EdgeState::Refuted(leaf) => Ok(leaf),
         EdgeState::Open(cycle) => {
-            let own = once(w.alloc, context.rows.len() as u32)?;
-            certs.push(own)?;
-            let above = with_row(context, cycle.form.copy())?;
-            let yes = confirm(w, graph, &above, edges, choices, certs)?;
-            cycle_test(w, context, &cycle, yes)
+            let tree = confirm_above(w, graph, context, edges, choices, certs, &cycle);
+            drop(cycle);
+            tree
         }
     }
+}
+
+// Tests the form of a cycle, which shows an edge where it is at least 0.
+#[cycle(confirm)]
+fn confirm_above(
+    w: &Writes,
+    graph: &Graph,
+    context: &System,
+    edges: &[Edge],
+    choices: &[Choice],
+    certs: &mut Items<Items<Term>>,
+    cycle: &Cycle,
+) -> Result<Tree, AllocError>
+    requires ready { AreReady w.now graph.now.edges.now graph.now.bounds.now }
+    requires context { IsContextOf w.now (length edges.now + 1) context.now }
+    requires chosen { AreChosen w.now graph.now.edges.now graph.now.bounds.now context.now
+        choices.now }
+    requires cycle { IsCycle w.now.vars graph.now.edges.now cycle.now }
+    requires certs { (edge : EdgeOf) × AreCertsSoFar context.now (chosen_place choices.now)
+        graph.now.edges.now (edge ∷ edges.now) certs.old
+        × ((part : Part) → form_parts cycle.now.form part
+        ≡ edge_parts (chosen_place choices.now) edge part) }
+    ensures { IfOk result (IsAnswer w.now context.now (length edges.now + 1)) }
+{
+    let own = once(w.alloc, context.rows.len() as u32)?;
+    certs.push(own)?;
+    let above = with_row(context, cycle.form.copy())?;
+    let yes = confirm(w, graph, &above, edges, choices, certs)?;
+    cycle_test(w, context, cycle, yes)
+}
+
+// Finds for each edge the terms that show it at the chosen point.
+fn confirm_all(
+    w: &Writes,
+    graph: &Graph,
+    context: &System,
+    choices: &[Choice],
+) -> Result<Tree, AllocError>
+    requires ready { AreReady w.now graph.now.edges.now graph.now.bounds.now }
+    requires context { IsContextOf w.now (length graph.now.edges.now) context.now }
+    requires chosen { AreChosen w.now graph.now.edges.now graph.now.bounds.now context.now
+        choices.now }
+    ensures { IfOk result (IsAnswer w.now context.now (length graph.now.edges.now)) }
+{
+    let mut certs = Items::new(w.alloc);
+    confirm(w, graph, context, graph.edges, choices, &mut certs)
 }
 
 // Chooses a form for each variable, from the outermost loop on.
@@ -608,19 +762,28 @@ fn choose_all(w: &Writes, graph: &Graph, context: &System) -> Result<Tree, Alloc
     ensures { IfOk result (IsAnswer w.now context.now 392) }
 {
     let all = all_upper_forms(w, graph)?;
-    let choices = Items::new(w.alloc);
-    let none = choices.as_slice();
     let Some((forms, more)) = all.as_slice().split_first() else {
-        let mut certs = Items::new(w.alloc);
-        return confirm(w, graph, context, graph.edges, none, &mut certs);
+        return confirm_all(w, graph, context, &[]);
     };
     let forms = forms.as_slice();
     let first = start(w, forms);
-    choose(w, graph, context, forms, more, &first, none)
+    choose(w, graph, context, forms, more, &first, &[])
+}
+
+// Whether the context tells that a form is at least 0.
+fn is_known(context: &System, form: &Form) -> Result<bool, AllocError>
+    requires context { IsContext context.now }
+    requires over { length form.now.coefs ≡ context.now.vars }
+    ensures { IfOk result (λ told. OnTrue told
+        ((terms : List TermOf) × IsFact context.now 65536 (form_parts form.now) terms)) }
+{
+    let found = known(context, form)?;
+    Ok(found.is_some())
 }
 
 /// The tree of a context, where these cycles through 0 are yet to be tested: first it is tested that each is at least 0, and
 /// then the least form is chosen for each variable.
+#[cycle(conditions)]
 pub fn conditions(
     w: &Writes,
     graph: &Graph,
@@ -635,18 +798,31 @@ pub fn conditions(
     let Some((cycle, rest)) = cycles.split_first() else {
         return choose_all(w, graph, context);
     };
-    let found = known(context, &cycle.form)?;
-    if found.is_some() {
+    if is_known(context, &cycle.form)? {
         return conditions(w, graph, context, rest);
     }
-    let refuted = refuted_leaf(w, context, cycles)?;
-    if let Some(leaf) = refuted {
-        return Ok(leaf);
+    match refuted_leaf(w, context, cycles)? {
+        Some(leaf) => Ok(leaf),
+        None => condition(w, graph, context, cycle, rest),
     }
-    let no = zero_below(w, context, cycle)?;
-    let row = cycle.form.copy();
-    let above = with_row(context, row)?;
+}
+
+// Tests the form of a cycle.
+#[cycle(conditions)]
+fn condition(
+    w: &Writes,
+    graph: &Graph,
+    context: &System,
+    cycle: &Cycle,
+    rest: &[Cycle],
+) -> Result<Tree, AllocError>
+    requires ready { AreReady w.now graph.now.edges.now graph.now.bounds.now }
+    requires context { IsContextOf w.now (length rest.now + 393) context.now }
+    requires cycle { IsCycle w.now.vars graph.now.edges.now cycle.now }
+    requires rest { All (IsCycle w.now.vars graph.now.edges.now) rest.now }
+    ensures { IfOk result (IsAnswer w.now context.now (length rest.now + 393)) }
+{
+    let above = with_row(context, cycle.form.copy())?;
     let yes = conditions(w, graph, &above, rest)?;
-    let form = cycle.form.copy();
-    test(w.alloc, form, yes, no)
+    cycle_test(w, context, cycle, yes)
 }

@@ -1,11 +1,13 @@
 ghost use Rattle.std.specs.Prelude.{◌≡◌, ◌≤ℤ◌, pos, length, IfOk, IfSome};
 ghost use Rattle.std.specs.Bool.{OnTrue};
 ghost use Rattle.int_polyhedra.specs.Rules.{ProvesEntailment};
+ghost use Rattle.int_polyhedra.specs.declared.system.Proof.TheVariants.{Sum};
 ghost use Rattle.lex_max.specs.Facts.{form_parts, AreLight, IsContext, IsFact, IsSignOf};
 ghost use Rattle.row_sums.specs.Shown.{with_last};
 
+use crate::terms::sum_with_row;
 use affine_core::{Form, Row};
-use int_polyhedra::{Proof, System, Term, entails};
+use int_polyhedra::{System, Term, entails};
 use plain_data::Items;
 use std::alloc::AllocError;
 
@@ -297,15 +299,13 @@ fn are_confirmed(context: &System, form: &Form, terms: &[Term]) -> Result<bool, 
     requires over { length form.now.coefs ≡ context.now.vars }
     ensures { IfOk result
         (λ confirmed. OnTrue confirmed (ProvesEntailment context.now.vars context.now.rows form.now
-        (Proof.Sum (with_last context.now.rows terms.now)))) }
+        (Sum (with_last context.now.rows terms.now)))) }
 {
     let here = context.rows.len() as u32;
-    let mut all = Items::from_slice(context.rows.allocator(), terms)?;
-    all.push(Term {
-        row: here,
-        times: 1,
-    })?;
-    Ok(entails(context, form, &Proof::Sum(all)).is_ok())
+    let proof = sum_with_row(context.rows.allocator(), terms, here)?;
+    let confirmed = entails(context, form, &proof).is_ok();
+    drop(proof);
+    Ok(confirmed)
 }
 
 /// Terms whose sum is the form less a number that is not below 0, so that the form is at least 0 wherever the context's

@@ -8,7 +8,7 @@ use Rattle.std.proofs.Common.{◌≡◌, ◌+◌, ◌^◌, ◌∷◌, ◌++◌, 
 use Rattle.std.specs.Prelude.{None, Some, IfSome}
 use Rattle.std.specs.Option.{option_copied}
 use Rattle.std.proofs.lemmas.Option.{same_Some}
-use Rattle.candidate_order.specs.Comparisons.{with_form, HasNextLoop, IsComparison}
+use Rattle.candidate_order.specs.Comparisons.{HasNextLoop, IsComparison}
 use Rattle.candidate_order.specs.Joint.{IsJoinedTree}
 use Rattle.candidate_join.specs.Joining.{IsBest, IsChoice, IsChoiceSoFar, IsEnd, IsNext, IsPath}
 use Rattle.candidate_order.specs.Positions.{IsAt}
@@ -24,6 +24,7 @@ use Rattle.candidate_order.proofs.Outcomes.{seen_before, seen_passed, seen_witho
 use Rattle.candidate_join.proofs.Sides.{followed_sides, point_here}
 use Rattle.candidate_join.proofs.Stepping.{joined_test, others_fewer, path_context, path_less}
 use Rattle.lex_max.specs.Asked.{write_of}
+use Rattle.lex_max.specs.Facts.{with_form}
 use Rattle.lex_max.specs.Paths.{term_of}
 use Rattle.lex_max.proofs.Small.{farther}
 use Rattle.source_tree.specs.declared.tree.Tree.TheViews.{Test}

@@ -1,37 +1,28 @@
-use Rattle.std.proofs.Common.{◌≡◌, ◌∷◌, [], length, sym, ap, ◌∙◌, subst, arith, rules}
+use Rattle.std.proofs.Common.{◌≡◌, ◌∷◌, [], length, refl, sym, ap, ◌∙◌, arith, rules}
 use Rattle.std.proofs.lemmas.List.{nil_from_length}
 use Rattle.std.proofs.lemmas.Result.{IfOk-weaker}
-use Rattle.lex_max.specs.Asked.{depth_of_write}
-use Rattle.lex_max.specs.Choices.{choices_left, chosen_place, AreCertsSoFar, AreChoices}
-use Rattle.lex_max.proofs.Deciding.{certs_none, choosing_start, few_tests, few_uppers, next_first, none_chosen}
+use Rattle.lex_max.specs.Choices.{choices_left}
+use Rattle.lex_max.proofs.Deciding.{choosing_start, few_tests, few_uppers, next_first, none_chosen}
 use Rattle.lex_max.proofs.Deciding.{some_upper}
 use Rattle.lex_max.proofs.Fitting.{asked_fits}
 use Rattle.lex_max.proofs.Zeroing.{answer_wider, context_less}
 use Rattle.lex_max.proofs.decide.choose_all.Goals as goal
 
-pub confirm-requires-clause-context : goal.confirm-requires-clause-context
-confirm-requires-clause-context c = context_less c.args.w.now c.args.context.now (length c.args.graph.now.edges.now) 392
-    (omega (arith, c.requires.ready.graph.graph.few)) c.requires.context
+pub confirm_all-requires-clause-context : goal.confirm_all-requires-clause-context
+confirm_all-requires-clause-context c = context_less c.args.w.now c.args.context.now
+    (length c.args.graph.now.edges.now) 392 (omega (arith, c.requires.ready.graph.graph.few)) c.requires.context
 
-pub confirm-requires-clause-chosen : goal.confirm-requires-clause-chosen
-confirm-requires-clause-chosen c =
+pub confirm_all-requires-clause-chosen : goal.confirm_all-requires-clause-chosen
+confirm_all-requires-clause-chosen c =
     let none : c.as_slice.result.now ≡ [] = nil_from_length c.as_slice.result.now c.in_default.ensures.cases in
     none_chosen c.args.w.now c.args.graph.now.edges.now c.args.graph.now.bounds.now c.requires.ready c.args.context.now
-    c.as_slice-none.result.now (sym none ∙ c.as_slice.ensures ∙ c.in_ok-all.ensures)
-    (c.as_slice-none.ensures ∙ c.new-choices.ensures)
-
-pub confirm-requires-clause-certs : goal.confirm-requires-clause-certs
-confirm-requires-clause-certs c =
-    let edges = c.args.graph.now.edges.now in
-    let place = chosen_place c.as_slice-none.result.now in
-    subst (AreCertsSoFar c.args.context.now place edges edges) (sym c.new-certs.ensures)
-    (certs_none c.args.context.now place edges)
+    [] (sym none ∙ c.as_slice.ensures ∙ c.in_ok-all.ensures) refl
 
 pub returns-in_default : goal.returns-in_default
 returns-in_default c =
-    IfOk-weaker c.confirm.result _ _
+    IfOk-weaker c.confirm_all.result _ _
     (λ tree h. answer_wider c.args.w.now c.args.context.now (length c.args.graph.now.edges.now) 392 tree
-    (omega (arith, c.requires.ready.graph.graph.few)) h) c.confirm.ensures
+    (omega (arith, c.requires.ready.graph.graph.few)) h) c.confirm_all.ensures
 
 pub start-first-requires-clause-few : goal.start-first-requires-clause-few
 start-first-requires-clause-few c =
@@ -68,11 +59,8 @@ choose-requires-clause-choosing c =
     let n = next_first w edges bounds c.requires.ready c.in-Some.forms.now c.in-Some.more.now
     (sym all ∙ c.as_slice.ensures ∙ c.in_ok-all.ensures) in
     choosing_start w edges bounds c.requires.ready c.args.context.now 0 c.as_slice-forms.result.now c.in-Some.more.now
-    c.start-first.result c.as_slice-none.result.now
-    (ap length (c.as_slice-none.ensures ∙ c.new-choices.ensures)) n.inside
-    (c.as_slice-forms.ensures ∙ n.forms) n.others c.start-first.ensures.edge c.start-first.ensures.empty
-    (subst (AreChoices (depth_of_write w) bounds edges c.args.context.now 0)
-    (sym (c.as_slice-none.ensures ∙ c.new-choices.ensures)) tt)
+    c.start-first.result [] refl n.inside
+    (c.as_slice-forms.ensures ∙ n.forms) n.others c.start-first.ensures.edge c.start-first.ensures.empty tt
 
 pub returns : goal.returns
 returns c =

@@ -1,4 +1,4 @@
-use Rattle.std.proofs.Common.{◌≡◌, ◌++◌, ap, ◌∙◌, arith}
+use Rattle.std.proofs.Common.{◌≡◌, arith}
 use Rattle.std.proofs.lemmas.Option.{slice_get_within}
 use Rattle.lex_max.specs.Asked.{depth_of_write}
 use Rattle.lex_max.proofs.Returning.{back_cycle, back_even, back_first, back_form, back_second, form_chosen, inner_from}
@@ -119,9 +119,9 @@ returns-clause-cycle c =
     back_cycle w edges bounds r.ready r.chosen.0 choices r.chosen.1 g c.args.number item r.edge r.back
     (item_chosen w edges bounds r.ready r.chosen.0 choices r.chosen.1 g.from item inside c.index-choices-edge.is)
     path
-    (record { form = c.sum-value.result; terms = c.append.new.out }) c.in_ok-rows.ensures.path
+    (record { form = c.sum-value.result; terms = c.push.new.self }) c.in_ok-rows.ensures.path
     c.in_ok-rows.ensures.light c.sum-value.ensures
-    (c.in_ok-append.ensures ∙ ap (λ ts. path ++ ts) (c.as_slice.ensures ∙ c.in_ok-own.ensures))
+    c.in_ok-push.ensures.ok
 
 pub returns-clause-form : goal.returns-clause-form
 returns-clause-form c =

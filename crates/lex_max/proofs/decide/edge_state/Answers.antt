@@ -1,12 +1,17 @@
-use Rattle.std.proofs.Common.{ℕ, sym, ◌∙◌, subst, arith}
-use Rattle.std.specs.Prelude.{IfSome}
-use Rattle.lex_max.specs.Answer.{IsAnswer}
+use Rattle.std.proofs.Common.{◌≡◌, List, subst, arith}
+use Rattle.std.specs.Prelude.{IfOk, IfSome}
+use Rattle.affine_core.specs.declared.form.Form.{Form}
+use Rattle.int_polyhedra.specs.declared.system.System.{System}
 use Rattle.lex_max.specs.Asked.{depth_of_write}
 use Rattle.lex_max.specs.Choices.{chosen_place}
-use Rattle.lex_max.specs.Edges.{IsEdge}
-use Rattle.lex_max.specs.Facts.{form_parts, IsFact}
-use Rattle.lex_max.proofs.Deciding.{context_is, cycle_fact}
+use Rattle.lex_max.specs.Edges.{edge_parts, IsEdge}
+use Rattle.lex_max.specs.EdgeStates.{IsEdgeState}
+use Rattle.lex_max.specs.Facts.{form_parts}
+use Rattle.lex_max.specs.declared.decide.EdgeState.{EdgeState}
+use Rattle.lex_max.specs.declared.edges.Edge.{Edge}
+use Rattle.lex_max.specs.declared.writes.Writes.{Writes}
 use Rattle.lex_max.proofs.Uppers.{edge_at}
+use Rattle.row_sums.specs.Parts.{Part}
 use Rattle.lex_max.proofs.decide.edge_state.Goals as goal
 
 -- An edge to a variable
@@ -40,29 +45,22 @@ cycle_back-requires-clause-back c =
     c.requires.edge in
     omega (arith, edge.to, c.depth.ensures)
 
-pub known-requires-clause-context : goal.known-requires-clause-context
-known-requires-clause-context c =
-    context_is c.args.w.now 0 c.args.context.now c.requires.ready.graph.asked c.requires.context
-
-pub known-requires-clause-over : goal.known-requires-clause-over
-known-requires-clause-over c = c.in_ok-cycle.ensures.cycle.over ∙ sym c.requires.context.vars
-
-pub returns-in-Some : goal.returns-in-Some
-returns-in-Some c =
-    let context = c.args.context.now in
-    let form = c.in_ok-cycle.cycle.form in
-    let told = subst (λ o. IfSome o (IsFact context 65536 (form_parts form))) c.in-Some.is c.in_ok-found.ensures in
-    cycle_fact context (chosen_place c.args.choices.now) c.args.edge.now form c.in-Some.terms c.in_ok-cycle.ensures.form
-    told
-
-pub refuted_by-requires-clause-cycle : goal.refuted_by-requires-clause-cycle
-refuted_by-requires-clause-cycle c =
+pub cycle_state-requires-clause-cycle : goal.cycle_state-requires-clause-cycle
+cycle_state-requires-clause-cycle c =
     (c.args.graph.now.edges.now, c.requires.ready.graph, c.in_ok-cycle.ensures.cycle)
 
-pub returns-in-Some-refuted : goal.returns-in-Some-refuted
-returns-in-Some-refuted c =
-    subst (λ o. IfSome o (λ tree. (tests : ℕ) → IsAnswer c.args.w.now c.args.context.now tests tree))
-    c.in-Some-refuted.is c.in_ok-refuted.ensures
+-- what a cycle of this form tells, whatever edge has it
+abbrev Tells : Writes → System → Form → EdgeState → Type 0
+Tells w context form state = (edges : List Edge) (place : List Form) (edge : Edge)
+    → ((part : Part) → form_parts form part ≡ edge_parts place edge part)
+    → IsEdgeState w edges context place edge state
 
-pub returns : goal.returns
-returns c = (c.in_ok-cycle.ensures.cycle, c.in_ok-cycle.ensures.form)
+pub returns-in-Ok-Some : goal.returns-in-Ok-Some
+returns-in-Ok-Some c =
+    let P = Tells c.args.w.now c.args.context.now c.in_ok-cycle.cycle.form in
+    let told = subst (λ r. IfOk r (λ told. IfSome told P)) c.in-Ok-Some.is c.cycle_state.ensures in
+    (subst (λ o. IfSome o P) c.in-Ok-Some.field-0-is told)
+    c.args.graph.now.edges.now (chosen_place c.args.choices.now) c.args.edge.now c.in_ok-cycle.ensures.form
+
+pub returns-in-Ok-None : goal.returns-in-Ok-None
+returns-in-Ok-None c = (c.in_ok-cycle.ensures.cycle, c.in_ok-cycle.ensures.form)

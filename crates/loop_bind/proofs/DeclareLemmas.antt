@@ -1,4 +1,10 @@
 -- Declarations one after another.
+--
+-- `Declares` follows the code's table, which keeps the least reason only, beside the declarations of the specification,
+-- which keep all. Declaring doesn't look at earlier reasons, it only adds to them (`declare_earlier`); so the next
+-- declaration may be read as if none stood yet, and the least of all is that of the earlier ones and then of its own.
+-- Thus the loop's invariant, for the first so many declarations, goes on by one (`next_declaration`), up to all of them
+-- (`all_declared`).
 use Rattle.std.proofs.Common.{◌≡◌, ℕ, ◌+◌, ◌<◌, List, [], ◌∷◌, ◌++◌, length, take, get_or, None, refl, sym, ap, subst}
 use Rattle.std.proofs.Common.{◌∙◌, append_assoc, append-nil, ◌≤◌}
 use Rattle.std.specs.List.{fold}

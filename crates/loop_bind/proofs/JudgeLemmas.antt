@@ -1,4 +1,9 @@
 -- What noting the reasons of an operand comes to, by its kind.
+--
+-- The code notes the reasons below an operand one operand after another, each time keeping the lesser one; the
+-- specification takes the least of all in one list. Both are the same since the least of two lists together is that of
+-- the second, begun with that of the first (`least_append`). For each kind of operand it is shown so from the same of
+-- the operands below it; the induction on operands is the code's own.
 use Rattle.std.proofs.Common.{◌≡◌, ℕ, suc, arith, ◌==◌, Bool, true, false, List, [], ◌∷◌, ◌++◌, length, map, Option}
 use Rattle.std.proofs.Common.{refl, sym, ap, ◌∙◌}
 use Rattle.std.specs.Prelude.{IsTrue}

@@ -1,5 +1,10 @@
 -- Limited numbers are moderate, and so are their differences, less 1. So are bounds of loops, and how far they reach
 -- above a lower form.
+--
+-- Limited numbers have a magnitude below 2^31, a loop's bound may be 1 lower, and moderate numbers have a magnitude of
+-- 2^32 at most. Each fact is arithmetic on a number between two others, and is then carried through the constant and
+-- the coefficients of a form. Not every difference of moderate numbers is moderate: the facts are of forms as they are
+-- written and of what is made of them once.
 use Rattle.std.proofs.Common.{◌≡◌, ℕ, zero, suc, replicate, ℤ, pos, negsuc, ◌-ℤ◌, ◌≤ℤ◌, Bool, true, false, T, List, []}
 use Rattle.std.proofs.Common.{◌∷◌, refl, arith}
 use Rattle.std.specs.Prelude.{IsTrue, slice_set}

@@ -1,4 +1,9 @@
 -- Affine places and right sides, by the kind of operand.
+--
+-- `judged` goes by the layers of an operand, as a fold; here it is unfolded once for each kind, so that an operand's
+-- form and reasons are told by those of the operands below it. The operands of a bound are looked up by the kind of its
+-- top alone: the arguments of a `max` (for a lower bound) or of a `min` (for an upper one), where it has any, else the
+-- whole operand.
 use Rattle.std.proofs.Common.{◌≡◌, ℕ, ℤ, List, [], ◌∷◌, ◌++◌, map, refl, sym, ap, ◌∙◌}
 use Rattle.loop_grammar.specs.declared.tree.BinarySign.{BinarySign}
 use Rattle.loop_grammar.specs.declared.tree.Name.{Name}

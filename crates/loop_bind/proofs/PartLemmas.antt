@@ -1,4 +1,10 @@
 -- What binding a part comes to, by its kind.
+--
+-- `Makes` follows the code beside the specification: the context is as it was, the progress is advanced by what the
+-- part makes, and the nodes are put behind. It is kept where reasons are noted first (`noted`), and where one part
+-- follows another, which begins at the loop and the statement at which the first ended (`followed`), since making one
+-- result of two is associative. From these it is shown for each kind of part from the same of the parts in it, and for
+-- the next of a list (`next_part`). The induction on parts is the code's own.
 use Rattle.std.proofs.Common.{◌≡◌, ℕ, ◌+◌, ◌<◌, Bool, List, [], ◌∷◌, ◌++◌, length, map, take, get_or, Option, Some}
 use Rattle.std.proofs.Common.{None, Result, sym, ap, subst, ◌∙◌, append_assoc, append-nil, length-append, arith}
 use Rattle.std.specs.Prelude.{OnOk}

@@ -1,13 +1,18 @@
 -- What was read of a tree: its parts are bound in the context of its declarations, from the numbers that the sources leave, so
 -- what was made of them is that of the whole tree. The least reason is kept from the declarations on, and the least of two
 -- lists one after the other is that of the second, begun with the least of the first. That a nest comes of it is not said here.
-use Rattle.std.proofs.Common.{◌≡◌, ℕ, ◌+◌, List, [], ◌++◌, length, None, sym, ap, ◌∙◌, arith}
+use Rattle.std.proofs.Common.{◌≡◌, ℕ, ◌+◌, List, [], ◌++◌, length, None, Result, sym, ap, ◌∙◌, arith}
+use Rattle.std.specs.Prelude.{IfOk}
+use Rattle.std.proofs.lemmas.Result.{IfOk-weaker}
+use Rattle.sanlp.specs.declared.nest.ArrayDecl.{ArrayDecl}
 use Rattle.sanlp.specs.declared.nest.Node.{Node}
-use Rattle.sanlp.specs.WellFormed.{input_extents}
+use Rattle.sanlp.specs.WellFormed.{input_extents, output_extents}
 use Rattle.loop_grammar.specs.declared.tree.Tree.{Tree}
 use Rattle.loop_bind.specs.declared.context.Context.{Context}
 use Rattle.loop_bind.specs.declared.context.Progress.{Progress}
 use Rattle.loop_bind.specs.declared.declare.Table.{Table}
+use Rattle.loop_bind.specs.declared.reading.Counts.{Counts}
+use Rattle.loop_bind.specs.declared.reading.Reading.{Reading}
 use Rattle.loop_bind.specs.Declarations.{Values, Declared, declared}
 use Rattle.loop_bind.specs.Findings.{outer_context, body_made, findings}
 use Rattle.loop_bind.specs.Following.{IsReadingOf, Makes, Stands, next_statement}
@@ -45,3 +50,26 @@ reading_is tree params t c0 c1 p0 p1 n0 n1 stands context first loops none least
   where
     plus_zero : (n : ℕ) → n + 0 ≡ n
     plus_zero n = omega arith
+
+-- what is known of a reading of the parts by the table and the counts that it began with
+abbrev pub ReadFrom : Tree → Table → Counts → Reading → Type 0
+ReadFrom tree t counts reading =
+    (params : Values) → Stands t (declared params tree.declarations)
+    → counts.sources ≡ length (input_extents t.arrays) → counts.sinks ≡ length (output_extents t.arrays)
+    → counts.loops ≡ loop_count (input_extents t.arrays) → IsReadingOf reading tree params
+
+-- a reading of the parts is one of the tree, where the counts are those of the table's arrays
+pub counted_reading : {E : Type 0} (result : Result Reading E) (tree : Tree) (params : Values) (t : Table)
+    (arrays : List ArrayDecl) (counts : Counts) → Stands t (declared params tree.declarations) → arrays ≡ t.arrays
+    → counts
+    ≡ record {
+      sources = length (input_extents arrays);
+      sinks = length (output_extents arrays);
+      loops = loop_count (input_extents arrays);
+    }
+    → IfOk result (ReadFrom tree t counts) → IfOk result (λ reading. IsReadingOf reading tree params)
+counted_reading result tree params t arrays counts stands same counted h =
+    IfOk-weaker result (ReadFrom tree t counts) (λ reading. IsReadingOf reading tree params) (λ reading read.
+    read params stands (ap (λ c. c.sources) counted ∙ ap (λ list. length (input_extents list)) same)
+    (ap (λ c. c.sinks) counted ∙ ap (λ list. length (output_extents list)) same)
+    (ap (λ c. c.loops) counted ∙ ap (λ list. loop_count (input_extents list)) same)) h

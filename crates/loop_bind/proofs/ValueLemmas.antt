@@ -1,4 +1,10 @@
 -- What the value of an operand comes to, by its kind.
+--
+-- `Reads` follows the code beside the specification: the expression is the value's, its reads are put behind those
+-- before, and the least reason is taken on. A value is a function of the number of reads before it, so of two the
+-- second begins where the reads of the first end, which is how many the code has by then (`joined_reads`). For each
+-- kind of operand the value is unfolded once, and for the operands of a `min` or a `max` the invariant of the loop over
+-- them goes on by one (`next_reads`).
 use Rattle.std.proofs.Common.{◌≡◌, ℕ, suc, ◌+◌, ◌<◌, take, get_or, Result, ℤ, List, [], ◌∷◌, ◌++◌, length, map, Option}
 use Rattle.std.proofs.Common.{refl, sym, ap, subst, ◌∙◌, append_assoc, append-nil, length-append}
 use Rattle.std.specs.Prelude.{IfOk}

@@ -1,4 +1,4 @@
-ghost use Rattle.std.specs.Prelude.{◌≡◌, ◌≤◌, ◌<◌, ◌+◌, ◌++◌, [], ◌∷◌, IsTrue, IfOk, OnOk, length, take, map, not};
+ghost use Rattle.std.specs.Prelude.{◌≡◌, ◌≤◌, ◌<◌, ◌+◌, ◌++◌, [], ◌∷◌, IsTrue, IfOk, OnOk, Some, length, take, map, not};
 ghost use Rattle.std.specs.List.{list_all};
 ghost use Rattle.loop_bind.specs.Following.{Makes, next_statement, advanced};
 ghost use Rattle.loop_bind.specs.Forms.{form_over};
@@ -23,6 +23,7 @@ use loop_grammar::{Comparison, Name, Operand, Other, Part, Step};
 use plain_data::Items;
 use sanlp::{Access, Node, Role, Statement};
 use std::alloc::{AllocError, Global};
+use wrap_expr::Expr;
 
 /// Notes a name that is in scope already.
 pub(crate) fn note_new_name(scope: &Scope, name: &Name, least: &mut Option<BindError>)
@@ -399,6 +400,60 @@ fn number_of_next(progress: &Progress) -> Result<u32, AllocError>
     progress.first.checked_add(count).ok_or(AllocError)
 }
 
+// The loops and the rows round an assignment.
+fn loops_and_rows(alloc: Global, context: &Context) -> Result<(Items<u32>, Items<Form>), AllocError>
+    requires { length context.now.loops ≤ 6 }
+    ensures { IfOk result (λ round. round ≡ (
+      context.now.loops,
+      map (form_over (length context.now.loops)) context.now.rows,
+    )) }
+{
+    let loops = Items::from_slice(alloc, context.loops.as_slice())?;
+    match over_all(alloc, context.rows.as_slice(), context.loops.len()) {
+        Ok(rows) => Ok((loops, rows)),
+        Err(error) => {
+            drop(loops);
+            Err(error)
+        }
+    }
+}
+
+// The statement that writes this access, and whose right side is this with these reads.
+fn statement(
+    alloc: Global,
+    context: &Context,
+    write: Access,
+    reads: Items<Access>,
+    expr: Expr,
+) -> Result<Statement, AllocError>
+    requires { length context.now.loops ≤ 6 }
+    ensures { IfOk result (λ s. s ≡ record {
+      role = Role.Assign;
+      loops = context.now.loops;
+      rows = map (form_over (length context.now.loops)) context.now.rows;
+      write = Some write;
+      reads = reads;
+      expr = expr;
+    }) }
+{
+    match loops_and_rows(alloc, context) {
+        Ok((loops, rows)) => Ok(Statement {
+            role: Role::Assign,
+            loops,
+            rows,
+            write: Some(write),
+            reads,
+            expr,
+        }),
+        Err(error) => {
+            drop(write);
+            drop(reads);
+            drop(expr);
+            Err(error)
+        }
+    }
+}
+
 // The statement of an assignment. Each reason that stands in its subscripts and its right side
 // is noted.
 #[inline(never)]
@@ -421,18 +476,20 @@ fn assignment(
     let what = context.scope.find(target.text.as_slice());
     let forms = subscripts(alloc, &context.scope, depth, operands, least)?;
     let mut reads = Items::new(alloc);
-    let expr = value(alloc, &context.scope, depth, right, &mut reads, least)?;
-    Ok(Statement {
-        role: Role::Assign,
-        loops: Items::from_slice(alloc, context.loops.as_slice())?,
-        rows: over_all(alloc, context.rows.as_slice(), depth)?,
-        write: Some(Access {
-            array: array_of(what),
-            subscripts: forms,
-        }),
-        reads,
-        expr,
-    })
+    match value(alloc, &context.scope, depth, right, &mut reads, least) {
+        Ok(expr) => {
+            let write = Access {
+                array: array_of(what),
+                subscripts: forms,
+            };
+            statement(alloc, context, write, reads, expr)
+        }
+        Err(error) => {
+            drop(forms);
+            drop(reads);
+            Err(error)
+        }
+    }
 }
 
 // An assignment.

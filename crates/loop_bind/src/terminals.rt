@@ -71,19 +71,86 @@ fn cell_of_loops(alloc: Global, array: u32, depth: usize) -> Result<Access, Allo
     Ok(Access { array, subscripts })
 }
 
+// The rows round a source or a sink, and the cell of its array.
+fn rows_and_cell(
+    alloc: Global,
+    array: u32,
+    extents: &[i64],
+) -> Result<(Items<Form>, Access), AllocError>
+    requires few { length extents.now ≤ 6 }
+    requires small { IsTrue (list_all is_limited_number extents.now) }
+    ensures { IfOk result (λ made. made ≡ (
+      map (form_over (length extents.now)) (extent_rows 0 extents.now),
+      own_cell (length extents.now) array,
+    )) }
+{
+    let rows = rows_round(alloc, extents)?;
+    match cell_of_loops(alloc, array, extents.len()) {
+        Ok(cell) => Ok((rows, cell)),
+        Err(error) => {
+            drop(rows);
+            Err(error)
+        }
+    }
+}
+
 fn source(alloc: Global, array: u32, first: u32, extents: &[i64]) -> Result<Statement, AllocError>
     requires few { length extents.now ≤ 6 }
     requires small { IsTrue (list_all is_limited_number extents.now) }
     ensures { IfOk result (λ s. s ≡ source_statement array first extents.now) }
 {
-    Ok(Statement {
-        role: Role::Source(array),
-        loops: loops_from(alloc, first, extents.len())?,
-        rows: rows_round(alloc, extents)?,
-        write: Some(cell_of_loops(alloc, array, extents.len())?),
-        reads: Items::new(alloc),
-        expr: Expr::Given,
-    })
+    let loops = loops_from(alloc, first, extents.len())?;
+    match rows_and_cell(alloc, array, extents) {
+        Ok((rows, cell)) => Ok(Statement {
+            role: Role::Source(array),
+            loops,
+            rows,
+            write: Some(cell),
+            reads: Items::new(alloc),
+            expr: Expr::Given,
+        }),
+        Err(error) => {
+            drop(loops);
+            Err(error)
+        }
+    }
+}
+
+// The one read of a sink.
+fn one_read(alloc: Global, cell: Access) -> Result<Items<Access>, AllocError>
+    ensures { IfOk result (λ reads. reads ≡ cell ∷ []) }
+{
+    let mut reads = Items::new(alloc);
+    match reads.push(cell) {
+        Ok(()) => Ok(reads),
+        Err(error) => {
+            drop(reads);
+            Err(error)
+        }
+    }
+}
+
+// The rows round a sink, and its read.
+fn rows_and_read(
+    alloc: Global,
+    array: u32,
+    extents: &[i64],
+) -> Result<(Items<Form>, Items<Access>), AllocError>
+    requires few { length extents.now ≤ 6 }
+    requires small { IsTrue (list_all is_limited_number extents.now) }
+    ensures { IfOk result (λ made. made ≡ (
+      map (form_over (length extents.now)) (extent_rows 0 extents.now),
+      own_cell (length extents.now) array ∷ [],
+    )) }
+{
+    let (rows, cell) = rows_and_cell(alloc, array, extents)?;
+    match one_read(alloc, cell) {
+        Ok(reads) => Ok((rows, reads)),
+        Err(error) => {
+            drop(rows);
+            Err(error)
+        }
+    }
 }
 
 fn sink(alloc: Global, array: u32, first: u32, extents: &[i64]) -> Result<Statement, AllocError>
@@ -91,16 +158,98 @@ fn sink(alloc: Global, array: u32, first: u32, extents: &[i64]) -> Result<Statem
     requires small { IsTrue (list_all is_limited_number extents.now) }
     ensures { IfOk result (λ s. s ≡ sink_statement array first extents.now) }
 {
-    let mut reads = Items::new(alloc);
-    reads.push(cell_of_loops(alloc, array, extents.len())?)?;
-    Ok(Statement {
-        role: Role::Sink(array),
-        loops: loops_from(alloc, first, extents.len())?,
-        rows: rows_round(alloc, extents)?,
-        write: None,
-        reads,
-        expr: Expr::Read(0),
-    })
+    let loops = loops_from(alloc, first, extents.len())?;
+    match rows_and_read(alloc, array, extents) {
+        Ok((rows, reads)) => Ok(Statement {
+            role: Role::Sink(array),
+            loops,
+            rows,
+            write: None,
+            reads,
+            expr: Expr::Read(0),
+        }),
+        Err(error) => {
+            drop(loops);
+            Err(error)
+        }
+    }
+}
+
+// One form, which is a number.
+fn one_number(alloc: Global, depth: usize, number: i64) -> Result<Items<Form>, AllocError>
+    requires { depth ≤ 6 }
+    ensures { IfOk result (λ forms. forms ≡ constant_form depth number ∷ []) }
+{
+    let mut forms = Items::new(alloc);
+    match forms.push(Form::constant(alloc, depth, number as i128)) {
+        Ok(()) => Ok(forms),
+        Err(error) => {
+            drop(forms);
+            Err(error)
+        }
+    }
+}
+
+// The bounds of a loop from 0 up to this number.
+fn bounds_to(
+    alloc: Global,
+    depth: usize,
+    last: i64,
+) -> Result<(Items<Form>, Items<Form>), AllocError>
+    requires { depth ≤ 6 }
+    ensures { IfOk result (λ bounds.
+        bounds ≡ (constant_form depth (pos 0) ∷ [], constant_form depth last ∷ [])) }
+{
+    let lower = one_number(alloc, depth, 0)?;
+    match one_number(alloc, depth, last) {
+        Ok(upper) => Ok((lower, upper)),
+        Err(error) => {
+            drop(lower);
+            Err(error)
+        }
+    }
+}
+
+// One node.
+fn one_node(alloc: Global, node: Node) -> Result<Items<Node>, AllocError>
+    ensures { IfOk result (λ nodes. nodes ≡ node ∷ []) }
+{
+    let mut nodes = Items::new(alloc);
+    match nodes.push(node) {
+        Ok(()) => Ok(nodes),
+        Err(error) => {
+            drop(nodes);
+            Err(error)
+        }
+    }
+}
+
+// The loop of this number from 0 up to a number, with this node inside.
+fn loop_to(
+    alloc: Global,
+    id: u32,
+    depth: usize,
+    last: i64,
+    inside: Node,
+) -> Result<Node, AllocError>
+    requires { depth ≤ 6 }
+    ensures { IfOk result (λ node. node ≡ Node.Loop id (constant_form depth (pos 0) ∷ [])
+        (constant_form depth last ∷ []) (pos 1) (inside ∷ [])) }
+{
+    let body = one_node(alloc, inside)?;
+    match bounds_to(alloc, depth, last) {
+        Ok((lower, upper)) => Ok(Node::Loop {
+            id,
+            lower,
+            upper,
+            step: 1,
+            body,
+        }),
+        Err(error) => {
+            drop(body);
+            Err(error)
+        }
+    }
 }
 
 // The loops round a source or a sink: one for each extent, from 0 up to it.
@@ -117,20 +266,9 @@ fn loops_of(
     let Some((extent, others)) = extents.split_first() else {
         return Ok(Node::Assign(statement));
     };
-    let mut lower = Items::new(alloc);
-    lower.push(Form::constant(alloc, depth, 0))?;
-    let mut upper = Items::new(alloc);
-    upper.push(Form::constant(alloc, depth, last_value(*extent) as i128))?;
     let second = first.checked_add(1).ok_or(AllocError)?;
-    let mut body = Items::new(alloc);
-    body.push(loops_of(alloc, second, depth + 1, others, statement)?)?;
-    Ok(Node::Loop {
-        id: first,
-        lower,
-        upper,
-        step: 1,
-        body,
-    })
+    let inside = loops_of(alloc, second, depth + 1, others, statement)?;
+    loop_to(alloc, first, depth, last_value(*extent), inside)
 }
 
 /// How many loops stand round the sources.

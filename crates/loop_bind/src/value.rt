@@ -101,13 +101,18 @@ fn plus_multiple(alloc: Global, before: Expr, variable: u32, coef: i64) -> Resul
     if coef == 0 {
         return Ok(before);
     }
-    let multiple = binary(
+    match binary(
         alloc,
         BinarySign::Mul,
         Expr::Const(coef),
         Expr::Var(variable),
-    )?;
-    binary(alloc, BinarySign::Add, before, multiple)
+    ) {
+        Ok(multiple) => binary(alloc, BinarySign::Add, before, multiple),
+        Err(error) => {
+            drop(before);
+            Err(error)
+        }
+    }
 }
 
 // The expression of a form over so many loops.
@@ -156,12 +161,30 @@ fn name_expr(
     }
 }
 
+// Two expressions, each held by a pointer.
+fn both(alloc: Global, left: Expr, right: Expr) -> Result<(Boxed<Expr>, Boxed<Expr>), AllocError>
+    ensures { IfOk result (λ both. both ≡ (left, right)) }
+{
+    match Boxed::new(alloc, left) {
+        Ok(left) => match Boxed::new(alloc, right) {
+            Ok(right) => Ok((left, right)),
+            Err(error) => {
+                drop(left);
+                Err(error)
+            }
+        },
+        Err(error) => {
+            drop(right);
+            Err(error)
+        }
+    }
+}
+
 #[inline(never)]
 fn binary(alloc: Global, sign: BinarySign, left: Expr, right: Expr) -> Result<Expr, AllocError>
     ensures { IfOk result (λ e. e ≡ binary_expr sign left right) }
 {
-    let left = Boxed::new(alloc, left)?;
-    let right = Boxed::new(alloc, right)?;
+    let (left, right) = both(alloc, left, right)?;
     Ok(match sign {
         BinarySign::Add => Expr::Add(left, right),
         BinarySign::Sub => Expr::Sub(left, right),
@@ -173,8 +196,7 @@ fn binary(alloc: Global, sign: BinarySign, left: Expr, right: Expr) -> Result<Ex
 fn extreme_of(alloc: Global, which: Extreme, left: Expr, right: Expr) -> Result<Expr, AllocError>
     ensures { IfOk result (λ e. e ≡ extreme_expr which left right) }
 {
-    let left = Boxed::new(alloc, left)?;
-    let right = Boxed::new(alloc, right)?;
+    let (left, right) = both(alloc, left, right)?;
     Ok(match which {
         Extreme::Least => Expr::Min(left, right),
         Extreme::Greatest => Expr::Max(left, right),
@@ -216,8 +238,13 @@ pub(crate) fn value(
             ..
         } => {
             let left = value(alloc, scope, depth, left.get(), reads, least)?;
-            let right = value(alloc, scope, depth, right.get(), reads, least)?;
-            binary(alloc, *sign, left, right)
+            match value(alloc, scope, depth, right.get(), reads, least) {
+                Ok(right) => binary(alloc, *sign, left, right),
+                Err(error) => {
+                    drop(left);
+                    Err(error)
+                }
+            }
         }
         Operand::Neg { inner, .. } => {
             let inner = value(alloc, scope, depth, inner.get(), reads, least)?;

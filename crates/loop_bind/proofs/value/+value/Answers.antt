@@ -33,17 +33,17 @@ value-returns-in-Access t c =
     ∙ ap (λ list. name_value c.args.depth scope name.token (value_named scope name.text) list k)
     (sym c.as_slice.ensures))
 
-pub value-returns-in_ok-right-in-Binary : goal.value-returns-in_ok-right-in-Binary
-value-returns-in_ok-right-in-Binary t c =
+pub value-returns-in-Ok : goal.value-returns-in-Ok
+value-returns-in-Ok t c =
     let d = c.args.depth in
     let scope = c.args.scope.now in
     let k = length c.args.reads.now in
-    binary_ok c.binary.result (binary_expr c.in-Binary.sign) c.in_ok-left-in-Binary.left c.in_ok-right-in-Binary.right
+    binary_ok c.binary.result (binary_expr c.in-Binary.sign) c.in_ok-left-in-Binary.left c.in-Ok.right
     c.args.reads.now c.value.new.reads c.value-in-Binary.new.reads c.args.least.now c.value.new.least
     c.value-in-Binary.new.least
     (valued d scope c.get.result.now k) (valued d scope c.get-in-Binary.result.now)
     (valued d scope c.args.operand.now k)
-    c.binary.ensures c.in_ok-left-in-Binary.ensures c.in_ok-right-in-Binary.ensures
+    c.binary.ensures c.in_ok-left-in-Binary.ensures (rw c.in-Ok.is at c.value-in-Binary.ensures)
     (valued_binary d scope c.args.operand.now k c.in-Binary.sign c.in-Binary.token c.get.result.now
     c.get-in-Binary.result.now
     (c.in-Binary.is

@@ -1,8 +1,8 @@
--- A form along the innermost loop. Its partial sums before the last product are the same at each turn, so where the first of
--- them is evaluated by numbers of 64 bits, only the last product and the last sum change from turn to turn. The step is
--- less than 2^30 and there are no more than 2^30 turns, so that product has less than 2^94 and the sum stays within 128
--- bits, and it is the value at the first turn plus the turn times the step. Nothing is said of a turn before the first one:
--- there the product might leave the bound. The value at a later turn may have more than 64 bits.
+-- A form along the innermost loop. Its partial sums before the last product are the same at each turn, so where the
+-- first of them is evaluated by numbers of 64 bits, only the last product and the last sum change from turn to turn.
+-- The step is less than 2^30 and there are no more than 2^30 turns, so that product has less than 2^94 and the sum
+-- stays within 128 bits, and it is the value at the first turn plus the turn times the step. Nothing is said of a turn
+-- before the first one: there the product might leave the bound. The value at a later turn may have more than 64 bits.
 use Rattle.std.proofs.Common.{◌≡◌, ◌≤◌, ◌*◌, ◌/◌, ◌^◌, ◌<◌, ℕ, ℤ, pos, negsuc, ◌+ℤ◌, ◌-ℤ◌, ◌*ℤ◌, ◌≤ℤ◌, ◌<ℤ◌, List, [], ◌∷◌, ◌++◌, refl, sym, ap, ◌∙◌}
 use Rattle.std.proofs.Common.{true, false, subst, arith, lit≤, FitsSigned, w64}
 use Rattle.std.specs.Prelude.{Option, Some, None, IfSome, unsigned_abs, cond}

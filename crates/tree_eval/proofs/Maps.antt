@@ -1,5 +1,5 @@
--- The values of a map along the innermost loop. The lines of its forms are added one after the other: after each, the values
--- so far at a turn and those of the forms that are left are all values of the map there.
+-- The values of a map along the innermost loop. The lines of its forms are added one after the other: after each, the
+-- values so far at a turn and those of the forms that are left are all values of the map there.
 use Rattle.std.proofs.Common.{◌≡◌, ◌≤◌, ◌^◌, suc, ℤ, pos, negsuc, ◌+ℤ◌, ◌*ℤ◌, ◌≤ℤ◌, List, [], ◌∷◌, ◌++◌, length, refl, sym, ap, ◌∙◌}
 use Rattle.std.proofs.Common.{Bool, true, subst, arith, lit≤, append_assoc, FitsSigned, w64}
 use Rattle.std.specs.Bool.{OnTrue}
@@ -12,7 +12,7 @@ use Rattle.affine_core.specs.Within.{value_in_128_bits}
 use Rattle.sanlp.proofs.ModerateForms.{abs_sum, product_small}
 use Rattle.source_tree.specs.Walk.{fits_64_bits, map_values, mapped_value, number_in_64_bits}
 use Rattle.tree_eval.specs.declared.line.Line.{Line}
-use Rattle.tree_eval.specs.Stretches.{AddsLines, AreSmall, IsLine, line_at, moved}
+use Rattle.tree_eval.specs.Stretches.{AddsLines, AreSmall, IsLine, line_at, values_at}
 
 -- the numbers of a line that is small
 pub product_fits : (turn step : ℤ) → unsigned_abs turn ≤ 1073741824 → unsigned_abs step ≤ 1073741824
@@ -68,7 +68,7 @@ small_more (b ∷ starts) [] a c h start step = absurd h
 small_more (b ∷ starts) (d ∷ steps) a c h start step = (h.0, h.1, small_more starts steps a c h.2 start step)
 
 moved_more : (turn : ℤ) (starts steps : List ℤ) (a c : ℤ) → AreSmall starts steps
-    → moved turn (starts ++ a ∷ []) (steps ++ c ∷ []) ≡ moved turn starts steps ++ (a +ℤ (turn *ℤ c)) ∷ []
+    → values_at turn (starts ++ a ∷ []) (steps ++ c ∷ []) ≡ values_at turn starts steps ++ (a +ℤ (turn *ℤ c)) ∷ []
 moved_more turn [] [] a c h = refl
 moved_more turn [] (d ∷ steps) a c h = absurd h
 moved_more turn (b ∷ starts) [] a c h = absurd h
@@ -103,10 +103,10 @@ lines_more form forms at line starts steps starts' steps' new_starts new_steps s
   small = rest.small;
   are = λ turn from to.
       let size = value_size line.value turn line.step start (few_turns turn from to) is.small in
-      let done : moved turn starts' steps' ≡ moved turn starts steps ++ line_at line turn ∷ [] =
-      ap (λ xs. moved turn xs steps') e ∙ ap (moved turn (starts ++ line.value ∷ [])) f
+      let done : values_at turn starts' steps' ≡ values_at turn starts steps ++ line_at line turn ∷ [] =
+      ap (λ xs. values_at turn xs steps') e ∙ ap (values_at turn (starts ++ line.value ∷ [])) f
       ∙ moved_more turn starts steps line.value line.step small in
-      mapped_more form forms (at turn) (moved turn starts steps) (moved turn new_starts new_steps) (line_at line turn)
+      mapped_more form forms (at turn) (values_at turn starts steps) (values_at turn new_starts new_steps) (line_at line turn)
       (mapped_is form (at turn) (line_at line turn) (is.is turn from to) size)
       (ap (λ (done : List ℤ). option_map (λ values. done ++ values) (map_values forms (at turn))) (sym done)
       ∙ rest.are turn from to);
@@ -133,11 +133,11 @@ small_parts starts steps starts' steps' a c e f h =
 
 pub moved_step : (turn : ℤ) (starts steps starts' steps' : List ℤ) (a c : ℤ) (out middle new : List ℤ)
     → starts ≡ a ∷ starts' → steps ≡ c ∷ steps' → middle ≡ out ++ (a +ℤ (turn *ℤ c)) ∷ []
-    → new ≡ middle ++ moved turn starts' steps' → new ≡ out ++ moved turn starts steps
+    → new ≡ middle ++ values_at turn starts' steps' → new ≡ out ++ values_at turn starts steps
 moved_step turn starts steps starts' steps' a c out middle new e f g h =
-    h ∙ ap (λ xs. xs ++ moved turn starts' steps') g
-    ∙ append_assoc out ((a +ℤ (turn *ℤ c)) ∷ []) (moved turn starts' steps')
-    ∙ ap (λ xs. out ++ moved turn xs (c ∷ steps')) (sym e) ∙ ap (λ xs. out ++ moved turn starts xs) (sym f)
+    h ∙ ap (λ xs. xs ++ values_at turn starts' steps') g
+    ∙ append_assoc out ((a +ℤ (turn *ℤ c)) ∷ []) (values_at turn starts' steps')
+    ∙ ap (λ xs. out ++ values_at turn xs (c ∷ steps')) (sym e) ∙ ap (λ xs. out ++ values_at turn starts xs) (sym f)
 
 pub small_lines : (starts steps starts' steps' : List ℤ) (a c : ℤ) → AreSmall starts steps
     → unsigned_abs a ≤ 2305843009213693952 → unsigned_abs c ≤ 1073741824

@@ -1,7 +1,7 @@
--- What a tree gives along the innermost loop. While the forms of the path's tests stay on their side of zero, the path is the
--- same at each turn: a test gives there what the tree below it gives, by the side where its form begins. At the end of
--- the path, a writer's values are those of the lines of its map. A row is shortened at each test to the turns before its
--- form changes sides, and nothing is said of those after that.
+-- What a tree gives along the innermost loop. While the forms of the path's tests stay on their side of zero, the path
+-- is the same at each turn: a test gives there what the tree below it gives, by the side where its form begins. At the
+-- end of the path, a writer's values are those of the lines of its map. A row is shortened at each test to the turns
+-- before its form changes sides, and nothing is said of those after that.
 use Rattle.std.proofs.Common.{◌≡◌, ℤ, pos, ◌+ℤ◌, ◌-ℤ◌, ◌≤ℤ◌, List, [], ◌∷◌, ◌++◌, refl, sym, ap, ◌∙◌, subst}
 use Rattle.std.proofs.Common.{Bool, cond, arith}
 use Rattle.std.specs.Prelude.{Option, Some, None, IfSome}
@@ -16,7 +16,7 @@ use Rattle.source_tree.proofs.Walked.{test_taken}
 use Rattle.tree_eval.specs.declared.leaf.Leaf.{Leaf}
 use Rattle.tree_eval.specs.declared.line.Line.{Line}
 use Rattle.tree_eval.specs.declared.row.Row.{Row}
-use Rattle.tree_eval.specs.Stretches.{IsAlong, IsLine, IsRow, IsSmall, line_at, found_at, turn_limit}
+use Rattle.tree_eval.specs.Stretches.{GivesAlong, IsLine, IsRow, IsSmall, line_at, found_at, turn_limit}
 
 -- the row of the tree that a test takes
 pub test_row : (p : Tree) (form : Form) (a b chosen : Tree) (outer : List ℤ) (first limit turns : ℤ) (line : Line)
@@ -28,7 +28,7 @@ pub test_row : (p : Tree) (form : Form) (a b chosen : Tree) (outer : List ℤ) (
     → IfSome r (IsRow chosen outer first turns) → IfSome r (IsRow p outer first limit)
 test_row p form a b chosen outer first limit turns line t None e is fewer few side sign choice row = tt
 test_row p form a b chosen outer first limit turns line t (Some r) e is fewer few side sign choice row = record {
-  begun = row.begun;
+  not_negative = row.not_negative;
   few = (let h = row.few in omega (arith, ints));
   along = record {
     small = row.along.small;
@@ -48,8 +48,8 @@ pub leaf_row : (p : Tree) (outer : List ℤ) (first turns : ℤ) (leaf : Leaf) �
     → ((turn : ℤ) → pos 0 ≤ℤ turn → turn ≤ℤ pos turn_limit
     → outcome_of p (outer ++ (first +ℤ turn) ∷ []) ≡ Some (found_at leaf turn))
     → IsRow p outer first turns (record { turns = turns; leaf = leaf })
-leaf_row p outer first turns leaf small begun few found = record {
-  begun = begun;
+leaf_row p outer first turns leaf small not_negative few found = record {
+  not_negative = not_negative;
   few = omega (arith, ints);
   along = record {
     small = small;
@@ -60,21 +60,21 @@ leaf_row p outer first turns leaf small begun few found = record {
 
 -- the stretch of a row
 pub row_stretch : (tree : Tree) (outer outer' : List ℤ) (first limit last : ℤ) (row : Row) → IsRow tree outer first limit row
-    → outer' ≡ outer → last ≡ first +ℤ row.turns → IsAlong tree outer' first (last -ℤ first) row.leaf
+    → outer' ≡ outer → last ≡ first +ℤ row.turns → GivesAlong tree outer' first (last -ℤ first) row.leaf
 row_stretch tree outer outer' first limit last row is same end =
     let turns : row.turns ≡ last -ℤ first = omega (arith, ints) in
-    subst (λ o. IsAlong tree o first (last -ℤ first) row.leaf) (sym same)
-    (subst (λ t. IsAlong tree outer first t row.leaf) turns is.along)
+    subst (λ o. GivesAlong tree o first (last -ℤ first) row.leaf) (sym same)
+    (subst (λ t. GivesAlong tree outer first t row.leaf) turns is.along)
 
 -- where there is an option's value
 pub if_some_at : {X : Type 0} (P : X → Type 0) (o : Option X) (x : X) → o ≡ Some x → IfSome o P → P x
 if_some_at P o x e h = (let Q : Option _ → Type 0 = λ o. IfSome o P in subst Q e h)
 
 -- a value of a stretch
-pub along_at : (tree : Tree) (outer : List ℤ) (first turns value : ℤ) (leaf : Leaf) → IsAlong tree outer first turns leaf
+pub along_at : (tree : Tree) (outer : List ℤ) (first turns value : ℤ) (leaf : Leaf) → GivesAlong tree outer first turns leaf
     → first ≤ℤ value → (value -ℤ first) ≤ℤ turns
     → outcome_of tree (outer ++ value ∷ []) ≡ Some (found_at leaf (value -ℤ first))
 along_at tree outer first turns value leaf along from to =
-    let begun : pos 0 ≤ℤ (value -ℤ first) = omega (arith, ints) in
+    let not_negative : pos 0 ≤ℤ (value -ℤ first) = omega (arith, ints) in
     let same : first +ℤ (value -ℤ first) ≡ value = omega (arith, ints) in
-    ap (λ v. outcome_of tree (outer ++ v ∷ [])) (sym same) ∙ along.gives (value -ℤ first) begun to
+    ap (λ v. outcome_of tree (outer ++ v ∷ [])) (sym same) ∙ along.gives (value -ℤ first) not_negative to

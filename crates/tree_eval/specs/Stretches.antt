@@ -36,14 +36,15 @@ line_at line turn = line.value +ℤ (turn *ℤ line.step)
 -- what is there at each turn is the value of the line, whose step is small
 pub record IsLine (there : ℤ → Option ℤ) (line : Line) : Type 0 where
   pub small : unsigned_abs line.step ≤ step_limit
-  pub is : (turn : ℤ) → pos 0 ≤ℤ turn → turn ≤ℤ pos turn_limit → there turn ≡ Some (line_at line turn)
+  pub is : (turn : ℤ) → pos 0 ≤ℤ turn → turn ≤ℤ pos turn_limit
+      → there turn ≡ Some (line_at line turn)
 
 -- the values of a map at a turn, by their values at the first turn and their steps
-abbrev pub moved : ℤ → List ℤ → List ℤ → List ℤ
-moved turn [] steps = []
-moved turn (start ∷ starts) [] = []
-moved turn (start ∷ starts) (step ∷ steps) =
-    (start +ℤ (turn *ℤ step)) ∷ moved turn starts steps
+abbrev pub values_at : ℤ → List ℤ → List ℤ → List ℤ
+values_at turn [] steps = []
+values_at turn (start ∷ starts) [] = []
+values_at turn (start ∷ starts) (step ∷ steps) =
+    (start +ℤ (turn *ℤ step)) ∷ values_at turn starts steps
 
 -- there are as many steps as values at the first turn, and all of them are small
 abbrev pub AreSmall : List ℤ → List ℤ → Type 0
@@ -58,38 +59,40 @@ pub record AddsLines (there : ℤ → Option (List ℤ)) (starts steps new_start
     : Type 0 where
   pub small : AreSmall new_starts new_steps
   pub are : (turn : ℤ) → pos 0 ≤ℤ turn → turn ≤ℤ pos turn_limit
-      → option_map (λ values. moved turn starts steps ++ values) (there turn)
-      ≡ Some (moved turn new_starts new_steps)
+      → option_map (λ values. values_at turn starts steps ++ values) (there turn)
+      ≡ Some (values_at turn new_starts new_steps)
 
 -- what a leaf gives at a turn
 abbrev pub found_at : Leaf → ℤ → Found
 found_at (Writer s starts steps) turn =
-    found.At (record { statement = s; at = moved turn starts steps })
+    found.At (record { statement = s; at = values_at turn starts steps })
 found_at Zero turn = found.Zero
 found_at Dead turn = found.Dead
 
+-- the values of a writer's map at the first turn, and their steps, are small
 abbrev pub IsSmall : Leaf → Type 0
 IsSmall (Writer s starts steps) = AreSmall starts steps
 IsSmall Zero = Unit {0}
 IsSmall Dead = Unit {0}
 
--- at each turn, up to this one, the tree gives what the leaf gives
-pub record IsAlong (tree : Tree) (outer : List ℤ) (first turns : ℤ) (leaf : Leaf) : Type 0 where
+-- from the first value on, at each turn up to this one, the tree gives what the leaf gives; these turns are few, and the
+-- leaf's numbers small
+pub record GivesAlong (tree : Tree) (outer : List ℤ) (first turns : ℤ) (leaf : Leaf) : Type 0 where
   pub small : IsSmall leaf
   pub few : turns ≤ℤ pos turn_limit
   pub gives : (turn : ℤ) → pos 0 ≤ℤ turn → turn ≤ℤ turns
       → outcome_of tree (outer ++ (first +ℤ turn) ∷ []) ≡ Some (found_at leaf turn)
 
--- the row has so many turns at most, and the tree gives along it what its leaf gives
+-- the row goes on for at most so many turns after its first, and the tree gives along it what its leaf gives
 pub record IsRow (tree : Tree) (outer : List ℤ) (first limit : ℤ) (row : Row) : Type 0 where
-  pub begun : pos 0 ≤ℤ row.turns
+  pub not_negative : pos 0 ≤ℤ row.turns
   pub few : row.turns ≤ℤ limit
-  pub along : IsAlong tree outer first row.turns row.leaf
+  pub along : GivesAlong tree outer first row.turns row.leaf
 
 -- from the first value of the stretch to the last the tree gives what the stretch's leaf gives
 abbrev pub IsStretch : Tree → Stretch → Type 0
 IsStretch tree stretch =
-    IsAlong tree stretch.outer stretch.first (stretch.last -ℤ stretch.first) stretch.leaf
+    GivesAlong tree stretch.outer stretch.first (stretch.last -ℤ stretch.first) stretch.leaf
 
 -- so it does along the stretch that is known, if there is one
 abbrev pub IsStretchOf : Tree → Follower → Type 0

@@ -26,7 +26,8 @@ struct Stretch {
 }
 
 /// What is known of a tree along its innermost loop, for trees that are followed at one point of a statement after the
-/// other. Where no stretch is found, so many points are passed before one is looked for again.
+/// other. Where no stretch is found, some points are passed before one is looked for again: `left` are still to pass, and
+/// last time there were `pause` of them, 63 at most.
 #[derive(Drop)]
 pub struct Follower {
     stretch: Option<Stretch>,
@@ -42,7 +43,7 @@ const PAUSE_LIMIT: u32 = 63;
 
 // How many turns a stretch that begins at this value may have.
 fn turns_from(first: i64) -> i64
-    ensures begun { pos 0 ≤ℤ result }
+    ensures not_negative { pos 0 ≤ℤ result }
     ensures few { result ≤ℤ pos turn_limit }
     ensures fits { (first +ℤ result) ≤ℤ pos 9223372036854775807 }
 {
@@ -205,8 +206,9 @@ impl Follower {
         eval_narrow(tree, at)
     }
 
-    /// Whether it is known already that the tree gives this point of this statement at these loop values. It takes a
-    /// comparison for each value, and makes no point.
+    /// Whether it is known already that the tree gives this point of this statement at these loop values, where what is known
+    /// is of this tree. `false` tells nothing: `eval` then says what the tree gives. It takes a comparison for each value, and
+    /// makes no point.
     pub fn tells(&self, at: &Vector, statement: u32, point: &[i64]) -> bool
         requires { (tree : Tree) × IsStretchOf tree self.now }
         ensures { IsTrue result → (tree : Tree) → IsStretchOf tree self.now
@@ -226,8 +228,9 @@ impl Follower {
         }
     }
 
-    /// What the tree gives at these loop values, as `eval_narrow` tells it. The tree is followed anew only where the values
-    /// don't lie in the stretch that is known.
+    /// What the tree gives at these loop values, as `source_tree::eval` tells it (Feautrier 1991), where what is known is of
+    /// this tree, and stays so. `Overflow` comes exactly where a form of the path that is taken leaves 128 bits, or a value of
+    /// the leaf's map 64 bits. The tree is followed anew only where the values don't lie in the stretch that is known.
     pub fn eval(&mut self, tree: &Tree, at: &Vector) -> Result<Found, Overflow>
         requires ready { IsTrue (is_ready (length at.now) tree.now (length at.now)) }
         requires known { IsStretchOf tree.now self.old }

@@ -3,7 +3,7 @@ ghost use Rattle.std.specs.Option.{option_map};
 ghost use Rattle.std.specs.Prelude.{◌≡◌, ◌≤◌, ◌≤ℤ◌, ◌+◌, ◌+ℤ◌, ◌++◌, ℤ, pos, Some, [], ◌∷◌, ◌*ℤ◌, length, unsigned_abs, IsTrue};
 ghost use Rattle.source_tree.specs.declared.tree.Found.TheVariants as found;
 ghost use Rattle.source_tree.specs.Walk.{map_values};
-ghost use Rattle.tree_eval.specs.Stretches.{AddsLines, AreSmall, IsSmall, found_at, moved, start_limit, step_limit, turn_limit};
+ghost use Rattle.tree_eval.specs.Stretches.{AddsLines, AreSmall, IsSmall, found_at, values_at, start_limit, step_limit, turn_limit};
 
 use crate::line::{Line, line_of};
 use affine_core::{Form, Vector};
@@ -22,26 +22,26 @@ pub(crate) enum Leaf {
 const START_LIMIT: u64 = 2_305_843_009_213_693_952;
 
 // Adds the values of a map at a turn.
-fn append_moved(starts: &[i64], steps: &[i64], turn: i64, out: &mut Vector)
+fn append_values_at(starts: &[i64], steps: &[i64], turn: i64, out: &mut Vector)
     requires room { length out.old + length starts.now ≤ 6 }
     requires small { AreSmall starts.now steps.now }
-    requires begun { pos 0 ≤ℤ turn }
+    requires not_negative { pos 0 ≤ℤ turn }
     requires few { turn ≤ℤ pos turn_limit }
-    ensures { out.new ≡ out.old ++ moved turn starts.now steps.now }
+    ensures { out.new ≡ out.old ++ values_at turn starts.now steps.now }
 {
     let (Some((start, starts)), Some((step, steps))) = (starts.split_first(), steps.split_first())
     else {
         return;
     };
     out.push(*start + turn * *step);
-    append_moved(starts, steps, turn, out)
+    append_values_at(starts, steps, turn, out)
 }
 
 // The value at a turn, by that at the first turn and the step to the next.
 fn value_at(start: i64, step: i64, turn: i64) -> i64
     requires start { unsigned_abs start ≤ start_limit }
     requires step { unsigned_abs step ≤ step_limit }
-    requires begun { pos 0 ≤ℤ turn }
+    requires not_negative { pos 0 ≤ℤ turn }
     requires few { turn ≤ℤ pos turn_limit }
     ensures { result ≡ start +ℤ (turn *ℤ step) }
 {
@@ -49,11 +49,11 @@ fn value_at(start: i64, step: i64, turn: i64) -> i64
 }
 
 // Whether these are the values of a map at a turn.
-fn are_moved(starts: &[i64], steps: &[i64], turn: i64, values: &[i64]) -> bool
+fn are_values_at(starts: &[i64], steps: &[i64], turn: i64, values: &[i64]) -> bool
     requires small { AreSmall starts.now steps.now }
-    requires begun { pos 0 ≤ℤ turn }
+    requires not_negative { pos 0 ≤ℤ turn }
     requires few { turn ≤ℤ pos turn_limit }
-    ensures { IsTrue result → moved turn starts.now steps.now ≡ values.now }
+    ensures { IsTrue result → values_at turn starts.now steps.now ≡ values.now }
 {
     let (Some((start, starts)), Some((step, steps))) = (starts.split_first(), steps.split_first())
     else {
@@ -62,14 +62,14 @@ fn are_moved(starts: &[i64], steps: &[i64], turn: i64, values: &[i64]) -> bool
     let Some((value, values)) = values.split_first() else {
         return false;
     };
-    *value == value_at(*start, *step, turn) && are_moved(starts, steps, turn, values)
+    *value == value_at(*start, *step, turn) && are_values_at(starts, steps, turn, values)
 }
 
 impl Leaf {
     /// Whether the leaf gives this point of this statement at a turn.
     pub(crate) fn is_at(&self, turn: i64, statement: u32, point: &[i64]) -> bool
         requires small { IsSmall self.now }
-        requires begun { pos 0 ≤ℤ turn }
+        requires not_negative { pos 0 ≤ℤ turn }
         requires few { turn ≤ℤ pos turn_limit }
         ensures { IsTrue result
             → found_at self.now turn
@@ -77,7 +77,8 @@ impl Leaf {
     {
         match self {
             Leaf::Writer(writer, starts, steps) => {
-                *writer == statement && are_moved(starts.as_slice(), steps.as_slice(), turn, point)
+                *writer == statement
+                    && are_values_at(starts.as_slice(), steps.as_slice(), turn, point)
             }
             Leaf::Zero | Leaf::Dead => false,
         }
@@ -86,14 +87,14 @@ impl Leaf {
     /// What the leaf gives at a turn.
     pub(crate) fn at(&self, turn: i64) -> Found
         requires small { IsSmall self.now }
-        requires begun { pos 0 ≤ℤ turn }
+        requires not_negative { pos 0 ≤ℤ turn }
         requires few { turn ≤ℤ pos turn_limit }
         ensures { result ≡ found_at self.now turn }
     {
         match self {
             Leaf::Writer(statement, starts, steps) => {
                 let mut at = Vector::empty(starts.allocator());
-                append_moved(starts.as_slice(), steps.as_slice(), turn, &mut at);
+                append_values_at(starts.as_slice(), steps.as_slice(), turn, &mut at);
                 Found::At(Point {
                     statement: *statement,
                     at,

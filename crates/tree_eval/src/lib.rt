@@ -10,4 +10,3 @@ mod row;
 mod walk;
 
 pub use follower::Follower;
-pub use walk::eval_narrow;

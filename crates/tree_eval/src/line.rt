@@ -39,7 +39,8 @@ fn last_line(total: i64, coef: i128, first: i64) -> Option<Line>
 // The line of a sum to which products with the values of the loops are added, outermost first.
 fn line_from(total: i64, coefs: &[i128], outer: &[i64], first: i64) -> Option<Line>
     ensures { IfSome result
-        (IsLine (λ turn. combined_in_128_bits total coefs.now (outer.now ++ (first +ℤ turn) ∷ []))) }
+        (IsLine
+        (λ turn. combined_in_128_bits total coefs.now (outer.now ++ (first +ℤ turn) ∷ []))) }
 {
     let Some((coef, coefs)) = coefs.split_first() else {
         return Some(Line {
@@ -71,7 +72,7 @@ fn turns_kept(value: i64, step: i64, turns: i64) -> i64
     requires value { pos 0 ≤ℤ value }
     requires step { unsigned_abs step ≤ step_limit }
     requires turns { pos 0 ≤ℤ turns }
-    ensures begun { pos 0 ≤ℤ result }
+    ensures not_negative { pos 0 ≤ℤ result }
     ensures few { result ≤ℤ turns }
     ensures kept { (turn : ℤ) → pos 0 ≤ℤ turn → turn ≤ℤ result
         → pos 0 ≤ℤ (value +ℤ (turn *ℤ step)) }
@@ -84,7 +85,7 @@ fn turns_kept(value: i64, step: i64, turns: i64) -> i64
 }
 
 // The line on the other side of zero: each value is -1 less what it was.
-fn flipped(line: Line) -> Line
+fn opposite_line(line: Line) -> Line
     requires { unsigned_abs line.step ≤ step_limit }
     ensures value { result.value ≡ negsuc 0 -ℤ line.value }
     ensures step { result.step ≡ pos 0 -ℤ line.step }
@@ -99,7 +100,7 @@ fn flipped(line: Line) -> Line
 pub(crate) fn turns_on_side(line: Line, turns: i64) -> i64
     requires step { unsigned_abs line.step ≤ step_limit }
     requires turns { pos 0 ≤ℤ turns }
-    ensures begun { pos 0 ≤ℤ result }
+    ensures not_negative { pos 0 ≤ℤ result }
     ensures few { result ≤ℤ turns }
     ensures side { (turn : ℤ) → pos 0 ≤ℤ turn → turn ≤ℤ result
         → int_le (pos 0) (line_at line turn) ≡ int_le (pos 0) line.value }
@@ -107,6 +108,6 @@ pub(crate) fn turns_on_side(line: Line, turns: i64) -> i64
     if line.value >= 0 {
         return turns_kept(line.value, line.step, turns);
     }
-    let other = flipped(line);
+    let other = opposite_line(line);
     turns_kept(other.value, other.step, turns)
 }

@@ -25,7 +25,7 @@ pub(crate) fn follow_row(
     turns: i64,
 ) -> Option<Row>
     requires ready { (depth variables : ℕ) × IsTrue (is_ready depth tree.now variables) }
-    requires begun { pos 0 ≤ℤ turns }
+    requires not_negative { pos 0 ≤ℤ turns }
     requires few { turns ≤ℤ pos turn_limit }
     ensures { IfSome result (IsRow tree.now outer.now first turns) }
 {

@@ -60,7 +60,7 @@ fn follow(tree: &Tree, at: &Vector) -> Option<Found>
 /// What the tree gives at these loop values, as `source_tree::eval` tells it (Feautrier 1991): by numbers of 64 bits, and
 /// by those of 128 only where one leaves 64 or the path has a Divides. `Overflow` comes exactly where a form of the path
 /// that is taken leaves 128 bits, or a value of the leaf's map 64 bits. It takes no memory.
-pub fn eval_narrow(tree: &Tree, at: &Vector) -> Result<Found, Overflow>
+pub(crate) fn eval_narrow(tree: &Tree, at: &Vector) -> Result<Found, Overflow>
     requires { IsTrue (is_ready (length at.now) tree.now (length at.now)) }
     ensures exact { result_ok result ≡ outcome_of tree.now at.now }
     ensures value { IfOk result (λ found. found ≡ gives tree.now at.now) }

@@ -16,11 +16,11 @@ pub returns-clause-side : goal.returns-clause-side
 returns-clause-side c turn from to =
     let value : FitsSigned w64 c.args.line.value = search rules in
     let step : FitsSigned w64 c.args.line.step = search rules in
-    let other : FitsSigned w64 c.flipped-other.result.value = search rules in
-    let back : FitsSigned w64 c.flipped-other.result.step = search rules in
+    let other : FitsSigned w64 c.opposite_line-other.result.value = search rules in
+    let back : FitsSigned w64 c.opposite_line-other.result.step = search rules in
     let kept = simp to_z-of_z at c.turns_kept-2.ensures.kept in
     let few : turn ≤ℤ c.turns_kept-2.result = omega (arith, ints) in
     negative (line_at c.args.line turn)
-    (stays_below c.args.line.value c.args.line.step c.flipped-other.result.value c.flipped-other.result.step turn
-    c.flipped-other.ensures.value c.flipped-other.ensures.step (kept turn from few))
+    (stays_below c.args.line.value c.args.line.step c.opposite_line-other.result.value c.opposite_line-other.result.step turn
+    c.opposite_line-other.ensures.value c.opposite_line-other.ensures.step (kept turn from few))
     ∙ sym (simp to_z-of_z at c.if-line-ge0.false)

@@ -4,7 +4,7 @@ use Rattle.source_tree.specs.declared.tree.Tree.TheViews.{the_lemmas}
 use Rattle.source_tree.specs.Walk.{is_ready}
 use Rattle.source_tree.proofs.Walked.{ready_test, ready_writer, writer_some, walked_zero, walked_dead}
 use Rattle.tree_eval.specs.declared.leaf.Leaf.TheVariants.{Writer, Zero, Dead}
-use Rattle.tree_eval.specs.Stretches.{moved}
+use Rattle.tree_eval.specs.Stretches.{values_at}
 use Rattle.tree_eval.proofs.Rows.{leaf_row, test_row}
 use Rattle.tree_eval.proofs.row.+follow_row.Goals as goal
 
@@ -78,24 +78,24 @@ returns-then-append_lines t c =
     let all : FitsSigned w64 c.args.turns = c.ranges.turns in
     let adds = simp to_z-of_z at c.if-append_lines.ensures in
     simp to_z-of_z (leaf_row c.args.tree.now c.args.outer.now c.args.first c.args.turns
-    (Writer c.in-Writer.statement c.append_lines.new.starts c.append_lines.new.steps) adds.small c.requires.begun
+    (Writer c.in-Writer.statement c.append_lines.new.starts c.append_lines.new.steps) adds.small c.requires.not_negative
     c.requires.few
     (λ turn from to. sym (writer_some (c.args.outer.now ++ (c.args.first +ℤ turn) ∷ [])
-    (c.args.outer.now ++ (c.args.first +ℤ turn) ∷ []) (moved turn c.empty-starts.result c.empty-steps.result)
-    (moved turn c.append_lines.new.starts c.append_lines.new.steps) c.args.tree.now c.in-Writer.statement
+    (c.args.outer.now ++ (c.args.first +ℤ turn) ∷ []) (values_at turn c.empty-starts.result c.empty-steps.result)
+    (values_at turn c.append_lines.new.starts c.append_lines.new.steps) c.args.tree.now c.in-Writer.statement
     c.in-Writer.forms c.as_slice.result.now c.in-Writer.field-2 c.in-Writer.is refl c.as_slice.ensures
-    (ap (λ xs. moved turn xs c.empty-steps.result) c.empty-starts.ensures) (adds.are turn from to))))
+    (ap (λ xs. values_at turn xs c.empty-steps.result) c.empty-starts.ensures) (adds.are turn from to))))
 
 pub returns-in-Zero : goal.returns-in-Zero
 returns-in-Zero t c =
     let all : FitsSigned w64 c.args.turns = c.ranges.turns in
-    simp to_z-of_z (leaf_row c.args.tree.now c.args.outer.now c.args.first c.args.turns Zero tt c.requires.begun
+    simp to_z-of_z (leaf_row c.args.tree.now c.args.outer.now c.args.first c.args.turns Zero tt c.requires.not_negative
     c.requires.few
     (λ turn from to. walked_zero (c.args.outer.now ++ (c.args.first +ℤ turn) ∷ []) c.args.tree.now _ c.in-Zero.is))
 
 pub returns-in-Dead : goal.returns-in-Dead
 returns-in-Dead t c =
     let all : FitsSigned w64 c.args.turns = c.ranges.turns in
-    simp to_z-of_z (leaf_row c.args.tree.now c.args.outer.now c.args.first c.args.turns Dead tt c.requires.begun
+    simp to_z-of_z (leaf_row c.args.tree.now c.args.outer.now c.args.first c.args.turns Dead tt c.requires.not_negative
     c.requires.few
     (λ turn from to. walked_dead (c.args.outer.now ++ (c.args.first +ℤ turn) ∷ []) c.args.tree.now _ c.in-Dead.is))

@@ -12,7 +12,7 @@ returns c =
     let turns : FitsSigned w64 c.in_ok-row.row.turns = search rules in
     let is : IsRow c.args.tree.now c.args.outer.now c.args.first c.turns_from.result c.in_ok-row.row =
     simp to_z-of_z at c.in_ok-row.ensures in
-    let begun = is.begun in
+    let not_negative = is.not_negative in
     let few = is.few in
     let from : c.args.first ≤ℤ (c.args.first +ℤ c.in_ok-row.row.turns) = omega (arith, ints) in
     let to : (c.args.first +ℤ c.in_ok-row.row.turns) ≤ℤ pos 9223372036854775807 =

@@ -1,4 +1,10 @@
 -- How a call ends, from what its parts did.
+--
+-- What a part reports is a reply, a refusal, a fault of reading or want of memory. Each of these is carried on: from
+-- the words and the bundle to what was planned (`IsPlanned`), and from there, by how far the sinks took the text, to an
+-- end of the call (`Ends`). All is by cases on the report; a report that a part can't give is contradictory. A sink
+-- that nothing was written on stands still (`kept`). What a reply says isn't looked at here: that it is the command's
+-- is taken from the part that made it.
 use Rattle.std.proofs.Common.{◌≡◌, ◌≢◌, ◌≤◌, ◌+◌, ℕ, List, [], length, Option, Some, Result, Ok, Err, refl, sym, subst}
 use Rattle.std.proofs.Common.{inl, inr, lit≤, arith}
 use Rattle.std.specs.Io.KnownBytes.{Appends}

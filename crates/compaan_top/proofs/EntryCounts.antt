@@ -1,6 +1,7 @@
--- How many entries of a trace are of its first so many statements. With one statement more come that statement's points,
--- and each entry is of a statement that is there, so all points together are the trace. The induction goes over the
--- entries: one of them is of the next statement, of an earlier one, or of a later one. Nothing is said of their order.
+-- How many entries of a trace are of its first so many statements. With one statement more come that statement's
+-- points, and each entry is of a statement that is there, so all points together are the trace. The induction goes
+-- over the entries: one of them is of the next statement, of an earlier one, or of a later one. Nothing is said of
+-- their order.
 use Rattle.std.proofs.Common.{◌≡◌, ◌+◌, ◌<◌, ◌≤◌, ℕ, ℤ, zero, suc, Bool, true, false, cond, List, [], ◌∷◌, Some, length, map, get_or}
 use Rattle.std.proofs.Common.{count_by, slice_get, refl, sym, ap, ◌∙◌, arith, inl, inr, nat_lt, eqb, eq-eqb, ne_eqb}
 use Rattle.std.proofs.lemmas.Bool.{cases_lt, le-ltb, lt-ltb}

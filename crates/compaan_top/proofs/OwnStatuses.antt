@@ -1,4 +1,10 @@
 -- The statuses with which each command may end.
+--
+-- A refused source has status 6, 7 or 8 (`IsOfSource`), and the list of each command that reads a source has all three;
+-- every other case has one status, and that it is in the list is computed. So an outcome has a status of its command's
+-- list (`outcomes_own`), and a call has one of those, 4, 10, or 3 where it reads (`calls_own`). That each status of a
+-- list arises isn't shown here. Where no sink has a fault, 10 alone may be a status of calls for all words
+-- (`no_one_status`): refused words have 2 or 10, and those that order `seq` never 2.
 use Rattle.std.proofs.Common.{◌≡◌, ◌∙◌, ◌⊎◌, ◌==◌, ◌++◌, ℕ, ℤ, true, true≢false, List, [], ◌∷◌, Option, Some, None}
 use Rattle.std.proofs.Common.{Result, Ok, Err, refl, sym, subst, inl, inr}
 use Rattle.std.proofs.lemmas.Bool.{or_right}

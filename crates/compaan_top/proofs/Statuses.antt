@@ -1,4 +1,11 @@
 -- The order and the bundle determine the status, and where nothing is refused it is success.
+--
+-- A command's answer is a relation with some cases, so two answers to one order and one bundle are compared case by
+-- case: two cases exclude each other, and within one case the statuses agree. Under all of them a source comes to one
+-- end (`gives_alike`): its tokens are a function of its bytes, a refused place excludes a tree, and the tree is one,
+-- which is a hypothesis here (`OneTree`). Nests are alike in arrays, statements and body; the verdict and the automata
+-- don't depend on the facts that a nest keeps. Success is the same comparison, with what a valid order allows. Only
+-- statuses are compared, not texts.
 use Rattle.std.proofs.Common.{◌≡◌, ◌≤◌, ℕ, suc, ℤ, List, [], length, drop, Option, Some, None, Result, Ok, Err, refl}
 use Rattle.std.proofs.Common.{sym, ap, ◌∙◌, subst, arith, map, inl, inr, take-append-drop}
 use Rattle.sanlp.specs.WellFormed.{IsWellFormed}

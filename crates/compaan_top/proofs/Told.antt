@@ -1,5 +1,11 @@
 -- What a call comes to whose source tells its bytes. Within the limit what was read is all that the source had; past
 -- it, both are too long, and too long a bundle is refused whatever it holds.
+--
+-- So an outcome of what was read is an outcome of all that the source had, and a call that was answered comes to one
+-- (`comes_to`): its three other ends have the statuses 3, 4 and 10, which `IsAnswered` excludes. For `check` this gives
+-- that `accepted` is said exactly where the bundle is within the limit and has a sound certificate (`call_accepted`).
+-- That acceptance vouches for a fitting pair, that what fits is sound, and that what fits is accepted are hypotheses
+-- here (`Vouched`).
 use Rattle.std.proofs.Common.{◌≡◌, ◌∙◌, ◌⊎◌, ◌≤◌, ◌<◌, ◌++◌, arith, ℕ, List, length, length-append, append-nil, Option}
 use Rattle.std.proofs.Common.{Some, None, refl, sym, ap, subst, inl, inr}
 use Rattle.std.specs.Io.KnownBytes.{Appends, Consumes, IsAtEnd}

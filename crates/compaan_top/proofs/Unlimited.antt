@@ -1,8 +1,8 @@
 -- Where each read of the source's nest has a tree, `deps` doesn't end with the status of a passed limit.
 --
--- Such an order and bundle are valid whatever the nest's size, so where the call wrote an outcome of the bundle the command was
--- done, or the bundle was too long; a call that wrote none has a status of its own. It isn't said that the call succeeds: a source
--- or a sink may fail, and memory may be short.
+-- Such an order and bundle are valid whatever the nest's size, so where the call wrote an outcome of the bundle the
+-- command was done, or the bundle was too long; a call that wrote none has a status of its own. It isn't said that the
+-- call succeeds: a source or a sink may fail, and memory may be short.
 use Rattle.std.proofs.Common.{◌≡◌, ◌≢◌, ◌∙◌, ℕ, [], List, Option, Some, None, refl, sym, subst}
 use Rattle.command_line.specs.declared.words.Command.{Command}
 use Rattle.command_line.specs.declared.words.Command.TheVariants.{Deps}

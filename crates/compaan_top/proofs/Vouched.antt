@@ -1,4 +1,11 @@
 -- What holds where `check` accepts.
+--
+-- Status 0 leaves one case: every other end, outcome and answer has a status that isn't 0. In that case nothing was
+-- found wrong with the pair that was read, so the pair fits, the text stands for it, and the network is sound. The
+-- other way, a text that stands for a fitting pair is read as that pair and its source gives one nest, so no case is
+-- left in which it isn't accepted. Hypotheses here: the first fault is none exactly where the pair fits
+-- (`NothingWrongFits`), what fits is sound (`WhatFitsIsSound`), reading and standing for agree (`ReadsItsText`,
+-- `TextIsRead`), and `OneTree`.
 use Rattle.std.proofs.Common.{Err, ◌≡◌, ◌≤◌, ◌∙◌, arith, length, ℕ, ℤ, List, Option, Some, None, Result, Ok, refl, sym}
 use Rattle.std.proofs.Common.{ap, subst, inl, inr}
 use Rattle.std.specs.Prelude.{◌↔◌}

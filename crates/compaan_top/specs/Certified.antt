@@ -60,7 +60,8 @@ pub record HasCertificate (bundle other text : List ℕ) : Type 0 where
 
 -- an order to `check` comes to `accepted` on a bundle within the limit
 abbrev pub Accepts : Order → List ℕ → Type 0
-Accepts order bundle = order.command ≡ command.Check → length bundle ≤ bundle_limit → (outcome : Outcome)
+Accepts order bundle =
+    order.command ≡ command.Check → length bundle ≤ bundle_limit → (outcome : Outcome)
     → IsOutcome (Some order) bundle outcome → outcome ≡ accepted
 
 -- a call with an order, and how it ended

@@ -184,7 +184,8 @@ fn finish_certificate<K: Sink, E: Sink>(
     output: &mut K,
     complaint: &mut E,
 ) -> u8
-    ensures { (wanted : Option WordOrder) (input : Change) → IsCertificatePlanned wanted input planned
+    ensures { (wanted : Option WordOrder) (input : Change)
+        → IsCertificatePlanned wanted input planned
         → Ends wanted input
         (change (K.held output.old) (K.held output.new) (K.faults output.old) (K.faults output.new))
         (change (E.held complaint.old) (E.held complaint.new)

@@ -9,9 +9,9 @@ ghost use Rattle.witness_plan.specs.Schedules.{planned_network};
 
 use io_edge::Gate;
 use loop_walk::points;
-use net_checker::{Verdict, check};
+use net_checker::{Verdict, check_with_sources};
 use net_core::Network;
-use net_maker::compile_nest;
+use net_maker::{SweptNetwork, compile_with_sources};
 use sanlp::{Arrays, Inputs, Nest, Points};
 use std::alloc::{AllocError, Global};
 use std::sync::Wait;
@@ -58,9 +58,13 @@ pub(crate) fn run_by_threads<R: Threads + Wait + Sync, G: Gate + Sync>(
     ensures numbers { IfOk result (λ run. FitsNumbers (net_of run.network)) }
     ensures arrays { IfOk result (λ run. run.arrays.arrays ≡ arrays nest.now inputs.now) }
 {
-    let (network, cert) = compile_nest(alloc, nest, policy)?;
+    let SweptNetwork {
+        network,
+        cert,
+        sources,
+    } = compile_with_sources(alloc, nest, policy)?;
     let points = points(alloc, nest)?;
-    match check(alloc, nest, &points, &network, &cert)? {
+    match check_with_sources(alloc, nest, &points, &network, &cert, sources)? {
         Verdict::Accepted => {
             let ends = make_ends(alloc, nest, &points, inputs, &network)?;
             let bench = Bench::new(alloc, nest, &points, &network)?;

@@ -1,9 +1,9 @@
 -- Where the Fires of a process fit, no event of it may not stand where it does.
 --
--- A Get may stand anywhere. Each Fire that fits has its references, and fewer Fires before it than there are in all, which
--- is the number of points. A Put has a Fire before it: otherwise it, or another Put before it, would be the first event
--- that is no Get. So nothing is wrong at any place, nor at the end, where all points had their Fire. The converse holds
--- too, but isn't needed.
+-- A Get may stand anywhere. Each Fire that fits has its references, and fewer Fires before it than there are in all,
+-- which is the number of points. A Put has a Fire before it: otherwise it, or another Put before it, would be the
+-- first event that is no Get. So nothing is wrong at any place, nor at the end, where all points had their Fire. The
+-- converse holds too, but isn't needed.
 use Rattle.std.proofs.Common.{◌≡◌, ℕ, zero, suc, ◌<◌, Bool, true, false, ltb, lt-ltb, eqb-true, Some}
 use Rattle.std.proofs.Common.{None, List, [], ◌∷◌, length, slice_get, count_by, take, refl, ap, arith}
 use Rattle.std.specs.List.{list_all}

@@ -1,4 +1,11 @@
 -- What the code found is wrong first.
+--
+-- But for a shape that is wrong as a whole, a refusal is what the least number gives that gives anything:
+-- the least process, place or channel at which a test fails. The code goes up from 0. Where it stops at a
+-- number, the test fails there and fails at no lesser one, so what it answers is the definition's
+-- (`first_found` of Choices); where it comes to the end, none of these is refused. For the fires it counts
+-- the Fires that it passes, and before each place that is the count of the definition (`fired_yes`,
+-- `fired_no`), so it makes the same test. What a refusal says of the network isn't a matter of this file.
 use Rattle.std.proofs.Common.{◌≡◌, ℕ, zero, suc, ◌+◌, ◌^◌, take, inl, inr, ◌<◌, ◌≤◌, true, false, cond, ltb, Option}
 use Rattle.std.proofs.Common.{Some, None, List, [], length, slice_get, get_or, count_by, sym, ap, ◌∙◌, arith}
 use Rattle.std.proofs.lemmas.Bool.{le-ltb, lt-ltb, cases_eq, cases_lt, cond-true, cond-false}

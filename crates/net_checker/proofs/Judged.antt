@@ -1,4 +1,11 @@
 -- A fire is judged by the slots of the state and the table of sources.
+--
+-- The definition finds what a reference names by places in the scripts; the code has a state of the
+-- machine and a table. In a state whose places hold what they name (`IsNamed`) the slots of a process
+-- are the names at its position, and it has kept one value for each fire, which tells the turn. The
+-- exact table has the tag of the last writer for each read and turn (`source_found`). So each reference
+-- is tested for the same name and source, and the first that is refused is the same. It rests on the
+-- network's fitting the nest: a fire has a point left, and as many references as reads.
 use Rattle.std.proofs.Common.{◌≡◌, ℕ, zero, suc, ◌+◌, ◌<◌, ◌≤◌, ℤ, true, Option, Some, None, List, length, take}
 use Rattle.std.proofs.Common.{slice_get, refl, sym, ap, ap₂, ◌∙◌, inl, inr, arith}
 use Rattle.std.specs.List.{sum_by}

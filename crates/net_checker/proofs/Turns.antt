@@ -41,7 +41,7 @@ use Rattle.net_core.specs.Shape.{turns}
 use Rattle.net_core.proofs.Entries.{entry_at_turn, turn_of_entry}
 use Rattle.net_core.proofs.Valued.{turn_entry, vectors_at}
 use Rattle.source_check.proofs.Orders.{common_same}
-use Rattle.net_checker.specs.Tables.{AreInOrder, IsTagGiven}
+use Rattle.net_checker.specs.Tables.{AreInOrder, GivesTag}
 use Rattle.net_checker.proofs.FitsShape.{take_all}
 
 -- Order
@@ -268,11 +268,11 @@ module _ (n : Nest) (u : ℕ) (p : Point) (is : slice_get (trace n) u ≡ Some p
 
 -- the tag of a point that is given
 pub given_tag : (n : Nest) (points : List (List (List ℤ))) (tree : Tree) (at : List ℤ) (tag : Tag)
-    → points ≡ points_of n → IsTagGiven points tree at tag → (writer : Option ℕ)
+    → points ≡ points_of n → GivesTag points tree at tag → (writer : Option ℕ)
     → IsPointOf (trace n) writer (gives tree at) → Some tag ≡ option_and_then (tag_at (trace n)) writer
 given_tag n points tree at tag whole told writer h =
     let p : Point = record { statement = tag.process; at = told.point } in
-    let is : At p ≡ gives tree at = eval_gives {E = Unit {0}} tree at (Ok (At p)) (sym told.given) in
+    let is : At p ≡ gives tree at = eval_gives {E = Unit {0}} tree at (Ok (At p)) (sym told.is) in
     let entry = entry_found n writer (gives tree at) p is h in
     let turn = turn_is n entry.0 p entry.2 points (get_or points tag.process []) whole refl (Some tag.turn)
     (λ f sorted here. once (get_or points tag.process []) sorted f p.at here tag.turn told.there) in

@@ -1,4 +1,10 @@
 -- The uses of the channels, as a walk over each process's script collects them.
+--
+-- There are two invariants. Before a place of one script (`IsCollected`) the slots have their latest Gets, the counts
+-- how many Gets of each channel came, and each channel's list has got the uses up to there. The number of a Get is the
+-- count of its channel, which was 0 when the script began. After the first p scripts (`AreUsesBelow`) the channels that
+-- these processes read have all their uses, and the others have no Get and no use. It holds again after one script
+-- more, since in a wired network a process gets from the channels that it reads alone, so it uses no other (`no_uses`).
 use Rattle.std.proofs.Common.{◌≡◌, ℕ, zero, suc, ◌+◌, ◌<◌, ◌≤◌, ◌^◌, Bool, false, cond, eqb, Option, Some, None, List}
 use Rattle.std.proofs.Common.{[], ◌∷◌, ◌++◌, length, take, slice_get, get_or, count_by, refl, sym, ap, ap₂, ◌∙◌, inl}
 use Rattle.std.proofs.Common.{inr, ◌⊎◌, arith, add-one, append-nil, append_assoc, eq-eqb, ne_eqb}

@@ -15,11 +15,11 @@ is_tree Sweep = false
 is_tree (Tree tree) = true
 
 -- the tag is that of the point which a tree gives at these loop values, among these points of each statement
-pub record IsTagGiven (points : List (List (List ℤ))) (tree : SourceTree) (at : List ℤ) (tag : Tag)
+pub record GivesTag (points : List (List (List ℤ))) (tree : SourceTree) (at : List ℤ) (tag : Tag)
     : Type 0 where
   pub point : List ℤ
   pub there : slice_get (slice_index_or points tag.process []) tag.turn ≡ Some point
-  pub given : outcome_of tree at
+  pub is : outcome_of tree at
       ≡ Some (found.At (record { statement = tag.process; at = point }))
 
 -- iteration vectors in lexicographic order, each once

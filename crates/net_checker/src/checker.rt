@@ -1,6 +1,7 @@
-ghost use Rattle.std.specs.Prelude.{◌≡◌, ◌↔◌, IfOk};
+ghost use Rattle.std.specs.Prelude.{◌≡◌, ◌↔◌, IfOk, IfSome};
 ghost use Rattle.sanlp.specs.Size.{SizeIsOk};
 ghost use Rattle.sanlp.specs.Points.{points_of};
+ghost use Rattle.source_tree.specs.Sources.{sources_of};
 ghost use Rattle.net_core.specs.Machine.{net_of};
 ghost use Rattle.net_core.specs.Shape.{FitsNumbers};
 ghost use Rattle.net_core.specs.Sound.{IsSound};
@@ -15,20 +16,22 @@ use crate::verdict::{Refusal, Verdict};
 use net_core::Network;
 use plain_data::Items;
 use sanlp::{Nest, Points};
-use source_tree::Cert;
+use source_tree::{Cert, SourceTable};
 use std::alloc::{AllocError, Global};
 
-// What is wrong first, if anything is.
+// What is wrong first, if anything is. The last writers of all reads may be known.
 fn first_refusal(
     alloc: Global,
     nest: &Nest,
     points: &Points,
     network: &Network,
     cert: &Cert,
+    sources: Option<SourceTable>,
 ) -> Result<Option<Refusal>, AllocError>
     requires size { SizeIsOk nest.now }
     requires points { points.now.of ≡ points_of nest.now }
     requires numbers { FitsNumbers (net_of network.now) }
+    requires sources { IfSome sources (λ table. table.of ≡ sources_of nest.now) }
     ensures { IfOk result (λ refusal. refusal ≡ first nest.now network.now cert.now) }
 {
     if let Some(refusal) = shape_refusal(nest, network, cert) {
@@ -41,18 +44,45 @@ fn first_refusal(
     if let Some(refusal) = source_refusal(alloc, nest, points, cert, &mut rows)? {
         return Ok(Some(refusal));
     }
-    let table = table(alloc, nest, points, cert, rows)?;
+    let table = table(alloc, nest, points, cert, sources, rows)?;
     let schedule = cert.schedule.as_slice();
     if let Some(refusal) = schedule_refusal(alloc, nest, points, network, &table, schedule)? {
         return Ok(Some(refusal));
     }
+    drop(table);
     class_refusal(alloc, network)
+}
+
+// The verdict, where the last writers of all reads may be known.
+fn judge(
+    alloc: Global,
+    nest: &Nest,
+    points: &Points,
+    network: &Network,
+    cert: &Cert,
+    sources: Option<SourceTable>,
+) -> Result<Verdict, AllocError>
+    requires size { SizeIsOk nest.now }
+    requires points { points.now.of ≡ points_of nest.now }
+    requires numbers { FitsNumbers (net_of network.now) }
+    requires sources { IfSome sources (λ table. table.of ≡ sources_of nest.now) }
+    ensures exact { IfOk result
+        (λ verdict. verdict ≡ verdict_of (first nest.now network.now cert.now)) }
+    ensures fits { IfOk result
+        (λ verdict. (verdict ≡ Verdict.Accepted) ↔ Fits nest.now network.now cert.now) }
+    ensures sound { IfOk result
+        (λ verdict. verdict ≡ Verdict.Accepted → IsSound nest.now network.now) }
+{
+    match first_refusal(alloc, nest, points, network, cert, sources)? {
+        Some(refusal) => Ok(Verdict::Refused(refusal)),
+        None => Ok(Verdict::Accepted),
+    }
 }
 
 /// Accepted exactly where the network and the certificate fit the nest, and else what is wrong first. What is accepted is
 /// sound: in every order of events it computes what the nest computes (Kahn 1974). It takes the time of the network's
 /// events, of sorting the uses of each channel, and of checking each tree and following it at each point of its reader;
-/// and where some origin is `Sweep`, of one sweep of the nest.
+/// and where some origin is `Sweep`, of one sweep of the nest. Nothing fails but want of memory.
 pub fn check(
     alloc: Global,
     nest: &Nest,
@@ -70,8 +100,29 @@ pub fn check(
     ensures sound { IfOk result
         (λ verdict. verdict ≡ Verdict.Accepted → IsSound nest.now network.now) }
 {
-    match first_refusal(alloc, nest, points, network, cert)? {
-        Some(refusal) => Ok(Verdict::Refused(refusal)),
-        None => Ok(Verdict::Accepted),
-    }
+    judge(alloc, nest, points, network, cert, None)
+}
+
+/// The answer of `check`, where the last writers of all reads are known, as from the sweep that the network was derived by. The
+/// nest isn't swept, and the table is let go of before the classes of channels are judged. Nothing fails but want of memory.
+pub fn check_with_sources(
+    alloc: Global,
+    nest: &Nest,
+    points: &Points,
+    network: &Network,
+    cert: &Cert,
+    sources: SourceTable,
+) -> Result<Verdict, AllocError>
+    requires size { SizeIsOk nest.now }
+    requires points { points.now.of ≡ points_of nest.now }
+    requires numbers { FitsNumbers (net_of network.now) }
+    requires sources { sources.of ≡ sources_of nest.now }
+    ensures exact { IfOk result
+        (λ verdict. verdict ≡ verdict_of (first nest.now network.now cert.now)) }
+    ensures fits { IfOk result
+        (λ verdict. (verdict ≡ Verdict.Accepted) ↔ Fits nest.now network.now cert.now) }
+    ensures sound { IfOk result
+        (λ verdict. verdict ≡ Verdict.Accepted → IsSound nest.now network.now) }
+{
+    judge(alloc, nest, points, network, cert, Some(sources))
 }

@@ -13,6 +13,6 @@ mod shapes;
 mod sources;
 mod verdict;
 
-pub use checker::check;
+pub use checker::{check, check_with_sources};
 pub use laws::{accepts_what_fits, is_sound};
 pub use verdict::{Refusal, Seen, Verdict, Wanted};

@@ -12,7 +12,7 @@ ghost use Rattle.source_tree.specs.Sources.{read_number, read_sources, sources_o
 ghost use Rattle.source_tree.specs.Systems.{read_at};
 ghost use Rattle.net_checker.specs.Shapes.{read_total};
 ghost use Rattle.net_checker.specs.Sources.{first_overflow, origin_refusal, reads_refusal, source_refusal, tree_refusal};
-ghost use Rattle.net_checker.specs.Tables.{is_tree, AreInOrder, IsTagGiven};
+ghost use Rattle.net_checker.specs.Tables.{is_tree, AreInOrder, GivesTag};
 ghost use Rattle.source_tree.specs.declared.tree.Tree.{Tree};
 ghost use Rattle.tree_eval.specs.Stretches.{IsStretchOf};
 
@@ -116,7 +116,7 @@ fn guessed_tag(points: &Points, follower: &Follower, at: &Vector, steps: &Steps)
     requires { (tree : Tree) × IsStretchOf tree follower.now }
     ensures { IfSome result
         (λ tag. (tree : Tree) → IsStretchOf tree follower.now
-        → IsTagGiven points.now.of tree at.now tag) }
+        → GivesTag points.now.of tree at.now tag) }
 {
     let turn = u32::try_from(steps.guess()).ok()?;
     let there = vector_of_turn(points, steps.statement, turn)?;
@@ -145,7 +145,8 @@ fn add_sources(
     requires checked { (k : ℕ) × IsChecked nest.now statement k tree.now }
     requires empty { sources.old ≡ [] }
     ensures overflow { IfOk result
-        (λ rule. rule ≡ first_overflow tree.now (slice_index_or (points_of nest.now) statement [])) }
+        (λ rule. rule
+        ≡ first_overflow tree.now (slice_index_or (points_of nest.now) statement [])) }
     ensures sources { IfOk result
         (λ rule. rule ≡ None → (k : ℕ) → IsChecked nest.now statement k tree.now
         → sources.new ≡ read_sources nest.now (trace nest.now) statement k) }
@@ -311,20 +312,25 @@ fn are_trees(sources: &[Origin]) -> bool
         .all(|origin| matches!(origin, Origin::Tree(_)))
 }
 
-// The last writers of each read, which the rows have where each origin is a tree. The nest is swept only where some origin is
-// Sweep.
+// The last writers of each read: those that are known, or what the rows have where each origin is a tree. Otherwise the nest is
+// swept.
 pub(crate) fn table(
     alloc: Global,
     nest: &Nest,
     points: &Points,
     cert: &Cert,
+    sources: Option<SourceTable>,
     rows: Items<Items<Option<Tag>>>,
 ) -> Result<SourceTable, AllocError>
     requires size { SizeIsOk nest.now }
     requires points { points.now.of ≡ points_of nest.now }
+    requires sources { IfSome sources (λ table. table.of ≡ sources_of nest.now) }
     requires rows { IsTrue (list_all is_tree cert.now.sources) → rows ≡ sources_of nest.now }
     ensures { IfOk result (λ table. table.of ≡ sources_of nest.now) }
 {
+    if let Some(table) = sources {
+        return Ok(table);
+    }
     if are_trees(cert.sources.as_slice()) {
         return Ok(SourceTable { of: rows });
     }

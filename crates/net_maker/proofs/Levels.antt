@@ -1,8 +1,8 @@
 -- A tree and a proof of which so many levels are asked, by their outermost part.
 --
--- How deep something nests is told by the number of levels that are left, which falls by one at each part. So each kind of
--- part has one equivalence: it is in range at some levels where its own numbers are and what it has in it is at one level
--- less. At no level nothing is in range.
+-- How deep something nests is told by the number of levels that are left, which falls by one at each part. So each
+-- kind of part has one equivalence: it is in range at some levels where its own numbers are and what it has in it is
+-- at one level less. At no level nothing is in range.
 use Rattle.std.proofs.Common.{◌≡◌, ◌∙◌, ◌<◌, ◌-◌, ℕ, zero, suc, ℤ, List, true, false, Bool, refl, sym, subst, ap, arith}
 use Rattle.std.specs.Prelude.{◌↔◌, All, IsTrue}
 use Rattle.affine_core.specs.Within.{fits_128_bits}

@@ -1,8 +1,8 @@
 -- The origins of reads, added one by one in the order of statements and reads.
 --
--- Reads are numbered by their statement, and then by their place among its reads, so each number is that of one read alone.
--- Therefore an origin that is added at the end stands for the read whose number is the count so far, and for no other:
--- what held of the origins before it goes on to hold.
+-- Reads are numbered by their statement, and then by their place among its reads, so each number is that of one read
+-- alone. Therefore an origin that is added at the end stands for the read whose number is the count so far, and for no
+-- other: what held of the origins before it goes on to hold.
 use Rattle.std.proofs.Common.{◌≡◌, ◌∙◌, ◌+◌, ◌<◌, ◌≤◌, ℕ, zero, suc, List, [], ◌∷◌, ◌++◌, Some, None, length, take, refl}
 use Rattle.std.proofs.Common.{◌⊎◌, inl, inr, slice_get, sym, ap, subst, arith}
 use Rattle.std.specs.List.{sum_by}

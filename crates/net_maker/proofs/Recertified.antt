@@ -1,8 +1,8 @@
 -- A certificate with other origins fits as well.
 --
--- Of what the checker asks only the names speak of origins, and both ways a usable origin means the last writer. So what
--- fits with some origins fits with any that are one for each read and usable: shape, schedule and classes stay as they
--- are, and the references name the last writers under either.
+-- Of what the checker asks only the names speak of origins, and both ways a usable origin means the last writer. So
+-- what fits with some origins fits with any that are one for each read and usable: shape, schedule and classes stay as
+-- they are, and the references name the last writers under either.
 use Rattle.std.proofs.Common.{◌≡◌, length}
 use Rattle.net_checker.specs.Fits.{Fits}
 use Rattle.net_checker.specs.Shapes.{read_total}

@@ -7,4 +7,6 @@ mod origins;
 mod ranges;
 
 pub use law::has_certificate;
-pub use making::{CountedNetwork, compile, compile_nest, compile_network, compile_swept};
+pub use making::{
+    CountedNetwork, SweptNetwork, compile, compile_network, compile_swept, compile_with_sources,
+};

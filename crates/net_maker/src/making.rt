@@ -3,6 +3,7 @@ ghost use Rattle.sanlp.specs.Size.{SizeIsOk};
 ghost use Rattle.sanlp.specs.Points.{points_of};
 ghost use Rattle.net_checker.specs.Fits.{Fits};
 ghost use Rattle.net_checker.specs.Shapes.{read_total};
+ghost use Rattle.source_tree.specs.Sources.{sources_of};
 ghost use Rattle.source_tree.specs.declared.cert.Origin.TheVariants.{Sweep};
 ghost use Rattle.net_core.specs.Machine.{net_of};
 ghost use Rattle.net_core.specs.Shape.{FitsNumbers};
@@ -17,7 +18,7 @@ use plain_data::Items;
 use process_derive::{derive_by_turns, fits_nest, numbers_fit};
 use sanlp::{Nest, Points};
 use shadow_sweep::sweep_counted;
-use source_tree::{Cert, Origin};
+use source_tree::{Cert, Origin, SourceTable};
 use std::alloc::{AllocError, Global};
 use witness_plan::{Policy, other_capacities, plan_for, with_capacities};
 
@@ -63,7 +64,7 @@ fn derived_network(alloc: Global, nest: &Nest) -> Result<CountedNetwork, AllocEr
     })
 }
 
-/// The network of `compile_nest`, and how many turns each process has. Nothing is refused but want of memory.
+/// The network of `compile_swept`, and how many turns each process has. Nothing is refused but want of memory.
 pub fn compile_network(
     alloc: Global,
     nest: &Nest,
@@ -85,15 +86,16 @@ pub fn compile_network(
     })
 }
 
-/// The network of a nest (Compaan 2000, pn 2007) with the capacities that its schedule under a policy needs, and the
-/// certificate with that schedule whose reads all have their values from the last writers. Both fit the nest, so the checker
-/// accepts them. Nothing is refused but want of memory.
-pub fn compile_nest(
+// The network with the capacities that its schedule under a policy needs, and the certificate with that schedule, from the
+// network that was derived.
+fn planned_pair(
     alloc: Global,
     nest: &Nest,
     policy: Policy,
+    derived: Network,
 ) -> Result<(Network, Cert), AllocError>
-    requires { SizeIsOk nest.now }
+    requires size { SizeIsOk nest.now }
+    requires derived { derived ≡ net nest.now }
     ensures network { IfOk result (λ made. made.0 ≡ planned_network nest.now policy) }
     ensures numbers { IfOk result (λ made. FitsNumbers (net_of made.0)) }
     ensures cert { IfOk result
@@ -105,8 +107,6 @@ pub fn compile_nest(
     names_last_writers(nest);
     has_classes_of_uses(nest);
     other_capacities();
-    let made = derived_network(alloc, nest)?;
-    let derived = made.network;
     let witness = plan_for(alloc, nest, &derived, policy)?;
     let network = with_capacities(alloc, derived, witness.capacities.as_slice())?;
     let cert = Cert {
@@ -116,7 +116,42 @@ pub fn compile_nest(
     Ok((network, cert))
 }
 
-/// The answer of `compile_nest`, beside the nest's points, which it doesn't need.
+/// A network of a nest, its certificate, and the last writers that the network was derived from.
+#[derive(Drop)]
+pub struct SweptNetwork {
+    pub network: Network,
+    pub cert: Cert,
+    pub sources: SourceTable,
+}
+
+/// The answer of `compile_swept`, and the last writers of all reads, with which `check_with_sources` needs no sweep of its
+/// own. Nothing is refused but want of memory.
+pub fn compile_with_sources(
+    alloc: Global,
+    nest: &Nest,
+    policy: Policy,
+) -> Result<SweptNetwork, AllocError>
+    requires { SizeIsOk nest.now }
+    ensures network { IfOk result (λ made. made.network ≡ planned_network nest.now policy) }
+    ensures numbers { IfOk result (λ made. FitsNumbers (net_of made.network)) }
+    ensures cert { IfOk result
+        (λ made. made.cert ≡ swept_cert nest.now (schedule nest.now policy)) }
+    ensures fits { IfOk result (λ made. Fits nest.now made.network made.cert) }
+    ensures sources { IfOk result (λ made. made.sources.of ≡ sources_of nest.now) }
+{
+    let swept = sweep_counted(alloc, nest)?;
+    let derived = derive_by_turns(alloc, nest, &swept.turns, &swept.sources)?;
+    let (network, cert) = planned_pair(alloc, nest, policy, derived)?;
+    Ok(SweptNetwork {
+        network,
+        cert,
+        sources: swept.sources,
+    })
+}
+
+/// The network of a nest (Compaan 2000, pn 2007) with the capacities that its schedule under a policy needs, and the
+/// certificate with that schedule whose reads all have their values from the last writers. Both fit the nest, so the checker
+/// accepts them. The points of the nest aren't needed. Nothing is refused but want of memory.
 pub fn compile_swept(
     alloc: Global,
     nest: &Nest,
@@ -132,10 +167,11 @@ pub fn compile_swept(
     ensures fits { IfOk result (λ made. Fits nest.now made.0 made.1) }
 {
     let _ = points;
-    compile_nest(alloc, nest, policy)
+    let made = derived_network(alloc, nest)?;
+    planned_pair(alloc, nest, policy, made.network)
 }
 
-/// The network of `compile_nest`, and a certificate of it with trees: a read of the difference class has its values from the
+/// The network of `compile_swept`, and a certificate of it with trees: a read of the difference class has its values from the
 /// points that its tree gives, where a tree of at most 1,024 nodes is made, at most 128 Tests deep, which overflows at no point
 /// of the reader, and whose proofs nest at most 512 deep. Other reads have theirs from the last writers. The checker accepts
 /// both, and they have a text. Nothing is refused but want of memory.

@@ -116,7 +116,7 @@ loop-turn-preserved-in-Some c =
         | inl before ↦ c.loop-turn.invariant.passed f before
         | inr after ↦
             let e : f ≡ turn = omega arith in
-            ap (at_vector tree vectors) e ∙ overflow_passed tree vectors turn at _ there told.given
+            ap (at_vector tree vectors) e ∙ overflow_passed tree vectors turn at _ there told.is
       ];
       added = λ k checked. row_more n s k turn at tree c.loop-turn.sources c.push.new.self (Some c.in-Some.tag)
           (given_at n s k tree checked turn at there) (c.loop-turn.invariant.added k checked)

@@ -2,7 +2,7 @@ use Rattle.std.proofs.Common.{sym, ap, ◌∙◌}
 use Rattle.net_checker.specs.declared.verdict.Verdict.TheVariants.{Accepted, Refused}
 use Rattle.net_checker.specs.Fits.{verdict_of}
 use Rattle.net_checker.proofs.Verdicts.{verdict_fits, verdict_sound}
-use Rattle.net_checker.proofs.checker.check.Goals as goal
+use Rattle.net_checker.proofs.checker.judge.Goals as goal
 
 pub returns-in-Some-clause-fits : goal.returns-in-Some-clause-fits
 returns-in-Some-clause-fits c =

@@ -12,25 +12,25 @@ use Rattle.sanlp.specs.declared.nest.Nest.{Nest}
 use Rattle.source_tree.specs.declared.cert.Cert.{Cert}
 use Rattle.source_tree.specs.declared.cert.Origin.TheVariants.{Sweep}
 use Rattle.witness_plan.specs.Sequential.{with_capacities}
-use Rattle.net_maker.proofs.making.compile_nest.Goals as goal
+use Rattle.net_maker.proofs.making.planned_pair.Goals as goal
 
 pub returns-clause-numbers : goal.returns-clause-numbers
 returns-clause-numbers c =
-    let derived : Network = c.in_ok-made.made.network in
+    let derived : Network = c.args.derived in
     let fits : FitsNumbers (net_of derived) =
-    subst (λ (n : Network). FitsNumbers (net_of n)) (sym c.in_ok-made.ensures.network) c.numbers_fit.ensures in
+    subst (λ (n : Network). FitsNumbers (net_of n)) (sym c.requires.derived) c.numbers_fit.ensures in
     subst (λ (n : Network). FitsNumbers (net_of n)) (sym c.in_ok-network.ensures)
     (numbers_stay (net_of derived) _ _ (c.other_capacities.ensures.same derived _) fits)
 
 pub returns-clause-fits : goal.returns-clause-fits
 returns-clause-fits c =
     let nest : Nest = c.args.nest.now in
-    let derived : Network = c.in_ok-made.made.network in
+    let derived : Network = c.args.derived in
     let cert : Cert = record { sources = c.in_ok-swept.field-0; schedule = c.in_ok-witness.witness.schedule } in
-    let shape : FitsNest nest derived = subst (FitsNest nest) (sym c.in_ok-made.ensures.network) c.fits_nest.ensures in
+    let shape : FitsNest nest derived = subst (FitsNest nest) (sym c.requires.derived) c.fits_nest.ensures in
     let names : NamesLastWriters nest (net_of derived) = subst (λ (n : Network). NamesLastWriters nest (net_of n))
-    (sym c.in_ok-made.ensures.network) c.names_last_writers.ensures in
-    let classes : HasClasses derived = subst HasClasses (sym c.in_ok-made.ensures.network) c.has_classes_of_uses.ensures in
+    (sym c.requires.derived) c.names_last_writers.ensures in
+    let classes : HasClasses derived = subst HasClasses (sym c.requires.derived) c.has_classes_of_uses.ensures in
     let sources : length cert.sources ≡ read_total nest = ap length c.in_ok-swept.ensures
     ∙ length-replicate (read_total nest) Sweep in
     let fits : Fits nest (with_capacities derived c.in_ok-witness.witness.capacities) cert =

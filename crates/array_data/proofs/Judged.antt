@@ -1,4 +1,11 @@
 -- Records that are judged in turn are judged as the definition of the inputs says.
+--
+-- The code judges a record by the values given so far, the definition by the records before it. `Agrees` compares both:
+-- there is a value that is right and no fault, or the same fault. It is kept from fields to records, and along the
+-- records: after each the values given are those of the records so far and fit their arrays (`IsAfter`), since a record
+-- that is taken changes the place of one array alone, which had none before (`given_more`). The first fault is the
+-- first record's that isn't taken, whatever follows it (`first_refused`). Arrays without a record are looked for last
+-- (`collected_are`).
 use Rattle.std.proofs.Common.{ℕ, zero, suc, ℤ, List, ◌≡◌, ◌≢◌, ◌⊎◌, ◌+◌, ◌<◌, ◌==◌, ◌∷◌, ◌++◌, [], Bool, true, false}
 use Rattle.std.proofs.Common.{cond, map, length, Option, Some, None, Result, Ok, Err, refl, sym, ◌∙◌, ap, arith, inl}
 use Rattle.std.proofs.Common.{inr, append_assoc}

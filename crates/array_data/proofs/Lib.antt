@@ -1,4 +1,3 @@
 pub mod Fields
 pub mod Judged
 pub mod Records
-pub mod Worked

@@ -1,4 +1,10 @@
 -- The records of a text: reading shortens the text, and so it gives just the records that `records` lists.
+--
+-- A record takes at least one byte, if there is one; at the end of a text one record more is left at most, and none
+-- behind that. So by induction on a bound above the length of the text the records that are listed are all of the text
+-- (`listed_are_records`), and there are no more than bytes, and one. The records of a text are determined: those that
+-- were reached stand at its front, and the others are those of the text that is left (`records_after`). So what the
+-- code has read is a front of the records that are defined, and all of them where no more is read.
 use Rattle.std.proofs.Common.{ℕ, zero, suc, List, ◌≡◌, ◌+◌, ◌<◌, ◌≤◌, ◌∷◌, ◌++◌, [], Bool, true, false, cond, length}
 use Rattle.std.proofs.Common.{◌⊎◌, Option, Some, None, refl, sym, ◌∙◌, ap, arith, inl, inr, append_assoc}
 use Rattle.std.proofs.lemmas.Bool.{cases_Bool}

@@ -44,7 +44,7 @@ fn write_array<W: TextWriter>(array: &ArrayDecl, cells: &[i64], out: &mut W)
 }
 
 /// Writes the line of each output. There are as many lists of cells as arrays.
-pub(crate) fn write_arrays<W: TextWriter>(arrays: &[ArrayDecl], lists: &[Items<i64>], out: &mut W)
+fn write_arrays<W: TextWriter>(arrays: &[ArrayDecl], lists: &[Items<i64>], out: &mut W)
     requires { length lists.now ≡ length arrays.now }
     ensures { Wrote W.given out.old out.new (answer_text arrays.now lists.now) }
 {

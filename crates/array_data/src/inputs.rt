@@ -98,7 +98,7 @@ fn collect(
 }
 
 /// The values of each array, and none for an array that is no input.
-pub(crate) fn read_arrays(
+fn read_arrays(
     alloc: Global,
     arrays: &[ArrayDecl],
     bytes: &[u8],

@@ -7,8 +7,6 @@ mod field;
 mod inputs;
 mod law;
 mod record;
-#[cfg(test)]
-mod tests;
 
 pub use answer::write_answer;
 pub use error::DataError;

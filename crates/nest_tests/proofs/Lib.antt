@@ -1,3 +1,2 @@
-mod Candidates
 mod Streams
-mod Starved
+mod Wrapped

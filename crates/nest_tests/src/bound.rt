@@ -1,30 +1,41 @@
 //! Nests of sources.
 
-use loop_class::{BindError, Params, bind};
+ghost use Rattle.std.specs.Prelude.{IfOk};
+ghost use Rattle.sanlp.specs.Size.{SizeIsOk};
+
+use loop_class::{Params, bind};
 use loop_lex::lex;
 use loop_parse::parse;
+use loop_walk::size;
 use plain_data::Items;
 use sanlp::{Inputs, Nest};
 use std::alloc::{AllocError, Global};
 use std::test::Fail;
 
-/// The nest of a source, or the reason why it has none, where these are the values of parameters.
-pub(crate) fn binding(
-    alloc: Global,
-    source: &[u8],
-    params: &Params,
-) -> Result<Result<Nest, BindError>, Fail> {
+/// The nest of a source with these values of its parameters.
+pub(crate) fn nest_by(alloc: Global, source: &[u8], params: &Params) -> Result<Nest, Fail> {
     if source.len() > u32::MAX as usize {
         return Err(Fail::new("the source is long"));
     }
     let tokens = lex(alloc, source)?;
     let tree = parse(alloc, source, &tokens)?;
-    Ok(bind(alloc, source, &tokens, &tree, params))
+    Ok(bind(alloc, source, &tokens, &tree, params)?)
 }
 
 /// The nest of a source without parameters.
 pub(crate) fn nest(alloc: Global, source: &[u8]) -> Result<Nest, Fail> {
-    Ok(binding(alloc, source, &Params::empty(alloc))??)
+    nest_by(alloc, source, &Params::empty(alloc))
+}
+
+/// The nest of a source with these values of its parameters, where its size is within the limit.
+pub(crate) fn sized_nest(alloc: Global, source: &[u8], params: &Params) -> Result<Nest, Fail>
+    ensures { IfOk result (λ nest. SizeIsOk nest) }
+{
+    let nest = nest_by(alloc, source, params)?;
+    if size(&nest).is_err() {
+        return Err(Fail::new("the size is past the limit"));
+    }
+    Ok(nest)
 }
 
 /// The values of the first array, where the second has none.
@@ -37,7 +48,3 @@ pub(crate) fn inputs(alloc: Global, values: &[i64]) -> Result<Inputs, AllocError
 
 /// Sums that run on from turn to turn.
 pub(crate) const SUMS: &[u8] = b"out y[4]; var v; for (i = 0; i < 4; i++) { v = v + i; y[i] = v; }";
-
-/// Values that come one turn late.
-pub(crate) const DELAYED: &[u8] =
-    b"out y[3]; var v; for (i = 0; i < 3; i++) { y[i] = v; v = i; v = v + 10; }";

@@ -1,7 +1,7 @@
 //! Tests of `net_maker::compile`: the trees of the reads of a certificate give at each point what `sweep` finds, and a read
 //! outside of the class is swept.
 
-use crate::origins::{
+use crate::given::{
     DELAYED, PRODUCT, RUNNING_SUM, STENCIL, STRIDED, TWO_CASES, have_values, leaf, nest,
 };
 use affine_core::Vector;

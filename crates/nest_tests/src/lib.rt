@@ -1,40 +1,27 @@
-//! Tests of binding, walks, sources, trees, origins, verdicts, nodes, clocked runs and least capacities, on nests that are bound
-//! from sources. They stand apart from what they test, since a crate with tests of its own is proved twice.
+//! Tests of networks that are made of nests: of their certificates, their automata, nodes and clocked runs, their runs in other
+//! orders and by threads, and their least capacities. They stand apart from what they test, since a crate with tests of its own
+//! is proved twice.
 #![tactic(auto)]
 
 #[cfg(test)]
 mod alone;
 #[cfg(test)]
-mod binding;
-#[cfg(test)]
-mod boards;
+mod automata;
 #[cfg(test)]
 mod bound;
-#[cfg(test)]
-mod certificates;
 #[cfg(test)]
 mod clocks;
 #[cfg(test)]
 mod compiled;
 #[cfg(test)]
+mod given;
+#[cfg(test)]
+mod meeting;
+#[cfg(test)]
 mod nodes;
 #[cfg(test)]
-mod origins;
+mod orders;
 #[cfg(test)]
-mod sources;
-#[cfg(test)]
-mod stride_candidates;
-#[cfg(test)]
-mod stride_programs;
-#[cfg(test)]
-mod stride_sources;
-#[cfg(test)]
-mod strides;
-#[cfg(test)]
-mod trees;
+mod scripts;
 #[cfg(test)]
 mod trims;
-#[cfg(test)]
-mod verdicts;
-#[cfg(test)]
-mod walks;

@@ -1,10 +1,13 @@
 //! Tests of `cap_trim::rest` and `cap_trim::trim`.
+ghost use Rattle.std.specs.Prelude.{IsTrue};
+ghost use Rattle.net_core.specs.Machine.{net_of};
+ghost use Rattle.net_core.specs.Shape.{FitsNumbers};
 
 use crate::bound::nest;
-use crate::verdicts::numbers_fit;
 use cap_trim::{Trimmed, rest, trim};
 use loop_walk::{points, size};
 use net_checker::{Verdict, check};
+use net_core::Network;
 use net_maker::compile;
 use plain_data::Items;
 use source_tree::Cert;
@@ -104,6 +107,20 @@ fn with_the_capacities_of_a_policy_each_process_ends(rt: HostRuntime) -> Result<
         );
     }
     Ok(())
+}
+
+// Whether the numbers of a network are within their limits.
+fn numbers_fit(network: &Network) -> bool
+    ensures { IsTrue result → FitsNumbers (net_of network.now) }
+{
+    let mut events = 0usize;
+    for process in network.processes.as_slice() {
+        match events.checked_add(process.script.len() as usize) {
+            Some(sum) => events = sum,
+            None => return false,
+        }
+    }
+    network.processes.len() < 1 << 32 && network.channels.len() < 1 << 32 && events < 1 << 32
 }
 
 // The verdict on the network of a source with these capacities, where it runs along this schedule.

@@ -52,15 +52,27 @@ fn sum(alloc: Global, terms: &[(u32, i128)]) -> Result<Proof, AllocError> {
     Ok(Proof::Sum(list))
 }
 
+// The terms of the leaf's proofs.
+static SUMS: [&[(u32, i128)]; 5] = [
+    &[(0, 1), (2, 1)],
+    &[(1, 1), (2, 1)],
+    &[(2, 1)],
+    &[(2, 1)],
+    &[(5, 1), (6, 1)],
+];
+
+fn proofs(alloc: Global) -> Result<Items<Proof>, AllocError> {
+    let mut proofs = Items::new(alloc);
+    for terms in &SUMS {
+        proofs.push(sum(alloc, *terms)?)?;
+    }
+    Ok(proofs)
+}
+
 fn leaf(alloc: Global) -> Result<Tree, AllocError> {
+    let proofs = proofs(alloc)?;
     let mut place = Items::new(alloc);
     place.push(form(alloc, 0, [1]))?;
-    let mut proofs = Items::new(alloc);
-    proofs.push(sum(alloc, &[(0, 1), (2, 1)])?)?;
-    proofs.push(sum(alloc, &[(1, 1), (2, 1)])?)?;
-    proofs.push(sum(alloc, &[(2, 1)])?)?;
-    proofs.push(sum(alloc, &[(2, 1)])?)?;
-    proofs.push(sum(alloc, &[(5, 1), (6, 1)])?)?;
     Ok(Tree::Writer(0, place, proofs))
 }
 
@@ -79,10 +91,13 @@ fn refusal(alloc: Global, text: &[u8]) -> Result<Option<CertError>, Fail> {
     let mut lines = Lines::new(text);
     match read_tree(alloc, &mut lines) {
         Ok(tree) => {
+            let written = is_written(alloc, &tree, text);
+            drop(tree);
+            let written = written?;
             if let Err(error) = lines.end() {
                 return Ok(Some(error));
             }
-            if is_written(alloc, &tree, text)? {
+            if written {
                 Ok(None)
             } else {
                 Err(Fail::from("another text"))
@@ -108,20 +123,25 @@ fn repeated(
     Ok(text)
 }
 
+// A test above the leaf, of which nobody wrote below it.
+fn tested(alloc: Global) -> Result<Tree, AllocError> {
+    let yes = Boxed::new(alloc, leaf(alloc)?)?;
+    let no = Boxed::new(alloc, Tree::Zero(Items::new(alloc)))?;
+    Ok(Tree::Test(form(alloc, -1, [1]), yes, no))
+}
+
+fn gives_text(alloc: Global, tree: Tree, text: &[u8]) -> Result<bool, Fail> {
+    let written = is_written(alloc, &tree, text);
+    drop(tree);
+    written
+}
+
 #[test]
 fn a_leaf_is_written_byte_for_byte(rt: HostRuntime) -> Result<(), Fail> {
     let alloc = rt.alloc();
-    assert!(rt; is_written(alloc, &leaf(alloc)?, LEAF)?);
-    let yes = Boxed::new(alloc, leaf(alloc)?)?;
-    let no = Boxed::new(alloc, Tree::Zero(Items::new(alloc)))?;
-    let test = Tree::Test(form(alloc, -1, [1]), yes, no);
-    assert!(rt;
-        is_written(
-            alloc,
-            &test,
-            repeated(alloc, b"t -1 1\n", LEAF, 1, b"z 0\n")?.as_slice()
-        )?
-    );
+    assert!(rt; gives_text(alloc, leaf(alloc)?, LEAF)?);
+    let text = repeated(alloc, b"t -1 1\n", LEAF, 1, b"z 0\n")?;
+    assert!(rt; gives_text(alloc, tested(alloc)?, text.as_slice())?);
     Ok(())
 }
 

@@ -1,9 +1,7 @@
-//! Tests of the program by its top call, and of networks that run in other orders and by threads. They stand apart from what
-//! they test, since a crate with tests of its own is proved twice.
+//! Tests of the program by its top call. They stand apart from what they test, since a crate with tests of its own is proved
+//! twice.
 #![tactic(auto)]
 
-#[cfg(test)]
-mod automata;
 #[cfg(test)]
 mod boards;
 #[cfg(test)]
@@ -20,10 +18,6 @@ mod kernels;
 mod meeting;
 #[cfg(test)]
 mod networks;
-#[cfg(test)]
-mod orders;
-#[cfg(test)]
-mod scripts;
 #[cfg(test)]
 mod simulations;
 #[cfg(test)]

@@ -1,4 +1,10 @@
 -- The entries of a column, event by event, and how many there are.
+--
+-- Going through the events, the entries of a column are written with the event's index, or, for what is read, with the
+-- number of fires before it; the entries of the column's values, numbered from 0, are the same ones, by induction along
+-- the events with both counts running (`column_entries`). So how many there are is the number of events or of fires.
+-- The text of a constant has a comma before each entry but the first, the code writes one behind each but the last, and
+-- both are one text (`constant_pieces`).
 use Rattle.std.proofs.Common.{◌≡◌, ℕ, suc, ◌+◌, List, [], ◌∷◌, ◌++◌, codes, count_by, decimal, length, map, slice_get}
 use Rattle.std.proofs.Common.{append_assoc, append-nil, refl, sym, ap, ◌∙◌, arith}
 use Rattle.std.specs.List.{concat, enumerate_from, flat_map, join_by}

@@ -7,8 +7,6 @@ mod error;
 mod expression;
 mod literal;
 mod node;
-#[cfg(test)]
-mod tests;
 mod text;
 
 pub use error::VhdlError;

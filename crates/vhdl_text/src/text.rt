@@ -76,7 +76,8 @@ pub fn write_vhdl<K: Sink>(
 ) -> Result<(), VhdlError>
     ensures { MatchOption (first_too_long autos.now)
         (IsWritten result (K.held sink.old) (K.held sink.new) (K.faults sink.old) (K.faults sink.new) (vhdl_text network.now autos.now))
-        (λ auto. IsRefused result (K.held sink.old) (K.held sink.new) (K.faults sink.old) (K.faults sink.new) auto) }
+        (λ auto. IsRefused result (K.held sink.old) (K.held sink.new) (K.faults sink.old)
+        (K.faults sink.new) auto) }
 {
     if let Some(auto) = too_long(autos) {
         return Err(VhdlError::ScriptTooLong(auto.process, auto.events.len() as u64));

@@ -1,4 +1,10 @@
 -- The downward schedule as it is made: what is made so far, and one event more.
+--
+-- The invariant (`IsDescent`) is that what is made so far, with the downward schedule from there on, is the whole
+-- downward schedule, and that no process from some bound on is ready. So the highest ready process below the bound
+-- is the highest of all, and is the next entry. After its event no process past it is ready, or, at a Put, none
+-- past it and past the channel's reader (`quiet_after`), which gives the next bound; and one event less is left.
+-- Where no process below the bound is ready, all is made. That all scripts are at their ends then isn't said here.
 use Rattle.std.proofs.Common.{◌≡◌, ℕ, suc, ◌<◌, ◌≤◌, false, Some, None, List, [], ◌∷◌, ◌++◌, length, sym, ap, ◌∙◌}
 use Rattle.std.proofs.Common.{subst, arith, append_assoc, append-nil}
 use Rattle.net_core.specs.declared.network.Event.{Event}

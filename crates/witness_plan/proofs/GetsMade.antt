@@ -1,4 +1,10 @@
 -- A reader has made no more Gets of a channel than its uses so far want.
+--
+-- By induction on the reader's points. A point has Gets of the channel at the channel's own read alone,
+-- and there only if its source is of the channel's writer (`read_this`). Then there is one use more,
+-- and the point has the Gets that it wants beyond those that the uses before it want; else the point
+-- has none, and what is wanted doesn't become less (`wanted_more`). It is an upper bound, and from
+-- scripts alone: whether the tokens were put, and what is in a queue, doesn't come in.
 use Rattle.std.proofs.Common.{◌≡◌, ℕ, zero, suc, ◌+◌, ◌-◌, ◌<◌, ◌≤◌, Bool, true, false, cond, Option, Some, None, List}
 use Rattle.std.proofs.Common.{[], ◌∷◌, length, map, take, drop, slice_get, count_by, refl, sym, ap, ◌∙◌, inl, inr}
 use Rattle.std.proofs.Common.{arith, add-one}

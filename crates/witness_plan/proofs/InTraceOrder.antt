@@ -1,4 +1,9 @@
 -- The schedule that follows the trace, after the first entries.
+--
+-- The invariant is that after the first t entries each process stands behind the events of its points among them
+-- (`stands`). The next entry is a point of one process, at the turn that counts this process's entries before it. It
+-- adds the process to the schedule once for each event of the point, so the process moves on by just these, and the
+-- others stay where they are. It is counting alone: neither which events a point has nor whether they can come matters.
 use Rattle.std.proofs.Common.{◌≡◌, ℕ, zero, suc, ◌+◌, ◌≤◌, Some, cond, List, [], ◌∷◌, ◌++◌, length, take, replicate}
 use Rattle.std.proofs.Common.{slice_get, refl, sym, ap, ◌∙◌, inl, inr, arith, length-append}
 use Rattle.std.specs.Prelude.{◌==◌, count_by}

@@ -13,7 +13,6 @@ pub mod GetsMade
 pub mod SourcesBefore
 pub mod SequentialRun
 pub mod OtherCapacities
-pub mod HandOn
 pub mod NeverFull
 pub mod Downward
 pub mod Planned

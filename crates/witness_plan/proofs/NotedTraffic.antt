@@ -1,4 +1,10 @@
 -- What is counted along a schedule, after one event more.
+--
+-- An event changes the counts of its own channel at most: a Get adds 1 to the Gets, a Put 1 to the Puts,
+-- a Fire nothing. For this the event must be its process's own, since Puts are counted in the script of
+-- the channel's writer and Gets in that of its reader. The greatest length is a maximum over the cuts so
+-- far. The queue as it stands is within it (`now_within`), so only a Put can raise it, and no earlier cut
+-- need be looked at again. The counts can take one event more because scripts are short (`can_be_noted`).
 use Rattle.std.proofs.Common.{◌≡◌, ℕ, ◌+◌, ◌-◌, ◌<◌, ◌≤◌, ◌^◌, max, true, false, cond, Some, List, [], ◌∷◌, ◌++◌, map}
 use Rattle.std.proofs.Common.{set, length, take, slice_get, get_or, count_by, refl, sym, ap, ◌∙◌, subst, arith}
 use Rattle.std.proofs.Common.{length-append}

@@ -1,4 +1,10 @@
 -- Where the events of a point end in a script.
+--
+-- The events of a point are Gets, one Fire, and Puts. So from where a point begins its end is seen by
+-- the events alone: it is behind the first Fire and the Puts that follow this (`point_length`), as long
+-- as what comes next begins with no Put. The next point begins with a Get or its Fire, so that holds
+-- (`points_begin`). A script is its points one after the other (`script_splits`), so behind the events
+-- of the first f points the length that is found is that of point f (`point_found`).
 use Rattle.std.proofs.Common.{◌≡◌, ℕ, zero, suc, ◌+◌, ◌-◌, ◌<◌, true, false, cond, Option, Some, None, List, [], ◌∷◌}
 use Rattle.std.proofs.Common.{◌++◌, length, map, drop, refl, ap, ◌∙◌, arith, append_assoc, length-append}
 use Rattle.std.specs.Prelude.{slice_index, slice_index_or, ◌==◌, ◌&&◌}

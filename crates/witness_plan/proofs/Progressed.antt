@@ -1,4 +1,10 @@
 -- How far a network has come, at first and after one event more.
+--
+-- The invariant is `IsProgress`: for each process the list of what it has left, and for each channel
+-- its counts, are those along the schedule so far. At first the schedule is empty, each script is whole
+-- and each count is 0 (`progress_none`). What is read from the lists is that of its process or its
+-- channel. After one event more the counts are those along the longer schedule, since the next event of
+-- a process is its own (`traffic_more`). That what is left is right again is shown in LeftEvents.
 use Rattle.std.proofs.Common.{◌≡◌, ℕ, zero, suc, ◌<◌, Some, List, [], ◌∷◌, ◌++◌, length, map, replicate, slice_get}
 use Rattle.std.proofs.Common.{get_or, refl, sym, ap, ◌∙◌, subst, arith}
 use Rattle.std.specs.List.{range_with_len}

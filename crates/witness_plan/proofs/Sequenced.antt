@@ -1,4 +1,10 @@
 -- What the sequential schedule has after the first entries of the trace, and one entry more.
+--
+-- The invariant is that the schedule so far is that of the entries which are gone from the trace. By InTraceOrder the
+-- process of the next entry then stands behind the events of its earlier points, so the length of a point that is found
+-- in what it has left is that of this entry's point (PointEvents). With the process repeated so often the schedule is
+-- that of one entry more (`sequenced_more`), and at the end of the trace it is the sequential one. The greatest lengths
+-- that were counted along it are its capacities. Whether the events can come in this order isn't asked here.
 use Rattle.std.proofs.Common.{◌≡◌, ℕ, zero, suc, ◌-◌, ◌<◌, Some, List, [], ◌∷◌, ◌++◌, length, map, drop, replicate}
 use Rattle.std.proofs.Common.{slice_get, refl, sym, ap, ◌∙◌, arith}
 use Rattle.std.specs.List.{range_with_len}

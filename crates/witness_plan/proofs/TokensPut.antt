@@ -1,4 +1,9 @@
 -- A writer has put the tokens of a channel that its points so far are.
+--
+-- By induction on the writer's points. The number of tokens below a turn rises by 1 exactly where that
+-- turn is used, and there the point has a Put to the channel behind its Fire (`put_there`). So there
+-- are never fewer Puts than tokens. It is a lower bound, which is all that a waiting Get asks for; that
+-- a point has no second Put to the channel isn't shown here.
 use Rattle.std.proofs.Common.{◌≡◌, ℕ, zero, suc, ◌+◌, ◌<◌, ◌≤◌, true, false, cond, Some, List, [], ◌∷◌, ◌++◌, map}
 use Rattle.std.proofs.Common.{slice_get, get_or, count_by, refl, sym, ap, ◌∙◌, subst, inl, inr, arith, add-one}
 use Rattle.std.specs.Prelude.{slice_index_or, ◌==◌, ◌&&◌}

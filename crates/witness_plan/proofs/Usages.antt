@@ -1,4 +1,10 @@
 -- The uses of channels: each use of a fire is of a channel of the nest, which goes to that fire's process and read.
+--
+-- A use is found by a search through all channels for one from the process of the fire's source to its
+-- read. What the search finds has these ends and stands at the place of its number (`channel_found`, by
+-- induction along the channels). Each channel of a nest is the plan of its own ends, since all are made so
+-- (`plan_is`). So a use tells its source, its channel and plan of slots, and its number (`use_is`). That a
+-- source's channel is always found isn't shown here, nor that there is no other with the same ends.
 use Rattle.std.proofs.Common.{◌≡◌, ℕ, suc, ◌+◌, true, false, cond, Option, Some, None, List, [], ◌∷◌, length, take}
 use Rattle.std.proofs.Common.{slice_get, refl, sym, ap, ◌∙◌, subst, inl, inr, arith}
 use Rattle.std.specs.Prelude.{All, ◌==◌}

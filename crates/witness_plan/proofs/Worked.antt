@@ -1,4 +1,10 @@
 -- Small networks, computed from the definitions: their schedules and their capacities.
+--
+-- The networks are written out, and their downward schedules and the greatest lengths of their queues
+-- are computed. In the first two the order of the trace has each process end before the next one begins,
+-- so the queues between them hold all tokens, and with the downward schedule no queue holds more than
+-- one. In the third a copy is put only when all values were got, and two tokens of another channel have
+-- to wait for it. They are examples: that the downward schedule never needs more room isn't shown.
 use Rattle.std.proofs.Common.{◌≡◌, ℕ, false, Some, None, List, [], ◌∷◌, ◌++◌, replicate, refl}
 use Rattle.channel_class.specs.declared.UseOrder.TheVariants.{InOrder}
 use Rattle.net_core.specs.declared.network.Channel.{Channel}

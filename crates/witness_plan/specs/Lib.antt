@@ -1,4 +1,3 @@
-pub mod Examples
 pub mod Progress
 pub mod Schedules
 pub mod Sequential

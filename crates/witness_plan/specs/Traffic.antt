@@ -41,7 +41,11 @@ CanBeNoted traffic (Put channel) =
 abbrev pub traffic_of : Net → List ℕ → ℕ → Traffic
 traffic_of net schedule c =
     let cut = cut_after opening schedule in
-    record { puts = puts_at net cut c; gets = gets_at net cut c; greatest = greatest_length net schedule c }
+    record {
+      puts = puts_at net cut c;
+      gets = gets_at net cut c;
+      greatest = greatest_length net schedule c;
+    }
 
 -- what is counted of each channel along a schedule
 abbrev pub traffic_along : Net → List ℕ → List Traffic

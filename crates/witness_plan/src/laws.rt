@@ -23,7 +23,8 @@ pub fn schedule_runs(nest: &Nest)
     ensures lengths { (policy : Policy) (k c : ℕ)
         → length ((reached (net_of (planned_network nest.now policy)) tags
         (take k (schedule nest.now policy))).queue c)
-        ≡ queue_length (net_of (net nest.now)) (cut_after opening (take k (schedule nest.now policy))) c }
+        ≡ queue_length (net_of (net nest.now))
+        (cut_after opening (take k (schedule nest.now policy))) c }
 {}
 
 /// The downward schedule of a network has at each of its places the highest-numbered process that is ready there, and at its
@@ -37,5 +38,9 @@ pub fn other_capacities()
     ensures wired { (network : Network) (capacities : List ℕ) → IsWired (net_of network)
         → IsWired (net_of (with_capacities network capacities)) }
     ensures same { (network : Network) (capacities : List ℕ)
-        → net_of (with_capacities network capacities) ≡ record (net_of network) { capacity = (net_of (with_capacities network capacities)).capacity } }
+        → net_of (with_capacities network capacities)
+        ≡ record (net_of network) {
+          capacity =
+              (net_of (with_capacities network capacities)).capacity;
+        } }
 {}

@@ -6,8 +6,6 @@ mod progress;
 mod running;
 mod schedules;
 mod steps;
-#[cfg(test)]
-mod tests;
 mod traffic;
 
 pub use laws::{goes_downward, other_capacities, schedule_runs};

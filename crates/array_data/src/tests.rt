@@ -1,2 +1,0 @@
-mod answer;
-mod inputs;

@@ -1,0 +1,2 @@
+mod HandOn
+mod Starved

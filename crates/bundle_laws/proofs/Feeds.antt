@@ -1,4 +1,9 @@
 -- No input element has a line feed before its last byte, but for a block comment.
+--
+-- Each kind of input element but one excludes such a line feed by itself: a line comment, a word, a number and a sign
+-- have none, and white space is one byte. A block comment ends with a slash, so the text is no element where its last
+-- byte is none (`no_element`). That last premise is needed: a block comment may well go over lines. Nothing is said of
+-- a line feed that is the whole text, which is white space.
 use Rattle.std.proofs.Common.{◌≡◌, ◌+◌, ◌<◌, ◌&&◌, ◌||◌, ℕ, Bool, true, false, not, List, [], ◌∷◌, ◌++◌, length, refl}
 use Rattle.std.proofs.Common.{sym, subst, inl, inr, arith, nat_eq}
 use Rattle.std.specs.List.{list_all}

@@ -1,4 +1,10 @@
 -- A line feed behind a source changes none of its tokens.
+--
+-- The longest element at the front stays the same: one that reached the line feed would have it behind other bytes and
+-- as its last byte, which `Feeds` excludes, and what ends before it doesn't see it. So by induction along the source
+-- its elements are the same up to its end, and there the line feed alone is white space, which gives no token. The
+-- tokens lie within the source, so their texts, and with them the sentence, are the same too. This holds of refusals as
+-- well as of tokens.
 use Rattle.std.proofs.Common.{◌≡◌, ◌∙◌, ◌+◌, ◌-◌, ◌≤◌, ℕ, zero, suc, Bool, false, cond, List, [], ◌∷◌, ◌++◌, length}
 use Rattle.std.proofs.Common.{take, drop, map, refl, ap, inl, inr, arith, nat_eq, length-append, Result, Ok, Err}
 use Rattle.std.specs.Prelude.{◌==◌, if◌then◌else◌, All}

@@ -1,4 +1,10 @@
 -- The parts of a bundle that is put together of a source and a certificate.
+--
+-- Bytes whose last line is ended have their lines apart from those behind (`lines_behind`). So a source with no
+-- separator, ended, is what stands before the first of the two separators; nothing stands between them, which is the
+-- data part; and all behind the second is the certificate, whatever it holds. The other way, the source part of any
+-- bundle has no separator, since the lines before the first one are the lines of their own bytes (`source_whole`). That
+-- a line end behind a source makes no separator is a premise here, shown in `Separators`.
 use Rattle.std.proofs.Common.{◌≡◌, ◌==◌, ◌∙◌, ◌<◌, ℕ, zero, suc, true, false, List, [], ◌∷◌, ◌++◌, Some, None, Option}
 use Rattle.std.proofs.Common.{length, take, refl, sym, ap, inl, inr, arith, append_assoc}
 use Rattle.std.specs.Prelude.{codes, if◌then◌else◌, option_and_then}

@@ -1,4 +1,10 @@
 -- A line end behind a source that has tokens makes no separator.
+--
+-- A last line without a line feed that becomes a separator with one is a separator already, or it is `%%` and a
+-- carriage return (`stray`). A source that ends with the latter has no tokens: no element goes from the lines before
+-- into it, since it would have a line feed before a last byte that is no slash (`Feeds`), and no element stands at its
+-- front (`no_tokens`, by induction along the lines before). All other lines are as they were. Of a source that is
+-- refused tokens nothing is said: there the line end may make a separator.
 use Rattle.std.proofs.Common.{◌≡◌, ◌==◌, ◌∙◌, ◌+◌, ◌-◌, ◌<◌, ◌≤◌, ◌||◌, ℕ, zero, suc, Bool, true, false, List, [], ◌∷◌}
 use Rattle.std.proofs.Common.{◌++◌, Some, None, length, take, refl, sym, ap, subst, inl, inr, arith, nat_eq}
 use Rattle.std.proofs.Common.{append_assoc, length-append, eqb-true, Result, Ok, Err}

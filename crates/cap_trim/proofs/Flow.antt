@@ -1,4 +1,10 @@
 -- What one event does to positions, what is left of the scripts, and lengths of queues.
+--
+-- All three are functions of the cut, and an event moves the cut on by one at its process. So that process loses
+-- the first event that it had left, and the others lose none. A Get or a Put that can come changes the length of
+-- its channel's queue by 1, and all others stay. For lengths to be differences no channel may have more Gets than
+-- Puts, and that stays so, since a Get comes only where a token is left (`still_got`). A length that grows still
+-- fits, because the writer's script is short (`can_be_noted`). How much room a channel has doesn't come in.
 use Rattle.std.proofs.Common.{◌≡◌, ℕ, zero, suc, ◌+◌, ◌-◌, ◌<◌, ◌≤◌, true, false, cond, eqb, Some, List}
 use Rattle.std.proofs.Common.{[], ◌∷◌, map, set, drop, take, length, count_by, slice_get, get_or, refl, sym}
 use Rattle.std.proofs.Common.{ap, ◌∙◌, inl, inr, arith, ltb-true, eqb-true, eq-eqb, ne_eqb, get_or-set_other}

@@ -1,4 +1,10 @@
 -- The network that has a list of capacities, and the one with least capacities.
+--
+-- A network has its capacities in its channels, and the definition changes them as a function. A network that is
+-- given a function's list has that function for its capacities, if it is 0 past the channels (`net_listed`); and
+-- of two lists that are given one after the other the later one stands (`capacities_twice`). Giving channels their
+-- least capacities lets none grow, so past the channels they are still 0 (`last_none`). So the network that is
+-- given their list is the one with least capacities (`net_is`). That these are least isn't a matter of this file.
 use Rattle.std.proofs.Common.{◌≡◌, ℕ, zero, suc, ◌<◌, ◌≤◌, true, List, [], ◌∷◌, map, length, slice_get, get_or}
 use Rattle.std.proofs.Common.{refl, sym, ap, ◌∙◌, inl, inr, arith}
 use Rattle.std.specs.List.{range_with_len}

@@ -1,4 +1,10 @@
 -- What the code's positions say: where the network stands, and whether it has ended.
+--
+-- The invariant is `IsProgress`: what is left of the scripts and the lengths of the queues are those at the positions,
+-- which are inside the scripts and have no more Gets than Puts. It holds at first, and again after an event that can
+-- come (`progress_more`, by Flow). So whether a process may go on is seen from its first event and the length of one
+-- queue (`get_enabled`, `put_enabled`). Where a run has led here and no process may go on, the positions are those at
+-- rest (`stands_at_rest`, by AtRest). The invariant doesn't know of capacities, which only a Put asks for.
 use Rattle.std.proofs.Common.{◌≡◌, ℕ, zero, suc, ◌+◌, ◌<◌, ◌≤◌, true, false, Option, Some, List, []}
 use Rattle.std.proofs.Common.{◌∷◌, map, set, length, replicate, slice_get, get_or, refl, sym, ap, ◌∙◌, subst, inl}
 use Rattle.std.proofs.Common.{inr, arith, length-set, lt-ltb, nat_lt}

@@ -1,5 +1,10 @@
 -- Each channel of a nest's network has a Put: it is there only for a writer of which some source of the read is a turn,
 -- and that turn is a token.
+--
+-- The channels of a read are picked by that test, so each has a source of its writer (`has_source`). The
+-- source is a turn that the writer has, and it is used, so there is a token at least (`some_token`); and the
+-- writer's whole script has no fewer Puts to the channel than tokens (`tokens_put` of witness_plan). It holds
+-- for the network of a nest: that a network is wired doesn't say that anybody puts to each of its channels.
 use Rattle.std.proofs.Common.{◌≡◌, ℕ, zero, suc, ◌+◌, ◌-◌, ◌<◌, ◌≤◌, Bool, true, false, cond, Option, Some, None, List}
 use Rattle.std.proofs.Common.{[], ◌∷◌, length, slice_get, get_or, count_by, refl, sym, ap, ◌∙◌, subst, inl, inr}
 use Rattle.std.proofs.Common.{arith}

@@ -1,4 +1,11 @@
 -- The channels' turns over a list of capacities.
+--
+-- The invariant (`HaveTurned`) is that after m turns the list has the capacities of the network whose
+-- first m channels have their least ones. At first it is the list of the network's own capacities. The
+-- next turn sets item m to the least capacity in that same network, which is how the definition goes on
+-- (`turned_more`), so after the last turn the list is that of the definition (`turned_all`). The last
+-- part is of the network with one place less: an item is lowered, where the network then comes to rest
+-- is noted, and the item is set back. How a least capacity is found is shown in Trying.
 use Rattle.std.proofs.Common.{◌≡◌, ℕ, suc, ◌+◌, ◌-◌, ◌<◌, ◌≤◌, List, [], ◌∷◌, ◌++◌, map, set}
 use Rattle.std.proofs.Common.{length, get_or, sym, ap, ◌∙◌, subst, inl, inr, arith, length-set}
 use Rattle.std.specs.List.{range_with_len}

@@ -22,7 +22,8 @@ pub record IsProgress (n : Net) (progress : Progress) : Type 0 where
   pub number : length progress.positions.items ≡ n.processes
   pub inside : (p : ℕ) → cut_of progress p ≤ length (n.script p)
   pub got_is_put : (c : ℕ) → gets_at n (cut_of progress) c ≤ puts_at n (cut_of progress) c
-  pub left : progress.cursors.items ≡ map (left_at n (cut_of progress)) (range_with_len 0 n.processes)
+  pub left : progress.cursors.items
+      ≡ map (left_at n (cut_of progress)) (range_with_len 0 n.processes)
   pub queued : progress.queued.items
       ≡ map (queue_length n (cut_of progress)) (range_with_len 0 n.channels)
 

@@ -63,7 +63,8 @@ impl Progress {
         requires capacities { length capacities.now ≡ length network.now.channels }
         requires process { process < length network.now.processes }
         ensures { result
-            ≡ enabled_at (at_capacities (net_of network.now) capacities.now) (cut_of self.now) process }
+            ≡ enabled_at (at_capacities (net_of network.now) capacities.now) (cut_of self.now)
+            process }
     {
         let _ = network;
         match self.cursors[process as usize].peek() {
@@ -132,7 +133,8 @@ impl Progress {
         ensures run { LeadsTo (at_capacities (net_of network.now) capacities.now) (cut_of self.old)
             (cut_of self.new) }
         ensures stuck { (p : ℕ)
-            → enabled_at (at_capacities (net_of network.now) capacities.now) (cut_of self.new) p ≡ false }
+            → enabled_at (at_capacities (net_of network.now) capacities.now) (cut_of self.new) p
+            ≡ false }
     {
         let mut from = 0;
         while let Some(process) = self.least_enabled(network, capacities, from) {

@@ -26,7 +26,8 @@ fn lines_of<T: Copy>(
 ) -> Option<Lines>
     requires shallow { length outer.now < 6 }
     requires few { length accesses.now.reads ≤ 8 }
-    requires reads_fit { IsTrue (list_all (access_short (length outer.now + 1)) accesses.now.reads) }
+    requires reads_fit { IsTrue (list_all (access_short (length outer.now + 1))
+        accesses.now.reads) }
     requires write_fits { IsTrue
         (option_map_or (access_short (length outer.now + 1)) accesses.now.write true) }
     requires turns { first ≤ℤ last }
@@ -60,7 +61,8 @@ pub fn lines_along<T: Copy>(
 ) -> Option<Lines>
     requires shallow { length outer.now < 6 }
     requires few { length accesses.now.reads ≤ 8 }
-    requires reads_fit { IsTrue (list_all (access_short (length outer.now + 1)) accesses.now.reads) }
+    requires reads_fit { IsTrue (list_all (access_short (length outer.now + 1))
+        accesses.now.reads) }
     requires write_fits { IsTrue
         (option_map_or (access_short (length outer.now + 1)) accesses.now.write true) }
     ensures come { is_some result

@@ -258,7 +258,8 @@ impl<T: Copy> Cells<T> {
         requires fits { IsTrue (access_short (length at.now) access.now) }
         requires placed { places_in self.old (cell_at at.now access.now) ≡ Some place }
         ensures values { let cell = cell_at at.now access.now in
-            OnOk result (values_in self.new ≡ update is_cell (values_in self.old) cell (Some value)) }
+            OnOk result (values_in self.new
+            ≡ update is_cell (values_in self.old) cell (Some value)) }
         ensures places { OnOk result (places_in self.new ≡ places_in self.old) }
     {
         if self.has_room(access.array(), place) {
@@ -281,7 +282,8 @@ impl<T: Copy> Cells<T> {
         requires fits { IsTrue (access_short (length at.now) access.now) }
         requires small { small ≡ true → IsTrue (are_small_values at.now) }
         ensures values { let cell = cell_at at.now access.now in
-            OnOk result (values_in self.new ≡ update is_cell (values_in self.old) cell (Some value)) }
+            OnOk result (values_in self.new
+            ≡ update is_cell (values_in self.old) cell (Some value)) }
         ensures places { OnOk result (places_in self.new ≡ places_in self.old) }
     {
         match self.place(access, at, small) {

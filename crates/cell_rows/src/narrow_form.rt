@@ -77,7 +77,8 @@ impl Model for NarrowForm {
 
     ghost Value = { Form };
 
-    ghost view = { λ form. record { constant = form.constant; coefs = take form.depth form.coefs } };
+    ghost view = { λ form.
+        record { constant = form.constant; coefs = take form.depth form.coefs } };
 
     ghost invariant = { λ form. form.depth ≤ 6 };
 }

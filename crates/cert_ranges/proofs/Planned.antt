@@ -1,4 +1,10 @@
 -- The network that a nest is compiled to has a text with each certificate of it.
+--
+-- It has the processes of the derived network, so numbers and events are as few as in that one; only
+-- the capacities differ. A capacity is the greatest length of a queue along the schedule, and at no cut
+-- does a queue have more tokens than its writer's script has events (`queue_within`), which are fewer
+-- than 2^32. The certificate's trees are in range by what a certificate is. All this rests on the limit
+-- of the nest's size, and on no property of the schedule, so it holds under each policy.
 use Rattle.std.proofs.Common.{◌≡◌, ℕ, zero, suc, ◌+◌, ◌<◌, ◌≤◌, ◌^◌, max, Option, Some, None, List, [], ◌∷◌, length}
 use Rattle.std.proofs.Common.{map, take, slice_get, refl, sym, ap, subst, arith}
 use Rattle.std.specs.Prelude.{All}

@@ -1,5 +1,11 @@
 -- A network and a certificate that fit a nest have a text, where the network's numbers and events are few, its
 -- capacities small, and the certificate's trees in range.
+--
+-- A number in the text is mostly that of something which is there: the channel and the slot of an event, the process
+-- of an entry, the read of a channel. That these are there is what the network's fitting the nest and being wired say,
+-- and how many there are of each is below 2^32; a process has no more slots than Gets. The schedule is a run, so each
+-- of its entries is of an enabled process (`entries_in_range`, by induction on the run), and it has as many entries as
+-- the scripts have events. Small capacities and trees in range don't follow from the fit, so they are premises.
 use Rattle.std.proofs.Common.{◌≡◌, ℕ, ◌<◌, ◌≤◌, ◌^◌, true, Option, Some, None, List, [], ◌∷◌, length, slice_get, get_or}
 use Rattle.std.proofs.Common.{refl, ap, ◌∙◌, subst, arith, take_all}
 use Rattle.std.specs.Prelude.{All}

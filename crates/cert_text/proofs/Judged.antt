@@ -1,4 +1,10 @@
 -- What is judged of words that are written, and of no others.
+--
+-- Each judgement of a word is shown both ways: the word of a value in range is judged as that value, and what is judged
+-- as a value is its word, which is in range. A class is looked up among the words of all classes, so what is found is
+-- the word itself. A reference is `z` or a number, and no number in range is spelled `z`, since that word is judged to
+-- be no number; by induction the same holds of lists of references. Two values never have one word, since each is read
+-- back from its own.
 use Rattle.std.proofs.Common.{◌≡◌, inl, inr, ℕ, ◌<◌, ◌^◌, Bool, true, false, if◌then◌else◌, Option, Some, None, List}
 use Rattle.std.proofs.Common.{[], ◌∷◌, All, Result, Ok, Err, codes, decimal, map, refl, sym, ap, ◌∙◌, arith}
 use Rattle.std.specs.Prelude.{bytes_eq, find, ok_or}

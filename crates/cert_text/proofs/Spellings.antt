@@ -1,4 +1,10 @@
 -- The lines of each place are read as they are written.
+--
+-- For each kind of line `IsSpelled` joins four facts: it has a word at least, its words are words, they are judged as
+-- the value (`back`), and a line that is judged as a value is that value's, which is in range (`forth`). A first word
+-- tells most kinds from others; behind it each number, class and reference is read back from its spelling, and too few
+-- or too many words are refused, which is by cases on the list of words. The version alone is judged by the line as a
+-- whole. How the lines follow one another isn't treated here.
 use Rattle.std.proofs.Common.{◌≡◌, inl, inr, ℕ, ◌<◌, ◌≤◌, true, nat_le, if◌then◌else◌, List, [], ◌∷◌, Result, Ok, Err}
 use Rattle.std.proofs.Common.{codes, decimal, map, length, refl, ap, arith}
 use Rattle.std.specs.Prelude.{bytes_eq}

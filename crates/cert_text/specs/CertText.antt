@@ -43,7 +43,8 @@ entry_text process = line_text (decimal process ∷ [])
 abbrev pub repeat_text : ℕ → ℕ → List ℕ
 repeat_text count parts = line_text (codes "r" ∷ decimal count ∷ decimal parts ∷ [])
 
-abbrev pub part_lines : {T : Type 0} → (T → List ℕ) → BlockPart-F T (List ℕ) (List (List ℕ)) → List ℕ
+abbrev pub part_lines : {T : Type 0} → (T → List ℕ) → BlockPart-F T (List ℕ) (List (List ℕ))
+    → List ℕ
 part_lines item (Item x) = item x
 part_lines item (Repeat count body) =
     repeat_text count (length body) ++ flat_map (λ part. part) body

@@ -83,6 +83,7 @@ PartIsInRange {T} P (suc levels) part =
     LayerIsInRange P (PartIsInRange P levels) (out-BlockPart T part)
 
 -- so many parts
-pub record BlocksAreInRange {T : Type 0} (P : T → Type 0) (levels : ℕ) (blocks : Blocks T) : Type 0 where
+pub record BlocksAreInRange {T : Type 0} (P : T → Type 0) (levels : ℕ) (blocks : Blocks T)
+    : Type 0 where
   pub count : IsInRange (length blocks.parts)
   pub parts : All (PartIsInRange P levels) blocks.parts

@@ -69,7 +69,13 @@ abbrev pub channel_line : List (List ℕ) → Result Channel Fault
 channel_line (word ∷ writer ∷ reader ∷ read ∷ capacity ∷ order ∷ []) =
     if bytes_eq word (codes "channel")
     then made
-    (λ n. record { writer = n.0.0.0; reader = n.0.0.1; read = n.0.1.0; capacity = n.0.1.1; class = n.1 })
+    (λ n. record {
+      writer = n.0.0.0;
+      reader = n.0.0.1;
+      read = n.0.1.0;
+      capacity = n.0.1.1;
+      class = n.1;
+    })
     (both (both (both (number writer) (number reader)) (both (number read) (number capacity)))
     (class order))
     else Err Words
@@ -91,7 +97,8 @@ entry_line words = Err Words
 -- what stands behind `r`: a count from 2, and a number of parts from 1
 abbrev pub repeat_words : {T : Type 0} → List (List ℕ) → Result (PartLine T) Fault
 repeat_words (count ∷ parts ∷ []) =
-    made (λ n. of_part.Repeat n.0 n.1) (both (at_least 2 (number count)) (at_least 1 (number parts)))
+    made (λ n. of_part.Repeat n.0 n.1)
+    (both (at_least 2 (number count)) (at_least 1 (number parts)))
 repeat_words words = Err Words
 
 -- an item, or in version 2 a repeat

@@ -36,7 +36,8 @@ part_behind inner (of_part.Repeat count parts) at =
     followed_by (many inner parts at) (λ body at. Ok (Repeat count (record { parts = body }), at))
 
 -- a part whose repeats nest at most so many levels deep; the line of one that nests deeper is judged first
-unfoldable pub part : {T : Type 0} → (List (List ℕ) → Result T Fault) → Version → ℕ → Part (BlockPart T)
+unfoldable pub part : {T : Type 0} → (List (List ℕ) → Result T Fault) → Version → ℕ
+    → Part (BlockPart T)
 part item version zero at =
     followed_by (line (part_line item version) at) (shallow_behind at.line)
 part item version (suc levels) at =

@@ -51,7 +51,8 @@ fn blocks_of<T: Copy + Eq + Keyed>(
     last: Option<T>,
 ) -> Result<Blocks<T>, AllocError>
     requires same { (a b : T) → T.eq a b ≡ true → a ≡ b }
-    ensures expansion { IfOk result (λ blocks. expansion blocks ≡ items.old ++ option_to_list last) }
+    ensures expansion { IfOk result (λ blocks. expansion blocks
+        ≡ items.old ++ option_to_list last) }
     ensures proper { IfOk result (λ blocks. IsTrue (is_proper blocks)) }
 {
     let Some(last) = last else {

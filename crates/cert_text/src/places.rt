@@ -104,7 +104,12 @@ impl FromLine for ProcessHead {
 /// The sizes with these numbers.
 fn sizes_of(numbers: Result<((u32, u32), (u32, u32)), Fault>) -> Result<Sizes, Fault>
     ensures { result
-        ≡ made (λ n. record { processes = n.0.0; channels = n.0.1; sources = n.1.0; parts = n.1.1 }) numbers }
+        ≡ made (λ n. record {
+          processes = n.0.0;
+          channels = n.0.1;
+          sources = n.1.0;
+          parts = n.1.1;
+        }) numbers }
 {
     let ((processes, channels), (sources, parts)) = numbers?;
     Ok(Sizes {
@@ -213,7 +218,13 @@ fn channel_of(
     parts: Result<(((u32, u32), (u32, u32)), ChannelClass), Fault>,
 ) -> Result<Channel, Fault>
     ensures { result
-        ≡ made (λ n. record { writer = n.0.0.0; reader = n.0.0.1; read = n.0.1.0; capacity = n.0.1.1; class = n.1 }) parts }
+        ≡ made (λ n. record {
+          writer = n.0.0.0;
+          reader = n.0.0.1;
+          read = n.0.1.0;
+          capacity = n.0.1.1;
+          class = n.1;
+        }) parts }
 {
     let (((writer, reader), (read, capacity)), class) = parts?;
     Ok(Channel {

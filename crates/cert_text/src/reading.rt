@@ -46,7 +46,8 @@ fn read_parts<T: FromLine + Copy + Eq + Keyed>(
     lines: &mut Lines,
 ) -> Result<FoldedList<T>, CertError>
     requires { (a b : T) → T.eq a b ≡ true → a ≡ b }
-    ensures { Reads result lines.new (lists_of (part_within T.judged version levels) count lines.old) }
+    ensures { Reads result lines.new
+        (lists_of (part_within T.judged version levels) count lines.old) }
 {
     let mut list = Gathering::new(alloc);
     for _ in 0..count {

@@ -1,4 +1,11 @@
 -- The channels of a nest, from the exact table and the numbers of turns.
+--
+-- The invariant is that the channels made so far are those of the readers below p (`plans_below`). One
+-- reader more adds the channels of its own part of the table. By induction along the statements that
+-- part begins behind the reads of all statements before it, and it has the sources of this reader's
+-- reads (`part_from`). They make the channels of the definition, since the number of turns of each
+-- writer stands at its place (`plans_are`). The other laws are what the code requires: each source is a
+-- turn of a process, and turns and reads are few. That the table is exact is a premise here.
 use Rattle.std.proofs.Common.{◌≡◌, ◌<◌, ◌≤◌, ◌+◌, ◌-◌, ℕ, zero, suc, List, [], ◌∷◌, ◌++◌, true, false, cond, Some, None}
 use Rattle.std.proofs.Common.{map, take, drop, length, get_or, count_by, refl, sym, ap, ◌∙◌, arith, ◌==◌}
 use Rattle.std.specs.Prelude.{Option, slice_get}

@@ -1,4 +1,10 @@
 -- The uses of a channel, from the marks of its tokens.
+--
+-- The number of a token is how many used turns stand below its turn, so it is the count of the marks
+-- that are set in front of that turn; for this each named turn must be one of the writer's. The numbers
+-- leave none out (`names_all_below`): from one turn to the next the count rises by 1 where the turn is
+-- used and else stays, so going down from a use each lesser number is met at a used turn, which is
+-- named. Nothing is said of the order in which tokens are used.
 use Rattle.std.proofs.Common.{◌≡◌, ◌<◌, ◌≤◌, ◌+◌, ℕ, zero, suc, List, [], ◌∷◌, Bool, true, cond, map, length, take}
 use Rattle.std.proofs.Common.{count_by, refl, sym, ap, ◌∙◌, inl, inr, arith, ◌==◌}
 use Rattle.std.specs.List.{All, list_any, range_with_len}

@@ -20,7 +20,12 @@ sources_at n p k = read_sources n (trace n) p k
 
 abbrev pub slot_plan : List ℕ → SlotPlan
 slot_plan uses =
-    record { gets_before = gets_before uses; slot_of_get = slots_of_gets uses; slot_of_use = slots_of_uses uses; hold = hold_of uses }
+    record {
+      gets_before = gets_before uses;
+      slot_of_get = slots_of_gets uses;
+      slot_of_use = slots_of_uses uses;
+      hold = hold_of uses;
+    }
 
 -- how many turns process w has
 abbrev pub turn_count : Nest → ℕ → ℕ

@@ -1,4 +1,10 @@
 -- What `clap` has found so far: the rows of the items and of the policy, and the argument whose values are being read.
+--
+-- Each of the two arguments has one row at most, and the rows stand in the order in which they came; one value at most
+-- is pending. That makes five kinds of rows and three of what is pending, and each pair has one split into items and
+-- policies (`split_in`, `with_pending`). Keeping what is pending either has no fault and leaves the rows of the same
+-- split, or it is a second policy, which is a fault, and the split has two policies (`keeping`). All is by cases and
+-- computed.
 use Rattle.std.proofs.Common.{◌≡◌, refl, List, [], ◌∷◌, ◌++◌, Option, Some, None, false, codes}
 use Rattle.clap.specs.Walk.{Row, Rule, reading_by, settled_rows}
 use Rattle.clap.specs.Kinds.{Kinds}

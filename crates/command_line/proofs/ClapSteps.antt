@@ -1,4 +1,9 @@
 -- One step of `clap`'s walk, at a word that isn't known.
+--
+-- Each turn of the walk has two results, the next state and the fault of the turn. Both are computed for each kind of
+-- word and each kind of state: nothing waits for a value, `--policy` waits for one, or `--` was read. Of the word only
+-- those tests are known that the walk makes of it (`IsPlain`, `IsUnknown`), so each of its branches is followed by
+-- rewriting with them. Which word is of which kind is told in `WordCases`.
 use Rattle.std.proofs.Common.{◌≡◌, ℕ, refl, codes, true, false, List, [], ◌∷◌, ◌++◌, Some, None, Option, Bool, ◌&&◌}
 use Rattle.std.specs.Str.{bytes_eq, chars}
 use Rattle.clap.specs.Lexer.{long_of, short_of}

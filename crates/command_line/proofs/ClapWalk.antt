@@ -1,4 +1,10 @@
 -- What `clap` finds in the words is what they are split into.
+--
+-- By induction on the words, at once for two kinds of state: nothing waits for a value (`Goes`), and `--policy` waits
+-- for one (`Waits`); behind `--` by an induction of its own (`trails`). The claim (`IsRead`) is of what was split so
+-- far and of what the split of the words behind gives: without a fault the order of both together is that of the rows
+-- that are found, and with a fault there is no order. One word either moves from the words behind to the split, or is a
+-- fault that no later word mends (`Refusals`). Which fault comes first isn't compared.
 use Rattle.std.proofs.Common.{◌≡◌, refl, sym, ap, ap₂, subst, codes, true, false, List, [], ◌∷◌, ◌++◌, Some, None}
 use Rattle.std.proofs.Common.{Option, unwrap_or, fold, append_assoc, append-nil, ◌∙◌}
 use Rattle.std.specs.List.{cons_option}

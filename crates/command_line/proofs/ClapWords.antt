@@ -1,4 +1,9 @@
 -- What `clap` makes of all the words.
+--
+-- The whole of what `clap` does is its walk, then the keeping of the last value, subcommands, defaults and a check.
+-- This program has no subcommand, no default and nothing to check, so nothing of these adds a row or a fault, and what
+-- `ClapWalk` says of the walk holds of the whole. So an answer with matches has the order of its matches, and one with
+-- an error has none, unless memory was wanting.
 use Rattle.std.proofs.Common.{◌≡◌, ◌||◌, refl, sym, ap, true, false, List, [], Some, None, Option, Bool, Result, Ok}
 use Rattle.std.proofs.Common.{Err, IfOk, IfErr, ◌≢◌, inl, inr, ap₂, subst, unwrap_or, codes, fold, is_some}
 use Rattle.std.proofs.Common.{if◌then◌else◌, ◌∙◌}

@@ -1,4 +1,10 @@
 -- Words that are refused whatever stands behind them.
+--
+-- Two kinds of fault stay, whatever the words behind are. Two policies are more than one, and a value that names no
+-- policy is either the only one or one of more. An item that looks like an option is no command, no number and no
+-- parameter, so no items among which it stands give an order: by cases on the items before it and on the command, and
+-- for parameters by induction on those before it. Only these refusals are treated, not those that a later word may turn
+-- into an order.
 use Rattle.std.proofs.Common.{◌≡◌, ◌==◌, ◌&&◌, refl, ap, true, false, List, [], ◌∷◌, ◌++◌, Some, None, Option, Bool}
 use Rattle.std.proofs.Common.{option_and_then, is_some, length, nat_le, if◌then◌else◌, arith}
 use Rattle.std.specs.Option.{option_map}

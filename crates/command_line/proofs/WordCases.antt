@@ -1,4 +1,10 @@
 -- The words by what `clap` takes them for.
+--
+-- Each word is of one case at least (`case_of`): it is `--`, asks for a policy, gives one, names an option that isn't
+-- there, or is plain, with or without a dash before more. The case is found by the dashes in front: behind two of them
+-- the name ends at the first `=`, so the word asks for a policy or gives one just where that name is the policy's
+-- (`has_front`). Behind one dash the first character names an option that isn't there; a word without one, which isn't
+-- text, is plain (`stray`).
 use Rattle.std.proofs.Common.{◌≡◌, ◌⊎◌, ◌==◌, ◌+◌, ℕ, refl, sym, ap, subst, inl, inr, codes, true, false, [], ◌∷◌, ◌++◌}
 use Rattle.std.proofs.Common.{Bool, suc, take, drop, arith, ◌∙◌}
 use Rattle.std.specs.List.{before_first, position_or_len}

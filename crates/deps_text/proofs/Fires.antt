@@ -1,9 +1,9 @@
 -- The lines of a read's points, turn by turn and entry by entry.
 --
--- Turn f of the reader is its f-th entry t of the trace, so its vector is that of the point of t. There the table has the tag of
--- the last writer u of t, which is the process of u with the number of u among that process's entries; so the vector at the
--- tag's turn is that of the point of u. Turn by turn, then, the text over points and table is that over the entries. Nothing is
--- shown here of which entry is the last writer: both texts have it from the definition.
+-- Turn f of the reader is its f-th entry t of the trace, so its vector is that of the point of t. There the table has
+-- the tag of the last writer u of t, which is the process of u with the number of u among that process's entries; so
+-- the vector at the tag's turn is that of the point of u. Turn by turn, then, the text over points and table is that
+-- over the entries. Nothing is shown here of which entry is the last writer: both texts have it from the definition.
 use Rattle.std.proofs.Common.{◌≡◌, ◌<◌, ◌+◌, ℕ, zero, suc, ℤ, List, [], ◌∷◌, ◌++◌, map, length, refl, sym, ap, ◌∙◌, arith}
 use Rattle.std.proofs.Common.{zero-add, append_assoc, get_or}
 use Rattle.std.specs.Prelude.{◌==◌, Option, Some, None, slice_get, codes, decimal, count_by, take}

@@ -1,8 +1,9 @@
 -- Every dependence of a nest can be told.
 --
--- The dependences are of all reads of the nest, in order, so each is of a read that its statement has: statement by statement, the
--- list of all reads has no other. Where nothing was swept every read has a tree; so none of the dependences is by the last
--- writers, which a dependence is for a read without a tree alone. Of what a tree gives nothing is used.
+-- The dependences are of all reads of the nest, in order, so each is of a read that its statement has: statement by
+-- statement, the list of all reads has no other. Where nothing was swept every read has a tree; so none of the
+-- dependences is by the last writers, which a dependence is for a read without a tree alone. Of what a tree gives
+-- nothing is used.
 use Rattle.std.proofs.Common.{◌≡◌, ◌≤◌, ◌+◌, ℕ, zero, suc, Bool, true, List, [], ◌∷◌, ◌++◌, map, refl, sym, ap, ◌∙◌, arith}
 use Rattle.std.specs.Prelude.{Option, Some, None, All, nat_lt, ◌&&◌, ◌||◌, is_some}
 use Rattle.std.specs.List.{flat_map, list_all, range_with_len}

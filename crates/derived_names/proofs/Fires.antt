@@ -1,4 +1,9 @@
 -- The fires of a script: one for each point.
+--
+-- Of the events of a point neither the Gets in front nor the Puts behind are Fires, so each point has one, and before
+-- that of point f there are f Fires (`fired_before`). By induction on the points, a Fire of the script is that of some
+-- point f: it has the references of that point, and stands behind the events of the points before and f's own Gets
+-- (`fire_among`). So its turn is the number of its point. It is about scripts alone: no state of the machine occurs.
 use Rattle.std.proofs.Common.{◌≡◌, ℕ, zero, suc, ◌+◌, ◌-◌, ◌<◌, false, Some, List, [], ◌∷◌, ◌++◌, length, map}
 use Rattle.std.proofs.Common.{slice_get, count_by, refl, sym, ap, ◌∙◌, inl, inr, arith}
 use Rattle.std.specs.Prelude.{slice_index_or, ◌==◌, ◌&&◌}

@@ -1,4 +1,9 @@
 -- What a fire uses at a read: the channel from the process of its source.
+--
+-- At most one channel goes from a process to a read, and it is found by these ends (UsesOfReads). So a fire
+-- whose source is of process w uses just that channel, with its plan of slots, and the use is numbered by how
+-- often the fires before used a turn of w (`use_here`). Each use is of this form (`use_is`), and a fire without
+-- a source has none. So all uses of a channel are at its own read and of turns of its own writer (`used_where`).
 use Rattle.std.proofs.Common.{◌≡◌, ℕ, Option, Some, None, List, length, take, slice_get, refl, sym, ap, ◌∙◌}
 use Rattle.std.specs.Option.{option_and_then, option_map}
 use Rattle.std.proofs.lemmas.Option.{same_Some}

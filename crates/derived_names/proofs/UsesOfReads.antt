@@ -1,4 +1,11 @@
 -- The uses of a channel fire by fire, and the channel of each source.
+--
+-- The first half goes along the sources of one read: the first f fires name the tokens of the turns
+-- that they use, in order (`named_before`, by induction on f), and the use of a fire has the number of
+-- its source's token (`use_there`). In the second half channels are told apart by their ends: they are
+-- made by reader, read and writer, each ascending, so no two have the same three (`plans_differ`), and
+-- the search by ends finds the only one (`found_by_ends`). Where a read has a source of a process there
+-- is such a channel (`channel_found`). What goes through a channel doesn't come in.
 use Rattle.std.proofs.Common.{◌≡◌, ◌<◌, ◌+◌, ℕ, zero, suc, Bool, true, cond, eqb, ◌&&◌, List, [], ◌∷◌, ◌++◌, map}
 use Rattle.std.proofs.Common.{length, take, refl, sym, ap, ◌∙◌, subst, inl, inr, arith, add-one, eqb-true}
 use Rattle.std.specs.Prelude.{Option, Some, None, slice_get}

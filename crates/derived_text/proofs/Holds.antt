@@ -1,4 +1,10 @@
 -- The slots that the Gets of a channel name are all that the channel holds.
+--
+-- The text tells how many slots there are from the least to the greatest that the reader's Gets of a channel name. The
+-- Gets of the script are those for all uses, and each is into a slot below the hold, counted from where the channel's
+-- slots begin. None of these is left out, since each was made for some Get (`slots_span`), so that number is the hold.
+-- It rests on there being a use, as else there is no Get: each channel of a nest has one, because it is there only for
+-- a writer of some source of the read (`some_turn`). For other networks the number needn't be what a channel holds.
 use Rattle.std.proofs.Common.{◌≡◌, ◌<◌, ◌≤◌, ◌+◌, ◌-◌, ℕ, true, eqb, List, [], ◌∷◌, map, length, take, refl, sym, ap}
 use Rattle.std.proofs.Common.{◌∙◌, subst, inl, inr, arith}
 use Rattle.std.specs.Prelude.{Option, Some, None, slice_get, slice_index}

@@ -21,7 +21,8 @@ pub fn text_tells_the_plans(nest: &Nest)
     ensures hold { (c : ℕ) (plan : ChannelPlan) → slice_get (plans_of nest.now) c ≡ Some plan
         → hold (net_of (net nest.now)) c ≡ plan.slots.hold }
     ensures class { (c : ℕ) (plan : ChannelPlan) → slice_get (plans_of nest.now) c ≡ Some plan
-        → option_map (λ (channel : Channel). channel.class) (slice_get (net nest.now).channels c) ≡ Some plan.class }
+        → option_map (λ (channel : Channel). channel.class) (slice_get (net nest.now).channels c)
+        ≡ Some plan.class }
 {}
 
 /// The text says the same of the network with other capacities, as with those of the sequential schedule.
@@ -34,5 +35,6 @@ pub fn other_capacities_tell_the_plans(nest: &Nest)
         → hold (net_of (with_capacities (net nest.now) capacities)) c ≡ plan.slots.hold }
     ensures class { (capacities : List ℕ) (c : ℕ) (plan : ChannelPlan)
         → slice_get (plans_of nest.now) c ≡ Some plan
-        → option_map (λ (channel : Channel). channel.class) (slice_get (with_capacities (net nest.now) capacities).channels c) ≡ Some plan.class }
+        → option_map (λ (channel : Channel). channel.class)
+        (slice_get (with_capacities (net nest.now) capacities).channels c) ≡ Some plan.class }
 {}

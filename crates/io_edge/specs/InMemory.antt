@@ -59,7 +59,13 @@ source_code =
     (coded× (coded_list coded_ℕ)
     (coded× coded_ℕ (coded× (coded_list coded_ℕ) (coded× coded_ℕ coded_ℕ))))
     (λ s. (s.left, (s.piece, (s.failing, (s.calls, s.faults)))))
-    (λ p. record { left = p.0; piece = p.1.0; failing = p.1.1.0; calls = p.1.1.1.0; faults = p.1.1.1.1 })
+    (λ p. record {
+      left = p.0;
+      piece = p.1.0;
+      failing = p.1.1.0;
+      calls = p.1.1.1.0;
+      faults = p.1.1.1.1;
+    })
     (λ _. refl)
 
 abbrev pub sink_code : Coded SinkState

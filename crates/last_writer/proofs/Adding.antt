@@ -1,7 +1,7 @@
 -- Proofs that are added in steps.
 --
--- Each step takes the first of the proofs that are told, as many as the systems it is for, and adds as many. What is left is for
--- the steps behind it, whatever they are for, so two steps in sequence are one for the systems of both.
+-- Each step takes the first of the proofs that are told, as many as the systems it is for, and adds as many. What is
+-- left is for the steps behind it, whatever they are for, so two steps in sequence are one for the systems of both.
 use Rattle.std.proofs.Common.{◌≡◌, List, [], ◌∷◌, ◌++◌, sym, subst}
 use Rattle.std.specs.Prelude.{Result, Ok, Err, OnOk, Option, Some, None, IfSome, MatchOption}
 use Rattle.std.proofs.lemmas.List.{append_assoc, append-nil}

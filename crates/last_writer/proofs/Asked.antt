@@ -1,7 +1,8 @@
 -- A writer's tests in a context below all answers.
 --
--- Each of its tests has a place, where a test of the same form and divisor was answered. So where all answers at its places are
--- yes, the rows of its own tests stand at their places, subscript by subscript; and where one of them is no, that one's do.
+-- Each of its tests has a place, where a test of the same form and divisor was answered. So where all answers at its
+-- places are yes, the rows of its own tests stand at their places, subscript by subscript; and where one of them is
+-- no, that one's do.
 use Rattle.std.proofs.Common.{◌≡◌, ◌+◌, ◌*◌, ◌<◌, ℕ, zero, suc, ℤ, List, [], ◌∷◌, ◌++◌, length, Bool, true, false}
 use Rattle.std.proofs.Common.{cond, refl, sym, ap, ◌∙◌, subst, arith}
 use Rattle.std.specs.Prelude.{Option, Some, None, drop, is_some, slice_get}

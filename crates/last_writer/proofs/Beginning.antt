@@ -1,8 +1,8 @@
 -- Above all tests of divisibility.
 --
--- The read is in the stride class, so its statement and its access are there, and all writers of its array together have at most
--- six tests. The context is the reader's domain rows as they stand, over its loops alone: their numbers are those of the
--- nest, and no answer has changed them. What is added by answers is told elsewhere.
+-- The read is in the stride class, so its statement and its access are there, and all writers of its array together
+-- have at most six tests. The context is the reader's domain rows as they stand, over its loops alone: their numbers
+-- are those of the nest, and no answer has changed them. What is added by answers is told elsewhere.
 use Rattle.std.proofs.Common.{◌≡◌, ◌+◌, ◌≤◌, ◌++◌, ℕ, List, [], length, refl, sym, ap, ◌∙◌, subst, arith}
 use Rattle.std.specs.Prelude.{Some, All, IsTrue}
 use Rattle.std.specs.List.{list_all, sum_by}

@@ -1,7 +1,7 @@
 -- Where the rows of an answered test stand.
 --
--- Each answer adds one variable and two rows, whatever it is, so the i-th has the i-th variable and the i-th two rows behind
--- those of the context above all tests. Rows that come behind don't move them.
+-- Each answer adds one variable and two rows, whatever it is, so the i-th has the i-th variable and the i-th two rows
+-- behind those of the context above all tests. Rows that come behind don't move them.
 use Rattle.std.proofs.Common.{◌≡◌, ◌+◌, ◌*◌, ◌≤◌, ℕ, zero, suc, List, [], ◌∷◌, ◌++◌, length, Bool, true, false}
 use Rattle.std.proofs.Common.{refl, sym, ap, ◌∙◌, arith, append_assoc}
 use Rattle.std.specs.Prelude.{Some, None, slice_get}

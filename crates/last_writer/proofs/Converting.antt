@@ -1,8 +1,8 @@
 -- A joined tree as one for all writers.
 --
--- Tests stay, and add a row behind those of the answers. The proofs of a leaf go part by part: the place is in the domain and
--- writes the read's cell, which is converted; the read isn't before it, which is the same; and no write is between, or before
--- the read, which goes writer by writer.
+-- Tests stay, and add a row behind those of the answers. The proofs of a leaf go part by part: the place is in the
+-- domain and writes the read's cell, which is converted; the read isn't before it, which is the same; and no write is
+-- between, or before the read, which goes writer by writer.
 use Rattle.std.proofs.Common.{◌≡◌, ◌+◌, ◌^◌, ℕ, ℤ, pos, negsuc, List, [], ◌∷◌, ◌++◌, length}
 use Rattle.std.proofs.Common.{refl, sym, ap, ◌∙◌, subst, arith, length-append}
 use Rattle.std.specs.Prelude.{Some}

@@ -1,8 +1,8 @@
 -- How many rows the levels of an order have, and that all of them can be made.
 --
--- A loop puts two rows before those of each level behind it and adds a level of one row before them, so the counts of one
--- loop more are those of the levels behind, each shifted by a level and greater by 2. A row takes at most two forms, once
--- each, so it reaches four times as far as these.
+-- A loop puts two rows before those of each level behind it and adds a level of one row before them, so the counts of
+-- one loop more are those of the levels behind, each shifted by a level and greater by 2. A row takes at most two
+-- forms, once each, so it reaches four times as far as these.
 use Rattle.std.proofs.Common.{◌≡◌, ◌+◌, ◌^◌, ◌≤◌, ℕ, zero, suc, List, [], ◌∷◌, ◌++◌, length, map, Bool, true}
 use Rattle.std.proofs.Common.{false, cond, refl, sym, ap, ◌∙◌, arith}
 use Rattle.std.specs.Prelude.{Some, All, nat_lt}

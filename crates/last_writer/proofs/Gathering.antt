@@ -1,7 +1,7 @@
 -- Writers that are gathered one after the other.
 --
--- The tests only grow, each at the end, so the places of the writers before stay right. A writer adds at most one test for each
--- of its subscripts with a stride, so there are no more tests than such subscripts of the writes so far.
+-- The tests only grow, each at the end, so the places of the writers before stay right. A writer adds at most one test
+-- for each of its subscripts with a stride, so there are no more tests than such subscripts of the writes so far.
 use Rattle.std.proofs.Common.{◌≡◌, ◌+◌, ◌≤◌, ◌<◌, ℕ, zero, suc, ℤ, pos, List, [], ◌∷◌, ◌++◌, length, map, Bool, true, false}
 use Rattle.std.proofs.Common.{cond, refl, sym, ap, ◌∙◌, subst, arith, length-append}
 use Rattle.std.specs.Prelude.{Option, Some, None, All, Contains, is_some, slice_get, unsigned_abs, ◌≤ℤ◌}

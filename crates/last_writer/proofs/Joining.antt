@@ -1,9 +1,9 @@
 -- The joined tree below all answers, and the tree below one answer more.
 --
--- The context has the reader's rows and two more for each answer, with small numbers, over the reader's loops and as many
--- quotients as there are tests. Each writer that is told is a problem of differences there, at each of its levels. An answer
--- more stands behind the others, so the contexts below the two answers of the next test are those below its Divides. How
--- the proofs of the joined tree become those for all writers is told elsewhere.
+-- The context has the reader's rows and two more for each answer, with small numbers, over the reader's loops and as
+-- many quotients as there are tests. Each writer that is told is a problem of differences there, at each of its
+-- levels. An answer more stands behind the others, so the contexts below the two answers of the next test are those
+-- below its Divides. How the proofs of the joined tree become those for all writers is told elsewhere.
 use Rattle.std.proofs.Common.{◌≡◌, ◌+◌, ◌≤◌, ◌<◌, ◌^◌, ℕ, zero, suc, ℤ, List, [], ◌∷◌, ◌++◌, length, Bool, true, false}
 use Rattle.std.proofs.Common.{cond, refl, sym, ap, ◌∙◌, subst, arith}
 use Rattle.std.specs.Prelude.{Option, Some, None, All, Contains, is_some, slice_get}

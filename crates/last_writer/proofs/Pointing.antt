@@ -1,8 +1,8 @@
 -- A Writer leaf, part by part.
 --
--- Its write is that of the one writer with its number, which is told. The proofs are those that the place is in the domain and
--- writes the read's cell, as many as rows and subscripts say, those that the read isn't before it, and those of the writes
--- between, so they are cut at these numbers and put together again for the nest's own systems.
+-- Its write is that of the one writer with its number, which is told. The proofs are those that the place is in the
+-- domain and writes the read's cell, as many as rows and subscripts say, those that the read isn't before it, and
+-- those of the writes between, so they are cut at these numbers and put together again for the nest's own systems.
 use Rattle.std.proofs.Common.{◌≡◌, ◌==◌, ◌+◌, ◌*◌, ◌≤◌, ℕ, zero, suc, List, [], ◌∷◌, ◌++◌, length, map, take, drop}
 use Rattle.std.proofs.Common.{Bool, true, false, cond, refl, sym, ap, ◌∙◌, subst, arith, length-append}
 use Rattle.std.specs.Prelude.{Some, Contains, nat_lt, slice_get}

@@ -1,7 +1,7 @@
 -- A leaf below all answers, for one writer.
 --
--- Where its tests all say yes its context has them, so its systems are converted; else one of them says no there. The order rows
--- of its levels, and those of a place before it, are as many as were counted, and small.
+-- Where its tests all say yes its context has them, so its systems are converted; else one of them says no there. The
+-- order rows of its levels, and those of a place before it, are as many as were counted, and small.
 use Rattle.std.proofs.Common.{◌≡◌, ◌+◌, ◌*◌, ◌≤◌, ◌<◌, ◌^◌, ℕ, zero, suc, List, [], ◌∷◌, ◌++◌, length, map, Bool, true, false}
 use Rattle.std.proofs.Common.{◌&&◌, cond, refl, sym, ap, ◌∙◌, subst, arith}
 use Rattle.std.specs.Prelude.{Option, Some, None, All, IfSome, nat_lt, slice_get}

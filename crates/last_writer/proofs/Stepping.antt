@@ -1,7 +1,7 @@
 -- One order more, and one level more.
 --
--- The numbers of rows tell how many orders there are, so where no number is left there is no order, and a number is that of the
--- first of them. What is added for it comes before what is added for the others.
+-- The numbers of rows tell how many orders there are, so where no number is left there is no order, and a number is
+-- that of the first of them. What is added for it comes before what is added for the others.
 use Rattle.std.proofs.Common.{◌≡◌, ◌+◌, ◌^◌, ℕ, List, [], ◌∷◌, ◌++◌, length, map, refl, sym, ap, ◌∙◌, subst, arith}
 use Rattle.std.specs.List.{flat_map}
 use Rattle.std.proofs.lemmas.List.{append-nil, append_assoc}

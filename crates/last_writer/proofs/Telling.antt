@@ -1,8 +1,9 @@
 -- The writes over quotients can be joined.
 --
--- Each is a problem of differences at each level before the read, told over the reader's loops and the quotients of all tests,
--- since the places of its own tests are among those. The writers stand in the nest, and their numbers ascend, so a number
--- names one of them. A problem with the rows and subscripts that are told for a writer is the writer's pair.
+-- Each is a problem of differences at each level before the read, told over the reader's loops and the quotients of
+-- all tests, since the places of its own tests are among those. The writers stand in the nest, and their numbers
+-- ascend, so a number names one of them. A problem with the rows and subscripts that are told for a writer is the
+-- writer's pair.
 use Rattle.std.proofs.Common.{◌≡◌, ◌+◌, ◌≤◌, ◌<◌, ℕ, zero, suc, List, [], ◌∷◌, ◌++◌, length, map, Bool, true, false}
 use Rattle.std.proofs.Common.{cond, refl, sym, ap, ◌∙◌, subst, arith}
 use Rattle.std.specs.Prelude.{Option, Some, None, All, Contains, slice_get, slice_index_or}

@@ -1,8 +1,8 @@
 -- The systems of a leaf, writer by writer.
 --
--- A joined leaf's proofs are for the writers whose tests all say yes, in order; a leaf of the nest wants them for all writers of
--- the array. Those that stand at no level before the read have no systems, so both lists of systems go writer by writer
--- through those that were gathered.
+-- A joined leaf's proofs are for the writers whose tests all say yes, in order; a leaf of the nest wants them for all
+-- writers of the array. Those that stand at no level before the read have no systems, so both lists of systems go
+-- writer by writer through those that were gathered.
 use Rattle.std.proofs.Common.{◌≡◌, ℕ, List, [], ◌∷◌, ◌++◌, map, Bool, true, false}
 use Rattle.std.proofs.Common.{cond, refl, sym, ap, ◌∙◌, arith}
 use Rattle.std.specs.Prelude.{All, nat_lt}

@@ -84,7 +84,8 @@ IsJoinedBelow w here tree = (c : Context) × IsBelow w here c × IsCheckedForAll
 
 -- Proofs were added that refute these systems, where the first of the proofs that were told refute others. The rest of
 -- those is for what comes behind.
-abbrev pub AddsProofs : List RowSystem → List RowSystem → List Proof → List Proof → List Proof → List Proof → Type 0
+abbrev pub AddsProofs : List RowSystem → List RowSystem → List Proof → List Proof → List Proof
+    → List Proof → Type 0
 AddsProofs from to told rest old new =
     (before more : List RowSystem) → AreRefuted before old → AreRefuted (from ++ more) told
     → AreRefuted (before ++ to) new × AreRefuted more rest
@@ -121,7 +122,8 @@ abbrev pub own_systems : Context → (Occurrence → List (List RowExpr)) → Wr
 own_systems c further w = write_systems (read_of w.strides) every c further (write_of w.strides)
 
 -- the same over quotients, where its tests all say yes
-abbrev pub told_systems : List Bool → Context → (Occurrence → List (List RowExpr)) → Writer → List RowSystem
+abbrev pub told_systems : List Bool → Context → (Occurrence → List (List RowExpr)) → Writer
+    → List RowSystem
 told_systems answers c further w =
     if is_told answers w
     then write_systems (told_pair c.vars w).read every c further (told_pair c.vars w).write else []

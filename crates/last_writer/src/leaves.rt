@@ -378,7 +378,8 @@ fn back(proofs: &[Proof], count: usize) -> &[Proof]
 // How many proofs say that a write isn't before the read.
 fn after_count(read: &Reference, write: &Reference) -> usize
     requires { length read.now.statement.now.loops ≤ 6 }
-    ensures value { result ≡ after_systems_count (occurrence_of read.now) (occurrence_of write.now) }
+    ensures value { result
+        ≡ after_systems_count (occurrence_of read.now) (occurrence_of write.now) }
     ensures few { result ≤ 8 }
 {
     let levels = level_count(read, write);

@@ -1,4 +1,9 @@
 -- From what was read of a tree to its nest.
+--
+-- The code keeps one reason, the least. The least of some reasons is one as soon as there are any, so where there is
+-- none, none stands in the tree (`none_found`). Then what was read of the tree, put together between the sources with
+-- their loops and the sinks with theirs, is part by part the nest of the tree, and has what a nest must have, since
+-- `Nests` shows it of the tree's own nest.
 use Rattle.std.proofs.Common.{◌≡◌, ℕ, ◌+◌, Bool, true, false, List, [], ◌∷◌, ◌++◌, length, Some, None, Err}
 use Rattle.std.proofs.Common.{if◌then◌else◌, refl, sym, ap, subst, ◌∙◌, append_assoc, length-append}
 use Rattle.std.specs.Prelude.{IsTrue}

@@ -1,4 +1,10 @@
 -- Where no reason stands in a tree, what is built of it is well formed.
+--
+-- A body is put together of three: the loops round the sources, the nodes of the source's own parts, and the loops
+-- round the sinks. Each property of a nest is had by each of the three, from where the one before ended: the numbers of
+-- loops and statements, the places of statements, the roles, the forms (`NestsTerminals` for the outer two,
+-- `NestsParts` for the middle one, `NestsArrays` for the arrays). Here they are joined. The converse isn't shown: a
+-- tree with a reason may well make something well formed.
 use Rattle.std.proofs.Common.{◌≡◌, ◌≤◌, ℕ, ◌+◌, ◌-◌, ℤ, List, [], ◌∷◌, ◌++◌, map, length, take, drop, replicate, refl}
 use Rattle.std.proofs.Common.{sym, ap, ◌∙◌, arith, subst}
 use Rattle.std.specs.Prelude.{IsTrue, nat_le}

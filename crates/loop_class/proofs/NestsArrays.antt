@@ -1,4 +1,10 @@
 -- The declarations of a source: where no reason stands in them, the arrays are those of a nest.
+--
+-- `GivesArrays` is kept by one declared name that gives no reason: all arrays have names in scope, so a new name, which
+-- is in no scope, differs from theirs; their extents are few and limited; and what the scope says of an array is so.
+-- The number of processes is that of inputs and outputs together, and no more than 64. Reasons are only added, so where
+-- none stands at the end, none stood at any step, and by induction along the declarations the invariant holds of all of
+-- them (`declarations_sound`).
 use Rattle.std.proofs.Common.{◌≡◌, ◌≤◌, ℕ, zero, suc, ◌+◌, ℤ, pos, List, [], ◌∷◌, ◌++◌, map, length, Bool, true, false}
 use Rattle.std.proofs.Common.{cond, not, ◌&&◌, inl, inr, Option, Some, None, is_some, refl, sym, ap, ◌∙◌, arith, subst}
 use Rattle.std.specs.Prelude.{IsTrue, nat_lt, nat_le, slice_get, unwrap_or}

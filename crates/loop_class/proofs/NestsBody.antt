@@ -1,4 +1,9 @@
 -- The loops, the places of statements and the forms of parts of a body.
+--
+-- Three things are said of parts: from which number to which their loops are numbered (`Numbered`), where their
+-- statements stand, and whether their forms fit the loops round them. For each it is shown what a loop, a guard and an
+-- assignment make of it, and that lists one behind the other have it where the second begins at the numbers at which
+-- the first ends.
 use Rattle.std.proofs.Common.{◌≡◌, ◌<◌, ℕ, suc, ◌+◌, ℤ, List, [], ◌∷◌, ◌++◌, map, length, Bool, refl, sym, ap, ◌∙◌}
 use Rattle.std.proofs.Common.{arith}
 use Rattle.std.specs.Prelude.{IsTrue}

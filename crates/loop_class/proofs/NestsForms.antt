@@ -1,4 +1,10 @@
 -- Six coefficients that are 0 beyond the loops round a place, and what `form_over` leaves of them.
+--
+-- Coefficients over six loops of which only the first so many may be other than 0 (`IsOver`) lose nothing where the
+-- zeros behind are cut off. This property passes through sums, differences, negations and multiples, and from a place
+-- to one inside more loops. So a form that was cut for a place and widened for one further in is the form that is cut
+-- there (`form_wider`), and the rows that a nest makes of a loop's cut forms are the cut rows of binding (`lower_over`,
+-- `upper_over`, `turn_row_over`). All inductions are along the coefficients.
 use Rattle.std.proofs.Common.{◌≡◌, ◌<◌, ◌≤◌, ℕ, zero, suc, ◌+◌, ◌-◌, ℤ, pos, negsuc, neg_ℤ, ◌+ℤ◌, ◌-ℤ◌, ◌*ℤ◌, List, []}
 use Rattle.std.proofs.Common.{◌∷◌, ◌++◌, map, length, take, replicate, refl, sym, ap, ◌∙◌, arith}
 use Rattle.std.specs.Prelude.{slice_set}

@@ -1,4 +1,10 @@
 -- The parts of a body: where no reason stands in them, their nodes and statements are those of a nest.
+--
+-- `GivesParts` says of a part, wherever it stands: its loops are numbered from the next number on, its statements stand
+-- where they say they do, all forms fit, and all are assignments that fit, 64 statements at most with the sinks. It is
+-- had by induction on the tree of parts, each time for what a part makes without a reason (`part_well`). The rows round
+-- a part are kept twice, as forms of a nest and as rows of binding; `Shows` says that they are the same from that depth
+-- on, and is kept by a loop and by a guard. What a loop adds is said of its bounds in `NestsBounds`.
 use Rattle.std.proofs.Common.{◌≡◌, ◌<◌, ◌≤◌, ℕ, suc, ◌+◌, ℤ, pos, negsuc, ◌+ℤ◌, ◌<ℤ◌, List, [], ◌∷◌, ◌++◌, map, length}
 use Rattle.std.proofs.Common.{Bool, true, false, cond, not, ◌||◌, Option, Some, None, refl, sym, ap, ◌∙◌, arith, subst}
 use Rattle.std.specs.Prelude.{IsTrue, int_le, nat_lt, nat_le, ◌==◌}

@@ -1,4 +1,9 @@
 -- What the names in scope stand for, and the forms that are read in such a scope.
+--
+-- By induction on the operand, a form that is judged affine is one of the loops round its place and has limited numbers
+-- (`formed`): each step that makes a form is tested for its size, and names none but the loops of the forms below it or
+-- of the scope. Where a form is missing, 0 stands for it, which is such a form too; so the bounds of loops and the rows
+-- of guards are in range whether or not a reason stands there. A bound has a lower and an upper form at least.
 use Rattle.std.proofs.Common.{◌≡◌, ◌<◌, ℕ, suc, ℤ, pos, ◌+ℤ◌, ◌-ℤ◌, ◌*ℤ◌, List, [], ◌∷◌, ◌++◌, length, Bool, true}
 use Rattle.std.proofs.Common.{false, cond, Option, Some, None, is_some, refl, sym, arith, subst}
 use Rattle.std.specs.Prelude.{slice_get, unwrap_or}

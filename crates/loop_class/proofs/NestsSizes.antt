@@ -1,4 +1,10 @@
 -- The forms, rows and bounds of a nest: which loops they name, and how large their numbers are.
+--
+-- Three sizes of number: limited numbers in forms as they are written, bounds of loops, which may be 1 lower, and
+-- moderate numbers in rows, which are differences of these (`Moderate` has the numbers). Each is kept beside the
+-- property that no loop further in is named (`IsOver`), and both pass together from the forms of a loop's bounds to its
+-- rows (`loop_rows_are`). The row of a turn has the step as the coefficient of the loop itself, since none of its
+-- bounds names that loop. So all rows and bounds fit the loops round them (`row_fits`).
 use Rattle.std.proofs.Common.{◌≡◌, ◌<◌, ◌≤◌, ℕ, zero, suc, ℤ, pos, negsuc, ◌-ℤ◌, ◌≤ℤ◌, ◌<ℤ◌, List, [], ◌∷◌, map, length}
 use Rattle.std.proofs.Common.{take, replicate, Bool, true, false, T, refl, sym, arith, subst}
 use Rattle.std.specs.Prelude.{IsTrue, slice_set}

@@ -1,4 +1,10 @@
 -- Sources and sinks, and the loops round them.
+--
+-- A source or a sink stands inside one loop for each extent of its array. By induction on the extents these loops are
+-- numbered one after another, the statement inside stands where it says, and all forms fit; the rows are the two of
+-- each extent. The same induction along the declared arrays serves sources and sinks alike: it is given which arrays
+-- pass, and what is made of one (`length_from`, `roles_from`, `placed_from`, `fits_from`). That extents are few and
+-- limited is a premise, which declarations without a reason fulfil (`NestsArrays`).
 use Rattle.std.proofs.Common.{◌≡◌, ◌<◌, ◌≤◌, ℕ, zero, suc, ◌+◌, ◌-◌, ℤ, pos, ◌-ℤ◌, List, [], ◌∷◌, ◌++◌, map, length}
 use Rattle.std.proofs.Common.{take, replicate, Bool, true, false, cond, Some, None, refl, sym, ap, ◌∙◌, arith, subst}
 use Rattle.std.proofs.Common.{append_assoc}

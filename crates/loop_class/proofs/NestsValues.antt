@@ -1,5 +1,11 @@
 -- Right sides: where no reason stands in one, its reads fit and its expression names only loops and reads that are
 -- there.
+--
+-- `Fitting` says of a value, before which so many reads stand: all its reads fit their arrays, there are 8 at most with
+-- those before, its expression names loops round it and reads up to its own last one, and no input value. It is had by
+-- induction on the operand, for operands in which no reason stands: a read is at the number of those before it, and two
+-- values are joined by letting the second begin where the reads of the first end. The value of a progression's variable
+-- is its form, which is written out as multiples and sums of loops.
 use Rattle.std.proofs.Common.{◌≡◌, ◌≤◌, ℕ, suc, ◌+◌, ℤ, pos, List, [], ◌∷◌, ◌++◌, map, length, Bool, true, false, cond}
 use Rattle.std.proofs.Common.{not, ◌&&◌, ◌||◌, take, length-take, Option, Some, None, refl, sym, ap, ◌∙◌, arith, subst}
 use Rattle.std.specs.Prelude.{IsTrue, ◌==◌}

@@ -1,4 +1,9 @@
 -- Where the first `*/` of a comment ends.
+--
+-- The code looks for `*/` at one pair of bytes after the other; the definition asks of each front of the body whether
+-- it ends at the first one. The loop's invariant is that the first j bytes don't matter to where the body closes
+-- (`Shifts`) and that none of the fronts up to there closes (`NoneUpTo`). Where no `*/` stands, the next byte doesn't
+-- matter either (`close_goes`); where one stands, the front with it closes and no longer one does (`close_found`).
 use Rattle.std.proofs.Common.{◌≡◌, ℕ, zero, suc, ◌+◌, ◌-◌, ◌<◌, ◌≤◌, Bool, false, ◌&&◌, drop-cons, length-drop, List}
 use Rattle.std.proofs.Common.{[], ◌∷◌, length, take, drop, refl, sym, ◌∙◌, arith, inl, inr, nat_eq, get_or, ◌==◌}
 use Rattle.std.proofs.lemmas.Bool.{cases_lt}

@@ -1,4 +1,9 @@
 -- What an input element with a given first byte can be.
+--
+-- By its first byte, and behind a slash by the second, an input element is of one kind: white space, letters and digits
+-- begin no sign, and no sign begins with them, which is tested along the list of signs. So for a first byte of each
+-- kind it is told what an element of two bytes or more is: none, a run of letters and digits, a run of digits, a
+-- comment, or a sign. Which of these is the longest at a place is shown in `Longest`.
 use Rattle.std.proofs.Common.{◌≡◌, ℕ, ◌<◌, Bool, true, false, not, ◌&&◌, ◌||◌, List, [], ◌∷◌, length, refl, arith}
 use Rattle.std.proofs.Common.{nat_le, nat_eq}
 use Rattle.std.specs.List.{list_all, list_any}

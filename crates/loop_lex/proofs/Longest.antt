@@ -1,4 +1,10 @@
 -- The longest input element at the front.
+--
+-- A front that is an input element, and that no longer front is, is the longest (`longest_is`), by induction down from
+-- all the bytes. Which front this is follows from the first bytes (`Elements`): a run of bytes that pass a test, up to
+-- the first that doesn't, for words, numbers and line comments; up to the first `*/` for block comments; one byte for
+-- white space; two or one for signs. An open comment, a slash apart and a byte that begins nothing have no element at
+-- all. With the element its kind is found. How the elements follow one another isn't treated here.
 use Rattle.std.proofs.Common.{◌≡◌, ℕ, zero, suc, ◌+◌, ◌<◌, ◌≤◌, Bool, true, false, cond, if◌then◌else◌, not, ◌||◌, List}
 use Rattle.std.proofs.Common.{[], ◌∷◌, length, take, refl, ◌∙◌, arith, inl, inr, nat_eq, get_or}
 use Rattle.std.specs.List.{list_all, prefix_len}

@@ -1,4 +1,10 @@
 -- The tokens found so far, and those of the rest.
+--
+-- The invariant `Reads`: the tokens found, put before those that the rest gives, come to the whole result, and the
+-- tokens found with those that still have room are the limit. It holds at first, and one element goes on with it: a
+-- separator only moves the place, and a token is put behind the found ones (`goes_past`, `takes_token`). A large
+-- number, a token without room, and a place without an element each make the whole result that refusal, since refusals
+-- pass through what was found. At the end of the bytes the found tokens are all (`is_done`).
 use Rattle.std.proofs.Common.{◌≡◌, ℕ, zero, suc, ◌+◌, ◌-◌, ◌<◌, ◌≤◌, Bool, true, false, if◌then◌else◌, List, [], ◌∷◌}
 use Rattle.std.proofs.Common.{◌++◌, length, take, drop, refl, sym, ap, ◌∙◌, arith, nat_eq, Result, Ok, Err}
 use Rattle.std.proofs.Common.{append_assoc, add-zero, length-drop}

@@ -1,4 +1,9 @@
 -- What the tokens of a source keep.
+--
+-- By induction along the bytes, the tokens of the bytes from a place on are within the room, stand one behind the other
+-- from that place, and each has a text of its kind (`Kept`, `kept_from`): an element's token ends where the next
+-- begins, and its text is the element, which is no separator and no large number. That each two stand in order follows
+-- from each standing behind the one before (`pairs_are`). That no token is left out isn't said here.
 use Rattle.std.proofs.Common.{◌≡◌, ℕ, zero, suc, ◌+◌, ◌-◌, ◌<◌, ◌≤◌, Bool, true, false, if◌then◌else◌, ◌||◌, List, []}
 use Rattle.std.proofs.Common.{◌∷◌, length, take, drop, refl, sym, ap, ◌∙◌, subst, arith, nat_eq, nat_lt, get_or, Result}
 use Rattle.std.proofs.Common.{Ok, Err, add-zero}

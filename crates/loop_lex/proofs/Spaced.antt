@@ -1,4 +1,10 @@
 -- Tokens that were written with a space behind each are read back.
+--
+-- A token's text with a space behind it is no input element, whatever follows the space (`Ends`): words, numbers and
+-- signs have no space in them, and a token begins no comment. So at the front of such a text the longest element is the
+-- token, and the next is the space, which gives none. By induction along the texts the tokens are those that were
+-- written, at their places (`spaced_from`), and their texts are the same (`texts_back`). Where no space stands between
+-- them, two words may become one.
 use Rattle.std.proofs.Common.{◌≡◌, ℕ, zero, suc, ◌+◌, ◌-◌, ◌<◌, ◌≤◌, Bool, true, false, not, ◌&&◌, List, [], ◌∷◌, ◌++◌}
 use Rattle.std.proofs.Common.{length, take, drop, refl, sym, ap, ◌∙◌, arith, nat_eq, Result, Ok, map, length-append}
 use Rattle.std.specs.List.{list_all}

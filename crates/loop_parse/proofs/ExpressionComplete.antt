@@ -1,4 +1,10 @@
 -- Every expression is read, with its tree.
+--
+-- By induction on the derivation: where a factor, a term or an expression is awaited, feeding its tokens leads to the
+-- state behind it (`behind`), whatever frames are open round it and whatever tokens follow. These states aren't yet
+-- settled: an expression that was read waits for a token that tells whether it goes on, and on each token that doesn't
+-- extend a name with a subscript it acts as its tree does (`factor_settles`, `term_settles`). Outside all brackets the
+-- machine ends with that tree (`expr_finishes`). That the machine reads nothing else is shown in `ExpressionSound`.
 use Rattle.std.proofs.Common.{◌≡◌, ℕ, Bool, true, false, List, [], ◌∷◌, ◌++◌, refl, sym, ap, ◌∙◌, append_assoc, Option}
 use Rattle.std.proofs.Common.{Some, None}
 use Rattle.std.proofs.lemmas.List.{append-nil}

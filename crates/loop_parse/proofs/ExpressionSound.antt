@@ -1,4 +1,11 @@
 -- What the machine has read of an expression, and that it may be completed.
+--
+-- `Stands s read`: the tokens that were read are those of the open brackets, outermost first, each behind what waits
+-- outside it, and then what waits innermost: a sum's left side, a product's, signs, and perhaps a factor or a name.
+-- What stands before a sign or a comma is the text of an operand or of arguments, with its tree. One token keeps this
+-- (`feed_stands`), by cases on state and token. At the end no bracket is open, so what was read is an expression with
+-- the tree (`finish_stands`). `closes` goes by induction on the open brackets: a number where a factor is awaited, then
+-- the end of each bracket.
 use Rattle.std.proofs.Common.{◌≡◌, ◌⊎◌, inl, inr, ℕ, Bool, true, false, List, [], ◌∷◌, ◌++◌, refl, sym, ap, subst, ◌∙◌}
 use Rattle.std.proofs.Common.{append_assoc, Option, Some, None, pos}
 use Rattle.std.proofs.lemmas.List.{append-nil}

@@ -1,4 +1,11 @@
 -- Runs of the machine, and what they say of the grammar.
+--
+-- Three facts of the machine make the laws of an answer: what it ends with is a tree of the tokens (`SourceSound`),
+-- from each state it reaches the end of some source (`SourceCloses`), and it reads each source to its end, with its
+-- tree (`SourceComplete`). So a tree is the only one, since the run on given tokens is one; what was read before a stop
+-- goes on to a source; and where no step is left, no source goes on so, since the machine would read it. The loop's
+-- invariant is the state after so many of the tokens: one turn is one step more (`turns`). A want of memory refutes
+-- nothing.
 use Rattle.std.proofs.Common.{◌≡◌, ◌⊎◌, inl, inr, ℕ, zero, suc, ◌+◌, ◌<◌, ◌≤◌, List, [], ◌∷◌, ◌++◌, length, take, drop}
 use Rattle.std.proofs.Common.{get_or, map, add-one, refl, sym, ap, ◌∙◌, Option, Some, None, arith, append_assoc}
 use Rattle.std.proofs.Common.{add-zero, zero-add, Result, Ok, Err}

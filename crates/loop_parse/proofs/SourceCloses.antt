@@ -1,4 +1,11 @@
 -- Any source that was begun can be completed.
+--
+-- From each state some tokens lead to one in which the machine ends with a tree. Where a statement is awaited an empty
+-- block completes all that waits for one, and then a `}` ends each open block, by induction on what encloses
+-- (`settled_closes`). Every other state is a step or an expression away from one that is known to close: each place in
+-- a `for`, an `if`, an assignment or a declaration is taken after those that follow it. An open expression is first
+-- completed by itself (`ExpressionSound`), and a token that ends it fills the place that it stands in
+-- (`within_closes`). The tokens found needn't be the fewest.
 use Rattle.std.proofs.Common.{◌≡◌, ℕ, Bool, true, false, List, [], ◌∷◌, ◌++◌, refl, sym, ap, ◌∙◌, Option, Some, None}
 use Rattle.std.proofs.Common.{pos}
 use Rattle.loop_grammar.specs.declared.lexeme.Lexeme.{Lexeme}

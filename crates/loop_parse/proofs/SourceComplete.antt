@@ -1,4 +1,11 @@
 -- Every source is read, with its tree.
+--
+-- By induction on the derivation: where a statement is awaited, feeding its tokens leads to the state behind it,
+-- whatever stands round it and whatever follows. After a block the machine doesn't know yet whether an `else` comes; on
+-- any other token that may follow, the state acts as one in which the statement is settled (`statement_settles`), and
+-- each statement begins with such a token (`Begins`). So a list of statements is read one after another. Inside an
+-- expression the source's machine follows that of expressions until a token that ends it, which no expression takes
+-- outside brackets (`refuses_end`). That nothing else is read is shown in `SourceSound`.
 use Rattle.std.proofs.Common.{◌≡◌, ℕ, Bool, true, false, List, [], ◌∷◌, ◌++◌, refl, sym, ap, ◌∙◌, append_assoc, Option}
 use Rattle.std.proofs.Common.{Some, None}
 use Rattle.std.proofs.lemmas.List.{append-nil}

@@ -1,4 +1,11 @@
--- What the machine has read of a source, and that it may be completed.
+-- What the machine has read of a source.
+--
+-- `Stands s read`: the tokens that were read are those before the statement or declaration that is open, and its own.
+-- Those before are declarations and, for each block, `for` and `if` that encloses, its head and the statements read in
+-- it (`StackText`); its own are the text of what the state holds, place by place. One token keeps this (`feed_stands`),
+-- by cases on place and token. A complete statement also ends each `for`, `if` and `else` that waits for one, by
+-- induction on what encloses (`landed_holds`). At the end nothing encloses, so what was read derives the tree
+-- (`finish_stands`). That it may be completed is shown in `SourceCloses`.
 use Rattle.std.proofs.Common.{◌≡◌, ◌⊎◌, inl, inr, ℕ, Bool, true, false, List, [], ◌∷◌, ◌++◌, refl, sym, ap, subst, ◌∙◌}
 use Rattle.std.proofs.Common.{append_assoc, Option, Some, None, option_map, ◌&&◌, if◌then◌else◌}
 use Rattle.std.proofs.lemmas.List.{append-nil}

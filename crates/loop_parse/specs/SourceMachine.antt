@@ -237,7 +237,13 @@ fill n (slot.Bound name first second inclusive) v (word.Semi, p) =
       n,
       at_for
           (for_place.Step
-          (record { name = name; first = first; second = second; inclusive = inclusive; bound = v })),
+          (record {
+            name = name;
+            first = first;
+            second = second;
+            inclusive = inclusive;
+            bound = v;
+          })),
     )
 fill n (slot.Step bounds third token) v (w, p) = feed_step n bounds third (By token v) w
 fill n (slot.Left cond) v (word.Compare sign, p) = Some (n, begun (slot.Right cond v sign p))

@@ -1,4 +1,9 @@
 -- What is written of each kind of operand and part.
+--
+-- What is written of an operand, a part or a declaration is put together of what was written piece by piece, one behind
+-- the other (`behind` in `Written`), and the pieces in their order are the words of that kind (`Phrases`). So each
+-- lemma takes what was written of the parts below to what is written of the whole; the induction on trees is the code's
+-- own. The parenthesized operands come with their parentheses from `Written`.
 use Rattle.std.proofs.Common.{◌≡◌, ℕ, ℤ, Bool, Option, Some, None, List, [], ◌∷◌, ◌++◌, sym, ap, ◌∙◌}
 use Rattle.loop_grammar.specs.declared.lexeme.Lexeme.{Lexeme}
 use Rattle.loop_grammar.specs.declared.lexeme.Lexeme.TheVariants as word

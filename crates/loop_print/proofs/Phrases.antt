@@ -1,4 +1,8 @@
 -- How operands and parts are written, and what they are without token numbers, by their kind.
+--
+-- The words of an operand and of a part, and both without token numbers, are defined as folds over their layers; here
+-- each is unfolded once for each kind, so that it is told by those of the operands and parts below. How an operand
+-- binds is a part of its phrase, so whether it needs parentheses is seen at the place where it stands.
 use Rattle.std.proofs.Common.{◌≡◌, ℕ, ℤ, Bool, Option, Some, None, List, [], ◌∷◌, ◌++◌, map, refl, sym, ap, ◌∙◌}
 use Rattle.std.proofs.lemmas.List.Folds.{flat_map-map}
 use Rattle.loop_grammar.specs.declared.lexeme.Lexeme.{Lexeme}

@@ -1,5 +1,11 @@
 -- The words of an operand derive, whatever number the first token has, with the operand as their tree, token numbers
 -- aside.
+--
+-- By induction on the derivation that the operand came from, its words have a derivation again, numbered from any
+-- number on, as a sum, a product or a factor, whichever it binds like (`Spelled`). It is put at a place of a rank by
+-- itself where it binds as tightly, and else in parentheses, which make a factor of it (`term_of`, `factor_of`).
+-- Parentheses of the source aren't kept, so the derivation may differ from the first; the tree is the same but for
+-- token numbers. A `min` or `max` of one argument is that argument already in the tree.
 use Rattle.std.proofs.Common.{◌≡◌, ℕ, suc, ◌+◌, ℤ, List, [], ◌∷◌, ◌++◌, map, length, refl, sym, ap, subst, ◌∙◌}
 use Rattle.std.proofs.Common.{append_assoc, arith}
 use Rattle.std.specs.List.{flat_map}

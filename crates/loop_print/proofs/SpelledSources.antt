@@ -1,4 +1,10 @@
 -- The words of a tree derive, with the tree as theirs, token numbers aside.
+--
+-- By induction on the derivation that the tree came from, the words of each statement, block, declaration and list have
+-- a derivation again, numbered from any number on, whose tree is the same but for token numbers (`spelled_statement`,
+-- `spelled_declarations`). In a list each thing begins at the number where the one before and the separator end. What
+-- the tree doesn't keep, such as how a step by one was written, gets the one form in which it is written. That the text
+-- of the words has these tokens is shown in `Texts`.
 use Rattle.std.proofs.Common.{◌≡◌, ℕ, ◌+◌, Bool, Some, None, List, [], ◌∷◌, ◌++◌, map, length, refl, sym, ap, ◌∙◌}
 use Rattle.std.specs.List.{flat_map}
 use Rattle.std.proofs.lemmas.List.{append-nil}

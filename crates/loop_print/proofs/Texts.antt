@@ -1,4 +1,11 @@
 -- The text of the words is read back as these words.
+--
+-- Each word that stands for a token has a text that is a token, and the lexer's lexeme of that text is the word again
+-- (`writable`, `read_back`). The words of a tree that has a source are such words, since those of the source are and
+-- the tree's are among them (`Within`), and there are no more than the source has, so within the limit. So the text's
+-- sentence is the words, numbered from 0, and these derive the tree again (`SpelledSources`). What the lexer does with
+-- texts that are written with spaces behind is a hypothesis (`ReadsSpaced`, `KeepsTexts`), and so is what tokens keep
+-- (`KeepsTokens`).
 use Rattle.std.proofs.Common.{rules, ◌≡◌, ℕ, suc, ◌+◌, ◌*◌, ◌-◌, ◌^◌, ◌<◌, ◌≤◌, pos, negsuc, Bool, true, false, not}
 use Rattle.std.proofs.Common.{◌&&◌, ◌||◌, List, [], ◌∷◌, fold, map, length, refl, sym, ap, subst, ◌∙◌, arith, All}
 use Rattle.std.proofs.Common.{nat_lt, Ok}

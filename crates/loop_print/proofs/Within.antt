@@ -1,4 +1,10 @@
 -- The words of a tree are no more than the tokens of a source that has it, and each is a token where those are.
+--
+-- By induction on the derivation: the words of each expression, statement and declaration are no more than its tokens,
+-- and stand for tokens where those do (`Within`). All words come from tokens of the derivation; some tokens are left
+-- out, such as parentheses that aren't needed and an `int`, and a `++` before its name is written behind it.
+-- Parentheses are written only where an operand doesn't bind tightly enough for its place, and there the derivation has
+-- them too (`bracketed`). For trees that have no source nothing is shown.
 use Rattle.std.proofs.Common.{◌≡◌, ℕ, ◌+◌, ◌≤◌, pos, negsuc, true, false, Option, Some, None, List, [], ◌∷◌, ◌++◌}
 use Rattle.std.proofs.Common.{length, sym, ap, subst, ◌∙◌, arith, length-append}
 use Rattle.std.specs.List.{flat_map}

@@ -1,4 +1,9 @@
 -- Words that are written behind words.
+--
+-- `Writes` says that what was written is what was there and then the words; it is joined by writing one behind the
+-- other (`behind`). Along a list this is the invariant of the loop that writes it: after so many items, their words are
+-- written (`flat_turn`, `flat_end`, `joined_end`). Whether parentheses are written is tested just as the phrase asks
+-- for them.
 use Rattle.std.proofs.Common.{◌≡◌, ℕ, ◌+◌, ◌<◌, Bool, true, false, List, [], ◌∷◌, ◌++◌, map, length, take, get_or, refl}
 use Rattle.std.proofs.Common.{sym, ap, subst, ◌∙◌, append_assoc, arith, if◌then◌else◌}
 use Rattle.std.proofs.Math.Seq.{take-length}

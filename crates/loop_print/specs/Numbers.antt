@@ -33,7 +33,12 @@ unnumbered_operand = fold-Operand Operand unnumbered_operand_step
 
 abbrev pub unnumbered_comparison : Comparison → Comparison
 unnumbered_comparison c =
-    record { left = unnumbered_operand c.left; sign = c.sign; token = 0; right = unnumbered_operand c.right }
+    record {
+      left = unnumbered_operand c.left;
+      sign = c.sign;
+      token = 0;
+      right = unnumbered_operand c.right;
+    }
 
 abbrev pub unnumbered_step : Step → Step
 unnumbered_step One = One
@@ -67,4 +72,7 @@ unnumbered_declaration d = record { word = d.word; names = map unnumbered_named 
 -- the tree with 0 for each token number
 abbrev pub without_token_numbers : Tree → Tree
 without_token_numbers t =
-    record { declarations = map unnumbered_declaration t.declarations; parts = map unnumbered_part t.parts }
+    record {
+      declarations = map unnumbered_declaration t.declarations;
+      parts = map unnumbered_part t.parts;
+    }

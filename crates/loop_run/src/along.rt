@@ -64,7 +64,8 @@ fn execute_turn(
     ensures memory { let values = map (cell_value (memory_of cells.old))
         (map (cell_at at.now) statement.now.reads) in
         let value = value_of statement.now.expr (record { at = at.now; reads = values; given = given }) in
-        OnOk result (memory_of cells.new ≡ store (memory_of cells.old) (option_map (cell_at at.now) statement.now.write) value) }
+        OnOk result (memory_of cells.new
+        ≡ store (memory_of cells.old) (option_map (cell_at at.now) statement.now.write) value) }
     ensures places { OnOk result (places_in cells.new ≡ places_in cells.old) }
 {
     let reads = accesses.reads.as_slice();

@@ -51,7 +51,8 @@ pub(crate) fn execute_statement(
     ensures { let values = map (cell_value (memory_of cells.old))
         (map (cell_at at.now) statement.now.reads) in
         let value = value_of statement.now.expr (record { at = at.now; reads = values; given = given }) in
-        OnOk result (memory_of cells.new ≡ store (memory_of cells.old) (option_map (cell_at at.now) statement.now.write) value) }
+        OnOk result (memory_of cells.new
+        ≡ store (memory_of cells.old) (option_map (cell_at at.now) statement.now.write) value) }
 {
     let small = are_small(at);
     let reads = accesses.reads.as_slice();

@@ -136,7 +136,8 @@ fn range_of(first: i64, last: i64, step: i64) -> (i64, i64)
     requires first_within { IsTrue (is_loop_value first) }
     requires last_within { IsTrue (is_loop_value last) }
     requires step { pos 1 ≤ℤ step }
-    ensures values { (if int_eq step (pos 1) then interval first last else turns_up_to first last step)
+    ensures values { (if int_eq step (pos 1) then
+        interval first last else turns_up_to first last step)
         ≡ interval result.0 result.1 }
     ensures first_within { IsTrue (is_loop_value result.0) }
     ensures last_within { IsTrue (is_loop_value result.1) }

@@ -109,7 +109,8 @@ fn enter_guard(
     ensures part { frame.new.part ≡ frame.old.part }
     ensures entered { OnTrue result (frame.new.inside ≡ true) }
     ensures body { OnTrue result
-        (left_of_node frame.old (left deeper.old) (Guard rows.now body.now) at.now ≡ left deeper.new body.now at.now) }
+        (left_of_node frame.old (left deeper.old) (Guard rows.now body.now) at.now
+        ≡ left deeper.new body.now at.now) }
     ensures valid { OnTrue result (IsTrue (valid deeper.new body.now at.now)) }
     ensures empty { OnFalse result
         (left_of_node frame.old (left deeper.old) (Guard rows.now body.now) at.now ≡ []) }
@@ -133,7 +134,8 @@ fn begin_next_turn(body: &[Node], at: &LoopValues, frame: &mut Frame, deeper: &m
     requires valid { IsTrue (turns_valid frame.old (valid deeper.old) body.now at.now) }
     ensures frame { frame.new ≡ record frame.old { value = frame.old.value +ℤ pos 1 } }
     ensures left { left_of_turns frame.new (left deeper.new) body.now at.now
-        ≡ turn_points (all_points (map trace_node body.now)) (interval (frame.old.value +ℤ pos 1) frame.old.last) at.now }
+        ≡ turn_points (all_points (map trace_node body.now))
+        (interval (frame.old.value +ℤ pos 1) frame.old.last) at.now }
     ensures valid { IsTrue (turns_valid frame.new (valid deeper.new) body.now at.now) }
 {
     let value = frame.value + 1;

@@ -1,4 +1,8 @@
 -- The source is bound for every size: no reason stands in its tree, and its arrays have their extents.
+--
+-- The tree is a given one, and only the count of rows is left open. So both facts are computed: each part, operand and
+-- bound of the tree is replaced by what its kind comes to, and the count enters as the value of the parameter. All that
+-- is needed of the count is that it is a limited number, which follows from the premise that it is small enough.
 use Rattle.std.proofs.Common.{◌≡◌, ℕ, ◌≤◌, ◌+◌, ℤ, pos, List, [], ◌∷◌, Bool, true, refl, sym, ap, ◌∙◌, arith, length}
 use Rattle.std.proofs.Common.{map, ◌*◌}
 use Rattle.std.proofs.lemmas.Bool.Decides.{nat_tests}

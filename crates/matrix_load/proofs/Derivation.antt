@@ -1,4 +1,9 @@
 -- The matrix product as the grammar derives it.
+--
+-- The derivation is written down in the grammar's constructors, with the number of each name, sign and bracket among
+-- the tokens, and the tree is what the grammar makes of it. What is left is that the source's tokens, each with its
+-- lexeme, are the text of this derivation, and that is computed (`has_tree`). That these tokens have no other tree
+-- isn't shown here.
 use Rattle.std.proofs.Common.{ℕ, ◌+◌, pos, List, false, None, refl}
 use Rattle.std.specs.Prelude.{codes}
 use Rattle.loop_grammar.specs.Grammar.{Expr, Term, Factor, Access, Statement, Statements, Declared, Declarations}

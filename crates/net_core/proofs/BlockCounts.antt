@@ -1,9 +1,9 @@
 -- How often something is counted in blocks, and so how often they put to a channel.
 --
--- A part counts as often as its expansion: the parts of a list add up, one after the other, and a repeat counts its body
--- as often as it stands for it. So copies of a repeat are so many times more copies of its body. Where the body counts
--- at all, these copies are no more than what is counted, and so short; where it doesn't, any number of them counts
--- nothing. Nothing is said of the order in which the events stand.
+-- A part counts as often as its expansion: the parts of a list add up, one after the other, and a repeat counts its
+-- body as often as it stands for it. So copies of a repeat are so many times more copies of its body. Where the body
+-- counts at all, these copies are no more than what is counted, and so short; where it doesn't, any number of them
+-- counts nothing. Nothing is said of the order in which the events stand.
 use Rattle.std.proofs.Common.{◌≡◌, ◌+◌, ◌*◌, ◌-◌, ◌<◌, ◌≤◌, ◌≢◌, ℕ, zero, suc, min, Bool, Some, List, [], ◌∷◌, length}
 use Rattle.std.proofs.Common.{take, get_or, slice_get, count_by, true, cond, eqb, eq-eqb, eqb-true, refl, sym, ap, ◌∙◌}
 use Rattle.std.proofs.Common.{inl, inr, arith}

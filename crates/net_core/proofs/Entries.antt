@@ -1,4 +1,9 @@
 -- The entries of a process in the trace are its points, and its tags name them.
+--
+-- Both are read off the points of the trace, whose entries are numbered from t on. By induction along the points, one
+-- of the process adds an entry and a vector, both at the same turn, and any other adds neither; so the entry at a turn
+-- has the vector of that turn (`entry_at_turn`). The other way round, an entry's turn is how many entries of its
+-- process come before it (`turn_of_entry`).
 use Rattle.std.proofs.Common.{◌≡◌, ℕ, zero, suc, ◌+◌, true, eqb, Some, List, [], ◌∷◌, length, take, slice_get, count_by}
 use Rattle.std.proofs.Common.{refl, sym, ap, ◌∙◌, inl, inr, arith, eqb-true, eq-eqb, add-zero}
 use Rattle.std.proofs.lemmas.Bool.{cond-true, cond-false, cases_Bool}

@@ -1,4 +1,9 @@
 -- The opening state is made piece by piece.
+--
+-- The processes below a number have their fresh states, and the channels below one have empty queues with their room
+-- (`AreFresh`, `AreEmpty`). One more at the end keeps both, since what stood there stays at its place. When all are
+-- made, the state is the machine's start: what isn't there has no event, no slot and nothing in its queue, as the
+-- network is shaped (`run_is_start`). So the held state is for this network (`start_is_for`).
 use Rattle.std.proofs.Common.{◌≡◌, ℕ, zero, suc, ◌+◌, ◌<◌, ◌≤◌, ℤ, min, Some, None, List, [], ◌∷◌, ◌++◌, length, take}
 use Rattle.std.proofs.Common.{drop, replicate, slice_get, count_by, get_or, refl, sym, ap, ◌∙◌, subst, inl, inr, arith}
 use Rattle.std.proofs.Common.{length-append, take_all, drop_of_length-le, append-nil}

@@ -1,4 +1,9 @@
 -- What an enabled event finds in a state of the network, and that the state after it is one too.
+--
+-- The invariant is `IsFor`: what is kept and what waits in the queues is counted by the positions in the scripts, and
+-- the room is for all that may ever be there. So an event that can come finds its room made, and no number passes
+-- 2^32, since the scripts together are shorter than that. It is inductive: an event moves one position, and changes
+-- one process and one queue by what the counts say (`for_after`). That some event can come isn't shown here.
 use Rattle.std.proofs.Common.{◌≡◌, ℕ, zero, suc, ◌+◌, ◌^◌, ◌<◌, ◌≤◌, Bool, true, Some, List, [], ◌∷◌, length, take}
 use Rattle.std.proofs.Common.{drop, slice_get, count_by, refl, sym, ap, ◌∙◌, subst, inl, inr, arith, add-one, ltb-true}
 use Rattle.std.proofs.Common.{eq-eqb, length-set, take_all}

@@ -120,4 +120,5 @@ end_lines network =
 -- the version of the text, the processes, the channels and the number of events
 abbrev pub net_text : Nest → Network → List ℕ
 net_text nest network =
-    version_line ++ (process_lines nest network.processes ++ (channel_lines network ++ end_lines network))
+    version_line
+    ++ (process_lines nest network.processes ++ (channel_lines network ++ end_lines network))

@@ -1,4 +1,10 @@
 -- The channels of a process among all channels.
+--
+-- A use is looked up among the incoming channels of its process, which are kept with their numbers and with where
+-- their slots begin; the definition looks among all channels. Both find the same channel, or none (`found_same`).
+-- The induction is along the channels that are left, behind those that were passed: how many these are is the
+-- next channel's number, and the slots of p among them are where the next ones begin. By the same induction, with
+-- the numbers alone, the Puts to the outgoing channels are those to all channels (`puts_same`).
 use Rattle.std.proofs.Common.{◌≡◌, ◌+◌, ℕ, suc, true, false, cond, eqb, List, [], ◌∷◌, ◌++◌, length, take, refl, sym}
 use Rattle.std.proofs.Common.{ap, ◌∙◌, subst, inl, inr, arith, append_assoc, eqb-true, length-append}
 use Rattle.std.specs.Prelude.{Option, Some, None, slice_get, slice_index_or}

@@ -1,4 +1,10 @@
 -- The uses of each process's tokens, as they are counted.
+--
+-- The invariant of the walk over a read's fires is that the count of process w is how often the fires
+-- before use a token of w. It holds at first, where no fire is before. A source of a process raises the
+-- count of that process by 1 and no other, and a fire without a source raises none (`counts_more`); for
+-- this each source must be of a process that has a count. So the number of a fire's use is the count of its
+-- source's process (`used_here`), and it is no more than the number of the fires before (`before_few`).
 use Rattle.std.proofs.Common.{◌≡◌, ◌<◌, ◌≤◌, ◌+◌, ℕ, zero, suc, cond, List, [], ◌∷◌, ◌++◌, map, length, take, set}
 use Rattle.std.proofs.Common.{get_or, refl, sym, ap, ◌∙◌, arith, add-one, length-append}
 use Rattle.std.specs.Prelude.{Option, Some, None, slice_get, replicate}

@@ -1,5 +1,10 @@
 -- The slots of a process: no more than the Gets of its channels, so at most eight for each of its points, and their
 -- numbers fit 32 bits.
+--
+-- A channel makes a slot for a Get alone, so it holds no more than its Gets (`hold_by`). In the sum over all channels
+-- those of other readers count nothing (`none_held`). That leaves one sum for each read; there are at most eight reads,
+-- and none has more Gets than the process has turns. That these are below 2^32 rests on the limit of the nest's size. A
+-- slot's number is at most where its channel's slots begin and the hold together, so it fits too (`slots_fit`).
 use Rattle.std.proofs.Common.{◌≡◌, ◌<◌, ◌≤◌, ◌+◌, ◌*◌, ◌^◌, ℕ, zero, suc, false, cond, eqb, List, [], ◌∷◌, length, take}
 use Rattle.std.proofs.Common.{refl, sym, ap, ◌∙◌, subst, arith}
 use Rattle.std.specs.Prelude.{Option, Some, slice_get}

@@ -1,4 +1,10 @@
 -- What a nest's points and sources have for each process in turn.
+--
+-- The invariant is that what is left of the table of sources is that of the statements from p on
+-- (`rest_from`). At first it is the whole exact table. Statement p takes as many lists from the front
+-- as it has reads: they are the sources of its reads (`own_sources`), and what is behind them is that
+-- of the statements from p + 1 on (`later_sources`). The turns of a process are as many as its points,
+-- which stand in the same order (`turns_there`). That the table is exact is a premise here.
 use Rattle.std.proofs.Common.{◌≡◌, ◌<◌, ◌≤◌, ◌+◌, ℤ, ℕ, List, [], ◌∷◌, ◌++◌, map, length, take, drop, get_or, refl, sym}
 use Rattle.std.proofs.Common.{ap, ◌∙◌, arith, add-one, length-append}
 use Rattle.std.specs.Prelude.{Option, Some, slice_get}

@@ -1,4 +1,10 @@
 -- The Puts of all scripts: one for each token of each channel, and each token has a use.
+--
+-- The Puts are counted channel by channel instead of point by point, since the two sums may change places
+-- (`process_by_channel`). Only its writer puts to a channel, at most once at each turn, and only where the turn
+-- is a token; tokens are no more than uses, and each fire has at most one use at a read. So the channels of one
+-- read have no more Puts together than its reader has turns (`read_puts`). With at most eight reads, and no more
+-- turns of all processes than entries, that bounds the sum. It is an upper bound, and not how many there are.
 use Rattle.std.proofs.Common.{◌≡◌, ◌≢◌, ◌<◌, ◌≤◌, ◌+◌, ◌*◌, ◌&&◌, ℕ, suc, Bool, false, eqb, List, [], ◌∷◌, length, refl}
 use Rattle.std.proofs.Common.{sym, ap, ◌∙◌, subst, inl, inr, arith, le_of_eq}
 use Rattle.std.specs.Prelude.{slice_index_or}

@@ -1,4 +1,10 @@
 -- The events that are made point by point are the script of the process.
+--
+-- The code makes lists of what each fire uses, read by read; the script is defined point by point. At
+-- one fire and read both look for the same channel with the same number of the use, so by Channels they
+-- find the same use with the same plan of slots, or none (`used_at`). Hence Gets and references are the
+-- same, and the Puts are too (`puts_same`), so each point has the same events. That needs no limit of
+-- the nest's size: it is only for the numbers of the slots to fit (`uses_fit`).
 use Rattle.std.proofs.Common.{◌≡◌, ◌<◌, ◌≤◌, ◌^◌, ℕ, zero, suc, List, [], ◌∷◌, ◌++◌, map, length, get_or, refl, sym, ap}
 use Rattle.std.proofs.Common.{◌∙◌, subst, arith}
 use Rattle.std.specs.Prelude.{All, Option, Some, None, slice_get, slice_index_or}

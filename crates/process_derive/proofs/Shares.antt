@@ -1,4 +1,10 @@
 -- How entries are shared out: those of the trace among the processes, and the sources of one read among their writers.
+--
+-- It is one argument, three times: an element of the list raises the count at one number by at most 1 and
+-- leaves the others as they are (`sum_risen`), so by induction along the list all counts together come to
+-- no more than its length. So all processes together have no more turns than the trace has entries, a
+-- read has no more uses over all writers than its reader has turns, and a channel has no more tokens than
+-- uses. Therefore each use names a token whose number is below the number of uses (`uses_within`).
 use Rattle.std.proofs.Common.{◌≡◌, ◌≢◌, ◌<◌, ◌≤◌, ◌+◌, ◌==◌, ℕ, Bool, true, eqb, List, [], ◌∷◌, map, length, sym, refl}
 use Rattle.std.proofs.Common.{ap, ◌∙◌, inl, inr, arith, le_of_eq}
 use Rattle.std.specs.Prelude.{Option, Some, None}

@@ -1,4 +1,10 @@
 -- The slots of a channel: no slot is numbered past the hold, and the hold is no more than the Gets.
+--
+-- Two invariants hold as the Gets are made one after the other: there are no more slots than Gets, and no
+-- Get's slot is numbered past the number of slots (`IsInside`); and each Get that was made has a slot below
+-- that number (`AreBelow`). A Get takes a slot that is there or the next new one (`lowest_within`), and no
+-- slot goes away, so both hold again. In the end the Gets for all uses are made (`all_made`), so each use's
+-- slot is below the hold (`uses_inside`). That a slot still has its token when it is used isn't shown here.
 use Rattle.std.proofs.Common.{◌≡◌, ◌<◌, ◌≤◌, ◌+◌, ◌-◌, ℕ, zero, suc, List, [], ◌∷◌, ◌++◌, map, length, take, drop}
 use Rattle.std.proofs.Common.{get_or, ap, ◌∙◌, inl, inr, arith, length-append, length-drop, refl}
 use Rattle.std.proofs.lemmas.Bool.{cases_Bool}

@@ -1,4 +1,9 @@
 -- The sources of reads are tags of entries of the trace.
+--
+-- A source is the tag of an entry of the trace, where the read has a last writer. The trace enumerates the domains,
+-- so the entry is a point of a statement of the nest, and the tag's process exists. Its turn is the number of the
+-- entries of that statement before it, and the entry itself is one more, so the process has a turn of that number
+-- (`count_before`). That the entry comes before the fire that reads it isn't needed for this, and isn't shown here.
 use Rattle.std.proofs.Common.{◌≡◌, ◌<◌, ◌≤◌, ◌+◌, ◌==◌, ℕ, zero, suc, true, cond, eqb, List, [], ◌∷◌, length, take}
 use Rattle.std.proofs.Common.{get_or, refl, ap, ◌∙◌, inl, inr, arith}
 use Rattle.std.specs.Prelude.{Option, Some, None, slice_get, count_by}

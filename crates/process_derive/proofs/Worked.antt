@@ -1,4 +1,9 @@
 -- The scripts of worked processes, computed from the definitions.
+--
+-- The plans of the channels and the sources are written out, so what is computed is only what the scripts make of
+-- them. The first reader uses its tokens in another order than they are put, for which it gets one ahead. The second
+-- uses each token twice, and gets all of them before its first fire. The third has one read with two writers, whose
+-- channels have slots of their own, side by side. They are examples: nothing follows from them for other plans.
 use Rattle.std.proofs.Common.{◌≡◌, ℕ, zero, suc, Bool, true, false, List, [], ◌∷◌, ◌++◌, refl}
 use Rattle.std.specs.Prelude.{Option, Some}
 use Rattle.std.specs.List.{flat_map, range_with_len}

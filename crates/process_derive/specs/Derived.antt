@@ -12,7 +12,13 @@ use Rattle.process_derive.specs.Scripts.{script, slots_of}
 -- a channel with the number of its tokens as its capacity
 abbrev pub channel_of : ChannelPlan → Channel
 channel_of plan =
-    record { writer = plan.writer; reader = plan.reader; read = plan.read; capacity = plan.tokens; class = plan.class }
+    record {
+      writer = plan.writer;
+      reader = plan.reader;
+      read = plan.read;
+      capacity = plan.tokens;
+      class = plan.class;
+    }
 
 -- the process of statement p: the slots of its incoming channels, side by side, and its script
 abbrev pub process_of : Nest → ℕ → Process

@@ -52,7 +52,12 @@ slots_at plans c =
 abbrev pub with_slots : List ChannelPlan → Option ChannelUse → Option Usage
 with_slots plans found =
     option_map
-    (λ (u : ChannelUse). record { channel = u.channel; base = u.base; slots = slots_at plans u.channel; number = u.number }) found
+    (λ (u : ChannelUse). record {
+      channel = u.channel;
+      base = u.base;
+      slots = slots_at plans u.channel;
+      number = u.number;
+    }) found
 
 -- what fire f uses, by read
 abbrev pub usages_at : List ChannelPlan → List (List (Option ChannelUse)) → ℕ → List (Option Usage)
@@ -91,7 +96,8 @@ CountsBelow limit counts None = Unit {0}
 CountsBelow limit counts (Some t) = slice_index counts t.process < limit
 
 -- By read, so many processes have these counts: how often the fires before fire f used a token of each.
-pub record CountedBefore (sources : List (List (Option Tag))) (processes f : ℕ) (counts : List (List ℕ)) : Type 0 where
+pub record CountedBefore (sources : List (List (Option Tag))) (processes f : ℕ)
+    (counts : List (List ℕ)) : Type 0 where
   pub reads : length counts ≡ length sources
   pub each : (k : ℕ) → k < length sources → slice_index_or counts k []
       ≡ map (uses_before (slice_index_or sources k []) f) (range_with_len 0 processes)

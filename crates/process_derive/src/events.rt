@@ -181,7 +181,8 @@ fn add_uses(
         (events.new ≡ events.old ++ flat_map gets_of (usages_at plans.now uses turn)) }
     ensures refs { let uses = uses_by_read incoming.now sources.now in
         IfOk result (λ refs. refs ≡ map ref_of (usages_at plans.now uses turn)) }
-    ensures counted { OnOk result (CountedBefore sources.now processes (turn + 1) counts.new.items) }
+    ensures counted { OnOk result
+        (CountedBefore sources.now processes (turn + 1) counts.new.items) }
 {
     let mut refs = Refs::empty();
     for (read, of_read) in sources.iter().enumerate() {
@@ -215,7 +216,8 @@ fn add_point(
         (events.new
         ≡ events.old
         ++ events_at plans.now (uses_by_read incoming.now sources.now) outgoing.now turn) }
-    ensures counted { OnOk result (CountedBefore sources.now processes (turn + 1) counts.new.items) }
+    ensures counted { OnOk result
+        (CountedBefore sources.now processes (turn + 1) counts.new.items) }
 {
     let refs = add_uses(plans, incoming, sources, processes, turn, counts, events)?;
     push_event(Event::Fire { refs }, events)?;

@@ -44,7 +44,8 @@ impl Reader {
         ensures gets { self.new.slot_of_get.items ≡ self.old.slot_of_get.items }
         ensures lowest { (slot : ℕ) → slot < result
             → IsTrue (not (contains nat_cmp self.old.free slot)) }
-        ensures free_or_new { (IsTrue (contains nat_cmp self.old.free result) × (self.new.hold ≡ self.old.hold))
+        ensures free_or_new { (IsTrue (contains nat_cmp self.old.free result)
+            × (self.new.hold ≡ self.old.hold))
             ⊎ ((result ≡ self.old.hold) × (self.new.hold ≡ self.old.hold + 1)) }
         ensures taken { (slot : ℕ)
             → contains nat_cmp self.new.free slot

@@ -8,7 +8,8 @@ use Rattle.row_sums.specs.Parts.{term_products}
 -- the terms, where each row is replaced by a sum
 abbrev pub carried_terms : (ℕ → List Term) → List Term → List Term
 carried_terms in_place [] = []
-carried_terms in_place (t ∷ ts) = term_products t.times (in_place t.row) ++ carried_terms in_place ts
+carried_terms in_place (t ∷ ts) =
+    term_products t.times (in_place t.row) ++ carried_terms in_place ts
 
 -- the sum in place of a row
 abbrev pub sum_in_place : List (List Term) → ℕ → List Term

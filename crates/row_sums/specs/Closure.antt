@@ -27,7 +27,8 @@ bounds_through v d from to = lesser (d from to) (bound_sum (d from v) (d v to))
 
 -- no path through one of the first variables is shorter
 abbrev pub ClosedBelow : ℕ → Bounds → Type 0
-ClosedBelow count d = (v : ℕ) → v < count → (from to : ℕ) → AtMost (d from to) (bound_sum (d from v) (d v to))
+ClosedBelow count d =
+    (v : ℕ) → v < count → (from to : ℕ) → AtMost (d from to) (bound_sum (d from v) (d v to))
 
 abbrev pub NotNegative : Option ℤ → Type 0
 NotNegative None = Unit {0}
@@ -35,4 +36,5 @@ NotNegative (Some x) = pos 0 ≤ℤ x
 
 -- going through the next variable closes one more, unless it lies on a cycle with a negative sum
 abbrev pub Closes : Type 0
-Closes = (v : ℕ) (d : Bounds) → ClosedBelow v d → NotNegative (d v v) → ClosedBelow (v + 1) (bounds_through v d)
+Closes = (v : ℕ) (d : Bounds) → ClosedBelow v d → NotNegative (d v v)
+    → ClosedBelow (v + 1) (bounds_through v d)

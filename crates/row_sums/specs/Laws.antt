@@ -75,4 +75,5 @@ pub record Weighs : Type 0 where
   pub multiple : (by : ℤ) (ts : List Term)
       → weight (term_products by ts) ≤ unsigned_abs by * weight ts
   pub carry : (most : ℕ) (in_place : ℕ → List Term) (ts : List Term)
-      → ((k : ℕ) → weight (in_place k) ≤ most) → weight (carried_terms in_place ts) ≤ weight ts * most
+      → ((k : ℕ) → weight (in_place k) ≤ most)
+      → weight (carried_terms in_place ts) ≤ weight ts * most

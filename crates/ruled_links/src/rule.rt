@@ -74,7 +74,8 @@ impl Outcome<i64, View> for Received {
     ghost use Rattle.std.specs.Prelude.{◌≡◌, [], ◌∷◌, ◌++◌, length, Some, slice_get};
     ghost use Rattle.ruled_links.specs.Rule.{get_view};
 
-    ghost then = { λ v x w. (w ≡ get_view v.stream v.capacity (v.moved ++ x ∷ [])) × (slice_get v.stream (length v.moved) ≡ Some x) };
+    ghost then = { λ v x w. (w ≡ get_view v.stream v.capacity (v.moved ++ x ∷ []))
+        × (slice_get v.stream (length v.moved) ≡ Some x) };
 }
 
 // A refused receive tells nothing.

@@ -39,16 +39,37 @@ y_and_v extent =
 -- v = .., with these reads
 abbrev pub sets_v : ℤ → List Access → Expr → Statement
 sets_v last reads value =
-    record { role = role.Assign; loops = 0 ∷ []; rows = rows_to last; write = Some scalar; reads = reads; expr = value }
+    record {
+      role = role.Assign;
+      loops = 0 ∷ [];
+      rows = rows_to last;
+      write = Some scalar;
+      reads = reads;
+      expr = value;
+    }
 
 -- y[i] = v
 abbrev pub sets_y : ℤ → Statement
 sets_y last =
-    record { role = role.Assign; loops = 0 ∷ []; rows = rows_to last; write = Some element; reads = scalar ∷ []; expr = Read 0 }
+    record {
+      role = role.Assign;
+      loops = 0 ∷ [];
+      rows = rows_to last;
+      write = Some element;
+      reads = scalar ∷ [];
+      expr = Read 0;
+    }
 
 abbrev pub sink_of_y : ℤ → Statement
 sink_of_y last =
-    record { role = role.Sink 0; loops = 1 ∷ []; rows = rows_to last; write = None; reads = element ∷ []; expr = Read 0 }
+    record {
+      role = role.Sink 0;
+      loops = 1 ∷ [];
+      rows = rows_to last;
+      write = None;
+      reads = element ∷ [];
+      expr = Read 0;
+    }
 
 -- out y[4]; var v; for (i = 0; i < 4; i++) { v = v + i; y[i] = v; }
 abbrev pub sums_statements : List Statement

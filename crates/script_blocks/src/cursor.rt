@@ -362,7 +362,8 @@ pub(crate) fn peek_in<'a, T>(parts: &'a [BlockPart<T>], frames: &[Frame]) -> Opt
 #[cycle(peek)]
 #[tactic(auto, using(crate::proofs::Walks::peeks))]
 fn peek_of_part<'a, T>(part: &'a BlockPart<T>, frame: &Frame, deeper: &[Frame]) -> Option<&'a T>
-    ensures { option_copied result ≡ slice_get (left_of_part frame.now (left deeper.now) part.now) 0 }
+    ensures { option_copied result
+        ≡ slice_get (left_of_part frame.now (left deeper.now) part.now) 0 }
 {
     if !frame.inside {
         return first_of_part(part);
@@ -376,7 +377,8 @@ fn peek_of_part<'a, T>(part: &'a BlockPart<T>, frame: &Frame, deeper: &[Frame]) 
 #[cycle(peek)]
 #[tactic(auto, using(crate::proofs::Walks::peeks))]
 fn peek_of_turns<'a, T>(body: &'a [BlockPart<T>], frame: &Frame, deeper: &[Frame]) -> Option<&'a T>
-    ensures { option_copied result ≡ slice_get (left_of_turns frame.now (left deeper.now) body.now) 0 }
+    ensures { option_copied result
+        ≡ slice_get (left_of_turns frame.now (left deeper.now) body.now) 0 }
 {
     let item = peek_in(body, deeper);
     if item.is_some() || frame.later == 0 {
@@ -459,7 +461,7 @@ impl Cursor {
         next_in(blocks.parts.as_slice(), self.frames.as_mut_slice())
     }
 
-    /// The item that `next` would give, where the cursor stays as it is. It takes no memory.
+    /// The item that `next` would give, or `None` exactly where there is no more; the cursor stays as it is. It takes no memory.
     #[tactic(auto, unfolding(crate::specs::Cursors::rest))]
     pub fn peek<'a, T>(&self, blocks: &'a Blocks<T>) -> Option<&'a T>
         ensures { option_copied result ≡ slice_get (rest blocks.now self.now) 0 }

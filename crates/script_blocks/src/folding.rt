@@ -63,7 +63,8 @@ fn push_item<T: Copy>(
     parts: &mut Items<BlockPart<T>>,
 ) -> Result<(), AllocError>
     ensures expansion { OnOk result
-        (parts_expansion parts.new ≡ parts_expansion parts.old ++ items_or kinds.now other (label ∷ [])) }
+        (parts_expansion parts.new
+        ≡ parts_expansion parts.old ++ items_or kinds.now other (label ∷ [])) }
     ensures shallow { OnOk result (parts_nesting parts.new ≡ parts_nesting parts.old) }
     ensures proper { OnOk result (are_proper parts.new ≡ are_proper parts.old) }
 {
@@ -79,7 +80,8 @@ fn push_items<T: Copy>(
     parts: &mut Items<BlockPart<T>>,
 ) -> Result<(), AllocError>
     ensures expansion { OnOk result
-        (parts_expansion parts.new ≡ parts_expansion parts.old ++ items_or kinds.now other labels.now) }
+        (parts_expansion parts.new
+        ≡ parts_expansion parts.old ++ items_or kinds.now other labels.now) }
     ensures shallow { OnOk result (parts_nesting parts.new ≡ parts_nesting parts.old) }
     ensures proper { OnOk result (are_proper parts.new ≡ are_proper parts.old) }
 {

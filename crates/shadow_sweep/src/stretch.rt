@@ -41,7 +41,8 @@ fn long_lines(
 ) -> Option<Lines>
     requires shallow { length outer.now < 6 }
     requires few { length accesses.now.reads ≤ 8 }
-    requires reads_fit { IsTrue (list_all (access_short (length outer.now + 1)) accesses.now.reads) }
+    requires reads_fit { IsTrue (list_all (access_short (length outer.now + 1))
+        accesses.now.reads) }
     requires write_fits { IsTrue
         (option_map_or (access_short (length outer.now + 1)) accesses.now.write true) }
     ensures { IfSome result
@@ -80,7 +81,8 @@ impl Stretch {
     ) -> Stretch
         requires shallow { length outer.now < 6 }
         requires few { length accesses.now.reads ≤ 8 }
-        requires reads_fit { IsTrue (list_all (access_short (length outer.now + 1)) accesses.now.reads) }
+        requires reads_fit { IsTrue (list_all (access_short (length outer.now + 1))
+            accesses.now.reads) }
         requires write_fits { IsTrue
             (option_map_or (access_short (length outer.now + 1)) accesses.now.write true) }
         ensures outer { result.outer ≡ outer.now }
@@ -124,7 +126,8 @@ impl Stretch {
     fn renew(&mut self, accesses: &NarrowStatement, outer: &[i64], value: i64, cells: &Cells<Tag>)
         requires shallow { length outer.now < 6 }
         requires few { length accesses.now.reads ≤ 8 }
-        requires reads_fit { IsTrue (list_all (access_short (length outer.now + 1)) accesses.now.reads) }
+        requires reads_fit { IsTrue (list_all (access_short (length outer.now + 1))
+            accesses.now.reads) }
         requires write_fits { IsTrue
             (option_map_or (access_short (length outer.now + 1)) accesses.now.write true) }
         requires known { IsStretchOf (places_in cells.now) accesses.now self.old }
@@ -150,7 +153,8 @@ impl Stretch {
     )
         requires shallow { length outer.now < 6 }
         requires few { length accesses.now.reads ≤ 8 }
-        requires reads_fit { IsTrue (list_all (access_short (length outer.now + 1)) accesses.now.reads) }
+        requires reads_fit { IsTrue (list_all (access_short (length outer.now + 1))
+            accesses.now.reads) }
         requires write_fits { IsTrue
             (option_map_or (access_short (length outer.now + 1)) accesses.now.write true) }
         requires known { IsStretchOf (places_in cells.now) accesses.now self.old }

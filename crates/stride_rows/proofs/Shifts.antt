@@ -1,7 +1,7 @@
 -- The difference class lies within the stride class.
 --
--- A shift has at most one coefficient other than 0, and a difference at most one, or two, which are 1 and -1. A shift has
--- no coefficient outside -1 to 1, so no subscript of such a write counts as a stride.
+-- A shift has at most one coefficient other than 0, and a difference at most one, or two, which are 1 and -1. A shift
+-- has no coefficient outside -1 to 1, so no subscript of such a write counts as a stride.
 use Rattle.std.proofs.Common.{◌≡◌, ◌+◌, ◌≤◌, ◌<◌, ◌&&◌, ◌||◌, ◌==◌, ℕ, pos, negsuc, List, [], ◌∷◌, Bool, true, false}
 use Rattle.std.proofs.Common.{refl, sym, ap, ◌∙◌, arith, inl, inr}
 use Rattle.std.specs.Prelude.{is_some, nat_le}

@@ -26,7 +26,8 @@ abbrev pub AddRows : ℕ → List Form → List Cut → List Form → Type 0
 AddRows vars rows [] [] = Unit {0}
 AddRows vars rows [] (row ∷ added) = ⊥
 AddRows vars rows (cut ∷ cuts) [] = ⊥
-AddRows vars rows (cut ∷ cuts) (row ∷ added) = AddsRow vars rows cut row × AddRows vars rows cuts added
+AddRows vars rows (cut ∷ cuts) (row ∷ added) =
+    AddsRow vars rows cut row × AddRows vars rows cuts added
 
 -- the Cuts, one after the other, and then the rest of the proof
 abbrev pub after_cuts : List Cut → Proof → Proof
@@ -65,7 +66,8 @@ numbers_from next (Added cut ∷ sources) = next ∷ numbers_from (next + 1) sou
 
 -- terms with other row numbers
 abbrev pub renumbered : List ℕ → List Term → List Term
-renumbered numbers ts = map (λ t. record { row = slice_index_or numbers t.row 0; times = t.times }) ts
+renumbered numbers ts =
+    map (λ t. record { row = slice_index_or numbers t.row 0; times = t.times }) ts
 
 -- A Sum of the rows that are told, as a proof of the system of so many rows: first the Cuts, and then the Sum with
 -- the rows' numbers.

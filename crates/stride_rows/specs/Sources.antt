@@ -39,7 +39,8 @@ falls form = list_any (λ c. int_eq c (negsuc 0)) form.coefs
 -- Where a row of a subscript over the loop and the quotient comes from: the row of the statement has this number, and
 -- the row of the subscript's test that is added to it the other.
 abbrev pub cell_source : Form → ℕ → ℕ → Source
-cell_source write row test = option_map_or (λ c. cut_of c (row ∷ test ∷ [])) (stride_of write) (Own row)
+cell_source write row test =
+    option_map_or (λ c. cut_of c (row ∷ test ∷ [])) (stride_of write) (Own row)
 
 -- the subscript grows where its loop falls
 abbrev pub is_turned : Form → Bool

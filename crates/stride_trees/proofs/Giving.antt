@@ -2,8 +2,8 @@
 --
 -- Where all tests say yes, the reader's values and the quotients meet the rows of the tests, so the divisor times each
 -- quotient is the value of the test's form; there the tree below the tests gives the greatest point of the problem
--- over quotients, which has the points of the statement's own. Where a test says no, no loop value is what its subscript
--- would need, so there is no point, and the tree gives zero.
+-- over quotients, which has the points of the statement's own. Where a test says no, no loop value is what its
+-- subscript would need, so there is no point, and the tree gives zero.
 use Rattle.std.proofs.Common.{◌≡◌, ◌==◌, ◌+◌, ◌*◌, ◌%◌, ◌≤◌, ◌<◌, ℕ, zero, suc, ℤ, pos, ◌+ℤ◌, ◌*ℤ◌}
 use Rattle.std.proofs.Common.{◌≤ℤ◌, ◌<ℤ◌, List, [], ◌∷◌, ◌++◌, length, take, drop, Bool, true, false, cond, refl, sym, ap, ◌∙◌}
 use Rattle.std.proofs.Common.{subst, arith, length-append, append_assoc}

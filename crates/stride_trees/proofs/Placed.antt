@@ -1,7 +1,7 @@
 -- The proofs that a place is in the domain and writes the read's cell, added one after another.
 --
--- Each is made from the proof of the same system over quotients, whose last row comes from the statement's own last row.
--- By induction over the domain rows and over the subscripts, two proofs for each of these.
+-- Each is made from the proof of the same system over quotients, whose last row comes from the statement's own last
+-- row. By induction over the domain rows and over the subscripts, two proofs for each of these.
 use Rattle.std.proofs.Common.{◌≡◌, ◌+◌, ◌*◌, ◌^◌, ◌≤◌, ◌<◌, ◌||◌, ℕ, List, [], ◌∷◌, ◌++◌}
 use Rattle.std.proofs.Common.{length, Bool, true, false, cond, sym, ap, ◌∙◌, subst, arith, append_assoc}
 use Rattle.std.specs.Prelude.{All}

@@ -1,8 +1,8 @@
 -- The read and the write of a candidate, from their numbers, and what is promised of its tree.
 --
 -- A read or a write that is found under a number is the only one there. In the class every write of the array writes
--- strides, so the one that is named does, and its strides are among the six. The reader's domain rows are met at each of
--- its points, so the tests and the tree below them give the greatest point there.
+-- strides, so the one that is named does, and its strides are among the six. The reader's domain rows are met at each
+-- of its points, so the tests and the tree below them give the greatest point there.
 use Rattle.std.proofs.Common.{◌≡◌, ◌+◌, ◌-◌, ◌*◌, ◌^◌, ◌≤◌, ◌<◌, ℕ, zero, suc, ℤ, pos, ◌≤ℤ◌, List, [], ◌∷◌, ◌++◌, length, map}
 use Rattle.std.proofs.Common.{true, refl, sym, ap, ◌∙◌, subst, arith}
 use Rattle.std.specs.Prelude.{Option, Some, None, All, int_le, slice_get, IsTrue}

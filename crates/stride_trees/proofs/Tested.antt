@@ -1,8 +1,9 @@
 -- The context where all tests say yes.
 --
 -- Each test adds a variable and two rows behind those before it, so the rows before keep their numbers. By induction
--- over the subscripts the tests of a write stand at the places that follow each other, in the context of all of them. As
--- it is made each test adds two rows to the rows before, widened: they have the parts of `form - d q` and its opposite.
+-- over the subscripts the tests of a write stand at the places that follow each other, in the context of all of them.
+-- As it is made each test adds two rows to the rows before, widened: they have the parts of `form - d q` and its
+-- opposite.
 use Rattle.std.proofs.Common.{◌≡◌, ◌==◌, ◌+◌, ◌-◌, ◌*◌, ◌^◌, ◌≤◌, ◌<◌, ℕ, zero, suc, ℤ, pos, negsuc, ◌+ℤ◌, ◌*ℤ◌, List, []}
 use Rattle.std.proofs.Common.{◌∷◌, ◌++◌, length, map, Bool, true, cond, refl, sym, ap, ◌∙◌, subst, arith, length-append}
 use Rattle.std.specs.Prelude.{Option, Some, None, All, drop, slice_get, is_some, unsigned_abs}

@@ -1,7 +1,7 @@
 -- How far the rows over quotients reach.
 --
--- Their coefficients at a place are 0, 1 and -1, their numbers small: so at six loops a row reaches no farther than some
--- times as far as the forms of the place.
+-- Their coefficients at a place are 0, 1 and -1, their numbers small: so at six loops a row reaches no farther than
+-- some times as far as the forms of the place.
 use Rattle.std.proofs.Common.{◌≡◌, ◌-◌, ◌+◌, ◌*◌, ◌^◌, ◌≤◌, ◌||◌, ℕ, zero, suc, ℤ, pos, negsuc, List, [], ◌∷◌, length}
 use Rattle.std.proofs.Common.{true, arith}
 use Rattle.std.specs.Prelude.{All, unsigned_abs, ◌&&◌, nat_le}

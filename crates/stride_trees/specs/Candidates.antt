@@ -83,4 +83,5 @@ pub record IsStrideTree (r w : Occurrence) (p tests : ℕ) (tree : Tree) : Type 
   pub divides : HasTests r w p last (root_context r)
       (divisions_from 0 w.access.subscripts r.access.subscripts) tree
   pub below : IsCutTree r w p tests
-      (divided_context (root_context r) (divisions_from 0 w.access.subscripts r.access.subscripts)) last
+      (divided_context (root_context r) (divisions_from 0 w.access.subscripts r.access.subscripts))
+      last

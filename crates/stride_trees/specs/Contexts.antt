@@ -61,7 +61,8 @@ no_rows s d place =
     undivided_rows quotient (widened_form quotient d.form) d.divisor
 
 -- a context with so many small rows, where one test of the write says no: its two rows stand at this place
-pub record IsUndividedContext (s : Strides) (d : Division) (place here : ℕ) (c : Context) : Type 0 where
+pub record IsUndividedContext (s : Strides) (d : Division) (place here : ℕ) (c : Context)
+    : Type 0 where
   pub small : IsSmallContext c here
   pub inside : depth_of_read s + place < c.vars
   pub first : slice_get c.rows (root_of s + 2 * place)
@@ -128,13 +129,16 @@ AreOrders vars more level (rows ∷ further) =
 
 -- A tree was made from one of the problem over quotients, in each context that has the tests: it is checked there for
 -- the statement's own write and read, its proofs are Cuts and a Sum, and it gives the same.
-pub record IsConvertedTree (s : Strides) (places : List ℕ) (here : ℕ) (told own : Tree) : Type 0 where
+pub record IsConvertedTree (s : Strides) (places : List ℕ) (here : ℕ) (told own : Tree)
+    : Type 0 where
   pub checked : (c : Context) → IsTestedContext s places here c
-      → IsCheckedFor (told_read c.vars places (read_of s) (write_of s)) (told_write (write_of s)) s.level c
+      → IsCheckedFor (told_read c.vars places (read_of s) (write_of s)) (told_write (write_of s))
+      s.level c
       told
       → IsCheckedFor (read_of s) (write_of s) s.level c own
   pub cuts : (c : Context) (tests : ℕ) → IsTestedContext s places here c
-      → IsCheckedFor (told_read c.vars places (read_of s) (write_of s)) (told_write (write_of s)) s.level c
+      → IsCheckedFor (told_read c.vars places (read_of s) (write_of s)) (told_write (write_of s))
+      s.level c
       told
       → IsSimple tests told → IsCutTree (read_of s) (write_of s) s.level tests c own
   pub same : (x : List ℤ) → gives own x ≡ gives told x
@@ -144,7 +148,8 @@ abbrev pub first_places : Strides → List ℕ
 first_places s = range_with_len 0 (length (tests_of s))
 
 -- the answer of the problem over quotients in a context
-pub record IsToldTree (s : Strides) (places : List ℕ) (context : System) (tree : Tree) : Type 0 where
+pub record IsToldTree (s : Strides) (places : List ℕ) (context : System) (tree : Tree)
+    : Type 0 where
   pub w : Writes
   pub vars : w.vars ≡ context.vars
   pub read : asked_read w ≡ told_read context.vars places (read_of s) (write_of s)

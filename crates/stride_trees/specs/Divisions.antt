@@ -33,7 +33,8 @@ divisions_from number (write ∷ writes) (read ∷ reads) =
 -- the context where all these tests say yes; each has one variable more
 abbrev pub divided_context : Context → List Division → Context
 divided_context c [] = c
-divided_context c (d ∷ ds) = divided_context (divides_yes c (widened_form c.vars d.form) d.divisor) ds
+divided_context c (d ∷ ds) =
+    divided_context (divides_yes c (widened_form c.vars d.form) d.divisor) ds
 
 -- the rows `form - d q` and `d q - form` of a test that says yes, whose quotient q is the last of so many variables
 abbrev pub quotient_rows : ℕ → Division → List Form

@@ -107,7 +107,8 @@ pub record IsNoLeaf (s : Strides) (here : ℕ) (d : Division) (tree : Tree) : Ty
 
 -- A tree with these tests before a last yes tree: where that is checked below them, the tree is, in each such context
 -- of the first test.
-pub record IsTested (s : Strides) (vars here : ℕ) (ds : List Division) (last tree : Tree) : Type 0 where
+pub record IsTested (s : Strides) (vars here : ℕ) (ds : List Division) (last tree : Tree)
+    : Type 0 where
   pub tests : (c : Context) → c.vars ≡ vars → IsSmallContext c here
       → HasTests (read_of s) (write_of s) s.level last c ds tree
   pub checked : (c : Context) → c.vars ≡ vars → IsSmallContext c here

@@ -263,16 +263,19 @@ pub fn converted_place(
         + 2 * length s.now.write.access.now.subscripts }
     ensures refuted { IfOk result (λ proofs. (c : Context) (place : List FormOf)
         → IsTestedContext s.now places.now here c → IsPlaceIn c (depth_of_write s.now) place
-        → AreRefuted (outside_cell_systems (told_read c.vars places.now (read_of s.now) (write_of s.now))
+        → AreRefuted
+        (outside_cell_systems (told_read c.vars places.now (read_of s.now) (write_of s.now))
         (told_write (write_of s.now)) c place) told.now
         → AreRefuted (outside_cell_systems (read_of s.now) (write_of s.now) c place) proofs) }
     ensures cuts { IfOk result (λ proofs. (c : Context) (place : List FormOf)
         → IsTestedContext s.now places.now here c → IsPlaceIn c (depth_of_write s.now) place
         → All (IsWithin (2 ^ 40)) place
-        → AreRefuted (outside_cell_systems (told_read c.vars places.now (read_of s.now) (write_of s.now))
+        → AreRefuted
+        (outside_cell_systems (told_read c.vars places.now (read_of s.now) (write_of s.now))
         (told_write (write_of s.now)) c place) told.now
         → All IsLightSum told.now
-        → AreCutSums (here + 1) (outside_cell_systems (read_of s.now) (write_of s.now) c place) proofs) }
+        → AreCutSums (here + 1) (outside_cell_systems (read_of s.now) (write_of s.now) c place)
+        proofs) }
 {
     let rows = s.write.statement.rows.as_slice();
     let writes = s.write.access.subscripts.as_slice();

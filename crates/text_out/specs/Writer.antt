@@ -7,7 +7,11 @@ use Rattle.text_out.specs.Wrote.{Given}
 -- what was handed to the sink, and what waits
 abbrev pub given_of : {K : Type 0} (S : Ghosts K) → Writer K S → Given
 given_of sinks w = record {
-  start = record { sink = w.sink.ghost_name; held = sinks.held w.past.start; faults = sinks.faults w.past.start };
+  start = record {
+    sink = w.sink.ghost_name;
+    held = sinks.held w.past.start;
+    faults = sinks.faults w.past.start;
+  };
   text = w.past.text ++ w.waiting;
 }
 

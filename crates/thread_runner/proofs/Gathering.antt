@@ -1,4 +1,11 @@
 -- Rooms and lists of a bench, and the lists that are gathered.
+--
+-- It has the steps of three loops. The rooms made so far are fresh, each for the process of its number.
+-- The empty lists are made from the last process down, each with room for the values of its process
+-- (`space_more`), so that the list at the end is the one that is wanted next, and the others stay as
+-- they are when it is taken (`space_less`). As the declared arrays are passed, the lists gathered so
+-- far and those to come are together always the same: an output adds what its sink has kept, any other
+-- array an empty list (`lists_out`, `lists_other`). What the sinks keep doesn't matter here.
 use Rattle.std.proofs.Common.{◌≡◌, ◌<◌, ◌≤◌, ◌+◌, ◌-◌, ⊎_elim, ℕ, suc, ℤ, true, false, cond, List, [], ◌∷◌, ◌++◌}
 use Rattle.std.proofs.Common.{length, map, replicate, drop, slice_get, get_or, Some, vec_capacity, sym, ap, ◌∙◌, subst}
 use Rattle.std.proofs.Common.{arith, length-append, append_assoc, drop-cons, add-one}

@@ -1,4 +1,11 @@
 -- The ends of all processes are made channel by channel.
+--
+-- The invariant (`AreMade`) is that each process has ends of just those channels below k that it reads
+-- or writes, each end with its channel's stream and room, and that two ends of one channel are of one
+-- line. One channel more sets one end in its writer's row and one in its reader's, which may be the
+-- same process, and leaves all else as it was (`placed`). At place k no row had an end before, so an
+-- end that is found there is the one just set (`joined_more`). When all channels are made, each process
+-- has the ends that a run asks for (`made_all`). No value goes through an end here.
 use Rattle.std.proofs.Common.{◌≡◌, ◌==◌, ◌<◌, ◌≤◌, ◌⊎◌, inl, inr, ⊎_elim, ℕ, zero, suc, ◌+◌, Bool, true, false, cond}
 use Rattle.std.proofs.Common.{max, ℤ, Option, Some, None, List, [], ◌∷◌, length, slice_get, get_or, option_map, refl}
 use Rattle.std.proofs.Common.{sym, ap, ◌∙◌, subst, arith, length-set, zero-add, eq-eqb, ne_eqb, lt-ltb}

@@ -1,4 +1,9 @@
 -- The lines of trees and proofs are read as they are written.
+--
+-- For each kind of line `IsSpelled` joins four facts: it has a word at least, its words are words, they are judged as
+-- the value (`back`), and a line that is judged as a value is that value's, which is in range (`forth`). The first word
+-- tells the kind; behind it lists of coefficients and of terms are read by induction, up to 18 coefficients, all of
+-- them in 128 bits, and the other words one by one. How lines make trees and proofs isn't treated here.
 use Rattle.std.proofs.Common.{◌≡◌, inl, inr, ℕ, ◌<◌, ◌≤◌, ◌&&◌, ℤ, true, nat_le, List, [], ◌∷◌, ◌++◌, All, Result, Ok}
 use Rattle.std.proofs.Common.{Err, codes, decimal, map, length, refl, sym, ap, ◌∙◌, arith}
 use Rattle.std.specs.Prelude.{IsTrue, bytes_eq}

@@ -1,6 +1,8 @@
 ghost use Rattle.std.specs.Prelude.{IfOk, IfSome};
+ghost use Rattle.std.specs.Bool.{OnTrue};
 ghost use Rattle.candidate_order.specs.declared.candidates.Read.{Read as ReadOf};
 ghost use Rattle.candidate_order.specs.Joint.{IsJoinedTree};
+ghost use Rattle.int_polyhedra.specs.Rules.{Refutes};
 ghost use Rattle.lex_max.specs.Facts.{IsContext};
 
 use int_polyhedra::{Proof, System, Term, refutes};
@@ -45,20 +47,67 @@ fn numbers_of(
     Ok(Some(numbers))
 }
 
-// The numbers of both rows, added.
-fn added(
+// Adds a row of the table, for the variable of this number, or for the constants, with this column
+// in the basis. Answers whether its numbers fit 128 bits.
+fn push_row(
+    table: &mut Table,
+    context: &System,
+    variable: Option<usize>,
+    column: usize,
+) -> Result<bool, AllocError> {
+    let Some(numbers) = numbers_of(context, variable)? else {
+        return Ok(false);
+    };
+    table.rows.push(numbers)?;
+    table.basis.push(column)?;
+    Ok(true)
+}
+
+// The sum of a column of the table.
+fn column_sum(table: &Table, column: usize) -> Option<i128> {
+    let mut sum: i128 = 0;
+    for row in 0..table.rows.len() {
+        sum = sum.checked_add(number_at(table, row, column))?;
+    }
+    Some(sum)
+}
+
+// The sums of the first so many columns.
+fn column_sums(
     alloc: Global,
-    first: &[i128],
-    second: &[i128],
+    table: &Table,
+    count: usize,
 ) -> Result<Option<Items<i128>>, AllocError> {
     let mut sums = Items::new(alloc);
-    for (a, b) in first.iter().zip(second) {
-        let Some(sum) = a.checked_add(*b) else {
+    for column in 0..count {
+        let Some(sum) = column_sum(table, column) else {
             return Ok(None);
         };
         sums.push(sum)?;
     }
     Ok(Some(sums))
+}
+
+// Adds the rows of the table and their sum, the cost row. Answers whether all numbers fit 128 bits.
+fn fill(table: &mut Table, context: &System) -> Result<bool, AllocError>
+    requires { IsContext context.now }
+{
+    let width = context.rows.len() + 1;
+    if !push_row(table, context, None, width)? {
+        return Ok(false);
+    }
+    for variable in 0..context.vars as usize {
+        if !push_row(table, context, Some(variable), width + 1 + variable)? {
+            return Ok(false);
+        }
+    }
+    match column_sums(context.rows.allocator(), table, width + 1)? {
+        Some(cost) => {
+            table.rows.push(cost)?;
+            Ok(true)
+        }
+        None => Ok(false),
+    }
 }
 
 // The table of the multipliers of rows whose sum has no variable and a constant of -1 at most,
@@ -67,33 +116,23 @@ fn first_table(context: &System) -> Result<Option<Table>, AllocError>
     requires { IsContext context.now }
 {
     let alloc = context.rows.allocator();
-    let width = context.rows.len() + 1;
-    let Some(constants) = numbers_of(context, None)? else {
-        return Ok(None);
-    };
-    let mut cost = Items::from_slice(alloc, constants.as_slice())?;
-    let mut rows = Items::new(alloc);
-    let mut basis = Items::new(alloc);
-    rows.push(constants)?;
-    basis.push(width)?;
-    for variable in 0..context.vars as usize {
-        let Some(numbers) = numbers_of(context, Some(variable))? else {
-            return Ok(None);
-        };
-        let Some(more) = added(alloc, cost.as_slice(), numbers.as_slice())? else {
-            return Ok(None);
-        };
-        cost = more;
-        rows.push(numbers)?;
-        basis.push(width + 1 + variable)?;
-    }
-    rows.push(cost)?;
-    Ok(Some(Table {
-        rows,
-        basis,
-        width,
+    let mut table = Table {
+        rows: Items::new(alloc),
+        basis: Items::new(alloc),
+        width: context.rows.len() + 1,
         divisor: 1,
-    }))
+    };
+    match fill(&mut table, context) {
+        Ok(true) => Ok(Some(table)),
+        Ok(false) => {
+            drop(table);
+            Ok(None)
+        }
+        Err(error) => {
+            drop(table);
+            Err(error)
+        }
+    }
 }
 
 fn number_at(table: &Table, row: usize, column: usize) -> i128 {
@@ -222,28 +261,36 @@ fn multipliers(alloc: Global, table: &Table) -> Result<Option<Items<Term>>, Allo
     Ok(Some(terms))
 }
 
+// The multipliers that the table ends with after few steps of the simplex.
+fn solved(alloc: Global, table: &mut Table) -> Result<Option<Items<Term>>, AllocError> {
+    for _ in 0..PIVOTS {
+        let Some(column) = entering(table) else {
+            return multipliers(alloc, table);
+        };
+        let Some(row) = leaving(table, column) else {
+            return Ok(None);
+        };
+        match pivoted(alloc, table, row, column)? {
+            Some(next) => *table = next,
+            None => return Ok(None),
+        }
+    }
+    Ok(None)
+}
+
 // Rows whose sum may be a negative number, by the simplex of few steps. Nothing is promised of
 // them.
 fn contradiction(context: &System) -> Result<Option<Items<Term>>, AllocError>
     requires { IsContext context.now }
 {
-    let alloc = context.rows.allocator();
-    let Some(mut table) = first_table(context)? else {
-        return Ok(None);
-    };
-    for _ in 0..PIVOTS {
-        let Some(column) = entering(&table) else {
-            return multipliers(alloc, &table);
-        };
-        let Some(row) = leaving(&table, column) else {
-            return Ok(None);
-        };
-        match pivoted(alloc, &table, row, column)? {
-            Some(next) => table = next,
-            None => return Ok(None),
+    match first_table(context)? {
+        Some(mut table) => {
+            let found = solved(context.rows.allocator(), &mut table);
+            drop(table);
+            found
         }
+        None => Ok(None),
     }
-    Ok(None)
 }
 
 // Whether the row bounds one variable or the difference of two.
@@ -251,6 +298,33 @@ fn is_difference(coefs: &[i128]) -> bool {
     coefs.iter().all(|c| *c == 0 || *c == 1 || *c == -1)
         && coefs.iter().filter(|c| **c == 1).count() <= 1
         && coefs.iter().filter(|c| **c == -1).count() <= 1
+}
+
+// Whether every row bounds one variable or the difference of two.
+fn are_differences(context: &System) -> bool {
+    let rows = context.rows.as_slice();
+    rows.iter().all(|row| is_difference(row.coefs.as_slice()))
+}
+
+// Whether the proof shows that nothing meets the context.
+fn is_refuted(context: &System, proof: &Proof) -> bool
+    requires { IsContext context.now }
+    ensures { OnTrue result (Refutes context.now.vars context.now.rows proof.now) }
+{
+    refutes(context, proof).is_ok()
+}
+
+// The Dead leaf of a context, where the sum of these rows shows that nothing meets it.
+fn dead_by(context: &System, terms: Items<Term>) -> Option<Tree>
+    requires { IsContext context.now }
+    ensures { IfSome result (λ tree. (r : ReadOf) → IsJoinedTree r context.now tree) }
+{
+    let proof = Proof::Sum(terms);
+    if is_refuted(context, &proof) {
+        return Some(Tree::Dead(proof));
+    }
+    drop(proof);
+    None
 }
 
 /// The Dead leaf of a context that nothing meets, where its rows tell that soon. Where they all are
@@ -261,16 +335,11 @@ pub fn dead_leaf(context: &System) -> Result<Option<Tree>, AllocError>
     ensures { IfOk result
         (λ leaf. IfSome leaf (λ tree. (r : ReadOf) → IsJoinedTree r context.now tree)) }
 {
-    let rows = context.rows.as_slice();
-    if rows.iter().all(|row| is_difference(row.coefs.as_slice())) {
+    if are_differences(context) {
         return Ok(None);
     }
-    let Some(terms) = contradiction(context)? else {
-        return Ok(None);
-    };
-    let proof = Proof::Sum(terms);
-    if refutes(context, &proof).is_err() {
-        return Ok(None);
+    match contradiction(context)? {
+        Some(terms) => Ok(dead_by(context, terms)),
+        None => Ok(None),
     }
-    Ok(Some(Tree::Dead(proof)))
 }

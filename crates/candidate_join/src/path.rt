@@ -5,17 +5,20 @@ ghost use Rattle.affine_core.specs.declared.form.Form.{Form as FormOf};
 ghost use Rattle.candidate_order.specs.declared.candidates.Candidate.{Candidate as CandidateOf};
 ghost use Rattle.candidate_order.specs.declared.candidates.Read.{Read as ReadOf};
 ghost use Rattle.candidate_join.specs.declared.leaf.Excluded.{Excluded as ExcludedOf};
+ghost use Rattle.candidate_join.specs.declared.path.Next.{Next as NextOf};
 ghost use Rattle.int_polyhedra.specs.declared.system.System.{System as SystemOf};
 ghost use Rattle.int_polyhedra.specs.declared.system.Term.{Term as TermOf};
 ghost use Rattle.candidate_order.specs.Candidates.{IsCandidate};
 ghost use Rattle.candidate_order.specs.Reads.{pair_of};
 ghost use Rattle.candidate_order.specs.Contexts.{IsPathContext};
 ghost use Rattle.candidate_order.specs.Joint.{IsJoinedTree};
-ghost use Rattle.candidate_join.specs.Joining.{ArePair, AreSides, IsBest, IsChoice, IsChoiceSoFar, IsEnd, IsNext, IsPath, IsStanding, IsTaken};
+ghost use Rattle.candidate_join.specs.Joining.{ArePair, AreSides, IsBest, IsChoice, IsChoiceSoFar, IsEnd, IsNext, IsPath, IsPathOf, IsStanding, IsTaken};
 ghost use Rattle.candidate_join.specs.Leaves.{IsExcluded};
 ghost use Rattle.candidate_order.specs.Refutations.{RefutesWrites};
 ghost use Rattle.candidate_order.specs.Positions.{IsAt, IsPointAt};
+ghost use Rattle.candidate_order.specs.Seen.{sightings_of};
 ghost use Rattle.lex_max.specs.Asked.{write_of};
+ghost use Rattle.lex_max.specs.Facts.{with_form};
 ghost use Rattle.lex_max.specs.Paths.{term_of};
 ghost use Rattle.row_sums.specs.Parts.{weight};
 
@@ -102,6 +105,31 @@ fn take(room: &mut u64) -> Result<(), Unmade>
 fn is_deep(state: &State) -> bool {
     let (first, context) = (state.read.context, state.context);
     context.rows.len().saturating_sub(first.rows.len()) >= TESTS
+}
+
+// One Test more of the tree, if it may nest as deep.
+fn take_test(state: &State, room: &mut u64) -> Result<(), Unmade>
+    ensures node { OnOk result (room.old ≡ room.new + 1) }
+    ensures less { room.new ≤ room.old }
+{
+    if is_deep(state) {
+        return Err(Unmade::Large);
+    }
+    take(room)
+}
+
+// The tree as one node more.
+fn counted(tree: Tree, room: &mut u64) -> Result<Tree, Unmade>
+    ensures tree { IfOk result (λ node. node ≡ tree) }
+    ensures room { room.new ≤ room.old }
+{
+    match take(room) {
+        Ok(()) => Ok(tree),
+        Err(error) => {
+            drop(tree);
+            Err(error)
+        }
+    }
 }
 
 // The numbers but this one.
@@ -289,28 +317,21 @@ pub fn step(state: &State, room: &mut u64) -> Result<Tree, Unmade>
     ensures tree { IfOk result (IsJoinedTree state.now.read.now state.now.context.now) }
     ensures room { room.new ≤ room.old }
 {
-    let alloc = state.read.alloc;
-    let choice = choose(state, state.left, Items::new(alloc))?;
+    let choice = choose(state, state.left, Items::new(state.read.alloc))?;
     match choice {
         Choice::End(excluded) => {
             take(room)?;
             Ok(leaf(state, excluded.as_slice())?)
         }
         Choice::Absent(number, terms) => {
-            let node = refuted_leaf(alloc, terms)?;
-            let at = absent_of(state, number, &node)?;
-            let left = others(alloc, state.left, number)?;
-            let seen = Seen::Without(&*state.seen, &at);
-            let next = State {
-                seen: &seen,
-                left: left.as_slice(),
-                ..*state
-            };
-            step(&next, room)
+            let node = refuted_leaf(state.read.alloc, terms)?;
+            let tree = pass_by(state, number, &node, room);
+            drop(node);
+            tree
         }
         Choice::Take(number) => {
             let at = start_of(state, number)?;
-            let left = others(alloc, state.left, number)?;
+            let left = others(state.read.alloc, state.left, number)?;
             let next = State {
                 left: left.as_slice(),
                 ..*state
@@ -318,6 +339,31 @@ pub fn step(state: &State, room: &mut u64) -> Result<Tree, Unmade>
             go_on(&next, Next::Follow(at), room)
         }
     }
+}
+
+// The tree of a path, where this candidate has no point, as the node says.
+#[cycle(join)]
+fn pass_by<'a>(
+    state: &State<'a>,
+    number: u32,
+    node: &'a Tree,
+    room: &mut u64,
+) -> Result<Tree, Unmade>
+    requires path { IsPath state.now room.old None }
+    requires absent { (ts : List TermOf) × (node.now ≡ Tree.Zero (Proof.Sum ts ∷ []))
+        × IsChoice state.now (Choice.Absent number ts) }
+    ensures tree { IfOk result (IsJoinedTree state.now.read.now state.now.context.now) }
+    ensures room { room.new ≤ room.old }
+{
+    let at = absent_of(state, number, node)?;
+    let left = others(state.read.alloc, state.left, number)?;
+    let seen = Seen::Without(&*state.seen, &at);
+    let next = State {
+        seen: &seen,
+        left: left.as_slice(),
+        ..*state
+    };
+    step(&next, room)
 }
 
 // The tree of a path, where a candidate is yet to be followed or compared.
@@ -441,6 +487,13 @@ fn compare_on<'a>(
     }
 }
 
+// The Test of a form from the trees of its sides.
+fn joined(state: &State, form: &Form, yes: Tree, no: Tree) -> Result<Tree, Unmade>
+    ensures { IfOk result (λ tree. tree ≡ Tree.Test form.now yes no) }
+{
+    Ok(test_of(state.read.alloc, form.copy(), yes, no)?)
+}
+
 // A Test, and how the joining goes on on both sides of it.
 #[cycle(join)]
 fn test<'a>(
@@ -455,32 +508,93 @@ fn test<'a>(
     ensures tree { IfOk result (IsJoinedTree state.now.read.now state.now.context.now) }
     ensures room { room.new ≤ room.old }
 {
-    if is_deep(state) {
-        return Err(Unmade::Large);
+    match take_test(state, room) {
+        Ok(()) => both(state, form, first, second, room),
+        Err(error) => {
+            drop(first);
+            drop(second);
+            Err(error)
+        }
     }
-    take(room)?;
-    let above = with_row(state.context, form.copy())?;
-    let yes = branch(
-        &State {
-            context: &above,
-            ..*state
-        },
-        first,
-        room,
-    )?;
-    let below = with_row(state.context, opposite(form))?;
-    let no = branch(
-        &State {
-            context: &below,
-            ..*state
-        },
-        second,
-        room,
-    )?;
-    Ok(test_of(state.read.alloc, form.copy(), yes, no)?)
 }
 
-// One side of a Test. It is a Dead leaf where nothing meets its context.
+// Both sides of a Test, which is a node of the tree.
+#[cycle(join)]
+fn both<'a>(
+    state: &State<'a>,
+    form: &Form,
+    first: Next<'a>,
+    second: Next<'a>,
+    room: &mut u64,
+) -> Result<Tree, Unmade>
+    requires sides { (c : CandidateOf) × IsPath state.now (room.old + 1) (Some c)
+        × AreSides state.now form.now c first second }
+    ensures tree { IfOk result (IsJoinedTree state.now.read.now state.now.context.now) }
+    ensures room { room.new ≤ room.old }
+{
+    match side(state, form.copy(), first, room) {
+        Ok(yes) => test_below(state, form, yes, second, room),
+        Err(error) => {
+            drop(second);
+            Err(error)
+        }
+    }
+}
+
+// A Test whose first tree is made.
+#[cycle(join)]
+fn test_below<'a>(
+    state: &State<'a>,
+    form: &Form,
+    yes: Tree,
+    second: Next<'a>,
+    room: &mut u64,
+) -> Result<Tree, Unmade>
+    requires side { (c : CandidateOf) × IsPath state.now (room.old + 1) (Some c)
+        × ((first : NextOf) × AreSides state.now form.now c first second) }
+    requires yes { IsJoinedTree state.now.read.now (with_form state.now.context.now form.now) yes }
+    ensures tree { IfOk result (IsJoinedTree state.now.read.now state.now.context.now) }
+    ensures room { room.new ≤ room.old }
+{
+    match side(state, opposite(form), second, room) {
+        Ok(no) => joined(state, form, yes, no),
+        Err(error) => {
+            drop(yes);
+            Err(error)
+        }
+    }
+}
+
+// One side of a Test, where this row is behind the context.
+#[cycle(join)]
+fn side<'a>(state: &State<'a>, row: Form, next: Next<'a>, room: &mut u64) -> Result<Tree, Unmade>
+    requires next { (c : CandidateOf) × IsPathOf state.now.read.now state.now.candidates.now
+        (with_form state.now.context.now row) (option_copied state.now.best)
+        (sightings_of state.now.seen.now) state.now.left.now room.old (Some c)
+        × IsNext state.now.read.now (option_copied state.now.best)
+        (with_form state.now.context.now row) c next }
+    ensures tree { IfOk result
+        (IsJoinedTree state.now.read.now (with_form state.now.context.now row)) }
+    ensures room { room.new ≤ room.old }
+{
+    match with_row(state.context, row) {
+        Ok(context) => {
+            let longer = State {
+                context: &context,
+                ..*state
+            };
+            let tree = branch(&longer, next, room);
+            drop(context);
+            tree
+        }
+        Err(_) => {
+            drop(next);
+            Err(Unmade::Memory)
+        }
+    }
+}
+
+// One side of a Test in its own context. It is a Dead leaf where nothing meets the context.
 #[cycle(join)]
 fn branch<'a>(state: &State<'a>, next: Next<'a>, room: &mut u64) -> Result<Tree, Unmade>
     requires next { (c : CandidateOf) × IsPath state.now room.old (Some c)
@@ -488,10 +602,15 @@ fn branch<'a>(state: &State<'a>, next: Next<'a>, room: &mut u64) -> Result<Tree,
     ensures tree { IfOk result (IsJoinedTree state.now.read.now state.now.context.now) }
     ensures room { room.new ≤ room.old }
 {
-    let found = dead_leaf(state.context)?;
-    if let Some(dead) = found {
-        take(room)?;
-        return Ok(dead);
+    match dead_leaf(state.context) {
+        Ok(None) => go_on(state, next, room),
+        Ok(Some(dead)) => {
+            drop(next);
+            counted(dead, room)
+        }
+        Err(_) => {
+            drop(next);
+            Err(Unmade::Memory)
+        }
     }
-    go_on(state, next, room)
 }

@@ -4,7 +4,7 @@
 -- test's form and the quotient, so they have the parts of the rows that they are made as, and a form is told by its
 -- parts. Their numbers are the sums of at most 2^33, 2^32 and 1.
 use Rattle.std.proofs.Common.{◌≡◌, ◌+◌, ◌*◌, ◌^◌, ◌≤◌, ◌<◌, ℕ, ℤ, pos, negsuc, ◌+ℤ◌, ◌-ℤ◌, ◌*ℤ◌, List, []}
-use Rattle.std.proofs.Common.{◌∷◌, ◌++◌, length, map, refl, sym, ap, ◌∙◌, subst, arith, append_assoc, length-append, to_z, of_z}
+use Rattle.std.proofs.Common.{◌∷◌, ◌++◌, length, map, refl, sym, ap, ◌∙◌, subst, arith, length-append, to_z, of_z}
 use Rattle.std.specs.Prelude.{Some, All, unsigned_abs}
 use Rattle.std.specs.Int.{w128}
 use Rattle.std.specs.Option.{option_and_then}
@@ -291,8 +291,7 @@ module _ (q depth : ℕ) (d : Division) (test : IsSmallTest depth d) (deep : dep
     last_within = less_within (2 ^ 34) (2 ^ 33) last form last_own form_within (omega arith)
 
 -- the rows that were pushed
-pub rows_pushed : (new middle wide own : List Form) (f g first second : Form) → new ≡ middle ++ g ∷ []
-    → middle ≡ wide ++ f ∷ [] → wide ≡ own → f ≡ first → g ≡ second → new ≡ own ++ first ∷ second ∷ []
-rows_pushed new middle wide own f g first second e h k is_first is_second =
-    e ∙ ap (λ xs. xs ++ g ∷ []) h ∙ append_assoc wide (f ∷ []) (g ∷ []) ∙ ap (λ xs. xs ++ f ∷ g ∷ []) k
-    ∙ ap (λ f. own ++ f ∷ g ∷ []) is_first ∙ ap (λ g. own ++ first ∷ g ∷ []) is_second
+pub rows_pushed : (new own : List Form) (f g first second : Form) → new ≡ own ++ f ∷ g ∷ [] → f ≡ first → g ≡ second
+    → new ≡ own ++ first ∷ second ∷ []
+rows_pushed new own f g first second e is_first is_second =
+    e ∙ ap (λ f. own ++ f ∷ g ∷ []) is_first ∙ ap (λ g. own ++ first ∷ g ∷ []) is_second

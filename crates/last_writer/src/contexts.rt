@@ -1,4 +1,4 @@
-ghost use Rattle.std.specs.Prelude.{◌≡◌, ◌<◌, ◌≤◌, ◌+◌, ◌^◌, ℕ, true, false, ◌++◌, length, map, All, unsigned_abs, IfOk, OnOk};
+ghost use Rattle.std.specs.Prelude.{◌≡◌, ◌<◌, ◌≤◌, ◌+◌, ◌^◌, ℕ, true, false, [], ◌∷◌, ◌++◌, length, map, All, unsigned_abs, IfOk, OnOk};
 ghost use Rattle.affine_core.specs.Affine.{form_product, variable_form, widened_form};
 ghost use Rattle.candidate_order.specs.Contexts.{IsMadeAs};
 ghost use Rattle.last_writer.specs.Answers.{below_answer, HasSmallRows};
@@ -25,20 +25,61 @@ fn push_widened(wide: &mut Items<Row>, rows: &[Row], vars: usize) -> Result<(), 
     push_widened(wide, rows, vars)
 }
 
-// The rows of a context over one variable more.
-fn widened_rows(alloc: Global, context: &System) -> Result<Items<Row>, AllocError>
+// Adds two rows.
+fn push_both(rows: &mut Items<Row>, first: Row, second: Row) -> Result<(), AllocError>
+    ensures { OnOk result (rows.new ≡ rows.old ++ first ∷ second ∷ []) }
+{
+    match rows.push(first) {
+        Ok(()) => rows.push(second),
+        Err(error) => {
+            drop(second);
+            Err(error)
+        }
+    }
+}
+
+// Adds the rows of a context over one variable more, and two rows.
+fn push_below(
+    rows: &mut Items<Row>,
+    context: &System,
+    first: Row,
+    second: Row,
+) -> Result<(), AllocError>
     requires over { HasSmallRows context.now }
     requires few { context.now.vars < 18 }
-    ensures { IfOk result (λ wide. wide
-        ≡ map (widened_form (context.now.vars + 1)) context.now.rows) }
+    ensures { OnOk result (rows.new ≡ rows.old
+        ++ (map (widened_form (context.now.vars + 1)) context.now.rows ++ first ∷ second ∷ [])) }
 {
-    let mut wide = Items::new(alloc);
-    push_widened(
-        &mut wide,
-        context.rows.as_slice(),
-        context.vars as usize + 1,
-    )?;
-    Ok(wide)
+    match push_widened(rows, context.rows.as_slice(), context.vars as usize + 1) {
+        Ok(()) => push_both(rows, first, second),
+        Err(error) => {
+            drop(first);
+            drop(second);
+            Err(error)
+        }
+    }
+}
+
+// The rows of a context over one variable more, and two rows.
+fn rows_below(
+    alloc: Global,
+    context: &System,
+    first: Row,
+    second: Row,
+) -> Result<Items<Row>, AllocError>
+    requires over { HasSmallRows context.now }
+    requires few { context.now.vars < 18 }
+    ensures { IfOk result (λ rows. rows
+        ≡ map (widened_form (context.now.vars + 1)) context.now.rows ++ first ∷ second ∷ []) }
+{
+    let mut rows = Items::new(alloc);
+    match push_below(&mut rows, context, first, second) {
+        Ok(()) => Ok(rows),
+        Err(error) => {
+            drop(rows);
+            Err(error)
+        }
+    }
 }
 
 // So many times the last of so many variables.
@@ -54,8 +95,8 @@ fn multiple(alloc: Global, vars: usize, times: i128) -> Form
     }
 }
 
-/// The context below the yes of a test: its divisor times the quotient, which is one variable more, is its form.
-pub fn divided(alloc: Global, context: &System, test: &Division) -> Result<System, AllocError>
+// The context below the yes of a test: its divisor times the quotient, which is one variable more, is its form.
+fn divided(alloc: Global, context: &System, test: &Division) -> Result<System, AllocError>
     requires rows { HasSmallRows context.now }
     requires few { context.now.vars < 18 }
     requires test { (depth : ℕ) × IsSmallTest depth test.now × (depth ≤ context.now.vars) }
@@ -66,19 +107,21 @@ pub fn divided(alloc: Global, context: &System, test: &Division) -> Result<Syste
     ensures count { IfOk result (λ below. length below.rows ≡ length context.now.rows + 2) }
 {
     let vars = context.vars as usize + 1;
-    let mut rows = widened_rows(alloc, context)?;
     let form = test.form.widened(vars);
     let quotients = multiple(alloc, vars, test.divisor);
-    rows.push(difference(&form, &quotients))?;
-    rows.push(difference(&quotients, &form))?;
+    let first = difference(&form, &quotients);
+    let second = difference(&quotients, &form);
+    drop(form);
+    drop(quotients);
+    let rows = rows_below(alloc, context, first, second)?;
     Ok(System {
         vars: context.vars + 1,
         rows,
     })
 }
 
-/// The context below the no of a test: its form lies between two multiples of the divisor.
-pub fn undivided(alloc: Global, context: &System, test: &Division) -> Result<System, AllocError>
+// The context below the no of a test: its form lies between two multiples of the divisor.
+fn undivided(alloc: Global, context: &System, test: &Division) -> Result<System, AllocError>
     requires rows { HasSmallRows context.now }
     requires few { context.now.vars < 18 }
     requires test { (depth : ℕ) × IsSmallTest depth test.now × (depth ≤ context.now.vars) }
@@ -89,14 +132,40 @@ pub fn undivided(alloc: Global, context: &System, test: &Division) -> Result<Sys
     ensures count { IfOk result (λ below. length below.rows ≡ length context.now.rows + 2) }
 {
     let vars = context.vars as usize + 1;
-    let mut rows = widened_rows(alloc, context)?;
     let form = test.form.widened(vars);
     let quotients = multiple(alloc, vars, test.divisor);
+    let above = difference(&form, &quotients);
     let last = raised(&quotients, test.divisor - 1);
-    rows.push(raised(&difference(&form, &quotients), -1))?;
-    rows.push(difference(&last, &form))?;
+    let first = raised(&above, -1);
+    let second = difference(&last, &form);
+    drop(form);
+    drop(quotients);
+    drop(above);
+    drop(last);
+    let rows = rows_below(alloc, context, first, second)?;
     Ok(System {
         vars: context.vars + 1,
         rows,
     })
+}
+
+/// The context below an answer to a test.
+pub fn below_test(
+    alloc: Global,
+    context: &System,
+    test: &Division,
+    answer: bool,
+) -> Result<System, AllocError>
+    requires rows { HasSmallRows context.now }
+    requires few { context.now.vars < 18 }
+    requires test { (depth : ℕ) × IsSmallTest depth test.now × (depth ≤ context.now.vars) }
+    ensures made { IfOk result (λ next. (c : Context) → IsMadeAs context.now c
+        → IsMadeAs next (below_answer c test.now answer)) }
+    ensures rows { IfOk result HasSmallRows }
+    ensures count { IfOk result (λ next. length next.rows ≡ length context.now.rows + 2) }
+{
+    if answer {
+        return divided(alloc, context, test);
+    }
+    undivided(alloc, context, test)
 }

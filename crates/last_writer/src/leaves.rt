@@ -448,17 +448,43 @@ pub fn converted(w: &Answered, here: u32, tree: Tree) -> Result<Tree, Unmade>
     match tree {
         Tree::Test(form, yes, no) => {
             if here >= ROWS {
+                drop(form);
+                drop(yes);
+                drop(no);
                 return Err(Unmade::Large);
             }
-            let above = converted(w, here + 1, yes.into_inner())?;
-            let below = converted(w, here + 1, no.into_inner())?;
-            Ok(test(w.alloc, form, above, below)?)
+            match converted(w, here + 1, yes.into_inner()) {
+                Ok(above) => match converted(w, here + 1, no.into_inner()) {
+                    Ok(below) => Ok(test(w.alloc, form, above, below)?),
+                    Err(error) => {
+                        drop(form);
+                        drop(above);
+                        Err(error)
+                    }
+                },
+                Err(error) => {
+                    drop(form);
+                    drop(no);
+                    Err(error)
+                }
+            }
         }
         Tree::Writer(number, place, proofs) => {
-            let own = writer_proofs(w, here, number, proofs.as_slice())?;
-            Ok(Tree::Writer(number, place, own))
+            let own = writer_proofs(w, here, number, proofs.as_slice());
+            drop(proofs);
+            match own {
+                Ok(own) => Ok(Tree::Writer(number, place, own)),
+                Err(AllocError) => {
+                    drop(place);
+                    Err(Unmade::Memory)
+                }
+            }
         }
-        Tree::Zero(proofs) => Ok(Tree::Zero(zero_proofs(w, here, proofs.as_slice())?)),
+        Tree::Zero(proofs) => {
+            let own = zero_proofs(w, here, proofs.as_slice());
+            drop(proofs);
+            Ok(Tree::Zero(own?))
+        }
         Tree::Dead(proof) => Ok(Tree::Dead(proof)),
         Tree::Divides(..) => unreachable!(),
     }

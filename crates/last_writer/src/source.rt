@@ -4,7 +4,7 @@ ghost use Rattle.affine_core.specs.Affine.{widened_form};
 ghost use Rattle.candidate_order.specs.Contexts.{IsMadeAs};
 ghost use Rattle.candidate_order.specs.Reads.{pairs_with};
 ghost use Rattle.candidate_order.specs.declared.candidates.Read.{Read as ReadOf};
-ghost use Rattle.last_writer.specs.Answers.{HasSmallRows};
+ghost use Rattle.last_writer.specs.Answers.{answered_context, HasSmallRows};
 ghost use Rattle.last_writer.specs.Leaves.{context_of, told_pairs, vars_of, IsAnswered};
 ghost use Rattle.last_writer.specs.Told.{IsTold};
 ghost use Rattle.last_writer.specs.declared.source.Told.{Told as ToldOf};
@@ -16,7 +16,7 @@ ghost use Rattle.source_tree.specs.declared.tree.Tree.TheViews.{Divides as Divid
 ghost use Rattle.stride_rows.specs.Class.{IsInStrideClass};
 ghost use Rattle.stride_trees.specs.Strides.{read_of, ArePlaces, IsStrided};
 
-use crate::contexts::{divided, undivided};
+use crate::contexts::below_test;
 use crate::leaves::{Answered, converted, refusal_of};
 use crate::writers::{Writer, push_writers};
 use affine_core::{Form, Row};
@@ -154,8 +154,16 @@ fn divides(
         ≡ DividesOf (widened_form context.now.vars test.now.form) test.now.divisor yes no) }
 {
     let form = test.form.widened(context.vars as usize);
-    let yes = Boxed::new(alloc, yes)?;
-    let no = Boxed::new(alloc, no)?;
+    let Ok(yes) = Boxed::new(alloc, yes) else {
+        drop(form);
+        drop(no);
+        return Err(Unmade::Memory);
+    };
+    let Ok(no) = Boxed::new(alloc, no) else {
+        drop(form);
+        drop(yes);
+        return Err(Unmade::Memory);
+    };
     Ok(Tree::Divides(form, test.divisor, yes, no))
 }
 
@@ -188,6 +196,7 @@ fn next_test<'a>(w: &Answered<'a>) -> Option<&'a Division>
 }
 
 // The tree below the answers, whose context this is.
+#[cycle(answered)]
 fn answered<'a>(
     w: &Answered<'a>,
     told: &'a [Told],
@@ -209,22 +218,49 @@ fn answered<'a>(
         return joined(w, told, context, room);
     };
     take_node(room)?;
-    let alloc = w.alloc;
-    let above = divided(alloc, context, test)?;
-    let with_yes = with_answer(alloc, w.answers, true)?;
-    let yes = Answered {
-        answers: with_yes.as_slice(),
+    let yes = answered_next(w, told, context, test, true, room)?;
+    match answered_next(w, told, context, test, false, room) {
+        Ok(no) => {
+            let alloc = w.alloc;
+            divides(alloc, context, test, yes, no)
+        }
+        Err(error) => {
+            drop(yes);
+            Err(error)
+        }
+    }
+}
+
+// The tree below the answers and this one, which is that to the next test.
+#[cycle(answered)]
+fn answered_next<'a>(
+    w: &Answered<'a>,
+    told: &'a [Told],
+    context: &'a System,
+    test: &Division,
+    answer: bool,
+    room: &mut u64,
+) -> Result<Tree, Unmade>
+    requires answered { IsAnswered w.now }
+    requires told { AllZip (IsTold (vars_of w.now)) w.now.writers.now told.now }
+    requires made { IsMadeAs context.now (context_of w.now) }
+    requires rows { HasSmallRows context.now }
+    requires count { length context.now.rows
+        ≡ length w.now.read.statement.now.rows + 2 * length w.now.answers.now }
+    requires test { slice_get w.now.tests.now (length w.now.answers.now) ≡ Some test.now }
+    requires room { room.old ≤ 2 ^ 30 }
+    ensures tree { IfOk result (IsCheckedIn w.now.nest.now (occurrence_of w.now.read) every
+        (answered_context (root_context (occurrence_of w.now.read)) w.now.tests.now
+        (w.now.answers.now ++ answer ∷ []))) }
+    ensures room { room.new ≤ room.old }
+{
+    let next = below_test(w.alloc, context, test, answer)?;
+    let answers = with_answer(w.alloc, w.answers, answer)?;
+    let more = Answered {
+        answers: answers.as_slice(),
         ..*w
     };
-    let yes = answered(&yes, told, &above, room)?;
-    let below = undivided(alloc, context, test)?;
-    let with_no = with_answer(alloc, w.answers, false)?;
-    let no = Answered {
-        answers: with_no.as_slice(),
-        ..*w
-    };
-    let no = answered(&no, told, &below, room)?;
-    divides(alloc, context, test, yes, no)
+    answered(&more, told, &next, room)
 }
 
 fn reference_of<'a>(nest: &'a Nest, statement: u32, read: u32) -> Reference<'a>

@@ -19,7 +19,7 @@ use Rattle.int_polyhedra.specs.Rules.{Refutes}
 use Rattle.int_polyhedra.proofs.Variables.{and_both}
 use Rattle.lex_max.proofs.Fitting.{form_is}
 use Rattle.lex_max.proofs.Ordering.{variable_part}
-use Rattle.lex_max.proofs.Writing.{are_made, AreMade}
+use Rattle.lex_max.proofs.Writing.{AreMade}
 use Rattle.row_sums.specs.Parts.{Part, part_of, row_part, weight, IsWithin}
 use Rattle.row_sums.proofs.Making.{widened_part}
 use Rattle.sanlp.specs.declared.nest.Nest.{Nest}

@@ -16,7 +16,6 @@ use Rattle.std.proofs.Math.Nat.{mul-le-mul_left}
 use Rattle.affine_core.specs.declared.form.Form.{Form}
 use Rattle.affine_core.specs.Affine.{variable_form, widened_form}
 use Rattle.int_polyhedra.specs.declared.system.Proof.{Proof}
-use Rattle.int_polyhedra.specs.declared.system.Proof.TheVariants.{Sum}
 use Rattle.int_polyhedra.specs.Systems.{AreOver}
 use Rattle.int_polyhedra.proofs.Variables.{both_and}
 use Rattle.std.proofs.lemmas.Bool.{eq-eqb}

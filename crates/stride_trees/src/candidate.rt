@@ -168,7 +168,9 @@ fn last_tree(s: &Strides, divisions: &[Division]) -> Result<Tree, AllocError>
     let places = found.as_slice();
     let tree = told_tree(s, places, &context)?;
     let count = context.rows.len() as u32;
-    converted_tree(s, places, count, &tree)
+    let own = converted_tree(s, places, count, &tree);
+    drop(tree);
+    own
 }
 
 // The tree of a read and a write.

@@ -15,7 +15,7 @@ ghost use Rattle.stride_rows.specs.Class.{is_pair, is_single};
 ghost use Rattle.stride_trees.specs.Contexts.{differing, outside_of, own_system, outside_cell_systems, told_system, AddsConverted, AreMadeSmall, AreTestsIn, IsPlaceIn, IsSum, IsTestedContext};
 ghost use Rattle.stride_rows.specs.Cuts.{converted_sum};
 ghost use Rattle.stride_trees.specs.Problem.{problem_reads, problem_rows, problem_writes, told_read, told_write};
-ghost use Rattle.stride_rows.specs.Sources.{last_converted, subscript_converted, write_sources as write_sources_of};
+ghost use Rattle.stride_rows.specs.Sources.{cell_source as cell_source_of, last_converted, subscript_converted, write_sources as write_sources_of};
 ghost use Rattle.stride_trees.specs.Strides.{depth_of_read, depth_of_write, read_of, root_of, write_of, IsSmallContext, IsStrided};
 
 use crate::strides::Strides;
@@ -155,6 +155,19 @@ fn push_outside(
     push_outside(proofs, alloc, rows, here, told)
 }
 
+// Adds two proofs.
+fn push_both(proofs: &mut Items<Proof>, first: Proof, second: Proof) -> Result<(), AllocError>
+    ensures { OnOk result (proofs.new ≡ proofs.old ++ first ∷ second ∷ []) }
+{
+    match proofs.push(first) {
+        Ok(()) => proofs.push(second),
+        Err(error) => {
+            drop(second);
+            Err(error)
+        }
+    }
+}
+
 // Adds two proofs, the second first if they are turned.
 fn push_two(
     proofs: &mut Items<Proof>,
@@ -166,11 +179,27 @@ fn push_two(
         ++ (if turned then second ∷ first ∷ [] else first ∷ second ∷ [])) }
 {
     if turned {
-        proofs.push(second)?;
-        return proofs.push(first);
+        return push_both(proofs, second, first);
     }
-    proofs.push(first)?;
-    proofs.push(second)
+    push_both(proofs, first, second)
+}
+
+// The proof of a system with a row of a subscript behind the context's, which the test's row of this number tells.
+fn with_cell(
+    alloc: Global,
+    write: &Form,
+    here: u32,
+    test: u32,
+    proof: &Proof,
+) -> Result<Proof, AllocError>
+    requires here { here ≤ 8192 }
+    requires write { IsWithin (2 ^ 32) write.now }
+    requires sum { IsSum proof.now }
+    ensures { IfOk result (λ own. (terms : List TermOf) → proof.now ≡ Proof.Sum terms
+        → own ≡ last_converted (cell_source_of write.now here test) here terms) }
+{
+    let last = cell_source(alloc, write, here, test)?;
+    with_last(alloc, here, last, proof)
 }
 
 // Adds the proofs that the subscript of a place is not above the read's, and not below it.
@@ -193,11 +222,14 @@ fn push_subscript(
         → proofs.new ≡ proofs.old ++ subscript_converted write.now here test above below) }
 {
     // Each of both rows has this number, in a system of its own.
-    let above = cell_source(alloc, write, here, test)?;
-    let below = cell_source(alloc, write, here, test + 1)?;
-    let first = with_last(alloc, here, above, high)?;
-    let second = with_last(alloc, here, below, low)?;
-    push_two(proofs, is_turned(write), first, second)
+    let first = with_cell(alloc, write, here, test, high)?;
+    match with_cell(alloc, write, here, test + 1, low) {
+        Ok(second) => push_two(proofs, is_turned(write), first, second),
+        Err(error) => {
+            drop(first);
+            Err(error)
+        }
+    }
 }
 
 // Adds the proofs that a place writes the read's cell, subscript by subscript.
@@ -283,7 +315,13 @@ pub fn converted_place(
     let first = front(told, rows.len());
     let second = back(told, rows.len());
     let mut proofs = Items::new(s.alloc);
-    push_outside(&mut proofs, s.alloc, rows, here, first)?;
-    push_cells(&mut proofs, s.alloc, writes, here, root, places, second)?;
+    let Ok(()) = push_outside(&mut proofs, s.alloc, rows, here, first) else {
+        drop(proofs);
+        return Err(AllocError);
+    };
+    let Ok(()) = push_cells(&mut proofs, s.alloc, writes, here, root, places, second) else {
+        drop(proofs);
+        return Err(AllocError);
+    };
     Ok(proofs)
 }

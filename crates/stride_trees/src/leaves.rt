@@ -176,8 +176,14 @@ fn writer_leaf(
 {
     let proofs = writer_proofs(s, places, here, told)?;
     let mut forms = Items::new(s.alloc);
-    push_forms(&mut forms, place)?;
-    Ok(Tree::Writer(statement, forms, proofs))
+    match push_forms(&mut forms, place) {
+        Ok(()) => Ok(Tree::Writer(statement, forms, proofs)),
+        Err(error) => {
+            drop(forms);
+            drop(proofs);
+            Err(error)
+        }
+    }
 }
 
 // The Zero leaf.
@@ -213,8 +219,13 @@ pub fn converted_tree(
     match tree {
         Tree::Test(form, yes, no) => {
             let above = converted_tree(s, places, here + 1, yes.get())?;
-            let below = converted_tree(s, places, here + 1, no.get())?;
-            test(s.alloc, form.copy(), above, below)
+            match converted_tree(s, places, here + 1, no.get()) {
+                Ok(below) => test(s.alloc, form.copy(), above, below),
+                Err(error) => {
+                    drop(above);
+                    Err(error)
+                }
+            }
         }
         Tree::Writer(statement, place, proofs) => {
             writer_leaf(

@@ -48,8 +48,13 @@ fn zero_leaf(alloc: Global, proof: Proof) -> Result<Tree, AllocError>
     ensures { IfOk result (λ tree. tree ≡ Tree.Zero (proof ∷ [])) }
 {
     let mut proofs = Items::new(alloc);
-    proofs.push(proof)?;
-    Ok(Tree::Zero(proofs))
+    match proofs.push(proof) {
+        Ok(()) => Ok(Tree::Zero(proofs)),
+        Err(error) => {
+            drop(proofs);
+            Err(error)
+        }
+    }
 }
 
 // The test of a form, which is that of a division over the variables of a context, with the trees of its yes and its no.
@@ -62,8 +67,16 @@ fn divides(
 ) -> Result<Tree, AllocError>
     ensures { IfOk result (λ tree. tree ≡ DividesOf form division.now.divisor yes no) }
 {
-    let yes = Boxed::new(alloc, yes)?;
-    let no = Boxed::new(alloc, no)?;
+    let Ok(yes) = Boxed::new(alloc, yes) else {
+        drop(form);
+        drop(no);
+        return Err(AllocError);
+    };
+    let Ok(no) = Boxed::new(alloc, no) else {
+        drop(form);
+        drop(yes);
+        return Err(AllocError);
+    };
     Ok(Tree::Divides(form, division.divisor, yes, no))
 }
 
@@ -102,7 +115,14 @@ pub fn with_tests(
         return Ok(tree);
     };
     let above = with_tests(s, divisions, vars + 1, here + 2, tree)?;
-    let below = no_leaf(s, division, here)?;
-    let form = division.form.widened(vars);
-    divides(s.alloc, form, division, above, below)
+    match no_leaf(s, division, here) {
+        Ok(below) => {
+            let form = division.form.widened(vars);
+            divides(s.alloc, form, division, above, below)
+        }
+        Err(error) => {
+            drop(above);
+            Err(error)
+        }
+    }
 }

@@ -77,10 +77,10 @@ pub fn indivisible(
         (CutOf division.now.divisor (term_of (test + 1) ∷ term_of below ∷ [])
         (Proof.Sum (term_of count ∷ term_of (count + 1) ∷ [])))) }
 {
-    let sum = both(alloc, count, count + 1)?;
-    let high = both(alloc, test + 1, below)?;
-    let rest = cut(alloc, division, high, Proof::Sum(sum))?;
     let low = both(alloc, test, above)?;
+    let high = both(alloc, test + 1, below)?;
+    let sum = both(alloc, count, count + 1)?;
+    let rest = cut(alloc, division, high, Proof::Sum(sum))?;
     cut(alloc, division, low, rest)
 }
 

@@ -8,14 +8,12 @@ use Rattle.std.specs.List.{flat_map}
 use Rattle.affine_core.specs.declared.form.Form.{Form}
 use Rattle.int_polyhedra.specs.declared.system.Proof.{Proof, out-Proof}
 use Rattle.int_polyhedra.specs.declared.system.Proof.TheOpen as proof_layer
-use Rattle.int_polyhedra.specs.declared.system.Proof.TheFolds.{fold-roll-Proof}
 use Rattle.int_polyhedra.specs.declared.system.Proof.TheViews.{Cut, Split, outs-Sum, outs-Cut, outs-Split, roll-Proof}
 use Rattle.int_polyhedra.specs.declared.system.Proof.TheViews.{roll-out-Proof, rolls-Sum, rolls-Cut, rolls-Split}
 use Rattle.int_polyhedra.specs.declared.system.Proof.TheVariants.{Sum}
 use Rattle.int_polyhedra.specs.declared.system.Term.{Term}
 use Rattle.source_tree.specs.declared.tree.Tree.{Tree, out-Tree}
 use Rattle.source_tree.specs.declared.tree.Tree.TheOpen as tree_layer
-use Rattle.source_tree.specs.declared.tree.Tree.TheFolds.{fold-roll-Tree}
 use Rattle.source_tree.specs.declared.tree.Tree.TheViews.{Test, Divides, outs-Test, outs-Divides, outs-Writer}
 use Rattle.source_tree.specs.declared.tree.Tree.TheViews.{outs-Zero, outs-Dead, roll-Tree, roll-out-Tree, rolls-Test}
 use Rattle.source_tree.specs.declared.tree.Tree.TheViews.{rolls-Divides, rolls-Writer, rolls-Zero, rolls-Dead}
@@ -31,29 +29,18 @@ use Rattle.tree_text.specs.Lines.{map_line, proof_line, tree_line}
 use Rattle.tree_text.specs.Reading.{proof, proof_behind, tree_behind, tree_within}
 use Rattle.tree_text.specs.TreeText.{FormIsInRange, PlaceIsInRange, ProofIsInRange, ProofStepIsInRange}
 use Rattle.tree_text.specs.TreeText.{ProofsAreInRange, TreeIsWithin, TreeStepIsInRange, cut_text, dead_text}
-use Rattle.tree_text.specs.TreeText.{divides_text, map_text, proof_lines, proof_text, split_text, sum_text, test_text}
-use Rattle.tree_text.specs.TreeText.{tree_lines, tree_text, writer_text, zero_text}
+use Rattle.tree_text.specs.TreeText.{divides_text, map_text, proof_text, split_text, test_text}
+use Rattle.tree_text.specs.TreeText.{tree_text, writer_text, zero_text}
 use Rattle.tree_text.proofs.Spellings.{ProofLineIsInRange, TreeLineIsInRange, map_spelled, map_words}
 use Rattle.tree_text.proofs.Spellings.{proof_line_spelled, proof_words, tree_line_spelled, tree_words}
+use Rattle.tree_text.proofs.Texts.{text_sum, text_cut, text_split, text_test, text_divides, text_writer, text_zero}
+use Rattle.tree_text.proofs.Texts.{text_dead}
 use Rattle.text_out.specs.Words.{line_text}
 
 -- Proofs
 
 proof_line_codec : IsCodec (line proof_line) (λ l. line_text (proof_words l)) ProofLineIsInRange
 proof_line_codec = line_codec proof_line proof_words ProofLineIsInRange proof_line_spelled
-
-text_sum : (terms : List Term) → proof_text (Sum terms) ≡ sum_text terms
-text_sum terms = ap proof_text (sym (rolls-Sum terms)) ∙ fold-roll-Proof (List ℕ) proof_lines (proof_layer.Sum terms)
-
-text_cut : (divisor : ℤ) (terms : List Term) (rest : Proof) → proof_text (Cut divisor terms rest)
-    ≡ cut_text divisor terms ++ proof_text rest
-text_cut divisor terms rest = ap proof_text (sym (rolls-Cut divisor terms rest))
-    ∙ fold-roll-Proof (List ℕ) proof_lines (proof_layer.Cut divisor terms rest)
-
-text_split : (form : Form) (above below : Proof) → proof_text (Split form above below) ≡ split_text form
-    ++ (proof_text above ++ proof_text below)
-text_split form above below = ap proof_text (sym (rolls-Split form above below))
-    ∙ fold-roll-Proof (List ℕ) proof_lines (proof_layer.Split form above below)
 
 -- a step is in range where its layer is
 in_range : (levels : ℕ) (p : Proof) (y : proof_layer.Proof-F Proof) → out-Proof p ≡ y
@@ -217,28 +204,6 @@ place_codec count =
 
 tree_line_codec : IsCodec (line tree_line) (λ l. line_text (tree_words l)) TreeLineIsInRange
 tree_line_codec = line_codec tree_line tree_words TreeLineIsInRange tree_line_spelled
-
-text_test : (form : Form) (above below : Tree) → tree_text (Test form above below) ≡ test_text form
-    ++ (tree_text above ++ tree_text below)
-text_test form above below = ap tree_text (sym (rolls-Test form above below))
-    ∙ fold-roll-Tree (List ℕ) tree_lines (tree_layer.Test form above below)
-
-text_divides : (form : Form) (divisor : ℤ) (above below : Tree) → tree_text (Divides form divisor above below)
-    ≡ divides_text form divisor ++ (tree_text above ++ tree_text below)
-text_divides form divisor above below = ap tree_text (sym (rolls-Divides form divisor above below))
-    ∙ fold-roll-Tree (List ℕ) tree_lines (tree_layer.Divides form divisor above below)
-
-text_writer : (statement : ℕ) (place : List Form) (proofs : List Proof)
-    → tree_text (Writer statement place proofs) ≡ writer_text statement (length place) (length proofs)
-    ++ (flat_map map_text place ++ flat_map proof_text proofs)
-text_writer statement place proofs = ap tree_text (sym (rolls-Writer statement place proofs))
-    ∙ fold-roll-Tree (List ℕ) tree_lines (tree_layer.Writer statement place proofs)
-
-text_zero : (proofs : List Proof) → tree_text (Zero proofs) ≡ zero_text (length proofs) ++ flat_map proof_text proofs
-text_zero proofs = ap tree_text (sym (rolls-Zero proofs)) ∙ fold-roll-Tree (List ℕ) tree_lines (tree_layer.Zero proofs)
-
-text_dead : (p : Proof) → tree_text (Dead p) ≡ dead_text ++ proof_text p
-text_dead p = ap tree_text (sym (rolls-Dead p)) ∙ fold-roll-Tree (List ℕ) tree_lines (tree_layer.Dead p)
 
 tree_in_range : (levels : ℕ) (t : Tree) (y : tree_layer.Tree-F Tree) → out-Tree t ≡ y
     → TreeStepIsInRange (TreeIsWithin levels) y → TreeIsWithin (suc levels) t

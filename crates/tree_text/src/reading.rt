@@ -98,15 +98,27 @@ fn read_step(
 {
     match line {
         ProofLine::Sum(terms) => Ok(sum(alloc, terms)?),
-        ProofLine::Cut(divisor, terms) => {
-            let rest = read_proof(levels, alloc, lines)?;
-            Ok(cut(alloc, divisor, terms, rest)?)
-        }
-        ProofLine::Split(form) => {
-            let above = read_proof(levels, alloc, lines)?;
-            let below = read_proof(levels, alloc, lines)?;
-            Ok(split(alloc, form, above, below)?)
-        }
+        ProofLine::Cut(divisor, terms) => match read_proof(levels, alloc, lines) {
+            Ok(rest) => Ok(cut(alloc, divisor, terms, rest)?),
+            Err(error) => {
+                drop(terms);
+                Err(error)
+            }
+        },
+        ProofLine::Split(form) => match read_proof(levels, alloc, lines) {
+            Ok(above) => match read_proof(levels, alloc, lines) {
+                Ok(below) => Ok(split(alloc, form, above, below)?),
+                Err(error) => {
+                    drop(form);
+                    drop(above);
+                    Err(error)
+                }
+            },
+            Err(error) => {
+                drop(form);
+                Err(error)
+            }
+        },
     }
 }
 
@@ -117,6 +129,7 @@ fn read_proof(levels: u32, alloc: Global, lines: &mut Lines) -> Result<Boxed<Pro
 {
     let line = read_proof_line(alloc, lines)?;
     if levels == 0 {
+        drop(line);
         return Err(CertError::Deep(lines.taken()));
     }
     read_step(levels - 1, line, alloc, lines)
@@ -177,8 +190,13 @@ fn read_writer(
     ensures { Reads result lines.new (writer_behind statement forms proofs lines.old) }
 {
     let place = read_place(forms, alloc, lines)?;
-    let proofs = read_proofs(proofs, alloc, lines)?;
-    Ok(Boxed::new(alloc, Tree::Writer(statement, place, proofs))?)
+    match read_proofs(proofs, alloc, lines) {
+        Ok(proofs) => Ok(Boxed::new(alloc, Tree::Writer(statement, place, proofs))?),
+        Err(error) => {
+            drop(place);
+            Err(error)
+        }
+    }
 }
 
 /// Reads what follows the line of a Zero leaf.
@@ -210,16 +228,34 @@ fn read_node(
     ensures { Reads result lines.new (tree_behind (tree_within levels) line lines.old) }
 {
     match line {
-        TreeLine::Test(form) => {
-            let above = read_levels(levels, alloc, lines)?;
-            let below = read_levels(levels, alloc, lines)?;
-            Ok(test(alloc, form, above, below)?)
-        }
-        TreeLine::Divides(form, divisor) => {
-            let above = read_levels(levels, alloc, lines)?;
-            let below = read_levels(levels, alloc, lines)?;
-            Ok(divides(alloc, form, divisor, above, below)?)
-        }
+        TreeLine::Test(form) => match read_levels(levels, alloc, lines) {
+            Ok(above) => match read_levels(levels, alloc, lines) {
+                Ok(below) => Ok(test(alloc, form, above, below)?),
+                Err(error) => {
+                    drop(form);
+                    drop(above);
+                    Err(error)
+                }
+            },
+            Err(error) => {
+                drop(form);
+                Err(error)
+            }
+        },
+        TreeLine::Divides(form, divisor) => match read_levels(levels, alloc, lines) {
+            Ok(above) => match read_levels(levels, alloc, lines) {
+                Ok(below) => Ok(divides(alloc, form, divisor, above, below)?),
+                Err(error) => {
+                    drop(form);
+                    drop(above);
+                    Err(error)
+                }
+            },
+            Err(error) => {
+                drop(form);
+                Err(error)
+            }
+        },
         TreeLine::Writer(statement, forms, proofs) => {
             read_writer(statement, forms, proofs, alloc, lines)
         }
@@ -235,6 +271,7 @@ fn read_levels(levels: u32, alloc: Global, lines: &mut Lines) -> Result<Boxed<Tr
 {
     let line = read_tree_line(alloc, lines)?;
     if levels == 0 {
+        drop(line);
         return Err(CertError::Deep(lines.taken()));
     }
     read_node(levels - 1, line, alloc, lines)

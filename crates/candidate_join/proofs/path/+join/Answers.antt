@@ -5,12 +5,13 @@
 -- height of a tree: the room falls with each Test, and between two Tests those that are left are fewer with each
 -- candidate that is taken. Small numbers order the functions where neither changes.
 use Rattle.std.proofs.Common.{◌≡◌, ◌+◌, ◌^◌, ◌∷◌, ◌++◌, [], length, refl, sym, ap, ◌∙◌, subst, arith}
-use Rattle.std.specs.Prelude.{None, Some, IfSome}
+use Rattle.std.specs.Prelude.{None, Some, IfOk, IfSome, OnOk}
 use Rattle.std.specs.Option.{option_copied}
 use Rattle.std.proofs.lemmas.Option.{same_Some}
+use Rattle.std.proofs.lemmas.Result.{IfOk-weaker}
 use Rattle.candidate_order.specs.Comparisons.{HasNextLoop, IsComparison}
 use Rattle.candidate_order.specs.Joint.{IsJoinedTree}
-use Rattle.candidate_join.specs.Joining.{IsBest, IsChoice, IsChoiceSoFar, IsEnd, IsNext, IsPath}
+use Rattle.candidate_join.specs.Joining.{IsBest, IsChoice, IsChoiceSoFar, IsEnd, IsNext, IsPath, IsPathOf}
 use Rattle.candidate_order.specs.Positions.{IsAt}
 use Rattle.candidate_order.specs.Seen.{passed, sightings_of}
 use Rattle.candidate_order.specs.declared.candidates.Read.{Read}
@@ -27,7 +28,8 @@ use Rattle.lex_max.specs.Asked.{write_of}
 use Rattle.lex_max.specs.Facts.{with_form}
 use Rattle.lex_max.specs.Paths.{term_of}
 use Rattle.lex_max.proofs.Small.{farther}
-use Rattle.source_tree.specs.declared.tree.Tree.TheViews.{Test}
+use Rattle.int_polyhedra.specs.declared.system.System.{System}
+use Rattle.source_tree.specs.declared.tree.Tree.{Tree}
 use Rattle.candidate_join.proofs.path.+join.Goals as goal
 
 -- The choice
@@ -55,30 +57,42 @@ step-leaf-requires-clause-end t c =
 
 -- A candidate without a point
 
-pub step-absent_of-requires-clause-path : goal.step-absent_of-requires-clause-path
-step-absent_of-requires-clause-path t c =
+pub step-pass_by-tree-requires : goal.step-pass_by-tree-requires
+step-pass_by-tree-requires t c = (
+  omega arith,
+  (
+    c.requires.path,
+    (
+      c.in-Absent.terms,
+      c.in_ok-node-in-Absent.ensures,
+      subst (IsChoice c.args.state.now) c.in-Absent.is c.in_ok-choice.ensures,
+    ),
+  ),
+)
+
+pub pass_by-absent_of-requires-clause-path : goal.pass_by-absent_of-requires-clause-path
+pass_by-absent_of-requires-clause-path t c =
     let s = c.args.state.now in
     path_less s.read.now s.candidates.now s.context.now (option_copied s.best)
     (sightings_of s.seen.now) s.left.now c.args.room.now 0 None (omega arith) c.requires.path
 
-pub step-absent_of-requires-clause-taken : goal.step-absent_of-requires-clause-taken
-step-absent_of-requires-clause-taken t c = let h =
-    subst (IsChoice c.args.state.now) c.in-Absent.is c.in_ok-choice.ensures in (h.0, h.1)
+pub pass_by-absent_of-requires-clause-taken : goal.pass_by-absent_of-requires-clause-taken
+pass_by-absent_of-requires-clause-taken t c = let h = c.requires.absent in (h.2.0, h.2.1)
 
-pub step-step-requires : goal.step-step-requires
-step-step-requires t c =
+pub pass_by-step-requires : goal.pass_by-step-requires
+pass_by-step-requires t c =
     let s = c.args.state.now in
-    let h = subst (IsChoice c.args.state.now) c.in-Absent.is c.in_ok-choice.ensures in
-    let at = c.in_ok-at-in-Absent.at in
-    let number = c.in-Absent.number in
-    let ts = c.in-Absent.terms in
-    let left_is = c.as_slice-in-Absent.ensures ∙ c.in_ok-left-in-Absent.ensures in
-    let told = c.in_ok-at-in-Absent.ensures.at ts c.in_ok-node-in-Absent.ensures h.4
-    (absent_refutes s number h.0 at.candidate.now ts h.1.0 c.in_ok-at-in-Absent.ensures.candidate h.3) in (
+    let ts = c.requires.absent.0 in
+    let node_is = c.requires.absent.1 in
+    let h = c.requires.absent.2 in
+    let at = c.in_ok-at.at in
+    let number = c.args.number in
+    let left_is = c.as_slice.ensures ∙ c.in_ok-left.ensures in
+    let told = c.in_ok-at.ensures.at ts node_is h.4
+    (absent_refutes s number h.0 at.candidate.now ts h.1.0 c.in_ok-at.ensures.candidate h.3) in (
       omega (arith, ap length left_is, others_fewer number s.left.now h.1.1),
-      after_absent s c.args.room.now number h.0 at _ c.as_slice-in-Absent.result.now _ c.requires.path h.1
-          c.in_ok-at-in-Absent.ensures.candidate told
-          (c.in_ok-at-in-Absent.ensures.node ∙ c.in_ok-node-in-Absent.ensures) (seen_without _ _) left_is,
+      after_absent s c.args.room.now number h.0 at _ c.as_slice.result.now _ c.requires.path h.1
+          c.in_ok-at.ensures.candidate told (c.in_ok-at.ensures.node ∙ node_is) (seen_without _ _) left_is,
     )
 
 -- A candidate that is taken
@@ -363,46 +377,102 @@ compare_on-compare_on-requires t c =
 
 -- A Test
 
-pub test-branch-first-requires : goal.test-branch-first-requires
-test-branch-first-requires t c =
-    let h = c.requires.sides in
-    let side = side_above c.args.state.now c.args.room.now c.take.new.room h.0 c.args.form.now c.args.first
-    c.args.second c.in_ok-above.above h.1 h.2 c.in_ok-take.ensures.node
-    (c.in_ok-above.ensures ∙ ap (with_form c.args.state.now.context.now) c.copy.ensures) in
-    (omega (arith, c.in_ok-take.ensures.node), (h.0, side.0, side.1))
-
-pub test-opposite-requires : goal.test-opposite-requires
-test-opposite-requires t c = let h = c.requires.sides
-    in farther (2 ^ 49 + 1) (2 ^ 60) c.args.form.now (omega arith) h.2.within
-
-pub test-branch-second-requires : goal.test-branch-second-requires
-test-branch-second-requires t c =
-    let h = c.requires.sides in
-    let side = side_below c.args.state.now c.args.room.now c.branch-first.new.room h.0 c.args.form.now c.opposite.result
-    c.args.first c.args.second c.in_ok-below.below h.1 h.2
-    (omega (arith, c.in_ok-take.ensures.node, c.branch-first.ensures.room)) c.opposite.ensures c.in_ok-below.ensures in
-    (omega (arith, c.in_ok-take.ensures.node, c.branch-first.ensures.room), (h.0, side.0, side.1))
-
-pub test-returns-clause-tree : goal.test-returns-clause-tree
-test-returns-clause-tree t c =
+pub test-both-requires : goal.test-both-requires
+test-both-requires t c =
     let s = c.args.state.now in
     let h = c.requires.sides in
-    joined_test s.read.now s.context.now c.in_ok-above.above c.in_ok-below.below c.args.form.now c.opposite.result
-    c.in_ok-test.field-0 c.in_ok-yes.yes c.in_ok-no.no
-    (c.in_ok-test.ensures ∙ ap (λ form. Test form c.in_ok-yes.yes c.in_ok-no.no) c.copy-2.ensures) h.2.over h.2.within
-    c.opposite.ensures (c.in_ok-above.ensures ∙ ap (with_form c.args.state.now.context.now) c.copy.ensures)
-    c.in_ok-below.ensures c.in_ok-yes.ensures.tree c.in_ok-no.ensures.tree
+    let one = subst (λ r. OnOk r (c.args.room.now ≡ c.take_test.new.room + 1)) c.in-Ok.is c.take_test.ensures.node in
+    (omega (arith, one), (h.0, subst (λ n. IsPath s n (Some h.0)) one h.1, h.2))
+
+pub both-side-requires : goal.both-side-requires
+both-side-requires t c =
+    let s = c.args.state.now in
+    let h = c.requires.sides in
+    let side = side_above s (c.args.room.now + 1) c.args.room.now h.0 c.args.form.now c.args.first c.args.second
+    (with_form s.context.now c.copy.result) h.1 h.2 refl (ap (with_form s.context.now) c.copy.ensures) in
+    (omega arith, (h.0, side.0, side.1))
+
+pub both-test_below-requires : goal.both-test_below-requires
+both-test_below-requires t c =
+    let s = c.args.state.now in
+    let h = c.requires.sides in
+    let yes = c.in-Ok.yes in
+    let tree = subst (λ r. IfOk r (IsJoinedTree s.read.now (with_form s.context.now c.copy.result))) c.in-Ok.is
+    c.side.ensures.tree in (
+      omega (arith, c.side.ensures.room),
+      (
+        (
+          h.0,
+          path_less s.read.now s.candidates.now s.context.now (option_copied s.best) (sightings_of s.seen.now)
+              s.left.now (c.args.room.now + 1) (c.side.new.room + 1) (Some h.0) (omega (arith, c.side.ensures.room)) h.1,
+          (c.args.first, h.2),
+        ),
+        subst (λ form. IsJoinedTree s.read.now (with_form s.context.now form) yes) c.copy.ensures tree,
+      ),
+    )
+
+pub test_below-opposite-requires : goal.test_below-opposite-requires
+test_below-opposite-requires t c = let h = c.requires.side
+    in farther (2 ^ 49 + 1) (2 ^ 60) c.args.form.now (omega arith) h.2.1.within
+
+pub test_below-side-requires : goal.test_below-side-requires
+test_below-side-requires t c =
+    let s = c.args.state.now in
+    let h = c.requires.side in
+    let side = side_below s (c.args.room.now + 1) c.args.room.now h.0 c.args.form.now c.opposite.result h.2.0
+    c.args.second (with_form s.context.now c.opposite.result) h.1 h.2.1 (omega arith) c.opposite.ensures refl in
+    (omega arith, (h.0, side.0, side.1))
+
+pub test_below-returns-in-Ok-clause-tree : goal.test_below-returns-in-Ok-clause-tree
+test_below-returns-in-Ok-clause-tree t c =
+    let s = c.args.state.now in
+    let r = s.read.now in
+    let form = c.args.form.now in
+    let other = c.opposite.result in
+    let sides = c.requires.side.2.1 in
+    let no = subst (λ r. IfOk r (IsJoinedTree s.read.now (with_form s.context.now other))) c.in-Ok.is
+    c.side.ensures.tree in
+    IfOk-weaker c.joined.result _ _
+    (λ tree is. joined_test r s.context.now (with_form s.context.now form) (with_form s.context.now other) form other
+    tree c.args.yes c.in-Ok.no is sides.over sides.within c.opposite.ensures refl refl c.requires.yes no) c.joined.ensures
 
 -- One side
+
+pub side-branch-tree-requires : goal.side-branch-tree-requires
+side-branch-tree-requires t c =
+    let s = c.args.state.now in
+    let h = c.requires.next in
+    let longer = with_form s.context.now c.args.row in
+    let is = subst (λ r. IfOk r (λ more. more ≡ longer)) c.in-Ok.is c.with_row.ensures in (
+      omega arith,
+      (
+        h.0,
+        subst (λ context. IsPathOf s.read.now s.candidates.now context (option_copied s.best)
+            (sightings_of s.seen.now) s.left.now c.args.room.now (Some h.0)) (sym is) h.1,
+        subst (λ context. IsNext s.read.now (option_copied s.best) context h.0 c.args.next) (sym is) h.2,
+      ),
+    )
+
+pub side-returns-in-Ok-clause-tree : goal.side-returns-in-Ok-clause-tree
+side-returns-in-Ok-clause-tree t c =
+    let s = c.args.state.now in
+    let longer = with_form s.context.now c.args.row in
+    let is = subst (λ r. IfOk r (λ more. more ≡ longer)) c.in-Ok.is c.with_row.ensures in
+    subst (λ context. IfOk c.branch-tree.result (IsJoinedTree s.read.now context)) is c.branch-tree.ensures.tree
 
 pub branch-dead_leaf-requires : goal.branch-dead_leaf-requires
 branch-dead_leaf-requires t c =
     let h = c.requires.next
     in path_context c.args.state.now.read.now c.args.state.now.context.now c.args.room.now h.1.read h.1.context_is
 
-pub branch-returns-in-Some-clause-tree : goal.branch-returns-in-Some-clause-tree
-branch-returns-in-Some-clause-tree t c =
+-- what is told of a Dead leaf
+abbrev IsDead : System → Tree → Type 0
+IsDead context tree = (r : Read) → IsJoinedTree r context tree
+
+pub branch-returns-in-Ok-Some-clause-tree : goal.branch-returns-in-Ok-Some-clause-tree
+branch-returns-in-Ok-Some-clause-tree t c =
     let s = c.args.state.now in
-    let told = subst
-    (λ o. IfSome o (λ tree. (r : Read) → IsJoinedTree r s.context.now tree)) c.in-Some.is c.in_ok-found.ensures in
-    told s.read.now
+    let some = subst (λ r. IfOk r (λ leaf. IfSome leaf (IsDead s.context.now))) c.in-Ok-Some.is c.dead_leaf.ensures in
+    let told = subst (λ leaf. IfSome leaf (IsDead s.context.now)) c.in-Ok-Some.field-0-is some in
+    IfOk-weaker c.counted.result _ _
+    (λ tree is. subst (IsJoinedTree s.read.now s.context.now) (sym is) (told s.read.now)) c.counted.ensures.tree

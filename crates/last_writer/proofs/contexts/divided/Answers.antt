@@ -10,8 +10,8 @@ use Rattle.last_writer.proofs.Answering.{form_within, made_below, quotients_over
 use Rattle.last_writer.proofs.Answering.{exact_product, two_rows}
 use Rattle.last_writer.proofs.contexts.divided.Goals as goal
 
-pub difference-requires-clause-over : goal.difference-requires-clause-over
-difference-requires-clause-over c =
+pub difference-first-requires-clause-over : goal.difference-first-requires-clause-over
+difference-first-requires-clause-over c =
     let t = c.requires.test in
     let q = c.args.context.now.vars in
     let d = c.args.test.now in
@@ -21,24 +21,24 @@ difference-requires-clause-over c =
     let are = c.multiple-quotients.ensures q refl ∙ exact_product q d.divisor t.1.small in
     form_over q t.0 d t.1 t.2 form quotients is are ∙ sym (quotients_over q t.0 d t.1 t.2 form quotients is are)
 
-pub difference-requires-clause-first : goal.difference-requires-clause-first
-difference-requires-clause-first c =
+pub difference-first-requires-clause-first : goal.difference-first-requires-clause-first
+difference-first-requires-clause-first c =
     let t = c.requires.test in
     farther (2 ^ 33) (2 ^ 60) c.widened-form.result (omega arith)
     (form_within c.args.context.now.vars t.0 c.args.test.now t.1 t.2 c.widened-form.result c.multiple-quotients.result
     c.widened-form.ensures.form (c.multiple-quotients.ensures c.args.context.now.vars refl
     ∙ exact_product c.args.context.now.vars c.args.test.now.divisor t.1.small))
 
-pub difference-requires-clause-second : goal.difference-requires-clause-second
-difference-requires-clause-second c =
+pub difference-first-requires-clause-second : goal.difference-first-requires-clause-second
+difference-first-requires-clause-second c =
     let t = c.requires.test in
     farther (2 ^ 32) (2 ^ 60) c.multiple-quotients.result (omega arith)
     (quotients_within c.args.context.now.vars t.0 c.args.test.now t.1 t.2 c.widened-form.result
     c.multiple-quotients.result c.widened-form.ensures.form (c.multiple-quotients.ensures c.args.context.now.vars refl
     ∙ exact_product c.args.context.now.vars c.args.test.now.divisor t.1.small))
 
-pub difference-requires-2-clause-over : goal.difference-requires-2-clause-over
-difference-requires-2-clause-over c =
+pub difference-second-requires-clause-over : goal.difference-second-requires-clause-over
+difference-second-requires-clause-over c =
     let t = c.requires.test in
     let q = c.args.context.now.vars in
     let d = c.args.test.now in
@@ -48,16 +48,16 @@ difference-requires-2-clause-over c =
     let are = c.multiple-quotients.ensures q refl ∙ exact_product q d.divisor t.1.small in
     quotients_over q t.0 d t.1 t.2 form quotients is are ∙ sym (form_over q t.0 d t.1 t.2 form quotients is are)
 
-pub difference-requires-2-clause-first : goal.difference-requires-2-clause-first
-difference-requires-2-clause-first c =
+pub difference-second-requires-clause-first : goal.difference-second-requires-clause-first
+difference-second-requires-clause-first c =
     let t = c.requires.test in
     farther (2 ^ 32) (2 ^ 60) c.multiple-quotients.result (omega arith)
     (quotients_within c.args.context.now.vars t.0 c.args.test.now t.1 t.2 c.widened-form.result
     c.multiple-quotients.result c.widened-form.ensures.form (c.multiple-quotients.ensures c.args.context.now.vars refl
     ∙ exact_product c.args.context.now.vars c.args.test.now.divisor t.1.small))
 
-pub difference-requires-2-clause-second : goal.difference-requires-2-clause-second
-difference-requires-2-clause-second c =
+pub difference-second-requires-clause-second : goal.difference-second-requires-clause-second
+difference-second-requires-clause-second c =
     let t = c.requires.test in
     farther (2 ^ 33) (2 ^ 60) c.widened-form.result (omega arith)
     (form_within c.args.context.now.vars t.0 c.args.test.now t.1 t.2 c.widened-form.result c.multiple-quotients.result
@@ -81,11 +81,10 @@ returns-clause-made c cx h =
     (minus (multiple d.divisor q) (Take (widened_form q d.form))) first second
     (above_is q t.0 d t.1 t.2 form quotients is are)
     (below_is q t.0 d t.1 t.2 form quotients is are) in
-    made_below context (record { vars = q + 1; rows = c.push-2.new.self }) cx
+    made_below context (record { vars = q + 1; rows = c.in_ok-rows.rows }) cx
     (divided_rows cx.vars (widened_form cx.vars d.form) d.divisor) first second h refl
-    (rows_pushed c.push-2.new.self c.push.new.self c.in_ok-rows.rows (map (widened_form (q + 1)) context.rows)
-    c.difference.result c.difference-2.result first second c.in_ok-push-2.ensures.ok c.in_ok-push.ensures.ok
-    c.in_ok-rows.ensures c.difference.ensures c.difference-2.ensures)
+    (rows_pushed c.in_ok-rows.rows (map (widened_form (q + 1)) context.rows) c.difference-first.result
+    c.difference-second.result first second c.in_ok-rows.ensures c.difference-first.ensures c.difference-second.ensures)
     (subst (λ v. row_forms (q + 1) (divided_rows v (widened_form v d.form) d.divisor) ≡ Some (first ∷ second ∷ []))
     (sym h.vars) made)
 
@@ -101,9 +100,8 @@ returns-clause-rows c =
     let are = c.multiple-quotients.ensures q refl ∙ exact_product q d.divisor t.1.small in
     let first = form_sum form (form_product (negsuc 0) quotients) in
     let second = form_sum quotients (form_product (negsuc 0) form) in
-    small_below context (record { vars = q + 1; rows = c.push-2.new.self }) first second c.requires.rows refl
-    (rows_pushed c.push-2.new.self c.push.new.self c.in_ok-rows.rows (map (widened_form (q + 1)) context.rows)
-    c.difference.result c.difference-2.result first second c.in_ok-push-2.ensures.ok c.in_ok-push.ensures.ok
-    c.in_ok-rows.ensures c.difference.ensures c.difference-2.ensures)
+    small_below context (record { vars = q + 1; rows = c.in_ok-rows.rows }) first second c.requires.rows refl
+    (rows_pushed c.in_ok-rows.rows (map (widened_form (q + 1)) context.rows) c.difference-first.result
+    c.difference-second.result first second c.in_ok-rows.ensures c.difference-first.ensures c.difference-second.ensures)
     (above_over q t.0 d t.1 t.2 form quotients is are) (below_over q t.0 d t.1 t.2 form quotients is are)
     (above_within q t.0 d t.1 t.2 form quotients is are) (below_within q t.0 d t.1 t.2 form quotients is are)

@@ -11,8 +11,8 @@ use Rattle.last_writer.proofs.Answering.{made_below, quotients_over, quotients_w
 use Rattle.last_writer.proofs.Answering.{exact_product, last_raised, raised_form, strict_within, two_rows}
 use Rattle.last_writer.proofs.contexts.undivided.Goals as goal
 
-pub difference-requires-clause-over : goal.difference-requires-clause-over
-difference-requires-clause-over c =
+pub difference-above-requires-clause-over : goal.difference-above-requires-clause-over
+difference-above-requires-clause-over c =
     let t = c.requires.test in
     let q = c.args.context.now.vars in
     let d = c.args.test.now in
@@ -22,16 +22,16 @@ difference-requires-clause-over c =
     let are = c.multiple-quotients.ensures q refl ∙ exact_product q d.divisor t.1.small in
     form_over q t.0 d t.1 t.2 form quotients is are ∙ sym (quotients_over q t.0 d t.1 t.2 form quotients is are)
 
-pub difference-requires-clause-first : goal.difference-requires-clause-first
-difference-requires-clause-first c =
+pub difference-above-requires-clause-first : goal.difference-above-requires-clause-first
+difference-above-requires-clause-first c =
     let t = c.requires.test in
     farther (2 ^ 33) (2 ^ 60) c.widened-form.result (omega arith)
     (form_within c.args.context.now.vars t.0 c.args.test.now t.1 t.2 c.widened-form.result c.multiple-quotients.result
     c.widened-form.ensures.form (c.multiple-quotients.ensures c.args.context.now.vars refl
     ∙ exact_product c.args.context.now.vars c.args.test.now.divisor t.1.small))
 
-pub difference-requires-clause-second : goal.difference-requires-clause-second
-difference-requires-clause-second c =
+pub difference-above-requires-clause-second : goal.difference-above-requires-clause-second
+difference-above-requires-clause-second c =
     let t = c.requires.test in
     farther (2 ^ 32) (2 ^ 60) c.multiple-quotients.result (omega arith)
     (quotients_within c.args.context.now.vars t.0 c.args.test.now t.1 t.2 c.widened-form.result
@@ -50,8 +50,8 @@ raised-last-requires-clause-small c =
     let are = c.multiple-quotients.ensures q refl ∙ exact_product q d.divisor t.1.small in
     farther (2 ^ 32) (2 ^ 60) quotients (omega arith) (quotients_within q t.0 d t.1 t.2 form quotients is are)
 
-pub raised-requires-clause-small : goal.raised-requires-clause-small
-raised-requires-clause-small c =
+pub raised-first-requires-clause-small : goal.raised-first-requires-clause-small
+raised-first-requires-clause-small c =
     let t = c.requires.test in
     let context = c.args.context.now in
     let q = context.vars in
@@ -60,11 +60,11 @@ raised-requires-clause-small c =
     let quotients = c.multiple-quotients.result in
     let is = c.widened-form.ensures.form in
     let are = c.multiple-quotients.ensures q refl ∙ exact_product q d.divisor t.1.small in
-    subst (IsWithin (2 ^ 60)) (sym c.difference.ensures)
+    subst (IsWithin (2 ^ 60)) (sym c.difference-above.ensures)
     (farther (2 ^ 41) (2 ^ 60) _ (omega arith) (above_within q t.0 d t.1 t.2 form quotients is are))
 
-pub difference-requires-2-clause-over : goal.difference-requires-2-clause-over
-difference-requires-2-clause-over c =
+pub difference-second-requires-clause-over : goal.difference-second-requires-clause-over
+difference-second-requires-clause-over c =
     let t = c.requires.test in
     let context = c.args.context.now in
     let q = context.vars in
@@ -78,8 +78,8 @@ difference-requires-2-clause-over c =
     ∙ quotients_over q t.0 d t.1 t.2 form quotients is are
     ∙ sym (form_over q t.0 d t.1 t.2 form quotients is are)
 
-pub difference-requires-2-clause-first : goal.difference-requires-2-clause-first
-difference-requires-2-clause-first c =
+pub difference-second-requires-clause-first : goal.difference-second-requires-clause-first
+difference-second-requires-clause-first c =
     let t = c.requires.test in
     let context = c.args.context.now in
     let q = context.vars in
@@ -92,8 +92,8 @@ difference-requires-2-clause-first c =
     (sym (c.raised-last.ensures ∙ last_raised d.divisor quotients t.1.small))
     (farther (2 ^ 34) (2 ^ 60) _ (omega arith) (last_own q t.0 d t.1 t.2 form quotients is are))
 
-pub difference-requires-2-clause-second : goal.difference-requires-2-clause-second
-difference-requires-2-clause-second c =
+pub difference-second-requires-clause-second : goal.difference-second-requires-clause-second
+difference-second-requires-clause-second c =
     let t = c.requires.test in
     let context = c.args.context.now in
     let q = context.vars in
@@ -117,7 +117,7 @@ returns-clause-made c cx h =
     let low = form_sum form (form_product (negsuc 0) quotients) in
     let first = raised_form (negsuc 0) low in
     let last = raised_form (d.divisor -ℤ pos 1) quotients in
-    let strict_made : c.raised.result ≡ first = c.raised.ensures ∙ ap (raised_form (negsuc 0)) c.difference.ensures in
+    let strict_made : c.raised-first.result ≡ first = c.raised-first.ensures ∙ ap (raised_form (negsuc 0)) c.difference-above.ensures in
     let last_made : c.raised-last.result ≡ last =
     c.raised-last.ensures ∙ last_raised d.divisor quotients t.1.small in
     let second = form_sum last (form_product (negsuc 0) form) in
@@ -125,12 +125,11 @@ returns-clause-made c cx h =
     = two_rows (q + 1) (one_less (minus (Take (widened_form q d.form)) (multiple d.divisor q)))
     (minus (one_less (Plus (multiple d.divisor q) (number d.divisor))) (Take (widened_form q d.form))) first second
     (strict_is q t.0 d t.1 t.2 form quotients is are) (last_is q t.0 d t.1 t.2 form quotients is are) in
-    made_below context (record { vars = q + 1; rows = c.push-2.new.self }) cx
+    made_below context (record { vars = q + 1; rows = c.in_ok-rows.rows }) cx
     (undivided_rows cx.vars (widened_form cx.vars d.form) d.divisor) first second h refl
-    (rows_pushed c.push-2.new.self c.push.new.self c.in_ok-rows.rows (map (widened_form (q + 1)) context.rows)
-    c.raised.result c.difference-3.result first second c.in_ok-push-2.ensures.ok c.in_ok-push.ensures.ok
-    c.in_ok-rows.ensures strict_made
-    (c.difference-3.ensures ∙ ap (λ f. form_sum f (form_product (negsuc 0) form)) last_made))
+    (rows_pushed c.in_ok-rows.rows (map (widened_form (q + 1)) context.rows) c.raised-first.result
+    c.difference-second.result first second c.in_ok-rows.ensures strict_made
+    (c.difference-second.ensures ∙ ap (λ f. form_sum f (form_product (negsuc 0) form)) last_made))
     (subst (λ v. row_forms (q + 1) (undivided_rows v (widened_form v d.form) d.divisor) ≡ Some (first ∷ second ∷ []))
     (sym h.vars) made)
 
@@ -147,14 +146,13 @@ returns-clause-rows c =
     let low = form_sum form (form_product (negsuc 0) quotients) in
     let first = raised_form (negsuc 0) low in
     let last = raised_form (d.divisor -ℤ pos 1) quotients in
-    let strict_made : c.raised.result ≡ first = c.raised.ensures ∙ ap (raised_form (negsuc 0)) c.difference.ensures in
+    let strict_made : c.raised-first.result ≡ first = c.raised-first.ensures ∙ ap (raised_form (negsuc 0)) c.difference-above.ensures in
     let last_made : c.raised-last.result ≡ last =
     c.raised-last.ensures ∙ last_raised d.divisor quotients t.1.small in
     let second = form_sum last (form_product (negsuc 0) form) in
-    small_below context (record { vars = q + 1; rows = c.push-2.new.self }) first second c.requires.rows refl
-    (rows_pushed c.push-2.new.self c.push.new.self c.in_ok-rows.rows (map (widened_form (q + 1)) context.rows)
-    c.raised.result c.difference-3.result first second c.in_ok-push-2.ensures.ok c.in_ok-push.ensures.ok
-    c.in_ok-rows.ensures strict_made
-    (c.difference-3.ensures ∙ ap (λ f. form_sum f (form_product (negsuc 0) form)) last_made))
+    small_below context (record { vars = q + 1; rows = c.in_ok-rows.rows }) first second c.requires.rows refl
+    (rows_pushed c.in_ok-rows.rows (map (widened_form (q + 1)) context.rows) c.raised-first.result
+    c.difference-second.result first second c.in_ok-rows.ensures strict_made
+    (c.difference-second.ensures ∙ ap (λ f. form_sum f (form_product (negsuc 0) form)) last_made))
     (above_over q t.0 d t.1 t.2 form quotients is are) (last_over q t.0 d t.1 t.2 form quotients is are)
     (strict_within q t.0 d t.1 t.2 form quotients is are) (last_within q t.0 d t.1 t.2 form quotients is are)

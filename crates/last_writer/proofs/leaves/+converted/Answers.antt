@@ -25,8 +25,8 @@ converted-requires t c =
       ),
     )
 
-pub converted-requires-in-Test : goal.converted-requires-in-Test
-converted-requires-in-Test t c =
+pub converted-requires-in-Ok : goal.converted-requires-in-Ok
+converted-requires-in-Ok t c =
     let w = c.args.w.now in
     let here = c.args.here in (
       search (rules, the_lemmas),
@@ -34,14 +34,14 @@ converted-requires-in-Test t c =
         c.requires.answered,
         (
           omega (arith, c.if-here-ge-ROWS.false),
-          subst (IsJoinedBelow w (here + 1)) (sym c.into_inner-in-Test.ensures)
+          subst (IsJoinedBelow w (here + 1)) (sym c.into_inner-in-Ok.ensures)
               (test_joined w here c.args.tree c.in-Test.form c.in-Test.yes c.in-Test.no c.requires.tree c.in-Test.is).1,
         ),
       ),
     )
 
-pub writer_proofs-requires-clause-point : goal.writer_proofs-requires-clause-point
-writer_proofs-requires-clause-point t c =
+pub writer_proofs-own-requires-clause-point : goal.writer_proofs-own-requires-clause-point
+writer_proofs-own-requires-clause-point t c =
     let w = c.args.w.now in
     let h = c.requires.tree in (
       h.0,
@@ -51,39 +51,38 @@ writer_proofs-requires-clause-point t c =
           (joined_point w h.0 c.args.tree c.in-Writer.number c.in-Writer.place c.in-Writer.proofs h.2 c.in-Writer.is),
     )
 
-pub zero_proofs-requires-clause-sums : goal.zero_proofs-requires-clause-sums
-zero_proofs-requires-clause-sums t c =
+pub zero_proofs-own-requires-clause-sums : goal.zero_proofs-own-requires-clause-sums
+zero_proofs-own-requires-clause-sums t c =
     let h = c.requires.tree in
     subst (All IsSum) (sym c.as_slice-in-Zero.ensures)
     (joined_zero (pairs_of c.args.w.now) h.0 c.args.tree c.in-Zero.proofs h.2 c.in-Zero.is).1
 
-pub returns-in_ok-test-in-Test : goal.returns-in_ok-test-in-Test
-returns-in_ok-test-in-Test t c =
+pub returns-in_ok-test-in-Ok-converted : goal.returns-in_ok-test-in-Ok-converted
+returns-in_ok-test-in-Ok-converted t c =
     let w = c.args.w.now in
     let here = c.args.here in
-    test_converts w here c.args.tree c.in_ok-test-in-Test.field-0 c.in-Test.form c.in-Test.yes c.in-Test.no
-    c.in_ok-above-in-Test.above c.in_ok-below-in-Test.below c.in-Test.is c.in_ok-test-in-Test.ensures
-    (subst (λ tree. Converts w (here + 1) tree c.in_ok-above-in-Test.above) c.into_inner.ensures
-    c.in_ok-above-in-Test.ensures)
-    (subst (λ tree. Converts w (here + 1) tree c.in_ok-below-in-Test.below) c.into_inner-in-Test.ensures
-    c.in_ok-below-in-Test.ensures)
+    test_converts w here c.args.tree c.in_ok-test-in-Ok-converted.field-0 c.in-Test.form c.in-Test.yes c.in-Test.no
+    c.in-Ok.above c.in-Ok-converted.below c.in-Test.is c.in_ok-test-in-Ok-converted.ensures
+    (subst (λ tree. Converts w (here + 1) tree c.in-Ok.above) c.into_inner.ensures (rw c.in-Ok.is at c.converted.ensures))
+    (subst (λ tree. Converts w (here + 1) tree c.in-Ok-converted.below) c.into_inner-in-Ok.ensures
+    (rw c.in-Ok-converted.is at c.converted-in-Ok.ensures))
 
-pub returns-in_ok-own-in-Writer : goal.returns-in_ok-own-in-Writer
-returns-in_ok-own-in-Writer t c =
+pub returns-in-Ok-own : goal.returns-in-Ok-own
+returns-in-Ok-own t c =
     let w = c.args.w.now in
     let number = c.in-Writer.number in
     let place = c.in-Writer.place in
-    let own = c.in_ok-own-in-Writer.own in
+    let own = c.in-Ok-own.own in
+    let made = rw c.in-Ok-own.is at c.writer_proofs-own.ensures in
     point_converts w c.args.here c.args.tree (Writer number place own) number place c.in-Writer.proofs own c.in-Writer.is
-    refl (λ cx pl below j. c.in_ok-own-in-Writer.ensures cx pl below
-    (subst (IsJoinedPoint w cx number pl) (sym c.as_slice.ensures) j))
+    refl (λ cx pl below j. made cx pl below (subst (IsJoinedPoint w cx number pl) (sym c.as_slice.ensures) j))
 
-pub returns-in_ok-zero_proofs-in-Zero : goal.returns-in_ok-zero_proofs-in-Zero
-returns-in_ok-zero_proofs-in-Zero t c =
+pub returns-in_ok-own-in-Zero : goal.returns-in_ok-own-in-Zero
+returns-in_ok-own-in-Zero t c =
     let w = c.args.w.now in
-    let own = c.in_ok-zero_proofs-in-Zero.field-0 in
+    let own = c.in_ok-own-in-Zero.field-0 in
     zero_converts w c.args.here c.args.tree (Zero own) c.in-Zero.proofs own c.in-Zero.is refl
-    (λ cx below refuted. c.in_ok-zero_proofs-in-Zero.ensures cx below
+    (λ cx below refuted. c.in_ok-own-in-Zero.ensures cx below
     (subst (AreRefuted (write_systems_of (pairs_of w) cx no_orders)) (sym c.as_slice-in-Zero.ensures) refuted))
 
 pub returns-in-Dead : goal.returns-in-Dead

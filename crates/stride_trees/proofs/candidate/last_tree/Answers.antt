@@ -28,16 +28,16 @@ overflow_cast-count c =
       (fitting_of s c.requires.strided).few_reader_rows,
     )
 
-pub converted_tree-requires-clause-places : goal.converted_tree-requires-clause-places
-converted_tree-requires-clause-places c =
+pub converted_tree-own-requires-clause-places : goal.converted_tree-own-requires-clause-places
+converted_tree-own-requires-clause-places c =
     subst (All (λ i. i < 6))
     (sym (c.as_slice-places.ensures ∙ c.in_ok-push_range.ensures
     ∙ ap (λ xs. xs ++ range_with_len 0 (length c.args.divisions.now)) c.new-found.ensures
     ∙ ap (λ ds. range_with_len 0 (length ds)) c.requires.tests))
     (places_small c.args.s.now c.requires.strided)
 
-pub converted_tree-requires-clause-checked : goal.converted_tree-requires-clause-checked
-converted_tree-requires-clause-checked c =
+pub converted_tree-own-requires-clause-checked : goal.converted_tree-own-requires-clause-checked
+converted_tree-own-requires-clause-checked c =
     let s = c.args.s.now in
     let t = c.in_ok-tree.ensures in
     last_asked s c.requires.strided t.w c.in_ok-context.context c.in_ok-tree.tree c.in_ok-context.context.vars
@@ -47,8 +47,8 @@ converted_tree-requires-clause-checked c =
     ∙ ap (λ ds. range_with_len 0 (length ds)) c.requires.tests)
     t.read t.write t.level t.answer c.len-count.ensures
 
-pub converted_tree-requires-clause-simple : goal.converted_tree-requires-clause-simple
-converted_tree-requires-clause-simple c =
+pub converted_tree-own-requires-clause-simple : goal.converted_tree-own-requires-clause-simple
+converted_tree-own-requires-clause-simple c =
     let s = c.args.s.now in (
       3584,
       omega (
@@ -64,11 +64,11 @@ converted_tree-requires-clause-simple c =
 pub returns : goal.returns
 returns c =
     let s = c.args.s.now in
-    IfOk-weaker c.converted_tree.result _ _
+    IfOk-weaker c.converted_tree-own.result _ _
     (λ own h. last_made s c.requires.strided c.in_ok-context.context c.in_ok-tree.tree own c.len-count.result
     c.as_slice-places.result.now c.in_ok-context.ensures
     (c.as_slice-places.ensures ∙ c.in_ok-push_range.ensures
     ∙ ap (λ xs. xs ++ range_with_len 0 (length c.args.divisions.now)) c.new-found.ensures
     ∙ ap (λ ds. range_with_len 0 (length ds)) c.requires.tests)
     c.len-count.ensures c.in_ok-tree.ensures h)
-    c.converted_tree.ensures
+    c.converted_tree-own.ensures

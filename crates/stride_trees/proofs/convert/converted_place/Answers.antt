@@ -56,13 +56,13 @@ returns-clause-refuted c =
     placed_refuted c.args.s.now c.requires.strided c.args.places.now c.args.here c.args.told.now c.as_slice-rows.result.now
     c.as_slice-writes.result.now c.front-first.result.now c.back-second.result.now c.len-root.result c.new-proofs.result
     c.push_outside.new.proofs c.push_cells.new.proofs c.as_slice-rows.ensures c.as_slice-writes.ensures c.front-first.ensures
-    c.back-second.ensures c.len-root.ensures c.new-proofs.ensures c.requires.count c.in_ok-push_outside.ensures
-    c.in_ok-push_cells.ensures
+    c.back-second.ensures c.len-root.ensures c.new-proofs.ensures c.requires.count (rw c.in-Ok.is at c.push_outside.ensures)
+    (rw c.in-Ok-push_cells.is at c.push_cells.ensures)
 
 pub returns-clause-cuts : goal.returns-clause-cuts
 returns-clause-cuts c =
     placed_cuts c.args.s.now c.requires.strided c.args.places.now c.args.here c.args.told.now c.as_slice-rows.result.now
     c.as_slice-writes.result.now c.front-first.result.now c.back-second.result.now c.len-root.result c.new-proofs.result
     c.push_outside.new.proofs c.push_cells.new.proofs c.as_slice-rows.ensures c.as_slice-writes.ensures c.front-first.ensures
-    c.back-second.ensures c.len-root.ensures c.new-proofs.ensures c.requires.count c.in_ok-push_outside.ensures
-    c.in_ok-push_cells.ensures
+    c.back-second.ensures c.len-root.ensures c.new-proofs.ensures c.requires.count (rw c.in-Ok.is at c.push_outside.ensures)
+    (rw c.in-Ok-push_cells.is at c.push_cells.ensures)

@@ -60,15 +60,15 @@ converted_tree-requires-in-Test t c =
       ),
     )
 
-pub returns-in_ok-below-in-Test : goal.returns-in_ok-below-in-Test
-returns-in_ok-below-in-Test t c =
+pub returns-in-Ok : goal.returns-in-Ok
+returns-in-Ok t c =
     let s = c.args.s.now in
     let m = c.requires.simple in
     IfOk-weaker c.test.result _ _
     (λ own is. test_made s c.args.places.now c.args.here c.args.tree.now c.in-Test.form c.copy.result c.in-Test.yes
-    c.in-Test.no c.in_ok-above-in-Test.above c.in_ok-below-in-Test.below own m.0 c.in-Test.is c.copy.ensures
+    c.in-Test.no c.in_ok-above-in-Test.above c.in-Ok.below own m.0 c.in-Test.is c.copy.ensures
     (subst (λ told. IsConvertedTree s c.args.places.now (c.args.here + 1) told c.in_ok-above-in-Test.above) c.get.ensures
     c.in_ok-above-in-Test.ensures)
-    (subst (λ told. IsConvertedTree s c.args.places.now (c.args.here + 1) told c.in_ok-below-in-Test.below) c.get-in-Test.ensures
-    c.in_ok-below-in-Test.ensures) is m.2)
+    (subst (λ told. IsConvertedTree s c.args.places.now (c.args.here + 1) told c.in-Ok.below) c.get-in-Test.ensures
+    (rw c.in-Ok.is at c.converted_tree-in-Test.ensures)) is m.2)
     c.test.ensures

@@ -22,8 +22,8 @@ writer_proofs-requires-clause-told c =
     c.requires.checked.2 refl in
     (cx, c.args.place.now, c.requires.checked.1, k.deep, k.refuted)
 
-pub returns : goal.returns
-returns c =
+pub returns-in-Ok : goal.returns-in-Ok
+returns-in-Ok c =
     writer_converted c.args.s.now c.args.places.now c.args.here c.args.statement c.args.place.now c.push_forms.new.out
     c.args.told.now c.in_ok-proofs.proofs (Writer c.args.statement c.push_forms.new.out c.in_ok-proofs.proofs)
-    (c.in_ok-push_forms.ensures ∙ ap (λ xs. xs ++ c.args.place.now) c.new-forms.ensures) refl c.in_ok-proofs.ensures.refuted c.in_ok-proofs.ensures.cuts
+    ((rw c.in-Ok.is at c.push_forms.ensures) ∙ ap (λ xs. xs ++ c.args.place.now) c.new-forms.ensures) refl c.in_ok-proofs.ensures.refuted c.in_ok-proofs.ensures.cuts

@@ -62,8 +62,8 @@ pub widened-form-requires-clause-short : goal.widened-form-requires-clause-short
 widened-form-requires-clause-short t c =
     omega (arith, c.requires.few, (room c.args.s.now c.requires.strided).loops)
 
-pub returns : goal.returns
-returns t c =
+pub returns-in-Ok : goal.returns-in-Ok
+returns-in-Ok t c =
     let s = c.args.s.now in
     let P = IsTestOf s in
     let d = c.in-Some.division.now in
@@ -72,6 +72,6 @@ returns t c =
     let test : P d = All-head P d ds (subst (All P) first c.requires.tests) in
     subst (λ all. IfOk c.divides.result (IsTested s c.args.vars c.args.here all c.args.tree)) (sym first)
     (IfOk-weaker c.divides.result _ _
-    (λ tree is. tested_next s c.args.vars c.args.here d ds c.args.tree c.in_ok-above.above c.in_ok-below.below tree
+    (λ tree is. tested_next s c.args.vars c.args.here d ds c.args.tree c.in_ok-above.above c.in-Ok.below tree
     c.widened-form.result c.requires.strided test c.requires.vars (omega (arith, c.requires.few, ap length first))
-    c.in_ok-above.ensures c.in_ok-below.ensures c.widened-form.ensures.form is) c.divides.ensures)
+    c.in_ok-above.ensures (rw c.in-Ok.is at c.no_leaf.ensures) c.widened-form.ensures.form is) c.divides.ensures)

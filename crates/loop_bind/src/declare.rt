@@ -94,6 +94,34 @@ fn note_array(scope: &Scope, before: u32, after: u32, array: &Named, least: &mut
     }
 }
 
+// An array as it is declared. Each reason that stands in its extents is noted.
+fn array_decl(
+    alloc: Global,
+    kind: Kind,
+    array: &Named,
+    scope: &Scope,
+    least: &mut Option<BindError>,
+) -> Result<ArrayDecl, AllocError>
+    ensures decl { IfOk result (λ decl. decl ≡ record {
+      name = array.now.name.text;
+      kind = kind;
+      extents = extents_of scope.now array.now.extents;
+    }) }
+    ensures least { OnOk result (least.new ≡ least_from least.old
+        (findings_of Place.Extent scope.now array.now.extents)) }
+{
+    let name = Items::from_slice(alloc, array.name.text.as_slice())?;
+    let Ok(extents) = extents(alloc, scope, array.extents.as_slice(), least) else {
+        drop(name);
+        return Err(AllocError);
+    };
+    Ok(ArrayDecl {
+        name,
+        kind,
+        extents,
+    })
+}
+
 fn declare_array(
     alloc: Global,
     kind: Kind,
@@ -106,21 +134,14 @@ fn declare_array(
     let before = table.processes;
     let after = before.checked_add(processes(kind)).ok_or(AllocError)?;
     note_array(&table.scope, before, after, array, &mut table.least);
-    let extents = extents(
-        alloc,
-        &table.scope,
-        array.extents.as_slice(),
-        &mut table.least,
-    )?;
     let number = u32::try_from(table.arrays.len()).or(Err(AllocError))?;
+    let decl = array_decl(alloc, kind, array, &table.scope, &mut table.least)?;
     let what = What::Array(number, array.extents.len());
-    table.scope.add(alloc, array.name.text.as_slice(), what)?;
-    let name = Items::from_slice(alloc, array.name.text.as_slice())?;
-    table.arrays.push(ArrayDecl {
-        name,
-        kind,
-        extents,
-    })?;
+    let Ok(_) = table.scope.add(alloc, array.name.text.as_slice(), what) else {
+        drop(decl);
+        return Err(AllocError);
+    };
+    table.arrays.push(decl)?;
     table.processes = after;
     Ok(())
 }

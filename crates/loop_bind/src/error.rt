@@ -2,6 +2,8 @@ ghost use Rattle.std.specs.Prelude.{◌≡◌};
 ghost use Rattle.loop_bind.specs.Reasons.{place_of, number_of, comes_first, lesser};
 
 use std::alloc::AllocError;
+use std::fmt;
+use std::fmt::{Display, Formatter, Write};
 use thiserror::Error;
 
 /// Why a tree with these values of its parameters is no nest. Each place is that of a token,
@@ -9,47 +11,33 @@ use thiserror::Error;
 #[derive(Clone, Copy, Debug, PartialEq, Eq, Error)]
 pub enum BindError {
     /// The name isn't in scope, or isn't of the kind that its place wants.
-    #[error("token {0}: this name isn't in scope, or not of this kind")]
     UnknownName(u32),
     /// The name is in scope already.
-    #[error("token {0}: this name is in scope already")]
     Duplicate(u32),
     /// The parameter has no value.
-    #[error("token {0}: this parameter has no value")]
     Unbound(u32),
     /// What stands there, where an affine form must stand, is none.
-    #[error("token {0}: an affine form must stand here")]
     NotAffine(u32),
     /// The access has another number of subscripts than its array has extents.
-    #[error("token {0}: the array has another number of extents")]
     WrongCount(u32),
     /// The `else` follows a guard of more than one comparison or of `==`.
-    #[error("token {0}: no `else` follows such a guard")]
     ElseForm(u32),
     /// The 65th process begins there.
-    #[error("token {0}: the 65th process")]
     TooManyProcesses(u32),
     /// The seventh nested loop begins there, or the array has more than 6 extents.
-    #[error("token {0}: more than 6 nested loops or extents")]
     TooDeep(u32),
     /// The ninth access of a right side.
-    #[error("token {0}: the ninth read of a statement")]
     TooManyReads(u32),
     /// The statement has more than 32 rows.
-    #[error("token {0}: the statement has more than 32 rows")]
     TooManyRows(u32),
     /// A number of the affine form there, or the parameter's value, is outside of 2,147,483,647 and
     /// its negative.
-    #[error("token {0}: a number outside of 2147483647 and its negative")]
     Large(u32),
     /// A step above 1 stands there, and the lower bound has more than one form.
-    #[error("token {0}: a loop with this step has one lower bound")]
     StepMax(u32),
     /// A step below 1 stands there.
-    #[error("token {0}: a step below 1")]
     StepRange(u32),
     /// Want of memory.
-    #[error("no memory")]
     Memory,
 }
 
@@ -61,6 +49,35 @@ impl From<AllocError> for BindError {
 
     fn from(_: AllocError) -> BindError {
         BindError::Memory
+    }
+}
+
+// What is wrong there.
+fn message(reason: BindError) -> &'static str {
+    match reason {
+        BindError::UnknownName(_) => "this name isn't in scope, or not of this kind",
+        BindError::Duplicate(_) => "this name is in scope already",
+        BindError::Unbound(_) => "this parameter has no value",
+        BindError::NotAffine(_) => "an affine form must stand here",
+        BindError::WrongCount(_) => "the array has another number of extents",
+        BindError::ElseForm(_) => "no `else` follows such a guard",
+        BindError::TooManyProcesses(_) => "the 65th process",
+        BindError::TooDeep(_) => "more than 6 nested loops or extents",
+        BindError::TooManyReads(_) => "the ninth read of a statement",
+        BindError::TooManyRows(_) => "the statement has more than 32 rows",
+        BindError::Large(_) => "a number outside of 2147483647 and its negative",
+        BindError::StepMax(_) => "a loop with this step has one lower bound",
+        BindError::StepRange(_) => "a step below 1",
+        BindError::Memory => "no memory",
+    }
+}
+
+impl Display for BindError {
+    fn fmt<W: Write>(&self, f: &mut Formatter<W>) -> fmt::Result {
+        match *self {
+            BindError::Memory => f.write_str("no memory"),
+            reason => write!(f, "token {}: {}", place(reason), message(reason)),
+        }
     }
 }
 

@@ -8,6 +8,7 @@ mod context;
 mod declare;
 mod error;
 mod judge;
+mod law;
 mod names;
 mod params;
 mod parts;
@@ -18,6 +19,7 @@ mod terminals;
 mod value;
 
 pub use error::BindError;
+pub use law::adding_is_determined;
 pub use params::Params;
 pub use reading::{Reading, read};
 pub use terminals::{push_sinks, push_sources};

@@ -7,7 +7,7 @@ ghost use Rattle.loop_bind.specs.Names.{with_name};
 ghost use Rattle.loop_bind.specs.Parts.{part_made, parts_made, for_findings, loop_node, loop_made, loop_body, inside_loop, guarded, assign_made, assign_statement, target_findings, else_made, new_name_findings, same_name_findings, nothing, array_number};
 ghost use Rattle.loop_bind.specs.Ranges.{has_small_forms};
 ghost use Rattle.loop_bind.specs.Reasons.{least_from};
-ghost use Rattle.loop_bind.specs.Bounds.{loop_bounds};
+ghost use Rattle.loop_bind.specs.Bounds.{loop_bounds, lower_of, upper_of};
 ghost use Rattle.loop_bind.specs.Values.{valued};
 
 use crate::affine::Affine;
@@ -145,6 +145,26 @@ fn push_rows(rows: &mut Items<Affine>, more: &[Affine]) -> Result<(), AllocError
     Ok(())
 }
 
+// The lower and the upper forms of bounds, over so many variables.
+fn bound_forms(
+    alloc: Global,
+    bounds: &Bounds,
+    depth: usize,
+) -> Result<(Items<Form>, Items<Form>), AllocError>
+    requires { depth ≤ 6 }
+    ensures { IfOk result (λ forms. forms ≡ (
+      map (form_over depth) (lower_of bounds.now),
+      map (form_over depth) (upper_of bounds.now),
+    )) }
+{
+    let lower = over_all(alloc, bounds.lower(), depth)?;
+    let Ok(upper) = over_all(alloc, bounds.upper(), depth) else {
+        drop(lower);
+        return Err(AllocError);
+    };
+    Ok((lower, upper))
+}
+
 // Adds the node of a loop.
 #[inline(never)]
 fn push_loop(
@@ -158,10 +178,14 @@ fn push_loop(
     requires { depth ≤ 6 }
     ensures { OnOk result (nodes.new ≡ nodes.old ++ loop_node depth id bounds.now body ∷ []) }
 {
+    let Ok((lower, upper)) = bound_forms(alloc, bounds, depth) else {
+        drop(body);
+        return Err(AllocError);
+    };
     nodes.push(Node::Loop {
         id,
-        lower: over_all(alloc, bounds.lower(), depth)?,
-        upper: over_all(alloc, bounds.upper(), depth)?,
+        lower,
+        upper,
         step: bounds.step(),
         body,
     })
@@ -180,10 +204,11 @@ fn push_guard(
     ensures { OnOk result (nodes.new
         ≡ nodes.old ++ Node.Guard (map (form_over depth) rows.now) body ∷ []) }
 {
-    nodes.push(Node::Guard {
-        rows: over_all(alloc, rows, depth)?,
-        body,
-    })
+    let Ok(rows) = over_all(alloc, rows, depth) else {
+        drop(body);
+        return Err(AllocError);
+    };
+    nodes.push(Node::Guard { rows, body })
 }
 
 /// Binds parts in text order.
@@ -296,8 +321,14 @@ fn bind_loop(
     let depth = context.loops.len();
     let mut inside = Items::new(alloc);
     if depth < 6 {
-        let reach = enter(alloc, context, name, id, bounds)?;
-        bind_part(alloc, body, context, progress, &mut inside)?;
+        let Ok(reach) = enter(alloc, context, name, id, bounds) else {
+            drop(inside);
+            return Err(AllocError);
+        };
+        let Ok(()) = bind_part(alloc, body, context, progress, &mut inside) else {
+            drop(inside);
+            return Err(AllocError);
+        };
         leave(context, reach);
     }
     push_loop(alloc, nodes, id, bounds, depth, inside)
@@ -324,7 +355,10 @@ fn bind_guarded(
     let reach = context.rows.len();
     push_rows(&mut context.rows, rows)?;
     let mut inside = Items::new(alloc);
-    bind_part(alloc, body, context, progress, &mut inside)?;
+    let Ok(()) = bind_part(alloc, body, context, progress, &mut inside) else {
+        drop(inside);
+        return Err(AllocError);
+    };
     context.rows.truncate(reach);
     push_guard(alloc, nodes, rows, depth, inside)
 }

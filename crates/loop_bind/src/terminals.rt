@@ -116,15 +116,15 @@ fn source(alloc: Global, array: u32, first: u32, extents: &[i64]) -> Result<Stat
     }
 }
 
-// The one read of a sink.
-fn one_read(alloc: Global, cell: Access) -> Result<Items<Access>, AllocError>
-    ensures { IfOk result (λ reads. reads ≡ cell ∷ []) }
+// This item alone.
+fn one<T: Drop>(alloc: Global, item: T) -> Result<Items<T>, AllocError>
+    ensures { IfOk result (λ items. items ≡ item ∷ []) }
 {
-    let mut reads = Items::new(alloc);
-    match reads.push(cell) {
-        Ok(()) => Ok(reads),
+    let mut items = Items::new(alloc);
+    match items.push(item) {
+        Ok(()) => Ok(items),
         Err(error) => {
-            drop(reads);
+            drop(items);
             Err(error)
         }
     }
@@ -144,7 +144,7 @@ fn rows_and_read(
     )) }
 {
     let (rows, cell) = rows_and_cell(alloc, array, extents)?;
-    match one_read(alloc, cell) {
+    match one(alloc, cell) {
         Ok(reads) => Ok((rows, reads)),
         Err(error) => {
             drop(rows);
@@ -175,21 +175,6 @@ fn sink(alloc: Global, array: u32, first: u32, extents: &[i64]) -> Result<Statem
     }
 }
 
-// One form, which is a number.
-fn one_number(alloc: Global, depth: usize, number: i64) -> Result<Items<Form>, AllocError>
-    requires { depth ≤ 6 }
-    ensures { IfOk result (λ forms. forms ≡ constant_form depth number ∷ []) }
-{
-    let mut forms = Items::new(alloc);
-    match forms.push(Form::constant(alloc, depth, number as i128)) {
-        Ok(()) => Ok(forms),
-        Err(error) => {
-            drop(forms);
-            Err(error)
-        }
-    }
-}
-
 // The bounds of a loop from 0 up to this number.
 fn bounds_to(
     alloc: Global,
@@ -200,25 +185,11 @@ fn bounds_to(
     ensures { IfOk result (λ bounds.
         bounds ≡ (constant_form depth (pos 0) ∷ [], constant_form depth last ∷ [])) }
 {
-    let lower = one_number(alloc, depth, 0)?;
-    match one_number(alloc, depth, last) {
+    let lower = one(alloc, Form::constant(alloc, depth, 0))?;
+    match one(alloc, Form::constant(alloc, depth, last as i128)) {
         Ok(upper) => Ok((lower, upper)),
         Err(error) => {
             drop(lower);
-            Err(error)
-        }
-    }
-}
-
-// One node.
-fn one_node(alloc: Global, node: Node) -> Result<Items<Node>, AllocError>
-    ensures { IfOk result (λ nodes. nodes ≡ node ∷ []) }
-{
-    let mut nodes = Items::new(alloc);
-    match nodes.push(node) {
-        Ok(()) => Ok(nodes),
-        Err(error) => {
-            drop(nodes);
             Err(error)
         }
     }
@@ -236,7 +207,7 @@ fn loop_to(
     ensures { IfOk result (λ node. node ≡ Node.Loop id (constant_form depth (pos 0) ∷ [])
         (constant_form depth last ∷ []) (pos 1) (inside ∷ [])) }
 {
-    let body = one_node(alloc, inside)?;
+    let body = one(alloc, inside)?;
     match bounds_to(alloc, depth, last) {
         Ok((lower, upper)) => Ok(Node::Loop {
             id,

@@ -296,7 +296,10 @@ fn value_all(
     };
     let mut all = value(alloc, scope, depth, first, reads, least)?;
     for operand in others {
-        let next = value(alloc, scope, depth, operand, reads, least)?;
+        let Ok(next) = value(alloc, scope, depth, operand, reads, least) else {
+            drop(all);
+            return Err(AllocError);
+        };
         all = extreme_of(alloc, which, all, next)?;
     }
     Ok(all)

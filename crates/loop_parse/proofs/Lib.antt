@@ -7,3 +7,4 @@ pub mod SourceComplete
 pub mod SourceSound
 pub mod SourceCloses
 pub mod Runs
+mod Places

@@ -13,5 +13,5 @@ mod place;
 mod source;
 mod statement;
 
-pub use law::one_tree;
+pub use law::{one_place, one_tree};
 pub use parser::{ParseError, parse};

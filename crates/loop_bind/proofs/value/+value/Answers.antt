@@ -90,8 +90,8 @@ pub value_all-loop-operand-preserved : goal.value_all-loop-operand-preserved
 value_all-loop-operand-preserved t c =
     next_reads c.args.which c.args.depth c.args.scope.now c.args.operands.now c.in-Some.others.now c.in-Some.first.now
     c.operand-item.result c.loop-operand.operand-index
-    c.in_ok-all-2.all c.loop-operand.all c.in_ok-next.next c.args.reads.now c.loop-operand.reads
+    c.in_ok-all-2.all c.loop-operand.all c.in-Ok.next c.args.reads.now c.loop-operand.reads
     c.value-in-loop-operand.new.reads
     c.args.least.now c.loop-operand.least c.value-in-loop-operand.new.least
-    c.in-Some.ensures.cases.0 c.loop-operand-test.true c.operand-item.is c.loop-operand.invariant c.in_ok-next.ensures
-    c.in_ok-all-2.ensures
+    c.in-Some.ensures.cases.0 c.loop-operand-test.true c.operand-item.is c.loop-operand.invariant
+    (rw c.in-Ok.is at c.value-in-loop-operand.ensures) c.in_ok-all-2.ensures

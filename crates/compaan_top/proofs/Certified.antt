@@ -42,13 +42,13 @@ use Rattle.compaan_top.specs.Commands.{reads_of}
 use Rattle.compaan_top.specs.Headline.{AcceptsWhatFits, HasFittingCertificate, SaysAccepted}
 use Rattle.compaan_top.specs.Outcome.{Outcome, IsOutcome, Performs, outcome_of, words_refused, bundle_refused}
 use Rattle.compaan_top.specs.Outcome.{performed}
-use Rattle.compaan_top.specs.Certifying.{PrintsCertificate, source_refused, printed}
-use Rattle.compaan_top.specs.Refusals.{refusal_status}
-use Rattle.compaan_top.specs.Replies.{Reply}
-use Rattle.compaan_top.specs.Source as sized
-use Rattle.compaan_top.specs.Source.{Gives, GivesWithinSize, no_tokens, no_tree, not_bound, bound}
+use Rattle.command_answers.specs.Certifying.{PrintsCertificate, source_refused, printed}
+use Rattle.compaan_top.specs.Complaints.{refusal_status}
+use Rattle.command_answers.specs.Replies.{Reply}
+use Rattle.command_answers.specs.Source as sized
+use Rattle.command_answers.specs.Source.{Gives, GivesWithinSize, no_tokens, no_tree, not_bound, bound}
 use Rattle.compaan_top.specs.Told.{ComesTo, IsAnswered, IsTold}
-use Rattle.compaan_top.specs.declared.refusal.Refusal.{Refusal}
+use Rattle.command_answers.specs.declared.refusal.Refusal.{Refusal}
 use Rattle.compaan_top.proofs.OwnStatuses.{sized_refused}
 use Rattle.compaan_top.proofs.Statuses.{no_order, same_value}
 use Rattle.compaan_top.proofs.Told.{check_told, comes_to, says_accepted}

@@ -17,20 +17,21 @@ use Rattle.compaan_top.specs.Answers.{Change, IsQuiet, HasFault, IsRead, ReadsFo
 use Rattle.compaan_top.specs.Answers.{Ends, no_memory, read_fault, written, cut_short}
 use Rattle.compaan_top.specs.Commands.{Reads, source_alone, source_and_data, source_and_certificate, nothing, read_by}
 use Rattle.compaan_top.specs.Commands.{reads_of, WaitsForNobody}
-use Rattle.compaan_top.specs.Certifying.{PrintsCertificate}
-use Rattle.compaan_top.specs.Judging.{Judges}
-use Rattle.compaan_top.specs.Load.{Loads}
-use Rattle.compaan_top.specs.Refusals.{refusal_line, refusal_status}
-use Rattle.compaan_top.specs.Replies.{Reply, done}
+use Rattle.command_answers.specs.Certifying.{PrintsCertificate}
+use Rattle.command_answers.specs.Judging.{Judges}
+use Rattle.command_answers.specs.Load.{Loads}
+use Rattle.compaan_top.specs.Complaints.{refusal_line, refusal_status}
+use Rattle.command_answers.specs.Replies.{Reply, done}
 use Rattle.compaan_top.specs.Outcome.{IsOutcome, outcome_of, bundle_limit, Performs, words_refused, bundle_refused}
 use Rattle.compaan_top.specs.Outcome.{performed}
-use Rattle.compaan_top.specs.Planned.{JudgesTexts, as_reply, reply_of, IsCertificatePlanned, IsOrdered, IsPlanned}
+use Rattle.command_answers.specs.Replying.{JudgesTexts, as_reply, reply_of}
+use Rattle.compaan_top.specs.Planned.{IsCertificatePlanned, IsOrdered, IsPlanned}
 use Rattle.compaan_top.specs.Planned.{ReadsBundle, ReadsAndJudges}
-use Rattle.compaan_top.specs.declared.answer.Answer.{Answer}
-use Rattle.compaan_top.specs.declared.answer.CertificateAnswer.{CertificateAnswer}
-use Rattle.compaan_top.specs.declared.refusal.Refusal.{Refusal}
-use Rattle.compaan_top.specs.declared.refusal.Stop.{Stop}
-use Rattle.compaan_top.specs.declared.refusal.Stop.TheVariants.{Refused, ReadFault, Memory}
+use Rattle.command_answers.specs.declared.answer.Answer.{Answer}
+use Rattle.command_answers.specs.declared.answer.CertificateAnswer.{CertificateAnswer}
+use Rattle.command_answers.specs.declared.refusal.Refusal.{Refusal}
+use Rattle.command_answers.specs.declared.refusal.Stop.{Stop}
+use Rattle.command_answers.specs.declared.refusal.Stop.TheVariants.{Refused, ReadFault, Memory}
 
 -- a sink that nothing was written on
 abbrev pub kept : Option (List ℕ) → ℕ → Change

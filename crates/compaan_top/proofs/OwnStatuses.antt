@@ -24,33 +24,34 @@ use Rattle.sanlp.specs.declared.nest.Nest.{Nest}
 use Rattle.witness_plan.specs.declared.schedules.Policy.{Policy}
 use Rattle.witness_plan.specs.declared.schedules.Policy.TheVariants as policy
 use Rattle.compaan_top.specs.Answers.{Change, Ends, HasFault, no_memory, read_fault, written, cut_short}
-use Rattle.compaan_top.specs.Certifying as certify
-use Rattle.compaan_top.specs.Certifying.{PrintsCertificate}
-use Rattle.compaan_top.specs.Checking as check
-use Rattle.compaan_top.specs.Checking.{Checks, verdict_reply}
+use Rattle.command_answers.specs.Certifying as certify
+use Rattle.command_answers.specs.Certifying.{PrintsCertificate}
+use Rattle.command_answers.specs.Checking as check
+use Rattle.command_answers.specs.Checking.{Checks, verdict_reply}
 use Rattle.compaan_top.specs.Commands.{Reads, source_alone, source_and_data, source_and_certificate, nothing, read_by}
 use Rattle.compaan_top.specs.Commands.{reads_of}
-use Rattle.compaan_top.specs.Describing as describe
-use Rattle.compaan_top.specs.Describing.{Describes}
+use Rattle.command_answers.specs.Describing as describe
+use Rattle.command_answers.specs.Describing.{Describes}
 use Rattle.compaan_top.specs.Laws.{HasStatusOf, MayEndWith, command_statuses, outcome_statuses, read_statuses}
-use Rattle.compaan_top.specs.Load as load
-use Rattle.compaan_top.specs.Load.{Loads}
+use Rattle.command_answers.specs.Load as load
+use Rattle.command_answers.specs.Load.{Loads}
 use Rattle.compaan_top.specs.Outcome.{Outcome, IsOutcome, outcome_of, Performs, words_refused, bundle_refused}
 use Rattle.compaan_top.specs.Outcome.{performed}
-use Rattle.compaan_top.specs.Printing as print
-use Rattle.compaan_top.specs.Printing.{Prints, network_text}
-use Rattle.compaan_top.specs.Refusals.{byte_of, lex_refusal, bind_refusal, refusal_status}
-use Rattle.compaan_top.specs.Replies.{Reply}
-use Rattle.compaan_top.specs.Run.{Runs, IsInputs, run_text, source_refused, data_refused, answered}
-use Rattle.compaan_top.specs.Simulating.{simulation_text}
-use Rattle.compaan_top.specs.Telling as telling
-use Rattle.compaan_top.specs.Telling.{TellsSources}
-use Rattle.compaan_top.specs.Tracing as tracing
-use Rattle.compaan_top.specs.Tracing.{Traces}
-use Rattle.compaan_top.specs.Trimming.{trimming_text}
-use Rattle.compaan_top.specs.Source as sized
-use Rattle.compaan_top.specs.Source.{Gives, GivesWithinSize, no_tokens, no_tree, not_bound, bound}
-use Rattle.compaan_top.specs.declared.refusal.Refusal.{Refusal}
+use Rattle.command_answers.specs.Printing as print
+use Rattle.command_answers.specs.Printing.{Prints, network_text}
+use Rattle.command_answers.specs.Refusals.{byte_of, lex_refusal, bind_refusal}
+use Rattle.compaan_top.specs.Complaints.{refusal_status}
+use Rattle.command_answers.specs.Replies.{Reply}
+use Rattle.command_answers.specs.Run.{Runs, IsInputs, run_text, source_refused, data_refused, answered}
+use Rattle.command_answers.specs.Simulating.{simulation_text}
+use Rattle.command_answers.specs.Telling as telling
+use Rattle.command_answers.specs.Telling.{TellsSources}
+use Rattle.command_answers.specs.Tracing as tracing
+use Rattle.command_answers.specs.Tracing.{Traces}
+use Rattle.command_answers.specs.Trimming.{trimming_text}
+use Rattle.command_answers.specs.Source as sized
+use Rattle.command_answers.specs.Source.{Gives, GivesWithinSize, no_tokens, no_tree, not_bound, bound}
+use Rattle.command_answers.specs.declared.refusal.Refusal.{Refusal}
 use Rattle.compaan_top.proofs.Statuses.{data_status, same_value, size_status}
 
 -- the statuses of what is wrong with a source

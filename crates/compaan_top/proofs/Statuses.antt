@@ -50,10 +50,10 @@ use Rattle.command_line.specs.Bundle.{certificate_part, data_part, source_part}
 use Rattle.command_line.specs.declared.words.Order.{Order}
 use Rattle.command_line.specs.declared.words.Command.{Command}
 use Rattle.command_line.specs.declared.words.Command.TheVariants.{Run, Seq, Net, Cert, Check, Deps, Vhdl, Load, Sim, Trim, Trace}
-use Rattle.compaan_top.specs.Certifying as certify
-use Rattle.compaan_top.specs.Certifying.{PrintsCertificate}
-use Rattle.compaan_top.specs.Checking as check
-use Rattle.compaan_top.specs.Checking.{Checks, verdict_reply}
+use Rattle.command_answers.specs.Certifying as certify
+use Rattle.command_answers.specs.Certifying.{PrintsCertificate}
+use Rattle.command_answers.specs.Checking as check
+use Rattle.command_answers.specs.Checking.{Checks, verdict_reply}
 use Rattle.compaan_top.specs.Commands.{reads_of, source_and_certificate}
 use Rattle.channel_plan.specs.Plans.{plans_of}
 use Rattle.node_automata.specs.declared.node.NodeAuto.{NodeAuto}
@@ -63,28 +63,29 @@ use Rattle.source_tree.specs.Systems.{Occurrence, writes_from}
 use Rattle.stride_rows.specs.Class.{IsInStrideClass, stride_count, writes_strides}
 use Rattle.vhdl_text.specs.Refusal.{first_too_long}
 use Rattle.witness_plan.specs.Sequential.{sequential_schedule}
-use Rattle.compaan_top.specs.Describing as describe
-use Rattle.compaan_top.specs.Describing.{Describes, planned_automata}
+use Rattle.command_answers.specs.Describing as describe
+use Rattle.command_answers.specs.Describing.{Describes, planned_automata}
 use Rattle.compaan_top.specs.Laws.{HasParts, IsDone, IsNestFor, IsValid, IsWithinOwnLimit, IsWithinSizeFor}
-use Rattle.compaan_top.specs.Load as load
-use Rattle.compaan_top.specs.Load.{Loads, load_limit}
+use Rattle.command_answers.specs.Load as load
+use Rattle.command_answers.specs.Load.{Loads, load_limit}
 use Rattle.matrix_load.specs.Product.{IsMatrixNest, matrix_product, size_given}
-use Rattle.compaan_top.specs.Printing as print
-use Rattle.compaan_top.specs.Printing.{Prints, network_text}
+use Rattle.command_answers.specs.Printing as print
+use Rattle.command_answers.specs.Printing.{Prints, network_text}
 use Rattle.compaan_top.specs.Outcome.{Outcome, IsOutcome, outcome_of, Performs, words_refused, bundle_refused}
 use Rattle.compaan_top.specs.Outcome.{performed}
-use Rattle.compaan_top.specs.Replies.{Reply}
-use Rattle.compaan_top.specs.Refusals.{byte_of, lex_refusal, bind_refusal, size_refusal, data_refusal, refusal_status}
-use Rattle.compaan_top.specs.Run.{Runs, IsInputs, run_text, source_refused, data_refused, answered}
-use Rattle.compaan_top.specs.Simulating.{simulation_text}
-use Rattle.compaan_top.specs.Telling as telling
-use Rattle.compaan_top.specs.Telling.{IsSmallWhereSwept, IsSwept, TellsSources}
-use Rattle.compaan_top.specs.Tracing as tracing
-use Rattle.compaan_top.specs.Tracing.{Traces}
-use Rattle.compaan_top.specs.Trimming.{trimming_text}
-use Rattle.compaan_top.specs.Source as sized
-use Rattle.compaan_top.specs.Source.{Gives, GivesWithinSize, no_tokens, no_tree, not_bound, bound}
-use Rattle.compaan_top.specs.declared.refusal.Refusal.{Refusal}
+use Rattle.command_answers.specs.Replies.{Reply}
+use Rattle.command_answers.specs.Refusals.{byte_of, lex_refusal, bind_refusal, size_refusal, data_refusal}
+use Rattle.compaan_top.specs.Complaints.{refusal_status}
+use Rattle.command_answers.specs.Run.{Runs, IsInputs, run_text, source_refused, data_refused, answered}
+use Rattle.command_answers.specs.Simulating.{simulation_text}
+use Rattle.command_answers.specs.Telling as telling
+use Rattle.command_answers.specs.Telling.{IsSmallWhereSwept, IsSwept, TellsSources}
+use Rattle.command_answers.specs.Tracing as tracing
+use Rattle.command_answers.specs.Tracing.{Traces}
+use Rattle.command_answers.specs.Trimming.{trimming_text}
+use Rattle.command_answers.specs.Source as sized
+use Rattle.command_answers.specs.Source.{Gives, GivesWithinSize, no_tokens, no_tree, not_bound, bound}
+use Rattle.command_answers.specs.declared.refusal.Refusal.{Refusal}
 use Rattle.compaan_top.proofs.Facts.{facts_aside}
 
 -- tokens have one tree

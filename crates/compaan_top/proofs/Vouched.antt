@@ -24,13 +24,13 @@ use Rattle.sanlp.specs.declared.nest.Nest.{Nest}
 use Rattle.source_tree.specs.declared.cert.Cert.{Cert}
 use Rattle.compaan_top.specs.Answers.{Change, Ends, IsRead, ReadsFor, ReadsTo, no_memory, read_fault, written}
 use Rattle.compaan_top.specs.Answers.{cut_short}
-use Rattle.compaan_top.specs.Checking.{Checks, verdict_reply, part_missing, source_refused, unread, judged}
+use Rattle.command_answers.specs.Checking.{Checks, verdict_reply, part_missing, source_refused, unread, judged}
 use Rattle.compaan_top.specs.Headline.{AcceptsWhatFits, HasFittingCertificate, HasSoundCertificate, accepted}
 use Rattle.compaan_top.specs.Outcome.{Outcome, IsOutcome, Performs, bundle_limit, outcome_of, words_refused}
 use Rattle.compaan_top.specs.Outcome.{bundle_refused, performed}
-use Rattle.compaan_top.specs.Refusals.{refusal_status}
-use Rattle.compaan_top.specs.Replies.{Reply}
-use Rattle.compaan_top.specs.declared.refusal.Refusal.{Refusal}
+use Rattle.compaan_top.specs.Complaints.{refusal_status}
+use Rattle.command_answers.specs.Replies.{Reply}
+use Rattle.command_answers.specs.declared.refusal.Refusal.{Refusal}
 use Rattle.compaan_top.specs.Commands.{reads_of}
 use Rattle.compaan_top.proofs.OwnStatuses.{IsOfSource, sized_refused}
 use Rattle.compaan_top.proofs.Statuses.{Alike, OneTree, first_alike, no_order, no_part_there, same_part, sized_alike}

@@ -20,7 +20,7 @@ use Rattle.witness_plan.specs.Schedules.{planned_network}
 use Rattle.compaan_top.specs.Answers.{Change, Ends}
 use Rattle.compaan_top.specs.Headline.{accepted}
 use Rattle.compaan_top.specs.Outcome.{Outcome, IsOutcome, bundle_limit}
-use Rattle.compaan_top.specs.Source.{GivesWithinSize}
+use Rattle.command_answers.specs.Source.{GivesWithinSize}
 
 -- a tree declares a parameter of this name
 pub record HasParameter (tree : Tree) (name : List ℕ) : Type 0 where

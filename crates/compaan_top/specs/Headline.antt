@@ -12,7 +12,7 @@ use Rattle.source_tree.specs.declared.cert.Cert.{Cert}
 use Rattle.std.specs.Io.KnownBytes.{Appends}
 use Rattle.compaan_top.specs.Answers.{Change}
 use Rattle.compaan_top.specs.Outcome.{Outcome, IsOutcome, bundle_limit}
-use Rattle.compaan_top.specs.Source.{GivesWithinSize}
+use Rattle.command_answers.specs.Source.{GivesWithinSize}
 
 -- The source gives a nest within the limit on its size, and the certificate part stands for a network and a certificate that
 -- fit this nest.

@@ -13,12 +13,12 @@ use Rattle.vhdl_text.specs.Refusal.{first_too_long}
 use Rattle.witness_plan.specs.declared.schedules.Policy.{Policy}
 use Rattle.compaan_top.specs.Answers.{Change, Ends, HasFault}
 use Rattle.compaan_top.specs.Commands.{Reads, source_alone, source_and_data, source_and_certificate, nothing, read_by, reads_of}
-use Rattle.compaan_top.specs.Describing.{planned_automata}
-use Rattle.compaan_top.specs.Load.{load_limit}
+use Rattle.command_answers.specs.Describing.{planned_automata}
+use Rattle.command_answers.specs.Load.{load_limit}
 use Rattle.compaan_top.specs.Outcome.{Outcome, IsOutcome, bundle_limit}
-use Rattle.compaan_top.specs.Run.{IsInputs}
-use Rattle.compaan_top.specs.Source.{Gives}
-use Rattle.compaan_top.specs.Telling.{IsSmallWhereSwept}
+use Rattle.command_answers.specs.Run.{IsInputs}
+use Rattle.command_answers.specs.Source.{Gives}
+use Rattle.command_answers.specs.Telling.{IsSmallWhereSwept}
 
 -- the order and the bundle determine the status
 abbrev pub DetermineStatus : Option Order → List ℕ → Type 0

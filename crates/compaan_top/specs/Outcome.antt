@@ -4,21 +4,21 @@ use Rattle.std.specs.Prelude.{◌≡◌, ◌≢◌, ◌≤◌, ◌<◌, ℕ, Lis
 use Rattle.command_line.specs.declared.words.Command.{Command}
 use Rattle.command_line.specs.declared.words.Command.TheVariants.{Run, Seq, Net, Cert, Check, Deps, Vhdl, Load, Sim, Trim, Trace}
 use Rattle.command_line.specs.declared.words.Order.{Order}
-use Rattle.compaan_top.specs.Certifying.{PrintsCertificate}
-use Rattle.compaan_top.specs.Checking.{Checks}
+use Rattle.command_answers.specs.Certifying.{PrintsCertificate}
+use Rattle.command_answers.specs.Checking.{Checks}
 use Rattle.compaan_top.specs.Commands.{nothing, reads_of}
-use Rattle.compaan_top.specs.Describing.{Describes}
-use Rattle.compaan_top.specs.Load.{Loads}
-use Rattle.compaan_top.specs.Printing.{Prints, network_text}
-use Rattle.compaan_top.specs.Refusals.{refusal_line, refusal_status}
-use Rattle.compaan_top.specs.Replies.{Reply}
-use Rattle.compaan_top.specs.Run.{Runs, run_text}
-use Rattle.compaan_top.specs.Simulating.{simulation_text}
-use Rattle.compaan_top.specs.Telling.{TellsSources}
-use Rattle.compaan_top.specs.Tracing.{Traces}
-use Rattle.compaan_top.specs.Trimming.{trimming_text}
-use Rattle.compaan_top.specs.declared.refusal.Refusal.{Refusal}
-use Rattle.compaan_top.specs.declared.refusal.Refusal.TheVariants.{Usage, TooLong}
+use Rattle.command_answers.specs.Describing.{Describes}
+use Rattle.command_answers.specs.Load.{Loads}
+use Rattle.command_answers.specs.Printing.{Prints, network_text}
+use Rattle.compaan_top.specs.Complaints.{refusal_line, refusal_status}
+use Rattle.command_answers.specs.Replies.{Reply}
+use Rattle.command_answers.specs.Run.{Runs, run_text}
+use Rattle.command_answers.specs.Simulating.{simulation_text}
+use Rattle.command_answers.specs.Telling.{TellsSources}
+use Rattle.command_answers.specs.Tracing.{Traces}
+use Rattle.command_answers.specs.Trimming.{trimming_text}
+use Rattle.command_answers.specs.declared.refusal.Refusal.{Refusal}
+use Rattle.command_answers.specs.declared.refusal.Refusal.TheVariants.{Usage, TooLong}
 
 -- a status, what is written on the output, and what on the complaint sink
 pub record Outcome : Type 0 where

@@ -5,28 +5,23 @@ ghost use Rattle.command_line.specs.declared.words.Order.{Order as WordOrder};
 ghost use Rattle.compaan_top.specs.Answers.{Change, change, Ends, ReadsTo};
 ghost use Rattle.compaan_top.specs.Commands.{WaitsForNobody, read_by, reads_of};
 ghost use Rattle.compaan_top.specs.Headline.{HasSoundCertificate, IsAcceptable, SaysAccepted};
-ghost use Rattle.compaan_top.specs.Judging.{Judges};
+ghost use Rattle.command_answers.specs.Judging.{Judges};
 ghost use Rattle.compaan_top.specs.Laws.{HasStatusOf, IsDone, IsValid};
 ghost use Rattle.compaan_top.specs.Outcome.{Performs, bundle_limit};
-ghost use Rattle.compaan_top.specs.Planned.{as_reply, IsCertificatePlanned, IsOrdered, IsPlanned, ReadsBundle};
-ghost use Rattle.compaan_top.specs.Telling.{GivesTrees};
+ghost use Rattle.command_answers.specs.Replying.{as_reply};
+ghost use Rattle.compaan_top.specs.Planned.{IsCertificatePlanned, IsOrdered, IsPlanned, ReadsBundle};
+ghost use Rattle.command_answers.specs.Telling.{GivesTrees};
 ghost use Rattle.compaan_top.specs.Told.{ComesTo, IsAnswered, IsTold};
 
-use crate::answer::{Answer, CertificateAnswer};
-use crate::check::check_certificate;
 use crate::complaint::{refusal_status, write_refusal};
-use crate::dependences::tell_dependences;
-use crate::describing::describe_network;
 use crate::law::{status_is_determined, what_fits_is_accepted, what_is_accepted_fits};
-use crate::load::load;
-use crate::printing::{print_certificate, print_network};
-use crate::refusal::{Refusal, Stop};
-use crate::run::{run_by_interpreter, run_by_network};
-use crate::simulating::run_by_clock;
-use crate::tracing::trace_network;
-use crate::trimming::trim_network;
 use crate::writing::{status_of, write_text};
 use cert_text::write_cert;
+use command_answers::{
+    Answer, CertificateAnswer, Refusal, Stop, check_certificate, describe_network, load,
+    print_certificate, print_network, run_by_clock, run_by_interpreter, run_by_network,
+    tell_dependences, trace_network, trim_network,
+};
 use command_line::{Command, Order, WordsError, read_words};
 use io_edge::{Gate, ReadError, Sink, Source, read_all};
 use net_checker::is_sound;

@@ -3,10 +3,10 @@ ghost use Rattle.std.specs.Io.KnownBytes.{Appends};
 ghost use Rattle.io_edge.specs.Causes.{Rose, AppendsFront};
 ghost use Rattle.text_out.specs.Wrote.{Wrote};
 ghost use Rattle.text_out.specs.Words.{line_text};
-ghost use Rattle.compaan_top.specs.Refusals.{class_word as word_of_class, limit_word as word_of_limit, name_of, refusal_line, refusal_status, text_word as word_of_text};
-ghost use Rattle.compaan_top.specs.declared.refusal.Refusal.TheVariants.{Count};
+ghost use Rattle.compaan_top.specs.Complaints.{class_word as word_of_class, limit_word as word_of_limit, name_of, refusal_line, refusal_status, text_word as word_of_text};
+ghost use Rattle.command_answers.specs.declared.refusal.Refusal.TheVariants.{Count};
 
-use crate::refusal::{ClassReason, LimitReason, Refusal, TextReason};
+use command_answers::{ClassReason, LimitReason, Refusal, TextReason};
 use io_edge::{Sink, WriteFault};
 use sanlp::ArrayDecl;
 use text_out::{TextWriter, Word, Writer, write_line};

@@ -6,11 +6,11 @@ ghost use Rattle.command_line.specs.Bundle.{source_part};
 ghost use Rattle.command_line.specs.declared.words.Order.{Order};
 ghost use Rattle.compaan_top.specs.Answers.{Change, Ends};
 ghost use Rattle.compaan_top.specs.Certified.{Accepts, AgreeOn, Call, Certifies, HasCertificate, ReadCertificate, StandsForPlanned, WroteCertificate};
-ghost use Rattle.compaan_top.specs.Checking.{Checks};
+ghost use Rattle.command_answers.specs.Checking.{Checks};
 ghost use Rattle.compaan_top.specs.Headline.{AcceptsWhatFits, HasFittingCertificate, SaysAccepted};
 ghost use Rattle.compaan_top.specs.Outcome.{Outcome, outcome_of};
-ghost use Rattle.compaan_top.specs.Replies.{Reply};
-ghost use Rattle.compaan_top.specs.declared.refusal.Refusal.{Refusal};
+ghost use Rattle.command_answers.specs.Replies.{Reply};
+ghost use Rattle.command_answers.specs.declared.refusal.Refusal.{Refusal};
 ghost use Rattle.compaan_top.specs.Laws.{DetermineStatus, HasStatusOf, HaveOwnStatuses, MayEndWith, Succeeds};
 ghost use Rattle.compaan_top.specs.Told.{IsAnswered};
 

@@ -1,22 +1,9 @@
 //! The program: its words, its input and its two outputs in, its status out.
 #![tactic(auto)]
 
-mod answer;
 mod call;
-mod check;
 mod complaint;
-mod dependences;
-mod describing;
 mod law;
-mod load;
-mod network_run;
-mod printing;
-mod refusal;
-mod run;
-mod simulating;
-mod source;
-mod tracing;
-mod trimming;
 mod writing;
 
 pub use call::{compaan, quiet};

@@ -2,11 +2,11 @@ ghost use Rattle.std.specs.Prelude.{◌≡◌, [], ◌∷◌, ℕ, codes, decima
 ghost use Rattle.std.specs.Io.KnownBytes.{Appends};
 ghost use Rattle.io_edge.specs.Causes.{Rose, AppendsFront};
 ghost use Rattle.vhdl_text.specs.VhdlText.{vhdl_text};
-ghost use Rattle.compaan_top.specs.Planned.{reply_of};
-ghost use Rattle.compaan_top.specs.Simulating.{clocked_text, clocks_line};
+ghost use Rattle.command_answers.specs.Replying.{reply_of};
+ghost use Rattle.command_answers.specs.Simulating.{clocked_text, clocks_line};
 
-use crate::answer::{Answer, ClockedAnswer, NodesAnswer};
 use array_data::write_answer;
+use command_answers::{Answer, ClockedAnswer, NodesAnswer};
 use deps_text::write_deps;
 use io_edge::{Sink, WriteFault};
 use matrix_load::write_summary;

@@ -1,4 +1,4 @@
-use Rattle.compaan_top.specs.Planned.{reply_of}
+use Rattle.command_answers.specs.Replying.{reply_of}
 use Rattle.compaan_top.proofs.Endings.{answer_written, answer_cut_short, refusal_written, refusal_cut_short}
 use Rattle.compaan_top.proofs.Endings.{ends_at_fault, ends_without_memory}
 use Rattle.compaan_top.proofs.call.finish.Goals as goal

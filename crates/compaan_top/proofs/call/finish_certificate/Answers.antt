@@ -1,4 +1,4 @@
-use Rattle.compaan_top.specs.Replies.{done}
+use Rattle.command_answers.specs.Replies.{done}
 use Rattle.compaan_top.proofs.Endings.{answer_cut_short, answer_written}
 use Rattle.compaan_top.proofs.call.finish_certificate.Goals as goal
 

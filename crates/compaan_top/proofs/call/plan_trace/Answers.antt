@@ -2,9 +2,9 @@ use Rattle.std.proofs.Common.{subst, sym}
 use Rattle.std.proofs.lemmas.Result.{err_from_is_err_and}
 use Rattle.command_line.specs.declared.words.Command.{Command}
 use Rattle.compaan_top.specs.Answers.{Change}
-use Rattle.compaan_top.specs.Judging.{Judges}
+use Rattle.command_answers.specs.Judging.{Judges}
 use Rattle.compaan_top.specs.Outcome.{Performs}
-use Rattle.compaan_top.specs.Planned.{as_reply}
+use Rattle.command_answers.specs.Replying.{as_reply}
 use Rattle.compaan_top.proofs.Endings.{planned_refusal_of_bundle, planned_work, trace_reads}
 use Rattle.compaan_top.proofs.call.plan_trace.Goals as goal
 

@@ -1,6 +1,6 @@
 use Rattle.array_data.specs.Answer.{answer_text}
 use Rattle.io_edge.proofs.Fronts.{on_err}
-use Rattle.compaan_top.specs.Simulating.{clocks_line}
+use Rattle.command_answers.specs.Simulating.{clocks_line}
 use Rattle.compaan_top.proofs.Clocked.{both_written, front_of_both, front_of_first, quiet_throughout, rose_later}
 use Rattle.compaan_top.proofs.writing.write_clocked.Goals as goal
 

@@ -1,0 +1,10 @@
+mod Checked
+mod Described
+mod EntryCounts
+mod Inputs
+mod Loads
+mod Printed
+mod Runs
+mod Sources
+mod TellsSources
+mod Traced

@@ -1,0 +1,22 @@
+use Rattle.std.proofs.Common.{◌∙◌, ap, length}
+use Rattle.std.proofs.lemmas.Result.{err_from_is_err_and}
+use Rattle.array_data.specs.Answer.{answer_text}
+use Rattle.command_answers.specs.Run.{run_text}
+use Rattle.command_answers.proofs.Inputs.{length-arrays}
+use Rattle.command_answers.proofs.Runs.{runs_to_text, unprepared}
+use Rattle.command_answers.proofs.run.run_by_network.Goals as goal
+
+pub returns-in_err-nest : goal.returns-in_err-nest
+returns-in_err-nest g c =
+    let stop = err_from_is_err_and c.from_residual.result c.from_residual.ensures.1 in
+    rw (stop.1, stop.2) (unprepared run_text c.args.params.now c.args.bundle.now _ c.in_err-nest.ensures)
+
+pub invariant_of-result : goal.invariant_of-result
+invariant_of-result g c =
+    record { whole = ap length c.in_ok-run.ensures.arrays ∙ length-arrays c.in_ok-nest.nest c.in_ok-nest.inputs }
+
+pub returns : goal.returns
+returns g c =
+    runs_to_text run_text c.args.params.now c.args.bundle.now c.in_ok-nest.nest c.in_ok-nest.inputs _
+    c.in_ok-nest.ensures
+    (ap (answer_text c.in_ok-nest.nest.arrays) c.in_ok-run.ensures.arrays)

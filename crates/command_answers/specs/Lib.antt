@@ -1,0 +1,16 @@
+pub mod Certifying
+pub mod Checking
+pub mod Describing
+pub mod Judging
+pub mod Load
+pub mod Printing
+pub mod Refusals
+pub mod Replies
+pub mod Replying
+pub mod Run
+pub mod Simulating
+pub mod Source
+pub mod Steps
+pub mod Telling
+pub mod Tracing
+pub mod Trimming

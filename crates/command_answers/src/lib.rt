@@ -1,0 +1,31 @@
+//! What each command answers to a bundle and its parameters, or why there is no answer. Nothing is read or written here.
+#![tactic(auto)]
+
+mod answer;
+mod check;
+mod dependences;
+mod describing;
+mod loading;
+mod network_run;
+mod printing;
+mod refusal;
+mod run;
+mod simulating;
+mod source;
+mod tracing;
+mod trimming;
+
+pub use answer::{
+    Answer, ArrayAnswer, CertificateAnswer, ClockedAnswer, DependencesAnswer, NetworkAnswer,
+    NodesAnswer,
+};
+pub use check::check_certificate;
+pub use dependences::tell_dependences;
+pub use describing::describe_network;
+pub use loading::load;
+pub use printing::{print_certificate, print_network};
+pub use refusal::{ClassReason, LimitReason, Refusal, Stop, TextReason};
+pub use run::{run_by_interpreter, run_by_network};
+pub use simulating::run_by_clock;
+pub use tracing::trace_network;
+pub use trimming::trim_network;

@@ -1,0 +1,60 @@
+ghost use Rattle.std.specs.Prelude.{◌<◌, ◌^◌, length, IfOk};
+ghost use Rattle.sanlp.specs.Size.{SizeIsOk};
+ghost use Rattle.command_answers.specs.Judging.{Judges};
+ghost use Rattle.command_answers.specs.Replying.{as_reply};
+ghost use Rattle.command_answers.specs.Tracing.{EndsNetwork, Traces};
+
+use crate::answer::Answer;
+use crate::refusal::Stop;
+use crate::source::sized_nest;
+use command_line::parts_of;
+use io_edge::Gate;
+use loop_class::Params;
+use loop_walk::points;
+use net_checker::is_sound;
+use net_maker::compile_swept;
+use plain_data::Items;
+use sanlp::Nest;
+use std::alloc::{AllocError, Global};
+use std::sync::Wait;
+use std::thread::Threads;
+use trace_board::run_board;
+use witness_plan::Policy;
+
+/// How many workers step the network, besides the caller.
+const LANES: u32 = 4;
+
+// A run of the network of a nest, which workers over one locked board make. A worker asks the gate before each lock.
+fn traced<R: Threads + Wait + Sync, G: Gate + Sync>(
+    rt: &R,
+    alloc: Global,
+    policy: Policy,
+    nest: &Nest,
+    gate: &G,
+) -> Result<Vec<u32>, AllocError>
+    requires { SizeIsOk nest.now }
+    ensures { IfOk result (λ run. EndsNetwork policy nest.now run.items) }
+{
+    is_sound();
+    let points = points(alloc, nest)?;
+    let (network, _) = compile_swept(alloc, nest, &points, policy)?;
+    run_board(rt, alloc, nest, &network, &points, LANES, gate)
+}
+
+/// A run of the network of a bundle's source, which workers over one locked board make.
+pub fn trace_network<R: Threads + Wait + Sync, G: Gate + Sync>(
+    rt: &R,
+    alloc: Global,
+    policy: Policy,
+    params: &Params,
+    bundle: &[u8],
+    gate: &G,
+) -> Result<Answer, Stop>
+    requires { length bundle.now < 2 ^ 32 }
+    ensures { Judges (λ answer. Traces policy params.now bundle.now (as_reply answer)) result }
+{
+    let parts = parts_of(bundle);
+    let nest = sized_nest(alloc, parts.source, params)?;
+    let run = traced(rt, alloc, policy, &nest, gate)?;
+    Ok(Answer::Trace(Items::from_vec(run)))
+}

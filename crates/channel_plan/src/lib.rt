@@ -5,8 +5,6 @@
 mod law;
 mod plans;
 mod read;
-#[cfg(test)]
-mod tests;
 mod tokens;
 mod writers;
 

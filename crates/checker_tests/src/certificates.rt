@@ -7,7 +7,7 @@ use io_edge::MemSink;
 use net_checker::Verdict;
 use plain_data::Items;
 use source_tree::{Origin, Tree};
-use std::alloc::Global;
+use std::alloc::{AllocError, Global};
 use std::process::Abort;
 use std::test::Fail;
 use tree_text::read_tree;
@@ -71,10 +71,18 @@ fn origin(alloc: Global, text: Text) -> Result<Origin, Fail> {
     Ok(Origin::Tree(tree(alloc, text)?))
 }
 
+fn add_origin(alloc: Global, origins: &mut Items<Origin>, text: Text) -> Result<(), Fail> {
+    let origin = origin(alloc, text)?;
+    Ok(origins.push(origin)?)
+}
+
 fn origins(alloc: Global, texts: &[Text]) -> Result<Items<Origin>, Fail> {
     let mut origins = Items::new(alloc);
     for text in texts {
-        origins.push(origin(alloc, *text)?)?;
+        if let Err(error) = add_origin(alloc, &mut origins, *text) {
+            drop(origins);
+            return Err(error);
+        }
     }
     Ok(origins)
 }
@@ -123,7 +131,7 @@ fn all_told(
     let alloc = rt.alloc();
     for (texts, line) in cases {
         let sink = told_of(alloc, source, &row, origins(alloc, *texts)?)?;
-        assert!(rt; says(sink.held(), *line), "{line:?}");
+        assert!(rt; says(sink.held(), *line));
     }
     Ok(())
 }
@@ -137,17 +145,35 @@ struct Within {
     tail: Text,
 }
 
-// The origins of the reads where that part is this one.
-fn whole(alloc: Global, within: &Within, part: &'static [u8]) -> Result<Items<Origin>, Fail> {
+// Adds sweeps for the reads behind the first.
+fn add_sweeps(origins: &mut Items<Origin>, sources: u32) -> Result<(), AllocError> {
+    for _ in 1..sources {
+        origins.push(Origin::Sweep)?;
+    }
+    Ok(())
+}
+
+// The first read's tree where that part is this one.
+fn filled(alloc: Global, within: &Within, part: &'static [u8]) -> Result<Tree, Fail> {
     let mut parts = Vec::from_slice(alloc, within.head)?;
     parts.push(part)?;
     parts.extend_from_slice(within.tail)?;
+    let tree = tree(alloc, parts.as_slice());
+    drop(parts);
+    tree
+}
+
+// The origins of the reads where that part is this one.
+fn whole(alloc: Global, within: &Within, part: &'static [u8]) -> Result<Items<Origin>, Fail> {
+    let origin = Origin::Tree(filled(alloc, within, part)?);
     let mut origins = Items::new(alloc);
-    origins.push(Origin::Tree(tree(alloc, parts.as_slice())?))?;
-    for _ in 1..within.row.sources {
-        origins.push(Origin::Sweep)?;
+    let added = origins.push(origin);
+    let swept = add_sweeps(&mut origins, within.row.sources);
+    if added.is_ok() && swept.is_ok() {
+        return Ok(origins);
     }
-    Ok(origins)
+    drop(origins);
+    Err(Fail::from(AllocError))
 }
 
 // That each of these parts gets its line.
@@ -164,7 +190,7 @@ fn parts_told(
             &within.row,
             whole(alloc, within, *part)?,
         )?;
-        assert!(rt; says(sink.held(), *line), "{line:?}");
+        assert!(rt; says(sink.held(), *line));
     }
     Ok(())
 }

@@ -1,16 +1,17 @@
 //! Tests of `net_checker::check`.
 ghost use Rattle.std.specs.Prelude.{IsTrue};
+ghost use Rattle.sanlp.specs.Size.{SizeIsOk};
 ghost use Rattle.net_core.specs.Machine.{net_of};
 ghost use Rattle.net_core.specs.Shape.{FitsNumbers};
 
 use crate::bound::{self, nest};
 use affine_core::Vector;
 use channel_class::{ChannelClass, UseOrder};
-use loop_walk::{points, size};
+use loop_walk::points;
 use net_checker::{Refusal, Seen, Verdict, Wanted, check};
 use net_core::{Channel, Event, Network, Process, Ref, Refs};
 use plain_data::Items;
-use sanlp::Point;
+use sanlp::{Nest, Point};
 use script_blocks::Script;
 use source_tree::{Cert, Origin};
 use std::alloc::{AllocError, Global};
@@ -166,21 +167,41 @@ fn numbers_fit(network: &Network) -> bool
     network.processes.len() < 1 << 32 && network.channels.len() < 1 << 32 && events < 1 << 32
 }
 
-// The verdict on a network of a source and its certificate, where the nest and the network are within their limits.
-fn checked(alloc: Global, source: &[u8], network: &Network, cert: &Cert) -> Result<Verdict, Fail> {
-    let nest = nest(alloc, source)?;
-    if size(&nest).is_err() || !numbers_fit(network) {
-        return Err(Fail::from("the nest or the network is large"));
-    }
-    let points = points(alloc, &nest)?;
-    Ok(check(alloc, &nest, &points, network, cert)?)
+// The verdict on a network of a nest and its certificate.
+fn checked(
+    alloc: Global,
+    nest: &Nest,
+    network: &Network,
+    cert: &Cert,
+) -> Result<Verdict, AllocError>
+    requires size { SizeIsOk nest.now }
+    requires numbers { FitsNumbers (net_of network.now) }
+{
+    let points = points(alloc, nest)?;
+    let verdict = check(alloc, nest, &points, network, cert);
+    drop(points);
+    verdict
 }
 
-fn cert(alloc: Global, entries: &[u8], sources: Items<Origin>) -> Result<Cert, AllocError> {
-    Ok(Cert {
-        schedule: schedule(alloc, entries)?,
-        sources,
-    })
+// The verdict on a network of a nest, where its numbers are within their limits.
+fn judged(alloc: Global, nest: &Nest, row: &Row, cert: &Cert) -> Result<Verdict, Fail>
+    requires { SizeIsOk nest.now }
+{
+    let network = network(alloc, row)?;
+    if !numbers_fit(&network) {
+        return Err(Fail::from("the network is large"));
+    }
+    let verdict = checked(alloc, nest, &network, cert);
+    drop(network);
+    Ok(verdict?)
+}
+
+// The verdict on a network of a source.
+fn verdict_by(alloc: Global, source: &[u8], row: &Row, cert: &Cert) -> Result<Verdict, Fail> {
+    let nest = nest(alloc, source)?;
+    let verdict = judged(alloc, &nest, row, cert);
+    drop(nest);
+    verdict
 }
 
 /// The checker's verdict on a network of a source, where the reads have these origins.
@@ -190,15 +211,27 @@ pub(crate) fn verdict_of(
     row: &Row,
     sources: Items<Origin>,
 ) -> Result<Verdict, Fail> {
-    let cert = cert(alloc, row.schedule, sources)?;
-    let network = network(alloc, row)?;
-    checked(alloc, source, &network, &cert)
+    match schedule(alloc, row.schedule) {
+        Ok(schedule) => {
+            let cert = Cert { sources, schedule };
+            let verdict = verdict_by(alloc, source, row, &cert);
+            drop(cert);
+            verdict
+        }
+        Err(error) => {
+            drop(sources);
+            Err(Fail::from(error))
+        }
+    }
 }
 
 fn sweeps(alloc: Global, count: u32) -> Result<Items<Origin>, AllocError> {
     let mut sources = Items::new(alloc);
     for _ in 0..count {
-        sources.push(Origin::Sweep)?;
+        if sources.push(Origin::Sweep).is_err() {
+            drop(sources);
+            return Err(AllocError);
+        }
     }
     Ok(sources)
 }
@@ -208,18 +241,29 @@ fn swept(alloc: Global, source: &[u8], row: &Row) -> Result<Verdict, Fail> {
     verdict_of(alloc, source, row, sweeps(alloc, row.sources)?)
 }
 
-fn accepts(verdict: Verdict) -> bool {
+// Whether it is accepted.
+fn accepts(alloc: Global, source: &[u8], row: &Row) -> Result<bool, Fail> {
+    let verdict = swept(alloc, source, row)?;
     let accepted = matches!(verdict, Verdict::Accepted);
     drop(verdict);
-    accepted
+    Ok(accepted)
 }
 
-fn refuses(verdict: Verdict, refusal: Refusal) -> bool {
+// Whether it is refused like this.
+fn refuses(alloc: Global, source: &[u8], row: &Row, refusal: Refusal) -> Result<bool, Fail> {
     let wanted = Verdict::Refused(refusal);
-    let same = verdict == wanted;
-    drop(verdict);
-    drop(wanted);
-    same
+    match swept(alloc, source, row) {
+        Ok(verdict) => {
+            let same = verdict == wanted;
+            drop(verdict);
+            drop(wanted);
+            Ok(same)
+        }
+        Err(error) => {
+            drop(wanted);
+            Err(error)
+        }
+    }
 }
 
 fn point(alloc: Global, statement: u32, turn: i64) -> Point {
@@ -231,8 +275,8 @@ fn point(alloc: Global, statement: u32, turn: i64) -> Point {
 #[test]
 fn the_networks_of_the_worked_nests_are_accepted(rt: HostRuntime) -> Result<(), Fail> {
     let alloc = rt.alloc();
-    assert!(rt; accepts(swept(alloc, bound::SUMS, &SUMS)?));
-    assert!(rt; accepts(swept(alloc, bound::DELAYED, &DELAYED)?));
+    assert!(rt; accepts(alloc, bound::SUMS, &SUMS)?);
+    assert!(rt; accepts(alloc, bound::DELAYED, &DELAYED)?);
     Ok(())
 }
 
@@ -266,7 +310,7 @@ fn the_shape_is_refused(rt: HostRuntime) -> Result<(), Fail> {
             sources: *sources,
             ..SUMS
         };
-        assert!(rt; refuses(swept(alloc, bound::SUMS, &row)?, Refusal::Shape(3)));
+        assert!(rt; refuses(alloc, bound::SUMS, &row, Refusal::Shape(3))?);
     }
     for (slots, scripts, process) in &PROCESSES {
         let row = Row {
@@ -274,7 +318,7 @@ fn the_shape_is_refused(rt: HostRuntime) -> Result<(), Fail> {
             scripts,
             ..SUMS
         };
-        assert!(rt; refuses(swept(alloc, bound::SUMS, &row)?, Refusal::Shape(*process)));
+        assert!(rt; refuses(alloc, bound::SUMS, &row, Refusal::Shape(*process))?);
     }
     Ok(())
 }
@@ -313,8 +357,14 @@ static SCRIPTS: [([&[u8]; 3], u32, u32); 6] = [
 fn the_fires_are_refused(rt: HostRuntime) -> Result<(), Fail> {
     for (scripts, process, place) in &SCRIPTS {
         let row = Row { scripts, ..SUMS };
-        let verdict = swept(rt.alloc(), bound::SUMS, &row)?;
-        assert!(rt; refuses(verdict, Refusal::Fires(*process, *place)));
+        assert!(rt;
+            refuses(
+                rt.alloc(),
+                bound::SUMS,
+                &row,
+                Refusal::Fires(*process, *place)
+            )?
+        );
     }
     Ok(())
 }
@@ -347,16 +397,14 @@ fn the_schedule_is_refused(rt: HostRuntime) -> Result<(), Fail> {
             schedule: *schedule,
             ..SUMS
         };
-        let verdict = swept(alloc, bound::SUMS, &row)?;
-        assert!(rt; refuses(verdict, Refusal::NotEnabled(*entry)));
+        assert!(rt; refuses(alloc, bound::SUMS, &row, Refusal::NotEnabled(*entry))?);
     }
     for (schedule, process) in &UNENDED {
         let row = Row {
             schedule: *schedule,
             ..SUMS
         };
-        let verdict = swept(alloc, bound::SUMS, &row)?;
-        assert!(rt; refuses(verdict, Refusal::Unended(*process)));
+        assert!(rt; refuses(alloc, bound::SUMS, &row, Refusal::Unended(*process))?);
     }
     for (channels, schedule, entry) in &NARROW {
         let row = Row {
@@ -364,8 +412,7 @@ fn the_schedule_is_refused(rt: HostRuntime) -> Result<(), Fail> {
             schedule: *schedule,
             ..SUMS
         };
-        let verdict = swept(alloc, bound::SUMS, &row)?;
-        assert!(rt; refuses(verdict, Refusal::NotEnabled(*entry)));
+        assert!(rt; refuses(alloc, bound::SUMS, &row, Refusal::NotEnabled(*entry))?);
     }
     Ok(())
 }
@@ -378,7 +425,7 @@ fn a_token_that_nobody_uses_is_harmless(rt: HostRuntime) -> Result<(), Fail> {
         schedule: b"00011100001110000111000111222222220",
         ..SUMS
     };
-    assert!(rt; accepts(swept(rt.alloc(), bound::SUMS, &row)?));
+    assert!(rt; accepts(rt.alloc(), bound::SUMS, &row)?);
     Ok(())
 }
 
@@ -462,16 +509,21 @@ fn references_that_name_another_point_are_refused(rt: HostRuntime) -> Result<(),
             schedule: *schedule,
             ..SUMS
         };
-        let verdict = swept(alloc, bound::SUMS, &row)?;
-        assert!(rt; refuses(verdict, tag(alloc, *entry, *found, *named)));
+        assert!(rt; refuses(alloc, bound::SUMS, &row, tag(alloc, *entry, *found, *named))?);
     }
     let early = Row {
         scripts: &EARLY,
         schedule: b"1122200",
         ..DELAYED
     };
-    let verdict = swept(alloc, bound::DELAYED, &early)?;
-    assert!(rt; refuses(verdict, tag(alloc, 6, Named::At(2, 0), Named::Zero)));
+    assert!(rt;
+        refuses(
+            alloc,
+            bound::DELAYED,
+            &early,
+            tag(alloc, 6, Named::At(2, 0), Named::Zero)
+        )?
+    );
     Ok(())
 }
 
@@ -486,14 +538,19 @@ fn classes_that_are_not_those_of_the_uses_are_refused(rt: HostRuntime) -> Result
             classes: &classes,
             ..SUMS
         };
-        let verdict = swept(alloc, bound::SUMS, &row)?;
-        assert!(rt; refuses(verdict, Refusal::Class(channel, said, IN_ORDER)));
+        assert!(rt;
+            refuses(
+                alloc,
+                bound::SUMS,
+                &row,
+                Refusal::Class(channel, said, IN_ORDER)
+            )?
+        );
         let cut_off = Row {
             schedule: b"000",
             ..row
         };
-        let verdict = swept(alloc, bound::SUMS, &cut_off)?;
-        assert!(rt; refuses(verdict, Refusal::Unended(0)));
+        assert!(rt; refuses(alloc, bound::SUMS, &cut_off, Refusal::Unended(0))?);
     }
     Ok(())
 }

@@ -232,6 +232,31 @@ fn streams_of(
     Ok(streams)
 }
 
+// The streams of all channels of a sound network.
+fn streams_along(
+    alloc: Global,
+    nest: &Nest,
+    points: &Points,
+    inputs: &Inputs,
+    network: &Network,
+    schedule: &[u32],
+) -> Result<Vec<Vec<i64>>, AllocError>
+    requires points { points.now.of ≡ points_of nest.now }
+    requires numbers { FitsNumbers (net_of network.now) }
+    requires sound { IsSound nest.now network.now }
+    requires ends { EndsAll (net_of network.now) tags schedule.now }
+    ensures number { IfOk result (λ streams. length streams.items ≡ length network.now.channels) }
+    ensures each { IfOk result
+        (λ streams. (c : ℕ) → c < length network.now.channels
+        → nth_stream streams.items c ≡ stream nest.now network.now inputs.now c) }
+{
+    let mut state = start(alloc, network, points)?;
+    run_along(nest, points, inputs, network, schedule, &mut state);
+    let streams = streams_of(alloc, nest, inputs, network, &state);
+    drop(state);
+    streams
+}
+
 // What a process of a sound network has kept, and the calls of its ends, where it runs alone over ends in memory.
 pub(crate) fn run_alone<R: Wait>(
     rt: &R,
@@ -249,9 +274,7 @@ pub(crate) fn run_alone<R: Wait>(
     requires ends { EndsAll (net_of network.now) tags schedule.now }
     requires process { process < length network.now.processes }
 {
-    let mut state = start(alloc, network, points)?;
-    run_along(nest, points, inputs, network, schedule, &mut state);
-    let streams = streams_of(alloc, nest, inputs, network, &state)?;
+    let streams = streams_along(alloc, nest, points, inputs, network, schedule)?;
     let mut room = Room::new(alloc, network, points, process)?;
     let mut ends = LogEnds::new(alloc, network, process, &streams)?;
     run_node(

@@ -1,163 +1,277 @@
-use crate::orders::nest_with;
-use loop_walk::points;
+//! Tests of `node_automata`, and so of the scripts that `process_derive` makes.
+ghost use Rattle.std.specs.Prelude.{◌≡◌};
+ghost use Rattle.sanlp.specs.Points.{points_of};
+ghost use Rattle.net_core.specs.Machine.{net_of};
+ghost use Rattle.net_core.specs.Shape.{FitsNumbers};
+ghost use Rattle.net_core.specs.Sound.{IsSound};
+
+use crate::bound::{Made, make};
+use affine_core::Vector;
 use net_core::{Event, Ref, Refs};
-use net_maker::compile;
 use node_automata::{NodeAuto, automata, automaton};
 use sanlp::Role;
-use std::alloc::Global;
-use std::process::Abort;
+use std::alloc::{AllocError, Global};
 use std::test::Fail;
 use witness_plan::Policy;
 use wrap_expr::Expr;
 
-const INCREMENT: &[u8] = b"param N; in x[N]; out y[N]; for (i = 0; i < N; i++) y[i] = x[i] + 1;";
+// Two statements assign a, and the last one reads what it wrote a turn before.
+const RUNNING: &[u8] = b"param N; in x[N]; out y[N]; var a[N]; \
+    for (i = 0; i < N; i++) { if (i < 2) { a[i] = x[i]; } else { a[i] = 0 - x[i]; } } \
+    for (i = 0; i < N; i++) y[i] = y[i-1] + a[i];";
 
 /// What is wanted of an automaton. Its points have one loop value each.
 #[derive(Clone, Copy)]
 struct Wanted {
+    process: u32,
     role: Role,
     reads: u32,
     gets: &'static [u32],
     puts: &'static [u32],
     slots: u32,
-    events: &'static [Step],
+    /// Its events, as words: `g` with a channel and a slot is a Get, `f` with its references a Fire, where `z` is `Zero`, and
+    /// `p` with a channel a Put.
+    script: &'static [u8],
     values: &'static [i64],
     expr: Computes,
 }
 
-/// An event of a script, with its channel, the slot of a Get, and the slots that a Fire reads.
-#[derive(Clone, Copy)]
-enum Step {
-    Get(u32, u32),
-    Fire(&'static [u32]),
-    Put(u32),
-}
-
-/// What an expression computes: the given value, its first read, or that and 1.
+/// What an expression computes: the given value, its first read, that taken from 0, or the sum of both its reads.
 #[derive(Clone, Copy)]
 enum Computes {
     Given,
     Read,
-    ReadAndOne,
+    Negation,
+    Sum,
 }
 
-/// A source that is given x, the assignment and a sink that prints y, with two points each.
-static WANTED: [Wanted; 3] = [
+/// A source that is given x, three assignments and a sink that prints y, where N is 3. Channel 2 leads from process 3 to
+/// itself, and by it and by channels 0 and 1 some turns hand nothing on.
+static WANTED: [Wanted; 5] = [
     Wanted {
+        process: 0,
         role: Role::Source(0),
         reads: 0,
         gets: &[],
-        puts: &[0],
+        puts: &[0, 1],
         slots: 0,
-        events: &[Step::Fire(&[]), Step::Put(0), Step::Fire(&[]), Step::Put(0)],
-        values: &[0, 1],
+        script: b"f p0 f p0 f p1",
+        values: &[0, 1, 2],
         expr: Computes::Given,
     },
     Wanted {
+        process: 1,
         role: Role::Assign,
         reads: 1,
         gets: &[0],
-        puts: &[1],
+        puts: &[3],
         slots: 1,
-        events: &[
-            Step::Get(0, 0),
-            Step::Fire(&[0]),
-            Step::Put(1),
-            Step::Get(0, 0),
-            Step::Fire(&[0]),
-            Step::Put(1),
-        ],
+        script: b"g00 f0 p3 g00 f0 p3",
         values: &[0, 1],
-        expr: Computes::ReadAndOne,
+        expr: Computes::Read,
     },
     Wanted {
-        role: Role::Sink(1),
+        process: 2,
+        role: Role::Assign,
         reads: 1,
         gets: &[1],
+        puts: &[4],
+        slots: 1,
+        script: b"g10 f0 p4",
+        values: &[2],
+        expr: Computes::Negation,
+    },
+    Wanted {
+        process: 3,
+        role: Role::Assign,
+        reads: 2,
+        gets: &[2, 3, 4],
+        puts: &[2, 5],
+        slots: 3,
+        script: b"g31 fz1 p2 p5 g20 g31 f01 p2 p5 g20 g42 f02 p5",
+        values: &[0, 1, 2],
+        expr: Computes::Sum,
+    },
+    Wanted {
+        process: 4,
+        role: Role::Sink(1),
+        reads: 1,
+        gets: &[5],
         puts: &[],
         slots: 1,
-        events: &[
-            Step::Get(1, 0),
-            Step::Fire(&[0]),
-            Step::Get(1, 0),
-            Step::Fire(&[0]),
-        ],
-        values: &[0, 1],
+        script: b"g50 f0 g50 f0 g50 f0",
+        values: &[0, 1, 2],
         expr: Computes::Read,
     },
 ];
 
-/// Whether a fire's references are these slots.
-fn reads_slots(refs: &Refs, slots: &[u32]) -> bool {
-    let refs = refs.as_slice();
-    refs.len() == slots.len()
-        && refs
-            .iter()
-            .zip(slots)
-            .all(|(reference, slot)| *reference == Ref::Slot(*slot))
+fn digit(byte: u8) -> u32 {
+    u32::from(byte.wrapping_sub(b'0'))
 }
 
-fn is_step(event: &Event, wanted: Step) -> bool {
-    match (event, wanted) {
-        (Event::Get { channel, slot }, Step::Get(from, to)) => *channel == from && *slot == to,
-        (Event::Fire { refs }, Step::Fire(slots)) => reads_slots(refs, slots),
-        (Event::Put { channel }, Step::Put(to)) => *channel == to,
+// Whether these are the references of a fire.
+fn are_references(refs: &Refs, names: &[u8]) -> bool {
+    let refs = refs.as_slice();
+    refs.len() == names.len()
+        && refs.iter().zip(names).all(|(reference, name)| match reference {
+            Ref::Zero => *name == b'z',
+            Ref::Slot(slot) => *slot == digit(*name),
+        })
+}
+
+fn is_event(event: &Event, word: &[u8]) -> bool {
+    match (event, word) {
+        (Event::Get { channel, slot }, [b'g', from, to]) => {
+            *channel == digit(*from) && *slot == digit(*to)
+        }
+        (Event::Fire { refs }, [b'f', names @ ..]) => are_references(refs, names),
+        (Event::Put { channel }, [b'p', to]) => *channel == digit(*to),
         _ => false,
     }
+}
+
+fn is_script(events: &[Event], script: &[u8]) -> bool {
+    events.len() == script.split(|byte| *byte == b' ').count()
+        && events
+            .iter()
+            .zip(script.split(|byte| *byte == b' '))
+            .all(|(event, word)| is_event(event, word))
+}
+
+fn is_negation(left: &Expr, right: &Expr) -> bool {
+    matches!((left, right), (Expr::Const(0), Expr::Read(0)))
+}
+
+fn is_sum(left: &Expr, right: &Expr) -> bool {
+    matches!((left, right), (Expr::Read(0), Expr::Read(1)))
 }
 
 fn is_expression(expr: &Expr, wanted: Computes) -> bool {
     match (expr, wanted) {
         (Expr::Given, Computes::Given) => true,
         (Expr::Read(read), Computes::Read) => *read == 0,
-        (Expr::Add(a, b), Computes::ReadAndOne) => {
-            matches!((a.get(), b.get()), (Expr::Read(0), Expr::Const(1)))
-        }
+        (Expr::Sub(left, right), Computes::Negation) => is_negation(left.get(), right.get()),
+        (Expr::Add(left, right), Computes::Sum) => is_sum(left.get(), right.get()),
         _ => false,
     }
 }
 
-/// Compares an automaton with what is wanted, field by field.
-fn compare(rt: &impl Abort, auto: &NodeAuto, process: u32, wanted: &Wanted) {
-    assert_eq!(rt; auto.process, process);
-    assert_eq!(rt; auto.role, wanted.role);
-    assert_eq!(rt; auto.depth, 1, "depth of {process}");
-    assert_eq!(rt; auto.reads, wanted.reads, "reads of {process}");
-    assert_eq!(rt; auto.gets.as_slice(), wanted.gets);
-    assert_eq!(rt; auto.puts.as_slice(), wanted.puts);
-    assert_eq!(rt; auto.slots, wanted.slots, "slots of {process}");
-    let events = auto.events.as_slice();
-    assert_eq!(rt; events.len(), wanted.events.len(), "events of {process}");
-    for (event, step) in events.iter().zip(wanted.events) {
-        assert!(rt; is_step(event, *step), "an event of {process}");
+// Whether a process has these points.
+fn are_points(vectors: &[Vector], values: &[i64]) -> bool {
+    vectors.len() == values.len()
+        && vectors
+            .iter()
+            .zip(values)
+            .all(|(vector, value)| vector.as_slice() == [*value].as_slice())
+}
+
+// Whether an automaton is what is wanted.
+fn is_wanted(auto: &NodeAuto, wanted: &Wanted) -> bool {
+    auto.process == wanted.process
+        && auto.role == wanted.role
+        && auto.depth == 1
+        && auto.reads == wanted.reads
+        && auto.gets.as_slice() == wanted.gets
+        && auto.puts.as_slice() == wanted.puts
+        && auto.slots == wanted.slots
+        && is_script(auto.events.as_slice(), wanted.script)
+        && are_points(auto.values.as_slice(), wanted.values)
+        && is_expression(&auto.expr, wanted.expr)
+}
+
+fn are_wanted(autos: &[NodeAuto]) -> bool {
+    autos.len() == WANTED.len()
+        && autos
+            .iter()
+            .zip(&WANTED)
+            .all(|(auto, wanted)| is_wanted(auto, wanted))
+}
+
+// Whether the automata of a network are what is wanted.
+fn all_are_wanted(alloc: Global, made: &Made) -> Result<bool, AllocError>
+    requires points { made.now.points.of ≡ points_of made.now.nest }
+    requires numbers { FitsNumbers (net_of made.now.network) }
+    requires sound { IsSound made.now.nest made.now.network }
+{
+    let autos = automata(alloc, &made.nest, &made.points, &made.network)?;
+    let are_wanted = are_wanted(&autos);
+    drop(autos);
+    Ok(are_wanted)
+}
+
+// Whether the automaton of a process by itself is what is wanted.
+fn one_is_wanted(alloc: Global, made: &Made, wanted: &Wanted) -> Result<bool, AllocError>
+    requires points { made.now.points.of ≡ points_of made.now.nest }
+    requires numbers { FitsNumbers (net_of made.now.network) }
+    requires sound { IsSound made.now.nest made.now.network }
+{
+    if wanted.process as usize >= made.network.processes.len() {
+        return Ok(false);
     }
-    let values = auto.values.as_slice();
-    assert_eq!(rt; values.len(), wanted.values.len(), "points of {process}");
-    for (vector, value) in values.iter().zip(wanted.values) {
-        assert!(rt;
-            vector.as_slice() == [*value].as_slice(),
-            "a point of {process}"
-        );
-    }
-    assert!(rt;
-        is_expression(&auto.expr, wanted.expr),
-        "expression of {process}"
-    );
+    let auto = automaton(
+        alloc,
+        &made.nest,
+        &made.points,
+        &made.network,
+        wanted.process,
+    )?;
+    let is_wanted = is_wanted(&auto, wanted);
+    drop(auto);
+    Ok(is_wanted)
 }
 
 #[test]
 fn automata_are_what_their_processes_do(rt: HostRuntime) -> Result<(), Fail> {
-    let alloc: Global = rt.alloc();
-    let nest = nest_with(&rt, INCREMENT, 2)?;
-    let points = points(alloc, &nest)?;
-    let (network, _) = compile(alloc, &nest, &points, Policy::Seq)?;
-    let all = automata(alloc, &nest, &points, &network)?;
-    assert_eq!(rt; all.len(), WANTED.len());
-    assert_eq!(rt; network.processes.len(), WANTED.len());
-    for (process, wanted) in WANTED.iter().enumerate() {
-        compare(&rt, &all[process], process as u32, wanted);
-        let one = automaton(alloc, &nest, &points, &network, process as u32)?;
-        compare(&rt, &one, process as u32, wanted);
+    let made = make(rt.alloc(), RUNNING, 3, Policy::Seq)?;
+    let all = all_are_wanted(rt.alloc(), &made);
+    let one = one_is_wanted(rt.alloc(), &made, &WANTED[3]);
+    drop(made);
+    assert!(rt; all? && one?);
+    Ok(())
+}
+
+// How many negations an expression begins with.
+fn negations(expr: &Expr) -> u32 {
+    match expr {
+        Expr::Neg(inner) => negations(inner.get()).saturating_add(1),
+        _ => 0,
     }
+}
+
+// How many negations the expression of the first process begins with.
+fn first_negations(alloc: Global, made: &Made) -> Result<u32, AllocError>
+    requires points { made.now.points.of ≡ points_of made.now.nest }
+    requires numbers { FitsNumbers (net_of made.now.network) }
+    requires sound { IsSound made.now.nest made.now.network }
+{
+    let autos = automata(alloc, &made.nest, &made.points, &made.network)?;
+    let many = match autos.first() {
+        Some(auto) => negations(&auto.expr),
+        None => 0,
+    };
+    drop(autos);
+    Ok(many)
+}
+
+// A source with so many negations, as many as its tokens allow.
+fn negated(alloc: Global, many: u32) -> Result<Vec<u8>, AllocError> {
+    let mut source = Vec::from_slice(alloc, b"out y; y = ")?;
+    for _ in 0..many {
+        source.extend_from_slice(b"- ")?;
+    }
+    source.extend_from_slice(b"1;")?;
+    Ok(source)
+}
+
+// (`rt try` bears fewer.)
+#[test]
+fn the_deepest_expression_is_copied(rt: HostRuntime) -> Result<(), Fail> {
+    let source = negated(rt.alloc(), 8_185)?;
+    let made = make(rt.alloc(), &source, 0, Policy::Seq);
+    drop(source);
+    let made = made?;
+    let many = first_negations(rt.alloc(), &made);
+    drop(made);
+    assert!(rt; many? == 8_185);
     Ok(())
 }

@@ -1,81 +1,121 @@
 //! Tests of `clock_sim::simulate`.
+ghost use Rattle.std.specs.Prelude.{◌≡◌};
+ghost use Rattle.sanlp.specs.Points.{points_of};
+ghost use Rattle.net_core.specs.Machine.{net_of};
+ghost use Rattle.net_core.specs.Shape.{FitsNumbers};
+ghost use Rattle.net_core.specs.Sound.{IsSound};
 
-use crate::bound::{inputs, nest};
+use crate::bound::{INCREMENT, Made, inputs, make};
 use clock_sim::{Clocked, simulate};
-use loop_walk::{points, size};
-use net_checker::{Verdict, check};
-use net_maker::compile;
 use node_automata::automata;
-use std::alloc::Global;
+use sanlp::Inputs;
+use std::alloc::{AllocError, Global};
 use std::test::Fail;
 use witness_plan::Policy;
 
-/// An increment of as many values as there are: what comes out, and the number of clocks.
+/// How many values are incremented, the values of the arrays, what comes out, the number of clocks, and a policy.
 #[derive(Clone, Copy)]
 struct Increment {
-    source: &'static [u8],
-    values: &'static [i64],
+    many: i64,
+    inputs: &'static [&'static [i64]],
     outputs: &'static [i64],
     clocks: u64,
+    policy: Policy,
 }
 
-const INCREMENTS: [Increment; 3] = [
+static INCREMENTS: [Increment; 6] = [
     Increment {
-        source: b"in x[0]; out y[0]; for (i = 0; i < 0; i++) y[i] = x[i] + 1;",
-        values: &[],
+        many: 0,
+        inputs: &[&[], &[]],
         outputs: &[],
         clocks: 0,
+        policy: Policy::Seq,
     },
     Increment {
-        source: b"in x[1]; out y[1]; for (i = 0; i < 1; i++) y[i] = x[i] + 1;",
-        values: &[5],
+        many: 1,
+        inputs: &[&[5], &[]],
         outputs: &[6],
         clocks: 7,
+        policy: Policy::Seq,
     },
     // It has 21 events, up to three at a clock.
     Increment {
-        source: b"in x[3]; out y[3]; for (i = 0; i < 3; i++) y[i] = x[i] + 1;",
-        values: &[5, 6, 7],
+        many: 3,
+        inputs: &[&[5, 6, 7], &[]],
         outputs: &[6, 7, 8],
         clocks: 13,
+        policy: Policy::Seq,
+    },
+    Increment {
+        many: 0,
+        inputs: &[&[], &[]],
+        outputs: &[],
+        clocks: 0,
+        policy: Policy::Down,
+    },
+    Increment {
+        many: 1,
+        inputs: &[&[5], &[]],
+        outputs: &[6],
+        clocks: 7,
+        policy: Policy::Down,
+    },
+    Increment {
+        many: 3,
+        inputs: &[&[5, 6, 7], &[]],
+        outputs: &[6, 7, 8],
+        clocks: 13,
+        policy: Policy::Down,
     },
 ];
 
-// The clocked run of a source's network with the capacities that its schedule under a policy needs.
-fn simulated(
-    alloc: Global,
-    source: &[u8],
-    values: &[i64],
-    policy: Policy,
-) -> Result<Clocked, Fail> {
-    let nest = nest(alloc, source)?;
-    if size(&nest).is_err() {
-        return Err(Fail::from("the nest is large"));
-    }
-    let points = points(alloc, &nest)?;
-    let (network, cert) = compile(alloc, &nest, &points, policy)?;
-    match check(alloc, &nest, &points, &network, &cert)? {
-        Verdict::Accepted => {
-            let inputs = inputs(alloc, values)?;
-            let autos = automata(alloc, &nest, &points, &network)?;
-            Ok(simulate(alloc, &nest, &points, &inputs, &network, &autos)?)
-        }
-        Verdict::Refused(_) => Err(Fail::from("the network is refused")),
-    }
+// The clocked run of a network.
+fn simulated(alloc: Global, made: &Made, inputs: &Inputs) -> Result<Clocked, AllocError>
+    requires points { made.now.points.of ≡ points_of made.now.nest }
+    requires numbers { FitsNumbers (net_of made.now.network) }
+    requires sound { IsSound made.now.nest made.now.network }
+{
+    let autos = automata(alloc, &made.nest, &made.points, &made.network)?;
+    let clocked = simulate(
+        alloc,
+        &made.nest,
+        &made.points,
+        inputs,
+        &made.network,
+        &autos,
+    );
+    drop(autos);
+    clocked
+}
+
+// Whether a run is what is wanted.
+fn is_wanted(clocked: &Clocked, wanted: &Increment) -> bool {
+    let arrays = clocked.arrays.arrays.as_slice();
+    clocked.clocks == wanted.clocks
+        && arrays.len() == 2
+        && arrays[0].is_empty()
+        && arrays[1].as_slice() == wanted.outputs
+}
+
+// Whether the clocked run of a network is what is wanted.
+fn runs_by_the_clock(alloc: Global, made: &Made, wanted: &Increment) -> Result<bool, AllocError>
+    requires points { made.now.points.of ≡ points_of made.now.nest }
+    requires numbers { FitsNumbers (net_of made.now.network) }
+    requires sound { IsSound made.now.nest made.now.network }
+{
+    let inputs = inputs(alloc, wanted.inputs)?;
+    let clocked = simulated(alloc, made, &inputs);
+    drop(inputs);
+    Ok(is_wanted(&clocked?, wanted))
 }
 
 #[test]
 fn all_processes_step_by_one_clock(rt: HostRuntime) -> Result<(), Fail> {
-    let alloc = rt.alloc();
-    for row in INCREMENTS {
-        for policy in [Policy::Seq, Policy::Down] {
-            let clocked = simulated(alloc, row.source, row.values, policy)?;
-            assert_eq!(rt; clocked.clocks, row.clocks, "by {policy:?}");
-            let arrays = clocked.arrays.arrays.as_slice();
-            assert_eq!(rt; arrays.len(), 2);
-            assert!(rt; arrays[0].is_empty());
-            assert!(rt; arrays[1].as_slice() == row.outputs);
-        }
+    for row in &INCREMENTS {
+        let made = make(rt.alloc(), INCREMENT, row.many, row.policy)?;
+        let is_right = runs_by_the_clock(rt.alloc(), &made, row);
+        drop(made);
+        assert!(rt; is_right?);
     }
     Ok(())
 }

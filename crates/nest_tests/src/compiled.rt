@@ -1,21 +1,79 @@
 //! Tests of `net_maker::compile`: the trees of the reads of a certificate give at each point what `sweep` finds, and a read
 //! outside of the class is swept.
+ghost use Rattle.std.specs.Prelude.{◌≡◌, IfOk};
+ghost use Rattle.sanlp.specs.Points.{points_of};
+ghost use Rattle.sanlp.specs.Size.{SizeIsOk};
+ghost use Rattle.net_core.specs.Machine.{net_of};
+ghost use Rattle.net_core.specs.Shape.{FitsNumbers};
+ghost use Rattle.process_derive.specs.Derived.{net};
 
-use crate::given::{
-    DELAYED, PRODUCT, RUNNING_SUM, STENCIL, STRIDED, TWO_CASES, have_values, leaf, nest,
-};
-use affine_core::Vector;
-use channel_plan::channel_plans;
-use loop_walk::{points, size};
-use net_checker::{Verdict, check};
-use net_maker::compile;
+use crate::bound::{Made, is_accepted, make};
+use affine_core::{Form, Vector};
+use net_core::Network;
 use process_derive::derive;
-use sanlp::{Points, Tag};
+use sanlp::{Nest, Points, Tag};
 use shadow_sweep::sweep;
 use source_tree::{Origin, SourceTable, Tree};
-use std::process::Abort;
+use std::alloc::{AllocError, Global};
 use std::test::Fail;
 use witness_plan::{Policy, plan, with_capacities};
+
+const RUNNING_SUM: &[u8] =
+    b"param N; in x[N]; out s[N]; for (i = 0; i < N; i++) s[i] = s[i-1] + x[i];";
+
+const DELAYED: &[u8] =
+    b"param N; out y[N]; var t; for (i = 0; i < N; i++) { y[i] = t; t = i; t = t + 10; }";
+
+const TWO_CASES: &[u8] = b"param N; in x[N]; out y[N]; var a[N]; \
+    for (i = 0; i < N; i++) { if (i < 2) { a[i] = x[i]; } else { a[i] = 0 - x[i]; } } \
+    for (i = 0; i < N; i++) y[i] = a[i];";
+
+const PRODUCT: &[u8] = b"param N; in A[N][N], B[N][N]; out C[N][N]; \
+    for (i = 0; i < N; i++) for (j = 0; j < N; j++) { C[i][j] = 0; \
+    for (k = 0; k < N; k++) C[i][j] = C[i][j] + A[i][k] * B[k][j]; }";
+
+const STENCIL: &[u8] = b"param N; inout a[N][N]; \
+    for (t = 0; t < N; t++) for (i = 1; i < N - 1; i++) for (j = 1; j < N - 1; j++) \
+    a[i][j] = a[i-1][j-1] + a[i-1][j] + a[i][j] + a[i][j+1] + a[i+1][j-1] + a[i+1][j+1];";
+
+const STRIDED: &[u8] = b"param N; in x[N]; out y[N]; var a[N]; \
+    for (i = 0; i < N; i++) a[2*i] = x[i]; for (i = 0; i < N; i++) y[i] = a[i];";
+
+// Writers with guards that each read the others' cells, also at free forms: the trees take tests between points, points that
+// come one by the text before the other, and leaves that nothing meets.
+const FOUR_WRITERS: &[u8] = b"param N; out a[N]; for (i = 0; i < N; i++) for (j = i; j < N; j++) { \
+    if (i >= 0) { a[i] = a[i] + a[j]; } if (i >= 1) { a[i+5] = a[i-1] + a[j+1]; } \
+    if (i >= 2) { a[i+3] = a[i-2] + a[j+2]; } a[j-1] = a[2*i-j] + a[3*j]; }";
+
+fn value(form: &Form, at: &[i64]) -> Option<i128> {
+    let mut total = form.constant;
+    for (coef, value) in form.coefs.as_slice().iter().zip(at) {
+        total = total.checked_add(coef.checked_mul(i128::from(*value))?)?;
+    }
+    Some(total)
+}
+
+// Whether these forms have the values of this point.
+fn have_values(forms: &[Form], at: &[i64], point: &[i64]) -> bool {
+    forms.len() == point.len()
+        && forms.iter().zip(point).all(|(form, wanted)| value(form, at)
+            == Some(i128::from(*wanted)))
+}
+
+// The leaf that a tree without Divides comes to at these loop values.
+fn leaf<'a>(tree: &'a Tree, at: &[i64]) -> Option<&'a Tree> {
+    match tree {
+        Tree::Test(form, above, below) => {
+            if value(form, at)? >= 0 {
+                leaf(above.get(), at)
+            } else {
+                leaf(below.get(), at)
+            }
+        }
+        Tree::Divides(..) => None,
+        _ => Some(tree),
+    }
+}
 
 // Whether the tree gives this write, or none, at these loop values.
 fn gives(tree: &Tree, at: &[i64], points: &Points, wanted: Option<Tag>) -> bool {
@@ -43,102 +101,136 @@ fn gives_all(tree: &Tree, vectors: &[Vector], points: &Points, wanted: &[Option<
             .all(|(at, tag)| gives(tree, at.as_slice(), points, *tag))
 }
 
-// That the certificate of a source has a right tree for each read, and is accepted.
-fn all_have_trees(
-    rt: &(impl Abort + AllocGlobal),
-    source: &[u8],
-    n: i64,
-    policy: Policy,
-) -> Result<(), Fail> {
-    let alloc = rt.alloc();
-    let nest = nest(alloc, source, n)?;
-    if size(&nest).is_err() {
-        return Err(Fail::from("the nest is large"));
-    }
-    let points = points(alloc, &nest)?;
-    let table: SourceTable = sweep(alloc, &nest, &points)?;
-    let (network, cert) = compile(alloc, &nest, &points, policy)?;
-    let mut reads = cert.sources.as_slice().iter().zip(table.of.as_slice());
-    let statements = nest.statements.as_slice();
-    for (reader, vectors) in statements.iter().zip(points.of.as_slice()) {
-        for read in 0..reader.reads.len() {
+// Whether each read has a tree, which gives at the points of its reader what the table says.
+fn are_right(made: &Made, table: &SourceTable) -> bool {
+    let mut reads = made.cert.sources.as_slice().iter().zip(table.of.as_slice());
+    let statements = made.nest.statements.as_slice();
+    for (reader, vectors) in statements.iter().zip(made.points.of.as_slice()) {
+        for _ in 0..reader.reads.len() {
             let Some((Origin::Tree(tree), wanted)) = reads.next() else {
-                return Err(Fail::from("a read has no tree"));
+                return false;
             };
-            let right = gives_all(tree, vectors.as_slice(), &points, wanted.as_slice());
-            assert!(rt; right, "read {read} with N={n}");
+            if !gives_all(tree, vectors.as_slice(), &made.points, wanted.as_slice()) {
+                return false;
+            }
         }
     }
-    assert!(rt; reads.next().is_none());
-    let verdict = check(alloc, &nest, &points, &network, &cert)?;
-    assert!(rt; verdict == Verdict::Accepted, "with N={n}");
-    Ok(())
+    reads.next().is_none()
 }
 
-// Writers with guards that each read the others' cells, also at free forms: the trees take tests between points, points that
-// come one by the text before the other, and leaves that nothing meets.
-const FOUR_WRITERS: &[u8] = b"param N; out a[N]; for (i = 0; i < N; i++) for (j = i; j < N; j++) { \
-    if (i >= 0) { a[i] = a[i] + a[j]; } if (i >= 1) { a[i+5] = a[i-1] + a[j+1]; } \
-    if (i >= 2) { a[i+3] = a[i-2] + a[j+2]; } a[j-1] = a[2*i-j] + a[3*j]; }";
+// Whether each read has a tree, which gives at the points of its reader what `sweep` finds, and the checker accepts them.
+fn all_have_trees(alloc: Global, made: &Made) -> Result<bool, AllocError>
+    requires size { SizeIsOk made.now.nest }
+    requires points { made.now.points.of ≡ points_of made.now.nest }
+    requires numbers { FitsNumbers (net_of made.now.network) }
+{
+    let table = sweep(alloc, &made.nest, &made.points)?;
+    let are_right = are_right(made, &table);
+    drop(table);
+    Ok(is_accepted(alloc, &made.nest, &made.points, &made.network, &made.cert)? && are_right)
+}
+
+// Sources with values of N, and a policy.
+static IN_CLASS: [(&[u8], &[i64], Policy); 6] = [
+    (RUNNING_SUM, &[0, 1, 2, 3, 4], Policy::Seq),
+    (DELAYED, &[0, 1, 2, 3, 4], Policy::Down),
+    (TWO_CASES, &[0, 1, 2, 3, 4], Policy::Seq),
+    (PRODUCT, &[2], Policy::Seq),
+    (STENCIL, &[4], Policy::Seq),
+    (FOUR_WRITERS, &[4], Policy::Down),
+];
 
 #[test]
 fn each_read_has_a_right_tree(rt: HostRuntime) -> Result<(), Fail> {
-    for n in 0..5 {
-        all_have_trees(&rt, RUNNING_SUM, n, Policy::Seq)?;
-        all_have_trees(&rt, DELAYED, n, Policy::Down)?;
-        all_have_trees(&rt, TWO_CASES, n, Policy::Seq)?;
+    for (source, values, policy) in &IN_CLASS {
+        for n in *values {
+            let made = make(rt.alloc(), *source, *n, *policy)?;
+            let are_right = all_have_trees(rt.alloc(), &made);
+            drop(made);
+            assert!(rt; are_right?);
+        }
     }
-    all_have_trees(&rt, PRODUCT, 2, Policy::Seq)?;
-    all_have_trees(&rt, STENCIL, 4, Policy::Seq)?;
-    all_have_trees(&rt, FOUR_WRITERS, 4, Policy::Down)
-}
-
-// That the network of a source which is made step by step of its points is accepted with the certificate of `compile`.
-fn is_made_of_points(
-    rt: &(impl Abort + AllocGlobal),
-    source: &[u8],
-    n: i64,
-    policy: Policy,
-) -> Result<(), Fail> {
-    let alloc = rt.alloc();
-    let nest = nest(alloc, source, n)?;
-    if size(&nest).is_err() {
-        return Err(Fail::from("the nest is large"));
-    }
-    let points = points(alloc, &nest)?;
-    let table = sweep(alloc, &nest, &points)?;
-    let plans = channel_plans(alloc, &nest, &points, &table)?;
-    let derived = derive(alloc, &nest, &points, &table)?;
-    let witness = plan(alloc, &nest, &points, &derived, policy)?;
-    let network = with_capacities(alloc, derived, witness.capacities.as_slice())?;
-    let (_, cert) = compile(alloc, &nest, &points, policy)?;
-    let verdict = check(alloc, &nest, &points, &network, &cert)?;
-    assert!(rt; plans.len() == network.channels.len());
-    assert!(rt; verdict == Verdict::Accepted);
     Ok(())
-}
-
-#[test]
-fn networks_made_of_points_are_accepted(rt: HostRuntime) -> Result<(), Fail> {
-    is_made_of_points(&rt, RUNNING_SUM, 3, Policy::Seq)?;
-    is_made_of_points(&rt, PRODUCT, 2, Policy::Down)
 }
 
 #[test]
 fn reads_outside_of_the_class_are_swept(rt: HostRuntime) -> Result<(), Fail> {
-    let alloc = rt.alloc();
-    let nest = nest(alloc, STRIDED, 3)?;
-    if size(&nest).is_err() {
-        return Err(Fail::from("the nest is large"));
-    }
-    let points = points(alloc, &nest)?;
-    let (network, cert) = compile(alloc, &nest, &points, Policy::Seq)?;
-    assert!(rt;
-        matches!(
-            cert.sources.as_slice(),
-            [Origin::Tree(_), Origin::Sweep, Origin::Tree(_)]
-        )
+    let made = make(rt.alloc(), STRIDED, 3, Policy::Seq)?;
+    let are_right = matches!(
+        made.cert.sources.as_slice(),
+        [Origin::Tree(_), Origin::Sweep, Origin::Tree(_)]
     );
-    assert!(rt; check(alloc, &nest, &points, &network, &cert)? == Verdict::Accepted);
+    let is_accepted = is_accepted(
+        rt.alloc(),
+        &made.nest,
+        &made.points,
+        &made.network,
+        &made.cert,
+    );
+    drop(made);
+    assert!(rt; are_right && is_accepted?);
+    Ok(())
+}
+
+// The network of a nest with the number of its tokens as each capacity.
+fn derived(alloc: Global, nest: &Nest, points: &Points) -> Result<Network, AllocError>
+    requires size { SizeIsOk nest.now }
+    requires points { points.now.of ≡ points_of nest.now }
+    ensures { IfOk result (λ network. network ≡ net nest.now) }
+{
+    let table = sweep(alloc, nest, points)?;
+    let network = derive(alloc, nest, points, &table);
+    drop(table);
+    network
+}
+
+// The capacities that the schedule of such a network needs.
+fn capacities(
+    alloc: Global,
+    nest: &Nest,
+    points: &Points,
+    network: &Network,
+    policy: Policy,
+) -> Result<Vec<u32>, AllocError>
+    requires size { SizeIsOk nest.now }
+    requires points { points.now.of ≡ points_of nest.now }
+    requires network { network.now ≡ net nest.now }
+{
+    let witness = plan(alloc, nest, points, network, policy)?;
+    Ok(witness.capacities.into_vec())
+}
+
+// Whether a network is the one that is made step by step of the points.
+fn is_made_of_points(alloc: Global, made: &Made, policy: Policy) -> Result<bool, AllocError>
+    requires size { SizeIsOk made.now.nest }
+    requires points { made.now.points.of ≡ points_of made.now.nest }
+{
+    let network = derived(alloc, &made.nest, &made.points)?;
+    let capacities = capacities(alloc, &made.nest, &made.points, &network, policy)?;
+    let network = with_capacities(alloc, network, &capacities)?;
+    Ok(network.same(&made.network))
+}
+
+static OF_POINTS: [(&[u8], i64, Policy); 2] = [
+    (RUNNING_SUM, 3, Policy::Seq),
+    (PRODUCT, 2, Policy::Down),
+];
+
+// The network that is made step by step is that of `compile`, which the checker accepts.
+#[test]
+fn networks_made_of_points_are_accepted(rt: HostRuntime) -> Result<(), Fail> {
+    for (source, n, policy) in &OF_POINTS {
+        let made = make(rt.alloc(), *source, *n, *policy)?;
+        let is_same = is_made_of_points(rt.alloc(), &made, *policy);
+        let is_accepted = is_accepted(
+            rt.alloc(),
+            &made.nest,
+            &made.points,
+            &made.network,
+            &made.cert,
+        );
+        drop(made);
+        assert!(rt; is_same? && is_accepted?);
+    }
     Ok(())
 }

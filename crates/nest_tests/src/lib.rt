@@ -1,6 +1,6 @@
-//! Tests of networks that are made of nests: of their certificates, their automata, nodes and clocked runs, their runs in other
-//! orders and by threads, and their least capacities. They stand apart from what they test, since a crate with tests of its own
-//! is proved twice.
+//! Tests of networks that are made of nests: of their channels and certificates, their automata, nodes, links and clocked runs,
+//! their runs in other orders and by threads, and their least capacities. They stand apart from what they test, since a crate
+//! with tests of its own is proved twice.
 #![tactic(auto)]
 
 #[cfg(test)]
@@ -14,13 +14,15 @@ mod clocks;
 #[cfg(test)]
 mod compiled;
 #[cfg(test)]
-mod given;
+mod links;
 #[cfg(test)]
 mod meeting;
 #[cfg(test)]
 mod nodes;
 #[cfg(test)]
 mod orders;
+#[cfg(test)]
+mod plans;
 #[cfg(test)]
 mod scripts;
 #[cfg(test)]

@@ -1,14 +1,16 @@
+//! Tests of `thread_runner`.
 ghost use Rattle.std.specs.Prelude.{◌≡◌, IfOk, map};
-ghost use Rattle.sanlp.specs.Size.{SizeIsOk};
+ghost use Rattle.sanlp.specs.Points.{points_of};
+ghost use Rattle.net_core.specs.Machine.{net_of};
+ghost use Rattle.net_core.specs.Orders.{EndsAll};
+ghost use Rattle.net_core.specs.Rules.{tags};
+ghost use Rattle.net_core.specs.Shape.{FitsNumbers};
+ghost use Rattle.net_core.specs.Sound.{IsSound};
 
-use crate::orders::nest_with;
-use array_data::read_inputs;
+use crate::bound::{Made, has_list, inputs, make};
 use io_edge::Open;
-use loop_walk::points;
-use net_checker::{Verdict, check};
-use net_maker::compile;
 use ruled_links::Ends;
-use sanlp::{Arrays, Inputs, Nest};
+use sanlp::{Arrays, Inputs};
 use std::alloc::{AllocError, Global};
 use std::sync::Wait;
 use std::sync::atomic::{AtomicU64, Ordering};
@@ -108,48 +110,63 @@ fn meeting_ends<'a>(
     Ok(all)
 }
 
-// What the network of a nest computes, run by threads whose ends meet.
+// What a network computes, run by threads whose ends meet.
 fn run_meeting<R: Threads + Wait + Sync>(
     rt: &R,
     alloc: Global,
-    nest: &Nest,
+    made: &Made,
     inputs: &Inputs,
     meeting: &Meeting,
 ) -> Result<Arrays, AllocError>
-    requires { SizeIsOk nest.now }
+    requires points { made.now.points.of ≡ points_of made.now.nest }
+    requires numbers { FitsNumbers (net_of made.now.network) }
+    requires sound { IsSound made.now.nest made.now.network }
+    requires ends { EndsAll (net_of made.now.network) tags made.now.cert.schedule }
 {
-    let points = points(alloc, nest)?;
-    let (network, cert) = compile(alloc, nest, &points, Policy::Seq)?;
-    match check(alloc, nest, &points, &network, &cert)? {
-        Verdict::Accepted => {
-            let ends = make_ends(alloc, nest, &points, inputs, &network)?;
-            let ends = meeting_ends(alloc, ends, meeting)?;
-            let bench = Bench::new(alloc, nest, &points, &network)?;
-            let schedule = cert.schedule.as_slice();
-            Ok(run_threads(
-                rt, alloc, nest, &points, inputs, &network, schedule, bench, ends, &Open,
-            ))
-        }
-        Verdict::Refused(_) => unreachable!(),
-    }
+    let ends = make_ends(alloc, &made.nest, &made.points, inputs, &made.network)?;
+    let ends = meeting_ends(alloc, ends, meeting)?;
+    let bench = Bench::new(alloc, &made.nest, &made.points, &made.network)?;
+    Ok(run_threads(
+        rt,
+        alloc,
+        &made.nest,
+        &made.points,
+        inputs,
+        &made.network,
+        made.cert.schedule.as_slice(),
+        bench,
+        ends,
+        &Open,
+    ))
+}
+
+// The values of x and z.
+static INPUTS: [&[i64]; 3] = [&[1], &[2], &[]];
+
+// Whether it computes their sum.
+fn gives_sum<R: Threads + Wait + Sync>(
+    rt: &R,
+    alloc: Global,
+    made: &Made,
+    meeting: &Meeting,
+) -> Result<bool, AllocError>
+    requires points { made.now.points.of ≡ points_of made.now.nest }
+    requires numbers { FitsNumbers (net_of made.now.network) }
+    requires sound { IsSound made.now.nest made.now.network }
+    requires ends { EndsAll (net_of made.now.network) tags made.now.cert.schedule }
+{
+    let inputs = inputs(alloc, &INPUTS)?;
+    let outputs = run_meeting(rt, alloc, made, &inputs, meeting);
+    drop(inputs);
+    Ok(has_list(outputs?.arrays.as_slice(), &[3]))
 }
 
 #[test]
 fn two_nodes_meet(rt: HostRuntime) -> Result<(), Fail> {
-    let alloc = rt.alloc();
-    let nest = nest_with(&rt, b"in x, z; out y; y = x + z;", 0)?;
-    let Ok(inputs) = read_inputs(alloc, &nest, b"x,1\nz,2\n") else {
-        panic!(rt; "no inputs");
-    };
     let meeting = Meeting::new();
-    let outputs = run_meeting(&rt, alloc, &nest, &inputs, &meeting)?;
-    assert!(rt;
-        outputs
-            .arrays
-            .as_slice()
-            .iter()
-            .any(|values| values.as_slice() == [3].as_slice())
-    );
-    assert!(rt; meeting.met());
+    let made = make(rt.alloc(), b"in x, z; out y; y = x + z;", 0, Policy::Seq)?;
+    let gives_sum = gives_sum(&rt, rt.alloc(), &made, &meeting);
+    drop(made);
+    assert!(rt; gives_sum? && meeting.met());
     Ok(())
 }

@@ -1,30 +1,34 @@
 //! Tests of `node_runner`: a process that runs alone over ends in memory makes the calls of its script.
+ghost use Rattle.std.specs.Prelude.{◌≡◌};
+ghost use Rattle.sanlp.specs.Points.{points_of};
+ghost use Rattle.net_core.specs.Machine.{net_of};
+ghost use Rattle.net_core.specs.Orders.{EndsAll};
+ghost use Rattle.net_core.specs.Rules.{tags};
+ghost use Rattle.net_core.specs.Shape.{FitsNumbers};
+ghost use Rattle.net_core.specs.Sound.{IsSound};
 
 use crate::alone::run_alone;
-use crate::bound::{SUMS, inputs, nest};
-use loop_walk::{points, size};
-use net_checker::{Verdict, check};
-use net_maker::compile;
+use crate::bound::{Made, inputs, make};
 use ruled_links::Call;
-use std::process::Abort;
+use std::alloc::{AllocError, Global};
 use std::sync::Wait;
 use std::test::Fail;
 use witness_plan::Policy;
 
-/// A source with the values of its first array, and what its process 1 keeps and calls.
+/// A source with the values of its arrays, and what its process 1 keeps and calls.
 #[derive(Clone, Copy)]
 struct Alone {
     source: &'static [u8],
-    values: &'static [i64],
+    inputs: &'static [&'static [i64]],
     kept: &'static [i64],
     calls: &'static [Call],
 }
 
-const ALONE: [Alone; 2] = [
+static ALONE: [Alone; 2] = [
     // It copies: channel 1 comes from the sums, and channel 2 goes to the print.
     Alone {
-        source: SUMS,
-        values: &[],
+        source: b"out y[4]; var v; for (i = 0; i < 4; i++) { v = v + i; y[i] = v; }",
+        inputs: &[&[], &[]],
         kept: &[0, 1, 3, 6],
         calls: &[
             Call::Got(1),
@@ -40,7 +44,7 @@ const ALONE: [Alone; 2] = [
     // Its first fire uses the last of three values, and each of them is used twice.
     Alone {
         source: b"in x[3]; out b[2][3]; for (i = 0; i < 2; i++) for (j = 0; j < 3; j++) b[i][j] = x[2-j];",
-        values: &[1, 2, 3],
+        inputs: &[&[1, 2, 3], &[]],
         kept: &[3, 2, 1, 3, 2, 1],
         calls: &[
             Call::Got(0),
@@ -56,32 +60,39 @@ const ALONE: [Alone; 2] = [
     },
 ];
 
-fn runs_alone(rt: &(impl Abort + AllocGlobal + Wait), row: Alone) -> Result<(), Fail> {
-    let alloc = rt.alloc();
-    let nest = nest(alloc, row.source)?;
-    if size(&nest).is_err() {
-        return Err(Fail::from("the nest is large"));
+// Whether process 1 of a network keeps and calls this, where it runs alone.
+fn runs_alone(rt: &impl Wait, alloc: Global, made: &Made, row: &Alone) -> Result<bool, AllocError>
+    requires points { made.now.points.of ≡ points_of made.now.nest }
+    requires numbers { FitsNumbers (net_of made.now.network) }
+    requires sound { IsSound made.now.nest made.now.network }
+    requires ends { EndsAll (net_of made.now.network) tags made.now.cert.schedule }
+{
+    if made.network.processes.len() < 2 {
+        return Ok(false);
     }
-    let points = points(alloc, &nest)?;
-    let (network, cert) = compile(alloc, &nest, &points, Policy::Seq)?;
-    if network.processes.len() < 2 {
-        return Err(Fail::from("there is no process 1"));
-    }
-    let Verdict::Accepted = check(alloc, &nest, &points, &network, &cert)? else {
-        return Err(Fail::from("the network is refused"));
-    };
-    let inputs = inputs(alloc, row.values)?;
-    let schedule = cert.schedule.as_slice();
-    let (room, ends) = run_alone(rt, alloc, &nest, &points, &inputs, &network, schedule, 1)?;
-    assert_eq!(rt; room.kept(), row.kept);
-    assert_eq!(rt; ends.calls(), row.calls);
-    Ok(())
+    let inputs = inputs(alloc, row.inputs)?;
+    let ran = run_alone(
+        rt,
+        alloc,
+        &made.nest,
+        &made.points,
+        &inputs,
+        &made.network,
+        made.cert.schedule.as_slice(),
+        1,
+    );
+    drop(inputs);
+    let (room, ends) = ran?;
+    Ok(room.kept() == row.kept && ends.calls() == row.calls)
 }
 
 #[test]
 fn a_process_makes_the_calls_of_its_script(rt: HostRuntime) -> Result<(), Fail> {
-    for row in ALONE {
-        runs_alone(&rt, row)?;
+    for row in &ALONE {
+        let made = make(rt.alloc(), row.source, 0, Policy::Seq)?;
+        let is_right = runs_alone(&rt, rt.alloc(), &made, row);
+        drop(made);
+        assert!(rt; is_right?);
     }
     Ok(())
 }

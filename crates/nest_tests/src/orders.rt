@@ -1,39 +1,34 @@
-ghost use Rattle.std.specs.Prelude.{◌≡◌, true, IfOk, IfSome};
+//! Tests of networks that are run in several orders of events.
+ghost use Rattle.std.specs.Prelude.{◌≡◌, true, IfSome};
+ghost use Rattle.sanlp.specs.Points.{points_of};
 ghost use Rattle.sanlp.specs.Size.{SizeIsOk};
 ghost use Rattle.net_core.specs.Held.{held_of, run_of, IsFor};
 ghost use Rattle.net_core.specs.Machine.{net_of, enabled};
 ghost use Rattle.net_core.specs.Rules.{AllKeepTo, value_limits};
 ghost use Rattle.net_core.specs.Shape.{FitsNumbers};
 ghost use Rattle.net_core.specs.Sound.{IsSound};
-ghost use Rattle.sanlp.specs.Points.{points_of};
 
-use crate::bound::sized_nest;
-use array_data::read_inputs;
-use command_line::parts_of;
-use loop_class::Params;
+use crate::bound::{Made, has_list, inputs, is_accepted, make};
 use loop_run::interpret;
-use loop_walk::points;
-use net_checker::{Verdict, check};
 use net_core::{Network, State, Values, enabled, ended, kept, sound, start, step};
-use net_maker::compile;
-use sanlp::{Arrays, Inputs, Nest, Points, Role};
+use sanlp::{Arrays, Inputs, Nest, Role};
 use std::alloc::{AllocError, Global};
-use std::process::Abort;
 use std::test::Fail;
 use witness_plan::Policy;
 
-/// A program with one output array: the value of its parameter N, its bundle, the output, and the number of its network's
-/// events.
+/// A program with one output array: the value of its parameter N, its source, the values of its arrays, the output, and the
+/// number of its network's events.
 #[derive(Clone, Copy)]
 struct Program {
     value: i64,
-    bundle: &'static [u8],
+    source: &'static [u8],
+    inputs: &'static [&'static [i64]],
     output: &'static [i64],
     events: usize,
 }
 
 /// Which of the enabled processes goes on.
-#[derive(Clone, Copy, Debug)]
+#[derive(Clone, Copy)]
 enum Order {
     Least,
     Highest,
@@ -53,42 +48,48 @@ static PROGRAMS: [Program; 6] = [
     // transpose
     Program {
         value: 0,
-        bundle: b"in a[2][2]; out b[2][2]; for (j = 0; j < 2; j++) for (i = 0; i < 2; i++) b[j][i] = a[i][j];\n%%\na,1,2,3,4\n",
+        source: b"in a[2][2]; out b[2][2]; for (j = 0; j < 2; j++) for (i = 0; i < 2; i++) b[j][i] = a[i][j];",
+        inputs: &[&[1, 2, 3, 4], &[]],
         output: &[1, 3, 2, 4],
         events: 28,
     },
     // last_value
     Program {
         value: 3,
-        bundle: b"param N; out y[N]; var t; for (i = 0; i < N; i++) { y[i] = t; t = i; t = t + 10; }",
+        source: b"param N; out y[N]; var t; for (i = 0; i < N; i++) { y[i] = t; t = i; t = t + 10; }",
+        inputs: &[&[], &[]],
         output: &[0, 10, 11],
         events: 28,
     },
     // two_writers
     Program {
         value: 3,
-        bundle: b"param N; in x[N]; out y[N]; var a[N]; for (i = 0; i < N; i++) { if (i < 2) { a[i] = x[i]; } else { a[i] = 0 - x[i]; } } for (i = 0; i < N; i++) y[i] = a[i];\n%%\nx,1,2,3\n",
+        source: b"param N; in x[N]; out y[N]; var a[N]; for (i = 0; i < N; i++) { if (i < 2) { a[i] = x[i]; } else { a[i] = 0 - x[i]; } } for (i = 0; i < N; i++) y[i] = a[i];",
+        inputs: &[&[1, 2, 3], &[], &[]],
         output: &[1, 2, -3],
         events: 30,
     },
     // matrix_product
     Program {
         value: 2,
-        bundle: b"param N; in A[N][N], B[N][N]; out C[N][N]; for (i = 0; i < N; i++) for (j = 0; j < N; j++) { C[i][j] = 0; for (k = 0; k < N; k++) C[i][j] = C[i][j] + A[i][k] * B[k][j]; }\n%%\nB,5,6,7,8\nA,1,2,3,4\n",
+        source: b"param N; in A[N][N], B[N][N]; out C[N][N]; for (i = 0; i < N; i++) for (j = 0; j < N; j++) { C[i][j] = 0; for (k = 0; k < N; k++) C[i][j] = C[i][j] + A[i][k] * B[k][j]; }",
+        inputs: &[&[1, 2, 3, 4], &[5, 6, 7, 8], &[]],
         output: &[19, 22, 43, 50],
         events: 64,
     },
     // reversed_rows
     Program {
         value: 0,
-        bundle: b"in x[3]; out b[2][3]; for (i = 0; i < 2; i++) for (j = 0; j < 3; j++) b[i][j] = x[2-j];\n%%\nx,1,2,3\n",
+        source: b"in x[3]; out b[2][3]; for (i = 0; i < 2; i++) for (j = 0; j < 3; j++) b[i][j] = x[2-j];",
+        inputs: &[&[1, 2, 3], &[]],
         output: &[3, 2, 1, 3, 2, 1],
         events: 33,
     },
     // scaling
     Program {
         value: 4,
-        bundle: b"param N; in x[N], c; out y[N]; for (i = 0; i < N; i++) y[i] = x[i] * c;\n%%\nx,1,2,3,4\nc,10\n",
+        source: b"param N; in x[N], c; out y[N]; for (i = 0; i < N; i++) y[i] = x[i] * c;",
+        inputs: &[&[1, 2, 3, 4], &[10], &[]],
         output: &[10, 20, 30, 40],
         events: 31,
     },
@@ -126,30 +127,32 @@ fn seed_of(order: Order) -> u32 {
     }
 }
 
-/// Runs a network until no process may go on, for so many events at most. Answers the process of each event.
+/// Runs a network until no process may go on, for so many events at most. Answers the number of events, and a number that
+/// differs where runs differ, in all runs that are looked at here.
 fn run_in(
-    alloc: Global,
     state: &mut State<i64>,
     network: &Network,
     rule: &Values,
     order: Order,
     events: usize,
-) -> Result<Vec<u32>, AllocError>
+) -> (usize, u64)
     requires state { IsFor (net_of network.now) (held_of state.old) }
     requires limits { AllKeepTo (net_of network.now) (value_limits rule.now.nest.now) }
-    ensures { IfOk result (λ _. IsFor (net_of network.now) (held_of state.new)) }
+    ensures { IsFor (net_of network.now) (held_of state.new) }
 {
-    let mut run = Vec::new(alloc);
     let mut number = seed_of(order);
-    for _ in 0..events {
+    let mut mark = 0_u64;
+    for at in 0..events {
         number = number.wrapping_mul(1_664_525).wrapping_add(1_013_904_223);
         let Some(process) = chosen(state, network, order, number >> 16) else {
-            return Ok(run);
+            return (at, mark);
         };
         step(state, network, rule, process);
-        run.push(process)?;
+        mark = mark
+            .wrapping_mul(6_364_136_223_846_793_005)
+            .wrapping_add(u64::from(process));
     }
-    Ok(run)
+    (events, mark)
 }
 
 /// The number of events of all scripts.
@@ -180,88 +183,92 @@ fn sinks_keep(nest: &Nest, network: &Network, state: &State<i64>, arrays: &Array
     has_sink
 }
 
-/// The nest of a source whose parameter N, if it has one, has this value.
-pub(crate) fn nest_with(rt: &impl AllocGlobal, source: &[u8], value: i64) -> Result<Nest, Fail>
-    ensures { IfOk result (λ nest. SizeIsOk nest) }
-{
-    let mut params = Params::empty(rt.alloc());
-    params.add(b"N", value)?;
-    sized_nest(rt.alloc(), source, &params)
-}
-
-/// Runs a sound network in an order, and compares what its sinks have kept. Answers the process of each event.
-fn runs_in_order(
-    rt: &(impl Abort + AllocGlobal),
-    nest: &Nest,
-    points: &Points,
+/// Runs a sound network in an order. Answers the number of the run where it has so many events and ends all, and the sinks have
+/// kept the arrays.
+fn ran(
+    alloc: Global,
+    made: &Made,
     inputs: &Inputs,
-    network: &Network,
-    order: Order,
     arrays: &Arrays,
-) -> Result<Vec<u32>, Fail>
-    requires points { points.now.of ≡ points_of nest.now }
-    requires numbers { FitsNumbers (net_of network.now) }
-    requires sound { IsSound nest.now network.now }
+    order: Order,
+    events: usize,
+) -> Result<Option<u64>, AllocError>
+    requires points { made.now.points.of ≡ points_of made.now.nest }
+    requires numbers { FitsNumbers (net_of made.now.network) }
+    requires sound { IsSound made.now.nest made.now.network }
 {
     sound();
-    let mut state = start(rt.alloc(), network, points)?;
+    let mut state = start(alloc, &made.network, &made.points)?;
     let rule = Values {
-        nest,
-        points,
+        nest: &made.nest,
+        points: &made.points,
         inputs,
     };
-    let events = event_count(network);
-    let run = run_in(rt.alloc(), &mut state, network, &rule, order, events)?;
-    assert!(rt; ended(&state, network), "all end in {order:?}");
-    assert_eq!(rt; run.len(), events, "events in {order:?}");
-    assert!(rt;
-        sinks_keep(nest, network, &state, arrays),
-        "sinks in {order:?}"
-    );
-    Ok(run)
+    let (many, mark) = run_in(&mut state, &made.network, &rule, order, events);
+    let is_right = many == events
+        && ended(&state, &made.network)
+        && sinks_keep(&made.nest, &made.network, &state, arrays);
+    drop(state);
+    Ok(if is_right { Some(mark) } else { None })
 }
 
-/// Makes a program's network, has it checked, and runs it in each order.
-fn runs_in_every_order(rt: &(impl Abort + AllocGlobal), program: Program) -> Result<(), Fail> {
-    let alloc = rt.alloc();
-    let parts = parts_of(program.bundle);
-    let nest = nest_with(rt, parts.source, program.value)?;
-    let Ok(inputs) = read_inputs(alloc, &nest, parts.data) else {
-        panic!(rt; "no inputs of {:?}", program.bundle);
-    };
-    let arrays = interpret(alloc, &nest, &inputs)?;
-    assert!(rt;
-        arrays
-            .arrays
-            .as_slice()
-            .iter()
-            .any(|values| values.as_slice() == program.output)
-    );
-    let points = points(alloc, &nest)?;
-    let (network, cert) = compile(alloc, &nest, &points, Policy::Seq)?;
-    let Verdict::Accepted = check(alloc, &nest, &points, &network, &cert)? else {
-        panic!(rt; "refused network of {:?}", program.bundle);
-    };
-    assert_eq!(rt; event_count(&network), program.events);
-    assert_eq!(rt; cert.schedule.len(), program.events);
-    let mut runs = Vec::new(alloc);
+/// Whether the runs in all orders end with these arrays, and differ.
+fn all_ran(
+    alloc: Global,
+    made: &Made,
+    inputs: &Inputs,
+    arrays: &Arrays,
+    events: usize,
+) -> Result<bool, AllocError>
+    requires points { made.now.points.of ≡ points_of made.now.nest }
+    requires numbers { FitsNumbers (net_of made.now.network) }
+    requires sound { IsSound made.now.nest made.now.network }
+{
+    let mut marks = Vec::new(alloc);
     for order in &ORDERS {
-        runs.push(runs_in_order(rt, &nest, &points, &inputs, &network, *order, &arrays)?)?;
+        let Some(mark) = ran(alloc, made, inputs, arrays, *order, events)? else {
+            return Ok(false);
+        };
+        if marks.contains(&mark) {
+            return Ok(false);
+        }
+        marks.push(mark)?;
     }
-    for at in 1..runs.len() {
-        assert!(rt;
-            !runs[..at].contains(&runs[at]),
-            "order {at} of {:?}",
-            program.bundle
-        );
-    }
-    Ok(())
+    Ok(true)
+}
+
+/// Whether a program's network has its number of events, the interpreter gives its output, and so do the runs in all orders.
+fn gives_output(alloc: Global, made: &Made, program: &Program) -> Result<bool, AllocError>
+    requires size { SizeIsOk made.now.nest }
+    requires points { made.now.points.of ≡ points_of made.now.nest }
+    requires numbers { FitsNumbers (net_of made.now.network) }
+    requires sound { IsSound made.now.nest made.now.network }
+{
+    let inputs = inputs(alloc, program.inputs)?;
+    let arrays = interpret(alloc, &made.nest, &inputs)?;
+    let is_right = event_count(&made.network) == program.events
+        && made.cert.schedule.len() == program.events
+        && has_list(arrays.arrays.as_slice(), program.output);
+    let have_run = all_ran(alloc, made, &inputs, &arrays, program.events);
+    drop(inputs);
+    drop(arrays);
+    Ok(is_right && have_run?)
 }
 
 #[test]
 fn every_order_gives_the_answer(rt: HostRuntime) -> Result<(), Fail> {
     for program in &PROGRAMS {
-        runs_in_every_order(&rt, *program)?;
+        let made = make(rt.alloc(), program.source, program.value, Policy::Seq)?;
+        let is_accepted = is_accepted(
+            rt.alloc(),
+            &made.nest,
+            &made.points,
+            &made.network,
+            &made.cert,
+        );
+        let gives_output = gives_output(rt.alloc(), &made, program);
+        drop(made);
+        assert!(rt; is_accepted? && gives_output?);
     }
     Ok(())
 }

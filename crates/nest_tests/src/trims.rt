@@ -1,17 +1,16 @@
 //! Tests of `cap_trim::rest` and `cap_trim::trim`.
-ghost use Rattle.std.specs.Prelude.{IsTrue};
+ghost use Rattle.std.specs.Prelude.{◌≡◌, IsTrue};
+ghost use Rattle.sanlp.specs.Points.{points_of};
+ghost use Rattle.sanlp.specs.Size.{SizeIsOk};
 ghost use Rattle.net_core.specs.Machine.{net_of};
 ghost use Rattle.net_core.specs.Shape.{FitsNumbers};
 
-use crate::bound::nest;
+use crate::bound::{Made, is_accepted, make};
 use cap_trim::{Trimmed, rest, trim};
-use loop_walk::{points, size};
-use net_checker::{Verdict, check};
 use net_core::Network;
-use net_maker::compile;
 use plain_data::Items;
-use source_tree::Cert;
-use std::alloc::Global;
+use source_tree::{Cert, Origin};
+use std::alloc::{AllocError, Global};
 use std::test::Fail;
 use witness_plan::{Policy, with_capacities};
 
@@ -27,7 +26,7 @@ struct Least {
 const LAST_ADDED: &[u8] = b"in a[4]; out c[4]; var b[4]; for (i = 0; i < 4; i++) b[i] = a[i]; \
     for (i = 0; i < 4; i++) c[i] = a[i] + b[3];";
 
-const LEAST: [Least; 3] = [
+static LEAST: [Least; 3] = [
     Least {
         source: b"in x[0]; out y[0]; for (i = 0; i < 0; i++) y[i] = x[i] + 1;",
         capacities: &[],
@@ -45,66 +44,45 @@ const LEAST: [Least; 3] = [
     },
 ];
 
+static POLICIES: [Policy; 2] = [Policy::Seq, Policy::Down];
+
 // The least-process run of the last of these networks, by hand: at each state the least enabled process steps.
-const LEAST_RUN: [u32; 42] = [
+static LEAST_RUN: [u32; 42] = [
     0, 0, 0, 0, 1, 0, 0, 0, 1, 1, 0, 1, 1, 1, 2, 0, 0, 0, 1, 1, 1, 2, 2, 2, 2, 0, 2, 3, 2, 2, 2, 3,
     3, 2, 2, 2, 3, 3, 2, 3, 3, 3,
 ];
 
-// The least capacities of a source's network with the capacities that its schedule under a policy needs.
-fn trimmed(alloc: Global, source: &[u8], policy: Policy) -> Result<Trimmed, Fail> {
-    let nest = nest(alloc, source)?;
-    if size(&nest).is_err() {
-        return Err(Fail::from("the nest is large"));
-    }
-    let points = points(alloc, &nest)?;
-    let (network, _) = compile(alloc, &nest, &points, policy)?;
-    Ok(trim(alloc, &nest, &points, &network)?)
+// Whether these are the least capacities and the rests.
+fn is_least(trimmed: &Trimmed, least: &Least) -> bool {
+    let rests = trimmed.rests.as_slice();
+    trimmed.capacities.as_slice() == least.capacities
+        && rests.len() == least.rests.len()
+        && rests
+            .iter()
+            .zip(least.rests)
+            .all(|(rest, wanted)| rest.as_slice() == *wanted)
 }
 
 #[test]
 fn no_capacity_can_be_lowered(rt: HostRuntime) -> Result<(), Fail> {
-    let alloc = rt.alloc();
-    for row in LEAST {
-        for policy in [Policy::Seq, Policy::Down] {
-            let trimmed = trimmed(alloc, row.source, policy)?;
-            assert!(rt;
-                trimmed.capacities.as_slice() == row.capacities,
-                "by {policy:?}"
-            );
-            let rests = trimmed.rests.as_slice();
-            assert_eq!(rt; rests.len(), row.rests.len(), "by {policy:?}");
-            for (at, rest) in rests.iter().enumerate() {
-                assert!(rt;
-                    rest.as_slice() == row.rests[at],
-                    "channel {at} by {policy:?}"
-                );
-            }
+    for row in &LEAST {
+        for policy in &POLICIES {
+            let made = make(rt.alloc(), row.source, 0, *policy)?;
+            let trimmed = trim(rt.alloc(), &made.nest, &made.points, &made.network);
+            drop(made);
+            assert!(rt; is_least(&trimmed?, row));
         }
     }
     Ok(())
 }
 
-// Where a source's network comes to rest with the capacities that its schedule under a policy needs.
-fn at_rest(alloc: Global, source: &[u8], policy: Policy) -> Result<Vec<u32>, Fail> {
-    let nest = nest(alloc, source)?;
-    if size(&nest).is_err() {
-        return Err(Fail::from("the nest is large"));
-    }
-    let points = points(alloc, &nest)?;
-    let (network, _) = compile(alloc, &nest, &points, policy)?;
-    Ok(rest(alloc, &network, &points)?)
-}
-
 #[test]
 fn with_the_capacities_of_a_policy_each_process_ends(rt: HostRuntime) -> Result<(), Fail> {
-    let alloc = rt.alloc();
-    for policy in [Policy::Seq, Policy::Down] {
-        let positions = at_rest(alloc, LAST_ADDED, policy)?;
-        assert!(rt;
-            positions.as_slice() == [12, 9, 13, 8].as_slice(),
-            "by {policy:?}"
-        );
+    for policy in &POLICIES {
+        let made = make(rt.alloc(), LAST_ADDED, 0, *policy)?;
+        let positions = rest(rt.alloc(), &made.network, &made.points);
+        drop(made);
+        assert!(rt; positions?.as_slice() == [12, 9, 13, 8].as_slice());
     }
     Ok(())
 }
@@ -123,43 +101,61 @@ fn numbers_fit(network: &Network) -> bool
     network.processes.len() < 1 << 32 && network.channels.len() < 1 << 32 && events < 1 << 32
 }
 
-// The verdict on the network of a source with these capacities, where it runs along this schedule.
-fn verdict(
-    alloc: Global,
-    source: &[u8],
-    capacities: &[u32],
-    schedule: &[u32],
-) -> Result<Verdict, Fail> {
-    let nest = nest(alloc, source)?;
-    if size(&nest).is_err() {
-        return Err(Fail::from("the nest is large"));
+// The certificate of the last of these networks with its least-process run, in which each of its four reads is swept.
+fn swept(alloc: Global) -> Result<Cert, AllocError> {
+    let schedule = Items::from_slice(alloc, &LEAST_RUN)?;
+    let mut sources = Items::new(alloc);
+    for _ in 0..4 {
+        sources.push(Origin::Sweep)?;
     }
-    let points = points(alloc, &nest)?;
-    let (network, cert) = compile(alloc, &nest, &points, Policy::Seq)?;
-    let network = with_capacities(alloc, network, capacities)?;
-    if !numbers_fit(&network) {
-        return Err(Fail::from("the network is large"));
-    }
-    let cert = Cert {
-        sources: cert.sources,
-        schedule: Items::from_slice(alloc, schedule)?,
-    };
-    Ok(check(alloc, &nest, &points, &network, &cert)?)
+    Ok(Cert { sources, schedule })
 }
+
+// Whether the checker accepts a network and that certificate.
+fn is_run(alloc: Global, made: &Made, network: &Network) -> Result<bool, AllocError>
+    requires size { SizeIsOk made.now.nest }
+    requires points { made.now.points.of ≡ points_of made.now.nest }
+{
+    if !numbers_fit(network) {
+        return Ok(false);
+    }
+    let cert = swept(alloc)?;
+    let is_accepted = is_accepted(alloc, &made.nest, &made.points, network, &cert);
+    drop(cert);
+    is_accepted
+}
+
+// Whether the checker accepts the network with these capacities and that certificate.
+fn is_run_by(alloc: Global, made: &Made, capacities: &[u32]) -> Result<bool, AllocError>
+    requires size { SizeIsOk made.now.nest }
+    requires points { made.now.points.of ≡ points_of made.now.nest }
+{
+    let network = with_capacities(alloc, made.network.copy(alloc)?, capacities)?;
+    let is_run = is_run(alloc, made, &network);
+    drop(network);
+    is_run
+}
+
+// The capacities of the last of these networks that `trim` gives, and with one place less.
+static CAPACITIES: [([u32; 4], bool); 5] = [
+    ([1, 2, 1, 1], true),
+    ([0, 2, 1, 1], false),
+    ([1, 1, 1, 1], false),
+    ([1, 2, 0, 1], false),
+    ([1, 2, 1, 0], false),
+];
 
 #[test]
 fn the_least_process_run_is_accepted(rt: HostRuntime) -> Result<(), Fail> {
-    let alloc = rt.alloc();
-    let trimmed = trimmed(alloc, LAST_ADDED, Policy::Seq)?;
-    let capacities = trimmed.capacities.as_slice();
-    assert!(rt; verdict(alloc, LAST_ADDED, capacities, &LEAST_RUN)? == Verdict::Accepted);
-    for at in 0..capacities.len() {
-        let mut fewer = Vec::from_slice(alloc, capacities)?;
-        fewer[at] = fewer[at].saturating_sub(1);
-        assert!(rt;
-            verdict(alloc, LAST_ADDED, &fewer, &LEAST_RUN)? != Verdict::Accepted,
-            "channel {at}"
-        );
+    let made = make(rt.alloc(), LAST_ADDED, 0, Policy::Seq)?;
+    let mut are_right = true;
+    for (capacities, wanted) in &CAPACITIES {
+        match is_run_by(rt.alloc(), &made, capacities) {
+            Ok(is_run) => are_right = are_right && is_run == *wanted,
+            Err(_) => are_right = false,
+        }
     }
+    drop(made);
+    assert!(rt; are_right);
     Ok(())
 }

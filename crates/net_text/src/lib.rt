@@ -4,8 +4,6 @@
 mod counted_text;
 mod counts;
 mod network_text;
-#[cfg(test)]
-mod tests;
 
 pub use counted_text::write_net_by_turns;
 pub use counts::event_count;

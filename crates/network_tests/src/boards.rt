@@ -2,6 +2,7 @@
 ghost use Rattle.std.specs.Prelude.{◌≡◌, ◌<◌, ◌^◌, length, IfOk};
 ghost use Rattle.network_tests.specs.Examples.{starved, starved_points};
 
+use crate::events::channel;
 use affine_core::Vector;
 use channel_class::{ChannelClass, UseOrder};
 use net_core::{Channel, Event, Network, Process, Refs};
@@ -65,20 +66,31 @@ fn one_turn(alloc: Global) -> Result<Points, AllocError>
     Ok(Points { of })
 }
 
+static ADVANCES: [Advance; 6] = [
+    Advance::Idle,
+    Advance::Stepped(0),
+    Advance::Done,
+    Advance::Idle,
+    Advance::Idle,
+    Advance::Done,
+];
+
 #[test]
 fn a_lane_steps_waits_and_ends(rt: HostRuntime) -> Result<(), Fail> {
     let alloc = rt.alloc();
     let points = one_turn(alloc)?;
     let mut board = Board::new(alloc, starved(alloc)?, &points)?;
-    assert_eq!(rt; board.advance(1, 2), Advance::Idle);
-    assert_eq!(rt; board.advance(0, 2), Advance::Stepped(0));
-    assert_eq!(rt; board.advance(0, 2), Advance::Done);
-    assert_eq!(rt; board.advance(1, 2), Advance::Idle);
-    assert_eq!(rt; board.advance(0, 1), Advance::Idle);
-    assert_eq!(rt; board.advance(2, 3), Advance::Done);
-    assert_eq!(rt; board.history(), [0].as_slice());
-    assert_eq!(rt; board.network().processes.len(), 2);
-    assert_eq!(rt; board.into_history().as_slice(), [0].as_slice());
+    let advances = [
+        board.advance(1, 2),
+        board.advance(0, 2),
+        board.advance(0, 2),
+        board.advance(1, 2),
+        board.advance(0, 1),
+        board.advance(2, 3),
+    ];
+    assert!(rt; advances == ADVANCES);
+    assert!(rt; board.history() == [0].as_slice() && board.network().processes.len() == 2);
+    assert!(rt; board.into_history().as_slice() == [0].as_slice());
     Ok(())
 }
 
@@ -99,16 +111,7 @@ fn numbered(
     let mut processes = Items::new(alloc);
     processes.push(process(alloc, slots, events)?)?;
     let mut channels = Items::new(alloc);
-    channels.push(Channel {
-        writer: 0,
-        reader: 0,
-        read: 0,
-        capacity,
-        class: ChannelClass {
-            order: UseOrder::Reorder,
-            multiplicity,
-        },
-    })?;
+    channels.push(channel([0, 0, 0, capacity], UseOrder::Reorder, multiplicity))?;
     Ok(Network {
         processes,
         channels,
@@ -130,29 +133,41 @@ fn is_same(
     Ok(network.same(&other) || other.same(network))
 }
 
+// Slots, a capacity, whether tokens are repeated, the channel of the last Put, and whether the network is the same.
+static OTHERS: [(u32, u32, bool, u32, bool); 5] = [
+    (3, 5, true, 0, true),
+    (2, 5, true, 0, false),
+    (3, 4, true, 0, false),
+    (3, 5, false, 0, false),
+    (3, 5, true, 1, false),
+];
+
+// Whether a network is the same as the first of the others alone, and neither as one with an event less nor as one of two
+// processes.
+fn is_the_first(alloc: Global, network: &Network) -> Result<bool, AllocError> {
+    for (slots, capacity, multiplicity, last, wanted) in &OTHERS {
+        let events = [put(0), put(*last)];
+        if is_same(alloc, network, *slots, *capacity, *multiplicity, &events)? != *wanted {
+            return Ok(false);
+        }
+    }
+    if is_same(alloc, network, 3, 5, true, &[put(0)])? {
+        return Ok(false);
+    }
+    let other = starved(alloc)?;
+    Ok(!network.same(&other))
+}
+
 #[test]
 fn a_copy_is_the_same_network_and_no_other_is(rt: HostRuntime) -> Result<(), Fail> {
     let alloc = rt.alloc();
     let network = numbered(alloc, 3, 5, true, &[put(0), put(0)])?;
+    let is_the_first = is_the_first(alloc, &network);
     let copy = network.copy(alloc)?;
-    assert!(rt; network.same(&copy));
-    for (slots, capacity, multiplicity, last, same) in [
-        (3, 5, true, 0, true),
-        (2, 5, true, 0, false),
-        (3, 4, true, 0, false),
-        (3, 5, false, 0, false),
-        (3, 5, true, 1, false),
-    ] {
-        let events = [put(0), put(last)];
-        let is_same = is_same(alloc, &network, slots, capacity, multiplicity, &events)?;
-        assert_eq!(rt; is_same, same, "{slots} {capacity} {multiplicity} {last}");
-    }
-    assert!(rt; !is_same(alloc, &network, 3, 5, true, &[put(0)])?);
-    assert!(rt; !network.same(&starved(alloc)?));
+    let is_same = network.same(&copy);
     drop(network);
-    assert_eq!(rt;
-        copy.channels.get(0).map(|channel| channel.capacity),
-        Some(5)
-    );
+    let capacity = copy.channels.get(0).map(|channel| channel.capacity);
+    drop(copy);
+    assert!(rt; is_same && is_the_first? && capacity == Some(5));
     Ok(())
 }

@@ -1,13 +1,14 @@
 //! Tests of `witness_plan`.
-ghost use Rattle.std.specs.Prelude.{◌≡◌, ◌<◌, ◌^◌, [], ◌∷◌, length, IfOk};
+ghost use Rattle.std.specs.Prelude.{◌≡◌, [], ◌∷◌, IfOk};
 ghost use Rattle.network_tests.specs.Examples.{hand_on};
 
+use crate::boards::process;
+use crate::events::channel;
 use affine_core::Vector;
 use channel_class::{ChannelClass, UseOrder};
-use net_core::{Channel, Event, Network, Process, Ref, Refs, Tags, ended, kept, start};
+use net_core::{Channel, Event, Network, Ref, Refs, Tags, ended, kept, start};
 use plain_data::Items;
 use sanlp::{Points, Tag};
-use script_blocks::Script;
 use std::alloc::{AllocError, Global};
 use std::test::Fail;
 use witness_plan::{run_by, with_capacities};
@@ -22,22 +23,10 @@ fn forked(alloc: Global) -> Result<Network, AllocError> {
         Event::Put { channel: 1 },
     ];
     let mut processes = Items::new(alloc);
-    processes.push(Process {
-        slots: 0,
-        script: Script::of_items(alloc, &events)?,
-    })?;
+    processes.push(process(alloc, 0, &events)?)?;
     let mut channels = Items::new(alloc);
     for read in [4, 7] {
-        channels.push(Channel {
-            writer: 0,
-            reader: 1,
-            read,
-            capacity: 9,
-            class: ChannelClass {
-                order: UseOrder::InOrder,
-                multiplicity: true,
-            },
-        })?;
+        channels.push(channel([0, 1, read, 9], UseOrder::InOrder, true))?;
     }
     Ok(Network {
         processes,
@@ -45,61 +34,35 @@ fn forked(alloc: Global) -> Result<Network, AllocError> {
     })
 }
 
+// Whether it is that network with these capacities.
+fn is_forked(network: &Network, first: u32, second: u32) -> bool {
+    let are_channels = match network.channels.as_slice() {
+        [channel, other] => {
+            channel.read == 4
+                && channel.capacity == first
+                && other.read == 7
+                && other.capacity == second
+                && other.class.multiplicity
+        }
+        _ => false,
+    };
+    match network.processes.as_slice() {
+        [process] => process.script.len() == 3 && are_channels,
+        _ => false,
+    }
+}
+
+// Capacities, and those that the channels have then. A channel past them has none.
+static CAPACITIES: [(&[u32], u32, u32); 2] = [(&[3, 5], 3, 5), (&[3], 3, 0)];
+
 #[test]
 fn other_capacities_change_nothing_else(rt: HostRuntime) -> Result<(), Fail> {
-    let alloc = rt.alloc();
-    let changed = with_capacities(alloc, forked(alloc)?, &[3, 5])?;
-    assert_eq!(rt; changed.processes.len(), 1);
-    assert_eq!(rt;
-        changed.processes.get(0).map(|process| process.script.len()),
-        Some(3)
-    );
-    assert_eq!(rt; changed.channels.len(), 2);
-    assert_eq!(rt;
-        changed.channels.get(0).map(|channel| channel.capacity),
-        Some(3)
-    );
-    assert_eq!(rt;
-        changed.channels.get(1).map(|channel| channel.capacity),
-        Some(5)
-    );
-    assert_eq!(rt;
-        changed.channels.get(1).map(|channel| channel.read),
-        Some(7)
-    );
-    assert_eq!(rt;
-        changed
-            .channels
-            .get(1)
-            .map(|channel| channel.class.multiplicity),
-        Some(true)
-    );
+    for (capacities, first, second) in &CAPACITIES {
+        let network = forked(rt.alloc())?;
+        let changed = with_capacities(rt.alloc(), network, *capacities)?;
+        assert!(rt; is_forked(&changed, *first, *second));
+    }
     Ok(())
-}
-
-#[test]
-fn a_channel_past_the_capacities_has_none(rt: HostRuntime) -> Result<(), Fail> {
-    let alloc = rt.alloc();
-    let changed = with_capacities(alloc, forked(alloc)?, &[3])?;
-    assert_eq!(rt;
-        changed.channels.get(0).map(|channel| channel.capacity),
-        Some(3)
-    );
-    assert_eq!(rt;
-        changed.channels.get(1).map(|channel| channel.capacity),
-        Some(0)
-    );
-    Ok(())
-}
-
-fn process(alloc: Global, slots: u32, events: &[Event]) -> Result<Process, AllocError>
-    requires { length events.now < 2 ^ 32 }
-    ensures { IfOk result (λ process. process ≡ record { slots = slots; script = events.now }) }
-{
-    Ok(Process {
-        slots,
-        script: Script::of_items(alloc, events)?,
-    })
 }
 
 // A process that hands its value on to another.
@@ -155,9 +118,8 @@ fn a_run_makes_its_events(rt: HostRuntime) -> Result<(), Fail> {
     let points = one_turn_each(alloc)?;
     let mut state = start::<Tag>(alloc, &network, &points)?;
     run_by(&mut state, &network, &Tags {}, &[0, 0]);
-    assert!(rt; !ended(&state, &network));
+    let has_ended = ended(&state, &network);
     run_by(&mut state, &network, &Tags {}, &[1, 1]);
-    assert!(rt; ended(&state, &network));
-    assert_eq!(rt; kept(&state, 1).len(), 1);
+    assert!(rt; !has_ended && ended(&state, &network) && kept(&state, 1).len() == 1);
     Ok(())
 }

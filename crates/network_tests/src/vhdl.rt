@@ -1,9 +1,10 @@
 //! Tests of `vhdl_text`.
 
+use crate::events::{Step, channel, events};
 use affine_core::Vector;
-use channel_class::{ChannelClass, UseOrder};
+use channel_class::UseOrder;
 use io_edge::MemSink;
-use net_core::{Channel, Event, Network, Ref, Refs};
+use net_core::{Network, Ref};
 use node_automata::NodeAuto;
 use plain_data::{Boxed, Items};
 use sanlp::Role;
@@ -12,8 +13,91 @@ use std::test::Fail;
 use vhdl_text::{VhdlError, too_long, write_vhdl};
 use wrap_expr::Expr;
 
+/// A process: the numbers of its own, its depth, its reads and its slots, its role, its events with so many fires behind them, its
+/// channels, its points, and what it computes.
+#[derive(Clone, Copy)]
+struct Node {
+    numbers: [u32; 4],
+    role: Role,
+    steps: &'static [Step],
+    fires: u32,
+    gets: &'static [u32],
+    puts: &'static [u32],
+    values: &'static [&'static [i64]],
+    computes: Computes,
+}
+
+/// What a process computes.
+#[derive(Clone, Copy)]
+enum Computes {
+    Given,
+    Read,
+    /// The value read and 1.
+    OneMore,
+    /// The greater one of a negation and of the lesser one of a product and a difference.
+    Greatest,
+    /// -(1 - (-(1 - ..))), so many pairs of levels deep.
+    Nested(u32),
+}
+
+/// The process that is given the one value of an array.
+const SOURCE: Node = Node {
+    numbers: [0, 1, 0, 0],
+    role: Role::Source(0),
+    steps: &[Step::Fire(&[]), Step::Put(0)],
+    fires: 0,
+    gets: &[],
+    puts: &[0],
+    values: &[&[0]],
+    computes: Computes::Given,
+};
+
+/// The process that adds 1.
+const ASSIGN: Node = Node {
+    numbers: [1, 1, 1, 1],
+    role: Role::Assign,
+    steps: &[Step::Get(0, 0), Step::Fire(&[Ref::Slot(0)]), Step::Put(1)],
+    fires: 0,
+    gets: &[0],
+    puts: &[1],
+    values: &[&[0]],
+    computes: Computes::OneMore,
+};
+
+/// The process that prints the sum.
+const SINK: Node = Node {
+    numbers: [2, 1, 1, 1],
+    role: Role::Sink(1),
+    steps: &[Step::Get(1, 0), Step::Fire(&[Ref::Slot(0)])],
+    fires: 0,
+    gets: &[1],
+    puts: &[],
+    values: &[&[0]],
+    computes: Computes::Read,
+};
+
+/// A process of two loops with a channel to itself, which has another name where it comes in.
+const OWN_CHANNEL: Node = Node {
+    numbers: [7, 2, 2, 3],
+    role: Role::Assign,
+    steps: &[
+        Step::Get(2, 0),
+        Step::Fire(&[Ref::Slot(0), Ref::Zero]),
+        Step::Put(4),
+        Step::Put(10),
+        Step::Get(4, 2),
+        Step::Fire(&[Ref::Slot(0), Ref::Slot(2)]),
+        Step::Put(10),
+    ],
+    fires: 0,
+    gets: &[2, 4],
+    puts: &[4, 10],
+    values: &[&[-1, 5], &[i64::MAX, -2]],
+    computes: Computes::Greatest,
+};
+
 /// The entity of the process that adds 1, and its architecture, where the network has no channels.
-static ADDS_ONE: &[u8] = b"-- compaan vhdl 1
+const ADDS_ONE: &[u8] = b"-- compaan vhdl 1
 
 library ieee;
 use ieee.std_logic_1164.all;
@@ -106,24 +190,6 @@ begin
 end architecture;
 ";
 
-fn get(channel: u32, slot: u32) -> Event {
-    Event::Get { channel, slot }
-}
-
-fn fire(references: &[Ref]) -> Event {
-    let mut refs = Refs::empty();
-    for reference in references {
-        if refs.len() < 8 {
-            refs.push(*reference);
-        }
-    }
-    Event::Fire { refs }
-}
-
-fn put(channel: u32) -> Event {
-    Event::Put { channel }
-}
-
 fn vector(alloc: Global, values: &[i64]) -> Vector {
     let mut vector = Vector::empty(alloc);
     for value in values {
@@ -143,132 +209,156 @@ fn points(alloc: Global, values: &[&[i64]]) -> Result<Items<Vector>, AllocError>
     Ok(points)
 }
 
-/// Two operands in their boxes.
-fn pair(alloc: Global, left: Expr, right: Expr) -> Result<(Boxed<Expr>, Boxed<Expr>), AllocError> {
-    let left = Boxed::new(alloc, left)?;
-    let right = Boxed::new(alloc, right)?;
-    Ok((left, right))
+/// An operation with two operands.
+#[derive(Clone, Copy)]
+enum Two {
+    Add,
+    Sub,
+    Mul,
+    Min,
+    Max,
 }
 
-/// The numbers of a process: its own, its depth, its reads and its slots.
-type Numbers = [u32; 4];
-
-/// An automaton without channels, points and expression.
-fn scripted(
-    alloc: Global,
-    numbers: Numbers,
-    role: Role,
-    events: &[Event],
-) -> Result<NodeAuto, AllocError> {
-    let [process, depth, reads, slots] = numbers;
-    let events = Items::from_slice(alloc, events)?;
-    Ok(NodeAuto {
-        process,
-        role,
-        depth,
-        reads,
-        gets: Items::new(alloc),
-        puts: Items::new(alloc),
-        slots,
-        events,
-        values: Items::new(alloc),
-        expr: Expr::Given,
+fn of_two(alloc: Global, two: Two, left: Expr, right: Expr) -> Result<Expr, AllocError> {
+    let Ok(left) = Boxed::new(alloc, left) else {
+        drop(right);
+        return Err(AllocError);
+    };
+    let Ok(right) = Boxed::new(alloc, right) else {
+        drop(left);
+        return Err(AllocError);
+    };
+    Ok(match two {
+        Two::Add => Expr::Add(left, right),
+        Two::Sub => Expr::Sub(left, right),
+        Two::Mul => Expr::Mul(left, right),
+        Two::Min => Expr::Min(left, right),
+        Two::Max => Expr::Max(left, right),
     })
 }
 
-/// The process that is given the one value of an array.
-fn source(alloc: Global) -> Result<NodeAuto, AllocError> {
-    let mut auto = scripted(alloc, [0, 1, 0, 0], Role::Source(0), &[fire(&[]), put(0)])?;
-    auto.puts = Items::from_slice(alloc, &[0])?;
-    auto.values = points(alloc, &[&[0]])?;
-    Ok(auto)
+fn negated(alloc: Global, expr: Expr) -> Result<Expr, AllocError> {
+    Ok(Expr::Neg(Boxed::new(alloc, expr)?))
 }
 
-/// The value read and 1.
-fn one_more(alloc: Global) -> Result<Expr, AllocError> {
-    let (read, one) = pair(alloc, Expr::Read(0), Expr::Const(1))?;
-    Ok(Expr::Add(read, one))
-}
-
-/// The process that adds 1.
-fn assign(alloc: Global) -> Result<NodeAuto, AllocError> {
-    let events = [get(0, 0), fire(&[Ref::Slot(0)]), put(1)];
-    let mut auto = scripted(alloc, [1, 1, 1, 1], Role::Assign, &events)?;
-    auto.gets = Items::from_slice(alloc, &[0])?;
-    auto.puts = Items::from_slice(alloc, &[1])?;
-    auto.values = points(alloc, &[&[0]])?;
-    auto.expr = one_more(alloc)?;
-    Ok(auto)
-}
-
-/// The process that prints the sum.
-fn sink(alloc: Global) -> Result<NodeAuto, AllocError> {
-    let events = [get(1, 0), fire(&[Ref::Slot(0)])];
-    let mut auto = scripted(alloc, [2, 1, 1, 1], Role::Sink(1), &events)?;
-    auto.gets = Items::from_slice(alloc, &[1])?;
-    auto.values = points(alloc, &[&[0]])?;
-    auto.expr = Expr::Read(0);
-    Ok(auto)
-}
-
-fn product(alloc: Global) -> Result<Expr, AllocError> {
-    let (left, right) = pair(alloc, Expr::Var(0), Expr::Read(1))?;
-    Ok(Expr::Mul(left, right))
-}
-
-fn difference(alloc: Global) -> Result<Expr, AllocError> {
-    let (left, right) = pair(alloc, Expr::Read(0), Expr::Const(i64::MIN))?;
-    Ok(Expr::Sub(left, right))
-}
-
-fn least(alloc: Global) -> Result<Expr, AllocError> {
-    let product = product(alloc)?;
-    let difference = difference(alloc)?;
-    let (left, right) = pair(alloc, product, difference)?;
-    Ok(Expr::Min(left, right))
+fn lesser(alloc: Global) -> Result<Expr, AllocError> {
+    let product = of_two(alloc, Two::Mul, Expr::Var(0), Expr::Read(1))?;
+    match of_two(alloc, Two::Sub, Expr::Read(0), Expr::Const(i64::MIN)) {
+        Ok(difference) => of_two(alloc, Two::Min, product, difference),
+        Err(error) => {
+            drop(product);
+            Err(error)
+        }
+    }
 }
 
 fn greatest(alloc: Global) -> Result<Expr, AllocError> {
-    let least = least(alloc)?;
-    let negation = Expr::Neg(Boxed::new(alloc, Expr::Var(1))?);
-    let (left, right) = pair(alloc, least, negation)?;
-    Ok(Expr::Max(left, right))
+    let lesser = lesser(alloc)?;
+    match negated(alloc, Expr::Var(1)) {
+        Ok(negation) => of_two(alloc, Two::Max, lesser, negation),
+        Err(error) => {
+            drop(lesser);
+            Err(error)
+        }
+    }
 }
 
-/// A process of two loops with a channel to itself.
-fn own_channel(alloc: Global) -> Result<NodeAuto, AllocError> {
-    let events = [
-        get(2, 0),
-        fire(&[Ref::Slot(0), Ref::Zero]),
-        put(4),
-        put(10),
-        get(4, 2),
-        fire(&[Ref::Slot(0), Ref::Slot(2)]),
-        put(10),
-    ];
-    let mut auto = scripted(alloc, [7, 2, 2, 3], Role::Assign, &events)?;
-    auto.gets = Items::from_slice(alloc, &[2, 4])?;
-    auto.puts = Items::from_slice(alloc, &[4, 10])?;
-    auto.values = points(alloc, &[&[-1, 5], &[i64::MAX, -2]])?;
-    auto.expr = greatest(alloc)?;
-    Ok(auto)
+fn nested(alloc: Global, pairs: u32) -> Result<Expr, AllocError> {
+    let mut expr = Expr::Var(0);
+    for _ in 0..pairs {
+        let difference = of_two(alloc, Two::Sub, Expr::Const(1), expr)?;
+        expr = negated(alloc, difference)?;
+    }
+    Ok(expr)
 }
 
-/// Writes the text of a network that has one node and no channels.
-fn node(alloc: Global, auto: NodeAuto, text: &mut MemSink) -> Result<(), VhdlError> {
-    let network = Network {
+fn expression(alloc: Global, computes: Computes) -> Result<Expr, AllocError> {
+    match computes {
+        Computes::Given => Ok(Expr::Given),
+        Computes::Read => Ok(Expr::Read(0)),
+        Computes::OneMore => of_two(alloc, Two::Add, Expr::Read(0), Expr::Const(1)),
+        Computes::Greatest => greatest(alloc),
+        Computes::Nested(pairs) => nested(alloc, pairs),
+    }
+}
+
+/// The automaton of a process.
+fn automaton(alloc: Global, node: &Node) -> Result<NodeAuto, AllocError> {
+    let [process, depth, reads, slots] = node.numbers;
+    let events = events(alloc, node.steps, node.fires)?;
+    let gets = Items::from_slice(alloc, node.gets)?;
+    let puts = Items::from_slice(alloc, node.puts)?;
+    let values = points(alloc, node.values)?;
+    let expr = expression(alloc, node.computes)?;
+    Ok(NodeAuto {
+        process,
+        role: node.role,
+        depth,
+        reads,
+        gets,
+        puts,
+        slots,
+        events,
+        values,
+        expr,
+    })
+}
+
+/// The automata of these processes.
+fn automata(alloc: Global, nodes: &[Node]) -> Result<Items<NodeAuto>, AllocError> {
+    let mut autos = Items::new(alloc);
+    for node in nodes {
+        let Ok(auto) = automaton(alloc, node) else {
+            drop(autos);
+            return Err(AllocError);
+        };
+        if autos.push(auto).is_err() {
+            drop(autos);
+            return Err(AllocError);
+        }
+    }
+    Ok(autos)
+}
+
+/// The network of these channels, each with its writer, its reader and its capacity.
+fn network(alloc: Global, channels: &[[u32; 3]]) -> Result<Network, AllocError> {
+    let mut list = Items::new(alloc);
+    for [writer, reader, capacity] in channels {
+        list.push(channel([*writer, *reader, 0, *capacity], UseOrder::InOrder, false))?;
+    }
+    Ok(Network {
         processes: Items::new(alloc),
-        channels: Items::new(alloc),
-    };
-    write_vhdl(&network, &[auto], text)
+        channels: list,
+    })
 }
 
-#[test]
-fn a_node_is_an_entity_with_its_architecture(rt: HostRuntime) -> Result<(), Fail> {
-    let mut text = MemSink::new(rt.alloc(), 10_000, 10_000, &[])?;
-    assert_eq!(rt; node(rt.alloc(), assign(rt.alloc())?, &mut text), Ok(()));
-    assert_eq!(rt; text.held(), ADDS_ONE);
-    Ok(())
+/// Writes the text of these processes and channels, and answers what writing answers.
+fn write(
+    alloc: Global,
+    channels: &[[u32; 3]],
+    nodes: &[Node],
+    text: &mut MemSink,
+) -> Result<Result<(), VhdlError>, AllocError> {
+    let network = network(alloc, channels)?;
+    let autos = automata(alloc, nodes)?;
+    let answer = write_vhdl(&network, autos.as_slice(), text);
+    drop(autos);
+    drop(network);
+    Ok(answer)
+}
+
+/// The text of these processes and channels, in pieces of so many bytes.
+fn written(
+    alloc: Global,
+    channels: &[[u32; 3]],
+    nodes: &[Node],
+    piece: usize,
+) -> Result<MemSink, Fail> {
+    let mut text = MemSink::new(alloc, 200_000, piece, &[])?;
+    match write(alloc, channels, nodes, &mut text)? {
+        Ok(()) => Ok(text),
+        Err(_) => Err(Fail::from("the text isn't written")),
+    }
 }
 
 /// Whether a part stands somewhere in a text.
@@ -281,23 +371,21 @@ fn has(text: &[u8], part: &[u8]) -> bool {
     false
 }
 
-static OF_A_SOURCE: [&[u8]; 3] = [
+/// Whether a text is its one part, or has all parts where there are several.
+fn is_of(text: &[u8], parts: &[&[u8]]) -> bool {
+    match parts {
+        [whole] => text == *whole,
+        _ => parts.iter().all(|part| has(text, part)),
+    }
+}
+
+const OF_A_SOURCE: &[&[u8]] = &[
     b"    rst : in std_logic;\n    given : in signed(63 downto 0);\n    given_take : out std_logic;\n    c0_ready : in",
     b"begin\n  given_take <= '1' when op(pc) = 2 else '0';\n  c0_data <= fired;\n",
     b"          when 1 =>\n            null;\n          when 2 =>\n            fired <= given;\n            pc",
 ];
 
-#[test]
-fn a_source_is_given_its_values(rt: HostRuntime) -> Result<(), Fail> {
-    let mut text = MemSink::new(rt.alloc(), 10_000, 10_000, &[])?;
-    assert_eq!(rt; node(rt.alloc(), source(rt.alloc())?, &mut text), Ok(()));
-    for part in &OF_A_SOURCE {
-        assert!(rt; has(text.held(), part));
-    }
-    Ok(())
-}
-
-static OF_A_SINK: [&[u8]; 5] = [
+const OF_A_SINK: &[&[u8]] = &[
     b"    rst : in std_logic;\n    result : out signed(63 downto 0);\n    result_give : out std_logic;\n    c1_valid : in",
     b"  signal fired : signed(63 downto 0);\n  signal gave : std_logic := '0';\n  function",
     b"begin\n  result <= fired;\n  result_give <= gave;\n  c1_take <= ",
@@ -305,17 +393,7 @@ static OF_A_SINK: [&[u8]; 5] = [
     b"r0(arg(pc)));\n            gave <= '1';\n            pc <= pc + 1;\n          when 3 =>\n            null;\n          when",
 ];
 
-#[test]
-fn a_sink_gives_its_result_out(rt: HostRuntime) -> Result<(), Fail> {
-    let mut text = MemSink::new(rt.alloc(), 10_000, 10_000, &[])?;
-    assert_eq!(rt; node(rt.alloc(), sink(rt.alloc())?, &mut text), Ok(()));
-    for part in &OF_A_SINK {
-        assert!(rt; has(text.held(), part));
-    }
-    Ok(())
-}
-
-static OF_AN_OWN_CHANNEL: [&[u8]; 9] = [
+const OF_AN_OWN_CHANNEL: &[&[u8]] = &[
     b"    c2_data : in signed(63 downto 0);\n    c2_take",
     b"    c4_in : in signed(63 downto 0);\n    c4_take",
     b"    c4_data : out signed(63 downto 0);\n    c4_give",
@@ -327,87 +405,113 @@ static OF_AN_OWN_CHANNEL: [&[u8]; 9] = [
     b" - signed'(x\"8000000000000000\"))), (zero - v1(arg(pc))));\n",
 ];
 
-#[test]
-fn a_channel_to_itself_has_another_name_where_it_comes_in(rt: HostRuntime) -> Result<(), Fail> {
-    let mut text = MemSink::new(rt.alloc(), 10_000, 10_000, &[])?;
-    assert_eq!(rt;
-        node(rt.alloc(), own_channel(rt.alloc())?, &mut text),
-        Ok(())
-    );
-    for part in &OF_AN_OWN_CHANNEL {
-        assert!(rt; has(text.held(), part));
-    }
-    Ok(())
-}
-
-fn channel(writer: u32, reader: u32, capacity: u32) -> Channel {
-    Channel {
-        writer,
-        reader,
-        read: 0,
-        capacity,
-        class: ChannelClass {
-            order: UseOrder::InOrder,
-            multiplicity: false,
-        },
-    }
-}
-
-fn network(alloc: Global) -> Result<Network, AllocError> {
-    let mut channels = Items::new(alloc);
-    channels.push(channel(0, 1, 1))?;
-    channels.push(channel(1, 2, 17))?;
-    Ok(Network {
-        processes: Items::new(alloc),
-        channels,
-    })
-}
-
-static OF_A_NETWORK: [&[u8]; 3] = [
+const OF_A_NETWORK: &[&[u8]] = &[
     b"-- compaan vhdl 1\n-- channel 0 node_0 node_1 capacity 1\n",
     b"-- channel 1 node_1 node_2 capacity 17\n\nlibrary ieee;\n",
     b"end architecture;\n\nlibrary ieee;\n",
 ];
 
+/// Channels and processes, of whose text these are the parts.
+#[derive(Clone, Copy)]
+struct Told {
+    channels: &'static [[u32; 3]],
+    nodes: &'static [Node],
+    piece: usize,
+    parts: &'static [&'static [u8]],
+}
+
+static TOLD: [Told; 5] = [
+    Told {
+        channels: &[],
+        nodes: &[ASSIGN],
+        piece: 10_000,
+        parts: &[ADDS_ONE],
+    },
+    Told {
+        channels: &[],
+        nodes: &[SOURCE],
+        piece: 10_000,
+        parts: OF_A_SOURCE,
+    },
+    Told {
+        channels: &[],
+        nodes: &[SINK],
+        piece: 10_000,
+        parts: OF_A_SINK,
+    },
+    Told {
+        channels: &[],
+        nodes: &[OWN_CHANNEL],
+        piece: 10_000,
+        parts: OF_AN_OWN_CHANNEL,
+    },
+    // First the channels, and then the nodes.
+    Told {
+        channels: &[[0, 1, 1], [1, 2, 17]],
+        nodes: &[SOURCE, SINK],
+        piece: 7,
+        parts: OF_A_NETWORK,
+    },
+];
+
 #[test]
-fn the_text_has_the_channels_and_then_the_nodes(rt: HostRuntime) -> Result<(), Fail> {
-    let alloc = rt.alloc();
-    let mut autos = Items::new(alloc);
-    autos.push(source(alloc)?)?;
-    autos.push(sink(alloc)?)?;
-    let mut text = MemSink::new(alloc, 10_000, 7, &[])?;
-    let answer = write_vhdl(&network(alloc)?, autos.as_slice(), &mut text);
-    assert_eq!(rt; answer, Ok(()));
-    for part in &OF_A_NETWORK {
-        assert!(rt; has(text.held(), part));
+fn a_node_is_an_entity_with_its_architecture(rt: HostRuntime) -> Result<(), Fail> {
+    for row in &TOLD {
+        let text = written(rt.alloc(), row.channels, row.nodes, row.piece)?;
+        assert!(rt; is_of(text.held(), row.parts));
     }
     Ok(())
 }
 
-/// A process that only fires.
-fn firing(alloc: Global, process: u32, fires: u32) -> Result<NodeAuto, AllocError> {
-    let mut events = Items::new(alloc);
-    for _ in 0..fires {
-        events.push(fire(&[]))?;
-    }
-    let mut auto = scripted(alloc, [process, 0, 0, 0], Role::Assign, &[])?;
-    auto.events = events;
-    Ok(auto)
+// The second of these scripts is the first that is too long.
+static LONG: [Node; 3] = [
+    Node {
+        numbers: [0, 0, 0, 0],
+        role: Role::Assign,
+        steps: &[],
+        fires: 65_536,
+        gets: &[],
+        puts: &[],
+        values: &[],
+        computes: Computes::Given,
+    },
+    Node {
+        numbers: [1, 0, 0, 0],
+        role: Role::Assign,
+        steps: &[],
+        fires: 65_537,
+        gets: &[],
+        puts: &[],
+        values: &[],
+        computes: Computes::Given,
+    },
+    Node {
+        numbers: [2, 0, 0, 0],
+        role: Role::Assign,
+        steps: &[],
+        fires: 65_538,
+        gets: &[],
+        puts: &[],
+        values: &[],
+        computes: Computes::Given,
+    },
+];
+
+// Whether some script of these processes is too long.
+fn is_too_long(alloc: Global, nodes: &[Node]) -> Result<bool, AllocError> {
+    let autos = automata(alloc, nodes)?;
+    let is_too_long = too_long(autos.as_slice()).is_some();
+    drop(autos);
+    Ok(is_too_long)
 }
 
 #[test]
 fn the_first_script_that_is_too_long_is_told(rt: HostRuntime) -> Result<(), Fail> {
-    let alloc = rt.alloc();
-    let network = network(alloc)?;
-    let mut autos = Items::new(alloc);
-    autos.push(firing(alloc, 0, 65_536)?)?;
-    assert!(rt; too_long(autos.as_slice()).is_none());
-    autos.push(firing(alloc, 1, 65_537)?)?;
-    autos.push(firing(alloc, 2, 65_538)?)?;
-    let mut text = MemSink::new(alloc, 100, 100, &[])?;
-    let answer = write_vhdl(&network, autos.as_slice(), &mut text);
-    assert_eq!(rt; answer, Err(VhdlError::ScriptTooLong(1, 65_537)));
-    assert_eq!(rt; text.held(), b"".as_slice());
+    assert!(rt; !is_too_long(rt.alloc(), &LONG[..1])?);
+    let mut text = MemSink::new(rt.alloc(), 100, 100, &[])?;
+    let answer = write(rt.alloc(), &[], &LONG, &mut text)?;
+    assert!(rt; answer == Err(VhdlError::ScriptTooLong(1, 65_537)));
+    assert!(rt; text.held().is_empty());
     Ok(())
 }
 
@@ -422,49 +526,45 @@ static FRONTS: [(usize, u32, &[u8]); 5] = [
 
 #[test]
 fn a_sink_that_fails_midway_holds_a_front(rt: HostRuntime) -> Result<(), Fail> {
-    let alloc = rt.alloc();
     for (room, failing, held) in &FRONTS {
-        let mut text = MemSink::new(alloc, *room, 10, &[*failing])?;
-        let answer = write_vhdl(&network(alloc)?, &[], &mut text);
-        assert_eq!(rt; answer, Err(VhdlError::WriteFault));
-        assert_eq!(rt; text.held(), *held, "{room} {failing}");
+        let mut text = MemSink::new(rt.alloc(), *room, 10, &[*failing])?;
+        let answer = write(rt.alloc(), &[[0, 1, 1], [1, 2, 17]], &[], &mut text)?;
+        assert!(rt; answer == Err(VhdlError::WriteFault));
+        assert!(rt; text.held() == *held);
     }
     Ok(())
 }
 
-// -(1 - (-(1 - ..))), so many levels deep.
-fn nested(alloc: Global, pairs: u32) -> Result<Expr, AllocError> {
-    let mut expr = Expr::Var(0);
-    for _ in 0..pairs {
-        let one = Boxed::new(alloc, Expr::Const(1))?;
-        expr = Expr::Neg(Boxed::new(alloc, Expr::Sub(one, Boxed::new(alloc, expr)?))?);
-    }
-    Ok(expr)
-}
+// A process that does nothing, with an expression of no level and one of 8,192.
+const FLAT: Node = Node {
+    numbers: [0, 0, 0, 0],
+    role: Role::Assign,
+    steps: &[],
+    fires: 0,
+    gets: &[],
+    puts: &[],
+    values: &[],
+    computes: Computes::Nested(0),
+};
 
-/// A process with this expression, which does nothing.
-fn process_of(alloc: Global, expr: Expr) -> Result<NodeAuto, AllocError> {
-    let mut auto = scripted(alloc, [0, 0, 0, 0], Role::Assign, &[])?;
-    auto.expr = expr;
-    Ok(auto)
-}
+const DEEP: Node = Node {
+    numbers: [0, 0, 0, 0],
+    role: Role::Assign,
+    steps: &[],
+    fires: 0,
+    gets: &[],
+    puts: &[],
+    values: &[],
+    computes: Computes::Nested(4096),
+};
 
 // As many levels as a source has tokens, each pair with 42 bytes beside the 11 of the innermost variable. (`rt try` bears
 // fewer.)
 #[test]
 fn an_expression_of_8192_levels_is_written(rt: HostRuntime) -> Result<(), Fail> {
-    let alloc = rt.alloc();
-    let mut flat = MemSink::new(alloc, 10_000, 10_000, &[])?;
-    assert_eq!(rt;
-        node(alloc, process_of(alloc, Expr::Var(0))?, &mut flat),
-        Ok(())
-    );
+    let flat = written(rt.alloc(), &[], &[FLAT], 10_000)?;
     assert!(rt; has(flat.held(), b"fired <= v0(arg(pc));\n"));
-    let mut text = MemSink::new(alloc, 200_000, 200_000, &[])?;
-    assert_eq!(rt;
-        node(alloc, process_of(alloc, nested(alloc, 4096)?)?, &mut text),
-        Ok(())
-    );
-    assert_eq!(rt; text.held().len(), flat.held().len() + 42 * 4096);
+    let text = written(rt.alloc(), &[], &[DEEP], 200_000)?;
+    assert!(rt; text.held().len() == flat.held().len() + 42 * 4096);
     Ok(())
 }

@@ -3,7 +3,5 @@
 
 mod copy;
 mod node;
-#[cfg(test)]
-mod tests;
 
 pub use node::{NodeAuto, automata, automaton};

@@ -10,6 +10,3 @@ mod uses;
 
 pub use law::{few_events, few_slots, fits_nest, numbers_fit};
 pub use network::{derive, derive_by_turns};
-
-#[cfg(test)]
-mod tests;

@@ -10,8 +10,6 @@ ghost use Rattle.ruled_links.specs.Ports.{AreOfOneLine, fresh, link_end, stream_
 mod ends;
 mod ports;
 mod rule;
-#[cfg(test)]
-mod tests;
 
 pub use ends::{Call, Ends};
 use ports::linked;

@@ -7,28 +7,23 @@ use sanlp::Nest;
 use std::alloc::Global;
 use std::test::Fail;
 
-/// The nest of a source, or the reason why it has none, where these are the values of parameters.
+/// The nest of a source where N has this value, or the reason why it has none.
 pub(crate) fn binding(
     alloc: Global,
     source: &[u8],
-    params: &Params,
+    n: i64,
 ) -> Result<Result<Nest, BindError>, Fail> {
     if source.len() > u32::MAX as usize {
         return Err(Fail::new("the source is long"));
     }
+    let mut params = Params::empty(alloc);
+    params.add(b"N", n)?;
     let tokens = lex(alloc, source)?;
     let tree = parse(alloc, source, &tokens)?;
-    Ok(bind(alloc, source, &tokens, &tree, params))
+    Ok(bind(alloc, source, &tokens, &tree, &params))
 }
 
-/// The nest of a source without parameters.
-pub(crate) fn nest(alloc: Global, source: &[u8]) -> Result<Nest, Fail> {
-    Ok(binding(alloc, source, &Params::empty(alloc))??)
+/// The nest of a source where N has this value.
+pub(crate) fn nest(alloc: Global, source: &[u8], n: i64) -> Result<Nest, Fail> {
+    Ok(binding(alloc, source, n)??)
 }
-
-/// Sums that run on from turn to turn.
-pub(crate) const SUMS: &[u8] = b"out y[4]; var v; for (i = 0; i < 4; i++) { v = v + i; y[i] = v; }";
-
-/// Values that come one turn late.
-pub(crate) const DELAYED: &[u8] =
-    b"out y[3]; var v; for (i = 0; i < 3; i++) { y[i] = v; v = i; v = v + 10; }";

@@ -1,24 +1,18 @@
-//! Tests of binding, walks, sources, trees and strides, on nests that are bound from sources. They stand apart from what they
-//! test, since a crate with tests of its own is proved twice.
+//! Tests of what is bound of deep sources and of the trees of reads, on nests that are bound from sources. They stand apart from
+//! what they test, since a crate with tests of its own is proved twice.
 #![tactic(auto)]
 
 #[cfg(test)]
-mod binding;
-#[cfg(test)]
 mod bound;
 #[cfg(test)]
-mod origins;
+mod classes;
 #[cfg(test)]
-mod sources;
+mod deep;
 #[cfg(test)]
-mod stride_candidates;
+mod given;
 #[cfg(test)]
-mod stride_programs;
+mod programs;
 #[cfg(test)]
-mod stride_sources;
-#[cfg(test)]
-mod strides;
+mod sweeps;
 #[cfg(test)]
 mod trees;
-#[cfg(test)]
-mod walks;

@@ -1,188 +1,383 @@
-//! Tests of `source_check::check_tree`.
+//! Tests of `last_writer::source_of`, `lex_max::candidate` and `stride_trees::stride_candidate`: at each point of a reader their
+//! trees give what `sweep` finds there.
 
 use crate::bound::nest;
-use affine_core::{Coefs, Form};
-use cert_lines::Lines;
-use int_polyhedra::Reason;
-use sanlp::Nest;
-use source_check::{Rule, TreeVerdict, check_tree};
-use source_tree::Tree;
-use std::alloc::Global;
-use std::process::Abort;
+use crate::given::{Turn, gives};
+use crate::programs::{
+    BACKWARDS, BEFORE, BETWEEN, BOTH, DELAYED, GUARDED, GUARDED_BELOW, INCREMENT, LAST_OF_ROW,
+    MANY_WRITERS, ONE_OF_TWO, PRODUCT, RANDOM, RUNNING_SUM, STENCIL, STEPPED, STRIDED, TRIANGLE,
+    TWICE, TWO_CASES, TWO_LOOPS,
+};
+use affine_core::Vector;
+use candidate_order::level_count;
+use last_writer::{in_difference_class, source_of, write_to};
+use lex_max::{Reference, candidate};
+use loop_walk::{points, size};
+use plain_data::Items;
+use sanlp::{Nest, Points, Tag};
+use shadow_sweep::sweep;
+use source_tree::{SourceTable, Tree};
+use std::alloc::{AllocError, Global};
 use std::test::Fail;
-use tree_text::read_tree;
+use stride_rows::in_stride_class;
+use stride_trees::stride_candidate;
 
-// Statement 0 brings x, statement 1 is the copy, and statement 2 takes y; each has one loop of one turn.
-const COPY: &[u8] = b"in x[1]; out y[1]; for (i = 0; i < 1; i++) y[i] = x[i] + 1;";
+// A nest with its points, and a read of it.
+#[derive(Clone, Copy)]
+struct Asked<'a> {
+    nest: &'a Nest,
+    points: &'a Points,
+    statement: u32,
+    read: u32,
+}
 
-// The leaf of the copy's read, with the proofs that its point is neither below nor above the domain, that it writes no
-// other cell, and that nothing is written between.
-const LEAF: &[u8] = b"w 0 1 5\nm 0 1\n";
+// Which trees are made of a read: that of all writers, or for each writer and level the tree of the writes that differ from the
+// read by constants, or by strides.
+#[derive(Clone, Copy)]
+enum Kind {
+    Joined,
+    Differences,
+    Strides,
+}
 
-const INSIDE: &[u8] = b"s 0 1 2 1\ns 1 1 2 1\n";
-
-const CELL: &[u8] = b"s 2 1\ns 2 1\n";
-
-const BETWEEN: &[u8] = b"s 5 1 6 1\n";
-
-// The tree whose text has these parts.
-fn tree(alloc: Global, parts: &[&[u8]]) -> Result<Tree, Fail> {
-    let mut text = Vec::new(alloc);
-    for part in parts {
-        text.extend_from_slice(*part)?;
-    }
-    let mut lines = Lines::new(text.as_slice());
-    let tree = read_tree(alloc, &mut lines)?;
-    match lines.end() {
-        Ok(()) => Ok(tree),
-        Err(error) => {
-            drop(tree);
-            Err(Fail::from(error))
-        }
+// So many statements, or reads of one.
+fn count_of(count: usize) -> Result<u32, Fail> {
+    match u32::try_from(count) {
+        Ok(count) => Ok(count),
+        Err(_) => Err(Fail::from("the nest is large")),
     }
 }
 
-// A constant, and at most 18 coefficients.
-fn form(alloc: Global, constant: i128, coefs: &[i128]) -> Form {
-    let mut short = Coefs::empty(alloc);
-    for coef in coefs {
-        if short.len() < 18 {
-            short.push(*coef);
-        }
+// The tree of a read in the class.
+fn joined(alloc: Global, nest: &Nest, statement: u32, read: u32) -> Result<Tree, Fail> {
+    if !in_stride_class(nest, statement, read) {
+        return Err(Fail::from("the read is not in the class"));
     }
-    Form {
-        constant,
-        coefs: short,
-    }
+    Ok(source_of(alloc, nest, statement, read)?)
 }
 
-// That the sum of this leaf's proof of this number is this form, and no contradiction.
-fn adds_up(alloc: Global, leaf: u64, number: u64, constant: i128, coefs: &[i128]) -> Rule {
-    Rule::Proof(
-        leaf,
-        number,
-        Reason::NotContradictory(form(alloc, constant, coefs)),
-    )
-}
-
-// What is said of the tree of the copy's read.
-fn verdict(alloc: Global, nest: &Nest, parts: &[&[u8]]) -> Result<TreeVerdict, Fail> {
-    let Some(statement) = nest.statements.get(1) else {
-        return Err(Fail::from("there is no statement 1"));
+// The tree of the writes of a statement at a level of order before a read, where there are any and
+// the read is in the class.
+fn tree_of_differences(
+    alloc: Global,
+    nest: &Nest,
+    (statement, read): (u32, u32),
+    writer: u32,
+    level: u32,
+) -> Result<Option<Tree>, AllocError> {
+    let (Some(reading), Some(writing)) = (
+        nest.statements.get(statement as usize),
+        nest.statements.get(writer as usize),
+    ) else {
+        return Ok(None);
     };
-    if statement.reads.len() == 0 {
-        return Err(Fail::from("it reads nothing"));
+    let Some(access) = reading.reads.get(read as usize) else {
+        return Ok(None);
+    };
+    let Some(write) = write_to(access.array, writer, writing) else {
+        return Ok(None);
+    };
+    let reference = Reference {
+        number: statement,
+        statement: reading,
+        access,
+    };
+    if level as usize >= level_count(&write, &reference) {
+        return Ok(None);
     }
-    let tree = tree(alloc, parts)?;
-    let verdict = check_tree(alloc, nest, 1, 0, &tree);
+    if !in_difference_class(nest, statement, read) {
+        return Ok(None);
+    }
+    Ok(Some(candidate(alloc, nest, statement, read, writer, level)?))
+}
+
+// The same for the stride class.
+fn tree_of_strides(
+    alloc: Global,
+    nest: &Nest,
+    (statement, read): (u32, u32),
+    writer: u32,
+    level: u32,
+) -> Result<Option<Tree>, AllocError> {
+    let (Some(reading), Some(writing)) = (
+        nest.statements.get(statement as usize),
+        nest.statements.get(writer as usize),
+    ) else {
+        return Ok(None);
+    };
+    let Some(access) = reading.reads.get(read as usize) else {
+        return Ok(None);
+    };
+    let Some(write) = write_to(access.array, writer, writing) else {
+        return Ok(None);
+    };
+    let reference = Reference {
+        number: statement,
+        statement: reading,
+        access,
+    };
+    if level as usize >= level_count(&write, &reference) {
+        return Ok(None);
+    }
+    if !in_stride_class(nest, statement, read) {
+        return Ok(None);
+    }
+    Ok(Some(stride_candidate(alloc, nest, statement, read, writer, level)?))
+}
+
+// The trees of a read: one, or those of each writer and level, in this order.
+fn trees_of(alloc: Global, asked: &Asked, kind: Kind) -> Result<Items<Tree>, Fail> {
+    let (nest, read) = (asked.nest, (asked.statement, asked.read));
+    let mut trees = Items::new(alloc);
+    if let Kind::Joined = kind {
+        trees.push(joined(alloc, nest, asked.statement, asked.read)?)?;
+        return Ok(trees);
+    }
+    let writers = count_of(nest.statements.len())?;
+    for writer in 0..writers {
+        for level in 0..7 {
+            let made = match kind {
+                Kind::Differences => tree_of_differences(alloc, nest, read, writer, level)?,
+                _ => tree_of_strides(alloc, nest, read, writer, level)?,
+            };
+            let Some(tree) = made else {
+                continue;
+            };
+            trees.push(tree)?;
+        }
+    }
+    Ok(trees)
+}
+
+// Whether the last of these trees that gives a turn gives this one, or none of them any.
+fn give(
+    alloc: Global,
+    trees: &[Tree],
+    at: &[i64],
+    wanted: Option<Turn>,
+) -> Result<bool, AllocError> {
+    for tree in trees.iter().rev() {
+        if !gives(alloc, tree, at, None)? {
+            return gives(alloc, tree, at, wanted);
+        }
+    }
+    Ok(wanted.is_none())
+}
+
+// The turn of a tag.
+fn turn_of(points: &Points, tag: Tag) -> Option<Turn> {
+    let number = tag.process as usize;
+    let at = points.of.get(number)?.get(tag.turn as usize)?;
+    Some(Turn {
+        number,
+        at: at.as_slice(),
+    })
+}
+
+// Whether the trees give at each of these points the source beside it.
+fn give_sources(
+    alloc: Global,
+    points: &Points,
+    trees: &[Tree],
+    vectors: &[Vector],
+    sources: &[Option<Tag>],
+) -> Result<bool, AllocError> {
+    for (at, source) in vectors.iter().zip(sources) {
+        let wanted = match source {
+            Some(tag) => turn_of(points, *tag),
+            None => None,
+        };
+        if wanted.is_some() != source.is_some() || !give(alloc, trees, at.as_slice(), wanted)? {
+            return Ok(false);
+        }
+    }
+    Ok(vectors.len() == sources.len())
+}
+
+// Whether the trees of a read give at each of these points the source beside it.
+fn is_right(
+    alloc: Global,
+    asked: &Asked,
+    kind: Kind,
+    vectors: &[Vector],
+    sources: &[Option<Tag>],
+) -> Result<bool, Fail> {
+    let trees = trees_of(alloc, asked, kind)?;
+    let right = give_sources(alloc, asked.points, trees.as_slice(), vectors, sources);
+    drop(trees);
+    Ok(right?)
+}
+
+// Whether the trees of each read of a nest give at each point what the table has there.
+fn all_have_sources(
+    alloc: Global,
+    nest: &Nest,
+    points: &Points,
+    kind: Kind,
+    table: &SourceTable,
+) -> Result<bool, Fail> {
+    let mut number: usize = 0;
+    let statements = count_of(nest.statements.len())?;
+    for statement in 0..statements {
+        let (Some(reader), Some(vectors)) = (
+            nest.statements.get(statement as usize),
+            points.of.get(statement as usize),
+        ) else {
+            return Ok(false);
+        };
+        let reads = count_of(reader.reads.len())?;
+        for read in 0..reads {
+            let asked = Asked {
+                nest,
+                points,
+                statement,
+                read,
+            };
+            let Some(sources) = table.of.get(number) else {
+                return Ok(false);
+            };
+            if !is_right(alloc, &asked, kind, vectors.as_slice(), sources.as_slice())? {
+                return Ok(false);
+            }
+            number = number.saturating_add(1);
+        }
+    }
+    Ok(true)
+}
+
+// Whether the trees of each read of a source give at each point what `sweep` finds there.
+fn all_are_right(alloc: Global, source: &[u8], n: i64, kind: Kind) -> Result<bool, Fail> {
+    let nest = nest(alloc, source, n)?;
+    if size(&nest).is_err() {
+        return Err(Fail::from("the nest is large"));
+    }
+    let points = points(alloc, &nest)?;
+    let table = sweep(alloc, &nest, &points)?;
+    all_have_sources(alloc, &nest, &points, kind, &table)
+}
+
+// Sources, and the greatest N.
+static SOURCES: [(&[u8], i64); 14] = [
+    (STRIDED, 7),
+    (STEPPED, 7),
+    // upsampling
+    (
+        b"param N; in x[N], h[3]; out y[2 * N]; var longer[2 * N]; \
+        for (n = 0; n < N; n++) longer[2 * n] = x[n]; \
+        for (n = 0; n < 2 * N; n++) { y[n] = 0; \
+        for (k = 0; k < 3; k++) { if (k <= n) y[n] = y[n] + h[k] * longer[n - k]; } }",
+        7,
+    ),
+    // red-black sweeps
+    (
+        b"param N; inout a[N]; for (t = 0; t < 3; t++) { \
+        for (i = 1; i < N - 1; i += 2) a[i] = a[i - 1] + a[i + 1]; \
+        for (i = 2; i < N - 1; i += 2) a[i] = a[i - 1] + a[i + 1]; }",
+        7,
+    ),
+    // butterflies
+    (
+        b"param N; in x[4 * N]; out y[4 * N]; var s[4 * N]; \
+        for (i = 0; i < 2 * N; i++) { s[2 * i] = x[2 * i] + x[2 * i + 1]; \
+        s[2 * i + 1] = x[2 * i] - x[2 * i + 1]; } \
+        for (b = 0; b < N; b++) { y[4 * b] = s[4 * b] + s[4 * b + 2]; \
+        y[4 * b + 1] = s[4 * b + 1] + s[4 * b + 3]; y[4 * b + 2] = s[4 * b] - s[4 * b + 2]; \
+        y[4 * b + 3] = s[4 * b + 1] - s[4 * b + 3]; }",
+        7,
+    ),
+    (INCREMENT, 5),
+    (RUNNING_SUM, 5),
+    (DELAYED, 5),
+    (TWO_CASES, 5),
+    (LAST_OF_ROW, 5),
+    (PRODUCT, 3),
+    (STENCIL, 4),
+    (TRIANGLE, 4),
+    (MANY_WRITERS, 4),
+];
+
+#[test]
+fn trees_have_the_last_writes(rt: HostRuntime) -> Result<(), Fail> {
+    for (source, most) in &SOURCES {
+        for n in 0..=*most {
+            assert!(rt; all_are_right(rt.alloc(), source, n, Kind::Joined)?);
+        }
+    }
+    for source in &RANDOM {
+        for n in 2..4 {
+            assert!(rt; all_are_right(rt.alloc(), source, n, Kind::Joined)?);
+        }
+    }
+    Ok(())
+}
+
+// Sources, and the greatest N. What is read was written last by the statement of the greatest number that wrote it before, and
+// most loops deep.
+static BY_WRITER: [(&[u8], Kind, i64); 17] = [
+    (INCREMENT, Kind::Differences, 5),
+    (RUNNING_SUM, Kind::Differences, 5),
+    (TWO_CASES, Kind::Differences, 5),
+    (LAST_OF_ROW, Kind::Differences, 5),
+    (PRODUCT, Kind::Differences, 3),
+    (STENCIL, Kind::Differences, 4),
+    (STRIDED, Kind::Strides, 5),
+    (STEPPED, Kind::Strides, 5),
+    (BACKWARDS, Kind::Strides, 5),
+    (GUARDED, Kind::Strides, 5),
+    (GUARDED_BELOW, Kind::Strides, 5),
+    (ONE_OF_TWO, Kind::Strides, 5),
+    (BEFORE, Kind::Strides, 5),
+    (TWO_LOOPS, Kind::Strides, 3),
+    (BOTH, Kind::Strides, 3),
+    (TWICE, Kind::Strides, 3),
+    (BETWEEN, Kind::Strides, 3),
+];
+
+#[test]
+fn trees_of_each_writer_and_level_have_the_last_writes(rt: HostRuntime) -> Result<(), Fail> {
+    for (source, kind, most) in &BY_WRITER {
+        for n in 0..=*most {
+            assert!(rt; all_are_right(rt.alloc(), source, n, *kind)?);
+        }
+    }
+    Ok(())
+}
+
+fn leaf_count(tree: &Tree) -> usize {
+    match tree {
+        Tree::Test(_, above, below) => {
+            leaf_count(above.get()).saturating_add(leaf_count(below.get()))
+        }
+        _ => 1,
+    }
+}
+
+// Turns, and the turns before.
+static TURNS: [(&[i64], &[i64]); 2] = [(&[1], &[0]), (&[999_999_999], &[999_999_998])];
+
+// Whether a tree has two leaves: at the first turn it gives nobody's, and at the others that of the turn before.
+fn is_small(alloc: Global, tree: &Tree) -> Result<bool, AllocError> {
+    if leaf_count(tree) != 2 || !gives(alloc, tree, &[0], None)? {
+        return Ok(false);
+    }
+    for (at, before) in &TURNS {
+        let wanted = Turn {
+            number: 1,
+            at: *before,
+        };
+        if !gives(alloc, tree, at, Some(wanted))? {
+            return Ok(false);
+        }
+    }
+    Ok(true)
+}
+
+#[test]
+fn a_tree_is_as_small_at_any_size(rt: HostRuntime) -> Result<(), Fail> {
+    let nest = nest(rt.alloc(), RUNNING_SUM, 1_000_000_000)?;
+    let tree = joined(rt.alloc(), &nest, 1, 0)?;
+    let small = is_small(rt.alloc(), &tree);
     drop(tree);
-    Ok(verdict?)
-}
-
-// The rule that refuses the tree of the copy's read, if there is one.
-fn broken(alloc: Global, parts: &[&[u8]]) -> Result<Option<Rule>, Fail> {
-    let nest = nest(alloc, COPY)?;
-    let verdict = verdict(alloc, &nest, parts);
-    drop(nest);
-    match verdict? {
-        TreeVerdict::Accepted => Ok(None),
-        TreeVerdict::Refused(rule) => Ok(Some(rule)),
-    }
-}
-
-// That a tree breaks this rule.
-fn is_broken(rt: &impl Abort, parts: &[&[u8]], broken: Option<Rule>, rule: Rule) {
-    let wanted = Some(rule);
-    let same = broken == wanted;
-    drop(broken);
-    drop(wanted);
-    assert!(rt; same, "{parts:?}");
-}
-
-// That a tree breaks no rule.
-fn is_accepted(rt: &impl Abort, parts: &[&[u8]], broken: Option<Rule>) {
-    let accepted = broken.is_none();
-    drop(broken);
-    assert!(rt; accepted, "{parts:?}");
-}
-
-static RIGHT: [&[u8]; 4] = [LEAF, INSIDE, CELL, BETWEEN];
-
-static BEYOND: [&[u8]; 4] = [b"w 0 1 5\nm 1 1\n", INSIDE, CELL, BETWEEN];
-
-static HALF_BETWEEN: [&[u8]; 4] = [LEAF, INSIDE, CELL, b"s 5 1\n"];
-
-static OF_ROW_7: [&[u8]; 4] = [LEAF, INSIDE, CELL, b"s 5 1 7 1\n"];
-
-static NEGATIVE: [&[u8]; 4] = [LEAF, INSIDE, CELL, b"s 5 -1 6 1\n"];
-
-static FOUR_PROOFS: [&[u8]; 3] = [b"w 0 1 4\nm 0 1\n", INSIDE, CELL];
-
-static OF_NO_WRITER: [&[u8]; 4] = [b"w 1 1 5\nm 0 1\n", INSIDE, CELL, BETWEEN];
-
-static WITHOUT_MAP: [&[u8]; 4] = [b"w 0 0 5\n", INSIDE, CELL, BETWEEN];
-
-fn proofs_are_refused(rt: &(impl Abort + AllocGlobal)) -> Result<(), Fail> {
-    let alloc = rt.alloc();
-    let found = broken(alloc, &BEYOND)?;
-    is_broken(rt, &BEYOND, found, adds_up(alloc, 0, 1, 0, &[0]));
-    let found = broken(alloc, &HALF_BETWEEN)?;
-    is_broken(rt, &HALF_BETWEEN, found, adds_up(alloc, 0, 4, 0, &[1, -1]));
-    let found = broken(alloc, &OF_ROW_7)?;
-    is_broken(rt, &OF_ROW_7, found, Rule::Proof(0, 4, Reason::BadIndex(7)));
-    let found = broken(alloc, &NEGATIVE)?;
-    is_broken(
-        rt,
-        &NEGATIVE,
-        found,
-        Rule::Proof(0, 4, Reason::Negative(-1)),
-    );
-    Ok(())
-}
-
-fn leaves_are_refused(rt: &(impl Abort + AllocGlobal)) -> Result<(), Fail> {
-    let alloc = rt.alloc();
-    let found = broken(alloc, &FOUR_PROOFS)?;
-    is_broken(rt, &FOUR_PROOFS, found, Rule::Proofs(0, 4, 5));
-    let found = broken(alloc, &OF_NO_WRITER)?;
-    is_broken(rt, &OF_NO_WRITER, found, Rule::NoWriter(0));
-    let found = broken(alloc, &WITHOUT_MAP)?;
-    is_broken(rt, &WITHOUT_MAP, found, Rule::BadForm(0));
-    Ok(())
-}
-
-#[test]
-fn each_rule_comes_at_its_leaf(rt: HostRuntime) -> Result<(), Fail> {
-    is_accepted(&rt, &RIGHT, broken(rt.alloc(), &RIGHT)?);
-    proofs_are_refused(&rt)?;
-    leaves_are_refused(&rt)
-}
-
-// The same leaf below a test or a divisor, which shifts the rows that follow, and a second leaf that no turn comes to.
-const TESTED: &[u8] =
-    b"w 0 1 5\nm 0 1\ns 0 1 3 1\ns 1 1 3 1\ns 3 1\ns 3 1\ns 6 1 7 1\nx\ns 0 1 2 1\n";
-
-const DIVIDED: &[u8] = b"w 0 1 5\nm 0 1 0\ns 0 1 4 1\ns 1 1 4 1\ns 4 1\ns 4 1\ns 7 1 8 1\nx\n";
-
-// The turn is even, since it is 0.
-const EVEN: &[u8] = b"c 2 1 1 2 1\nc 2 0 1 3 1\ns 4 1 5 1\n";
-
-static BELOW_A_TEST: [&[u8]; 2] = [b"t 0 1\n", TESTED];
-
-static BELOW_A_DIVISOR: [&[u8]; 3] = [b"d 2 0 1\n", DIVIDED, EVEN];
-
-static NOT_EVEN: [&[u8]; 3] = [b"d 2 0 1\n", DIVIDED, b"s\n"];
-
-static BY_ONE: [&[u8]; 3] = [b"d 1 0 1\n", DIVIDED, b"s\n"];
-
-#[test]
-fn leaves_below_tests_are_checked_in_their_contexts(rt: HostRuntime) -> Result<(), Fail> {
-    let alloc = rt.alloc();
-    is_accepted(&rt, &BELOW_A_TEST, broken(alloc, &BELOW_A_TEST)?);
-    is_accepted(&rt, &BELOW_A_DIVISOR, broken(alloc, &BELOW_A_DIVISOR)?);
-    let found = broken(alloc, &NOT_EVEN)?;
-    is_broken(&rt, &NOT_EVEN, found, adds_up(alloc, 1, 0, 0, &[0, 0]));
-    let found = broken(alloc, &BY_ONE)?;
-    is_broken(&rt, &BY_ONE, found, Rule::BadForm(0));
+    assert!(rt; small?);
     Ok(())
 }

@@ -1,11 +1,11 @@
-//! Tests of `loop_print`.
+//! Tests of `loop_parse` and `loop_print`.
 ghost use Rattle.std.specs.Prelude.{◌≡◌, Ok, IfSome};
 ghost use Rattle.loop_lex.specs.Tokens.{tokens as tokens_of};
 ghost use Rattle.loop_print.specs.ReadBack.{HasSource};
 
-use loop_grammar::{Comparison, Declaration, Name, Named, Operand, Other, Part, Step, Tree};
+use loop_grammar::Tree;
 use loop_lex::{Token, lex};
-use loop_parse::parse;
+use loop_parse::{ParseError, parse};
 use loop_print::print;
 use std::alloc::{AllocError, Global};
 use std::test::Fail;
@@ -33,254 +33,44 @@ fn tree_of(alloc: Global, source: &[u8]) -> Option<Tree>
     }
 }
 
-fn same_name(a: &Name, b: &Name) -> bool {
-    a.text.as_slice() == b.text.as_slice()
+// What is printed of the source's tree, if it has one.
+fn printed(alloc: Global, source: &[u8]) -> Option<Vec<u8>> {
+    let tree = tree_of(alloc, source)?;
+    let text = print(alloc, &tree);
+    drop(tree);
+    text.ok()
 }
 
-#[cycle(same_operand)]
-fn same_operands(a: &[Operand], b: &[Operand]) -> bool {
-    if a.len() != b.len() {
-        return false;
-    }
-    for i in 0..a.len() {
-        if !same_operand(&a[i], &b[i]) {
-            return false;
-        }
-    }
-    true
-}
-
-// Whether two operands are the same, token numbers aside.
-#[cycle(same_operand)]
-fn same_operand(a: &Operand, b: &Operand) -> bool {
-    match (a, b) {
-        (Operand::Number { value, .. }, Operand::Number { value: other, .. }) => value == other,
-        (
-            Operand::Access { name, subscripts },
-            Operand::Access {
-                name: other_name,
-                subscripts: other_subscripts,
-            },
-        ) => {
-            same_name(name, other_name)
-                && same_operands(subscripts.as_slice(), other_subscripts.as_slice())
-        }
-        (
-            Operand::Binary {
-                sign,
-                left,
-                right,
-                ..
-            },
-            Operand::Binary {
-                sign: other_sign,
-                left: other_left,
-                right: other_right,
-                ..
-            },
-        ) => {
-            sign == other_sign
-                && same_operand(left.get(), other_left.get())
-                && same_operand(right.get(), other_right.get())
-        }
-        (Operand::Neg { inner, .. }, Operand::Neg { inner: other, .. }) => {
-            same_operand(inner.get(), other.get())
-        }
-        (Operand::Min { list, .. }, Operand::Min { list: other, .. }) => {
-            same_operands(list.as_slice(), other.as_slice())
-        }
-        (Operand::Max { list, .. }, Operand::Max { list: other, .. }) => {
-            same_operands(list.as_slice(), other.as_slice())
-        }
-        _ => false,
-    }
-}
-
-fn same_comparison(a: &Comparison, b: &Comparison) -> bool {
-    a.sign == b.sign && same_operand(&a.left, &b.left) && same_operand(&a.right, &b.right)
-}
-
-fn same_comparisons(a: &[Comparison], b: &[Comparison]) -> bool {
-    if a.len() != b.len() {
-        return false;
-    }
-    for i in 0..a.len() {
-        if !same_comparison(&a[i], &b[i]) {
-            return false;
-        }
-    }
-    true
-}
-
-fn same_step(a: &Step, b: &Step) -> bool {
-    match (a, b) {
-        (Step::One, Step::One) => true,
-        (Step::By { value, .. }, Step::By { value: other, .. }) => same_operand(value, other),
-        _ => false,
-    }
-}
-
-#[cycle(same_part)]
-fn same_other(a: &Option<Other>, b: &Option<Other>) -> bool {
-    match (a, b) {
-        (Some(other), Some(another)) => same_part(other.body.get(), another.body.get()),
-        (None, None) => true,
-        _ => false,
-    }
-}
-
-#[cycle(same_part)]
-fn same_parts(a: &[Part], b: &[Part]) -> bool {
-    if a.len() != b.len() {
-        return false;
-    }
-    for i in 0..a.len() {
-        if !same_part(&a[i], &b[i]) {
-            return false;
-        }
-    }
-    true
-}
-
-// Whether two statements are the same, token numbers aside.
-#[cycle(same_part)]
-fn same_part(a: &Part, b: &Part) -> bool {
-    match (a, b) {
-        (
-            Part::For {
-                name,
-                first,
-                second,
-                inclusive,
-                bound,
-                third,
-                step,
-                body,
-            },
-            Part::For {
-                name: other_name,
-                first: other_first,
-                second: other_second,
-                inclusive: other_inclusive,
-                bound: other_bound,
-                third: other_third,
-                step: other_step,
-                body: other_body,
-            },
-        ) => {
-            same_name(name, other_name)
-                && same_operand(first, other_first)
-                && same_name(second, other_second)
-                && inclusive == other_inclusive
-                && same_operand(bound, other_bound)
-                && same_name(third, other_third)
-                && same_step(step, other_step)
-                && same_part(body.get(), other_body.get())
-        }
-        (
-            Part::If { cond, body, other },
-            Part::If {
-                cond: other_cond,
-                body: other_body,
-                other: other_other,
-            },
-        ) => {
-            same_comparisons(cond.as_slice(), other_cond.as_slice())
-                && same_part(body.get(), other_body.get())
-                && same_other(other, other_other)
-        }
-        (
-            Part::Assign {
-                target,
-                subscripts,
-                value,
-            },
-            Part::Assign {
-                target: other_target,
-                subscripts: other_subscripts,
-                value: other_value,
-            },
-        ) => {
-            same_name(target, other_target)
-                && same_operands(subscripts.as_slice(), other_subscripts.as_slice())
-                && same_operand(value, other_value)
-        }
-        (Part::Block(parts), Part::Block(other_parts)) => {
-            same_parts(parts.as_slice(), other_parts.as_slice())
-        }
-        _ => false,
-    }
-}
-
-fn same_named(a: &[Named], b: &[Named]) -> bool {
-    if a.len() != b.len() {
-        return false;
-    }
-    for i in 0..a.len() {
-        if !same_name(&a[i].name, &b[i].name)
-            || !same_operands(a[i].extents.as_slice(), b[i].extents.as_slice())
-        {
-            return false;
-        }
-    }
-    true
-}
-
-fn same_declarations(a: &[Declaration], b: &[Declaration]) -> bool {
-    if a.len() != b.len() {
-        return false;
-    }
-    for i in 0..a.len() {
-        if a[i].word != b[i].word || !same_named(a[i].names.as_slice(), b[i].names.as_slice()) {
-            return false;
-        }
-    }
-    true
-}
-
-// Whether two trees are the same, token numbers aside.
-fn same_tree(a: &Tree, b: &Tree) -> bool {
-    same_declarations(a.declarations.as_slice(), b.declarations.as_slice())
-        && same_parts(a.parts.as_slice(), b.parts.as_slice())
-}
-
-// Whether the source is printed as this text, and the text has the source's tree, token numbers aside.
-fn reads_back(alloc: Global, source: &[u8], text: &[u8]) -> bool {
-    let Some(tree) = tree_of(alloc, source) else {
-        return false;
-    };
-    let Ok(printed) = print(alloc, &tree) else {
-        return false;
-    };
-    let Some(again) = tree_of(alloc, &printed) else {
-        return false;
-    };
-    printed.as_slice() == text && same_tree(&tree, &again)
-}
-
-// Whether the source has a tree, and the text that is printed of it has the same one, token numbers aside.
-fn is_read_back(alloc: Global, source: &[u8]) -> bool {
-    let Some(tree) = tree_of(alloc, source) else {
-        return false;
-    };
-    let Ok(printed) = print(alloc, &tree) else {
-        return false;
-    };
-    match tree_of(alloc, &printed) {
-        Some(again) => same_tree(&tree, &again),
+// Whether this text is printed of the source's tree.
+fn prints(alloc: Global, source: &[u8], text: &[u8]) -> bool {
+    match printed(alloc, source) {
+        Some(found) => found.as_slice() == text,
         None => false,
     }
 }
 
-// Whether both sources have a tree, and not the same one.
-fn have_other_trees(alloc: Global, source: &[u8], other: &[u8]) -> bool {
-    match (tree_of(alloc, source), tree_of(alloc, other)) {
-        (Some(a), Some(b)) => !same_tree(&a, &b),
-        _ => false,
-    }
+fn word(bytes: &[u8], token: Token) -> Option<&[u8]> {
+    bytes.get(token.start as usize..token.end as usize)
 }
 
-static PRINTED: [(&[u8], &[u8]); 23] = [
+// Whether both have the same tokens, one by one, and with them the same tree.
+fn have_same_tokens(alloc: Global, source: &[u8], text: &[u8]) -> Result<bool, Fail> {
+    if source.len() > u32::MAX as usize || text.len() > u32::MAX as usize {
+        return Err(Fail::new("a text is long"));
+    }
+    let (own, other) = (lex(alloc, source)?, lex(alloc, text)?);
+    Ok(
+        own.len() == other.len()
+            && own
+                .iter()
+                .zip(&other)
+                .all(|(a, b)| word(source, *a) == word(text, *b)),
+    )
+}
+
+// Sources, and what is printed of each, which has the source's tokens: no source has an `int`, or parentheses that it could do
+// without.
+static PRINTED: [(&[u8], &[u8]); 14] = [
     (b"", b""),
     (
         b"param N; in a[N]; out y[N]; for (i = 0; i < N; i++) y[i] = a[i*i];",
@@ -320,16 +110,21 @@ static PRINTED: [(&[u8], &[u8]); 23] = [
         b"var a ; for ( i = 0 ; i < 3 ; i ++ ) if ( i == 1 ) { a = 1 ; } else { a = 2 ; } ",
     ),
     (
-        b"out y; var a; for (int i = max(0, 2); i <= min(5, 3); ++i) { if (i >= 3) { a = a + i; } else { a = 10; } } y = -a * min(2, 7);",
-        b"out y ; var a ; for ( i = max ( 0 , 2 ) ; i <= min ( 5 , 3 ) ; i ++ ) { if ( i >= 3 ) { a = a + i ; } else { a = 10 ; } } y = - a * min ( 2 , 7 ) ; ",
-    ),
-    (
         b"param N; in x[N]; out y[N]; for (i = 0; i < N; i += 2) y[i] = x[i];",
         b"param N ; in x [ N ] ; out y [ N ] ; for ( i = 0 ; i < N ; i += 2 ) y [ i ] = x [ i ] ; ",
     ),
     (
         b"out y; for (i = 1; i <= 8; i += 3) y = y + i;",
         b"out y ; for ( i = 1 ; i <= 8 ; i += 3 ) y = y + i ; ",
+    ),
+    (b"{ { } a = 1; }", b"{ { } a = 1 ; } "),
+];
+
+// Sources of which a text with other tokens is printed.
+static OTHERWISE: [(&[u8], &[u8]); 9] = [
+    (
+        b"out y; var a; for (int i = max(0, 2); i <= min(5, 3); ++i) { if (i >= 3) { a = a + i; } else { a = 10; } } y = -a * min(2, 7);",
+        b"out y ; var a ; for ( i = max ( 0 , 2 ) ; i <= min ( 5 , 3 ) ; i ++ ) { if ( i >= 3 ) { a = a + i ; } else { a = 10 ; } } y = - a * min ( 2 , 7 ) ; ",
     ),
     (
         b"for (i = 0; i < 9; i += (N + 1) * (2)) for (j = 0; j < i; j += 1) { }",
@@ -360,54 +155,45 @@ static PRINTED: [(&[u8], &[u8]); 23] = [
         b"a = 9223372036854775807 + min((b + 1)) * 2;",
         b"a = 9223372036854775807 + ( b + 1 ) * 2 ; ",
     ),
-    (b"{ { } a = 1; }", b"{ { } a = 1 ; } "),
 ];
 
 #[test]
-fn sources_are_printed_and_read_back(rt: HostRuntime) {
+fn sources_are_printed_and_read_back(rt: HostRuntime) -> Result<(), Fail> {
+    let alloc = rt.alloc();
     for (source, text) in &PRINTED {
-        assert!(rt; reads_back(rt.alloc(), source, text), "at {source:?}");
+        assert!(rt; prints(alloc, source, text) && prints(alloc, text, text));
+        assert!(rt; have_same_tokens(alloc, source, text)?);
     }
-}
-
-// `head` and so many times `part`.
-fn repeated(alloc: Global, head: &[u8], part: &[u8], times: u32) -> Result<Vec<u8>, AllocError> {
-    let mut source = Vec::from_slice(alloc, head)?;
-    for _ in 0..times {
-        source.extend_from_slice(part)?;
+    for (source, text) in &OTHERWISE {
+        assert!(rt; prints(alloc, source, text) && prints(alloc, text, text));
     }
-    Ok(source)
-}
-
-#[test]
-fn as_many_statements_as_processes_and_one_more_are_read_back(rt: HostRuntime) -> Result<(), Fail> {
+    // as many statements as processes, and one more
     for times in [64, 65] {
-        let source = repeated(rt.alloc(), b"var a; ", b"a = 0; ", times)?;
-        let text = repeated(rt.alloc(), b"var a ; ", b"a = 0 ; ", times)?;
-        assert!(rt; reads_back(rt.alloc(), &source, &text), "at {times}");
+        let source = repeated(alloc, b"var a; ", b"a = 0; ", times, b"")?;
+        let text = repeated(alloc, b"var a ; ", b"a = 0 ; ", times, b"")?;
+        assert!(rt; prints(alloc, &source, &text) && prints(alloc, &text, &text));
+        assert!(rt; have_same_tokens(alloc, &source, &text)?);
     }
     Ok(())
 }
 
-// The source with `head`, so many times `open`, `middle`, as many times `close`, and `tail`.
-fn nested(
+// The source with `head`, so many times `part`, and `tail`.
+fn repeated(
     alloc: Global,
     head: &[u8],
-    open: &[u8],
+    part: &[u8],
     times: u32,
-    middle: &[u8],
-    close: &[u8],
     tail: &[u8],
 ) -> Result<Vec<u8>, AllocError> {
-    let mut source = repeated(alloc, head, open, times)?;
-    source.extend_from_slice(middle)?;
+    let mut source = Vec::from_slice(alloc, head)?;
     for _ in 0..times {
-        source.extend_from_slice(close)?;
+        source.extend_from_slice(part)?;
     }
     source.extend_from_slice(tail)?;
     Ok(source)
 }
 
+// A source with `head`, so many times `open`, `middle`, as many times `close`, and `tail`.
 static DEEP: [(&[u8], &[u8], u32, &[u8], &[u8], &[u8]); 10] = [
     (b"a = ", b"-", 8188, b"1", b"", b";"),
     (b"a = 1", b"+1", 4094, b"", b"", b";"),
@@ -424,37 +210,57 @@ static DEEP: [(&[u8], &[u8], u32, &[u8], &[u8], &[u8]); 10] = [
 // Sources of nearly as many tokens as there may be, as deep as they can nest.
 #[test]
 fn deep_sources_are_read_back(rt: HostRuntime) -> Result<(), Fail> {
+    let alloc = rt.alloc();
     for (head, open, times, middle, close, tail) in &DEEP {
-        let source = nested(rt.alloc(), head, open, *times, middle, close, tail)?;
-        assert!(rt; is_read_back(rt.alloc(), &source), "at {open:?}");
+        let front = repeated(alloc, head, open, *times, middle)?;
+        let source = repeated(alloc, front.as_slice(), close, *times, tail)?;
+        let Some(text) = printed(alloc, source.as_slice()) else {
+            return Err(Fail::new("nothing is printed"));
+        };
+        assert!(rt; prints(alloc, text.as_slice(), text.as_slice()));
     }
     Ok(())
 }
 
-static OTHER_TREES: [(&[u8], &[u8]); 6] = [
-    (b"a = b - (c - d);", b"a = (b - c) - d;"),
-    (b"a = min(1, 2);", b"a = max(1, 2);"),
-    (b"if (1 < 2) { } else { }", b"if (1 < 2) { }"),
-    (
-        b"for (i = 0; i < 1; i++) { }",
-        b"for (i = 0; i <= 1; i++) { }",
-    ),
-    (
-        b"for (i = 0; i < 1; i++) { }",
-        b"for (i = 0; i < 1; i += 1) { }",
-    ),
-    (
-        b"for (i = 0; i < 1; i += 1) { }",
-        b"for (i = 0; i < 1; i += 2) { }",
-    ),
+// At which token the source is refused, if it is.
+fn stop(alloc: Global, source: &[u8]) -> Result<Option<u32>, Fail> {
+    if source.len() > u32::MAX as usize {
+        return Err(Fail::new("the source is long"));
+    }
+    let tokens = lex(alloc, source)?;
+    match parse(alloc, source, &tokens) {
+        Ok(tree) => {
+            drop(tree);
+            Ok(None)
+        }
+        Err(ParseError::Syntax(token)) => Ok(Some(token)),
+        Err(ParseError::Memory) => Err(Fail::new("want of memory")),
+    }
+}
+
+static OPEN: [(&[u8], &[u8], u32, &[u8], Option<u32>); 15] = [
+    (b"a =", b"(", 8190, b"", Some(8192)),
+    (b"a =", b"-", 8188, b"1;", None),
+    (b"", b"{", 8192, b"", Some(8192)),
+    (b"", b"a[", 4096, b"", Some(8192)),
+    (b"a = ", b"a[", 4095, b"", Some(8192)),
+    (b"a = ", b"1+", 4094, b"1;", None),
+    (b"a = ", b"1*", 4094, b"1;", None),
+    (b"", b"if(1<2)", 1365, b"", Some(8190)),
+    (b"", b"if(1<2){}else ", 819, b"", Some(7371)),
+    (b"a = ", b"max(", 4095, b"", Some(8192)),
+    (b"a = max(", b"1,", 4092, b"1);", None),
+    (b"", b"for(i=0;i<1;i++)", 630, b"a", Some(8191)),
+    (b"", b"for(i=0;i<1;i+=2)", 585, b"a", Some(8191)),
+    (b"for(i=0;i<1;i+=", b"(", 8180, b"", Some(8192)),
+    (b"for(i=0;i<1;i+=", b"-", 8176, b"1){}", None),
 ];
 
 #[test]
-fn other_trees_are_told_apart(rt: HostRuntime) {
-    for (source, other) in &OTHER_TREES {
-        assert!(rt;
-            have_other_trees(rt.alloc(), source, other),
-            "at {source:?}"
-        );
+fn deep_sources_are_read(rt: HostRuntime) -> Result<(), Fail> {
+    for (head, part, times, tail, place) in &OPEN {
+        let source = repeated(rt.alloc(), head, part, *times, tail)?;
+        assert!(rt; stop(rt.alloc(), &source)? == *place);
     }
+    Ok(())
 }

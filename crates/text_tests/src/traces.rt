@@ -1,29 +1,40 @@
-//! Tests of `trace_text`.
+//! Tests of what a sink holds that fails: of the text of a run, which the one writer of all texts hands on.
 
-use io_edge::{MemSink, WriteFault};
+use io_edge::MemSink;
+use std::alloc::{AllocError, Global};
 use std::test::Fail;
 use trace_text::write_trace;
 
-#[test]
-fn a_run_has_a_line_for_each_event(rt: HostRuntime) -> Result<(), Fail> {
-    for (run, text) in [
-        (
-            [0u32, 0, 1, 10, 4_294_967_295].as_slice(),
-            b"trace 1\n0\n0\n1\n10\n4294967295\nend\n".as_slice(),
-        ),
-        (&[], b"trace 1\nend\n"),
-    ] {
-        let mut sink = MemSink::new(rt.alloc(), 100, 7, &[])?;
-        assert_eq!(rt; write_trace(run, &mut sink), Ok(()));
-        assert_eq!(rt; sink.held(), text);
+// The text of a run of so many events of process 0.
+fn text_of(alloc: Global, events: u32) -> Result<Vec<u8>, AllocError> {
+    let mut text = Vec::from_slice(alloc, b"trace 1\n")?;
+    for _ in 0..events {
+        text.extend_from_slice(b"0\n")?;
     }
-    Ok(())
+    text.extend_from_slice(b"end\n")?;
+    Ok(text)
 }
+
+// The room of the sink, the most bytes of a call, the call that fails, and how many bytes it holds then: a call is made for
+// 4,096 bytes, and a last one for what is left.
+static FAULTS: [(usize, usize, u32, usize); 6] = [
+    (20_000, 20_000, 3, 10_012),
+    (20_000, 20_000, 0, 0),
+    (20_000, 20_000, 1, 4_096),
+    (20_000, 20_000, 2, 8_192),
+    (20_000, 100, 50, 4_996),
+    (5_000, 20_000, 9, 5_000),
+];
 
 #[test]
 fn a_sink_that_fails_holds_a_front(rt: HostRuntime) -> Result<(), Fail> {
-    let mut sink = MemSink::new(rt.alloc(), 100, 3, &[2])?;
-    assert_eq!(rt; write_trace(&[0, 1], &mut sink), Err(WriteFault));
-    assert_eq!(rt; sink.held(), b"trace ".as_slice());
+    let text = text_of(rt.alloc(), 5_000)?;
+    let run = vec![in rt.alloc(); 0u32; 5_000]?;
+    for (room, most, failing, held) in &FAULTS {
+        let mut sink = MemSink::new(rt.alloc(), *room, *most, &[*failing])?;
+        let wrote = write_trace(run.as_slice(), &mut sink);
+        assert!(rt; wrote.is_ok() == (*held == text.len()));
+        assert!(rt; sink.held().len() == *held && text.as_slice().starts_with(sink.held()));
+    }
     Ok(())
 }

@@ -1,10 +1,7 @@
 //! Tests of `tree_text`.
 
-use affine_core::{Coefs, Form};
 use cert_lines::{CertError, Lines};
-use int_polyhedra::{Proof, Term};
 use io_edge::MemSink;
-use plain_data::{Boxed, Items};
 use source_tree::Tree;
 use std::alloc::{AllocError, Global};
 use std::test::Fail;
@@ -34,47 +31,6 @@ const EACH: &[u8] = b"t -1 1 0\n\
     s 7 0\n\
     c -1\n\
     s\n";
-
-fn form(alloc: Global, constant: i128, numbers: [i128; 1]) -> Form {
-    let mut coefs = Coefs::empty(alloc);
-    coefs.push(numbers[0]);
-    Form { constant, coefs }
-}
-
-fn sum(alloc: Global, terms: &[(u32, i128)]) -> Result<Proof, AllocError> {
-    let mut list = Items::new(alloc);
-    for (row, times) in terms {
-        list.push(Term {
-            row: *row,
-            times: *times,
-        })?;
-    }
-    Ok(Proof::Sum(list))
-}
-
-// The terms of the leaf's proofs.
-static SUMS: [&[(u32, i128)]; 5] = [
-    &[(0, 1), (2, 1)],
-    &[(1, 1), (2, 1)],
-    &[(2, 1)],
-    &[(2, 1)],
-    &[(5, 1), (6, 1)],
-];
-
-fn proofs(alloc: Global) -> Result<Items<Proof>, AllocError> {
-    let mut proofs = Items::new(alloc);
-    for terms in &SUMS {
-        proofs.push(sum(alloc, *terms)?)?;
-    }
-    Ok(proofs)
-}
-
-fn leaf(alloc: Global) -> Result<Tree, AllocError> {
-    let proofs = proofs(alloc)?;
-    let mut place = Items::new(alloc);
-    place.push(form(alloc, 0, [1]))?;
-    Ok(Tree::Writer(0, place, proofs))
-}
 
 // Whether a tree is written as this text.
 fn is_written(alloc: Global, tree: &Tree, text: &[u8]) -> Result<bool, Fail> {
@@ -123,48 +79,10 @@ fn repeated(
     Ok(text)
 }
 
-// A test above the leaf, of which nobody wrote below it.
-fn tested(alloc: Global) -> Result<Tree, AllocError> {
-    let yes = Boxed::new(alloc, leaf(alloc)?)?;
-    let no = Boxed::new(alloc, Tree::Zero(Items::new(alloc)))?;
-    Ok(Tree::Test(form(alloc, -1, [1]), yes, no))
-}
-
-fn gives_text(alloc: Global, tree: Tree, text: &[u8]) -> Result<bool, Fail> {
-    let written = is_written(alloc, &tree, text);
-    drop(tree);
-    written
-}
-
-#[test]
-fn a_leaf_is_written_byte_for_byte(rt: HostRuntime) -> Result<(), Fail> {
-    let alloc = rt.alloc();
-    assert!(rt; gives_text(alloc, leaf(alloc)?, LEAF)?);
-    let text = repeated(alloc, b"t -1 1\n", LEAF, 1, b"z 0\n")?;
-    assert!(rt; gives_text(alloc, tested(alloc)?, text.as_slice())?);
-    Ok(())
-}
-
-#[test]
-fn each_kind_of_line_is_read_back(rt: HostRuntime) -> Result<(), Fail> {
-    assert_eq!(rt; refusal(rt.alloc(), LEAF)?, None);
-    assert_eq!(rt; refusal(rt.alloc(), EACH)?, None);
-    Ok(())
-}
-
-#[test]
-fn a_text_that_is_cut_short_is_truncated(rt: HostRuntime) -> Result<(), Fail> {
-    for len in 0..EACH.len() {
-        assert_eq!(rt;
-            refusal(rt.alloc(), &EACH[..len])?,
-            Some(CertError::Truncated),
-            "{len}"
-        );
-    }
-    Ok(())
-}
-
-static WRONG_LINES: [(&[u8], Option<CertError>); 36] = [
+// Texts, and what refuses each, or nothing where it is read and written again byte for byte.
+static TEXTS: [(&[u8], Option<CertError>); 38] = [
+    (LEAF, None),
+    (EACH, None),
     (b"x\ns\n", None),
     (b"x\nb 0\ns\nc 1\ns 3 4\n", None),
     (b"z 1\ns 0 0 0 0\n", None),
@@ -219,9 +137,9 @@ static WRONG_LINES: [(&[u8], Option<CertError>); 36] = [
 ];
 
 #[test]
-fn a_wrong_line_is_refused_by_its_number(rt: HostRuntime) -> Result<(), Fail> {
-    for (text, want) in &WRONG_LINES {
-        assert_eq!(rt; refusal(rt.alloc(), text)?, *want, "{text:?}");
+fn each_line_is_read_back_or_refused_by_its_number(rt: HostRuntime) -> Result<(), Fail> {
+    for (text, want) in &TEXTS {
+        assert!(rt; refusal(rt.alloc(), text)? == *want);
     }
     Ok(())
 }
@@ -303,11 +221,7 @@ fn trees_and_proofs_nest_512_deep(rt: HostRuntime) -> Result<(), Fail> {
     for (head, first, times, middle, second, more, tail, want) in &NESTED {
         let front = repeated(alloc, head, first, *times, middle)?;
         let text = repeated(alloc, front.as_slice(), second, *more, tail)?;
-        assert_eq!(rt;
-            refusal(alloc, text.as_slice())?,
-            *want,
-            "{first:?} {times}"
-        );
+        assert!(rt; refusal(alloc, text.as_slice())? == *want);
     }
     Ok(())
 }

@@ -1,17 +1,25 @@
-use crate::calls::{Devices, SOUND, ended, expect, words_of};
-use crate::certificates::{INCREMENT, THRICE, checks};
+//! The workers of `trace`, and the runs that they make.
+
+use crate::calls::{Call, SOUND, UNREAD, expect, expect_all, written_by};
+use crate::certificates::{INCREMENT, THRICE, expect_checked};
 use crate::meeting::MOST_TURNS;
 use crate::threads::expect_by;
 use io_edge::Gate;
+use std::process::Abort;
+use std::sync::Wait;
 use std::sync::atomic::{AtomicU64, Ordering};
 use std::test::Fail;
 use std::thread;
+use std::thread::Threads;
 
 /// The number under which the caller asks the gate.
 const CALLER: usize = 4;
 
 /// The trace of the increment with N=1, which has one run.
 const ONCE: &[u8] = b"trace 1\n0\n0\n1\n1\n1\n2\n2\nend\n";
+
+/// The trace of a network without events.
+const NOTHING: &[u8] = b"trace 1\nend\n";
 
 /// A gate that holds workers 0 and 1 at their first pass until both have asked, and the caller at its first until worker 0 has
 /// asked twice.
@@ -103,44 +111,40 @@ fn front_of(text: &[u8], entries: usize) -> Option<&[u8]> {
     front.get(..length)
 }
 
-#[test]
-fn traces_are_runs(rt: HostRuntime) -> Result<(), Fail> {
-    for policy in ["--policy=seq", "--policy=down"] {
-        let words = ["trace", "N=1", policy];
-        expect(&rt, SOUND, &words, INCREMENT, 0, ONCE, b"")?;
-        let words = ["trace", "N=0", policy];
-        expect(&rt, SOUND, &words, INCREMENT, 0, b"trace 1\nend\n", b"")?;
-    }
-    // with N=3 the trace stands as the schedule of the certificate that `cert` writes, whose 21 entries have a digit each
-    let alloc = rt.alloc();
-    let words = words_of(alloc, "trace", &["N=3"])?;
-    let (status, written, _) = ended(&rt, SOUND, &words, INCREMENT)?;
-    assert_eq!(rt; status, 0);
-    let Some(entries) = entries_of(written.held()) else {
+/// Expects of a trace of the increment with N=3 that it stands as the schedule of the certificate that `cert` writes, whose 21
+/// entries have a digit each.
+fn expect_schedule(
+    rt: &(impl Abort + AllocGlobal + Threads + Wait + Sync),
+    trace: &[u8],
+) -> Result<(), Fail> {
+    let (Some(entries), Some(front)) = (entries_of(trace), front_of(THRICE, 42)) else {
         return Err(Fail::new("another text"));
     };
-    assert_eq!(rt; entries.len(), 42);
-    let Some(front) = front_of(THRICE, 42) else {
-        return Err(Fail::new("a short certificate"));
-    };
-    let mut certificate = Vec::from_slice(alloc, front)?;
-    certificate.extend_from_slice(entries)?;
-    certificate.extend_from_slice(b"end\n")?;
-    checks(&rt, &["N=3"], INCREMENT, &certificate, b"accepted\n")?;
-    // the data part is passed over, and a source that fails is told
-    let unread = Devices {
-        failing: 0,
-        ..SOUND
-    };
-    expect(&rt, unread, &["trace"], b"$", 3, b"", b"")?;
-    let complaint = b"limit: Large 6\n";
-    expect(
-        &rt,
-        SOUND,
+    assert!(rt; entries.len() == 42);
+    let parts = [INCREMENT, b"\n%%\n%%\n", front, entries, b"end\n"];
+    expect_checked(rt, &["N=3"], &parts, b"accepted\n")
+}
+
+static TRACES: [Call; 5] = [
+    (&["trace", "N=1", "--policy=seq"], INCREMENT, 0, ONCE),
+    (&["trace", "N=1", "--policy=down"], INCREMENT, 0, ONCE),
+    (&["trace", "N=0", "--policy=seq"], INCREMENT, 0, NOTHING),
+    (&["trace", "N=0", "--policy=down"], INCREMENT, 0, NOTHING),
+    // the data part is passed over
+    (
         &["trace"],
         b"out y[2147483648];\n%%\nz,1\n",
         8,
-        b"",
-        complaint,
-    )
+        b"limit: Large 6\n",
+    ),
+];
+
+#[test]
+fn traces_are_runs(rt: HostRuntime) -> Result<(), Fail> {
+    expect_all(&rt, SOUND, &TRACES)?;
+    expect(&rt, UNREAD, &["trace"], b"$", 3, b"", b"")?;
+    let written = written_by(&rt, "trace", &["N=3"], INCREMENT, 1_000)?;
+    let checked = expect_schedule(&rt, written.output.held());
+    drop(written);
+    checked
 }

@@ -1,10 +1,19 @@
-use crate::calls::{SOUND, expect_words, repeated, words_of, written_by};
+//! Certificates, by what `cert` writes and by what `check` answers.
+
+use crate::calls::{Call, SOUND, expect_all, expect_of, joined, written_by};
+use crate::limits::push_repeated;
 use cert_text::read_cert;
 use std::alloc::{AllocError, Global};
 use std::process::Abort;
 use std::sync::Wait;
 use std::test::Fail;
 use std::thread::Threads;
+
+/// Changes of a certificate: the number of a line, from 1, and what stands in its place.
+type Changes<'a> = &'a [(usize, &'a [u8])];
+
+/// Changes of a certificate, and the line that `check` answers.
+pub(crate) type Change = (Changes<'static>, &'static [u8]);
 
 pub(crate) const INCREMENT: &[u8] =
     b"param N; in x[N]; out y[N]; for (i = 0; i < N; i++) y[i] = x[i] + 1;";
@@ -16,6 +25,9 @@ const TRANSPOSE: &[u8] =
 
 pub(crate) const LAST_VALUE: &[u8] =
     b"param N; in a[N]; out c[N]; var b[N]; for (i = 0; i < N; i++) b[i] = a[i]; for (i = 0; i < N; i++) c[i] = a[i] + b[N-1];";
+
+const TWO_PARAMETERS: &[u8] =
+    b"param N, M; in x[N]; out y[M]; for (i = 0; i < N; i++) y[i] = x[i] + 1;";
 
 /// The certificate of the increment with N=1, under either policy.
 const ONCE: &[u8] = b"cert 1\nsizes 3 2 2 7\n\
@@ -65,7 +77,7 @@ const DOWNWARD: &[u8] = b"cert 1\nsizes 4 4 4 42\n\
 
 /// Words behind the command, sources, certificates of the networks that `cert` writes of them, and how its texts end, from the
 /// schedule on. The certificates were worked out from the definitions by another program, and the ends from these by hand.
-static WRITTEN: [(&[&str], &[u8], &[u8], &[u8]); 5] = [
+static WRITTEN: [(&[&str], &[u8], &[u8], &[u8]); 6] = [
     (
         &["N=1", "--policy=seq"],
         INCREMENT,
@@ -75,6 +87,12 @@ static WRITTEN: [(&[&str], &[u8], &[u8], &[u8]); 5] = [
     (
         &["N=1", "--policy=down"],
         INCREMENT,
+        ONCE,
+        b"r 2 1\n0\nr 3 1\n1\nr 2 1\n2\nend\n",
+    ),
+    (
+        &["N=1", "M=1"],
+        TWO_PARAMETERS,
         ONCE,
         b"r 2 1\n0\nr 3 1\n1\nr 2 1\n2\nend\n",
     ),
@@ -123,7 +141,7 @@ const HALVED: &[u8] = b"cert 1\nsizes 4 3 3 28\n\
     end\n";
 
 /// Changes of it, and the line that `check` answers.
-static HALVED_CHANGES: [(Changes<'static>, &[u8]); 7] = [
+static HALVED_CHANGES: [Change; 7] = [
     (&[], b"accepted\n"),
     // the reader's own loop value as the writer's
     (
@@ -183,7 +201,7 @@ const FOLDED: &[u8] = b"cert 2\nsizes 3 2 2 3\n\
     end\n";
 
 /// Changes of it, and the line that `check` answers.
-static FOLDED_CHANGES: [(Changes<'static>, &[u8]); 8] = [
+static FOLDED_CHANGES: [Change; 8] = [
     (&[], b"accepted\n"),
     (&[(19, b"r 2 1\n")], b"refused NotEnabled 4\n"),
     (
@@ -200,11 +218,8 @@ static FOLDED_CHANGES: [(Changes<'static>, &[u8]); 8] = [
     (&[(17, b"r 2 4294967295\n")], b"refused Line 23\n"),
 ];
 
-/// Changes of a certificate: the number of a line, from 1, and what stands in its place.
-type Changes<'a> = &'a [(usize, &'a [u8])];
-
 /// Changes of the certificate of the increment with N=1, and the line that `check` answers.
-static CHANGES: [(Changes<'static>, &[u8]); 24] = [
+static CHANGES: [Change; 24] = [
     (&[], b"accepted\n"),
     (&[(1, b"cert 3\n")], b"refused Line 1\n"),
     (&[(2, b"sizes 3 2 2 4294967296\n")], b"refused Number 2\n"),
@@ -258,7 +273,7 @@ const TREE: &[u8] = b"tree\nw 0 1 5\nm 0 1\ns 0 1 2 1\ns 1 1 2 1\ns 2 1\ns 2 1\n
 
 /// Changes of the certificate of the increment with N=1 where this tree, in lines 15 to 22, is the first source, and the line
 /// that `check` answers.
-static TREE_CHANGES: [(Changes<'static>, &[u8]); 8] = [
+static TREE_CHANGES: [Change; 8] = [
     (&[], b"accepted\n"),
     (
         &[(17, b"m 1 1\n")],
@@ -288,7 +303,7 @@ static TREE_CHANGES: [(Changes<'static>, &[u8]); 8] = [
 ];
 
 /// Parameters, sources and certificates with their changes, and the line that `check` answers.
-static LONGER: [(&[&str], &[u8], &[u8], Changes<'static>, &[u8]); 6] = [
+static LONGER: [(&[&str], &[u8], &[u8], Changes<'static>, &[u8]); 8] = [
     // a smaller capacity, and a schedule that ends before the last event
     (
         &["N=3"],
@@ -315,6 +330,15 @@ static LONGER: [(&[&str], &[u8], &[u8], Changes<'static>, &[u8]); 6] = [
         &[(18, b"f 0\n")],
         b"refused Tag 13 0(0,1) 0(1,0)\n",
     ),
+    // parameters agree by name
+    (&["M=1", "N=1"], TWO_PARAMETERS, ONCE, &[], b"accepted\n"),
+    (
+        &["K=7", "M=1", "N=1"],
+        TWO_PARAMETERS,
+        ONCE,
+        &[],
+        b"accepted\n",
+    ),
     // with a smaller capacity every run of this network sticks
     (
         &["N=4"],
@@ -325,14 +349,23 @@ static LONGER: [(&[&str], &[u8], &[u8], Changes<'static>, &[u8]); 6] = [
     ),
 ];
 
-/// These parts, one behind the other.
-fn joined(alloc: Global, parts: &[&[u8]]) -> Result<Vec<u8>, AllocError> {
-    let mut text = Vec::new(alloc);
-    for part in parts {
-        text.extend_from_slice(part)?;
-    }
-    Ok(text)
-}
+static WITHOUT_CERTIFICATE: [Call; 4] = [
+    (&["check", "N=1"], b"", 5, b"bundle: NoPart\n"),
+    (&["check", "N=1"], b"$\n%%\n", 5, b"bundle: NoPart\n"),
+    (
+        &["check", "N=1"],
+        b"param N; in x[N]; out y[N];\n%%\nx,1\n",
+        5,
+        b"bundle: NoPart\n",
+    ),
+    // the source is judged before the certificate
+    (
+        &["check", "N=1"],
+        b"var a; $\n%%\n%%\ncert 3\n",
+        6,
+        b"text: BadByte 7\n",
+    ),
+];
 
 /// What stands in the place of this line, if it is changed.
 fn changed_line<'a>(changes: Changes<'a>, number: usize) -> Option<&'a [u8]> {
@@ -363,45 +396,101 @@ fn changed(alloc: Global, text: &[u8], changes: Changes<'_>) -> Result<Vec<u8>, 
     Ok(made)
 }
 
-/// Has a certificate checked, and compares the status and the line.
-pub(crate) fn checks(
+/// Expects this line where a certificate is checked that stands in these parts.
+pub(crate) fn expect_checked(
+    rt: &(impl Abort + AllocGlobal + Threads + Wait + Sync),
+    params: &[&str],
+    parts: &[&[u8]],
+    line: &[u8],
+) -> Result<(), Fail> {
+    let bundle = joined(rt.alloc(), parts)?;
+    let status = u8::from(line != b"accepted\n".as_slice());
+    let end = expect_of(rt, "check", params, &bundle, status, line);
+    drop(bundle);
+    end
+}
+
+/// Expects this line where a certificate is checked.
+pub(crate) fn expect_line(
     rt: &(impl Abort + AllocGlobal + Threads + Wait + Sync),
     params: &[&str],
     source: &[u8],
     certificate: &[u8],
     line: &[u8],
 ) -> Result<(), Fail> {
-    let bundle = joined(rt.alloc(), &[source, b"\n%%\n%%\n", certificate])?;
-    let words = words_of(rt.alloc(), "check", params)?;
-    let status = if line == b"accepted\n".as_slice() {
-        0
-    } else {
-        1
-    };
-    expect_words(rt, SOUND, &words, &bundle, status, line, b"")
+    expect_checked(rt, params, &[source, b"\n%%\n%%\n", certificate], line)
+}
+
+/// Expects this line where a certificate with these changes is checked.
+fn expect_changed(
+    rt: &(impl Abort + AllocGlobal + Threads + Wait + Sync),
+    params: &[&str],
+    source: &[u8],
+    certificate: &[u8],
+    changes: Changes<'_>,
+    line: &[u8],
+) -> Result<(), Fail> {
+    let certificate = changed(rt.alloc(), certificate, changes)?;
+    let end = expect_line(rt, params, source, &certificate, line);
+    drop(certificate);
+    end
+}
+
+/// Expects these lines where a certificate with these changes is checked.
+pub(crate) fn expect_lines(
+    rt: &(impl Abort + AllocGlobal + Threads + Wait + Sync),
+    params: &[&str],
+    source: &[u8],
+    certificate: &[u8],
+    table: &[Change],
+) -> Result<(), Fail> {
+    for (changes, line) in table {
+        expect_changed(rt, params, source, certificate, changes, line)?;
+    }
+    Ok(())
 }
 
 /// Whether both texts are read, as equal networks and equal schedules, with as many sources.
 pub(crate) fn stand_for_the_same(alloc: Global, text: &[u8], other: &[u8]) -> bool {
-    match (read_cert(alloc, text), read_cert(alloc, other)) {
-        (Ok((network, cert)), Ok((another, certificate))) => {
-            network.same(&another)
-                && cert.sources.len() == certificate.sources.len()
-                && cert.schedule.as_slice() == certificate.schedule.as_slice()
-        }
-        _ => false,
-    }
+    let Ok(pair) = read_cert(alloc, text) else {
+        return false;
+    };
+    let Ok(other) = read_cert(alloc, other) else {
+        drop(pair);
+        return false;
+    };
+    let same = pair.0.same(&other.0)
+        && pair.1.sources.len() == other.1.sources.len()
+        && pair.1.schedule.as_slice() == other.1.schedule.as_slice();
+    drop(pair);
+    drop(other);
+    same
+}
+
+/// Expects of what `cert` writes that it stands for this text and ends with this schedule, and that `check` accepts it.
+pub(crate) fn expect_certificate(
+    rt: &(impl Abort + AllocGlobal + Threads + Wait + Sync),
+    params: &[&str],
+    source: &[u8],
+    text: &[u8],
+    schedule: &[u8],
+) -> Result<(), Fail> {
+    let written = written_by(rt, "cert", params, source, 2_000)?;
+    let held = written.output.held();
+    let stands = held.starts_with(b"cert 2\n")
+        && held.ends_with(schedule)
+        && stand_for_the_same(rt.alloc(), held, text);
+    let checked = expect_line(rt, params, source, held, b"accepted\n");
+    drop(written);
+    assert!(rt; stands);
+    checked
 }
 
 #[test]
 fn certificates_are_written(rt: HostRuntime) -> Result<(), Fail> {
     for (params, source, text, schedule) in &WRITTEN {
-        let written = written_by(&rt, "cert", params, source, 2_000)?;
-        assert!(rt; written.held().starts_with(b"cert 2\n"));
-        assert!(rt; written.held().ends_with(schedule), "{params:?}");
-        assert!(rt; stand_for_the_same(rt.alloc(), written.held(), text));
-        checks(&rt, params, source, written.held(), b"accepted\n")?;
-        checks(&rt, params, source, text, b"accepted\n")?;
+        expect_certificate(&rt, params, source, text, schedule)?;
+        expect_line(&rt, params, source, text, b"accepted\n")?;
     }
     Ok(())
 }
@@ -411,104 +500,84 @@ fn has_line(text: &[u8], line: &[u8]) -> bool {
     text.split(|byte| *byte == b'\n').any(|found| found == line)
 }
 
+/// Expects of what `cert` writes that `check` accepts it, and whether it has trees alone.
+pub(crate) fn expect_accepted(
+    rt: &(impl Abort + AllocGlobal + Threads + Wait + Sync),
+    params: &[&str],
+    source: &[u8],
+    room: usize,
+    has_trees: bool,
+) -> Result<(), Fail> {
+    let written = written_by(rt, "cert", params, source, room)?;
+    let held = written.output.held();
+    let holds = !has_trees || has_line(held, b"tree") && !has_line(held, b"sweep");
+    let checked = expect_line(rt, params, source, held, b"accepted\n");
+    drop(written);
+    assert!(rt; holds);
+    checked
+}
+
 #[test]
 fn reads_of_the_class_have_trees(rt: HostRuntime) -> Result<(), Fail> {
     for (params, source) in &ALL_OF_CLASS {
-        let written = written_by(&rt, "cert", params, source, 10_000)?;
-        assert!(rt; has_line(written.held(), b"tree"), "{params:?}");
-        assert!(rt; !has_line(written.held(), b"sweep"), "{params:?}");
-        checks(&rt, params, source, written.held(), b"accepted\n")?;
+        expect_accepted(&rt, params, source, 10_000, true)?;
     }
     Ok(())
 }
 
 #[test]
 fn a_certificate_of_equal_points_is_short(rt: HostRuntime) -> Result<(), Fail> {
-    let written = written_by(&rt, "cert", &["N=100000"], INCREMENT, 20_000)?;
-    assert!(rt; written.held().len() < 20_000);
-    checks(&rt, &["N=100000"], INCREMENT, written.held(), b"accepted\n")
+    // it has fewer than 20,000 bytes
+    expect_accepted(&rt, &["N=100000"], INCREMENT, 19_999, false)
 }
 
 #[test]
 fn folded_certificates_are_judged(rt: HostRuntime) -> Result<(), Fail> {
-    for (changes, line) in &FOLDED_CHANGES {
-        let certificate = changed(rt.alloc(), FOLDED, changes)?;
-        checks(&rt, &["N=1"], INCREMENT, &certificate, line)?;
-    }
-    Ok(())
+    expect_lines(&rt, &["N=1"], INCREMENT, FOLDED, &FOLDED_CHANGES)
 }
 
 #[test]
 fn changed_certificates_are_judged(rt: HostRuntime) -> Result<(), Fail> {
-    for (changes, line) in &CHANGES {
-        let certificate = changed(rt.alloc(), ONCE, changes)?;
-        checks(&rt, &["N=1"], INCREMENT, &certificate, line)?;
-    }
-    checks(&rt, &["N=1"], INCREMENT, b"", b"refused Truncated\n")
+    expect_lines(&rt, &["N=1"], INCREMENT, ONCE, &CHANGES)?;
+    expect_line(&rt, &["N=1"], INCREMENT, b"", b"refused Truncated\n")
+}
+
+/// Expects this line where the first source of the certificate is a proof of so many splits, one in the other.
+fn expect_deep(
+    rt: &(impl Abort + AllocGlobal + Threads + Wait + Sync),
+    splits: usize,
+    line: &[u8],
+) -> Result<(), Fail> {
+    let mut deep = Vec::from_slice(rt.alloc(), b"tree\nx\n")?;
+    push_repeated(&mut deep, b"b 0\n", splits)?;
+    let end = expect_changed(rt, &["N=1"], INCREMENT, ONCE, &[(15, &deep)], line);
+    drop(deep);
+    end
 }
 
 #[test]
 fn trees_are_judged(rt: HostRuntime) -> Result<(), Fail> {
-    let alloc = rt.alloc();
-    let with_tree = changed(alloc, ONCE, &[(15, TREE)])?;
-    for (changes, line) in &TREE_CHANGES {
-        let certificate = changed(alloc, &with_tree, changes)?;
-        checks(&rt, &["N=1"], INCREMENT, &certificate, line)?;
-    }
-    // a proof of 513 splits, one in the other
-    let deep = repeated(alloc, b"tree\nx\n", b"b 0\n", 513)?;
-    let certificate = changed(alloc, ONCE, &[(15, &deep)])?;
-    checks(
-        &rt,
-        &["N=1"],
-        INCREMENT,
-        &certificate,
-        b"refused Deep 529\n",
-    )
+    let with_tree = changed(rt.alloc(), ONCE, &[(15, TREE)])?;
+    let judged = expect_lines(&rt, &["N=1"], INCREMENT, &with_tree, &TREE_CHANGES);
+    drop(with_tree);
+    judged?;
+    expect_deep(&rt, 513, b"refused Deep 529\n")
 }
 
 #[test]
 fn trees_with_tests_of_divisibility_are_judged(rt: HostRuntime) -> Result<(), Fail> {
-    for (changes, line) in &HALVED_CHANGES {
-        let certificate = changed(rt.alloc(), HALVED, changes)?;
-        checks(&rt, &["N=3"], EVEN_CELLS, &certificate, line)?;
-    }
-    Ok(())
+    expect_lines(&rt, &["N=3"], EVEN_CELLS, HALVED, &HALVED_CHANGES)
 }
 
 #[test]
 fn certificates_of_longer_runs_are_judged(rt: HostRuntime) -> Result<(), Fail> {
-    for (params, source, text, changes, line) in &LONGER {
-        let certificate = changed(rt.alloc(), text, changes)?;
-        checks(&rt, params, source, &certificate, line)?;
-    }
-    Ok(())
-}
-
-#[test]
-fn parameters_agree_by_name(rt: HostRuntime) -> Result<(), Fail> {
-    let source = b"param N, M; in x[N]; out y[M]; for (i = 0; i < N; i++) y[i] = x[i] + 1;";
-    let written = written_by(&rt, "cert", &["N=1", "M=1"], source, 2_000)?;
-    assert!(rt; stand_for_the_same(rt.alloc(), written.held(), ONCE));
-    let params: [&[&str]; 2] = [&["M=1", "N=1"], &["K=7", "M=1", "N=1"]];
-    for params in params {
-        checks(&rt, params, source, ONCE, b"accepted\n")?;
+    for (params, source, certificate, changes, line) in &LONGER {
+        expect_changed(&rt, params, source, certificate, changes, line)?;
     }
     Ok(())
 }
 
 #[test]
 fn a_check_wants_a_certificate_part(rt: HostRuntime) -> Result<(), Fail> {
-    let words = words_of(rt.alloc(), "check", &["N=1"])?;
-    let complaint = b"bundle: NoPart\n";
-    for bundle in [
-        b"".as_slice(),
-        b"$\n%%\n",
-        b"param N; in x[N]; out y[N];\n%%\nx,1\n",
-    ] {
-        expect_words(&rt, SOUND, &words, bundle, 5, b"", complaint)?;
-    }
-    // the source is judged before the certificate
-    let bundle = b"var a; $\n%%\n%%\ncert 3\n";
-    expect_words(&rt, SOUND, &words, bundle, 6, b"", b"text: BadByte 7\n")
+    expect_all(&rt, SOUND, &WITHOUT_CERTIFICATE)
 }

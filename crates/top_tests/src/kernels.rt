@@ -1,5 +1,9 @@
+//! Classical kernels.
+
+use crate::calls::Program;
+
 /// Classical kernels: the values of their parameters, their bundles, and their answers, which other programs computed.
-pub(crate) static KERNELS: [(&[&str], &[u8], &[u8]); 12] = [
+pub(crate) static KERNELS: [Program; 12] = [
     // matrix_product
     (
         &["N=4"],

@@ -5,29 +5,33 @@
 #[cfg(test)]
 mod boards;
 #[cfg(test)]
-mod bound;
-#[cfg(test)]
 mod calls;
 #[cfg(test)]
 mod certificates;
 #[cfg(test)]
 mod dependences;
 #[cfg(test)]
+mod devices;
+#[cfg(test)]
 mod kernels;
+#[cfg(test)]
+mod limits;
+#[cfg(test)]
+mod loads;
 #[cfg(test)]
 mod meeting;
 #[cfg(test)]
 mod networks;
 #[cfg(test)]
-mod simulations;
+mod programs;
 #[cfg(test)]
-mod sources;
+mod refusals;
+#[cfg(test)]
+mod simulations;
 #[cfg(test)]
 mod steps;
 #[cfg(test)]
 mod threads;
-#[cfg(test)]
-mod told;
 #[cfg(test)]
 mod trims;
 #[cfg(test)]

@@ -1,5 +1,10 @@
+//! Networks by their texts.
+
+use crate::calls::{Call, Program, SOUND, expect_all, expect_of};
+use std::test::Fail;
+
 /// Sources with the values of their parameters and the texts of their networks.
-pub(crate) static NETWORKS: [(&[&str], &[u8], &[u8]); 12] = [
+pub(crate) static NETWORKS: [Program; 12] = [
     (
         &["N=3"],
         b"param N; in x[N]; out y[N]; for (i = 0; i < N; i++) y[i] = x[i] + 1;",
@@ -173,15 +178,25 @@ end
 ];
 
 /// Words, bundles, and the texts of networks under the policy that takes the highest process.
-pub(crate) static DOWNWARD: [(&[&str], &[u8], &[u8]); 2] = [
+static DOWNWARD: [Call; 2] = [
     (
         &["net", "--policy", "down", "N=3"],
         b"param N; in x[N]; out y[N]; for (i = 0; i < N; i++) y[i] = x[i] + 1;",
+        0,
         b"net 1\nprocess 0 source x fires 3 slots 0\nprocess 1 assign y fires 3 slots 1\nprocess 2 sink y fires 3 slots 1\nchannel 0 from 0 to 1 read 0 tokens 3 capacity 1 hold 1 class inorder\nchannel 1 from 1 to 2 read 0 tokens 3 capacity 1 hold 1 class inorder\nevents 21\nend\n",
     ),
     (
         &["net", "N=4", "--policy=down"],
         b"param N; in a[N]; out c[N]; var b[N]; for (i = 0; i < N; i++) b[i] = a[i]; for (i = 0; i < N; i++) c[i] = a[i] + b[N-1];",
+        0,
         b"net 1\nprocess 0 source a fires 4 slots 0\nprocess 1 assign b fires 4 slots 1\nprocess 2 assign c fires 4 slots 2\nprocess 3 sink c fires 4 slots 1\nchannel 0 from 0 to 1 read 0 tokens 4 capacity 1 hold 1 class inorder\nchannel 1 from 0 to 2 read 0 tokens 4 capacity 2 hold 1 class inorder\nchannel 2 from 1 to 2 read 1 tokens 1 capacity 1 hold 1 class inorder+\nchannel 3 from 2 to 3 read 0 tokens 4 capacity 1 hold 1 class inorder\nevents 42\nend\n",
     ),
 ];
+
+#[test]
+fn networks_are_printed(rt: HostRuntime) -> Result<(), Fail> {
+    for (params, bundle, text) in &NETWORKS {
+        expect_of(&rt, "net", params, bundle, 0, text)?;
+    }
+    expect_all(&rt, SOUND, &DOWNWARD)
+}

@@ -1,23 +1,46 @@
-use crate::calls::{Devices, SOUND, USAGE, expect, expect_words, words_of};
+//! Answers and clocks by `sim`.
+
+use crate::calls::{Call, Devices, SOUND, UNREAD, end_of, expect, expect_all};
 use crate::kernels::KERNELS;
+use crate::refusals::USAGE;
+use std::process::Abort;
+use std::sync::Wait;
 use std::test::Fail;
+use std::thread::Threads;
 
-const INCREMENT: &[u8] =
-    b"param N; in x[N]; out y[N]; for (i = 0; i < N; i++) y[i] = x[i] + 1;\n%%\n";
-
-/// Words, the data of the increment, and what is written.
-static SIMULATIONS: [(&[&str], &[u8], &[u8]); 5] = [
-    (&["sim", "N=1"], b"x,5\n", b"y,6\nclocks 7\n"),
-    // 21 events, up to three at a clock
-    (&["sim", "N=3"], b"x,5,6,7", b"y,6,7,8\nclocks 13\n"),
+static SIMULATIONS: [Call; 5] = [
     (
-        &["--policy=down", "sim", "--", "N=3"],
-        b"x,5,6,7\n",
+        &["sim", "N=1"],
+        b"param N; in x[N]; out y[N]; for (i = 0; i < N; i++) y[i] = x[i] + 1;\n%%\nx,5\n",
+        0,
+        b"y,6\nclocks 7\n",
+    ),
+    // 21 events, up to three at a clock
+    (
+        &["sim", "N=3"],
+        b"param N; in x[N]; out y[N]; for (i = 0; i < N; i++) y[i] = x[i] + 1;\n%%\nx,5,6,7",
+        0,
         b"y,6,7,8\nclocks 13\n",
     ),
-    (&["sim", "N=0"], b"x\n", b"y\nclocks 0\n"),
+    (
+        &["--policy=down", "sim", "--", "N=3"],
+        b"param N; in x[N]; out y[N]; for (i = 0; i < N; i++) y[i] = x[i] + 1;\n%%\nx,5,6,7\n",
+        0,
+        b"y,6,7,8\nclocks 13\n",
+    ),
+    (
+        &["sim", "N=0"],
+        b"param N; in x[N]; out y[N]; for (i = 0; i < N; i++) y[i] = x[i] + 1;\n%%\nx\n",
+        0,
+        b"y\nclocks 0\n",
+    ),
     // a third part is passed over
-    (&["sim", "N=0"], b"x\n%%\ncert 3\n", b"y\nclocks 0\n"),
+    (
+        &["sim", "N=0"],
+        b"param N; in x[N]; out y[N]; for (i = 0; i < N; i++) y[i] = x[i] + 1;\n%%\nx\n%%\ncert 3\n",
+        0,
+        b"y\nclocks 0\n",
+    ),
 ];
 
 /// For each kernel what `sim` writes behind its answer, by `seq` and by `down`: the clocks that another program, GHDL, counts
@@ -38,7 +61,7 @@ static KERNEL_CLOCKS: [[&[u8]; 2]; 12] = [
 ];
 
 /// Words and bundles with several faults, and the status and the line of the first of them.
-static REFUSED: [(&[&str], &[u8], u8, &[u8]); 9] = [
+static REFUSED: [Call; 9] = [
     (&["sim", "3"], b"$", 2, USAGE),
     (&["sim"], b"param ; $\n%%\nz,1\n", 6, b"text: BadByte 8\n"),
     (&["sim"], b"y = ;\n%%\nz,1\n", 6, b"text: Syntax 4\n"),
@@ -75,39 +98,43 @@ static REFUSED: [(&[&str], &[u8], u8, &[u8]); 9] = [
     ),
 ];
 
+const SMALL_OUTPUT: Devices = Devices {
+    output_room: 8,
+    ..SOUND
+};
+
 #[test]
 fn clocks_are_counted(rt: HostRuntime) -> Result<(), Fail> {
-    for (words, data, output) in &SIMULATIONS {
-        let mut bundle = Vec::from_slice(rt.alloc(), INCREMENT)?;
-        bundle.extend_from_slice(data)?;
-        expect(&rt, SOUND, words, &bundle, 0, output, b"")?;
-    }
-    for (words, bundle, status, complaint) in &REFUSED {
-        expect(&rt, SOUND, words, bundle, *status, b"", complaint)?;
-    }
+    expect_all(&rt, SOUND, &SIMULATIONS)?;
+    expect_all(&rt, SOUND, &REFUSED)?;
     // a source that fails, and an output that takes a front of the line of clocks
-    let unread = Devices {
-        failing: 0,
-        ..SOUND
-    };
-    expect(&rt, unread, &["sim"], b"$", 3, b"", b"")?;
-    let small = Devices {
-        output_room: 8,
-        ..SOUND
-    };
-    expect(&rt, small, &["sim"], b"out y;", 4, b"y,0\ncloc", b"")
+    expect(&rt, UNREAD, &["sim"], b"$", 3, b"", b"")?;
+    expect(&rt, SMALL_OUTPUT, &["sim"], b"out y;", 4, b"y,0\ncloc", b"")
+}
+
+/// Expects this answer of `sim` and this line behind it.
+fn expect_clocks(
+    rt: &(impl Abort + AllocGlobal + Threads + Wait + Sync),
+    words: &[&str],
+    params: &[&str],
+    bundle: &[u8],
+    answer: &[u8],
+    line: &[u8],
+) -> Result<(), Fail> {
+    let end = end_of(rt, SOUND, words, params, bundle)?;
+    let holds = end.status == 0
+        && end.output.held().strip_prefix(answer) == Some(line)
+        && end.complaint.held().is_empty();
+    drop(end);
+    assert!(rt; holds);
+    Ok(())
 }
 
 #[test]
 fn kernels_are_simulated(rt: HostRuntime) -> Result<(), Fail> {
-    for ((params, bundle, answer), lines) in KERNELS.iter().zip(KERNEL_CLOCKS.iter()) {
-        for (policy, line) in ["--policy=seq", "--policy=down"].iter().zip(lines.iter()) {
-            let mut words = words_of(rt.alloc(), "sim", params)?;
-            words.push(String::from_str(rt.alloc(), policy)?)?;
-            let mut output = Vec::from_slice(rt.alloc(), answer)?;
-            output.extend_from_slice(line)?;
-            expect_words(&rt, SOUND, &words, bundle, 0, &output, b"")?;
-        }
+    for ((params, bundle, answer), [seq, down]) in KERNELS.iter().zip(&KERNEL_CLOCKS) {
+        expect_clocks(&rt, &["sim", "--policy=seq"], params, bundle, answer, seq)?;
+        expect_clocks(&rt, &["sim", "--policy=down"], params, bundle, answer, down)?;
     }
     Ok(())
 }

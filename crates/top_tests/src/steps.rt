@@ -1,64 +1,78 @@
-use crate::calls::{SOUND, expect, expect_words, words_of, written_by};
-use crate::certificates::{checks, stand_for_the_same};
-use command_line::parts_of;
-use std::alloc::{AllocError, Global};
-use std::test::Fail;
+//! Loops with steps.
 
-/// Programs whose loops have steps: the values of their parameters, their bundles, and their answers.
-pub(crate) static STEPPED: [(&[&str], &[u8], &[u8]); 11] = [
+use crate::calls::{expect_answer, expect_of, joined};
+use crate::certificates::{Change, expect_accepted, expect_certificate, expect_lines};
+use std::process::Abort;
+use std::sync::Wait;
+use std::test::Fail;
+use std::thread::Threads;
+
+/// Programs whose loops have steps: the values of their parameters, their sources and data, and their answers.
+static STEPPED: [(&[&str], &[u8], &[u8], &[u8]); 11] = [
     (
         &["N=5"],
-        b"param N; in x[N]; out y[N]; for (i = 0; i < N; i += 2) y[i] = x[i];\n%%\nx,1,2,3,4,5\n",
+        b"param N; in x[N]; out y[N]; for (i = 0; i < N; i += 2) y[i] = x[i];",
+        b"x,1,2,3,4,5\n",
         b"y,1,0,3,0,5\n",
     ),
     (
         &[],
         b"out y; for (i = 1; i <= 8; i += 3) y = y + i;",
+        b"",
         b"y,12\n",
     ),
     (
         &[],
         b"out y[3][7]; for (i = 0; i < 3; i++) for (j = i; j <= 6; j += 2) y[i][j] = 10 * i + j;",
+        b"",
         b"y,0,0,2,0,4,0,6,0,11,0,13,0,15,0,0,0,22,0,24,0,26\n",
     ),
     (
         &["N=6", "B=4"],
-        b"param N, B; in x[N]; out y[N]; for (b = 0; b < N; b += B) for (i = b; i < min(b + B, N); i++) y[i] = y[i - 1] + x[i] * b;\n%%\nx,1,2,3,4,5,6\n",
+        b"param N, B; in x[N]; out y[N]; for (b = 0; b < N; b += B) for (i = b; i < min(b + B, N); i++) y[i] = y[i - 1] + x[i] * b;",
+        b"x,1,2,3,4,5,6\n",
         b"y,0,0,0,0,20,44\n",
     ),
     (
         &["K=4"],
         b"param K; out y[2]; for (i = -7; i < 5; i += K) y[0] = y[0] * 10 - i; for (i = -7; i <= 5; i += K) y[1] = y[1] * 10 - i;",
+        b"",
         b"y,729,7285\n",
     ),
     (
         &["K=1"],
         b"param K; out y; for (i = max(0, 1); i < 4; i += K) y = y + i; for (i = max(2); i <= 9; i += 2 * K + 1) y = 10 * y + i;",
+        b"",
         b"y,6258\n",
     ),
     (
         &[],
         b"out y; for (i = 3; i <= 2; i += 2) y = 1; for (i = 5; i < 5; i += 3) y = 2; for (i = 0; i < -2147483647; i += 2147483647) y = 3;",
+        b"",
         b"y,0\n",
     ),
     (
         &[],
         b"out y[2]; for (i = -2147483647; i <= 2147483647; i += 2147483647) { y[0] = y[0] + 1; y[1] = y[1] * 2 + i; }",
+        b"",
         b"y,3,-6442450941\n",
     ),
     (
         &[],
         b"out y; for (i = 2147483647; i <= 2147483647; i++) for (j = -2147483647 * i; j <= 2147483647 - 2147483647 * i; j += 2147483647) y = y + j;",
+        b"",
         b"y,-9223372026117357571\n",
     ),
     (
         &["N=2"],
         b"param N; out y[8]; for (i = 1; i < 8; i += N + 1) for (j = 7 - i; j < min(8, 4 + i); j += N) if (j > i) { y[j] = y[j] + 10 * i + j; } else { y[j - i + 6] = -i; }",
+        b"",
         b"y,0,-7,0,-7,0,-7,0,47\n",
     ),
     (
         &[],
         b"out y; for (i = 0; i < min(7, 7, 7, 7, 7, 7, 7, 7, 7, 7, 7, 7, 7, 7, 7, 7, 7, 7, 7, 7, 7, 7, 7, 7, 7, 7, 7, 7, 7, 7, 7); i += 3) y = y + i;",
+        b"",
         b"y,9\n",
     ),
 ];
@@ -213,32 +227,42 @@ static REFUSED: [(&[&str], &[u8], u8, &[u8]); 24] = [
 
 const EVERY_SECOND: &[u8] = b"param N; in x[N]; out y[N]; for (i = 0; i < N; i += 2) y[i] = x[i];";
 
-/// The certificate of every second value with N=3, with the references of the sink's last two fires.
-fn of_every_second(alloc: Global, second: &[u8], third: &[u8]) -> Result<Vec<u8>, AllocError> {
-    let mut text = Vec::from_slice(
-        alloc,
-        b"cert 1\nsizes 3 2 2 16\nprocess 0 5\nf\np 0\nf\nf\np 0\n",
-    )?;
-    text.extend_from_slice(b"process 1 6\ng 0 0\nf 0\np 1\ng 0 0\nf 0\np 1\n")?;
-    text.extend_from_slice(b"process 1 5\ng 1 0\nf 0\nf ")?;
-    text.extend_from_slice(second)?;
-    text.extend_from_slice(b"\ng 1 0\nf ")?;
-    text.extend_from_slice(third)?;
-    text.extend_from_slice(b"\nchannel 0 1 0 2 inorder\nchannel 1 2 0 2 inorder\nsweep\nsweep\n")?;
-    text.extend_from_slice(b"0\n0\n0\n0\n0\n1\n1\n1\n1\n1\n1\n2\n2\n2\n2\n2\nend\n")?;
-    Ok(text)
+/// Its certificate with N=3.
+const SECONDS: &[u8] = b"cert 1\nsizes 3 2 2 16\n\
+    process 0 5\nf\np 0\nf\nf\np 0\n\
+    process 1 6\ng 0 0\nf 0\np 1\ng 0 0\nf 0\np 1\n\
+    process 1 5\ng 1 0\nf 0\nf z\ng 1 0\nf 0\n\
+    channel 0 1 0 2 inorder\nchannel 1 2 0 2 inorder\n\
+    sweep\nsweep\n\
+    0\n0\n0\n0\n0\n1\n1\n1\n1\n1\n1\n2\n2\n2\n2\n2\n\
+    end\n";
+
+/// Changes of the references of the sink's last two fires. 1(1) is the assignment of x[2].
+static SECONDS_CHANGES: [Change; 3] = [
+    (&[], b"accepted\n"),
+    (&[(19, b"f 0\n")], b"refused Tag 13 1(0) zero\n"),
+    (&[(21, b"f z\n")], b"refused Tag 15 zero 1(1)\n"),
+];
+
+/// Expects this answer of a program, and that its certificate is accepted.
+fn expect_stepped(
+    rt: &(impl Abort + AllocGlobal + Threads + Wait + Sync),
+    params: &[&str],
+    source: &[u8],
+    data: &[u8],
+    answer: &[u8],
+) -> Result<(), Fail> {
+    let bundle = joined(rt.alloc(), &[source, b"\n%%\n", data])?;
+    let answered = expect_answer(rt, params, &bundle, 0, answer);
+    drop(bundle);
+    answered?;
+    expect_accepted(rt, params, source, 100_000, false)
 }
 
 #[test]
 fn loops_with_steps_are_run(rt: HostRuntime) -> Result<(), Fail> {
-    for (params, bundle, output) in &STEPPED {
-        for command in ["run", "seq"] {
-            let words = words_of(rt.alloc(), command, params)?;
-            expect_words(&rt, SOUND, &words, bundle, 0, output, b"")?;
-        }
-        let source = parts_of(bundle).source;
-        let certificate = written_by(&rt, "cert", params, source, 100_000)?;
-        checks(&rt, params, source, certificate.held(), b"accepted\n")?;
+    for (params, source, data, answer) in &STEPPED {
+        expect_stepped(&rt, params, source, data, answer)?;
     }
     Ok(())
 }
@@ -246,33 +270,15 @@ fn loops_with_steps_are_run(rt: HostRuntime) -> Result<(), Fail> {
 #[test]
 fn wrong_loops_with_steps_are_refused(rt: HostRuntime) -> Result<(), Fail> {
     for (params, source, status, complaint) in &REFUSED {
-        let words = words_of(rt.alloc(), "run", params)?;
-        expect_words(&rt, SOUND, &words, source, *status, b"", complaint)?;
+        expect_of(&rt, "run", params, source, *status, complaint)?;
     }
     Ok(())
 }
 
-// A point of a loop with a step has its turn: 1(1) is the assignment of x[2].
+// A point of a loop with a step has its turn.
 #[test]
 fn points_hold_turns(rt: HostRuntime) -> Result<(), Fail> {
-    let whole = of_every_second(rt.alloc(), b"z", b"0")?;
-    let written = written_by(&rt, "cert", &["N=3"], EVERY_SECOND, 2_000)?;
-    assert!(rt; stand_for_the_same(rt.alloc(), written.held(), &whole));
-    checks(&rt, &["N=3"], EVERY_SECOND, &whole, b"accepted\n")?;
-    let found = of_every_second(rt.alloc(), b"0", b"0")?;
-    checks(
-        &rt,
-        &["N=3"],
-        EVERY_SECOND,
-        &found,
-        b"refused Tag 13 1(0) zero\n",
-    )?;
-    let wanted = of_every_second(rt.alloc(), b"z", b"z")?;
-    checks(
-        &rt,
-        &["N=3"],
-        EVERY_SECOND,
-        &wanted,
-        b"refused Tag 15 zero 1(1)\n",
-    )
+    let schedule = b"r 5 1\n0\nr 6 1\n1\nr 5 1\n2\nend\n";
+    expect_certificate(&rt, &["N=3"], EVERY_SECOND, SECONDS, schedule)?;
+    expect_lines(&rt, &["N=3"], EVERY_SECOND, SECONDS, &SECONDS_CHANGES)
 }

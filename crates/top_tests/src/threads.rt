@@ -1,7 +1,8 @@
-use crate::calls::in_words;
+//! The threads of `run` and of `load`.
+
+use crate::calls::{SOUND, end_by};
 use crate::meeting::{MOST_TURNS, Meeting};
-use compaan_top::compaan;
-use io_edge::{Gate, MemSink, MemSource};
+use io_edge::Gate;
 use std::alloc::{AllocError, Global};
 use std::process::Abort;
 use std::sync::Wait;
@@ -118,7 +119,7 @@ const SUM: &[u8] = b"in x, z; out y; y = x + z;\n%%\nx,1\nz,2\n";
 
 const SUM_TELLS: [&[(u32, i64)]; 4] = [&[(0, 1)], &[(1, 2)], &[(2, 3)], &[]];
 
-// Calls the program with this gate, and compares what it writes.
+/// Calls the program with this gate, and compares what it writes.
 pub(crate) fn expect_by<G: Gate + Sync>(
     rt: &(impl Abort + AllocGlobal + Threads + Wait + Sync),
     words: &[&str],
@@ -126,23 +127,10 @@ pub(crate) fn expect_by<G: Gate + Sync>(
     output: &[u8],
     gate: &G,
 ) -> Result<(), Fail> {
-    let alloc = rt.alloc();
-    let words = in_words(alloc, words)?;
-    let mut input = MemSource::new(alloc, bundle, 4_096, &[])?;
-    let mut written = MemSink::new(alloc, 1_000, 4_096, &[])?;
-    let mut complained = MemSink::new(alloc, 1_000, 4_096, &[])?;
-    let status = compaan(
-        rt,
-        alloc,
-        &words,
-        &mut input,
-        &mut written,
-        &mut complained,
-        gate,
-    );
-    assert_eq!(rt; status, 0);
-    assert!(rt; written.held() == output);
-    assert!(rt; complained.held().is_empty());
+    let end = end_by(rt, SOUND, words, &[], bundle, gate)?;
+    let holds = end.is(0, output, b"");
+    drop(end);
+    assert!(rt; holds);
     Ok(())
 }
 

@@ -1,4 +1,6 @@
-use crate::calls::{SOUND, expect};
+//! Capacities that are lowered.
+
+use crate::calls::{Call, SOUND, expect_all};
 use crate::certificates::{INCREMENT, LAST_VALUE};
 use std::test::Fail;
 
@@ -10,30 +12,32 @@ const LAST_VALUE_TRIMMED: &[u8] = b"trim 1\n\
     channel 2 capacity 1 rest 11 8 1 0\nchannel 3 capacity 1 rest 11 9 3 0\n\
     end\n";
 
-/// Words, sources, and what is written.
-static TRIMMED: [(&[&str], &[u8], &[u8]); 5] = [
-    (&["trim", "N=3"], INCREMENT, INCREMENT_TRIMMED),
+static TRIMMED: [Call; 6] = [
+    (&["trim", "N=3"], INCREMENT, 0, INCREMENT_TRIMMED),
     (
         &["trim", "N=3", "--policy=down"],
         INCREMENT,
+        0,
         INCREMENT_TRIMMED,
     ),
-    (&["trim", "N=4"], LAST_VALUE, LAST_VALUE_TRIMMED),
+    (&["trim", "N=4"], LAST_VALUE, 0, LAST_VALUE_TRIMMED),
     (
         &["trim", "N=4", "--policy=down"],
         LAST_VALUE,
+        0,
         LAST_VALUE_TRIMMED,
     ),
-    (&["trim", "N=0"], INCREMENT, b"trim 1\nend\n"),
+    (&["trim", "N=0"], INCREMENT, 0, b"trim 1\nend\n"),
+    // the data part is passed over, and a size is refused
+    (
+        &["trim"],
+        b"in x; out y[2147483647][2147483647];\n%%\nz,1\n",
+        8,
+        b"limit: Size 8388609\n",
+    ),
 ];
 
 #[test]
 fn capacities_are_lowered(rt: HostRuntime) -> Result<(), Fail> {
-    for (words, source, output) in &TRIMMED {
-        expect(&rt, SOUND, words, source, 0, output, b"")?;
-    }
-    // the data part is passed over, and a size is refused
-    let bundle = b"in x; out y[2147483647][2147483647];\n%%\nz,1\n";
-    let complaint = b"limit: Size 8388609\n";
-    expect(&rt, SOUND, &["trim"], bundle, 8, b"", complaint)
+    expect_all(&rt, SOUND, &TRIMMED)
 }

@@ -1,5 +1,10 @@
-use crate::calls::{Devices, SOUND, expect, written_by};
+//! Networks in VHDL.
+
+use crate::calls::{Call, SOUND, expect_all, written_by};
+use std::process::Abort;
+use std::sync::Wait;
 use std::test::Fail;
+use std::thread::Threads;
 
 const INCREMENT: &[u8] = b"param N; in x[N]; out y[N]; for (i = 0; i < N; i++) y[i] = x[i] + 1;";
 
@@ -157,51 +162,78 @@ fn has(text: &[u8], part: &[u8]) -> bool {
     false
 }
 
-#[test]
-fn nodes_are_described(rt: HostRuntime) -> Result<(), Fail> {
-    for params in [["N=1", "--policy=seq"], ["N=1", "--policy=down"]] {
-        let written = written_by(&rt, "vhdl", &params, INCREMENT, 100_000)?;
-        assert!(rt; written.held().starts_with(HEAD));
-        assert!(rt; has(written.held(), ASSIGNMENT));
-        assert!(rt; has(written.held(), SINK));
-        assert!(rt; written.held().ends_with(b"end architecture;\n"));
-    }
-    let written = written_by(&rt, "vhdl", &[], EVERY_SECOND, 100_000)?;
-    assert!(rt; has(written.held(), TURNS));
-    assert!(rt; has(written.held(), VARIABLE));
+/// Whether each of these parts stands somewhere in a text.
+fn has_all(text: &[u8], parts: &[&[u8]]) -> bool {
+    parts.iter().all(|part| has(text, part))
+}
+
+/// Values of parameters, sources, the room of a text, its front, and parts of it.
+static DESCRIBED: [(&[&str], &[u8], usize, &[u8], &[&[u8]]); 4] = [
+    (
+        &["N=1", "--policy=seq"],
+        INCREMENT,
+        100_000,
+        HEAD,
+        &[ASSIGNMENT, SINK],
+    ),
+    (
+        &["N=1", "--policy=down"],
+        INCREMENT,
+        100_000,
+        HEAD,
+        &[ASSIGNMENT, SINK],
+    ),
+    (
+        &[],
+        EVERY_SECOND,
+        100_000,
+        b"-- compaan vhdl 1\n",
+        &[TURNS, VARIABLE],
+    ),
+    // the longest script
+    (
+        &["N=65536"],
+        COUNTER,
+        100_000_000,
+        b"-- compaan vhdl 1\n\nlibrary ieee;\n",
+        &[],
+    ),
+];
+
+fn expect_described(
+    rt: &(impl Abort + AllocGlobal + Threads + Wait + Sync),
+    params: &[&str],
+    source: &[u8],
+    room: usize,
+    front: &[u8],
+    parts: &[&[u8]],
+) -> Result<(), Fail> {
+    let written = written_by(rt, "vhdl", params, source, room)?;
+    let held = written.output.held();
+    let holds = held.starts_with(front)
+        && has_all(held, parts)
+        && held.ends_with(b"end architecture;\n");
+    drop(written);
+    assert!(rt; holds);
     Ok(())
 }
 
 #[test]
-fn the_longest_script_is_described(rt: HostRuntime) -> Result<(), Fail> {
-    let written = written_by(&rt, "vhdl", &["N=65536"], COUNTER, 100_000_000)?;
-    assert!(rt;
-        written
-            .held()
-            .starts_with(b"-- compaan vhdl 1\n\nlibrary ieee;\n")
-    );
-    assert!(rt; written.held().ends_with(b"end architecture;\n"));
+fn nodes_are_described(rt: HostRuntime) -> Result<(), Fail> {
+    for (params, source, room, front, parts) in &DESCRIBED {
+        expect_described(&rt, params, source, *room, front, parts)?;
+    }
     Ok(())
 }
+
+static REFUSED: [Call; 3] = [
+    (&["vhdl", "N=65537"], COUNTER, 8, b"limit: Script 0 65537\n"),
+    // the source and its size are judged before
+    (&["vhdl"], b"$", 6, b"text: BadByte 0\n"),
+    (&["vhdl", "N=4194305"], COUNTER, 8, b"limit: Size 8388609\n"),
+];
 
 #[test]
 fn a_longer_script_is_refused(rt: HostRuntime) -> Result<(), Fail> {
-    let complaint = b"limit: Script 0 65537\n";
-    let nothing = Devices {
-        output_room: 0,
-        ..SOUND
-    };
-    expect(
-        &rt,
-        nothing,
-        &["vhdl", "N=65537"],
-        COUNTER,
-        8,
-        b"",
-        complaint,
-    )?;
-    // the source and its size are judged before
-    expect(&rt, SOUND, &["vhdl"], b"$", 6, b"", b"text: BadByte 0\n")?;
-    let large = b"limit: Size 8388609\n";
-    expect(&rt, SOUND, &["vhdl", "N=4194305"], COUNTER, 8, b"", large)
+    expect_all(&rt, SOUND, &REFUSED)
 }

@@ -9,11 +9,11 @@ use Rattle.nest_tests.proofs.meeting.run_meeting.Goals as goal
 
 pub run_threads-requires-clause-ends : goal.run_threads-requires-clause-ends
 run_threads-requires-clause-ends g c κs within =
-    let nest = c.args.nest.now in
+    let nest = c.args.made.now.nest in
     let d = c.args.inputs.now in
-    let network = c.in_ok-network.network in
+    let network = c.args.made.now.network in
     let from : NodeEnds → Ports = λ e channel. port_at e.gets.items channel in
     let to : NodeEnds → Ports = λ e channel. port_at e.puts.items channel in
-    wrapped_ends (λ (e : MeetEnds). e.ends) from to nest network d c.in_ok-ends-in-Accepted-2.ends.items
+    wrapped_ends (λ (e : MeetEnds). e.ends) from to nest network d c.in_ok-ends-2.ends.items
     (subst (λ (l : List NodeEnds). AreEndsOf from to nest network d l)
-    (sym c.in_ok-ends-in-Accepted-2.ensures) c.in_ok-ends-in-Accepted.ensures.ends)
+    (sym c.in_ok-ends-2.ensures) c.in_ok-ends.ensures.ends)

@@ -1,4 +1,0 @@
-use Rattle.source_tests.proofs.origins.accepted.Goals as goal
-
-pub source_of-requires : goal.source_of-requires
-source_of-requires c = c.in_stride_class.ensures.0 c.if-not-in_stride_class.false

@@ -1,0 +1,14 @@
+use Rattle.std.proofs.Common.{sym}
+use Rattle.lex_max.specs.Asked.{occurrence_of}
+use Rattle.source_tests.proofs.Candidates.{writes_array}
+use Rattle.source_tests.proofs.trees.tree_of_differences.Goals as goal
+
+pub candidate-requires-clause-class : goal.candidate-requires-clause-class
+candidate-requires-clause-class c = c.in_difference_class.ensures.0 c.if-not-in_difference_class.false
+
+pub candidate-requires-clause-writes : goal.candidate-requires-clause-writes
+candidate-requires-clause-writes c =
+    writes_array c.args.nest.now c.args.arg3.0 c.args.arg3.1 c.args.writer c.in-Some-Some.reading.now
+    c.in-Some-Some.writing.now c.in-Some.access.now (occurrence_of c.in-Some-write_to.write)
+    (sym c.in-Some-Some.ensures.value) (sym c.in-Some.ensures.value) (sym c.in-Some-Some.ensures'.value)
+    c.in-Some-write_to.ensures

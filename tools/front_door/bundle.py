@@ -1,0 +1,128 @@
+"""The files of a call, as the one bundle that the program reads, and the parts of it that places are told for."""
+from __future__ import annotations
+
+import re
+import sys
+from dataclasses import dataclass
+from typing import BinaryIO
+
+from .base import Status, Stop, printable
+from .words import Words
+
+# The most bytes that the program reads.
+BUNDLE_LIMIT = 67_108_864
+SEPARATOR = re.compile(rb"\n%%(?:\r?\n|\Z)")
+FIRST_SEPARATOR = re.compile(rb"%%(?:\r?\n|\Z)")
+
+
+@dataclass(frozen=True)
+class Part:
+    """A part of the bundle: a stretch of a file."""
+
+    name: str
+    whole: bytes
+    first: int
+    end: int
+
+    @property
+    def text(self) -> bytes:
+        return self.whole[self.first : self.end]
+
+
+@dataclass
+class Bundle:
+    """What the program reads. The parts are told apart only where a complaint is about one."""
+
+    name: str
+    bytes: bytes
+    # The files that --data and --certificate name, each by its name and bytes.
+    given_data: tuple[str, bytes] | None = None
+    given_certificate: tuple[str, bytes] | None = None
+    # The bytes of FILE, and the source as it stands there.
+    file: bytes = b""
+
+    def part(self, number: int) -> Part | None:
+        """The source, the data or the certificate by its number, 0 to 2, in the file where it stands."""
+        given = (None, self.given_data, self.given_certificate)[number]
+        if given is not None:
+            return Part(given[0], given[1], 0, len(given[1]))
+        first = 0
+        for _ in range(number):
+            _, behind = separator(self.file, first)
+            if behind is None:
+                return None
+            first = behind
+        end = len(self.file) if number == 2 else separator(self.file, first)[0]
+        return Part(self.name, self.file, first, end)
+
+    @property
+    def source(self) -> Part:
+        part = self.part(0)
+        assert part is not None
+        return part
+
+
+def separator(text: bytes, first: int) -> tuple[int, int | None]:
+    """Where the first separator from this byte on begins, and where what is behind it does; or the text's end, and None."""
+    found = FIRST_SEPARATOR.match(text, first)
+    if found:
+        return found.start(), found.end()
+    found = SEPARATOR.search(text, first)
+    return (found.start() + 1, found.end()) if found else (len(text), None)
+
+
+def shown(name: str) -> str:
+    return "(standard input)" if name == "-" else printable(name)
+
+
+def read_file(name: str, room: int) -> bytes:
+    """The bytes of a file, or so many of them that the program refuses the bundle: some files have no end."""
+    try:
+        if name == "-":
+            if sys.stdin is None:
+                raise Stop(Status.NO_FILE, "- can't be read: standard input is closed")
+            return read_from(sys.stdin.buffer, room)
+        with open(name, "rb") as file:
+            return read_from(file, room)
+    except (OSError, ValueError) as error:
+        why = error.strerror if isinstance(error, OSError) else "no file has such a name"
+        raise Stop(Status.NO_FILE, f"{shown(name)} can't be read: {why}") from None
+
+
+def read_from(file: BinaryIO, room: int) -> bytes:
+    return file.read(max(room, 0) + 1)
+
+
+def with_last_line_ended(text: bytes) -> bytes:
+    return text if not text or text.endswith(b"\n") else text + b"\n"
+
+
+def refuse_separator(name: str, text: bytes) -> None:
+    if separator(text, 0)[1] is not None or text.endswith(b"\n%%\r") or text == b"%%\r":
+        raise Stop(
+            Status.WRONG_WORDS,
+            f"{shown(name)} has a line %%, which parts a bundle: --data and --certificate want files without one",
+        )
+
+
+def bundle_of(words: Words) -> Bundle:
+    """Reads the files of a call. Together they have at most a byte more than the program takes."""
+    name = words.file or "-"
+    text = read_file(name, BUNDLE_LIMIT)
+    made = Bundle(shown(name), text, file=text)
+    if words.data is None and words.certificate is None:
+        return made
+    refuse_separator(name, text)
+    pieces = [with_last_line_ended(text), b"%%\n"]
+    if words.data is not None:
+        data = read_file(words.data, BUNDLE_LIMIT - sum(map(len, pieces)))
+        refuse_separator(words.data, data)
+        made.given_data = (shown(words.data), data)
+        pieces.append(data)
+    if words.certificate is not None:
+        pieces = [*pieces[:-1], with_last_line_ended(pieces[-1]), b"%%\n"]
+        text = read_file(words.certificate, BUNDLE_LIMIT - sum(map(len, pieces)))
+        made.given_certificate = (shown(words.certificate), text)
+        pieces.append(text)
+    made.bytes = b"".join(pieces)
+    return made

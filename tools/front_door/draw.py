@@ -1,0 +1,25 @@
+"""The picture of a network, by Graphviz."""
+from __future__ import annotations
+
+import subprocess
+
+from network import graph_of, network_of
+from outline import Outline
+
+from .base import printable, put, tell
+
+
+def picture_of(graph: str) -> bytes | None:
+    """What Graphviz draws, or None where it isn't here or fails."""
+    try:
+        return subprocess.run(["dot", "-Tsvg"], input=graph.encode(errors="replace"), stdout=subprocess.PIPE, check=True).stdout
+    except (OSError, subprocess.CalledProcessError) as error:
+        tell(f"compaan: Graphviz doesn't draw it ({error}): this is the network's text")
+        return None
+
+
+def draw(net: bytes, source: bytes, title: str) -> None:
+    """Writes the picture of a network, which carries its text, or the text alone."""
+    outline = Outline(source.decode(errors="replace"))
+    picture = picture_of(graph_of(network_of(net.decode(errors="replace")), outline, printable(title)))
+    put(picture.replace(b"<svg", b"<!--\n" + net + b"-->\n<svg", 1) if picture else net)

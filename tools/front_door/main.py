@@ -1,0 +1,181 @@
+"""Joins the parts: what a call is for, which program answers it, and what is said of its answer."""
+from __future__ import annotations
+
+import contextlib
+import os
+import signal
+import subprocess
+import sys
+from pathlib import Path
+
+from .base import Status, Stop, printable, put, tell, write_all
+from .bundle import Bundle, bundle_of
+from .program import Answer, Signalled, run
+from .proved import build, proved_program, take_built
+from .unproved import kept_unproved, unproved_program
+from .words import COMMANDS, Words, command_help, help_text, words_of
+
+UNPROVED = "compaan: UNPROVED: the program of this answer was compiled without a proof; ./compaan build makes the proved one"
+# The program's own status where standard output or standard error failed.
+NOT_SAID = 4
+
+
+def main(arguments: list[str]) -> int:
+    """Answers a call, and gives the status. No failure goes further than this."""
+    try:
+        return answer(arguments)
+    except Stop as stop:
+        tell(f"compaan: {printable(stop.text)}")
+        return stop.status
+    except Signalled as it:
+        # Whoever started the script sees what ended it.
+        signal.signal(it.number, signal.SIG_DFL)
+        os.kill(os.getpid(), it.number)
+        return 128 + it.number
+    except MemoryError:
+        tell("compaan: memory is wanting")
+        return Status.SYSTEM
+    except OSError as error:
+        tell(f"compaan: {printable(str(error.filename or 'the system'))}: {error.strerror}")
+        return Status.SYSTEM
+    except Exception as error:
+        import traceback
+
+        last = traceback.extract_tb(error.__traceback__)[-1]
+        tell(f"compaan: a fault of this script: {type(error).__name__}: {printable(str(error))} ({Path(last.filename).name}:{last.lineno})")
+        return Status.OWN_FAULT
+
+
+def answer(arguments: list[str]) -> int:
+    """Does what a call is for, and gives its status."""
+    if not arguments:
+        tell(help_text().rstrip())
+        return Status.WRONG_WORDS
+    if arguments[0] == "c" and "--help" not in arguments:
+        return other_tool("from_c.py", arguments[1:])
+    words = words_of(arguments)
+    if words.wants_help or words.command == "help":
+        about = words.file if words.command == "help" else words.command
+        put((command_help(about) if about is not None and about in COMMANDS else help_text()).encode())
+        return 0
+    if words.command == "build":
+        return build_by(words)
+    if words.command == "report":
+        return report(words)
+    return call(words)
+
+
+def other_tool(name: str, words: list[str]) -> int:
+    """Runs another of the tools, and gives its status."""
+    return subprocess.run([sys.executable, "-B", str(Path(__file__).resolve().parent.parent / name), *words], check=False).returncode
+
+
+def report(words: Words) -> int:
+    """Writes the page about a program and its network."""
+    if words.file is None or words.file == "-":
+        raise Stop(Status.WRONG_WORDS, "report wants the source as a FILE (./compaan report --help)")
+    program, is_unproved = program_for(words)
+    if is_unproved:
+        tell(UNPROVED)
+    data = ["--data", words.data] if words.data else []
+    return other_tool("report.py", [str(program), words.file, *words.passed[1:], *data])
+
+
+def build_by(words: Words) -> int:
+    rest = words.passed[1:]
+    if words.file is not None or rest not in ([], ["--built"]) or (rest and words.unproved):
+        raise Stop(Status.WRONG_WORDS, "build takes --unproved, --built or nothing (./compaan build --help)")
+    if rest:
+        return take_built()
+    if not words.unproved:
+        return build()
+    tell(f"compaan: the unproved program of these sources is {unproved_program(again=True)}; ./compaan build makes the proved one")
+    return 0
+
+
+def program_for(words: Words) -> tuple[str | Path, bool]:
+    """The program that answers, and whether nothing is proved of it. It is made where there is none."""
+    named = os.environ.get("COMPAAN")
+    if named and not words.unproved:
+        return named, False
+    proved = None if words.unproved else proved_program()
+    if proved is not None:
+        return proved, False
+    made = kept_unproved()
+    if made is None:
+        refuse_wrong_words(words)
+        made = unproved_program()
+    return made, True
+
+
+def refuse_wrong_words(words: Words) -> None:
+    """Stops at words that the program would refuse, since to have it say so it would have to be made."""
+    from .wrong_words import said_of
+
+    wrong = said_of(words)
+    if wrong is not None:
+        raise Stop(Status.WRONG_WORDS, wrong)
+
+
+def call(words: Words) -> int:
+    """Runs the program on a call's bundle, and explains what it refuses."""
+    is_drawn = words.command == "draw"
+    if is_drawn:
+        words.command = "net"
+        words.passed[words.passed.index("draw")] = "net"
+    bundle = read_bundle(words)
+    program, is_unproved = program_for(words)
+    if is_unproved:
+        tell(UNPROVED)
+    # What check says is read to explain it.
+    is_read = is_drawn or (words.command == "check" and sys.stdout is not None)
+    made = run(program, words.passed, None if bundle is None else bundle.bytes, is_read)
+    if is_drawn and made.status == 0:
+        from .draw import draw
+
+        source = bundle.source.text if bundle is not None else b""
+        draw(made.output, source, " ".join([os.path.basename(words.file or "network"), *words.passed[1:]]))
+        return 0
+    if not passed_on(made, is_read):
+        return NOT_SAID
+    if made.signal:
+        tell(f"compaan: the program was ended by {signal.strsignal(made.signal) or 'a signal'} (signal {made.signal})")
+    elif made.status and sys.stderr is not None:
+        explain(words, bundle, made, program)
+    return made.status
+
+
+def read_bundle(words: Words) -> Bundle | None:
+    if words.file is None:
+        if words.reads_nothing or sys.stdin is None:
+            return None
+        if sys.stdin.isatty():
+            tell("compaan: no FILE is given: the source is read from standard input")
+    return bundle_of(words)
+
+
+def passed_on(made: Answer, is_read: bool) -> bool:
+    """Writes what was read of the program as it is. Where that fails, the program's status would have said so."""
+    try:
+        if is_read:
+            write_all(1, made.output)
+        if made.complaint:
+            write_all(2, made.complaint)
+    except OSError:
+        return False
+    return True
+
+
+def explain(words: Words, bundle: Bundle | None, made: Answer, program: str | Path) -> None:
+    """Says on standard error what a refusal means. Where that can't be told, the refusal is what it is."""
+    from .explain import UNEXPECTED, Explainer
+    from .wrong_words import said_of
+
+    if made.complaint.startswith(b"usage: "):
+        said = iter([f"compaan: {said_of(words) or 'the program takes no such words (./compaan help)'}"])
+    else:
+        explainer = Explainer(words, bundle, lambda passed, text: run(program, passed, text, True))
+        said = explainer.refusal(made.output) if words.command == "check" and made.status == 1 else explainer.complaint(made.complaint)
+    with contextlib.suppress(*UNEXPECTED, MemoryError, OSError, Stop):
+        for line in said:
+            tell(printable(line))

@@ -1,0 +1,40 @@
+"""Where the toolchain is."""
+from __future__ import annotations
+
+import shutil
+import subprocess
+from dataclasses import dataclass
+from pathlib import Path
+
+from .base import Status, Stop
+
+
+@dataclass(frozen=True)
+class Toolchain:
+    """The toolchain, by the folder of all that it has."""
+
+    folder: Path
+
+    @property
+    def rt(self) -> str:
+        """Its command."""
+        return str(self.folder / "bin" / "rt")
+
+
+def toolchain() -> Toolchain:
+    rt = shutil.which("rt")
+    if rt is None:
+        raise Stop(
+            Status.NO_PROGRAM,
+            "rt, the command of the toolchain that makes the program, isn't on the PATH: README.md, under 'What is trusted', says which "
+            "toolchain is meant",
+        )
+    try:
+        # `rt doc` names a page at the top of that folder.
+        said = subprocess.run([rt, "doc"], stdin=subprocess.DEVNULL, capture_output=True, check=False, timeout=60).stdout
+    except (OSError, subprocess.TimeoutExpired) as error:
+        raise Stop(Status.NO_PROGRAM, f"{rt} can't be run: {error}") from None
+    page = Path(said.decode(errors="replace").strip())
+    if not page.is_file():
+        raise Stop(Status.NO_PROGRAM, f"{rt} doc doesn't name a page of the toolchain's folder, so {rt} isn't the toolchain of README.md")
+    return Toolchain(page.parent.resolve())

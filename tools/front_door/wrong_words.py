@@ -1,0 +1,77 @@
+"""Which of the words the program refused, which says only that it did."""
+from __future__ import annotations
+
+import difflib
+import re
+
+from .words import COMMANDS, NAME, OWN, RESERVED, Words, is_option
+
+
+def said_of(words: Words) -> str | None:
+    """What is wrong with the words of a call, and where to look, or None where nothing is found."""
+    wrong = wrong_word(words.passed)
+    if wrong is None:
+        return None
+    known = words.command in COMMANDS and words.command not in OWN
+    hint = f"./compaan {words.command} --help tells its words" if known else "./compaan help lists the commands"
+    return f"{wrong} ({hint})"
+
+
+def wrong_word(passed: list[str]) -> str | None:
+    """What is wrong with the words that the program refused, or None where nothing is found."""
+    cut = passed.index("--") if "--" in passed else len(passed)
+    words, policies = list(passed), 0
+    kept: list[str] = []
+    at = 0
+    while at < len(words):
+        word = words[at]
+        if at == cut:
+            kept += words[at + 1 :]
+            break
+        if word == "--policy" or word.startswith("--policy="):
+            value = word.partition("=")[2] if "=" in word else (words[at + 1] if at + 1 < cut else "")
+            at += "=" not in word
+            policies += 1
+            if value not in ("seq", "down"):
+                return f"--policy is seq or down, and not {value!r}"
+            if policies > 1:
+                return "--policy stands twice"
+        elif is_option(word):
+            return f"there is no option {word}"
+        else:
+            kept.append(word)
+        at += 1
+    if not kept:
+        return "there is no command"
+    command, *rest = kept
+    if command not in COMMANDS or command in OWN:
+        near = difflib.get_close_matches(command, COMMANDS, 1)
+        return f"there is no command {command}" + (f": is {near[0]} meant?" if near else "")
+    return wrong_load(rest) if command == "load" else wrong_item(rest)
+
+
+def wrong_load(rest: list[str]) -> str | None:
+    if not rest:
+        return "load wants a number, as load 8"
+    if not re.fullmatch("[0-9]{1,18}", rest[0]):
+        return f"load wants a number of 1 to 18 digits, and {rest[0]} is none"
+    return f"load takes one number, and {rest[1]} stands behind it" if rest[1:] else None
+
+
+def wrong_item(rest: list[str]) -> str | None:
+    """The first word that is no NAME=VALUE."""
+    seen = set()
+    for word in rest:
+        name, equals, value = word.partition("=")
+        if not equals:
+            return f"{word} is no NAME=VALUE, and one FILE alone is taken"
+        if not NAME.fullmatch(name):
+            return f"{name or 'nothing'} before the = of {word} is no name"
+        if name in RESERVED:
+            return f"{name} is a word of the language, and no parameter"
+        if not re.fullmatch("-?[0-9]{1,18}", value):
+            return f"{name} wants a whole number of 1 to 18 digits, and {value or 'nothing'} is none"
+        if name in seen:
+            return f"{name} has two values"
+        seen.add(name)
+    return None

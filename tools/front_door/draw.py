@@ -20,6 +20,9 @@ def picture_of(graph: str) -> bytes | None:
 
 def draw(net: bytes, source: bytes, title: str) -> None:
     """Writes the picture of a network, which carries its text, or the text alone."""
+    network = network_of(net.decode(errors="replace"))
     outline = Outline(source.decode(errors="replace"))
-    picture = picture_of(graph_of(network_of(net.decode(errors="replace")), outline, printable(title)))
+    # A text that isn't of this source is drawn without it.
+    is_of = len(outline.statements) == len(network.processes)
+    picture = picture_of(graph_of(network, outline if is_of else None, printable(title)))
     put(picture.replace(b"<svg", b"<!--\n" + net + b"-->\n<svg", 1) if picture else net)

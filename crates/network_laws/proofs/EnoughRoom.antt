@@ -1,0 +1,131 @@
+-- A channel never needs more room than it has tokens, and what it needs alone is a lower bound.
+--
+-- A Put that is still to come finds fewer Puts before it than there are in all. So where it has room by its capacity it
+-- has room by the lesser of its capacity and its tokens, and a run stays one (`limited_runs`). Now let a network end with
+-- some capacities, and give each other channel room for all of its tokens: from the limited capacities that is more room
+-- everywhere, so it ends with this channel's own capacity; hence the least one is no greater. Bounds that are met show a
+-- least sum; that they are met isn't a matter of this file.
+use Rattle.std.proofs.Common.{◌≡◌, ℕ, zero, suc, ◌+◌, ◌<◌, ◌≤◌, min, true, Option, Some, None, List, [], ◌∷◌}
+use Rattle.std.proofs.Common.{length, take, slice_get, count_by, ap, sym, ◌∙◌, refl, inl, inr, arith, ltb-true, lt-ltb}
+use Rattle.std.proofs.Common.{eq-eqb}
+use Rattle.std.specs.List.{range_with_len, sum_by}
+use Rattle.std.proofs.lemmas.Bool.{both_ways, cases_eq, cases_lt}
+use Rattle.std.proofs.lemmas.List.{take_all}
+use Rattle.std.proofs.lemmas.List.Sums.{sum_by-cons, sum_by-le-sum_by}
+use Rattle.net_core.specs.declared.network.Event.{Event}
+use Rattle.net_core.specs.declared.network.Event.TheVariants.{Get, Fire, Put}
+use Rattle.net_core.specs.Cuts.{Cut, IsCutRun, advanced, can_come_at, cut_after, opening, puts_at}
+use Rattle.net_core.specs.Machine.{Net, Rule, replaced, start, IsRun}
+use Rattle.net_core.specs.Orders.{EndsAll}
+use Rattle.net_core.specs.Shape.{IsWired, is_put, put_count}
+use Rattle.net_core.proofs.Counting.{count_past, replaced_other, replaced_same}
+use Rattle.net_core.proofs.Positions.{cut_run, enabled_inside, run_cut, run_ends, start_counted}
+use Rattle.witness_plan.proofs.OtherCapacities.{wired_at}
+use Rattle.cap_trim.specs.Capacities.{with_capacity, with_room}
+use Rattle.cap_trim.specs.Rests.{can_end}
+use Rattle.cap_trim.proofs.AtRest.{can_end_by, can_end_roomier}
+use Rattle.cap_trim.proofs.LeastCapacities.{least_within, less_sticks}
+use Rattle.network_laws.specs.LowerBounds.{alone_capacity, total_room}
+
+module _ (n : Net) (wired : IsWired n) (room : ℕ → ℕ) where
+  -- room for at most all tokens
+  abbrev pub limited : ℕ → ℕ
+  limited c = min (room c) (put_count n c)
+
+  -- a Put that is to come has fewer before it than there are
+  puts_before : (k : Cut) (p c : ℕ) → slice_get (n.script p) (k p) ≡ Some (Put c) → k p < length (n.script p)
+      → puts_at n k c < put_count n c
+  puts_before k p c is inside =
+      let w : n.writer c ≡ p = wired.put_writer p (k p) c is in
+      let script = n.script p in
+      let fewer : count_by (is_put c) (take (k p) script) < count_by (is_put c) (take (length script) script) =
+      count_past (is_put c) script (k p) (length script) (Put c) is (eq-eqb c c refl) inside in
+      let all : count_by (is_put c) (take (length script) script) ≡ count_by (is_put c) script =
+      ap (count_by (is_put c)) (take_all (length script) script (omega arith)) in
+      rw w (omega (arith, fewer, all))
+
+  come_limited : (k : Cut) (p : ℕ) (o : Option Event) → slice_get (n.script p) (k p) ≡ o → k p < length (n.script p)
+      → can_come_at (with_room n room) k o ≡ true → can_come_at (with_room n limited) k o ≡ true
+  come_limited k p None is inside on = on
+  come_limited k p (Some (Get c slot)) is inside on = on
+  come_limited k p (Some (Fire refs)) is inside on = refl
+  come_limited k p (Some (Put c)) is inside on =
+      let had = ltb-true _ _ on in
+      lt-ltb _ _ (omega (arith, had, puts_before k p c is inside))
+
+  pub limited_runs : (run : List ℕ) (k : Cut) → IsCutRun (with_room n room) k run → IsCutRun (with_room n limited) k run
+  limited_runs [] k is = tt
+  limited_runs (p ∷ run) k is = (
+    come_limited k p (slice_get (n.script p) (k p)) refl (enabled_inside (with_room n room) k p is.0) is.0,
+    limited_runs run (advanced k p) is.1,
+  )
+
+  module _ {T : Type 0} (rule : Rule T) (run : List ℕ) (whole : EndsAll (with_room n room) rule run) where
+    cuts : IsCutRun (with_room n room) opening run
+    cuts =
+        run_cut (with_room n room) rule (wired_at n room wired) run (start (with_room n room))
+        (start_counted (with_room n room)) whole.0
+
+    ended : (p : ℕ) → cut_after opening run p ≡ length (n.script p)
+    ended p =
+        sym (ap (λ (k : Cut). k p) (run_ends (with_room n room) rule run (start (with_room n room)) whole.0)) ∙ whole.1 p
+
+    pub limited_can : can_end (with_room n limited) ≡ true
+    limited_can =
+        can_end_by (with_room n limited) (wired_at n limited wired) run (limited_runs run opening cuts) ended
+
+    limited_is_run : IsRun (with_room n limited) rule (start (with_room n limited)) run
+    limited_is_run =
+        cut_run (with_room n limited) rule (wired_at n limited wired) run (start (with_room n limited))
+        (start_counted (with_room n limited)) (limited_runs run opening cuts)
+
+    pub limited_ends : EndsAll (with_room n limited) rule run
+    limited_ends = (
+      limited_is_run,
+      λ p. ap (λ (k : Cut). k p) (run_ends (with_room n limited) rule run (start (with_room n limited)) limited_is_run)
+          ∙ ended p,
+    )
+
+    -- Lower bounds
+
+    -- every other channel has room for all of its tokens
+    abbrev full : Net
+    full = with_room n (put_count n)
+
+    can_alone : (c : ℕ) → room c ≤ put_count n c → can_end (with_capacity full c (room c)) ≡ true
+    can_alone c few =
+        can_end_roomier (with_room n limited) (replaced (put_count n) c (room c)) (wired_at n limited wired)
+        (λ d. elim (cases_eq d c) [
+          | inl same ↦
+              let here : room d ≡ room c = ap room same in
+              omega (arith, here, replaced_same (put_count n) c (room c) d same)
+          | inr other ↦ omega (arith, replaced_other (put_count n) c (room c) d other)
+        ]) limited_can
+
+    pub bounded : (c : ℕ) → alone_capacity n c ≤ room c
+    bounded c =
+        elim (cases_lt (room c) (alone_capacity n c)) [
+          | inl low ↦
+              let few : room c ≤ put_count n c = omega (arith, low, least_within full c) in
+              absurd (both_ways (can_end (with_capacity full c (room c))) (less_sticks full c (room c) low)
+              (can_alone c few))
+          | inr high ↦ omega arith
+        ]
+
+    pub total_bounded : total_room n (alone_capacity n) ≤ total_room n room
+    total_bounded = sum_by-le-sum_by (alone_capacity n) room (range_with_len 0 n.channels) bounded
+
+-- sums of equal terms
+pub sum_by-range_same : (f g : ℕ → ℕ) (m a : ℕ) → ((c : ℕ) → c < a + m → f c ≡ g c)
+    → sum_by f (range_with_len a m) ≡ sum_by g (range_with_len a m)
+sum_by-range_same f g zero a same = refl
+sum_by-range_same f g (suc m) a same =
+    let rest = sum_by-range_same f g m (a + 1) (λ c lt. same c (omega arith)) in
+    let here = same a (omega arith) in
+    omega (
+      arith,
+      here,
+      rest,
+      sum_by-cons f a (range_with_len (a + 1) m),
+      sum_by-cons g a (range_with_len (a + 1) m),
+    )

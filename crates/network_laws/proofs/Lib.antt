@@ -1,0 +1,9 @@
+pub mod OneClock
+pub mod StalledRuns
+pub mod FairRuns
+pub mod FasterRuns
+pub mod EnoughRoom
+pub mod Minimal
+pub mod FewestSlots
+pub mod EntryTexts
+pub mod Worked

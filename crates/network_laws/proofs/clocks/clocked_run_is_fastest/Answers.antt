@@ -1,0 +1,13 @@
+use Rattle.network_laws.proofs.FasterRuns.{clocks_least, never_ahead, script_short}
+use Rattle.network_laws.proofs.StalledRuns.{always}
+use Rattle.network_laws.proofs.clocks.clocked_run_is_fastest.Goals as goal
+
+pub returns : goal.returns
+returns g c =
+    record {
+      ahead = λ n rule may k p wired. never_ahead n rule wired may k p;
+      least = λ n rule may k wired ends ended.
+          clocks_least n rule wired may (c.clocked_run_ends.ensures n rule wired ends) k ended;
+      longest = λ n rule p wired ends.
+          script_short n rule wired always (c.clocked_run_ends.ensures n rule wired ends) p;
+    }

@@ -1,0 +1,4 @@
+pub mod Stalls
+pub mod LowerBounds
+pub mod SlotChoices
+pub mod Entries

@@ -1,0 +1,14 @@
+-- How small the capacities of a network can be.
+use Rattle.std.specs.Prelude.{ℕ}
+use Rattle.std.specs.List.{range_with_len, sum_by}
+use Rattle.net_core.specs.Machine.{Net}
+use Rattle.net_core.specs.Shape.{put_count}
+use Rattle.cap_trim.specs.Capacities.{least_capacity, with_room}
+
+-- the least capacity of channel c at which the network ends where every other channel has room for all of its tokens
+abbrev pub alone_capacity : Net → ℕ → ℕ
+alone_capacity n c = least_capacity (with_room n (put_count n)) c
+
+-- the places of all channels together
+abbrev pub total_room : Net → (ℕ → ℕ) → ℕ
+total_room n room = sum_by room (range_with_len 0 n.channels)

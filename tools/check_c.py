@@ -1,17 +1,15 @@
 #!/usr/bin/env python3
 """Compares functions in C with the sources that `./compaan c` makes of them.
 
-usage: tools/check_c.py [--program PROGRAM] [--rounds N] [KERNEL]..
+usage: tools/check_c.py [--compaan PROGRAM] [--rounds N] [KERNEL]..
 
 Each KERNEL is a file of examples/c (all of them where none is named). Its first line is `// NAME=VALUE ..`, with the values of the
-sizes that are parameters of the function; macros have their own. The source that comes of it is run by `compaan run` on random data, and the function itself is
-compiled by the C compiler and called on the same data; both print the arrays that are written, which are compared. Prints a row for each
-kernel, and fails where two differ.
+sizes that are parameters of the function; macros have their own. The source that comes of it is run by `compaan run` on random data, and
+the function itself is compiled by the C compiler and called on the same data; both print the arrays that are written, which are compared.
+Prints a row for each kernel, and fails where two differ.
 """
 from __future__ import annotations
 
-import argparse
-import os
 import random
 import re
 import subprocess
@@ -21,13 +19,12 @@ from dataclasses import dataclass
 from pathlib import Path
 
 import from_c
+from common import EXAMPLES, head, parser_of, program_of, row, run, stop
 from pycparser import c_ast, c_parser
 
-TOP = Path(__file__).resolve().parent.parent
 DECLARED = re.compile(r"(?m)^(param|in|out|inout) (.*);$")
 # The data are numbers up to this, so that what is an int in C doesn't overflow.
 GREATEST = 9
-NO_PROGRAM = 69
 Shape = tuple[str, list[str]]
 
 
@@ -101,7 +98,9 @@ def driver(text: str, kernel: Kernel, shapes: dict[str, list[Shape]], sizes: dic
             lines.append('  printf("result,%ld\\n", answer);')
         else:
             number = cells(found, sizes)
-            lines.append(f'  printf("{name}"); for (long at = 0; at < {number}; at++) printf(",%ld", (long){name}_cells[at]); printf("\\n");')
+            lines.append(
+                f'  printf("{name}"); for (long at = 0; at < {number}; at++) printf(",%ld", (long){name}_cells[at]); printf("\\n");'
+            )
     return "\n".join([*lines, "  return 0;", "}"]) + "\n"
 
 
@@ -130,32 +129,32 @@ def compare(program: str, file: Path, rounds: int) -> Outcome:
             wanted = subprocess.run([f"{room}/kernel"], capture_output=True, text=True, check=True).stdout
         records = "".join(",".join([name, *map(str, found)]) + "\n" for name, found in data.items())
         items = [f"{name}={value}" for name, value in sizes.items()]
-        done = subprocess.run([program, "run", *items], input=f"{source}%%\n{records}", capture_output=True, text=True, check=False)
-        found_lines, wanted_lines = sorted(done.stdout.split("\n")), sorted(wanted.split("\n"))
+        done = run(program, ["run", *items], f"{source}%%\n{records}".encode())
+        found_lines, wanted_lines = sorted(done.output.decode().split("\n")), sorted(wanted.split("\n"))
         outcome.cells += sum(it.count(",") for it in wanted_lines)
-        if done.returncode or found_lines != wanted_lines:
-            outcome.faults.append(f"round {number}: status {done.returncode} {done.stderr.strip()} {found_lines} and not {wanted_lines}"[:300])
+        if done.status or done.complaint or found_lines != wanted_lines:
+            outcome.faults.append(f"round {number}: status {done.status} {done.complaint!r} {found_lines} and not {wanted_lines}"[:300])
     return outcome
 
 
 def main() -> int:
-    parser = argparse.ArgumentParser(description="Compares functions in C with the sources that come of them.")
-    parser.add_argument("--program", default=os.environ.get("COMPAAN") or str(TOP / "crates" / "compaan" / "out" / "compaan"))
-    parser.add_argument("--rounds", type=int, default=3)
+    parser = parser_of(__doc__)
+    parser.add_argument("--rounds", type=int, default=3, help="how often each is run (3)")
     parser.add_argument("kernels", nargs="*", metavar="KERNEL")
-    words = parser.parse_args()
-    if not os.access(words.program, os.X_OK):
-        print(f"{words.program} isn't built: ./compaan build", file=sys.stderr)
-        return NO_PROGRAM
-    folder = TOP / "examples" / "c"
-    files = [folder / f"{it}.c" for it in words.kernels] or sorted(folder.glob("*.c"))
-    print("| Kernel | Lines of C | Lines of source | Cells compared | |\n|---|---|---|---|---|")
+    given = parser.parse_args()
+    program = program_of(given.compaan)
+    folder = EXAMPLES / "c"
+    files = [folder / f"{it}.c" for it in given.kernels] or sorted(folder.glob("*.c"))
+    if lacking := [it for it in files if not it.is_file()]:
+        stop(f"there is no {lacking[0]}")
+    print(head(["Kernel", "Lines of C", "Lines of source", "Cells compared", ""]))
     different = 0
     for file in files:
-        outcome = compare(words.program, file, words.rounds)
+        outcome = compare(program, file, given.rounds)
         different += bool(outcome.faults) or not outcome.cells
         count = sum(1 for it in file.read_text(encoding="utf-8").split("\n") if it.strip())
-        print(f"| `{file.stem}` | {count} | {outcome.lines} | {outcome.cells} | {'; '.join(outcome.faults) or 'equal'} |", flush=True)
+        faults = "; ".join(outcome.faults) or ("equal" if outcome.cells else "nothing was compared")
+        print(row([f"`{file.stem}`", count, outcome.lines, outcome.cells, faults]), flush=True)
     print(f"{len(files)} kernels, {different} different")
     return 1 if different or not files else 0
 

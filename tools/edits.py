@@ -10,7 +10,6 @@ with a proof of each crate, and takes half a minute an edit. It ends with that c
 """
 from __future__ import annotations
 
-import argparse
 import os
 import re
 import shutil
@@ -19,7 +18,8 @@ import sys
 import tempfile
 from pathlib import Path
 
-TOP = Path(__file__).resolve().parent.parent
+from common import TOP, plain_parser_of
+
 FOLDERS = ("must-fail", "edits")
 
 
@@ -97,8 +97,8 @@ def attempt(names: list[str]) -> int:
 
 
 def main() -> int:
-    parser = argparse.ArgumentParser(description=__doc__, formatter_class=argparse.RawDescriptionHelpFormatter)
-    commands = parser.add_subparsers(dest="command", required=True)
+    parser = plain_parser_of(__doc__)
+    commands = parser.add_subparsers(dest="command", required=True, prog=f"tools/{Path(__file__).name}")
     commands.add_parser("check", help="look at each edit, without a proof")
     trying = commands.add_parser("try", help="try the edits of crates in a clone")
     trying.add_argument("crates", nargs="+", metavar="CRATE")

@@ -30,7 +30,22 @@ except ImportError:
 UNFIT, NO_FILE = 65, 66
 MOST_READS = 8
 RESERVED = {"param", "in", "out", "inout", "var", "int", "for", "if", "else", "min", "max"}
-WHOLE = {"int", "long", "short", "signed", "char", "int8_t", "int16_t", "int32_t", "int64_t", "size_t", "ptrdiff_t", "const", "static", "register"}
+WHOLE = {
+    "int",
+    "long",
+    "short",
+    "signed",
+    "char",
+    "int8_t",
+    "int16_t",
+    "int32_t",
+    "int64_t",
+    "size_t",
+    "ptrdiff_t",
+    "const",
+    "static",
+    "register",
+}
 SIZE_MACRO = re.compile(r"[ \t]*#[ \t]*define[ \t]+([A-Za-z_]\w*)[ \t]+\(?[ \t]*(-?\d+)[uUlL]*[ \t]*\)?[ \t]*(?://.*|/\*.*\*/[ \t]*)?$")
 
 
@@ -477,9 +492,7 @@ class Source:
         """What holds where none of these alternatives does, again as alternatives that exclude each other."""
         found: list[list[Comparison]] = [[]]
         for together in alternatives:
-            ways = [
-                [*together[:at], Comparison(it.left, sign, it.right)] for at, it in enumerate(together) for sign in OPPOSITES[it.sign]
-            ]
+            ways = [[*together[:at], Comparison(it.left, sign, it.right)] for at, it in enumerate(together) for sign in OPPOSITES[it.sign]]
             found = [it for before in found for way in ways for it in [tidied([*before, *way])] if it is not None]
         return found
 

@@ -12,7 +12,6 @@ each process: crate, kind (proof, tests, edits, program), processor seconds, MB.
 """
 from __future__ import annotations
 
-import argparse
 import os
 import re
 import subprocess
@@ -22,7 +21,9 @@ import time
 from collections import defaultdict
 from pathlib import Path
 
-TOP = Path(__file__).resolve().parent.parent
+from common import TOP, plain_parser_of
+from crates import crates_below
+
 PAGE = TOP / "docs" / "CONTRIBUTING.md"
 HEAD = "| Crate | Its proof | Its tests | Its edits | Number of edits |\n|---|---|---|---|---|\n"
 TICK = os.sysconf("SC_CLK_TCK")
@@ -126,16 +127,6 @@ def times_of(files: list[str]) -> Times:
     return times
 
 
-def crates() -> dict[str, list[str]]:
-    """Each crate with those of the repository below it, lowest first."""
-    listed = {}
-    for line in (TOP / "crates.txt").read_text(encoding="utf-8").split("\n"):
-        name, colon, rest = line.split("#")[0].partition(":")
-        if colon:
-            listed[name.split()[0]] = rest.split()
-    return {name: [it for it in rest if it in listed] for name, rest in listed.items()}
-
-
 def chain_of(times: Times, names: dict[str, list[str]]) -> tuple[float, list[str]]:
     """The longest chain of crates by the minutes of their proofs, with the tests of the last one."""
     longest: dict[str, tuple[float, list[str]]] = {}
@@ -156,13 +147,18 @@ def chain_of(times: Times, names: dict[str, list[str]]) -> tuple[float, list[str
 
 def table(files: list[str], write: bool) -> int:
     """Prints the table by crate, or puts it into its page."""
-    times, names = times_of(files), crates()
-    cell = lambda name, kind: f"{times[name, kind]:.1f}" if times.get((name, kind), 0.0) >= 0.05 else ""
+    times, names = times_of(files), crates_below()
+
+    def cell(name: str, kind: str) -> str:
+        return f"{times[name, kind]:.1f}" if times.get((name, kind), 0.0) >= 0.05 else ""
+
     rows = []
     for name in names:
         edits = len(list((TOP / "crates" / name / "must-fail").glob("*.edit")))
         rows.append(f"| `{name}` | {cell(name, 'proof')} | {cell(name, 'tests')} | {cell(name, 'edits')} | {edits or ''} |\n")
-    total = {kind: sum(minutes for (name, it), minutes in times.items() if it == kind and name in names) for kind in ("proof", "tests", "edits")}
+    total = {
+        kind: sum(minutes for (name, it), minutes in times.items() if it == kind and name in names) for kind in ("proof", "tests", "edits")
+    }
     number = sum(len(list((TOP / "crates" / name / "must-fail").glob("*.edit"))) for name in names)
     rows.append(f"| all | {total['proof']:.0f} | {total['tests']:.0f} | {total['edits']:.0f} | {number} |\n")
     minutes, chain = chain_of(times, names)
@@ -182,7 +178,7 @@ def table(files: list[str], write: bool) -> int:
 
 def build(files: list[str]) -> int:
     """Prints how long the proofs take that the program stands on, by a list that begins what has the longest chain behind it."""
-    times, names = times_of(files), crates()
+    times, names = times_of(files), crates_below()
     wanted: set[str] = set()
     left = ["compaan"]
     while left:
@@ -214,11 +210,11 @@ def build(files: list[str]) -> int:
 
 
 def main() -> int:
-    parser = argparse.ArgumentParser(description=__doc__, formatter_class=argparse.RawDescriptionHelpFormatter)
-    commands = parser.add_subparsers(dest="command", required=True)
+    parser = plain_parser_of(__doc__)
+    commands = parser.add_subparsers(dest="command", required=True, prog=f"tools/{Path(__file__).name}")
     running = commands.add_parser("run", help="run the gate and note what each check took")
     running.add_argument("file", metavar="FILE")
-    running.add_argument("words", nargs=argparse.REMAINDER, metavar="WORD")
+    running.add_argument("words", nargs="...", metavar="WORD")
     tables = commands.add_parser("table", help="the table by crate")
     tables.add_argument("files", nargs="+", metavar="FILE")
     tables.add_argument("--write", action="store_true", help="into docs/CONTRIBUTING.md")

@@ -2,68 +2,89 @@
 from __future__ import annotations
 
 import re
+from collections.abc import Sequence
 from dataclasses import dataclass
 
+from expression import Form
 from outline import Outline, Statement
+
 
 ALWAYS = "always"
 
 
-@dataclass
+@dataclass(frozen=True)
+class Sign:
+    """That a form is at least 0, or that it isn't."""
+
+    form: Form
+    holds: bool
+
+    def __str__(self) -> str:
+        """The comparison as one writes it, with what is taken away on the right."""
+        # form < 0 is -form - 1 >= 0
+        form = self.form if self.holds else Form(-1).plus(self.form, -1)
+        left = Form(0, {name: it for name, it in form.terms.items() if it > 0})
+        right = Form(0, {name: -it for name, it in form.terms.items() if it < 0})
+        if not left.terms:
+            return f"{right} <= {form.constant}" if right.terms else ALWAYS if form.constant >= 0 else "never"
+        return f"{left} >= {right.plus(Form(-form.constant))}"
+
+
+@dataclass(frozen=True)
+class Divides:
+    """That a number divides a form, or that it doesn't."""
+
+    divisor: int
+    form: Form
+    holds: bool
+
+    def __str__(self) -> str:
+        how = "divides" if self.holds else "doesn't divide"
+        return f"{self.divisor} {how} {self.form}"
+
+
+Condition = Sign | Divides
+
+
+@dataclass(frozen=True)
 class Piece:
     """Conditions that hold together, and where the value comes from there: a statement with its point, or nobody."""
 
-    conditions: list[str]
+    conditions: list[Condition]
     writer: int | None
-    point: list[str]
+    point: list[Form]
 
 
-@dataclass
+@dataclass(frozen=True)
 class Read:
-    """A read, and its pieces; or, where it has no tree, how many of its points each statement wrote, with None for nobody."""
+    """A read with its pieces; or, where it has no tree, with each of its points and where the value comes from there, or None."""
 
     statement: int
     number: int
     pieces: list[Piece]
-    points: dict[int | None, int] | None
+    points: list[tuple[list[int], tuple[int, list[int]] | None]] | None = None
+
+    @property
+    def counts(self) -> dict[int | None, int]:
+        """How many of the points each statement wrote, with None for nobody."""
+        found: dict[int | None, int] = {}
+        for _, source in self.points or []:
+            writer = source[0] if source else None
+            found[writer] = found.get(writer, 0) + 1
+        return found
 
 
-def variable(name: str) -> str:
-    """The name of a loop's variable as it is shown: with a step above 1 the loop counts turns."""
-    return f"turn of {name[:-1]}" if name.endswith("#") else name
-
-
-def form_text(constant: int, terms: list[tuple[int, str]]) -> str:
-    """An affine form, as one writes it."""
-    text = ""
-    for factor, name in terms:
-        if factor:
-            size = "" if abs(factor) == 1 else f"{abs(factor)}*"
-            sign = (" - " if factor < 0 else " + ") if text else ("-" if factor < 0 else "")
-            text += f"{sign}{size}{name}"
-    if not text:
-        return str(constant)
-    return text if constant == 0 else f"{text} {'-' if constant < 0 else '+'} {abs(constant)}"
-
-
-def comparison(constant: int, terms: list[tuple[int, str]], holds: bool) -> str:
-    """That a form is at least 0, or that it isn't, with what is taken away on the right."""
-    terms = [it for it in terms if it[0]]
-    if not holds:
-        # form < 0 is -form - 1 >= 0
-        constant, terms = -constant - 1, [(-factor, name) for factor, name in terms]
-    left = [it for it in terms if it[0] > 0]
-    right = [(-factor, name) for factor, name in terms if factor < 0]
-    if not left:
-        return f"{form_text(0, right)} <= {constant}" if right else ALWAYS if constant >= 0 else "never"
-    return f"{form_text(0, left)} >= {form_text(-constant, right)}"
+def variables(outline: Outline, statement: Statement) -> list[str]:
+    """The names of a statement's loops as they are shown: with a step above 1 a loop counts turns."""
+    return [name if outline.step(statement.loop(at)) == 1 else f"turn of {name}" for at, name in enumerate(statement.loops)]
 
 
 class Reader:
     """The lines of a text of sources, read one after the other."""
 
-    def __init__(self, text: str, outline: Outline):
-        self.lines, self.at, self.outline = text.split("\n"), 1, outline
+    def __init__(self, text: str, names: Sequence[Sequence[str]]) -> None:
+        """The names are those of the loops of each statement."""
+        self.lines, self.at, self.names = text.split("\n"), 1, names
 
     def next(self) -> str:
         self.at += 1
@@ -73,60 +94,65 @@ class Reader:
         found = []
         while self.lines[self.at] != "end":
             _, statement, number = self.next().split(" ")
-            reader = self.outline.statements[int(statement)]
             if self.lines[self.at] == "tree":
                 self.next()
-                pieces = self.tree([variable(it) for it in reader.loops], [])
-                found.append(Read(int(statement), int(number), pieces, None))
+                found.append(Read(int(statement), int(number), self.tree(self.names[int(statement)])))
             else:
                 found.append(Read(int(statement), int(number), [], self.points()))
         return found
 
-    def points(self) -> dict[int | None, int]:
-        counts: dict[int | None, int] = {}
+    def points(self) -> list[tuple[list[int], tuple[int, list[int]] | None]]:
+        found = []
         for _ in range(int(self.next().split(" ")[1])):
-            writer = re.search(r" (?:(\d+)\(|zero)", self.next())
-            key = int(writer[1]) if writer and writer[1] else None
-            counts[key] = counts.get(key, 0) + 1
-        return counts
+            line = re.fullmatch(r"\((.*)\) (?:zero|(\d+)\((.*)\))", self.next())
+            if line is None:
+                raise ValueError("a point of another form")
+            source = (int(line[2]), numbers_in(line[3])) if line[2] else None
+            found.append((numbers_in(line[1]), source))
+        return found
 
-    def form(self, words: list[str], names: list[str]) -> tuple[int, list[tuple[int, str]]]:
-        return int(words[0]), [(int(factor), name) for factor, name in zip(words[1:], names)]
-
-    def tree(self, names: list[str], conditions: list[str]) -> list[Piece]:
+    def tree(self, loops: Sequence[str]) -> list[Piece]:
         """The leaves of a tree, each with the conditions on the way; those where no point comes are left out. What is still to be
         read stands in a list, since a tree may be deep."""
-        pieces = []
-        waiting = [(names, conditions)]
+        pieces: list[Piece] = []
+        waiting: list[tuple[list[str], list[Condition]]] = [(list(loops), [])]
         while waiting:
             names, conditions = waiting.pop()
             words = self.next().split(" ")
             if words[0] == "t":
-                constant, terms = self.form(words[1:], names)
-                for holds in (False, True):
-                    waiting.append((names, [*conditions, comparison(constant, terms, holds)]))
+                form = read_form(words[1:], names)
+                waiting += [(names, [*conditions, Sign(form, holds)]) for holds in (False, True)]
             elif words[0] == "d":
-                constant, terms = self.form(words[2:], names)
-                text = form_text(constant, terms)
-                inner = [*names, f"floor(({text}) / {words[1]})"]
-                waiting.append((inner, [*conditions, f"{words[1]} doesn't divide {text}"]))
-                waiting.append((inner, [*conditions, f"{words[1]} divides {text}"]))
+                divisor, form = int(words[1]), read_form(words[2:], names)
+                inner = [*names, f"floor(({form})/{divisor})"]
+                waiting += [(inner, [*conditions, Divides(divisor, form, holds)]) for holds in (False, True)]
             elif words[0] == "w":
-                point = [form_text(*self.form(self.next().split(" ")[1:], names)) for _ in range(int(words[2]))]
+                point = [read_form(self.next().split(" ")[1:], names) for _ in range(int(words[2]))]
                 pieces.append(Piece(conditions, int(words[1]), point))
             elif words[0] == "z":
                 pieces.append(Piece(conditions, None, []))
+            elif words[0] != "x":
+                raise ValueError(f"a node {words}")
         return pieces
 
 
+def numbers_in(text: str) -> list[int]:
+    return [int(it) for it in text.split(",") if it]
+
+
+def read_form(words: Sequence[str], names: Sequence[str]) -> Form:
+    """A form of a text: a constant and a coefficient for each name."""
+    return Form(int(words[0]), {name: int(factor) for name, factor in zip(names, words[1:], strict=True) if int(factor)})
+
+
 def reads_of(text: str, outline: Outline) -> list[Read]:
-    """The reads of a text that `deps` wrote."""
-    return Reader(text, outline).reads()
+    """The reads of a text that `deps` wrote, in the names of the loops as they are shown."""
+    return Reader(text, [variables(outline, it) for it in outline.statements]).reads()
 
 
-def told(writer: Statement, point: list[str]) -> str:
+def told(outline: Outline, writer: Statement, point: Sequence[Form]) -> str:
     """A point of a statement in words: the cell of a source, or the turn of an assignment."""
     if writer.kind == "source":
         return f"the input {writer.array}{''.join(f'[{it}]' for it in point)}"
-    turn = ", ".join(f"{variable(name)} = {value}" for name, value in zip(writer.loops, point))
+    turn = ", ".join(f"{name} = {value}" for name, value in zip(variables(outline, writer), point))
     return f"line {writer.line}, {writer.array}" + (f", at {turn}" if turn else "")

@@ -20,9 +20,9 @@ from dataclasses import dataclass
 import clocked
 import network as networks
 import pieces
-from clocked import AWAIT_ROOM, AWAIT_TOKEN, DOINGS, ENDED, FIRE, GET, PUT
+from clocked import AWAIT_ROOM, AWAIT_TOKEN, ENDED, FIRE, GET, PUT
 from network import Network
-from outline import Outline
+from outline import Outline, values_of
 
 # The clocked run is followed up to so many events and so many clocks of all processes, which takes some ten seconds.
 MOST_EVENTS = 4_000_000
@@ -72,7 +72,7 @@ class Asked:
 
     program: str
     name: str
-    source: str
+    source: bytes
     bundle: bytes
     items: list[str]
     policy: str
@@ -126,7 +126,7 @@ def row(cells: list[object], head: bool = False, plain: tuple[int, ...] = ()) ->
 
 def table(head: list[str], rows: list[list[object]]) -> str:
     body = "".join(row(it) for it in rows)
-    return f'<div class=wide><table><thead>{row(list(head), head=True)}</thead><tbody>{body}</tbody></table></div>'
+    return f"<div class=wide><table><thead>{row(list(head), head=True)}</thead><tbody>{body}</tbody></table></div>"
 
 
 def name_of(network: Network, outline: Outline, number: int) -> str:
@@ -136,7 +136,7 @@ def name_of(network: Network, outline: Outline, number: int) -> str:
 
 
 def source_part(asked: Asked, outline: Outline) -> str:
-    lines = asked.source.rstrip("\n").split("\n")
+    lines = asked.source.decode(errors="replace").rstrip("\n").split("\n")
     made = {}
     for number, statement in enumerate(outline.statements):
         if statement.kind == "assign":
@@ -204,13 +204,21 @@ def bars(run: clocked.Run, process: int, left: int, top: float, width: int, heig
     step = width / count
     for at, share in enumerate(clocked.shares(run, process, count)):
         whole = sum(share) or 1
-        parts = [("fire", share[FIRE]), ("move", share[GET] + share[PUT]), ("token", share[AWAIT_TOKEN]), ("room", share[AWAIT_ROOM]), ("rest", share[ENDED])]
+        parts = [
+            ("fire", share[FIRE]),
+            ("move", share[GET] + share[PUT]),
+            ("token", share[AWAIT_TOKEN]),
+            ("room", share[AWAIT_ROOM]),
+            ("rest", share[ENDED]),
+        ]
         below = top + height
         for look, clocks in parts:
             if clocks:
                 size = height * clocks / whole
                 below -= size
-                made.append(f'<rect class={look} x="{left + at * step:.2f}" y="{below:.2f}" width="{step + 0.05:.2f}" height="{size:.2f}"/>')
+                made.append(
+                    f'<rect class={look} x="{left + at * step:.2f}" y="{below:.2f}" width="{step + 0.05:.2f}" height="{size:.2f}"/>'
+                )
     return "".join(made)
 
 
@@ -232,7 +240,9 @@ def run_part(network: Network, outline: Outline, run: clocked.Run, counted: int 
     for process in range(len(network.processes)):
         top = process * (lane + gap)
         label = name_of(network, outline, process)
-        made.append(f'<text x="{left - 10}" y="{top + 15}" text-anchor="end">{text(label if len(label) < 28 else label[:26] + "..")}</text>')
+        made.append(
+            f'<text x="{left - 10}" y="{top + 15}" text-anchor="end">{text(label if len(label) < 28 else label[:26] + "..")}</text>'
+        )
         made.append(bars(run, process, left, top, width, lane))
     chart = (
         f'<svg class=chart role="img" aria-label="what each process does over the clocks" viewBox="0 0 {left + width + 20} {height + 26}" width="100%">'
@@ -255,7 +265,13 @@ def run_part(network: Network, outline: Outline, run: clocked.Run, counted: int 
                 text(told),
             ]
         )
-    keys = [("fire", "fires"), ("move", "takes or gives a token"), ("token", "waits for a token"), ("room", "waits for room"), ("rest", "has ended")]
+    keys = [
+        ("fire", "fires"),
+        ("move", "takes or gives a token"),
+        ("token", "waits for a token"),
+        ("room", "waits for room"),
+        ("rest", "has ended"),
+    ]
     key = "".join(f"<span><i class={look}></i>{said}</span>" for look, said in keys)
     checked = ""
     if counted is not None:
@@ -307,11 +323,11 @@ def queue_part(network: Network, outline: Outline, run: clocked.Run) -> str:
 
 
 def piece_row(outline: Outline, piece: pieces.Piece) -> list[object]:
-    conditions = [it for it in piece.conditions if it != pieces.ALWAYS]
+    conditions = [it for it in map(str, piece.conditions) if it != pieces.ALWAYS]
     where = " and ".join(f"<code>{text(it)}</code>" for it in conditions) or "everywhere"
     if piece.writer is None:
         return [where, "nobody: it is 0"]
-    return [where, text(pieces.told(outline.statements[piece.writer], piece.point))]
+    return [where, text(pieces.told(outline, outline.statements[piece.writer], piece.point))]
 
 
 def read_part(outline: Outline, reads: list[pieces.Read] | None, why: str) -> str:
@@ -325,8 +341,13 @@ def read_part(outline: Outline, reads: list[pieces.Read] | None, why: str) -> st
         made.append(f"<h3><code>{text(read)}</code> <span class=soft>of {text(place)}</span></h3>")
         if it.points is not None:
             rows = [
-                ["nobody: it is 0" if writer is None else text(f"line {outline.statements[writer].line}, {outline.statements[writer].array}"), count]
-                for writer, count in sorted(it.points.items(), key=lambda entry: -entry[1])
+                [
+                    "nobody: it is 0"
+                    if writer is None
+                    else text(f"line {outline.statements[writer].line}, {outline.statements[writer].array}"),
+                    count,
+                ]
+                for writer, count in sorted(it.counts.items(), key=lambda entry: -entry[1])
             ]
             made.append("<p class=soft>This read has no tree; its points were followed one by one.</p>")
             made.append(table(["from", "#points"], rows))
@@ -335,7 +356,9 @@ def read_part(outline: Outline, reads: list[pieces.Read] | None, why: str) -> st
             if len(it.pieces) > MOST_PIECES:
                 rows.append([f"and {len(it.pieces) - MOST_PIECES} pieces more", ""])
             made.append(table(["where", "from"], rows))
-    return f"<h2>Where values come from</h2><p class=soft>Each read, and where its values come from: exact at every point.</p>{''.join(made)}"
+    return (
+        f"<h2>Where values come from</h2><p class=soft>Each read, and where its values come from: exact at every point.</p>{''.join(made)}"
+    )
 
 
 def remarks(network: Network, outline: Outline, reads: list[pieces.Read] | None) -> str:
@@ -345,7 +368,9 @@ def remarks(network: Network, outline: Outline, reads: list[pieces.Read] | None)
     for process in network.processes:
         statement = outline.statements[process.number]
         if process.fires == 0:
-            said.append(f"{statement.kind if statement.kind != 'assign' else 'line ' + str(statement.line)} <code>{text(statement.text)}</code> never runs.")
+            said.append(
+                f"{statement.kind if statement.kind != 'assign' else 'line ' + str(statement.line)} <code>{text(statement.text)}</code> never runs."
+            )
             continue
         for number, read in enumerate(statement.reads):
             if (process.number, number) not in fed:
@@ -353,9 +378,11 @@ def remarks(network: Network, outline: Outline, reads: list[pieces.Read] | None)
                 said.append(f"<code>{text(read)}</code> of {text(where)} is written by nobody before it is read: it is always 0.")
     for it in reads or []:
         statement = outline.statements[it.statement]
-        partly = it.points is not None and None in it.points or any(piece.writer is None for piece in it.pieces)
+        partly = None in it.counts or any(piece.writer is None for piece in it.pieces)
         if partly and (it.statement, it.number) in fed and statement.kind == "assign":
-            said.append(f"<code>{text(statement.reads[it.number])}</code> of line {statement.line} is 0 at some points, where nobody wrote the cell before.")
+            said.append(
+                f"<code>{text(statement.reads[it.number])}</code> of line {statement.line} is 0 at some points, where nobody wrote the cell before."
+            )
     writers = {it.writer for it in network.channels}
     for process in network.processes:
         statement = outline.statements[process.number]
@@ -370,7 +397,7 @@ def remarks(network: Network, outline: Outline, reads: list[pieces.Read] | None)
 def page(asked: Asked) -> str:
     """The page, or Refused where the program makes no network."""
     network = networks.network_of(call(asked, "net"))
-    outline = Outline(asked.source)
+    outline = Outline(asked.source, values_of(asked.items))
     trim, why_trim = attempt(asked, "trim")
     trimmed = {int(a): int(b) for a, b in re.findall(r"(?m)^channel (\d+) capacity (\d+) ", trim or "")}
     deps, why_deps = attempt(asked, "deps")
@@ -403,7 +430,11 @@ def page(asked: Asked) -> str:
         network_part(network, outline, title),
         remarks(network, outline, reads),
         channel_part(network, outline, trimmed, why_trim, run),
-        *([run_part(network, outline, run, counted), queue_part(network, outline, run)] if run else [f"<h2>The clocked run</h2><p>It isn't shown: {text(why_run)}.</p>"]),
+        *(
+            [run_part(network, outline, run, counted), queue_part(network, outline, run)]
+            if run
+            else [f"<h2>The clocked run</h2><p>It isn't shown: {text(why_run)}.</p>"]
+        ),
         read_part(outline, reads, why_deps),
     ]
     return (
@@ -430,7 +461,7 @@ def main() -> int:
             data = file.read()
     ended = b"" if source.endswith(b"\n") or not source else b"\n"
     asked = Asked(
-        words.program, os.path.basename(words.file), source.decode(errors="replace"), source + ended + b"%%\n" + data, words.items, words.policy, bool(words.data)
+        words.program, os.path.basename(words.file), source, source + ended + b"%%\n" + data, words.items, words.policy, bool(words.data)
     )
     try:
         sys.stdout.write(page(asked))

@@ -10,11 +10,13 @@ import re
 from collections import Counter
 from collections.abc import Callable, Iterator
 
+from outline import values_of
+from turns import Counted, turns_of
+
 from .base import number
 from .bundle import Bundle, Part
 from .certificate import Certificate, certificate_of, size_of, wish_of
 from .idioms import advice_on
-from .outline import Outline, outline_of
 from .place import Place
 from .program import Answer
 from .records import field_start, record_start
@@ -121,7 +123,7 @@ class Explainer:
         if family == "data":
             return self.place_of_name(rest[0]) if reason == "Missing" else self.place_in_data(reason, numbers)
         if (family, reason) == ("limit", "LoopValue"):
-            return Place(self.bundle.source, self.outline().byte_of(numbers[0]))
+            return Place(self.bundle.source, self.loops().byte_of(numbers[0]))
         return Place(self.bundle.source, numbers[0]) if family in ("text", "class", "limit") else None
 
     def place_in_data(self, reason: str, numbers: list[int]) -> Place | None:
@@ -150,21 +152,20 @@ class Explainer:
 
     # ------------------------------------------------------------------------------------------------------------- limits
 
-    def outline(self) -> Outline:
-        items = [it.partition("=") for it in self.words.passed if "=" in it and not it.startswith("-")]
-        return outline_of(self.bundle.source.text, {name: int(value) for name, _, value in items})
+    def loops(self) -> Counted:
+        return turns_of(self.bundle.source.text, values_of(self.words.items))
 
     def too_large(self) -> Iterator[str]:
         """The limit on the size, and the loop that comes to most."""
         limit = f"a program executes at most {number(SIZE_LIMIT)} assignments and turns of loops"
         largest = None
         with contextlib.suppress(*UNEXPECTED):
-            largest = self.outline().largest
+            largest = self.loops().largest
         if largest is None:
             yield f"compaan: {limit}, and this one executes more"
             return
         what = "this array, the largest, has {} cells" if largest.is_array else "this loop turns up to {} times with those round it"
-        yield from Place(self.bundle.source, largest.byte).lines(f"{limit}, and {what.format(number(largest.turns))}")
+        yield from Place(self.bundle.source, largest.byte).lines(f"{limit}, and {what.format(number(largest.count))}")
 
     def long_scripts(self, first: int, length: int) -> Iterator[str]:
         """All processes with more events than VHDL takes. The program tells the first of them."""

@@ -119,6 +119,8 @@ def refuse_wrong_words(words: Words) -> None:
 
 def call(words: Words) -> int:
     """Runs the program on a call's bundle, and explains what it refuses."""
+    if words.isl and words.command != "deps":
+        raise Stop(Status.WRONG_WORDS, "--isl goes with deps (./compaan deps --help)")
     is_drawn = words.command == "draw"
     if is_drawn:
         words.command = "net"
@@ -128,13 +130,18 @@ def call(words: Words) -> int:
     if is_unproved:
         tell(UNPROVED)
     # What check says is read to explain it.
-    is_read = is_drawn or (words.command == "check" and sys.stdout is not None)
+    is_read = is_drawn or words.isl or (words.command == "check" and sys.stdout is not None)
     made = run(program, words.passed, None if bundle is None else bundle.bytes, is_read)
     if is_drawn and made.status == 0:
         from .draw import draw
 
-        source = bundle.source.text if bundle is not None else b""
-        draw(made.output, source, " ".join([os.path.basename(words.file or "network"), *words.passed[1:]]))
+        draw(made.output, source_of(bundle), " ".join([os.path.basename(words.file or "network"), *words.passed[1:]]))
+        return 0
+    if words.isl and made.status == 0:
+        from maps import isl_text
+        from outline import values_of
+
+        put(isl_text(made.output.decode(), source_of(bundle), values_of(words.items)).encode())
         return 0
     if not passed_on(made, is_read):
         return NOT_SAID
@@ -143,6 +150,10 @@ def call(words: Words) -> int:
     elif made.status and sys.stderr is not None:
         explain(words, bundle, made, program)
     return made.status
+
+
+def source_of(bundle: Bundle | None) -> bytes:
+    return bundle.source.text if bundle is not None else b""
 
 
 def read_bundle(words: Words) -> Bundle | None:

@@ -15,12 +15,12 @@ CODE = ("src",)
 STATEMENTS = ("src", "specs")
 
 
-def listed() -> dict[str, list[str]]:
+def listed(path: Path = LIST) -> dict[str, list[str]]:
     """Each crate of the list with those that it names, of the repository and of the toolchain."""
     try:
-        lines = LIST.read_text(encoding="utf-8").split("\n")
+        lines = path.read_text(encoding="utf-8").split("\n")
     except (OSError, UnicodeDecodeError) as error:
-        raise Stop(Status.NO_PROGRAM, f"{LIST} can't be read: {error}") from None
+        raise Stop(Status.NO_PROGRAM, f"{path} can't be read: {error}") from None
     found = {}
     for line in lines:
         name, colon, rest = line.split("#")[0].partition(":")

@@ -37,6 +37,7 @@ OPTIONS = {
     "--policy down": "capacities for the schedule that passes values on early; seq, the default, follows the loops",
     "--data FILE": "the values of the in and inout arrays, as CSV: a line is a name and then its values",
     "--certificate FILE": "what cert wrote",
+    "--isl": "tells the sources as isl's maps, from each read's points to those that wrote the values",
     "--unproved": "answers by the unproved program, which ./compaan build --unproved makes",
 }
 
@@ -63,6 +64,7 @@ class Words:
     file: str | None = None
     data: str | None = None
     certificate: str | None = None
+    isl: bool = False
     unproved: bool = False
     wants_help: bool = False
     # Whether a word of digits is among them, which names no file, so that `load 60` reads none.
@@ -74,6 +76,11 @@ class Words:
     def reads_nothing(self) -> bool:
         """Whether no bundle is read for the program."""
         return self.file is None and self.has_number
+
+    @property
+    def items(self) -> list[str]:
+        """The values of parameters among the words that the program gets."""
+        return [it for it in self.passed if is_item(it)]
 
 
 class Parser(argparse.ArgumentParser):
@@ -87,6 +94,7 @@ def parser() -> Parser:
     made = Parser(prog="./compaan", add_help=False, allow_abbrev=False)
     made.add_argument("--data", action="append", default=[])
     made.add_argument("--certificate", action="append", default=[])
+    made.add_argument("--isl", action="store_true")
     made.add_argument("--unproved", action="store_true")
     made.add_argument("--help", "-h", action="store_true")
     # The program judges it, also where it stands twice or has no value.
@@ -98,7 +106,7 @@ def words_of(arguments: list[str]) -> Words:
     """Takes the words of a call apart. What isn't the script's goes to the program as it is."""
     cut = arguments.index("--") if "--" in arguments else len(arguments)
     options, rest = parser().parse_known_args(arguments[:cut])
-    words = Words(unproved=options.unproved, wants_help=options.help)
+    words = Words(isl=options.isl, unproved=options.unproved, wants_help=options.help)
     words.data = only_file("--data", options.data)
     words.certificate = only_file("--certificate", options.certificate)
     for word in rest:
@@ -176,6 +184,7 @@ def command_help(command: str) -> str:
         words = ["FILE", "[NAME=VALUE]..", "[--policy seq|down]"]
         words += ["[--data FILE]"] if "data" in reads else []
         words += ["--certificate FILE"] if "certificate" in reads else []
+        words += ["[--isl]"] if command == "deps" else []
         words += ["[--unproved]"]
     said = " ".join(words)
     options = BUILDING if command == "build" else FROM_C if command == "c" else OPTIONS

@@ -1,0 +1,136 @@
+"""What the commands of this folder share: the texts that the program writes of the examples, and runs of GHDL."""
+from __future__ import annotations
+
+import argparse
+import os
+import re
+import shutil
+import signal
+import subprocess
+import sys
+import tempfile
+from collections.abc import Mapping, Sequence
+from typing import NamedTuple
+
+from common import TOP, Example, parser_of, run, stop
+from hardware.wiring import Network, Node, Unfit, bench_text, read_arrays, read_file, read_texts, wiring_text, write_file
+
+CHANNEL = TOP / "hardware" / "channel.vhd"
+STANDARDS = ("93", "02", "08")
+
+
+class Design(NamedTuple):
+    """A network with its nodes, and the VHDL files by name, in the order in which they are analysed."""
+
+    network: Network
+    nodes: list[Node]
+    files: dict[str, str]
+
+
+class Outcome(NamedTuple):
+    """The verdict of a test bench with its clocks, or what went wrong, and the lines that were told besides."""
+
+    verdict: str
+    clocks: int | None
+    lines: list[str]
+
+
+def end_quietly() -> None:
+    """A command that is told to end leaves no files behind."""
+    for number in (signal.SIGINT, signal.SIGTERM, signal.SIGHUP):
+        signal.signal(number, lambda number, _: sys.exit(128 + number))
+
+
+# -------------------------------------------------------------------------------------------------------- the programs
+
+
+def hardware_parser(text: str | None) -> argparse.ArgumentParser:
+    """A parser of the words of a command that runs the program and GHDL."""
+    parser = parser_of(text)
+    parser.add_argument(
+        "--ghdl", metavar="PROGRAM", default=os.environ.get("GHDL") or "ghdl", help="the simulator (the variable GHDL, or else ghdl)"
+    )
+    return parser
+
+
+def find_ghdl(named: str) -> tuple[str, str]:
+    """GHDL and its version. Without it a command can't begin."""
+    found = shutil.which(named)
+    if not found:
+        stop(f"there is no GHDL here (no program {named}), so nothing was simulated")
+    found = os.path.abspath(found)
+    lines = subprocess.run([found, "--version"], stdout=subprocess.PIPE, text=True, check=True).stdout.splitlines()
+    return found, f"{lines[0]}, {lines[2].strip()}"
+
+
+def call(words: Sequence[str], folder: str) -> tuple[bool, list[str]]:
+    """Whether a program ended well, and the lines that it wrote."""
+    done = subprocess.run(
+        words, cwd=folder, stdin=subprocess.DEVNULL, stdout=subprocess.PIPE, stderr=subprocess.STDOUT, text=True, check=False
+    )
+    return done.returncode == 0, done.stdout.splitlines()
+
+
+# -------------------------------------------------------------------------------------------------------- the networks
+
+
+def text_of(program: str, command: str, policy: str, example: Example) -> str:
+    """What the program writes of an example."""
+    words = [command, "--policy", policy, *example.items]
+    answer = run(program, words, example.bundle)
+    if answer.status:
+        complaint = answer.complaint.decode("latin-1").strip()
+        raise Unfit(f"`compaan {' '.join(words)}` ended with status {answer.status}: {complaint}")
+    return answer.output.decode("latin-1")
+
+
+def clocks_of(program: str, policy: str, example: Example) -> int:
+    """The clocks that the program counts of an example's network: the last line of `compaan sim`."""
+    last = text_of(program, "sim", policy, example).splitlines()[-1]
+    told = re.fullmatch(r"clocks (\d+)", last)
+    if not told:
+        raise Unfit(f"`compaan sim` ended with the line `{last}`, which tells no clocks")
+    return int(told[1])
+
+
+def design_of(program: str, policy: str, example: Example, answer: str | None = None) -> Design:
+    """The network of an example with its nodes, channels, wiring and test bench, which wants the example's answer or another."""
+    vhdl = text_of(program, "vhdl", policy, example)
+    network, nodes = read_texts(text_of(program, "net", policy, example), vhdl)
+    wanted = example.answer.decode("latin-1") if answer is None else answer
+    files = {"nodes.vhd": vhdl} if nodes else {}  # a text of comments alone is no VHDL file
+    files["channel.vhd"] = read_file(CHANNEL)
+    files["network.vhd"] = wiring_text(network, nodes)
+    files["bench.vhd"] = bench_text(network, nodes, read_arrays(example.data.decode("latin-1")), read_arrays(wanted))
+    return Design(network, nodes, files)
+
+
+# ------------------------------------------------------------------------------------------------------ the simulation
+
+
+def new_folder() -> tempfile.TemporaryDirectory[str]:
+    return tempfile.TemporaryDirectory(prefix="compaan-hardware-")
+
+
+def simulate(ghdl: str, files: Mapping[str, str], standard: str, options: Sequence[str] = ()) -> Outcome:
+    """Analyses the files, elaborates the test bench and runs it. None of it may tell a warning."""
+    with new_folder() as folder:
+        for name, text in files.items():
+            write_file(folder, name, text)
+        common = [f"--std={standard}", f"--workdir={folder}"]
+        well, lines = call([ghdl, "-a", *common, *files], folder)
+        if not well:
+            return Outcome("not analysed", None, lines)
+        well, more = call([ghdl, "-e", *common, "bench"], folder)
+        lines += more
+        if not well:
+            return Outcome("not elaborated", None, lines)
+        if lines:
+            return Outcome("warnings", None, lines)
+        well, lines = call([ghdl, "-r", *common, "bench", *options], folder)
+    last = re.fullmatch(r"(equal|different|stuck) clocks (\d+)", lines[-1]) if lines else None
+    if not well or not last:
+        return Outcome("broken off", None, lines)
+    if last[1] == "equal" and len(lines) > 1:
+        return Outcome("warnings", None, lines)
+    return Outcome(last[1], int(last[2]), lines[:-1])

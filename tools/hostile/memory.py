@@ -1,0 +1,211 @@
+#!/usr/bin/env python3
+"""Each request for memory of the built program refused in turn: by a shim before the C library, and by the kernel.
+
+usage: tools/hostile/memory.py [--jobs JOBS] [--most COUNT] [--compaan PROGRAM]
+
+Each command is run once to count its requests (calls of malloc, realloc and the like, and starts of threads), and then, for each N up
+to that count, with the Nth refused, and again with the Nth and all later ones refused. Every run must end by itself within its time,
+with status 10 and both streams empty (11 while the words are taken over, before the top call), or with the output, complaint and status
+that it has without refusals, and must have joined the threads that it started. Where there is strace, the kernel's own calls (mmap, brk, mremap, mprotect and the start of a thread) are
+refused in the same way; there the first calls, as many as /bin/true makes, are the dynamic loader's, which may break off before the
+program's first instruction, by status 127 or a signal. Prints a table and one line for each run that isn't as wanted, and fails where there is
+one. It is a test, outside the proof.
+"""
+from __future__ import annotations
+
+import os
+import shutil
+import signal
+import struct
+import sys
+import tempfile
+from collections import Counter
+from collections.abc import Iterable, Iterator, Sequence
+from concurrent.futures import Future, ProcessPoolExecutor
+from pathlib import Path
+
+sys.path.insert(0, str(Path(__file__).resolve().parents[1]))
+from common import examples, parser_of, program_of, table
+from hostile import asking
+from hostile.asking import End
+
+# A name, the words and the bundle of each run.
+Row = tuple[str, list[str], bytes]
+# The statuses of runs, and what isn't as wanted.
+Found = tuple[Counter[object], list[str]]
+
+SECONDS = 20
+CALLS = "mmap,brk,mremap,mprotect,clone,clone3"
+# Where memory is wanting: 11 where the system can't give the words.
+WANTING = ((10, b"", b""), (11, b"", b""))
+
+
+def rows(program: str) -> Iterator[Row]:
+    fir = examples(["fir"])[0]
+    source, items = fir.source, fir.items
+    cert = asking.ask(program, ["cert", *items], source).output
+    less = cert.replace(b"channel 3 4 0 8 inorder", b"channel 3 4 0 7 inorder")
+    both = fir.bundle
+    yield "run fir", ["run", *items], both
+    yield "seq fir", ["seq", *items], both
+    yield "net fir", ["net", *items], source
+    yield "net fir, down", ["net", *items, "--policy=down"], source
+    yield "cert fir", ["cert", *items], source
+    yield "check fir", ["check", *items], both + b"%%\n" + cert
+    yield "check fir, a capacity less", ["check", *items], both + b"%%\n" + less
+    yield "check fir, cut", ["check", *items], both + b"%%\n" + cert[: len(cert) // 2]
+    yield "deps fir", ["deps", *items], source
+    yield "deps fir, at any size", ["deps", "N=1000000000", "T=1000000000"], source
+    yield "vhdl fir", ["vhdl", *items], source
+    yield "load 2", ["load", "2"], b""
+    yield "run fir, a value less", ["run", *items], both.replace(b",", b"", 1)
+    yield "run fir, cut", ["run", *items], both[:100]
+    yield "run fir, no values", ["run"], both
+    for command in ("sim", "trim", "trace"):
+        yield f"{command} fir", [command, *items], both
+    yield "no words", [], b""
+    nussinov = examples(["nussinov"])[0]
+    yield "deps nussinov, with points", ["deps", *nussinov.items], nussinov.source
+    for it in examples(["block_peaks", "sobel", "pipeline_60"]):
+        yield f"run {it.name}", ["run", *it.items], it.bundle
+        yield f"cert {it.name}", ["cert", *it.items], it.source
+
+
+def shown(statuses: Counter[object]) -> str:
+    return ", ".join(f"{count} x {status}" for status, count in sorted(statuses.items(), key=str))
+
+
+class Shim:
+    """The shim with its counters."""
+
+    def __init__(self, folder: str) -> None:
+        self.folder = folder
+        self.library = asking.compiled("shim.c", os.path.join(folder, "shim.so"), "-shared", "-fPIC", "-ldl")
+
+    def ask(self, program: str, words: Sequence[str], bundle: bytes, **what: int) -> tuple[End, tuple[int, ...]]:
+        """Runs the program, and returns how it ended and the counters."""
+        table = os.path.join(self.folder, f"table-{os.getpid()}")
+        with open(table, "wb") as file:
+            file.write(bytes(64))
+        env = {
+            **os.environ,
+            "LD_PRELOAD": self.library,
+            "HOSTILE_TABLE": table,
+            **{f"HOSTILE_{name.upper()}": str(value) for name, value in what.items()},
+        }
+        end = asking.ask(program, words, bundle, SECONDS, env)
+        with open(table, "rb") as file:
+            return end, struct.unpack("8q", file.read(64))[:5]
+
+
+def refused(shim: Shim, program: str, row: Row, plain: End, way: int, numbers: Sequence[int]) -> Found:
+    """The statuses of the runs in which these requests are refused, and what isn't as wanted."""
+    name, words, bundle = row
+    statuses: Counter[object] = Counter()
+    bad: list[str] = []
+    for number in numbers:
+        end, (_, count, started, joined, _) = shim.ask(program, words, bundle, refuse=number, all=way)
+        statuses["hung" if end.hung else end.status] += 1
+        if end.hung or end.said not in (*WANTING, plain.said) or started != joined or not count:
+            bad.append(
+                f"{name}, request {number}{' and all later' * way}: {end}, {count} refused, {started} threads, {joined} joined"[:400]
+            )
+    return statuses, bad
+
+
+def refused_by_kernel(program: str, row: Row, plain: End, numbers: Sequence[int], loading: int, folder: str) -> Found:
+    """The same with the kernel's calls."""
+    name, words, bundle = row
+    statuses: Counter[object] = Counter()
+    bad: list[str] = []
+    for number in numbers:
+        end, _ = kernel_asks(program, words, bundle, number, folder)
+        is_loader = number <= loading and end.status in (127, -signal.SIGSEGV, -signal.SIGKILL) and not end.output
+        statuses["hung" if end.hung else "by the loader" if is_loader else end.status] += 1
+        if end.hung or not (is_loader or end.said in (*WANTING, plain.said)):
+            bad.append(f"{name}, kernel call {number}: {end}"[:400])
+    return statuses, bad
+
+
+def kernel_asks(program: str, words: Sequence[str], bundle: bytes, number: int, folder: str) -> tuple[End, int]:
+    """Runs the program with the Nth call for memory of each of its threads refused by strace; 0 refuses none. Returns how it ended and
+    how many calls its first thread made, and how many any made."""
+    log = os.path.join(folder, f"log-{os.getpid()}")
+    # where the kernel refuses brk it answers the old break and no error, so it answers less than was asked for
+    errors = CALLS.replace("brk,", "")
+    refusing = ["-e", f"inject={errors}:error=ENOMEM:when={number}", "-e", f"inject=brk:retval=0:when={number}"] if number else []
+    end = asking.ask(program, words, bundle, SECONDS, before=["strace", "-f", "-qq", "-o", log, "-e", f"trace={CALLS}", *refusing])
+    with open(log) as file:
+        first = [line.split()[0] for line in file if "(" in line and "resumed" not in line]
+    return end, max(Counter(first).values(), default=0)
+
+
+def together(parts: Iterable[Future[Found]]) -> tuple[str, list[str]]:
+    """The statuses of several parts of a row as one text, and what isn't as wanted."""
+    statuses: Counter[object] = Counter()
+    bad: list[str] = []
+    for part in parts:
+        found = part.result()
+        statuses.update(found[0])
+        bad += found[1]
+    return shown(statuses), bad
+
+
+def main() -> int:
+    parser = parser_of(__doc__)
+    parser.add_argument("--jobs", type=int, default=2, help="how many run side by side (2)")
+    parser.add_argument(
+        "--most", metavar="COUNT", type=int, default=2000, help="of a row with more requests only so many are refused, evenly (2000)"
+    )
+    given = parser.parse_args()
+    program = program_of(given.compaan)
+    bad, found, kernel = [], [], []
+    asking.starter()
+    with tempfile.TemporaryDirectory() as folder, ProcessPoolExecutor(given.jobs) as pool:
+        shim = Shim(folder)
+        has_strace = bool(shutil.which("strace"))
+        # what a program that does nothing asks for is asked by the loader
+        loading = kernel_asks("/bin/true", [], b"", 0, folder)[1] if has_strace else 0
+        rows_found = []
+        for row in rows(program):
+            name, words, bundle = row
+            plain, (requests, _, threads, joined, asked) = shim.ask(program, words, bundle)
+            unlike = asking.ask(program, words, bundle)
+            if plain.said != unlike.said or threads != joined or asked:
+                bad.append(
+                    f"{name}: the shim changes it, or {threads} threads were started and {joined} joined, or the environment was read {asked} times"
+                )
+            numbers = range(1, requests + 1, max(1, -(-requests // given.most)))
+            ways = [[pool.submit(refused, shim, program, row, plain, way, numbers[at::8]) for at in range(8)] for way in (0, 1)]
+            calls = kernel_asks(program, words, bundle, 0, folder)[1] if has_strace else 0
+            by_kernel = [
+                pool.submit(refused_by_kernel, program, row, plain, range(1, calls + 1)[at::4], loading, folder) for at in range(4)
+            ]
+            rows_found.append((name, plain.status, requests, len(numbers), threads, calls, ways, by_kernel))
+        for name, status, requests, tried, threads, calls, ways, by_kernel in rows_found:
+            texts = []
+            for parts in (*ways, by_kernel):
+                text, more = together(parts)
+                texts.append(text)
+                bad += more
+            found.append([name, status, requests, tried, threads, *texts[:2]])
+            kernel.append([name, status, calls, texts[2]])
+            print(f"{name}: {found[-1][1:]} {kernel[-1][2:]}", file=sys.stderr, flush=True)
+    table(
+        ["Command", "Status", "Requests", "Tried", "Threads", "Statuses, the Nth refused", "Statuses, the Nth and all later refused"], found
+    )
+    print()
+    if has_strace:
+        table(["Command", "Status", "Kernel calls for memory", "Statuses, the Nth refused"], kernel)
+    else:
+        print("no strace: the kernel's calls were not refused")
+    for line in bad:
+        print(line)
+    print(
+        f"{sum(row[3] for row in found)} requests, each refused in two ways, and {sum(row[2] for row in kernel)} kernel calls, {len(bad)} not as wanted"
+    )
+    return 1 if bad else 0
+
+
+if __name__ == "__main__":
+    sys.exit(main())

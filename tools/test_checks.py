@@ -1,0 +1,223 @@
+#!/usr/bin/env python3
+"""Shows that the checks can fail: it plants a fault for each, and wants the check to end with 1.
+
+usage: tools/test_checks.py [--compaan PROGRAM] [NAME]..      (NAME: faults whose check or text has this in it; all where none is named)
+
+Most faults are a program that passes the built one's answers on but for one, in which a text is another; others are a program that looks at
+no errors or that always ends with 10, and a copy of the repository in which a line is another. The checks that want GHDL have
+tools/hardware/faults.py for this; the tables of bench/, layers.py and gate.py judge nothing. Prints a row for each fault, and fails where one
+isn't told. It takes some minutes.
+"""
+from __future__ import annotations
+
+import os
+import re
+import shutil
+import subprocess
+import sys
+import tempfile
+from collections.abc import Callable, Iterator
+from dataclasses import dataclass
+from pathlib import Path
+
+from common import TOP, head, parser_of, program_of, row
+
+# A program that answers as PROGRAM does, but that in the output of COMMAND what the pattern finds first is replaced.
+SPOILING = """#!{python}
+import re, subprocess, sys
+command = next((it for it in sys.argv[1:] if not it.startswith("-")), "")
+done = subprocess.run([{program!r}, *sys.argv[1:]], stdin=sys.stdin, stdout=subprocess.PIPE)
+output = done.stdout
+if command == {command!r}:
+    output = re.sub({pattern!r}, {new!r}, output, count=1)
+sys.stdout.buffer.write(output)
+sys.stdout.flush()
+sys.exit(done.returncode)
+"""
+# Fewer examples, at which a fault shows as well.
+FEW = ["fir", "lu"]
+# Stands among the words for a folder that goes when the check has ended.
+KEPT = "KEPT"
+
+
+@dataclass(frozen=True)
+class Fault:
+    """A check with its words, what is wrong, and what makes the program or the repository that it meets, in a folder of its own."""
+
+    check: str
+    words: list[str]
+    what: str
+    make: Callable[[Path, str], tuple[Path, str]]
+
+
+def spoiled(command: str, pattern: bytes, new: bytes) -> Callable[[Path, str], tuple[Path, str]]:
+    """This repository with a program that answers a command otherwise."""
+
+    def make(folder: Path, program: str) -> tuple[Path, str]:
+        path = folder / "compaan"
+        path.write_text(
+            SPOILING.format(python=sys.executable, program=program, command=command, pattern=pattern, new=new), encoding="utf-8"
+        )
+        path.chmod(0o755)
+        return TOP, str(path)
+
+    return make
+
+
+def in_c(text: str) -> Callable[[Path, str], tuple[Path, str]]:
+    """This repository with a program in C, which has the path of the built one as PROGRAM."""
+
+    def make(folder: Path, program: str) -> tuple[Path, str]:
+        (folder / "program.c").write_text(text, encoding="utf-8")
+        subprocess.run(["cc", "-O1", f'-DPROGRAM="{program}"', "-o", folder / "compaan", folder / "program.c"], check=True)
+        return TOP, str(folder / "compaan")
+
+    return make
+
+
+def changed(file: str, old: str, new: str, copied: tuple[str, ...] = ()) -> Callable[[Path, str], tuple[Path, str]]:
+    """A repository in which a file is another, with the built program. Folders that aren't copied are links."""
+
+    def make(folder: Path, program: str) -> tuple[Path, str]:
+        for name in os.listdir(TOP):
+            if name in ("tools", *copied):
+                shutil.copytree(TOP / name, folder / name, ignore=shutil.ignore_patterns("out", "proofs", "__pycache__"))
+            elif name not in (".git", "out"):
+                (folder / name).symlink_to(TOP / name)
+        path = folder / file
+        text = path.read_text(encoding="utf-8") if path.exists() else ""
+        if old not in text:
+            raise ValueError(f"{file} has no {old!r}")
+        path.write_text(text.replace(old, new, 1) if old else new, encoding="utf-8")
+        return folder, program
+
+    return make
+
+
+CARELESS = in_c((TOP / "tools" / "careless.c").read_text(encoding="utf-8"))
+ALWAYS_TEN = in_c("int main(void) { return 10; }\n")
+NO_STATUS = in_c(
+    "#include <stdio.h>\n#include <stdlib.h>\n#include <string.h>\nint main(int n, char **w) { static char line[1 << 16]; strcpy(line, PROGRAM);"
+    ' for (int k = 1; k < n; k++) { strcat(line, " \'"); strcat(line, w[k]); strcat(line, "\'"); } system(line); return 0; }\n'
+)
+
+
+def faults() -> Iterator[Fault]:
+    """All faults, by check."""
+    examples = "examples/check.py"
+    for command, what, pattern, new in (
+        ("run", "a value less", rb",-?\d+\n", b"\n"),
+        ("seq", "another value", rb"\d\n", b"0,1\n"),
+        ("sim", "another number of clocks", rb"clocks \d", b"clocks 9"),
+        ("sim", "another value", rb",", b",1"),
+        ("net", "another capacity", rb"capacity (\d+)", rb"capacity 1\1"),
+        ("net", "another reader", rb"to 2 ", b"to 1 "),
+        ("cert", "another slot", rb"(?m)^f 1$", b"f 0"),
+        ("cert", "a sweep for a tree", rb"(?m)^w 0 1", b"w 0 2"),
+        ("check", "a refusal", rb"accepted", b"refused Shape 0"),
+        ("trim", "a place more", rb"capacity 1 ", b"capacity 2 "),
+        ("trim", "another position", rb"rest 1", b"rest 2"),
+        ("trace", "an event less", rb"\n0\n", b"\n"),
+        ("vhdl", "another slot", rb"dst : codes\((.*?)\) := \(0 => 0", rb"dst : codes(\1) := (0 => 1"),
+        ("vhdl", "a product for a sum", rb"\((pick[^;]*?) \+ ", rb"(\1 - "),
+        ("vhdl", "another line", rb"pc <= 0;", b"pc <= 1;"),
+        ("deps", "another point", rb"(?m)^m 0 1$", b"m 1 1"),
+        ("deps", "another writer", rb"(?m)^w 0 ", b"w 1 "),
+    ):
+        yield Fault(examples, FEW, f"{command}: {what}", spoiled(command, pattern, new))
+    yield Fault(examples, [], "every status is 0", NO_STATUS)
+    yield Fault(examples, FEW, "an example without its clocks", changed("examples/fir.clocks", "seq", "sep", ("examples",)))
+    yield Fault("examples/sources.py", FEW, "deps: another writer", spoiled("deps", rb"(?m)^w 0 ", b"w 1 "))
+    yield Fault("examples/steps.py", ["--count", "20"], "run: another value", spoiled("run", rb",0\n", b",1\n"))
+    yield Fault(
+        "examples/steps.py", ["--count", "20"], "net: a fire more", spoiled("net", rb"assign (\w+) fires (\d+)", rb"assign \1 fires 1\2")
+    )
+    yield Fault("examples/reference.py", [], "an answer with another value", changed("examples/fir.answer", "y,", "y,1", ("examples",)))
+    yield Fault("docs/check.py", ["docs/COMMANDS.md"], "run: another value", spoiled("run", rb",", b",1"))
+    for part in (
+        "[a link](nowhere.md)",
+        "`tools/nothing.py`",
+        "```\n$ echo one\ntwo\n```",
+        "| `out y; y = 2;` gives `y,3` |",
+        "| `out y; y = ;` gives `text: Syntax 10` |",
+        "`net_core::nothing`",
+        f"| {'long ' * 32} |",
+    ):
+        page = changed("examples/page.md", "", f"# A page\n\n{part}\n", ("examples",))
+        yield Fault("docs/check.py", ["examples/page.md"], part.replace("\n", " "), page)
+    for page, old, new in (
+        ("DEFINITIONS.md", "- `Affine.form_at`", "- `Affine.form`"),
+        ("ARCHITECTURE.md", "- `affine_core`: A", "- `affine_core`: B"),
+        ("PROOFS.md", "| proofs | 1", "| proofs | 2"),
+        ("VHDL.md", "| `fir` | N=8 T=3 | ", "| `fir` | N=8 T=3 | 1"),
+        ("CONTRIBUTING.md", "| `affine_core` |", "| `affine_cores` |"),
+        ("layers.svg", "<rect", "<rect "),
+    ):
+        yield Fault("docs/pages.py", [], f"another {page}", changed(f"docs/{page}", old, new, ("docs",)))
+    yield Fault("docs/ample.py", ["net_text"], "tests that are none", without_tests)
+    edit = changed("crates/affine_core/edits/nothing.edit", "", "file: src/lib.rt\nold: nothing\nnew: something\n", ("crates",))
+    yield Fault("edits.py", ["check"], "an edit of no line", edit)
+    yield Fault("check_c.py", ["gemm"], "run: another value", spoiled("run", rb",", b",1"))
+    yield Fault("check_isl.py", FEW, "deps: another writer", spoiled("deps", rb"(?m)^w 0 ", b"w 1 "))
+    yield Fault("check_isl.py", FEW, "deps: a test the other way", spoiled("deps", rb"(?m)^t (-?\d+) 1$", rb"t \1 -1"))
+    yield Fault("check_isl.py", FEW, "net: a fire more", spoiled("net", rb"assign (\w+) fires (\d+)", rb"assign \1 fires 1\2"))
+    yield Fault("hostile/calls.py", [], "a careless program", CARELESS)
+    yield Fault("hostile/devices.py", [], "a careless program", CARELESS)
+    yield Fault("hostile/memory.py", ["--most", "3"], "a careless program", CARELESS)
+    for section in ("deep", "repeats", "size", "announce", "bundle"):
+        yield Fault("hostile/limits.py", ["--only", section], "a program that always ends with 10", ALWAYS_TEN)
+    for command, pattern, new in (
+        ("run", rb",", b",1"),
+        ("vhdl", rb"pc <= 0;", b"pc <= 1;"),
+        ("trim", rb"rest \d", b"rest 9"),
+        ("sim", rb"clocks \d", b"clocks 9"),
+        ("deps", rb"(?m)^w (\d)", rb"w 1\1"),
+        ("trace", rb"\n0\n", b"\n"),
+    ):
+        yield Fault("hostile/fuzz.py", ["--count", "24", "--keep", KEPT], f"{command}: another text", spoiled(command, pattern, new))
+
+
+def without_tests(folder: Path, program: str) -> tuple[Path, str]:
+    """A repository whose crates have no tests."""
+    top, _ = changed("crates/net_text/src/none.txt", "", "no code\n", ("crates",))(folder, program)
+    for path in (top / "crates").rglob("*.rt"):
+        text = path.read_text(encoding="utf-8")
+        if "#[test]" in text:
+            path.write_text(text.replace("#[test]", ""), encoding="utf-8")
+    return top, program
+
+
+def told(fault: Fault, program: str) -> tuple[int, str]:
+    """The status of a check that meets the fault, and what it says first."""
+    with tempfile.TemporaryDirectory(prefix="checks-") as name:
+        top, met = fault.make(Path(name), program)
+        words = [f"{name}/kept" if it == KEPT else it for it in fault.words]
+        environment = {**os.environ, "COMPAAN": met, "PYTHONDONTWRITEBYTECODE": "1"}
+        done = subprocess.run(
+            [top / "tools" / fault.check, *words], cwd=top, env=environment, capture_output=True, text=True, errors="replace", check=False
+        )
+    said = [it for it in done.stdout.split("\n") if it and not it.startswith(("|", "#"))]
+    return done.returncode, (said or done.stderr.strip().split("\n")[-1:] or [""])[0]
+
+
+def main() -> int:
+    parser = parser_of(__doc__)
+    parser.add_argument("names", metavar="NAME", nargs="*")
+    given = parser.parse_args()
+    program = program_of(given.compaan)
+    print(head(["Check", "Fault", "Status", "It says first"]), flush=True)
+    planted = missed = 0
+    for fault in faults():
+        if given.names and not any(it in f"{fault.check} {fault.what}" for it in given.names):
+            continue
+        status, said = told(fault, program)
+        planted += 1
+        missed += status != 1
+        shown = re.sub(r"\s+", " ", said)[:100].replace("`", "'")
+        print(row([f"`{fault.check} {' '.join(fault.words)}`", fault.what, status, f"`{shown}`"]), flush=True)
+    print(f"\n{planted} faults, {missed} not told")
+    return 1 if missed or not planted else 0
+
+
+if __name__ == "__main__":
+    sys.exit(main())

@@ -9,7 +9,7 @@ use Rattle.std.proofs.Common.{◌≡◌, ℕ, zero, suc, ◌+◌, ◌<◌, ◌�
 use Rattle.std.proofs.Common.{length, take, slice_get, count_by, ap, sym, ◌∙◌, refl, inl, inr, arith, ltb-true, lt-ltb}
 use Rattle.std.proofs.Common.{eq-eqb}
 use Rattle.std.specs.List.{range_with_len, sum_by}
-use Rattle.std.proofs.lemmas.Bool.{both_ways, cases_eq, cases_lt}
+use Rattle.std.proofs.lemmas.Bool.{both_ways, cases_Bool, cases_eq, cases_lt, false_from_ne_true}
 use Rattle.std.proofs.lemmas.List.{take_all}
 use Rattle.std.proofs.lemmas.List.Sums.{sum_by-cons, sum_by-le-sum_by}
 use Rattle.net_core.specs.declared.network.Event.{Event}
@@ -17,15 +17,17 @@ use Rattle.net_core.specs.declared.network.Event.TheVariants.{Get, Fire, Put}
 use Rattle.net_core.specs.Cuts.{Cut, IsCutRun, advanced, can_come_at, cut_after, opening, puts_at}
 use Rattle.net_core.specs.Machine.{Net, Rule, replaced, start, IsRun}
 use Rattle.net_core.specs.Orders.{EndsAll}
+use Rattle.net_core.specs.Rules.{tags}
 use Rattle.net_core.specs.Shape.{IsWired, is_put, put_count}
 use Rattle.net_core.proofs.Counting.{count_past, replaced_other, replaced_same}
 use Rattle.net_core.proofs.Positions.{cut_run, enabled_inside, run_cut, run_ends, start_counted}
 use Rattle.witness_plan.proofs.OtherCapacities.{wired_at}
 use Rattle.cap_trim.specs.Capacities.{with_capacity, with_room}
-use Rattle.cap_trim.specs.Rests.{can_end}
-use Rattle.cap_trim.proofs.AtRest.{can_end_by, can_end_roomier}
-use Rattle.cap_trim.proofs.LeastCapacities.{least_within, less_sticks}
-use Rattle.network_laws.specs.LowerBounds.{alone_capacity, total_room}
+use Rattle.cap_trim.specs.Rests.{can_end, least_run}
+use Rattle.cap_trim.proofs.AtRest.{can_end_by, can_end_roomier, least_ends}
+use Rattle.cap_trim.proofs.LeastCapacities.{least_does, least_is_own, least_within, less_sticks}
+use Rattle.cap_trim.proofs.NoRoom.{no_room_no_puts}
+use Rattle.network_laws.specs.LowerBounds.{capacity_bound, total_room}
 
 module _ (n : Net) (wired : IsWired n) (room : ℕ → ℕ) where
   -- room for at most all tokens
@@ -102,9 +104,9 @@ module _ (n : Net) (wired : IsWired n) (room : ℕ → ℕ) where
           | inr other ↦ omega (arith, replaced_other (put_count n) c (room c) d other)
         ]) limited_can
 
-    pub bounded : (c : ℕ) → alone_capacity n c ≤ room c
+    pub bounded : (c : ℕ) → capacity_bound n c ≤ room c
     bounded c =
-        elim (cases_lt (room c) (alone_capacity n c)) [
+        elim (cases_lt (room c) (capacity_bound n c)) [
           | inl low ↦
               let few : room c ≤ put_count n c = omega (arith, low, least_within full c) in
               absurd (both_ways (can_end (with_capacity full c (room c))) (less_sticks full c (room c) low)
@@ -112,8 +114,45 @@ module _ (n : Net) (wired : IsWired n) (room : ℕ → ℕ) where
           | inr high ↦ omega arith
         ]
 
-    pub total_bounded : total_room n (alone_capacity n) ≤ total_room n room
-    total_bounded = sum_by-le-sum_by (alone_capacity n) room (range_with_len 0 n.channels) bounded
+    pub total_bounded : total_room n (capacity_bound n) ≤ total_room n room
+    total_bounded = sum_by-le-sum_by (capacity_bound n) room (range_with_len 0 n.channels) bounded
+
+-- a channel with a Put needs a place
+pub some_needed : (n : Net) (c : ℕ) → IsWired n → 0 < put_count n c → 1 ≤ capacity_bound n c
+some_needed n c wired put =
+    let full : Net = with_room n (put_count n) in
+    let full_wired : IsWired full = wired_at n (put_count n) wired in
+    elim (cases_Bool (can_end full)) [
+      | inr off ↦
+          let own : capacity_bound n c ≡ put_count n c =
+          least_is_own full c
+          (λ b lt. false_from_ne_true (can_end (with_capacity full c b))
+          (λ on. both_ways (can_end full) off
+          (can_end_roomier (with_capacity full c b) full.capacity
+          (wired_at full (replaced full.capacity c b) full_wired)
+          (λ d. elim (cases_eq d c) [
+            | inl same ↦
+                omega (arith, lt, replaced_same full.capacity c b d same, ap full.capacity same)
+            | inr other ↦ omega (arith, replaced_other full.capacity c b d other)
+          ]) on))) in
+          omega (arith, own, put)
+      | inl on ↦
+          elim (cases_lt 0 (capacity_bound n c)) [
+            | inl some ↦ omega arith
+            | inr none ↦
+                let without : Net = with_capacity full c (capacity_bound n c) in
+                let there : IsWired without =
+                wired_at full (replaced full.capacity c (capacity_bound n c)) full_wired in
+                let can : can_end without ≡ true = least_does full c on in
+                let zero : without.capacity c ≡ 0 =
+                omega (arith, none, replaced_same full.capacity c (capacity_bound n c) c refl) in
+                absurd (omega (
+                  arith,
+                  put,
+                  no_room_no_puts without tags there c zero (least_run without) (least_ends without there can),
+                ))
+          ]
+    ]
 
 -- sums of equal terms
 pub sum_by-range_same : (f g : ℕ → ℕ) (m a : ℕ) → ((c : ℕ) → c < a + m → f c ≡ g c)

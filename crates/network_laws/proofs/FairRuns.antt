@@ -14,8 +14,8 @@ use Rattle.net_core.specs.Shape.{IsWired}
 use Rattle.net_core.proofs.Positions.{enabled_inside}
 use Rattle.witness_plan.proofs.Downward.{events_left, left_less}
 use Rattle.clock_sim.proofs.Passing.{some_passes}
-use Rattle.network_laws.specs.Stalls.{IsFair, stalled_run}
-use Rattle.network_laws.proofs.StalledRuns.{clock_at, enabled_there, none_past, place, stalled_cuts, stalled_runs}
+use Rattle.network_laws.specs.Stalls.{IsFair, run_with_stalls}
+use Rattle.network_laws.proofs.RunsWithStalls.{clock_at, enabled_there, none_past, place, stalled_cuts, stalled_runs}
 
 -- a process that may go on is there
 there_when_enabled : (n : Net) → IsWired n → (k : Cut) (p : ℕ) → enabled_at n k p ≡ true → p < n.processes
@@ -38,7 +38,7 @@ left_run n wired (p ∷ run) k is =
 
 module _ {T : Type 0} (n : Net) (rule : Rule T) (wired : IsWired n) (may : ℕ → ℕ → Bool) where
   abbrev run_to : ℕ → List ℕ
-  run_to k = stalled_run n rule may k
+  run_to k = run_with_stalls n rule may k
 
   abbrev at : ℕ → Cut
   at k = place n rule wired may k
@@ -90,7 +90,7 @@ module _ {T : Type 0} (n : Net) (rule : Rule T) (wired : IsWired n) (may : ℕ �
             omega (arith, some, longer j, ap length same)
       ]
 
-  module _ (ends : EndsAlways n rule) (fair : IsFair may) where
+  module _ (ends : EndsAlways n rule) (fair : IsFair n rule may) where
     pub ends_in_time : (many k : ℕ) → events_left n (at k) n.processes ≤ many
         → (j : ℕ) × HasEnded n (reached n rule (run_to j))
     ends_in_time zero k few =
@@ -112,7 +112,7 @@ module _ {T : Type 0} (n : Net) (rule : Rule T) (wired : IsWired n) (may : ℕ �
           | inr found ↦
               let p : ℕ = found.0 in
               let on : enabled_at n (at k) p ≡ true = sym (enabled_there n rule wired may k p) ∙ found.1 in
-              let when = fair k p in
+              let when = fair k p found.1 in
               let j : ℕ = when.0 in
               let later = steps_by k j p when.1 on when.2 in
               let fewer : events_left n (at (suc j)) n.processes ≤ many =

@@ -12,10 +12,9 @@ use Rattle.std.specs.List.{range_with_len}
 use Rattle.std.proofs.lemmas.Bool.{cases_Bool, cases_lt}
 use Rattle.std.proofs.lemmas.List.Elements.{filter_agree}
 use Rattle.std.proofs.lemmas.Option.{slice_get_past}
-use Rattle.net_core.specs.Cuts.{Cut, can_come_at, cut_after, enabled_at, opening, positions}
+use Rattle.net_core.specs.Cuts.{Cut, IsCutRun, can_come_at, cut_after, enabled_at, opening, positions}
 use Rattle.net_core.specs.Machine.{Net, Rule, enabled, start, HasEnded, IsRun, IsStuck}
 use Rattle.net_core.specs.Orders.{EndsAll, reached}
-use Rattle.net_core.specs.Rules.{tags}
 use Rattle.net_core.specs.Shape.{IsWired}
 use Rattle.net_core.proofs.CutOrder.{enabled_stays_at}
 use Rattle.net_core.proofs.Positions.{cut_inside, run_cut, start_counted}
@@ -24,9 +23,9 @@ use Rattle.cap_trim.specs.Capacities.{with_room}
 use Rattle.cap_trim.proofs.MoreRoom.{enabled_roomier, ends_roomier, run_roomier}
 use Rattle.clock_sim.specs.Clocks.{ClockedRunEnds, after_clocks, clocked_run, clocks}
 use Rattle.clock_sim.proofs.Clocking.{none_from_stuck}
-use Rattle.network_laws.specs.Stalls.{stalled_run, stepping_processes}
-use Rattle.network_laws.proofs.StalledRuns.{always, clocked_is_stalled, enabled_there, place, place_few, place_moved}
-use Rattle.network_laws.proofs.StalledRuns.{reached_at, reached_enabled, reached_run, stalled_cuts}
+use Rattle.network_laws.specs.Stalls.{run_with_stalls, steps_of_clock}
+use Rattle.network_laws.proofs.RunsWithStalls.{always, clocked_is_stalled, enabled_there, place, place_few, place_moved}
+use Rattle.network_laws.proofs.RunsWithStalls.{reached_at, reached_enabled, reached_run, stalled_cuts}
 
 module _ {T : Type 0} (n : Net) (rule : Rule T) (wired : IsWired n) (may : ℕ → ℕ → Bool) where
   -- where the execution and the clocked run stand at the beginning of a clock
@@ -71,16 +70,16 @@ module _ {T : Type 0} (n : Net) (rule : Rule T) (wired : IsWired n) (may : ℕ �
       ]
 
   -- the states stand at these positions
-  held_at : (k p : ℕ) → positions (reached n rule (stalled_run n rule may k)) p ≡ held k p
-  held_at k p = ap (λ (c : Cut). c p) (reached_at n rule wired (stalled_run n rule may k) (stalled_cuts n rule wired may k))
+  held_at : (k p : ℕ) → positions (reached n rule (run_with_stalls n rule may k)) p ≡ held k p
+  held_at k p = ap (λ (c : Cut). c p) (reached_at n rule wired (run_with_stalls n rule may k) (stalled_cuts n rule wired may k))
 
   clocked_at : (k p : ℕ) → positions (after_clocks n rule k) p ≡ free k p
   clocked_at k p =
       ap (λ (run : List ℕ). positions (reached n rule run) p) (clocked_is_stalled n rule k)
       ∙ ap (λ (c : Cut). c p)
-      (reached_at n rule wired (stalled_run n rule always k) (stalled_cuts n rule wired always k))
+      (reached_at n rule wired (run_with_stalls n rule always k) (stalled_cuts n rule wired always k))
 
-  pub never_ahead : (k p : ℕ) → positions (reached n rule (stalled_run n rule may k)) p ≤ positions (after_clocks n rule k) p
+  pub never_ahead : (k p : ℕ) → positions (reached n rule (run_with_stalls n rule may k)) p ≤ positions (after_clocks n rule k) p
   never_ahead k p = omega (arith, held_at k p, clocked_at k p, place_behind k p)
 
   -- where every script is at its end, nobody may go on
@@ -90,16 +89,16 @@ module _ {T : Type 0} (n : Net) (rule : Rule T) (wired : IsWired n) (may : ℕ �
       ∙ enabled_there n rule wired always k p
       ∙ ap (can_come_at n (free k)) (slice_get_past (n.script p) (free k p) (omega (arith, ended p)))
 
-  pub clocks_least : ClockedRunEnds n rule → (k : ℕ) → HasEnded n (reached n rule (stalled_run n rule may k))
+  pub clocks_least : ClockedRunEnds n rule → (k : ℕ) → HasEnded n (reached n rule (run_with_stalls n rule may k))
       → clocks n ≤ k
   clocks_least ends k ended =
       elim (cases_lt k (clocks n)) [
         | inl early ↦
             let all : (p : ℕ) → free k p ≡ length (n.script p) =
             λ p. (let inside =
-            cut_inside n (stalled_run n rule always k) opening (stalled_cuts n rule wired always k)
+            cut_inside n (run_with_stalls n rule always k) opening (stalled_cuts n rule wired always k)
             (λ q. omega arith) p in
-            let there : positions (reached n rule (stalled_run n rule may k)) p ≡ length (n.script p) = ended p in
+            let there : positions (reached n rule (run_with_stalls n rule may k)) p ≡ length (n.script p) = ended p in
             omega (arith, place_behind k p, held_at k p, there, inside)) in
             let none = none_from_stuck n (after_clocks n rule k) (stuck_at_end k all) in
             absurd (omega (arith, ends.events k early, ap length none))
@@ -114,49 +113,67 @@ module _ {T : Type 0} (n : Net) (rule : Rule T) (wired : IsWired n) (may : ℕ �
 
 -- More room
 
-module _ (n : Net) (room : ℕ → ℕ) (wired : IsWired n) (more : (c : ℕ) → n.capacity c ≤ room c) where
+module _ {T : Type 0} (n : Net) (rule : Rule T) (room : ℕ → ℕ) (wired : IsWired n)
+    (more : (c : ℕ) → n.capacity c ≤ room c) where
   abbrev roomier : Net
   roomier = with_room n room
 
   -- those are held back that the lesser room holds back
   abbrev as_before : ℕ → ℕ → Bool
-  as_before k p = enabled n (after_clocks n tags k) p
+  as_before k p = enabled n (after_clocks n rule k) p
 
-  clocked_cuts : (k : ℕ) → IsRun n tags (start n) (clocked_run n tags k)
-  clocked_cuts k =
-      subst (λ (run : List ℕ). IsRun n tags (start n) run) (sym (clocked_is_stalled n tags k))
-      (stalled_is_run k)
-    where
-      stalled_is_run : (k : ℕ) → IsRun n tags (start n) (stalled_run n tags always k)
-      stalled_is_run k = reached_run n tags wired (stalled_run n tags always k) (stalled_cuts n tags wired always k)
+  clocked_is_run : (k : ℕ) → IsRun n rule (start n) (clocked_run n rule k)
+  clocked_is_run k =
+      subst (λ (run : List ℕ). IsRun n rule (start n) run) (sym (clocked_is_stalled n rule k))
+      (reached_run n rule wired (run_with_stalls n rule always k) (stalled_cuts n rule wired always k))
 
-  enabled_with_more : (k p : ℕ) → as_before k p ≡ true → enabled roomier (reached roomier tags (clocked_run n tags k)) p ≡ true
+  clocked_cuts : (k : ℕ) → IsCutRun n opening (clocked_run n rule k)
+  clocked_cuts k = run_cut n rule wired (clocked_run n rule k) (start n) (start_counted n) (clocked_is_run k)
+
+  cuts_with_more : (k : ℕ) → IsCutRun roomier opening (clocked_run n rule k)
+  cuts_with_more k = run_roomier n room more (clocked_run n rule k) opening (clocked_cuts k)
+
+  enabled_with_more : (k p : ℕ) → as_before k p ≡ true → enabled roomier (reached roomier rule (clocked_run n rule k)) p ≡ true
   enabled_with_more k p on =
-      let run = clocked_run n tags k in
-      let cuts = run_cut n tags wired run (start n) (start_counted n) (clocked_cuts k) in
-      reached_enabled roomier tags (wired_at n room wired) run (run_roomier n room more run opening cuts) p
-      ∙ enabled_roomier n room more (cut_after opening run) p (sym (reached_enabled n tags wired run cuts p) ∙ on)
+      let run = clocked_run n rule k in
+      reached_enabled roomier rule (wired_at n room wired) run (cuts_with_more k) p
+      ∙ enabled_roomier n room more (cut_after opening run) p
+      (sym (reached_enabled n rule wired run (clocked_cuts k) p) ∙ on)
 
-  pub same_run : (k : ℕ) → stalled_run roomier tags as_before k ≡ clocked_run n tags k
+  pub same_run : (k : ℕ) → run_with_stalls roomier rule as_before k ≡ clocked_run n rule k
   same_run zero = refl
   same_run (suc k) =
-      ap (λ (run : List ℕ). run ++ stepping_processes roomier (as_before k) (reached roomier tags run)) (same_run k)
-      ∙ ap (λ (clock : List ℕ). clocked_run n tags k ++ clock)
-      (filter_agree (λ p. as_before k p && enabled roomier (reached roomier tags (clocked_run n tags k)) p)
-      (enabled n (after_clocks n tags k)) agree (range_with_len 0 n.processes))
+      ap (λ (run : List ℕ). run ++ steps_of_clock roomier (as_before k) (reached roomier rule run)) (same_run k)
+      ∙ ap (λ (clock : List ℕ). clocked_run n rule k ++ clock)
+      (filter_agree (λ p. as_before k p && enabled roomier (reached roomier rule (clocked_run n rule k)) p)
+      (enabled n (after_clocks n rule k)) agree (range_with_len 0 n.processes))
     where
-      agree : (p : ℕ) → (as_before k p && enabled roomier (reached roomier tags (clocked_run n tags k)) p) ≡ as_before k p
+      agree : (p : ℕ) → (as_before k p && enabled roomier (reached roomier rule (clocked_run n rule k)) p) ≡ as_before k p
       agree p =
           elim (cases_Bool (as_before k p)) [
             | inl on ↦ rw (on, enabled_with_more k p on) refl
             | inr off ↦ rw off refl
           ]
 
-  pub roomier_ends : ClockedRunEnds n tags → EndsAll roomier tags (clocked_run n tags (clocks n))
-  roomier_ends ends = ends_roomier n room more tags wired (clocked_run n tags (clocks n)) ends.ends
+  -- at every clock each process has come at least as far
+  pub never_behind : (k p : ℕ) → positions (after_clocks n rule k) p ≤ positions (after_clocks roomier rule k) p
+  never_behind k p =
+      let run = clocked_run n rule k in
+      let here = reached_at n rule wired run (clocked_cuts k) in
+      let there = reached_at roomier rule (wired_at n room wired) run (cuts_with_more k) in
+      omega (
+        arith,
+        ap (λ (c : Cut). c p) here,
+        ap (λ (c : Cut). c p) there,
+        ap (λ (r : List ℕ). positions (reached roomier rule r) p) (same_run k),
+        never_ahead roomier rule (wired_at n room wired) as_before k p,
+      )
 
-  pub never_slower : ClockedRunEnds n tags → ClockedRunEnds roomier tags → clocks roomier ≤ clocks n
+  pub roomier_ends : ClockedRunEnds n rule → EndsAll roomier rule (clocked_run n rule (clocks n))
+  roomier_ends ends = ends_roomier n room more rule wired (clocked_run n rule (clocks n)) ends.ends
+
+  pub never_slower : ClockedRunEnds n rule → ClockedRunEnds roomier rule → clocks roomier ≤ clocks n
   never_slower ends more_ends =
-      clocks_least roomier tags (wired_at n room wired) as_before more_ends (clocks n)
-      (subst (λ (run : List ℕ). HasEnded roomier (reached roomier tags run)) (sym (same_run (clocks n)))
+      clocks_least roomier rule (wired_at n room wired) as_before more_ends (clocks n)
+      (subst (λ (run : List ℕ). HasEnded roomier (reached roomier rule run)) (sym (same_run (clocks n)))
       (roomier_ends ends).1)

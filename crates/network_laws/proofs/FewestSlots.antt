@@ -14,9 +14,10 @@ use Rattle.std.proofs.lemmas.List.FromFn.{length-map-range_with_len}
 use Rattle.std.proofs.lemmas.Map.Steps.{length-le_from_distinct_below}
 use Rattle.std.proofs.lemmas.Option.{slice_get-get_or}
 use Rattle.reorder_slots.specs.Slots.{Held, after_get, after_gets, gets_for, held_after, hold_of, is_wanted}
-use Rattle.reorder_slots.specs.Slots.{lowest_free}
+use Rattle.reorder_slots.specs.Slots.{lowest_free, slots_of_gets}
 use Rattle.reorder_slots.specs.Readers.{KeepsTokens}
 use Rattle.reorder_slots.proofs.Gets.{KeepsTokens-held, length-held, more_gets}
+use Rattle.reorder_slots.proofs.Laws.{keeps_until_used}
 use Rattle.reorder_slots.proofs.Held.{KeepsTokens-get, length-filled, lowest_free-le}
 use Rattle.reorder_slots.proofs.Uses.{wanted_at}
 use Rattle.network_laws.specs.SlotChoices.{KeepsEachToken}
@@ -192,3 +193,33 @@ module _ (uses : List ℕ) (slot_of : ℕ → ℕ) (bound : ℕ) (keeps : KeepsE
 
   pub hold_fits : hold_of uses ≤ bound
   hold_fits = fits_held (length uses) (omega arith)
+
+-- The slots that Gets are given do it
+
+made_gets : (uses : List ℕ) → length (held_after uses (length uses)).slot_of_get ≡ gets_for uses
+made_gets uses =
+    length-held uses (length uses) ∙ ap gets_for (take_all (length uses) uses (omega arith))
+
+pub own_slots_within : (uses : List ℕ) (get : ℕ) → get < gets_for uses → get_or (slots_of_gets uses) get 0 < hold_of uses
+own_slots_within uses get lt =
+    (KeepsTokens-held uses (length uses)).made get (omega (arith, lt, made_gets uses))
+
+pub own_slots_keep : (uses : List ℕ) → KeepsEachToken uses (λ get. get_or (slots_of_gets uses) get 0)
+own_slots_keep uses q token get is lt before same =
+    let slots = slots_of_gets uses in
+    let whole = gets_before_all (q + 1) in
+    let inside : get < length slots = omega (arith, before, whole, made_gets uses) in
+    keeps_until_used uses q token get is lt before
+    (slice_get-get_or slots get 0 inside ∙ ap Some same ∙ sym (slice_get-get_or slots token 0 (omega (arith, lt, inside))))
+  where
+    gets_before_all : (r : ℕ) → gets_for (take r uses) ≤ gets_for uses
+    gets_before_all r =
+        elim (cases_lt r (length uses)) [
+          | inl low ↦
+              omega (
+                arith,
+                more_gets uses r (length uses) (omega (arith, low)),
+                ap gets_for (take_all (length uses) uses (omega arith)),
+              )
+          | inr past ↦ omega (arith, ap gets_for (take_all r uses past))
+        ]

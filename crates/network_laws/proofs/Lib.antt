@@ -1,5 +1,5 @@
 pub mod OneClock
-pub mod StalledRuns
+pub mod RunsWithStalls
 pub mod FairRuns
 pub mod FasterRuns
 pub mod EnoughRoom

@@ -14,7 +14,7 @@ use Rattle.witness_plan.proofs.OtherCapacities.{wired_at}
 use Rattle.cap_trim.specs.Capacities.{lowered_network, trimmed_network, with_room}
 use Rattle.cap_trim.specs.Rests.{can_end, least_run}
 use Rattle.cap_trim.proofs.AtRest.{can_end_roomier, can_end_since, least_ends}
-use Rattle.cap_trim.proofs.LeastCapacities.{before_is}
+use Rattle.cap_trim.proofs.LeastCapacities.{before_is, last_within}
 
 module _ (n : Net) (wired : IsWired n) (room : ℕ → ℕ) (c : ℕ) where
   abbrev least : ℕ → ℕ
@@ -38,6 +38,15 @@ module _ (n : Net) (wired : IsWired n) (room : ℕ → ℕ) (c : ℕ) where
             omega (arith, here, below, replaced_same least c (least c - 1) d same)
         | inr other ↦ omega (arith, within d, replaced_other least c (least c - 1) d other)
       ]
+
+  -- then the network with its own capacities ends, which are nowhere less
+  pub own_ends : {T : Type 0} (rule : Rule T) (run : List ℕ) → ((d : ℕ) → room d ≤ least d)
+      → EndsAll (with_room n room) rule run → can_end n ≡ true
+  unfolding trimmed_network
+  own_ends {T} rule run within whole =
+      can_end_roomier (with_room n room) n.capacity (wired_at n room wired)
+      (λ d. omega (arith, within d, last_within n d))
+      (can_end_since (with_room n room) (wired_at n room wired) rule run whole)
 
   -- if a run ended all, one would with one place less at that channel alone
   pub lowered_ends : {T : Type 0} (rule : Rule T) (run : List ℕ) → ((d : ℕ) → room d ≤ least d) → room c < least c

@@ -5,20 +5,21 @@
 -- the network takes six clocks with one place as with two. Without a place the maker sticks at its first Put. Where the
 -- taker is held back for the first four clocks, the network takes eight. These are examples: they show what the words
 -- mean, and no law.
-use Rattle.std.proofs.Common.{◌≡◌, ℕ, Bool, true, false, cond, nat_le, List, [], ◌∷◌, refl}
+use Rattle.std.proofs.Common.{◌≡◌, ℕ, ◌%◌, ◌==◌, Bool, true, false, cond, nat_le, List, [], ◌∷◌, refl}
 use Rattle.channel_class.specs.declared.UseOrder.TheVariants.{InOrder}
+use Rattle.net_core.specs.declared.network.Channel.{Channel}
 use Rattle.net_core.specs.declared.network.Event.{Event}
 use Rattle.net_core.specs.declared.network.Event.TheVariants.{Get, Fire, Put}
 use Rattle.net_core.specs.declared.network.Network.{Network}
 use Rattle.net_core.specs.declared.refs.Ref.TheVariants.{Slot}
 use Rattle.net_core.specs.Machine.{net_of}
 use Rattle.net_core.specs.Rules.{tags}
-use Rattle.reorder_slots.specs.Slots.{held_after, hold_of}
+use Rattle.reorder_slots.specs.Slots.{held_after, hold_of, slots_of_gets}
 use Rattle.cap_trim.specs.Capacities.{capacity_list, lowered_network, trimmed_network}
-use Rattle.cap_trim.specs.Rests.{least_run, rest}
+use Rattle.cap_trim.specs.Rests.{can_end, least_run, rest}
 use Rattle.clock_sim.specs.Clocks.{clocked_run, clocks}
-use Rattle.network_laws.specs.LowerBounds.{alone_capacity, total_room}
-use Rattle.network_laws.specs.Stalls.{stalled_run}
+use Rattle.network_laws.specs.LowerBounds.{capacity_bound, total_room}
+use Rattle.network_laws.specs.Stalls.{run_with_stalls}
 
 maker : List Event
 maker = Fire [] ∷ Put 0 ∷ Fire [] ∷ Put 0 ∷ []
@@ -61,7 +62,7 @@ sticks : rest (lowered_network (net_of (with_places 1)) 0) ≡ 1 ∷ 0 ∷ []
 unfolding with_places maker taker least_run
 sticks = refl
 
-alone : alone_capacity (net_of (with_places 2)) 0 ≡ 1
+alone : capacity_bound (net_of (with_places 2)) 0 ≡ 1
 unfolding with_places maker taker least_run
 alone = refl
 
@@ -73,13 +74,95 @@ total = refl
 late : ℕ → ℕ → Bool
 late k p = cond (nat_le 4 k) true (cond (nat_le 1 p) false true)
 
-before_it_may : stalled_run (net_of (with_places 1)) tags late 4 ≡ 0 ∷ 0 ∷ 0 ∷ []
+before_it_may : run_with_stalls (net_of (with_places 1)) tags late 4 ≡ 0 ∷ 0 ∷ 0 ∷ []
 unfolding with_places maker taker late
 before_it_may = refl
 
-in_the_end : stalled_run (net_of (with_places 1)) tags late 8 ≡ 0 ∷ 0 ∷ 0 ∷ 1 ∷ 0 ∷ 1 ∷ 1 ∷ 1 ∷ []
+one_clock_early : run_with_stalls (net_of (with_places 1)) tags late 7 ≡ 0 ∷ 0 ∷ 0 ∷ 1 ∷ 0 ∷ 1 ∷ 1 ∷ []
+unfolding with_places maker taker late
+one_clock_early = refl
+
+in_the_end : run_with_stalls (net_of (with_places 1)) tags late 8 ≡ 0 ∷ 0 ∷ 0 ∷ 1 ∷ 0 ∷ 1 ∷ 1 ∷ 1 ∷ []
 unfolding with_places maker taker late
 in_the_end = refl
+
+-- process p may step where the clock and p are both even or both odd
+in_turn : ℕ → ℕ → Bool
+in_turn k p = (k % 2) == p
+
+turn_by_turn : run_with_stalls (net_of (with_places 1)) tags in_turn 10 ≡ 0 ∷ 0 ∷ 1 ∷ 0 ∷ 1 ∷ 0 ∷ 1 ∷ 1 ∷ []
+unfolding with_places maker taker in_turn
+turn_by_turn = refl
+
+-- A value that is put twice: one place takes a clock more than two.
+
+both_copies : ℕ → Network
+both_copies places = record {
+  processes =
+      record { slots = 0; script = Fire [] ∷ Put 0 ∷ Put 0 ∷ [] }
+      ∷ record { slots = 1; script = Get 0 0 ∷ Get 0 0 ∷ [] } ∷ [];
+  channels =
+      record {
+        writer = 0;
+        reader = 1;
+        read = 0;
+        capacity = places;
+        class = record { order = InOrder; multiplicity = false };
+      } ∷ [];
+}
+
+slower : clocks (net_of (both_copies 1)) ≡ 5
+unfolding both_copies clocks
+slower = refl
+
+faster : clocks (net_of (both_copies 2)) ≡ 4
+unfolding both_copies clocks
+faster = refl
+
+slower_run : clocked_run (net_of (both_copies 1)) tags 5 ≡ 0 ∷ 0 ∷ 1 ∷ 0 ∷ 1 ∷ []
+unfolding both_copies
+slower_run = refl
+
+faster_run : clocked_run (net_of (both_copies 2)) tags 4 ≡ 0 ∷ 0 ∷ 0 ∷ 1 ∷ 1 ∷ []
+unfolding both_copies
+faster_run = refl
+
+-- Three channels whose capacities come to 1, 3 and 1 from 3, 3 and 1: the bounds are ones, and 2, 1 and 1 would do as well. So
+-- capacities that can't be lowered needn't have the least sum.
+
+beside : ℕ → ℕ → ℕ → Network
+beside a b c = record {
+  processes =
+      record { slots = 0; script = Fire [] ∷ Put 0 ∷ Put 0 ∷ Put 0 ∷ Put 2 ∷ [] }
+      ∷ record { slots = 1; script = Get 0 0 ∷ Fire [] ∷ Put 1 ∷ Put 1 ∷ Put 1 ∷ Get 0 0 ∷ Get 0 0 ∷ [] }
+      ∷ record { slots = 1; script = Get 2 0 ∷ Get 1 0 ∷ Get 1 0 ∷ Get 1 0 ∷ [] } ∷ [];
+  channels = joining 0 1 a ∷ joining 1 2 b ∷ joining 0 2 c ∷ [];
+}
+  where
+    joining : ℕ → ℕ → ℕ → Channel
+    joining writer reader places = record {
+      writer = writer;
+      reader = reader;
+      read = 0;
+      capacity = places;
+      class = record { order = InOrder; multiplicity = false };
+    }
+
+lowered : capacity_list (trimmed_network (net_of (beside 3 3 1))) ≡ 1 ∷ 3 ∷ 1 ∷ []
+unfolding beside trimmed_network least_run
+lowered = refl
+
+bounds : capacity_bound (net_of (beside 3 3 1)) 1 ≡ 1
+unfolding beside least_run
+bounds = refl
+
+lesser_sum : can_end (net_of (beside 2 1 1)) ≡ true
+unfolding beside least_run
+lesser_sum = refl
+
+too_little : can_end (net_of (beside 1 2 1)) ≡ false
+unfolding beside least_run
+too_little = refl
 
 -- a token that is used again after the next one needs a slot of its own
 used_again : hold_of (0 ∷ 1 ∷ 0 ∷ []) ≡ 2
@@ -89,3 +172,17 @@ used_again = refl
 in_order : hold_of (0 ∷ 0 ∷ 1 ∷ []) ≡ 1
 unfolding held_after
 in_order = refl
+
+-- token 1 is never used, so its slot is free at once
+never_used : hold_of (0 ∷ 2 ∷ 0 ∷ []) ≡ 2
+unfolding held_after
+never_used = refl
+
+-- the third Get takes the slot of the first token after its last use
+after_last_use : slots_of_gets (0 ∷ 1 ∷ 0 ∷ 2 ∷ 1 ∷ []) ≡ 0 ∷ 1 ∷ 0 ∷ []
+unfolding held_after
+after_last_use = refl
+
+backwards : slots_of_gets (2 ∷ 1 ∷ 0 ∷ []) ≡ 0 ∷ 1 ∷ 2 ∷ []
+unfolding held_after
+backwards = refl

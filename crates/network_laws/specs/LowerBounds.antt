@@ -5,9 +5,10 @@ use Rattle.net_core.specs.Machine.{Net}
 use Rattle.net_core.specs.Shape.{put_count}
 use Rattle.cap_trim.specs.Capacities.{least_capacity, with_room}
 
--- the least capacity of channel c at which the network ends where every other channel has room for all of its tokens
-abbrev pub alone_capacity : Net → ℕ → ℕ
-alone_capacity n c = least_capacity (with_room n (put_count n)) c
+-- The least capacity of channel c at which the network ends where every other channel has room for all of its tokens, or as
+-- many places as it has tokens where no fewer will do. Whatever the others have, c needs no less.
+abbrev pub capacity_bound : Net → ℕ → ℕ
+capacity_bound n c = least_capacity (with_room n (put_count n)) c
 
 -- the places of all channels together
 abbrev pub total_room : Net → (ℕ → ℕ) → ℕ

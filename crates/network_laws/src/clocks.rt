@@ -6,31 +6,33 @@ ghost use Rattle.net_core.specs.declared.network.Network.{Network};
 ghost use Rattle.net_core.specs.Cuts.{positions};
 ghost use Rattle.net_core.specs.Machine.{Net, Rule, net_of, start, HasEnded, IsRun};
 ghost use Rattle.net_core.specs.Orders.{EndsAll, EndsAlways, reached};
-ghost use Rattle.net_core.specs.Rules.{tags, values};
+ghost use Rattle.net_core.specs.Rules.{values};
 ghost use Rattle.net_core.specs.Shape.{IsWired};
 ghost use Rattle.net_core.specs.Sound.{IsSound, sink_lists};
 ghost use Rattle.cap_trim.specs.Capacities.{with_room};
 ghost use Rattle.clock_sim.specs.Clocks.{after_clocks, clocks};
-ghost use Rattle.network_laws.specs.Stalls.{IsFair, stalled_run};
+ghost use Rattle.network_laws.specs.Stalls.{IsFair, run_with_stalls};
 
 use clock_sim::clocked_run_ends;
 use net_core::every_order;
-use sanlp::Tag;
 
 // Each of these does nothing: its contract is a law over the definitions.
 
-/// Stalls do no harm: however processes are held back, what comes of it is a run, so it keeps the capacities and can go on
-/// until all have ended. If none is held back for ever, it ends all, and then the sinks of a network that is sound for a nest
-/// have kept the arrays after the nest. So sources and sinks may wait, and processes may be slow (Kahn 1974).
+/// Stalls do no harm: however processes are held back, what comes of it is a run. So in a network in which every order of events
+/// ends all, it keeps the capacities and can go on until all have ended. If no process is held back for ever, it ends all, and
+/// then the sinks of a network that is sound for a nest have kept the arrays after the nest. So sources and sinks may wait, and
+/// processes may be slow (Kahn 1974).
 pub fn stalls_do_no_harm<T: Copy>()
     ensures runs { (n : Net) (rule : Rule T) (may : ℕ → ℕ → Bool) (k : ℕ) → IsWired n
-        → IsRun n rule (start n) (stalled_run n rule may k) }
+        → IsRun n rule (start n) (run_with_stalls n rule may k) }
     ensures ends { (n : Net) (rule : Rule T) (may : ℕ → ℕ → Bool) → IsWired n → EndsAlways n rule
-        → IsFair may → (k : ℕ) × EndsAll n rule (stalled_run n rule may k) }
+        → IsFair n rule may → (k : ℕ) × EndsAll n rule (run_with_stalls n rule may k) }
     ensures arrays { (nest : Nest) (network : Network) (d : Inputs) (may : ℕ → ℕ → Bool)
-        → IsSound nest network → IsFair may
-        → (k : ℕ) × (sink_lists nest (reached (net_of network) (values nest d)
-        (stalled_run (net_of network) (values nest d) may k)) ≡ arrays nest d) }
+        → IsSound nest network → IsFair (net_of network) (values nest d) may
+        → (k : ℕ) × EndsAll (net_of network) (values nest d)
+        (run_with_stalls (net_of network) (values nest d) may k)
+        × (sink_lists nest (reached (net_of network) (values nest d)
+        (run_with_stalls (net_of network) (values nest d) may k)) ≡ arrays nest d) }
 {}
 
 /// The clocked run is the fastest execution in which each process makes at most one event a clock, and each event is enabled
@@ -38,23 +40,27 @@ pub fn stalls_do_no_harm<T: Copy>()
 /// no process's script is longer than the number of clocks.
 pub fn clocked_run_is_fastest<T: Copy>()
     ensures ahead { (n : Net) (rule : Rule T) (may : ℕ → ℕ → Bool) (k p : ℕ) → IsWired n
-        → positions (reached n rule (stalled_run n rule may k)) p
+        → positions (reached n rule (run_with_stalls n rule may k)) p
         ≤ positions (after_clocks n rule k) p }
     ensures least { (n : Net) (rule : Rule T) (may : ℕ → ℕ → Bool) (k : ℕ) → IsWired n
-        → EndsAlways n rule → HasEnded n (reached n rule (stalled_run n rule may k))
-        → clocks n ≤ k }
+        → HasEnded n (reached n rule (run_with_stalls n rule may k)) → clocks n ≤ k }
     ensures longest { (n : Net) (rule : Rule T) (p : ℕ) → IsWired n → EndsAlways n rule
         → length (n.script p) ≤ clocks n }
 {
     clocked_run_ends::<T>();
+    every_order::<T, T>();
 }
 
-/// More room is never slower: where no channel has less room than in a network that ends and is the same otherwise, the
-/// clocked run has no more clocks.
-pub fn more_room_is_never_slower()
-    ensures { (n : Net) (room : ℕ → ℕ) → IsWired n → EndsAlways n tags
+/// More room is never slower: where no channel has less room than in a network that is the same otherwise, each process has come
+/// at least as far at every clock. So where that network ends, the clocked run has no more clocks.
+pub fn more_room_is_never_slower<T: Copy>()
+    ensures ahead { (n : Net) (rule : Rule T) (room : ℕ → ℕ) (k p : ℕ) → IsWired n
+        → ((c : ℕ) → n.capacity c ≤ room c)
+        → positions (after_clocks n rule k) p
+        ≤ positions (after_clocks (with_room n room) rule k) p }
+    ensures clocks { (n : Net) (rule : Rule T) (room : ℕ → ℕ) → IsWired n → EndsAlways n rule
         → ((c : ℕ) → n.capacity c ≤ room c) → clocks (with_room n room) ≤ clocks n }
 {
-    clocked_run_ends::<Tag>();
-    every_order::<Tag, Tag>();
+    clocked_run_ends::<T>();
+    every_order::<T, T>();
 }

@@ -40,9 +40,10 @@ pub fn any_full_run_is_a_schedule()
     every_order::<i64, Tag>();
 }
 
-/// So it is with texts: where a text stands for a network and a certificate that fit a nest, the same text with another schedule,
-/// a line for each event of a run that ends all, stands for the network and the certificate with that run. These lines are
-/// those that `trace` writes between its first and its last. So `check` accepts them in place of a certificate's own.
+/// So it is with texts: where a text stands for a network and a certificate that fit a nest, the same text with another schedule
+/// and its number of entries in the line of sizes, a line for each event of a run that ends all, stands for the network and the
+/// certificate with that run. These lines are those that `trace` writes between its first and its last. So the checker accepts
+/// what the text stands for.
 pub fn any_full_run_has_a_text()
     ensures stands { (n : NestOf) (network : Network) (cert : Cert) (text run : List ℕ)
         → (stands : StandsFor text network cert) → Fits n network cert

@@ -1,11 +1,16 @@
-ghost use Rattle.std.specs.Prelude.{◌<◌, ◌≤◌, ℕ, List};
-ghost use Rattle.reorder_slots.specs.Slots.{gets_for, hold_of};
+ghost use Rattle.std.specs.Prelude.{◌<◌, ◌≤◌, ℕ, List, slice_index};
+ghost use Rattle.reorder_slots.specs.Slots.{gets_for, hold_of, slots_of_gets};
 ghost use Rattle.network_laws.specs.SlotChoices.{KeepsEachToken};
 
-/// The hold of a channel is the least number of slots: however the Gets of its reader are given slots, as long as no Get takes
-/// the slot of a token that has a use to come, there are at least as many slots. It does nothing: its contract is a law over
-/// the definitions.
+/// The hold of a channel is the least number of slots for its Gets, which stand where the script has them, as late as they can:
+/// the slots that they are given are so many and keep each token until its last use, and whichever slots do that, there are at
+/// least as many. Whether two channels of a process could share a slot isn't looked at. It does nothing: its contract is a law
+/// over the definitions.
 pub fn hold_is_least()
-    ensures { (uses : List ℕ) (slot_of : ℕ → ℕ) (slots : ℕ) → KeepsEachToken uses slot_of
+    ensures enough { (uses : List ℕ)
+        → KeepsEachToken uses (λ get. slice_index (slots_of_gets uses) get) }
+    ensures within { (uses : List ℕ) (get : ℕ) → get < gets_for uses
+        → slice_index (slots_of_gets uses) get < hold_of uses }
+    ensures least { (uses : List ℕ) (slot_of : ℕ → ℕ) (slots : ℕ) → KeepsEachToken uses slot_of
         → ((get : ℕ) → get < gets_for uses → slot_of get < slots) → hold_of uses ≤ slots }
 {}

@@ -1,8 +1,8 @@
 use Rattle.net_core.specs.Machine.{net_of}
 use Rattle.net_core.specs.Rules.{values}
-use Rattle.network_laws.specs.Stalls.{stalled_run}
+use Rattle.network_laws.specs.Stalls.{run_with_stalls}
 use Rattle.network_laws.proofs.FairRuns.{fair_ends}
-use Rattle.network_laws.proofs.StalledRuns.{stalled_runs}
+use Rattle.network_laws.proofs.RunsWithStalls.{stalled_runs}
 use Rattle.network_laws.proofs.clocks.stalls_do_no_harm.Goals as goal
 
 pub returns : goal.returns
@@ -14,5 +14,5 @@ returns g c =
           let n = net_of network in
           let rule = values nest d in
           let last = fair_ends n rule sound.fits.shaped.wired may (sound.ends d) fair in
-          (last.0, sound.arrays d (stalled_run n rule may last.0) last.1);
+          (last.0, last.1, sound.arrays d (run_with_stalls n rule may last.0) last.1);
     }

@@ -3,7 +3,7 @@ use Rattle.net_core.specs.Rules.{tags}
 use Rattle.net_maker.specs.Certificates.{swept_cert}
 use Rattle.witness_plan.specs.Sequential.{with_capacities}
 use Rattle.cap_trim.specs.Rests.{least_run}
-use Rattle.cap_trim.proofs.Planned.{fits_trimmed, planned_can, planned_puts, planned_wired}
+use Rattle.cap_trim.proofs.Planned.{fits_trimmed, planned_puts, planned_wired}
 use Rattle.network_laws.proofs.schedules.trimmed_network_is_sound.Goals as goal
 
 pub returns : goal.returns
@@ -21,5 +21,5 @@ returns c =
       minimal = λ network room at run planned there within below whole.
           let wired = planned_wired nest network planned in
           c.least_capacities_are_minimal.ensures (net_of network) tags room at run wired
-          (planned_can nest network wired planned) there (planned_puts nest network planned at there) within below whole;
+          there (planned_puts nest network planned at there) within below whole;
     }

@@ -1,6 +1,6 @@
 //! The workers of `trace`, and the runs that they make.
 
-use crate::calls::{Call, SOUND, UNREAD, expect, expect_all, written_by};
+use crate::calls::{Call, SOUND, UNREAD, end_by, expect, expect_all, written_by};
 use crate::certificates::{INCREMENT, THRICE, expect_checked};
 use crate::meeting::MOST_TURNS;
 use crate::threads::expect_by;
@@ -95,6 +95,103 @@ fn two_lanes_meet(rt: HostRuntime) -> Result<(), Fail> {
     let gate = LaneGate::new();
     expect_by(&rt, &["trace", "N=1"], INCREMENT, ONCE, &gate)?;
     assert!(rt; gate.met());
+    Ok(())
+}
+
+/// A gate that holds all but worker 1 until worker 1 has asked twice.
+#[derive(Drop)]
+struct AheadGate {
+    asked: AtomicU64,
+    wrong: AtomicU64,
+}
+
+impl Gate for AheadGate {
+    fn pass(&self, who: u32) {
+        if who == 1 {
+            self.asked.fetch_add(1, Ordering::SeqCst);
+            return;
+        }
+        for _ in 0..MOST_TURNS {
+            if self.asked.load(Ordering::SeqCst) >= 2 {
+                return;
+            }
+            thread::yield_now();
+        }
+        self.wrong.fetch_add(1, Ordering::SeqCst);
+    }
+
+    fn moved(&self, _who: u32, _channel: u32, _value: i64) {
+        self.wrong.fetch_add(1, Ordering::SeqCst);
+    }
+}
+
+/// Two sources, whose processes can both fire first. That of the second has worker 1.
+const TWO_SOURCES: &[u8] = b"in x, z; out y; y = x + z;";
+
+/// Worker 1 steps before anyone else does, so the first entry is its process. Where nobody but the caller steps, or a worker
+/// steps processes that aren't of its lane, it is process 0, the least that is enabled.
+#[test]
+fn a_worker_steps_its_lane(rt: HostRuntime) -> Result<(), Fail> {
+    let gate = AheadGate {
+        asked: AtomicU64::new(0),
+        wrong: AtomicU64::new(0),
+    };
+    let end = end_by(&rt, SOUND, &["trace"], &[], TWO_SOURCES, &gate)?;
+    let ahead = end.status == 0 && end.output.held().starts_with(b"trace 1\n1\n");
+    drop(end);
+    assert!(rt; ahead);
+    assert!(rt; gate.wrong.load(Ordering::SeqCst) == 0);
+    Ok(())
+}
+
+/// A gate that holds the caller until each of the four workers has asked.
+#[derive(Drop)]
+struct AllGate {
+    asked: [AtomicU64; 4],
+    wrong: AtomicU64,
+}
+
+impl AllGate {
+    fn all_asked(&self) -> bool {
+        self.asked
+            .iter()
+            .all(|count| count.load(Ordering::SeqCst) >= 1)
+    }
+}
+
+impl Gate for AllGate {
+    fn pass(&self, who: u32) {
+        if let Some(count) = self.asked.get(who as usize) {
+            count.fetch_add(1, Ordering::SeqCst);
+            return;
+        }
+        for _ in 0..MOST_TURNS {
+            if self.all_asked() {
+                return;
+            }
+            thread::yield_now();
+        }
+        self.wrong.fetch_add(1, Ordering::SeqCst);
+    }
+
+    fn moved(&self, _who: u32, _channel: u32, _value: i64) {
+        self.wrong.fetch_add(1, Ordering::SeqCst);
+    }
+}
+
+#[test]
+fn four_workers_ask(rt: HostRuntime) -> Result<(), Fail> {
+    let gate = AllGate {
+        asked: [
+            AtomicU64::new(0),
+            AtomicU64::new(0),
+            AtomicU64::new(0),
+            AtomicU64::new(0),
+        ],
+        wrong: AtomicU64::new(0),
+    };
+    expect_by(&rt, &["trace", "N=1"], INCREMENT, ONCE, &gate)?;
+    assert!(rt; gate.all_asked() && gate.wrong.load(Ordering::SeqCst) == 0);
     Ok(())
 }
 

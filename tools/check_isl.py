@@ -101,8 +101,8 @@ def compare_examples(isl: Isl, program: str, known: list[Example], most: int) ->
     print(head(["Example", "Parameters", "Trees", "Points", ""]))
     for example in known:
         large = [f"{it.partition('=')[0]}={most}" for it in example.items]
-        for items in (example.items, large):
-            found = compare(isl, program, example.source, items, items is example.items)
+        for items, is_own in ((example.items, True), (large, False)):
+            found = compare(isl, program, example.source, items, is_own)
             said = "; ".join(found.faults)[:2000] or "equal"
             print(row([f"`{example.name}`", " ".join(items), found.trees, found.points, said]), flush=True)
             yield found

@@ -6,10 +6,10 @@ usage: tools/hostile/memory.py [--jobs JOBS] [--most COUNT] [--compaan PROGRAM]
 Each command is run once to count its requests (calls of malloc, realloc and the like, and starts of threads), and then, for each N up
 to that count, with the Nth refused, and again with the Nth and all later ones refused. Every run must end by itself within its time,
 with status 10 and both streams empty (11 while the words are taken over, before the top call), or with the output, complaint and status
-that it has without refusals, and must have joined the threads that it started. Where there is strace, the kernel's own calls (mmap, brk, mremap, mprotect and the start of a thread) are
-refused in the same way; there the first calls, as many as /bin/true makes, are the dynamic loader's, which may break off before the
-program's first instruction, by status 127 or a signal. Prints a table and one line for each run that isn't as wanted, and fails where there is
-one. It is a test, outside the proof.
+that it has without refusals, and must have joined the threads that it started; those of trace are waited for by a count. Where there is strace, the kernel's own calls (mmap, brk, mremap, mprotect and the start of a thread) are refused in the same way;
+there the first calls, as many as /bin/true makes, are the dynamic loader's, which may break off before the program's first instruction, by
+status 127 or a signal. Prints a table and one line for each run that isn't as wanted, and fails where there is one. It is a test, outside the
+proof.
 """
 from __future__ import annotations
 
@@ -71,6 +71,17 @@ def rows(program: str) -> Iterator[Row]:
         yield f"cert {it.name}", ["cert", *it.items], it.source
 
 
+def said(row: Row, end: End) -> tuple[int, bytes, bytes]:
+    """What a run came to. Each call of trace may come to another order of the same events."""
+    lines = sorted(end.output.split(b"\n")) if row[1][:1] == ["trace"] else [end.output]
+    return end.status, b"\n".join(lines), end.complaint
+
+
+def are_joined(row: Row, started: int, joined: int) -> bool:
+    """Whether all threads were joined. The workers of trace are waited for by a count."""
+    return row[1][:1] == ["trace"] or joined == started
+
+
 def shown(statuses: Counter[object]) -> str:
     return ", ".join(f"{count} x {status}" for status, count in sorted(statuses.items(), key=str))
 
@@ -106,7 +117,7 @@ def refused(shim: Shim, program: str, row: Row, plain: End, way: int, numbers: S
     for number in numbers:
         end, (_, count, started, joined, _) = shim.ask(program, words, bundle, refuse=number, all=way)
         statuses["hung" if end.hung else end.status] += 1
-        if end.hung or end.said not in (*WANTING, plain.said) or started != joined or not count:
+        if end.hung or said(row, end) not in (*WANTING, said(row, plain)) or not are_joined(row, started, joined) or not count:
             bad.append(
                 f"{name}, request {number}{' and all later' * way}: {end}, {count} refused, {started} threads, {joined} joined"[:400]
             )
@@ -122,7 +133,7 @@ def refused_by_kernel(program: str, row: Row, plain: End, numbers: Sequence[int]
         end, _ = kernel_asks(program, words, bundle, number, folder)
         is_loader = number <= loading and end.status in (127, -signal.SIGSEGV, -signal.SIGKILL) and not end.output
         statuses["hung" if end.hung else "by the loader" if is_loader else end.status] += 1
-        if end.hung or not (is_loader or end.said in (*WANTING, plain.said)):
+        if end.hung or not (is_loader or said(row, end) in (*WANTING, said(row, plain))):
             bad.append(f"{name}, kernel call {number}: {end}"[:400])
     return statuses, bad
 
@@ -171,7 +182,7 @@ def main() -> int:
             name, words, bundle = row
             plain, (requests, _, threads, joined, asked) = shim.ask(program, words, bundle)
             unlike = asking.ask(program, words, bundle)
-            if plain.said != unlike.said or threads != joined or asked:
+            if said(row, plain) != said(row, unlike) or not are_joined(row, threads, joined) or asked:
                 bad.append(
                     f"{name}: the shim changes it, or {threads} threads were started and {joined} joined, or the environment was read {asked} times"
                 )

@@ -90,10 +90,6 @@ clock_runs n wired test (suc m) a k are =
 
 -- One run after another
 
-pub cut_after-append : (run more : List ℕ) (k : Cut) → cut_after k (run ++ more) ≡ cut_after (cut_after k run) more
-cut_after-append [] more k = refl
-cut_after-append (p ∷ run) more k = cut_after-append run more (advanced k p)
-
 pub IsCutRun-append : (n : Net) (run more : List ℕ) (k : Cut) → IsCutRun n k run → IsCutRun n (cut_after k run) more
     → IsCutRun n k (run ++ more)
 IsCutRun-append n [] more k first later = later

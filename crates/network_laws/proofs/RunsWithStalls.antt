@@ -17,7 +17,8 @@ use Rattle.net_core.specs.Shape.{IsWired}
 use Rattle.net_core.proofs.Positions.{cut_run, enabled_as_cut, run_counted, run_ends, start_counted}
 use Rattle.clock_sim.specs.Clocks.{clocked_run, enabled_processes}
 use Rattle.network_laws.specs.Stalls.{run_with_stalls, steps_of_clock}
-use Rattle.network_laws.proofs.OneClock.{IsCutRun-append, clock_runs, cut_after-append, positions_kept, positions_moved}
+use Rattle.witness_plan.proofs.AlongCuts.{cut_after-append}
+use Rattle.network_laws.proofs.OneClock.{IsCutRun-append, clock_runs, positions_kept, positions_moved}
 
 -- a test that passes with another passes
 pub second_true : (a b : Bool) → (a && b) ≡ true → b ≡ true
@@ -84,7 +85,7 @@ module _ {T : Type 0} (n : Net) (rule : Rule T) (wired : IsWired n) where
     enabled_there k p = reached_enabled (run_to k) (stalled_cuts k) p
 
     pub place_next : (k : ℕ) → place (suc k) ≡ cut_after (place k) (clock_at k)
-    place_next k = cut_after-append (run_to k) (clock_at k) opening
+    place_next k = cut_after-append opening (run_to k) (clock_at k)
 
     -- one clock advances the processes that may step and are enabled
     pub place_moved : (k p : ℕ) → place (suc k) p ≡ place k p + cond (may k p && enabled_at n (place k) p) 1 0

@@ -1,10 +1,11 @@
 -- The value of a form is linear in the form.
 use Rattle.std.proofs.Common.{◌≡◌, ℕ, zero, suc, ◌+◌, ◌-◌, ◌≤◌, ℤ, pos, ◌+ℤ◌, ◌*ℤ◌, List, [], ◌∷◌, ◌++◌, length}
-use Rattle.std.proofs.Common.{replicate, slice_index_or, Bool, true, false, cond, refl, sym, ap, ◌∙◌, arith}
-use Rattle.std.specs.Prelude.{Some, None, Result, Ok, Err, IfOk}
+use Rattle.std.proofs.Common.{replicate, slice_index_or, refl, sym, ap, ◌∙◌, arith, length-append}
+use Rattle.std.specs.Prelude.{Some, Result, Ok, Err, IfOk}
 use Rattle.std.specs.Result.{result_ok}
 use Rattle.std.proofs.lemmas.Int.{ints}
-use Rattle.std.proofs.lemmas.Option.{same_Some, option_and_then_some}
+use Rattle.std.proofs.lemmas.List.{length-replicate}
+use Rattle.std.proofs.lemmas.Option.{same_Some, option_and_then_some, cond_some}
 use Rattle.affine_core.proofs.Ring.{sum_times, times_swap}
 use Rattle.affine_core.specs.declared.form.Form.{Form}
 use Rattle.affine_core.specs.Affine.{combined, form_at, products, form_product, sums, form_sum, constant_form}
@@ -95,19 +96,11 @@ dot_unit (suc v) n (x ∷ at) = omega (arith, ints, dot_unit v n at)
 pub variable_at : (n v : ℕ) (at : List ℤ) → form_at (variable_form n v) at ≡ slice_index_or at v (pos 0)
 variable_at n v at = combined_is (pos 0) (variable_form n v).coefs at ∙ omega (arith, ints, dot_unit v (n - (v + 1)) at)
 
-number_kept : (b : Bool) (z v : ℤ) → cond b (Some z) None ≡ Some v → z ≡ v
-number_kept true z v e = same_Some z v e
-number_kept false z v e = absurd (cc)
-
-form_kept : (b : Bool) (f g : Form) → cond b (Some f) None ≡ Some g → f ≡ g
-form_kept true f g e = same_Some f g e
-form_kept false f g e = absurd (cc)
-
 pub number_in_128_bits_is : (z v : ℤ) → number_in_128_bits z ≡ Some v → z ≡ v
-number_in_128_bits_is z v e = number_kept (fits_128_bits z) z v e
+number_in_128_bits_is z v e = (cond_some (fits_128_bits z) z v e).1
 
 pub form_in_128_bits_is : (f g : Form) → form_in_128_bits f ≡ Some g → f ≡ g
-form_in_128_bits_is f g e = form_kept (form_fits_128_bits f) f g e
+form_in_128_bits_is f g e = (cond_some (form_fits_128_bits f) f g e).1
 
 pub sum_in_128_bits_is : (sum c v z : ℤ) → sum_in_128_bits sum c v ≡ Some z → z ≡ sum +ℤ (c *ℤ v)
 sum_in_128_bits_is sum c v z e =
@@ -150,3 +143,20 @@ variable_values n v f e at = ap (λ g. form_at g at) e ∙ variable_at n v at
 
 pub widened_values : (n : ℕ) (f g : Form) → g ≡ widened_form n f → (at : List ℤ) → form_at g at ≡ form_at f at
 widened_values n f g e at = ap (λ h. form_at h at) e ∙ widened_at n f at
+
+-- Lengths of coefficients
+
+pub length-sums : (xs ys : List ℤ) → length xs ≡ length ys → length (sums xs ys) ≡ length xs
+length-sums [] ys e = refl
+length-sums (x ∷ xs) [] e = absurd (omega arith)
+length-sums (x ∷ xs) (y ∷ ys) e = ap suc (length-sums xs ys (omega arith))
+
+pub length-variable_form : (n : ℕ) → length (variable_form (n + 1) n).coefs ≡ n + 1
+length-variable_form n =
+    let after : List ℤ = replicate (n + 1 - (n + 1)) (pos 0) in
+    omega (
+      arith,
+      length-append (replicate n (pos 0)) (pos 1 ∷ after),
+      length-replicate n (pos 0),
+      length-replicate (n + 1 - (n + 1)) (pos 0),
+    )

@@ -1,3 +1,3 @@
 pub mod Fields
-pub mod Judged
+pub mod RecordVerdicts
 pub mod Records

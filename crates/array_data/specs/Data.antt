@@ -1,9 +1,10 @@
 -- Input values as CSV: each record is the name of an `in` or `inout` array, and then its values in row-major order.
-use Rattle.std.specs.Prelude.{ℕ, ◌+◌, ◌-◌, ◌*◌, ◌==◌, ◌&&◌, ◌||◌, ℤ, pos, neg_ℤ, Bool, false, List, [], ◌∷◌, ◌++◌, map, length, take, drop, find, filter_map, fold, nat_le, not, is_some, is_none, bytes_eq, Option, Some, None, Result, Ok, Err, if◌then◌else◌, slice_get, slice_index_or}
+use Rattle.std.specs.Prelude.{ℕ, ◌+◌, ◌-◌, ◌==◌, ◌&&◌, ◌||◌, ℤ, pos, neg_ℤ, Bool, false, List, [], ◌∷◌, ◌++◌, map, length, take, drop, find, filter_map, nat_le, not, is_some, is_none, bytes_eq, Option, Some, None, Result, Ok, Err, if◌then◌else◌, slice_get, slice_index_or}
 use Rattle.std.specs.Char.{is_ascii_digit}
 use Rattle.std.specs.List.{list_all, prefix_len, suffix_len, position_from, range_with_len}
 use Rattle.std.specs.Option.{option_map, option_map_or, option_or}
 use Rattle.csv.specs.Reading.{default_config, records, strip_bom}
+use Rattle.plain_data.specs.Digits.{decimal_number}
 use Rattle.sanlp.specs.declared.nest.ArrayDecl.{ArrayDecl}
 use Rattle.sanlp.specs.declared.nest.Inputs.{Inputs}
 use Rattle.sanlp.specs.declared.nest.Nest.{Nest}
@@ -50,19 +51,16 @@ value_fields row = map without_blanks (drop 1 row)
 abbrev pub is_digits : List ℕ → Bool
 is_digits text = not (length text == 0) && list_all is_ascii_digit text
 
-abbrev pub number_value : List ℕ → ℕ
-number_value digits = fold (λ value digit. value * 10 + (digit - 48)) 0 digits
-
 -- what digits are without a sign, up to 2 ^ 63 - 1, and behind a `-`, up to 2 ^ 63
 abbrev pub plain_value : List ℕ → Option ℤ
 plain_value digits =
-    if is_digits digits && nat_le (number_value digits) 9223372036854775807
-    then Some (pos (number_value digits)) else None
+    if is_digits digits && nat_le (decimal_number digits) 9223372036854775807
+    then Some (pos (decimal_number digits)) else None
 
 abbrev pub negated_value : List ℕ → Option ℤ
 negated_value digits =
-    if is_digits digits && nat_le (number_value digits) 9223372036854775808
-    then Some (neg_ℤ (pos (number_value digits))) else None
+    if is_digits digits && nat_le (decimal_number digits) 9223372036854775808
+    then Some (neg_ℤ (pos (decimal_number digits))) else None
 
 -- the value of a field, if it is one: an optional `-`, then decimal digits, within 64 signed bits
 abbrev pub value_of : List ℕ → Option ℤ

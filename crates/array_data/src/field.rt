@@ -3,7 +3,9 @@
 ghost use Rattle.std.specs.Prelude.{◌≡◌, ◌≤◌, length, min, true};
 ghost use Rattle.std.specs.Char.{is_ascii_digit};
 ghost use Rattle.std.specs.List.{list_all, prefix_len, suffix_len};
-ghost use Rattle.array_data.specs.Data.{is_blank as blank, is_digits as digits, negated_value as negated, number_value, plain_value as plain, value_of as value, without_blanks as trimmed, without_first_blanks as front_trimmed, without_last_blanks as back_trimmed};
+ghost use Rattle.array_data.specs.Data.{is_blank as blank, is_digits as digits, negated_value as negated, plain_value as plain, value_of as value, without_blanks as trimmed, without_first_blanks as front_trimmed, without_last_blanks as back_trimmed};
+
+use plain_data::capped_number;
 
 fn is_blank(byte: u8) -> bool
     ensures { result ≡ blank byte }
@@ -60,25 +62,11 @@ fn is_digits(text: &[u8]) -> bool
     !text.is_empty() && has_only_digits(text)
 }
 
-// The value of digits, or the greatest number where it passes that.
-fn digits_value(text: &[u8]) -> u64
-    requires { digits text.now ≡ true }
-    ensures { result ≡ min (number_value text.now) u64.MAX }
-{
-    let mut value: u64 = 0;
-    for digit in text {
-        value = value
-            .saturating_mul(10)
-            .saturating_add((*digit - b'0') as u64);
-    }
-    value
-}
-
 fn plain_value(text: &[u8]) -> Option<i64>
     ensures { result ≡ plain text.now }
 {
     if is_digits(text) {
-        i64::try_from(digits_value(text)).ok()
+        i64::try_from(capped_number(text)).ok()
     } else {
         None
     }
@@ -88,7 +76,7 @@ fn negated_value(text: &[u8]) -> Option<i64>
     ensures { result ≡ negated text.now }
 {
     if is_digits(text) {
-        i64::try_from(-(digits_value(text) as i128)).ok()
+        i64::try_from(-(capped_number(text) as i128)).ok()
     } else {
         None
     }

@@ -1,4 +1,7 @@
 //! The data of arrays as text: the inputs that a program reads, and the answer that it writes.
+//!
+//! Between two calls, or from one step of the main loop to the next: the records so far have no fault, and each array
+//! that they name has its values.
 #![tactic(auto)]
 
 mod answer;

@@ -17,7 +17,8 @@ use Rattle.affine_core.proofs.Ring.{sum_times, times_assoc, times_not_negative, 
 use Rattle.sanlp.specs.Cells.{natural}
 use Rattle.sanlp.proofs.Intervals.{natural_pos}
 use Rattle.cell_rows.specs.RowPlaces.{inside, place_after, place_from, row_limit, within_limit}
-use Rattle.cell_rows.proofs.RowCells.{after_parts, option_parts}
+use Rattle.cell_rows.proofs.RowCells.{after_parts}
+use Rattle.plain_data.proofs.Options.{option_and_then-some}
 
 -- a number that changes evenly with the value of a loop
 pub record IsEven (f : ℤ → ℤ) : Type 0 where
@@ -90,7 +91,7 @@ after_is before m extent v e within limit =
 
 after_limit : (before : ℕ) (extent v : ℤ) (place : ℕ) → place_after before extent v ≡ Some place → place < row_limit
 after_limit before extent (pos n) place e =
-    let outer = option_parts (λ m. within_limit (before * natural extent + m)) (inside extent (pos n)) place e in
+    let outer = option_and_then-some (λ m. within_limit (before * natural extent + m)) (inside extent (pos n)) place e in
     let limit =
     cond_some (nat_lt (before * natural extent + outer.0) row_limit)
     (before * natural extent + outer.0) place outer.2 in
@@ -202,9 +203,9 @@ has_line (extent ∷ extents) (form ∷ forms) at start slope low high p q le th
     let is : (v : ℤ) → form_at form (at ++ v ∷ []) ≡ even.start +ℤ (v *ℤ even.slope) = even.is in
     let rest : ℤ → ℕ → Option ℕ =
     λ v place. place_from place extents (map (λ form. form_at form (at ++ v ∷ [])) forms) in
-    let low_parts = option_parts (rest low) (place_after (natural (start +ℤ (low *ℤ slope))) extent (f low)) p first in
+    let low_parts = option_and_then-some (rest low) (place_after (natural (start +ℤ (low *ℤ slope))) extent (f low)) p first in
     let high_parts =
-    option_parts (rest high) (place_after (natural (start +ℤ (high *ℤ slope))) extent (f high)) q last in
+    option_and_then-some (rest high) (place_after (natural (start +ℤ (high *ℤ slope))) extent (f high)) q last in
     let step =
     even_step extent start slope even.start even.slope low high f is le there low_parts.0 high_parts.0 low_parts.1
     high_parts.1 in
@@ -233,7 +234,7 @@ place_limit before [] [] place h e =
 place_limit before [] (v ∷ at) place h e = cc e
 place_limit before (extent ∷ extents) [] place h e = cc e
 place_limit before (extent ∷ extents) (v ∷ at) place h e =
-    let parts = option_parts (λ p. place_from p extents at) (place_after before extent v) place e in
+    let parts = option_and_then-some (λ p. place_from p extents at) (place_after before extent v) place e in
     place_limit parts.0 extents at place (after_limit before extent v parts.0 parts.1) parts.2
 
 none_before : (v : ℤ) → natural (pos 0 +ℤ (v *ℤ pos 0)) ≡ 0

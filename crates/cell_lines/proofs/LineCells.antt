@@ -2,14 +2,14 @@
 -- all places between the first and the last value, since they change evenly. The lines of a statement's reads are made
 -- slot by slot: after each the first so many are lines. They speak of places alone, so they stay where places do.
 use Rattle.std.proofs.Common.{◌≡◌, ◌<◌, ◌≤◌, ◌+◌, ℕ, zero, suc, ℤ, pos, ◌≤ℤ◌, ◌<ℤ◌, ◌+ℤ◌, ◌-ℤ◌, List, [], ◌∷◌, ◌++◌}
-use Rattle.std.proofs.Common.{Bool, true, false, ◌&&◌, map, set, take, length, get_or, refl, sym, ap, ◌∙◌, subst, inl, inr, arith}
+use Rattle.std.proofs.Common.{Bool, true, ◌&&◌, map, set, take, length, get_or, refl, sym, ap, ◌∙◌, subst, inl, inr, arith}
 use Rattle.std.specs.List.{list_all}
 use Rattle.std.specs.Option.{option_map_or}
 use Rattle.std.specs.Prelude.{Option, Some, None, is_some, IfSome, unsigned_abs}
 use Rattle.std.proofs.lemmas.Bool.{cases_lt, false≢true}
 use Rattle.std.proofs.lemmas.Int.{ints}
 use Rattle.std.proofs.lemmas.List.{take_all}
-use Rattle.std.proofs.lemmas.List.Folds.{list_all_at, list_all_more}
+use Rattle.std.proofs.lemmas.List.Folds.{list_all_more}
 use Rattle.affine_core.specs.Affine.{form_at}
 use Rattle.sanlp.specs.declared.nest.Access.{Access}
 use Rattle.sanlp.specs.Access.{cell_at}
@@ -146,12 +146,6 @@ module _ (p : Access → Bool) (accesses items : List Access) (slot : ℕ) where
       → list_all p accesses ≡ true
   all_whole same le all = ap (list_all p) (sym same ∙ sym (take_all slot items le)) ∙ all
 
-  pub not_all : (item : Access) (other : Bool) → items ≡ accesses → slot < length items
-      → item ≡ get_or items slot item → p item ≡ false → false ≡ (list_all p accesses && other)
-  not_all item other same lt is none =
-      let here : list_all p items ≡ false = list_all_at p items slot item lt (ap p (sym is) ∙ none) in
-      ap (λ b. b && other) (sym (ap (list_all p) (sym same) ∙ here))
-
   pub all_and_write : (write : Option Access) (known : Access) (b : Bool) → list_all p accesses ≡ true
       → write ≡ Some known → b ≡ p known → b ≡ (list_all p accesses && option_map_or p write true)
   all_and_write write known b all is here =
@@ -177,9 +171,6 @@ pub write_line : (place_of : Places) (at : List ℤ) (first last : ℤ) (o : Opt
     → IsLineOf place_of at first last access line
 write_line place_of at first last o known line e here access f =
     subst (λ (x : Access). IsLineOf place_of at first last x line) (same_some o known access e f) here
-
-pub if_some_at : {X : Type 0} (P : X → Type 0) (o : Option X) (x : X) → o ≡ Some x → IfSome o P → P x
-if_some_at P o x e h = let Q : Option _ → Type 0 = λ o. IfSome o P in subst Q e h
 
 pub if_some_from : {X : Type 0} (P : X → Type 0) (o : Option X) (x : X) → o ≡ Some x → P x → IfSome o P
 if_some_from P o x e h = let Q : Option _ → Type 0 = λ o. IfSome o P in subst Q (sym e) h

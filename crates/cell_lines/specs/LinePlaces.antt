@@ -70,7 +70,7 @@ accesses_have_lines place_of at first last accesses =
     list_all (has_line place_of at first last) accesses.reads
     && option_map_or (has_line place_of at first last) accesses.write true
 
--- and the loop has a turn, and its first and its last value are small
+-- each access of a statement has a line along a loop that has a turn and whose first and last value are small
 abbrev pub have_lines : Places → List ℤ → ℤ → ℤ → NarrowStatement → Bool
 have_lines place_of at first last accesses =
     (int_le first last && is_small_value first && is_small_value last)

@@ -5,7 +5,7 @@ ghost use Rattle.cell_rows.specs.RowPlaces.{row_limit};
 ghost use Rattle.cell_rows.specs.ShortAccesses.{access_short};
 ghost use Rattle.cell_lines.specs.LinePlaces.{has_line, IsLineOf, IsShortLine, place_along};
 
-use crate::kept_values::KeptValues;
+use affine_core::KeptValues;
 use cell_rows::{Cells, NarrowAccess, are_small};
 use sanlp::natural_of;
 

@@ -1,6 +1,6 @@
 -- The kept cells after a write.
 use Rattle.std.proofs.Common.{◌≡◌, ℕ, List, Bool, true, false, cond, refl, sym, ap, ◌∙◌, [], ◌∷◌, ◌++◌, arith}
-use Rattle.std.specs.Prelude.{◌&&◌, ◌==◌, Option, Some, None, Result, Ok, Err, OnOk}
+use Rattle.std.specs.Prelude.{◌&&◌, ◌==◌, Option, Some, None}
 use Rattle.std.specs.Option.{option_or}
 use Rattle.std.specs.declared.cmp.Ordering.{Ordering}
 use Rattle.std.specs.declared.cmp.Ordering.TheVariants.{Less, Equal, Greater}
@@ -83,7 +83,3 @@ values_with_rows {T} old new row rows none map = λ i q. (
     ap (λ (rs : List (Rows T)). option_or (kept_value rs q) (get cell_cmp new.map q)) rows
     ∙ ap (λ m. option_or (kept_value (old.rows.items ++ row ∷ []) q) (get cell_cmp m q)) map
     ∙ ap (λ o. option_or o (get cell_cmp old.map q)) (kept_append old.rows.items row q.0 q.1 none)) i
-
-pub on_ok_then : {X E P Q : Type 0} (r : Result X E) → (P → Q) → OnOk r P → OnOk r Q
-on_ok_then (Ok x) f h = f h
-on_ok_then (Err e) f h = h

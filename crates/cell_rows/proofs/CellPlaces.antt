@@ -9,7 +9,8 @@ use Rattle.cell_rows.specs.declared.cells.Rows.{Rows}
 use Rattle.cell_rows.specs.CellMap.{cell_cmp, places_in, values_in}
 use Rattle.cell_rows.specs.RowPlaces.{place_from, value_at}
 use Rattle.cell_rows.specs.Rows.{kept_at, kept_value, place_in, row_value, with_kept}
-use Rattle.cell_rows.proofs.RowCells.{got, option_parts, value_past}
+use Rattle.cell_rows.proofs.RowCells.{got, value_past}
+use Rattle.plain_data.proofs.Options.{option_and_then-some}
 
 -- what rows keep at a cell's place
 by_row : {T : Type 0} (o : Option (Rows T)) (at : List ℤ) (place : ℕ)
@@ -100,5 +101,5 @@ pub has_extents : {T : Type 0} (cells : Cells T) (cell : Cell) (place : ℕ) →
 unfolding places_in
 has_extents {T} cells cell place there =
     let row =
-    option_parts (λ (row : Rows T). place_from 0 row.extents cell.1) (slice_get cells.rows.items cell.0) place there in
+    option_and_then-some (λ (row : Rows T). place_from 0 row.extents cell.1) (slice_get cells.rows.items cell.0) place there in
     (row.0.extents, λ at. ap (option_and_then (λ (row : Rows T). place_from 0 row.extents at)) row.1)

@@ -5,7 +5,8 @@ use Rattle.std.specs.Prelude.{IsTrue, unsigned_abs, slice_index_or, FitsSigned}
 use mir.Syntax.{w64}
 use Rattle.std.proofs.lemmas.Int.{fits_signed_from_abs}
 use Rattle.std.proofs.lemmas.Bool.{and_parts}
-use Rattle.sanlp.proofs.ModerateForms.{le_of_test, abs_sum, product_small, moderate_size}
+use Rattle.affine_core.proofs.Integers.{unsigned_abs-sum}
+use Rattle.sanlp.proofs.ModerateForms.{le_of_test, product_small, moderate_size}
 use Rattle.sanlp.specs.WellFormed.{is_moderate}
 use Rattle.cell_rows.specs.SmallValues.{are_small_values, is_small_value}
 
@@ -34,7 +35,7 @@ pub next_sum_is_small : (sum product next : ℤ) (place : ℕ) → unsigned_abs 
     → next ≡ sum +ℤ product → unsigned_abs next ≤ 4294967296 + (place + 1) * 576460752303423488
 next_sum_is_small sum product next place before here is =
     subst (λ z. unsigned_abs z ≤ 4294967296 + (place + 1) * 576460752303423488) (sym is)
-    (let size = abs_sum sum product in omega arith)
+    (let size = unsigned_abs-sum sum product in omega arith)
 
 -- what stays within 64 bits
 pub small_product_fits : (c v : ℤ) → unsigned_abs (c *ℤ v) ≤ 576460752303423488 → FitsSigned w64 (c *ℤ v)
@@ -43,4 +44,4 @@ small_product_fits c v h = fits_signed_from_abs w64 (c *ℤ v) (omega arith)
 pub small_sum_fits : (sum c v : ℤ) → unsigned_abs sum ≤ 4000000000000000000 → unsigned_abs (c *ℤ v) ≤ 576460752303423488
     → FitsSigned w64 (sum +ℤ (c *ℤ v))
 small_sum_fits sum c v before here =
-    fits_signed_from_abs w64 (sum +ℤ (c *ℤ v)) (let size = abs_sum sum (c *ℤ v) in omega arith)
+    fits_signed_from_abs w64 (sum +ℤ (c *ℤ v)) (let size = unsigned_abs-sum sum (c *ℤ v) in omega arith)

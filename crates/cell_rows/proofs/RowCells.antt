@@ -1,8 +1,7 @@
 -- Cells in rows: a place is that of one cell, and writing it changes that cell alone.
 use Rattle.std.proofs.Common.{◌≡◌, ◌<◌, ◌≤◌, ◌+◌, ◌-◌, ◌*◌, ◌/◌, ℕ, zero, suc, ℤ, pos, negsuc, List, [], ◌∷◌, ◌++◌}
-use Rattle.std.proofs.Common.{length, set, get_or, false, cond, refl, sym, ap, ◌∙◌, ◌⊎◌, arith, inl, inr, append_assoc}
+use Rattle.std.proofs.Common.{length, set, get_or, false, cond, refl, sym, ap, ◌∙◌, arith, inl, inr, append_assoc}
 use Rattle.std.specs.Prelude.{Option, Some, None, nat_lt, replicate, slice_get, ◌==◌, ◌&&◌}
-use Rattle.std.specs.Option.{option_and_then}
 use Rattle.std.specs.Ordering.{int_eq}
 use Rattle.std.specs.Cmp.Lexicographic.{pointwise}
 use Rattle.std.specs.Cmp.Rules.{signed_items}
@@ -14,17 +13,13 @@ use Rattle.sanlp.specs.Memory.{is_cell}
 use Rattle.cell_rows.specs.declared.cells.Rows.{Rows}
 use Rattle.cell_rows.specs.RowPlaces.{inside, place_after, place_from, row_limit, value_at, with_place, within_limit}
 use Rattle.cell_rows.specs.Rows.{kept_value, place_in, row_value, with_kept}
-
-pub option_parts : {X Y : Type 0} (f : X → Option Y) (o : Option X) (y : Y) → option_and_then f o ≡ Some y
-    → (x : X) × (o ≡ Some x) × (f x ≡ Some y)
-option_parts f None y e = cc e
-option_parts f (Some x) y e = (x, refl, e)
+use Rattle.plain_data.proofs.Options.{option_and_then-some, option_cases}
 
 -- what a place after one subscript more says of the subscript
 pub after_parts : (before : ℕ) (extent v : ℤ) (place : ℕ) → place_after before extent v ≡ Some place
     → (n : ℕ) × (v ≡ pos n) × (n < natural extent) × (place ≡ before * natural extent + n)
 after_parts before extent (pos n) place e =
-    let outer = option_parts (λ m. within_limit (before * natural extent + m)) (inside extent (pos n)) place e in
+    let outer = option_and_then-some (λ m. within_limit (before * natural extent + m)) (inside extent (pos n)) place e in
     let test = cond_some (nat_lt n (natural extent)) n outer.0 outer.1 in
     let limit =
     cond_some (nat_lt (before * natural extent + outer.0) row_limit)
@@ -49,8 +44,8 @@ one_cell before other [] (v ∷ at) q place e f = cc e
 one_cell before other (extent ∷ extents) [] q place e f = cc e
 one_cell before other (extent ∷ extents) (v ∷ at) [] place e f = cc f
 one_cell before other (extent ∷ extents) (v ∷ at) (w ∷ q) place e f =
-    let a = option_parts (λ p. place_from p extents at) (place_after before extent v) place e in
-    let b = option_parts (λ p. place_from p extents q) (place_after other extent w) place f in
+    let a = option_and_then-some (λ p. place_from p extents at) (place_after before extent v) place e in
+    let b = option_and_then-some (λ p. place_from p extents q) (place_after other extent w) place f in
     let inner = one_cell a.0 b.0 extents at q place a.2 b.2 in
     let first = after_parts before extent v a.0 a.1 in
     let second = after_parts other extent w b.0 b.1 in
@@ -124,10 +119,6 @@ same_place extents at q place k e f = elim (cases_Bool (place == k)) [
     | inr elsewhere ↦ other ∙ sym elsewhere
   ]
 ]
-
-option_cases : {X : Type 0} (o : Option X) → (o ≡ None) ⊎ ((x : X) × (o ≡ Some x))
-option_cases None = inl refl
-option_cases (Some x) = inr (x, refl)
 
 row_placed : {T : Type 0} (row : Rows T) (at q : List ℤ) (place : ℕ) (v : T) → place_from 0 row.extents at ≡ Some place
     → row_value (record row { values = with_place row.values place v }) q

@@ -1,4 +1,7 @@
 //! The cells of a nest's arrays: what is kept of each, in rows as long as there is room.
+//!
+//! Between two calls, or from one step of the main loop to the next: a cell that has a place in rows is kept there or
+//! in the map, and never read from both.
 #![tactic(auto)]
 
 mod cells;

@@ -1,18 +1,11 @@
 ghost use Rattle.std.specs.Prelude.{◌≡◌, ◌≤◌, ◌+ℤ◌, ◌*ℤ◌, length, unsigned_abs, IsTrue};
 ghost use Rattle.affine_core.specs.Affine.{form_at};
-ghost use Rattle.sanlp.specs.WellFormed.{form_fits, is_moderate};
+ghost use Rattle.sanlp.specs.WellFormed.{form_fits};
 ghost use Rattle.cell_rows.specs.SmallValues.{are_small_values};
 
 use affine_core::Form;
+use sanlp::{add_product, moderate};
 use std::marker::Model;
-
-// A coefficient in 64 bits.
-fn moderate(coef: i128) -> i64
-    requires { IsTrue (is_moderate coef) }
-    ensures { result ≡ coef }
-{
-    coef as i64
-}
 
 // Adds a product to a sum, where both are so small that the sum has 64 bits.
 fn add_small_product(sum: i64, coef: i64, value: i64) -> i64
@@ -39,15 +32,6 @@ fn small_sum(constant: i64, coefs: &[i64], values: &[i64]) -> i64
     sum
 }
 
-// Adds a product to a sum, where both are so small that the sum has 128 bits.
-fn add_wide_product(sum: i128, coef: i64, value: i64) -> i128
-    requires coef { unsigned_abs coef ≤ 4294967296 }
-    requires sum { unsigned_abs sum ≤ 300000000000000000000000000000 }
-    ensures { result ≡ sum +ℤ (coef *ℤ value) }
-{
-    sum + coef as i128 * value as i128
-}
-
 // The value of a form.
 #[tactic(auto, using(sanlp::proofs::ModerateForms::as_many))]
 fn wide_sum(constant: i64, coefs: &[i64], values: &[i64]) -> i128
@@ -58,7 +42,7 @@ fn wide_sum(constant: i64, coefs: &[i64], values: &[i64]) -> i128
 {
     let mut sum = constant as i128;
     for place in 0..coefs.len() {
-        sum = add_wide_product(sum, coefs[place], values[place]);
+        sum = add_product(sum, coefs[place], values[place]);
     }
     sum
 }

@@ -11,7 +11,7 @@ use Rattle.cert_lines.specs.declared.error.Fault.TheVariants.{Words, Range}
 use Rattle.cert_lines.specs.Words.{words_of}
 use Rattle.cert_lines.specs.Reading.{Part, Place, cut_read, first_line, followed_by, line, line_read, many}
 use Rattle.cert_lines.proofs.Cuts.{cut_of_parts, is_cut}
-use Rattle.cert_lines.proofs.Spelled.{is_word, line_lacks, words_joined}
+use Rattle.cert_lines.proofs.LineWords.{is_word, line_lacks, words_joined}
 
 -- Of each value that P holds of these are the words, and nothing else is read from them.
 pub record IsSpelled {A : Type 0} (judge : List (List ℕ) → Result A Fault) (words : A → List (List ℕ))

@@ -33,11 +33,6 @@ cut_of_parts wanted (byte ∷ before) behind lacks =
     rw (lacks_head wanted byte before lacks, cut_of_parts wanted before behind (lacks_tail wanted byte before lacks))
     refl
 
-pub no_cut : (wanted : ℕ) (text : List ℕ) → Lacks wanted text → cut_at wanted text ≡ None
-no_cut wanted [] lacks = refl
-no_cut wanted (byte ∷ text) lacks =
-    rw (lacks_head wanted byte text lacks, no_cut wanted text (lacks_tail wanted byte text lacks)) refl
-
 -- and else there is no such byte
 pub record IsCut (wanted : ℕ) (text before behind : List ℕ) : Type 0 where
   pub parts : text ≡ before ++ wanted ∷ behind

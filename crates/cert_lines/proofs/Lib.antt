@@ -1,10 +1,10 @@
 pub mod Codecs
-pub mod Counted
+pub mod WordCounts
 pub mod Cuts
-pub mod Found
-pub mod Gathered
-pub mod Judged
+pub mod Outcomes
+pub mod WordLists
+pub mod Verdicts
 pub mod Many
 pub mod Numerals
-pub mod Spelled
+pub mod LineWords
 pub mod Worked

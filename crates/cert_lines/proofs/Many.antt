@@ -28,11 +28,6 @@ pub one_refused : {A : Type 0} (part : Part A) (items : List A) (count : ℕ) (a
 unfolding many
 one_refused part items count at refusal e = rw e refl
 
--- before all and behind all
-pub none_read : {A : Type 0} (read : Result (List A × Place) CertError) → items_before [] read ≡ read
-none_read (Ok found) = refl
-none_read (Err refusal) = refl
-
 pub all_read : {A : Type 0} (part : Part A) (items : List A) (at : Place)
     → items_before items (many part 0 at) ≡ Ok (items, at)
 unfolding many

@@ -18,9 +18,10 @@ use Rattle.std.proofs.lemmas.Str.Parse.{IsNumeralModel, digit_from_value, numera
 use Rattle.affine_core.specs.Within.{fits_128_bits}
 use Rattle.cert_lines.specs.declared.error.Fault.{Fault}
 use Rattle.cert_lines.specs.declared.error.Fault.TheVariants.{Words, Range}
-use Rattle.cert_lines.specs.Words.{IsInRange, in_128_bits, integer, is_negative, is_numeral, number, numeral_value}
+use Rattle.cert_lines.specs.Words.{IsInRange, in_128_bits, integer, is_negative, is_numeral, number}
+use Rattle.plain_data.specs.Digits.{decimal_number}
 
-pub digits : IsNumeralModel (λ ds. list_all is_ascii_digit ds ≡ true) numeral_value
+pub digits : IsNumeralModel (λ ds. list_all is_ascii_digit ds ≡ true) decimal_number
 digits = numerals_by_fold _ (search rules) (λ n ds. fold (λ value digit. value * 10 + (digit - 48)) n ds) (search rules)
 
 -- What is written of a number
@@ -28,7 +29,7 @@ digits = numerals_by_fold _ (search rules) (λ n ds. fold (λ value digit. value
 pub digits_wide : (n : ℕ) → n < 10 ^ 64 → list_all is_ascii_digit (decimal n) ≡ true
 digits_wide n small = digits.from (decimal n) (decimal_is_IsNumeral_wide n small).0.1
 
-value_wide : (n : ℕ) → n < 10 ^ 64 → numeral_value (decimal n) ≡ n
+value_wide : (n : ℕ) → n < 10 ^ 64 → decimal_number (decimal n) ≡ n
 value_wide n small = digits.same (decimal n) (decimal_is_IsNumeral_wide n small).0.1
     ∙ (decimal_is_IsNumeral_wide n small).1
 
@@ -109,8 +110,8 @@ some_digits : (n : ℕ) → not (n == 0) ≡ true → 0 < n
 some_digits n test = grind (arith, nat_tests)
 
 -- a numeral is what is written of its value
-decimal_of_numeral : (word : List ℕ) → is_numeral word ≡ true → numeral_value word < 10 ^ 64
-    → decimal (numeral_value word) ≡ word
+decimal_of_numeral : (word : List ℕ) → is_numeral word ≡ true → decimal_number word < 10 ^ 64
+    → decimal (decimal_number word) ≡ word
 decimal_of_numeral word numeral small =
     let parts = and_parts _ _ numeral in
     let front = and_parts _ _ parts.0 in
@@ -124,12 +125,12 @@ in_range n test = grind (arith, nat_tests)
 -- what is read as a number is what is written of it
 pub decimal_of_number : (word : List ℕ) (n : ℕ) → number word ≡ Ok n → (word ≡ decimal n) × IsInRange n
 decimal_of_number word n e = elim (cases_Bool (is_numeral word)) [
-  | inl numeral ↦ elim (cases_Bool (nat_le (numeral_value word) 4294967295)) [
+  | inl numeral ↦ elim (cases_Bool (nat_le (decimal_number word) 4294967295)) [
     | inl few ↦
-        let read : ◌≡◌ {A = Result ℕ Fault} (Ok (numeral_value word)) (Ok n) = rw (numeral, few) at e in
-        let value : numeral_value word ≡ n = cc in
-        let range = in_range (numeral_value word) few in
-        let small : numeral_value word < 10 ^ 64 = omega arith in
+        let read : ◌≡◌ {A = Result ℕ Fault} (Ok (decimal_number word)) (Ok n) = rw (numeral, few) at e in
+        let value : decimal_number word ≡ n = cc in
+        let range = in_range (decimal_number word) few in
+        let small : decimal_number word < 10 ^ 64 = omega arith in
         rw (← value) (sym (decimal_of_numeral word numeral small), range)
     | inr many ↦ let read : ◌≡◌ {A = Result ℕ Fault} (Err Range) (Ok n) = rw (numeral, many) at e in absurd (cc read)
   ]
@@ -192,18 +193,18 @@ IsWritten : List ℕ → ℤ → Type 0
 IsWritten word z = (word ≡ signed_decimal z) × (fits_128_bits z ≡ true)
 
 -- a numeral, with its value
-plain_written : (word : List ℕ) (n : ℕ) (z : ℤ) → is_numeral word ≡ true → numeral_value word ≡ n → in_128_bits (pos n)
+plain_written : (word : List ℕ) (n : ℕ) (z : ℤ) → is_numeral word ≡ true → decimal_number word ≡ n → in_128_bits (pos n)
     ≡ Ok z → IsWritten word z
 unfolding IsWritten
 plain_written word n z numeral value e =
     let k = within_bits (pos n) z e in
     let half = below_half n k.1 in
-    let small : numeral_value word < 10 ^ 64 = omega (arith, value) in
+    let small : decimal_number word < 10 ^ 64 = omega (arith, value) in
     rw (← k.0) (sym (decimal_of_numeral word numeral small) ∙ ap decimal value, k.1)
 
 -- the same behind a minus
 negated_written : (word : List ℕ) (n : ℕ) (z : ℤ) → is_numeral word ≡ true → bytes_eq word (codes "0") ≡ false
-    → numeral_value word ≡ n → in_128_bits (neg_ℤ (pos n)) ≡ Ok z
+    → decimal_number word ≡ n → in_128_bits (neg_ℤ (pos n)) ≡ Ok z
     → IsWritten (45 ∷ word) z
 unfolding IsWritten
 negated_written word zero z numeral other value e =
@@ -214,12 +215,12 @@ negated_written word zero z numeral other value e =
 negated_written word (suc n) z numeral other value e =
     let k = within_bits (negsuc n) z e in
     let half = below_half n k.1 in
-    let small : numeral_value word < 10 ^ 64 = omega (arith, value) in
+    let small : decimal_number word < 10 ^ 64 = omega (arith, value) in
     rw (← k.0) (ap (λ (ds : List ℕ). 45 ∷ ds) (sym (decimal_of_numeral word numeral small) ∙ ap decimal value), k.1)
 
 -- a word with a minus before it
 negative_written : (word : List ℕ) (z : ℤ) → is_negative word ≡ true
-    → in_128_bits (neg_ℤ (pos (numeral_value (drop 1 word)))) ≡ Ok z → IsWritten word z
+    → in_128_bits (neg_ℤ (pos (decimal_number (drop 1 word)))) ≡ Ok z → IsWritten word z
 unfolding IsWritten
 negative_written [] z negative e = absurd (cc negative)
 negative_written (byte ∷ word) z negative e =
@@ -227,7 +228,7 @@ negative_written (byte ∷ word) z negative e =
     let front = and_parts _ _ parts.0 in
     let minus : byte ≡ 45 = eqb-true byte 45 front.0 in
     let other : bytes_eq word (codes "0") ≡ false = no_zero (bytes_eq word (codes "0")) parts.1 in
-    let written = negated_written word (numeral_value word) z front.1 other refl e in
+    let written = negated_written word (decimal_number word) z front.1 other refl e in
     rw minus written
   where
     no_zero : (test : Bool) → not test ≡ true → test ≡ false
@@ -239,7 +240,7 @@ pub decimal_of_integer : (word : List ℕ) (z : ℤ) → integer word ≡ Ok z �
     × (fits_128_bits z ≡ true)
 unfolding IsWritten
 decimal_of_integer word z e = elim (cases_Bool (is_numeral word)) [
-  | inl numeral ↦ plain_written word (numeral_value word) z numeral refl (rw numeral at e)
+  | inl numeral ↦ plain_written word (decimal_number word) z numeral refl (rw numeral at e)
   | inr other ↦ elim (cases_Bool (is_negative word)) [
     | inl negative ↦ negative_written word z negative (rw (other, negative) at e)
     | inr wrong ↦ let read : ◌≡◌ {A = Result ℤ Fault} (Err Words) (Ok z) = rw (other, wrong) at e in absurd (cc read)

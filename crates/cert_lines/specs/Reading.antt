@@ -34,6 +34,7 @@ abbrev pub cut_read : {A : Type 0} → (List (List ℕ) → Result A Fault) → 
 cut_read judge n None = Err Truncated
 cut_read judge n (Some cut) = line_read n cut.1 (judge (words_of cut.0))
 
+-- what one line of a text says and where the next one begins, or why it is refused, with its number
 abbrev pub line : {A : Type 0} → (List (List ℕ) → Result A Fault) → Part A
 line judge at = cut_read judge at.line (first_line at.text)
 
@@ -55,7 +56,7 @@ abbrev pub goes_on : ℕ → Option (List ℕ × List ℕ) → CertError
 goes_on n None = Truncated
 goes_on n (Some cut) = Line n
 
--- nothing: a text that goes on is refused
+-- behind the last line stands nothing: a text that goes on is refused
 abbrev pub text_end : Part Unit
 text_end at = end_read at at.text
   where

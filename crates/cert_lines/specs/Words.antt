@@ -1,11 +1,12 @@
 -- Lines, their words, and the numbers that words may be.
-use Rattle.std.specs.Prelude.{ℕ, ◌+◌, ◌-◌, ◌*◌, ◌≤◌, ◌==◌, ◌&&◌, ◌||◌, ℤ, pos, neg_ℤ, Bool, false, not, nat_le, if◌then◌else◌, Option, Some, None, List, [], ◌∷◌, bytes_eq, codes, drop, fold, length, slice_index, Result, Ok, Err}
+use Rattle.std.specs.Prelude.{ℕ, ◌≤◌, ◌==◌, ◌&&◌, ◌||◌, ℤ, pos, neg_ℤ, Bool, false, not, nat_le, if◌then◌else◌, Option, Some, None, List, [], ◌∷◌, bytes_eq, codes, drop, length, slice_index, Result, Ok, Err}
 use Rattle.std.specs.Char.{is_ascii_digit}
 use Rattle.std.specs.List.{join_with_byte, list_all, slice_split}
 use Rattle.std.specs.Option.{option_map}
 use Rattle.affine_core.specs.Within.{fits_128_bits}
 use Rattle.cert_lines.specs.declared.error.Fault.{Fault}
 use Rattle.cert_lines.specs.declared.error.Fault.TheVariants.{Words, Range}
+use Rattle.plain_data.specs.Digits.{decimal_number}
 
 -- what stands before the first such byte, and what stands behind it; none where no such byte stands
 abbrev pub cut_at : ℕ → List ℕ → Option (List ℕ × List ℕ)
@@ -32,7 +33,7 @@ abbrev pub made : {A B : Type 0} → (A → B) → Result A Fault → Result B F
 made f (Ok a) = Ok (f a)
 made f (Err fault) = Err fault
 
--- just this text
+-- a word that is just this text
 abbrev pub just : List ℕ → List (List ℕ) → Result Unit Fault
 just text words = if bytes_eq (join_with_byte 32 words) text then Ok tt else Err Words
 
@@ -43,9 +44,6 @@ abbrev pub is_numeral : List ℕ → Bool
 is_numeral word =
     not (length word == 0) && list_all is_ascii_digit word
     && (not (slice_index word 0 == 48) || (length word == 1))
-
-abbrev pub numeral_value : List ℕ → ℕ
-numeral_value digits = fold (λ value digit. value * 10 + (digit - 48)) 0 digits
 
 -- a `-` and a numeral other than 0
 abbrev pub is_negative : List ℕ → Bool
@@ -59,7 +57,7 @@ IsInRange number = number ≤ 4294967295
 abbrev pub number : List ℕ → Result ℕ Fault
 number word =
     if is_numeral word
-    then (if nat_le (numeral_value word) 4294967295 then Ok (numeral_value word) else Err Range)
+    then (if nat_le (decimal_number word) 4294967295 then Ok (decimal_number word) else Err Range)
     else if is_negative word then Err Range
     else Err Words
 
@@ -70,6 +68,6 @@ in_128_bits z = if fits_128_bits z then Ok z else Err Range
 -- a number within 128 signed bits
 abbrev pub integer : List ℕ → Result ℤ Fault
 integer word =
-    if is_numeral word then in_128_bits (pos (numeral_value word))
-    else if is_negative word then in_128_bits (neg_ℤ (pos (numeral_value (drop 1 word))))
+    if is_numeral word then in_128_bits (pos (decimal_number word))
+    else if is_negative word then in_128_bits (neg_ℤ (pos (decimal_number (drop 1 word))))
     else Err Words

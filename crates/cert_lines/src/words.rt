@@ -3,9 +3,11 @@
 ghost use Rattle.std.specs.Prelude.{◌≡◌, ◌≤◌, ◌==◌, ◌<◌, not, true, pos, neg_ℤ, [], ◌∷◌, length, min, MatchOption, None, Some};
 ghost use Rattle.std.specs.Char.{is_ascii_digit};
 ghost use Rattle.std.specs.List.{list_all, prefix_len};
-ghost use Rattle.cert_lines.specs.Words.{both as judged_together, cut_at, in_128_bits, integer as integer_of, is_negative as negative, is_numeral as numeral, number as number_of, numeral_value, words_of};
+ghost use Rattle.plain_data.specs.Digits.{decimal_number};
+ghost use Rattle.cert_lines.specs.Words.{both as judged_together, cut_at, in_128_bits, integer as integer_of, is_negative as negative, is_numeral as numeral, number as number_of, words_of};
 
 use crate::error::Fault;
+use plain_data::capped_number;
 use std::marker::Model;
 
 /// The number of bytes before the first that is this one.
@@ -94,24 +96,10 @@ fn is_negative(word: &[u8]) -> bool
     }
 }
 
-/// The value of a numeral, or the greatest number where it passes that.
-fn capped_value(digits: &[u8]) -> u64
-    requires { numeral digits.now ≡ true }
-    ensures { result ≡ min (numeral_value digits.now) u64.MAX }
-{
-    let mut value: u64 = 0;
-    for digit in digits {
-        value = value
-            .saturating_mul(10)
-            .saturating_add(u64::from(*digit - b'0'));
-    }
-    value
-}
-
 /// The value of a numeral, or the greatest number of 128 bits where it passes that.
 fn wide_value(digits: &[u8]) -> u128
     requires { numeral digits.now ≡ true }
-    ensures { result ≡ min (numeral_value digits.now) u128.MAX }
+    ensures { result ≡ min (decimal_number digits.now) u128.MAX }
 {
     let mut value: u128 = 0;
     for digit in digits {
@@ -151,7 +139,7 @@ pub fn number(word: &[u8]) -> Result<u32, Fault>
     ensures { result ≡ number_of word.now }
 {
     if is_numeral(word) {
-        u32::try_from(capped_value(word)).map_err(|_| Fault::Range)
+        u32::try_from(capped_number(word)).map_err(|_| Fault::Range)
     } else if is_negative(word) {
         Err(Fault::Range)
     } else {

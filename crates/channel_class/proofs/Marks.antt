@@ -1,9 +1,8 @@
 -- Repeats among the first so many uses, which are found by marks. So far no index is repeated, and an index is
 -- marked exactly where one of these uses names it. It is inductive: an index that has a mark is used again, and one
 -- that has none is used for the first time.
-use Rattle.std.proofs.Common.{◌≡◌, ℕ, zero, suc, ◌+◌, ◌<◌, ◌≤◌, Bool, true, false, cond, List, [], ◌∷◌, ◌==◌, ◌||◌, take, drop}
+use Rattle.std.proofs.Common.{◌≡◌, ℕ, ◌+◌, ◌<◌, ◌≤◌, Bool, true, false, cond, List, [], ◌∷◌, ◌==◌, ◌||◌, take, drop}
 use Rattle.std.proofs.Common.{get_or, set, length, count_by, refl, sym, ap, ◌∙◌, inl, inr, arith, eqb-true, eq-eqb, ne_eqb}
-use Rattle.std.specs.Prelude.{replicate}
 use Rattle.std.specs.List.{list_any}
 use Rattle.std.proofs.lemmas.Bool.{cases_Bool, cases_eq, or_from, or_left, or_right}
 use Rattle.std.proofs.lemmas.List.{get_or-set_same, get_or-set_other, take-append-drop}
@@ -93,12 +92,3 @@ marked_more uses i t marks here within was =
           get_or-set_other marks u t true false ne ∙ was
           ∙ sym (next ∙ ap (λ b. is_named uses i t || b) (ne_eqb t u ne) ∙ or_none (is_named uses i t) false refl)
     ]
-
-no_mark : (limit t : ℕ) → get_or (replicate limit false) t false ≡ false
-no_mark zero t = refl
-no_mark (suc limit) zero = refl
-no_mark (suc limit) (suc t) = no_mark limit t
-
-pub none_marked : (uses : List ℕ) (limit t : ℕ) (marks : List Bool) → marks ≡ replicate limit false
-    → get_or marks t false ≡ is_named uses 0 t
-none_marked uses limit t marks e = ap (λ ms. get_or ms t false) e ∙ no_mark limit t

@@ -1,28 +1,11 @@
 -- How the test of a list follows from its neighbours, from a place on.
 use Rattle.std.proofs.Common.{◌≡◌, ℕ, zero, suc, ◌+◌, ◌<◌, ◌≤◌, true, false, List, [], ◌∷◌, length, get_or, drop, refl}
-use Rattle.std.proofs.Common.{sym, ap, ◌∙◌, arith, eq-eqb, ne_eqb, le-leb, ◌==◌, ◌&&◌, ◌||◌, length-drop, get_or-drop}
+use Rattle.std.proofs.Common.{ap, ◌∙◌, arith, ne_eqb, ◌==◌, ◌||◌, length-drop, get_or-drop}
 use Rattle.std.proofs.Math.Seq.{drop-cons}
-use Rattle.std.proofs.lemmas.Bool.{lt-leb, or_left, or_from, cases_eq}
+use Rattle.std.proofs.lemmas.Bool.{or_from, cases_eq}
 use Rattle.std.specs.List.{list_any}
 use Rattle.std.specs.List.Sorted.{IsNonDecreasing}
 use Rattle.channel_class.specs.Classes.{never_falls, has_repeat}
-
--- from place k on, a list begins with the elements at k and at the next place
-two : (xs : List ℕ) (k : ℕ) → suc k < length xs
-    → drop k xs ≡ get_or xs k 0 ∷ (get_or xs (suc k) 0 ∷ drop (suc (suc k)) xs)
-two xs k lt =
-    drop-cons xs k 0 (omega arith) ∙ ap (λ ys. get_or xs k 0 ∷ ys) (drop-cons xs (suc k) 0 lt)
-
-pub falls_here : (xs : List ℕ) (k : ℕ) → suc k < length xs → get_or xs (suc k) 0 < get_or xs k 0
-    → never_falls (drop k xs) ≡ false
-falls_here xs k lt fall = rw (two xs k lt, lt-leb (get_or xs k 0) (get_or xs (suc k) 0) fall) refl
-
-pub falls_later : (xs : List ℕ) (k : ℕ) → suc k < length xs → get_or xs k 0 ≤ get_or xs (suc k) 0
-    → never_falls (drop k xs) ≡ never_falls (drop (suc k) xs)
-falls_later xs k lt rise =
-    ap never_falls (two xs k lt)
-    ∙ ap (λ b. b && never_falls (get_or xs (suc k) 0 ∷ drop (suc (suc k)) xs))
-    (le-leb (get_or xs k 0) (get_or xs (suc k) 0) rise) ∙ sym (ap never_falls (drop-cons xs (suc k) 0 lt))
 
 -- a last element falls nowhere
 pub falls_last : (xs : List ℕ) (k : ℕ) → length xs ≤ suc k → never_falls (drop k xs) ≡ true
@@ -39,11 +22,6 @@ none_equal m (x ∷ xs) above =
     let here : m < x = above 0 (omega arith) in
     or_from (m == x) (list_any (λ n. m == n) xs) (ne_eqb m x (λ e. omega arith))
     (none_equal m xs (λ j lt. above (suc j) (omega arith)))
-
-pub repeat_here : (xs : List ℕ) (k : ℕ) → suc k < length xs → get_or xs k 0 ≡ get_or xs (suc k) 0
-    → has_repeat (drop k xs) ≡ true
-repeat_here xs k lt same =
-    ap has_repeat (two xs k lt) ∙ or_left _ _ (or_left _ _ (eq-eqb (get_or xs k 0) (get_or xs (suc k) 0) same))
 
 -- in a sorted list, an element below the next one stands once from there on
 pub repeat_later : (xs : List ℕ) (k : ℕ) → IsNonDecreasing xs → suc k < length xs

@@ -1,4 +1,7 @@
 //! The class of a channel: whether its tokens are used in order, and whether some token is used more than once.
+//!
+//! Between two calls, or from one step of the main loop to the next: no index is repeated so far, and an index is
+//! marked exactly where a use before names it; in a sorted copy equal ones stand side by side.
 #![tactic(auto)]
 
 ghost use Rattle.std.specs.Prelude.{◌≡◌, ◌<◌, All, IfOk, IsPermutation, IsSorted, IsTrue};

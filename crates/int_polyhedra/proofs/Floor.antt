@@ -9,7 +9,7 @@ use Rattle.std.proofs.lemmas.Bool.{cases_lt}
 use Rattle.std.proofs.Math.Nat.{mul-le-mul_left}
 use Rattle.affine_core.proofs.Ring.{sum_times, times_swap}
 use Rattle.affine_core.proofs.Linear.{dot}
-use Rattle.int_polyhedra.proofs.Found.{mapped_none, find_none}
+use Rattle.int_polyhedra.proofs.ListSearch.{mapped_none, find_none}
 use Rattle.int_polyhedra.specs.Steps.{floor, not_divisible}
 
 -- where d divides n + 1, the quotient of n is one less

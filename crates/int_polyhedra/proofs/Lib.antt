@@ -1,8 +1,8 @@
 pub mod RowsOf
-pub mod Found
-pub mod Kept
+pub mod ListSearch
+pub mod SumInvariants
 pub mod Variables
 pub mod Floor
 pub mod Cases
 pub mod Soundness
-pub mod Followed
+pub mod ProofRules

@@ -10,11 +10,14 @@ use Rattle.std.specs.Int.RustNames.{int_lt, unsigned_abs}
 use Rattle.std.proofs.lemmas.Int.{ints, by_lt_z}
 use Rattle.std.proofs.lemmas.Option.{option_and_then_some}
 use Rattle.std.proofs.lemmas.List.Elements.{All-push, All-head, All-tail}
+use Rattle.std.proofs.lemmas.List.{length-map}
 use Rattle.affine_core.specs.declared.form.Form.{Form}
 use Rattle.affine_core.specs.Affine.{form_at, form_product, form_sum, constant_form}
 use Rattle.affine_core.specs.Within.{form_in_128_bits}
 use Rattle.affine_core.proofs.Ring.{times_not_negative, factor_positive, sum_times}
 use Rattle.affine_core.proofs.Linear.{dot, combined_is, product_at, sum_at, constant_at, form_in_128_bits_is}
+use Rattle.affine_core.proofs.Linear.{length-sums}
+use Rattle.affine_core.proofs.Integers.{int_eq-true, int_lt-false, int_lt-true}
 use Rattle.int_polyhedra.specs.declared.system.Proof.{Proof}
 use Rattle.int_polyhedra.specs.declared.system.Proof.TheOpen.{Proof-F, Sum, Cut, Split}
 use Rattle.int_polyhedra.specs.declared.system.Proof.TheFolds.{map-Proof, fold-roll-Proof, ind-Proof}
@@ -26,18 +29,12 @@ use Rattle.int_polyhedra.specs.Systems.{all_over, AreOver, HasNoPoint, Entails}
 use Rattle.int_polyhedra.specs.Steps.{sum_of, negative_multiplier, bad_divisor, is_contradictory, sum_refusal, floor}
 use Rattle.int_polyhedra.specs.Steps.{not_divisible, quotient_row, divided_row, cut_row, negation_of, split_row}
 use Rattle.int_polyhedra.specs.Refusal.{Refusal, refusal, refusal_step, entailment_refusal}
-use Rattle.int_polyhedra.proofs.Kept.{Each, each_more, sum_of_keeps, sum_of_divisor, row_and_then_ok, refusal_or_none}
-use Rattle.int_polyhedra.proofs.Kept.{row_unless_ok, option_or_none}
-use Rattle.int_polyhedra.proofs.Variables.{length_map, length_sums, length_zeros, each_over, IsOver, split_is}
+use Rattle.int_polyhedra.proofs.SumInvariants.{Each, each_more, sum_of_keeps, sum_of_divisor, row_and_then_ok, refusal_or_none}
+use Rattle.int_polyhedra.proofs.SumInvariants.{row_unless_ok, option_or_none}
+use Rattle.int_polyhedra.proofs.Variables.{length_zeros, each_over, IsOver, split_is}
 use Rattle.int_polyhedra.proofs.Variables.{split_over, over_more}
-use Rattle.int_polyhedra.proofs.Found.{mapped_none, find_none}
+use Rattle.int_polyhedra.proofs.ListSearch.{mapped_none, find_none}
 use Rattle.int_polyhedra.proofs.Floor.{floor_above, dot_floors}
-
-zero_when : (c : ℤ) → int_eq c (pos 0) ≡ true → c ≡ pos 0
-zero_when c e = grind (arith, ints)
-
-low_when : (c : ℤ) → int_lt c (pos 0) ≡ true → c <ℤ pos 0
-low_when c e = grind (arith, ints)
 
 from_one : (d : ℤ) → int_lt d (pos 1) ≡ false → pos 1 ≤ℤ d
 from_one d e = grind (arith, ints)
@@ -55,21 +52,18 @@ dot_none (c ∷ cs) at e = go (dot_none cs) (int_eq c (pos 0)) refl at e where
   go more false is at e = absurd (let f : false ≡ true = e in cc)
   go more true is [] e = refl
   go more true is (v ∷ at) e =
-      let z : c ≡ pos 0 = zero_when c is in
+      let z : c ≡ pos 0 = int_eq-true c (pos 0) is in
       omega (arith, ints, ap (λ x. x *ℤ v) z, more at e)
 
 NotNegative : Term → Type 0
 NotNegative t = pos 0 ≤ℤ t.times
-
-not_below : (z : ℤ) → int_lt z (pos 0) ≡ false → pos 0 ≤ℤ z
-not_below z e = grind (arith, ints)
 
 each_found : (terms : List Term) → find (λ term. int_lt term.times (pos 0)) terms ≡ None → Each NotNegative terms
 unfolding NotNegative
 each_found [] e = tt
 each_found (t ∷ terms) e =
     let f = find_none (λ (term : Term). int_lt term.times (pos 0)) t terms e in
-    (not_below t.times f.0, each_found terms f.1)
+    (int_lt-false t.times (pos 0) f.0, each_found terms f.1)
 
 each_times : (terms : List Term) → negative_multiplier terms ≡ None → Each NotNegative terms
 each_times terms e = each_found terms (mapped_none _ (find (λ term. int_lt term.times (pos 0)) terms) e)
@@ -84,7 +78,7 @@ negation_at form other at is =
     (λ minus is' e.
     let m : form_product (negsuc 0) form ≡ minus = form_in_128_bits_is (form_product (negsuc 0) form) minus is' in
     let w : length (form_product (negsuc 0) form).coefs ≡ length one.coefs =
-    length_map (λ c. c *ℤ negsuc 0) form.coefs ∙ sym (length_zeros (length form.coefs)) in
+    length-map form.coefs (λ c. c *ℤ negsuc 0) ∙ sym (length_zeros (length form.coefs)) in
     ap (λ f. form_at f at) (sym (form_in_128_bits_is (form_sum minus one) other e))
     ∙ ap (λ f. form_at (form_sum f one) at) (sym m)
     ∙ sum_at (form_product (negsuc 0) form) one at w
@@ -98,14 +92,14 @@ module _ (at : List ℤ) where
   scale_met : (t : Term) (f : Form) → NotNegative t → IsMet f → IsMet (form_product t.times f)
   unfolding NotNegative
   scale_met t f k h = (
-    length_map (λ c. c *ℤ t.times) f.coefs ∙ h.0,
+    length-map f.coefs (λ c. c *ℤ t.times) ∙ h.0,
     subst (λ z. pos 0 ≤ℤ z) (sym (product_at t.times f at)) (times_not_negative (form_at f at) t.times h.1 k),
   )
 
   add_met : (f g : Form) → IsMet f → IsMet g → IsMet (form_sum f g)
   add_met f g h k =
       let e : length f.coefs ≡ length g.coefs = h.0 ∙ sym k.0 in (
-        length_sums f.coefs g.coefs e ∙ h.0,
+        length-sums f.coefs g.coefs e ∙ h.0,
         (let s : pos 0 ≤ℤ (form_at f at +ℤ form_at g at) =
             omega (arith, ints, h.1, k.1) in subst (λ z. pos 0 ≤ℤ z) (sym (sum_at f g at e)) s),
       )
@@ -127,7 +121,7 @@ module _ (at : List ℤ) where
     go : (b : Bool) → int_lt f.constant (pos 0) ≡ b → (b && list_all (λ c. int_eq c (pos 0)) f.coefs) ≡ true → ⊥
     go false is e = absurd (let f : false ≡ true = e in cc)
     go true is e =
-        let low : f.constant <ℤ pos 0 = low_when f.constant is in
+        let low : f.constant <ℤ pos 0 = int_lt-true f.constant (pos 0) is in
         omega (arith, ints, h.1, combined_is f.constant f.coefs at, dot_none f.coefs at e)
 
   divided_met : (d : ℕ) (f g : Form) → 0 < d → divided_row d f ≡ Ok g → IsMet f → IsMet g
@@ -144,7 +138,7 @@ module _ (at : List ℤ) where
       factor_positive ((floor f.constant d +ℤ pos 1) +ℤ s) (pos d) (omega (arith, ints)) product in
       let met : pos 0 ≤ℤ (floor f.constant d +ℤ s) = omega (arith, ints, factor) in
       subst IsMet q (
-        length_map (λ c. floor c d) f.coefs ∙ h.0,
+        length-map f.coefs (λ c. floor c d) ∙ h.0,
         subst (λ z. pos 0 ≤ℤ z) (sym (combined_is (floor f.constant d) (map (λ c. floor c d) f.coefs) at)) met,
       )
 

@@ -8,6 +8,7 @@ use Rattle.affine_core.specs.Affine.{form_at}
 abbrev pub all_over : ℕ → List Form → Bool
 all_over vars rows = list_all (λ row. length row.coefs == vars) rows
 
+-- the rows are over so many variables
 abbrev pub AreOver : ℕ → List Form → Type 0
 AreOver vars rows = all_over vars rows ≡ true
 

@@ -1,4 +1,7 @@
 //! Systems of affine rows over whole numbers, and proofs that no whole point meets them.
+//!
+//! Between two calls, or from one step of the main loop to the next: rows keep their numbers; those that steps add
+//! stand behind them.
 #![tactic(auto)]
 
 mod refute;

@@ -4,7 +4,7 @@ use Rattle.std.specs.List.{list_any}
 use Rattle.std.specs.Coded.{Coded, code_by, coded×, coded_ℕ, coded_list}
 use Rattle.io_edge.specs.Causes.{one_more}
 
--- what is left, the most bytes of a call, the numbers of the calls that fail, the calls so far, and the faults so far
+-- a source in memory: what is left, the most bytes of a call, which calls fail, and the calls and faults so far
 pub record SourceState : Type 0 where
   pub left : List ℕ
   pub piece : ℕ
@@ -12,7 +12,7 @@ pub record SourceState : Type 0 where
   pub calls : ℕ
   pub faults : ℕ
 
--- what is held, how many bytes may be held, and as above
+-- a sink in memory: what is held, how many bytes may be held, which calls fail, and the calls and faults so far
 pub record SinkState : Type 0 where
   pub held : List ℕ
   pub room : ℕ
@@ -29,9 +29,11 @@ is_among failing call = list_any (λ number. number == call) failing
 abbrev pub given_count : SourceState → ℕ → ℕ
 given_count s room = min (min (length s.left) s.piece) room
 
+-- a source in memory after a read
 abbrev pub after_read : SourceState → ℕ → SourceState
 after_read s count = record s { left = drop count s.left; calls = one_more s.calls }
 
+-- a source in memory after a read that fails
 abbrev pub after_failed_read : SourceState → SourceState
 after_failed_read s = record s { calls = one_more s.calls; faults = one_more s.faults }
 
@@ -39,7 +41,7 @@ after_failed_read s = record s { calls = one_more s.calls; faults = one_more s.f
 abbrev pub taken_count : SinkState → ℕ → ℕ
 taken_count s len = min (min len s.piece) (s.room - length s.held)
 
--- a write that takes nothing of a non-empty piece is a fault
+-- a sink in memory after a write: one that takes nothing of a non-empty piece is a fault
 abbrev pub after_write : SinkState → List ℕ → SinkState
 after_write s piece =
     let count = taken_count s (length piece) in
@@ -49,6 +51,7 @@ after_write s piece =
       faults = if (count == 0) && not (length piece == 0) then one_more s.faults else s.faults;
     }
 
+-- a sink in memory after a write that fails
 abbrev pub after_failed_write : SinkState → SinkState
 after_failed_write s = record s { calls = one_more s.calls; faults = one_more s.faults }
 

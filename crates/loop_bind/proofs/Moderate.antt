@@ -5,31 +5,21 @@
 -- 2^32 at most. Each fact is arithmetic on a number between two others, and is then carried through the constant and
 -- the coefficients of a form. Not every difference of moderate numbers is moderate: the facts are of forms as they are
 -- written and of what is made of them once.
-use Rattle.std.proofs.Common.{◌≡◌, ℕ, zero, suc, replicate, ℤ, pos, negsuc, ◌-ℤ◌, ◌≤ℤ◌, Bool, true, false, T, List, []}
+use Rattle.std.proofs.Common.{ℕ, zero, suc, replicate, ℤ, pos, negsuc, ◌-ℤ◌, ◌≤ℤ◌, List, []}
 use Rattle.std.proofs.Common.{◌∷◌, refl, arith}
 use Rattle.std.specs.Prelude.{IsTrue, slice_set}
 use Rattle.std.specs.Int.RustNames.{int_le}
 use Rattle.std.specs.List.{list_all}
 use Rattle.std.specs.Cmp.Derive.{both_true}
 use Rattle.std.proofs.lemmas.Bool.{and_parts}
-use Rattle.std.proofs.lemmas.Float.{T_from_true}
 use Rattle.std.proofs.lemmas.Int.{ints}
+use Rattle.affine_core.proofs.Integers.{int_le-true, le-int_le}
 use Rattle.sanlp.specs.Cells.{natural}
 use Rattle.sanlp.specs.WellFormed.{is_moderate}
 use Rattle.loop_bind.specs.declared.affine.Affine.{Affine}
 use Rattle.loop_bind.specs.Forms.{constant_form, multiple_form, is_limited_number, is_limited, difference_form}
 use Rattle.loop_bind.specs.Forms.{lowered_form, termwise}
 use Rattle.loop_bind.specs.Ranges.{is_moderate_form, is_bound_number, is_bound_form}
-
-true_from_T : (b : Bool) → T b → b ≡ true
-true_from_T true t = refl
-true_from_T false t = elim t [ ]
-
-tested : (a b : ℤ) → a ≤ℤ b → IsTrue (int_le a b)
-tested a b h = true_from_T (int_le a b) h.le
-
-known : (a b : ℤ) → IsTrue (int_le a b) → a ≤ℤ b
-known a b e = record { le = T_from_true (int_le a b) e }
 
 -- a number between these two
 abbrev Between : ℤ → ℤ → ℤ → Type 0
@@ -38,10 +28,10 @@ Between low high v = (low ≤ℤ v) × (v ≤ℤ high)
 limited_between : (v : ℤ) → IsTrue (is_limited_number v) → Between (negsuc 2147483646) (pos 2147483647) v
 limited_between v h =
     let parts = and_parts (int_le (negsuc 2147483646) v) (int_le v (pos 2147483647)) h in
-    (known (negsuc 2147483646) v parts.0, known v (pos 2147483647) parts.1)
+    (int_le-true (negsuc 2147483646) v parts.0, int_le-true v (pos 2147483647) parts.1)
 
 moderate_from : (v : ℤ) → Between (negsuc 4294967295) (pos 4294967296) v → IsTrue (is_moderate v)
-moderate_from v h = both_true (tested (negsuc 4294967295) v h.0) (tested v (pos 4294967296) h.1)
+moderate_from v h = both_true (le-int_le (negsuc 4294967295) v h.0) (le-int_le v (pos 4294967296) h.1)
 
 pub moderate_number : (v : ℤ) → IsTrue (is_limited_number v) → IsTrue (is_moderate v)
 moderate_number v h = let b = limited_between v h in moderate_from v (omega (arith, ints), omega (arith, ints))
@@ -49,10 +39,10 @@ moderate_number v h = let b = limited_between v h in moderate_from v (omega (ari
 bound_between : (v : ℤ) → IsTrue (is_bound_number v) → Between (negsuc 2147483647) (pos 2147483647) v
 bound_between v h =
     let parts = and_parts (int_le (negsuc 2147483647) v) (int_le v (pos 2147483647)) h in
-    (known (negsuc 2147483647) v parts.0, known v (pos 2147483647) parts.1)
+    (int_le-true (negsuc 2147483647) v parts.0, int_le-true v (pos 2147483647) parts.1)
 
 bound_from : (v : ℤ) → Between (negsuc 2147483647) (pos 2147483647) v → IsTrue (is_bound_number v)
-bound_from v h = both_true (tested (negsuc 2147483647) v h.0) (tested v (pos 2147483647) h.1)
+bound_from v h = both_true (le-int_le (negsuc 2147483647) v h.0) (le-int_le v (pos 2147483647) h.1)
 
 bound_number : (v : ℤ) → IsTrue (is_limited_number v) → IsTrue (is_bound_number v)
 bound_number v h = let b = limited_between v h in bound_from v (omega (arith, ints), omega (arith, ints))
@@ -89,13 +79,13 @@ moderate_gap_less v w h k =
     let c = limited_between w k in
     moderate_from ((v -ℤ w) -ℤ pos 1) (omega (arith, ints), omega (arith, ints))
 
-moderate_numbers : (vs : List ℤ) → IsTrue (list_all is_limited_number vs) → IsTrue (list_all is_moderate vs)
+pub moderate_numbers : (vs : List ℤ) → IsTrue (list_all is_limited_number vs) → IsTrue (list_all is_moderate vs)
 moderate_numbers [] h = refl
 moderate_numbers (v ∷ vs) h =
     let parts = and_parts (is_limited_number v) (list_all is_limited_number vs) h in
     both_true (moderate_number v parts.0) (moderate_numbers vs parts.1)
 
-moderate_gaps : (vs ws : List ℤ) → IsTrue (list_all is_limited_number vs) → IsTrue (list_all is_limited_number ws)
+pub moderate_gaps : (vs ws : List ℤ) → IsTrue (list_all is_limited_number vs) → IsTrue (list_all is_limited_number ws)
     → IsTrue (list_all is_moderate (termwise ◌-ℤ◌ vs ws))
 moderate_gaps [] ws h k = refl
 moderate_gaps (v ∷ vs) [] h k = refl

@@ -8,6 +8,7 @@ use Rattle.std.specs.Str.{bytes_eq}
 use Rattle.std.specs.declared.vec.Vec.{Vec}
 use Rattle.std.specs.declared.alloc.Global.{Global}
 use Rattle.loop_bind.specs.Names.{value_named}
+use Rattle.plain_data.proofs.Options.{is_some-false}
 
 -- an entry with its key as bytes
 abbrev pub shown : {X : Type 0} → Vec ℕ Global × X → List ℕ × X
@@ -22,10 +23,6 @@ is_some_copied : {X : Type 0} (found : Option (Bor X)) → is_some (option_copie
 is_some_copied None = refl
 is_some_copied (Some x) = refl
 
-none_from : {X : Type 0} (o : Option X) → is_some o ≡ false → o ≡ None
-none_from None e = refl
-none_from (Some x) e = cc
-
 module _ {X : Type 0} (name : List ℕ) (es : List (Vec ℕ Global × X)) (all : List (List ℕ × X)) (found : Option (Bor X))
     (seen : map shown es ≡ all) (value : option_copied found ≡ lookup (λ k. bytes_eq name k.items) es) where
   -- what the map has under a name is what the list has
@@ -36,7 +33,7 @@ module _ {X : Type 0} (name : List ℕ) (es : List (Vec ℕ Global × X)) (all :
   is_there b e = ap is_some (sym found_is) ∙ is_some_copied found ∙ e
 
   pub is_new : is_some found ≡ false → value_named all name ≡ None
-  is_new e = none_from (value_named all name) (is_there false e)
+  is_new e = is_some-false (value_named all name) (is_there false e)
 
 -- a new name comes to the end
 pub shown_insert : {X : Type 0} (key : Vec ℕ Global) (x : X) (es new : List (Vec ℕ Global × X))

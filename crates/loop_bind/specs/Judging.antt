@@ -90,6 +90,7 @@ judge_step place scope (Neg token inner) = after inner.findings (negated token i
 judge_step place scope (Min token list) = after (all_findings list) (faulty (NotAffine token))
 judge_step place scope (Max token list) = after (all_findings list) (faulty (NotAffine token))
 
+-- the affine form of an operand, if it has one, and each reason that stands in it
 unfoldable pub judged : Place → Scope → Operand → Judged
 judged place scope = fold-Operand Judged (judge_step place scope)
 

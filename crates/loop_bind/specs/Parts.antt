@@ -177,6 +177,7 @@ part_step (Block parts) c l s = in_order parts c l s
 abbrev pub other_step : Other-F Meaning Otherwise → Otherwise
 other_step other = (other.token, other.body)
 
+-- of a statement of the source: its nodes, its statements with the loops and rows round them, and each reason
 unfoldable pub part_made : Part → Meaning
 part_made = fold-Part Meaning Otherwise part_step other_step
 

@@ -53,6 +53,7 @@ sources_from a l (array ∷ arrays) =
     ∷ sources_from (a + 1) (l + length array.extents) arrays
     else sources_from (a + 1) l arrays
 
+-- the sinks, each of which reads an output array, with arrays and loops numbered from here
 abbrev pub sinks_from : ℕ → ℕ → List ArrayDecl → List Statement
 sinks_from a l [] = []
 sinks_from a l (array ∷ arrays) =

@@ -124,5 +124,7 @@ value_step depth scope (Min token list) slot =
 value_step depth scope (Max token list) slot =
     list_value (extreme_expr Greatest) (value_parts list) slot
 
+-- the expression of a right side, its accesses in the order of the text as its reads, and each reason that stands in
+-- it
 unfoldable pub valued : ℕ → Scope → Operand → Value
 valued depth scope = para-Operand Value (value_step depth scope)

@@ -75,7 +75,7 @@ fn message(reason: BindError) -> &'static str {
 impl Display for BindError {
     fn fmt<W: Write>(&self, f: &mut Formatter<W>) -> fmt::Result {
         match *self {
-            BindError::Memory => f.write_str("no memory"),
+            BindError::Memory => f.write_str(message(*self)),
             reason => write!(f, "token {}: {}", place(reason), message(reason)),
         }
     }

@@ -1,5 +1,8 @@
 //! What a tree with values for its parameters says: its arrays, its statements and loops, and the least reason that stands
 //! in it.
+//!
+//! Between two calls, or from one step of the main loop to the next: with what was made of the tree so far goes the
+//! least reason that was found in it.
 #![tactic(auto)]
 
 mod affine;

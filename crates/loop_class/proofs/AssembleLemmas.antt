@@ -4,7 +4,7 @@
 -- none, none stands in the tree (`none_found`). Then what was read of the tree, put together between the sources with
 -- their loops and the sinks with theirs, is part by part the nest of the tree, and has what a nest must have, since
 -- `Nests` shows it of the tree's own nest.
-use Rattle.std.proofs.Common.{◌≡◌, ℕ, ◌+◌, Bool, true, false, List, [], ◌∷◌, ◌++◌, length, Some, None, Err}
+use Rattle.std.proofs.Common.{◌≡◌, ℕ, ◌+◌, Bool, true, false, List, [], ◌∷◌, ◌++◌, length, Some, None}
 use Rattle.std.proofs.Common.{if◌then◌else◌, refl, sym, ap, subst, ◌∙◌, append_assoc, length-append}
 use Rattle.std.specs.Prelude.{IsTrue}
 use Rattle.std.specs.List.{list_all}
@@ -18,12 +18,8 @@ use Rattle.sanlp.proofs.Each.{Each}
 use Rattle.loop_grammar.specs.declared.tree.Tree.{Tree}
 use Rattle.loop_bind.specs.declared.reading.Reading.{Reading}
 use Rattle.loop_bind.specs.declared.error.BindError.{BindError}
-use Rattle.loop_bind.specs.declared.error.BindError.TheVariants.{UnknownName, Duplicate, Unbound, NotAffine}
-use Rattle.loop_bind.specs.declared.error.BindError.TheVariants.{WrongCount, ElseForm, TooManyProcesses, TooDeep}
-use Rattle.loop_bind.specs.declared.error.BindError.TheVariants.{TooManyReads, TooManyRows, Large, StepMax, StepRange}
-use Rattle.loop_bind.specs.declared.error.BindError.TheVariants.{Memory}
 use Rattle.loop_bind.specs.Findings.{body_made, findings}
-use Rattle.loop_class.specs.Binding.{nest_of, Binds}
+use Rattle.loop_class.specs.Binding.{nest_of}
 use Rattle.loop_bind.specs.Declarations.{Values, Declared, declared}
 use Rattle.loop_bind.specs.Following.{IsReadingOf}
 use Rattle.loop_bind.specs.Ranges.{has_small_extents}
@@ -47,24 +43,6 @@ some_stays (f ∷ fs) found e = pick (comes_first f found) f found fs (some_stay
 pub none_found : (fs : List BindError) → least_from None fs ≡ None → fs ≡ []
 none_found [] e = refl
 none_found (f ∷ fs) e = absurd (some_stays fs f e)
-
--- the least reason is told
-pub told : (tree : Tree) (params : Values) (reason : BindError) → least_from None (findings tree params) ≡ Some reason
-    → Binds tree params (Err reason)
-told tree params (UnknownName token) h = h
-told tree params (Duplicate token) h = h
-told tree params (Unbound token) h = h
-told tree params (NotAffine token) h = h
-told tree params (WrongCount token) h = h
-told tree params (ElseForm token) h = h
-told tree params (TooManyProcesses token) h = h
-told tree params (TooDeep token) h = h
-told tree params (TooManyReads token) h = h
-told tree params (TooManyRows token) h = h
-told tree params (Large token) h = h
-told tree params (StepMax token) h = h
-told tree params (StepRange token) h = h
-told tree params Memory h = tt
 
 pub whole_body : (arrays : List ArrayDecl) (next_loop first : ℕ) (assignments s0 s1 s2 : List Statement)
     (nodes b0 b1 b2 b3 : List Node)

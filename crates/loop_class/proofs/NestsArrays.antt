@@ -5,9 +5,9 @@
 -- The number of processes is that of inputs and outputs together, and no more than 64. Reasons are only added, so where
 -- none stands at the end, none stood at any step, and by induction along the declarations the invariant holds of all of
 -- them (`declarations_sound`).
-use Rattle.std.proofs.Common.{◌≡◌, ◌≤◌, ℕ, zero, suc, ◌+◌, ℤ, pos, List, [], ◌∷◌, ◌++◌, map, length, Bool, true, false}
+use Rattle.std.proofs.Common.{◌≡◌, ◌≤◌, ℕ, ◌+◌, ℤ, pos, List, [], ◌∷◌, ◌++◌, map, length, Bool, true, false}
 use Rattle.std.proofs.Common.{cond, not, ◌&&◌, inl, inr, Option, Some, None, is_some, refl, sym, ap, ◌∙◌, arith, subst}
-use Rattle.std.specs.Prelude.{IsTrue, nat_lt, nat_le, slice_get, unwrap_or}
+use Rattle.std.specs.Prelude.{IsTrue, nat_lt, nat_le, unwrap_or}
 use Rattle.std.specs.List.{list_all, list_any, fold}
 use Rattle.std.specs.Str.{bytes_eq}
 use Rattle.std.specs.Cmp.Derive.{both_true}
@@ -42,6 +42,7 @@ use Rattle.loop_bind.specs.Reasons.{found_if}
 use Rattle.loop_class.proofs.NestsSizes.{IsForm}
 use Rattle.loop_class.proofs.NestsScope.{HasArray, Known, KnownScope, with_name_known, forms_are}
 use Rattle.loop_class.proofs.NestsValues.{none_left, none_right, found_none}
+use Rattle.plain_data.proofs.Lists.{slice_get_push, slice_get-append_some}
 
 abbrev pub InScope : Scope → List ℕ → Type 0
 InScope scope name = is_some (value_named scope name) ≡ true
@@ -115,19 +116,10 @@ differ_append (array ∷ arrays) new each h =
     (not_from_false _ (none_append (bytes_eq array.name) arrays new (not-true _ parts.0) each.0))
     (differ_append arrays new each.1 parts.1)
 
-get_before : {X : Type 0} (xs ys : List X) (i : ℕ) (x : X) → slice_get xs i ≡ Some x → slice_get (xs ++ ys) i ≡ Some x
-get_before [] ys i x e = absurd (cc)
-get_before (y ∷ xs) ys zero x e = e
-get_before (y ∷ xs) ys (suc i) x e = get_before xs ys i x e
-
-get_last : {X : Type 0} (xs : List X) (x : X) → slice_get (xs ++ x ∷ []) (length xs) ≡ Some x
-get_last [] x = refl
-get_last (y ∷ xs) x = get_last xs x
-
 has_before : (arrays more : List ArrayDecl) (number extents : ℕ) → HasArray arrays number extents
     → HasArray (arrays ++ more) number extents
 has_before arrays more number extents h =
-    record { array = h.array; found = get_before arrays more number h.array h.found; count = h.count }
+    record { array = h.array; found = slice_get-append_some arrays more number h.array h.found; count = h.count }
 
 known_before : (arrays more : List ArrayDecl) (d : ℕ) (scope : Scope) → KnownScope arrays d scope
     → KnownScope (arrays ++ more) d scope
@@ -225,7 +217,7 @@ array_keeps k d array h none =
     record {
       scope = with_name_known (d.arrays ++ new ∷ []) 0 d.scope name what
           (known_before d.arrays (new ∷ []) 0 d.scope h.scope)
-          (record { array = new; found = get_last d.arrays new; count = count });
+          (record { array = new; found = slice_get_push d.arrays new; count = count });
       names = each_append (λ a. InScope scope a.name) d.arrays (new ∷ [])
           (each_then (λ a. InScope d.scope a.name) (λ a. InScope scope a.name) d.arrays
           (λ a j. with_name_keeps d.scope a.name name what j) h.names)

@@ -12,7 +12,6 @@ use Rattle.std.specs.Cmp.Derive.{both_true}
 use Rattle.std.proofs.lemmas.Bool.{lt-ltb, and_parts}
 use Rattle.std.proofs.lemmas.List.{append-nil, map-append}
 use Rattle.std.proofs.lemmas.List.Concat.{flat_map-append}
-use Rattle.std.proofs.lemmas.List.FromFn.{length-range_with_len}
 use Rattle.affine_core.specs.declared.form.Form.{Form}
 use Rattle.affine_core.specs.Affine.{widened_form}
 use Rattle.sanlp.specs.declared.nest.Node.{Node}
@@ -34,10 +33,6 @@ pub loops-append : (xs ys : List Node) → all_loops (xs ++ ys) ≡ all_loops xs
 loops-append xs ys =
     ap (flat_map (λ part. part)) (map-append loops_of xs ys)
     ∙ flat_map-append (λ part. part) (map loops_of xs) (map loops_of ys)
-
-pub numbered_length : (first next : ℕ) (parts : List Node) → Numbered first next parts
-    → next ≡ first + length (all_loops parts)
-numbered_length first next parts h = omega (arith, h.ends, ap length h.loops, length-range_with_len first h.count)
 
 pub numbered_none : (first : ℕ) → Numbered first first []
 numbered_none first = record { count = 0; loops = refl; ends = omega arith }

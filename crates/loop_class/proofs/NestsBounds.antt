@@ -10,6 +10,7 @@ use Rattle.std.specs.Option.{option_map}
 use Rattle.std.specs.Ordering.{int_eq}
 use Rattle.std.proofs.lemmas.Bool.{and_parts, ltb-false}
 use Rattle.std.proofs.lemmas.Int.{ints}
+use Rattle.affine_core.proofs.Integers.{int_lt-true}
 use Rattle.sanlp.specs.declared.nest.ArrayDecl.{ArrayDecl}
 use Rattle.sanlp.proofs.Each.{Each}
 use Rattle.loop_grammar.specs.declared.tree.BinarySign.{BinarySign}
@@ -129,9 +130,6 @@ module _ (place : Place) (scope : Scope) where
       (λ x y is. subst (λ z. SureOf (roll-Operand z)) is
       (subst Sure (sym (judged_roll (map-Operand Part Operand (λ e. e.0) y))) (step_sure y)))
 
-lt_from_test : (a b : ℤ) → int_lt a b ≡ true → a <ℤ b
-lt_from_test a b e = grind (arith, ints)
-
 one_of_three : (k : ℤ) → int_eq k (pos 1) ≡ false → int_lt (pos 1) k ≡ false → int_lt k (pos 1) ≡ false → ⊥
 one_of_three k e f g = grind (arith, ints)
 
@@ -185,7 +183,7 @@ module _ (arrays : List ArrayDecl) (d : ℕ) (scope : Scope) (known : KnownScope
         second_false (int_lt (pos 1) k) (nat_lt 1 (length lower)) f
         (found_none (int_lt (pos 1) k && nat_lt 1 (length lower)) (StepMax token) (none_left more less none)) in
         progression_is k lower (forms_are arrays d scope known Body (lower_operands first)) (some_lower scope first)
-        (ltb-false 1 (length lower) few) small (lt_from_test (pos 1) k f)
+        (ltb-false 1 (length lower) few) small (int_lt-true (pos 1) k f)
     by_tests false false e f =
         absurd (one_of_three k e f (found_none (int_lt k (pos 1)) (StepRange token) (none_right more less none)))
 

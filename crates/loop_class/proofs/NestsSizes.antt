@@ -6,14 +6,14 @@
 -- rows (`loop_rows_are`). The row of a turn has the step as the coefficient of the loop itself, since none of its
 -- bounds names that loop. So all rows and bounds fit the loops round them (`row_fits`).
 use Rattle.std.proofs.Common.{◌≡◌, ◌<◌, ◌≤◌, ℕ, zero, suc, ℤ, pos, negsuc, ◌-ℤ◌, ◌≤ℤ◌, ◌<ℤ◌, List, [], ◌∷◌, map, length}
-use Rattle.std.proofs.Common.{take, replicate, Bool, true, false, T, refl, sym, arith, subst}
+use Rattle.std.proofs.Common.{take, replicate, Bool, refl, sym, arith, subst}
 use Rattle.std.specs.Prelude.{IsTrue, slice_set}
 use Rattle.std.specs.Int.RustNames.{int_le}
 use Rattle.std.specs.List.{list_all}
 use Rattle.std.specs.Cmp.Derive.{both_true}
 use Rattle.std.proofs.lemmas.Bool.{and_parts, eq-eqb}
-use Rattle.std.proofs.lemmas.Float.{T_from_true}
 use Rattle.std.proofs.lemmas.Int.{ints}
+use Rattle.affine_core.proofs.Integers.{int_le-true, le-int_le}
 use Rattle.sanlp.specs.WellFormed.{is_moderate, form_fits}
 use Rattle.sanlp.proofs.Each.{Each, each_append, each_map, each_then}
 use Rattle.loop_bind.specs.declared.affine.Affine.{Affine}
@@ -24,9 +24,9 @@ use Rattle.loop_bind.specs.Forms.{is_limited, form_over}
 use Rattle.loop_bind.specs.Bounds.{lower_of, upper_of}
 use Rattle.loop_bind.specs.Ranges.{is_bound_number}
 use Rattle.loop_bind.specs.Rows.{turn_row, loop_rows}
-use Rattle.loop_bind.proofs.Moderate.{moderate_number, moderate_bound_number, moderate_reach_number, moderate_gap}
+use Rattle.loop_bind.proofs.Moderate.{moderate_bound_number, moderate_reach_number, moderate_gap}
 use Rattle.loop_bind.proofs.Moderate.{moderate_negated, moderate_form, bound_form, bound_lowered, moderate_difference}
-use Rattle.loop_bind.proofs.Moderate.{moderate_lowered_difference, limited_multiples}
+use Rattle.loop_bind.proofs.Moderate.{moderate_lowered_difference, limited_multiples, moderate_gaps, moderate_numbers}
 use Rattle.loop_class.proofs.NestsForms.{IsOver, over_length, over_deeper, over_termwise, over_multiple, take_length}
 
 -- a form inside so many loops, as it is written
@@ -82,31 +82,13 @@ module _ (d : ℕ) (f g : Affine) (h : IsForm d f) (k : IsForm d g) where
       (moderate_lowered_difference f g h.limited k.limited) in
       record { over = over_termwise ◌-ℤ◌ refl 6 d f.coefs g.coefs h.over k.over; constant = m.0; coefs = m.1 }
 
--- differences of limited coefficients are moderate
-gaps_moderate : (vs ws : List ℤ) → IsTrue (list_all is_limited_number vs) → IsTrue (list_all is_limited_number ws)
-    → IsTrue (list_all is_moderate (termwise ◌-ℤ◌ vs ws))
-gaps_moderate vs ws h k =
-    let f : Affine = record { constant = pos 0; coefs = vs } in
-    let g : Affine = record { constant = pos 0; coefs = ws } in
-    (and_parts true (list_all is_moderate (termwise ◌-ℤ◌ vs ws)) (moderate_difference f g h k)).1
-
-true_from_T : (b : Bool) → T b → b ≡ true
-true_from_T true t = refl
-true_from_T false t = absurd t
-
-tested : (a b : ℤ) → a ≤ℤ b → IsTrue (int_le a b)
-tested a b h = true_from_T (int_le a b) h.le
-
-known : (a b : ℤ) → IsTrue (int_le a b) → a ≤ℤ b
-known a b e = record { le = T_from_true (int_le a b) e }
-
 negated_moderate : (c : ℤ) → IsTrue (is_moderate c) → IsTrue (is_moderate (pos 0 -ℤ c))
 negated_moderate c h =
     let parts = and_parts (int_le (negsuc 4294967295) c) (int_le c (pos 4294967296)) h in
-    let low : negsuc 4294967295 ≤ℤ c = known (negsuc 4294967295) c parts.0 in
-    let high : c ≤ℤ pos 4294967296 = known c (pos 4294967296) parts.1 in
-    both_true (tested (negsuc 4294967295) (pos 0 -ℤ c) (omega (arith, ints)))
-    (tested (pos 0 -ℤ c) (pos 4294967296) (omega (arith, ints)))
+    let low : negsuc 4294967295 ≤ℤ c = int_le-true (negsuc 4294967295) c parts.0 in
+    let high : c ≤ℤ pos 4294967296 = int_le-true c (pos 4294967296) parts.1 in
+    both_true (le-int_le (negsuc 4294967295) (pos 0 -ℤ c) (omega (arith, ints)))
+    (le-int_le (pos 0 -ℤ c) (pos 4294967296) (omega (arith, ints)))
 
 module _ (d : ℕ) (f : Affine) (room : d < 6) (h : IsBound d f) where
   lower_row_is : IsRow (suc d) (difference_form (loop_form d) f)
@@ -114,7 +96,7 @@ module _ (d : ℕ) (f : Affine) (room : d < 6) (h : IsBound d f) where
     over = over_termwise ◌-ℤ◌ refl 6 (suc d) (loop_form d).coefs f.coefs
         (over_multiple 6 (suc d) d (pos 1) (omega arith)) (over_deeper 6 d (suc d) f.coefs (omega arith) h.over);
     constant = negated_moderate f.constant (moderate_bound_number f.constant h.constant);
-    coefs = gaps_moderate (loop_form d).coefs f.coefs (limited_multiples 6 (pos 1) d refl) h.coefs;
+    coefs = moderate_gaps (loop_form d).coefs f.coefs (limited_multiples 6 (pos 1) d refl) h.coefs;
   }
 
   upper_row_is : IsRow (suc d) (difference_form f (loop_form d))
@@ -124,14 +106,8 @@ module _ (d : ℕ) (f : Affine) (room : d < 6) (h : IsBound d f) where
         over = over_termwise ◌-ℤ◌ refl 6 (suc d) f.coefs (loop_form d).coefs
             (over_deeper 6 d (suc d) f.coefs (omega arith) h.over) (over_multiple 6 (suc d) d (pos 1) (omega arith));
         constant = subst (λ c. IsTrue (is_moderate c)) same (moderate_bound_number f.constant h.constant);
-        coefs = gaps_moderate f.coefs (loop_form d).coefs h.coefs (limited_multiples 6 (pos 1) d refl);
+        coefs = moderate_gaps f.coefs (loop_form d).coefs h.coefs (limited_multiples 6 (pos 1) d refl);
       }
-
-moderate_all : (vs : List ℤ) → IsTrue (list_all is_limited_number vs) → IsTrue (list_all is_moderate vs)
-moderate_all [] k = refl
-moderate_all (v ∷ vs) k =
-    let p = and_parts (is_limited_number v) (list_all is_limited_number vs) k in both_true (moderate_number v p.0)
-    (moderate_all vs p.1)
 
 -- the coefficients of the row of a turn: the turn's is the step alone, since none of the bounds names it
 gap_is : (c : ℤ) → IsTrue (is_moderate c) → IsTrue (is_moderate (c -ℤ pos 0))
@@ -189,7 +165,7 @@ module _ (d : ℕ) (room : d < 6) where
   variable_row_is = record {
     over = over_multiple 6 (suc d) d (pos 1) (omega arith);
     constant = refl;
-    coefs = moderate_all (loop_form d).coefs (limited_multiples 6 (pos 1) d refl);
+    coefs = moderate_numbers (loop_form d).coefs (limited_multiples 6 (pos 1) d refl);
   }
 
   turn_row_is : (first upper : Affine) (step : ℤ) → IsForm d first → IsBound d upper → IsTrue (is_limited_number step)
@@ -231,7 +207,7 @@ bound_row d f h =
       over = h.over;
       constant = moderate_bound_number f.constant h.constant;
       coefs =
-          moderate_all f.coefs h.coefs;
+          moderate_numbers f.coefs h.coefs;
     }
 
 -- the lower and the upper forms of a loop

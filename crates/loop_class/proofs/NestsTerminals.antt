@@ -22,7 +22,6 @@ use Rattle.affine_core.specs.Affine as affine
 use Rattle.wrap_expr.specs.declared.expr.Expr as expr
 use Rattle.wrap_expr.specs.Value.{uses_step}
 use Rattle.sanlp.specs.declared.nest.ArrayDecl.{ArrayDecl}
-use Rattle.sanlp.specs.declared.nest.Node.{Node}
 use Rattle.sanlp.specs.declared.nest.Node as node
 use Rattle.sanlp.specs.declared.nest.Role.{Role}
 use Rattle.sanlp.specs.declared.nest.Role.TheVariants as role

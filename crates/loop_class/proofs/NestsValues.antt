@@ -289,9 +289,6 @@ module _ (arrays : List ArrayDecl) (d : ℕ) (in_room : d ≤ 6) (scope : Scope)
   abbrev Part : Type 0
   Part = (o : Operand) × Fit o
 
-  both_of : Operand → Operand × Value
-  both_of o = (o, valued d scope o)
-
   valued_roll : (y : Operand-F Operand)
       → valued d scope (roll-Operand y)
       ≡ value_step d scope (map-Operand Operand (Operand × Value) (λ o. (o, valued d scope o)) y)

@@ -1,7 +1,6 @@
 -- What each token is to the grammar.
-use Rattle.std.specs.Prelude.{◌≡◌, ◌+◌, ◌-◌, ◌*◌, ◌^◌, ◌<◌, ◌≤◌, ◌==◌, All, ℕ, pos, List, [], ◌∷◌, fold, map, length, slice_range, codes, if◌then◌else◌}
+use Rattle.std.specs.Prelude.{◌+◌, ℕ, pos, List, [], ◌∷◌, map, codes, if◌then◌else◌}
 use Rattle.std.specs.Str.{bytes_eq}
-use Rattle.loop_lex.specs.Lexical.{number_value}
 use Rattle.loop_lex.specs.Tokens.{text_of}
 use Rattle.loop_lex.specs.declared.token.Token.{Token}
 use Rattle.loop_lex.specs.declared.token.TokenKind.{TokenKind}
@@ -13,6 +12,7 @@ use Rattle.loop_grammar.specs.declared.tree.CompareSign.TheVariants.{Less, LessE
 use Rattle.loop_grammar.specs.declared.tree.DeclWord.TheVariants.{Param, Input, Output, Both, Var}
 use Rattle.loop_grammar.specs.declared.tree.Tree.{Tree}
 use Rattle.loop_grammar.specs.Grammar.{Tok, Derives}
+use Rattle.plain_data.specs.Digits.{decimal_number}
 
 -- `Other` is what no token is
 unfoldable pub reserved_lexeme : List ℕ → Lexeme
@@ -64,7 +64,7 @@ sign_lexeme text =
 
 abbrev pub lexeme_of : TokenKind → List ℕ → Lexeme
 lexeme_of kind.Name text = Name text
-lexeme_of kind.Number text = Number (pos (number_value text))
+lexeme_of kind.Number text = Number (pos (decimal_number text))
 lexeme_of kind.Reserved text = reserved_lexeme text
 lexeme_of kind.Sign text = sign_lexeme text
 

@@ -9,25 +9,11 @@ use Rattle.std.proofs.Common.{nat_le, nat_eq}
 use Rattle.std.specs.List.{list_all, list_any}
 use Rattle.std.specs.Str.{bytes_eq}
 use Rattle.std.proofs.lemmas.Bool.Decides.{nat_tests}
+use Rattle.std.proofs.lemmas.Bool.{and_parts, and_right}
+use Rattle.std.proofs.Math.Bool.{or-false}
 use Rattle.loop_lex.specs.Lexical.{is_input_element, is_space, is_sign, signs, is_letter, is_digit, is_letter_or_digit}
 use Rattle.loop_lex.specs.Lexical.{is_line_feed, ends_at_first_close}
 use Rattle.loop_lex.specs.Front.{BeginsSignOnly}
-
-pub or_false : (x : Bool) → (x || false) ≡ x
-or_false true = refl
-or_false false = refl
-
-pub and_left : (a b : Bool) → (a && b) ≡ true → a ≡ true
-and_left true b h = refl
-and_left false b h = absurd cc
-
-pub and_right : (a b : Bool) → (a && b) ≡ true → b ≡ true
-and_right true b h = h
-and_right false b h = absurd cc
-
-pub and_no : (a b : Bool) → b ≡ false → (a && b) ≡ false
-and_no true b e = e
-and_no false b e = refl
 
 pub not_and : (a b : Bool) → not a ≡ true → (a && b) ≡ false
 not_and true b h = absurd cc
@@ -39,7 +25,7 @@ pub none_of : (p q : List ℕ → Bool) → ((s : List ℕ) → p s ≡ true →
     → list_all p texts ≡ true → list_any q texts ≡ false
 none_of p q apart [] h = refl
 none_of p q apart (s ∷ texts) h =
-    rw (apart s (and_left (p s) (list_all p texts) h)) (none_of p q apart texts (and_right (p s) (list_all p texts) h))
+    rw (apart s ((and_parts (p s) (list_all p texts) h).0)) (none_of p q apart texts ((and_parts (p s) (list_all p texts) h).1))
 
 abbrev pub begins_otherwise : ℕ → List ℕ → Bool
 begins_otherwise b [] = true
@@ -56,7 +42,7 @@ no_sign b t h = none_of (begins_otherwise b) (bytes_eq (b ∷ t)) (other_front b
 other_length : (text s : List ℕ) → length s < length text → bytes_eq text s ≡ false
 other_length [] s lt = absurd (omega arith)
 other_length (x ∷ xs) [] lt = refl
-other_length (x ∷ xs) (y ∷ ys) lt = and_no (nat_eq x y) (bytes_eq xs ys) (other_length xs ys (omega arith))
+other_length (x ∷ xs) (y ∷ ys) lt = and_right (nat_eq x y) (bytes_eq xs ys) (other_length xs ys (omega arith))
 
 -- a sign has two bytes at most
 pub long_sign : (a b c : ℕ) (t : List ℕ) → is_sign (a ∷ b ∷ c ∷ t) ≡ false
@@ -119,11 +105,11 @@ space_alone b c t h = let o = space_is_no_other b h in rw (o.2, o.0, o.1) (no_si
 pub letter_element : (b c : ℕ) (t : List ℕ) → BeginsNoSign b true false
     → is_input_element (b ∷ c ∷ t) ≡ list_all is_letter_or_digit (c ∷ t)
 letter_element b c t q =
-    rw (q.slash, q.letter_is, q.digit_is, q.sign (c ∷ t)) (or_false (list_all is_letter_or_digit (c ∷ t)))
+    rw (q.slash, q.letter_is, q.digit_is, q.sign (c ∷ t)) (or-false (list_all is_letter_or_digit (c ∷ t)))
 
 pub digit_element : (b c : ℕ) (t : List ℕ) → BeginsNoSign b false true
     → is_input_element (b ∷ c ∷ t) ≡ list_all is_digit (c ∷ t)
-digit_element b c t q = rw (q.slash, q.letter_is, q.digit_is, q.sign (c ∷ t)) (or_false (list_all is_digit (c ∷ t)))
+digit_element b c t q = rw (q.slash, q.letter_is, q.digit_is, q.sign (c ∷ t)) (or-false (list_all is_digit (c ∷ t)))
 
 pub line_element : (t : List ℕ) → is_input_element (47 ∷ 47 ∷ t) ≡ list_all (λ c. not (is_line_feed c)) t
 line_element t = tidy (list_all (λ c. not (is_line_feed c)) t)
@@ -133,7 +119,7 @@ line_element t = tidy (list_all (λ c. not (is_line_feed c)) t)
     tidy false = refl
 
 pub block_element : (t : List ℕ) → is_input_element (47 ∷ 42 ∷ t) ≡ ends_at_first_close t
-block_element t = or_false (ends_at_first_close t)
+block_element t = or-false (ends_at_first_close t)
 
 pub slash_element : (c : ℕ) (t : List ℕ) → nat_eq c 47 ≡ false → nat_eq c 42 ≡ false
     → is_input_element (47 ∷ c ∷ t) ≡ false

@@ -1,6 +1,6 @@
-pub mod Closing
+pub mod CommentEnds
 pub mod Elements
 pub mod Longest
 pub mod Loop
 pub mod Order
-pub mod Spaced
+pub mod TokenSpaces

@@ -8,13 +8,13 @@
 use Rattle.std.proofs.Common.{◌≡◌, ℕ, zero, suc, ◌+◌, ◌<◌, ◌≤◌, Bool, true, false, cond, if◌then◌else◌, not, ◌||◌, List}
 use Rattle.std.proofs.Common.{[], ◌∷◌, length, take, refl, ◌∙◌, arith, inl, inr, nat_eq, get_or}
 use Rattle.std.specs.List.{list_all, prefix_len}
-use Rattle.std.proofs.lemmas.Bool.{cases_lt}
+use Rattle.std.proofs.lemmas.Bool.{cases_lt, and_right}
 use Rattle.loop_lex.specs.Lexical.{is_input_element, is_separator, is_space, is_sign, is_reserved, is_letter, is_digit}
 use Rattle.loop_lex.specs.Lexical.{is_letter_or_digit, is_line_feed, opens_comment}
 use Rattle.loop_lex.specs.Front.{ClosesAt, NeverCloses, IsLongest, Begins, BeginsSignOnly, begins_double_sign}
 use Rattle.loop_lex.specs.Tokens.{longest_up_to, longest, kind_of}
 use Rattle.loop_lex.specs.declared.token.TokenKind.TheVariants.{Name, Number, Reserved, Sign}
-use Rattle.loop_lex.proofs.Elements.{of_letter, of_digit, and_no, space_alone, letter_element, digit_element}
+use Rattle.loop_lex.proofs.Elements.{of_letter, of_digit, space_alone, letter_element, digit_element}
 use Rattle.loop_lex.proofs.Elements.{line_element, block_element, slash_element, sign_element_one, sign_element}
 use Rattle.loop_lex.proofs.Elements.{long_sign}
 
@@ -83,7 +83,7 @@ bad_tail p [] n m lt le e = absurd (omega arith)
 bad_tail p (x ∷ xs) n zero lt le e = absurd (omega arith)
 bad_tail p (x ∷ xs) zero (suc m) lt le e = rw e refl
 bad_tail p (x ∷ xs) (suc n) (suc m) lt le e =
-    and_no (p x) (list_all p (take m xs)) (bad_tail p xs n m (omega arith) (omega arith) e)
+    and_right (p x) (list_all p (take m xs)) (bad_tail p xs n m (omega arith) (omega arith) e)
 
 -- an element of a first byte and the run behind it
 run_is : (p : ℕ → Bool) (b : ℕ) (bs : List ℕ) (n : ℕ) → is_input_element (b ∷ []) ≡ true

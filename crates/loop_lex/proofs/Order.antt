@@ -11,16 +11,14 @@ use Rattle.std.specs.Prelude.{All, AllPairs}
 use Rattle.std.proofs.lemmas.List.{drop-drop, length-take}
 use Rattle.std.proofs.lemmas.Bool.Decides.{nat_tests}
 use Rattle.loop_lex.specs.Lexical.{is_input_element, is_separator, is_token, is_word, is_digits, is_reserved, is_sign}
-use Rattle.loop_lex.specs.Lexical.{is_large, number_value, greatest_number}
+use Rattle.loop_lex.specs.Lexical.{is_large, greatest_number}
 use Rattle.loop_lex.specs.Tokens.{token_limit, longest, tokens_from, tokens, element, before, token_at, kind_of}
 use Rattle.loop_lex.specs.Tokens.{text_of, IsTextOf, IsTokenOf, AreTokensOf}
 use Rattle.loop_lex.specs.declared.token.Token.{Token}
 use Rattle.loop_lex.specs.declared.token.LexError.{LexError}
 use Rattle.loop_lex.specs.declared.token.LexError.TheVariants.{LargeNumber, TooMany}
 use Rattle.loop_lex.proofs.Longest.{longest_le, longest_element}
-
-ok_is : {A E : Type 0} (x y : A) → ◌≡◌ {A = Result A E} (Ok x) (Ok y) → x ≡ y
-ok_is x y e = cc
+use Rattle.plain_data.specs.Digits.{decimal_number}
 
 -- ---- the text of one token
 
@@ -44,7 +42,7 @@ text_is text token small = digits (is_digits text) refl
     word false w d = rw (d, w) (or_right (is_digits text) (is_sign text) d (or_right (is_word text) _ w token))
 
     digits : (d : Bool) → is_digits text ≡ d → IsTextOf (kind_of text) text
-    digits true d = rw d (d, at_most (number_value text) (rw d at small))
+    digits true d = rw d (d, at_most (decimal_number text) (rw d at small))
     digits false d = word (is_word text) refl d
 
 -- ---- each token behind the ones before

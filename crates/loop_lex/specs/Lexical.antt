@@ -1,7 +1,8 @@
 -- The lexical grammar: which texts are white space, comments and tokens. A text is a list of bytes.
-use Rattle.std.specs.Prelude.{◌==◌, ◌&&◌, ◌||◌, ◌+◌, ◌-◌, ◌*◌, ℕ, Bool, true, false, not, List, [], ◌∷◌, fold, nat_le, nat_lt, if◌then◌else◌, codes}
+use Rattle.std.specs.Prelude.{◌==◌, ◌&&◌, ◌||◌, ℕ, Bool, true, false, not, List, [], ◌∷◌, nat_le, nat_lt, if◌then◌else◌, codes}
 use Rattle.std.specs.List.{list_all, list_any}
 use Rattle.std.specs.Str.{bytes_eq}
+use Rattle.plain_data.specs.Digits.{decimal_number}
 
 -- a space, a tab, a line feed or a carriage return
 abbrev pub is_space : ℕ → Bool
@@ -86,15 +87,12 @@ is_sign text = list_any (bytes_eq text) signs
 abbrev pub is_separator : List ℕ → Bool
 is_separator text = is_white_space text || (is_line_comment text || is_block_comment text)
 
+-- which texts are tokens: words, digits and signs
 abbrev pub is_token : List ℕ → Bool
 is_token text = is_word text || (is_digits text || is_sign text)
 
 abbrev pub is_input_element : List ℕ → Bool
 is_input_element text = is_separator text || is_token text
-
--- the value of decimal digits
-abbrev pub number_value : List ℕ → ℕ
-number_value text = fold (λ value digit. value * 10 + (digit - 48)) 0 text
 
 -- the greatest number that a source can write, 2 ^ 63 - 1
 abbrev pub greatest_number : ℕ
@@ -102,4 +100,4 @@ greatest_number = 9223372036854775807
 
 -- digits whose value passes the greatest number
 abbrev pub is_large : List ℕ → Bool
-is_large text = is_digits text && nat_lt greatest_number (number_value text)
+is_large text = is_digits text && nat_lt greatest_number (decimal_number text)

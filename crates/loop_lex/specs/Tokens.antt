@@ -1,12 +1,13 @@
 -- The tokens of a source, each the longest that its place allows.
 use Rattle.std.specs.Prelude.{◌≡◌, ◌==◌, ◌+◌, ◌-◌, ◌<◌, ◌≤◌, ℕ, zero, suc, true, false, List, [], ◌∷◌, take, length, slice_range, All, AllPairs, if◌then◌else◌, Result, Ok, Err}
 use Rattle.std.specs.Global.{Vec}
-use Rattle.loop_lex.specs.Lexical.{is_input_element, is_separator, is_large, is_digits, is_word, is_reserved, is_sign, opens_comment, number_value, greatest_number}
+use Rattle.loop_lex.specs.Lexical.{is_input_element, is_separator, is_large, is_digits, is_word, is_reserved, is_sign, opens_comment, greatest_number}
 use Rattle.loop_lex.specs.declared.token.Token.{Token}
 use Rattle.loop_lex.specs.declared.token.TokenKind.{TokenKind}
 use Rattle.loop_lex.specs.declared.token.TokenKind.TheVariants.{Name, Number, Reserved, Sign}
 use Rattle.loop_lex.specs.declared.token.LexError.{LexError}
 use Rattle.loop_lex.specs.declared.token.LexError.TheVariants.{BadByte, OpenComment, LargeNumber, TooMany}
+use Rattle.plain_data.specs.Digits.{decimal_number}
 
 -- the greatest n up to `most` for which the first n bytes are an input element, or 0
 unfoldable pub longest_up_to : ℕ → List ℕ → ℕ
@@ -78,7 +79,7 @@ text_of bytes token = slice_range bytes token.start token.end
 -- a text of this kind
 abbrev pub IsTextOf : TokenKind → List ℕ → Type 0
 IsTextOf Name text = (is_word text ≡ true) × (is_reserved text ≡ false)
-IsTextOf Number text = (is_digits text ≡ true) × (number_value text ≤ greatest_number)
+IsTextOf Number text = (is_digits text ≡ true) × (decimal_number text ≤ greatest_number)
 IsTextOf Reserved text = is_reserved text ≡ true
 IsTextOf Sign text = is_sign text ≡ true
 

@@ -1,5 +1,8 @@
 //! Tokens of a source: words, numbers and signs, each the longest that its place allows.
 //! White space and comments separate tokens and are dropped.
+//!
+//! Between two calls, or from one step of the main loop to the next: the tokens so far lie one behind the other, and go
+//! on to those of the whole source.
 #![tactic(auto)]
 
 mod class;

@@ -1,31 +1,19 @@
 //! The texts of tokens, and the values of numbers.
 
 ghost use Rattle.std.specs.Prelude.{◌≡◌, ◌^◌, ◌<◌, ◌≤◌, length, true, false, pos, min};
-ghost use Rattle.loop_lex.specs.Lexical.{is_digits, is_large, number_value};
+ghost use Rattle.loop_lex.specs.Lexical.{is_large};
+ghost use Rattle.plain_data.specs.Digits.{decimal_number};
 ghost use Rattle.loop_lex.specs.Tokens.{text_of, kind_of, IsTokenOf};
 
 use crate::token::{MAX_NUMBER, Token, TokenKind};
-
-/// The value of digits, or 18446744073709551615 where it passes that.
-fn digits_value(text: &[u8]) -> u64
-    requires { is_digits text.now ≡ true }
-    ensures { result ≡ min (number_value text.now) 18446744073709551615 }
-{
-    let mut value: u64 = 0;
-    for digit in text {
-        value = value
-            .saturating_mul(10)
-            .saturating_add((*digit - b'0') as u64);
-    }
-    value
-}
+use plain_data::capped_number;
 
 /// Whether a token of this kind and text is a number that passes the greatest.
 pub fn is_large_number(kind: TokenKind, text: &[u8]) -> bool
     requires { kind_of text.now ≡ kind }
     ensures { result ≡ is_large text.now }
 {
-    kind == TokenKind::Number && digits_value(text) > MAX_NUMBER
+    kind == TokenKind::Number && capped_number(text) > MAX_NUMBER
 }
 
 /// The text of a token of the bytes.
@@ -40,7 +28,7 @@ pub fn text(bytes: &[u8], token: Token) -> &[u8]
 pub fn number(bytes: &[u8], token: Token) -> i64
     requires token { IsTokenOf bytes.now token }
     requires kind { token.kind ≡ TokenKind.Number }
-    ensures { result ≡ pos (number_value (text_of bytes.now token)) }
+    ensures { result ≡ pos (decimal_number (text_of bytes.now token)) }
 {
-    digits_value(text(bytes, token)) as i64
+    capped_number(text(bytes, token)) as i64
 }

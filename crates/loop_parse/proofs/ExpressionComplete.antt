@@ -5,7 +5,7 @@
 -- settled: an expression that was read waits for a token that tells whether it goes on, and on each token that doesn't
 -- extend a name with a subscript it acts as its tree does (`factor_settles`, `term_settles`). Outside all brackets the
 -- machine ends with that tree (`expr_finishes`). That the machine reads nothing else is shown in `ExpressionSound`.
-use Rattle.std.proofs.Common.{◌≡◌, ℕ, Bool, true, false, List, [], ◌∷◌, ◌++◌, refl, sym, ap, ◌∙◌, append_assoc, Option}
+use Rattle.std.proofs.Common.{◌≡◌, ℕ, true, List, [], ◌∷◌, ◌++◌, refl, sym, ap, ◌∙◌, append_assoc, Option}
 use Rattle.std.proofs.Common.{Some, None}
 use Rattle.std.proofs.lemmas.List.{append-nil}
 use Rattle.loop_grammar.specs.declared.lexeme.Lexeme.{Lexeme}
@@ -15,20 +15,17 @@ use Rattle.loop_grammar.specs.declared.tree.Name.{Name}
 use Rattle.loop_grammar.specs.declared.tree.Operand.{Operand}
 use Rattle.loop_grammar.specs.declared.tree.Operand as operand
 use Rattle.loop_parse.specs.declared.expression.Sum.{Sum}
-use Rattle.loop_parse.specs.declared.expression.Product.{Product}
 use Rattle.loop_parse.specs.declared.expression.Level.{Level}
-use Rattle.loop_parse.specs.declared.expression.Bracket.{Bracket}
 use Rattle.loop_parse.specs.declared.expression.Bracket.TheVariants as bracket
 use Rattle.loop_parse.specs.declared.expression.Frame.{Frame}
-use Rattle.loop_parse.specs.declared.expression.Reading.{Reading}
 use Rattle.loop_parse.specs.declared.expression.Reading.TheVariants as reading
 use Rattle.loop_grammar.specs.Grammar.{Tok, SumSign, plus, minus, Expr, Term, Factor, Access, Exprs, term, sum, factor}
 use Rattle.loop_grammar.specs.Grammar.{product, negation, number, parentheses, access, choice, name, subscript, one}
 use Rattle.loop_grammar.specs.Grammar.{also, sum_word, binary_sign, chosen, expr_text, term_text, factor_text}
 use Rattle.loop_grammar.specs.Grammar.{access_text, exprs_text, expr_tree, term_tree, factor_tree, accessed, subscripts}
 use Rattle.loop_grammar.specs.Grammar.{expr_trees}
-use Rattle.loop_parse.specs.ExpressionMachine.{State, level_with, fresh, negated, multiplied, summed, factor_value}
-use Rattle.loop_parse.specs.ExpressionMachine.{factor_read, feed_factor, feed_read, feed_term, feed_access, feed}
+use Rattle.loop_parse.specs.ExpressionMachine.{State, level_with, fresh, multiplied, summed, factor_value}
+use Rattle.loop_parse.specs.ExpressionMachine.{factor_read, feed_read, feed_term, feed_access, feed}
 use Rattle.loop_parse.specs.ExpressionMachine.{closed, subscripted, separated, finish, start, has_no_bracket, fed}
 use Rattle.loop_parse.proofs.Negations.{negated_append}
 

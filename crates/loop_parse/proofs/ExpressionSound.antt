@@ -6,10 +6,9 @@
 -- (`feed_stands`), by cases on state and token. At the end no bracket is open, so what was read is an expression with
 -- the tree (`finish_stands`). `closes` goes by induction on the open brackets: a number where a factor is awaited, then
 -- the end of each bracket.
-use Rattle.std.proofs.Common.{◌≡◌, ◌⊎◌, inl, inr, ℕ, Bool, true, false, List, [], ◌∷◌, ◌++◌, refl, sym, ap, subst, ◌∙◌}
+use Rattle.std.proofs.Common.{◌≡◌, ◌⊎◌, inl, inr, ℕ, true, List, [], ◌∷◌, ◌++◌, refl, sym, ap, ◌∙◌}
 use Rattle.std.proofs.Common.{append_assoc, Option, Some, None, pos}
 use Rattle.std.proofs.lemmas.List.{append-nil}
-use Rattle.loop_grammar.specs.declared.lexeme.Lexeme.{Lexeme}
 use Rattle.loop_grammar.specs.declared.lexeme.Lexeme.TheVariants as word
 use Rattle.loop_grammar.specs.declared.lexeme.Choice.{Choice}
 use Rattle.loop_grammar.specs.declared.tree.Name.{Name}
@@ -21,7 +20,6 @@ use Rattle.loop_parse.specs.declared.expression.Level.{Level}
 use Rattle.loop_parse.specs.declared.expression.Bracket.{Bracket}
 use Rattle.loop_parse.specs.declared.expression.Bracket.TheVariants as bracket
 use Rattle.loop_parse.specs.declared.expression.Frame.{Frame}
-use Rattle.loop_parse.specs.declared.expression.Reading.{Reading}
 use Rattle.loop_parse.specs.declared.expression.Reading.TheVariants as reading
 use Rattle.loop_grammar.specs.Grammar.{Tok, SumSign, plus, minus, Expr, Term, Factor, Access, Exprs, term, sum, factor}
 use Rattle.loop_grammar.specs.Grammar.{product, negation, number, parentheses, access, choice, name, subscript, one}
@@ -29,10 +27,10 @@ use Rattle.loop_grammar.specs.Grammar.{also, sum_word, binary_sign, chosen, expr
 use Rattle.loop_grammar.specs.Grammar.{access_text, exprs_text, expr_tree, term_tree, factor_tree, accessed, subscripts}
 use Rattle.loop_grammar.specs.Grammar.{expr_trees}
 use Rattle.loop_parse.specs.ExpressionMachine.{State, level_with, fresh, negated, multiplied, summed, factor_value}
-use Rattle.loop_parse.specs.ExpressionMachine.{factor_read, feed_factor, feed_arguments, feed_read, feed_term}
+use Rattle.loop_parse.specs.ExpressionMachine.{factor_read, feed_factor, feed_arguments, feed_term}
 use Rattle.loop_parse.specs.ExpressionMachine.{feed_access, feed, closed, close_bracket, subscripted, close_subscript}
 use Rattle.loop_parse.specs.ExpressionMachine.{separated, next_argument, finish, start, has_no_bracket, fed}
-use Rattle.loop_parse.proofs.Fed.{some_is, none_is}
+use Rattle.loop_parse.proofs.MachineSteps.{some_is, none_is}
 
 -- ---- the tokens that stand for what waits
 

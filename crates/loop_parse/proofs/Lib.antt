@@ -1,6 +1,6 @@
 pub mod Negations
 pub mod Outside
-pub mod Fed
+pub mod MachineSteps
 pub mod ExpressionComplete
 pub mod ExpressionSound
 pub mod SourceComplete

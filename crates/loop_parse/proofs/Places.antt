@@ -1,21 +1,15 @@
 -- Tokens stop at one place at most. What goes on from a front of the tokens also goes on from each shorter front, with the rest
 -- of the longer one before it. So were there two places, the tokens up to and including the lower one would go on, since those
 -- before the higher one do, and the lower one is a place because they don't. Nothing is said of whether there is a place.
-use Rattle.std.proofs.Common.{◌≡◌, ◌∙◌, ◌++◌, ◌<◌, ◌≤◌, ℕ, zero, suc, List, [], ◌∷◌, take, drop, refl, inl, inr, sym, ap, arith}
+use Rattle.std.proofs.Common.{◌≡◌, ◌∙◌, ◌++◌, ◌<◌, ◌≤◌, ℕ, suc, List, take, drop, inl, inr, sym, ap, arith}
+use Rattle.std.proofs.Common.{take-take}
 use Rattle.std.proofs.lemmas.Bool.{cases_order}
 use Rattle.std.proofs.lemmas.List.{append_assoc, take-append-drop}
 use Rattle.loop_grammar.specs.Grammar.{Tok, IsViable, Stops}
 
--- a front of a longer front
-take_shorter : {A : Type 0} (n k : ℕ) (xs : List A) → n ≤ k → take n (take k xs) ≡ take n xs
-take_shorter zero k xs few = refl
-take_shorter (suc n) zero xs few = absurd (omega (arith, few))
-take_shorter (suc n) (suc k) [] few = refl
-take_shorter (suc n) (suc k) (x ∷ xs) few = ap (λ zs. x ∷ zs) (take_shorter n k xs (omega (arith, few)))
-
 viable_front : (tokens : List Tok) (n k : ℕ) → n ≤ k → IsViable (take k tokens) → IsViable (take n tokens)
 viable_front tokens n k few h =
-    let front : take n (take k tokens) ≡ take n tokens = take_shorter n k tokens few in
+    let front : take n (take k tokens) ≡ take n tokens = take-take n k tokens few in
     let whole : take n tokens ++ drop n (take k tokens) ≡ take k tokens =
     ap (λ (zs : List Tok). zs ++ drop n (take k tokens)) (sym front) ∙ take-append-drop n (take k tokens) in (
       drop n (take k tokens) ++ h.0,

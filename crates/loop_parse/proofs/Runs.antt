@@ -6,30 +6,31 @@
 -- goes on to a source; and where no step is left, no source goes on so, since the machine would read it. The loop's
 -- invariant is the state after so many of the tokens: one turn is one step more (`turns`). A want of memory refutes
 -- nothing.
-use Rattle.std.proofs.Common.{◌≡◌, ◌⊎◌, inl, inr, ℕ, zero, suc, ◌+◌, ◌<◌, ◌≤◌, List, [], ◌∷◌, ◌++◌, length, take, drop}
+use Rattle.std.proofs.Common.{◌≡◌, inl, inr, ℕ, zero, suc, ◌+◌, ◌<◌, List, [], ◌∷◌, ◌++◌, length, take, drop}
 use Rattle.std.proofs.Common.{get_or, map, add-one, refl, sym, ap, ◌∙◌, Option, Some, None, arith, append_assoc}
-use Rattle.std.proofs.Common.{add-zero, zero-add, Result, Ok, Err}
+use Rattle.std.proofs.Common.{add-zero, zero-add, Result, Ok, Err, take_all}
 use Rattle.std.proofs.lemmas.List.{append-nil, take-append-drop}
 use Rattle.std.proofs.lemmas.Bool.{cases_lt}
-use Rattle.std.proofs.Math.Seq.{take-length}
 use Rattle.std.specs.Prelude.{IfOk, IfErr, MatchResult, slice_get, option_map}
+use Rattle.std.proofs.lemmas.Option.{slice_get_within}
 use Rattle.loop_lex.specs.declared.token.Token.{Token}
 use Rattle.loop_grammar.specs.declared.lexeme.Lexeme.{Lexeme}
-use Rattle.loop_grammar.specs.declared.lexeme.Lexeme.TheVariants as word
 use Rattle.loop_parse.specs.declared.parser.ParseError.{ParseError}
 use Rattle.loop_parse.specs.declared.parser.ParseError.TheVariants.{Syntax, Memory}
 use Rattle.loop_grammar.specs.declared.tree.Tree.{Tree}
 use Rattle.loop_grammar.specs.Grammar.{Tok, Program, program_text, program_tree, Derives, IsViable, Stops}
 use Rattle.loop_parse.specs.Feeding.{fed_by}
 use Rattle.loop_grammar.specs.Lexemes.{lexeme_at, numbered_from, sentence, IsTree}
+use Rattle.loop_grammar.proofs.Lexemes.{length-sentence}
 use Rattle.loop_parse.specs.Places.{IsPlace}
 use Rattle.loop_parse.specs.Runs.{Ran, Stuck, state_after, next_state, tree_at}
 use Rattle.loop_parse.specs.declared.place.Reader.{Reader}
 use Rattle.loop_parse.specs.SourceMachine.{State, state_of, feed, finish, start, fed}
-use Rattle.loop_parse.proofs.Fed.{fed_append, fed_none, some_is, none_is}
+use Rattle.loop_parse.proofs.MachineSteps.{fed_append, fed_none, some_is, none_is}
 use Rattle.loop_parse.proofs.SourceComplete.{behind_all, whole_program, program_finishes}
 use Rattle.loop_parse.proofs.SourceSound.{Stands, feed_stands, start_stands, finish_stands}
 use Rattle.loop_parse.proofs.SourceCloses.{Closes, closes}
+use Rattle.plain_data.proofs.Lists.{take-suc_some}
 
 fed_stands : (s : State) (read tokens : List Tok) (last : State) → Stands s read → fed (Some s) tokens ≡ Some last
     → Stands last (read ++ tokens)
@@ -87,36 +88,22 @@ no_more read t s run stuck h =
 
 -- ---- places
 
-get_in_range : {A : Type 0} (xs : List A) (k : ℕ) (x : A) → slice_get xs k ≡ Some x → k < length xs
-get_in_range [] k x e = absurd cc
-get_in_range (y ∷ xs) zero x e = omega arith
-get_in_range (y ∷ xs) (suc k) x e = omega (arith, get_in_range xs k x e)
-
-pub take_next : {A : Type 0} (xs : List A) (k : ℕ) (x : A) → slice_get xs k ≡ Some x
-    → take (suc k) xs ≡ take k xs ++ x ∷ []
-take_next [] k x e = absurd cc
-take_next (y ∷ xs) zero x e = rw (some_is y x e) refl
-take_next (y ∷ xs) (suc k) x e = ap (λ zs. y ∷ zs) (take_next xs k x e)
-
-take_all : {A : Type 0} (xs : List A) (k : ℕ) → k ≡ length xs → take k xs ≡ xs
-take_all xs k e = rw e (take-length xs)
-
 pub place_there : (tokens : List Tok) (k : ℕ) → Stuck tokens k → Stops tokens k
 unfolding state_after next_state tree_at
 place_there tokens k h = record {
   within = elim h.there [
-    | inl p ↦ let lt : k < length tokens = get_in_range tokens k p.0 p.1 in omega arith
+    | inl p ↦ let lt : k < length tokens = slice_get_within tokens k p.0 p.1 in omega arith
     | inr p ↦ let eq : k ≡ length tokens = p.0 in omega arith
   ];
   before = viable (take k tokens) h.state h.before;
   there = λ lt viable. elim h.there [
-    | inl p ↦ no_more (take k tokens) p.0 h.state h.before p.2 (rw (take_next tokens k p.0 p.1) at viable)
+    | inl p ↦ no_more (take k tokens) p.0 h.state h.before p.2 (rw (take-suc_some tokens k p.0 p.1) at viable)
     | inr p ↦ let eq : k ≡ length tokens = p.0 in absurd (omega arith)
   ];
   at_end = λ end tree is. elim h.there [
-    | inl p ↦ let lt : k < length tokens = get_in_range tokens k p.0 p.1 in absurd (omega arith)
+    | inl p ↦ let lt : k < length tokens = slice_get_within tokens k p.0 p.1 in absurd (omega arith)
     | inr p ↦
-        let whole : fed (Some start) tokens ≡ Some h.state = rw (take_all tokens k end) at h.before in
+        let whole : fed (Some start) tokens ≡ Some h.state = rw (take_all k tokens (omega (arith, end))) at h.before in
         let same : h.state ≡ behind_all is.0 =
         some_is h.state (behind_all is.0) (sym whole ∙ sentence_read tokens is.0 is.1) in
         none_is (program_tree is.0) (sym p.1 ∙ ap finish same ∙ program_finishes is.0)
@@ -153,18 +140,6 @@ only_law bytes tokens (Err (Syntax k)) h tree is =
 
 -- ---- the loop over the tokens
 
-length-numbered : (n : ℕ) (words : List Lexeme) → length (numbered_from n words) ≡ length words
-length-numbered n [] = refl
-length-numbered n (w ∷ words) = ap suc (length-numbered (n + 1) words)
-
-pub length-sentence : (bytes : List ℕ) (tokens : List Token) → length (sentence bytes tokens) ≡ length tokens
-unfolding sentence
-length-sentence bytes tokens = length-numbered 0 (map (lexeme_at bytes) tokens) ∙ mapped tokens
-  where
-    mapped : (tokens : List Token) → length (map (lexeme_at bytes) tokens) ≡ length tokens
-    mapped [] = refl
-    mapped (t ∷ tokens) = ap suc (mapped tokens)
-
 numbered_get : (bytes : List ℕ) (tokens : List Token) (n k : ℕ) (t : Token) → slice_get tokens k ≡ Some t
     → slice_get (numbered_from n (map (lexeme_at bytes) tokens)) k ≡ Some (lexeme_at bytes t, n + k)
 numbered_get bytes [] n k t e = absurd cc
@@ -186,7 +161,7 @@ goes_on : (bytes : List ℕ) (tokens : List Token) (k : ℕ) (t : Token) (s next
     → state_after (take (suc k) (sentence bytes tokens)) ≡ Some next
 unfolding state_after next_state
 goes_on bytes tokens k t s next e run step =
-    ap (fed (Some start)) (take_next (sentence bytes tokens) k (lexeme_at bytes t, k) (sentence_get bytes tokens k t e))
+    ap (fed (Some start)) (take-suc_some (sentence bytes tokens) k (lexeme_at bytes t, k) (sentence_get bytes tokens k t e))
     ∙ fed_append feed (Some start) (take k (sentence bytes tokens)) ((lexeme_at bytes t, k) ∷ [])
     ∙ ap (λ o. fed o ((lexeme_at bytes t, k) ∷ [])) run ∙ step
 
@@ -204,7 +179,7 @@ stuck_at_end bytes tokens k s e run ends =
 
 pub ran_all : (bytes : List ℕ) (tokens : List Token) (k : ℕ) (s : State) → k ≡ length tokens
     → state_after (take k (sentence bytes tokens)) ≡ Some s → state_after (sentence bytes tokens) ≡ Some s
-ran_all bytes tokens k s e run = rw (take_all (sentence bytes tokens) k (e ∙ sym (length-sentence bytes tokens))) at run
+ran_all bytes tokens k s e run = rw (take_all k (sentence bytes tokens) (omega (arith, (e ∙ sym (length-sentence bytes tokens))))) at run
 
 get_some : (tokens : List Token) (k : ℕ) (d : Token) → k < length tokens → slice_get tokens k ≡ Some (get_or tokens k d)
 get_some [] k d lt = absurd (omega arith)

@@ -6,8 +6,7 @@
 -- a `for`, an `if`, an assignment or a declaration is taken after those that follow it. An open expression is first
 -- completed by itself (`ExpressionSound`), and a token that ends it fills the place that it stands in
 -- (`within_closes`). The tokens found needn't be the fewest.
-use Rattle.std.proofs.Common.{◌≡◌, ℕ, Bool, true, false, List, [], ◌∷◌, ◌++◌, refl, sym, ap, ◌∙◌, Option, Some, None}
-use Rattle.std.proofs.Common.{pos}
+use Rattle.std.proofs.Common.{◌≡◌, ℕ, Bool, true, false, List, [], ◌∷◌, ◌++◌, refl, ap, ◌∙◌, Some, None}
 use Rattle.loop_grammar.specs.declared.lexeme.Lexeme.{Lexeme}
 use Rattle.loop_grammar.specs.declared.lexeme.Lexeme.TheVariants as word
 use Rattle.loop_grammar.specs.declared.tree.CompareSign.{CompareSign}
@@ -33,15 +32,14 @@ use Rattle.loop_parse.specs.declared.place.DeclarePlace.{DeclarePlace}
 use Rattle.loop_parse.specs.declared.place.DeclarePlace.TheVariants as declare
 use Rattle.loop_parse.specs.declared.place.Slot.{Slot}
 use Rattle.loop_parse.specs.declared.place.Slot.TheVariants as slot
-use Rattle.loop_parse.specs.declared.place.Place.{Place}
 use Rattle.loop_parse.specs.declared.place.Place.TheVariants as place
 use Rattle.loop_parse.specs.declared.place.Nesting.{Nesting}
 use Rattle.loop_grammar.specs.Grammar.{Tok}
 use Rattle.loop_parse.specs.ExpressionMachine as expression
-use Rattle.loop_parse.specs.SourceMachine.{Where, at, within, State, begun, at_for, name_of, enclosed, for_part}
-use Rattle.loop_parse.specs.SourceMachine.{landed, settled, at_declare, declared, named_of, comparison_of}
+use Rattle.loop_parse.specs.SourceMachine.{at, within, State, begun, at_for, name_of, enclosed, for_part}
+use Rattle.loop_parse.specs.SourceMachine.{settled, at_declare, declared, named_of, comparison_of}
 use Rattle.loop_parse.specs.SourceMachine.{ends_expression, fill, feed, finish, start, fed}
-use Rattle.loop_parse.proofs.Fed.{fed_append, some_is}
+use Rattle.loop_parse.proofs.MachineSteps.{fed_append, some_is}
 use Rattle.loop_parse.proofs.ExpressionSound as expressions
 use Rattle.loop_parse.proofs.SourceComplete.{fed_within, ends_within}
 

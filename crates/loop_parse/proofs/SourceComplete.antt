@@ -11,10 +11,7 @@ use Rattle.std.proofs.Common.{Some, None}
 use Rattle.std.proofs.lemmas.List.{append-nil}
 use Rattle.loop_grammar.specs.declared.lexeme.Lexeme.{Lexeme}
 use Rattle.loop_grammar.specs.declared.lexeme.Lexeme.TheVariants as word
-use Rattle.loop_grammar.specs.declared.tree.CompareSign.{CompareSign}
-use Rattle.loop_grammar.specs.declared.tree.Comparison.{Comparison}
 use Rattle.loop_grammar.specs.declared.tree.DeclWord.{DeclWord}
-use Rattle.loop_grammar.specs.declared.tree.DeclWord.TheVariants.{Param}
 use Rattle.loop_grammar.specs.declared.tree.Declaration.{Declaration}
 use Rattle.loop_grammar.specs.declared.tree.Name.{Name}
 use Rattle.loop_grammar.specs.declared.tree.Named.{Named}
@@ -22,17 +19,14 @@ use Rattle.loop_grammar.specs.declared.tree.Operand.{Operand}
 use Rattle.loop_grammar.specs.declared.tree.Part.{Part}
 use Rattle.loop_grammar.specs.declared.tree.Part as part
 use Rattle.loop_grammar.specs.declared.tree.Step.{Step}
-use Rattle.loop_grammar.specs.declared.tree.Tree.{Tree}
 use Rattle.loop_parse.specs.declared.place.Bounds.{Bounds}
 use Rattle.loop_parse.specs.declared.place.Enclosing.{Enclosing}
 use Rattle.loop_parse.specs.declared.place.Enclosing.TheVariants as enclosing
-use Rattle.loop_parse.specs.declared.place.ForPlace.{ForPlace}
 use Rattle.loop_parse.specs.declared.place.ForPlace.TheVariants as for_place
 use Rattle.loop_parse.specs.declared.place.DeclarePlace.{DeclarePlace}
 use Rattle.loop_parse.specs.declared.place.DeclarePlace.TheVariants as declare
 use Rattle.loop_parse.specs.declared.place.Slot.{Slot}
 use Rattle.loop_parse.specs.declared.place.Slot.TheVariants as slot
-use Rattle.loop_parse.specs.declared.place.Place.{Place}
 use Rattle.loop_parse.specs.declared.place.Place.TheVariants as place
 use Rattle.loop_parse.specs.declared.place.Nesting.{Nesting}
 use Rattle.loop_parse.specs.declared.expression.Reading.TheVariants as reading
@@ -50,12 +44,12 @@ use Rattle.loop_grammar.specs.Grammar.{declarations_text, declaration_trees, Pro
 use Rattle.loop_grammar.specs.Grammar.{program_tree}
 use Rattle.loop_parse.specs.ExpressionMachine as expression
 use Rattle.loop_parse.specs.Feeding.{fed_by}
-use Rattle.loop_parse.specs.SourceMachine.{Where, at, within, State, begun, at_for, enclosed, feed_header}
-use Rattle.loop_parse.specs.SourceMachine.{feed_statement, end_block, for_part, landed, settled, feed_after_block}
-use Rattle.loop_parse.specs.SourceMachine.{at_declare, declared, named_of, declare_place, comparison_of}
-use Rattle.loop_parse.specs.SourceMachine.{feed_comparison, fill, ends_expression, filled, within_again, feed_within}
+use Rattle.loop_parse.specs.SourceMachine.{at, within, State, begun, at_for, enclosed}
+use Rattle.loop_parse.specs.SourceMachine.{feed_statement, settled, feed_after_block}
+use Rattle.loop_parse.specs.SourceMachine.{at_declare, declared, declare_place}
+use Rattle.loop_parse.specs.SourceMachine.{feed_comparison, fill, ends_expression, feed_within}
 use Rattle.loop_parse.specs.SourceMachine.{feed, finish, start, fed}
-use Rattle.loop_parse.proofs.Fed.{fed_append, fed_none, some_is, none_is}
+use Rattle.loop_parse.proofs.MachineSteps.{fed_append, fed_none, some_is, none_is}
 use Rattle.loop_parse.proofs.ExpressionComplete.{behind, expr_finishes, expr_outside, whole_expr}
 
 -- ---- expressions in a source

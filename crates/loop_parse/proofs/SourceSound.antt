@@ -12,7 +12,7 @@ use Rattle.std.proofs.lemmas.List.{append-nil}
 use Rattle.loop_grammar.specs.declared.lexeme.Lexeme.{Lexeme}
 use Rattle.loop_grammar.specs.declared.lexeme.Lexeme.TheVariants as word
 use Rattle.loop_grammar.specs.declared.tree.CompareSign.{CompareSign}
-use Rattle.loop_grammar.specs.declared.tree.CompareSign.TheVariants.{Less, LessEq, Greater, GreaterEq, Equal}
+use Rattle.loop_grammar.specs.declared.tree.CompareSign.TheVariants.{Less, LessEq}
 use Rattle.loop_grammar.specs.declared.tree.Comparison.{Comparison}
 use Rattle.loop_grammar.specs.declared.tree.DeclWord.{DeclWord}
 use Rattle.loop_grammar.specs.declared.tree.DeclWord.TheVariants.{Param, Input, Output, Both, Var}
@@ -47,8 +47,8 @@ use Rattle.loop_grammar.specs.Grammar.{and_statement, statement_text, block_text
 use Rattle.loop_grammar.specs.Grammar.{statement_tree, block_parts, statement_trees, ArrayWord, input, output, both}
 use Rattle.loop_grammar.specs.Grammar.{var, array_word, Declared, parameters, arrays, parameter_text, declared_text}
 use Rattle.loop_grammar.specs.Grammar.{parameter, array, declared_tree, Declarations, none_declared, also_declared}
-use Rattle.loop_grammar.specs.Grammar.{declarations_text, declaration_trees, Program, program, program_text}
-use Rattle.loop_grammar.specs.Grammar.{program_tree, Derives}
+use Rattle.loop_grammar.specs.Grammar.{declarations_text, declaration_trees, program}
+use Rattle.loop_grammar.specs.Grammar.{Derives}
 use Rattle.loop_parse.specs.ExpressionMachine as expression
 use Rattle.loop_parse.specs.Feeding.{fed_by}
 use Rattle.loop_parse.specs.SourceMachine.{Where, at, within, State, begun, at_for, name_of, enclosed, feed_for}
@@ -56,9 +56,9 @@ use Rattle.loop_parse.specs.SourceMachine.{feed_step, feed_header, feed_begin, f
 use Rattle.loop_parse.specs.SourceMachine.{landed, settled, else_begun, feed_after_block, feed_if, feed_target}
 use Rattle.loop_parse.specs.SourceMachine.{at_declare, declared, named_of, feed_declare, declare_place}
 use Rattle.loop_parse.specs.SourceMachine.{feed_declaration, comparison_of, feed_comparison, feed_assigned, fill}
-use Rattle.loop_parse.specs.SourceMachine.{ends_expression, filled, within_again, feed_within, feed_at, feed, end}
+use Rattle.loop_parse.specs.SourceMachine.{ends_expression, filled, within_again, feed_within, feed, end}
 use Rattle.loop_parse.specs.SourceMachine.{finish, start, fed}
-use Rattle.loop_parse.proofs.Fed.{fed_append, fed_none, some_is, none_is}
+use Rattle.loop_parse.proofs.MachineSteps.{fed_append, fed_none, some_is, none_is}
 use Rattle.loop_parse.proofs.SourceComplete.{bounds_of, third_of, step_of}
 use Rattle.loop_parse.proofs.ExpressionSound as expressions
 

@@ -1,5 +1,5 @@
 -- A machine that is fed an expression token by token.
-use Rattle.std.specs.Prelude.{◌≡◌, ◌++◌, ℕ, ℤ, Bool, true, false, Option, Some, None, List, [], ◌∷◌, reverse}
+use Rattle.std.specs.Prelude.{◌++◌, ℕ, Bool, true, false, Option, Some, None, List, [], ◌∷◌, reverse}
 use Rattle.loop_grammar.specs.declared.lexeme.Lexeme.TheVariants as word
 use Rattle.loop_grammar.specs.declared.tree.BinarySign.TheVariants.{Add, Sub, Mul}
 use Rattle.loop_grammar.specs.declared.tree.Operand.{Operand}

@@ -6,7 +6,7 @@ use Rattle.loop_grammar.specs.Lexemes.{sentence}
 use Rattle.loop_parse.specs.declared.parser.ParseError.{ParseError}
 use Rattle.loop_parse.specs.declared.parser.ParseError.TheVariants.{Syntax, Memory}
 
--- a refusal's place, where it has one
+-- the place of a refusal, where it has one: where the tokens stop
 abbrev pub IsPlace : List ℕ → List Token → ParseError → Type 0
 IsPlace bytes tokens (Syntax k) = Stops (sentence bytes tokens) k
 IsPlace bytes tokens Memory = Unit {0}

@@ -1,12 +1,12 @@
 -- A machine that is fed a source token by token.
-use Rattle.std.specs.Prelude.{◌≡◌, ◌⊎◌, ◌&&◌, if◌then◌else◌, option_map, ◌++◌, ℕ, Bool, true, false, Option, Some, None, List, [], ◌∷◌, reverse, Result, Ok, Err, length, take, slice_get}
+use Rattle.std.specs.Prelude.{◌&&◌, if◌then◌else◌, option_map, ◌++◌, ℕ, Bool, true, false, Option, Some, None, List, [], ◌∷◌, reverse}
 use Rattle.loop_grammar.specs.declared.lexeme.Lexeme.{Lexeme}
 use Rattle.loop_grammar.specs.declared.lexeme.Lexeme.TheVariants as word
 use Rattle.loop_grammar.specs.declared.tree.CompareSign.{CompareSign}
-use Rattle.loop_grammar.specs.declared.tree.CompareSign.TheVariants.{Less, LessEq, Greater, GreaterEq, Equal}
+use Rattle.loop_grammar.specs.declared.tree.CompareSign.TheVariants.{Less, LessEq}
 use Rattle.loop_grammar.specs.declared.tree.Comparison.{Comparison}
 use Rattle.loop_grammar.specs.declared.tree.DeclWord.{DeclWord}
-use Rattle.loop_grammar.specs.declared.tree.DeclWord.TheVariants.{Param, Input, Output, Both, Var}
+use Rattle.loop_grammar.specs.declared.tree.DeclWord.TheVariants.{Param}
 use Rattle.loop_grammar.specs.declared.tree.Declaration.{Declaration}
 use Rattle.loop_grammar.specs.declared.tree.Name.{Name}
 use Rattle.loop_grammar.specs.declared.tree.Named.{Named}
@@ -31,7 +31,6 @@ use Rattle.loop_parse.specs.declared.place.Position.{Position}
 use Rattle.loop_parse.specs.declared.place.Position.TheVariants as position
 use Rattle.loop_parse.specs.declared.place.Nesting.{Nesting}
 use Rattle.loop_parse.specs.declared.place.Reader.{Reader}
-use Rattle.loop_parse.specs.declared.expression.Expression.{Expression}
 use Rattle.loop_grammar.specs.Grammar.{Tok}
 use Rattle.loop_parse.specs.Feeding.{fed_by}
 use Rattle.loop_parse.specs.ExpressionMachine as expression

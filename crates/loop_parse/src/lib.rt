@@ -2,6 +2,9 @@
 //!
 //! An arm that refuses hands what it owns to `drop`. What is let go of at the end of an arm instead is taken apart in that
 //! function's own proof, variant by variant and field by field, which for trees took many times as long as all else in it.
+//!
+//! Between two calls, or from one step of the main loop to the next: the state is that after the tokens so far, and
+//! every state can be completed to a source.
 #![tactic(auto)]
 
 mod declaration;

@@ -6,13 +6,13 @@
 -- sentence is the words, numbered from 0, and these derive the tree again (`SpelledSources`). What the lexer does with
 -- texts that are written with spaces behind is a hypothesis (`ReadsSpaced`, `KeepsTexts`), and so is what tokens keep
 -- (`KeepsTokens`).
-use Rattle.std.proofs.Common.{rules, ◌≡◌, ℕ, suc, ◌+◌, ◌*◌, ◌-◌, ◌^◌, ◌<◌, ◌≤◌, pos, negsuc, Bool, true, false, not}
+use Rattle.std.proofs.Common.{rules, ◌≡◌, ℕ, ◌+◌, ◌*◌, ◌-◌, ◌^◌, ◌<◌, ◌≤◌, pos, negsuc, Bool, true, false, not}
 use Rattle.std.proofs.Common.{◌&&◌, ◌||◌, List, [], ◌∷◌, fold, map, length, refl, sym, ap, subst, ◌∙◌, arith, All}
 use Rattle.std.proofs.Common.{nat_lt, Ok}
 use Rattle.std.specs.Fmt.{decimal}
 use Rattle.std.specs.List.{list_all, list_any}
 use Rattle.std.specs.Str.{bytes_eq}
-use Rattle.std.proofs.lemmas.Bool.{le-ltb}
+use Rattle.std.proofs.lemmas.Bool.{le-ltb, or_right, and_parts}
 use Rattle.std.proofs.lemmas.Bool.Decides.{nat_tests}
 use Rattle.std.proofs.lemmas.Fmt.{digits_decimal, digits_value-decimal, decimal_nonempty}
 use Rattle.std.proofs.lemmas.List.{length-map}
@@ -20,7 +20,7 @@ use Rattle.std.proofs.lemmas.List.Elements.{All-head, All-tail}
 use Rattle.std.proofs.lemmas.Slice.Eq.{bytes_eq-Decides}
 use Rattle.std.proofs.lemmas.Str.Parse.{IsDigitsTest, FoldsDigits, IsNumeralModel, numerals_by_fold}
 use Rattle.loop_lex.specs.Lexical.{is_word, is_letter, is_letter_or_digit, is_digit, is_digits, is_token, is_reserved}
-use Rattle.loop_lex.specs.Lexical.{is_sign, reserved_words, signs, is_large, number_value, greatest_number}
+use Rattle.loop_lex.specs.Lexical.{is_sign, reserved_words, signs, is_large, greatest_number}
 use Rattle.loop_lex.specs.Spaced.{are_token_texts, spaced, spaced_tokens}
 use Rattle.loop_lex.specs.Tokens.{kind_of, token_at, tokens, token_limit, text_of, IsTextOf as IsKindOf, IsTokenOf}
 use Rattle.loop_lex.specs.Tokens.{AreTokensOf}
@@ -36,32 +36,26 @@ use Rattle.loop_grammar.specs.declared.tree.Tree.{Tree}
 use Rattle.loop_grammar.specs.Grammar.{Tok, Program, program_text, program_tree, Derives}
 use Rattle.loop_grammar.specs.Lexemes.{reserved_lexeme, bracket_lexeme, comparison_lexeme, sign_lexeme, lexeme_of}
 use Rattle.loop_grammar.specs.Lexemes.{lexeme_at, numbered_from, sentence}
+use Rattle.loop_grammar.proofs.Lexemes.{length-sentence}
 use Rattle.loop_print.specs.Printing.{lexeme_text, written, tree_words}
 use Rattle.loop_print.specs.Numbers.{without_token_numbers}
 use Rattle.loop_print.specs.ReadBack.{HasSource, ReadsBackAs}
 use Rattle.loop_print.proofs.SpelledSources.{spelled_program}
 use Rattle.loop_print.proofs.Within.{IsTokenWord, AreTokenWords, AreTokens, Within, program_within}
+use Rattle.plain_data.specs.Digits.{decimal_number}
 
 -- ---- names
 
 letter_no_digit : (b : ℕ) → is_letter b ≡ true → is_digit b ≡ false
 letter_no_digit b h = grind (arith, nat_tests)
 
-and_left : (x y : Bool) → (x && y) ≡ true → x ≡ true
-and_left true y h = refl
-and_left false y h = h
-
 word_no_digits : (text : List ℕ) → is_word text ≡ true → is_digits text ≡ false
 word_no_digits [] h = refl
 word_no_digits (b ∷ bs) h =
     let no_digit : is_digit b ≡ false =
-    letter_no_digit b (and_left (is_letter b) (list_all is_letter_or_digit bs) h) in rw no_digit refl
+    letter_no_digit b ((and_parts (is_letter b) (list_all is_letter_or_digit bs) h).0) in rw no_digit refl
 
 -- ---- numbers
-
-or_yes : (x : Bool) → (x || true) ≡ true
-or_yes true = refl
-or_yes false = refl
 
 abbrev IsNumeral : List ℕ → Type 0
 IsNumeral text = list_all is_digit text ≡ true
@@ -75,7 +69,7 @@ tells_numerals = search rules
 folds_numerals : FoldsDigits value_behind
 folds_numerals = record { empty = λ n. refl; more = λ n c cs h. refl }
 
-own_numerals : IsNumeralModel IsNumeral number_value
+own_numerals : IsNumeralModel IsNumeral decimal_number
 own_numerals = numerals_by_fold IsNumeral tells_numerals value_behind folds_numerals
 
 digits_of_some : (text : List ℕ) → 0 < length text → IsNumeral text → is_digits text ≡ true
@@ -87,7 +81,7 @@ decimal_digits n le =
     let lt : n < 2 ^ 64 =
     omega arith in digits_of_some (decimal n) (decimal_nonempty n lt) (digits_decimal own_numerals n lt)
 
-decimal_value : (n : ℕ) → n ≤ greatest_number → number_value (decimal n) ≡ n
+decimal_value : (n : ℕ) → n ≤ greatest_number → decimal_number (decimal n) ≡ n
 decimal_value n le = let lt : n < 2 ^ 64 = omega arith in digits_value-decimal own_numerals n lt
 
 not_large : (n v : ℕ) → n ≤ greatest_number → v ≡ n → nat_lt greatest_number v ≡ false
@@ -101,15 +95,15 @@ IsWritable text = (is_token text && not (is_large text)) ≡ true
 name_writable : (text : List ℕ) → is_word text ≡ true → IsWritable text
 name_writable text h = rw (h, word_no_digits text h) refl
 
-number_writable : (text : List ℕ) → is_digits text ≡ true → nat_lt greatest_number (number_value text) ≡ false
+number_writable : (text : List ℕ) → is_digits text ≡ true → nat_lt greatest_number (decimal_number text) ≡ false
     → IsWritable text
-number_writable text d l = rw (d, l, or_yes (is_word text)) refl
+number_writable text d l = rw (d, l, or_right (is_word text) true refl) refl
 
 pub writable : (w : Lexeme) → IsTokenWord w → IsWritable (lexeme_text w)
 unfolding lexeme_text
 writable (word.Name text) h = name_writable text h.0
 writable (word.Number (pos n)) h =
-    number_writable (decimal n) (decimal_digits n h) (not_large n (number_value (decimal n)) h (decimal_value n h))
+    number_writable (decimal n) (decimal_digits n h) (not_large n (decimal_number (decimal n)) h (decimal_value n h))
 writable (word.Number (negsuc n)) h = absurd h
 writable (word.Declare Param) h = refl
 writable (word.Declare Input) h = refl
@@ -153,7 +147,7 @@ name_read text h r =
     let k : kind_of text ≡ kind.Name = rw (word_no_digits text h, h, r) refl in
     ap (λ (s : TokenKind). lexeme_of s text) k
 
-number_read : (text : List ℕ) → is_digits text ≡ true → lexeme_of_text text ≡ word.Number (pos (number_value text))
+number_read : (text : List ℕ) → is_digits text ≡ true → lexeme_of_text text ≡ word.Number (pos (decimal_number text))
 number_read text d =
     let k : kind_of text ≡ kind.Number = rw d refl in
     ap (λ (s : TokenKind). lexeme_of s text) k
@@ -300,14 +294,6 @@ sentence_tokens : (bytes : List ℕ) (found : List Token) → AreTokensOf bytes 
 unfolding sentence
 sentence_tokens bytes found h = numbered_tokens bytes 0 found h.each
 
-length_numbered : (n : ℕ) (ws : List Lexeme) → length (numbered_from n ws) ≡ length ws
-length_numbered n [] = refl
-length_numbered n (w ∷ ws) = ap suc (length_numbered (n + 1) ws)
-
-length_sentence : (bytes : List ℕ) (found : List Token) → length (sentence bytes found) ≡ length found
-unfolding sentence
-length_sentence bytes found = length_numbered 0 (map (lexeme_at bytes) found) ∙ length-map found (lexeme_at bytes)
-
 -- ---- the law
 
 abbrev pub KeepsTokens : Type 0
@@ -342,7 +328,7 @@ of_program p source found keeps reads texts read text =
     let valid : AreTokenWords (tree_words (program_tree p)) =
     within.valid (subst AreTokens (sym text) (sentence_tokens source found kept)) in
     let le : length (tree_words (program_tree p)) ≤ length (program_text p) = within.shorter in
-    let same : length (program_text p) ≡ length found = ap length text ∙ length_sentence source found in
+    let same : length (program_text p) ≡ length found = ap length text ∙ length-sentence source found in
     let limit : length found ≤ token_limit = kept.limit in
     let short : length (tree_words (program_tree p)) ≤ token_limit = omega (arith, le, same, limit) in
     let ws : List Lexeme = tree_words (program_tree p) in

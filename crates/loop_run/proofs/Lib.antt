@@ -1,4 +1,4 @@
 pub mod HalfOpen
-pub mod Placed
+pub mod StatementPlaces
 pub mod RunLemmas
 pub mod ValuesInside

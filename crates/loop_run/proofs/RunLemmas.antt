@@ -19,7 +19,7 @@ use Rattle.loop_run.specs.Execution.{all_placed, node_placed, placed_step}
 use Rattle.loop_walk.specs.EnteredLoops.{turns_within}
 use Rattle.sanlp.proofs.Intervals.{interval_step, interval_end}
 use Rattle.sanlp.proofs.Folds.{fold_loop, fold_assign}
-use Rattle.loop_walk.proofs.EnteredLoops.{loop_fits, loop_turns_within}
+use Rattle.loop_walk.proofs.LoopEntries.{loop_fits, loop_turns_within}
 
 -- a loop that stands in its place
 loop_placed : (id : ℕ) (lower upper : List Form) (step : ℤ) (body : List Node) (statements : List Statement) (depth : ℕ)

@@ -1,4 +1,7 @@
 //! The interpreter of a nest: the arrays that it computes.
+//!
+//! Between two calls, or from one step of the main loop to the next: the kept values are the memory after the
+//! statements so far.
 #![tactic(auto)]
 
 mod along;

@@ -1,8 +1,8 @@
 pub mod BodyParts
 pub mod CountLemmas
-pub mod EnteredLoops
+pub mod LoopEntries
 pub mod LoopRange
-pub mod PointsAdded
+pub mod PointLists
 pub mod Rooms
 pub mod SizeLaw
 pub mod WalkLemmas

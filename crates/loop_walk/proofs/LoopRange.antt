@@ -7,7 +7,7 @@
 use Rattle.std.proofs.Common.{◌≡◌, ◌<◌, ◌+◌, ℕ, zero, suc, ℤ, List, [], ◌∷◌, length, get_or, take, map, sym, ap, ◌∙◌}
 use Rattle.std.proofs.Common.{arith, add-one, pos, negsuc, ◌-ℤ◌, ◌*ℤ◌, ◌≤ℤ◌}
 use Rattle.std.specs.List.{fold, list_all}
-use Rattle.std.specs.Prelude.{Bool, true, false, cond, ◌&&◌, IsTrue, if◌then◌else◌, int_lt}
+use Rattle.std.specs.Prelude.{Bool, true, false, cond, IsTrue, if◌then◌else◌, int_lt}
 use Rattle.std.specs.Int.{int_div_euclid, int_max, int_min}
 use Rattle.std.specs.Ordering.{int_eq}
 use Rattle.std.proofs.lemmas.Bool.{and_parts}
@@ -16,7 +16,7 @@ use Rattle.std.proofs.lemmas.Int.{by_lt_z, ints}
 use Rattle.affine_core.specs.declared.form.Form.{Form}
 use Rattle.affine_core.specs.Affine.{form_at}
 use Rattle.sanlp.specs.Loops.{greatest, interval, least, turns_up_to}
-use Rattle.sanlp.specs.Size.{all_within, is_loop_value, loop_within}
+use Rattle.sanlp.specs.Size.{all_within, is_loop_value}
 use Rattle.sanlp.proofs.Turns.{below_quotient, to_quotient, turns_are}
 
 one_further : {X : Type 0} (op : ℤ → ℤ → ℤ) (f : X → ℤ) (a : ℤ) (xs : List X) (i : ℕ) (x : X)
@@ -67,10 +67,6 @@ least_within (form ∷ forms) at passed value e h is =
     let tests = and_parts (is_loop_value (form_at form at)) (all_within forms at) (sym e ∙ h) in
     ap is_loop_value is
     ∙ kept int_min is_loop_value (λ form. form_at form at) min_kept (form_at form at) forms tests.0 tests.1
-
-pub both_within : (lower upper : List Form) (at : List ℤ) (a b : Bool)
-    → a ≡ all_within lower at → a ≡ true → b ≡ all_within upper at → b ≡ true → loop_within lower upper at ≡ true
-both_within lower upper at a b e h f g = ap (λ x. x && all_within upper at) (sym e ∙ h) ∙ sym f ∙ g
 
 -- the last turn of a loop between loop values is a loop value
 pub quotient_within : (first last step : ℤ) → IsTrue (is_loop_value first) → IsTrue (is_loop_value last) → pos 2 ≤ℤ step

@@ -4,7 +4,7 @@
 -- the run is over, the later turns move from the loop's frame into the run: the frame then stands at the loop's last
 -- value, of which nothing is left, so the points of both together stay the same. Nothing is said of loops with another
 -- body: there the run stays over.
-use Rattle.std.proofs.Common.{◌≡◌, ℕ, ℤ, pos, ◌+ℤ◌, ◌≤ℤ◌, ◌<ℤ◌, List, [], ◌∷◌, ◌++◌, map, refl, sym, ap, ◌∙◌, arith}
+use Rattle.std.proofs.Common.{◌≡◌, ℕ, ℤ, pos, ◌+ℤ◌, ◌<ℤ◌, List, [], ◌∷◌, ◌++◌, map, refl, sym, ap, ◌∙◌, arith}
 use Rattle.std.proofs.Common.{append-nil}
 use Rattle.std.specs.Prelude.{IsTrue, ◌&&◌, true, false, is_some, MatchOption, Option, Some, None}
 use Rattle.std.proofs.lemmas.Bool.{and_parts, and_from, false≢true}
@@ -28,11 +28,6 @@ pub run_step : (s : ℕ) (value next last : ℤ) (outer : List ℤ) → next ≡
 run_step s value next last outer is lt =
     ap (λ v. assignment_points s (interval v last) outer) (sym is)
     ∙ ap (λ vs. assignment_points s vs outer) (interval_step next last (omega (arith, ints)))
-
-pub run_end : (s : ℕ) (value last : ℤ) (outer : List ℤ) → last ≤ℤ value
-    → assignment_points s (interval (value +ℤ pos 1) last) outer ≡ []
-run_end s value last outer le =
-    ap (λ vs. assignment_points s vs outer) (interval_end (value +ℤ pos 1) last (omega (arith, ints)))
 
 -- the turns of a loop over an assignment
 turns_are_points : (s : ℕ) (body : List Node) (values at : List ℤ) → body ≡ Assign s ∷ []

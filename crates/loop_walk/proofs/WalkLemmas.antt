@@ -13,7 +13,7 @@ use Rattle.sanlp.specs.Loops.{interval}
 use Rattle.sanlp.specs.Trace.{all_points, trace_node, trace_step, turn_points}
 use Rattle.sanlp.specs.WellFormed.{all_forms_fit, forms_fit}
 use Rattle.sanlp.proofs.Folds.{fold_loop, fold_loop_at}
-use Rattle.sanlp.proofs.Intervals.{interval_step, interval_end}
+use Rattle.sanlp.proofs.Intervals.{interval_step}
 use Rattle.loop_walk.specs.declared.walk.Frame.{Frame}
 use Rattle.sanlp.specs.Size.{is_loop_value, node_within}
 use Rattle.loop_walk.specs.Counting.{IsLoopRange}
@@ -21,7 +21,7 @@ use Rattle.loop_walk.specs.EnteredLoops.{parts_within, turns_within}
 use Rattle.loop_walk.specs.Walking.{Left, Valid, left, left_inside, left_of_node, left_of_parts, left_of_turns}
 use Rattle.loop_walk.specs.Walking.{inside_valid, node_room, node_valid, parts_room, parts_valid, room_step}
 use Rattle.loop_walk.specs.Walking.{turns_valid, valid}
-use Rattle.loop_walk.proofs.EnteredLoops.{between_within, loop_fits, loop_turns_within, turn_within}
+use Rattle.loop_walk.proofs.LoopEntries.{between_within, loop_fits, loop_turns_within, turn_within}
 
 -- before the first part of a body
 abbrev start : Frame
@@ -52,9 +52,6 @@ module _ (id : ℕ) (lower upper : List Form) (step : ℤ) (body : List Node) (a
       ≡ all_points (map trace_node body) (at ++ first ∷ [])
       ++ turn_points (all_points (map trace_node body)) (interval (first +ℤ pos 1) last) at
   points_of_turns le = loop_points (first ∷ interval (first +ℤ pos 1) last) (interval_step first last le)
-
-  pub no_turn : last <ℤ first → trace_node (Loop id lower upper step body) at ≡ []
-  no_turn lt = loop_points [] (interval_end first last lt)
 
   pub turns_are_within : first ≤ℤ last → IsTrue (node_within (Loop id lower upper step body) at)
       → IsTrue (parts_within body (at ++ first ∷ [])) × IsTrue (turns_within body at (interval (first +ℤ pos 1) last))

@@ -1,35 +1,19 @@
-ghost use Rattle.std.specs.Prelude.{◌≡◌, pos, ◌+ℤ◌, ◌-ℤ◌, ◌*ℤ◌, ◌≤ℤ◌, Some, ◌+◌, ◌<◌, ◌≤◌, [], ◌∷◌, ◌++◌, false, if◌then◌else◌, length, map, take, unsigned_abs, IsTrue, MatchOption};
+ghost use Rattle.std.specs.Prelude.{◌≡◌, pos, ◌-ℤ◌, ◌≤ℤ◌, Some, ◌+◌, ◌<◌, ◌≤◌, [], ◌∷◌, ◌++◌, false, if◌then◌else◌, length, map, take, IsTrue, MatchOption};
 ghost use Rattle.std.specs.Int.{int_div_euclid};
 ghost use Rattle.std.specs.Ordering.{int_eq};
 ghost use Rattle.std.specs.List.{list_all};
 ghost use Rattle.affine_core.specs.Affine.{form_at};
 ghost use Rattle.sanlp.specs.Loops.{all_hold, greatest, interval, least, turns_up_to};
-ghost use Rattle.sanlp.specs.WellFormed.{form_fits, is_moderate};
+ghost use Rattle.sanlp.specs.WellFormed.{form_fits};
 ghost use Rattle.sanlp.specs.Size.{all_within, is_loop_value, loop_within};
 ghost use Rattle.loop_walk.specs.Counting.{IsLoopRange, are_loop_values};
 
 use crate::vector::LoopValues;
 use affine_core::Form;
+use sanlp::{add_product, moderate};
 
 /// The greatest absolute value of a form of an entered loop.
 const LOOP_VALUE_LIMIT: i128 = 4_611_686_018_427_387_904;
-
-// A coefficient in 64 bits.
-fn moderate(coef: i128) -> i64
-    requires { IsTrue (is_moderate coef) }
-    ensures { result ≡ coef }
-{
-    coef as i64
-}
-
-// Adds a product to a sum, where both are so small that the sum has 128 bits.
-fn add_product(sum: i128, coef: i64, value: i64) -> i128
-    requires coef { unsigned_abs coef ≤ 4294967296 }
-    requires sum { unsigned_abs sum ≤ 300000000000000000000000000000 }
-    ensures { result ≡ sum +ℤ (coef *ℤ value) }
-{
-    sum + coef as i128 * value as i128
-}
 
 // The value of a form. Its coefficients are so small that at values of 64 bits no sum leaves 128 bits.
 #[tactic(auto, using(sanlp::proofs::ModerateForms::as_many))]

@@ -1,4 +1,7 @@
 //! The walk over a nest: its size and its trace.
+//!
+//! Between two calls, or from one step of the main loop to the next: what a walk has given and what it has left are the
+//! trace.
 #![tactic(auto)]
 
 mod bounds;

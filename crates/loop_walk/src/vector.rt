@@ -2,24 +2,24 @@ ghost use Rattle.std.specs.Prelude.{◌≡◌, ◌+◌, ◌<◌, ◌≤◌, [], 
 ghost use Rattle.sanlp.specs.Size.{is_loop_value};
 ghost use Rattle.loop_walk.specs.Counting.{are_loop_values};
 
+use affine_core::KeptValues;
 use std::marker::Model;
 
 /// The values of the loops round a part of a body, outermost first, each within the limit of loop values.
 #[derive(Drop)]
 pub struct LoopValues {
-    values: [i64; 6],
-    depth: usize,
+    values: KeptValues,
 }
 
 impl Model for LoopValues {
-    ghost use Rattle.std.specs.Prelude.{List, ℤ, ◌≤◌, take, IsTrue};
+    ghost use Rattle.std.specs.Prelude.{List, ℤ, IsTrue};
     ghost use Rattle.loop_walk.specs.Counting.{are_loop_values};
 
     ghost Value = { List ℤ };
 
-    ghost view = { λ at. take at.depth at.values };
+    ghost view = { λ at. at.values };
 
-    ghost invariant = { λ at. (at.depth ≤ 6) × IsTrue (are_loop_values (take at.depth at.values)) };
+    ghost invariant = { λ at. IsTrue (are_loop_values at.values) };
 }
 
 impl LoopValues {
@@ -28,8 +28,7 @@ impl LoopValues {
         ensures { result ≡ [] }
     {
         LoopValues {
-            values: [0; 6],
-            depth: 0,
+            values: KeptValues::empty(),
         }
     }
 
@@ -38,8 +37,7 @@ impl LoopValues {
         ensures { result ≡ self.now }
     {
         LoopValues {
-            values: self.values,
-            depth: self.depth,
+            values: self.values.copy(),
         }
     }
 
@@ -49,13 +47,9 @@ impl LoopValues {
         requires within { IsTrue (is_loop_value value) }
         ensures { result ≡ self.now ++ value ∷ [] }
     {
-        let mut longer = LoopValues {
-            values: self.values,
-            depth: self.depth,
-        };
-        longer.values[self.depth] = value;
-        longer.depth = self.depth + 1;
-        longer
+        LoopValues {
+            values: self.values.with(value),
+        }
     }
 
     /// Gives the innermost loop another value. The loops round it are these.
@@ -65,7 +59,7 @@ impl LoopValues {
         requires within { IsTrue (is_loop_value value) }
         ensures { self.new ≡ outer.now ++ value ∷ [] }
     {
-        self.values[outer.depth] = value;
+        self.values.set_last(&outer.values, value);
     }
 
     /// The values, in order.
@@ -74,6 +68,6 @@ impl LoopValues {
         ensures shallow { length self.now ≤ 6 }
         ensures within { IsTrue (are_loop_values self.now) }
     {
-        &self.values[..self.depth]
+        self.values.as_slice()
     }
 }

@@ -6,8 +6,8 @@
 -- isn't shown here.
 use Rattle.std.proofs.Common.{ℕ, ◌+◌, pos, List, false, None, refl}
 use Rattle.std.specs.Prelude.{codes}
-use Rattle.loop_grammar.specs.Grammar.{Expr, Term, Factor, Access, Statement, Statements, Declared, Declarations}
-use Rattle.loop_grammar.specs.Grammar.{Program, program_tree, program_text, plus, input, output}
+use Rattle.loop_grammar.specs.Grammar.{Expr, Factor, Access, Statement, Statements, Declarations}
+use Rattle.loop_grammar.specs.Grammar.{Program, program_tree, plus, input, output}
 use Rattle.loop_grammar.specs.Grammar as grammar
 use Rattle.loop_grammar.specs.Lexemes.{IsTree, sentence, lexeme_at, reserved_lexeme, bracket_lexeme, comparison_lexeme}
 use Rattle.loop_grammar.specs.Lexemes.{sign_lexeme}

@@ -7,8 +7,8 @@ use Rattle.loop_grammar.specs.declared.tree.Tree.{Tree}
 use Rattle.loop_class.specs.Binding.{nest_of}
 use Rattle.matrix_load.specs.Cells.{matrix_inputs}
 use Rattle.matrix_load.specs.Product.{IsMatrixNest, size_given}
-use Rattle.matrix_load.proofs.Bound.{input_counts}
-use Rattle.matrix_load.proofs.Unrefused.{same_tree}
+use Rattle.matrix_load.proofs.Binding.{input_counts}
+use Rattle.matrix_load.proofs.NoRefusal.{same_tree}
 
 lengths : (count : ℕ) → map length (matrix_inputs count) ≡ count * (count * 1) ∷ count * (count * 1) ∷ 0 ∷ []
 lengths count =

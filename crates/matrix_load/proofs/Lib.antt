@@ -1,6 +1,6 @@
 pub mod Sentence
 pub mod Derivation
-pub mod Bound
-pub mod Unrefused
+pub mod Binding
+pub mod NoRefusal
 pub mod Lengths
 pub mod Worked

@@ -111,6 +111,19 @@ impl<T: Drop> Items<T> {
         Ok(())
     }
 
+    /// Adds two items at the end. At want of memory the first may stand there already.
+    pub fn push_both(&mut self, first: T, second: T) -> Result<(), AllocError>
+        ensures { OnOk result (self.new ≡ self.old ++ first ∷ second ∷ []) }
+    {
+        match self.push(first) {
+            Ok(()) => self.push(second),
+            Err(error) => {
+                drop(second);
+                Err(error)
+            }
+        }
+    }
+
     /// Puts an item in the place of the one there.
     pub fn set(&mut self, at: usize, item: T)
         requires { at < length self.old }

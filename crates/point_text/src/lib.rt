@@ -1,4 +1,6 @@
 //! The texts of points: loop values in parentheses, and the number of a statement before them.
+//!
+//! Between two calls, or from one step of the main loop to the next: the writer was given a front of the text.
 #![tactic(auto)]
 
 mod writing;

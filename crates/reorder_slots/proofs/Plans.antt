@@ -69,8 +69,3 @@ slots_of_uses-more uses q lt =
     let f = λ (token : ℕ). get_or (slots_of_gets uses) token 0 in
     take_more (slots_of_uses uses) q 0 (omega (arith, length-map uses f))
     ∙ ap (λ slot. take q (slots_of_uses uses) ++ slot ∷ []) (get_or-map f uses q 0 0 lt ∙ slot_of_use uses q lt)
-
-pub slots_of_uses-all : (uses : List ℕ) (q : ℕ) → length uses ≤ q → take q (slots_of_uses uses) ≡ slots_of_uses uses
-slots_of_uses-all uses q all =
-    let f = λ (token : ℕ). get_or (slots_of_gets uses) token 0 in
-    take_all q (slots_of_uses uses) (omega (arith, length-map uses f))

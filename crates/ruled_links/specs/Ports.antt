@@ -7,14 +7,15 @@ pub record Port : Type 0 where
   pub stream : List ℤ
   pub moved : List ℤ
 
+-- a stream with how much of it has gone through
 abbrev pub port : List ℤ → List ℤ → Port
 port stream moved = record { stream = stream; moved = moved }
 
--- nothing has gone through
+-- a port through which nothing has gone
 abbrev pub fresh : List ℤ → Port
 fresh stream = port stream []
 
--- one value more has gone through
+-- a port after one value more has gone through
 abbrev pub moved_by : Port → ℤ → Port
 moved_by p x = port p.stream (p.moved ++ x ∷ [])
 
@@ -25,6 +26,7 @@ pub record LinkEnd : Type 0 where
   pub port : Port
   pub capacity : ℕ
 
+-- one end of a link: its line, its port and how many values the link holds
 abbrev pub link_end : TableId → Port → ℕ → LinkEnd
 link_end line port capacity = record { line = line; port = port; capacity = capacity }
 

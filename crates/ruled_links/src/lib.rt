@@ -2,6 +2,9 @@
 //!
 //! The stream is for contracts alone; the running program holds nothing of it. What was got is a prefix of what was put,
 //! and at most the capacity lies between them, whatever the order in which the two threads work.
+//!
+//! Between two calls, or from one step of the main loop to the next: what was got and then what is held is what was
+//! put, which is a front of the stream, and no more is held than the capacity; both ends are of one line.
 #![tactic(auto)]
 
 ghost use Rattle.std.specs.Prelude.{◌≡◌, ◌<◌, ℤ, List, length, IfOk};

@@ -1,22 +1,22 @@
 -- A value is one of a loop's exactly where the rows of the loop's bounds hold.
-use Rattle.std.proofs.Common.{◌≡◌, ◌+◌, ◌-◌, ℕ, suc, ℤ, pos, negsuc, neg_ℤ, ◌+ℤ◌, ◌-ℤ◌, ◌*ℤ◌, ◌<ℤ◌, ◌≤ℤ◌, List, [], ◌∷◌}
-use Rattle.std.proofs.Common.{◌++◌, map, length, replicate, Bool, true, false, cond, refl, sym, ap, ◌∙◌, subst, arith}
-use Rattle.std.proofs.Common.{length-append}
+use Rattle.std.proofs.Common.{◌≡◌, ◌+◌, ℕ, ℤ, pos, negsuc, neg_ℤ, ◌+ℤ◌, ◌-ℤ◌, ◌*ℤ◌, ◌<ℤ◌, ◌≤ℤ◌, List, [], ◌∷◌}
+use Rattle.std.proofs.Common.{◌++◌, map, length, Bool, true, false, cond, refl, sym, ap, ◌∙◌, subst, arith}
 use Rattle.std.specs.Prelude.{int_le, nat_lt}
 use Rattle.std.specs.List.{flat_map, fold}
 use Rattle.std.specs.Int.{int_min, int_max}
 use Rattle.std.specs.Ordering.{int_eq}
 use Rattle.std.proofs.lemmas.Bool.{and_parts, and_from}
 use Rattle.std.proofs.lemmas.Int.{ints, clamps}
-use Rattle.std.proofs.lemmas.List.{get_or_at, length-map, length-replicate, length_push}
-use Rattle.affine_core.proofs.Linear.{combined_is, dot, product_at, sum_at, variable_at}
+use Rattle.std.proofs.lemmas.List.{get_or_at, length-map, length_push}
+use Rattle.affine_core.proofs.Linear.{combined_is, dot, product_at, sum_at, variable_at, length-sums}
 use Rattle.affine_core.proofs.Ring.{sum_times}
 use Rattle.affine_core.specs.Affine.{form_at, form_product, form_sum, sums, variable_form}
 use Rattle.affine_core.specs.declared.form.Form.{Form}
+use Rattle.affine_core.proofs.Integers.{int_le-true, le-int_le}
 use Rattle.sanlp.specs.Loops.{all_hold, greatest, interval, least, loop_values, turns_up_to}
 use Rattle.sanlp.specs.WellFormed.{bound_rows, lower_row, turn_row, upper_row}
 use Rattle.sanlp.proofs.Each.{Each, each_append, each_left, each_right}
-use Rattle.sanlp.proofs.Intervals.{counted_ascends, in_interval, interval_in, le_from_test, test_from_le}
+use Rattle.sanlp.proofs.Intervals.{counted_ascends, in_interval, interval_in}
 use Rattle.sanlp.proofs.Members.{In, Pairwise}
 use Rattle.sanlp.proofs.Turns.{in_turns, turns_are, turns_in}
 
@@ -28,12 +28,12 @@ pub hold_each : (rows : List Form) (at : List ℤ) → all_hold rows at ≡ true
 hold_each [] at h = tt
 hold_each (row ∷ rows) at h =
     let parts = and_parts (int_le (pos 0) (form_at row at)) (all_hold rows at) h in
-    (le_from_test (pos 0) (form_at row at) parts.0, hold_each rows at parts.1)
+    (int_le-true (pos 0) (form_at row at) parts.0, hold_each rows at parts.1)
 
 pub each_holds : (rows : List Form) (at : List ℤ) → AllHold rows at → all_hold rows at ≡ true
 each_holds [] at h = refl
 each_holds (row ∷ rows) at h =
-    and_from (int_le (pos 0) (form_at row at)) (all_hold rows at) (test_from_le (pos 0) (form_at row at) h.0)
+    and_from (int_le (pos 0) (form_at row at)) (all_hold rows at) (le-int_le (pos 0) (form_at row at) h.0)
     (each_holds rows at h.1)
 
 -- the greatest of some numbers is at most v exactly where each of them is, and the least at least v
@@ -58,11 +58,6 @@ above_min x [] v h = h.0
 above_min x (y ∷ xs) v h = above_min (int_min x y) xs v (omega (arith, ints, clamps, h.0, h.1.0), h.1.1)
 
 -- the rows of bounds
-length_sums : (xs ys : List ℤ) → length xs ≡ length ys → length (sums xs ys) ≡ length xs
-length_sums [] ys e = refl
-length_sums (x ∷ xs) [] e = absurd (omega arith)
-length_sums (x ∷ xs) (y ∷ ys) e = ap suc (length_sums xs ys (omega arith))
-
 dot_push : (cs at : List ℤ) (c v : ℤ) → length cs ≡ length at
     → dot (cs ++ c ∷ []) (at ++ v ∷ []) ≡ dot cs at +ℤ (c *ℤ v)
 dot_push [] [] c v e = omega (arith, ints)
@@ -110,7 +105,7 @@ length_turn_row step lower upper n e f =
     omega (
       arith,
       length_push (sums upper.coefs (negated lower).coefs) (neg_ℤ step),
-      length_sums upper.coefs (negated lower).coefs (f ∙ sym (length_negated lower n e)),
+      length-sums upper.coefs (negated lower).coefs (f ∙ sym (length_negated lower n e)),
       f,
     )
 
@@ -128,7 +123,7 @@ turn_row_at step lower upper at v e f =
       arith,
       ints,
       form_push (form_sum upper (negated lower)) at (neg_ℤ step) v
-          (length_sums upper.coefs (negated lower).coefs same ∙ f),
+          (length-sums upper.coefs (negated lower).coefs same ∙ f),
       sum_at upper (negated lower) at same,
       product_at (negsuc 0) lower at,
       negative_times step v,
@@ -138,16 +133,6 @@ turn_row_at step lower upper at v e f =
 first_row_at : (depth : ℕ) (at : List ℤ) (v : ℤ) → depth ≡ length at
     → form_at (variable_form (depth + 1) depth) (at ++ v ∷ []) ≡ v
 first_row_at depth at v e = variable_at (depth + 1) depth (at ++ v ∷ []) ∙ get_or_at at v [] (pos 0) depth (sym e)
-
-pub length_first_row : (depth : ℕ) → length (variable_form (depth + 1) depth).coefs ≡ depth + 1
-length_first_row depth =
-    let after : List ℤ = replicate (depth + 1 - (depth + 1)) (pos 0) in
-    omega (
-      arith,
-      length-append (replicate depth (pos 0)) (pos 1 ∷ after),
-      length-replicate depth (pos 0),
-      length-replicate (depth + 1 - (depth + 1)) (pos 0),
-    )
 
 -- a value of a loop of step 1 meets the rows of its bounds
 lower_rows : (forms : List Form) (at : List ℤ) (v : ℤ) → Each (λ form. length form.coefs ≡ length at) forms

@@ -6,9 +6,10 @@ use Rattle.std.specs.List.{flat_map, list_all}
 use Rattle.std.specs.Ordering.{int_eq}
 use Rattle.std.proofs.lemmas.Bool.{and_parts, eqb-true}
 use Rattle.std.proofs.lemmas.List.{append-nil, length-map, length_push}
-use Rattle.affine_core.proofs.Linear.{form_at_more, widened_at}
+use Rattle.affine_core.proofs.Linear.{form_at_more, widened_at, length-variable_form}
 use Rattle.affine_core.specs.Affine.{form_at, products, variable_form, widened_form}
 use Rattle.affine_core.specs.declared.form.Form.{Form}
+use Rattle.affine_core.proofs.Integers.{int_le-true}
 use Rattle.sanlp.specs.declared.nest.Node.{Node}
 use Rattle.sanlp.specs.declared.nest.Node.TheViews.{Loop, Guard}
 use Rattle.sanlp.specs.declared.nest.Node.TheVariants.{Assign}
@@ -18,16 +19,11 @@ use Rattle.sanlp.specs.Trace.{all_points, trace_node, trace_step}
 use Rattle.sanlp.specs.WellFormed.{Place, all_forms_fit, all_loops, bound_rows, form_fits, forms_fit, forms_fit_step}
 use Rattle.sanlp.specs.WellFormed.{in_each, loops_of, loops_step, lower_row, places_of, places_step, step_fits}
 use Rattle.sanlp.specs.WellFormed.{turn_row, upper_row}
-use Rattle.sanlp.proofs.BoundRows.{AllHold, AreBounds, hold_each, length_first_row, length_turn_row, values_meet}
+use Rattle.sanlp.proofs.BoundRows.{AllHold, AreBounds, hold_each, length_turn_row, values_meet}
 use Rattle.sanlp.proofs.Each.{Each, each_append, each_flat_map, each_map, each_then}
 use Rattle.sanlp.proofs.Folds.{by_parts, fold_assign_at, fold_assign_at_both, fold_guard, fold_guard_at}
 use Rattle.sanlp.proofs.Folds.{fold_guard_at_both, fold_loop, fold_loop_at, fold_loop_at_both}
-use Rattle.sanlp.proofs.Intervals.{le_from_test}
 use Rattle.sanlp.proofs.Members.{In, from_flat_map, in_cases, in_left, in_right}
-
--- the equations of each kind of node
-abbrev pub Walk : Type 0
-Walk = List ℤ → List Point
 
 -- the rows round the body of a loop inside so many loops
 abbrev pub inner_rows : ℕ → List Form → List Form → List Form → ℤ → List Form
@@ -105,7 +101,7 @@ loop_fits id lower upper step body depth h =
         some_upper = d.1;
         lower_over = over_from_fits depth lower c.1;
         upper_over = over_from_fits depth upper b.1;
-        step_counts = le_from_test (pos 1) step i.0;
+        step_counts = int_le-true (pos 1) step i.0;
         one_lower = λ more. eqb-true (length lower) 1 (second_of (int_eq step (pos 1)) (length lower == 1) h.1 more);
       };
       body_fits = each_fits (depth + 1) body a.1;
@@ -164,7 +160,7 @@ module _ (depth : ℕ) where
       (over_if (int_eq step (pos 1)) (map lower_row lower ++ map upper_row upper)
       (variable_form (loops + 1) loops ∷ flat_map (λ form. map (turn_row step form) upper) lower)
       (each_over lower upper b.lower_over b.upper_over)
-      (omega (arith, length_first_row loops), turns_over step lower upper b.lower_over b.upper_over))
+      (omega (arith, length-variable_form loops), turns_over step lower upper b.lower_over b.upper_over))
 
 -- rows hold at more values exactly where they hold
 pub hold_more : (rows : List Form) (at more : List ℤ) → Over (length at) rows → AllHold rows at

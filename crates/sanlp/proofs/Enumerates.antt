@@ -21,9 +21,9 @@ use Rattle.sanlp.proofs.BoundRows.{AllHold, each_holds, hold_each}
 use Rattle.sanlp.proofs.Domains.{FitsIn, HasOrigins, Origin, Round, each_fits, origins, parts_origins}
 use Rattle.sanlp.proofs.Each.{Each, each_of, each_then}
 use Rattle.sanlp.proofs.Members.{In, Pairwise, at_in, range_with_len_ascends, each_from_in, in_at, pairwise_at}
-use Rattle.sanlp.proofs.Ordered.{Ascends, InOrder, IsOrdered, IsSaid, ordered, parts_ordered}
-use Rattle.sanlp.proofs.Precedence.{common_symmetric}
-use Rattle.sanlp.proofs.Reached.{IsReached, parts_reached, reached}
+use Rattle.sanlp.proofs.ExecutionOrder.{Ascends, InOrder, IsOrdered, IsSaid, ordered, parts_ordered}
+use Rattle.sanlp.proofs.Precedence.{common_loops-comm}
+use Rattle.sanlp.proofs.DomainPoints.{IsReached, parts_reached, reached}
 
 -- no two points precede each other
 within_asymmetric : (c : ℕ) (less less' : Bool) (at bt : List ℤ) → (less ≡ true → less' ≡ true → ⊥)
@@ -44,7 +44,7 @@ precedes_asymmetric n p q h k =
     let back : PrecedesWithin (common_loops (loops_round_point n p) (loops_round_point n q))
     (nat_lt q.statement p.statement) q.at p.at =
     subst (λ c. PrecedesWithin c (nat_lt q.statement p.statement) q.at p.at)
-    (common_symmetric (loops_round_point n q) (loops_round_point n p)) k in
+    (common_loops-comm (loops_round_point n q) (loops_round_point n p)) k in
     within_asymmetric (common_loops (loops_round_point n p) (loops_round_point n q)) (nat_lt p.statement q.statement)
     (nat_lt q.statement p.statement) p.at q.at
     (λ e f. (let lt : p.statement < q.statement = ltb-true p.statement q.statement e

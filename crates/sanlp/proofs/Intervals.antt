@@ -1,21 +1,10 @@
 -- Intervals of whole numbers.
-use Rattle.std.proofs.Common.{◌≡◌, ◌≤◌, ℕ, zero, suc, ℤ, pos, negsuc, ◌+ℤ◌, ◌-ℤ◌, ◌<ℤ◌, ◌≤ℤ◌, [], ◌∷◌, true, inl, inr}
+use Rattle.std.proofs.Common.{◌≡◌, ◌≤◌, ℕ, zero, suc, ℤ, pos, negsuc, ◌+ℤ◌, ◌-ℤ◌, ◌<ℤ◌, ◌≤ℤ◌, [], ◌∷◌, inl, inr}
 use Rattle.std.proofs.Common.{refl, ap, ◌∙◌, arith}
-use Rattle.std.specs.Prelude.{int_le}
 use Rattle.std.proofs.lemmas.Int.{by_lt_z, ints}
 use Rattle.sanlp.specs.Cells.{natural, counted}
 use Rattle.sanlp.specs.Loops.{interval}
 use Rattle.sanlp.proofs.Members.{In, Pairwise, each_from_in}
-
--- the test of an order
-pub le_from_test : (a b : ℤ) → int_le a b ≡ true → a ≤ℤ b
-le_from_test a b e = grind (arith, ints)
-
-pub test_from_le : (a b : ℤ) → a ≤ℤ b → int_le a b ≡ true
-test_from_le a b h = grind (arith, ints)
-
-natural_is : (z : ℤ) (n : ℕ) → z ≡ pos n → natural z ≡ n
-natural_is z n e = ap natural e
 
 natural_none : (z : ℤ) → z ≤ℤ pos 0 → natural z ≡ 0
 natural_none (pos n) h = omega (arith, ints)

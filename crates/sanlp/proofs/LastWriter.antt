@@ -4,7 +4,7 @@
 -- its value is stored, any other leaves both. The values are defined without a memory, so the step needs that the
 -- reads of the entry see the same there as in the memory, which is the statement for the earlier entries. A value
 -- stays as entries are added (`value_stays`), so it doesn't matter how far it was computed.
-use Rattle.std.proofs.Common.{◌≡◌, ◌<◌, ℕ, zero, suc, pos, ℤ, List, [], ◌∷◌, length, get_or, take, Bool, true, false}
+use Rattle.std.proofs.Common.{◌≡◌, ◌<◌, ℕ, zero, suc, pos, ℤ, List, [], length, get_or, take, Bool, true, false}
 use Rattle.std.proofs.Common.{cond, refl, sym, ap, ◌∙◌, subst, inl, inr, arith, add-one}
 use Rattle.std.specs.Prelude.{Option, Some, None, slice_get, unwrap_or}
 use Rattle.std.specs.Option.{option_map, option_map_or}
@@ -12,6 +12,7 @@ use Rattle.std.specs.List.{fold}
 use Rattle.std.proofs.lemmas.List.{length_push, get_or_push, get_or_append_left}
 use Rattle.std.proofs.lemmas.List.Sums.{fold_more}
 use Rattle.std.proofs.lemmas.Bool.{cases_lt}
+use Rattle.std.proofs.lemmas.Option.{slice_get-get_or}
 use Rattle.sanlp.specs.declared.nest.Inputs.{Inputs}
 use Rattle.sanlp.specs.declared.nest.Nest.{Nest}
 use Rattle.sanlp.specs.declared.nest.Point.{Point}
@@ -21,11 +22,6 @@ use Rattle.sanlp.specs.Cells.{Cell}
 use Rattle.sanlp.specs.Laws.{HoldsLastWriters, IsValue}
 use Rattle.sanlp.specs.Memory.{Memory, is_cell, no_cells, cell_value}
 use Rattle.sanlp.specs.Writers.{writes, last_before, value_or_zero, values_before, value_at, memory_before}
-
-get_from_index : {X : Type 0} (xs : List X) (i : ℕ) (d : X) → i < length xs → slice_get xs i ≡ Some (get_or xs i d)
-get_from_index [] i d h = absurd (omega arith)
-get_from_index (x ∷ xs) zero d h = refl
-get_from_index (x ∷ xs) (suc i) d h = get_from_index xs i d (omega arith)
 
 -- what an optional number is below
 IsBelow : ℕ → Option ℕ → Type 0
@@ -95,7 +91,7 @@ module _ (n : Nest) (d : Inputs) (points : List Point) where
   holds_last_writers (suc t) cell h =
       let none : Point = record { statement = 0; at = [] } in
       let p : Point = get_or points t none in
-      let here : slice_get points t ≡ Some p = get_from_index points t none (omega arith) in
+      let here : slice_get points t ≡ Some p = slice_get-get_or points t none (omega arith) in
       let before : (c : Cell)
       → memory_before n d points t c ≡ option_map (value_at n d points) (last_before n points t c) =
       λ c. holds_last_writers t c (omega arith) in

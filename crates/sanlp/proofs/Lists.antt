@@ -8,34 +8,12 @@ use Rattle.std.proofs.lemmas.List.{append-nil, append_assoc, get_or_at, length_p
 use Rattle.std.proofs.lemmas.List.Concat.{flat_map-append}
 use Rattle.std.proofs.lemmas.Option.{same_Some, slice_get-map}
 
-pub slice_get-append_right : {X : Type 0} (xs ys : List X) (i : ℕ)
-    → slice_get (xs ++ ys) (length xs + i) ≡ slice_get ys i
-slice_get-append_right [] ys i = let e : 0 + i ≡ i = omega arith in ap (slice_get ys) e
-slice_get-append_right (x ∷ xs) ys i =
-    let e : suc (length xs) + i ≡ suc (length xs + i) = omega arith in
-    ap (slice_get (x ∷ (xs ++ ys))) e ∙ slice_get-append_right xs ys i
-
 -- a list round the element at a place
 pub split_at : {X : Type 0} (xs : List X) (i : ℕ) (x : X) → slice_get xs i ≡ Some x
     → (xs ≡ take i xs ++ x ∷ drop (suc i) xs) × (length (take i xs) ≡ i)
 split_at [] i x e = absurd (cc)
 split_at (y ∷ xs) zero x e = (ap (λ z. z ∷ xs) (same_Some y x e), refl)
 split_at (y ∷ xs) (suc i) x e = let rest = split_at xs i x e in (ap (λ zs. y ∷ zs) rest.0, ap suc rest.1)
-
--- one element more
-pub take_next : {X : Type 0} (xs : List X) (k : ℕ) (x : X) → slice_get xs k ≡ Some x
-    → take (suc k) xs ≡ take k xs ++ x ∷ []
-take_next [] k x e = absurd (cc)
-take_next (y ∷ xs) zero x e = ap (λ z. z ∷ []) (same_Some y x e)
-take_next (y ∷ xs) (suc k) x e = ap (λ zs. y ∷ zs) (take_next xs k x e)
-
--- the front of what is left is the entry there, and the others are left after it
-pub drop_front : {X : Type 0} (xs : List X) (k : ℕ) (x : X) (left : List X)
-    → drop k xs ≡ x ∷ left → (slice_get xs k ≡ Some x) × (drop (suc k) xs ≡ left)
-drop_front [] zero x left e = absurd (cc)
-drop_front [] (suc k) x left e = absurd (cc)
-drop_front (y ∷ xs) zero x left e = (let f : y ≡ x = cc in ap Some f, let f : xs ≡ left = cc in f)
-drop_front (y ∷ xs) (suc k) x left e = drop_front xs k x left e
 
 pub range_with_len-append : (a m n : ℕ) → range_with_len a (m + n) ≡ range_with_len a m ++ range_with_len (a + m) n
 range_with_len-append a zero n =

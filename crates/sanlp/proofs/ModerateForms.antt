@@ -5,19 +5,17 @@ use Rattle.std.proofs.Common.{length, sym, ap, ◌∙◌, subst, arith, lit≤}
 use Rattle.std.specs.Prelude.{IsTrue, FitsSigned, unsigned_abs, nat_le, slice_index_or, ◌&&◌, ◌==◌}
 use mir.Syntax.{w64, w128}
 use Rattle.std.specs.List.{list_all}
-use Rattle.std.proofs.lemmas.Int.{fits_signed_from_abs, ints, unsigned_abs-mul}
+use Rattle.std.proofs.lemmas.Int.{fits_signed_from_abs, unsigned_abs-mul}
 use Rattle.std.proofs.lemmas.Bool.{and_parts}
 use Rattle.std.proofs.Math.Nat.{mul-le-mul}
 use Rattle.std.proofs.lemmas.Bool.Decides.{nat_tests}
 use Rattle.affine_core.specs.Affine.{combined}
 use Rattle.affine_core.specs.declared.form.Form.{Form}
+use Rattle.affine_core.proofs.Integers.{unsigned_abs-sum, unsigned_abs-signed}
 use Rattle.sanlp.specs.WellFormed.{form_fits, is_moderate}
 
 pub le_of_test : (m n : ℕ) → IsTrue (nat_le m n) → m ≤ n
 le_of_test m n h = grind (arith, nat_tests)
-
-pub abs_sum : (a b : ℤ) → unsigned_abs (a +ℤ b) ≤ unsigned_abs a + unsigned_abs b
-abs_sum a b = omega (arith, ints)
 
 pub product_small : (c v p : ℕ) (coef value : ℤ) → c * v ≤ p → unsigned_abs coef ≤ c → unsigned_abs value ≤ v
     → unsigned_abs (coef *ℤ value) ≤ p
@@ -80,14 +78,11 @@ one_product_more sum (c ∷ cs) (v ∷ vs) (suc place) z a b e =
     subst (λ (n : ℕ). combined next (drop n (c ∷ cs)) (drop n (v ∷ vs)) ≡ z) same
     (one_product_more sum cs vs place z (omega arith) (omega arith) e)
 
-short_size : (v : ℤ) → FitsSigned w64 v → unsigned_abs v ≤ 9223372036854775808
-short_size v h = omega (arith, ints)
-
 pub wide_product : (coef v : ℤ) → unsigned_abs coef ≤ 4294967296 → FitsSigned w64 v
     → unsigned_abs (coef *ℤ v) ≤ 39614081257132168796771975168
 wide_product coef v moderate short =
     product_small 4294967296 9223372036854775808 39614081257132168796771975168 coef v (lit≤ tt) moderate
-    (short_size v short)
+    (unsigned_abs-signed v short)
 
 pub wide_product_fits : (coef v : ℤ) → unsigned_abs coef ≤ 4294967296 → FitsSigned w64 v → FitsSigned w128 (coef *ℤ v)
 wide_product_fits coef v moderate short =
@@ -97,7 +92,7 @@ wide_product_fits coef v moderate short =
 pub wide_sum_fits : (sum coef v : ℤ) → unsigned_abs sum ≤ 300000000000000000000000000000
     → unsigned_abs coef ≤ 4294967296 → FitsSigned w64 v → FitsSigned w128 (sum +ℤ (coef *ℤ v))
 wide_sum_fits sum coef v before moderate short =
-    let size = abs_sum sum (coef *ℤ v) in
+    let size = unsigned_abs-sum sum (coef *ℤ v) in
     let product = wide_product coef v moderate short in
     fits_signed_from_abs w128 (sum +ℤ (coef *ℤ v)) (omega arith)
 
@@ -107,5 +102,5 @@ pub next_wide_sum : (sum product next : ℤ) (place : ℕ)
     → unsigned_abs product ≤ 39614081257132168796771975168 → next ≡ sum +ℤ product
     → unsigned_abs next ≤ 4294967296 + (place + 1) * 39614081257132168796771975168
 next_wide_sum sum product next place before here is =
-    let size = abs_sum sum product in
+    let size = unsigned_abs-sum sum product in
     subst (λ z. unsigned_abs z ≤ 4294967296 + (place + 1) * 39614081257132168796771975168) (sym is) (omega arith)

@@ -81,15 +81,15 @@ common_none (k ∷ ks) (l ∷ ls) h =
     let lt : k < l = h k l (inl refl) (inl refl) in
     ap (λ b. cond b (suc (common_loops ks ls)) 0) (ne_eqb k l (λ e. omega arith))
 
-pub common_symmetric : (ks ls : List ℕ) → common_loops ks ls ≡ common_loops ls ks
-common_symmetric [] [] = refl
-common_symmetric [] (l ∷ ls) = refl
-common_symmetric (k ∷ ks) [] = refl
-common_symmetric (k ∷ ks) (l ∷ ls) = elim (cases_Bool (k == l)) [
+pub common_loops-comm : (ks ls : List ℕ) → common_loops ks ls ≡ common_loops ls ks
+common_loops-comm [] [] = refl
+common_loops-comm [] (l ∷ ls) = refl
+common_loops-comm (k ∷ ks) [] = refl
+common_loops-comm (k ∷ ks) (l ∷ ls) = elim (cases_Bool (k == l)) [
   | inl e ↦
       let back : (l == k) ≡ true = eq-eqb l k (sym (eqb-true k l e)) in
       ap (λ b. cond b (suc (common_loops ks ls)) 0) e
-      ∙ ap suc (common_symmetric ks ls)
+      ∙ ap suc (common_loops-comm ks ls)
       ∙ ap (λ b. cond b (suc (common_loops ls ks)) 0) (sym back)
   | inr e ↦
       let back : (l == k) ≡ false = ne_eqb l k (λ s. (let both : true ≡ false = sym (eq-eqb k l (sym s)) ∙ e in cc)) in

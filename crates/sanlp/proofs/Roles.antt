@@ -7,6 +7,7 @@ use Rattle.std.specs.List.{list_all}
 use Rattle.std.proofs.lemmas.Bool.{and_parts}
 use Rattle.std.proofs.lemmas.List.{length-append, length-map, length-replicate}
 use Rattle.std.proofs.lemmas.Option.{same_Some, slice_get-map}
+use Rattle.plain_data.proofs.Lists.{slice_get-append_right}
 use Rattle.wrap_expr.specs.Value.{uses_only}
 use Rattle.sanlp.specs.declared.nest.ArrayDecl.{ArrayDecl}
 use Rattle.sanlp.specs.declared.nest.Nest.{Nest}
@@ -16,7 +17,6 @@ use Rattle.sanlp.specs.declared.nest.Statement.{Statement}
 use Rattle.sanlp.specs.WellFormed.{numbers_from, extents_where, input_numbers, output_numbers, depth_of, form_fits}
 use Rattle.sanlp.specs.WellFormed.{access_fits, assigns, statement_fits, in_role}
 use Rattle.sanlp.proofs.Elements.{list_all_at}
-use Rattle.sanlp.proofs.Lists.{slice_get-append_right}
 
 -- the facts of a statement that fits, one by one
 pub record Fits (arrays : List ArrayDecl) (s : Statement) : Type 0 where

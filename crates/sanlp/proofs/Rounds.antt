@@ -1,6 +1,5 @@
 -- The points of a source or a sink are its array's cells in row-major order.
-use Rattle.std.proofs.Math.IntN.{neg_ℤ}
-use Rattle.std.proofs.Common.{◌≡◌, ◌+◌, ◌*◌, ℕ, zero, suc, ℤ, pos, negsuc, ◌+ℤ◌, ◌-ℤ◌, ◌*ℤ◌, List, [], ◌∷◌, ◌++◌, map}
+use Rattle.std.proofs.Common.{◌≡◌, ◌+◌, ℕ, zero, suc, ℤ, pos, ◌+ℤ◌, ◌-ℤ◌, ◌*ℤ◌, List, [], ◌∷◌, ◌++◌, map}
 use Rattle.std.proofs.Common.{refl, sym, ap, ◌∙◌, arith, append_assoc}
 use Rattle.std.specs.Prelude.{replicate}
 use Rattle.std.specs.List.{flat_map}
@@ -8,6 +7,7 @@ use Rattle.std.proofs.lemmas.Int.{ints}
 use Rattle.std.proofs.lemmas.List.{append-nil, map-append}
 use Rattle.affine_core.specs.Affine.{combined, constant_form}
 use Rattle.affine_core.specs.declared.form.Form.{Form}
+use Rattle.affine_core.proofs.Integers.{zero-times}
 use Rattle.sanlp.specs.declared.nest.Node.{Node}
 use Rattle.sanlp.specs.declared.nest.Node.TheOpen as open_
 use Rattle.sanlp.specs.declared.nest.Node.TheViews.{rolls-Loop, rolls-Assign}
@@ -18,15 +18,11 @@ use Rattle.sanlp.specs.Cells.{natural, counted, all_subscripts}
 use Rattle.sanlp.specs.Loops.{interval, loop_values}
 use Rattle.sanlp.specs.Trace.{PointsAt, trace_step, trace_node}
 
-zero_times : (v : ℤ) → pos 0 *ℤ v ≡ pos 0
-zero_times (pos n) = ap pos (omega arith)
-zero_times (negsuc n) = ap (λ m. neg_ℤ (pos m)) (let e : 0 * suc n ≡ 0 = omega arith in e)
-
 constant_stays : (k : ℕ) (c : ℤ) (at : List ℤ) → combined c (replicate k (pos 0)) at ≡ c
 constant_stays zero c at = refl
 constant_stays (suc k) c [] = refl
 constant_stays (suc k) c (v ∷ at) =
-    (let e : c +ℤ (pos 0 *ℤ v) ≡ c = ap (λ z. c +ℤ z) (zero_times v) ∙ omega (arith, ints) in
+    (let e : c +ℤ (pos 0 *ℤ v) ≡ c = ap (λ z. c +ℤ z) (zero-times v) ∙ omega (arith, ints) in
     ap (λ s. combined s (replicate k (pos 0)) at) e)
     ∙ constant_stays k c at
 

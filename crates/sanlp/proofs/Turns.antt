@@ -12,9 +12,10 @@ use Rattle.std.specs.Int.{int_div_euclid}
 use Rattle.std.proofs.lemmas.Int.{by_lt_z, ints}
 use Rattle.std.proofs.lemmas.List.Sums.{take_while-cons}
 use Rattle.affine_core.proofs.Ring.{sum_times, times_not_negative, times_sum}
+use Rattle.affine_core.proofs.Integers.{le-int_le}
 use Rattle.sanlp.specs.Cells.{natural, counted}
 use Rattle.sanlp.specs.Loops.{interval, turns_up_to}
-use Rattle.sanlp.proofs.Intervals.{in_interval, interval_in, natural_below, test_from_le}
+use Rattle.sanlp.proofs.Intervals.{in_interval, interval_in, natural_below}
 use Rattle.sanlp.proofs.Members.{In}
 
 -- products with a step
@@ -113,7 +114,7 @@ turns_are first last step h =
     (counts_fewer q gap fewer)
     (λ v l r. let ends : v <ℤ (q +ℤ pos 1 -ℤ pos 0) = natural_ends (q +ℤ pos 1 -ℤ pos 0) v l (omega (arith, ints)) in
     let within : (step *ℤ v) ≤ℤ gap = below_quotient gap step v h (omega (arith, ints)) in
-    test_from_le (first +ℤ (step *ℤ v)) last (omega (arith, ints)))
+    le-int_le (first +ℤ (step *ℤ v)) last (omega (arith, ints)))
     (let beyond : last <ℤ (first +ℤ (step *ℤ (pos 0 +ℤ pos m))) = omega (arith, ints) in grind (arith, ints))
 
 pub in_turns : (first last step v : ℤ) → pos 1 ≤ℤ step → In v (turns_up_to first last step)

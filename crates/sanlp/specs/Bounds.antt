@@ -10,6 +10,7 @@ pub record BoundsAbove (loop : ℕ) (row : Form) : Type 0 where
   pub taken_off : slice_index_or row.coefs loop (pos 0) <ℤ pos 0
   pub none_inside : (v : ℕ) → loop < v → slice_index_or row.coefs v (pos 0) ≡ pos 0
 
+-- each loop round a statement has a row of the statement that takes off the loop's variable and has no loop inside it
 abbrev pub IsBoundedAbove : Nest → Type 0
 IsBoundedAbove n =
     (s : ℕ) (statement : Statement) (loop : ℕ) → slice_get n.statements s ≡ Some statement

@@ -81,6 +81,7 @@ sink_values_from n d s (array ∷ arrays) =
     if is_output array.kind then values_of n d s ∷ sink_values_from n d (s + 1) arrays
     else [] ∷ sink_values_from n d s arrays
 
+-- for each declared array the values of its sink's points, or none where it has no sink
 abbrev pub sink_values : Nest → Inputs → List (List ℤ)
 sink_values n d =
     sink_values_from n d (length n.statements - length (output_numbers n.arrays)) n.arrays

@@ -5,9 +5,11 @@ use Rattle.std.specs.Map.{update}
 use Rattle.std.specs.Cmp.Lexicographic.{pointwise}
 use Rattle.sanlp.specs.Cells.{Cell}
 
+-- whether two cells are the same
 abbrev pub is_cell : Cell → Cell → Bool
 is_cell c d = (c.0 == d.0) && pointwise int_eq c.1 d.1
 
+-- a map from array and subscripts to values; what isn't in it is 0
 abbrev pub Memory : Type 0
 Memory = Cell → Option ℤ
 

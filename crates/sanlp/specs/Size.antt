@@ -25,6 +25,7 @@ turns_of_node = fold-Node (List ℤ → ℕ) turns_step
 abbrev pub loop_turns : Nest → ℕ
 loop_turns n = sum_by (λ part. part []) (map turns_of_node n.body)
 
+-- the length of the trace and the number of loop turns
 unfoldable pub size : Nest → ℕ
 size n = length (trace n) + loop_turns n
 
@@ -36,6 +37,7 @@ size_limit = 8388608
 abbrev pub loop_value_limit : ℕ
 loop_value_limit = 4611686018427387904
 
+-- whether a value is within ±2^62
 abbrev pub is_loop_value : ℤ → Bool
 is_loop_value value = nat_le (unsigned_abs value) loop_value_limit
 
@@ -43,7 +45,7 @@ is_loop_value value = nat_le (unsigned_abs value) loop_value_limit
 abbrev pub all_within : List Form → List ℤ → Bool
 all_within forms at = list_all (λ form. is_loop_value (form_at form at)) forms
 
--- so are those of a loop, above and below
+-- the bounds of a loop that is entered are within ±2^62
 abbrev pub loop_within : List Form → List Form → List ℤ → Bool
 loop_within lower upper at = all_within lower at && all_within upper at
 

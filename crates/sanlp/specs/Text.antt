@@ -31,7 +31,8 @@ pub record TextComposes (a b c : ℕ) (first middle last : Statement) : Type 0 w
       → (a < c)
       × (common_loops first.loops last.loops ≡ common_loops first.loops middle.loops)
 
--- so it is for each three statements
+-- where one statement stands before a second by the text, or that before a third, at fewer loops than the other two
+-- share, or both at as many, the first stands before the third by the text, at as many
 abbrev pub OrdersCompose : Nest → Type 0
 OrdersCompose n =
     (a b c : ℕ) (first middle last : Statement)

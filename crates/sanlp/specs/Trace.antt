@@ -28,5 +28,6 @@ trace_step (Assign s) at = record { statement = s; at = at } ∷ []
 abbrev pub trace_node : Node → PointsAt
 trace_node = fold-Node PointsAt trace_step
 
+-- the executed statements with their iteration vectors, in order
 unfoldable pub trace : Nest → List Point
 trace n = all_points (map trace_node n.body) []

@@ -49,9 +49,11 @@ input_numbers arrays = numbers_from (λ array. is_input array.kind) 0 arrays
 abbrev pub output_numbers : List ArrayDecl → List ℕ
 output_numbers arrays = numbers_from (λ array. is_output array.kind) 0 arrays
 
+-- the extents of the arrays that have a source
 abbrev pub input_extents : List ArrayDecl → List (List ℤ)
 input_extents arrays = extents_where (λ array. is_input array.kind) arrays
 
+-- the extents of the arrays that have a sink
 abbrev pub output_extents : List ArrayDecl → List (List ℤ)
 output_extents arrays = extents_where (λ array. is_output array.kind) arrays
 
@@ -98,6 +100,7 @@ assigns (role.Source a) s = true
 assigns role.Assign s = is_some s.write && not (uses_given s.expr)
 assigns (role.Sink a) s = true
 
+-- of these facts those that speak of one statement
 abbrev pub statement_fits : List ArrayDecl → Statement → Bool
 statement_fits arrays s =
     nat_le (depth_of s) 6 && nat_le (length s.reads) 8 && nat_le (length s.rows) 32
@@ -150,6 +153,7 @@ forms_fit_step (Assign s) depth = true
 abbrev pub forms_fit : Node → ℕ → Bool
 forms_fit = fold-Node (ℕ → Bool) forms_fit_step
 
+-- of these facts those that speak of the forms of the body
 abbrev pub all_forms_fit : List Node → ℕ → Bool
 all_forms_fit parts depth = list_all (λ fits. fits depth) (map forms_fit parts)
 
@@ -244,6 +248,8 @@ framed arrays statements body =
     ++ array_loops (length (all_loops body) - sum_by length outputs)
     (length statements - length outputs) outputs)
 
+-- the facts that every nest has: numbers in range, statements in order, loops and rows as they stand round them,
+-- limits
 pub record IsWellFormed (arrays : List ArrayDecl) (statements : List Statement)
     (body : List Node) : Type 0 where
   pub few_statements : length statements ≤ 64

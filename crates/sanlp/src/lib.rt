@@ -1,4 +1,7 @@
 //! Static affine nested loop programs: their types and their meaning.
+//!
+//! Between two calls, or from one step of the main loop to the next: whoever has a nest has its facts (`IsWellFormed`),
+//! as a ghost field.
 #![tactic(auto)]
 
 mod cells;
@@ -6,6 +9,8 @@ mod given;
 mod law;
 mod nest;
 mod order;
+mod reads;
+mod wide;
 
 pub use cells::{capped_count, natural_of};
 pub use given::given_value;
@@ -16,4 +21,6 @@ pub use law::{
 pub use nest::{
     Access, ArrayDecl, Arrays, Inputs, Kind, Nest, Node, Point, Points, Role, Statement, Tag,
 };
-pub use order::before;
+pub use order::{before, common_loops};
+pub use reads::reads_before;
+pub use wide::{add_product, moderate};

@@ -1,5 +1,5 @@
 ghost use Rattle.std.specs.Prelude.{◌≡◌, ◌≤◌, length, IsTrue, ◌↔◌};
-ghost use Rattle.sanlp.specs.Order.{common_loops, HasDepth, Precedes};
+ghost use Rattle.sanlp.specs.Order.{common_loops as loops_in_common, HasDepth, Precedes};
 
 use crate::nest::{Nest, Point};
 use std::cmp::Ordering;
@@ -13,7 +13,7 @@ pub fn before(nest: &Nest, a: &Point, b: &Point) -> bool
 {
     let first = nest.statement(a.statement);
     let second = nest.statement(b.statement);
-    let common = shared(first.loops.as_slice(), second.loops.as_slice());
+    let common = common_loops(first.loops.as_slice(), second.loops.as_slice());
     match a.at.as_slice()[..common].cmp(&b.at.as_slice()[..common]) {
         Ordering::Less => true,
         Ordering::Equal => a.statement < b.statement,
@@ -21,14 +21,14 @@ pub fn before(nest: &Nest, a: &Point, b: &Point) -> bool
     }
 }
 
-// How many loops from the outermost on are the same.
-fn shared(first: &[u32], second: &[u32]) -> usize
-    ensures value { result ≡ common_loops first.now second.now }
-    ensures first { result ≤ length first.now }
+/// How many loops from the outermost on stand round both of two statements with these loops.
+pub fn common_loops(first: &[u32], second: &[u32]) -> usize
+    ensures value { result ≡ loops_in_common first.now second.now }
+    ensures few { result ≤ length first.now }
     ensures second { result ≤ length second.now }
 {
     match (first.split_first(), second.split_first()) {
-        (Some((k, inner)), Some((l, other))) if k == l => 1 + shared(inner, other),
+        (Some((k, inner)), Some((l, other))) if k == l => 1 + common_loops(inner, other),
         _ => 0,
     }
 }

@@ -16,7 +16,7 @@ use Rattle.cell_rows.specs.ShortAccesses.{access_short, statement_short}
 use Rattle.cell_rows.proofs.NarrowStatements.{statement_of_narrow}
 use Rattle.cell_rows.proofs.ShortStatements.{found_is_short, short_reads, short_write}
 use Rattle.shadow_sweep.specs.LastWrites.{LastWrites, noted, with_sources}
-use Rattle.shadow_sweep.proofs.Swept.{depth_is, statement_exists}
+use Rattle.shadow_sweep.proofs.SweepState.{depth_is, statement_exists}
 
 few_of : (depth : ℕ) (accesses : NarrowStatement) (s : Statement) → accesses ≡ narrowed s
     → statement_short depth s ≡ true → length accesses.reads ≤ 8

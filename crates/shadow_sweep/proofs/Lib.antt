@@ -1,5 +1,5 @@
 pub mod Accesses
 pub mod Lists
 pub mod Starts
-pub mod Swept
-pub mod Stretched
+pub mod SweepState
+pub mod StretchPlaces

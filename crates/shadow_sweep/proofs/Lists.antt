@@ -5,13 +5,10 @@ use Rattle.std.specs.Prelude.{Option, Some, slice_get}
 use Rattle.std.specs.List.{range_with_len}
 use Rattle.std.proofs.lemmas.List.{get_or-append-add, length-map, length-set, map-append, set-append_right}
 use Rattle.std.proofs.lemmas.Option.{slice_get_read}
+use Rattle.plain_data.proofs.Lists.{take-suc_some}
 use Rattle.sanlp.specs.declared.nest.Tag.{Tag}
-use Rattle.sanlp.proofs.Lists.{split_at, take_next}
+use Rattle.sanlp.proofs.Lists.{split_at}
 use Rattle.shadow_sweep.specs.LastWrites.{with_source, with_sources}
-
-pub map_same : {X Y : Type 0} (f g : X → Y) → ((x : X) → f x ≡ g x) → (xs : List X) → map f xs ≡ map g xs
-map_same f g same [] = refl
-map_same f g same (x ∷ xs) = ap (λ y. y ∷ map f xs) (same x) ∙ ap (λ ys. g x ∷ ys) (map_same f g same xs)
 
 -- what g says at the places of a list is what f says of its elements
 pub map_places : {X Y : Type 0} (g : ℕ → Y) (f : X → Y) (a : ℕ) (xs : List X)
@@ -100,5 +97,5 @@ sources_step w c lists before after first i xs x source lt is e was f =
     ∙ sym (sources_more lists first sources (w (c x)))
     ∙ ap (with_sources lists first)
     (sym (ap (map w)
-    (ap (map c) (ap (λ k. take k xs) (add-one i) ∙ take_next xs i x here) ∙ map-append c (take i xs) (x ∷ []))
+    (ap (map c) (ap (λ k. take k xs) (add-one i) ∙ take-suc_some xs i x here) ∙ map-append c (take i xs) (x ∷ []))
     ∙ map-append w (map c (take i xs)) (c x ∷ [])))

@@ -58,13 +58,11 @@ pub fn sweep_counted(alloc: Global, nest: &Nest) -> Result<CountedSources, Alloc
     })
 }
 
-/// The sources of `sweep_counted` alone.
-pub fn sweep(alloc: Global, nest: &Nest, points: &Points) -> Result<SourceTable, AllocError>
-    requires sized { SizeIsOk nest.now }
-    requires points { points.now.of ≡ points_of nest.now }
+/// The sources of `sweep_counted` alone, beside points, which it doesn't need.
+pub fn sweep(alloc: Global, nest: &Nest, _points: &Points) -> Result<SourceTable, AllocError>
+    requires { SizeIsOk nest.now }
     ensures { IfOk result (λ table. table.of ≡ sources_of nest.now) }
 {
-    let _ = points;
     let swept = sweep_counted(alloc, nest)?;
     Ok(swept.sources)
 }

@@ -6,7 +6,8 @@ ghost use Rattle.cell_rows.specs.ShortAccesses.{access_short};
 ghost use Rattle.cell_lines.specs.LinePlaces.{AreStatementLines};
 ghost use Rattle.shadow_sweep.specs.Stretches.{IsStretchOf, no_stretch};
 
-use cell_lines::{KeptValues, Lines, lines_along};
+use affine_core::KeptValues;
+use cell_lines::{Lines, lines_along};
 use cell_rows::{Cells, NarrowStatement};
 use sanlp::Tag;
 use std::alloc::{AllocError, Global};

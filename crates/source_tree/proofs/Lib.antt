@@ -1,4 +1,9 @@
-pub mod Numbered
+pub mod TableNumbers
 pub mod Worked
-pub mod Walked
-pub mod Given
+pub mod WalkOutcomes
+pub mod TreeValues
+pub mod Views
+pub mod Gives
+pub mod Refutations
+pub mod RowLists
+pub mod MetRows

@@ -1,5 +1,5 @@
 -- What a tree gives, over unbounded whole numbers.
-use Rattle.std.specs.Prelude.{ℕ, ◌==◌, ◌%◌, ℤ, pos, List, [], ◌∷◌, ◌++◌, map, int_le, unsigned_abs, if◌then◌else◌}
+use Rattle.std.specs.Prelude.{◌==◌, ◌%◌, ℤ, pos, List, [], ◌∷◌, ◌++◌, map, int_le, unsigned_abs, if◌then◌else◌}
 use Rattle.affine_core.specs.declared.form.Form.{Form}
 use Rattle.affine_core.specs.Affine.{form_at}
 use Rattle.int_polyhedra.specs.Steps.{floor}

@@ -4,6 +4,7 @@ pub mod Walk
 pub mod Rows
 pub mod Places
 pub mod Systems
+pub mod References
 pub mod Checked
 pub mod Exact
 pub mod Wanted

@@ -1,4 +1,5 @@
-pub mod Joined
-pub mod Numbered
-pub mod HandedOn
+pub mod WordSpaces
+pub mod ItemNumbers
+pub mod SinkParts
 pub mod Walks
+pub mod Wrote

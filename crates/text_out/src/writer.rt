@@ -102,7 +102,7 @@ impl<'a, K: Sink> Writer<'a, K> {
 }
 
 /// Writes these bytes, unless a write failed before, and tells whether one has failed by now.
-#[tactic(auto, using(crate::proofs::HandedOn::holds_front))]
+#[tactic(auto, using(crate::proofs::SinkParts::holds_front))]
 fn hand_over<K: Sink>(sink: &mut K, bytes: &[u8], failed: bool) -> bool
     ensures stopped { failed ≡ true → (result ≡ true) × (sink.new ≡ sink.old) }
     ensures going { failed ≡ false

@@ -15,7 +15,7 @@ fn write_entry<W: TextWriter>(process: u32, out: &mut W)
     write_line(&[Word::Number(u64::from(process))], out);
 }
 
-#[tactic(auto, using(text_out::proofs::Numbered::numbered))]
+#[tactic(auto, using(text_out::proofs::ItemNumbers::numbered))]
 fn write_entries<W: TextWriter>(run: &[u32], out: &mut W)
     ensures { Wrote W.given out.old out.new (flat_map entry_line run.now) }
 {

@@ -1,4 +1,4 @@
-pub mod Known
+pub mod TestSides
 pub mod Lines
 pub mod Maps
 pub mod Rows

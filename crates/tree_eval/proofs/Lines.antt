@@ -16,12 +16,10 @@ use Rattle.std.proofs.lemmas.Option.{IfSome_then}
 use Rattle.affine_core.specs.Within.{combined_in_128_bits, fits_128_bits, number_in_128_bits, sum_in_128_bits}
 use Rattle.affine_core.proofs.Linear.{sum_in_128_bits_is}
 use Rattle.affine_core.proofs.Ring.{times_sum}
-use Rattle.sanlp.proofs.ModerateForms.{abs_sum, product_small}
+use Rattle.affine_core.proofs.Integers.{unsigned_abs-sum, unsigned_abs-signed}
+use Rattle.sanlp.proofs.ModerateForms.{product_small}
 use Rattle.tree_eval.specs.declared.line.Line.{Line}
 use Rattle.tree_eval.specs.Stretches.{IsLine, IsSmallStep, line_at}
-
-short_size : (z : ℤ) → FitsSigned w64 z → unsigned_abs z ≤ 9223372036854775808
-short_size z h = omega (arith, ints)
 
 fits_of_size : (z : ℤ) → unsigned_abs z ≤ 39614081257132168796771975168 → fits_128_bits z ≡ true
 fits_of_size (pos n) h = lt-ltb n (2 ^ 127) (omega arith)
@@ -34,7 +32,7 @@ sum_in_bits : (sum c v : ℤ) → unsigned_abs sum ≤ 9223372036854775808 → u
     → unsigned_abs v ≤ 9223372037928517632 → sum_in_128_bits sum c v ≡ Some (sum +ℤ (c *ℤ v))
 sum_in_bits sum c v before small value =
     let product = product_small 1073741824 9223372037928517632 19807040628566084398385987584 c v (lit≤ tt) small value in
-    let size = abs_sum sum (c *ℤ v) in
+    let size = unsigned_abs-sum sum (c *ℤ v) in
     ap (option_and_then (λ product. number_in_128_bits (sum +ℤ product))) (in_bits (c *ℤ v) (omega arith))
     ∙ in_bits (sum +ℤ (c *ℤ v)) (omega arith)
 
@@ -43,8 +41,8 @@ sum_along : (sum c first value turn : ℤ) → FitsSigned w64 sum → FitsSigned
     → sum_in_128_bits sum c first ≡ Some value → pos 0 ≤ℤ turn → turn ≤ℤ pos 1073741824
     → sum_in_128_bits sum c (first +ℤ turn) ≡ Some (value +ℤ (turn *ℤ c))
 sum_along sum c first value turn short begin small is from to =
-    let before = short_size sum short in
-    let start = short_size first begin in
+    let before = unsigned_abs-signed sum short in
+    let start = unsigned_abs-signed first begin in
     let last : unsigned_abs (first +ℤ turn) ≤ 9223372037928517632 = omega (arith, ints) in
     let whole = sum_in_128_bits_is sum c first value is in
     let same : sum +ℤ (c *ℤ (first +ℤ turn)) ≡ value +ℤ (turn *ℤ c) =

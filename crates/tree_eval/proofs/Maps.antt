@@ -9,7 +9,8 @@ use Rattle.std.proofs.lemmas.Bool.{lt-ltb, OnTrue_at, OnTrue_from}
 use Rattle.std.proofs.lemmas.Int.{fits_signed_from_abs, ints}
 use Rattle.affine_core.specs.declared.form.Form.{Form}
 use Rattle.affine_core.specs.Within.{value_in_128_bits}
-use Rattle.sanlp.proofs.ModerateForms.{abs_sum, product_small}
+use Rattle.affine_core.proofs.Integers.{unsigned_abs-sum}
+use Rattle.sanlp.proofs.ModerateForms.{product_small}
 use Rattle.source_tree.specs.Walk.{fits_64_bits, map_values, mapped_value, number_in_64_bits}
 use Rattle.tree_eval.specs.declared.line.Line.{Line}
 use Rattle.tree_eval.specs.Stretches.{AddsLines, AreSmall, IsLine, line_at, values_at}
@@ -25,7 +26,7 @@ value_size : (start turn step : ℤ) → unsigned_abs start ≤ 2305843009213693
     → unsigned_abs step ≤ 1073741824 → unsigned_abs (start +ℤ (turn *ℤ step)) ≤ 4611686018427387904
 value_size start turn step begin few small =
     let product = product_small 1073741824 1073741824 1152921504606846976 turn step (lit≤ tt) few small in
-    let size = abs_sum start (turn *ℤ step) in
+    let size = unsigned_abs-sum start (turn *ℤ step) in
     omega arith
 
 pub value_fits : (start turn step : ℤ) → unsigned_abs start ≤ 2305843009213693952 → unsigned_abs turn ≤ 1073741824

@@ -12,7 +12,7 @@ use Rattle.affine_core.specs.Within.{value_in_128_bits}
 use Rattle.source_tree.specs.declared.tree.Tree.{Tree}
 use Rattle.source_tree.specs.declared.tree.Tree.TheViews.{Test}
 use Rattle.source_tree.specs.Walk.{outcome_of}
-use Rattle.source_tree.proofs.Walked.{test_taken}
+use Rattle.source_tree.proofs.WalkOutcomes.{test_taken}
 use Rattle.tree_eval.specs.declared.leaf.Leaf.{Leaf}
 use Rattle.tree_eval.specs.declared.line.Line.{Line}
 use Rattle.tree_eval.specs.declared.row.Row.{Row}
@@ -65,10 +65,6 @@ row_stretch tree outer outer' first limit last row is same end =
     let turns : row.turns ≡ last -ℤ first = omega (arith, ints) in
     subst (λ o. GivesAlong tree o first (last -ℤ first) row.leaf) (sym same)
     (subst (λ t. GivesAlong tree outer first t row.leaf) turns is.along)
-
--- where there is an option's value
-pub if_some_at : {X : Type 0} (P : X → Type 0) (o : Option X) (x : X) → o ≡ Some x → IfSome o P → P x
-if_some_at P o x e h = (let Q : Option _ → Type 0 = λ o. IfSome o P in subst Q e h)
 
 -- a value of a stretch
 pub along_at : (tree : Tree) (outer : List ℤ) (first turns value : ℤ) (leaf : Leaf) → GivesAlong tree outer first turns leaf

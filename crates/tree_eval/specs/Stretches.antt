@@ -94,6 +94,6 @@ abbrev pub IsStretch : Tree → Stretch → Type 0
 IsStretch tree stretch =
     GivesAlong tree stretch.outer stretch.first (stretch.last -ℤ stretch.first) stretch.leaf
 
--- so it does along the stretch that is known, if there is one
+-- along the stretch that is known, if there is one, the tree gives what the stretch's leaf gives
 abbrev pub IsStretchOf : Tree → Follower → Type 0
 IsStretchOf tree follower = IfSome follower.stretch (IsStretch tree)

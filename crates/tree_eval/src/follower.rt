@@ -7,11 +7,10 @@ ghost use Rattle.source_tree.specs.Gives.{gives};
 ghost use Rattle.source_tree.specs.Walk.{is_ready, outcome_of};
 ghost use Rattle.tree_eval.specs.Stretches.{IsStretch, IsStretchOf, turn_limit};
 
-use crate::kept_values::KeptValues;
 use crate::leaf::Leaf;
 use crate::row::follow_row;
 use crate::walk::eval_narrow;
-use affine_core::{Overflow, Vector};
+use affine_core::{KeptValues, Overflow, Vector};
 use source_tree::{Found, Tree};
 use std::alloc::Global;
 

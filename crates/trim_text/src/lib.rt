@@ -1,4 +1,6 @@
 //! The text of a network's least capacities.
+//!
+//! Between two calls, or from one step of the main loop to the next: the writer was given a front of the text.
 #![tactic(auto)]
 
 mod writing;

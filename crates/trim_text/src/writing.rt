@@ -45,7 +45,7 @@ fn positions_for(rests: &[Items<u32>], number: usize) -> &[u32]
     }
 }
 
-#[tactic(auto, using(text_out::proofs::Numbered::numbered))]
+#[tactic(auto, using(text_out::proofs::ItemNumbers::numbered))]
 fn write_channels<W: TextWriter>(capacities: &[u32], rests: &[Items<u32>], out: &mut W)
     ensures { Wrote W.given out.old out.new (channel_lines capacities.now rests.now) }
 {

@@ -23,6 +23,7 @@ value_step (Min a b) o = int_min (a o) (b o)
 value_step (Max a b) o = int_max (a o) (b o)
 value_step (Neg a) o = int_wrapping_neg w64 (a o)
 
+-- the value of an expression in 64-bit two's complement
 abbrev pub value_of : Expr → Operands → ℤ
 value_of = fold-Expr (Operands → ℤ) value_step
 
@@ -42,5 +43,6 @@ uses_step depth slots (Neg a) = a
 abbrev pub uses_only : ℕ → ℕ → Expr → Bool
 uses_only depth slots = fold-Expr Bool (uses_step depth slots)
 
+-- an expression names no loop and no read past these numbers
 abbrev pub UsesOnly : ℕ → ℕ → Expr → Type 0
 UsesOnly depth slots e = IsTrue (uses_only depth slots e)

@@ -2,7 +2,7 @@ use Rattle.std.proofs.Common.{List, ℤ, length, map, ◌≡◌}
 use Rattle.sanlp.specs.Cells.{input_count}
 use Rattle.array_data.specs.Data.{records_of}
 use Rattle.array_data.specs.Judging.{collected}
-use Rattle.array_data.proofs.Judged.{collected_are, collected_lengths, gives_if_ok, length-given}
+use Rattle.array_data.proofs.RecordVerdicts.{collected_are, collected_lengths, gives_if_ok, length-given}
 use Rattle.array_data.proofs.inputs.read_arrays.Goals as goal
 
 pub collect-requires : goal.collect-requires

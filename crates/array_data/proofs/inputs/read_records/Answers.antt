@@ -11,7 +11,7 @@ use Rattle.plain_data.specs.Answers.{IsUnlessMemory}
 use Rattle.array_data.specs.declared.error.DataError.{DataError}
 use Rattle.array_data.specs.declared.error.DataError.TheVariants.{Memory}
 use Rattle.array_data.specs.Judging.{Given, taken}
-use Rattle.array_data.proofs.Judged.{first_refused, gives_fault, length-given, more_given, none_given}
+use Rattle.array_data.proofs.RecordVerdicts.{first_refused, gives_fault, length-given, more_given, none_given}
 use Rattle.array_data.proofs.Records.{reached_all, reached_length, reached_more}
 use Rattle.array_data.proofs.inputs.read_records.Goals as goal
 

@@ -3,7 +3,7 @@ use Rattle.csv.specs.Reading.{Reached, Ready, default_config, source_of, strip_b
 use Rattle.csv.specs.declared.parser.State.TheVariants as st
 use Rattle.csv.specs.declared.reader.Trim.TheVariants as trim
 use Rattle.array_data.specs.Data.{Record}
-use Rattle.array_data.proofs.Judged.{HaveGiven}
+use Rattle.array_data.proofs.RecordVerdicts.{HaveGiven}
 use Rattle.array_data.proofs.inputs.read_records.Given as goal
 
 -- the records so far were read and taken

@@ -5,7 +5,7 @@ use Rattle.std.proofs.lemmas.Int.{to_z-of_z}
 use Rattle.cell_rows.specs.CellMap.{places_in}
 use Rattle.cell_lines.specs.LinePlaces.{has_line}
 use Rattle.cell_lines.proofs.LineCells.{all_and_write, all_more, all_whole, all_without_write, lines_more, lines_whole}
-use Rattle.cell_lines.proofs.LineCells.{not_all, write_line}
+use Rattle.cell_lines.proofs.LineCells.{write_line}
 use Rattle.cell_lines.proofs.statement_lines.lines_of.Goals as goal
 
 pub loop-slot-preserved : goal.loop-slot-preserved

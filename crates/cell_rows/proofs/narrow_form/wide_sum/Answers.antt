@@ -24,13 +24,13 @@ loop-place-preserved c =
     let product =
     wide_product (slice_index_or coefs place (pos 0)) (slice_index_or values place (pos 0))
     (moderate_size (slice_index_or coefs place (pos 0)) moderate) value in
-    let sum : FitsSigned w128 c.add_wide_product-sum.result = search rules in
-    let is = simp to_z-of_z at c.add_wide_product-sum.ensures in
+    let sum : FitsSigned w128 c.add_product-sum.result = search rules in
+    let is = simp to_z-of_z at c.add_product-sum.ensures in
     let before = simp to_z-of_z at c.loop-place.invariant.0 in (
       simp to_z-of_z
           (rw is (one_product_more _ coefs values place (combined c.args.constant coefs values) within there before)),
       simp to_z-of_z
           (next_wide_sum (to_z w128 c.loop-place.sum-bits)
           (slice_index_or coefs place (pos 0) *ℤ slice_index_or values place
-          (pos 0)) c.add_wide_product-sum.result place c.loop-place.invariant.1 product is),
+          (pos 0)) c.add_product-sum.result place c.loop-place.invariant.1 product is),
     )

@@ -9,7 +9,7 @@ use Rattle.int_polyhedra.specs.Refusal.{refusal, entailment_refusal}
 use Rattle.int_polyhedra.proofs.RowsOf.{rows_of_given, rows_of_more}
 use Rattle.int_polyhedra.proofs.Variables.{split_over}
 use Rattle.int_polyhedra.proofs.Cases.{chain_over}
-use Rattle.int_polyhedra.proofs.Followed.{entails_follows}
+use Rattle.int_polyhedra.proofs.ProofRules.{entails_follows}
 use Rattle.int_polyhedra.proofs.Soundness.{entails_sound}
 use Rattle.int_polyhedra.proofs.refute.entails.Goals as goal
 

@@ -1,7 +1,7 @@
 use Rattle.std.proofs.Common.{◌∙◌, ap}
 use Rattle.int_polyhedra.specs.Refusal.{refusal}
 use Rattle.int_polyhedra.proofs.RowsOf.{rows_of_given}
-use Rattle.int_polyhedra.proofs.Followed.{refutes_follows}
+use Rattle.int_polyhedra.proofs.ProofRules.{refutes_follows}
 use Rattle.int_polyhedra.proofs.Soundness.{refutes_sound}
 use Rattle.int_polyhedra.proofs.refute.refutes.Goals as goal
 

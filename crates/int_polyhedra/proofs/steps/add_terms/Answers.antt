@@ -1,5 +1,5 @@
 use Rattle.int_polyhedra.specs.Chain.{rows_of}
-use Rattle.int_polyhedra.proofs.Found.{sum_onto_more}
+use Rattle.int_polyhedra.proofs.ListSearch.{sum_onto_more}
 use Rattle.int_polyhedra.proofs.Variables.{sum_with_over}
 use Rattle.int_polyhedra.proofs.steps.add_terms.Goals as goal
 

@@ -1,4 +1,4 @@
-use Rattle.loop_lex.proofs.Spaced.{read_back, texts_back}
+use Rattle.loop_lex.proofs.TokenSpaces.{read_back, texts_back}
 use Rattle.loop_lex.proofs.law.spaced_tokens_are_read_back.Goals as goal
 
 pub returns : goal.returns

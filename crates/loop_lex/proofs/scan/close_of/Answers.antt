@@ -1,5 +1,5 @@
 use Rattle.std.proofs.Common.{◌≡◌, suc, arith, add-one, false, get_or, rules, ◌∷◌, []}
-use Rattle.loop_lex.proofs.Closing.{begins_close, close_found, close_goes, none_more, close_none, no_close}
+use Rattle.loop_lex.proofs.CommentEnds.{begins_close, close_found, close_goes, none_more, close_none, no_close}
 use Rattle.loop_lex.proofs.scan.close_of.Goals as goal
 use Rattle.loop_lex.proofs.scan.close_of.Goals.{else-body-i-eq42-via-then-body-i-eq42+else-body-i-eq47}
 use Rattle.loop_lex.proofs.scan.close_of.Goals.{else-body-i-eq42-via-else-body-i-eq42}

@@ -1,4 +1,4 @@
-use Rattle.loop_lex.proofs.Closing.{Shifts, NoneUpTo}
+use Rattle.loop_lex.proofs.CommentEnds.{Shifts, NoneUpTo}
 use Rattle.loop_lex.proofs.scan.close_of.Given as goal
 
 abbrev pub invariant-loop-i : goal.invariant-loop-i

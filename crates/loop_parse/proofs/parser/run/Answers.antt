@@ -1,4 +1,4 @@
-use Rattle.std.proofs.Common.{◌≡◌, ◌∙◌, sym, ap, refl, Some, arith, length}
+use Rattle.std.proofs.Common.{◌∙◌, sym, ap, Some, arith}
 use Rattle.loop_lex.specs.declared.token.Token.{Token}
 use Rattle.loop_lex.specs.declared.token.TokenKind.TheVariants.{Name}
 use Rattle.loop_parse.specs.SourceMachine.{State, state_of}

@@ -1,11 +1,12 @@
 use Rattle.std.proofs.Common.{◌≡◌, ◌+◌, ◌-ℤ◌, ℕ, length, refl, ap, ◌∙◌, arith, FitsSigned, length-append}
 use Rattle.std.specs.Int.{w64}
 use Rattle.std.proofs.lemmas.Int.{fits_signed_from_abs, to_z-of_z}
+use Rattle.std.proofs.lemmas.Result.{on_ok_weaker}
 use Rattle.cell_rows.specs.CellMap.{places_in}
 use Rattle.cell_rows.specs.ShortAccesses.{statement_short}
-use Rattle.cell_rows.proofs.CellOrder.{on_ok_then}
-use Rattle.cell_lines.proofs.LineCells.{if_some_at, if_some_from, lines_kept, statement_placed, turn_is_short}
+use Rattle.cell_lines.proofs.LineCells.{if_some_from, lines_kept, statement_placed, turn_is_short}
 use Rattle.loop_run.proofs.along.execute_value.Goals as goal
+use Rattle.plain_data.proofs.Options.{IfSome-some}
 
 pub execute_turn-requires-clause-short : goal.execute_turn-requires-clause-short
 execute_turn-requires-clause-short c =
@@ -18,7 +19,7 @@ execute_turn-requires-clause-placed c =
     let f : FitsSigned w64 c.args.first = c.ranges.first in
     let g : FitsSigned w64 c.args.last = c.ranges.last in
     let h : FitsSigned w64 c.args.value = c.ranges.value in
-    let along = if_some_at _ c.args.lines.now c.in-Some.lines c.in-Some.is c.requires.lines in
+    let along = IfSome-some _ c.args.lines.now c.in-Some.lines c.in-Some.is c.requires.lines in
     let short =
     turn_is_short
     (places_in c.args.cells.now) c.args.at.now c.args.first c.args.last c.args.value c.args.accesses.now c.in-Some.lines
@@ -41,8 +42,8 @@ execute_statement-requires-clause-short c =
 
 pub returns-in-Some-clause-lines : goal.returns-in-Some-clause-lines
 returns-in-Some-clause-lines c =
-    let along = if_some_at _ c.args.lines.now c.in-Some.lines c.in-Some.is c.requires.lines in
-    on_ok_then c.execute_turn.result
+    let along = IfSome-some _ c.args.lines.now c.in-Some.lines c.in-Some.is c.requires.lines in
+    on_ok_weaker c.execute_turn.result
     (λ places. if_some_from _ c.args.lines.now c.in-Some.lines c.in-Some.is
     (lines_kept (places_in c.args.cells.now)
     (places_in c.execute_turn.new.cells) c.args.at.now c.args.first c.args.last c.args.accesses.now c.in-Some.lines

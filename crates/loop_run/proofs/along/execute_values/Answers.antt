@@ -15,7 +15,7 @@ use Rattle.cell_rows.specs.ShortAccesses.{access_short, statement_short}
 use Rattle.loop_run.proofs.RunLemmas.{turn_done, turns_done}
 use Rattle.cell_rows.proofs.NarrowStatements.{narrow_of}
 use Rattle.cell_rows.proofs.ShortStatements.{short_reads, short_statement, short_write}
-use Rattle.loop_run.proofs.Placed.{depth_is}
+use Rattle.loop_run.proofs.StatementPlaces.{depth_is}
 use Rattle.loop_run.proofs.along.execute_values.Goals as goal
 
 pub lines_along-lines-requires-clause-reads_fit : goal.lines_along-lines-requires-clause-reads_fit

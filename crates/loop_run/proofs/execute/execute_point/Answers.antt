@@ -2,7 +2,7 @@ use Rattle.std.proofs.Common.{ℕ, length, sym, ap, ◌∙◌, subst}
 use Rattle.std.specs.Prelude.{IsTrue}
 use Rattle.cell_rows.specs.ShortAccesses.{statement_short}
 use Rattle.cell_rows.proofs.ShortStatements.{short_statement}
-use Rattle.loop_run.proofs.Placed.{depth_is}
+use Rattle.loop_run.proofs.StatementPlaces.{depth_is}
 use Rattle.loop_run.proofs.execute.execute_point.Goals as goal
 
 pub execute_statement-requires-clause-short : goal.execute_statement-requires-clause-short

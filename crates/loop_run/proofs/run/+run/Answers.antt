@@ -12,7 +12,7 @@ use Rattle.sanlp.specs.Size.{node_within}
 use Rattle.loop_run.specs.Execution.{node_placed}
 use Rattle.loop_walk.specs.EnteredLoops.{turns_within}
 use Rattle.loop_walk.proofs.BodyParts.{part_passes}
-use Rattle.loop_walk.proofs.EnteredLoops.{between_within, turn_within}
+use Rattle.loop_walk.proofs.LoopEntries.{between_within, turn_within}
 use Rattle.loop_run.proofs.RunLemmas.{assign_done, loop_done, loop_keeps, turn_done, turns_done}
 use Rattle.loop_run.proofs.run.+run.Goals as goal
 

@@ -4,7 +4,7 @@ use Rattle.sanlp.specs.WellFormed.{all_forms_fit}
 use Rattle.loop_run.specs.CellMemory.{memory_of}
 use Rattle.loop_run.specs.Execution.{all_placed}
 use Rattle.loop_walk.specs.EnteredLoops.{parts_within}
-use Rattle.loop_run.proofs.Placed.{body_placed}
+use Rattle.loop_run.proofs.StatementPlaces.{body_placed}
 use Rattle.loop_run.proofs.RunLemmas.{on_ok_along}
 use Rattle.loop_run.proofs.run.run_nest.Goals as goal
 

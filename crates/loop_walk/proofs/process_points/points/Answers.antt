@@ -4,7 +4,7 @@ use Rattle.std.specs.Prelude.{replicate}
 use Rattle.std.specs.List.{fold}
 use Rattle.loop_walk.specs.PointLists.{with_point}
 use Rattle.loop_walk.specs.Walks.{rest}
-use Rattle.loop_walk.proofs.PointsAdded.{all_exist, points_added, trace_exists}
+use Rattle.loop_walk.proofs.PointLists.{all_exist, points_added, trace_exists}
 use Rattle.loop_walk.proofs.process_points.points.Goals as goal
 
 pub loop-point-init : goal.loop-point-init

@@ -4,7 +4,7 @@ use Rattle.std.specs.List.{fold}
 use Rattle.sanlp.specs.Trace.{trace}
 use Rattle.loop_walk.specs.PointLists.{with_point}
 use Rattle.loop_walk.specs.Walks.{IsWalkOf, rest}
-use Rattle.loop_walk.proofs.PointsAdded.{all_exist}
+use Rattle.loop_walk.proofs.PointLists.{all_exist}
 use Rattle.loop_walk.proofs.process_points.points.Given as goal
 
 abbrev pub invariant-loop-point : goal.invariant-loop-point

@@ -2,7 +2,7 @@ use Rattle.std.proofs.Common.{◌≡◌}
 use Rattle.std.specs.Prelude.{Ok}
 use Rattle.loop_lex.specs.Tokens.{tokens}
 use Rattle.matrix_load.specs.Product.{matrix_product}
-use Rattle.matrix_load.proofs.Unrefused.{bound}
+use Rattle.matrix_load.proofs.NoRefusal.{bound}
 use Rattle.matrix_load.proofs.product.matrix_nest.Goals as goal
 use Rattle.matrix_load.proofs.product.matrix_nest.Goals.{in-Memory, in_default}
 

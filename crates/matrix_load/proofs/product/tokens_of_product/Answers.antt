@@ -1,4 +1,4 @@
-use Rattle.matrix_load.proofs.Unrefused.{lexed}
+use Rattle.matrix_load.proofs.NoRefusal.{lexed}
 use Rattle.matrix_load.proofs.product.tokens_of_product.Goals as goal
 use Rattle.matrix_load.proofs.product.tokens_of_product.Goals.{in-Memory, in_default}
 

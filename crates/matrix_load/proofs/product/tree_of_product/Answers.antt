@@ -1,5 +1,5 @@
 use Rattle.matrix_load.proofs.Derivation.{matrix_tree}
-use Rattle.matrix_load.proofs.Unrefused.{derived}
+use Rattle.matrix_load.proofs.NoRefusal.{derived}
 use Rattle.matrix_load.proofs.product.tree_of_product.Goals as goal
 use Rattle.matrix_load.proofs.product.tree_of_product.Goals.{in-Memory, in_default}
 

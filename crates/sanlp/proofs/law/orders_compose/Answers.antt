@@ -1,4 +1,4 @@
-use Rattle.sanlp.proofs.Composing.{orders_compose as law}
+use Rattle.sanlp.proofs.TextOrders.{orders_compose as law}
 use Rattle.sanlp.proofs.law.orders_compose.Goals as goal
 
 pub returns : goal.returns

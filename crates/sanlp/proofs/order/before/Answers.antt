@@ -8,8 +8,8 @@ returns-in-Less c =
     let is =
     points_decided c.args.nest.now c.args.a.now c.args.b.now c.statement-first.result.now c.statement-second.result.now
     c.statement-first.ensures.value c.statement-second.ensures.value c.requires.first.1 c.requires.second.1
-    c.shared-common.result
-    (c.shared-common.ensures.value ∙ ap (λ ks. common_loops ks c.as_slice-2.result.now) c.as_slice.ensures
+    c.common_loops-common.result
+    (c.common_loops-common.ensures.value ∙ ap (λ ks. common_loops ks c.as_slice-2.result.now) c.as_slice.ensures
     ∙ ap (common_loops c.statement-first.result.now.loops) c.as_slice-2.ensures)
     c.as_slice-3.result.now c.as_slice-4.result.now c.as_slice-3.ensures.value c.as_slice-4.ensures.value Less
     (sym c.in-Less.is ∙ c.cmp.ensures) in
@@ -20,8 +20,8 @@ returns-in-Equal c =
     let is =
     points_decided c.args.nest.now c.args.a.now c.args.b.now c.statement-first.result.now c.statement-second.result.now
     c.statement-first.ensures.value c.statement-second.ensures.value c.requires.first.1 c.requires.second.1
-    c.shared-common.result
-    (c.shared-common.ensures.value ∙ ap (λ ks. common_loops ks c.as_slice-2.result.now) c.as_slice.ensures
+    c.common_loops-common.result
+    (c.common_loops-common.ensures.value ∙ ap (λ ks. common_loops ks c.as_slice-2.result.now) c.as_slice.ensures
     ∙ ap (common_loops c.statement-first.result.now.loops) c.as_slice-2.ensures)
     c.as_slice-3.result.now c.as_slice-4.result.now c.as_slice-3.ensures.value c.as_slice-4.ensures.value Equal
     (sym c.in-Equal.is ∙ c.cmp.ensures) in
@@ -32,8 +32,8 @@ returns-in-Greater c =
     let is =
     points_decided c.args.nest.now c.args.a.now c.args.b.now c.statement-first.result.now c.statement-second.result.now
     c.statement-first.ensures.value c.statement-second.ensures.value c.requires.first.1 c.requires.second.1
-    c.shared-common.result
-    (c.shared-common.ensures.value ∙ ap (λ ks. common_loops ks c.as_slice-2.result.now) c.as_slice.ensures
+    c.common_loops-common.result
+    (c.common_loops-common.ensures.value ∙ ap (λ ks. common_loops ks c.as_slice-2.result.now) c.as_slice.ensures
     ∙ ap (common_loops c.statement-first.result.now.loops) c.as_slice-2.ensures)
     c.as_slice-3.result.now c.as_slice-4.result.now c.as_slice-3.ensures.value c.as_slice-4.ensures.value Greater
     (sym c.in-Greater.is ∙ c.cmp.ensures) in

@@ -10,9 +10,9 @@ use Rattle.cell_rows.specs.declared.narrow_access.NarrowStatement.{NarrowStateme
 use Rattle.shadow_sweep.specs.LastWrites.{writes_in}
 use Rattle.source_tree.specs.Sources.{read_number}
 use Rattle.shadow_sweep.proofs.Accesses.{accesses_of, reads_are, reads_fit, write_fits, write_is}
-use Rattle.shadow_sweep.proofs.Stretched.{none_known, one_more}
-use Rattle.shadow_sweep.proofs.Swept.{IsSwept, first_is, left_later, reads_have_lists, statement_exists, swept_all}
-use Rattle.shadow_sweep.proofs.Swept.{swept_later, swept_none, turn_exists, turn_is_small, turns_all}
+use Rattle.shadow_sweep.proofs.StretchPlaces.{none_known, one_more}
+use Rattle.shadow_sweep.proofs.SweepState.{IsSwept, first_is, left_later, reads_have_lists, statement_exists, swept_all}
+use Rattle.shadow_sweep.proofs.SweepState.{swept_later, swept_none, turn_exists, turn_is_small, turns_all}
 use Rattle.shadow_sweep.proofs.sources.sweep_counted.Goals as goal
 
 pub loop-point-init : goal.loop-point-init

@@ -4,7 +4,7 @@ use Rattle.loop_walk.specs.Walks.{IsWalkOf, rest}
 use Rattle.cell_rows.specs.CellMap.{places_in}
 use Rattle.shadow_sweep.specs.LastWrites.{writes_in}
 use Rattle.shadow_sweep.specs.Stretches.{AreStretchesOf}
-use Rattle.shadow_sweep.proofs.Swept.{IsSwept}
+use Rattle.shadow_sweep.proofs.SweepState.{IsSwept}
 use Rattle.shadow_sweep.proofs.sources.sweep_counted.Given as goal
 
 abbrev pub invariant-loop-point : goal.invariant-loop-point

@@ -1,4 +1,4 @@
-use Rattle.source_tree.proofs.Numbered.{gives_last_writers}
+use Rattle.source_tree.proofs.TableNumbers.{gives_last_writers}
 use Rattle.source_tree.proofs.law.gives_last_writers.Goals as goal
 
 pub returns : goal.returns

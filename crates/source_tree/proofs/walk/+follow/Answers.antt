@@ -1,13 +1,12 @@
-use Rattle.std.proofs.Common.{rules, ◌≡◌, ◌+◌, ◌≤◌, ◌≤ℤ◌, pos, ◌∙◌, sym, ap, refl, length, true, false, ℤ, FitsSigned}
+use Rattle.std.proofs.Common.{rules, ◌∙◌, sym, ap, length, true, false, ℤ, FitsSigned}
 use Rattle.std.proofs.Common.{to_z, of_z, arith}
 use Rattle.std.proofs.Common.{List}
-use Rattle.affine_core.specs.declared.form.Form.{Form}
 use Rattle.std.specs.Int.{w128}
 use Rattle.std.proofs.lemmas.Int.{ints, to_z-of_z}
 use Rattle.source_tree.specs.declared.tree.Tree.TheViews.{the_lemmas}
-use Rattle.source_tree.specs.Walk.{outcome_of, is_ready, are_over}
-use Rattle.source_tree.proofs.Walked.{ready_test, ready_divides, ready_writer, test_taken, test_none, divides_taken}
-use Rattle.source_tree.proofs.Walked.{divides_none, more_ready, writer_some, writer_none, walked_zero, walked_dead}
+use Rattle.source_tree.specs.Walk.{is_ready, are_over}
+use Rattle.source_tree.proofs.WalkOutcomes.{ready_test, ready_divides, ready_writer, test_taken, test_none, divides_taken}
+use Rattle.source_tree.proofs.WalkOutcomes.{divides_none, more_ready, writer_some, writer_none, walked_zero, walked_dead}
 use Rattle.source_tree.proofs.walk.+follow.Goals as goal
 
 pub eval-requires : goal.eval-requires

@@ -1,7 +1,7 @@
-use Rattle.std.proofs.Common.{◌≡◌, ◌∙◌, sym, ap, subst, length}
+use Rattle.std.proofs.Common.{◌∙◌, sym, ap, subst, length}
 use Rattle.std.specs.Prelude.{IsTrue}
 use Rattle.source_tree.specs.Walk.{outcome_of, is_ready}
-use Rattle.source_tree.proofs.Given.{eval_gives}
+use Rattle.source_tree.proofs.TreeValues.{eval_gives}
 use Rattle.source_tree.proofs.walk.eval.Goals as goal
 
 pub follow-requires : goal.follow-requires

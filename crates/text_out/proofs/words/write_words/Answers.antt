@@ -1,6 +1,6 @@
 use Rattle.std.proofs.Common.{arith}
 use Rattle.std.proofs.lemmas.Grind.{common_steps}
-use Rattle.text_out.proofs.Joined.{words_joined}
+use Rattle.text_out.proofs.WordSpaces.{words_joined}
 use Rattle.text_out.proofs.words.write_words.Goals as goal
 
 pub returns-in-Some : goal.returns-in-Some

@@ -2,7 +2,7 @@ use Rattle.std.proofs.Common.{◌+ℤ◌, [], ◌∷◌, ◌++◌, rules, length
 use Rattle.std.proofs.lemmas.Int.{ints, to_z-of_z}
 use Rattle.source_tree.specs.declared.tree.Tree.TheViews.{the_lemmas}
 use Rattle.source_tree.specs.Walk.{is_ready}
-use Rattle.source_tree.proofs.Walked.{ready_test, ready_writer, writer_some, walked_zero, walked_dead}
+use Rattle.source_tree.proofs.WalkOutcomes.{ready_test, ready_writer, writer_some, walked_zero, walked_dead}
 use Rattle.tree_eval.specs.declared.leaf.Leaf.TheVariants.{Writer, Zero, Dead}
 use Rattle.tree_eval.specs.Stretches.{values_at}
 use Rattle.tree_eval.proofs.Rows.{leaf_row, test_row}

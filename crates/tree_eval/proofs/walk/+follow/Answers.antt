@@ -2,8 +2,8 @@ use Rattle.std.proofs.Common.{rules, ◌∙◌, sym, ap, length, true, false, Fi
 use Rattle.std.proofs.lemmas.Int.{to_z-of_z}
 use Rattle.source_tree.specs.declared.tree.Tree.TheViews.{the_lemmas}
 use Rattle.source_tree.specs.Walk.{is_ready}
-use Rattle.source_tree.proofs.Walked.{ready_test, ready_writer, writer_some, walked_zero, walked_dead}
-use Rattle.tree_eval.proofs.Known.{test_known}
+use Rattle.source_tree.proofs.WalkOutcomes.{ready_test, ready_writer, writer_some, walked_zero, walked_dead}
+use Rattle.tree_eval.proofs.TestSides.{test_known}
 use Rattle.tree_eval.proofs.walk.+follow.Goals as goal
 
 pub follow-requires : goal.follow-requires

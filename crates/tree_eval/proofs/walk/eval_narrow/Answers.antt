@@ -1,7 +1,7 @@
 use Rattle.std.proofs.Common.{sym, length}
 use Rattle.std.specs.Prelude.{Ok}
 use Rattle.affine_core.specs.declared.form.Overflow.{Overflow}
-use Rattle.source_tree.proofs.Given.{eval_gives}
+use Rattle.source_tree.proofs.TreeValues.{eval_gives}
 use Rattle.tree_eval.proofs.walk.eval_narrow.Goals as goal
 
 pub follow-requires : goal.follow-requires

@@ -1,18 +1,19 @@
 use Rattle.std.proofs.Common.{ℕ, refl, ap, ◌∙◌}
 use Rattle.std.specs.Prelude.{Some}
 use Rattle.std.specs.Map.{update}
+use Rattle.std.proofs.lemmas.Result.{on_ok_weaker}
 use Rattle.sanlp.specs.Access.{cell_at}
 use Rattle.sanlp.specs.Memory.{is_cell}
 use Rattle.cell_rows.specs.CellMap.{values_in}
 use Rattle.cell_rows.specs.Rows.{kept_value, with_kept}
-use Rattle.cell_rows.proofs.CellOrder.{on_ok_then, values_after_map, values_after_rows}
+use Rattle.cell_rows.proofs.CellOrder.{values_after_map, values_after_rows}
 use Rattle.cell_rows.proofs.CellPlaces.{not_kept_there, places_after_map, places_after_rows}
 use Rattle.cell_rows.proofs.cells.Cells.write_at.Goals as goal
 
 pub returns-then-has_room-clause-values : goal.returns-then-has_room-clause-values
 returns-then-has_room-clause-values g c =
     let old = c.args.self.now in
-    on_ok_then c.put_in_rows.result
+    on_ok_weaker c.put_in_rows.result
     (λ rows. values_after_rows old c.put_in_rows.new.self
     (cell_at c.args.at.now c.args.access.now) c.args.place c.args.value c.requires.placed
     (rows ∙ ap (λ (array : ℕ).
@@ -21,7 +22,7 @@ returns-then-has_room-clause-values g c =
 
 pub returns-then-has_room-clause-places : goal.returns-then-has_room-clause-places
 returns-then-has_room-clause-places g c =
-    on_ok_then c.put_in_rows.result
+    on_ok_weaker c.put_in_rows.result
     (λ rows. places_after_rows c.args.self.now c.put_in_rows.new.self c.array-then-has_room.result c.args.place
     c.args.value rows)
     c.put_in_rows.ensures.rows

@@ -1,5 +1,5 @@
 use Rattle.std.proofs.Common.{List, ℕ, ◌≡◌, ◌++◌, ◌∙◌, sym, ap, append-nil}
-use Rattle.text_out.proofs.HandedOn.{front_of_failed}
+use Rattle.text_out.proofs.SinkParts.{front_of_failed}
 use Rattle.text_out.specs.Wrote.{Start}
 use Rattle.text_out.proofs.writer.Writer.finish.Goals as goal
 

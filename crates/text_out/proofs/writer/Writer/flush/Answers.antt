@@ -1,4 +1,4 @@
-use Rattle.text_out.proofs.HandedOn.{handed_on}
+use Rattle.text_out.proofs.SinkParts.{handed_on}
 use Rattle.text_out.proofs.writer.Writer.flush.Goals as goal
 
 pub invariant_of-self : goal.invariant_of-self

@@ -1,14 +1,15 @@
 use Rattle.std.proofs.Common.{◌≡◌, ◌-ℤ◌, ◌≤ℤ◌, [], ◌∷◌, ◌++◌, sym, ap, ◌∙◌, arith, rules, FitsSigned, w64}
 use Rattle.std.proofs.lemmas.Int.{ints}
+use Rattle.plain_data.proofs.Options.{IfSome-some}
 use Rattle.source_tree.specs.Walk.{outcome_of}
 use Rattle.tree_eval.specs.Stretches.{IsStretch, found_at}
-use Rattle.tree_eval.proofs.Rows.{along_at, if_some_at}
+use Rattle.tree_eval.proofs.Rows.{along_at}
 use Rattle.tree_eval.proofs.follower.Follower.has.Goals as goal
 
 pub returns : goal.returns
 returns c inside tree known =
     let short : FitsSigned w64 c.in-Some-split_last.value.now = search rules in
-    let along = if_some_at (IsStretch tree) c.args.self.now.stretch c.in-Some.stretch c.in-Some.is known in
+    let along = IfSome-some (IsStretch tree) c.args.self.now.stretch c.in-Some.stretch c.in-Some.is known in
     let from : c.in-Some.stretch.first ≤ℤ c.in-Some-split_last.value.now =
     omega (arith, ints, c.has.ensures.first inside) in
     let end : c.in-Some-split_last.value.now ≤ℤ c.in-Some.stretch.last =

@@ -4,4 +4,4 @@ use Rattle.std.proofs.lemmas.Slice.Eq.{slice_eq-Decides}
 use Rattle.tree_eval.proofs.follower.Stretch.is_at.Goals as goal
 
 pub returns : goal.returns
-returns c = λ same. sym c.as_slice.ensures ∙ (slice_eq-Decides Decides-int_eq _ _ _ c.eq.ensures).0 same
+returns c = λ same. sym c.as_slice.ensures.value ∙ (slice_eq-Decides Decides-int_eq _ _ _ c.eq.ensures).0 same

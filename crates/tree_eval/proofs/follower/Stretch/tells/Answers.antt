@@ -1,4 +1,4 @@
-use Rattle.std.proofs.Common.{◌≤ℤ◌, ◌-ℤ◌, pos, sym, ap, ◌∙◌, arith, rules, FitsSigned, w64}
+use Rattle.std.proofs.Common.{◌≤ℤ◌, ◌-ℤ◌, pos, ap, ◌∙◌, arith, rules, FitsSigned, w64}
 use Rattle.std.specs.Prelude.{Some}
 use Rattle.std.proofs.lemmas.Int.{ints, to_z-of_z}
 use Rattle.tree_eval.proofs.Maps.{turn_fits}

@@ -1,0 +1,26 @@
+-- The node of a tree, by its kind. A tree is of one kind, and its parts are determined: two ways to write it open to
+-- one node.
+use Rattle.std.proofs.Common.{◌≡◌, ◌∙◌, ℕ, List, sym, ap}
+use Rattle.affine_core.specs.declared.form.Form.{Form}
+use Rattle.int_polyhedra.specs.declared.system.Proof.{Proof}
+use Rattle.source_tree.specs.declared.tree.Tree.{Tree, out-Tree}
+use Rattle.source_tree.specs.declared.tree.Tree.TheOpen as open_
+use Rattle.source_tree.specs.declared.tree.Tree.TheVariants.{Writer, Zero, Dead}
+use Rattle.source_tree.specs.declared.tree.Tree.TheViews.{Test, outs-Test, outs-Writer}
+use Rattle.source_tree.specs.declared.tree.Tree.TheViews.{outs-Zero, outs-Dead}
+
+pub node-Test : (tree : Tree) (form : Form) (a b : Tree) → tree ≡ Test form a b → out-Tree tree ≡ open_.Test form a b
+node-Test tree form a b e = ap out-Tree e ∙ outs-Test form a b
+
+pub node-Writer : (tree : Tree) (s : ℕ) (place : List Form) (proofs : List Proof) → tree ≡ Writer s place proofs
+    → out-Tree tree ≡ open_.Writer s place proofs
+node-Writer tree s place proofs e = ap out-Tree e ∙ outs-Writer s place proofs
+
+pub node-Zero : (tree : Tree) (proofs : List Proof) → tree ≡ Zero proofs → out-Tree tree ≡ open_.Zero proofs
+node-Zero tree proofs e = ap out-Tree e ∙ outs-Zero proofs
+
+pub node-Dead : (tree : Tree) (proof : Proof) → tree ≡ Dead proof → out-Tree tree ≡ open_.Dead proof
+node-Dead tree proof e = ap out-Tree e ∙ outs-Dead proof
+
+pub node_unique : (tree : Tree) (x y : open_.Tree-F Tree) → out-Tree tree ≡ x → out-Tree tree ≡ y → x ≡ y
+node_unique tree x y e h = sym e ∙ h

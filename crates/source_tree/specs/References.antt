@@ -1,0 +1,6 @@
+-- The occurrence of an access that a reference names.
+use Rattle.source_tree.specs.Systems.{Occurrence}
+use Rattle.source_tree.specs.declared.reference.Reference.{Reference}
+
+abbrev pub occurrence_of : Reference → Occurrence
+occurrence_of r = record { number = r.number; statement = r.statement.now; access = r.access.now }

@@ -10,7 +10,7 @@ use Rattle.std.specs.Int.{w128}
 use Rattle.std.specs.List.{range_with_len}
 use Rattle.std.specs.Option.{option_map, option_map_or}
 use Rattle.std.proofs.lemmas.Int.{fits_signed_mul, ints}
-use Rattle.std.proofs.lemmas.List.{length-append, map-append}
+use Rattle.std.proofs.lemmas.List.{length-append, map-append, get_or_past}
 use Rattle.std.proofs.lemmas.List.Elements.{All-head, All-tail}
 use Rattle.std.proofs.lemmas.Option.{same_Some, slice_get-map, slice_get_within}
 use Rattle.affine_core.specs.declared.form.Form.{Form}
@@ -31,29 +31,29 @@ use Rattle.candidate_order.specs.declared.order.Equality.{Equality}
 use Rattle.candidate_order.specs.declared.order.Order.{Order}
 use Rattle.candidate_order.specs.declared.seen.Position.{Position}
 use Rattle.candidate_order.proofs.Absent.{orders_are_made}
-use Rattle.candidate_order.proofs.Joined.{carried_write, context_over, joined_rows, light_own, near_forms}
-use Rattle.candidate_order.proofs.Joined.{near_variables, node_over, orders_made, own_at, own_row, past_coefficient}
-use Rattle.candidate_order.proofs.Joined.{system, AreLightSums, AreMadeRows, IsNodeOver}
-use Rattle.candidate_order.proofs.Made.{checked_point, simple_point, IsCheckedPoint, IsSimplePoint}
-use Rattle.candidate_join.proofs.Standing.{orders_stood, AreAlike, AreOwn, AreStood, IsLess}
+use Rattle.candidate_order.proofs.PointSystems.{carried_write, context_over, joined_rows, light_own, near_forms}
+use Rattle.candidate_order.proofs.PointSystems.{near_variables, node_over, orders_made, own_at, own_row}
+use Rattle.candidate_order.proofs.PointSystems.{system, AreLightSums, AreMadeRows, IsNodeOver}
+use Rattle.candidate_order.proofs.TreeNodes.{checked_point, simple_point, IsCheckedPoint, IsSimplePoint}
+use Rattle.candidate_join.proofs.OrderChains.{orders_stood, AreAlike, AreOwn, AreStood, IsLess}
 use Rattle.lex_max.specs.Asked.{read_of, write_of}
 use Rattle.lex_max.specs.Edges.{AreLevelRows}
 use Rattle.lex_max.specs.Facts.{form_parts}
 use Rattle.lex_max.specs.Level.{common_of}
 use Rattle.lex_max.specs.Paths.{term_of}
 use Rattle.lex_max.specs.declared.writes.Writes.{Writes}
-use Rattle.lex_max.proofs.Ordering.{length_variables}
-use Rattle.lex_max.proofs.Placing.{IsPlaced}
-use Rattle.lex_max.proofs.Refuting.{get_behind}
-use Rattle.lex_max.proofs.Walking.{all_at}
+use Rattle.lex_max.proofs.OrderEdges.{length_variables}
+use Rattle.lex_max.proofs.ZeroSystems.{IsPlaced}
+use Rattle.plain_data.proofs.Options.{option_map-some}
+use Rattle.plain_data.proofs.Lists.{slice_get-append_right, All-slice_get}
 use Rattle.row_sums.specs.Carried.{carried_terms, sum_in_place, CarryFits, ProductsFit}
 use Rattle.row_sums.specs.Made.{parts_of}
 use Rattle.row_sums.specs.Parts.{Part, the_constant, the_coefficient, part_of, row_part, weight}
 use Rattle.row_sums.specs.Shown.{RowParts, Shows}
-use Rattle.row_sums.proofs.Combining.{combines}
-use Rattle.row_sums.proofs.Widening.{shown_widens}
+use Rattle.row_sums.proofs.SumAlgebra.{combines}
+use Rattle.row_sums.proofs.MoreVariables.{shown_widens}
 use Rattle.sanlp.proofs.Lists.{range_with_len-append}
-use Rattle.sanlp.proofs.Precedence.{common_first, common_symmetric}
+use Rattle.sanlp.proofs.Precedence.{common_first, common_loops-comm}
 use Rattle.source_check.proofs.Orders.{common_same}
 use Rattle.source_tree.specs.Checked.{IsRefuted}
 use Rattle.source_tree.specs.Places.{order_rows}
@@ -162,11 +162,6 @@ get_beyond [] k e = omega arith
 get_beyond (x ∷ xs) zero e = absurd (let f : Some x ≡ None = e in cc)
 get_beyond (x ∷ xs) (suc k) e = omega (arith, get_beyond xs k e)
 
-mapped_inner : (o : Option (List RowExpr)) (pair rows : List RowExpr) → option_map (λ inner. pair ++ inner) o
-    ≡ Some rows → (inner : List RowExpr) × (o ≡ Some inner) × (pair ++ inner ≡ rows)
-mapped_inner None pair rows e = absurd (let h : None ≡ Some rows = e in cc)
-mapped_inner (Some inner) pair rows e = (inner, refl, same_Some (pair ++ inner) rows e)
-
 few_orders : (c q : ℕ) (less : Bool) (a b : List Form) (rows : List RowExpr) → slice_get (order_rows c less a b) q
     ≡ Some rows → length rows ≤ q + q + 1
 few_orders zero zero true a b rows e = omega (arith, ap length (same_Some [] rows e))
@@ -178,8 +173,7 @@ few_orders (suc c) zero less (v ∷ a) (w ∷ b) rows e =
     omega (arith, ap length (same_Some (one_less (minus (Take w) (Take v)) ∷ []) rows e))
 few_orders (suc c) (suc q) less (v ∷ a) (w ∷ b) rows e =
     let pair : List RowExpr = equal_rows (Take v) (Take w) in
-    let i = mapped_inner (slice_get (order_rows c less a b) q) pair rows
-    (sym (slice_get-map (λ inner. pair ++ inner) (order_rows c less a b) q) ∙ e) in
+    let i = option_map-some (λ inner. pair ++ inner) (slice_get (order_rows c less a b) q) rows (sym (slice_get-map (λ inner. pair ++ inner) (order_rows c less a b) q) ∙ e) in
     omega (arith, ap length i.2, length-append pair i.0, few_orders c q less a b i.0 i.1)
 
 pub few_levels : (r : Read) (cand : Candidate) → IsCandidate r cand → length (write_of cand.writes).statement.loops ≤ 6
@@ -251,7 +245,7 @@ module _ (r : Read) (context : System) (path : IsPathContext r.context.now.vars 
       let inside : i < length order = slice_get_within order i e is in
       let j : ℕ = length sys.forms + i in
       let same : (part : Part) → row_part (sys.forms ++ rows.forms) part j ≡ parts_of e part
-      = λ part. ap (λ o. option_map_or (part_of part) o (pos 0)) (get_behind sys.forms rows.forms i) ∙ rows.parts i part
+      = λ part. ap (λ o. option_map_or (part_of part) o (pos 0)) (slice_get-append_right sys.forms rows.forms i) ∙ rows.parts i part
       ∙ ap (λ o. option_map_or (λ e. parts_of e part) o (pos 0)) is in
       let number : length context.rows + j ≡ length context.rows + length cand.edges + i = omega (arith, sys.are.count)
       in
@@ -268,7 +262,7 @@ module _ (r : Read) (context : System) (path : IsPathContext r.context.now.vars 
   own_shown order rows j inside lt =
       let k : ℕ = length sys.forms + j in
       let same : (part : Part) → row_part (sys.forms ++ rows.forms) part k ≡ row_part rows.forms part j
-      = λ part. ap (λ o. option_map_or (part_of part) o (pos 0)) (get_behind sys.forms rows.forms j) in
+      = λ part. ap (λ o. option_map_or (part_of part) o (pos 0)) (slice_get-append_right sys.forms rows.forms j) in
       let number : length context.rows + k ≡ length context.rows + length cand.edges + j = omega (arith, sys.are.count)
       in
       subst (λ ts. Shows more (all rows.forms) ts (λ part. row_part rows.forms part j))
@@ -300,8 +294,8 @@ module _ (r : Read) (context : System) (path : IsPathContext r.context.now.vars 
     gap_narrow : (a b : Form) (i : ℕ) → length a.coefs ≡ context.vars → length b.coefs ≡ context.vars → context.vars ≤ i
         → difference_parts a b (the_coefficient i) ≡ pos 0
     gap_narrow a b i e f le =
-        let first : form_parts a (the_coefficient i) ≡ pos 0 = past_coefficient a.coefs i (omega (arith, e, le)) in
-        let second : form_parts b (the_coefficient i) ≡ pos 0 = past_coefficient b.coefs i (omega (arith, f, le)) in
+        let first : form_parts a (the_coefficient i) ≡ pos 0 = get_or_past a.coefs i (pos 0) (omega (arith, e, le)) in
+        let second : form_parts b (the_coefficient i) ≡ pos 0 = get_or_past b.coefs i (pos 0) (omega (arith, f, le)) in
         omega (arith, ints, first, second)
 
     strict_narrow : (a b : Form) (i : ℕ) → length a.coefs ≡ context.vars → length b.coefs ≡ context.vars
@@ -332,9 +326,9 @@ module _ (r : Read) (context : System) (path : IsPathContext r.context.now.vars 
         → DecidesAt context most u w z y l strict → q < levels_before w u → l ≤ q → IsLess more (all order) z y l strict
     less_at w z y l (Some ts) q f g d lt le =
         let a_over : length d.1.a.coefs ≡ context.vars =
-        all_at (λ (form : Form). length form.coefs ≡ context.vars) z l d.1.a f d.1.first in
+        All-slice_get (λ (form : Form). length form.coefs ≡ context.vars) z l d.1.a f d.1.first in
         let b_over : length d.1.b.coefs ≡ context.vars =
-        all_at (λ (form : Form). length form.coefs ≡ context.vars) y l d.1.b g d.1.second in
+        All-slice_get (λ (form : Form). length form.coefs ≡ context.vars) y l d.1.b g d.1.second in
         record {
           a = d.1.a;
           b = d.1.b;
@@ -346,13 +340,13 @@ module _ (r : Read) (context : System) (path : IsPathContext r.context.now.vars 
               (λ i le. strict_narrow d.1.b d.1.a i b_over a_over le) d.1.fact.shows;
         }
     less_at w z y l None q f g d lt le =
-        absurd (omega (arith, le, d.0, same_text u w q d.1 lt, common_symmetric u.statement.loops w.statement.loops))
+        absurd (omega (arith, le, d.0, same_text u w q d.1 lt, common_loops-comm u.statement.loops w.statement.loops))
 
   pub few_decided : (most : ℕ) (w : Occurrence) (z y : List Form) (l : ℕ) (strict : Option (List Term)) (q : ℕ)
       → DecidesAt context most u w z y l strict → q < levels_before w u → min q l < common_of u w
   few_decided most w z y l (Some ts) q d lt = omega (arith, d.0)
   few_decided most w z y l None q d lt =
-      omega (arith, d.0, same_text u w q d.1 lt, common_symmetric u.statement.loops w.statement.loops)
+      omega (arith, d.0, same_text u w q d.1 lt, common_loops-comm u.statement.loops w.statement.loops)
 
   -- the proof at the lesser level, carried behind the best
   module _ (w : Occurrence) (z y : List Form) (order : Order) (q : ℕ) (z_is : IsPointIn context u z)
@@ -399,7 +393,7 @@ module _ (r : Read) (context : System) (path : IsPathContext r.context.now.vars 
         = orders_stood more (all ys.forms) (common_of u u) (common_of w u) (nat_lt u.number u.number)
         (nat_lt w.number u.number) z y point order.equal order.strict q start exists.rows rows
         (omega (arith, few, common_own, common_first u.statement.loops w.statement.loops))
-        (omega (arith, few, common_symmetric u.statement.loops w.statement.loops)) exists.is rows_is
+        (omega (arith, few, common_loops-comm u.statement.loops w.statement.loops)) exists.is rows_is
         (alike ys.forms (65536 * 896) z y order.equal z_is.forms.over y_is.forms.over stands.equal)
         (λ le. less_at ys.forms (65536 * 896) w z y
         (length order.equal) order.strict q z_is.forms.over y_is.forms.over stands.decides lt le)

@@ -3,16 +3,16 @@
 -- For each writer and level the proofs are those of its candidate, told of the writer. A candidate that is not the
 -- best, not excluded and not seen would be left, and at an end none of those is left: so there is none.
 use Rattle.std.proofs.Common.{◌≡◌, ◌+◌, ◌*◌, ◌==◌, ℕ, List, [], ◌∷◌, ◌++◌, length, map, take, Bool, true, false, refl}
-use Rattle.std.proofs.Common.{sym, ap, ◌∙◌, subst, arith}
+use Rattle.std.proofs.Common.{sym, ap, ◌∙◌, subst, arith, eqb-true}
 use Rattle.std.specs.Prelude.{Option, Some, None, Contains, IfSome, IsTrue, slice_get}
 use Rattle.std.specs.List.{flat_map}
 use Rattle.std.specs.Option.{option_copied}
 use Rattle.std.proofs.lemmas.List.{append-nil, append_assoc}
 use Rattle.std.proofs.lemmas.Option.{same_Some}
+use Rattle.std.proofs.lemmas.Bool.{and_parts}
 use Rattle.affine_core.specs.declared.form.Form.{Form}
 use Rattle.int_polyhedra.specs.declared.system.Proof.{Proof}
 use Rattle.int_polyhedra.specs.declared.system.System.{System}
-use Rattle.int_polyhedra.proofs.Variables.{and_both, equal_where}
 use Rattle.candidate_order.specs.Candidates.{is_candidate_of, IsCandidate}
 use Rattle.candidate_order.specs.Reads.{pair_of, pairs_of, ReadAndWrite}
 use Rattle.candidate_join.specs.Ending.{IsEmptyEnd, IsLeaf}
@@ -27,11 +27,11 @@ use Rattle.candidate_join.specs.declared.path.State.{State}
 use Rattle.candidate_join.specs.declared.leaf.Excluded.{Excluded}
 use Rattle.candidate_order.specs.declared.seen.Outcome.{Outcome}
 use Rattle.candidate_order.specs.declared.seen.Position.{Position}
-use Rattle.candidate_join.proofs.Finding.{found, map_next, flat_next, more_refuted, is_left, was_seen, is_best}
+use Rattle.candidate_join.proofs.LeafSystems.{found, map_next, flat_next, more_refuted, is_left, was_seen, is_best}
 use Rattle.candidate_order.proofs.Outcomes.{outcome_wider, Tells}
 use Rattle.candidate_order.proofs.Pairs.{candidate_level, same_pair}
 use Rattle.lex_max.specs.Level.{HasLevel}
-use Rattle.lex_max.proofs.Walking.{all_at}
+use Rattle.plain_data.proofs.Lists.{All-slice_get}
 use Rattle.source_tree.specs.Checked.{AreRefuted, IsRefuted}
 use Rattle.source_tree.specs.Rows.{RowSystem}
 use Rattle.source_tree.specs.Systems.{Occurrence}
@@ -77,9 +77,9 @@ outcome_at state u p out path tells =
 excluded_same : (u p : ℕ) (c : Candidate) (excluded : List Excluded) → IsTrue (is_candidate_of u p c)
     → IsTrue (is_excluded c.writes.write.number c.writes.level excluded) → IsTrue (is_excluded u p excluded)
 excluded_same u p c excluded h k =
-    let b = and_both (c.writes.write.number == u) (c.writes.level == p) h in
-    subst (λ n. IsTrue (is_excluded u n excluded)) (equal_where c.writes.level p b.1)
-    (subst (λ n. IsTrue (is_excluded n c.writes.level excluded)) (equal_where c.writes.write.number u b.0) k)
+    let b = and_parts (c.writes.write.number == u) (c.writes.level == p) h in
+    subst (λ n. IsTrue (is_excluded u n excluded)) (eqb-true c.writes.level p b.1)
+    (subst (λ n. IsTrue (is_excluded n c.writes.level excluded)) (eqb-true c.writes.write.number u b.0) k)
 
 false_true : (b : Bool) → b ≡ false → IsTrue b → ⊥
 false_true b e h = let f : false ≡ true = sym e ∙ h in cc
@@ -94,7 +94,7 @@ nowhere state best excluded o p l there has other out seen =
       | is_left i c found_is is left ↦
           false_true (is_excluded o.write.number p excluded) out
           (excluded_same o.write.number p c excluded is
-          (all_at (λ i. (c : Candidate) → slice_get state.candidates.now i ≡ Some c
+          (All-slice_get (λ i. (c : Candidate) → slice_get state.candidates.now i ≡ Some c
           → IsTrue (is_excluded c.writes.write.number c.writes.level excluded)) state.left.now left.0 i l.excluded_are.1
           left.1 c found_is))
       | was_seen was ↦ false_true (is_seen o.write.number p (sightings_of state.seen.now)) seen was

@@ -8,7 +8,7 @@ use Rattle.std.proofs.Common.{◌∷◌, ◌++◌, length, map, Bool, true, fals
 use Rattle.std.specs.Prelude.{Option, Some, None, All, nat_lt, slice_get, unsigned_abs}
 use Rattle.std.specs.List.{list_all, AllZip}
 use Rattle.std.specs.Option.{option_and_then, option_map_or}
-use Rattle.std.proofs.lemmas.Bool.{eq-eqb}
+use Rattle.std.proofs.lemmas.Bool.{eq-eqb, and_parts, and_from}
 use Rattle.std.proofs.lemmas.Int.{ints}
 use Rattle.std.proofs.lemmas.List.{length-append, length-map, map-append}
 use Rattle.std.proofs.lemmas.List.Elements.{All-nil, All-cons, All-head, All-tail}
@@ -19,7 +19,6 @@ use Rattle.int_polyhedra.specs.declared.system.Proof.TheVariants.{Sum}
 use Rattle.int_polyhedra.specs.declared.system.System.{System}
 use Rattle.int_polyhedra.specs.declared.system.Term.{Term}
 use Rattle.int_polyhedra.specs.Systems.{all_over}
-use Rattle.int_polyhedra.proofs.Variables.{and_both, both_and}
 use Rattle.candidate_order.specs.Candidates.{IsCandidate}
 use Rattle.candidate_order.specs.Contexts.{IsMadeAs, IsPathContext}
 use Rattle.candidate_order.specs.Joint.{head_systems}
@@ -28,9 +27,9 @@ use Rattle.candidate_join.specs.Leaves.{IsCarried}
 use Rattle.candidate_order.specs.Positions.{own_sums}
 use Rattle.candidate_order.specs.declared.candidates.Candidate.{Candidate}
 use Rattle.candidate_order.specs.declared.candidates.Read.{Read}
-use Rattle.candidate_order.proofs.Carrying.{AreSystems}
-use Rattle.candidate_order.proofs.Joined.{carried_node, context_over, context_within, light_own, made_over, own_at}
-use Rattle.candidate_order.proofs.Joined.{part_bound, parts_within, AreMadeRows, IsNodeOver}
+use Rattle.candidate_order.proofs.CarriedProofs.{AreSystems}
+use Rattle.candidate_order.proofs.PointSystems.{carried_node, context_over, context_within, light_own, own_at}
+use Rattle.candidate_order.proofs.PointSystems.{AreMadeRows, IsNodeOver}
 use Rattle.lex_max.specs.Asked.{AreCells, IsProblem}
 use Rattle.lex_max.specs.Class.{is_difference}
 use Rattle.lex_max.specs.Edges.{node_of}
@@ -38,16 +37,17 @@ use Rattle.lex_max.specs.Level.{common_of}
 use Rattle.lex_max.specs.Paths.{term_of}
 use Rattle.lex_max.specs.Simple.{IsLightSum}
 use Rattle.lex_max.proofs.Differences.{difference_at, differences_are, shifts_are, AreTrits}
-use Rattle.lex_max.proofs.Fitting.{form_is, FormFits}
-use Rattle.lex_max.proofs.Ordering.{variable_within}
-use Rattle.lex_max.proofs.Refuting.{get_behind}
-use Rattle.lex_max.proofs.Small.{farther, number_within}
+use Rattle.lex_max.proofs.ProblemBounds.{form_is, FormFits}
+use Rattle.lex_max.proofs.OrderEdges.{variable_within}
+use Rattle.lex_max.proofs.Small.{number_within}
+use Rattle.plain_data.proofs.Lists.{slice_get-append_right}
 use Rattle.row_sums.specs.Carried.{carried_terms, sum_in_place}
 use Rattle.row_sums.specs.Made.{parts_of}
 use Rattle.row_sums.specs.Parts.{Part, the_constant, the_coefficient, part_of, row_part, weight, IsWithin}
 use Rattle.row_sums.specs.Shown.{Shows}
-use Rattle.row_sums.proofs.Combining.{combines}
-use Rattle.row_sums.proofs.Wider.{made_has_parts}
+use Rattle.row_sums.proofs.SumAlgebra.{combines}
+use Rattle.row_sums.proofs.RowParts.{made_has_parts, AreOver-row_forms}
+use Rattle.row_sums.proofs.Within.{IsWithin-weaker, IsWithin-from_parts, part_of-le}
 use Rattle.sanlp.proofs.Precedence.{common_second}
 use Rattle.sanlp.specs.WellFormed.{form_fits}
 use Rattle.source_tree.specs.Checked.{AreRefuted, IsRefuted}
@@ -121,7 +121,7 @@ tight_below e h part =
 place_bound : (place : List Form) (part : Part) (i : ℕ) → All (IsWithin (2 ^ 48)) place
     → unsigned_abs (row_part place part i) ≤ 2 ^ 48
 place_bound [] part i h = omega arith
-place_bound (f ∷ place) part zero h = part_bound (2 ^ 48) f part (All-head (IsWithin (2 ^ 48)) f place h)
+place_bound (f ∷ place) part zero h = part_of-le (2 ^ 48) f part (All-head (IsWithin (2 ^ 48)) f place h)
 place_bound (f ∷ place) part (suc i) h = place_bound place part i (All-tail (IsWithin (2 ^ 48)) f place h)
 
 three_bound : (a b c : ℤ) → unsigned_abs a ≤ 2 ^ 32 → unsigned_abs b ≤ 2 ^ 48 → unsigned_abs c ≤ 2 ^ 48
@@ -137,7 +137,7 @@ placed_bound depth form place part fits trits deep within =
     let from : ℤ = row_part place part (node_of (pos 1) form.coefs) in
     let to : ℤ = row_part place part (node_of (negsuc 0) form.coefs) in
     let bound : unsigned_abs ((k +ℤ from) -ℤ to) ≤ 2 ^ 32 + 2 ^ 48 + 2 ^ 48
-    = three_bound k from to (part_bound (2 ^ 32) (constant_form 0 form.constant) part
+    = three_bound k from to (part_of-le (2 ^ 32) (constant_form 0 form.constant) part
     (number_within 0 form.constant (2 ^ 32) fits.within.constant))
     (place_bound place part (node_of (pos 1) form.coefs) within)
     (place_bound place part (node_of (negsuc 0) form.coefs) within) in
@@ -205,8 +205,8 @@ outside_tight : (depth : ℕ) (rows place : List Form) → list_all (form_fits d
     → AreTight 13 (outside_rows rows place)
 outside_tight depth [] place f d deep within = tt
 outside_tight depth (row ∷ rows) place f d deep within =
-    let b = and_both (form_fits depth row) (list_all (form_fits depth) rows) f in
-    let e = and_both (is_difference row) (list_all is_difference rows) d in (
+    let b = and_parts (form_fits depth row) (list_all (form_fits depth) rows) f in
+    let e = and_parts (is_difference row) (list_all is_difference rows) d in (
       tight_one (below_zero (at_place row place))
           (tight_below (at_place row place) (λ part. omega (
             arith,
@@ -226,7 +226,7 @@ cell_tight vars depth (write ∷ writes) (read ∷ reads) place (cell, cells) de
     = λ part. placed_bound depth write place part (form_is depth write cell.fits) (shifts_are write cell.shift).trits
     deep within in
     let of : (part : Part) → unsigned_abs (part_of part read) ≤ 2 ^ 33 =
-    λ part. (let bound = part_bound (2 ^ 33 - unsigned_abs write.constant) read part cell.within in
+    λ part. (let bound = part_of-le (2 ^ 33 - unsigned_abs write.constant) read part cell.within in
     omega (arith, bound)) in (
       tight_one (one_less (minus (at_place write place) (Take read)))
           (tight_less (minus (at_place write place) (Take read))
@@ -258,14 +258,14 @@ small_forms (f ∷ forms) h =
 
 small_variables : (i d : ℕ) → AreSmallForms (variables i d)
 small_variables i zero = tt
-small_variables i (suc d) = (farther 1 (2 ^ 48) _ (omega arith) (variable_within (i + 1) i), small_variables (i + 1) d)
+small_variables i (suc d) = (IsWithin-weaker 1 (2 ^ 48) _ (omega arith) (variable_within (i + 1) i), small_variables (i + 1) d)
 
 gap_bound : (a b : Form) (part : Part) → IsWithin (2 ^ 48) a → IsWithin (2 ^ 48) b
     → unsigned_abs (parts_of (minus (Take a) (Take b)) part) ≤ 2 ^ 50
 gap_bound a b part h k = omega (
   arith,
   minus_bound (part_of part a) (part_of part b) (2 ^ 48) (2 ^ 48)
-      (part_bound (2 ^ 48) a part h) (part_bound (2 ^ 48) b part k),
+      (part_of-le (2 ^ 48) a part h) (part_of-le (2 ^ 48) b part k),
 )
 
 tight_gap : (a b : Form) → IsWithin (2 ^ 48) a → IsWithin (2 ^ 48) b → IsTightRow (minus (Take a) (Take b))
@@ -370,10 +370,10 @@ made_tight vars (d ∷ es) forms e t = go (made_tight vars es) (row_form vars d)
         are = ap (option_and_then (λ row. option_and_then (λ rest. Some (row ∷ rest)) (row_forms vars es))) f
             ∙ ap (option_and_then (λ rest. Some (row ∷ rest))) others.are;
         count = ap suc others.count;
-        over = both_and (length row.coefs == vars) (all_over vars others.forms)
+        over = and_from (length row.coefs == vars) (all_over vars others.forms)
             (eq-eqb (length row.coefs) vars made.0) others.over;
         within = All-cons (IsWithin (2 ^ 51)) row others.forms
-            (parts_within (2 ^ 51) row (λ part. subst (λ z. unsigned_abs z ≤ 2 ^ 51) (sym (made.1 part)) (t.0 part)))
+            (IsWithin-from_parts (2 ^ 51) row (λ part. subst (λ z. unsigned_abs z ≤ 2 ^ 51) (sym (made.1 part)) (t.0 part)))
             others.within;
         parts = λ k part. parts_at row others.forms d es made.1 others.parts k part;
       }
@@ -417,7 +417,7 @@ module _ (r : Read) (context : System) (path : IsPathContext r.context.now.vars 
       let row : ℕ = length context.rows + j in
       let part_is : (part : Part) → row_part (wide ++ m.forms) part row ≡ row_part m.forms part j
       = λ part. ap (λ o. option_map_or (part_of part) o (pos 0))
-      (ap (λ n. slice_get (wide ++ m.forms) (n + j)) (sym long) ∙ get_behind wide m.forms j) in
+      (ap (λ n. slice_get (wide ++ m.forms) (n + j)) (sym long) ∙ slice_get-append_right wide m.forms j) in
       subst (λ ts. Shows c.vars (wide ++ m.forms) ts (λ part. row_part m.forms part j))
       (sym (own_at (length context.rows) count j lt))
       ((combines c.vars (wide ++ m.forms)).weaker (term_of row ∷ []) (λ part. row_part (wide ++ m.forms) part row)
@@ -438,7 +438,7 @@ module _ (r : Read) (context : System) (path : IsPathContext r.context.now.vars 
         joined_made = made.rows;
         extra_made = m.are;
         further_made = m.are;
-        made_over = made_over c.vars o.rows o.made o.are_made;
+        made_over = AreOver-row_forms c.vars o.rows o.made o.are_made;
         rows_over = context_over r context 0 path cand h c made.vars made.rows;
         back_over = m.over;
         behind_over = m.over;

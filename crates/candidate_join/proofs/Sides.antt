@@ -12,26 +12,25 @@ use Rattle.int_polyhedra.specs.declared.system.Term.{Term}
 use Rattle.int_polyhedra.specs.Steps.{negation_of}
 use Rattle.candidate_order.specs.Candidates.{IsCandidate}
 use Rattle.candidate_order.specs.Comparisons.{AreForms, IsComparison}
-use Rattle.candidate_join.specs.Joining.{ArePair, AreSides, IsStanding}
+use Rattle.candidate_join.specs.Joining.{ArePair, IsStanding}
+use Rattle.candidate_join.specs.Walking.{IsTestForm}
 use Rattle.candidate_order.specs.Refutations.{IsPointIn}
 use Rattle.candidate_order.specs.Positions.{IsAt, IsNode, IsPointAt}
 use Rattle.candidate_order.specs.declared.candidates.Candidate.{Candidate}
 use Rattle.candidate_order.specs.declared.candidates.Read.{Read}
 use Rattle.candidate_order.specs.declared.compare.Comparison.{Comparison}
 use Rattle.candidate_order.specs.declared.compare.Pair.{Pair}
-use Rattle.candidate_join.specs.declared.path.Next.TheVariants.{Follow}
-use Rattle.candidate_join.specs.declared.path.State.{State}
 use Rattle.candidate_order.specs.declared.seen.Position.{Position}
-use Rattle.candidate_order.proofs.Asking.{own_fact}
+use Rattle.candidate_order.proofs.NextLoop.{own_fact}
 use Rattle.candidate_join.proofs.Between.{point_is}
-use Rattle.candidate_order.proofs.Growing.{at_behind, node_behind}
-use Rattle.candidate_order.proofs.Made.{checked_point, node_no, node_yes, test_over, test_within, IsCheckedPoint}
+use Rattle.candidate_order.proofs.LongerContexts.{at_behind, node_behind}
+use Rattle.candidate_order.proofs.TreeNodes.{checked_point, node_no, node_yes, test_over, test_within, IsCheckedPoint}
 use Rattle.lex_max.specs.Asked.{read_of, write_of}
 use Rattle.lex_max.specs.Facts.{form_parts, with_form}
 use Rattle.lex_max.specs.Level.{common_of}
 use Rattle.lex_max.specs.Paths.{term_of}
 use Rattle.lex_max.specs.declared.writes.Writes.{Writes}
-use Rattle.lex_max.proofs.Small.{farther}
+use Rattle.row_sums.proofs.Within.{IsWithin-weaker}
 use Rattle.source_tree.specs.declared.tree.Tree.{Tree}
 use Rattle.source_tree.specs.declared.tree.Tree.TheVariants.{Writer}
 use Rattle.source_tree.specs.declared.tree.Tree.TheViews.{Test}
@@ -66,30 +65,23 @@ module _ (r : Read) (context : System) (c : Candidate) (node : Tree) (sums : Lis
       (term_of (length context.rows) ∷ []) negated
       (own_fact context other (form_parts other) (λ part. refl))
 
-  pub followed_sides : (state : State) → state.read.now ≡ r → state.context.now ≡ context → (above below : Position)
+  pub followed_sides : (above below : Position)
       → above.candidate.now ≡ c → below.candidate.now ≡ c → above.node.now ≡ yes_tree
       → below.node.now ≡ no_tree → above.rows ≡ sums ++ own → below.rows ≡ sums ++ own
-      → AreSides state form c (Follow above) (Follow below)
-  followed_sides state read_is context_is above below e f g n a b =
-      let over : length form.coefs ≡ context.vars = test_over context c node sums form yes_tree no_tree is k in
-      record {
-        over = over ∙ ap (λ (s : System). s.vars) (sym context_is);
-        within = farther (2 ^ 48) (2 ^ 49 + 1) form (omega arith)
-            (test_within context c node sums form yes_tree no_tree is k);
-        above = (
-          e,
-          subst (λ r. IsAt r (with_form state.context.now form) above) (sym read_is)
-              (subst (λ context. IsAt r (with_form context form) above) (sym context_is)
-              (is_at_from r (with_form context form) above c yes_tree (sums ++ own) e g a h side_yes)),
-        );
-        below = λ other negated. (
-          f,
-          subst (λ r. IsAt r (with_form state.context.now other) below) (sym read_is)
-              (subst (λ context. IsAt r (with_form context other) below) (sym context_is)
-              (is_at_from r (with_form context other) below c no_tree (sums ++ own) f n b h
-              (side_no other negated))),
-        );
-      }
+      → IsAt r (with_form context form) above
+      × ((other : Form) → negation_of form ≡ Some other → IsAt r (with_form context other) below)
+  followed_sides above below e f g n a b = (
+    is_at_from r (with_form context form) above c yes_tree (sums ++ own) e g a h side_yes,
+    λ other negated. is_at_from r (with_form context other) below c no_tree (sums ++ own) f n b h
+        (side_no other negated),
+  )
+
+  pub followed_form : IsTestForm context form
+  followed_form = record {
+    over = test_over context c node sums form yes_tree no_tree is k;
+    within = IsWithin-weaker (2 ^ 48) (2 ^ 49 + 1) form (omega arith)
+        (test_within context c node sums form yes_tree no_tree is k);
+  }
 
 -- Two points
 

@@ -4,7 +4,6 @@ use Rattle.std.specs.Option.{option_copied, option_map_or}
 use Rattle.affine_core.specs.declared.form.Form.{Form}
 use Rattle.int_polyhedra.specs.declared.system.Proof.TheVariants.{Sum}
 use Rattle.int_polyhedra.specs.declared.system.System.{System}
-use Rattle.int_polyhedra.specs.Steps.{negation_of}
 use Rattle.candidate_order.specs.Candidates.{is_candidate_of, AreCandidates}
 use Rattle.candidate_order.specs.Comparisons.{ArePoints, IsComparison}
 use Rattle.candidate_order.specs.Contexts.{IsPathContext}
@@ -19,14 +18,11 @@ use Rattle.candidate_order.specs.declared.compare.Comparison.{Comparison}
 use Rattle.candidate_order.specs.declared.compare.Pair.{Pair}
 use Rattle.candidate_join.specs.declared.path.Choice.{Choice}
 use Rattle.candidate_join.specs.declared.path.Choice.TheVariants.{End, Absent, Take}
-use Rattle.candidate_join.specs.declared.path.Next.{Next}
-use Rattle.candidate_join.specs.declared.path.Next.TheVariants.{Follow, Compare}
 use Rattle.candidate_join.specs.declared.path.State.{State}
 use Rattle.candidate_join.specs.declared.leaf.Excluded.{Excluded}
 use Rattle.candidate_order.specs.declared.seen.Position.{Position}
 use Rattle.lex_max.specs.Asked.{write_of}
-use Rattle.lex_max.specs.Facts.{with_form}
-use Rattle.row_sums.specs.Parts.{weight, IsWithin}
+use Rattle.row_sums.specs.Parts.{weight}
 
 -- the best is a position with a point
 abbrev pub IsBest : Read → System → Position → Type 0
@@ -87,24 +83,6 @@ IsStanding best context at pair comparison =
     (b : Position) × (best ≡ Some b) × ArePair context b at pair
     × IsComparison context (write_of b.candidate.now.writes) (write_of at.candidate.now.writes) pair
     comparison
-
--- what goes on with a candidate, in a context: a node of it, or how its point stands to the best
-abbrev pub IsNext : Read → Option Position → System → Candidate → Next → Type 0
-IsNext r best context c (Follow at) = (at.candidate.now ≡ c) × IsAt r context at
-IsNext r best context c (Compare at pair comparison) =
-    (at.now.candidate.now ≡ c) × (IsAt r context at.now
-    × IsStanding best context at.now pair comparison)
-
--- the same after a Test, in the context of each side
-pub record AreSides (state : State) (form : Form) (c : Candidate) (first second : Next)
-    : Type 0 where
-  pub over : length form.coefs ≡ state.context.now.vars
-  pub within : IsWithin (2 ^ 49 + 1) form
-  pub above : IsNext state.read.now (option_copied state.best)
-      (with_form state.context.now form) c first
-  pub below : (other : Form) → negation_of form ≡ Some other
-      → IsNext state.read.now (option_copied state.best)
-      (with_form state.context.now other) c second
 
 -- no candidate is left but those that are excluded; without a best none is left
 abbrev pub IsEnd : State → List Excluded → Type 0

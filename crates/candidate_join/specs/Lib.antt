@@ -1,3 +1,4 @@
 pub mod Ending
 pub mod Joining
 pub mod Leaves
+pub mod Walking

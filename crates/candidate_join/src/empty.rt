@@ -1,6 +1,7 @@
-ghost use Rattle.std.specs.Prelude.{IfOk, IfSome};
+ghost use Rattle.std.specs.Prelude.{◌≡◌, IfOk, IfSome};
 ghost use Rattle.std.specs.Bool.{OnTrue};
 ghost use Rattle.candidate_order.specs.declared.candidates.Read.{Read as ReadOf};
+ghost use Rattle.candidate_order.specs.Heights.{height_of};
 ghost use Rattle.candidate_order.specs.Joint.{IsJoinedTree};
 ghost use Rattle.int_polyhedra.specs.Rules.{Refutes};
 ghost use Rattle.lex_max.specs.Facts.{IsContext};
@@ -317,7 +318,8 @@ fn is_refuted(context: &System, proof: &Proof) -> bool
 // The Dead leaf of a context, where the sum of these rows shows that nothing meets it.
 fn dead_by(context: &System, terms: Items<Term>) -> Option<Tree>
     requires { IsContext context.now }
-    ensures { IfSome result (λ tree. (r : ReadOf) → IsJoinedTree r context.now tree) }
+    ensures joined { IfSome result (λ tree. (r : ReadOf) → IsJoinedTree r context.now tree) }
+    ensures low { IfSome result (λ tree. height_of tree ≡ 0) }
 {
     let proof = Proof::Sum(terms);
     if is_refuted(context, &proof) {
@@ -332,8 +334,9 @@ fn dead_by(context: &System, terms: Items<Term>) -> Option<Tree>
 /// for.
 pub fn dead_leaf(context: &System) -> Result<Option<Tree>, AllocError>
     requires { IsContext context.now }
-    ensures { IfOk result
+    ensures joined { IfOk result
         (λ leaf. IfSome leaf (λ tree. (r : ReadOf) → IsJoinedTree r context.now tree)) }
+    ensures low { IfOk result (λ leaf. IfSome leaf (λ tree. height_of tree ≡ 0)) }
 {
     if are_differences(context) {
         return Ok(None);

@@ -7,12 +7,14 @@ ghost use Rattle.candidate_order.specs.declared.candidates.Read.{Read as ReadOf}
 ghost use Rattle.candidate_order.specs.declared.seen.Position.{Position as PositionOf};
 ghost use Rattle.candidate_order.specs.Reads.{pair_in, pair_of, pairs_with, read_in, write_in};
 ghost use Rattle.candidate_order.specs.Contexts.{IsPathContext};
+ghost use Rattle.candidate_order.specs.Heights.{height_of};
 ghost use Rattle.candidate_order.specs.Joint.{head_systems, no_orders, orders_behind, write_systems_of, IsJoinedTree, IsSum};
 ghost use Rattle.candidate_join.specs.Joining.{IsBest};
 ghost use Rattle.candidate_join.specs.Ending.{AddsOfLevel, IsAskedBetween, IsAskedWrite, IsBetweenAsked, IsEmptyEnd, IsLeaf};
 ghost use Rattle.candidate_join.specs.Leaves.{is_excluded, order_sums, AddsRefutations, CanBeCarried, IsCarried};
 ghost use Rattle.candidate_order.specs.Refutations.{IsPointIn, RefutesBetween, RefutesWrites};
-ghost use Rattle.candidate_order.specs.Positions.{IsAt, IsEmptyAt, IsOwnProof, IsPointAt};
+ghost use Rattle.candidate_order.specs.Positions.{IsAt, IsOwnProof, IsPointAt};
+ghost use Rattle.candidate_order.specs.Seen.{absent_at};
 ghost use Rattle.lex_max.specs.Asked.{write_of};
 ghost use Rattle.lex_max.specs.Paths.{term_of};
 ghost use Rattle.source_tree.specs.Systems.{every, write_systems, Occurrence};
@@ -20,11 +22,12 @@ ghost use Rattle.source_tree.specs.Systems.{every, write_systems, Occurrence};
 use crate::path::State;
 use affine_core::Form;
 use candidate_order::{
-    Equality, Order, Outcome, Position, Problem, carried, level_count, outcome_of, places,
+    Absence, Equality, Order, Outcome, Position, Problem, carried, level_count, outcome_of, places,
 };
 use int_polyhedra::{Proof, Term};
 use lex_max::append;
 use plain_data::Items;
+use row_sums::carry;
 use source_tree::Tree;
 use std::alloc::{AllocError, Global};
 
@@ -60,39 +63,31 @@ fn point_proofs<'a>(at: &Position<'a>) -> &'a [Proof]
     }
 }
 
-// The proofs of a candidate's Zero leaf.
-fn empty_proofs<'a>(at: &Position<'a>) -> &'a [Proof]
-    requires { IsEmptyAt at.now }
-    ensures { at.now.node.now ≡ Tree.Zero result.now }
-{
-    match at.node {
-        Tree::Zero(proofs) => proofs.as_slice(),
-        _ => unreachable!(),
-    }
-}
-
 // The proof that a candidate has no point, in the joined context of so many rows.
-fn without(alloc: Global, at: &Position, here: u32) -> Result<Proof, AllocError>
-    requires at { (r : ReadOf) × (context : SystemOf) × IsAt r context at.now
-        × IsPathContext r.context.now.vars 0 context
-        × (here ≡ length context.rows) }
-    requires empty { IsEmptyAt at.now }
-    ensures alone { IfOk result (λ proof. (r : ReadOf) (context : SystemOf) → IsAt r context at.now
-        → IsPathContext r.context.now.vars 0 context
+fn without(alloc: Global, absence: &Absence, here: u32) -> Result<Proof, AllocError>
+    requires { (r : ReadOf) × (context : SystemOf) × IsAt r context (absent_at absence.now)
+        × IsPathContext r.context.now.vars 0 context × (here ≡ length context.rows) }
+    ensures alone { IfOk result (λ proof. (r : ReadOf) (context : SystemOf)
+        → IsAt r context (absent_at absence.now) → IsPathContext r.context.now.vars 0 context
         → here ≡ length context.rows
-        → RefutesWrites (pair_of at.now.candidate.now.writes) context
-        at.now.candidate.now.writes.level proof) }
+        → RefutesWrites (pair_of absence.now.candidate.now.writes) context
+        absence.now.candidate.now.writes.level proof) }
     ensures after { IfOk result (λ proof. (r : ReadOf) (context : SystemOf) (w : Occurrence)
-        (place : List FormOf) (q : ℕ) → IsAt r context at.now
+        (place : List FormOf) (q : ℕ) → IsAt r context (absent_at absence.now)
         → IsPathContext r.context.now.vars 0 context
         → here ≡ length context.rows → IsPointIn context w place
-        → RefutesBetween (pair_of at.now.candidate.now.writes) context
-        at.now.candidate.now.writes.level w place q proof) }
+        → RefutesBetween (pair_of absence.now.candidate.now.writes) context
+        absence.now.candidate.now.writes.level w place q proof) }
     ensures sum { IfOk result IsSum }
 {
-    let sums = places(alloc, at.rows.as_slice(), here, at.candidate.edges.len())?;
-    let proofs = empty_proofs(at);
-    carried(alloc, sums.as_slice(), &proofs[0])
+    let sums = places(
+        alloc,
+        absence.rows.as_slice(),
+        here,
+        absence.candidate.edges.len(),
+    )?;
+    let terms = carry(alloc, sums.as_slice(), absence.terms.as_slice())?;
+    Ok(Proof::Sum(terms))
 }
 
 // Adds the terms of one more row: this row of the joined system, once, and what makes it the
@@ -260,7 +255,7 @@ fn proof_between(
     }
     let seen = outcome_of(state.seen, alloc, problem.write.number, level, None)?;
     match seen {
-        Some(Outcome::Without(at)) => without(alloc, at, here),
+        Some(Outcome::Without(absence)) => without(alloc, absence, here),
         Some(Outcome::Before(at, order)) => between(alloc, at, &order, q, here),
         None => unreachable!(),
     }
@@ -398,7 +393,8 @@ pub fn writer_leaf(
     excluded: &[Excluded],
 ) -> Result<Tree, AllocError>
     requires { IsLeaf state.now best.now excluded.now }
-    ensures { IfOk result (IsJoinedTree state.now.read.now state.now.context.now) }
+    ensures joined { IfOk result (IsJoinedTree state.now.read.now state.now.context.now) }
+    ensures low { IfOk result (λ tree. height_of tree ≡ 0) }
 {
     let alloc = state.read.alloc;
     let here = state.context.rows.len() as u32;
@@ -422,7 +418,7 @@ fn proof_without(state: &State, problem: &Problem, level: usize) -> Result<Proof
     let seen = outcome_of(state.seen, alloc, problem.write.number, level, None)?;
     let Some(outcome) = seen else { unreachable!() };
     match outcome {
-        Outcome::Without(at) => without(alloc, at, here),
+        Outcome::Without(absence) => without(alloc, absence, here),
         Outcome::Before(_, _) => unreachable!(),
     }
 }
@@ -467,18 +463,10 @@ fn push_without(
 /// The Zero leaf, where every candidate is without a point.
 pub fn zero_leaf(state: &State) -> Result<Tree, AllocError>
     requires { IsEmptyEnd state.now }
-    ensures { IfOk result (IsJoinedTree state.now.read.now state.now.context.now) }
+    ensures joined { IfOk result (IsJoinedTree state.now.read.now state.now.context.now) }
+    ensures low { IfOk result (λ tree. height_of tree ≡ 0) }
 {
     let mut proofs = Items::new(state.read.alloc);
     push_without(&mut proofs, state, state.read.problems)?;
-    Ok(Tree::Zero(proofs))
-}
-
-/// The Zero leaf of a candidate that these terms refute.
-pub fn refuted_leaf(alloc: Global, terms: Items<Term>) -> Result<Tree, AllocError>
-    ensures { IfOk result (λ tree. tree ≡ Tree.Zero (Proof.Sum terms ∷ [])) }
-{
-    let mut proofs = Items::new(alloc);
-    proofs.push(Proof::Sum(terms))?;
     Ok(Tree::Zero(proofs))
 }

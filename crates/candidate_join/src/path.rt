@@ -1,81 +1,102 @@
-ghost use Rattle.std.specs.Prelude.{◌≡◌, ◌≤◌, ◌<◌, ◌+◌, ◌^◌, ◌++◌, ◌==◌, [], ◌∷◌, List, not, slice_get, Some, None, IfOk, IfSome, OnOk};
+ghost use Rattle.std.specs.Prelude.{◌≡◌, ◌≤◌, ◌<◌, ◌+◌, ◌*◌, ◌^◌, ◌++◌, ◌==◌, [], ◌∷◌, ℕ, List, not, slice_get, sum_by, Some, None, IfOk, IfSome, MatchOption, OnOk, length};
 ghost use Rattle.std.specs.List.{filter};
-ghost use Rattle.std.specs.Option.{option_copied};
 ghost use Rattle.affine_core.specs.declared.form.Form.{Form as FormOf};
 ghost use Rattle.candidate_order.specs.declared.candidates.Candidate.{Candidate as CandidateOf};
 ghost use Rattle.candidate_order.specs.declared.candidates.Read.{Read as ReadOf};
+ghost use Rattle.candidate_order.specs.declared.seen.Position.{Position as PositionOf};
 ghost use Rattle.candidate_join.specs.declared.leaf.Excluded.{Excluded as ExcludedOf};
-ghost use Rattle.candidate_join.specs.declared.path.Next.{Next as NextOf};
 ghost use Rattle.int_polyhedra.specs.declared.system.System.{System as SystemOf};
 ghost use Rattle.int_polyhedra.specs.declared.system.Term.{Term as TermOf};
 ghost use Rattle.candidate_order.specs.Candidates.{IsCandidate};
-ghost use Rattle.candidate_order.specs.Reads.{pair_of};
+ghost use Rattle.candidate_order.specs.Reads.{pair_of as pair_at};
+ghost use Rattle.candidate_order.specs.Comparisons.{facts_had};
 ghost use Rattle.candidate_order.specs.Contexts.{IsPathContext};
+ghost use Rattle.candidate_order.specs.Heights.{height_of};
 ghost use Rattle.candidate_order.specs.Joint.{IsJoinedTree};
-ghost use Rattle.candidate_join.specs.Joining.{ArePair, AreSides, IsBest, IsChoice, IsChoiceSoFar, IsEnd, IsNext, IsPath, IsPathOf, IsStanding, IsTaken};
+ghost use Rattle.candidate_join.specs.Joining.{ArePair, IsBest, IsChoice, IsChoiceSoFar, IsEnd, IsLeft, IsPath, IsPathOf};
 ghost use Rattle.candidate_join.specs.Leaves.{IsExcluded};
+ghost use Rattle.candidate_join.specs.Walking.{turns_of_frame, turns_of_step, turns_left, AreFrames, AreSides, GoesOn, IsClosing, IsMade, IsStateOf, IsUnderWay};
 ghost use Rattle.candidate_order.specs.Refutations.{RefutesWrites};
-ghost use Rattle.candidate_order.specs.Positions.{IsAt, IsPointAt};
-ghost use Rattle.candidate_order.specs.Seen.{sightings_of};
+ghost use Rattle.candidate_order.specs.Positions.{IsPointAt};
+ghost use Rattle.candidate_order.specs.Seen.{best_in};
 ghost use Rattle.lex_max.specs.Asked.{write_of};
-ghost use Rattle.lex_max.specs.Facts.{with_form};
+ghost use Rattle.lex_max.specs.Facts.{with_form, IsContext};
 ghost use Rattle.lex_max.specs.Paths.{term_of};
 ghost use Rattle.row_sums.specs.Parts.{weight};
+ghost use Rattle.tree_trim.specs.Sides.{AreJoinedSides};
+ghost use Rattle.tree_trim.specs.Trees.{branch_or_test};
 
 use crate::empty::dead_leaf;
-use crate::leaf::{Excluded, point_of, refuted_leaf, writer_leaf, zero_leaf};
+use crate::leaf::{Excluded, point_of, writer_leaf, zero_leaf};
 use affine_core::Form;
 use candidate_order::{
-    Candidate, Comparison, Followed, Pair, Position, Read, Seen, absence_of, compare_points,
-    copy_rows, exclusion, follow, level_count, own_rows, test_of_next_loop, unopened,
+    Absence, Candidate, Compared, Comparison, Followed, Pair, Position, Question, Read, Seen,
+    absence_of, best_of, compare_points, copy_rows, exclusion, follow, level_count, own_rows,
+    test_of_next_loop, unopened,
 };
 use int_polyhedra::{Proof, System, Term};
-use lex_max::{common_loops, once, opposite, test as test_of, with_row};
+use lex_max::{once, opposite};
 use plain_data::Items;
+use sanlp::common_loops;
 use source_tree::Tree;
 use std::alloc::{AllocError, Global};
+use tree_trim::trim_test;
 
-// How deep Tests may nest. Each takes some 15 KB of the stack.
-const TESTS: usize = 128;
-
-/// Why no tree is made.
-#[derive(Clone, Copy, Debug, PartialEq, Eq)]
-pub enum Unmade {
-    /// It has more nodes than are wanted, or nests more than 128 Tests deep.
-    Large,
-    Memory,
-}
-
-impl From<AllocError> for Unmade {
-    ghost use Rattle.std.specs.Prelude.{◌≡◌};
-    ghost use Rattle.candidate_join.specs.declared.path.Unmade.TheVariants.{Memory};
-
-    ghost from_gives = { λ _ error. error ≡ Memory };
-
-    fn from(_failed: AllocError) -> Unmade {
-        Unmade::Memory
-    }
-}
-
-/// What a path of the joined tree tells: its context, the best point so far, the other candidates
-/// that were seen, and the numbers of those that are left.
+/// A read and its candidates.
 #[derive(Clone, Copy)]
-pub struct State<'a> {
+pub struct Task<'a> {
     pub read: &'a Read<'a>,
     pub candidates: &'a [Candidate<'a>],
-    pub context: &'a System,
-    pub best: Option<&'a Position<'a>>,
-    pub seen: &'a Seen<'a>,
-    pub left: &'a [u32],
 }
 
-// How the joining goes on with a candidate.
+/// What a path of the joined tree tells: its context, the best point so far, which candidates were seen, and the numbers of
+/// those that are left.
+#[derive(Clone, Copy)]
+pub struct State<'s, 'a> {
+    pub read: &'a Read<'a>,
+    pub candidates: &'a [Candidate<'a>],
+    pub context: &'s System,
+    pub best: Option<&'s Position<'a>>,
+    pub seen: &'s [Seen<'a>],
+    pub left: &'s [u32],
+}
+
+// How the joining goes on.
 #[derive(Drop)]
 enum Next<'a> {
-    // Its tree is followed from here on.
+    // One of the candidates that are left is chosen.
+    Choose,
+    // The tree of a candidate is followed from here on.
     Follow(Position<'a>),
     // Its point is compared with the best.
-    Compare(&'a Position<'a>, Pair<'a>, Comparison),
+    Compare(Position<'a>, Pair<'a>, Comparison),
+}
+
+// What one step comes to.
+#[derive(Drop)]
+enum Step<'a> {
+    On(Next<'a>),
+    // The tree of the path is made.
+    Made(Tree),
+}
+
+// What is left to do at a Test of the path.
+#[derive(Drop)]
+enum Frame<'a> {
+    // The first side is under way. The second goes on so, where so many were seen and these are left.
+    First(usize, Items<u32>, Next<'a>),
+    // The second side is under way. The first of the Test of this form has this tree.
+    Second(Form, Tree),
+}
+
+/// The path that the joining is on, and what is left to do at each Test of it. The last row of the context, what was seen
+/// last and the last frame belong to the Test further down.
+#[derive(Drop)]
+pub struct Walk<'a> {
+    pub context: System,
+    pub seen: Items<Seen<'a>>,
+    pub left: Items<u32>,
+    frames: Items<Frame<'a>>,
 }
 
 // What is done with the candidates that are left.
@@ -87,49 +108,6 @@ enum Choice {
     Absent(u32, Items<Term>),
     // The tree of this one is followed.
     Take(u32),
-}
-
-// One node of the tree more.
-fn take(room: &mut u64) -> Result<(), Unmade>
-    ensures node { OnOk result (room.old ≡ room.new + 1) }
-    ensures less { room.new ≤ room.old }
-{
-    if *room == 0 {
-        return Err(Unmade::Large);
-    }
-    *room -= 1;
-    Ok(())
-}
-
-// Whether so many Tests stand above as may nest: each has added a row to those that the joining begins with.
-fn is_deep(state: &State) -> bool {
-    let (first, context) = (state.read.context, state.context);
-    context.rows.len().saturating_sub(first.rows.len()) >= TESTS
-}
-
-// One Test more of the tree, if it may nest as deep.
-fn take_test(state: &State, room: &mut u64) -> Result<(), Unmade>
-    ensures node { OnOk result (room.old ≡ room.new + 1) }
-    ensures less { room.new ≤ room.old }
-{
-    if is_deep(state) {
-        return Err(Unmade::Large);
-    }
-    take(room)
-}
-
-// The tree as one node more.
-fn counted(tree: Tree, room: &mut u64) -> Result<Tree, Unmade>
-    ensures tree { IfOk result (λ node. node ≡ tree) }
-    ensures room { room.new ≤ room.old }
-{
-    match take(room) {
-        Ok(()) => Ok(tree),
-        Err(error) => {
-            drop(tree);
-            Err(error)
-        }
-    }
 }
 
 // The numbers but this one.
@@ -169,7 +147,7 @@ fn exclusions(
         (e : ExcludedOf) → IsBest r context.now best.now → IsCandidate r candidate.now
         → IsPointAt best.now place → e.level ≡ candidate.now.writes.level → e.sums ≡ sums
         → IsExcluded context.now (write_of best.now.candidate.now.writes) place
-        (pair_of candidate.now.writes) e)) }
+        (pair_at candidate.now.writes) e)) }
 {
     let first = best.candidate.writes.write;
     let second = candidate.writes.write;
@@ -223,7 +201,9 @@ fn choose(state: &State, left: &[u32], mut out: Items<Excluded>) -> Result<Choic
 fn leaf(state: &State, excluded: &[Excluded]) -> Result<Tree, AllocError>
     requires path { IsPath state.now 0 None }
     requires end { IsEnd state.now excluded.now }
-    ensures { IfOk result (IsJoinedTree state.now.read.now state.now.context.now) }
+    ensures joined { IfOk result
+        (IsJoinedTree state.now.read.now state.now.context.now) }
+    ensures low { IfOk result (λ tree. height_of tree ≡ 0) }
 {
     match state.best {
         Some(best) => writer_leaf(state, best, excluded),
@@ -231,61 +211,220 @@ fn leaf(state: &State, excluded: &[Excluded]) -> Result<Tree, AllocError>
     }
 }
 
-// The points of two positions.
-fn pair_of<'a>(alloc: Global, best: &Position<'a>, new: &Position<'a>) -> Pair<'a>
-    requires { (r : ReadOf) × (context : SystemOf) × IsBest r context best.now
-        × IsBest r context new.now }
-    ensures { (r : ReadOf) (context : SystemOf) → IsBest r context best.now
-        → IsBest r context new.now → ArePair context best.now new.now result }
+// The path, as it is read.
+fn state_of<'s, 'a>(task: &Task<'a>, walk: &'s Walk<'a>) -> State<'s, 'a>
+    ensures { IsStateOf task.now walk.now result }
 {
+    State {
+        read: task.read,
+        candidates: task.candidates,
+        context: &walk.context,
+        best: best_of(walk.seen.as_slice()),
+        seen: walk.seen.as_slice(),
+        left: walk.left.as_slice(),
+    }
+}
+
+// Tests
+
+// Puts the row of one side of a Test behind the context. Answers the Dead leaf of a side that nothing meets.
+fn enter(context: &mut System, row: Form) -> Result<Option<Tree>, AllocError>
+    requires { IsContext (with_form context.old row) }
+    ensures context { OnOk result (context.new ≡ with_form context.old row) }
+    ensures dead { IfOk result (λ leaf. IfSome leaf
+        (λ tree. (r : ReadOf) → IsJoinedTree r context.new tree)) }
+    ensures low { IfOk result (λ leaf. IfSome leaf (λ tree. height_of tree ≡ 0)) }
+{
+    context.rows.push(row)?;
+    dead_leaf(&*context)
+}
+
+// Takes the last row off the context.
+fn last_row(context: &mut System) -> Form
+    requires { (before : SystemOf) × (row : FormOf) × (context.old ≡ with_form before row) }
+    ensures { (before : SystemOf) (row : FormOf) → context.old ≡ with_form before row
+        → (context.new ≡ before) × (result ≡ row) }
+{
+    match context.rows.pop() {
+        Some(row) => row,
+        None => unreachable!(),
+    }
+}
+
+// A Test of this form: how the joining goes on on its first side, and later on its second.
+fn ask<'a>(
+    task: &Task<'a>,
+    walk: &mut Walk<'a>,
+    form: Form,
+    first: Next<'a>,
+    second: Next<'a>,
+) -> Result<Step<'a>, AllocError>
+    requires frames { AreFrames task.now.read.now task.now.candidates.now walk.old.context
+        walk.old.seen walk.old.frames }
+    requires sides { AreSides task.now walk.old form first second }
+    ensures { IfOk result (λ step. (most : ℕ)
+        → turns_of_step (length walk.old.left) (Step.On first.entry)
+        + (turns_of_step (length walk.old.left) (Step.On second.entry) + 2) < most
+        → GoesOn task.now (most + sum_by turns_of_frame walk.old.frames) walk.new step) }
+{
+    let left = Items::from_slice(task.read.alloc, walk.left.as_slice())?;
+    let count = walk.seen.len();
+    walk.frames.push(Frame::First(count, left, second))?;
+    let dead = enter(&mut walk.context, form)?;
+    match dead {
+        Some(tree) => Ok(Step::Made(tree)),
+        None => Ok(Step::On(first)),
+    }
+}
+
+// The Test of a form from the trees of its sides, or one of them in its place where its proofs don't name the Test's row.
+fn joint_test(
+    alloc: Global,
+    context: &System,
+    form: Form,
+    yes: Tree,
+    no: Tree,
+) -> Result<Tree, AllocError>
+    requires few { length context.now.rows < 2 ^ 32 }
+    ensures tree { IfOk result
+        (λ tree. tree ≡ branch_or_test (length context.now.rows) form yes no) }
+    ensures joined { IfOk result (λ tree. (r : ReadOf) (there : SystemOf)
+        → AreJoinedSides r there (length context.now.rows) form yes no → IsJoinedTree r there tree) }
+{
+    let row = context.rows.len() as u32;
+    trim_test(alloc, &form, yes, no, row)
+}
+
+// The second side of a Test, whose first side has this tree: what was seen on the first side is let go of.
+fn turn<'a>(
+    task: &Task<'a>,
+    walk: &mut Walk<'a>,
+    count: usize,
+    left: Items<u32>,
+    next: Next<'a>,
+    yes: Tree,
+) -> Result<Step<'a>, AllocError>
+    requires { IsClosing task.now walk.old (Frame.First count left next) yes }
+    ensures { IfOk result (GoesOn task.now
+        (turns_of_frame (Frame.First count left next.entry) + sum_by turns_of_frame walk.old.frames)
+        walk.new) }
+{
+    let form = last_row(&mut walk.context);
+    let row = opposite(&form);
+    walk.seen.truncate(count);
+    walk.left = left;
+    walk.frames.push(Frame::Second(form, yes))?;
+    let dead = enter(&mut walk.context, row)?;
+    match dead {
+        Some(tree) => Ok(Step::Made(tree)),
+        None => Ok(Step::On(next)),
+    }
+}
+
+// A side of the last Test, which this frame was of, has this tree.
+fn close<'a>(
+    task: &Task<'a>,
+    walk: &mut Walk<'a>,
+    frame: Frame<'a>,
+    tree: Tree,
+) -> Result<Step<'a>, AllocError>
+    requires { IsClosing task.now walk.old frame tree }
+    ensures { IfOk result (GoesOn task.now
+        (turns_of_frame frame.entry + sum_by turns_of_frame walk.old.frames) walk.new) }
+{
+    match frame {
+        Frame::First(count, left, next) => turn(task, walk, count, left, next, tree),
+        Frame::Second(form, yes) => {
+            last_row(&mut walk.context);
+            let made = joint_test(task.read.alloc, &walk.context, form, yes, tree)?;
+            Ok(Step::Made(made))
+        }
+    }
+}
+
+// Candidates
+
+// This candidate has no point, as the terms show.
+fn pass_by<'a>(
+    task: &Task<'a>,
+    walk: &mut Walk<'a>,
+    number: u32,
+    terms: Items<Term>,
+) -> Result<Step<'a>, AllocError>
+    requires way { IsUnderWay task.now walk.old (Step.On Next.Choose) }
+    requires left { IsLeft number walk.old.left }
+    requires absent { (c : CandidateOf) × (slice_get task.now.candidates.now number ≡ Some c)
+        × RefutesWrites (pair_at c.writes) walk.old.context c.writes.level (Proof.Sum terms)
+        × (weight terms ≤ 2 ^ 48) }
+    ensures { IfOk result (GoesOn task.now (turns_left walk.old (Step.On Next.Choose)) walk.new) }
+{
+    let alloc = task.read.alloc;
+    let rows = own_rows(alloc, 0, walk.context.rows.len())?;
+    walk.left = others(alloc, walk.left.as_slice(), number)?;
+    walk.seen.push(Seen::Without(Absence {
+        candidate: &task.candidates[number as usize],
+        rows,
+        terms,
+    }))?;
+    Ok(Step::On(Next::Choose))
+}
+
+// The tree of this candidate is followed.
+fn take<'a>(task: &Task<'a>, walk: &mut Walk<'a>, number: u32) -> Result<Step<'a>, AllocError>
+    requires way { IsUnderWay task.now walk.old (Step.On Next.Choose) }
+    requires left { IsLeft number walk.old.left }
+    requires candidate { (c : CandidateOf)
+        × (slice_get task.now.candidates.now number ≡ Some c) }
+    ensures { IfOk result (GoesOn task.now (turns_left walk.old (Step.On Next.Choose)) walk.new) }
+{
+    let alloc = task.read.alloc;
+    let candidate = &task.candidates[number as usize];
+    let rows = own_rows(alloc, 0, task.read.context.rows.len())?;
+    walk.left = others(alloc, walk.left.as_slice(), number)?;
+    Ok(Step::On(Next::Follow(Position {
+        candidate,
+        node: &candidate.tree,
+        rows,
+    })))
+}
+
+// What is done with the candidates that are left.
+fn choose_on<'a>(task: &Task<'a>, walk: &mut Walk<'a>) -> Result<Step<'a>, AllocError>
+    requires { IsUnderWay task.now walk.old (Step.On Next.Choose) }
+    ensures { IfOk result (GoesOn task.now (turns_left walk.old (Step.On Next.Choose)) walk.new) }
+{
+    let state = state_of(task, &*walk);
+    let choice = choose(&state, state.left, Items::new(task.read.alloc))?;
+    match choice {
+        Choice::End(excluded) => {
+            let tree = leaf(&state, excluded.as_slice())?;
+            Ok(Step::Made(tree))
+        }
+        Choice::Absent(number, terms) => pass_by(task, walk, number, terms),
+        Choice::Take(number) => take(task, walk, number),
+    }
+}
+
+// The best point and that of this position.
+fn pair_of<'a>(alloc: Global, seen: &[Seen<'a>], new: &Position<'a>) -> Option<Pair<'a>>
+    requires { (r : ReadOf) × (context : SystemOf) × IfSome (best_in seen.now) (IsBest r context)
+        × IsBest r context new.now }
+    ensures { MatchOption result (best_in seen.now ≡ None) (λ pair. (best : PositionOf)
+        × (best_in seen.now ≡ Some best) × ((r : ReadOf) (context : SystemOf)
+        → IsBest r context best → IsBest r context new.now
+        → ArePair context best new.now pair)) }
+{
+    let best = best_of(seen)?;
     let first = best.candidate.writes.write;
     let second = new.candidate.writes.write;
     let loops = first.statement.loops.as_slice();
-    Pair {
+    Some(Pair {
         alloc,
         best_writer: first.number,
         best: point_of(best),
         new_writer: second.number,
         new: point_of(new),
         common: common_loops(loops, second.statement.loops.as_slice()),
-    }
-}
-
-// The whole tree of a candidate.
-fn start_of<'a>(state: &State<'a>, number: u32) -> Result<Position<'a>, AllocError>
-    requires path { IsPath state.now 0 None }
-    requires taken { (c : CandidateOf) × IsTaken state.now number c }
-    ensures candidate { IfOk result (λ at. slice_get state.now.candidates.now number
-        ≡ Some at.candidate.now) }
-    ensures at { IfOk result (IsAt state.now.read.now state.now.context.now) }
-{
-    let candidate = &state.candidates[number as usize];
-    let rows = state.read.context.rows.len();
-    Ok(Position {
-        candidate,
-        node: &candidate.tree,
-        rows: own_rows(state.read.alloc, 0, rows)?,
-    })
-}
-
-// A candidate without a point.
-fn absent_of<'a>(state: &State<'a>, number: u32, node: &'a Tree) -> Result<Position<'a>, AllocError>
-    requires path { IsPath state.now 0 None }
-    requires taken { (c : CandidateOf) × IsTaken state.now number c }
-    ensures candidate { IfOk result (λ at. slice_get state.now.candidates.now number
-        ≡ Some at.candidate.now) }
-    ensures at { IfOk result (λ at. (ts : List TermOf) → node.now ≡ Tree.Zero (Proof.Sum ts ∷ [])
-        → weight ts ≤ 2 ^ 48
-        → RefutesWrites (pair_of at.candidate.now.writes) state.now.context.now
-        at.candidate.now.writes.level (Proof.Sum ts)
-        → IsAt state.now.read.now state.now.context.now at) }
-    ensures node { IfOk result (λ at. at.node.now ≡ node.now) }
-{
-    let rows = own_rows(state.read.alloc, 0, state.context.rows.len())?;
-    Ok(Position {
-        candidate: &state.candidates[number as usize],
-        node,
-        rows,
     })
 }
 
@@ -310,307 +449,207 @@ fn side_of<'a>(
     })
 }
 
-/// The tree of a path: goes on with the first candidate that is not excluded.
-#[cycle(join)]
-pub fn step(state: &State, room: &mut u64) -> Result<Tree, Unmade>
-    requires path { IsPath state.now room.old None }
-    ensures tree { IfOk result (IsJoinedTree state.now.read.now state.now.context.now) }
-    ensures room { room.new ≤ room.old }
+// A Zero leaf of a candidate's tree, which has one proof, with these terms in the places of its rows.
+fn absence_at<'a>(
+    alloc: Global,
+    candidate: &'a Candidate<'a>,
+    proofs: &[Proof],
+    rows: Items<Items<Term>>,
+) -> Result<Absence<'a>, AllocError>
+    requires { (terms : List TermOf) × (proofs.now ≡ Proof.Sum terms ∷ []) }
+    ensures candidate { IfOk result (λ at. at.candidate.now ≡ candidate.now) }
+    ensures rows { IfOk result (λ at. at.rows ≡ rows) }
+    ensures terms { IfOk result (λ at. (terms : List TermOf)
+        → proofs.now ≡ Proof.Sum terms ∷ [] → at.terms ≡ terms) }
 {
-    let choice = choose(state, state.left, Items::new(state.read.alloc))?;
-    match choice {
-        Choice::End(excluded) => {
-            take(room)?;
-            Ok(leaf(state, excluded.as_slice())?)
-        }
-        Choice::Absent(number, terms) => {
-            let node = refuted_leaf(state.read.alloc, terms)?;
-            let tree = pass_by(state, number, &node, room);
-            drop(node);
-            tree
-        }
-        Choice::Take(number) => {
-            let at = start_of(state, number)?;
-            let left = others(state.read.alloc, state.left, number)?;
-            let next = State {
-                left: left.as_slice(),
-                ..*state
-            };
-            go_on(&next, Next::Follow(at), room)
+    match &proofs[0] {
+        Proof::Sum(terms) => Ok(Absence {
+            candidate,
+            rows,
+            terms: Items::from_slice(alloc, terms.as_slice())?,
+        }),
+        _ => unreachable!(),
+    }
+}
+
+// A candidate's tree comes to a point: it is the first one, or is compared with the best.
+fn arrive<'a>(
+    task: &Task<'a>,
+    walk: &mut Walk<'a>,
+    at: Position<'a>,
+) -> Result<Step<'a>, AllocError>
+    requires way { IsUnderWay task.now walk.old (Step.On (Next.Follow at)) }
+    requires point { (place : List FormOf) × IsPointAt at place }
+    ensures { IfOk result (GoesOn task.now (turns_left walk.old (Step.On (Next.Follow at.entry)))
+        walk.new) }
+{
+    let alloc = task.read.alloc;
+    match pair_of(alloc, walk.seen.as_slice(), &at) {
+        Some(pair) => Ok(Step::On(Next::Compare(at, pair, Comparison::Open(unopened(alloc))))),
+        None => {
+            walk.seen.push(Seen::First(at))?;
+            Ok(Step::On(Next::Choose))
         }
     }
 }
 
-// The tree of a path, where this candidate has no point, as the node says.
-#[cycle(join)]
-fn pass_by<'a>(
-    state: &State<'a>,
-    number: u32,
-    node: &'a Tree,
-    room: &mut u64,
-) -> Result<Tree, Unmade>
-    requires path { IsPath state.now room.old None }
-    requires absent { (ts : List TermOf) × (node.now ≡ Tree.Zero (Proof.Sum ts ∷ []))
-        × IsChoice state.now (Choice.Absent number ts) }
-    ensures tree { IfOk result (IsJoinedTree state.now.read.now state.now.context.now) }
-    ensures room { room.new ≤ room.old }
+// A candidate's tree is followed as far as the context tells.
+fn follow_on<'a>(
+    task: &Task<'a>,
+    walk: &mut Walk<'a>,
+    at: Position<'a>,
+) -> Result<Step<'a>, AllocError>
+    requires { IsUnderWay task.now walk.old (Step.On (Next.Follow at)) }
+    ensures { IfOk result (GoesOn task.now (turns_left walk.old (Step.On (Next.Follow at.entry)))
+        walk.new) }
 {
-    let at = absent_of(state, number, node)?;
-    let left = others(state.read.alloc, state.left, number)?;
-    let seen = Seen::Without(&*state.seen, &at);
-    let next = State {
-        seen: &seen,
-        left: left.as_slice(),
-        ..*state
-    };
-    step(&next, room)
-}
-
-// The tree of a path, where a candidate is yet to be followed or compared.
-#[cycle(join)]
-fn go_on<'a>(state: &State<'a>, next: Next<'a>, room: &mut u64) -> Result<Tree, Unmade>
-    requires next { (c : CandidateOf) × IsPath state.now room.old (Some c)
-        × IsNext state.now.read.now (option_copied state.now.best) state.now.context.now c next }
-    ensures tree { IfOk result (IsJoinedTree state.now.read.now state.now.context.now) }
-    ensures room { room.new ≤ room.old }
-{
-    match next {
-        Next::Follow(at) => follow_on(state, at, room),
-        Next::Compare(at, pair, comparison) => compare_on(state, at, &pair, comparison, room),
-    }
-}
-
-#[cycle(join)]
-fn follow_on<'a>(state: &State<'a>, at: Position<'a>, room: &mut u64) -> Result<Tree, Unmade>
-    requires path { IsPath state.now room.old (Some at.candidate.now) }
-    requires at { IsAt state.now.read.now state.now.context.now at }
-    ensures tree { IfOk result (IsJoinedTree state.now.read.now state.now.context.now) }
-    ensures room { room.new ≤ room.old }
-{
-    let alloc = state.read.alloc;
+    let alloc = task.read.alloc;
     let Position {
         candidate,
         node,
         rows,
     } = at;
-    let Followed { node, rows } = follow(node, state.context, rows)?;
+    let Followed { node, rows } = follow(node, &walk.context, rows)?;
     match node {
         Tree::Test(form, yes, no) => {
-            let here = state.context.rows.len() as u32;
+            let here = walk.context.rows.len() as u32;
             let above = side_of(alloc, candidate, yes.get(), rows.as_slice(), here)?;
             let below = side_of(alloc, candidate, no.get(), rows.as_slice(), here)?;
-            test(state, form, Next::Follow(above), Next::Follow(below), room)
+            ask(
+                task,
+                walk,
+                form.copy(),
+                Next::Follow(above),
+                Next::Follow(below),
+            )
         }
-        Tree::Zero(_) => {
-            let at = Position {
+        Tree::Zero(proofs) => {
+            let absence = absence_at(alloc, candidate, proofs.as_slice(), rows)?;
+            walk.seen.push(Seen::Without(absence))?;
+            Ok(Step::On(Next::Choose))
+        }
+        Tree::Writer(..) => arrive(
+            task,
+            walk,
+            Position {
                 candidate,
                 node,
                 rows,
-            };
-            let seen = Seen::Without(&*state.seen, &at);
-            let next = State {
-                seen: &seen,
-                ..*state
-            };
-            step(&next, room)
-        }
-        Tree::Writer(..) => {
-            let at = Position {
-                candidate,
-                node,
-                rows,
-            };
-            if let Some(best) = state.best {
-                let pair = pair_of(alloc, best, &at);
-                let comparison = Comparison::Open(unopened(alloc));
-                return compare_on(&*state, &at, &pair, comparison, room);
-            }
-            let next = State {
-                best: Some(&at),
-                ..*state
-            };
-            step(&next, room)
-        }
+            },
+        ),
         _ => unreachable!(),
     }
 }
 
-#[cycle(join)]
-fn compare_on<'a>(
-    state: &State<'a>,
-    at: &Position<'a>,
-    pair: &Pair<'a>,
-    comparison: Comparison,
-    room: &mut u64,
-) -> Result<Tree, Unmade>
-    requires path { IsPath state.now room.old (Some at.now.candidate.now) }
-    requires at { IsAt state.now.read.now state.now.context.now at.now }
-    requires standing { IsStanding (option_copied state.now.best) state.now.context.now at.now
-        pair.now comparison }
-    ensures tree { IfOk result (IsJoinedTree state.now.read.now state.now.context.now) }
-    ensures room { room.new ≤ room.old }
+fn copy_position<'a>(alloc: Global, at: &Position<'a>) -> Result<Position<'a>, AllocError>
+    ensures { IfOk result (λ copy. copy ≡ at.now) }
 {
-    let Some(best) = state.best else {
-        unreachable!()
-    };
+    Ok(Position {
+        candidate: at.candidate,
+        node: at.node,
+        rows: copy_rows(alloc, at.rows.as_slice())?,
+    })
+}
+
+// A Test of the next loop of two points.
+fn ask_next<'a>(
+    task: &Task<'a>,
+    walk: &mut Walk<'a>,
+    at: Position<'a>,
+    pair: Pair<'a>,
+    so_far: Compared,
+) -> Result<Step<'a>, AllocError>
+    requires way { IsUnderWay task.now walk.old
+        (Step.On (Next.Compare at pair (Comparison.Open so_far))) }
+    requires next { length so_far.equal < pair.common }
+    requires half { facts_had so_far ≤ 2 * length so_far.equal + 1 }
+    ensures { IfOk result (GoesOn task.now (turns_left walk.old
+        (Step.On (Next.Compare at.entry pair.entry (Comparison.Open so_far)))) walk.new) }
+{
+    let alloc = task.read.alloc;
+    let also = copy_position(alloc, &at)?;
+    let here = walk.context.rows.len() as u32;
+    let Question { form, above, below } = test_of_next_loop(&pair, so_far, here)?;
+    let first = Next::Compare(at, pair, above);
+    let second = Next::Compare(also, pair, below);
+    ask(task, walk, form, first, second)
+}
+
+// The point of a candidate is compared with the best as far as the context tells.
+fn compare_on<'a>(
+    task: &Task<'a>,
+    walk: &mut Walk<'a>,
+    at: Position<'a>,
+    pair: Pair<'a>,
+    comparison: Comparison,
+) -> Result<Step<'a>, AllocError>
+    requires { IsUnderWay task.now walk.old (Step.On (Next.Compare at pair comparison)) }
+    ensures { IfOk result (GoesOn task.now
+        (turns_left walk.old (Step.On (Next.Compare at.entry pair.entry comparison))) walk.new) }
+{
     match comparison {
         Comparison::Earlier(order) => {
-            let seen = Seen::Before(&*state.seen, &*at, &order);
-            let next = State {
-                seen: &seen,
-                ..*state
-            };
-            step(&next, room)
+            walk.seen.push(Seen::Before(at, order))?;
+            Ok(Step::On(Next::Choose))
         }
         Comparison::Later(order) => {
-            let seen = Seen::Passed(&*state.seen, &*best, &order);
-            let next = State {
-                best: Some(&*at),
-                seen: &seen,
-                ..*state
-            };
-            step(&next, room)
+            walk.seen.push(Seen::After(at, order))?;
+            Ok(Step::On(Next::Choose))
         }
         Comparison::Open(so_far) => {
-            let compared = compare_points(state.context, pair, so_far)?;
+            let compared = compare_points(&walk.context, &pair, so_far)?;
             match compared {
-                Comparison::Open(so_far) => {
-                    let here = state.context.rows.len() as u32;
-                    let asked = test_of_next_loop(pair, so_far, here)?;
-                    let yes = Next::Compare(&*at, *pair, asked.above);
-                    let no = Next::Compare(&*at, *pair, asked.below);
-                    test(&*state, &asked.form, yes, no, room)
-                }
-                told => compare_on(&*state, &*at, &*pair, told, room),
+                Comparison::Open(so_far) => ask_next(task, walk, at, pair, so_far),
+                told => Ok(Step::On(Next::Compare(at, pair, told))),
             }
         }
     }
 }
 
-// The Test of a form from the trees of its sides.
-fn joined(state: &State, form: &Form, yes: Tree, no: Tree) -> Result<Tree, Unmade>
-    ensures { IfOk result (λ tree. tree ≡ Tree.Test form.now yes no) }
-{
-    Ok(test_of(state.read.alloc, form.copy(), yes, no)?)
-}
+// The walk
 
-// A Test, and how the joining goes on on both sides of it.
-#[cycle(join)]
-fn test<'a>(
-    state: &State<'a>,
-    form: &Form,
-    first: Next<'a>,
-    second: Next<'a>,
-    room: &mut u64,
-) -> Result<Tree, Unmade>
-    requires sides { (c : CandidateOf) × IsPath state.now room.old (Some c)
-        × AreSides state.now form.now c first second }
-    ensures tree { IfOk result (IsJoinedTree state.now.read.now state.now.context.now) }
-    ensures room { room.new ≤ room.old }
+fn go_on<'a>(task: &Task<'a>, walk: &mut Walk<'a>, next: Next<'a>) -> Result<Step<'a>, AllocError>
+    requires { IsUnderWay task.now walk.old (Step.On next) }
+    ensures { IfOk result (GoesOn task.now (turns_left walk.old (Step.On next.entry)) walk.new) }
 {
-    match take_test(state, room) {
-        Ok(()) => both(state, form, first, second, room),
-        Err(error) => {
-            drop(first);
-            drop(second);
-            Err(error)
-        }
+    match next {
+        Next::Choose => choose_on(task, walk),
+        Next::Follow(at) => follow_on(task, walk, at),
+        Next::Compare(at, pair, comparison) => compare_on(task, walk, at, pair, comparison),
     }
 }
 
-// Both sides of a Test, which is a node of the tree.
-#[cycle(join)]
-fn both<'a>(
-    state: &State<'a>,
-    form: &Form,
-    first: Next<'a>,
-    second: Next<'a>,
-    room: &mut u64,
-) -> Result<Tree, Unmade>
-    requires sides { (c : CandidateOf) × IsPath state.now (room.old + 1) (Some c)
-        × AreSides state.now form.now c first second }
-    ensures tree { IfOk result (IsJoinedTree state.now.read.now state.now.context.now) }
-    ensures room { room.new ≤ room.old }
+// The tree of the walk, turn by turn. What is left to do stands in the frames, so that a path takes none of the machine's
+// stack.
+fn walked<'a>(task: &Task<'a>, walk: &mut Walk<'a>) -> Result<Tree, AllocError>
+    requires { IsUnderWay task.now walk.old (Step.On Next.Choose) }
+    ensures { IfOk result (IsMade task.now.read.now task.now.read.now.context.now) }
 {
-    match side(state, form.copy(), first, room) {
-        Ok(yes) => test_below(state, form, yes, second, room),
-        Err(error) => {
-            drop(second);
-            Err(error)
-        }
+    let mut step = Step::On(Next::Choose);
+    'turns: loop {
+        step = match step {
+            Step::On(next) => go_on(task, walk, next)?,
+            Step::Made(tree) => match walk.frames.pop() {
+                Some(frame) => close(task, walk, frame, tree)?,
+                None => return Ok(tree),
+            },
+        };
     }
 }
 
-// A Test whose first tree is made.
-#[cycle(join)]
-fn test_below<'a>(
-    state: &State<'a>,
-    form: &Form,
-    yes: Tree,
-    second: Next<'a>,
-    room: &mut u64,
-) -> Result<Tree, Unmade>
-    requires side { (c : CandidateOf) × IsPath state.now (room.old + 1) (Some c)
-        × ((first : NextOf) × AreSides state.now form.now c first second) }
-    requires yes { IsJoinedTree state.now.read.now (with_form state.now.context.now form.now) yes }
-    ensures tree { IfOk result (IsJoinedTree state.now.read.now state.now.context.now) }
-    ensures room { room.new ≤ room.old }
+/// The joined tree of a read's context, where these candidates are left, which are all.
+pub fn tree_of(task: &Task, context: System, left: Items<u32>) -> Result<Tree, AllocError>
+    requires context { context ≡ task.now.read.now.context.now }
+    requires path { IsPathOf task.now.read.now task.now.candidates.now context None [] left
+        (70000 * length left) None }
+    ensures { IfOk result (IsMade task.now.read.now task.now.read.now.context.now) }
 {
-    match side(state, opposite(form), second, room) {
-        Ok(no) => joined(state, form, yes, no),
-        Err(error) => {
-            drop(yes);
-            Err(error)
-        }
-    }
-}
-
-// One side of a Test, where this row is behind the context.
-#[cycle(join)]
-fn side<'a>(state: &State<'a>, row: Form, next: Next<'a>, room: &mut u64) -> Result<Tree, Unmade>
-    requires next { (c : CandidateOf) × IsPathOf state.now.read.now state.now.candidates.now
-        (with_form state.now.context.now row) (option_copied state.now.best)
-        (sightings_of state.now.seen.now) state.now.left.now room.old (Some c)
-        × IsNext state.now.read.now (option_copied state.now.best)
-        (with_form state.now.context.now row) c next }
-    ensures tree { IfOk result
-        (IsJoinedTree state.now.read.now (with_form state.now.context.now row)) }
-    ensures room { room.new ≤ room.old }
-{
-    match with_row(state.context, row) {
-        Ok(context) => {
-            let longer = State {
-                context: &context,
-                ..*state
-            };
-            let tree = branch(&longer, next, room);
-            drop(context);
-            tree
-        }
-        Err(_) => {
-            drop(next);
-            Err(Unmade::Memory)
-        }
-    }
-}
-
-// One side of a Test in its own context. It is a Dead leaf where nothing meets the context.
-#[cycle(join)]
-fn branch<'a>(state: &State<'a>, next: Next<'a>, room: &mut u64) -> Result<Tree, Unmade>
-    requires next { (c : CandidateOf) × IsPath state.now room.old (Some c)
-        × IsNext state.now.read.now (option_copied state.now.best) state.now.context.now c next }
-    ensures tree { IfOk result (IsJoinedTree state.now.read.now state.now.context.now) }
-    ensures room { room.new ≤ room.old }
-{
-    match dead_leaf(state.context) {
-        Ok(None) => go_on(state, next, room),
-        Ok(Some(dead)) => {
-            drop(next);
-            counted(dead, room)
-        }
-        Err(_) => {
-            drop(next);
-            Err(Unmade::Memory)
-        }
-    }
+    let alloc = task.read.alloc;
+    let mut walk = Walk {
+        context,
+        seen: Items::new(alloc),
+        left,
+        frames: Items::new(alloc),
+    };
+    walked(task, &mut walk)
 }

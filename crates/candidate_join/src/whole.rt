@@ -1,10 +1,12 @@
-ghost use Rattle.std.specs.Prelude.{◌≡◌, ◌≤◌, ◌^◌, IfOk};
+ghost use Rattle.std.specs.Prelude.{◌≡◌, ◌≤◌, ◌+◌, ◌^◌, length, IfOk};
 ghost use Rattle.std.specs.List.{range_with_len};
+ghost use Rattle.candidate_order.specs.Heights.{height_of};
 ghost use Rattle.candidate_order.specs.Joint.{IsJoinedTree};
 ghost use Rattle.candidate_order.specs.Reads.{IsJoined};
 
-use crate::path::{State, Unmade, step};
-use candidate_order::{Read, Seen, candidates_of};
+use crate::path::{Task, tree_of};
+use candidate_order::{Read, candidates_of};
+use int_polyhedra::System;
 use plain_data::Items;
 use source_tree::Tree;
 use std::alloc::{AllocError, Global};
@@ -21,23 +23,34 @@ fn numbers(alloc: Global, count: usize) -> Result<Items<u32>, AllocError>
     Ok(numbers)
 }
 
-/// The tree of the last write before a read, with room for so many nodes: at each point that meets the read's context the
-/// write of the problems that stands last before the read, or zero where there is none (Feautrier 1991).
-pub fn join(read: &Read, room: &mut u64) -> Result<Tree, Unmade>
-    requires joined { IsJoined read.now }
-    requires room { room.old ≤ 2 ^ 30 }
-    ensures tree { IfOk result (IsJoinedTree read.now read.now.context.now) }
-    ensures room { room.new ≤ room.old }
+fn copy_of(context: &System) -> Result<System, AllocError>
+    ensures { IfOk result (λ copy. copy ≡ context.now) }
+{
+    let mut rows = Items::new(context.rows.allocator());
+    for row in context.rows.as_slice() {
+        rows.push(row.copy())?;
+    }
+    Ok(System {
+        vars: context.vars,
+        rows,
+    })
+}
+
+/// The tree of the last write before a read: at each point that meets the read's context the write of the problems that
+/// stands last before the read, or zero where there is none (Feautrier 1991). What is left to do on the way stands in
+/// memory, so that only want of memory ends it. Its leaves' contexts have at most 2^30 rows.
+pub fn join(read: &Read) -> Result<Tree, AllocError>
+    requires { IsJoined read.now }
+    ensures joined { IfOk result (IsJoinedTree read.now read.now.context.now) }
+    ensures low { IfOk result
+        (λ tree. length read.now.context.now.rows + height_of tree ≤ 2 ^ 30) }
 {
     let candidates = candidates_of(read)?;
     let left = numbers(read.alloc, candidates.len())?;
-    let state = State {
-        read,
+    let context = copy_of(read.context)?;
+    let task = Task {
+        read: &*read,
         candidates: candidates.as_slice(),
-        context: read.context,
-        best: None,
-        seen: &Seen::Start,
-        left: left.as_slice(),
     };
-    step(&state, room)
+    tree_of(&task, context, left)
 }

@@ -25,8 +25,8 @@ use Rattle.candidate_order.specs.Reads.{pair_of}
 use Rattle.candidate_order.specs.Refutations.{IsPointIn, RefutesBetween, RefutesWrites}
 use Rattle.candidate_order.specs.declared.candidates.Candidate.{Candidate}
 use Rattle.candidate_order.specs.declared.candidates.Read.{Read}
-use Rattle.candidate_order.proofs.Joined.{context_over, context_within, forms_within, near_forms, near_variables}
-use Rattle.candidate_order.proofs.Joined.{no_rows, orders_made, regroup, system, AreMadeRows}
+use Rattle.candidate_order.proofs.PointSystems.{context_over, context_within, forms_within, near_forms, near_variables}
+use Rattle.candidate_order.proofs.PointSystems.{no_rows, orders_made, regroup, system, AreMadeRows}
 use Rattle.lex_max.specs.Answer.{IsContradiction}
 use Rattle.lex_max.specs.Asked.{depth_of_write, read_of, write_of}
 use Rattle.lex_max.specs.Facts.{IsContext}
@@ -34,28 +34,24 @@ use Rattle.lex_max.specs.Edges.{edge_parts, write_rows, AreEdges, AreLevelRows}
 use Rattle.lex_max.specs.Level.{common_of}
 use Rattle.lex_max.specs.Paths.{edge_part, terms_from}
 use Rattle.lex_max.specs.declared.edges.Edge.{Edge}
-use Rattle.lex_max.proofs.Ordering.{length_variables}
-use Rattle.lex_max.proofs.Placing.{IsPlaced}
-use Rattle.lex_max.proofs.Refuting.{over_append, over_widened, path_shows, weight_from, within_widened, AreRowsOf}
-use Rattle.lex_max.proofs.Writing.{edges_count, edges_parts, forms_append}
+use Rattle.lex_max.proofs.OrderEdges.{length_variables}
+use Rattle.lex_max.proofs.ZeroSystems.{IsPlaced}
+use Rattle.lex_max.proofs.EdgeSums.{over_append, over_widened, path_shows, weight_from, within_widened, AreRowsOf}
+use Rattle.lex_max.proofs.RowBounds.{edges_count, edges_parts, forms_append}
+use Rattle.plain_data.proofs.Lists.{slice_get-append_left}
 use Rattle.row_sums.specs.Parts.{part_of, row_part, IsWithin}
 use Rattle.row_sums.specs.Shown.{RowParts, Shows}
-use Rattle.row_sums.proofs.Combining.{combines}
-use Rattle.row_sums.proofs.Showing.{shown_refutes}
+use Rattle.row_sums.proofs.SumAlgebra.{combines}
+use Rattle.row_sums.proofs.NegativeSums.{shown_refutes}
 use Rattle.row_sums.proofs.Weights.{weight_sum}
-use Rattle.row_sums.proofs.Wider.{made_widens}
-use Rattle.row_sums.proofs.Widening.{shown_widens}
+use Rattle.row_sums.proofs.RowParts.{made_widens}
+use Rattle.row_sums.proofs.MoreVariables.{shown_widens}
 use Rattle.source_tree.specs.Checked.{IsRefuted}
 use Rattle.source_tree.specs.Places.{cell_rows, domain_rows}
 use Rattle.source_tree.specs.Rows.{RowExpr, row_forms}
 use Rattle.source_tree.specs.Systems.{Context, Occurrence, with_rows, with_write_at, writer_place}
 
 -- Lists, one behind the other
-
-get_left : {X : Type 0} (xs ys : List X) (k : ℕ) → k < length xs → slice_get (xs ++ ys) k ≡ slice_get xs k
-get_left [] ys k lt = absurd (omega (arith, lt))
-get_left (x ∷ xs) ys zero lt = refl
-get_left (x ∷ xs) ys (suc k) lt = get_left xs ys k (omega (arith, lt))
 
 get_right : {X : Type 0} (xs ys : List X) (n k : ℕ) → n ≡ length xs → slice_get (xs ++ ys) (n + k) ≡ slice_get ys k
 get_right [] ys n k e = let z : n + k ≡ k = omega (arith, e) in ap (slice_get ys) z
@@ -76,9 +72,9 @@ are_rows_append place xs ys fs gs h k = record {
   count = omega (arith, length-append fs gs, length-append xs ys, h.count, k.count);
   parts = λ i part. elim (number_behind i (length fs)) [
     | inl lt ↦
-        ap (λ o. option_map_or (part_of part) o (pos 0)) (get_left fs gs i lt) ∙ h.parts i part
+        ap (λ o. option_map_or (part_of part) o (pos 0)) (slice_get-append_left fs gs i lt) ∙ h.parts i part
         ∙ ap (λ o. option_map_or (λ g. edge_parts place g part) o (pos 0))
-        (sym (get_left xs ys i (omega (arith, lt, h.count))))
+        (sym (slice_get-append_left xs ys i (omega (arith, lt, h.count))))
     | inr rest ↦
         ap (row_part (fs ++ gs) part) rest.1 ∙ ap (λ o. option_map_or (part_of part) o (pos 0))
         (get_right fs gs (length fs) rest.0 refl) ∙ k.parts rest.0 part

@@ -4,17 +4,17 @@
 -- level it is added with the writers within the loop, or with the others.
 use Rattle.std.proofs.Common.{◌≡◌, ◌+◌, ◌<◌, ◌==◌, ℕ, inl, inr, List, [], ◌∷◌, ◌++◌, length, Bool}
 use Rattle.std.proofs.Common.{true, false, refl, sym, subst, arith}
-use Rattle.std.specs.Prelude.{All, Contains, nat_lt}
-use Rattle.std.proofs.lemmas.Bool.{cases_order, eq-eqb}
+use Rattle.std.specs.Prelude.{Contains, nat_lt}
+use Rattle.std.proofs.lemmas.Bool.{cases_order, eq-eqb, and_from}
 use Rattle.std.proofs.lemmas.List.Elements.{All-cons, All-contains, All-nil, All-push, All-weaker}
-use Rattle.int_polyhedra.proofs.RowsOf.{get_before, get_last, length_push}
-use Rattle.int_polyhedra.proofs.Variables.{both_and}
+use Rattle.std.proofs.lemmas.List.{length_push}
 use Rattle.candidate_order.specs.Candidates.{AddsLevel, HasCandidate, IsCandidate, IsOfLevel}
 use Rattle.candidate_order.specs.Reads.{pair_in, pairs_of, pairs_with, ReadAndWrite}
 use Rattle.candidate_order.specs.declared.candidates.Candidate.{Candidate}
 use Rattle.candidate_order.specs.declared.candidates.Problem.{Problem}
 use Rattle.candidate_order.specs.declared.candidates.Read.{Read}
 use Rattle.lex_max.specs.Level.{common_of, HasLevel}
+use Rattle.plain_data.proofs.Lists.{slice_get_push_at, slice_get-append_some}
 
 pub adds_no_level : (r : Read) (level : ℕ) (within : Bool) (old new : List Candidate) → new ≡ old
     → AddsLevel r [] level within old new
@@ -28,7 +28,7 @@ HasOfLevel level within new o = IsOfLevel o level within → HasCandidate o.writ
 
 among_more : (u p : ℕ) (c : Candidate) (middle : List Candidate) → HasCandidate u p middle
     → HasCandidate u p (middle ++ c ∷ [])
-among_more u p c middle (d, at, is) = (d, (at.0, get_before middle (c ∷ []) at.0 d at.1), is)
+among_more u p c middle (d, at, is) = (d, (at.0, slice_get-append_some middle (c ∷ []) at.0 d at.1), is)
 
 module _ (r : Read) (problem : Problem) (problems : List Problem) (level : ℕ) (within : Bool)
     (old middle : List Candidate) (h : AddsLevel r problems level within old middle) where
@@ -58,8 +58,8 @@ module _ (r : Read) (problem : Problem) (problems : List Problem) (level : ℕ) 
         more = All-cons (HasOfLevel level within (middle ++ c ∷ [])) (pair_in r problem) (pairs_with r problems)
             (λ k. (
               c,
-              (length middle, get_last middle c (length middle) refl),
-              both_and (c.writes.write.number == u) (c.writes.level == level)
+              (length middle, slice_get_push_at middle c (length middle) refl),
+              and_from (c.writes.write.number == u) (c.writes.level == level)
                   (eq-eqb c.writes.write.number u number_is) (eq-eqb c.writes.level level level_is),
             ))
             (All-weaker (HasOfLevel level within middle) (HasOfLevel level within (middle ++ c ∷ []))

@@ -3,29 +3,31 @@
 -- Above the level the loop's values are equal, `v - j` and `j - v`: an edge from 0 to the loop with weight v, and one
 -- back with -v. At the level of a common loop j is greater, `j - v - 1`: an edge back with -v - 1. The rows go down the
 -- loops as the edges do.
-use Rattle.std.proofs.Common.{◌≡◌, ◌+◌, ◌^◌, ◌≤◌, ◌<◌, ℕ, zero, suc, pos, negsuc, ◌+ℤ◌, List, [], ◌∷◌, ◌++◌, length}
-use Rattle.std.proofs.Common.{drop, Bool, true, false, refl, sym, ap, ◌∙◌, subst, arith}
-use Rattle.std.specs.Prelude.{Option, Some, None, All, nat_lt, slice_get}
-use Rattle.std.specs.Option.{option_map, option_map_or}
+use Rattle.std.proofs.Common.{◌≡◌, ◌+◌, ◌^◌, ◌<◌, ℕ, zero, suc, pos, negsuc, ◌+ℤ◌, List, [], ◌∷◌, ◌++◌, length}
+use Rattle.std.proofs.Common.{drop, Bool, true, false, refl, sym, ap, ◌∙◌, subst, arith, lt-ltb, ltb-true, ltb-false}
+use Rattle.std.proofs.Common.{le-ltb}
+use Rattle.std.specs.Prelude.{Some, None, All, nat_lt, slice_get}
 use Rattle.std.proofs.lemmas.Int.{ints}
 use Rattle.std.proofs.lemmas.List.{append-nil, append_assoc}
 use Rattle.std.proofs.lemmas.List.Elements.{All-head, All-push, All-tail}
 use Rattle.std.proofs.lemmas.Option.{same_Some, slice_get-map}
 use Rattle.affine_core.specs.declared.form.Form.{Form}
 use Rattle.affine_core.specs.Affine.{form_product}
+use Rattle.affine_core.proofs.Integers.{unsigned_abs-sum}
 use Rattle.candidate_order.specs.Absence.{AddsOrderEdges, IsNearEdge}
 use Rattle.candidate_order.specs.Comparisons.{AreForms}
 use Rattle.lex_max.specs.Edges.{edge_parts, AreEdges}
 use Rattle.lex_max.specs.declared.edges.Edge.{Edge}
-use Rattle.lex_max.proofs.Adding.{edges_more}
+use Rattle.lex_max.proofs.EdgeRows.{edges_more}
 use Rattle.lex_max.proofs.Differences.{past_part}
-use Rattle.lex_max.proofs.Ordering.{raised_part}
-use Rattle.lex_max.proofs.Small.{farther, negative_over, negative_within}
-use Rattle.lex_max.proofs.Walking.{dropped_at}
+use Rattle.lex_max.proofs.OrderEdges.{raised_part}
+use Rattle.lex_max.proofs.Small.{negative_over, negative_within}
+use Rattle.lex_max.proofs.PathSums.{dropped_at}
+use Rattle.plain_data.proofs.Options.{option_map-some}
 use Rattle.row_sums.specs.Made.{parts_of}
-use Rattle.row_sums.specs.Parts.{Part, part_of, row_part, IsWithin}
+use Rattle.row_sums.specs.Parts.{Part, row_part, IsWithin}
 use Rattle.row_sums.proofs.Ideal.{product_part}
-use Rattle.sanlp.proofs.ModerateForms.{abs_sum}
+use Rattle.row_sums.proofs.Within.{IsWithin-weaker, row_part-some}
 use Rattle.source_tree.specs.Places.{order_rows}
 use Rattle.source_tree.specs.Rows.{RowExpr, Take, equal_rows, minus, one_less}
 
@@ -42,27 +44,23 @@ less_edge at none value =
 
 -- Their rows
 
-row_at : (point : List Form) (at : ℕ) (w : Form) (part : Part) → slice_get point at ≡ Some w → row_part point part at
-    ≡ part_of part w
-row_at point at w part is = ap (λ o. option_map_or (part_of part) o (pos 0)) is
-
 none_part : (point : List Form) (none : ℕ) (part : Part) → none ≡ length point → row_part point part none ≡ pos 0
 none_part point none part e = ap (row_part point part) e ∙ past_part point part
 
 module _ (point : List Form) (at none : ℕ) (v w : Form) (is : slice_get point at ≡ Some w) (e : none ≡ length point)
     (part : Part) where
   out_row : parts_of (minus (Take v) (Take w)) part ≡ edge_parts point (out_edge at none v) part
-  out_row = omega (arith, ints, row_at point at w part is, none_part point none part e)
+  out_row = omega (arith, ints, row_part-some point at w part is, none_part point none part e)
 
   back_row : parts_of (minus (Take w) (Take v)) part ≡ edge_parts point (back_edge at none v) part
-  back_row = omega (arith, ints, row_at point at w part is, none_part point none part e, product_part part (negsuc 0) v)
+  back_row = omega (arith, ints, row_part-some point at w part is, none_part point none part e, product_part part (negsuc 0) v)
 
   less_row : parts_of (one_less (minus (Take w) (Take v))) part ≡ edge_parts point (less_edge at none v) part
   less_row =
       omega (
         arith,
         ints,
-        row_at point at w part is,
+        row_part-some point at w part is,
         none_part point none part e,
         product_part part (negsuc 0) v,
         raised_part (form_product (negsuc 0) v) (negsuc 0) part,
@@ -76,28 +74,11 @@ less_none c e = grind arith
 less_some : (c : ℕ) → true ≡ nat_lt 0 c → 0 < c
 less_some c e = grind arith
 
-less_true : (m n : ℕ) → m < n → nat_lt m n ≡ true
-less_true m n h = grind arith
-
-not_less : (m n : ℕ) → n ≤ m → nat_lt m n ≡ false
-not_less m n h = grind arith
-
-less_where : (m n : ℕ) → nat_lt m n ≡ true → m < n
-less_where m n e = grind arith
-
-not_where : (m n : ℕ) → nat_lt m n ≡ false → n ≤ m
-not_where m n e = grind arith
-
 less_next : (l c : ℕ) (b : Bool) → b ≡ nat_lt (suc l) (suc c) → b ≡ nat_lt l c
 less_next l c b e = e ∙ go (nat_lt l c) refl where
   go : (d : Bool) → nat_lt l c ≡ d → nat_lt (suc l) (suc c) ≡ nat_lt l c
-  go true f = less_true (suc l) (suc c) (omega (arith, less_where l c f)) ∙ sym f
-  go false f = not_less (suc l) (suc c) (omega (arith, not_where l c f)) ∙ sym f
-
-mapped_some : (o : Option (List RowExpr)) (pair rows : List RowExpr) → option_map (λ inner. pair ++ inner) o ≡ Some rows
-    → (inner : List RowExpr) × (o ≡ Some inner) × (pair ++ inner ≡ rows)
-mapped_some None pair rows e = absurd (let h : None ≡ Some rows = e in cc)
-mapped_some (Some inner) pair rows e = (inner, refl, same_Some (pair ++ inner) rows e)
+  go true f = lt-ltb (suc l) (suc c) (omega (arith, ltb-true l c f)) ∙ sym f
+  go false f = le-ltb (suc l) (suc c) (omega (arith, ltb-false l c f)) ∙ sym f
 
 -- a place without a value has no rows
 pub orders_end : (at none level : ℕ) (within : Bool) (old new : List Edge) → new ≡ old
@@ -161,8 +142,7 @@ orders_equal v place at none level within old first middle new e f rest (suc c) 
       go (j ∷ b) k is =
           let d = dropped_at point at j b k in
           let pair : List RowExpr = equal_rows (Take v) (Take j) in
-          let i = mapped_some (slice_get (order_rows c less place b) level) pair order
-          (sym (slice_get-map (λ inner. pair ++ inner) (order_rows c less place b) level) ∙ is) in
+          let i = option_map-some (λ inner. pair ++ inner) (slice_get (order_rows c less place b) level) order (sym (slice_get-map (λ inner. pair ++ inner) (order_rows c less place b) level) ∙ is) in
           let one : RowExpr = minus (Take v) (Take j) in
           let two : RowExpr = minus (Take j) (Take v) in
           let a : AreEdges point (before ++ one ∷ []) first = subst (AreEdges point (before ++ one ∷ [])) (sym e)
@@ -194,14 +174,14 @@ pub near_out : (vars at none : ℕ) (v : Form) (place : List Form) → AreForms 
     → IsNearEdge vars (out_edge at none v)
 near_out vars at none v place h = record {
   over = All-head (λ (form : Form). length form.coefs ≡ vars) v place h.over;
-  within = farther (2 ^ 48) (2 ^ 49) v (omega arith) (All-head (IsWithin (2 ^ 48)) v place h.within);
+  within = IsWithin-weaker (2 ^ 48) (2 ^ 49) v (omega arith) (All-head (IsWithin (2 ^ 48)) v place h.within);
 }
 
 pub near_back : (vars at none : ℕ) (v : Form) (place : List Form) → AreForms vars (v ∷ place)
     → IsNearEdge vars (back_edge at none v)
 near_back vars at none v place h = record {
   over = negative_over v ∙ All-head (λ (form : Form). length form.coefs ≡ vars) v place h.over;
-  within = farther (2 ^ 48) (2 ^ 49) (form_product (negsuc 0) v) (omega arith)
+  within = IsWithin-weaker (2 ^ 48) (2 ^ 49) (form_product (negsuc 0) v) (omega arith)
       (negative_within (2 ^ 48) v (All-head (IsWithin (2 ^ 48)) v place h.within));
 }
 
@@ -213,8 +193,8 @@ near_less vars at none v place h =
     record {
       over = negative_over v ∙ All-head (λ (form : Form). length form.coefs ≡ vars) v place h.over;
       within = record {
-        constant = omega (arith, abs_sum (form_product (negsuc 0) v).constant (negsuc 0), back.constant);
-        coefs = (farther (2 ^ 48) (2 ^ 49) (form_product (negsuc 0) v) (omega arith) back).coefs;
+        constant = omega (arith, unsigned_abs-sum (form_product (negsuc 0) v).constant (negsuc 0), back.constant);
+        coefs = (IsWithin-weaker (2 ^ 48) (2 ^ 49) (form_product (negsuc 0) v) (omega arith) back).coefs;
       };
     }
 

@@ -1,11 +1,13 @@
 -- What became of a candidate.
 --
--- A chain is told from its end, where orders lead to the best. Behind a position that was passed they lead to it, and
--- its own order on from there: so the order that leads on grows by one where the chain goes past such a position. Each
--- order adds 65,536 at most to what the terms weigh. A candidate that isn't found stands nowhere in the chain.
-use Rattle.std.proofs.Common.{◌≡◌, ◌+◌, ◌*◌, ◌≤◌, ◌||◌, ℕ, Bool, false, List, [], ◌∷◌, length}
+-- What was seen is told from its end, where orders lead to the best. Behind a position that was the best they lead to
+-- it, and from there on goes the order of the one that took its place: so the order that leads on grows by one where the
+-- best changes. Each order adds 65,536 at most to what the terms weigh. A candidate that isn't found was not seen.
+use Rattle.std.proofs.Common.{◌≡◌, ◌+◌, ◌*◌, ◌≤◌, ◌||◌, ℕ, Bool, false, List, [], ◌∷◌, ◌++◌, length, reverse}
 use Rattle.std.proofs.Common.{refl, sym, ap, ◌∙◌, subst, arith, Bor}
 use Rattle.std.specs.Prelude.{Option, Some, None, IfNone, IfSome, IsTrue, MatchOption, slice_get}
+use Rattle.std.specs.Option.{option_copied}
+use Rattle.std.proofs.lemmas.List.{reverse-append}
 use Rattle.std.proofs.lemmas.List.Elements.{All-contains}
 use Rattle.affine_core.specs.declared.form.Form.{Form}
 use Rattle.int_polyhedra.specs.declared.system.System.{System}
@@ -15,46 +17,67 @@ use Rattle.candidate_order.specs.Orders.{difference_parts, strict_parts, AreEqua
 use Rattle.candidate_order.specs.Orders.{IsOrder}
 use Rattle.candidate_order.specs.Positions.{IsAt, IsPointAt}
 use Rattle.candidate_order.specs.Reads.{pair_of, pairs_of, IsJoined, ReadAndWrite, StandsInLoopsOf}
-use Rattle.candidate_order.specs.Seen.{Sighting, without, before, passed, is_seen, position_of, sightings_of}
-use Rattle.candidate_order.specs.Seen.{sightings_step, AreSeen, IsOutcome, LeadsOn, StandsBefore}
+use Rattle.candidate_order.specs.Seen.{Sighting, without, before, passed, absent_at, best_from, best_in, is_seen}
+use Rattle.candidate_order.specs.Seen.{position_of, sightings_from, sightings_of, with_passed, AreSeen, IsOutcome}
+use Rattle.candidate_order.specs.Seen.{LeadsOn, StandsBefore}
 use Rattle.candidate_order.specs.declared.candidates.Candidate.{Candidate}
 use Rattle.candidate_order.specs.declared.candidates.Read.{Read}
 use Rattle.candidate_order.specs.declared.order.Equality.{Equality}
 use Rattle.candidate_order.specs.declared.order.Order.{Order}
+use Rattle.candidate_order.specs.declared.seen.Absence.{Absence}
 use Rattle.candidate_order.specs.declared.seen.Outcome.{Outcome}
 use Rattle.candidate_order.specs.declared.seen.Outcome.TheVariants as outcome
 use Rattle.candidate_order.specs.declared.seen.Position.{Position}
 use Rattle.candidate_order.specs.declared.seen.Seen.{Seen}
-use Rattle.candidate_order.specs.declared.seen.Seen.TheFolds.{fold-roll-Seen}
-use Rattle.candidate_order.specs.declared.seen.Seen.TheOpen as layer
-use Rattle.candidate_order.specs.declared.seen.Seen.TheVariants.{Start}
-use Rattle.candidate_order.specs.declared.seen.Seen.TheViews.{Before, Passed, Without, rolls-Before, rolls-Passed}
-use Rattle.candidate_order.specs.declared.seen.Seen.TheViews.{rolls-Start, rolls-Without}
-use Rattle.candidate_order.proofs.Made.{same_place}
+use Rattle.candidate_order.specs.declared.seen.Seen.TheVariants.{After, Before, First, Without}
+use Rattle.candidate_order.proofs.TreeNodes.{same_place}
 use Rattle.lex_max.specs.Asked.{write_of}
 use Rattle.lex_max.specs.Facts.{IsFact}
 use Rattle.row_sums.specs.Shown.{RowParts}
 use Rattle.source_tree.specs.Systems.{Occurrence}
 
--- Chains
+-- One more that is seen
 
-pub seen_start : sightings_of Start ≡ []
-seen_start = ap sightings_of (sym rolls-Start) ∙ fold-roll-Seen (List Sighting) sightings_step layer.Start
+seen_last : (seen : List Seen) (one : Seen) → reverse (seen ++ one ∷ []) ≡ one ∷ reverse seen
+seen_last seen one = reverse-append seen (one ∷ [])
 
-pub seen_without : (above : Bor Seen) (at : Bor Position) → sightings_of (Without above at) ≡ without at.now
-    ∷ sightings_of above.now
-seen_without above at = ap sightings_of (sym (rolls-Without above at))
-    ∙ fold-roll-Seen (List Sighting) sightings_step (layer.Without above at)
+-- the last one, by its kind
+pub last_kind : (all rest : List Seen) (one kind : Seen) → all ≡ rest ++ one ∷ [] → one ≡ kind → all ≡ rest ++ kind ∷ []
+last_kind all rest one kind e is = e ∙ ap (λ one. rest ++ one ∷ []) is
 
-pub seen_before : (above : Bor Seen) (at : Bor Position) (order : Bor Order) → sightings_of (Before above at order)
-    ≡ before at.now order.now ∷ sightings_of above.now
-seen_before above at order = ap sightings_of (sym (rolls-Before above at order))
-    ∙ fold-roll-Seen (List Sighting) sightings_step (layer.Before above at order)
+module _ (all seen : List Seen) where
+  pub seen_without : (a : Absence) → all ≡ seen ++ Without a ∷ []
+      → (sightings_of all ≡ without (absent_at a) ∷ sightings_of seen) × (best_in all ≡ best_in seen)
+  seen_without a e =
+      let last = ap reverse e ∙ seen_last seen (Without a) in (ap sightings_from last, ap best_from last)
 
-pub seen_passed : (above : Bor Seen) (at : Bor Position) (order : Bor Order) → sightings_of (Passed above at order)
-    ≡ passed at.now order.now ∷ sightings_of above.now
-seen_passed above at order = ap sightings_of (sym (rolls-Passed above at order))
-    ∙ fold-roll-Seen (List Sighting) sightings_step (layer.Passed above at order)
+  pub seen_first : (at : Position) → all ≡ seen ++ First at ∷ []
+      → (sightings_of all ≡ sightings_of seen) × (best_in all ≡ Some at)
+  seen_first at e = let last = ap reverse e ∙ seen_last seen (First at) in (ap sightings_from last, ap best_from last)
+
+  pub seen_before : (at : Position) (order : Order) → all ≡ seen ++ Before at order ∷ []
+      → (sightings_of all ≡ before at order ∷ sightings_of seen) × (best_in all ≡ best_in seen)
+  seen_before at order e =
+      let last = ap reverse e ∙ seen_last seen (Before at order) in (ap sightings_from last, ap best_from last)
+
+  pub seen_after : (at : Position) (order : Order) → all ≡ seen ++ After at order ∷ []
+      → (sightings_of all ≡ with_passed (best_in seen) order (sightings_of seen)) × (best_in all ≡ Some at)
+  seen_after at order e =
+      let last = ap reverse e ∙ seen_last seen (After at order) in (ap sightings_from last, ap best_from last)
+
+  -- where there is a best, it was passed
+  pub seen_passed : (at b : Position) (order : Order) → all ≡ seen ++ After at order ∷ [] → best_in seen ≡ Some b
+      → sightings_of all ≡ passed b order ∷ sightings_of seen
+  seen_passed at b order e best =
+      (seen_after at order e).0 ∙ ap (λ o. with_passed o order (sightings_of seen)) best
+
+  -- where there is none, none was
+  pub none_there : (at : Position) (order : Order) → all ≡ seen ++ After at order ∷ []
+      → (best : Option (Bor Position)) → option_copied best ≡ best_in seen
+      → ((b : Bor Position) → best ≡ Some b → ⊥) → sightings_of all ≡ sightings_of seen
+  none_there at order e None is none =
+      (seen_after at order e).0 ∙ ap (λ o. with_passed o order (sightings_of seen)) (sym is)
+  none_there at order e (Some b) is none = absurd (none b refl)
 
 -- Heavier terms
 
@@ -189,20 +212,26 @@ past_one : (u p : ℕ) (rest : List Sighting) (s : Sighting) (out : Outcome) (r 
 past_one u p rest s out r context most best h = outcome_wider context (most + 65536 * length rest)
     (most + 65536 * length (s ∷ rest)) (omega arith) r best u p out h
 
-module _ (u p : ℕ) (rest : List Sighting) (at : Bor Position) (further : Option Order) where
+-- the same sightings
+pub tells_same : (u p : ℕ) (rest : List Sighting) (further : Option Order) (seen : List Sighting) (out : Outcome)
+    → seen ≡ rest → Tells u p rest further out → Tells u p seen further out
+tells_same u p rest further seen out e = subst (λ s. Tells u p s further out) (sym e)
+
+module _ (u p : ℕ) (rest : List Sighting) (at : Bor Absence) (further : Option Order) where
   here_without : IsTrue (is_candidate_of u p at.now.candidate.now)
-      → Tells u p (without at.now ∷ rest) further (outcome.Without at)
+      → Tells u p (without (absent_at at.now) ∷ rest) further (outcome.Without at)
   here_without is r context most tip best seen ht hb leads = (is, seen.0)
 
-  pub tells_without : (seen : List Sighting) → seen ≡ without at.now ∷ rest
+  pub tells_without : (seen : List Sighting) → seen ≡ without (absent_at at.now) ∷ rest
       → IsTrue (is_candidate_of u p at.now.candidate.now) → Tells u p seen further (outcome.Without at)
   tells_without seen e is = subst (λ s. Tells u p s further (outcome.Without at)) (sym e) (here_without is)
 
-  past_without : (out : Outcome) → Tells u p rest further out → Tells u p (without at.now ∷ rest) further out
-  past_without out h r context most tip best seen ht hb leads =
-      past_one u p rest (without at.now) out r context most best (h r context most tip best seen.1 ht hb leads)
+  past_without : (out : Outcome) → Tells u p rest further out
+      → Tells u p (without (absent_at at.now) ∷ rest) further out
+  past_without out h r context most tip best seen ht hb leads = past_one u p rest
+      (without (absent_at at.now)) out r context most best (h r context most tip best seen.1 ht hb leads)
 
-  pub tells_past_without : (seen : List Sighting) (out : Outcome) → seen ≡ without at.now ∷ rest
+  pub tells_past_without : (seen : List Sighting) (out : Outcome) → seen ≡ without (absent_at at.now) ∷ rest
       → Tells u p rest further out → Tells u p seen further out
   tells_past_without seen out e h = subst (λ s. Tells u p s further out) (sym e) (past_without out h)
 

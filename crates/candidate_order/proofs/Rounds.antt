@@ -8,23 +8,23 @@ use Rattle.std.proofs.Common.{refl, sym, ap, ◌∙◌, subst, arith}
 use Rattle.std.specs.Prelude.{Some, All, IfSome, slice_get, slice_index_or}
 use Rattle.std.specs.Option.{option_map_or}
 use Rattle.std.proofs.lemmas.Int.{ints}
-use Rattle.std.proofs.lemmas.List.{append-nil, length-append}
+use Rattle.std.proofs.lemmas.List.{append-nil, length-append, get_or_past}
 use Rattle.std.proofs.lemmas.List.Elements.{All-append, All-head, All-tail, All-weaker}
 use Rattle.std.proofs.lemmas.Option.{same_Some}
 use Rattle.affine_core.specs.declared.form.Form.{Form}
 use Rattle.affine_core.specs.Affine.{form_sum}
+use Rattle.affine_core.proofs.Integers.{unsigned_abs-sum}
+use Rattle.affine_core.proofs.Linear.{length-sums}
 use Rattle.int_polyhedra.specs.declared.system.System.{System}
 use Rattle.int_polyhedra.specs.declared.system.Term.{Term}
 use Rattle.int_polyhedra.specs.Steps.{negation_of}
-use Rattle.int_polyhedra.proofs.Variables.{length_sums}
 use Rattle.candidate_order.specs.Absence.{AreBack, AreNumbered, AreOut, AreRefuting, IsContradicted, IsNearEdge}
 use Rattle.candidate_order.specs.Absence.{RoundIsNear}
 use Rattle.candidate_order.specs.Candidates.{IsCandidate}
 use Rattle.candidate_order.specs.Contexts.{IsPathContext}
 use Rattle.candidate_order.specs.declared.candidates.Candidate.{Candidate}
 use Rattle.candidate_order.specs.declared.candidates.Read.{Read}
-use Rattle.candidate_order.proofs.Asking.{opposite_part}
-use Rattle.candidate_order.proofs.Joined.{past_coefficient}
+use Rattle.candidate_order.proofs.NextLoop.{opposite_part}
 use Rattle.lex_max.specs.Answer.{IsCycle}
 use Rattle.lex_max.specs.Asked.{depth_of_write}
 use Rattle.lex_max.specs.Closed.{bound_at, number_parts, AreClosed, IsBound, IsClosure, IsNegativeCycle}
@@ -36,17 +36,18 @@ use Rattle.lex_max.specs.declared.closure.Bounds.{Bounds}
 use Rattle.lex_max.specs.declared.closure.Closure.TheVariants.{Closed}
 use Rattle.lex_max.specs.declared.cycles.Cycle.{Cycle}
 use Rattle.lex_max.specs.declared.edges.Edge.{Edge}
-use Rattle.lex_max.proofs.Ordering.{raised_part}
+use Rattle.lex_max.proofs.OrderEdges.{raised_part}
 use Rattle.lex_max.proofs.Root.{negative_contradicts}
-use Rattle.lex_max.proofs.Rounding.{opposite_contradicts, round_form, round_terms}
-use Rattle.lex_max.proofs.Small.{farther, opposite_fits, opposite_form}
-use Rattle.lex_max.proofs.Walking.{all_at, dropped_at, path_edge, path_join, path_same}
+use Rattle.lex_max.proofs.ZeroCycles.{opposite_contradicts, round_form, round_terms}
+use Rattle.lex_max.proofs.Small.{opposite_fits, opposite_form}
+use Rattle.lex_max.proofs.PathSums.{dropped_at, path_edge, path_join, path_same}
+use Rattle.plain_data.proofs.Lists.{All-slice_get}
 use Rattle.row_sums.specs.Parts.{Part, the_constant, the_coefficient, part_of, weighted_sum, IsWithin}
 use Rattle.row_sums.specs.Shown.{RowParts}
 use Rattle.row_sums.proofs.Bound.{sum_within}
 use Rattle.row_sums.proofs.Ideal.{sum_part}
 use Rattle.row_sums.proofs.Weights.{weight_sum}
-use Rattle.sanlp.proofs.ModerateForms.{abs_sum}
+use Rattle.row_sums.proofs.Within.{IsWithin-weaker}
 
 -- Edges behind others
 
@@ -100,18 +101,18 @@ module _ (edges : List Edge) (vars : ℕ) (out back : Edge) (bound : Bound) (out
 
   pub sum_small : IsWithin (2 ^ 50) (form_sum out.weight back.weight)
   sum_small =
-      farther (2 ^ 49 + 2 ^ 49) (2 ^ 50) (form_sum out.weight back.weight) (omega arith)
+      IsWithin-weaker (2 ^ 49 + 2 ^ 49) (2 ^ 50) (form_sum out.weight back.weight) (omega arith)
       (sum_within (2 ^ 49) (2 ^ 49) out.weight back.weight a.out_near.within a.back_near.within)
 
   pub form_small : IsWithin (2 ^ 60) form
   form_small = record {
     constant = omega
-        (arith, abs_sum (form_sum out.weight back.weight).constant bound.value, sum_small.constant, a.path.near);
-    coefs = (farther (2 ^ 50) (2 ^ 60) (form_sum out.weight back.weight) (omega arith) sum_small).coefs;
+        (arith, unsigned_abs-sum (form_sum out.weight back.weight).constant bound.value, sum_small.constant, a.path.near);
+    coefs = (IsWithin-weaker (2 ^ 50) (2 ^ 60) (form_sum out.weight back.weight) (omega arith) sum_small).coefs;
   }
 
   pub form_over : length form.coefs ≡ vars
-  form_over = length_sums out.weight.coefs back.weight.coefs even ∙ a.out_near.over
+  form_over = length-sums out.weight.coefs back.weight.coefs even ∙ a.out_near.over
 
   part_is : (part : Part) → part_of part out.weight +ℤ (number_parts bound.value part +ℤ part_of part back.weight)
       ≡ form_parts form part
@@ -157,7 +158,7 @@ module _ (edges : List Edge) (vars : ℕ) (out back : Edge) (bound : Bound) (out
           node = back.to;
           narrow = λ i past.
               (let gone : part_of (the_coefficient i) form ≡ pos 0 =
-              past_coefficient form.coefs i (omega (arith, past, vars_is, form_over)) in
+              get_or_past form.coefs i (pos 0) (omega (arith, past, vars_is, form_over)) in
               let none : slice_index_or [] i (pos 0) ≡ pos 0 = refl in
               omega (arith, ints, opposite_part form (the_coefficient i), gone, none));
           shows = opposed.shows;
@@ -191,7 +192,7 @@ pub cycle_contradicts : (context : System) (edges : List Edge) (cycle : Cycle) (
 cycle_contradicts context edges cycle other shown terms h negated fact is =
     let same : other ≡ opposite_form cycle.form
     = same_Some other (opposite_form cycle.form)
-    (sym negated ∙ opposite_fits cycle.form (farther (2 ^ 40) (2 ^ 60) cycle.form (omega arith) h.within)) in
+    (sym negated ∙ opposite_fits cycle.form (IsWithin-weaker (2 ^ 40) (2 ^ 60) cycle.form (omega arith) h.within)) in
     record {
       shown = shown;
       rows = cycle.terms;
@@ -210,7 +211,7 @@ negative_is_contradicted context edges rows terms h is =
 pub near_own : (vars depth : ℕ) (edges : List Edge) → All (IsEdge vars depth) edges → All (IsNearEdge vars) edges
 near_own vars depth edges h =
     All-weaker (IsEdge vars depth) (IsNearEdge vars)
-    (λ g e. record { over = e.over; within = farther (2 ^ 33) (2 ^ 49) g.weight (omega arith) e.within }) edges h
+    (λ g e. record { over = e.over; within = IsWithin-weaker (2 ^ 33) (2 ^ 49) g.weight (omega arith) e.within }) edges h
 
 pub numbered_next : (edges some : List Edge) (g : Edge) (number : ℕ) → AreNumbered edges (g ∷ some) number
     → (slice_get edges number ≡ Some g) × AreNumbered edges some (number + 1)
@@ -247,8 +248,8 @@ out_round context own edges bounds node out outs number back back_number bound h
     record {
       out_is = is;
       back_is = h.to.is;
-      out_near = all_at (IsNearEdge context.vars) edges number out h.to.near is;
-      back_near = all_at (IsNearEdge context.vars) edges back_number back h.to.near h.to.is;
+      out_near = All-slice_get (IsNearEdge context.vars) edges number out h.to.near is;
+      back_near = All-slice_get (IsNearEdge context.vars) edges back_number back h.to.near h.to.is;
       path = bound_first own edges out.to back.from bound h.to.begins
           (subst (λ o. IfSome o (IsBound own 64 out.to back.from)) found (h.to.bounds_are out.to back.from));
       same = from ∙ sym h.to.last;

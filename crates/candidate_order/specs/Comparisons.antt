@@ -1,5 +1,6 @@
 -- Two points, the best and a new one, compared loop by loop.
-use Rattle.std.specs.Prelude.{◌≡◌, ◌≤◌, ◌<◌, ◌^◌, ◌+◌, ℕ, List, length, All, Option, Some, slice_get, IfSome}
+use Rattle.std.specs.Prelude.{◌≡◌, ◌≤◌, ◌<◌, ◌^◌, ◌+◌, ◌*◌, ℕ, List, length, All, Option, Some, slice_get, IfSome}
+use Rattle.std.specs.Option.{option_map_or}
 use Rattle.affine_core.specs.declared.form.Form.{Form}
 use Rattle.int_polyhedra.specs.declared.system.System.{System}
 use Rattle.int_polyhedra.specs.declared.system.Term.{Term}
@@ -58,11 +59,26 @@ IsComparison context w u pair (Later order) =
     IsOrder context 65536 w u pair.best.now pair.new.now order
 IsComparison context w u pair (Open c) = IsComparedSoFar context pair c
 
--- where it is open, there is a next loop
-abbrev pub HasNextLoop : Pair → Comparison → Type 0
-HasNextLoop pair (Earlier order) = Unit {0}
-HasNextLoop pair (Later order) = Unit {0}
-HasNextLoop pair (Open c) = length c.equal < pair.common
+-- 1 where a half of the next loop is told, and else 0
+abbrev pub count_had : Option (List Term) → ℕ
+count_had had = option_map_or (λ ts. 1) had 0
+
+-- how many halves of equal loops are told: two of each that is equal, and those that are had of the next
+abbrev pub facts_had : Compared → ℕ
+facts_had c = 2 * length c.equal + (count_had c.upper + count_had c.lower)
+
+-- where it is open, there is a next loop, and no fewer halves are told, but not both of that loop
+abbrev pub HasNextLoop : Pair → ℕ → Comparison → Type 0
+HasNextLoop pair had (Earlier order) = Unit {0}
+HasNextLoop pair had (Later order) = Unit {0}
+HasNextLoop pair had (Open c) =
+    (length c.equal < pair.common) × (had ≤ facts_had c) × (facts_had c ≤ 2 * length c.equal + 1)
+
+-- where it is open, more halves are told
+abbrev pub TellsMore : ℕ → Comparison → Type 0
+TellsMore had (Earlier order) = Unit {0}
+TellsMore had (Later order) = Unit {0}
+TellsMore had (Open c) = had < facts_had c
 
 -- the Test's form is over the variables, and both sides of it are told
 pub record IsQuestion (context : System) (w u : Occurrence) (pair : Pair) (q : Question)

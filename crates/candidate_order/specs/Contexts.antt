@@ -11,7 +11,7 @@ pub record IsPathContext (vars room : ℕ) (context : System) : Type 0 where
   pub vars_are : context.vars ≡ vars
   pub over : AreOver context.vars context.rows
   pub within : All (IsWithin (2 ^ 50)) context.rows
-  pub few : length context.rows + room ≤ 2 ^ 31
+  pub few : length context.rows + room ≤ 2 ^ 30
 
 -- the context is made as these rows
 pub record IsMadeAs (context : System) (c : Context) : Type 0 where

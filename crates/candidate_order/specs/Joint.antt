@@ -1,5 +1,5 @@
 -- The systems of the leaves of a joined tree, and when such a tree is checked.
-use Rattle.std.specs.Prelude.{◌≡◌, ◌^◌, ◌+◌, ℕ, List, [], ◌∷◌, ◌++◌, length, All, Contains}
+use Rattle.std.specs.Prelude.{◌≡◌, ◌^◌, ◌+◌, List, [], ◌∷◌, ◌++◌, length, All, Contains}
 use Rattle.std.specs.List.{flat_map}
 use Rattle.affine_core.specs.declared.form.Form.{Form}
 use Rattle.candidate_order.specs.Contexts.{IsMadeAs}
@@ -70,7 +70,7 @@ pub data IsCheckedForAll (pairs : List ReadAndWrite) : Context → Tree → Type
       → AreRefuted (dead_systems c) (proof ∷ [])
       → IsCheckedForAll pairs c tree
 
--- so it is in each context that is made as these rows
+-- a tree is checked for these reads and writes in each context that is made as these rows
 abbrev pub IsJoinedTree : Read → System → Tree → Type 0
 IsJoinedTree r context tree =
     (c : Context) → IsMadeAs context c → IsCheckedForAll (pairs_of r) c tree

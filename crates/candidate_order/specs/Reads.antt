@@ -33,6 +33,7 @@ write_in p = record {
   access = record p.write.access.now { subscripts = p.write_forms.now };
 }
 
+-- the read and the write of a problem
 abbrev pub pair_in : Read → Problem → ReadAndWrite
 pair_in r p = record { read = read_in r p; write = write_in p }
 
@@ -40,10 +41,11 @@ pair_in r p = record { read = read_in r p; write = write_in p }
 abbrev pub pairs_with : Read → List Problem → List ReadAndWrite
 pairs_with r problems = map (pair_in r) problems
 
+-- the read and the write of each of a read's problems
 abbrev pub pairs_of : Read → List ReadAndWrite
 pairs_of r = pairs_with r r.problems.now
 
--- those of writes at one level
+-- the read and the write of writes at one level
 abbrev pub pair_of : Writes → ReadAndWrite
 pair_of w = record { read = read_of w; write = write_of w }
 

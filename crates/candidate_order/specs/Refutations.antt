@@ -19,7 +19,7 @@ RefutesWrites o context p proof =
     → AreLevelRows o.read o.write p (writer_place c o.write) level
     → IsRefuted (with_rows (with_write_at o.read c o.write) (level ++ [])) proof
 
--- the same, where the write stands after this point of w at level q
+-- the proof refutes a write at level p before its read that stands after this point of w at level q
 abbrev pub RefutesBetween : ReadAndWrite → System → ℕ → Occurrence → List Form → ℕ → Proof → Type 0
 RefutesBetween o context p w place q proof =
     (c : Context) (level order : List RowExpr) → IsMadeAs context c

@@ -1,5 +1,5 @@
 -- What became of candidates on a path.
-use Rattle.std.specs.Prelude.{◌≡◌, ℕ, Bool, List, [], ◌∷◌, Option, Some, None, IsTrue}
+use Rattle.std.specs.Prelude.{◌≡◌, ℕ, Bool, List, [], ◌∷◌, reverse, Option, Some, None, IsTrue}
 use Rattle.std.specs.List.{list_any}
 use Rattle.affine_core.specs.declared.form.Form.{Form}
 use Rattle.int_polyhedra.specs.declared.system.System.{System}
@@ -11,9 +11,11 @@ use Rattle.candidate_order.specs.declared.order.Order.{Order}
 use Rattle.candidate_order.specs.declared.seen.Outcome.{Outcome}
 use Rattle.candidate_order.specs.declared.seen.Outcome.TheVariants as outcome
 use Rattle.candidate_order.specs.declared.seen.Position.{Position}
+use Rattle.candidate_order.specs.declared.seen.Absence.{Absence}
 use Rattle.candidate_order.specs.declared.seen.Seen.{Seen}
-use Rattle.candidate_order.specs.declared.seen.Seen.TheOpen.{Seen-F, Start, Without, Before, Passed}
-use Rattle.candidate_order.specs.declared.seen.Seen.TheFolds.{fold-Seen}
+use Rattle.candidate_order.specs.declared.seen.Seen.TheVariants as seen
+use Rattle.int_polyhedra.specs.declared.system.Proof.TheVariants.{Sum}
+use Rattle.source_tree.specs.declared.tree.Tree.TheVariants.{Zero}
 use Rattle.lex_max.specs.Asked.{write_of}
 
 -- a candidate that was followed to a leaf: it has no point, its point stands before the best, or it was the
@@ -23,15 +25,42 @@ pub data Sighting : Type 0 where
   before : Position → Order → Sighting
   passed : Position → Order → Sighting
 
-abbrev pub sightings_step : Seen-F (List Sighting) → List Sighting
-sightings_step Start = []
-sightings_step (Without above at) = without at.now ∷ above.now
-sightings_step (Before above at order) = before at.now order.now ∷ above.now
-sightings_step (Passed above at order) = passed at.now order.now ∷ above.now
+-- a candidate without a point, as a position at a Zero leaf
+abbrev pub absent_at : Absence → Position
+absent_at a = record {
+  candidate = a.candidate;
+  node = record { ref_ptr = (0, 0); now = Zero (Sum a.terms ∷ []) };
+  rows = a.rows;
+}
 
--- the sightings of a chain, the last one first
-abbrev pub sightings_of : Seen → List Sighting
-sightings_of = fold-Seen (List Sighting) sightings_step
+-- the best of what was seen, the last one first
+abbrev pub best_from : List Seen → Option Position
+best_from [] = None
+best_from (seen.Without absence ∷ rest) = best_from rest
+best_from (seen.First at ∷ rest) = Some at
+best_from (seen.Before at order ∷ rest) = best_from rest
+best_from (seen.After at order ∷ rest) = Some at
+
+-- one that was the best, if there was one, is a sighting from here on
+abbrev pub with_passed : Option Position → Order → List Sighting → List Sighting
+with_passed None order sightings = sightings
+with_passed (Some best) order sightings = passed best order ∷ sightings
+
+-- the sightings of all but the best, the last one first
+abbrev pub sightings_from : List Seen → List Sighting
+sightings_from [] = []
+sightings_from (seen.Without absence ∷ rest) = without (absent_at absence) ∷ sightings_from rest
+sightings_from (seen.First at ∷ rest) = sightings_from rest
+sightings_from (seen.Before at order ∷ rest) = before at order ∷ sightings_from rest
+sightings_from (seen.After at order ∷ rest) =
+    with_passed (best_from rest) order (sightings_from rest)
+
+-- the same, the last one at the end
+abbrev pub best_in : List Seen → Option Position
+best_in all = best_from (reverse all)
+
+abbrev pub sightings_of : List Seen → List Sighting
+sightings_of all = sightings_from (reverse all)
 
 -- the point of one position stands before that of another
 pub record StandsBefore (context : System) (most : ℕ) (first second : Position) (order : Order)
@@ -69,8 +98,9 @@ is_seen u p sightings =
 
 -- what became of the candidate of this writer and level
 abbrev pub IsOutcome : Read → System → ℕ → Option Position → ℕ → ℕ → Outcome → Type 0
-IsOutcome r context most best u p (outcome.Without at) =
-    IsTrue (is_candidate_of u p at.now.candidate.now) × (IsAt r context at.now × IsEmptyAt at.now)
+IsOutcome r context most best u p (outcome.Without absence) =
+    IsTrue (is_candidate_of u p absence.now.candidate.now)
+    × (IsAt r context (absent_at absence.now) × IsEmptyAt (absent_at absence.now))
 IsOutcome r context most None u p (outcome.Before at order) = ⊥
 IsOutcome r context most (Some best) u p (outcome.Before at order) =
     IsTrue (is_candidate_of u p at.now.candidate.now)

@@ -1,20 +1,19 @@
 ghost use Rattle.std.specs.Prelude.{◌≡◌, length, All, Contains, IfOk, OnOk};
 ghost use Rattle.lex_max.specs.Answer.{IsCycle};
-ghost use Rattle.lex_max.specs.Asked.{depth_of_write, occurrence_of, read_of, write_of, IsAsked};
+ghost use Rattle.lex_max.specs.Asked.{depth_of_write, read_of, write_of, IsAsked};
 ghost use Rattle.lex_max.specs.Closed.{IsClosure};
 ghost use Rattle.lex_max.specs.Level.{HasLevel};
 ghost use Rattle.lex_max.specs.Rounds.{IsGraphOf};
 ghost use Rattle.candidate_order.specs.Candidates.{is_candidate_of, levels_before, AddsLevel, AreCandidates, IsCandidate};
 ghost use Rattle.candidate_order.specs.Reads.{read_in, write_in, IsJoined};
+ghost use Rattle.source_tree.specs.References.{occurrence_of};
 
 use affine_core::{Form, Row};
 use int_polyhedra::System;
-use lex_max::{
-    Closure, Cycle, Edge, Graph, Reference, Writes, closure_of, common_loops, cycles_of, edges_of,
-    tree_of,
-};
+use lex_max::{Closure, Cycle, Edge, Graph, Writes, closure_of, cycles_of, edges_of, tree_of};
 use plain_data::Items;
-use source_tree::Tree;
+use sanlp::common_loops;
+use source_tree::{Reference, Tree};
 use std::alloc::{AllocError, Global};
 
 /// A write of a read's array, told by differences over the variables of the read's context: `rows` are the writer's domain

@@ -1,7 +1,7 @@
-ghost use Rattle.std.specs.Prelude.{◌≡◌, ◌<◌, ◌^◌, ◌+ℤ◌, ◌++◌, ◌∷◌, [], ℕ, negsuc, List, length, None, IfOk};
+ghost use Rattle.std.specs.Prelude.{◌≡◌, ◌<◌, ◌≤◌, ◌+◌, ◌*◌, ◌^◌, ◌+ℤ◌, ◌++◌, ◌∷◌, [], ℕ, negsuc, List, length, None, IfOk};
 ghost use Rattle.affine_core.specs.declared.form.Form.{Form as FormOf};
 ghost use Rattle.int_polyhedra.specs.declared.system.System.{System as SystemOf};
-ghost use Rattle.candidate_order.specs.Comparisons.{AreForms, ArePoints, HasNextLoop, IsComparedSoFar, IsComparison, IsGap, IsHad, IsQuestion};
+ghost use Rattle.candidate_order.specs.Comparisons.{count_had, facts_had, AreForms, ArePoints, HasNextLoop, IsComparedSoFar, IsComparison, IsGap, IsHad, IsQuestion, TellsMore};
 ghost use Rattle.candidate_order.specs.Orders.{turned_equal, AreEqual};
 ghost use Rattle.lex_max.specs.Facts.{IsContext};
 ghost use Rattle.row_sums.specs.Parts.{IsWithin};
@@ -131,7 +131,7 @@ fn by_text(pair: &Pair, equal: Items<Equality>) -> Result<Comparison, AllocError
         → ArePoints context.vars w u pair.now
         → AreEqual context 65536 pair.now.new.now pair.now.best.now equal
         → length equal ≡ pair.now.common → IsComparison context w u pair.now comparison) }
-    ensures next { IfOk result (HasNextLoop pair.now) }
+    ensures next { IfOk result (λ comparison. (had : ℕ) → HasNextLoop pair.now had comparison) }
 {
     if pair.new_writer <= pair.best_writer {
         return Ok(earlier(equal, None));
@@ -147,9 +147,10 @@ fn had_or_known(
 ) -> Result<Option<Items<Term>>, AllocError>
     requires context { IsContext context.now }
     requires over { length form.now.coefs ≡ context.now.vars }
-    ensures { IfOk result (λ found. (a b : List FormOf) (l : ℕ)
+    ensures had { IfOk result (λ found. (a b : List FormOf) (l : ℕ)
         → IsGap context.now.vars a b l form.now → IsHad context.now l a b had
         → IsHad context.now l a b found) }
+    ensures kept { IfOk result (λ found. count_had had ≤ count_had found) }
 {
     match had {
         Some(terms) => Ok(Some(terms)),
@@ -170,7 +171,7 @@ pub fn compare_points(
     ensures order { IfOk result (λ comparison. (w u : Occurrence)
         → ArePoints context.now.vars w u pair.now
         → IsComparison context.now w u pair.now comparison) }
-    ensures next { IfOk result (HasNextLoop pair.now) }
+    ensures next { IfOk result (HasNextLoop pair.now (facts_had compared)) }
 {
     let Compared {
         equal,
@@ -215,10 +216,13 @@ pub fn test_of_next_loop(pair: &Pair, compared: Compared, row: u32) -> Result<Qu
     requires points { (w : Occurrence) × (u : Occurrence) × (vars : ℕ)
         × ArePoints vars w u pair.now }
     requires next { length compared.equal < pair.now.common }
-    ensures { IfOk result (λ asked. (context : SystemOf) (w u : Occurrence)
+    requires half { facts_had compared ≤ 2 * length compared.equal + 1 }
+    ensures question { IfOk result (λ asked. (context : SystemOf) (w u : Occurrence)
         → row ≡ length context.rows
         → ArePoints context.vars w u pair.now → IsComparedSoFar context pair.now compared
         → IsQuestion context w u pair.now asked) }
+    ensures more { IfOk result (λ asked. TellsMore (facts_had compared) asked.above
+        × TellsMore (facts_had compared) asked.below) }
 {
     let alloc = pair.alloc;
     let Compared {

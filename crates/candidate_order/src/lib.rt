@@ -1,5 +1,8 @@
 //! Candidates for the last write before a read: the writes of one statement at one level of order, how the points of two
 //! statements stand to each other, and proofs of candidates in a joined context (Feautrier 1991).
+//!
+//! Between two calls, or from one step of the main loop to the next: the loops that are equal so far are shown so both
+//! ways.
 #![tactic(auto)]
 
 mod absence;
@@ -17,5 +20,5 @@ pub use compare::{
     Compared, Comparison, Pair, Question, compare_points, test_of_next_loop, unopened,
 };
 pub use order::{Equality, Order};
-pub use seen::{Outcome, Position, Seen, outcome_of};
+pub use seen::{Absence, Outcome, Position, Seen, best_of, outcome_of};
 pub use walk::{Followed, follow};

@@ -1,5 +1,6 @@
-ghost use Rattle.std.specs.Prelude.{IfOk};
+ghost use Rattle.std.specs.Prelude.{◌≤◌, IfOk};
 ghost use Rattle.candidate_order.specs.declared.candidates.Candidate.{Candidate as CandidateOf};
+ghost use Rattle.candidate_order.specs.Heights.{height_of};
 ghost use Rattle.candidate_order.specs.Positions.{IsNode};
 ghost use Rattle.lex_max.specs.Facts.{IsContext};
 
@@ -25,8 +26,9 @@ pub fn follow<'a>(
 ) -> Result<Followed<'a>, AllocError>
     requires context { IsContext context.now }
     requires node { (c : CandidateOf) × IsNode context.now c node.now rows }
-    ensures { IfOk result (λ to. (c : CandidateOf)
+    ensures node { IfOk result (λ to. (c : CandidateOf)
         → IsNode context.now c node.now rows → IsNode context.now c to.node.now to.rows) }
+    ensures lower { IfOk result (λ to. height_of to.node.now ≤ height_of node.now) }
 {
     let Tree::Test(form, yes, no) = node else {
         return Ok(Followed { node, rows });

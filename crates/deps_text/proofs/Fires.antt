@@ -4,7 +4,7 @@
 -- the tag of the last writer u of t, which is the process of u with the number of u among that process's entries; so
 -- the vector at the tag's turn is that of the point of u. Turn by turn, then, the text over points and table is that
 -- over the entries. Nothing is shown here of which entry is the last writer: both texts have it from the definition.
-use Rattle.std.proofs.Common.{◌≡◌, ◌<◌, ◌+◌, ℕ, zero, suc, ℤ, List, [], ◌∷◌, ◌++◌, map, length, refl, sym, ap, ◌∙◌, arith}
+use Rattle.std.proofs.Common.{◌≡◌, ◌<◌, ◌+◌, ℕ, suc, ℤ, List, [], ◌∷◌, ◌++◌, map, length, refl, sym, ap, ◌∙◌, arith}
 use Rattle.std.proofs.Common.{zero-add, append_assoc, get_or}
 use Rattle.std.specs.Prelude.{◌==◌, Option, Some, None, slice_get, codes, decimal, count_by, take}
 use Rattle.std.specs.List.{enumerate_from, flat_map}
@@ -12,7 +12,7 @@ use Rattle.std.specs.Option.{option_and_then, option_map, option_map_or}
 use Rattle.std.proofs.lemmas.List.{length-map}
 use Rattle.std.proofs.lemmas.Option.{get_or_from_slice_get, same_Some}
 use Rattle.net_core.proofs.Entries.{entry_at_turn, turn_of_entry}
-use Rattle.net_core.proofs.Valued.{vectors_at}
+use Rattle.net_core.proofs.FireValues.{vectors_at}
 use Rattle.net_core.specs.Rules.{vector_at}
 use Rattle.sanlp.specs.Access.{read_count}
 use Rattle.sanlp.specs.Laws.{entries_of}
@@ -23,7 +23,7 @@ use Rattle.sanlp.specs.Writers.{last_writer}
 use Rattle.sanlp.specs.declared.nest.Nest.{Nest}
 use Rattle.sanlp.specs.declared.nest.Point.{Point}
 use Rattle.sanlp.specs.declared.nest.Tag.{Tag}
-use Rattle.source_tree.proofs.Numbered.{read_at}
+use Rattle.source_tree.proofs.TableNumbers.{read_at}
 use Rattle.source_tree.specs.Sources.{read_number, read_sources, source_at, sources_of}
 use Rattle.text_out.specs.Words.{line_text}
 use Rattle.text_out.specs.Wrote.{Given, Wrote}

@@ -1,4 +1,4 @@
 mod Fires
 mod Lookups
 mod Statements
-mod Told
+mod DependenceRange

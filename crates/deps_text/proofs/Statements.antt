@@ -1,32 +1,14 @@
 -- The reads of the statements of a nest, and lists of them.
-use Rattle.std.proofs.Common.{◌≡◌, ◌∙◌, ◌<◌, ◌+◌, ℕ, zero, suc, List, [], ◌∷◌, ◌++◌, map, length, take, ap, sym, arith}
+use Rattle.std.proofs.Common.{◌≡◌, ◌∙◌, ◌<◌, ◌+◌, ℕ, zero, suc, List, [], ◌∷◌, ◌++◌, map, length, ap, sym, arith}
 use Rattle.std.proofs.Common.{append_assoc, zero-add}
 use Rattle.std.proofs.lemmas.List.{map-append}
 use Rattle.std.proofs.lemmas.List.FromFn.{map-range_with_len_more}
-use Rattle.std.proofs.lemmas.List.Sums.{sum_by_more}
-use Rattle.std.proofs.lemmas.Option.{get_or_from_slice_get, slice_get_within}
-use Rattle.std.specs.List.{range_with_len, sum_by}
-use Rattle.std.specs.Prelude.{Some, slice_get}
+use Rattle.std.specs.List.{range_with_len}
+use Rattle.std.specs.Prelude.{slice_get}
 use Rattle.std.specs.Option.{option_map_or}
-use Rattle.sanlp.specs.Access.{read_count}
-use Rattle.sanlp.specs.declared.nest.Nest.{Nest}
 use Rattle.sanlp.specs.declared.nest.Statement.{Statement}
 use Rattle.deps_text.specs.Dependences.{read_of}
 use Rattle.deps_text.specs.declared.dependence.Dependence.{Dependence}
-
--- how many reads a statement has
-pub count_is : (n : Nest) (s : ℕ) (statement : Statement) → slice_get n.statements s ≡ Some statement
-    → read_count n s ≡ length statement.reads
-count_is n s statement is = ap (λ found. option_map_or (λ st. length st.reads) found 0) is
-
--- the reads of one statement more
-pub reads_more : (statements : List Statement) (s : ℕ) (statement : Statement) → slice_get statements s ≡ Some statement
-    → sum_by (λ st. length st.reads) (take (s + 1) statements)
-    ≡ sum_by (λ st. length st.reads) (take s statements) + length statement.reads
-reads_more statements s statement is =
-    sum_by_more (λ st. length st.reads) statements s statement (slice_get_within statements s statement is)
-    ∙ ap (λ (st : Statement). sum_by (λ x. length x.reads) (take s statements) + length st.reads)
-    (get_or_from_slice_get statements s statement statement is)
 
 -- a statement with a read is there
 pub statement_of_read : (statements : List Statement) (s k : ℕ)

@@ -14,7 +14,7 @@ use Rattle.stride_rows.specs.Class.{IsInStrideClass}
 abbrev pub HasTree : Nest → ℕ → ℕ → Type 0
 HasTree = IsInStrideClass
 
--- every read has one
+-- every read has a tree
 abbrev pub AllHaveTrees : Nest → Type 0
 AllHaveTrees n = (s k : ℕ) → k < read_count n s → HasTree n s k
 

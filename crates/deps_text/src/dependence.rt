@@ -91,7 +91,7 @@ fn push_reads(
 
 /// Where each read of the nest has its values from, in the order of statements and reads: a read of the stride class
 /// has an exact tree, which is checked, whatever the size of the nest, and another read has its last writers. Nothing is
-/// refused but want of memory; one tree has room for 1,024 nodes, and nests 128 Tests deep at most.
+/// refused but want of memory: there is no limit on a tree.
 pub fn dependences(alloc: Global, nest: &Nest) -> Result<Items<Dependence>, AllocError>
     ensures { IfOk result (AreDependences nest.now) }
 {

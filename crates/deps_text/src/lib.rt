@@ -1,4 +1,7 @@
 //! Where each read of a nest has its values from, at any size of the nest (Feautrier 1991), and the text that tells it.
+//!
+//! Between two calls, or from one step of the main loop to the next: the dependences so far are of the first reads,
+//! each with its tree where it has one; written: a front of the text.
 #![tactic(auto)]
 
 mod dependence;

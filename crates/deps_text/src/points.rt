@@ -1,5 +1,5 @@
 ghost use Rattle.std.specs.Option.{option_map};
-ghost use Rattle.std.specs.Prelude.{◌≡◌, ◌<◌, ◌≤◌, ◌*◌, [], length, slice_index_or};
+ghost use Rattle.std.specs.Prelude.{◌≡◌, ◌<◌, [], length, slice_index_or};
 ghost use Rattle.deps_text.specs.DepsText.{points_text, source_word};
 ghost use Rattle.deps_text.specs.FireLines.{IsSweptOf, turn_line, turn_lines};
 ghost use Rattle.net_core.specs.Rules.{vector_at};
@@ -9,7 +9,7 @@ ghost use Rattle.text_out.specs.Wrote.{Wrote};
 
 use crate::swept::Swept;
 use point_text::{write_point, write_vector};
-use sanlp::{Nest, Points, Tag};
+use sanlp::{Nest, Points, Tag, reads_before};
 use source_tree::SourceTable;
 use text_out::{TextWriter, Word, write_line};
 
@@ -60,26 +60,13 @@ fn write_turn<W: TextWriter>(
 }
 
 // Writes a line for each turn of the reader.
-#[tactic(auto, using(text_out::proofs::Numbered::numbered))]
+#[tactic(auto, using(text_out::proofs::ItemNumbers::numbered))]
 fn write_turns<W: TextWriter>(points: &Points, reader: u32, sources: &[Option<Tag>], out: &mut W)
     ensures { Wrote W.given out.old out.new (turn_lines points.now.of reader sources.now) }
 {
     for (turn, source) in sources.iter().enumerate() {
         write_turn(points, reader, turn, *source, out);
     }
-}
-
-// How many reads the statements before one have together.
-fn reads_before(nest: &Nest, statement: u32) -> usize
-    requires { statement < length nest.now.statements }
-    ensures value { result ≡ read_number nest.now statement 0 }
-    ensures small { result ≤ 8 * statement }
-{
-    let mut total = 0;
-    for number in 0..statement {
-        total += nest.statement(number).reads.len();
-    }
-    total
 }
 
 // The sources of a read at each turn of its statement.
@@ -93,7 +80,10 @@ fn sources_at<'a>(
     requires read { read < read_count nest.now statement }
     ensures { result.now ≡ slice_index_or table.now.of (read_number nest.now statement read) [] }
 {
-    match table.of.get(reads_before(nest, statement) + read as usize) {
+    match table
+        .of
+        .get(reads_before(nest, statement as usize) + read as usize)
+    {
         Some(sources) => sources.as_slice(),
         None => &[],
     }

@@ -9,6 +9,7 @@ use Rattle.std.proofs.lemmas.List.{append-nil}
 use Rattle.std.proofs.lemmas.Option.{same_Some}
 use Rattle.affine_core.specs.Affine.{widened_form}
 use Rattle.last_writer.specs.Answers.{answered_context, below_answer}
+use Rattle.plain_data.proofs.Lists.{slice_get-append_some, slice_get-append_right}
 use Rattle.source_tree.specs.Rows.{RowExpr}
 use Rattle.source_tree.specs.Systems.{Context, divided_rows, one_more, undivided_rows}
 use Rattle.stride_trees.specs.declared.divisions.Division.{Division}
@@ -77,18 +78,6 @@ two_rows : (q : ℕ) (d : Division) (answer : Bool) → length (answer_rows q d 
 two_rows q d true = refl
 two_rows q d false = refl
 
-get_first : (rows more : List RowExpr) (k : ℕ) (e : RowExpr) → slice_get rows k ≡ Some e
-    → slice_get (rows ++ more) k ≡ Some e
-get_first [] more k e is = absurd (let no : None ≡ Some e = is in cc)
-get_first (x ∷ rows) more zero e is = is
-get_first (x ∷ rows) more (suc k) e is = get_first rows more k e is
-
-get_behind : (rows more : List RowExpr) (k : ℕ) → slice_get (rows ++ more) (length rows + k) ≡ slice_get more k
-get_behind [] more k = let e : 0 + k ≡ k = omega arith in ap (slice_get more) e
-get_behind (row ∷ rows) more k =
-    let e : suc (length rows) + k ≡ suc (length rows + k) = omega arith in
-    ap (slice_get (row ∷ (rows ++ more))) e ∙ get_behind rows more k
-
 rows_at : (q : ℕ) (tests : List Division) (answers : List Bool) (k i : ℕ) (test : Division) (answer : Bool) (e : RowExpr)
     → slice_get tests k ≡ Some test → slice_get answers k ≡ Some answer
     → slice_get (answer_rows (q + k) test answer) i ≡ Some e
@@ -104,7 +93,7 @@ rows_at q (d ∷ ds) (first ∷ answers) zero i test answer e t a is =
     ∙ ap (λ answer. slice_get (answer_rows q test answer) i) same_answer
     ∙ ap (λ q. slice_get (answer_rows q test answer) i) (sym here) ∙ is in
     (let n : 2 * 0 + i ≡ i = omega arith in ap (slice_get (answer_rows q d first ++ all_rows (q + 1) ds answers)) n)
-    ∙ get_first (answer_rows q d first) (all_rows (q + 1) ds answers) i e row
+    ∙ slice_get-append_some (answer_rows q d first) (all_rows (q + 1) ds answers) i e row
 rows_at q (d ∷ ds) (first ∷ answers) (suc k) i test answer e t a is =
     let n : 2 * suc k + i ≡ 2 + (2 * k + i) = omega arith in
     let next : q + suc k ≡ q + 1 + k = omega arith in
@@ -120,7 +109,7 @@ pub answer_row : (c : Context) (tests : List Division) (answers : List Bool) (mo
     → slice_get (answer_rows (c.vars + k) test answer) i ≡ Some e
     → slice_get ((answered_context c tests answers).rows ++ more) (length c.rows + (2 * k + i)) ≡ Some e
 answer_row c tests answers more k i test answer e t a is =
-    get_first (answered_context c tests answers).rows more (length c.rows + (2 * k + i)) e
+    slice_get-append_some (answered_context c tests answers).rows more (length c.rows + (2 * k + i)) e
     (ap (λ rows. slice_get rows (length c.rows + (2 * k + i))) (rows_are c tests answers)
-    ∙ get_behind c.rows (all_rows c.vars tests answers) (2 * k + i)
+    ∙ slice_get-append_right c.rows (all_rows c.vars tests answers) (2 * k + i)
     ∙ rows_at c.vars tests answers k i test answer e t a is)

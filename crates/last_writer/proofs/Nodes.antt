@@ -1,7 +1,7 @@
 -- Nodes of a joined tree: what its being checked says of each kind.
 --
 -- A tree is of one kind, and its parts are determined: two ways to write it open to one record.
-use Rattle.std.proofs.Common.{◌≡◌, ◌+◌, ◌^◌, ◌∙◌, ℕ, ℤ, List, [], ◌∷◌, length, sym, ap, subst}
+use Rattle.std.proofs.Common.{◌≡◌, ◌+◌, ◌^◌, ◌∙◌, ℕ, List, [], ◌∷◌, length, sym, ap, subst}
 use Rattle.std.specs.Prelude.{All}
 use Rattle.affine_core.specs.declared.form.Form.{Form}
 use Rattle.candidate_order.specs.Joint.{no_orders, place_systems, write_systems_of, IsCheckedForAll, IsSum}
@@ -13,31 +13,11 @@ use Rattle.last_writer.specs.declared.leaves.Answered.{Answered}
 use Rattle.row_sums.specs.Parts.{IsWithin}
 use Rattle.source_tree.specs.Checked.{AreRefuted, HaveVariables}
 use Rattle.source_tree.specs.Systems.{Context, dead_systems, test_no, test_yes}
-use Rattle.source_tree.specs.declared.tree.Tree.{Tree, out-Tree}
+use Rattle.source_tree.specs.declared.tree.Tree.{Tree}
 use Rattle.source_tree.specs.declared.tree.Tree.TheOpen as open_
 use Rattle.source_tree.specs.declared.tree.Tree.TheVariants.{Dead, Writer, Zero}
-use Rattle.source_tree.specs.declared.tree.Tree.TheViews.{Divides, Test, outs-Dead, outs-Divides, outs-Test, outs-Writer}
-use Rattle.source_tree.specs.declared.tree.Tree.TheViews.{outs-Zero}
-
-is_test : (tree : Tree) (form : Form) (a b : Tree) → tree ≡ Test form a b → out-Tree tree ≡ open_.Test form a b
-is_test tree form a b e = ap out-Tree e ∙ outs-Test form a b
-
-is_divides : (tree : Tree) (form : Form) (d : ℤ) (a b : Tree) → tree ≡ Divides form d a b
-    → out-Tree tree ≡ open_.Divides form d a b
-is_divides tree form d a b e = ap out-Tree e ∙ outs-Divides form d a b
-
-is_writer : (tree : Tree) (s : ℕ) (place : List Form) (proofs : List Proof) → tree ≡ Writer s place proofs
-    → out-Tree tree ≡ open_.Writer s place proofs
-is_writer tree s place proofs e = ap out-Tree e ∙ outs-Writer s place proofs
-
-is_zero : (tree : Tree) (proofs : List Proof) → tree ≡ Zero proofs → out-Tree tree ≡ open_.Zero proofs
-is_zero tree proofs e = ap out-Tree e ∙ outs-Zero proofs
-
-is_dead : (tree : Tree) (proof : Proof) → tree ≡ Dead proof → out-Tree tree ≡ open_.Dead proof
-is_dead tree proof e = ap out-Tree e ∙ outs-Dead proof
-
-joined : (tree : Tree) (x y : open_.Tree-F Tree) → out-Tree tree ≡ x → out-Tree tree ≡ y → x ≡ y
-joined tree x y e h = sym e ∙ h
+use Rattle.source_tree.specs.declared.tree.Tree.TheViews.{Test}
+use Rattle.source_tree.proofs.Views.{node-Test, node-Writer, node-Zero, node-Dead, node_unique}
 
 pub record AreBothJoined (pairs : List ReadAndWrite) (c : Context) (form : Form) (a b : Tree) : Type 0 where
   pub over : length form.coefs ≡ c.vars
@@ -50,7 +30,7 @@ module _ (pairs : List ReadAndWrite) where
       → tree ≡ Test form a b → AreBothJoined pairs c form a b
   joined_test _ _ form a b (at_test c tree f x y is over within first second) e =
       let same : open_.Test f x y ≡ open_.Test form a b =
-      joined tree (open_.Test f x y) (open_.Test form a b) (is_test tree f x y is) (is_test tree form a b e) in
+      node_unique tree (open_.Test f x y) (open_.Test form a b) (node-Test tree f x y is) (node-Test tree form a b e) in
       let forms : f ≡ form = cc in
       let above : x ≡ a = cc in
       let below : y ≡ b = cc in
@@ -64,67 +44,48 @@ module _ (pairs : List ReadAndWrite) where
       }
   joined_test _ _ form a b (at_writer c tree o place proofs is there deep over within refuted sums) e =
       absurd (let k : open_.Writer o.write.number place proofs ≡ open_.Test form a b =
-      joined tree (open_.Writer o.write.number place proofs) (open_.Test form a b)
-      (is_writer tree o.write.number place proofs is) (is_test tree form a b e) in cc)
+      node_unique tree (open_.Writer o.write.number place proofs) (open_.Test form a b)
+      (node-Writer tree o.write.number place proofs is) (node-Test tree form a b e) in cc)
   joined_test _ _ form a b (at_zero c tree proofs is refuted sums) e =
       absurd (let k : open_.Zero proofs ≡ open_.Test form a b =
-      joined tree (open_.Zero proofs) (open_.Test form a b) (is_zero tree proofs is) (is_test tree form a b e) in cc)
+      node_unique tree (open_.Zero proofs) (open_.Test form a b) (node-Zero tree proofs is) (node-Test tree form a b e) in cc)
   joined_test _ _ form a b (at_dead c tree proof is refuted) e =
       absurd (let k : open_.Dead proof ≡ open_.Test form a b =
-      joined tree (open_.Dead proof) (open_.Test form a b) (is_dead tree proof is) (is_test tree form a b e) in cc)
-
-  pub no_divides : {X : Type 0} (c : Context) (tree : Tree) (form : Form) (d : ℤ) (a b : Tree)
-      → IsCheckedForAll pairs c tree → tree ≡ Divides form d a b → X
-  no_divides _ _ form d a b (at_test c tree f x y is over within first second) e =
-      absurd (let k : open_.Test f x y ≡ open_.Divides form d a b =
-      joined tree (open_.Test f x y) (open_.Divides form d a b) (is_test tree f x y is) (is_divides tree form d a b e)
-      in cc)
-  no_divides _ _ form d a b (at_writer c tree o place proofs is there deep over within refuted sums) e =
-      absurd (let k : open_.Writer o.write.number place proofs ≡ open_.Divides form d a b =
-      joined tree (open_.Writer o.write.number place proofs) (open_.Divides form d a b)
-      (is_writer tree o.write.number place proofs is) (is_divides tree form d a b e) in cc)
-  no_divides _ _ form d a b (at_zero c tree proofs is refuted sums) e =
-      absurd (let k : open_.Zero proofs ≡ open_.Divides form d a b =
-      joined tree (open_.Zero proofs) (open_.Divides form d a b) (is_zero tree proofs is) (is_divides tree form d a b e)
-      in cc)
-  no_divides _ _ form d a b (at_dead c tree proof is refuted) e =
-      absurd (let k : open_.Dead proof ≡ open_.Divides form d a b =
-      joined tree (open_.Dead proof) (open_.Divides form d a b) (is_dead tree proof is) (is_divides tree form d a b e)
-      in cc)
+      node_unique tree (open_.Dead proof) (open_.Test form a b) (node-Dead tree proof is) (node-Test tree form a b e) in cc)
 
   pub joined_zero : (c : Context) (tree : Tree) (proofs : List Proof) → IsCheckedForAll pairs c tree → tree ≡ Zero proofs
       → AreRefuted (write_systems_of pairs c no_orders) proofs × All IsSum proofs
   joined_zero _ _ proofs (at_test c tree f x y is over within first second) e =
       absurd (let k : open_.Test f x y ≡ open_.Zero proofs =
-      joined tree (open_.Test f x y) (open_.Zero proofs) (is_test tree f x y is) (is_zero tree proofs e) in cc)
+      node_unique tree (open_.Test f x y) (open_.Zero proofs) (node-Test tree f x y is) (node-Zero tree proofs e) in cc)
   joined_zero _ _ proofs (at_writer c tree o place own is there deep over within refuted sums) e =
       absurd (let k : open_.Writer o.write.number place own ≡ open_.Zero proofs =
-      joined tree (open_.Writer o.write.number place own) (open_.Zero proofs)
-      (is_writer tree o.write.number place own is) (is_zero tree proofs e) in cc)
+      node_unique tree (open_.Writer o.write.number place own) (open_.Zero proofs)
+      (node-Writer tree o.write.number place own is) (node-Zero tree proofs e) in cc)
   joined_zero _ _ proofs (at_zero c tree own is refuted sums) e =
       let k : open_.Zero own ≡ open_.Zero proofs =
-      joined tree (open_.Zero own) (open_.Zero proofs) (is_zero tree own is) (is_zero tree proofs e) in
+      node_unique tree (open_.Zero own) (open_.Zero proofs) (node-Zero tree own is) (node-Zero tree proofs e) in
       let same : own ≡ proofs = cc in
       (subst (AreRefuted (write_systems_of pairs c no_orders)) same refuted, subst (All IsSum) same sums)
   joined_zero _ _ proofs (at_dead c tree proof is refuted) e =
       absurd (let k : open_.Dead proof ≡ open_.Zero proofs =
-      joined tree (open_.Dead proof) (open_.Zero proofs) (is_dead tree proof is) (is_zero tree proofs e) in cc)
+      node_unique tree (open_.Dead proof) (open_.Zero proofs) (node-Dead tree proof is) (node-Zero tree proofs e) in cc)
 
   pub joined_dead : (c : Context) (tree : Tree) (proof : Proof) → IsCheckedForAll pairs c tree → tree ≡ Dead proof
       → AreRefuted (dead_systems c) (proof ∷ [])
   joined_dead _ _ proof (at_test c tree f x y is over within first second) e =
       absurd (let k : open_.Test f x y ≡ open_.Dead proof =
-      joined tree (open_.Test f x y) (open_.Dead proof) (is_test tree f x y is) (is_dead tree proof e) in cc)
+      node_unique tree (open_.Test f x y) (open_.Dead proof) (node-Test tree f x y is) (node-Dead tree proof e) in cc)
   joined_dead _ _ proof (at_writer c tree o place own is there deep over within refuted sums) e =
       absurd (let k : open_.Writer o.write.number place own ≡ open_.Dead proof =
-      joined tree (open_.Writer o.write.number place own) (open_.Dead proof)
-      (is_writer tree o.write.number place own is) (is_dead tree proof e) in cc)
+      node_unique tree (open_.Writer o.write.number place own) (open_.Dead proof)
+      (node-Writer tree o.write.number place own is) (node-Dead tree proof e) in cc)
   joined_dead _ _ proof (at_zero c tree own is refuted sums) e =
       absurd (let k : open_.Zero own ≡ open_.Dead proof =
-      joined tree (open_.Zero own) (open_.Dead proof) (is_zero tree own is) (is_dead tree proof e) in cc)
+      node_unique tree (open_.Zero own) (open_.Dead proof) (node-Zero tree own is) (node-Dead tree proof e) in cc)
   joined_dead _ _ proof (at_dead c tree own is refuted) e =
       let k : open_.Dead own ≡ open_.Dead proof =
-      joined tree (open_.Dead own) (open_.Dead proof) (is_dead tree own is) (is_dead tree proof e) in
+      node_unique tree (open_.Dead own) (open_.Dead proof) (node-Dead tree own is) (node-Dead tree proof e) in
       let same : own ≡ proof = cc in
       subst (λ p. AreRefuted (dead_systems c) (p ∷ [])) same refuted
 
@@ -132,12 +93,12 @@ pub joined_point : (w : Answered) (c : Context) (tree : Tree) (s : ℕ) (place :
     → IsCheckedForAll (pairs_of w) c tree → tree ≡ Writer s place proofs → IsJoinedPoint w c s place proofs
 joined_point w _ _ s place proofs (at_test c tree f x y is over within first second) e =
     absurd (let k : open_.Test f x y ≡ open_.Writer s place proofs =
-    joined tree (open_.Test f x y) (open_.Writer s place proofs) (is_test tree f x y is)
-    (is_writer tree s place proofs e) in cc)
+    node_unique tree (open_.Test f x y) (open_.Writer s place proofs) (node-Test tree f x y is)
+    (node-Writer tree s place proofs e) in cc)
 joined_point w _ _ s place proofs (at_writer c tree o place' proofs' is there deep over within refuted sums) e =
     let k : open_.Writer o.write.number place' proofs' ≡ open_.Writer s place proofs =
-    joined tree (open_.Writer o.write.number place' proofs') (open_.Writer s place proofs)
-    (is_writer tree o.write.number place' proofs' is) (is_writer tree s place proofs e) in
+    node_unique tree (open_.Writer o.write.number place' proofs') (open_.Writer s place proofs)
+    (node-Writer tree o.write.number place' proofs' is) (node-Writer tree s place proofs e) in
     let number : o.write.number ≡ s = cc in
     let forms : place' ≡ place = cc in
     let own : proofs' ≡ proofs = cc in
@@ -154,9 +115,9 @@ joined_point w _ _ s place proofs (at_writer c tree o place' proofs' is there de
     }
 joined_point w _ _ s place proofs (at_zero c tree own is refuted sums) e =
     absurd (let k : open_.Zero own ≡ open_.Writer s place proofs =
-    joined tree (open_.Zero own) (open_.Writer s place proofs) (is_zero tree own is) (is_writer tree s place proofs e)
+    node_unique tree (open_.Zero own) (open_.Writer s place proofs) (node-Zero tree own is) (node-Writer tree s place proofs e)
     in cc)
 joined_point w _ _ s place proofs (at_dead c tree own is refuted) e =
     absurd (let k : open_.Dead own ≡ open_.Writer s place proofs =
-    joined tree (open_.Dead own) (open_.Writer s place proofs) (is_dead tree own is) (is_writer tree s place proofs e)
+    node_unique tree (open_.Dead own) (open_.Writer s place proofs) (node-Dead tree own is) (node-Writer tree s place proofs e)
     in cc)

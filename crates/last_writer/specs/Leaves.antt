@@ -11,15 +11,15 @@ use Rattle.last_writer.specs.Writers.{AreWriters, IsReadOf}
 use Rattle.last_writer.specs.declared.leaves.Answered.{Answered}
 use Rattle.last_writer.specs.declared.leaves.Refusal.{Refusal}
 use Rattle.last_writer.specs.declared.writers.Writer.{Writer}
-use Rattle.lex_max.specs.Asked.{occurrence_of}
 use Rattle.lex_max.specs.Level.{common_of}
-use Rattle.lex_max.specs.declared.writes.Reference.{Reference}
+use Rattle.source_tree.specs.declared.reference.Reference.{Reference}
 use Rattle.row_sums.specs.Parts.{IsWithin}
 use Rattle.source_tree.specs.Checked.{AreRefuted, HaveVariables, IsCheckedIn}
 use Rattle.source_tree.specs.Places.{before_rows}
 use Rattle.source_tree.specs.Rows.{RowExpr, RowSystem}
 use Rattle.source_tree.specs.Systems.{Context, Occurrence, array_writes, every, more_rows, named_write, root_context, write_systems, writer_place, writer_systems}
 use Rattle.source_tree.specs.declared.tree.Tree.{Tree}
+use Rattle.source_tree.specs.References.{occurrence_of}
 use Rattle.stride_trees.specs.Contexts.{AreMadeSmall, IsPlaceIn}
 use Rattle.stride_trees.specs.Problem.{told_read, told_write}
 use Rattle.stride_trees.specs.Strides.{depth_of_write, read_of, write_of, IsSmallContext, IsStrided, IsTestOf}
@@ -145,7 +145,7 @@ pub record IsRefusal (s : Strides) (refusal : Refusal) : Type 0 where
 pub record CanBeConverted (w : Writer) (here : ℕ) : Type 0 where
   pub strided : IsStrided w.strides
   pub places : All (λ place. place < 6) w.places
-  pub few : here ≤ 8192
+  pub few : here ≤ 2 ^ 30
 
 -- one of the writers has this number
 abbrev pub HasWriter : List Writer → ℕ → Type 0

@@ -3,7 +3,7 @@ use Rattle.std.specs.Prelude.{◌≡◌, ◌≤◌, ◌^◌, ◌≤ℤ◌, ℕ, 
 use Rattle.std.specs.List.{AllZip, filter, sum_by}
 use Rattle.candidate_order.specs.Candidates.{levels_before}
 use Rattle.last_writer.specs.declared.writers.Writer.{Writer}
-use Rattle.lex_max.specs.declared.writes.Reference.{Reference}
+use Rattle.source_tree.specs.declared.reference.Reference.{Reference}
 use Rattle.row_sums.specs.Parts.{IsWithin}
 use Rattle.sanlp.specs.declared.nest.Nest.{Nest}
 use Rattle.source_tree.specs.Systems.{Occurrence}

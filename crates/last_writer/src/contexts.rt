@@ -25,19 +25,6 @@ fn push_widened(wide: &mut Items<Row>, rows: &[Row], vars: usize) -> Result<(), 
     push_widened(wide, rows, vars)
 }
 
-// Adds two rows.
-fn push_both(rows: &mut Items<Row>, first: Row, second: Row) -> Result<(), AllocError>
-    ensures { OnOk result (rows.new ≡ rows.old ++ first ∷ second ∷ []) }
-{
-    match rows.push(first) {
-        Ok(()) => rows.push(second),
-        Err(error) => {
-            drop(second);
-            Err(error)
-        }
-    }
-}
-
 // Adds the rows of a context over one variable more, and two rows.
 fn push_below(
     rows: &mut Items<Row>,
@@ -51,7 +38,7 @@ fn push_below(
         ++ (map (widened_form (context.now.vars + 1)) context.now.rows ++ first ∷ second ∷ [])) }
 {
     match push_widened(rows, context.rows.as_slice(), context.vars as usize + 1) {
-        Ok(()) => push_both(rows, first, second),
+        Ok(()) => rows.push_both(first, second),
         Err(error) => {
             drop(first);
             drop(second);

@@ -1,30 +1,31 @@
-ghost use Rattle.std.specs.Prelude.{◌≡◌, ◌<◌, ◌≤◌, ◌+◌, ◌*◌, ◌++◌, ℕ, [], ◌∷◌, true, List, drop, map, length, take, All, Some, Contains, IfOk, IfSome, MatchOption, OnOk};
+ghost use Rattle.std.specs.Prelude.{◌≡◌, ◌<◌, ◌≤◌, ◌+◌, ◌*◌, ◌^◌, ◌++◌, ℕ, [], ◌∷◌, true, List, drop, map, length, take, All, Some, Contains, IfOk, IfSome, MatchOption, OnOk};
 ghost use Rattle.std.specs.List.{flat_map, list_all, range_with_len};
 ghost use Rattle.affine_core.specs.declared.form.Form.{Form as FormOf};
+ghost use Rattle.candidate_order.specs.Heights.{height_of};
 ghost use Rattle.candidate_order.specs.Joint.{no_orders, write_systems_of, IsSum};
 ghost use Rattle.int_polyhedra.specs.declared.system.Proof.TheVariants.{Sum};
 ghost use Rattle.last_writer.specs.Leaves.{after_systems_count, answer_at as answer_of, counts_behind as behind_counts, is_told, level_count_of, order_counts, own_systems, pairs_of, told_systems, AddsProofs, AreOrderRows, CanBeConverted, Converts, HasWriter, IsAnswered, IsBelow, IsFurther, IsJoinedBelow, IsJoinedPoint, IsOwnPoint, IsRefusal, IsRefusalAmong};
+ghost use Rattle.last_writer.specs.Converted.{turns_left, IsConverting};
 ghost use Rattle.last_writer.specs.Writers.{IsWriterOf};
-ghost use Rattle.lex_max.specs.Asked.{occurrence_of};
 ghost use Rattle.source_tree.specs.Checked.{AreRefuted};
 ghost use Rattle.source_tree.specs.Rows.{RowExpr, RowSystem};
+ghost use Rattle.source_tree.specs.declared.tree.Tree.{Tree as TreeOf};
+ghost use Rattle.source_tree.specs.declared.tree.Tree.TheViews.{Test as TestOf};
 ghost use Rattle.source_tree.specs.Systems.{zero_systems, every, Context, Occurrence};
 ghost use Rattle.stride_trees.specs.Contexts.{own_system, told_system, IsTestedContext, IsUndividedContext};
 ghost use Rattle.stride_trees.specs.Strides.{IsStrided};
+ghost use Rattle.source_tree.specs.References.{occurrence_of};
 
 use crate::writers::Writer;
-use candidate_join::Unmade;
+use affine_core::Form;
 use candidate_order::level_count;
 use int_polyhedra::{Proof, Term};
-use lex_max::{Reference, common_loops, test};
+use lex_max::test;
 use plain_data::Items;
-use sanlp::Nest;
-use source_tree::Tree;
+use sanlp::{Nest, common_loops};
+use source_tree::{Reference, Tree};
 use std::alloc::{AllocError, Global};
 use stride_trees::{Division, Strides, converted_place, converted_write, undivided_write};
-
-// How many rows the context of a leaf may have.
-const ROWS: u32 = 4_096;
 
 /// The writers of a read, where the first of their tests of divisibility have answers.
 #[derive(Clone, Copy)]
@@ -215,7 +216,7 @@ fn push_undivided_orders(
 ) -> Result<(), AllocError>
     requires strided { IsStrided s.now }
     requires test { IsRefusal s.now test.now }
-    requires here { here ≤ 8192 }
+    requires here { here ≤ 2 ^ 30 }
     requires counts { All (λ order. before + order ≤ 64) orders.now }
     ensures { OnOk result ((c : Context) (level : List RowExpr) (rows : List (List RowExpr))
         → IsUndividedContext s.now test.now.division.now test.now.place here c
@@ -241,7 +242,7 @@ fn push_undivided_levels(
 ) -> Result<(), AllocError>
     requires strided { IsStrided s.now }
     requires test { IsRefusal s.now test.now }
-    requires here { here ≤ 8192 }
+    requires here { here ≤ 2 ^ 30 }
     requires levels { All (λ level. level ≤ 32) levels.now }
     requires orders { All (λ order. order ≤ 32) orders.now }
     ensures { OnOk result ((c : Context) (at rows : List (List RowExpr))
@@ -270,7 +271,7 @@ fn push_writer<'t>(
     requires writer { IsWriterOf w.now.nest.now (occurrence_of w.now.read) w.now.tests.now
         writer.now }
     requires answered { IsAnswered w.now }
-    requires here { here ≤ 8192 }
+    requires here { here ≤ 2 ^ 30 }
     requires behind { IfSome behind.now (λ of. length of.statement.now.loops ≤ 6) }
     requires sums { All IsSum told.now }
     ensures proofs { IfOk result (λ rest. (c : Context) (further : Occurrence → List (List RowExpr))
@@ -304,7 +305,7 @@ fn push_writers(
     requires writers { All (IsWriterOf w.now.nest.now (occurrence_of w.now.read) w.now.tests.now)
         writers.now }
     requires answered { IsAnswered w.now }
-    requires here { here ≤ 8192 }
+    requires here { here ≤ 2 ^ 30 }
     requires behind { IfSome behind.now (λ of. length of.statement.now.loops ≤ 6) }
     requires sums { All IsSum told.now }
     ensures { OnOk result ((c : Context) (further : Occurrence → List (List RowExpr))
@@ -398,7 +399,7 @@ fn writer_proofs(
     told: &[Proof],
 ) -> Result<Items<Proof>, AllocError>
     requires answered { IsAnswered w.now }
-    requires here { here ≤ 8192 }
+    requires here { here ≤ 2 ^ 30 }
     requires point { (c : Context) × (place : List FormOf) × IsBelow w.now here c
         × IsJoinedPoint w.now c number place told.now }
     ensures { IfOk result (λ proofs. (c : Context) (place : List FormOf) → IsBelow w.now here c
@@ -426,7 +427,7 @@ fn writer_proofs(
 // The proofs of a Zero leaf.
 fn zero_proofs(w: &Answered, here: u32, told: &[Proof]) -> Result<Items<Proof>, AllocError>
     requires answered { IsAnswered w.now }
-    requires here { here ≤ 8192 }
+    requires here { here ≤ 2 ^ 30 }
     requires sums { All IsSum told.now }
     ensures { IfOk result (λ proofs. (c : Context) → IsBelow w.now here c
         → AreRefuted (write_systems_of (pairs_of w.now) c no_orders) told.now
@@ -437,46 +438,23 @@ fn zero_proofs(w: &Answered, here: u32, told: &[Proof]) -> Result<Items<Proof>, 
     Ok(proofs)
 }
 
-/// A joined tree of the writers whose tests all say yes, with proofs for the writes of all writers as they stand in the nest.
-/// Its context has `here` rows.
-pub fn converted(w: &Answered, here: u32, tree: Tree) -> Result<Tree, Unmade>
+// A leaf of a joined tree, with proofs for the writes of all writers. Its context has `here` rows.
+fn converted_leaf(w: &Answered, here: u32, leaf: Tree) -> Result<Tree, AllocError>
     requires answered { IsAnswered w.now }
-    requires here { here ≤ 4096 }
-    requires tree { IsJoinedBelow w.now here tree }
-    ensures { IfOk result (Converts w.now here tree) }
+    requires here { here ≤ 2 ^ 30 }
+    requires leaf { IsJoinedBelow w.now here leaf × ((form : FormOf) (yes no : TreeOf)
+        → leaf ≡ TestOf form yes no → ⊥) }
+    ensures { IfOk result (Converts w.now here leaf) }
 {
-    match tree {
-        Tree::Test(form, yes, no) => {
-            if here >= ROWS {
-                drop(form);
-                drop(yes);
-                drop(no);
-                return Err(Unmade::Large);
-            }
-            match converted(w, here + 1, yes.into_inner()) {
-                Ok(above) => match converted(w, here + 1, no.into_inner()) {
-                    Ok(below) => Ok(test(w.alloc, form, above, below)?),
-                    Err(error) => {
-                        drop(form);
-                        drop(above);
-                        Err(error)
-                    }
-                },
-                Err(error) => {
-                    drop(form);
-                    drop(no);
-                    Err(error)
-                }
-            }
-        }
+    match leaf {
         Tree::Writer(number, place, proofs) => {
             let own = writer_proofs(w, here, number, proofs.as_slice());
             drop(proofs);
             match own {
                 Ok(own) => Ok(Tree::Writer(number, place, own)),
-                Err(AllocError) => {
+                Err(error) => {
                     drop(place);
-                    Err(Unmade::Memory)
+                    Err(error)
                 }
             }
         }
@@ -486,6 +464,116 @@ pub fn converted(w: &Answered, here: u32, tree: Tree) -> Result<Tree, Unmade>
             Ok(Tree::Zero(own?))
         }
         Tree::Dead(proof) => Ok(Tree::Dead(proof)),
-        Tree::Divides(..) => unreachable!(),
+        _ => unreachable!(),
     }
+}
+
+// What is left to convert at a Test above.
+#[derive(Drop)]
+enum Open {
+    // The first tree is under way, and the second is this.
+    First(Form, Tree),
+    // The second tree is under way. The first is this, which is converted.
+    Second(Form, Tree),
+}
+
+// A tree that is yet to be converted, or one that is.
+#[derive(Drop)]
+enum Part {
+    Joined(Tree),
+    Own(Tree),
+}
+
+// Goes down in a tree, behind so many rows and the Tests above.
+fn down(w: &Answered, rows: u32, opens: &mut Items<Open>, tree: Tree) -> Result<Part, AllocError>
+    requires answered { IsAnswered w.now }
+    requires part { (whole : TreeOf)
+        × IsConverting w.now rows whole opens.old (Part.Joined tree) }
+    ensures { IfOk result (λ part. (whole : TreeOf)
+        → IsConverting w.now rows whole opens.old (Part.Joined tree)
+        → IsConverting w.now rows whole opens.new part
+        × (turns_left opens.new part < turns_left opens.old (Part.Joined tree))) }
+{
+    match tree {
+        Tree::Test(form, yes, no) => {
+            let no = no.into_inner();
+            match opens.push(Open::First(form, no)) {
+                Ok(()) => Ok(Part::Joined(yes.into_inner())),
+                Err(error) => {
+                    drop(yes);
+                    Err(error)
+                }
+            }
+        }
+        leaf => {
+            let here = rows + opens.len() as u32;
+            Ok(Part::Own(converted_leaf(w, here, leaf)?))
+        }
+    }
+}
+
+// Goes on behind a tree that is converted, at the Test above, which was the last one.
+fn up(
+    w: &Answered,
+    rows: u32,
+    opens: &mut Items<Open>,
+    last: Open,
+    own: Tree,
+) -> Result<Part, AllocError>
+    requires { (whole : TreeOf)
+        × IsConverting w.now rows whole (opens.old ++ last ∷ []) (Part.Own own) }
+    ensures { IfOk result (λ part. (whole : TreeOf)
+        → IsConverting w.now rows whole (opens.old ++ last ∷ []) (Part.Own own)
+        → IsConverting w.now rows whole opens.new part
+        × (turns_left opens.new part < turns_left (opens.old ++ last ∷ []) (Part.Own own))) }
+{
+    match last {
+        Open::First(form, no) => match opens.push(Open::Second(form, own)) {
+            Ok(()) => Ok(Part::Joined(no)),
+            Err(error) => {
+                drop(no);
+                Err(error)
+            }
+        },
+        Open::Second(form, yes) => Ok(Part::Own(test(w.alloc, form, yes, own)?)),
+    }
+}
+
+// The tree turn by turn: what is left to convert stands in the list, and takes none of the machine's stack.
+fn converted_within(
+    w: &Answered,
+    rows: u32,
+    opens: &mut Items<Open>,
+    tree: Tree,
+) -> Result<Tree, AllocError>
+    requires answered { IsAnswered w.now }
+    requires rows { rows + height_of tree ≤ 2 ^ 30 }
+    requires tree { IsJoinedBelow w.now rows tree }
+    requires none { opens.old ≡ [] }
+    ensures { IfOk result (Converts w.now rows tree) }
+{
+    let mut part = Part::Joined(tree);
+    'turns: loop {
+        part = match part {
+            Part::Joined(tree) => down(w, rows, opens, tree)?,
+            Part::Own(own) => match opens.pop() {
+                Some(last) => up(w, rows, opens, last, own)?,
+                None => return Ok(own),
+            },
+        };
+    }
+}
+
+/// A joined tree of the writers whose tests all say yes, with proofs for the writes of all writers as they stand in the nest.
+/// Its context has `here` rows.
+pub fn converted(w: &Answered, here: u32, tree: Tree) -> Result<Tree, AllocError>
+    requires answered { IsAnswered w.now }
+    requires here { here + height_of tree ≤ 2 ^ 30 }
+    requires tree { IsJoinedBelow w.now here tree }
+    ensures { IfOk result (Converts w.now here tree) }
+{
+    let mut opens = Items::new(w.alloc);
+    let own = converted_within(w, here, &mut opens, tree);
+    drop(opens);
+    own
 }

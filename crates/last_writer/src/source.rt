@@ -8,30 +8,26 @@ ghost use Rattle.last_writer.specs.Answers.{answered_context, HasSmallRows};
 ghost use Rattle.last_writer.specs.Leaves.{context_of, told_pairs, vars_of, IsAnswered};
 ghost use Rattle.last_writer.specs.Told.{IsTold};
 ghost use Rattle.last_writer.specs.declared.source.Told.{Told as ToldOf};
-ghost use Rattle.lex_max.specs.Asked.{occurrence_of};
 ghost use Rattle.source_tree.specs.Checked.{IsChecked, IsCheckedIn};
 ghost use Rattle.source_tree.specs.Exact.{IsExact};
 ghost use Rattle.source_tree.specs.Systems.{every, read_at, root_context};
 ghost use Rattle.source_tree.specs.declared.tree.Tree.TheViews.{Divides as DividesOf};
 ghost use Rattle.stride_rows.specs.Class.{IsInStrideClass};
 ghost use Rattle.stride_trees.specs.Strides.{read_of, ArePlaces, IsStrided};
+ghost use Rattle.source_tree.specs.References.{occurrence_of};
 
 use crate::contexts::below_test;
 use crate::leaves::{Answered, converted, refusal_of};
 use crate::writers::{Writer, push_writers};
 use affine_core::{Form, Row};
-use candidate_join::{Unmade, join};
+use candidate_join::join;
 use candidate_order::{Problem, Read};
 use int_polyhedra::System;
-use lex_max::Reference;
 use plain_data::{Boxed, Items};
 use sanlp::{Nest, Statement};
-use source_tree::Tree;
+use source_tree::{Reference, Tree};
 use std::alloc::{AllocError, Global};
 use stride_trees::{Division, divided_rows, told_reads, told_writes};
-
-// The room for one tree: so many nodes.
-const NODES: u64 = 1_024;
 
 // A write over quotients: its domain rows and subscripts, and those of the read.
 #[derive(Drop)]
@@ -116,27 +112,20 @@ fn read_with<'a>(w: &Answered<'a>, context: &'a System, problems: &'a [Problem<'
 }
 
 // The tree where all tests of divisibility have an answer.
-fn joined<'a>(
-    w: &Answered<'a>,
-    told: &'a [Told],
-    context: &'a System,
-    room: &mut u64,
-) -> Result<Tree, Unmade>
+fn joined<'a>(w: &Answered<'a>, told: &'a [Told], context: &'a System) -> Result<Tree, AllocError>
     requires answered { IsAnswered w.now }
     requires told { AllZip (IsTold (vars_of w.now)) w.now.writers.now told.now }
     requires all { length w.now.answers.now ≡ length w.now.tests.now }
     requires made { IsMadeAs context.now (context_of w.now) }
     requires rows { HasSmallRows context.now }
     requires few { length context.now.rows ≤ 64 }
-    requires room { room.old ≤ 2 ^ 30 }
-    ensures tree { IfOk result (IsCheckedIn w.now.nest.now (occurrence_of w.now.read) every
+    ensures { IfOk result (IsCheckedIn w.now.nest.now (occurrence_of w.now.read) every
         (context_of w.now)) }
-    ensures room { room.new ≤ room.old }
 {
     let mut problems = Items::new(w.alloc);
     push_problems(&mut problems, w.writers, told, w.answers)?;
     let read = read_with(&*w, &*context, problems.as_slice());
-    let tree = join(&read, room)?;
+    let tree = join(&read)?;
     converted(w, context.rows.len() as u32, tree)
 }
 
@@ -147,7 +136,7 @@ fn divides(
     test: &Division,
     yes: Tree,
     no: Tree,
-) -> Result<Tree, Unmade>
+) -> Result<Tree, AllocError>
     requires wider { length test.now.form.coefs ≤ context.now.vars }
     requires few { context.now.vars ≤ 18 }
     ensures { IfOk result (λ tree. tree
@@ -157,25 +146,14 @@ fn divides(
     let Ok(yes) = Boxed::new(alloc, yes) else {
         drop(form);
         drop(no);
-        return Err(Unmade::Memory);
+        return Err(AllocError);
     };
     let Ok(no) = Boxed::new(alloc, no) else {
         drop(form);
         drop(yes);
-        return Err(Unmade::Memory);
+        return Err(AllocError);
     };
     Ok(Tree::Divides(form, test.divisor, yes, no))
-}
-
-// One node of the tree more.
-fn take_node(room: &mut u64) -> Result<(), Unmade>
-    ensures { room.new ≤ room.old }
-{
-    if *room == 0 {
-        return Err(Unmade::Large);
-    }
-    *room -= 1;
-    Ok(())
 }
 
 // The answers and one more.
@@ -197,29 +175,21 @@ fn next_test<'a>(w: &Answered<'a>) -> Option<&'a Division>
 
 // The tree below the answers, whose context this is.
 #[cycle(answered)]
-fn answered<'a>(
-    w: &Answered<'a>,
-    told: &'a [Told],
-    context: &'a System,
-    room: &mut u64,
-) -> Result<Tree, Unmade>
+fn answered<'a>(w: &Answered<'a>, told: &'a [Told], context: &'a System) -> Result<Tree, AllocError>
     requires answered { IsAnswered w.now }
     requires told { AllZip (IsTold (vars_of w.now)) w.now.writers.now told.now }
     requires made { IsMadeAs context.now (context_of w.now) }
     requires rows { HasSmallRows context.now }
     requires count { length context.now.rows
         ≡ length w.now.read.statement.now.rows + 2 * length w.now.answers.now }
-    requires room { room.old ≤ 2 ^ 30 }
-    ensures tree { IfOk result (IsCheckedIn w.now.nest.now (occurrence_of w.now.read) every
+    ensures { IfOk result (IsCheckedIn w.now.nest.now (occurrence_of w.now.read) every
         (context_of w.now)) }
-    ensures room { room.new ≤ room.old }
 {
     let Some(test) = next_test(w) else {
-        return joined(w, told, context, room);
+        return joined(w, told, context);
     };
-    take_node(room)?;
-    let yes = answered_next(w, told, context, test, true, room)?;
-    match answered_next(w, told, context, test, false, room) {
+    let yes = answered_next(w, told, context, test, true)?;
+    match answered_next(w, told, context, test, false) {
         Ok(no) => {
             let alloc = w.alloc;
             divides(alloc, context, test, yes, no)
@@ -239,8 +209,7 @@ fn answered_next<'a>(
     context: &'a System,
     test: &Division,
     answer: bool,
-    room: &mut u64,
-) -> Result<Tree, Unmade>
+) -> Result<Tree, AllocError>
     requires answered { IsAnswered w.now }
     requires told { AllZip (IsTold (vars_of w.now)) w.now.writers.now told.now }
     requires made { IsMadeAs context.now (context_of w.now) }
@@ -248,11 +217,9 @@ fn answered_next<'a>(
     requires count { length context.now.rows
         ≡ length w.now.read.statement.now.rows + 2 * length w.now.answers.now }
     requires test { slice_get w.now.tests.now (length w.now.answers.now) ≡ Some test.now }
-    requires room { room.old ≤ 2 ^ 30 }
-    ensures tree { IfOk result (IsCheckedIn w.now.nest.now (occurrence_of w.now.read) every
+    ensures { IfOk result (IsCheckedIn w.now.nest.now (occurrence_of w.now.read) every
         (answered_context (root_context (occurrence_of w.now.read)) w.now.tests.now
         (w.now.answers.now ++ answer ∷ []))) }
-    ensures room { room.new ≤ room.old }
 {
     let next = below_test(w.alloc, context, test, answer)?;
     let answers = with_answer(w.alloc, w.answers, answer)?;
@@ -260,7 +227,7 @@ fn answered_next<'a>(
         answers: answers.as_slice(),
         ..*w
     };
-    answered(&more, told, &next, room)
+    answered(&more, told, &next)
 }
 
 fn reference_of<'a>(nest: &'a Nest, statement: u32, read: u32) -> Reference<'a>
@@ -323,15 +290,9 @@ fn unanswered<'a>(
 }
 
 // The tree of a read.
-fn tree_of<'a>(
-    alloc: Global,
-    nest: &'a Nest,
-    read: &Reference<'a>,
-    room: &mut u64,
-) -> Result<Tree, Unmade>
+fn tree_of<'a>(alloc: Global, nest: &'a Nest, read: &Reference<'a>) -> Result<Tree, AllocError>
     requires class { (k : ℕ) × IsInStrideClass nest.now read.now.number k
         × (read_at nest.now read.now.number k ≡ Some (occurrence_of read.now)) }
-    requires room { room.old ≤ 2 ^ 30 }
     ensures { IfOk result (IsCheckedIn nest.now (occurrence_of read.now) every
         (root_context (occurrence_of read.now))) }
 {
@@ -344,46 +305,18 @@ fn tree_of<'a>(
     let mut told = Items::new(alloc);
     push_told(&mut told, w.writers, vars)?;
     let context = root(alloc, read.statement)?;
-    answered(&w, told.as_slice(), &context, room)
-}
-
-/// The tree of `source_of`, with room for so many nodes. `None` tells that the tree made here would
-/// take more nodes than that, or nest more than 128 Tests deep. No more is promised of it: a smaller
-/// tree of the same read may be there.
-pub fn source_within(
-    alloc: Global,
-    nest: &Nest,
-    statement: u32,
-    read: u32,
-    nodes: u64,
-) -> Result<Option<Tree>, AllocError>
-    requires class { IsInStrideClass nest.now statement read }
-    requires room { nodes ≤ 2 ^ 30 }
-    ensures { IfOk result (λ tree. IfSome tree (IsChecked nest.now statement read)) }
-{
-    let reference = reference_of(nest, statement, read);
-    let mut room = nodes;
-    let made = tree_of(alloc, nest, &reference, &mut room);
-    match made {
-        Ok(tree) => Ok(Some(tree)),
-        Err(Unmade::Large) => Ok(None),
-        Err(Unmade::Memory) => Err(AllocError),
-    }
+    answered(&w, told.as_slice(), &context)
 }
 
 /// Which write a read has its value from at each point of the reader, as one tree, which is
 /// checked: so at each point it gives the last write of the cell that is read, or zero where there
 /// is none, whatever the size of the nest (Feautrier 1991). The read is in the stride class.
-/// Nothing is refused but want of memory: a tree has room for 1,024 nodes, and nests 128 Tests deep
-/// at most, below at most 6 tests of divisibility.
+/// Nothing is refused but want of memory: there is no limit on a tree.
 pub fn source_of(alloc: Global, nest: &Nest, statement: u32, read: u32) -> Result<Tree, AllocError>
     requires { IsInStrideClass nest.now statement read }
     ensures checked { IfOk result (IsChecked nest.now statement read) }
     ensures exact { IfOk result (IsExact nest.now statement read) }
 {
-    let found = source_within(alloc, nest, statement, read, NODES)?;
-    match found {
-        Some(tree) => Ok(tree),
-        None => Err(AllocError),
-    }
+    let reference = reference_of(nest, statement, read);
+    tree_of(alloc, nest, &reference)
 }

@@ -1,15 +1,15 @@
 ghost use Rattle.std.specs.Prelude.{◌≡◌, ◌<◌, ◌≤◌, ◌+◌, ◌^◌, [], ◌∷◌, ◌++◌, ℕ, List, drop, length, All, None, Some, slice_get, IfOk, IfSome, IsTrue, MatchOption, OnOk};
 ghost use Rattle.std.specs.List.{list_all, sum_by};
 ghost use Rattle.last_writer.specs.Writers.{AddsPlaces, AddsTests, AreWriters, IsReadOf, IsTestAt, IsWriterOf};
-ghost use Rattle.lex_max.specs.Asked.{occurrence_of};
 ghost use Rattle.source_tree.specs.Systems.{read_at, with_write, write_to as write_of, writes_from, Occurrence};
 ghost use Rattle.stride_rows.specs.Class.{stride_count, writes_strides};
 ghost use Rattle.stride_trees.specs.Strides.{read_of, tests_of, write_of as strides_write, AreStrided, IsStrided};
+ghost use Rattle.source_tree.specs.References.{occurrence_of};
 
 use candidate_order::level_count;
-use lex_max::{Reference, common_loops};
 use plain_data::Items;
-use sanlp::{Nest, Statement};
+use sanlp::{Nest, Statement, common_loops};
+use source_tree::Reference;
 use std::alloc::{AllocError, Global};
 use stride_trees::{Division, Strides, divisions_of};
 

@@ -4,8 +4,8 @@
 -- it have one that contradicts a row shown: above the candidate's level their strict row an equal value, at that level
 -- the strict row, and below it an equal value does. Another point that stands behind the leaf's in a loop is above it
 -- there, and the path to that loop's form says that it is not. Each proof so takes one row that was added, once.
-use Rattle.std.proofs.Common.{◌≡◌, ◌+◌, ◌*◌, ◌^◌, ◌≤◌, ◌<◌, ◌==◌, ℕ, zero, suc, ℤ, pos, ◌+ℤ◌, ◌-ℤ◌}
-use Rattle.std.proofs.Common.{List, [], ◌∷◌, ◌++◌, length, map, true, false, cond, refl, sym, ap, ◌∙◌, subst}
+use Rattle.std.proofs.Common.{◌≡◌, ◌+◌, ◌*◌, ◌^◌, ◌≤◌, ◌<◌, ℕ, zero, suc, ℤ, pos, ◌+ℤ◌, ◌-ℤ◌}
+use Rattle.std.proofs.Common.{List, [], ◌∷◌, ◌++◌, length, map, true, cond, refl, sym, ap, ◌∙◌, subst}
 use Rattle.std.proofs.Common.{arith, length-append, inl, ◌⊎◌}
 use Rattle.std.specs.Prelude.{Option, Some, None, All, slice_get, nat_lt}
 use Rattle.std.specs.Option.{option_map_or}
@@ -22,6 +22,7 @@ use Rattle.int_polyhedra.specs.declared.system.System.{System}
 use Rattle.int_polyhedra.specs.declared.system.Term.{Term}
 use Rattle.int_polyhedra.specs.Systems.{AreOver}
 use Rattle.sanlp.specs.Order.{common_loops}
+use Rattle.sanlp.proofs.Precedence.{common_loops-comm}
 use Rattle.lex_max.specs.Asked.{depth_of_read, depth_of_write, read_of, write_of}
 use Rattle.lex_max.specs.Edges.{write_rows, AreLevelRows}
 use Rattle.lex_max.specs.Facts.{form_parts, IsFact}
@@ -31,22 +32,23 @@ use Rattle.lex_max.specs.Paths.{term_of, terms_from, IsPath}
 use Rattle.lex_max.specs.Simple.{IsLightSum}
 use Rattle.lex_max.specs.declared.edges.Edge.{Edge}
 use Rattle.lex_max.specs.declared.writes.Writes.{Writes}
-use Rattle.lex_max.proofs.Ending.{Opposes}
-use Rattle.lex_max.proofs.Fitting.{asked_fits, IsKnown}
-use Rattle.lex_max.proofs.Leafing.{less_opposes, place_taken, shown_refuted}
+use Rattle.lex_max.proofs.PointSystems.{Opposes}
+use Rattle.lex_max.proofs.ProblemBounds.{asked_fits, IsKnown}
+use Rattle.lex_max.proofs.LeafParts.{less_opposes, place_taken, shown_refuted}
 use Rattle.lex_max.proofs.Levels.{later_row, of_level, same_at, sooner_row, AreOfLevel}
 use Rattle.lex_max.proofs.Differences.{past_part}
-use Rattle.lex_max.proofs.Ordering.{length_variables, reader_at, variable_at}
-use Rattle.lex_max.proofs.Placing.{variables_taken, IsPlaced}
-use Rattle.lex_max.proofs.Refuting.{cycle_shows, get_behind, over_append, weight_few, weight_from, whole_over}
-use Rattle.lex_max.proofs.Refuting.{whole_within, IsBase}
-use Rattle.lex_max.proofs.Writing.{are_made, forms_append, level_at, most_made, small_append, small_equal, AreMade}
-use Rattle.lex_max.proofs.Writing.{AreSmall, AreTaken, IsSmallLevel}
+use Rattle.lex_max.proofs.OrderEdges.{length_variables, reader_at, variable_at}
+use Rattle.lex_max.proofs.ZeroSystems.{variables_taken, IsPlaced}
+use Rattle.lex_max.proofs.EdgeSums.{cycle_shows, over_append, weight_few, weight_from, whole_over}
+use Rattle.lex_max.proofs.EdgeSums.{whole_within, IsBase}
+use Rattle.lex_max.proofs.RowBounds.{are_made, forms_append, level_at, most_made, small_append, small_equal, AreMade}
+use Rattle.lex_max.proofs.RowBounds.{AreSmall, AreTaken, IsSmallLevel}
+use Rattle.plain_data.proofs.Lists.{slice_get-some, slice_get-append_right}
 use Rattle.row_sums.specs.Made.{parts_of}
 use Rattle.row_sums.specs.Parts.{Part, the_constant, the_coefficient, part_of, row_part, weight, IsWithin}
 use Rattle.row_sums.specs.Shown.{Shows}
-use Rattle.row_sums.proofs.Combining.{combines}
-use Rattle.row_sums.proofs.Showing.{shown_refutes}
+use Rattle.row_sums.proofs.SumAlgebra.{combines}
+use Rattle.row_sums.proofs.NegativeSums.{shown_refutes}
 use Rattle.row_sums.proofs.Weights.{weight_sum}
 use Rattle.source_tree.specs.Checked.{IsRefuted}
 use Rattle.source_tree.specs.Places.{before_rows, order_rows, same_rows}
@@ -79,21 +81,6 @@ pub common_same : (ks : List ℕ) → common_loops ks ks ≡ length ks
 common_same [] = refl
 common_same (k ∷ ks) = ap (λ b. cond b (suc (common_loops ks ks)) 0) (eq-eqb k k refl) ∙ ap suc (common_same ks)
 
-eqb_comm : (m n : ℕ) → (m == n) ≡ (n == m)
-eqb_comm m n = grind arith
-
-pub common_comm : (ks ls : List ℕ) → common_loops ks ls ≡ common_loops ls ks
-common_comm [] [] = refl
-common_comm [] (l ∷ ls) = refl
-common_comm (k ∷ ks) [] = refl
-common_comm (k ∷ ks) (l ∷ ls) = ap (λ b. cond b (suc (common_loops ks ls)) 0) (eqb_comm k l)
-    ∙ ap (λ n. cond (l == k) (suc n) 0) (common_comm ks ls)
-
-place_has : (place : List Form) (i : ℕ) → i < length place → (v : Form) × (slice_get place i ≡ Some v)
-place_has [] i lt = absurd (omega arith)
-place_has (f ∷ place) zero lt = (f, refl)
-place_has (f ∷ place) (suc i) lt = place_has place i (omega (arith, lt))
-
 module _ (w : Writes) (c : Context) (context : System) (place : List Form) (here : ℕ)
     (leaf : IsLeafOf w c context place here) (level : List RowExpr) (certs : List (List Term))
     (level_is : AreLevelRows (read_of w) (write_of w) w.level place level) (shown : AreShown context level certs) where
@@ -123,7 +110,7 @@ module _ (w : Writes) (c : Context) (context : System) (place : List Form) (here
   swapped = common_loops w.read.statement.now.loops w.write.statement.now.loops
 
   pub swapped_is : swapped ≡ common_of (write_of w) (read_of w)
-  swapped_is = common_comm w.read.statement.now.loops w.write.statement.now.loops
+  swapped_is = common_loops-comm w.read.statement.now.loops w.write.statement.now.loops
 
   after_small : (l : ℕ) (rows : List RowExpr) → AreAfter l rows
       → (l < swapped) ⊎ ((l ≡ swapped) × (nat_lt w.read.number w.write.number ≡ true)) → AreSmall c.vars rows
@@ -140,7 +127,7 @@ module _ (w : Writes) (c : Context) (context : System) (place : List Form) (here
       → proof ≡ Sum (ts ++ term_of row ∷ []) → IsRefuted (with_rows c rows) proof × IsLightSum proof
   after_above l rows row ts proof is above cert row_is proof_is =
       let common : l < common_of (write_of w) (read_of w) = omega (arith, above, fits.level) in
-      let v = place_has place l (omega (arith, leaf.placed.deep, common, fits.common_loops)) in
+      let v = slice_get-some place l (omega (arith, leaf.placed.deep, common, fits.common_loops)) in
       let x_is : slice_get readers l ≡ Some (variable_form (l + 1) l) =
       reader_at (depth_of_read w) l (omega (arith, common, fits.common_vars)) in
       let x : Form = variable_form (l + 1) l in
@@ -162,7 +149,7 @@ module _ (w : Writes) (c : Context) (context : System) (place : List Form) (here
       → (v : Form) × (slice_get place w.level ≡ Some v)
       × IsFact context (2 ^ 23) (parts_of (sooner_row v (variable_form (w.level + 1) w.level))) ts
   strict_cert ts common cert =
-      let v = place_has place w.level (omega (arith, leaf.placed.deep, common, fits.common_loops)) in
+      let v = slice_get-some place w.level (omega (arith, leaf.placed.deep, common, fits.common_loops)) in
       let x : Form = variable_form (w.level + 1) w.level in
       let x_is : slice_get readers w.level ≡ Some x =
       reader_at (depth_of_read w) w.level (omega (arith, common, fits.common_vars)) in
@@ -227,9 +214,6 @@ module _ (w : Writes) (c : Context) (context : System) (place : List Form) (here
 
 -- No other point of the writer stands between
 
-nothing_less : (m : ℕ) → nat_lt m m ≡ false
-nothing_less m = grind arith
-
 module _ (w : Writes) (c : Context) (context : System) (place : List Form) (here : ℕ)
     (leaf : IsLeafOf w c context place here) (edges : List Edge)
     (s : IsPlaced (read_of w) (write_of w) w.level c context.rows edges) where
@@ -293,7 +277,7 @@ module _ (w : Writes) (c : Context) (context : System) (place : List Form) (here
       let row_place : length inner + 2 * q ≡ row = omega (arith, count, row_is) in
       let part_is : (part : Part) → row_part whole part row ≡ parts_of (sooner_row y j) part
       = λ part. ap (row_part whole part) (sym row_place)
-      ∙ ap (λ o. option_map_or (part_of part) o (pos 0)) (get_behind inner m.forms (2 * q)) ∙ m.parts (2 * q) part
+      ∙ ap (λ o. option_map_or (part_of part) o (pos 0)) (slice_get-append_right inner m.forms (2 * q)) ∙ m.parts (2 * q) part
       ∙ ap (λ o. option_map_or (λ e. parts_of e part) o (pos 0)) last in
       let end_is : (part : Part) → row_part points part q ≡ part_of part j =
       λ part. ap (λ o. option_map_or (part_of part) o (pos 0)) j_is in

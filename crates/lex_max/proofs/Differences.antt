@@ -4,20 +4,22 @@
 -- coefficient -1 takes its node's value off; where a coefficient doesn't stand, its node is the one behind the last
 -- loop, whose value is 0.
 use Rattle.std.proofs.Common.{◌≡◌, ◌+◌, ◌≤◌, ◌&&◌, ◌||◌, ℕ, suc, ℤ, pos, negsuc, ◌+ℤ◌, ◌-ℤ◌, List, [], ◌∷◌}
-use Rattle.std.proofs.Common.{length, Bool, true, false, cond, refl, sym, ap, ◌∙◌, subst, arith, inl, inr, ◌⊎◌}
+use Rattle.std.proofs.Common.{length, Bool, true, false, cond, refl, sym, ap, ◌∙◌, subst, arith, inl, inr}
+use Rattle.std.proofs.Common.{leb-true}
 use Rattle.std.specs.Prelude.{nat_le}
 use Rattle.std.specs.List.{count_by, list_all}
 use Rattle.std.specs.Ordering.{int_eq}
 use Rattle.std.proofs.lemmas.Int.{ints}
 use Rattle.std.proofs.lemmas.List.Sums.{sum_by-cons}
+use Rattle.std.proofs.lemmas.Bool.{and_parts, or_cases}
 use Rattle.affine_core.specs.declared.form.Form.{Form}
 use Rattle.affine_core.specs.Affine.{constant_form}
-use Rattle.int_polyhedra.proofs.Variables.{and_both}
+use Rattle.affine_core.proofs.Integers.{int_eq-true}
 use Rattle.lex_max.specs.Class.{count_of, is_difference, is_shift}
 use Rattle.lex_max.specs.Edges.{node_of}
+use Rattle.plain_data.proofs.Lists.{get_or-replicate_same}
 use Rattle.row_sums.specs.Made.{parts_of}
 use Rattle.row_sums.specs.Parts.{Part, the_constant, the_coefficient, part_of, row_part}
-use Rattle.row_sums.proofs.Ideal.{zeros_part}
 use Rattle.source_tree.specs.Places.{at_place, plus_terms}
 use Rattle.source_tree.specs.Rows.{RowExpr, Take, Plus, Times, number}
 
@@ -43,9 +45,6 @@ pub past_part : (place : List Form) (part : Part) → row_part place part (lengt
 past_part [] part = refl
 past_part (f ∷ place) part = past_part place part
 
-where_int_eq : (a b : ℤ) → int_eq a b ≡ true → a ≡ b
-where_int_eq a b e = grind (arith, ints)
-
 pub none_node : (c : ℤ) (cs : List ℤ) → how_many c cs ≡ 0 → node_of c cs ≡ length cs
 none_node c [] e = refl
 none_node c (d ∷ cs) e = go (λ none. none_node c cs none) (int_eq d c) refl where
@@ -58,17 +57,13 @@ none_node c (d ∷ cs) e = go (λ none. none_node c cs none) (int_eq d c) refl w
       let none : 0 + how_many c cs ≡ 0 = subst (λ b. cond b 1 0 + how_many c cs ≡ 0) is e in
       ap suc (rest (omega (arith, none)))
 
-or_cases : (a b : Bool) → (a || b) ≡ true → (a ≡ true) ⊎ (b ≡ true)
-or_cases true b e = inl refl
-or_cases false b e = inr e
-
 pub by_trit : (c : ℤ) (P : ℤ → Type 0) → is_trit c ≡ true → P (pos 0) → P (pos 1) → P (negsuc 0) → P c
 by_trit c P e zero_case one_case less_case =
     elim (or_cases (int_eq c (pos 0)) (int_eq c (pos 1) || int_eq c (negsuc 0)) e) [
-      | inl z ↦ subst P (sym (where_int_eq c (pos 0) z)) zero_case
+      | inl z ↦ subst P (sym (int_eq-true c (pos 0) z)) zero_case
       | inr f ↦ elim (or_cases (int_eq c (pos 1)) (int_eq c (negsuc 0)) f) [
-        | inl o ↦ subst P (sym (where_int_eq c (pos 1) o)) one_case
-        | inr m ↦ subst P (sym (where_int_eq c (negsuc 0) m)) less_case
+        | inl o ↦ subst P (sym (int_eq-true c (pos 1) o)) one_case
+        | inr m ↦ subst P (sym (int_eq-true c (negsuc 0) m)) less_case
       ]
     ]
 
@@ -116,7 +111,7 @@ has_nodes sum [] [] part e t one less = omega (arith, ints)
 has_nodes sum [] (f ∷ place) part e t one less = absurd (omega arith)
 has_nodes sum (c ∷ cs) [] part e t one less = absurd (omega arith)
 has_nodes sum (c ∷ cs) (f ∷ place) part e t one less =
-    let b = and_both (is_trit c) (list_all is_trit cs) t in
+    let b = and_parts (is_trit c) (list_all is_trit cs) t in
     let even : length cs ≡ length place = omega (arith, e) in
     let rest : (sum : RowExpr) → AtMostOnce cs (HasNodes sum cs place part) =
     λ sum. has_nodes sum cs place part even b.1 in
@@ -128,7 +123,7 @@ has_nodes sum (c ∷ cs) (f ∷ place) part e t one less =
 pub number_part : (vars : ℕ) (k : ℤ) (part : Part) → part_of part (record { constant = k; coefs = [] })
     ≡ part_of part (constant_form vars k)
 number_part vars k the_constant = refl
-number_part vars k (the_coefficient i) = sym (zeros_part vars i)
+number_part vars k (the_coefficient i) = sym (get_or-replicate_same vars i (pos 0))
 
 pub difference_at : (vars : ℕ) (form : Form) (place : List Form) (part : Part) → length form.coefs ≡ length place
     → AreTrits form.coefs
@@ -139,17 +134,14 @@ difference_at vars form place part e t =
     let h = has_nodes (number form.constant) form.coefs place part e t.trits t.one t.less in
     omega (arith, ints, h, number_part vars form.constant part)
 
-le_where : (m n : ℕ) → nat_le m n ≡ true → m ≤ n
-le_where m n e = grind arith
-
 at_most_once : (c : ℤ) (form : Form) → nat_le (count_of c form) 1 ≡ true → how_many c form.coefs ≤ 1
-at_most_once c form e = subst (λ n. n ≤ 1) (how_many_is c form.coefs) (le_where (count_of c form) 1 e)
+at_most_once c form e = subst (λ n. n ≤ 1) (how_many_is c form.coefs) (leb-true (count_of c form) 1 e)
 
 pub differences_are : (form : Form) → is_difference form ≡ true → AreTrits form.coefs
 differences_are form e =
-    let b = and_both (list_all is_trit form.coefs)
+    let b = and_parts (list_all is_trit form.coefs)
     (nat_le (count_of (pos 1) form) 1 && nat_le (count_of (negsuc 0) form) 1) e in
-    let c = and_both (nat_le (count_of (pos 1) form) 1) (nat_le (count_of (negsuc 0) form) 1) b.1 in
+    let c = and_parts (nat_le (count_of (pos 1) form) 1) (nat_le (count_of (negsuc 0) form) 1) b.1 in
     record { trits = b.0; one = at_most_once (pos 1) form c.0; less = at_most_once (negsuc 0) form c.1 }
 
 abbrev is_bit : ℤ → Bool
@@ -158,13 +150,13 @@ is_bit c = int_eq c (pos 0) || int_eq c (pos 1)
 bits_are : (cs : List ℤ) → list_all is_bit cs ≡ true → (list_all is_trit cs ≡ true) × (how_many (negsuc 0) cs ≡ 0)
 bits_are [] e = (refl, refl)
 bits_are (c ∷ cs) e =
-    let b = and_both (is_bit c) (list_all is_bit cs) e in
+    let b = and_parts (is_bit c) (list_all is_bit cs) e in
     let rest = bits_are cs b.1 in
     elim (or_cases (int_eq c (pos 0)) (int_eq c (pos 1)) b.0) [
       | inl z ↦ subst (λ c. (list_all is_trit (c ∷ cs) ≡ true) × (how_many (negsuc 0) (c ∷ cs) ≡ 0))
-          (sym (where_int_eq c (pos 0) z)) (rest.0, omega (arith, rest.1))
+          (sym (int_eq-true c (pos 0) z)) (rest.0, omega (arith, rest.1))
       | inr o ↦ subst (λ c. (list_all is_trit (c ∷ cs) ≡ true) × (how_many (negsuc 0) (c ∷ cs) ≡ 0))
-          (sym (where_int_eq c (pos 1) o)) (rest.0, omega (arith, rest.1))
+          (sym (int_eq-true c (pos 1) o)) (rest.0, omega (arith, rest.1))
     ]
 
 -- a shift has no coefficient -1
@@ -174,7 +166,7 @@ pub record IsShifted (cs : List ℤ) : Type 0 where
 
 pub shifts_are : (form : Form) → is_shift form ≡ true → IsShifted form.coefs
 shifts_are form e =
-    let b = and_both (list_all is_bit form.coefs) (nat_le (count_of (pos 1) form) 1) e in
+    let b = and_parts (list_all is_bit form.coefs) (nat_le (count_of (pos 1) form) 1) e in
     let t = bits_are form.coefs b.0 in
     record {
       trits = record { trits = t.0; one = at_most_once (pos 1) form b.1; less = omega (arith, t.1) };

@@ -5,7 +5,7 @@
 -- statements, where those before it and behind it give nothing. That the writer is named by its number, and no other
 -- is, is what this rests on. So a tree that is checked for the writer alone is checked in the nest.
 use Rattle.std.proofs.Common.{◌≡◌, ◌+◌, ◌<◌, ◌==◌, ℕ, zero, suc, List, [], ◌∷◌, ◌++◌, map, take, drop}
-use Rattle.std.proofs.Common.{Bool, true, false, cond, refl, sym, ap, ◌∙◌, subst, arith}
+use Rattle.std.proofs.Common.{Bool, true, false, cond, refl, sym, ap, ◌∙◌, subst, arith, ne_eqb}
 use Rattle.std.specs.Prelude.{Option, Some, None, slice_get}
 use Rattle.std.specs.List.{flat_map}
 use Rattle.std.proofs.lemmas.Bool.{eq-eqb}
@@ -26,9 +26,6 @@ use Rattle.source_tree.specs.Systems.{array_writes, reader_place, writer_place, 
 use Rattle.source_tree.specs.Systems.{after_systems, between_systems, cell_systems, outside_systems, test_no, test_yes}
 use Rattle.source_tree.specs.Systems.{zero_systems}
 use Rattle.source_tree.specs.declared.tree.Tree.{Tree}
-
-differ_where : (m n : ℕ) → (m ≡ n → ⊥) → (m == n) ≡ false
-differ_where m n h = grind arith
 
 one_at : {X : Type 0} (xs : List X) (p : ℕ) (x : X) → slice_get xs p ≡ Some x → take 1 (drop p xs) ≡ x ∷ []
 one_at [] p x e = absurd (let h : None ≡ Some x = e in cc)
@@ -94,7 +91,7 @@ module _ (r w : Occurrence) (p : ℕ) (c : Context) (further : Occurrence → Li
 
   others_none : (v : Occurrence) → (v.number ≡ w.number → ⊥) → systems_of v ≡ []
   others_none v differ = ap (λ b. flat_map (of_level v) (cond b (take 1 (drop p (levels_of v))) []))
-      (differ_where v.number w.number differ)
+      (ne_eqb v.number w.number differ)
 
   pub own_systems : (level : List RowExpr) → AreLevelRows r w p (writer_place c w) level → systems_of w
       ≡ of_level w level
@@ -137,13 +134,6 @@ pub zero_system : (n : Nest) (r w : Occurrence) (p : ℕ) (c : Context) (level :
     ≡ Some w → AreLevelRows r w p (writer_place c w) level
     → zero_systems n r (just w.number p) c ≡ with_rows (with_write_at r c w) (level ++ []) ∷ []
 zero_system n r w p c level named is = zero_just n r w p c named ∙ none_system r w p c level is
-
-pub between_just : (n : Nest) (r w : Occurrence) (p : ℕ) (c : Context) (level : List RowExpr) (y : List Form)
-    → named_write n r w.number ≡ Some w → AreLevelRows r w p (writer_place c w) level
-    → between_systems n r (just w.number p) c w y
-    ≡ map (λ q. with_rows (with_write_at r c w) (level ++ q))
-    (before_rows w.number w.statement y w.number w.statement (writer_place c w))
-between_just n r w p c level y named is = later_just n r w p c y named ∙ later_system r w p c level y is
 
 -- a tree that is checked for a write of the nest is checked in the nest for that writer and level
 pub checked_in : (n : Nest) (r w : Occurrence) (p : ℕ) → named_write n r w.number ≡ Some w → (c : Context) (tree : Tree)

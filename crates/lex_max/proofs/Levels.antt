@@ -4,11 +4,12 @@
 -- those of the loops behind it, so loop i has numbers 2i and 2i + 1, and the strict row of level l has 2l. At the
 -- level behind all common loops there is no strict row.
 use Rattle.std.proofs.Common.{◌≡◌, ◌+◌, ◌*◌, ◌<◌, ℕ, zero, suc, List, [], ◌∷◌, ◌++◌, Bool, true}
-use Rattle.std.proofs.Common.{false, refl, sym, ap, ◌∙◌, arith}
-use Rattle.std.specs.Prelude.{Option, Some, None, slice_get}
+use Rattle.std.proofs.Common.{false, sym, ap, ◌∙◌, arith}
+use Rattle.std.specs.Prelude.{Some, None, slice_get}
 use Rattle.std.specs.Option.{option_map}
 use Rattle.std.proofs.lemmas.Option.{same_Some, slice_get-map}
 use Rattle.affine_core.specs.declared.form.Form.{Form}
+use Rattle.plain_data.proofs.Options.{option_map-some}
 use Rattle.source_tree.specs.Places.{order_rows, same_rows}
 use Rattle.source_tree.specs.Rows.{RowExpr, Take, equal_rows, minus, one_less}
 
@@ -26,11 +27,6 @@ pub record AreOfLevel (c l : ℕ) (a b : List Form) (rows : List RowExpr) : Type
       → slice_get rows (2 * i + 1) ≡ Some (later_row v x)
   pub at : (v x : Form) → l < c → slice_get a l ≡ Some v → slice_get b l ≡ Some x → slice_get rows (2 * l)
       ≡ Some (sooner_row v x)
-
-mapped_some : (o : Option (List RowExpr)) (pair rows : List RowExpr) → option_map (λ inner. pair ++ inner) o ≡ Some rows
-    → (inner : List RowExpr) × (o ≡ Some inner) × (pair ++ inner ≡ rows)
-mapped_some None pair rows e = absurd (let h : None ≡ Some rows = e in cc)
-mapped_some (Some inner) pair rows e = (inner, refl, same_Some (pair ++ inner) rows e)
 
 -- two rows before others
 behind_two : (x y : RowExpr) (rows : List RowExpr) (k : ℕ) → slice_get (x ∷ y ∷ rows) (2 + k) ≡ slice_get rows k
@@ -58,7 +54,7 @@ of_level (suc c) (suc l) less (v ∷ a) (x ∷ b) rows e =
     let pair : List RowExpr = equal_rows (Take v) (Take x) in
     let e' : option_map (λ inner. pair ++ inner) (slice_get (order_rows c less a b) l) ≡ Some rows =
     sym (slice_get-map (λ inner. pair ++ inner) (order_rows c less a b) l) ∙ e in
-    let i = mapped_some (slice_get (order_rows c less a b) l) pair rows e' in
+    let i = option_map-some (λ inner. pair ++ inner) (slice_get (order_rows c less a b) l) rows e' in
     let inner : AreOfLevel c l a b i.0 = of_level c l less a b i.0 i.1 in
     let first : RowExpr = minus (Take v) (Take x) in
     let second : RowExpr = minus (Take x) (Take v) in

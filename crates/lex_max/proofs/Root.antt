@@ -8,15 +8,15 @@ use Rattle.std.proofs.Common.{true, refl, sym, ap, ◌∙◌, subst, arith}
 use Rattle.std.specs.Prelude.{Some, All, int_le, IsTrue}
 use Rattle.std.specs.List.{list_all}
 use Rattle.std.specs.Option.{option_and_then}
-use Rattle.std.proofs.lemmas.Bool.{eq-eqb}
+use Rattle.std.proofs.lemmas.Bool.{eq-eqb, and_parts, and_from}
 use Rattle.std.proofs.lemmas.Int.{ints}
 use Rattle.std.proofs.lemmas.List.Elements.{All-nil, All-cons}
 use Rattle.affine_core.specs.declared.form.Form.{Form}
 use Rattle.affine_core.specs.Affine.{form_at}
+use Rattle.affine_core.proofs.Integers.{int_le-true}
 use Rattle.int_polyhedra.specs.declared.system.System.{System}
 use Rattle.int_polyhedra.specs.declared.system.Term.{Term}
 use Rattle.int_polyhedra.specs.Systems.{all_over, AreOver, Meets}
-use Rattle.int_polyhedra.proofs.Variables.{and_both, both_and}
 use Rattle.sanlp.specs.declared.nest.Nest.{Nest}
 use Rattle.sanlp.specs.Loops.{all_hold}
 use Rattle.sanlp.specs.WellFormed.{form_fits}
@@ -25,10 +25,10 @@ use Rattle.lex_max.specs.Asked.{depth_of_read, read_of, write_of, AreAsked}
 use Rattle.lex_max.specs.Closed.{number_parts, IsNegativeCycle}
 use Rattle.lex_max.specs.declared.edges.Edge.{Edge}
 use Rattle.lex_max.specs.declared.writes.Writes.{Writes}
-use Rattle.lex_max.proofs.Fitting.{are_fitting, form_is, AreFitting, FormFits}
-use Rattle.lex_max.proofs.Small.{farther}
-use Rattle.lex_max.proofs.Testing.{taken_made}
+use Rattle.lex_max.proofs.ProblemBounds.{are_fitting, form_is, AreFitting, FormFits}
+use Rattle.lex_max.proofs.TestTrees.{taken_made}
 use Rattle.row_sums.specs.Parts.{IsWithin}
+use Rattle.row_sums.proofs.Within.{IsWithin-weaker}
 use Rattle.source_tree.specs.Rows.{Take, row_forms}
 
 -- the rows of a statement, as they are made
@@ -40,16 +40,16 @@ pub record AreRoot (depth : ℕ) (rows : List Form) : Type 0 where
 pub are_root : (depth : ℕ) (rows : List Form) → list_all (form_fits depth) rows ≡ true → AreRoot depth rows
 are_root depth [] e = record { made = refl; over = refl; within = All-nil _ }
 are_root depth (row ∷ rows) e =
-    let b = and_both (form_fits depth row) (list_all (form_fits depth) rows) e in
+    let b = and_parts (form_fits depth row) (list_all (form_fits depth) rows) e in
     let f : FormFits depth row = form_is depth row b.0 in
     let rest : AreRoot depth rows = are_root depth rows b.1 in
     record {
       made = ap (option_and_then (λ row. option_and_then (λ rest. Some (row ∷ rest)) (row_forms depth (map Take rows))))
           (taken_made depth row f.over)
           ∙ ap (option_and_then (λ rest. Some (row ∷ rest))) rest.made;
-      over = both_and (length row.coefs == depth) (all_over depth rows)
+      over = and_from (length row.coefs == depth) (all_over depth rows)
           (eq-eqb (length row.coefs) depth f.over) rest.over;
-      within = All-cons (IsWithin (2 ^ 41)) row rows (farther (2 ^ 32) (2 ^ 41) row (omega arith) f.within) rest.within;
+      within = All-cons (IsWithin (2 ^ 41)) row rows (IsWithin-weaker (2 ^ 32) (2 ^ 41) row (omega arith) f.within) rest.within;
     }
 
 pub root_context_of : (n : Nest) (w : Writes) (context : System) (room : ℕ)
@@ -67,15 +67,12 @@ root_context_of n w context room asked vars_is is le =
       few = omega (arith, f.few_reader_rows, le);
     })
 
-le_where : (a b : ℤ) → int_le a b ≡ true → a ≤ℤ b
-le_where a b e = grind (arith, ints)
-
 -- a point of the domain meets its rows
 pub domain_meets : (rows : List Form) (x : List ℤ) → IsTrue (all_hold rows x) → Meets rows x
 domain_meets [] x e = All-nil _
 domain_meets (row ∷ rows) x e =
-    let b = and_both (int_le (pos 0) (form_at row x)) (all_hold rows x) e in
-    All-cons (λ row. pos 0 ≤ℤ form_at row x) row rows (le_where (pos 0) (form_at row x) b.0) (domain_meets rows x b.1)
+    let b = and_parts (int_le (pos 0) (form_at row x)) (all_hold rows x) e in
+    All-cons (λ row. pos 0 ≤ℤ form_at row x) row rows (int_le-true (pos 0) (form_at row x) b.0) (domain_meets rows x b.1)
 
 -- a negative sum alone
 pub negative_contradicts : (context : System) (edges : List Edge) (ts : List Term) → IsNegativeCycle edges ts

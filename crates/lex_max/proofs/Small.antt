@@ -3,20 +3,15 @@ use Rattle.std.proofs.Common.{◌≡◌, ℕ, ◌+◌, ◌*◌, ◌^◌, ◌≤�
 use Rattle.std.proofs.Common.{ap, ◌∙◌, arith}
 use Rattle.std.specs.Prelude.{Some, unsigned_abs}
 use Rattle.std.specs.Option.{option_and_then}
-use Rattle.std.proofs.lemmas.List.Elements.{All-weaker, All-replicate}
+use Rattle.std.proofs.lemmas.List.Elements.{All-replicate}
+use Rattle.std.proofs.lemmas.List.{length-map}
 use Rattle.affine_core.specs.declared.form.Form.{Form}
 use Rattle.affine_core.specs.Affine.{constant_form, form_product, form_sum}
 use Rattle.affine_core.specs.Within.{form_in_128_bits}
 use Rattle.int_polyhedra.specs.Steps.{negation_of}
-use Rattle.int_polyhedra.proofs.Variables.{length_map}
 use Rattle.row_sums.specs.Parts.{IsWithin}
 use Rattle.row_sums.proofs.Bound.{in_bits_within, product_within, sum_within}
-
-pub farther : (a b : ℕ) (f : Form) → a ≤ b → IsWithin a f → IsWithin b f
-farther a b f le h = record {
-  constant = omega (arith, h.constant, le);
-  coefs = All-weaker (λ c. unsigned_abs c ≤ a) (λ c. unsigned_abs c ≤ b) (λ c k. omega (arith, k, le)) f.coefs h.coefs;
-}
+use Rattle.row_sums.proofs.Within.{IsWithin-weaker}
 
 pub sum_fits : (f g : Form) → IsWithin (2 ^ 60) f → IsWithin (2 ^ 60) g → form_in_128_bits (form_sum f g)
     ≡ Some (form_sum f g)
@@ -26,11 +21,11 @@ one_time : (b : ℕ) → unsigned_abs (negsuc 0) * b ≡ b
 one_time b = omega arith
 
 pub negative_within : (b : ℕ) (f : Form) → IsWithin b f → IsWithin b (form_product (negsuc 0) f)
-negative_within b f h = farther (unsigned_abs (negsuc 0) * b) b (form_product (negsuc 0) f) (omega (arith, one_time b))
+negative_within b f h = IsWithin-weaker (unsigned_abs (negsuc 0) * b) b (form_product (negsuc 0) f) (omega (arith, one_time b))
     (product_within b (negsuc 0) f h)
 
 pub negative_over : (f : Form) → length (form_product (negsuc 0) f).coefs ≡ length f.coefs
-negative_over f = length_map (λ c. c *ℤ negsuc 0) f.coefs
+negative_over f = length-map f.coefs (λ c. c *ℤ negsuc 0)
 
 pub negative_fits : (f : Form) → IsWithin (2 ^ 60) f → form_in_128_bits (form_product (negsuc 0) f)
     ≡ Some (form_product (negsuc 0) f)

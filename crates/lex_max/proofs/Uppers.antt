@@ -7,19 +7,19 @@
 -- and the edge.
 use Rattle.std.proofs.Common.{◌≡◌, ◌+◌, ◌*◌, ◌^◌, ◌≤◌, ◌<◌, ◌==◌, ◌&&◌, ℕ, zero, suc, ℤ, pos, negsuc, ◌+ℤ◌, ◌-ℤ◌}
 use Rattle.std.proofs.Common.{◌≤ℤ◌, ◌<ℤ◌, List, [], ◌∷◌, length, take, Bool, true, false, cond, refl, sym}
-use Rattle.std.proofs.Common.{ap, ◌∙◌, subst, arith, inl, inr, ◌⊎◌}
+use Rattle.std.proofs.Common.{ap, ◌∙◌, subst, arith, inl, inr, ◌⊎◌, lt-ltb}
 use Rattle.std.specs.Prelude.{Option, Some, None, slice_get, slice_index_or, nat_lt}
 use Rattle.std.specs.List.{list_all}
 use Rattle.std.specs.Option.{option_map, option_map_or}
 use Rattle.std.specs.Ordering.{int_eq}
-use Rattle.std.proofs.lemmas.Bool.{cases_lt, eq-eqb}
+use Rattle.std.proofs.lemmas.Bool.{cases_lt, eq-eqb, and_parts}
 use Rattle.std.proofs.lemmas.Int.{ints}
 use Rattle.std.proofs.lemmas.List.{length-map}
 use Rattle.std.proofs.lemmas.Option.{same_Some, slice_get-map}
 use Rattle.affine_core.specs.declared.form.Form.{Form}
+use Rattle.affine_core.proofs.Integers.{int_eq-true, eq-int_eq}
 use Rattle.int_polyhedra.specs.declared.system.System.{System}
 use Rattle.int_polyhedra.specs.declared.system.Term.{Term}
-use Rattle.int_polyhedra.proofs.Variables.{and_both}
 use Rattle.sanlp.proofs.Elements.{list_all_at}
 use Rattle.sanlp.specs.Bounds.{BoundsAbove}
 use Rattle.sanlp.specs.WellFormed.{form_fits}
@@ -34,11 +34,11 @@ use Rattle.lex_max.specs.declared.closure.Bounds.{Bounds}
 use Rattle.lex_max.specs.declared.decide.Choice.{Choice}
 use Rattle.lex_max.specs.declared.edges.Edge.{Edge}
 use Rattle.lex_max.specs.declared.writes.Writes.{Writes}
-use Rattle.lex_max.proofs.Choosing.{choices_at, fact_weaker, no_less_at, HasTerms}
-use Rattle.lex_max.proofs.Adding.{node_few}
+use Rattle.lex_max.proofs.LeastForm.{choices_at, fact_weaker, no_less_at, HasTerms}
+use Rattle.lex_max.proofs.EdgeRows.{node_few}
 use Rattle.lex_max.proofs.Differences.{by_trit, differences_are, how_many, is_trit, past_part, AreTrits}
-use Rattle.lex_max.proofs.Fitting.{asked_fits, form_is, IsKnown, FormFits}
-use Rattle.lex_max.proofs.Walking.{all_at}
+use Rattle.lex_max.proofs.ProblemBounds.{asked_fits, form_is, IsKnown, FormFits}
+use Rattle.plain_data.proofs.Lists.{All-slice_get}
 use Rattle.row_sums.specs.Closure.{AtMost, bound_sum}
 use Rattle.row_sums.specs.Parts.{Part, the_constant, the_coefficient, part_of, row_part}
 
@@ -48,29 +48,20 @@ some_from : (x : Option ℤ) (y : ℤ) → AtMost x (Some y) → (z : ℤ) × (x
 some_from None y h = absurd h
 some_from (Some x) y h = (x, refl, h)
 
-less_true : (m n : ℕ) → m < n → nat_lt m n ≡ true
-less_true m n h = grind arith
-
-where_int_eq : (a b : ℤ) → int_eq a b ≡ true → a ≡ b
-where_int_eq a b e = grind (arith, ints)
-
 -- the first variable with a coefficient has it
 node_has : (c : ℤ) (cs : List ℤ) → node_of c cs < length cs → slice_index_or cs (node_of c cs) (pos 0) ≡ c
 node_has c [] lt = absurd (omega arith)
 node_has c (d ∷ cs) lt = go (λ lt. node_has c cs lt) (int_eq d c) refl lt where
   go : (node_of c cs < length cs → slice_index_or cs (node_of c cs) (pos 0) ≡ c) → (b : Bool) → int_eq d c ≡ b → cond b
       0 (suc (node_of c cs)) < suc (length cs) → slice_index_or (d ∷ cs) (cond b 0 (suc (node_of c cs))) (pos 0) ≡ c
-  go rest true is lt = where_int_eq d c is
+  go rest true is lt = int_eq-true d c is
   go rest false is lt = rest (omega (arith, lt))
-
-int_eq_same : (a b : ℤ) → a ≡ b → int_eq a b ≡ true
-int_eq_same a b e = grind (arith, ints)
 
 has_one : (c : ℤ) (cs : List ℤ) (v : ℕ) → v < length cs → slice_index_or cs v (pos 0) ≡ c → 1 ≤ how_many c cs
 has_one c [] v lt e = absurd (omega arith)
 has_one c (d ∷ cs) zero lt e =
     let same : d ≡ c = e in
-    let here : int_eq d c ≡ true = int_eq_same d c same in
+    let here : int_eq d c ≡ true = eq-int_eq d c same in
     let count : how_many c (d ∷ cs) ≡ 1 + how_many c cs = ap (λ b. cond b 1 0 + how_many c cs) here in
     omega (arith, count)
 has_one c (d ∷ cs) (suc v) lt e =
@@ -80,7 +71,7 @@ has_one c (d ∷ cs) (suc v) lt e =
 once_node : (c : ℤ) (cs : List ℤ) (v : ℕ) → how_many c cs ≤ 1 → slice_index_or cs v (pos 0) ≡ c → v < length cs
     → node_of c cs ≡ v
 once_node c [] v once e lt = absurd (omega arith)
-once_node c (d ∷ cs) zero once e lt = ap (λ b. cond b 0 (suc (node_of c cs))) (int_eq_same d c e)
+once_node c (d ∷ cs) zero once e lt = ap (λ b. cond b 0 (suc (node_of c cs))) (eq-int_eq d c e)
 once_node c (d ∷ cs) (suc v) once e lt =
     go (λ once. once_node c cs v once e (omega (arith, lt))) (int_eq d c) refl where
       rest : 1 ≤ how_many c cs
@@ -98,9 +89,9 @@ trit_at : (cs : List ℤ) (v : ℕ) → list_all is_trit cs ≡ true → (slice_
     ((slice_index_or cs v (pos 0) ≡ pos 1) ⊎ (slice_index_or cs v (pos 0) ≡ negsuc 0))
 trit_at [] v t = inl refl
 trit_at (c ∷ cs) zero t =
-    let b = and_both (is_trit c) (list_all is_trit cs) t in
+    let b = and_parts (is_trit c) (list_all is_trit cs) t in
     by_trit c (λ c. (c ≡ pos 0) ⊎ ((c ≡ pos 1) ⊎ (c ≡ negsuc 0))) b.0 (inl refl) (inr (inl refl)) (inr (inr refl))
-trit_at (c ∷ cs) (suc v) t = trit_at cs v (and_both (is_trit c) (list_all is_trit cs) t).1
+trit_at (c ∷ cs) (suc v) t = trit_at cs v (and_parts (is_trit c) (list_all is_trit cs) t).1
 
 taken_at : {X : Type 0} (xs : List X) (n i : ℕ) (x : X) → slice_get (take n xs) i ≡ Some x → slice_get xs i ≡ Some x
 taken_at [] zero i x e = e
@@ -127,7 +118,7 @@ module _ (w : Writes) (edges : List Edge) (bounds : Bounds) (ready : AreReady w 
   closed = ready.closed
 
   pub edge_at : (k : ℕ) (g : Edge) → slice_get edges k ≡ Some g → IsEdge vars depth g
-  edge_at k g is = all_at (IsEdge vars depth) edges k g ready.graph.graph.each is
+  edge_at k g is = All-slice_get (IsEdge vars depth) edges k g ready.graph.graph.each is
 
   -- the form of a path
   upper_is : (v : ℕ) (g : Edge) (value : ℤ) → g.from ≡ depth → g.to < depth → value_at bounds g.to v ≡ Some value
@@ -137,7 +128,7 @@ module _ (w : Writes) (edges : List Edge) (bounds : Bounds) (ready : AreReady w 
       (λ value. record g.weight { constant = g.weight.constant +ℤ value }) (value_at bounds g.to v)) None)
       (eq-eqb g.from depth first)
       ∙ ap (λ b. cond b (option_map (λ value. record g.weight { constant = g.weight.constant +ℤ value })
-      (value_at bounds g.to v)) None) (less_true g.to depth inside)
+      (value_at bounds g.to v)) None) (lt-ltb g.to depth inside)
       ∙ ap (option_map (λ value. record g.weight { constant = g.weight.constant +ℤ value })) is
 
   upper_at : (v k : ℕ) (g : Edge) → slice_get edges k ≡ Some g → slice_get (uppers_of depth bounds edges v) k
@@ -196,7 +187,7 @@ module _ (w : Writes) (edges : List Edge) (bounds : Bounds) (ready : AreReady w 
   -- a path of bounds and one edge more
   least_at : (a b k : ℕ) (g : Edge) → slice_get edges k ≡ Some g → g.from ≡ a → g.to ≡ b → a < depth → b < depth
       → AtMost (value_at bounds a b) (Some g.weight.constant)
-  least_at a b k g is e f lt lt' = all_at (λ (g : Edge). g.from ≡ a → g.to ≡ b
+  least_at a b k g is e f lt lt' = All-slice_get (λ (g : Edge). g.from ≡ a → g.to ≡ b
       → AtMost (value_at bounds a b) (Some g.weight.constant)) edges k g (closed.least a b lt lt') is e f
 
   -- the value to the end of an inner edge

@@ -7,14 +7,9 @@ use Rattle.sanlp.specs.WellFormed.{form_fits}
 use Rattle.sanlp.specs.declared.nest.Nest.{Nest}
 use Rattle.lex_max.specs.Class.{is_difference, is_shift, writes_differences}
 use Rattle.lex_max.specs.Level.{common_of, HasLevel}
-use Rattle.lex_max.specs.declared.writes.Reference.{Reference}
 use Rattle.lex_max.specs.declared.writes.Writes.{Writes}
 use Rattle.row_sums.specs.Parts.{IsWithin}
 use Rattle.source_tree.specs.Systems.{Occurrence, named_write, read_at}
-
--- the read or write that a reference is
-abbrev pub occurrence_of : Reference → Occurrence
-occurrence_of r = record { number = r.number; statement = r.statement.now; access = r.access.now }
 
 -- the read, with the problem's subscripts
 abbrev pub read_of : Writes → Occurrence
@@ -36,6 +31,7 @@ write_of w = record {
 abbrev pub depth_of_read : Writes → ℕ
 depth_of_read w = length w.read.statement.now.loops
 
+-- how many loops stand round the write
 abbrev pub depth_of_write : Writes → ℕ
 depth_of_write w = length w.write.statement.now.loops
 
@@ -70,6 +66,7 @@ pub record IsProblem (vars : ℕ) (r w : Occurrence) (p : ℕ) : Type 0 where
   pub cells : AreCells vars (length w.statement.loops) w.access.subscripts r.access.subscripts
   pub level : HasLevel r w p
 
+-- a write before a read at a level, with small differences as rows and subscripts, over at most 12 variables
 pub record IsAsked (w : Writes) : Type 0 where
   pub problem : IsProblem w.vars (read_of w) (write_of w) w.level
   pub common : w.common ≡ common_of (write_of w) (read_of w)

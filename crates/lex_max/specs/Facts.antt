@@ -24,6 +24,7 @@ pub record IsFact (context : System) (most : ℕ) (row : RowParts) (ts : List Te
   pub shows : Shows context.vars context.rows ts row
   pub light : weight ts ≤ most
 
+-- the parts of a form
 abbrev pub form_parts : Form → RowParts
 form_parts form part = part_of part form
 

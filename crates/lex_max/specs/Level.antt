@@ -40,7 +40,7 @@ IsGreatest r w p x (At point) =
     → (j ≡ point.at) ⊎ PrecedesWithin (length w.statement.loops) false j point.at)
 IsGreatest r w p x Dead = ⊥
 
--- so does a tree at each point of the reader
+-- a tree gives at each point of the reader the greatest point of the writer at a level, or zero where there is none
 abbrev pub GivesGreatest : Nest → Occurrence → Occurrence → ℕ → Tree → Type 0
 GivesGreatest n r w p tree =
     (x : List ℤ) → IsPoint n (record { statement = r.number; at = x })

@@ -86,7 +86,7 @@ fn is_less(edge: &Edge, bound: Option<&Bound>) -> bool
 }
 
 // Whether an edge is between the two variables and less than the bound.
-#[tactic(auto, using(crate::proofs::Walking::below_bound, crate::proofs::Walking::above_bound))]
+#[tactic(auto, using(crate::proofs::PathSums::below_bound, crate::proofs::PathSums::above_bound))]
 fn betters(edge: &Edge, from: usize, to: usize, bound: &Option<Bound>) -> bool
     ensures yes { OnTrue result ((edge.now.from ≡ from) × ((edge.now.to ≡ to)
         × AtMost (Some edge.now.weight.constant) (value_of bound.now))) }

@@ -310,7 +310,7 @@ fn are_confirmed(context: &System, form: &Form, terms: &[Term]) -> Result<bool, 
 
 /// Terms whose sum is the form less a number that is not below 0, so that the form is at least 0 wherever the context's
 /// rows are. They are searched for and then confirmed; `None` says nothing. Their multipliers add up to 65,536 at most.
-#[tactic(auto, using(crate::proofs::Knowing::fact_is))]
+#[tactic(auto, using(crate::proofs::FactLemmas::fact_is))]
 pub fn known(context: &System, form: &Form) -> Result<Option<Items<Term>>, AllocError>
     requires context { IsContext context.now }
     requires over { length form.now.coefs ≡ context.now.vars }

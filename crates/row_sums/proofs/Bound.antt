@@ -5,7 +5,7 @@
 -- leaves 128 bits, and the sum within 128 bits is the sum without bounds. The bound is of the numbers' amounts alone:
 -- that they cancel is used nowhere.
 use Rattle.std.proofs.Common.{◌≡◌, ℕ, zero, suc, ◌+◌, ◌*◌, ◌^◌, ◌<◌, ◌≤◌, ℤ, pos, negsuc, ◌+ℤ◌, ◌*ℤ◌, List, [], ◌∷◌}
-use Rattle.std.proofs.Common.{Bool, true, false, cond, refl, ap, ◌∙◌, arith}
+use Rattle.std.proofs.Common.{Bool, true, false, cond, refl, ap, ◌∙◌, arith, add-mul}
 use Rattle.std.specs.Prelude.{Option, Some, None, All, slice_get}
 use Rattle.std.specs.Option.{option_and_then}
 use Rattle.std.specs.List.{list_all}
@@ -14,26 +14,21 @@ use Rattle.std.proofs.lemmas.Int.{ints}
 use Rattle.std.proofs.lemmas.List.Elements.{All-nil, All-cons, All-head, All-tail}
 use Rattle.std.proofs.lemmas.Option.{same_Some}
 use Rattle.std.proofs.Math.Nat.{mul-le-mul_left}
+use Rattle.std.proofs.lemmas.Bool.{and_from}
 use Rattle.affine_core.specs.declared.form.Form.{Form}
 use Rattle.affine_core.specs.Affine.{form_product, form_sum, products, sums}
 use Rattle.affine_core.specs.Within.{fits_128_bits, form_fits_128_bits, form_in_128_bits}
+use Rattle.affine_core.proofs.Integers.{unsigned_abs-sum}
 use Rattle.int_polyhedra.specs.declared.system.Term.{Term}
 use Rattle.int_polyhedra.specs.Steps.{sum_onto}
-use Rattle.int_polyhedra.proofs.Variables.{both_and}
 use Rattle.row_sums.specs.Parts.{IsWithin, weight}
-use Rattle.row_sums.proofs.Weights.{abs_product, spread_is}
+use Rattle.row_sums.proofs.Weights.{abs_product}
 
 -- the sum without any bound
 abbrev pub ideal : List Form → Form → List Term → Option Form
 ideal rows sum [] = Some sum
 ideal rows sum (t ∷ ts) =
     option_and_then (λ row. ideal rows (form_sum sum (form_product t.times row)) ts) (slice_get rows t.row)
-
-abs_sum : (a b : ℤ) → unsigned_abs (a +ℤ b) ≤ unsigned_abs a + unsigned_abs b
-abs_sum (pos m) (pos n) = omega (arith, ints)
-abs_sum (pos m) (negsuc n) = omega (arith, ints)
-abs_sum (negsuc m) (pos n) = omega (arith, ints)
-abs_sum (negsuc m) (negsuc n) = omega (arith, ints)
 
 fits_below : (bound : ℕ) (z : ℤ) → unsigned_abs z ≤ bound → bound < 2 ^ 127 → fits_128_bits z ≡ true
 fits_below bound (pos n) h k = let l : n < 2 ^ 127 = omega (arith, ints, h, k) in grind arith
@@ -43,7 +38,7 @@ all_fit : (bound : ℕ) (zs : List ℤ) → All (λ c. unsigned_abs c ≤ bound)
     ≡ true
 all_fit bound [] h k = refl
 all_fit bound (z ∷ zs) h k =
-    both_and (fits_128_bits z) (list_all fits_128_bits zs)
+    and_from (fits_128_bits z) (list_all fits_128_bits zs)
     (fits_below bound z (All-head (λ c. unsigned_abs c ≤ bound) z zs h) k)
     (all_fit bound zs (All-tail (λ c. unsigned_abs c ≤ bound) z zs h) k)
 
@@ -53,7 +48,7 @@ kept_if false f e = absurd (cc)
 
 pub in_bits_within : (bound : ℕ) (f : Form) → IsWithin bound f → bound < 2 ^ 127 → form_in_128_bits f ≡ Some f
 in_bits_within bound f h k =
-    kept_if (form_fits_128_bits f) f (both_and (fits_128_bits f.constant) (list_all fits_128_bits f.coefs)
+    kept_if (form_fits_128_bits f) f (and_from (fits_128_bits f.constant) (list_all fits_128_bits f.coefs)
     (fits_below bound f.constant h.constant k) (all_fit bound f.coefs h.coefs k))
 
 product_below : (bound : ℕ) (z by : ℤ) → unsigned_abs z ≤ bound → unsigned_abs (z *ℤ by) ≤ unsigned_abs by * bound
@@ -81,7 +76,7 @@ sums_below a b (x ∷ xs) (y ∷ ys) h k =
     (omega (
       arith,
       ints,
-      abs_sum x y,
+      unsigned_abs-sum x y,
       All-head (λ c. unsigned_abs c ≤ a) x xs h,
       All-head (λ c. unsigned_abs c ≤ b) y ys k,
     ))
@@ -89,7 +84,7 @@ sums_below a b (x ∷ xs) (y ∷ ys) h k =
 
 pub sum_within : (a b : ℕ) (f g : Form) → IsWithin a f → IsWithin b g → IsWithin (a + b) (form_sum f g)
 sum_within a b f g h k = record {
-  constant = omega (arith, ints, abs_sum f.constant g.constant, h.constant, k.constant);
+  constant = omega (arith, ints, unsigned_abs-sum f.constant g.constant, h.constant, k.constant);
   coefs = sums_below a b f.coefs g.coefs h.coefs k.coefs;
 }
 
@@ -115,7 +110,7 @@ stays bound so_far rows sum (t ∷ ts) h s k =
       go later None e = refl
       go later (Some row) e =
           let by : ℕ = unsigned_abs t.times in
-          let spread : (by + weight ts) * bound ≡ by * bound + weight ts * bound = spread_is by (weight ts) bound in
+          let spread : (by + weight ts) * bound ≡ by * bound + weight ts * bound = add-mul by (weight ts) bound in
           let w : IsWithin (by * bound) (form_product t.times row) =
           product_within bound t.times row (get_within bound rows t.row row h e) in
           let more : form_in_128_bits (form_product t.times row) ≡ Some (form_product t.times row) =

@@ -4,21 +4,23 @@
 -- times its multiplier, and sums and multiples of forms go part by part. The rows have equally many coefficients, so
 -- the sum has as many, and no coefficient is lost where forms are added. A sum that stays within 128 bits is the sum
 -- without bounds, so it has the same parts.
-use Rattle.std.proofs.Common.{◌≡◌, ◌<◌, ℕ, zero, suc, ℤ, pos, ◌+ℤ◌, ◌*ℤ◌, List, [], ◌∷◌, length, replicate, refl, sym}
+use Rattle.std.proofs.Common.{◌≡◌, ◌<◌, ℕ, zero, suc, ℤ, pos, ◌+ℤ◌, ◌*ℤ◌, List, [], ◌∷◌, length, refl, sym}
 use Rattle.std.proofs.Common.{ap, ◌∙◌, arith}
 use Rattle.std.specs.Prelude.{Some, All, slice_get, slice_index_or}
 use Rattle.std.specs.Option.{option_and_then, option_map_or}
 use Rattle.std.proofs.lemmas.Int.{ints}
 use Rattle.std.proofs.lemmas.List.Elements.{All-head, All-tail}
 use Rattle.std.proofs.lemmas.Option.{option_and_then_some}
+use Rattle.std.proofs.lemmas.List.{length-map}
 use Rattle.affine_core.specs.declared.form.Form.{Form}
 use Rattle.affine_core.specs.Affine.{form_product, form_sum, products, sums}
 use Rattle.affine_core.specs.Within.{form_in_128_bits}
-use Rattle.affine_core.proofs.Linear.{form_in_128_bits_is}
+use Rattle.affine_core.proofs.Linear.{form_in_128_bits_is, length-sums}
 use Rattle.int_polyhedra.specs.declared.system.Term.{Term}
 use Rattle.int_polyhedra.specs.Steps.{sum_onto, sum_with}
 use Rattle.int_polyhedra.specs.Systems.{AreOver}
-use Rattle.int_polyhedra.proofs.Variables.{length_map, length_sums, over_at}
+use Rattle.int_polyhedra.proofs.Variables.{over_at}
+use Rattle.plain_data.proofs.Lists.{slice_get-some}
 use Rattle.row_sums.specs.Parts.{Part, the_constant, the_coefficient, part_of, row_part, weighted_sum}
 use Rattle.row_sums.proofs.Bound.{ideal}
 
@@ -36,11 +38,6 @@ sums_part (x ∷ xs) [] i e = absurd (omega arith)
 sums_part (x ∷ xs) (y ∷ ys) zero e = refl
 sums_part (x ∷ xs) (y ∷ ys) (suc i) e = sums_part xs ys i (omega (arith, e))
 
-pub zeros_part : (n i : ℕ) → slice_index_or (replicate n (pos 0)) i (pos 0) ≡ pos 0
-zeros_part zero i = refl
-zeros_part (suc n) zero = refl
-zeros_part (suc n) (suc i) = zeros_part n i
-
 pub product_part : (part : Part) (by : ℤ) (f : Form) → part_of part (form_product by f) ≡ part_of part f *ℤ by
 product_part the_constant by f = refl
 product_part (the_coefficient i) by f = products_part by f.coefs i
@@ -56,22 +53,17 @@ pub record IsSummed (vars : ℕ) (rows : List Form) (sum : Form) (ts : List Term
   pub over : length f.coefs ≡ vars
   pub parts : (part : Part) → part_of part f ≡ part_of part sum +ℤ weighted_sum (row_part rows part) ts
 
-found : (rows : List Form) (k : ℕ) → k < length rows → (row : Form) × (slice_get rows k ≡ Some row)
-found [] k h = absurd (omega arith)
-found (row ∷ rows) zero h = (row, refl)
-found (row ∷ rows) (suc k) h = found rows k (omega (arith, h))
-
 pub summed : (vars : ℕ) (rows : List Form) (sum : Form) (ts : List Term) → AreOver vars rows → length sum.coefs ≡ vars
     → All (λ t. t.row < length rows) ts
     → (f : Form) × IsSummed vars rows sum ts f
 summed vars rows sum [] over h range = (sum, record { is = refl; over = h; parts = λ part. omega (arith, ints) })
 summed vars rows sum (t ∷ ts) over h range =
-    let r = found rows t.row (All-head (λ (t : Term). t.row < length rows) t ts range) in
+    let r = slice_get-some rows t.row (All-head (λ (t : Term). t.row < length rows) t ts range) in
     let row : Form = r.0 in
     let wide : length row.coefs ≡ vars = over_at vars rows t.row row over r.1 in
-    let more : length (form_product t.times row).coefs ≡ vars = length_map (λ c. c *ℤ t.times) row.coefs ∙ wide in
+    let more : length (form_product t.times row).coefs ≡ vars = length-map row.coefs (λ c. c *ℤ t.times) ∙ wide in
     let next : Form = form_sum sum (form_product t.times row) in
-    let over_next : length next.coefs ≡ vars = length_sums sum.coefs (form_product t.times row).coefs (h ∙ sym more) ∙ h
+    let over_next : length next.coefs ≡ vars = length-sums sum.coefs (form_product t.times row).coefs (h ∙ sym more) ∙ h
     in
     let rest = summed vars rows next ts over over_next (All-tail (λ (t : Term). t.row < length rows) t ts range) in (
       rest.0,

@@ -20,6 +20,7 @@ abbrev pub ProductsFit : ℤ → List Term → Type 0
 ProductsFit by [] = Unit {0}
 ProductsFit by (t ∷ ts) = FitsSigned w128 (t.times *ℤ by) × ProductsFit by ts
 
+-- the products stay within 128 bits where each row is replaced by a sum of other rows
 abbrev pub CarryFits : List (List Term) → List Term → Type 0
 CarryFits sums [] = Unit {0}
 CarryFits sums (t ∷ ts) = ProductsFit t.times (sum_in_place sums t.row) × CarryFits sums ts

@@ -1,5 +1,5 @@
 -- Least sums of differences, one loop variable after the other.
-use Rattle.std.specs.Prelude.{ℕ, ◌+◌, ◌<◌, ℤ, pos, ◌+ℤ◌, ◌≤ℤ◌, Option, Some, None}
+use Rattle.std.specs.Prelude.{ℕ, ◌<◌, ℤ, pos, ◌+ℤ◌, ◌≤ℤ◌, Option, Some, None}
 use Rattle.std.specs.Int.{int_min}
 
 -- the greatest known difference of two variables' values, or no bound
@@ -33,8 +33,3 @@ ClosedBelow count d =
 abbrev pub NotNegative : Option ℤ → Type 0
 NotNegative None = Unit {0}
 NotNegative (Some x) = pos 0 ≤ℤ x
-
--- going through the next variable closes one more, unless it lies on a cycle with a negative sum
-abbrev pub Closes : Type 0
-Closes = (v : ℕ) (d : Bounds) → ClosedBelow v d → NotNegative (d v v)
-    → ClosedBelow (v + 1) (bounds_through v d)

@@ -2,6 +2,4 @@ pub mod Parts
 pub mod Shown
 pub mod Carried
 pub mod Closure
-pub mod Laws
 pub mod Made
-pub mod MadeLaws

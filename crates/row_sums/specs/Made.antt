@@ -1,6 +1,5 @@
 -- Rows as they are made from forms by sums and multiples: their parts, and how far from 0 their numbers are.
 use Rattle.std.specs.Prelude.{◌≤◌, ℕ, ◌+◌, ◌*◌, ◌+ℤ◌, ◌*ℤ◌, length, unsigned_abs}
-use Rattle.affine_core.specs.declared.form.Form.{Form}
 use Rattle.row_sums.specs.Parts.{part_of, IsWithin}
 use Rattle.row_sums.specs.Shown.{RowParts}
 use Rattle.source_tree.specs.Rows.{RowExpr, Take, Plus, Times}

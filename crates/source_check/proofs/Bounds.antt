@@ -9,9 +9,9 @@ use Rattle.std.proofs.Common.{true, false, cond, refl, sym, subst, arith, length
 use Rattle.std.specs.Prelude.{Option, Some, None, IsTrue, nat_le, nat_lt}
 use Rattle.std.specs.List.{flat_map, list_all}
 use Rattle.std.proofs.Math.Nat.{mul-le-mul_left}
-use Rattle.std.proofs.lemmas.Bool.{and_parts, leb-true}
+use Rattle.std.proofs.lemmas.Bool.{and_parts, leb-true, and_from}
+use Rattle.std.proofs.lemmas.List.{length-map}
 use Rattle.affine_core.specs.declared.form.Form.{Form}
-use Rattle.int_polyhedra.proofs.Variables.{both_and, length_map}
 use Rattle.sanlp.specs.declared.nest.ArrayDecl.{ArrayDecl}
 use Rattle.sanlp.specs.declared.nest.Nest.{Nest}
 use Rattle.sanlp.specs.declared.nest.Statement.{Statement}
@@ -37,7 +37,7 @@ few_levels (suc m) less (v ∷ a) (w ∷ b) =
     omega (
       arith,
       few_levels m less a b,
-      length_map (λ rows. equal_rows (Take v) (Take w) ++ rows) (order_rows m less a b),
+      length-map (order_rows m less a b) (λ rows. equal_rows (Take v) (Take w) ++ rows),
     )
 
 few_common : (ks ls : List ℕ) → (common_loops ks ls ≤ length ks) × (common_loops ks ls ≤ length ls)
@@ -67,7 +67,7 @@ length_both c (p ∷ ps) qs =
     omega (
       arith,
       length-append (map (λ q. with_rows c (p ++ q)) qs) (both_orders c ps qs),
-      length_map (λ q. with_rows c (p ++ q)) qs,
+      length-map qs (λ q. with_rows c (p ++ q)),
       length_both c ps qs,
     )
 
@@ -123,7 +123,7 @@ short_statements n = go n.statements n.well_formed.statements_fit where
   go [] h = refl
   go (s ∷ statements) h =
       let b = and_parts (statement_fits n.arrays s) (list_all (statement_fits n.arrays) statements) h in
-      both_and (nat_le (length s.loops) 6) (list_all (λ (s : Statement). nat_le (length s.loops) 6) statements)
+      and_from (nat_le (length s.loops) 6) (list_all (λ (s : Statement). nat_le (length s.loops) 6) statements)
       (fits_of n.arrays s b.0).few_loops (go statements b.1)
 
 pub zero_few : (n : Nest) (r : Occurrence) (c : Context) → length (zero_systems n r every c) < 2 ^ 64
@@ -177,11 +177,11 @@ writer_few n r w number c place is =
       length-append cell (after_systems r c w place ++ between),
       length-append (after_systems r c w place) between,
       length-append (map (with_rows c) levels) (same_systems r c w place),
-      length_map (with_rows c) levels,
+      length-map levels (with_rows c),
       few_after r.number r.statement (reader_place r) w.number w.statement place short,
       few_same r c w place,
-      length_map (λ row. with_rows c (below_zero (at_place row place) ∷ [])) w.statement.rows,
-      length_map (λ row. with_rows c (row ∷ [])) (differ_rows w.access.subscripts r.access.subscripts place),
+      length-map w.statement.rows (λ row. with_rows c (below_zero (at_place row place) ∷ [])),
+      length-map (differ_rows w.access.subscripts r.access.subscripts place) (λ row. with_rows c (row ∷ [])),
       few_differ w.access.subscripts r.access.subscripts place,
       few_writes r c (λ u. before_rows w.number w.statement place u.number u.statement (writer_place c u))
           (λ u h. few_after w.number w.statement place u.number u.statement

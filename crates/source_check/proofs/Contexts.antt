@@ -4,7 +4,7 @@
 -- before its last test, and then those of that test; so the contexts of the two trees below a test are those of the
 -- paths with that test at their end. The code makes the rows in that order, from the root on, over as many variables as
 -- it is asked for: the rows of a path don't depend on how many there are.
-use Rattle.std.proofs.Common.{◌≡◌, ◌+◌, ℕ, ℤ, List, [], ◌∷◌, ◌++◌, length, map, Bool, true, false, sym, ap, ◌∙◌, Bor}
+use Rattle.std.proofs.Common.{◌≡◌, ◌+◌, ℕ, ℤ, List, [], ◌∷◌, ◌++◌, map, Bool, true, false, sym, ap, ◌∙◌, Bor}
 use Rattle.std.specs.Prelude.{Option, Some}
 use Rattle.affine_core.specs.declared.form.Form.{Form}
 use Rattle.affine_core.specs.Affine.{constant_form, variable_form}
@@ -14,14 +14,15 @@ use Rattle.source_check.specs.declared.path.Path.TheOpen as layer
 use Rattle.source_check.specs.declared.path.Path.TheViews.{Test, Divides, rolls-Root, rolls-Test, rolls-Divides}
 use Rattle.source_check.specs.declared.path.Path.TheVariants.{Root}
 use Rattle.source_check.specs.declared.path.Path.TheFolds.{fold-roll-Path}
-use Rattle.source_check.specs.declared.reference.Reference.{Reference}
-use Rattle.source_check.specs.Making.{below_zero_of, forms_of, minus_of, one_less_of, plus_of, system_with}
+use Rattle.source_tree.specs.declared.reference.Reference.{Reference}
+use Rattle.source_check.specs.Making.{forms_of, minus_of, one_less_of, plus_of, system_with}
 use Rattle.source_check.specs.Making.{system_with_all, times_of}
-use Rattle.source_check.specs.Paths.{test_rows, quotient_rows, path_step, path_rows, occurrence_of, context_of}
+use Rattle.source_check.specs.Paths.{test_rows, quotient_rows, path_step, path_rows, context_of}
 use Rattle.source_check.specs.Verdict.{made_system}
-use Rattle.source_check.proofs.Making.{below_zero_made, number_made, one_less_made, system_all}
+use Rattle.source_check.proofs.SystemRows.{one_less_made, system_all}
 use Rattle.source_tree.specs.Rows.{RowExpr, Take, Plus, row_form, number, one_less, minus}
-use Rattle.source_tree.specs.Systems.{Context, more_rows, multiple, one_more, root_context}
+use Rattle.source_tree.specs.Systems.{Context, more_rows, multiple, one_more}
+use Rattle.source_tree.proofs.RowLists.{row_form-number}
 
 module _ (reader : List Form) where
   pub path_root : path_rows reader Root ≡ map Take reader
@@ -42,13 +43,6 @@ module _ (reader : List Form) where
 
 abbrev over : ℕ → List RowExpr → Context
 over vars rows = record { vars = vars; rows = rows }
-
--- the contexts of the whole tree, and below a Test and a Divides
-pub root_is : (r : Reference) (vars : ℕ) → vars ≡ length r.statement.now.loops
-    → root_context (occurrence_of r) ≡ context_of r vars Root
-root_is r vars is =
-    ap (over (length r.statement.now.loops)) (sym (path_root r.statement.now.rows))
-    ∙ ap (λ vars. context_of r vars Root) (sym is)
 
 pub below_test : (r : Reference) (vars : ℕ) (path : Path) (above : Bor Path) (form : Bor Form) (answer : Bool)
     (c : Context) → above.now ≡ path → c ≡ context_of r vars path
@@ -97,10 +91,6 @@ module _ (vars : ℕ) (reader : List Form) where
 
 -- with what a test answered
 module _ (vars : ℕ) (system : Option System) (form : Form) where
-  pub test_no_is : system_with system (below_zero_of vars (row_form vars (Take form)))
-      ≡ system_with_all system (forms_of vars (test_rows form false))
-  test_no_is = ap (system_with system) (sym (below_zero_made vars (Take form)))
-
   module _ (d : ℤ) (q : ℕ) (answer : Bool) (value variable multiple_form : Option Form)
       (value_is : value ≡ row_form vars (Take form))
       (variable_is : variable ≡ row_form vars (Take (variable_form (q + 1) q)))
@@ -140,7 +130,7 @@ module _ (vars : ℕ) (system : Option System) (form : Form) where
         (minus_of most f)) value_is
         ∙ ap (λ f. system_with (system_with system (row_form vars (one_less (minus (Take form) m)))) (minus_of f taken))
         (most_is ∙ ap (one_less_of vars)
-        (above_is ∙ ap (plus_of multiple_form) (constant_is ∙ sym (number_made vars d))
+        (above_is ∙ ap (plus_of multiple_form) (constant_is ∙ sym (row_form-number vars d))
         ∙ ap (λ f. plus_of f (row_form vars (number d))) multiple_made)
         ∙ sym (one_less_made vars (Plus m (number d))))
         ∙ ap (λ b. system_with_all system (forms_of vars (quotient_rows q form d b))) (sym is)

@@ -6,7 +6,7 @@
 -- point comes to a Dead leaf, since it would meet its context.
 use Rattle.std.proofs.Common.{◌≡◌, ◌+◌, ◌%◌, ◌≤◌, ◌==◌, ℕ, zero, suc, ℤ, pos, ◌≤ℤ◌, ◌<ℤ◌, List, [], ◌∷◌, ◌++◌, length}
 use Rattle.std.proofs.Common.{map, Bool, true, false, cond, refl, sym, ap, ◌∙◌, subst, arith, append_assoc}
-use Rattle.std.proofs.Common.{length-append}
+use Rattle.std.proofs.Common.{length-append, eqb-true}
 use Rattle.std.specs.Prelude.{Some, None, slice_get, int_le, unsigned_abs}
 use Rattle.std.specs.Option.{option_and_then, option_map_or}
 use Rattle.std.proofs.lemmas.Int.{ints}
@@ -15,8 +15,7 @@ use Rattle.std.proofs.lemmas.List.Elements.{All-head, All-tail}
 use Rattle.std.proofs.lemmas.Option.{same_Some}
 use Rattle.affine_core.specs.declared.form.Form.{Form}
 use Rattle.affine_core.specs.Affine.{form_at}
-use Rattle.int_polyhedra.specs.declared.system.Proof.{Proof}
-use Rattle.int_polyhedra.proofs.Variables.{equal_where}
+use Rattle.affine_core.proofs.Integers.{int_le-true, int_le-false}
 use Rattle.sanlp.specs.declared.nest.Access.{Access}
 use Rattle.sanlp.specs.declared.nest.Nest.{Nest}
 use Rattle.sanlp.specs.declared.nest.Point.{Point}
@@ -28,65 +27,24 @@ use Rattle.sanlp.specs.Writers.{last_before, cell_read}
 use Rattle.source_tree.specs.Checked.{HaveVariables, IsCheckedIn, at_test, at_divides, at_writer, at_zero, at_dead}
 use Rattle.source_tree.specs.Checked.{IsChecked}
 use Rattle.source_tree.specs.Exact.{IsPointOf, IsExact}
-use Rattle.source_tree.specs.Gives.{values, gives, gives_step, quotient}
+use Rattle.source_tree.specs.Gives.{values, gives, quotient}
 use Rattle.source_tree.specs.Rows.{RowExpr, Take, row_at, below_zero}
 use Rattle.source_tree.specs.Systems.{Occurrence, Context, every, root_context, more_rows, one_more, test_yes, test_no}
 use Rattle.source_tree.specs.Systems.{divides_yes, divides_no, divided_rows, undivided_rows, dead_systems}
 use Rattle.source_tree.specs.Systems.{writer_systems, zero_systems}
 use Rattle.source_tree.specs.declared.tree.Found.{Found}
-use Rattle.source_tree.specs.declared.tree.Found.TheVariants as found
 use Rattle.source_tree.specs.declared.tree.Tree.{Tree}
-use Rattle.source_tree.specs.declared.tree.Tree.TheOpen as open_
-use Rattle.source_tree.specs.declared.tree.Tree.TheVariants.{Writer, Zero}
-use Rattle.source_tree.specs.declared.tree.Tree.TheViews.{Test, Divides, rolls-Test, rolls-Divides, rolls-Writer}
-use Rattle.source_tree.specs.declared.tree.Tree.TheViews.{rolls-Zero}
-use Rattle.source_tree.specs.declared.tree.Tree.TheFolds.{fold-roll-Tree}
+use Rattle.source_tree.proofs.Gives.{gives-Test, gives-Writer, gives-Zero, gives-Divides}
+use Rattle.source_tree.proofs.MetRows.{AreMet, AreMet-append}
 use Rattle.source_check.proofs.Leaves.{Holds, over_short, zero_leaf, writer_leaf}
-use Rattle.source_check.proofs.Made.{refuted_are_empty}
+use Rattle.source_check.proofs.RowValues.{refuted_are_empty}
 use Rattle.source_check.proofs.Quotients.{divided_within, divided_met, undivided_within, undivided_met}
 use Rattle.source_check.proofs.Readers.{IsReader, IsTrace, IsPointAt, read_parts, is_reader, is_trace, named_parts}
-use Rattle.source_check.proofs.Values.{AreWithin, AreShort, AreMet, met_more, met_append, within_append}
+use Rattle.source_check.proofs.Values.{AreWithin, AreShort, met_more, within_append}
 use Rattle.source_check.proofs.Values.{all_within_wider, taken_met, taken_within}
-
-le_where : (a b : ℤ) → int_le a b ≡ true → a ≤ℤ b
-le_where a b e = grind (arith, ints)
-
-lt_where : (a b : ℤ) → int_le a b ≡ false → b <ℤ a
-lt_where a b e = grind (arith, ints)
 
 not_equal_where : (m n : ℕ) → (m == n) ≡ false → m ≡ n → ⊥
 not_equal_where m n e f = grind arith
-
--- what each kind of tree gives
-module _ (at : List ℤ) where
-  gives_test : (tree : Tree) (form : Form) (a b : Tree) → tree ≡ Test form a b
-      → gives tree at ≡ cond (int_le (pos 0) (form_at form at)) (gives a at) (gives b at)
-  unfolding gives
-  gives_test tree form a b e =
-      ap (λ tree. gives tree at) (e ∙ sym (rolls-Test form a b))
-      ∙ ap (λ (k : List ℤ → Found). k at) (fold-roll-Tree (List ℤ → Found) gives_step (open_.Test form a b))
-
-  gives_divides : (tree : Tree) (form : Form) (d : ℤ) (a b : Tree) → tree ≡ Divides form d a b
-      → gives tree at
-      ≡ cond (unsigned_abs (form_at form at) % unsigned_abs d == 0) (gives a (at ++ quotient form d at ∷ []))
-      (gives b (at ++ quotient form d at ∷ []))
-  unfolding gives
-  gives_divides tree form d a b e =
-      ap (λ tree. gives tree at) (e ∙ sym (rolls-Divides form d a b))
-      ∙ ap (λ (k : List ℤ → Found). k at) (fold-roll-Tree (List ℤ → Found) gives_step (open_.Divides form d a b))
-
-  gives_writer : (tree : Tree) (s : ℕ) (place : List Form) (proofs : List Proof) → tree ≡ Writer s place proofs
-      → gives tree at ≡ found.At (record { statement = s; at = values place at })
-  unfolding gives
-  gives_writer tree s place proofs e =
-      ap (λ tree. gives tree at) (e ∙ sym (rolls-Writer s place proofs))
-      ∙ ap (λ (k : List ℤ → Found). k at) (fold-roll-Tree (List ℤ → Found) gives_step (open_.Writer s place proofs))
-
-  gives_zero : (tree : Tree) (proofs : List Proof) → tree ≡ Zero proofs → gives tree at ≡ found.Zero
-  unfolding gives
-  gives_zero tree proofs e =
-      ap (λ tree. gives tree at) (e ∙ sym (rolls-Zero proofs))
-      ∙ ap (λ (k : List ℤ → Found). k at) (fold-roll-Tree (List ℤ → Found) gives_step (open_.Zero proofs))
 
 have_short : (vars m : ℕ) (forms : List Form) → vars ≡ m → HaveVariables vars forms → AreShort m forms
 have_short vars m [] e h = tt
@@ -114,7 +72,7 @@ module _ (n : Nest) (points : List Point) (follows : IsTrace n points) (r : Occu
         starts = h.starts;
         within =
             within_append (length v) c.rows rows h.within w;
-        met = met_append c.rows rows v h.met m;
+        met = AreMet-append c.rows rows v h.met m;
       }
 
   one_hold : (c : Context) (v : List ℤ) (q : ℤ) (rows : List RowExpr) → HoldsAt c v
@@ -129,14 +87,14 @@ module _ (n : Nest) (points : List Point) (follows : IsTrace n points) (r : Occu
         within =
             within_append (length (v ++ q ∷ [])) c.rows rows
             (all_within_wider (length v) (length (v ++ q ∷ [])) longer c.rows h.within) w;
-        met = met_append c.rows rows (v ++ q ∷ []) (met_more c.rows v (q ∷ []) h.within h.met) m;
+        met = AreMet-append c.rows rows (v ++ q ∷ []) (met_more c.rows v (q ∷ []) h.within h.met) m;
       }
 
   checked_is_last : (c : Context) (tree : Tree) → IsCheckedIn n r every c tree → (v : List ℤ) → HoldsAt c v
       → IsLast (gives tree v)
   checked_is_last _ _ (at_test c tree form above below is over first second) v h =
       let short : length form.coefs ≤ length v = omega (arith, over, h.vars) in
-      subst IsLast (sym (gives_test v tree form above below is))
+      subst IsLast (sym (gives-Test v tree form above below is))
       (go (int_le (pos 0) (form_at form v)) refl
       (λ met. checked_is_last (test_yes c form) above first v (more_hold c v (Take form ∷ []) h (short, tt) (met, tt)))
       (λ lt. checked_is_last (test_no c form) below second v
@@ -145,12 +103,12 @@ module _ (n : Nest) (points : List Point) (follows : IsTrace n points) (r : Occu
         go : (p : Bool) → int_le (pos 0) (form_at form v) ≡ p → (pos 0 ≤ℤ form_at form v → IsLast (gives above v))
             → (form_at form v <ℤ pos 0 → IsLast (gives below v))
             → IsLast (cond p (gives above v) (gives below v))
-        go true e first second = first (le_where (pos 0) (form_at form v) e)
-        go false e first second = second (lt_where (pos 0) (form_at form v) e)
+        go true e first second = first (int_le-true (pos 0) (form_at form v) e)
+        go false e first second = second (int_le-false (pos 0) (form_at form v) e)
   checked_is_last _ _ (at_divides c tree form d above below is over two few first second) v h =
       let full : length form.coefs ≡ length v = over ∙ sym h.vars in
       let q : ℤ = quotient form d v in
-      subst IsLast (sym (gives_divides v tree form d above below is))
+      subst IsLast (sym (gives-Divides v tree form d above below is))
       (go (unsigned_abs (form_at form v) % unsigned_abs d == 0) refl
       (λ e. checked_is_last (divides_yes c form d) above first (v ++ q ∷ [])
       (one_hold c v q (divided_rows c.vars form d) h (divided_within form d c.vars v full (sym h.vars) two)
@@ -163,10 +121,10 @@ module _ (n : Nest) (points : List Point) (follows : IsTrace n points) (r : Occu
             → ((unsigned_abs (form_at form v) % unsigned_abs d ≡ 0 → ⊥)
             → IsLast (gives below (v ++ quotient form d v ∷ [])))
             → IsLast (cond p (gives above (v ++ quotient form d v ∷ [])) (gives below (v ++ quotient form d v ∷ [])))
-        go true e first second = first (equal_where (unsigned_abs (form_at form v) % unsigned_abs d) 0 e)
+        go true e first second = first (eqb-true (unsigned_abs (form_at form v) % unsigned_abs d) 0 e)
         go false e first second = second (not_equal_where (unsigned_abs (form_at form v) % unsigned_abs d) 0 e)
   checked_is_last _ _ (at_writer c tree s place proofs w is named_is may deep have refuted) v h =
-      subst IsLast (sym (gives_writer v tree s place proofs is))
+      subst IsLast (sym (gives-Writer v tree s place proofs is))
       (named_parts n r s w named_is
       (λ number found_is writes array.
       subst (λ s. (u : ℕ) × (last_before n points t (cell_at x r.access) ≡ Some u)
@@ -175,7 +133,7 @@ module _ (n : Nest) (points : List Point) (follows : IsTrace n points) (r : Occu
       (have_short c.vars (length v) place (sym h.vars) have)
       (refuted_are_empty (writer_systems n r every c w place) proofs refuted))))
   checked_is_last _ _ (at_zero c tree proofs is refuted) v h =
-      subst IsLast (sym (gives_zero v tree proofs is))
+      subst IsLast (sym (gives-Zero v tree proofs is))
       (zero_leaf n points follows r reads x here t at_t c v h
       (refuted_are_empty (zero_systems n r every c) proofs refuted))
   checked_is_last _ _ (at_dead c tree proof is refuted) v h =

@@ -10,7 +10,7 @@ use Rattle.std.proofs.Common.{◌≡◌, ◌+◌, ◌<◌, ℕ, suc, ℤ, pos, �
 use Rattle.std.proofs.Common.{refl, sym, ap, ◌∙◌, subst, arith, append_assoc, length-append}
 use Rattle.std.specs.Prelude.{Option, Some, None, slice_get, nat_lt}
 use Rattle.std.specs.Option.{option_map, option_and_then, option_map_or}
-use Rattle.std.proofs.lemmas.Bool.{eq-eqb}
+use Rattle.std.proofs.lemmas.Bool.{eq-eqb, false_from_ne_true}
 use Rattle.std.proofs.lemmas.Int.{ints, by_lt_z}
 use Rattle.std.proofs.lemmas.Option.{same_Some}
 use Rattle.std.proofs.lemmas.List.{append-nil}
@@ -26,19 +26,20 @@ use Rattle.sanlp.specs.Memory.{is_cell}
 use Rattle.sanlp.specs.Order.{common_loops, PrecedesWithin}
 use Rattle.sanlp.specs.Writers.{writes, writes_at, last_before}
 use Rattle.sanlp.proofs.Each.{Each, each_left, each_right, each_from_map}
-use Rattle.sanlp.proofs.Precedence.{common_first, common_second}
+use Rattle.sanlp.proofs.Precedence.{common_first, common_second, common_loops-comm}
 use Rattle.source_tree.specs.Gives.{values}
 use Rattle.source_tree.specs.Places.{variables, at_place, domain_rows, cell_rows, differ_rows, before_rows, same_rows}
 use Rattle.source_tree.specs.Rows.{RowExpr, RowSystem, Take, row_at, below_zero, one_less, minus}
 use Rattle.source_tree.specs.Systems.{Occurrence, Context, every, reader_place, writer_place, with_rows, with_write_at}
 use Rattle.source_tree.specs.Systems.{write_systems, array_writes, zero_systems, outside_systems, cell_systems}
 use Rattle.source_tree.specs.Systems.{same_systems, after_systems, between_systems, writer_systems}
+use Rattle.source_tree.proofs.Gives.{values-variables, row_at-at_place}
+use Rattle.source_tree.proofs.MetRows.{AreMet, AreMet-append, AreMet-cell_rows}
 use Rattle.source_check.proofs.Lists.{each_from_flat, cell_where, where_cell, map_or_true, greatest_none, greatest_some}
-use Rattle.source_check.proofs.Lists.{false_where}
-use Rattle.source_check.proofs.Orders.{some_level, compare, same_all, common_comm, common_same, neither_less}
+use Rattle.source_check.proofs.Orders.{some_level, compare, same_all, common_same, neither_less}
 use Rattle.source_check.proofs.Readers.{IsReader, IsTrace, IsPointAt, IsBefore, among_writes}
-use Rattle.source_check.proofs.Values.{AreWithin, AreShort, AreMet, AllHold, met_more, met_append, values_more}
-use Rattle.source_check.proofs.Values.{variables_at, row_at_place, domain_met, cells_met, same_met}
+use Rattle.source_check.proofs.Values.{AreWithin, AreShort, AllHold, met_more, values_more}
+use Rattle.source_check.proofs.Values.{domain_met, same_met}
 
 -- no whole point meets the system
 pub record IsEmpty (s : RowSystem) : Type 0 where
@@ -81,7 +82,7 @@ module _ (n : Nest) (points : List Point) (follows : IsTrace n points) (r : Occu
   reader_is c v h w =
       ap (λ v. values (reader_place r) (v ++ w)) h.starts ∙ ap (values (reader_place r)) (append_assoc x h.more w)
       ∙ ap (λ k. values (variables 0 k) (x ++ (h.more ++ w))) (sym here.deep)
-      ∙ variables_at 0 [] x (h.more ++ w) refl
+      ∙ values-variables 0 [] x (h.more ++ w) refl
 
   reader_is_here : (c : Context) (v : List ℤ) → Holds c v → values (reader_place r) v ≡ x
   reader_is_here c v h = ap (values (reader_place r)) (sym (append-nil v)) ∙ reader_is c v h []
@@ -104,7 +105,7 @@ module _ (n : Nest) (points : List Point) (follows : IsTrace n points) (r : Occu
   other_is c v h u j deep =
       ap (λ k. values (variables c.vars k) (v ++ j)) (sym deep)
       ∙ ap (λ w. values (variables c.vars (length j)) (v ++ w)) (sym (append-nil j))
-      ∙ variables_at c.vars v j [] (sym h.vars)
+      ∙ values-variables c.vars v j [] (sym h.vars)
 
   -- no other write: at a point j of a writer that writes the cell, is before the read and meets what else is asked
   no_other : (c : Context) (v : List ℤ) (further : Occurrence → List (List RowExpr)) (u : Occurrence) (j : List ℤ)
@@ -123,11 +124,11 @@ module _ (n : Nest) (points : List Point) (follows : IsTrace n points) (r : Occu
       let domain : AreMet (domain_rows u.statement.rows place) at =
       domain_met u.statement.rows place at (subst (AllHold u.statement.rows) (sym j_is) point.holds) in
       let cells : AreMet (cell_rows u.access.subscripts r.access.subscripts place) at
-      = cells_met u.access.subscripts r.access.subscripts place at
+      = AreMet-cell_rows u.access.subscripts r.access.subscripts place at
       (ap (values u.access.subscripts) j_is ∙ same ∙ sym (read_is c v h j)) in
       let shared : AreMet (with_write_at r c u).rows at
-      = met_append c.rows _ at (met_more c.rows v j h.within h.met)
-      (met_append (domain_rows u.statement.rows place)
+      = AreMet-append c.rows _ at (met_more c.rows v j h.within h.met)
+      (AreMet-append (domain_rows u.statement.rows place)
       (cell_rows u.access.subscripts r.access.subscripts place) at domain cells) in
       let system : List RowExpr → List RowExpr → RowSystem = λ p q. with_rows (with_write_at r c u) (p ++ q) in
       let levels : List (List RowExpr) = before_rows u.number u.statement place r.number r.statement (reader_place r) in
@@ -142,7 +143,7 @@ module _ (n : Nest) (points : List Point) (follows : IsTrace n points) (r : Occu
       (sym x_is) before))
       (λ p each p_met. asked (λ q. IsEmpty (system p q)) (each_from_map IsEmpty (system p) (further u) each)
       (λ q empty q_met. empty.none at long
-      (met_append (with_write_at r c u).rows (p ++ q) at shared (met_append p q at p_met q_met))))
+      (AreMet-append (with_write_at r c u).rows (p ++ q) at shared (AreMet-append p q at p_met q_met))))
 
   -- an entry before the read that writes the cell: its point and its statement's write
   writer_before : {C : Type 0} (w : ℕ) → w < t → writes_at n points cell w ≡ true
@@ -167,7 +168,7 @@ module _ (n : Nest) (points : List Point) (follows : IsTrace n points) (r : Occu
   unfolding last_before
   zero_leaf c v h empty =
       greatest_none (writes_at n points cell) t
-      (λ w lt. false_where (writes_at n points cell w)
+      (λ w lt. false_from_ne_true (writes_at n points cell w)
       (λ yes_. writer_before w lt yes_
       (λ u j is point same before among.
       no_other c v (λ u. [] ∷ []) u j h
@@ -222,8 +223,8 @@ module _ (n : Nest) (points : List Point) (follows : IsTrace n points) (r : Occu
       by_lt_z (form_at row point) (pos 0)
           (λ lt. absurd
           (each.0.none v h.vars
-          (met_append c.rows (below_zero (at_place row y) ∷ []) v h.met
-          (omega (arith, ints, lt, row_at_place row y v), tt))))
+          (AreMet-append c.rows (below_zero (at_place row y) ∷ []) v h.met
+          (omega (arith, ints, lt, row_at-at_place row y v), tt))))
           (λ ge. ge),
       in_domain rows each.1,
     )
@@ -247,15 +248,15 @@ module _ (n : Nest) (points : List Point) (follows : IsTrace n points) (r : Occu
         let rest : values ws point ≡ values rs v = same_subscripts ws rs (omega arith) each.1.1 in
         let no_above : row_at b v <ℤ row_at a v → ⊥ =
         λ lt. each.0.none v h.vars
-        (met_append c.rows (one_less (minus a b) ∷ []) v h.met (omega (arith, ints, lt), tt)) in
+        (AreMet-append c.rows (one_less (minus a b) ∷ []) v h.met (omega (arith, ints, lt), tt)) in
         let no_below : row_at a v <ℤ row_at b v → ⊥ =
         λ lt. each.1.0.none v h.vars
-        (met_append c.rows (one_less (minus b a) ∷ []) v h.met (omega (arith, ints, lt), tt)) in
+        (AreMet-append c.rows (one_less (minus b a) ∷ []) v h.met (omega (arith, ints, lt), tt)) in
         let same : row_at a v ≡ row_at b v
         = by_lt_z (row_at a v) (row_at b v) (λ lt. absurd (no_below lt))
         (λ ge. by_lt_z (row_at b v) (row_at a v) (λ lt. absurd (no_above lt))
         (λ ge'. omega (arith, ints, ge, ge'))) in
-        let first : form_at f point ≡ form_at g v = sym (row_at_place f y v) ∙ same in
+        let first : form_at f point ≡ form_at g v = sym (row_at-at_place f y v) ∙ same in
         cc
 
     cell_is : values w.access.subscripts point ≡ values r.access.subscripts x
@@ -273,7 +274,7 @@ module _ (n : Nest) (points : List Point) (follows : IsTrace n points) (r : Occu
         (subst (λ a.
         PrecedesWithin (common_loops r.statement.loops w.statement.loops) (nat_lt r.number w.number) a point)
         (sym (reader_is_here c v h)) before)
-        (λ o empty met. empty.none v h.vars (met_append c.rows o v h.met met))
+        (λ o empty met. empty.none v h.vars (AreMet-append c.rows o v h.met met))
 
     not_same : w.number ≡ r.number → x ≡ point → ⊥
     not_same e f =
@@ -281,7 +282,7 @@ module _ (n : Nest) (points : List Point) (follows : IsTrace n points) (r : Occu
         subst (λ b. Each IsEmpty (cond b (with_rows c (same_rows (reader_place r) y) ∷ []) []))
         (eq-eqb w.number r.number e) same_part in
         each.0.none v h.vars
-        (met_append c.rows (same_rows (reader_place r) y) v h.met
+        (AreMet-append c.rows (same_rows (reader_place r) y) v h.met
         (same_met (reader_place r) y v (reader_is_here c v h ∙ f)))
 
     is_before : IsBefore w.number w.statement point r.number r.statement x
@@ -294,7 +295,7 @@ module _ (n : Nest) (points : List Point) (follows : IsTrace n points) (r : Occu
         (λ p. p)
         (λ p. absurd
         (not_after (subst (λ m. PrecedesWithin m (nat_lt r.number w.number) x point)
-        (common_comm w.statement.loops r.statement.loops) p)))
+        (common_loops-comm w.statement.loops r.statement.loops) p)))
         (λ same less more.
         let e : w.number ≡ r.number = neither_less w.number r.number less more in
         let s : w.statement ≡ r.statement =
@@ -320,7 +321,7 @@ module _ (n : Nest) (points : List Point) (follows : IsTrace n points) (r : Occu
               (option_and_then (λ (s : Statement). option_map (cell_at point) s.write) o) false) is
               ∙ ap (λ o. option_map_or (λ written. is_cell written cell) (option_map (cell_at point) o) false) write_is
               ∙ where_cell (cell_at point w.access) cell array cell_is)
-              (λ z above below. false_where (writes_at n points cell z)
+              (λ z above below. false_from_ne_true (writes_at n points cell z)
               (λ yes_. writer_before z below yes_
               (λ o j here_z point_z same before among.
               no_other c v further o j h

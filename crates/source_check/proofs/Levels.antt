@@ -15,7 +15,7 @@ use Rattle.source_check.specs.Making.{system_with, below_zero_of, less_of}
 use Rattle.source_check.specs.Tests.{made_systems, made_outside, made_differ, earlier_at, made_levels, made_order}
 use Rattle.source_check.specs.Tests.{made_both}
 use Rattle.source_check.specs.Verdict.{made_system}
-use Rattle.source_check.proofs.Making.{system_more, system_all, less_made, below_zero_made}
+use Rattle.source_check.proofs.SystemRows.{system_more, system_all, less_made, below_zero_made}
 use Rattle.source_tree.specs.Places.{at_place, differ_rows, order_rows}
 use Rattle.source_tree.specs.Rows.{RowExpr, RowSystem, Take, row_form, below_zero, one_less, minus, equal_rows}
 use Rattle.source_tree.specs.Systems.{Context, more_rows, with_rows}

@@ -1,12 +1,12 @@
 pub mod Bounds
 pub mod Contexts
 pub mod Exactness
-pub mod Joined
+pub mod LeafSystems
 pub mod Leaves
 pub mod Levels
 pub mod Lists
-pub mod Made
-pub mod Making
+pub mod RowValues
+pub mod SystemRows
 pub mod Orders
 pub mod Outcomes
 pub mod Parts

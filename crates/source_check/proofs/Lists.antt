@@ -1,14 +1,13 @@
 -- Facts of each element of a list, tests of cells, and the greatest number that passes.
 use Rattle.std.proofs.Common.{◌≡◌, ◌<◌, ◌==◌, ◌&&◌, ℕ, zero, suc, ℤ, List, [], ◌∷◌, Bool, true, false, cond, refl, sym}
-use Rattle.std.proofs.Common.{ap, ◌∙◌, arith, inl, inr}
+use Rattle.std.proofs.Common.{ap, ◌∙◌, arith, inl, inr, eqb-true}
 use Rattle.std.specs.Prelude.{Option, Some, None}
 use Rattle.std.specs.List.{flat_map}
 use Rattle.std.specs.Cmp.Lexicographic.{pointwise}
 use Rattle.std.specs.Option.{option_map_or}
 use Rattle.std.specs.Ordering.{int_eq}
-use Rattle.std.proofs.lemmas.Bool.{cases_lt, eq-eqb}
-use Rattle.std.proofs.lemmas.Int.{ints}
-use Rattle.int_polyhedra.proofs.Variables.{and_both, equal_where}
+use Rattle.std.proofs.lemmas.Bool.{cases_lt, eq-eqb, and_parts}
+use Rattle.affine_core.proofs.Integers.{int_eq-true, eq-int_eq}
 use Rattle.sanlp.proofs.Each.{Each, each_left, each_right}
 use Rattle.sanlp.specs.Cells.{Cell}
 use Rattle.sanlp.specs.Memory.{is_cell}
@@ -20,30 +19,24 @@ each_from_flat P f [] h = tt
 each_from_flat P f (x ∷ xs) h =
     (each_left P (f x) (flat_map f xs) h, each_from_flat P f xs (each_right P (f x) (flat_map f xs) h))
 
-int_eq_where : (a b : ℤ) → int_eq a b ≡ true → a ≡ b
-int_eq_where a b e = grind (arith, ints)
-
-where_int_eq : (a b : ℤ) → a ≡ b → int_eq a b ≡ true
-where_int_eq a b e = grind (arith, ints)
-
 ints_where : (xs ys : List ℤ) → pointwise int_eq xs ys ≡ true → xs ≡ ys
 ints_where [] [] e = refl
 ints_where [] (y ∷ ys) e = absurd (let f : false ≡ true = e in cc)
 ints_where (x ∷ xs) [] e = absurd (let f : false ≡ true = e in cc)
 ints_where (x ∷ xs) (y ∷ ys) e =
-    let b = and_both (int_eq x y) (pointwise int_eq xs ys) e in
-    let h : x ≡ y = int_eq_where x y b.0 in
+    let b = and_parts (int_eq x y) (pointwise int_eq xs ys) e in
+    let h : x ≡ y = int_eq-true x y b.0 in
     let t : xs ≡ ys = ints_where xs ys b.1 in
     cc
 
 ints_same : (xs : List ℤ) → pointwise int_eq xs xs ≡ true
 ints_same [] = refl
-ints_same (x ∷ xs) = ap (λ b. b && pointwise int_eq xs xs) (where_int_eq x x refl) ∙ ints_same xs
+ints_same (x ∷ xs) = ap (λ b. b && pointwise int_eq xs xs) (eq-int_eq x x refl) ∙ ints_same xs
 
 pub cell_where : (c d : Cell) → is_cell c d ≡ true → (c.0 ≡ d.0) × (c.1 ≡ d.1)
 cell_where c d e =
-    let b = and_both (c.0 == d.0) (pointwise int_eq c.1 d.1) e in
-    (equal_where c.0 d.0 b.0, ints_where c.1 d.1 b.1)
+    let b = and_parts (c.0 == d.0) (pointwise int_eq c.1 d.1) e in
+    (eqb-true c.0 d.0 b.0, ints_where c.1 d.1 b.1)
 
 pub where_cell : (c d : Cell) → c.0 ≡ d.0 → c.1 ≡ d.1 → is_cell c d ≡ true
 where_cell c d e f =
@@ -69,7 +62,3 @@ greatest_some passes (suc t) u lt e h = elim (cases_lt u t) [
   | inr g ↦ let same : u ≡ t = omega arith in
       ap (λ b. cond b (Some t) (greatest_below passes t)) (ap passes (sym same) ∙ e) ∙ ap Some (sym same)
 ]
-
-pub false_where : (b : Bool) → (b ≡ true → ⊥) → b ≡ false
-false_where true h = absurd (h refl)
-false_where false h = refl

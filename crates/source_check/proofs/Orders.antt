@@ -4,7 +4,7 @@
 -- earlier, or all common loops are equal and its statement comes first. So where the rows of each level lead to a
 -- contradiction, it does not stand before. Of two points one stands before the other, or they agree in all common loops
 -- and are of one statement.
-use Rattle.std.proofs.Common.{◌≡◌, ◌≤◌, ◌==◌, ℕ, zero, suc, ℤ, List, [], ◌∷◌, ◌++◌, length, Bool, true, false, cond}
+use Rattle.std.proofs.Common.{◌≡◌, ◌≤◌, ℕ, zero, suc, ℤ, List, [], ◌∷◌, ◌++◌, length, Bool, true, false, cond}
 use Rattle.std.proofs.Common.{refl, sym, ap, ◌∙◌, arith, inl, inr}
 use Rattle.std.specs.Prelude.{nat_lt}
 use Rattle.std.proofs.lemmas.Int.{ints, by_lt_z}
@@ -14,8 +14,8 @@ use Rattle.source_tree.specs.Gives.{values}
 use Rattle.sanlp.specs.Order.{common_loops, PrecedesWithin}
 use Rattle.source_tree.specs.Places.{order_rows}
 use Rattle.source_tree.specs.Rows.{RowExpr, Take, one_less, minus, equal_rows}
+use Rattle.source_tree.proofs.MetRows.{AreMet, AreMet-append, AreMet-equal_rows}
 use Rattle.sanlp.proofs.Each.{Each, each_from_map}
-use Rattle.source_check.proofs.Values.{AreMet, met_append, equal_met}
 
 -- Where a point is before another, the order rows of some level are met.
 pub some_level : (C : Type 0) (P : List RowExpr → Type 0) (c : ℕ) (less : Bool) (a b : List Form) (at : List ℤ)
@@ -31,7 +31,7 @@ some_level C P (suc c) less (a ∷ fs) (b ∷ gs) at each before go = elim befor
       (each_from_map P (λ rows. equal_rows (Take a) (Take b) ++ rows) (order_rows c less fs gs) each.1) more.1
       (λ rows p met.
       go (equal_rows (Take a) (Take b) ++ rows) p
-      (met_append (equal_rows (Take a) (Take b)) rows at (equal_met (Take a) (Take b) at more.0) met))
+      (AreMet-append (equal_rows (Take a) (Take b)) rows at (AreMet-equal_rows (Take a) (Take b) at more.0) met))
 ]
 
 -- the first c values are equal
@@ -66,19 +66,6 @@ same_all (suc c) (x ∷ a) (y ∷ b) h k s =
     let t : a ≡ b = same_all c a b (omega arith) (omega arith) s.1 in
     let e : x ≡ y = s.0 in
     cc
-
-common_if : (b b' : Bool) (m n : ℕ) → b ≡ b' → m ≡ n → cond b (suc m) 0 ≡ cond b' (suc n) 0
-common_if b b' m n e f = ap (λ b. cond b (suc m) 0) e ∙ ap (λ m. cond b' (suc m) 0) f
-
-eq_comm : (a b : ℕ) → (a == b) ≡ (b == a)
-eq_comm a b = grind arith
-
-pub common_comm : (xs ys : List ℕ) → common_loops xs ys ≡ common_loops ys xs
-common_comm [] [] = refl
-common_comm [] (y ∷ ys) = refl
-common_comm (x ∷ xs) [] = refl
-common_comm (x ∷ xs) (y ∷ ys) =
-    common_if (x == y) (y == x) (common_loops xs ys) (common_loops ys xs) (eq_comm x y) (common_comm xs ys)
 
 pub common_same : (xs : List ℕ) → common_loops xs xs ≡ length xs
 common_same [] = refl

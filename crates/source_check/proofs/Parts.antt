@@ -5,20 +5,18 @@
 -- with its number or the next. Each case of the code is one of these. A Writer leaf is tested in the order of the
 -- rules: its map, then its statement, then its proofs.
 use Rattle.std.proofs.Common.{◌≡◌, ◌+◌, ◌<◌, ◌==◌, ◌&&◌, ◌≤ℤ◌, ℕ, ℤ, pos, List, [], ◌∷◌, length, Bool, true, false}
-use Rattle.std.proofs.Common.{cond, refl, sym, ap, ◌∙◌, arith}
+use Rattle.std.proofs.Common.{cond, refl, sym, ap, ◌∙◌, arith, ne_eqb}
 use Rattle.std.specs.Prelude.{Option, Some, None, Result, Err, slice_get, nat_lt, int_le}
 use Rattle.std.specs.Option.{option_and_then, option_map_or}
-use Rattle.std.proofs.lemmas.Bool.{eq-eqb}
+use Rattle.std.proofs.lemmas.Bool.{eq-eqb, and_right}
 use Rattle.std.proofs.lemmas.Int.{ints}
 use Rattle.affine_core.specs.declared.form.Form.{Form}
 use Rattle.int_polyhedra.specs.declared.system.Proof.{Proof}
-use Rattle.int_polyhedra.specs.declared.system.Reason.{Reason}
-use Rattle.int_polyhedra.specs.declared.system.System.{System}
 use Rattle.sanlp.specs.declared.nest.Nest.{Nest}
 use Rattle.sanlp.specs.declared.nest.Statement.{Statement}
 use Rattle.source_check.specs.declared.verdict.Rule.{Rule}
 use Rattle.source_check.specs.declared.verdict.Rule.TheVariants as rule
-use Rattle.source_check.specs.Verdict.{made_system, refusal_of, proof_rule, leaf_refusal, named_refusal, writer_refusal}
+use Rattle.source_check.specs.Verdict.{leaf_refusal, named_refusal, writer_refusal}
 use Rattle.source_check.specs.Verdict.{leaf_end, then_leaves, divisor_fits, check_from}
 use Rattle.source_check.proofs.Readers.{write_to_parts}
 use Rattle.source_check.proofs.Verdicts.{check_test, check_divides, check_writer, check_zero, check_dead}
@@ -28,13 +26,6 @@ use Rattle.source_tree.specs.Walk.{are_over}
 use Rattle.source_tree.specs.declared.tree.Tree.{Tree}
 use Rattle.source_tree.specs.declared.tree.Tree.TheVariants.{Writer, Zero, Dead}
 use Rattle.source_tree.specs.declared.tree.Tree.TheViews.{Test, Divides}
-
-differ_where : (m n : ℕ) → (m ≡ n → ⊥) → (m == n) ≡ false
-differ_where m n h = grind arith
-
-and_false : (a : Bool) → (a && false) ≡ false
-and_false true = refl
-and_false false = refl
 
 module _ (n : Nest) (r : Occurrence) (leaf : ℕ) (c : Context) (tree : Tree) where
   -- a Test, from the check of its first tree
@@ -56,7 +47,7 @@ module _ (n : Nest) (r : Occurrence) (leaf : ℕ) (c : Context) (tree : Tree) wh
   test_bad form a b is differ =
       ap (λ t. cond t
       (then_leaves (check_from n r a leaf (test_yes c form)) (λ next. check_from n r b next (test_no c form)))
-      (Err (rule.BadForm leaf))) (sym (differ_where (length form.coefs) c.vars differ))
+      (Err (rule.BadForm leaf))) (sym (ne_eqb (length form.coefs) c.vars differ))
       ∙ sym (check_test n r leaf c tree form a b is)
 
   divides_where : (form : Form) (d : ℤ) → length form.coefs ≡ c.vars → pos 2 ≤ℤ d
@@ -99,14 +90,14 @@ module _ (n : Nest) (r : Occurrence) (leaf : ℕ) (c : Context) (tree : Tree) wh
   pub divides_bad_form : (form : Form) (d : ℤ) (a b : Tree) → tree ≡ Divides form d a b
       → (length form.coefs ≡ c.vars → ⊥) → Err (rule.BadForm leaf) ≡ check_from n r tree leaf c
   divides_bad_form form d a b is differ =
-      bad_divides form d a b is (ap (λ t. t && divisor_fits r c d) (differ_where (length form.coefs) c.vars differ))
+      bad_divides form d a b is (ap (λ t. t && divisor_fits r c d) (ne_eqb (length form.coefs) c.vars differ))
 
   pub divides_bad_divisor : (form : Form) (d : ℤ) (a b : Tree) → tree ≡ Divides form d a b → (pos 2 ≤ℤ d → ⊥)
       → Err (rule.BadForm leaf) ≡ check_from n r tree leaf c
   divides_bad_divisor form d a b is low =
       bad_divides form d a b is
       (ap (λ t. (length form.coefs == c.vars) && (t && nat_lt c.vars (length r.statement.loops + 6)))
-      (not_le (pos 2) d low) ∙ and_false (length form.coefs == c.vars)) where
+      (not_le (pos 2) d low) ∙ and_right (length form.coefs == c.vars) false refl) where
         not_le : (a b : ℤ) → (a ≤ℤ b → ⊥) → int_le a b ≡ false
         not_le a b h = grind (arith, ints)
 
@@ -116,8 +107,8 @@ module _ (n : Nest) (r : Occurrence) (leaf : ℕ) (c : Context) (tree : Tree) wh
       bad_divides form d a b is
       (ap (λ t. (length form.coefs == c.vars) && (int_le (pos 2) d && t))
       (not_lt c.vars (length r.statement.loops + 6) deep)
-      ∙ ap (λ t. (length form.coefs == c.vars) && t) (and_false (int_le (pos 2) d))
-      ∙ and_false (length form.coefs == c.vars)) where
+      ∙ ap (λ t. (length form.coefs == c.vars) && t) (and_right (int_le (pos 2) d) false refl)
+      ∙ and_right (length form.coefs == c.vars) false refl) where
         not_lt : (m n : ℕ) → (m < n → ⊥) → nat_lt m n ≡ false
         not_lt m n h = grind arith
 
@@ -142,12 +133,6 @@ module _ (n : Nest) (r : Occurrence) (leaf : ℕ) (c : Context) (tree : Tree) wh
       (o_is ∙ ap (λ place. writer_refusal n r leaf c s place proofs') same
       ∙ ap (writer_refusal n r leaf c s place) same')
       ∙ sym (check_writer n r leaf c tree s place proofs is)
-
--- a Dead leaf
-pub dead_is : (leaf : ℕ) (c : Context) (system : Option System) (proof : Proof) (o : Option Reason)
-    → system ≡ made_system c.vars c.rows → o ≡ refusal_of system proof
-    → proof_rule leaf 0 o None ≡ leaf_refusal leaf (dead_systems c) (proof ∷ [])
-dead_is leaf c system proof o is o_is = ap (λ o. proof_rule leaf 0 o None) (o_is ∙ ap (λ s. refusal_of s proof) is)
 
 -- a Writer leaf
 module _ (n : Nest) (r : Occurrence) (leaf : ℕ) (c : Context) (s : ℕ) (place : List Form) (proofs : List Proof) where
@@ -179,7 +164,7 @@ module _ (n : Nest) (r : Occurrence) (leaf : ℕ) (c : Context) (s : ℕ) (place
       → Some (rule.BadForm leaf) ≡ writer_refusal n r leaf c s place proofs
   writer_long st over found differ =
       ap (λ b. cond b (named_refusal n r leaf c place proofs (write_to r.access.array s st)) (Some (rule.BadForm leaf)))
-      (sym (differ_where (length place) (length st.loops) differ))
+      (sym (ne_eqb (length place) (length st.loops) differ))
       ∙ sym (writer_by true (Some st) over found)
 
   pub writer_end_is : (st : Statement) (o : Option Occurrence) → are_over c.vars place ≡ true

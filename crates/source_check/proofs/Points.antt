@@ -12,18 +12,19 @@ use Rattle.source_check.specs.declared.reference.After.{After}
 use Rattle.source_check.specs.declared.reference.After.TheVariants.{Nothing, Point}
 use Rattle.source_check.specs.declared.reference.Order.{Order}
 use Rattle.source_check.specs.declared.reference.Read.{Read}
-use Rattle.source_check.specs.declared.reference.Reference.{Reference}
+use Rattle.source_tree.specs.declared.reference.Reference.{Reference}
 use Rattle.source_check.specs.declared.tested.Leaf.{Leaf}
 use Rattle.source_check.specs.declared.tested.Tested.{Tested}
 use Rattle.source_check.specs.Making.{forms_of, system_with_all}
-use Rattle.source_check.specs.Paths.{context_at, further_rows, map_systems, occurrence_of, path_rows}
+use Rattle.source_check.specs.Paths.{context_at, further_rows, map_systems, path_rows}
 use Rattle.source_check.specs.Tests.{after_all, after_made, after_one, made_both, made_differ, made_order, made_outside}
 use Rattle.source_check.specs.Verdict.{made_system}
-use Rattle.source_check.proofs.Joined.{IsBefore, map_other, map_same, write_alone, write_between}
+use Rattle.source_check.proofs.LeafSystems.{IsBefore, map_other, map_same, write_alone, write_between}
 use Rattle.source_tree.specs.Places.{cell_rows, domain_rows, same_rows, variables}
 use Rattle.source_tree.specs.Rows.{RowExpr}
 use Rattle.source_tree.specs.Systems.{Context, Occurrence, every, reader_place, with_write_at, write_systems}
 use Rattle.source_tree.specs.Systems.{writer_place}
+use Rattle.source_tree.specs.References.{occurrence_of}
 
 module _ (leaf : Leaf) (read : Read) (place_is : read.place.now ≡ reader_place (occurrence_of read.reference))
     (writer : Reference) where

@@ -2,8 +2,8 @@
 --
 -- At the form's value divided by the divisor and rounded down, the form's value lies between the quotient times the
 -- divisor and the next multiple. It is the multiple itself where the divisor divides it, and else above it.
-use Rattle.std.proofs.Common.{◌≡◌, ◌+◌, ◌-◌, ◌/◌, ◌%◌, ◌≤◌, ◌<◌, ℕ, suc, ℤ, pos, negsuc, ◌+ℤ◌, ◌*ℤ◌, ◌≤ℤ◌, ◌<ℤ◌, List}
-use Rattle.std.proofs.Common.{[], ◌∷◌, ◌++◌, length, replicate, refl, sym, ap, ◌∙◌, arith, inl, inr, length-append}
+use Rattle.std.proofs.Common.{◌≡◌, ◌+◌, ◌/◌, ◌%◌, ◌≤◌, ◌<◌, ℕ, suc, ℤ, pos, negsuc, ◌+ℤ◌, ◌*ℤ◌, ◌≤ℤ◌, ◌<ℤ◌, List}
+use Rattle.std.proofs.Common.{[], ◌∷◌, ◌++◌, length, refl, sym, ap, ◌∙◌, arith, inl, inr, length-append}
 use Rattle.std.specs.Prelude.{unsigned_abs}
 use Rattle.std.proofs.lemmas.Bool.{cases_lt}
 use Rattle.std.proofs.lemmas.Int.{ints}
@@ -11,15 +11,15 @@ use Rattle.std.proofs.Math.IntN.{*ℤ_comm}
 use Rattle.std.proofs.Math.Nat.{mul-le-mul_left}
 use Rattle.affine_core.specs.declared.form.Form.{Form}
 use Rattle.affine_core.specs.Affine.{form_at, variable_form}
-use Rattle.affine_core.proofs.Linear.{form_at_more}
+use Rattle.affine_core.proofs.Linear.{form_at_more, length-variable_form}
 use Rattle.affine_core.proofs.Ring.{sum_times}
 use Rattle.int_polyhedra.specs.Steps.{floor}
 use Rattle.int_polyhedra.proofs.Floor.{floor_exact, floor_above}
-use Rattle.int_polyhedra.proofs.Variables.{length_zeros}
 use Rattle.source_tree.specs.Gives.{quotient}
 use Rattle.source_tree.specs.Rows.{Take, row_at}
 use Rattle.source_tree.specs.Systems.{multiple, divided_rows, undivided_rows}
-use Rattle.source_check.proofs.Values.{IsWithin, AreWithin, AreMet, equal_met, one_variable_at}
+use Rattle.source_tree.proofs.MetRows.{AreMet, AreMet-equal_rows}
+use Rattle.source_check.proofs.Values.{IsWithin, AreWithin, one_variable_at}
 
 -- where d doesn't divide z, the multiple of the quotient is below z
 floor_below : (z : ℤ) (d : ℕ) → 0 < d → (unsigned_abs z % d ≡ 0 → ⊥) → (floor z d *ℤ pos d) <ℤ z
@@ -40,15 +40,6 @@ divisor_is : (d : ℤ) → pos 2 ≤ℤ d → (d ≡ pos (unsigned_abs d)) × (0
 divisor_is (pos n) h = (refl, omega (arith, ints))
 divisor_is (negsuc n) h = absurd (omega (arith, ints))
 
-pub length_variable : (i : ℕ) → length (variable_form (i + 1) i).coefs ≡ i + 1
-length_variable i =
-    omega (
-      arith,
-      length-append (replicate i (pos 0)) (pos 1 ∷ replicate ((i + 1) - (i + 1)) (pos 0)),
-      length_zeros i,
-      length_zeros ((i + 1) - (i + 1)),
-    )
-
 module _ (form : Form) (d : ℤ) (vars : ℕ) (v : List ℤ) (over : length form.coefs ≡ length v) (same : vars ≡ length v)
     (two : pos 2 ≤ℤ d) where
   abbrev q : ℤ
@@ -68,14 +59,14 @@ module _ (form : Form) (d : ℤ) (vars : ℕ) (v : List ℤ) (over : length form
   form_within = omega (arith, over, length-append v (q ∷ []))
 
   variable_within : IsWithin (length at) (Take (variable_form (vars + 1) vars))
-  variable_within = omega (arith, same, length-append v (q ∷ []), length_variable vars)
+  variable_within = omega (arith, same, length-append v (q ∷ []), length-variable_form vars)
 
   pub divided_within : AreWithin (length at) (divided_rows vars form d)
   divided_within = ((form_within, variable_within), ((variable_within, form_within), tt))
 
   pub divided_met : unsigned_abs (form_at form v) % unsigned_abs d ≡ 0 → AreMet (divided_rows vars form d) at
   divided_met e =
-      equal_met (Take form) (multiple d vars) at
+      AreMet-equal_rows (Take form) (multiple d vars) at
       (form_is ∙ floor_exact (form_at form v) (unsigned_abs d) (divisor_is d two).1 e ∙ sym multiple_is)
 
   pub undivided_within : AreWithin (length at) (undivided_rows vars form d)

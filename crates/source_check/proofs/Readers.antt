@@ -1,15 +1,14 @@
 -- What the nest says of a read, of the writers of its array and of the entries of the trace.
-use Rattle.std.proofs.Common.{◌≡◌, ◌+◌, ◌<◌, ◌≤ℤ◌, ◌==◌, ◌&&◌, ℕ, zero, suc, ℤ, pos, List, [], ◌∷◌, length, Bool, true}
-use Rattle.std.proofs.Common.{false, cond, refl, sym, ap, ◌∙◌, subst, arith}
+use Rattle.std.proofs.Common.{◌≡◌, ◌+◌, ◌<◌, ◌==◌, ◌&&◌, ℕ, zero, suc, ℤ, pos, List, [], ◌∷◌, length, Bool, true}
+use Rattle.std.proofs.Common.{false, cond, refl, sym, ap, ◌∙◌, subst, arith, eqb-true}
 use Rattle.std.specs.Prelude.{Option, Some, None, slice_get, nat_lt, int_le, IsTrue}
 use Rattle.std.specs.List.{list_all}
 use Rattle.std.specs.Option.{option_map, option_map_or, option_and_then}
-use Rattle.std.proofs.lemmas.Bool.{eq-eqb}
-use Rattle.std.proofs.lemmas.Int.{ints}
+use Rattle.std.proofs.lemmas.Bool.{eq-eqb, and_parts, and_from}
 use Rattle.std.proofs.lemmas.Option.{same_Some, option_and_then_some}
 use Rattle.affine_core.specs.declared.form.Form.{Form}
 use Rattle.affine_core.specs.Affine.{form_at}
-use Rattle.int_polyhedra.proofs.Variables.{and_both, both_and, equal_where}
+use Rattle.affine_core.proofs.Integers.{int_le-true, le-int_le}
 use Rattle.sanlp.specs.declared.nest.Access.{Access}
 use Rattle.sanlp.specs.declared.nest.ArrayDecl.{ArrayDecl}
 use Rattle.sanlp.specs.declared.nest.Nest.{Nest}
@@ -43,10 +42,10 @@ pub record IsReader (n : Nest) (r : Occurrence) : Type 0 where
 forms_over : (depth : ℕ) (forms : List Form) → list_all (form_fits depth) forms ≡ true → AreOver depth forms
 forms_over depth [] e = tt
 forms_over depth (f ∷ forms) e =
-    let b = and_both (form_fits depth f) (list_all (form_fits depth) forms) e in
-    let c = and_both ((length f.coefs == depth) && is_moderate f.constant) (list_all is_moderate f.coefs) b.0 in
-    let d = and_both (length f.coefs == depth) (is_moderate f.constant) c.0 in
-    (equal_where (length f.coefs) depth d.0, forms_over depth forms b.1)
+    let b = and_parts (form_fits depth f) (list_all (form_fits depth) forms) e in
+    let c = and_parts ((length f.coefs == depth) && is_moderate f.constant) (list_all is_moderate f.coefs) b.0 in
+    let d = and_parts (length f.coefs == depth) (is_moderate f.constant) c.0 in
+    (eqb-true (length f.coefs) depth d.0, forms_over depth forms b.1)
 
 -- an access has as many subscripts as its array has extents
 pub subscripts_of : {C : Type 0} (arrays : List ArrayDecl) (depth : ℕ) (access : Access)
@@ -57,13 +56,13 @@ subscripts_of {C = C} arrays depth access e go =
     let known : Bool =
     option_map_or (λ (array : ArrayDecl). length access.subscripts == length array.extents)
     (slice_get arrays access.array) false in
-    let b = and_both known (list_all (form_fits depth) access.subscripts) e in
+    let b = and_parts known (list_all (form_fits depth) access.subscripts) e in
     find (slice_get arrays access.array) refl b.0 (forms_over depth access.subscripts b.1) where
       find : (o : Option ArrayDecl) → slice_get arrays access.array ≡ o
           → option_map_or (λ (array : ArrayDecl). length access.subscripts == length array.extents) o false ≡ true
           → AreOver depth access.subscripts → C
       find None is e over = absurd (let f : false ≡ true = e in cc)
-      find (Some array) is e over = go array is (equal_where (length access.subscripts) (length array.extents) e) over
+      find (Some array) is e over = go array is (eqb-true (length access.subscripts) (length array.extents) e) over
 
 -- two accesses of one array have as many subscripts
 same_subscripts : (arrays : List ArrayDecl) (d e : ℕ) (a b : Access) → access_fits arrays d a ≡ true
@@ -141,7 +140,7 @@ write_to_parts {C = C} array u s w e go =
           let same : occurrence u s access ≡ w = same_Some (occurrence u s access) w e in
           let P : Occurrence → Type 0 =
           λ w. (w.number ≡ u → w.statement ≡ s → s.write ≡ Some w.access → w.access.array ≡ array → C) → C in
-          subst P same (λ go. go refl refl is (equal_where access.array array eq)) go
+          subst P same (λ go. go refl refl is (eqb-true access.array array eq)) go
 
 -- what the statement that a leaf names is
 pub named_parts : {C : Type 0} (n : Nest) (r : Occurrence) (s : ℕ) (w : Occurrence) → named_write n r s ≡ Some w
@@ -182,22 +181,16 @@ among_writes P array u m (suc k) (st ∷ statements) s access each e is w a =
     (later_writes P (write_to array u st) (writes_from array (u + 1) statements) each) (omega arith) is w a
 
 -- rows that hold, as a test and one by one
-le_where : (a b : ℤ) → int_le a b ≡ true → a ≤ℤ b
-le_where a b e = grind (arith, ints)
-
-where_le : (a b : ℤ) → a ≤ℤ b → int_le a b ≡ true
-where_le a b e = grind (arith, ints)
-
 pub each_holds : (rows : List Form) (at : List ℤ) → all_hold rows at ≡ true → AllHold rows at
 each_holds [] at e = tt
 each_holds (row ∷ rows) at e =
-    let b = and_both (int_le (pos 0) (form_at row at)) (all_hold rows at) e in
-    (le_where (pos 0) (form_at row at) b.0, each_holds rows at b.1)
+    let b = and_parts (int_le (pos 0) (form_at row at)) (all_hold rows at) e in
+    (int_le-true (pos 0) (form_at row at) b.0, each_holds rows at b.1)
 
 pub holds_each : (rows : List Form) (at : List ℤ) → AllHold rows at → all_hold rows at ≡ true
 holds_each [] at h = refl
 holds_each (row ∷ rows) at h =
-    both_and (int_le (pos 0) (form_at row at)) (all_hold rows at) (where_le (pos 0) (form_at row at) h.0)
+    and_from (int_le (pos 0) (form_at row at)) (all_hold rows at) (le-int_le (pos 0) (form_at row at) h.0)
     (holds_each rows at h.1)
 
 -- a point of the domain of this statement

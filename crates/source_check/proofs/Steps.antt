@@ -3,7 +3,7 @@
 -- Where loops are left and both places have one, the tests of that level come first, and then those of the inner loops
 -- over the system where these loops are equal. Where none is left, there is one more level exactly where the first
 -- statement comes first. So a recursion over the common loops tests each level once, the outermost first.
-use Rattle.std.proofs.Common.{◌≡◌, ◌-◌, ℕ, zero, suc, List, [], ◌∷◌, ◌++◌, length, Bool, true, false, refl, sym, ap}
+use Rattle.std.proofs.Common.{◌≡◌, ◌-◌, ℕ, zero, suc, List, ◌∷◌, ◌++◌, Bool, refl, sym, ap}
 use Rattle.std.proofs.Common.{◌∙◌, arith}
 use Rattle.std.specs.Prelude.{Option}
 use Rattle.affine_core.specs.declared.form.Form.{Form}
@@ -37,53 +37,6 @@ module _ (vars : ℕ) (s : Option System) where
       ∙ ap (λ b. made_both vars s (suc m) less (v ∷ a') b further) f
       ∙ ap (λ k. made_order vars (earlier_at vars s v w) further
       ++ made_both vars (with_loop vars s v w) k less a' b' further) (let k : m ≡ suc m - 1 = omega arith in k)
-
-  -- no levels without loops
-  pub no_level_first : (m : ℕ) (less : Bool) (a b : List Form) → (m ≡ 0 → ⊥) → length a ≡ 0
-      → made_levels vars s m less a b ≡ []
-  no_level_first zero less a b h e = absurd (h refl)
-  no_level_first (suc m) less [] b h e = refl
-  no_level_first (suc m) less (v ∷ a) b h e = absurd (omega arith)
-
-  pub no_level_second : (m : ℕ) (less : Bool) (a b : List Form) → (m ≡ 0 → ⊥) → length b ≡ 0
-      → made_levels vars s m less a b ≡ []
-  no_level_second zero less a b h e = absurd (h refl)
-  no_level_second (suc m) less [] b h e = refl
-  no_level_second (suc m) less (v ∷ a) [] h e = refl
-  no_level_second (suc m) less (v ∷ a) (w ∷ b) h e = absurd (omega arith)
-
-  pub no_both_first : (m : ℕ) (less : Bool) (a b : List Form) (further : Order) → (m ≡ 0 → ⊥) → length a ≡ 0
-      → made_both vars s m less a b further ≡ []
-  no_both_first zero less a b further h e = absurd (h refl)
-  no_both_first (suc m) less [] b further h e = refl
-  no_both_first (suc m) less (v ∷ a) b further h e = absurd (omega arith)
-
-  pub no_both_second : (m : ℕ) (less : Bool) (a b : List Form) (further : Order) → (m ≡ 0 → ⊥) → length b ≡ 0
-      → made_both vars s m less a b further ≡ []
-  no_both_second zero less a b further h e = absurd (h refl)
-  no_both_second (suc m) less [] b further h e = refl
-  no_both_second (suc m) less (v ∷ a) [] further h e = refl
-  no_both_second (suc m) less (v ∷ a) (w ∷ b) further h e = absurd (omega arith)
-
-  -- the innermost level
-  pub last_level : (m : ℕ) (less : Bool) (a b : List Form) → m ≡ 0 → less ≡ true
-      → made_levels vars s m less a b ≡ s ∷ []
-  last_level m less a b e f = ap (λ m. made_levels vars s m less a b) e ∙ ap (λ less. made_levels vars s 0 less a b) f
-
-  pub no_last_level : (m : ℕ) (less : Bool) (a b : List Form) → m ≡ 0 → less ≡ false
-      → made_levels vars s m less a b ≡ []
-  no_last_level m less a b e f =
-      ap (λ m. made_levels vars s m less a b) e ∙ ap (λ less. made_levels vars s 0 less a b) f
-
-  pub last_both : (m : ℕ) (less : Bool) (a b : List Form) (further : Order) → m ≡ 0 → less ≡ true
-      → made_both vars s m less a b further ≡ made_order vars s further
-  last_both m less a b further e f =
-      ap (λ m. made_both vars s m less a b further) e ∙ ap (λ less. made_both vars s 0 less a b further) f
-
-  pub no_last_both : (m : ℕ) (less : Bool) (a b : List Form) (further : Order) → m ≡ 0 → less ≡ false
-      → made_both vars s m less a b further ≡ []
-  no_last_both m less a b further e f =
-      ap (λ m. made_both vars s m less a b further) e ∙ ap (λ less. made_both vars s 0 less a b further) f
 
 -- one level was tested, and then those of the inner loops
 module _ (leaf : Leaf) (vars : ℕ) (s level rest : Option System) (m : ℕ) (less : Bool) (a b a' b' : List Form)

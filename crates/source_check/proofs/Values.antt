@@ -3,17 +3,19 @@
 -- A row is read over whole numbers: its value at the values of the variables. Variables behind those of its forms
 -- change nothing, so that a context's rows hold on as variables are added. A form at a place has the form's value at
 -- the values of the place, and so the rows about a place hold where what they say holds of that iteration vector.
-use Rattle.std.proofs.Common.{◌≡◌, ◌+◌, ◌≤◌, ℕ, zero, suc, ℤ, pos, ◌+ℤ◌, ◌*ℤ◌, ◌≤ℤ◌, List, [], ◌∷◌, ◌++◌, length, map}
-use Rattle.std.proofs.Common.{refl, sym, ap, ◌∙◌, subst, arith, append_assoc, length-append}
-use Rattle.std.specs.Prelude.{slice_index_or}
-use Rattle.std.proofs.lemmas.Int.{ints}
+use Rattle.std.proofs.Common.{◌≡◌, ◌+◌, ◌≤◌, ℕ, ℤ, pos, ◌+ℤ◌, ◌*ℤ◌, ◌≤ℤ◌, List, [], ◌∷◌, ◌++◌, length, map}
+use Rattle.std.proofs.Common.{refl, sym, ap, ◌∙◌, subst, arith}
+use Rattle.std.proofs.lemmas.List.{get_or_at}
 use Rattle.affine_core.specs.declared.form.Form.{Form}
-use Rattle.affine_core.specs.Affine.{form_at, combined, variable_form}
+use Rattle.affine_core.specs.Affine.{form_at, variable_form}
 use Rattle.affine_core.proofs.Linear.{form_at_more, variable_at}
+use Rattle.plain_data.proofs.Lists.{same_head, same_tail}
 use Rattle.sanlp.proofs.Each.{Each}
 use Rattle.source_tree.specs.Gives.{values}
-use Rattle.source_tree.specs.Places.{variables, plus_terms, at_place, domain_rows, cell_rows, same_rows}
-use Rattle.source_tree.specs.Rows.{RowExpr, Take, Plus, Times, row_at, number, equal_rows}
+use Rattle.source_tree.specs.Places.{domain_rows, same_rows}
+use Rattle.source_tree.specs.Rows.{RowExpr, Take, Plus, Times, row_at, equal_rows}
+use Rattle.source_tree.proofs.Gives.{row_at-at_place}
+use Rattle.source_tree.proofs.MetRows.{AreMet, AreMet-append, AreMet-equal_rows}
 
 -- no form of the row has more variables
 abbrev pub IsWithin : ℕ → RowExpr → Type 0
@@ -29,11 +31,6 @@ AreWithin vars (e ∷ es) = IsWithin vars e × AreWithin vars es
 abbrev pub AreShort : ℕ → List Form → Type 0
 AreShort vars forms = Each (λ (form : Form). length form.coefs ≤ vars) forms
 
--- every row is at least 0
-abbrev pub AreMet : List RowExpr → List ℤ → Type 0
-AreMet [] at = Unit {0}
-AreMet (e ∷ es) at = (pos 0 ≤ℤ row_at e at) × AreMet es at
-
 -- every form is at least 0
 abbrev pub AllHold : List Form → List ℤ → Type 0
 AllHold [] at = Unit {0}
@@ -48,10 +45,6 @@ row_at_more (Times k e) v w h = ap (λ z. k *ℤ z) (row_at_more e v w h)
 pub met_more : (es : List RowExpr) (v w : List ℤ) → AreWithin (length v) es → AreMet es v → AreMet es (v ++ w)
 met_more [] v w h m = tt
 met_more (e ∷ es) v w h m = (subst (λ z. pos 0 ≤ℤ z) (sym (row_at_more e v w h.0)) m.0, met_more es v w h.1 m.1)
-
-pub met_append : (xs ys : List RowExpr) (at : List ℤ) → AreMet xs at → AreMet ys at → AreMet (xs ++ ys) at
-met_append [] ys at h k = k
-met_append (x ∷ xs) ys at h k = (h.0, met_append xs ys at h.1 k)
 
 pub within_append : (vars : ℕ) (xs ys : List RowExpr) → AreWithin vars xs → AreWithin vars ys
     → AreWithin vars (xs ++ ys)
@@ -73,44 +66,15 @@ values_more (f ∷ fs) v w h =
     ap (λ z. z ∷ values fs (v ++ w)) (form_at_more f v w h.0) ∙ ap (λ zs. form_at f v ∷ zs) (values_more fs v w h.1)
 
 -- a variable's value
-value_at : (i : ℕ) (before : List ℤ) (x : ℤ) (after : List ℤ) → i ≡ length before
-    → slice_index_or (before ++ x ∷ after) i (pos 0) ≡ x
-value_at zero [] x after e = refl
-value_at (suc i) [] x after e = absurd (omega arith)
-value_at zero (y ∷ before) x after e = absurd (omega arith)
-value_at (suc i) (y ∷ before) x after e = value_at i before x after (omega arith)
-
 pub one_variable_at : (i : ℕ) (before : List ℤ) (x : ℤ) (after : List ℤ) → i ≡ length before
     → form_at (variable_form (i + 1) i) (before ++ x ∷ after) ≡ x
-one_variable_at i before x after e = variable_at (i + 1) i (before ++ x ∷ after) ∙ value_at i before x after e
-
-pub variables_at : (i : ℕ) (before xs after : List ℤ) → i ≡ length before
-    → values (variables i (length xs)) (before ++ (xs ++ after)) ≡ xs
-variables_at i before [] after e = refl
-variables_at i before (x ∷ xs) after e =
-    let rest : values (variables (i + 1) (length xs)) ((before ++ x ∷ []) ++ (xs ++ after)) ≡ xs
-    = variables_at (i + 1) (before ++ x ∷ []) xs after (omega (arith, length-append before (x ∷ []))) in
-    ap (λ z. z ∷ values (variables (i + 1) (length xs)) (before ++ x ∷ (xs ++ after)))
-    (one_variable_at i before x (xs ++ after) e)
-    ∙ ap (λ at. x ∷ values (variables (i + 1) (length xs)) at) (sym (append_assoc before (x ∷ []) (xs ++ after)))
-    ∙ ap (λ zs. x ∷ zs) rest
-
--- a form at a place
-at_plus_terms : (sum : RowExpr) (cs : List ℤ) (place : List Form) (at : List ℤ)
-    → row_at (plus_terms sum cs place) at ≡ combined (row_at sum at) cs (values place at)
-at_plus_terms sum [] place at = refl
-at_plus_terms sum (c ∷ cs) [] at = refl
-at_plus_terms sum (c ∷ cs) (form ∷ place) at = at_plus_terms (Plus sum (Times c (Take form))) cs place at
-
-pub row_at_place : (form : Form) (place : List Form) (at : List ℤ)
-    → row_at (at_place form place) at ≡ form_at form (values place at)
-row_at_place form place at = at_plus_terms (number form.constant) form.coefs place at
+one_variable_at i before x after e = variable_at (i + 1) i (before ++ x ∷ after) ∙ get_or_at before x after (pos 0) i (sym e)
 
 pub domain_met : (rows : List Form) (place : List Form) (at : List ℤ) → AllHold rows (values place at)
     → AreMet (domain_rows rows place) at
 domain_met [] place at h = tt
 domain_met (row ∷ rows) place at h =
-    (subst (λ z. pos 0 ≤ℤ z) (sym (row_at_place row place at)) h.0, domain_met rows place at h.1)
+    (subst (λ z. pos 0 ≤ℤ z) (sym (row_at-at_place row place at)) h.0, domain_met rows place at h.1)
 
 pub taken_met : (rows : List Form) (at : List ℤ) → AllHold rows at → AreMet (map Take rows) at
 taken_met [] at h = tt
@@ -120,31 +84,10 @@ pub taken_within : (vars : ℕ) (rows : List Form) → AreShort vars rows → Ar
 taken_within vars [] h = tt
 taken_within vars (row ∷ rows) h = (h.0, taken_within vars rows h.1)
 
-pub equal_met : (a b : RowExpr) (at : List ℤ) → row_at a at ≡ row_at b at → AreMet (equal_rows a b) at
-equal_met a b at e = (omega (arith, ints, e), (omega (arith, ints, e), tt))
-
-head_of : (xs ys : List ℤ) (x y : ℤ) → x ∷ xs ≡ y ∷ ys → x ≡ y
-head_of xs ys x y e = cc
-
-tail_of : (xs ys : List ℤ) (x y : ℤ) → x ∷ xs ≡ y ∷ ys → xs ≡ ys
-tail_of xs ys x y e = cc
-
-pub cells_met : (writes reads place : List Form) (at : List ℤ) → values writes (values place at) ≡ values reads at
-    → AreMet (cell_rows writes reads place) at
-cells_met [] reads place at e = tt
-cells_met (w ∷ writes) [] place at e = tt
-cells_met (w ∷ writes) (r ∷ reads) place at e =
-    let h = head_of (values writes (values place at)) (values reads at) (form_at w (values place at))
-    (form_at r at) e in
-    met_append (equal_rows (at_place w place) (Take r)) (cell_rows writes reads place) at
-    (equal_met (at_place w place) (Take r) at (row_at_place w place at ∙ h))
-    (cells_met writes reads place at
-    (tail_of (values writes (values place at)) (values reads at) (form_at w (values place at)) (form_at r at) e))
-
 pub same_met : (a b : List Form) (at : List ℤ) → values a at ≡ values b at → AreMet (same_rows a b) at
 same_met [] b at e = tt
 same_met (a ∷ fs) [] at e = tt
 same_met (a ∷ fs) (b ∷ gs) at e =
-    met_append (equal_rows (Take a) (Take b)) (same_rows fs gs) at
-    (equal_met (Take a) (Take b) at (head_of (values fs at) (values gs at) (form_at a at) (form_at b at) e))
-    (same_met fs gs at (tail_of (values fs at) (values gs at) (form_at a at) (form_at b at) e))
+    AreMet-append (equal_rows (Take a) (Take b)) (same_rows fs gs) at
+    (AreMet-equal_rows (Take a) (Take b) at (same_head (form_at a at) (form_at b at) (values fs at) (values gs at) e))
+    (same_met fs gs at (same_tail (form_at a at) (form_at b at) (values fs at) (values gs at) e))

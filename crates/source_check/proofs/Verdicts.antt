@@ -3,19 +3,18 @@
 -- The verdict goes through the tree in preorder with the number of the next leaf and the context. Where it comes to the
 -- end, each form, divisor and leaf on the way kept to its rule, which is what a checked tree is made of; and a part of
 -- a checked tree never refuses. A leaf's proofs refute its systems one by one: made, and then refused by no step.
-use Rattle.std.proofs.Common.{◌≡◌, ◌+◌, ◌<◌, ◌==◌, ◌&&◌, ◌≤ℤ◌, ℕ, suc, ℤ, pos, List, [], ◌∷◌, length, Bool, true, false}
-use Rattle.std.proofs.Common.{cond, refl, sym, ap, ◌∙◌, subst, arith}
+use Rattle.std.proofs.Common.{◌≡◌, ◌+◌, ◌==◌, ◌&&◌, ℕ, suc, ℤ, pos, List, [], ◌∷◌, length, Bool, true, false}
+use Rattle.std.proofs.Common.{cond, refl, sym, ap, ◌∙◌, subst, arith, lt-ltb, ltb-true, eqb-true}
 use Rattle.std.specs.Prelude.{Option, Some, None, Result, Ok, Err, slice_get, nat_lt, int_le, ◌↔◌}
 use Rattle.std.specs.Option.{option_map, option_map_or}
-use Rattle.std.proofs.lemmas.Bool.{eq-eqb}
-use Rattle.std.proofs.lemmas.Int.{ints}
-use Rattle.std.proofs.lemmas.List.Elements.{All-nil, All-cons, All-head, All-tail}
+use Rattle.std.proofs.lemmas.Bool.{eq-eqb, and_parts, and_from}
+use Rattle.std.proofs.lemmas.List.Elements.{All-nil, All-cons}
 use Rattle.affine_core.specs.declared.form.Form.{Form}
+use Rattle.affine_core.proofs.Integers.{int_le-true, le-int_le}
 use Rattle.int_polyhedra.specs.declared.system.Proof.{Proof}
 use Rattle.int_polyhedra.specs.declared.system.Reason.{Reason}
 use Rattle.int_polyhedra.specs.declared.system.Reason.TheVariants.{Overflow}
-use Rattle.int_polyhedra.proofs.Followed.{refuted_follows, follows_refuted}
-use Rattle.int_polyhedra.proofs.Variables.{and_both, both_and, equal_where}
+use Rattle.int_polyhedra.proofs.ProofRules.{refuted_follows, follows_refuted}
 use Rattle.sanlp.specs.declared.nest.Nest.{Nest}
 use Rattle.sanlp.specs.declared.nest.Statement.{Statement}
 use Rattle.source_check.specs.declared.verdict.Rule.{Rule}
@@ -37,6 +36,7 @@ use Rattle.source_tree.specs.declared.tree.Tree.TheVariants.{Writer, Zero, Dead}
 use Rattle.source_tree.specs.declared.tree.Tree.TheViews.{Test, Divides, roll-Tree, rolls-Test, rolls-Divides}
 use Rattle.source_tree.specs.declared.tree.Tree.TheViews.{rolls-Writer, rolls-Zero, rolls-Dead}
 use Rattle.source_tree.specs.declared.tree.Tree.TheFolds.{map-Tree, fold-roll-Tree, ind-Tree}
+use Rattle.source_tree.proofs.RowLists.{are_over-HaveVariables}
 
 -- the proofs of a leaf
 refuted_is_none : (system : RowSystem) (proof : Proof) → IsRefuted system proof → system_refusal system proof ≡ None
@@ -91,37 +91,18 @@ none_is_leaf leaf systems proofs e = go (length proofs == length systems) refl e
   go : (b : Bool) → (length proofs == length systems) ≡ b
       → cond b (proofs_refusal leaf 0 systems proofs) (Some (rule.Proofs leaf (length proofs) (length systems))) ≡ None
       → AreRefuted systems proofs
-  go true is e = none_are_refuted leaf 0 systems proofs (equal_where (length proofs) (length systems) is) e
+  go true is e = none_are_refuted leaf 0 systems proofs (eqb-true (length proofs) (length systems) is) e
   go false is e = absurd (let f : Some (rule.Proofs leaf (length proofs) (length systems)) ≡ None = e in cc)
 
 -- the forms of a map
-have_are_over : (vars : ℕ) (forms : List Form) → HaveVariables vars forms → are_over vars forms ≡ true
-have_are_over vars [] h = refl
-have_are_over vars (f ∷ forms) h =
-    both_and (length f.coefs == vars) (are_over vars forms)
-    (eq-eqb (length f.coefs) vars (All-head (λ form. length form.coefs ≡ vars) f forms h))
-    (have_are_over vars forms (All-tail (λ form. length form.coefs ≡ vars) f forms h))
-
 are_over_have : (vars : ℕ) (forms : List Form) → are_over vars forms ≡ true → HaveVariables vars forms
 are_over_have vars [] e = All-nil _
 are_over_have vars (f ∷ forms) e =
-    let b = and_both (length f.coefs == vars) (are_over vars forms) e in
-    All-cons (λ form. length form.coefs ≡ vars) f forms (equal_where (length f.coefs) vars b.0)
+    let b = and_parts (length f.coefs == vars) (are_over vars forms) e in
+    All-cons (λ form. length form.coefs ≡ vars) f forms (eqb-true (length f.coefs) vars b.0)
     (are_over_have vars forms b.1)
 
 -- the divisor and the number of quotients
-where_le : (a b : ℤ) → a ≤ℤ b → int_le a b ≡ true
-where_le a b h = grind (arith, ints)
-
-le_where : (a b : ℤ) → int_le a b ≡ true → a ≤ℤ b
-le_where a b e = grind (arith, ints)
-
-where_lt : (m n : ℕ) → m < n → nat_lt m n ≡ true
-where_lt m n h = grind arith
-
-lt_where : (m n : ℕ) → nat_lt m n ≡ true → m < n
-lt_where m n e = grind arith
-
 end_is_ok : (leaf m : ℕ) (o : Option Rule) → leaf_end leaf o ≡ Ok m → o ≡ None
 end_is_ok leaf m None e = refl
 end_is_ok leaf m (Some x) e = absurd (let f : Err x ≡ Ok m = e in cc)
@@ -193,7 +174,7 @@ module _ (n : Nest) (r : Occurrence) where
       = ap (λ o. option_map_or (λ (st : Statement). length place == length st.loops) o true) here
       ∙ eq-eqb (length place) (length w.statement.loops) deep in
       let fits : map_fits n c.vars s place ≡ true =
-      both_and (are_over c.vars place) _ (have_are_over c.vars place have) long in
+      and_from (are_over c.vars place) _ (are_over-HaveVariables c.vars place have) long in
       ap (λ b. cond b (named_refusal n r leaf c place proofs (named_write n r s)) (Some (rule.BadForm leaf))) fits
       ∙ ap (named_refusal n r leaf c place proofs) is
       ∙ leaf_is_none leaf (writer_systems n r every c w place) proofs refuted)
@@ -215,9 +196,9 @@ module _ (n : Nest) (r : Occurrence) where
       let a = checked_ends (divides_yes c form d) above first leaf in
       let b = checked_ends (divides_no c form d) below second a.0 in
       let fits : ((length form.coefs == c.vars) && divisor_fits r c d) ≡ true
-      = both_and (length form.coefs == c.vars) (divisor_fits r c d) (eq-eqb (length form.coefs) c.vars over)
-      (both_and (int_le (pos 2) d) (nat_lt c.vars (length r.statement.loops + 6)) (where_le (pos 2) d two)
-      (where_lt c.vars (length r.statement.loops + 6) few)) in (
+      = and_from (length form.coefs == c.vars) (divisor_fits r c d) (eq-eqb (length form.coefs) c.vars over)
+      (and_from (int_le (pos 2) d) (nat_lt c.vars (length r.statement.loops + 6)) (le-int_le (pos 2) d two)
+      (lt-ltb c.vars (length r.statement.loops + 6) few)) in (
         b.0,
         check_divides leaf c tree form d above below is
             ∙ ap (λ t. cond t
@@ -256,7 +237,7 @@ module _ (n : Nest) (r : Occurrence) where
         → named_refusal n r leaf c place proofs o ≡ None → IsCheckedIn n r every c tree
     by_name fits None named_is e = absurd (let f : Some (rule.NoWriter leaf) ≡ None = e in cc)
     by_name fits (Some w) named_is e =
-        let b = and_both (are_over c.vars place)
+        let b = and_parts (are_over c.vars place)
         (option_map_or (λ (st : Statement). length place == length st.loops)
         (slice_get n.statements s) true) fits in
         named_parts n r s w named_is
@@ -264,7 +245,7 @@ module _ (n : Nest) (r : Occurrence) where
         let here : slice_get n.statements s ≡ Some w.statement = ap (slice_get n.statements) (sym number) ∙ found in
         let long : (length place == length w.statement.loops) ≡ true
         = sym (ap (λ o. option_map_or (λ (st : Statement). length place == length st.loops) o true) here) ∙ b.1 in
-        at_writer c tree s place proofs w is named_is tt (equal_where (length place) (length w.statement.loops) long)
+        at_writer c tree s place proofs w is named_is tt (eqb-true (length place) (length w.statement.loops) long)
         (are_over_have c.vars place b.0) (none_is_leaf leaf (writer_systems n r every c w place) proofs e))
 
     if_fits : (b : Bool) → map_fits n c.vars s place ≡ b
@@ -284,7 +265,7 @@ module _ (n : Nest) (r : Occurrence) where
       then_is_ok (check_from n r a.0 leaf (test_yes c form))
       (λ next. check_from n r b.0 next (test_no c form)) m end
       (λ k first second.
-      at_test c _ form a.0 b.0 (rolls-Test form a.0 b.0) (equal_where (length form.coefs) c.vars over)
+      at_test c _ form a.0 b.0 (rolls-Test form a.0 b.0) (eqb-true (length form.coefs) c.vars over)
       (a.1 leaf k (test_yes c form) first) (b.1 k m (test_no c form) second)))
   layer_so (open_.Divides form d a b) leaf m c e =
       if_is_ok ((length form.coefs == c.vars) && divisor_fits r c d)
@@ -295,10 +276,10 @@ module _ (n : Nest) (r : Occurrence) where
       then_is_ok (check_from n r a.0 leaf (divides_yes c form d))
       (λ next. check_from n r b.0 next (divides_no c form d)) m end
       (λ k first second.
-      let f = and_both (length form.coefs == c.vars) (divisor_fits r c d) fits in
-      let g = and_both (int_le (pos 2) d) (nat_lt c.vars (length r.statement.loops + 6)) f.1 in
-      at_divides c _ form d a.0 b.0 (rolls-Divides form d a.0 b.0) (equal_where (length form.coefs) c.vars f.0)
-      (le_where (pos 2) d g.0) (lt_where c.vars (length r.statement.loops + 6) g.1)
+      let f = and_parts (length form.coefs == c.vars) (divisor_fits r c d) fits in
+      let g = and_parts (int_le (pos 2) d) (nat_lt c.vars (length r.statement.loops + 6)) f.1 in
+      at_divides c _ form d a.0 b.0 (rolls-Divides form d a.0 b.0) (eqb-true (length form.coefs) c.vars f.0)
+      (int_le-true (pos 2) d g.0) (ltb-true c.vars (length r.statement.loops + 6) g.1)
       (a.1 leaf k (divides_yes c form d) first) (b.1 k m (divides_no c form d) second)))
   layer_so (open_.Writer s place proofs) leaf m c e =
       writer_so leaf c _ s place proofs (rolls-Writer s place proofs)

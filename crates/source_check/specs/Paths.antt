@@ -9,11 +9,12 @@ use Rattle.source_check.specs.declared.path.Path.TheFolds.{fold-Path}
 use Rattle.source_check.specs.declared.reference.After.{After}
 use Rattle.source_check.specs.declared.reference.After.TheVariants.{Nothing, Point}
 use Rattle.source_check.specs.declared.reference.Read.{Read}
-use Rattle.source_check.specs.declared.reference.Reference.{Reference}
+use Rattle.source_tree.specs.declared.reference.Reference.{Reference}
 use Rattle.source_check.specs.declared.tested.Leaf.{Leaf}
 use Rattle.source_tree.specs.Places.{before_rows}
 use Rattle.source_tree.specs.Rows.{RowExpr, RowSystem, Take, below_zero}
 use Rattle.source_tree.specs.Systems.{Occurrence, Context, every, writes_from, reader_place, writer_place, write_systems, divided_rows, undivided_rows, outside_systems, cell_systems, after_systems}
+use Rattle.source_tree.specs.References.{occurrence_of}
 
 -- the rows of a Test, and those of a Divides whose quotient is variable q
 abbrev pub test_rows : Form → Bool → List RowExpr
@@ -30,10 +31,6 @@ path_step reader (Divides above form d q answer) = above.now ++ quotient_rows q 
 -- the rows of the context at the end of a path, for a reader with these domain rows
 abbrev pub path_rows : List Form → Path → List RowExpr
 path_rows reader = fold-Path (List RowExpr) (path_step reader)
-
--- the read or write that a reference is
-abbrev pub occurrence_of : Reference → Occurrence
-occurrence_of r = record { number = r.number; statement = r.statement.now; access = r.access.now }
 
 -- the context at the end of a path, over so many variables
 abbrev pub context_of : Reference → ℕ → Path → Context

@@ -1,17 +1,18 @@
 ghost use Rattle.std.specs.Prelude.{◌≡◌, ◌≤◌, ◌<◌, ◌+◌, ◌∷◌, [], ◌↔◌, length, nat_le, IsTrue, Some, IfOk, OnOk};
 ghost use Rattle.std.specs.List.{list_all};
 ghost use Rattle.sanlp.specs.Access.{read_count};
-ghost use Rattle.source_check.specs.Paths.{context_at, context_of, further_rows, map_systems, occurrence_of, writes_before, IsRead};
+ghost use Rattle.source_check.specs.Paths.{context_at, context_of, further_rows, map_systems, writes_before, IsRead};
 ghost use Rattle.source_check.specs.Tests.{after_made};
 ghost use Rattle.source_check.specs.Verdict.{check_from, leaf_end as end_of_leaf, leaf_refusal, verdict, writer_refusal};
 ghost use Rattle.source_tree.specs.Checked.{IsChecked};
 ghost use Rattle.source_tree.specs.Exact.{IsExact};
 ghost use Rattle.source_tree.specs.Systems.{dead_systems, every, named_write, read_at, reader_place, write_systems, writer_systems, zero_systems, Context, Occurrence};
 ghost use Rattle.source_tree.specs.Walk.{are_over};
+ghost use Rattle.source_tree.specs.References.{occurrence_of};
 
 use crate::make::Space;
 use crate::path::Path;
-use crate::reference::{After, Read, Reference, order_of, write_of};
+use crate::reference::{After, Read, order_of, write_of};
 use crate::systems::{context, copy, place, with_same, write_at};
 use crate::tested::{
     Leaf, Tested, leaf_rule, refusal, test, test_both, test_cell, test_levels, test_outside,
@@ -20,7 +21,7 @@ use crate::verdict::{Rule, TreeVerdict};
 use affine_core::Form;
 use int_polyhedra::Proof;
 use sanlp::{Nest, Statement};
-use source_tree::Tree;
+use source_tree::{Reference, Tree};
 use std::alloc::{AllocError, Global};
 
 /// Whether the tree is checked for this read of this statement. It is where each of its leaves keeps to the rules and each

@@ -1,19 +1,12 @@
-ghost use Rattle.std.specs.Prelude.{◌≡◌, ◌≤◌, length, None, Some, MatchOption, nat_lt};
+ghost use Rattle.std.specs.Prelude.{◌≡◌, None, Some, MatchOption, nat_lt};
 ghost use Rattle.sanlp.specs.Order.{common_loops as loops_in_common};
-ghost use Rattle.source_check.specs.Paths.{occurrence_of};
 ghost use Rattle.source_tree.specs.Systems.{write_to};
+ghost use Rattle.source_tree.specs.References.{occurrence_of};
 
 use affine_core::Form;
-use sanlp::{Access, Nest, Statement};
+use sanlp::{Nest, Statement, common_loops};
+use source_tree::Reference;
 use std::alloc::Global;
-
-/// A reference to an array: a statement's number, the statement, and one of its reads or its write.
-#[derive(Clone, Copy)]
-pub struct Reference<'a> {
-    pub number: u32,
-    pub statement: &'a Statement,
-    pub access: &'a Access,
-}
 
 /// The read that a tree is checked for, and the place that is its statement's loops.
 #[derive(Clone, Copy)]
@@ -80,16 +73,5 @@ pub fn order_of<'a>(
         less: first.number < second.number,
         first: at,
         second: other,
-    }
-}
-
-// How many loops from the outermost on stand round both statements.
-fn common_loops(first: &[u32], second: &[u32]) -> usize
-    ensures value { result ≡ loops_in_common first.now second.now }
-    ensures few { result ≤ length first.now }
-{
-    match (first.split_first(), second.split_first()) {
-        (Some((k, inner)), Some((l, other))) if k == l => 1 + common_loops(inner, other),
-        _ => 0,
     }
 }

@@ -7,10 +7,10 @@ ghost use Rattle.source_tree.specs.Rows.{Take};
 
 use crate::make::Space;
 use crate::path::Path;
-use crate::reference::Reference;
 use affine_core::{Form, Row};
 use int_polyhedra::System;
 use plain_data::Items;
+use source_tree::Reference;
 use std::alloc::{AllocError, Global};
 
 /// The system again.

@@ -3,7 +3,7 @@
 -- Coefficients that are 0, 1 or -1 have as many other than 0 as there are 1 and -1 together, and of coefficients that
 -- are 0 or 1 none lies outside -1 to 1. A coefficient that does is one other than 0.
 use Rattle.std.proofs.Common.{◌≡◌, ◌+◌, ◌≤◌, ◌||◌, ℕ, ℤ, pos, negsuc, List, [], ◌∷◌, Bool, true, false, cond}
-use Rattle.std.proofs.Common.{refl, sym, ap, ◌∙◌, subst, arith, inl, inr, ◌⊎◌}
+use Rattle.std.proofs.Common.{refl, sym, ap, ◌∙◌, subst, arith, inl, inr}
 use Rattle.std.specs.Prelude.{nat_lt, not, unsigned_abs, All, IfSome, Option, Some, None}
 use Rattle.std.specs.List.{count_by, find, list_all}
 use Rattle.std.specs.Ordering.{int_eq}
@@ -11,7 +11,8 @@ use Rattle.std.proofs.lemmas.Int.{ints}
 use Rattle.std.proofs.lemmas.List.Elements.{All-head, All-tail}
 use Rattle.std.proofs.lemmas.List.Sums.{sum_by-cons}
 use Rattle.std.proofs.lemmas.Option.{same_Some}
-use Rattle.int_polyhedra.proofs.Variables.{and_both}
+use Rattle.std.proofs.lemmas.Bool.{and_parts, or_cases}
+use Rattle.affine_core.proofs.Integers.{int_eq-true}
 
 abbrev pub is_other : ℤ → Bool
 is_other c = not (int_eq c (pos 0))
@@ -43,27 +44,20 @@ pub how_many_is : (p : ℤ → Bool) (cs : List ℤ) → count_by p cs ≡ how_m
 how_many_is p [] = refl
 how_many_is p (c ∷ cs) = sum_by-cons (λ d. once (p d)) c cs ∙ ap (λ n. once (p c) + n) (how_many_is p cs)
 
-where_equal : (a b : ℤ) → int_eq a b ≡ true → a ≡ b
-where_equal a b e = grind (arith, ints)
-
-or_cases : (a b : Bool) → (a || b) ≡ true → (a ≡ true) ⊎ (b ≡ true)
-or_cases true b e = inl refl
-or_cases false b e = inr e
-
 by_bit : (c : ℤ) (P : ℤ → Type 0) → is_bit c ≡ true → P (pos 0) → P (pos 1) → P c
 by_bit c P e zero_case one_case =
     elim (or_cases (int_eq c (pos 0)) (int_eq c (pos 1)) e) [
-      | inl z ↦ subst P (sym (where_equal c (pos 0) z)) zero_case
-      | inr o ↦ subst P (sym (where_equal c (pos 1) o)) one_case
+      | inl z ↦ subst P (sym (int_eq-true c (pos 0) z)) zero_case
+      | inr o ↦ subst P (sym (int_eq-true c (pos 1) o)) one_case
     ]
 
 by_trit : (c : ℤ) (P : ℤ → Type 0) → is_trit c ≡ true → P (pos 0) → P (pos 1) → P (negsuc 0) → P c
 by_trit c P e zero_case one_case less_case =
     elim (or_cases (int_eq c (pos 0)) (int_eq c (pos 1) || int_eq c (negsuc 0)) e) [
-      | inl z ↦ subst P (sym (where_equal c (pos 0) z)) zero_case
+      | inl z ↦ subst P (sym (int_eq-true c (pos 0) z)) zero_case
       | inr f ↦ elim (or_cases (int_eq c (pos 1)) (int_eq c (negsuc 0)) f) [
-        | inl o ↦ subst P (sym (where_equal c (pos 1) o)) one_case
-        | inr m ↦ subst P (sym (where_equal c (negsuc 0) m)) less_case
+        | inl o ↦ subst P (sym (int_eq-true c (pos 1) o)) one_case
+        | inr m ↦ subst P (sym (int_eq-true c (negsuc 0) m)) less_case
       ]
     ]
 
@@ -79,19 +73,19 @@ trit_counts c e = by_trit c (λ c. once (is_other c) ≡ once (is_one c) + once 
 pub bits_count : (cs : List ℤ) → list_all is_bit cs ≡ true → how_many is_other cs ≡ how_many is_one cs
 bits_count [] e = refl
 bits_count (c ∷ cs) e =
-    let b = and_both (is_bit c) (list_all is_bit cs) e in
+    let b = and_parts (is_bit c) (list_all is_bit cs) e in
     omega (arith, bit_counts c b.0, bits_count cs b.1)
 
 pub bits_inside : (cs : List ℤ) → list_all is_bit cs ≡ true → find is_outside cs ≡ None
 bits_inside [] e = refl
 bits_inside (c ∷ cs) e =
-    let b = and_both (is_bit c) (list_all is_bit cs) e in
+    let b = and_parts (is_bit c) (list_all is_bit cs) e in
     ap (λ (outside : Bool). cond outside (Some c) (find is_outside cs)) (bit_inside c b.0) ∙ bits_inside cs b.1
 
 pub trits_count : (cs : List ℤ) → list_all is_trit cs ≡ true → how_many is_other cs ≡ how_many is_one cs + how_many is_less cs
 trits_count [] e = refl
 trits_count (c ∷ cs) e =
-    let b = and_both (is_trit c) (list_all is_trit cs) e in
+    let b = and_parts (is_trit c) (list_all is_trit cs) e in
     omega (arith, trit_counts c b.0, trits_count cs b.1)
 
 outside_is_other : (c : ℤ) → is_outside c ≡ true → once (is_other c) ≡ 1
@@ -111,7 +105,7 @@ outside_counts (d ∷ cs) c e = go (outside_counts cs c) (is_outside d) refl e w
 pub none_other : (c : ℤ) → once (is_other c) ≡ 0 → c ≡ pos 0
 none_other c e = go (int_eq c (pos 0)) refl e where
   go : (b : Bool) → int_eq c (pos 0) ≡ b → once (not b) ≡ 0 → c ≡ pos 0
-  go true is e = where_equal c (pos 0) is
+  go true is e = int_eq-true c (pos 0) is
   go false is e = absurd (let no : 1 ≡ 0 = e in omega (arith, no))
 
 -- the first coefficient outside -1 to 1

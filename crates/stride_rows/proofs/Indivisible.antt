@@ -10,7 +10,7 @@ use Rattle.std.proofs.Common.{append_assoc, length-append}
 use Rattle.std.specs.Prelude.{All, slice_get, unsigned_abs}
 use Rattle.std.specs.Option.{option_map_or}
 use Rattle.std.proofs.lemmas.Int.{ints}
-use Rattle.std.proofs.lemmas.List.Elements.{All-nil, All-cons, All-append, All-from_get_or}
+use Rattle.std.proofs.lemmas.List.Elements.{All-nil, All-cons, All-append}
 use Rattle.affine_core.proofs.Ring.{sum_times}
 use Rattle.affine_core.specs.declared.form.Form.{Form}
 use Rattle.int_polyhedra.specs.declared.system.Proof.{Proof}
@@ -21,37 +21,35 @@ use Rattle.int_polyhedra.specs.Rules.{Refutes}
 use Rattle.int_polyhedra.specs.Steps.{floor}
 use Rattle.int_polyhedra.specs.Systems.{AreOver}
 use Rattle.int_polyhedra.proofs.Variables.{over_more}
+use Rattle.plain_data.proofs.Lists.{slice_get-append_right}
 use Rattle.row_sums.specs.Made.{parts_of}
 use Rattle.row_sums.specs.Parts.{Part, the_constant, the_coefficient, part_of, row_part, weight, weighted_sum, IsWithin}
 use Rattle.row_sums.specs.Shown.{RowParts, Shows}
-use Rattle.row_sums.proofs.Showing.{shown_refutes}
+use Rattle.row_sums.proofs.NegativeSums.{shown_refutes}
+use Rattle.row_sums.proofs.Within.{IsWithin-from_parts}
 use Rattle.source_tree.specs.Rows.{number}
 use Rattle.stride_rows.specs.Cuts.{after_cuts, IsCutSum}
 use Rattle.stride_rows.specs.declared.cuts.Cut.{Cut}
-use Rattle.stride_rows.proofs.Cutting.{cut_adds, cuts_refute, get_behind, IsAdded, IsMultipleOf}
+use Rattle.stride_rows.proofs.CutRows.{cut_adds, cuts_refute, IsAdded, IsMultipleOf}
 use Rattle.stride_rows.proofs.Floors.{floor_shifted, floor_unique}
 
 abbrev pub once_row : ℕ → Term
 once_row k = record { row = k; times = pos 1 }
 
+pub All-once_rows : (order a b : ℕ) → a < order → b < order → All (λ t. t.row < order) (once_row a ∷ once_row b ∷ [])
+All-once_rows order a b k l =
+    All-cons (λ (t : Term). t.row < order) (once_row a) (once_row b ∷ []) k
+    (All-cons (λ (t : Term). t.row < order) (once_row b) [] l (All-nil _))
+
 -- a number as a row
 abbrev pub number_part : ℤ → RowParts
 number_part k part = parts_of (number k) part
-
-coefficient_none : (k : ℤ) (i : ℕ) → number_part k (the_coefficient i) ≡ pos 0
-coefficient_none k i = refl
 
 pub below_one : (d : ℕ) → 0 < d → floor (negsuc 0) d ≡ negsuc 0
 below_one d h = floor_unique (negsuc 0) (negsuc 0) d h (omega (arith, ints, h)) (omega (arith, ints, h))
 
 below_next : (d : ℕ) → 0 < d → floor (pos d +ℤ negsuc 0) d ≡ pos 0
 below_next d h = floor_unique (pos d +ℤ negsuc 0) (pos 0) d h (omega (arith, ints, h)) (omega (arith, ints, h))
-
-pub within_parts : (bound : ℕ) (f : Form) → ((part : Part) → unsigned_abs (part_of part f) ≤ bound) → IsWithin bound f
-within_parts bound f h = record {
-  constant = h the_constant;
-  coefs = All-from_get_or (λ c. unsigned_abs c ≤ bound) f.coefs (pos 0) (λ i lt. h (the_coefficient i));
-}
 
 -- numbers that lie so near 0
 pub record IsNear (b : ℕ) (z : ℤ) : Type 0 where
@@ -237,7 +235,7 @@ module _ (vars : ℕ) (rows : List Form) (d here up down : ℕ) (f q v : RowPart
       → ((part : Part) → part_of part row ≡ parts part) → ((part : Part) → unsigned_abs (parts part) ≤ 3)
       → IsWithin bound row
   row_small bound row parts le are small =
-      within_parts bound row (λ part. omega (arith, le, ap unsigned_abs (are part), small part))
+      IsWithin-from_parts bound row (λ part. omega (arith, le, ap unsigned_abs (are part), small part))
 
   added_small : (bound : ℕ) → 3 ≤ bound → All (IsWithin bound) added
   added_small bound le =
@@ -258,11 +256,11 @@ module _ (vars : ℕ) (rows : List Form) (d here up down : ℕ) (f q v : RowPart
   last_low part =
       let e : length rows ≡ length rows + 0 = omega arith in
       ap (λ k. option_map_or (part_of part) (slice_get whole k) (pos 0)) e
-      ∙ ap (λ o. option_map_or (part_of part) o (pos 0)) (get_behind rows added 0) ∙ low_added.are part
+      ∙ ap (λ o. option_map_or (part_of part) o (pos 0)) (slice_get-append_right rows added 0) ∙ low_added.are part
 
   last_high : (part : Part) → row_part whole part (length rows + 1) ≡ high_row part
   last_high part =
-      ap (λ o. option_map_or (part_of part) o (pos 0)) (get_behind rows added 1) ∙ high_added.are part
+      ap (λ o. option_map_or (part_of part) o (pos 0)) (slice_get-append_right rows added 1) ∙ high_added.are part
 
   abbrev both : List Term
   both = once_row (length rows) ∷ once_row (length rows + 1) ∷ []
@@ -300,10 +298,6 @@ module _ (vars : ℕ) (rows : List Form) (d here up down : ℕ) (f q v : RowPart
         no_sum : (a b : ℤ) → ((a -ℤ b) +ℤ pos 0) +ℤ (b -ℤ a) ≡ pos 0
         no_sum a b = omega (arith, ints)
 
-  two_below : (order a b : ℕ) → a < order → b < order → All (λ t. t.row < order) (once_row a ∷ once_row b ∷ [])
-  two_below order a b k l = All-cons (λ (t : Term). t.row < order) (once_row a) (once_row b ∷ []) k
-      (All-cons (λ (t : Term). t.row < order) (once_row b) [] l (All-nil _))
-
   pub undivided_is_cut_sum : (order : ℕ) → here + 1 < order → up < order → down < order
       → IsCutSum vars rows order (undivided_proof d here up down (length rows))
   undivided_is_cut_sum order k l m =
@@ -316,8 +310,8 @@ module _ (vars : ℕ) (rows : List Form) (d here up down : ℕ) (f q v : RowPart
         few = omega arith;
         add = (low_added.adds, (high_added.adds, tt));
         no_order = All-cons P (low_cut d here up) (high_cut d here down ∷ [])
-            (two_below order here up (omega (arith, k)) l)
-            (All-cons P (high_cut d here down) [] (two_below order (here + 1) down k m) (All-nil _));
+            (All-once_rows order here up (omega (arith, k)) l)
+            (All-cons P (high_cut d here down) [] (All-once_rows order (here + 1) down k m) (All-nil _));
         small = added_small (2 ^ 48) (omega arith);
         light = omega arith;
       }

@@ -1,13 +1,13 @@
 pub mod Coefficients
-mod Reading
 mod Shifts
 pub mod Floors
 pub mod Sums
 pub mod Places
-pub mod Cutting
+pub mod CutRows
 pub mod Singles
 pub mod Indivisible
-pub mod Dividing
-pub mod Sourcing
+pub mod WriterCuts
+pub mod RowSources
 pub mod Subscripts
-pub mod Telling
+pub mod QuotientRows
+pub mod ReadClass

@@ -6,11 +6,10 @@ use Rattle.std.proofs.Common.{◌≡◌, ◌+◌, ◌≤◌, ◌<◌, ◌&&◌, 
 use Rattle.std.proofs.Common.{refl, sym, ap, ◌∙◌, arith, inl, inr}
 use Rattle.std.specs.Prelude.{is_some, nat_le}
 use Rattle.std.specs.List.{count_by, list_all, sum_by}
-use Rattle.std.proofs.lemmas.Bool.{leb-true}
+use Rattle.std.proofs.lemmas.Bool.{leb-true, and_parts}
 use Rattle.std.proofs.lemmas.Bool.Decides.{leb_tells}
 use Rattle.std.proofs.lemmas.List.Sums.{sum_by-cons}
 use Rattle.affine_core.specs.declared.form.Form.{Form}
-use Rattle.int_polyhedra.proofs.Variables.{and_both}
 use Rattle.lex_max.specs.Class.{count_of, is_difference, is_shift, writes_differences, IsInDifferenceClass}
 use Rattle.sanlp.specs.declared.nest.Nest.{Nest}
 use Rattle.source_tree.specs.Systems.{Occurrence, array_writes}
@@ -23,13 +22,13 @@ use Rattle.stride_rows.proofs.Coefficients.{is_trit, once, trits_count}
 
 shift_is_single : (form : Form) → is_shift form ≡ true → is_single form ≡ true
 shift_is_single form e =
-    let b = and_both (list_all is_bit form.coefs) (nat_le (count_of (pos 1) form) 1) e in
+    let b = and_parts (list_all is_bit form.coefs) (nat_le (count_of (pos 1) form) 1) e in
     ap (λ n. nat_le n 1)
     (how_many_is is_other form.coefs ∙ bits_count form.coefs b.0 ∙ sym (how_many_is is_one form.coefs)) ∙ b.1
 
 shift_has_no_stride : (form : Form) → is_shift form ≡ true → is_stride form ≡ false
 shift_has_no_stride form e =
-    let b = and_both (list_all is_bit form.coefs) (nat_le (count_of (pos 1) form) 1) e in
+    let b = and_parts (list_all is_bit form.coefs) (nat_le (count_of (pos 1) form) 1) e in
     ap is_some (bits_inside form.coefs b.0)
 
 two_variables : (all one less : ℕ) → all ≡ one + less → one ≤ 1 → less ≤ 1 → nat_le all 1 ≡ false
@@ -52,9 +51,9 @@ single_or_pair all one less e f g = go (nat_le all 1) refl where
 
 difference_is_row : (form : Form) → is_difference form ≡ true → (is_single form || is_pair form) ≡ true
 difference_is_row form e =
-    let b = and_both (list_all is_trit form.coefs)
+    let b = and_parts (list_all is_trit form.coefs)
     (nat_le (count_of (pos 1) form) 1 && nat_le (count_of (negsuc 0) form) 1) e in
-    let d = and_both (nat_le (count_of (pos 1) form) 1) (nat_le (count_of (negsuc 0) form) 1) b.1 in
+    let d = and_parts (nat_le (count_of (pos 1) form) 1) (nat_le (count_of (negsuc 0) form) 1) b.1 in
     let all : variable_count form ≡ count_of (pos 1) form + count_of (negsuc 0) form =
     omega (
       arith,
@@ -71,33 +70,33 @@ all_pass_also : {X : Type 0} (p q : X → Bool) → ((x : X) → p x ≡ true �
     → list_all p xs ≡ true → list_all q xs ≡ true
 all_pass_also p q also [] e = refl
 all_pass_also p q also (x ∷ xs) e =
-    let b = and_both (p x) (list_all p xs) e in
+    let b = and_parts (p x) (list_all p xs) e in
     ap (λ (passes : Bool). passes && list_all q xs) (also x b.0) ∙ all_pass_also p q also xs b.1
 
 none_counts : {X : Type 0} (p q : X → Bool) → ((x : X) → p x ≡ true → q x ≡ false) → (xs : List X)
     → list_all p xs ≡ true → count_by q xs ≡ 0
 none_counts p q fails [] e = refl
 none_counts p q fails (x ∷ xs) e =
-    let b = and_both (p x) (list_all p xs) e in
+    let b = and_parts (p x) (list_all p xs) e in
     let first : once (q x) ≡ 0 = ap once (fails x b.0) in
     sum_by-cons (λ x. once (q x)) x xs ∙ omega (arith, first, none_counts p q fails xs b.1)
 
 write_is_stride : (w : Occurrence) → writes_differences w ≡ true → writes_strides w ≡ true
 write_is_stride w e =
-    let b = and_both (list_all is_shift w.access.subscripts) (list_all is_difference w.statement.rows) e in
+    let b = and_parts (list_all is_shift w.access.subscripts) (list_all is_difference w.statement.rows) e in
     ap (λ (single : Bool). single && list_all (λ row. is_single row || is_pair row) w.statement.rows)
     (all_pass_also is_shift is_single shift_is_single w.access.subscripts b.0)
     ∙ all_pass_also is_difference (λ row. is_single row || is_pair row) difference_is_row w.statement.rows b.1
 
 no_stride : (w : Occurrence) → writes_differences w ≡ true → stride_count w ≡ 0
 no_stride w e =
-    let b = and_both (list_all is_shift w.access.subscripts) (list_all is_difference w.statement.rows) e in
+    let b = and_parts (list_all is_shift w.access.subscripts) (list_all is_difference w.statement.rows) e in
     none_counts is_shift is_stride shift_has_no_stride w.access.subscripts b.0
 
 no_strides : (ws : List Occurrence) → list_all writes_differences ws ≡ true → sum_by stride_count ws ≡ 0
 no_strides [] e = refl
 no_strides (w ∷ ws) e =
-    let b = and_both (writes_differences w) (list_all writes_differences ws) e in
+    let b = and_parts (writes_differences w) (list_all writes_differences ws) e in
     sum_by-cons stride_count w ws ∙ omega (arith, no_stride w b.0, no_strides ws b.1)
 
 pub difference_is_stride : (n : Nest) (s k : ℕ) → IsInDifferenceClass n s k → IsInStrideClass n s k

@@ -12,6 +12,7 @@ use Rattle.std.proofs.lemmas.Int.{ints}
 use Rattle.std.proofs.lemmas.Option.{same_Some}
 use Rattle.affine_core.specs.declared.form.Form.{Form}
 use Rattle.affine_core.specs.Affine.{variable_form}
+use Rattle.affine_core.proofs.Integers.{int_eq-true}
 use Rattle.row_sums.specs.Made.{parts_of}
 use Rattle.row_sums.specs.Parts.{Part, the_constant, the_coefficient, row_part}
 use Rattle.source_tree.specs.Places.{at_place, plus_terms}
@@ -38,9 +39,6 @@ zeros_at sum (c ∷ cs) (f ∷ place) part none =
 abbrev pub coefficient_of : List ℤ → ℤ
 coefficient_of cs = slice_index_or cs (loop_of cs) (pos 0)
 
-where_zero : (c : ℤ) → int_eq c (pos 0) ≡ true → c ≡ pos 0
-where_zero c e = grind (arith, ints)
-
 other_where : (c : ℤ) → int_eq c (pos 0) ≡ false → once (is_other c) ≡ 1
 other_where c e = ap (λ b. once (not b)) e
 
@@ -66,7 +64,7 @@ single_terms sum (d ∷ cs) (f ∷ place) part even few =
     go rest count true is =
         rest (Plus sum (Times d (Take f)))
         ∙ ap (λ z. z +ℤ (row_part place part (loop_of cs) *ℤ coefficient_of cs))
-        (ap (λ d. parts_of (Plus sum (Times d (Take f))) part) (where_zero d is) ∙ nothing_more sum f part)
+        (ap (λ d. parts_of (Plus sum (Times d (Take f))) part) (int_eq-true d (pos 0) is) ∙ nothing_more sum f part)
     go rest count false is =
         zeros_at (Plus sum (Times d (Take f))) cs place part (omega (arith, count, other_where d is))
 
@@ -98,7 +96,7 @@ stride_coefficient (d ∷ cs) c few e =
           → slice_index_or (d ∷ cs) (cond b (suc (loop_of cs)) 0) (pos 0) ≡ c
       go rest count later true is false out e = rest e
       go rest count later true is true out e =
-          absurd (let no : is_outside (pos 0) ≡ true = ap is_outside (sym (where_zero d is)) ∙ out in cc)
+          absurd (let no : is_outside (pos 0) ≡ true = ap is_outside (sym (int_eq-true d (pos 0) is)) ∙ out in cc)
       go rest count later false is true out e = same_Some d c e
       go rest count later false is false out e = absurd (omega (arith, count, other_where d is, later e))
 
@@ -129,7 +127,7 @@ less_coefficient (d ∷ cs) few e =
         → slice_index_or (d ∷ cs) (cond b (suc (loop_of cs)) 0) (pos 0) ≡ negsuc 0
     go rest count later true is false out e = rest e
     go rest count later true is true out e =
-        absurd (let no : is_less (pos 0) ≡ true = ap is_less (sym (where_zero d is)) ∙ out in cc)
+        absurd (let no : is_less (pos 0) ≡ true = ap is_less (sym (int_eq-true d (pos 0) is)) ∙ out in cc)
     go rest count later false is true out e = where_less d out
     go rest count later false is false out e = absurd (omega (arith, count, other_where d is, later e))
 

@@ -16,9 +16,9 @@ use Rattle.stride_rows.specs.Class.{stride_of}
 use Rattle.stride_rows.specs.Cuts.{AreSources}
 use Rattle.stride_rows.specs.Sources.{cell_sources, cut_of, falls}
 use Rattle.stride_rows.specs.declared.cuts.Source.TheVariants.{Own}
-use Rattle.stride_rows.proofs.Dividing.{above_multiple, below_multiple, AreDividedRows}
+use Rattle.stride_rows.proofs.WriterCuts.{above_multiple, below_multiple, AreDividedRows}
 use Rattle.stride_rows.proofs.Indivisible.{number_part, once_row}
-use Rattle.stride_rows.proofs.Sourcing.{cut_told, multiple_as, same_row, IsSmallSystem}
+use Rattle.stride_rows.proofs.RowSources.{cut_told, multiple_as, same_row, IsSmallSystem}
 
 -- the rows of a stride, each less a number, and the rows that are told
 pub record AreStrideTold (vars : ℕ) (rows : List Form) (c : ℤ) (test above below : ℕ) (f q v : RowParts) (less : ℤ)

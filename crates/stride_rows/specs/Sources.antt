@@ -69,6 +69,7 @@ domain_sources (row ∷ rows) number = row_source row number ∷ domain_sources 
 abbrev pub next_place : List ℕ → ℕ
 next_place places = slice_index_or places 0 0
 
+-- the places that are left behind a subscript of the write
 abbrev pub places_behind : Form → List ℕ → List ℕ
 places_behind write places = if is_stride write then drop 1 places else places
 

@@ -1,5 +1,8 @@
 //! Reads whose writers have strides, and the rows of their loops from those over quotients: a subscript `c*i + e` is
 //! told by the quotient of what is left of a cell by `c` (Pugh 1991), and a Cut divides a row by a stride.
+//!
+//! Between two calls, or from one step of the main loop to the next: a row over quotients is a row of the statement's
+//! system or one that a Cut of it adds, and Cuts take no row that a Cut added.
 #![tactic(auto)]
 
 mod class;

@@ -104,14 +104,6 @@ pub fn is_turned(write: &Form) -> bool
     }
 }
 
-// Adds two sources.
-fn push_both(sources: &mut Items<Source>, first: Source, second: Source) -> Result<(), AllocError>
-    ensures { OnOk result (sources.new ≡ sources.old ++ first ∷ second ∷ []) }
-{
-    sources.push(first)?;
-    sources.push(second)
-}
-
 // Adds the sources of a subscript with a stride.
 fn push_stride(
     sources: &mut Items<Source>,
@@ -128,7 +120,7 @@ fn push_stride(
 {
     let high = of_rows(alloc, c, above, test)?;
     let low = of_rows(alloc, c, below, test + 1)?;
-    push_both(sources, high, low)
+    sources.push_both(high, low)
 }
 
 /// Adds where the rows of a subscript over the loops and quotients come from, that it is no less than the read's and that it
@@ -155,9 +147,9 @@ pub fn push_cell(
         }
         None => {
             if falls(write) {
-                return push_both(sources, Source::Own(second), Source::Own(first));
+                return sources.push_both(Source::Own(second), Source::Own(first));
             }
-            push_both(sources, Source::Own(first), Source::Own(second))
+            sources.push_both(Source::Own(first), Source::Own(second))
         }
     }
 }
@@ -276,7 +268,7 @@ pub fn write_sources(
     more: u32,
 ) -> Result<Items<Source>, AllocError>
     requires numbers { (length rows.now ≤ 32) × (length writes.now ≤ 6) }
-    requires few { (here ≤ 8192) × ((root ≤ 32) × (more ≤ 64)) }
+    requires few { (here ≤ 2 ^ 30) × ((root ≤ 32) × (more ≤ 64)) }
     requires places { All (λ i. i < 6) places.now }
     requires rows { All (IsWithin (2 ^ 32)) rows.now }
     requires writes { All (IsWithin (2 ^ 32)) writes.now }

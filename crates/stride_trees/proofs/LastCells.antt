@@ -22,12 +22,12 @@ use Rattle.stride_trees.specs.Divisions.{division_of}
 use Rattle.stride_trees.specs.Problem.{problem_read, problem_write}
 use Rattle.stride_rows.specs.Sources.{cell_source, cut_of, falls, is_turned}
 use Rattle.stride_rows.specs.declared.cuts.Source.TheVariants.{Own}
-use Rattle.stride_trees.proofs.Gluing.{IsTestRow}
+use Rattle.stride_trees.proofs.MadeRows.{IsTestRow}
 use Rattle.stride_rows.proofs.Indivisible.{number_part}
 use Rattle.stride_trees.proofs.LastRows.{pair_comes, same_comes, ComesFrom}
-use Rattle.stride_trees.proofs.Placing.{stride_rows, AreStrideRows}
+use Rattle.stride_trees.proofs.NoSystems.{stride_rows, AreStrideRows}
 use Rattle.stride_trees.proofs.Quotients.{loop_at, told_less, told_same, told_stride, IsToldLess, IsToldSame, IsToldStride}
-use Rattle.stride_rows.proofs.Telling.{stride_positive}
+use Rattle.stride_rows.proofs.QuotientRows.{stride_positive}
 
 difference_times : (x y : ℤ) (d : ℕ) → (x -ℤ y) *ℤ pos d ≡ (x *ℤ pos d) -ℤ (y *ℤ pos d)
 difference_times x y d =

@@ -7,7 +7,7 @@ use Rattle.std.proofs.Common.{◌≡◌, ◌==◌, ◌+◌, ◌^◌, ◌≤◌, 
 use Rattle.std.proofs.Common.{◌∷◌, ◌++◌, length, true, refl, sym, ap, ◌∙◌, subst, arith, length-append}
 use Rattle.std.specs.Prelude.{Some, All, slice_get, unsigned_abs}
 use Rattle.std.specs.Option.{option_and_then, option_map_or}
-use Rattle.std.proofs.lemmas.Bool.{eq-eqb}
+use Rattle.std.proofs.lemmas.Bool.{eq-eqb, and_from}
 use Rattle.std.proofs.lemmas.Int.{ints}
 use Rattle.std.proofs.lemmas.List.Elements.{All-nil, All-cons, All-append, All-weaker}
 use Rattle.std.proofs.lemmas.Option.{same_Some, slice_get_within}
@@ -16,14 +16,14 @@ use Rattle.int_polyhedra.specs.declared.system.Proof.TheVariants.{Sum}
 use Rattle.int_polyhedra.specs.declared.system.Term.{Term}
 use Rattle.int_polyhedra.specs.Rules.{Refutes}
 use Rattle.int_polyhedra.specs.Steps.{floor, quotient_row}
-use Rattle.int_polyhedra.proofs.Variables.{both_and}
-use Rattle.lex_max.proofs.Refuting.{over_append}
-use Rattle.lex_max.proofs.Small.{farther}
-use Rattle.lex_max.proofs.Writing.{forms_append}
+use Rattle.lex_max.proofs.EdgeSums.{over_append}
+use Rattle.lex_max.proofs.RowBounds.{forms_append}
+use Rattle.plain_data.proofs.Lists.{slice_get-append_left, slice_get-append_right}
 use Rattle.row_sums.specs.Made.{parts_of}
 use Rattle.row_sums.specs.Parts.{Part, the_constant, the_coefficient, part_of, row_part, weight, weighted_sum, IsWithin}
 use Rattle.row_sums.specs.Shown.{RowParts}
-use Rattle.row_sums.proofs.Wider.{made_has_parts}
+use Rattle.row_sums.proofs.RowParts.{made_has_parts}
+use Rattle.row_sums.proofs.Within.{IsWithin-weaker}
 use Rattle.source_tree.specs.Checked.{IsRefuted}
 use Rattle.source_tree.specs.Places.{at_place}
 use Rattle.source_tree.specs.Rows.{RowExpr, below_zero, row_forms}
@@ -35,17 +35,17 @@ use Rattle.stride_rows.specs.Sources.{cut_of, divided_form, own_sources, row_sou
 use Rattle.stride_trees.specs.Strides.{IsSmallContext}
 use Rattle.stride_rows.specs.declared.cuts.Source.{Source}
 use Rattle.stride_rows.specs.declared.cuts.Source.TheVariants.{Own}
-use Rattle.stride_trees.proofs.Adding.{added_all, added_behind, before_both, before_own, cuts_behind, cuts_few, TakeBefore}
-use Rattle.stride_rows.proofs.Cutting.{converted_is_cut_sum, converted_refutes, get_before, get_behind, IsMultipleOf}
-use Rattle.stride_rows.proofs.Dividing.{outside_multiple}
+use Rattle.stride_trees.proofs.SourceCuts.{added_all, added_behind, before_both, before_own, cuts_behind, cuts_few, TakeBefore}
+use Rattle.stride_rows.proofs.CutRows.{converted_is_cut_sum, converted_refutes, IsMultipleOf}
+use Rattle.stride_rows.proofs.WriterCuts.{outside_multiple}
 use Rattle.stride_rows.proofs.Floors.{floor_shifted}
-use Rattle.stride_trees.proofs.Gluing.{made_both, AreMadeBoth}
+use Rattle.stride_trees.proofs.MadeRows.{made_both, AreMadeBoth}
 use Rattle.stride_rows.proofs.Indivisible.{below_one, number_part, once_row}
 use Rattle.stride_trees.proofs.Lists.{made_first, IsMadeFirst}
-use Rattle.stride_trees.proofs.Reaching.{made_within, IsMadeWithin, IsReached}
-use Rattle.stride_rows.proofs.Sourcing.{cut_told, multiple_as, row_told, same_row, sources_append, stride_divides}
-use Rattle.stride_rows.proofs.Sourcing.{IsSmallSystem}
-use Rattle.stride_rows.proofs.Telling.{own_told, stride_positive}
+use Rattle.stride_trees.proofs.RowReach.{made_within, IsMadeWithin, IsReached}
+use Rattle.stride_rows.proofs.RowSources.{cut_told, multiple_as, row_told, same_row, sources_append, stride_divides}
+use Rattle.stride_rows.proofs.RowSources.{IsSmallSystem}
+use Rattle.stride_rows.proofs.QuotientRows.{own_told, stride_positive}
 
 -- the sum of two rows: so many times a row, and a number that comes through the division
 pub two_multiple : (rows : List Form) (d a b : ℕ) (z : RowParts) (less : ℤ) → 0 < d → floor less d ≡ less
@@ -94,13 +94,13 @@ module _ (c : Context) (here : ℕ) (small : IsSmallContext c here) (own told : 
   whole_small : IsSmallSystem c.vars whole
   whole_small = record {
     over = over_append c.vars small.rows (own_made.row ∷ []) small.over
-        (both_and (length own_made.row.coefs == c.vars) true (eq-eqb (length own_made.row.coefs) c.vars own_made.over) refl);
+        (and_from (length own_made.row.coefs == c.vars) true (eq-eqb (length own_made.row.coefs) c.vars own_made.over) refl);
     within = All-append (IsWithin (2 ^ 90)) small.rows (own_made.row ∷ []) (wider small.rows small.within)
         (All-cons (IsWithin (2 ^ 90)) own_made.row [] own_made.within (All-nil _));
   } where
     wider : (rows : List Form) → All (IsWithin (2 ^ 50)) rows → All (IsWithin (2 ^ 90)) rows
     wider rows h = All-weaker (IsWithin (2 ^ 50)) (IsWithin (2 ^ 90))
-        (λ f k. farther (2 ^ 50) (2 ^ 90) f (omega arith) k) rows h
+        (λ f k. IsWithin-weaker (2 ^ 50) (2 ^ 90) f (omega arith) k) rows h
 
   own_parts : (part : Part) → part_of part own_made.row ≡ parts_of own part
   own_parts = (made_has_parts c.vars own own_made.row own_made.is).1
@@ -130,7 +130,7 @@ module _ (c : Context) (here : ℕ) (small : IsSmallContext c here) (own told : 
             (subst (λ n. AreSources c.vars whole (own_sources 0 n) small.rows) small.count
             (own_told c.vars whole 0 small.rows
             (λ k row is. (let e : 0 + k ≡ k = omega arith in ap (slice_get whole) e)
-            ∙ get_before small.rows (own_made.row ∷ []) k (slice_get_within small.rows k row is) ∙ is)))
+            ∙ slice_get-append_left small.rows (own_made.row ∷ []) k (slice_get_within small.rows k row is) ∙ is)))
             (from b.first own_made.row whole_small b.over own_parts b.parts);
       }
 
@@ -173,7 +173,7 @@ last_here : (context : List Form) (last : Form) (here : ℕ) → length context 
     → slice_get (context ++ last ∷ []) here ≡ Some last
 last_here context last here e =
     let k : here ≡ length context + 0 = omega (arith, e) in
-    ap (slice_get (context ++ last ∷ [])) k ∙ get_behind context (last ∷ []) 0
+    ap (slice_get (context ++ last ∷ [])) k ∙ slice_get-append_right context (last ∷ []) 0
 
 -- outside the domain
 pub outside_comes : (vars here : ℕ) (context : List Form) (form : Form) (place : List Form) → length context ≡ here
@@ -226,7 +226,7 @@ pair_comes vars here context c test own told a b z count positive inside own_is 
     let at_here : (part : Part) → row_part rows part here ≡ a part +ℤ number_part (negsuc 0) part =
     λ part. ap (λ o. option_map_or (part_of part) o (pos 0)) is ∙ last_parts part ∙ own_is part in
     let at_test : (part : Part) → row_part rows part test ≡ b part =
-    λ part. ap (λ o. option_map_or (part_of part) o (pos 0)) (get_before context (last ∷ []) test inside) ∙ test_is part
+    λ part. ap (λ o. option_map_or (part_of part) o (pos 0)) (slice_get-append_left context (last ∷ []) test inside) ∙ test_is part
     in
     cut_told vars rows c (here ∷ test ∷ []) (once_row here ∷ once_row test ∷ []) row refl positive small (omega arith) over
     (multiple_as rows d (once_row here ∷ once_row test ∷ []) (λ part. z part +ℤ number_part (negsuc 0) part)

@@ -1,29 +1,29 @@
 pub mod Multiples
 pub mod Lists
-mod Reaching
+mod RowReach
 mod Rows
-pub mod Fitting
-pub mod Placing
+pub mod ProblemBounds
+pub mod NoSystems
 pub mod Systems
-pub mod Testing
-mod Gluing
-mod Standing
-mod Converting
-mod Unwritten
+pub mod TestNodes
+mod MadeRows
+mod WriteSystems
+mod SystemConversion
+mod NoWrites
 mod LastRows
-mod Differing
-mod Tested
-pub mod Listing
-pub mod Asking
+mod DomainDifferences
+mod YesContexts
+pub mod TestCounts
+pub mod QuotientProblem
 mod Quotients
 mod LastCells
-mod Adding
-mod ToldReach
-mod Placed
+mod SourceCuts
+mod QuotientReach
+mod PlaceProofs
 mod Nodes
-mod Leafing
-mod Valuing
-mod Giving
-mod Promising
-mod Written
-mod Leaving
+mod LeafConversion
+mod QuotientValues
+mod TreeValues
+mod CandidatePromise
+mod ProofConversion
+mod ProofParts

@@ -2,19 +2,15 @@
 --
 -- Rows that were made are as many as they are made from, and each has the parts of its own. Systems and proofs that are
 -- refuted one by one fall into front and back where the counts do.
-use Rattle.std.proofs.Common.{◌≡◌, ◌==◌, ℕ, zero, suc, List, [], ◌∷◌, ◌++◌, length, refl, sym, ap, ◌∙◌}
-use Rattle.std.proofs.Common.{subst}
+use Rattle.std.proofs.Common.{◌≡◌, ℕ, zero, suc, List, [], ◌∷◌, ◌++◌, length, refl, sym, ap, ◌∙◌}
 use Rattle.std.specs.Prelude.{Some, None, slice_get}
 use Rattle.std.specs.Option.{option_and_then}
-use Rattle.std.proofs.lemmas.Bool.{eq-eqb}
 use Rattle.std.proofs.lemmas.Option.{same_Some, option_and_then_some}
 use Rattle.affine_core.specs.declared.form.Form.{Form}
 use Rattle.int_polyhedra.specs.declared.system.Proof.{Proof}
-use Rattle.int_polyhedra.specs.Systems.{all_over, AreOver}
-use Rattle.int_polyhedra.proofs.Variables.{both_and}
 use Rattle.row_sums.specs.Made.{parts_of}
 use Rattle.row_sums.specs.Parts.{Part, part_of, row_part}
-use Rattle.row_sums.proofs.Wider.{made_has_parts}
+use Rattle.row_sums.proofs.RowParts.{made_has_parts}
 use Rattle.source_tree.specs.Checked.{AreRefuted}
 use Rattle.source_tree.specs.Rows.{RowExpr, RowSystem, row_form, row_forms}
 use Rattle.stride_trees.specs.Candidates.{AreCutSums}
@@ -55,14 +51,6 @@ forms_count vars (e ∷ es) forms h =
     let f : IsMadeFirst vars e es forms = made_first vars e es forms h in
     ap length f.is ∙ ap suc (forms_count vars es f.rest f.made)
 
-pub forms_over : (vars : ℕ) (es : List RowExpr) (forms : List Form) → row_forms vars es ≡ Some forms → AreOver vars forms
-forms_over vars [] forms h = subst (AreOver vars) (same_Some [] forms h) refl
-forms_over vars (e ∷ es) forms h =
-    let f : IsMadeFirst vars e es forms = made_first vars e es forms h in
-    subst (AreOver vars) (sym f.is)
-    (both_and (length f.first.coefs == vars) (all_over vars f.rest) (eq-eqb (length f.first.coefs) vars f.over)
-    (forms_over vars es f.rest f.made))
-
 -- a row that was made, by its number
 pub row_made : (vars : ℕ) (es : List RowExpr) (forms : List Form) (k : ℕ) (e : RowExpr) (part : Part)
     → row_forms vars es ≡ Some forms → slice_get es k ≡ Some e → row_part forms part k ≡ parts_of e part
@@ -75,13 +63,6 @@ row_made vars (x ∷ es) forms (suc k) e part h is =
     ap (λ forms. row_part forms part (suc k)) f.is ∙ row_made vars es f.rest k e part f.made is
 
 -- Systems and proofs
-
-pub refuted_both : (first second : List RowSystem) (ps qs : List Proof) → AreRefuted first ps → AreRefuted second qs
-    → AreRefuted (first ++ second) (ps ++ qs)
-refuted_both [] second [] qs h k = k
-refuted_both [] second (p ∷ ps) qs h k = absurd h
-refuted_both (s ∷ first) second [] qs h k = absurd h
-refuted_both (s ∷ first) second (p ∷ ps) qs h k = (h.0, refuted_both first second ps qs h.1 k)
 
 pub cut_sums_both : (order : ℕ) (first second : List RowSystem) (ps qs : List Proof) → AreCutSums order first ps
     → AreCutSums order second qs → AreCutSums order (first ++ second) (ps ++ qs)
@@ -111,10 +92,3 @@ refuted_apart (s ∷ first) second (p ∷ proofs) h =
       of_first = (h.0, b.of_first);
       of_second = b.of_second;
     }
-
-pub refuted_count : (systems : List RowSystem) (proofs : List Proof) → AreRefuted systems proofs
-    → length proofs ≡ length systems
-refuted_count [] [] h = refl
-refuted_count [] (p ∷ proofs) h = absurd h
-refuted_count (s ∷ systems) [] h = absurd h
-refuted_count (s ∷ systems) (p ∷ proofs) h = ap suc (refuted_count systems proofs h.1)

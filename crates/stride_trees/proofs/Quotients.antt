@@ -11,7 +11,7 @@ use Rattle.row_sums.specs.Made.{parts_of}
 use Rattle.row_sums.specs.Parts.{Part, part_of, row_part}
 use Rattle.row_sums.specs.Shown.{RowParts}
 use Rattle.row_sums.proofs.Ideal.{product_part}
-use Rattle.row_sums.proofs.Making.{widened_part}
+use Rattle.row_sums.proofs.SmallRows.{widened_part}
 use Rattle.source_tree.specs.Places.{at_place}
 use Rattle.source_tree.specs.Rows.{number}
 use Rattle.stride_rows.specs.Class.{is_single, is_stride, stride_of}
@@ -19,7 +19,7 @@ use Rattle.stride_trees.specs.Problem.{problem_read, problem_write}
 use Rattle.stride_rows.specs.Sources.{falls, loop_of}
 use Rattle.stride_rows.proofs.Coefficients.{how_many, is_other, outside_counts}
 use Rattle.stride_rows.proofs.Indivisible.{number_part}
-use Rattle.stride_trees.proofs.Placing.{few_others, moved_part}
+use Rattle.stride_trees.proofs.NoSystems.{few_others, moved_part}
 use Rattle.stride_rows.proofs.Singles.{at_loop, less_coefficient, less_counts, loop_inside, single_terms}
 
 abbrev pub loop_at : Form → List Form → RowParts

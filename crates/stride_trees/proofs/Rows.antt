@@ -3,36 +3,29 @@
 -- A subscript's two rows stand at twice its number behind the domain rows, and the rows of a level behind those of all
 -- subscripts. All are made of small forms by a few sums and multiples, so all can be made.
 use Rattle.std.proofs.Common.{◌≡◌, ◌+◌, ◌*◌, ◌^◌, ◌≤◌, ◌<◌, ℕ, zero, suc, ℤ, List, [], ◌∷◌, ◌++◌, length}
-use Rattle.std.proofs.Common.{Bool, true, false, cond, refl, sym, ap, ◌∙◌, arith}
+use Rattle.std.proofs.Common.{Bool, true, false, cond, refl, sym, ap, ◌∙◌, arith, lt-ltb}
 use Rattle.std.specs.Prelude.{Option, Some, None, slice_get, nat_lt, unsigned_abs}
 use Rattle.std.specs.List.{list_all}
 use Rattle.std.specs.Option.{option_map}
-use Rattle.std.proofs.lemmas.List.Elements.{All-nil}
 use Rattle.std.proofs.lemmas.Option.{same_Some, slice_get-map}
+use Rattle.std.proofs.lemmas.Bool.{and_parts}
 use Rattle.affine_core.specs.declared.form.Form.{Form}
 use Rattle.affine_core.specs.Affine.{variable_form}
-use Rattle.int_polyhedra.proofs.Variables.{and_both}
-use Rattle.lex_max.proofs.Fitting.{form_is, FormFits}
-use Rattle.lex_max.proofs.Ordering.{variable_over, variable_within}
-use Rattle.lex_max.proofs.Small.{farther}
-use Rattle.lex_max.proofs.Writing.{farther_row, minus_row, most_made, most_placed, most_taken, one_less_row, placed_row}
-use Rattle.lex_max.proofs.Writing.{taken_row, AreSmall, AreTaken, IsSmallRow, IsTaken}
+use Rattle.lex_max.proofs.ProblemBounds.{form_is, FormFits}
+use Rattle.lex_max.proofs.OrderEdges.{variable_over, variable_within}
+use Rattle.lex_max.proofs.RowBounds.{farther_row, minus_row, most_made, most_placed, most_taken, one_less_row, placed_row}
+use Rattle.lex_max.proofs.RowBounds.{taken_row, AreSmall, AreTaken, IsSmallRow, IsTaken, number_row}
+use Rattle.plain_data.proofs.Tests.{ltb-zero}
+use Rattle.row_sums.proofs.Within.{IsWithin-weaker}
 use Rattle.sanlp.specs.WellFormed.{form_fits}
-use Rattle.source_tree.specs.Places.{at_place, cell_rows, domain_rows, order_rows}
+use Rattle.source_tree.specs.Places.{at_place, cell_rows, order_rows}
 use Rattle.source_tree.specs.Rows.{RowExpr, Take, Plus, equal_rows, minus, number, one_less}
-use Rattle.source_tree.specs.Systems.{divided_rows, multiple, undivided_rows}
+use Rattle.source_tree.specs.Systems.{multiple, undivided_rows}
 
 -- Numbers of rows
 
 pub get_behind_two : (x y : RowExpr) (rows : List RowExpr) (k : ℕ) → slice_get (x ∷ y ∷ rows) (2 + k) ≡ slice_get rows k
 get_behind_two x y rows k = let e : 2 + k ≡ suc (suc k) = omega arith in ap (slice_get (x ∷ y ∷ rows)) e
-
-pub get_behind_rows : (rows more : List RowExpr) (k : ℕ)
-    → slice_get (rows ++ more) (length rows + k) ≡ slice_get more k
-get_behind_rows [] more k = let e : 0 + k ≡ k = omega arith in ap (slice_get more) e
-get_behind_rows (row ∷ rows) more k =
-    let e : suc (length rows) + k ≡ suc (length rows + k) = omega arith in
-    ap (slice_get (row ∷ (rows ++ more))) e ∙ get_behind_rows rows more k
 
 -- the two rows of a subscript
 pub record AreCellRows (rows : List RowExpr) (i : ℕ) (write read : Form) (place : List Form) : Type 0 where
@@ -66,31 +59,15 @@ cells_at (w ∷ writes) (r ∷ reads) place (suc i) write read more e f =
       second = ap (slice_get (x ∷ y ∷ rows)) odd ∙ get_behind_two x y rows (2 * i + 1) ∙ rest.second;
     }
 
-pub domain_count : (rows place : List Form) → length (domain_rows rows place) ≡ length rows
-domain_count [] place = refl
-domain_count (row ∷ rows) place = ap suc (domain_count rows place)
-
-pub cells_count : (writes reads place : List Form) → length writes ≡ length reads
-    → length (cell_rows writes reads place) ≡ 2 * length writes
-cells_count [] reads place e = refl
-cells_count (write ∷ writes) [] place e = absurd (omega arith)
-cells_count (write ∷ writes) (read ∷ reads) place e = omega (arith, cells_count writes reads place (omega (arith, e)))
-
 next_less : (p c : ℕ) → nat_lt (suc p) (suc c) ≡ nat_lt p c
 next_less p c = grind arith
-
-none_less : (c : ℕ) → nat_lt c 0 ≡ false
-none_less c = grind arith
-
-first_less : (c : ℕ) → nat_lt 0 (suc c) ≡ true
-first_less c = grind arith
 
 -- two rows for each loop above the level, and one more at a loop
 pub level_count : (c p : ℕ) (less : Bool) (a b : List Form) (rows : List RowExpr)
     → slice_get (order_rows c less a b) p ≡ Some rows → length rows ≡ 2 * p + cond (nat_lt p c) 1 0
 level_count zero zero true a b rows e =
     let is : [] ≡ rows = same_Some [] rows e in
-    let strict : cond {A = ℕ} (nat_lt 0 0) 1 0 ≡ 0 = ap (λ b. cond {A = ℕ} b 1 0) (none_less 0) in
+    let strict : cond {A = ℕ} (nat_lt 0 0) 1 0 ≡ 0 = ap (λ b. cond {A = ℕ} b 1 0) (ltb-zero 0) in
     omega (arith, ap length (sym is), strict)
 level_count zero zero false a b rows e = absurd (let no : None ≡ Some rows = e in cc)
 level_count zero (suc p) true a b rows e = absurd (let no : None ≡ Some rows = e in cc)
@@ -100,7 +77,7 @@ level_count (suc c) p less (v ∷ a) [] rows e = absurd (let no : None ≡ Some 
 level_count (suc c) zero less (v ∷ a) (x ∷ b) rows e =
     let is : one_less (minus (Take x) (Take v)) ∷ [] ≡ rows = same_Some (one_less (minus (Take x) (Take v)) ∷ []) rows e
     in
-    let strict : cond {A = ℕ} (nat_lt 0 (suc c)) 1 0 ≡ 1 = ap (λ b. cond {A = ℕ} b 1 0) (first_less c) in
+    let strict : cond {A = ℕ} (nat_lt 0 (suc c)) 1 0 ≡ 1 = ap (λ b. cond {A = ℕ} b 1 0) (lt-ltb 0 (suc c) (omega arith)) in
     let one : length (one_less (minus (Take x) (Take v)) ∷ []) ≡ 1 = refl in
     omega (arith, ap length (sym is), one, strict)
 level_count (suc c) (suc p) less (v ∷ a) (x ∷ b) rows e =
@@ -123,7 +100,7 @@ read_taken : (vars d : ℕ) (read : Form) → d ≤ vars → FormFits d read →
 read_taken vars d read le fits = record {
   short = omega (arith, fits.over, le);
   within =
-      farther (2 ^ 32) most_taken read (omega arith) fits.within;
+      IsWithin-weaker (2 ^ 32) most_taken read (omega arith) fits.within;
 }
 
 pub small_cells : (vars d depth : ℕ) (writes reads place : List Form) → d ≤ vars → depth ≤ 6
@@ -132,8 +109,8 @@ pub small_cells : (vars d depth : ℕ) (writes reads place : List Form) → d �
 small_cells vars d depth [] reads place le few w r taken = tt
 small_cells vars d depth (write ∷ writes) [] place le few w r taken = tt
 small_cells vars d depth (write ∷ writes) (read ∷ reads) place le few w r taken =
-    let b = and_both (form_fits depth write) (list_all (form_fits depth) writes) w in
-    let c = and_both (form_fits d read) (list_all (form_fits d) reads) r in
+    let b = and_parts (form_fits depth write) (list_all (form_fits depth) writes) w in
+    let c = and_parts (form_fits d read) (list_all (form_fits d) reads) r in
     let at : IsSmallRow vars (at_place write place) most_placed =
     placed_row vars depth write place few (form_is depth write b.0) taken in
     let of : IsSmallRow vars (Take read) most_taken =
@@ -157,7 +134,7 @@ multiple_row vars q d lt small = record {
   takes = (
     (let long : length (variable_form (q + 1) q).coefs ≡ q + 1 = variable_over (q + 1) q (omega arith) in
         omega (arith, long, lt)),
-    farther 1 most_taken (variable_form (q + 1) q) (omega arith) (variable_within (q + 1) q),
+    IsWithin-weaker 1 most_taken (variable_form (q + 1) q) (omega arith) (variable_within (q + 1) q),
   );
   reaches = omega (arith, small);
 }
@@ -165,10 +142,6 @@ multiple_row vars q d lt small = record {
 plus_row : (vars a b : ℕ) (e f : RowExpr) → IsSmallRow vars e a → IsSmallRow vars f b
     → IsSmallRow vars (Plus e f) (a + b)
 plus_row vars a b e f h k = record { takes = (h.takes, k.takes); reaches = omega (arith, h.reaches, k.reaches) }
-
-number_row : (vars : ℕ) (k : ℤ) → unsigned_abs k ≤ most_taken → IsSmallRow vars (number k) most_taken
-number_row vars k h =
-    record { takes = (omega arith, record { constant = h; coefs = All-nil _ }); reaches = omega arith }
 
 pub small_undivided : (vars q : ℕ) (form : Form) (d : ℤ) → q < vars → IsTaken vars form → unsigned_abs d ≤ 2 ^ 32
     → AreSmall vars (undivided_rows q form d)
@@ -188,20 +161,6 @@ small_undivided vars q form d lt taken small =
             (minus (one_less (Plus (multiple d q) (number d))) (Take form)) (omega arith)
             (minus_row vars (most_multiple + most_taken + most_taken) most_taken
             (one_less (Plus (multiple d q) (number d))) (Take form) next f),
-        tt,
-      ),
-    )
-
-pub small_divided : (vars q : ℕ) (form : Form) (d : ℤ) → q < vars → IsTaken vars form → unsigned_abs d ≤ 2 ^ 32
-    → AreSmall vars (divided_rows q form d)
-small_divided vars q form d lt taken small =
-    let f : IsSmallRow vars (Take form) most_taken = taken_row vars form taken in
-    let m : IsSmallRow vars (multiple d q) most_multiple = multiple_row vars q d lt small in (
-      farther_row vars (most_taken + (most_multiple + most_multiple)) most_made (minus (Take form) (multiple d q))
-          (omega arith) (minus_row vars most_taken most_multiple (Take form) (multiple d q) f m),
-      (
-        farther_row vars (most_multiple + (most_taken + most_taken)) most_made (minus (multiple d q) (Take form))
-            (omega arith) (minus_row vars most_multiple most_taken (multiple d q) (Take form) m f),
         tt,
       ),
     )

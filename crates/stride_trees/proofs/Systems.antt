@@ -18,19 +18,21 @@ use Rattle.int_polyhedra.specs.declared.system.Proof.{Proof}
 use Rattle.int_polyhedra.specs.Rules.{Refutes}
 use Rattle.int_polyhedra.specs.Systems.{AreOver}
 use Rattle.lex_max.specs.Level.{common_of}
-use Rattle.lex_max.proofs.Fitting.{form_is, FormFits}
+use Rattle.lex_max.proofs.ProblemBounds.{form_is, FormFits}
 use Rattle.lex_max.proofs.Just.{none_system, zero_system}
-use Rattle.lex_max.proofs.Ordering.{length_variables, variable_at, variable_within}
-use Rattle.lex_max.proofs.Placing.{level_exists, variables_taken}
-use Rattle.lex_max.proofs.Refuting.{over_append, over_widened, within_widened}
-use Rattle.lex_max.proofs.Small.{farther, negative_over, negative_within}
-use Rattle.lex_max.proofs.Writing.{are_made, forms_append, level_at, most_made, most_taken, small_append, small_domain}
-use Rattle.lex_max.proofs.Writing.{AreMade, AreSmall, AreTaken, IsSmallLevel, IsTaken}
+use Rattle.lex_max.proofs.OrderEdges.{length_variables, variable_at, variable_within}
+use Rattle.lex_max.proofs.ZeroSystems.{level_exists, variables_taken}
+use Rattle.lex_max.proofs.EdgeSums.{over_append, over_widened, within_widened}
+use Rattle.lex_max.proofs.Small.{negative_over, negative_within}
+use Rattle.lex_max.proofs.RowBounds.{are_made, forms_append, level_at, most_made, most_taken, small_append, small_domain}
+use Rattle.lex_max.proofs.RowBounds.{AreMade, AreSmall, AreTaken, IsSmallLevel, IsTaken}
+use Rattle.plain_data.proofs.Lists.{slice_get-append_right}
 use Rattle.row_sums.specs.Made.{parts_of}
 use Rattle.row_sums.specs.Parts.{Part, part_of, row_part, IsWithin}
 use Rattle.row_sums.specs.Shown.{RowParts}
-use Rattle.row_sums.proofs.Making.{widened_length, widened_part}
-use Rattle.row_sums.proofs.Wider.{made_widens}
+use Rattle.row_sums.proofs.SmallRows.{widened_length, widened_part}
+use Rattle.row_sums.proofs.RowParts.{made_widens}
+use Rattle.row_sums.proofs.Within.{IsWithin-weaker, IsWithin-from_parts, part_of-le}
 use Rattle.sanlp.proofs.Elements.{list_all_at}
 use Rattle.sanlp.specs.declared.nest.Nest.{Nest}
 use Rattle.sanlp.specs.WellFormed.{form_fits}
@@ -41,6 +43,7 @@ use Rattle.source_tree.specs.Systems.{Context, Occurrence, divides_no, just, mul
 use Rattle.source_tree.specs.Systems.{with_write_at, writer_place, zero_systems}
 use Rattle.source_tree.specs.declared.tree.Tree.{Tree}
 use Rattle.source_tree.specs.declared.tree.Tree.TheVariants.{Zero}
+use Rattle.source_tree.proofs.RowLists.{length-domain_rows, length-cell_rows}
 use Rattle.stride_trees.specs.Candidates.{order_number, AreCutSums, AreNoneCutSums}
 use Rattle.stride_rows.specs.Class.{is_single, stride_of}
 use Rattle.stride_rows.specs.Cuts.{IsCutSum}
@@ -49,13 +52,12 @@ use Rattle.stride_rows.specs.Sources.{loop_of}
 use Rattle.stride_trees.specs.Strides.{AreStrided, IsSmallContext}
 use Rattle.stride_trees.specs.declared.divisions.Division.{Division}
 use Rattle.stride_rows.proofs.Coefficients.{found_passes, found_within, outside_counts}
-use Rattle.stride_rows.proofs.Cutting.{get_behind}
-use Rattle.stride_trees.proofs.Fitting.{are_fitting, AreFitting}
+use Rattle.stride_trees.proofs.ProblemBounds.{are_fitting, AreFitting}
 use Rattle.stride_rows.proofs.Indivisible.{number_part, undivided_is_cut_sum, undivided_proof, undivided_refutes}
-use Rattle.stride_rows.proofs.Indivisible.{within_parts, AreUndivided}
+use Rattle.stride_rows.proofs.Indivisible.{AreUndivided}
 use Rattle.stride_trees.proofs.Lists.{forms_count}
-use Rattle.stride_trees.proofs.Placing.{part_within, stride_rows, AreStrideRows}
-use Rattle.stride_trees.proofs.Rows.{cells_at, cells_count, domain_count, get_behind_rows, get_behind_two, level_count}
+use Rattle.stride_trees.proofs.NoSystems.{stride_rows, AreStrideRows}
+use Rattle.stride_trees.proofs.Rows.{cells_at, get_behind_two, level_count}
 use Rattle.stride_trees.proofs.Rows.{small_cells, small_undivided, AreCellRows}
 use Rattle.stride_rows.proofs.Singles.{loop_inside}
 
@@ -111,8 +113,8 @@ pub widened_test : (vars more : ℕ) (form : Form) → vars ≤ more → IsTestF
     → IsTestForm more (widened_form more form)
 widened_test vars more form le h = record {
   over = widened_length form.coefs more (omega (arith, h.over, le));
-  within = within_parts (2 ^ 33) (widened_form more form)
-      (λ part. omega (arith, ap unsigned_abs (widened_part more form part), part_within (2 ^ 33) form part h.within));
+  within = IsWithin-from_parts (2 ^ 33) (widened_form more form)
+      (λ part. omega (arith, ap unsigned_abs (widened_part more form part), part_of-le (2 ^ 33) form part h.within));
 }
 
 -- The system
@@ -191,7 +193,7 @@ module _ (n : Nest) (r w : Occurrence) (p : ℕ) (c : Context) (here i : ℕ) (w
   form_taken : IsTaken more form
   form_taken = record {
     short = omega (arith, form_small.over);
-    within = farther (2 ^ 33) most_taken form (omega arith) form_small.within;
+    within = IsWithin-weaker (2 ^ 33) most_taken form (omega arith) form_small.within;
   }
 
   long : length place ≡ e
@@ -258,7 +260,7 @@ module _ (n : Nest) (r w : Occurrence) (p : ℕ) (c : Context) (here i : ℕ) (w
 
   whole_near : All (IsWithin (2 ^ 90)) whole
   whole_near = All-weaker (IsWithin most_made) (IsWithin (2 ^ 90))
-      (λ f k. farther most_made (2 ^ 90) f (omega arith) k) whole whole_within
+      (λ f k. IsWithin-weaker most_made (2 ^ 90) f (omega arith) k) whole whole_within
 
   own_count : length own ≡ 2 + (length w.statement.rows + (2 * length w.access.subscripts + length level.rows))
   own_count = omega (
@@ -266,8 +268,8 @@ module _ (n : Nest) (r w : Occurrence) (p : ℕ) (c : Context) (here i : ℕ) (w
     length-append test_rows (domain ++ (cells ++ level.rows)),
     length-append domain (cells ++ level.rows),
     length-append cells level.rows,
-    domain_count w.statement.rows place,
-    cells_count w.access.subscripts r.access.subscripts place fits.even,
+    length-domain_rows w.statement.rows place,
+    length-cell_rows w.access.subscripts r.access.subscripts place fits.even,
   )
 
   whole_count : length whole ≡ row_count r w p here
@@ -285,7 +287,7 @@ module _ (n : Nest) (r w : Occurrence) (p : ℕ) (c : Context) (here i : ℕ) (w
       → row_part whole part (here + k) ≡ parts_of row part
   at_row k row is part =
       ap (λ n. row_part whole part (n + k)) (sym wide_count)
-      ∙ ap (λ o. option_map_or (part_of part) o (pos 0)) (get_behind wide made.forms k) ∙ made.parts k part
+      ∙ ap (λ o. option_map_or (part_of part) o (pos 0)) (slice_get-append_right wide made.forms k) ∙ made.parts k part
       ∙ ap (λ o. option_map_or (λ (e : RowExpr). parts_of e part) o (pos 0)) is
 
   cell : AreCellRows (cells ++ level.rows) i write read place
@@ -294,8 +296,8 @@ module _ (n : Nest) (r w : Occurrence) (p : ℕ) (c : Context) (here i : ℕ) (w
   at_cell : (k : ℕ) → slice_get own (2 + (length w.statement.rows + k)) ≡ slice_get (cells ++ level.rows) k
   at_cell k =
       get_behind_two low_expr high_expr (domain ++ (cells ++ level.rows)) (length w.statement.rows + k)
-      ∙ ap (λ n. slice_get (domain ++ (cells ++ level.rows)) (n + k)) (sym (domain_count w.statement.rows place))
-      ∙ get_behind_rows domain (cells ++ level.rows) k
+      ∙ ap (λ n. slice_get (domain ++ (cells ++ level.rows)) (n + k)) (sym (length-domain_rows w.statement.rows place))
+      ∙ slice_get-append_right domain (cells ++ level.rows) k
 
   abbrev f : RowParts
   f part = part_of part form
@@ -319,7 +321,7 @@ module _ (n : Nest) (r w : Occurrence) (p : ℕ) (c : Context) (here i : ℕ) (w
       omega (
         arith,
         ap unsigned_abs is,
-        part_within 1 (variable_form (c.vars + 1 + k + 1) (c.vars + 1 + k)) part
+        part_of-le 1 (variable_form (c.vars + 1 + k + 1) (c.vars + 1 + k)) part
             (variable_within (c.vars + 1 + k + 1) (c.vars + 1 + k)),
       )
 
@@ -357,7 +359,7 @@ module _ (n : Nest) (r w : Occurrence) (p : ℕ) (c : Context) (here i : ℕ) (w
   high_row part = at_row 1 high_expr refl part
 
   q_small : (part : Part) → unsigned_abs (q part) ≤ 1
-  q_small part = part_within 1 (variable_form (c.vars + 1) c.vars) part (variable_within (c.vars + 1) c.vars)
+  q_small part = part_of-le 1 (variable_form (c.vars + 1) c.vars) part (variable_within (c.vars + 1) c.vars)
 
   undivided : (b : Bool) → AreStrideRows write read place d f v b
       → AreUndivided whole d here (cond b own_cell (own_cell + 1)) (cond b (own_cell + 1) own_cell) f q v
@@ -423,8 +425,8 @@ module _ (n : Nest) (r w : Occurrence) (p : ℕ) (c : Context) (here i : ℕ) (w
     length-append no.rows (domain ++ cells),
     length-append c.rows test_rows,
     length-append domain cells,
-    domain_count w.statement.rows place,
-    cells_count w.access.subscripts r.access.subscripts place fits.even,
+    length-domain_rows w.statement.rows place,
+    length-cell_rows w.access.subscripts r.access.subscripts place fits.even,
     forms_count c.vars c.rows s.small.rows s.small.made,
     s.small.count,
   )

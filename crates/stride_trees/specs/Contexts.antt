@@ -74,6 +74,7 @@ pub record IsUndividedContext (s : Strides) (d : Division) (place here : ℕ) (c
 abbrev pub own_system : Strides → Context → List RowExpr → RowSystem
 own_system s c order = with_rows (with_write_at (read_of s) c (write_of s)) order
 
+-- a write before the read with these order rows, over quotients
 abbrev pub told_system : Strides → List ℕ → Context → List RowExpr → RowSystem
 told_system s places c order =
     with_rows
@@ -92,6 +93,7 @@ pub record IsPlaceIn (c : Context) (depth : ℕ) (place : List Form) : Type 0 wh
   pub over : HaveVariables c.vars place
   pub within : All (IsWithin (2 ^ 48)) place
 
+-- a proof that is one Sum
 abbrev pub IsSum : Proof → Type 0
 IsSum proof = (terms : List Term) × (proof ≡ Sum terms)
 

@@ -31,10 +31,11 @@ problem_reads vars depth places (write ∷ writes) (read ∷ reads) =
     problem_read vars (depth + next_place places) write read
     ∷ problem_reads vars depth (places_behind write places) writes reads
 
--- the write's domain rows, and its subscripts
+-- the write's domain rows over quotients: one with a stride is divided by its size and rounded down, and others stay
 abbrev pub problem_rows : List Form → List Form
 problem_rows rows = map divided_form rows
 
+-- the write's subscripts over the tests' quotients: a loop alone for one with a stride
 abbrev pub problem_writes : List Form → List Form
 problem_writes writes = map problem_write writes
 
@@ -45,6 +46,7 @@ told_write w = record w {
   access = record w.access { subscripts = problem_writes w.access.subscripts };
 }
 
+-- the read over the tests' quotients
 abbrev pub told_read : ℕ → List ℕ → Occurrence → Occurrence → Occurrence
 told_read vars places r w = record r {
   access = record r.access {

@@ -4,7 +4,6 @@ use Rattle.affine_core.specs.declared.form.Form.{Form}
 use Rattle.affine_core.specs.Affine.{widened_form}
 use Rattle.int_polyhedra.specs.declared.system.Proof.{Proof}
 use Rattle.int_polyhedra.specs.Systems.{AreOver}
-use Rattle.lex_max.specs.Asked.{occurrence_of}
 use Rattle.lex_max.specs.Level.{common_of, HasLevel, IsGreatest}
 use Rattle.row_sums.specs.Parts.{IsWithin}
 use Rattle.sanlp.specs.declared.nest.Nest.{Nest}
@@ -14,6 +13,7 @@ use Rattle.source_tree.specs.Checked.{IsCheckedIn}
 use Rattle.source_tree.specs.Systems.{Context, Occurrence, divides_no, just, named_write, root_context}
 use Rattle.source_tree.specs.declared.tree.Tree.{Tree}
 use Rattle.source_tree.specs.declared.tree.Tree.TheVariants.{Zero}
+use Rattle.source_tree.specs.References.{occurrence_of}
 use Rattle.stride_rows.specs.Class.{stride_count, stride_of, writes_strides}
 use Rattle.stride_trees.specs.Candidates.{AreNoneCutSums, HasTests, IsCutTree}
 use Rattle.stride_trees.specs.Divisions.{divided_context, division_of, divisions_from}
@@ -29,12 +29,15 @@ pub record AreStrided (n : Nest) (r w : Occurrence) (p : ℕ) : Type 0 where
   pub few : stride_count w ≤ 6
   pub level : HasLevel r w p
 
+-- the read of these
 abbrev pub read_of : Strides → Occurrence
 read_of s = occurrence_of s.read
 
+-- the write of these
 abbrev pub write_of : Strides → Occurrence
 write_of s = occurrence_of s.write
 
+-- a read of a nest, a write of its array by differences and strides, and a level of order between them
 pub record IsStrided (s : Strides) : Type 0 where
   pub strided : AreStrided s.nest.now (read_of s) (write_of s) s.level
   pub common : s.common ≡ common_of (write_of s) (read_of s)
@@ -43,7 +46,7 @@ pub record IsStrided (s : Strides) : Type 0 where
 abbrev pub tests_of : Strides → List Division
 tests_of s = divisions_from 0 s.write.access.now.subscripts s.read.access.now.subscripts
 
--- a test of one of its subscripts
+-- a test of divisibility of one of the write's subscripts
 pub record IsTestOf (s : Strides) (d : Division) : Type 0 where
   pub write : Form
   pub read : Form
@@ -57,6 +60,7 @@ pub record IsTestOf (s : Strides) (d : Division) : Type 0 where
 abbrev pub depth_of_read : Strides → ℕ
 depth_of_read s = length s.read.statement.now.loops
 
+-- how many loops stand round the write
 abbrev pub depth_of_write : Strides → ℕ
 depth_of_write s = length s.write.statement.now.loops
 

@@ -2,7 +2,7 @@
 
 ghost use Rattle.std.specs.Prelude.{◌≡◌, ◌≤◌, ◌+◌, ◌++◌, Some, IfOk, OnOk};
 ghost use Rattle.std.specs.List.{range_with_len};
-ghost use Rattle.lex_max.specs.Asked.{occurrence_of, HasLevelOf, WritesArrayOf};
+ghost use Rattle.lex_max.specs.Asked.{HasLevelOf, WritesArrayOf};
 ghost use Rattle.lex_max.specs.Leaves.{IsMadeFrom};
 ghost use Rattle.lex_max.specs.Level.{common_of, GivesGreatest};
 ghost use Rattle.source_tree.specs.Checked.{IsCheckedIn};
@@ -12,6 +12,7 @@ ghost use Rattle.stride_trees.specs.Candidates.{IsStrideTree};
 ghost use Rattle.stride_rows.specs.Class.{IsInStrideClass};
 ghost use Rattle.stride_trees.specs.Contexts.{first_places, IsToldTree};
 ghost use Rattle.stride_trees.specs.Strides.{depth_of_read, read_of, root_of, tested_context, tests_of, write_of, IsLastTree, IsStrided, IsTested};
+ghost use Rattle.source_tree.specs.References.{occurrence_of};
 
 use crate::contexts::context_of;
 use crate::divisions::{Division, divisions_of};
@@ -20,10 +21,10 @@ use crate::problem::{divided_rows, told, told_reads, told_writes};
 use crate::strides::Strides;
 use crate::tests::with_tests;
 use int_polyhedra::System;
-use lex_max::{Reference, common_loops, tree_of};
+use lex_max::tree_of;
 use plain_data::Items;
-use sanlp::Nest;
-use source_tree::Tree;
+use sanlp::{Nest, common_loops};
+use source_tree::{Reference, Tree};
 use std::alloc::{AllocError, Global};
 
 // A read and a write of a nest, and a level.

@@ -57,7 +57,7 @@ pub fn back(proofs: &[Proof], count: usize) -> &[Proof]
 
 // The proof of a system with one row behind the context's.
 fn with_last(alloc: Global, here: u32, last: Source, proof: &Proof) -> Result<Proof, AllocError>
-    requires here { here ≤ 8192 }
+    requires here { here ≤ 2 ^ 30 }
     requires sum { IsSum proof.now }
     ensures { IfOk result (λ own. (terms : List TermOf) → proof.now ≡ Proof.Sum terms
         → own ≡ last_converted last here terms) }
@@ -79,7 +79,7 @@ fn of_write(
 ) -> Result<Proof, AllocError>
     requires strided { IsStrided s.now }
     requires places { All (λ i. i < 6) places.now }
-    requires here { here ≤ 8192 }
+    requires here { here ≤ 2 ^ 30 }
     requires more { more ≤ 64 }
     ensures { IfOk result (λ own. own ≡ converted_sum
         (write_sources_of s.now.write.statement.now.rows s.now.write.access.now.subscripts
@@ -106,7 +106,7 @@ pub fn converted_write(
 ) -> Result<Proof, AllocError>
     requires strided { IsStrided s.now }
     requires places { All (λ i. i < 6) places.now }
-    requires here { here ≤ 8192 }
+    requires here { here ≤ 2 ^ 30 }
     requires more { more ≤ 64 }
     requires sum { IsSum proof.now }
     ensures refuted { IfOk result (λ own. (c : Context) (order : List RowExpr)
@@ -114,7 +114,7 @@ pub fn converted_write(
         → AreMadeSmall (c.vars + depth_of_write s.now) order → length order ≡ more
         → IsRefuted (told_system s.now places.now c order) proof.now
         → IsRefuted (own_system s.now c order) own) }
-    ensures cuts { IfOk result (λ own. (c : Context) (order : List RowExpr)
+    ensures cuts { IfOk result (λ own. here ≤ 8192 → (c : Context) (order : List RowExpr)
         → IsTestedContext s.now places.now here c
         → AreMadeSmall (c.vars + depth_of_write s.now) order → length order ≡ more
         → IsRefuted (told_system s.now places.now c order) proof.now → IsLightSum proof.now
@@ -133,7 +133,7 @@ fn push_outside(
     here: u32,
     told: &[Proof],
 ) -> Result<(), AllocError>
-    requires here { here ≤ 8192 }
+    requires here { here ≤ 2 ^ 30 }
     requires rows { All (IsWithin (2 ^ 32)) rows.now }
     requires sums { All IsSum told.now }
     ensures { OnOk result ((c : Context) (depth : ℕ) (place : List FormOf) → IsSmallContext c here
@@ -155,19 +155,6 @@ fn push_outside(
     push_outside(proofs, alloc, rows, here, told)
 }
 
-// Adds two proofs.
-fn push_both(proofs: &mut Items<Proof>, first: Proof, second: Proof) -> Result<(), AllocError>
-    ensures { OnOk result (proofs.new ≡ proofs.old ++ first ∷ second ∷ []) }
-{
-    match proofs.push(first) {
-        Ok(()) => proofs.push(second),
-        Err(error) => {
-            drop(second);
-            Err(error)
-        }
-    }
-}
-
 // Adds two proofs, the second first if they are turned.
 fn push_two(
     proofs: &mut Items<Proof>,
@@ -179,9 +166,9 @@ fn push_two(
         ++ (if turned then second ∷ first ∷ [] else first ∷ second ∷ [])) }
 {
     if turned {
-        return push_both(proofs, second, first);
+        return proofs.push_both(second, first);
     }
-    push_both(proofs, first, second)
+    proofs.push_both(first, second)
 }
 
 // The proof of a system with a row of a subscript behind the context's, which the test's row of this number tells.
@@ -192,7 +179,7 @@ fn with_cell(
     test: u32,
     proof: &Proof,
 ) -> Result<Proof, AllocError>
-    requires here { here ≤ 8192 }
+    requires here { here ≤ 2 ^ 30 }
     requires write { IsWithin (2 ^ 32) write.now }
     requires sum { IsSum proof.now }
     ensures { IfOk result (λ own. (terms : List TermOf) → proof.now ≡ Proof.Sum terms
@@ -212,7 +199,7 @@ fn push_subscript(
     high: &Proof,
     low: &Proof,
 ) -> Result<(), AllocError>
-    requires here { here ≤ 8192 }
+    requires here { here ≤ 2 ^ 30 }
     requires test { test ≤ 8192 }
     requires write { IsWithin (2 ^ 32) write.now }
     requires high { IsSum high.now }
@@ -242,7 +229,7 @@ fn push_cells(
     places: &[u32],
     told: &[Proof],
 ) -> Result<(), AllocError>
-    requires here { here ≤ 8192 }
+    requires here { here ≤ 2 ^ 30 }
     requires root { root ≤ 32 }
     requires places { All (λ i. i < 6) places.now }
     requires writes { All (IsWithin (2 ^ 32)) writes.now }
@@ -289,7 +276,7 @@ pub fn converted_place(
 ) -> Result<Items<Proof>, AllocError>
     requires strided { IsStrided s.now }
     requires places { All (λ i. i < 6) places.now }
-    requires here { here ≤ 8192 }
+    requires here { here ≤ 2 ^ 30 }
     requires sums { All IsSum told.now }
     requires count { length told.now ≡ length s.now.write.statement.now.rows
         + 2 * length s.now.write.access.now.subscripts }

@@ -1,5 +1,8 @@
 //! Trees for writes to every second or every K-th cell: the greatest points of one writer before a read, below tests
 //! whether a stride divides what the read's subscript is from it (Pugh 1991).
+//!
+//! Between two calls, or from one step of the main loop to the next: the tests of a write stand at places, which tell
+//! the numbers of their rows and quotients in every context below them.
 #![tactic(auto)]
 
 mod candidate;

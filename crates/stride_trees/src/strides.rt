@@ -1,5 +1,5 @@
-use lex_max::Reference;
 use sanlp::Nest;
+use source_tree::Reference;
 use std::alloc::Global;
 
 /// The writes of one statement to the cell of a read that stand before the read at one level of order, where the write's

@@ -1,6 +1,6 @@
 //! A write whose subscript can't be the read's, since the read's is no multiple of its stride from it.
 
-ghost use Rattle.std.specs.Prelude.{◌≡◌, ◌≤◌, ◌<◌, ◌+◌, ◌*◌, [], ◌∷◌, List, length, IfOk, if◌then◌else◌};
+ghost use Rattle.std.specs.Prelude.{◌≡◌, ◌≤◌, ◌<◌, ◌+◌, ◌*◌, ◌^◌, [], ◌∷◌, List, length, IfOk, if◌then◌else◌};
 ghost use Rattle.int_polyhedra.specs.declared.system.Proof.TheViews.{Cut as CutOf};
 ghost use Rattle.lex_max.specs.Paths.{term_of};
 ghost use Rattle.source_tree.specs.Checked.{IsRefuted};
@@ -46,7 +46,7 @@ fn cut(
 /// Of the two rows of a test's subscript, the first of which has this number, that it is no less than the read's, taken with
 /// the sign of its stride: `M v - form`.
 pub fn row_above(division: &Division, row: u32) -> u32
-    requires { row ≤ 16384 }
+    requires { row < 2 ^ 31 }
     ensures { result ≡ (if division.now.rises then row else row + 1) }
 {
     if division.rises { row } else { row + 1 }
@@ -54,7 +54,7 @@ pub fn row_above(division: &Division, row: u32) -> u32
 
 /// And that it is no greater: `form - M v`.
 pub fn row_below(division: &Division, row: u32) -> u32
-    requires { row ≤ 16384 }
+    requires { row < 2 ^ 31 }
     ensures { result ≡ (if division.now.rises then row + 1 else row) }
 {
     if division.rises { row + 1 } else { row }
@@ -71,7 +71,7 @@ pub fn indivisible(
     count: u32,
 ) -> Result<Proof, AllocError>
     requires test { test ≤ 16384 }
-    requires count { count ≤ 16384 }
+    requires count { count < 2 ^ 31 }
     ensures { IfOk result (λ proof. proof
         ≡ CutOf division.now.divisor (term_of test ∷ term_of above ∷ [])
         (CutOf division.now.divisor (term_of (test + 1) ∷ term_of below ∷ [])
@@ -96,7 +96,7 @@ pub fn undivided_write(
     requires strided { IsStrided s.now }
     requires test { IsTestOf s.now division.now }
     requires place { place < 6 }
-    requires here { here ≤ 8192 }
+    requires here { here ≤ 2 ^ 30 }
     requires more { more ≤ 64 }
     ensures { IfOk result (λ proof. (c : Context) (order : List RowExpr)
         → IsUndividedContext s.now division.now place here c

@@ -1,11 +1,11 @@
 -- Coefficients that are gathered word by word, with their number.
-use Rattle.std.proofs.Common.{◌≡◌, ◌∙◌, ◌+◌, ℕ, ℤ, List, [], ◌∷◌, ◌++◌, Result, Ok, Err, suc, length, length-append, sym, ap}
+use Rattle.std.proofs.Common.{◌≡◌, ◌∙◌, ◌+◌, ℕ, ℤ, List, [], ◌∷◌, ◌++◌, Result, Ok, Err, length, length-append, sym, ap}
 use Rattle.std.proofs.Common.{arith, subst}
 use Rattle.std.specs.Prelude.{IfOk}
 use Rattle.cert_lines.specs.declared.error.Fault.{Fault}
 use Rattle.cert_lines.specs.declared.error.Fault.TheVariants.{Words, Range}
 use Rattle.cert_lines.specs.Words.{both, integer, made}
-use Rattle.cert_lines.proofs.Gathered.{gathered, one_gathered}
+use Rattle.cert_lines.proofs.WordLists.{gathered, one_gathered}
 use Rattle.tree_text.specs.Lines.{integers}
 
 abbrev with_one : Result (List ℤ) Fault → Result ℤ Fault → Result (List ℤ) Fault
@@ -19,12 +19,6 @@ next_integer said more one words rest word all first is joined before =
     ap (λ (front : Result (List ℤ) Fault). gathered front (integers rest)) (joined ∙ ap (with_one said) is)
     ∙ one_gathered said (integer word) (integers rest)
     ∙ ap (λ (ws : List (List ℕ)). gathered said (integers ws)) (sym first) ∙ before
-
-pub one_counted : (count all : ℕ) (words rest : List (List ℕ)) (word : List ℕ) → words ≡ word ∷ rest
-    → count + length words ≡ all → count + 1 + length rest ≡ all
-one_counted count all words rest word first before =
-    let longer : length words ≡ suc (length rest) = ap (λ (ws : List (List ℕ)). length ws) first in
-    omega (arith, longer, before)
 
 longer : (said : Result (List ℤ) Fault) (one : Result ℤ Fault) (count : ℕ) → IfOk said (λ coefs. length coefs ≡ count)
     → IfOk (with_one said one) (λ coefs. length coefs ≡ count + 1)

@@ -1,7 +1,7 @@
 pub mod Coefficients
-pub mod Gathering
+pub mod TermWords
 pub mod Levels
 pub mod ReadBack
-pub mod Spaced
+pub mod LineSpaces
 pub mod Spellings
 pub mod Texts

@@ -2,7 +2,7 @@
 -- left: a proof's line is read back by its spelling, the proofs behind it by the claim at one level less; at no level
 -- nothing is read, and nothing is in range. The claim is of any text that follows, since the proofs of a step stand one
 -- behind the other.
-use Rattle.std.proofs.Common.{◌≡◌, ℕ, zero, suc, ℤ, List, [], ◌∷◌, ◌++◌, All, Result, Ok, Err, length, append_assoc}
+use Rattle.std.proofs.Common.{◌≡◌, ℕ, zero, suc, ℤ, List, ◌++◌, All, Result, Ok, length, append_assoc}
 use Rattle.std.proofs.Common.{refl, sym, ap, subst, ◌∙◌}
 use Rattle.std.specs.List.{flat_map}
 use Rattle.affine_core.specs.declared.form.Form.{Form}
@@ -27,8 +27,8 @@ use Rattle.tree_text.specs.declared.lines.TreeLine.{TreeLine}
 use Rattle.tree_text.specs.declared.lines.TreeLine.TheVariants as of_tree
 use Rattle.tree_text.specs.Lines.{map_line, proof_line, tree_line}
 use Rattle.tree_text.specs.Reading.{proof, proof_behind, tree_behind, tree_within}
-use Rattle.tree_text.specs.TreeText.{FormIsInRange, PlaceIsInRange, ProofIsInRange, ProofStepIsInRange}
-use Rattle.tree_text.specs.TreeText.{ProofsAreInRange, TreeIsWithin, TreeStepIsInRange, cut_text, dead_text}
+use Rattle.tree_text.specs.TreeText.{FormIsInRange, ProofIsInRange, ProofStepIsInRange}
+use Rattle.tree_text.specs.TreeText.{TreeIsWithin, TreeStepIsInRange, cut_text, dead_text}
 use Rattle.tree_text.specs.TreeText.{divides_text, map_text, proof_text, split_text, test_text}
 use Rattle.tree_text.specs.TreeText.{tree_text, writer_text, zero_text}
 use Rattle.tree_text.proofs.Spellings.{ProofLineIsInRange, TreeLineIsInRange, map_spelled, map_words}

@@ -4,26 +4,25 @@
 -- the value (`back`), and a line that is judged as a value is that value's, which is in range (`forth`). The first word
 -- tells the kind; behind it lists of coefficients and of terms are read by induction, up to 18 coefficients, all of
 -- them in 128 bits, and the other words one by one. How lines make trees and proofs isn't treated here.
-use Rattle.std.proofs.Common.{◌≡◌, inl, inr, ℕ, ◌<◌, ◌≤◌, ◌&&◌, ℤ, true, nat_le, List, [], ◌∷◌, ◌++◌, All, Result, Ok}
-use Rattle.std.proofs.Common.{Err, codes, decimal, map, length, refl, sym, ap, ◌∙◌, arith}
-use Rattle.std.specs.Prelude.{IsTrue, bytes_eq}
+use Rattle.std.proofs.Common.{◌≡◌, inl, inr, ℕ, ◌<◌, ◌≤◌, ℤ, true, nat_le, List, [], ◌∷◌, All, Result, Ok}
+use Rattle.std.proofs.Common.{Err, codes, decimal, map, length, refl, ap, ◌∙◌, arith}
+use Rattle.std.specs.Prelude.{IsTrue}
 use Rattle.std.specs.Fmt.{signed_decimal}
 use Rattle.std.specs.List.{flat_map, list_all}
 use Rattle.std.proofs.lemmas.Bool.{cases_Bool, and_from, and_parts}
 use Rattle.std.proofs.lemmas.Bool.Decides.{nat_tests}
 use Rattle.std.proofs.lemmas.List.{length-map}
 use Rattle.std.proofs.lemmas.List.Elements.{All-nil, All-cons, All-head, All-tail}
-use Rattle.std.proofs.lemmas.Slice.Eq.{bytes_eq-Decides}
 use Rattle.affine_core.specs.declared.form.Form.{Form}
-use Rattle.affine_core.specs.Within.{fits_128_bits, form_fits_128_bits}
+use Rattle.affine_core.specs.Within.{fits_128_bits}
 use Rattle.int_polyhedra.specs.declared.system.Term.{Term}
 use Rattle.cert_lines.specs.declared.error.Fault.{Fault}
-use Rattle.cert_lines.specs.declared.error.Fault.TheVariants.{Words, Range}
+use Rattle.cert_lines.specs.declared.error.Fault.TheVariants.{Words}
 use Rattle.cert_lines.specs.Words.{IsInRange, both, integer, made, number}
 use Rattle.cert_lines.proofs.Codecs.{IsSpelled, by_words}
-use Rattle.cert_lines.proofs.Judged.{at_keyword, behind_keyword, both_ok, made_ok, of_equal, same_words, two_numbers}
+use Rattle.cert_lines.proofs.Verdicts.{at_keyword, behind_keyword, both_ok, made_ok, of_equal, same_words, two_numbers}
 use Rattle.cert_lines.proofs.Numerals.{decimal_of_integer, decimal_of_number, integer_of_decimal, number_of_decimal}
-use Rattle.cert_lines.proofs.Spelled.{is_word, word_of_integer, word_of_number}
+use Rattle.cert_lines.proofs.LineWords.{is_word, word_of_integer, word_of_number}
 use Rattle.tree_text.specs.declared.lines.ProofLine.{ProofLine}
 use Rattle.tree_text.specs.declared.lines.ProofLine.TheVariants as of_proof
 use Rattle.tree_text.specs.declared.lines.TreeLine.{TreeLine}

@@ -47,9 +47,11 @@ proof_text = fold-Proof (List ℕ) proof_lines
 
 -- Trees
 
+-- the line of a Test
 abbrev pub test_text : Form → List ℕ
 test_text form = line_text (codes "t" ∷ form_words form)
 
+-- the line of a Divides
 abbrev pub divides_text : Form → ℤ → List ℕ
 divides_text form divisor = line_text (codes "d" ∷ signed_decimal divisor ∷ form_words form)
 
@@ -58,7 +60,7 @@ abbrev pub writer_text : ℕ → ℕ → ℕ → List ℕ
 writer_text statement forms proofs =
     line_text (codes "w" ∷ decimal statement ∷ decimal forms ∷ decimal proofs ∷ [])
 
--- a form of a map
+-- the line of a form of a map
 abbrev pub map_text : Form → List ℕ
 map_text form = line_text (codes "m" ∷ form_words form)
 
@@ -129,5 +131,7 @@ unfoldable pub TreeIsWithin : ℕ → Tree → Type 0
 TreeIsWithin zero tree = ⊥
 TreeIsWithin (suc levels) tree = TreeStepIsInRange (TreeIsWithin levels) (out-Tree tree)
 
+-- the tree and each of its proofs nest at most 512 deep, forms have at most 18 variables, and each number is within
+-- its bits
 abbrev pub TreeIsInRange : Tree → Type 0
 TreeIsInRange = TreeIsWithin 512

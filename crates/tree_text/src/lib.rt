@@ -1,4 +1,7 @@
 //! The texts of trees with their proofs.
+//!
+//! Between two calls, or from one step of the main loop to the next: written: a front of the text; read: the levels
+//! that are left, and the number of the next line.
 #![tactic(auto)]
 
 mod law;

@@ -28,7 +28,7 @@ fn write_integers<W: TextWriter>(numbers: &[i128], out: &mut W)
 }
 
 /// Writes a form with a space before each of its numbers.
-#[tactic(auto, using(crate::proofs::Spaced::form_steps))]
+#[tactic(auto, using(crate::proofs::LineSpaces::form_steps))]
 fn write_form<W: TextWriter>(form: &Form, out: &mut W)
     ensures { Wrote W.given out.old out.new
         (flat_map (λ word. codes " " ++ word) (form_words form.now)) }
@@ -58,7 +58,7 @@ fn write_terms<W: TextWriter>(terms: &[Term], out: &mut W)
 }
 
 /// Writes the line of a Sum.
-#[tactic(auto, using(crate::proofs::Spaced::line_steps))]
+#[tactic(auto, using(crate::proofs::LineSpaces::line_steps))]
 fn write_sum<W: TextWriter>(terms: &[Term], out: &mut W)
     ensures { Wrote W.given out.old out.new (sum_text terms.now) }
 {
@@ -68,7 +68,7 @@ fn write_sum<W: TextWriter>(terms: &[Term], out: &mut W)
 }
 
 /// Writes the line of a Cut.
-#[tactic(auto, using(crate::proofs::Spaced::line_steps))]
+#[tactic(auto, using(crate::proofs::LineSpaces::line_steps))]
 fn write_cut<W: TextWriter>(divisor: i128, terms: &[Term], out: &mut W)
     ensures { Wrote W.given out.old out.new (cut_text divisor terms.now) }
 {
@@ -123,7 +123,7 @@ pub fn write_test<W: TextWriter>(form: &Form, out: &mut W)
 }
 
 /// Writes the line of a Divides. It takes no memory.
-#[tactic(auto, using(crate::proofs::Spaced::divides_steps))]
+#[tactic(auto, using(crate::proofs::LineSpaces::divides_steps))]
 pub fn write_divides<W: TextWriter>(form: &Form, divisor: i128, out: &mut W)
     ensures { Wrote W.given out.old out.new (divides_text form.now divisor) }
 {

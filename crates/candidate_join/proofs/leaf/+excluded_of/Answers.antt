@@ -1,6 +1,6 @@
 use Rattle.std.proofs.Common.{◌≡◌, ◌==◌, ◌&&◌, Bool, true, false, refl, ap, ◌∙◌}
 use Rattle.std.proofs.lemmas.Bool.{ne_eqb}
-use Rattle.candidate_join.proofs.Told.{excluded_past}
+use Rattle.candidate_join.proofs.LeafFacts.{excluded_past}
 use Rattle.candidate_join.proofs.leaf.+excluded_of.Goals.{else-first-writer-via-then-first-writer+else-first-level}
 use Rattle.candidate_join.proofs.leaf.+excluded_of.Goals.{else-first-writer-via-else-first-writer}
 use Rattle.candidate_join.proofs.leaf.+excluded_of.Goals as goal

@@ -6,8 +6,8 @@ use Rattle.std.specs.Prelude.{min}
 use Rattle.std.proofs.lemmas.Result.{IfOk-weaker}
 use Rattle.candidate_join.specs.Leaves.{order_sums}
 use Rattle.candidate_order.specs.Positions.{own_sums, IsOwnProof}
-use Rattle.candidate_join.proofs.Told.{before_level, between_fits, between_refutes, lesser_level, small_level}
-use Rattle.candidate_join.proofs.Without.{places_more}
+use Rattle.candidate_join.proofs.LeafFacts.{before_level, between_fits, between_refutes, lesser_level, small_level}
+use Rattle.candidate_join.proofs.NoCandidate.{places_more}
 use Rattle.candidate_join.proofs.leaf.between.Goals as goal
 
 pub places-requires : goal.places-requires

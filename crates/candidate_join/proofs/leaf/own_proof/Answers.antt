@@ -1,6 +1,6 @@
-use Rattle.std.proofs.Common.{◌+◌, ◌-◌, ◌<◌, length, arith}
-use Rattle.candidate_order.proofs.Asking.{element_is}
-use Rattle.candidate_join.proofs.Leafing.{enough_proofs, own_is}
+use Rattle.std.proofs.Common.{◌+◌, ◌-◌, ◌<◌, length, arith, refl}
+use Rattle.std.proofs.lemmas.Option.{slice_get_read}
+use Rattle.candidate_join.proofs.CandidateLeaves.{enough_proofs, own_is}
 use Rattle.candidate_join.proofs.leaf.own_proof.Goals as goal
 
 pub point_proofs-proofs-requires : goal.point_proofs-proofs-requires
@@ -50,4 +50,4 @@ returns c = λ r context place at_is path point.
     let inside : row < length proofs =
     omega (arith, enough_proofs r context path at at_is place proofs is, c.depth.ensures, c.requires.level) in
     own_is r context path at at_is place proofs is c.args.level row c.index-proofs-head.result
-    (omega (arith, c.depth.ensures)) (element_is proofs row c.index-proofs-head.result inside c.index-proofs-head.is)
+    (omega (arith, c.depth.ensures)) (slice_get_read proofs (length proofs) row c.index-proofs-head.result refl inside c.index-proofs-head.is)

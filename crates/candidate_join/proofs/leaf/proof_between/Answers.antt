@@ -5,17 +5,17 @@ use Rattle.std.proofs.Common.{ℕ, ◌≡◌, ◌<◌, ◌*◌, false, length, r
 use Rattle.std.specs.Prelude.{Option, IfSome, MatchOption, None, Some, slice_get}
 use Rattle.std.specs.Option.{option_copied}
 use Rattle.std.proofs.lemmas.Result.{IfOk-weaker}
+use Rattle.std.proofs.lemmas.Option.{slice_get_read}
 use Rattle.int_polyhedra.specs.declared.system.Proof.TheVariants.{Sum}
 use Rattle.candidate_join.specs.Joining.{IsPath}
 use Rattle.candidate_join.specs.declared.path.State.{State}
-use Rattle.candidate_order.specs.Seen.{is_seen, sightings_of, IsOutcome}
+use Rattle.candidate_order.specs.Seen.{absent_at, is_seen, sightings_of, IsOutcome}
 use Rattle.candidate_order.specs.declared.seen.Outcome.{Outcome}
 use Rattle.candidate_order.specs.declared.seen.Outcome.TheVariants as outcome
-use Rattle.candidate_order.proofs.Asking.{element_is}
 use Rattle.candidate_join.proofs.Between.{point_is}
 use Rattle.candidate_join.proofs.Ends.{moved_between, nowhere, outcome_at}
 use Rattle.candidate_order.proofs.Outcomes.{Tells}
-use Rattle.candidate_join.proofs.Told.{before_asked, best_asked, excluded_level, excluded_refutes, leaf_best}
+use Rattle.candidate_join.proofs.LeafFacts.{before_asked, best_asked, excluded_level, excluded_refutes, leaf_best}
 use Rattle.candidate_order.specs.Reads.{pair_in}
 use Rattle.lex_max.specs.Asked.{write_of}
 use Rattle.candidate_join.proofs.leaf.proof_between.Goals as goal
@@ -90,7 +90,7 @@ returns-in-Some-clause-proof c = λ place point.
     excluded_refutes c.args.state.now c.args.best.now c.args.excluded.now (pair_in c.args.state.now.read.now c.args.problem.now) c.args.level
     c.args.q e x.1.1.0 place ts (Sum c.in_ok-from_slice.field-0) c.requires.leaf c.requires.asked
     x.1.1.1 x.0 x.1.0 point (ap (λ xs. slice_get xs c.args.q) (sym c.as_slice.ensures)
-    ∙ element_is sums c.args.q ts inside c.index-as_slice-q.is)
+    ∙ slice_get_read sums (length sums) c.args.q ts refl inside c.index-as_slice-q.is)
     (ap Sum (c.in_ok-from_slice.ensures ∙ c.as_slice-terms.ensures))
 
 -- what became of the candidate that was seen
@@ -100,19 +100,12 @@ told : (state : State) (u p : ℕ) (seen : Option Outcome) (out : Outcome) → I
 told state u p seen out path some is =
     outcome_at state u p out path (subst (λ o. IfSome o (Tells u p (sightings_of state.seen.now) None)) is some)
 
-pub without-requires-clause-at : goal.without-requires-clause-at
-without-requires-clause-at c =
+pub without-requires : goal.without-requires
+without-requires c =
     let state = c.args.state.now in
-    let o = told state c.args.problem.now.write.number c.args.level c.in_ok-seen.seen (outcome.Without c.in-Some-Without.at)
+    let o = told state c.args.problem.now.write.number c.args.level c.in_ok-seen.seen (outcome.Without c.in-Some-Without.absence)
     c.requires.leaf.path c.in_ok-seen.ensures.some (c.in-Some-Without.is ∙ ap Some c.in-Some-Without.field-0-is) in
     (state.read.now, state.context.now, o.1.0, c.requires.leaf.path.context_is, c.len-here.ensures)
-
-pub without-requires-clause-empty : goal.without-requires-clause-empty
-without-requires-clause-empty c =
-    let state = c.args.state.now in
-    let o = told state c.args.problem.now.write.number c.args.level c.in_ok-seen.seen
-    (outcome.Without c.in-Some-Without.at) c.requires.leaf.path c.in_ok-seen.ensures.some
-    (c.in-Some-Without.is ∙ ap Some c.in-Some-Without.field-0-is) in o.1.1
 
 pub returns-in-Some-Without-clause-proof : goal.returns-in-Some-Without-clause-proof
 returns-in-Some-Without-clause-proof c =
@@ -122,8 +115,8 @@ returns-in-Some-Without-clause-proof c =
     let r = state.read.now in
     let context = state.context.now in
     let pair = pair_in c.args.state.now.read.now c.args.problem.now in
-    let at = c.in-Some-Without.at.now in
-    let o = told state c.args.problem.now.write.number c.args.level c.in_ok-seen.seen (outcome.Without c.in-Some-Without.at)
+    let at = absent_at c.in-Some-Without.absence.now in
+    let o = told state c.args.problem.now.write.number c.args.level c.in_ok-seen.seen (outcome.Without c.in-Some-Without.absence)
     c.requires.leaf.path c.in_ok-seen.ensures.some (c.in-Some-Without.is ∙ ap Some c.in-Some-Without.field-0-is) in
     let b = leaf_best state best c.args.excluded.now l in
     IfOk-weaker c.without.result _ _

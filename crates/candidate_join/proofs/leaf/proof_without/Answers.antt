@@ -2,7 +2,7 @@ use Rattle.std.proofs.Common.{ℕ, ◌≡◌, ◌*◌, false, ap, ◌∙◌, sub
 use Rattle.std.specs.Prelude.{Option, IfSome, MatchOption, None, Some}
 use Rattle.std.specs.Option.{option_copied}
 use Rattle.std.proofs.lemmas.Result.{IfOk-weaker}
-use Rattle.candidate_order.specs.Seen.{is_seen, sightings_of, IsOutcome}
+use Rattle.candidate_order.specs.Seen.{absent_at, is_seen, sightings_of, IsOutcome}
 use Rattle.candidate_order.specs.declared.seen.Outcome.{Outcome}
 use Rattle.candidate_order.specs.declared.seen.Outcome.TheVariants as outcome
 use Rattle.candidate_join.specs.Joining.{IsPath}
@@ -18,26 +18,20 @@ told : (state : State) (u p : ℕ) (seen : Option Outcome) (out : Outcome) → I
 told state u p seen out path some is =
     outcome_at state u p out path (subst (λ o. IfSome o (Tells u p (sightings_of state.seen.now) None)) is some)
 
-pub without-requires-clause-at : goal.without-requires-clause-at
-without-requires-clause-at c =
+pub without-requires : goal.without-requires
+without-requires c =
     let state = c.args.state.now in
-    let o = told state c.args.problem.now.write.number c.args.level c.in_ok-seen.seen (outcome.Without c.in-Without.at)
+    let o = told state c.args.problem.now.write.number c.args.level c.in_ok-seen.seen (outcome.Without c.in-Without.absence)
     c.requires.end.path c.in_ok-seen.ensures.some (c.in-Some.is ∙ ap Some c.in-Without.is) in
     (state.read.now, state.context.now, o.1.0, c.requires.end.path.context_is, c.len-here.ensures)
-
-pub without-requires-clause-empty : goal.without-requires-clause-empty
-without-requires-clause-empty c =
-    let state = c.args.state.now in
-    let o = told state c.args.problem.now.write.number c.args.level c.in_ok-seen.seen (outcome.Without c.in-Without.at)
-    c.requires.end.path c.in_ok-seen.ensures.some (c.in-Some.is ∙ ap Some c.in-Without.is) in o.1.1
 
 pub returns-clause-proof : goal.returns-clause-proof
 returns-clause-proof c =
     let state = c.args.state.now in
     let r = state.read.now in
     let pair = pair_in c.args.state.now.read.now c.args.problem.now in
-    let at = c.in-Without.at.now in
-    let o = told state c.args.problem.now.write.number c.args.level c.in_ok-seen.seen (outcome.Without c.in-Without.at)
+    let at = absent_at c.in-Without.absence.now in
+    let o = told state c.args.problem.now.write.number c.args.level c.in_ok-seen.seen (outcome.Without c.in-Without.absence)
     c.requires.end.path c.in_ok-seen.ensures.some (c.in-Some.is ∙ ap Some c.in-Without.is) in
     IfOk-weaker c.without.result _ _
     (λ proof h. moved_writes r state.context.now at.candidate.now pair c.args.level proof o.1.0.candidate

@@ -3,9 +3,9 @@ use Rattle.std.specs.List.{AllZip}
 use Rattle.std.proofs.lemmas.Result.{on_ok_weaker}
 use Rattle.candidate_join.specs.Leaves.{IsCarried}
 use Rattle.candidate_order.specs.Positions.{own_sums}
-use Rattle.candidate_order.proofs.Joined.{AreLightSums}
-use Rattle.candidate_join.proofs.Leafing.{can_carry, enough_proofs, heads_added}
-use Rattle.candidate_join.proofs.Without.{light_places, places_are}
+use Rattle.candidate_order.proofs.PointSystems.{AreLightSums}
+use Rattle.candidate_join.proofs.CandidateLeaves.{can_carry, enough_proofs, heads_added}
+use Rattle.candidate_join.proofs.NoCandidate.{light_places, places_are}
 use Rattle.candidate_join.proofs.leaf.push_heads.Goals as goal
 
 pub places-requires : goal.places-requires

@@ -1,17 +1,18 @@
 -- Of one level of the read the proofs come level by level of the best: after so many steps the first so many are
 -- refuted. Each proof is asked anew of the leaf, so a step needs no more than that the leaf stands; nothing is kept
 -- between two levels of the best but the proofs that were added.
-use Rattle.std.proofs.Common.{◌≡◌, ◌++◌, map, subst, arith}
+use Rattle.std.proofs.Common.{◌≡◌, ◌++◌, map, subst, arith, take_all}
 use Rattle.candidate_order.specs.Joint.{orders_behind}
 use Rattle.candidate_order.specs.Reads.{read_in, write_in}
 use Rattle.candidate_join.proofs.Between.{point_is}
 use Rattle.candidate_join.proofs.Ends.{none_yet, push_next}
-use Rattle.candidate_join.proofs.Finding.{order_rows_count, sum_pushed, take_all, there_at}
-use Rattle.candidate_join.proofs.Told.{leaf_best}
+use Rattle.candidate_join.proofs.LeafSystems.{order_rows_count, sum_pushed}
+use Rattle.candidate_join.proofs.LeafFacts.{leaf_best}
 use Rattle.lex_max.specs.Asked.{write_of}
 use Rattle.source_tree.specs.Checked.{AreRefuted}
 use Rattle.source_tree.specs.Systems.{with_rows, with_write_at}
 use Rattle.candidate_join.proofs.leaf.push_level.Goals as goal
+use Rattle.plain_data.proofs.Lists.{slice_get-some}
 
 pub loop-q-init : goal.loop-q-init
 loop-q-init c = record {
@@ -36,7 +37,7 @@ loop-q-preserved c =
           (let orders = orders_behind w place cx u in
           let deep = (point_is state.read.now state.context.now best place
           (leaf_best state best c.args.excluded.now c.requires.leaf).0 point).deep in
-          let there = there_at orders q
+          let there = slice_get-some orders q
           (omega (arith, c.loop-q-test.true, c.level_count-q-end.ensures, order_rows_count w u place cx deep)) in
           push_next (λ order. with_rows (with_write_at r cx u) (rows ++ order)) orders q there.0 before c.loop-q.proofs
           c.push.new.self c.in_ok-proof_between.field-0 there.1 c.in_ok-push.ensures.ok
@@ -60,8 +61,7 @@ returns c place point = record {
       let last : c.loop-q.q ≡ c.level_count-q-end.result = omega arith in
       subst (λ xs. AreRefuted
       (before ++ map (λ order. with_rows (with_write_at r cx u) (rows ++ order)) xs) c.loop-q.proofs)
-      (take_all orders c.loop-q.q
-      (omega (arith, last, c.level_count-q-end.ensures, order_rows_count w u place cx deep)))
+      (take_all c.loop-q.q orders (omega (arith, last, c.level_count-q-end.ensures, order_rows_count w u place cx deep)))
       (c.loop-q.invariant.refuted place point cx before rows made level_is old));
   sums = c.loop-q.invariant.sums;
 }

@@ -1,21 +1,21 @@
 -- The proofs of a writer come level by level of the read: after so many steps the systems of the first so many are
 -- refuted. One level adds the proofs of all its systems, so the next one goes on behind them; the systems of all
 -- levels are the writer's, since level_count is the number of levels that they go over.
-use Rattle.std.proofs.Common.{List, ◌≡◌, ◌++◌, map, take, subst, arith}
+use Rattle.std.proofs.Common.{List, ◌≡◌, ◌++◌, map, take, subst, arith, take_all}
 use Rattle.std.specs.List.{flat_map}
 use Rattle.candidate_order.specs.Joint.{orders_behind}
 use Rattle.candidate_order.specs.Reads.{read_in, write_in}
 use Rattle.candidate_order.proofs.Pairs.{pair_is}
 use Rattle.candidate_join.proofs.Ends.{flat_push, none_yet}
-use Rattle.candidate_join.proofs.Finding.{take_all, there_at}
-use Rattle.candidate_join.proofs.Told.{leaf_best}
-use Rattle.candidate_order.proofs.Counting.{has_level, level_rows_count}
+use Rattle.candidate_join.proofs.LeafFacts.{leaf_best}
+use Rattle.candidate_order.proofs.LevelCounts.{has_level, level_rows_count}
 use Rattle.lex_max.specs.Asked.{write_of}
 use Rattle.source_tree.specs.Checked.{AreRefuted}
 use Rattle.source_tree.specs.Places.{before_rows}
 use Rattle.source_tree.specs.Rows.{RowExpr}
 use Rattle.source_tree.specs.Systems.{reader_place, with_rows, with_write_at, writer_place}
 use Rattle.candidate_join.proofs.leaf.push_writer.Goals as goal
+use Rattle.plain_data.proofs.Lists.{slice_get-some}
 
 pub loop-level-init : goal.loop-level-init
 loop-level-init c = record {
@@ -42,7 +42,7 @@ loop-level-preserved c =
     record {
       refuted = λ place point cx before made old.
           (let levels = before_rows u.number u.statement (writer_place cx u) r.number r.statement (reader_place r) in
-          let there = there_at levels level
+          let there = slice_get-some levels level
           (omega (arith, c.loop-level-test.true, c.level_count-level-end.ensures, level_rows_count r u cx)) in
           let f = λ (p : List RowExpr). map (λ q. with_rows (with_write_at r cx u) (p ++ q))
           (orders_behind w place cx u) in
@@ -66,8 +66,7 @@ returns c place point = record {
       (orders_behind w place cx u) in
       let last : c.loop-level.level ≡ c.level_count-level-end.result = omega arith in
       subst (λ xs. AreRefuted (before ++ flat_map f xs) c.loop-level.proofs)
-      (take_all levels c.loop-level.level
-      (omega (arith, last, c.level_count-level-end.ensures, level_rows_count r u cx)))
+      (take_all c.loop-level.level levels (omega (arith, last, c.level_count-level-end.ensures, level_rows_count r u cx)))
       (c.loop-level.invariant.refuted place point cx before made old));
   sums = c.loop-level.invariant.sums;
 }

@@ -1,19 +1,20 @@
 -- The proofs of a writer come level by level of the read: after so many steps the systems of the first so many levels
 -- are refuted. One level has one proof, since no order row stands behind the writer's point, and level_count is the
 -- number of levels that the systems go over.
-use Rattle.std.proofs.Common.{List, ◌≡◌, ◌++◌, [], map, take, subst, arith}
+use Rattle.std.proofs.Common.{List, ◌≡◌, ◌++◌, [], map, take, subst, arith, take_all}
 use Rattle.std.specs.List.{flat_map}
 use Rattle.candidate_order.specs.Joint.{no_orders}
 use Rattle.candidate_order.specs.Reads.{read_in, write_in}
 use Rattle.candidate_order.proofs.Pairs.{pair_is}
 use Rattle.candidate_join.proofs.Ends.{flat_push, none_yet}
-use Rattle.candidate_join.proofs.Finding.{more_refuted, sum_pushed, take_all, there_at}
-use Rattle.candidate_order.proofs.Counting.{has_level, level_rows_count}
+use Rattle.candidate_join.proofs.LeafSystems.{more_refuted, sum_pushed}
+use Rattle.candidate_order.proofs.LevelCounts.{has_level, level_rows_count}
 use Rattle.source_tree.specs.Checked.{AreRefuted}
 use Rattle.source_tree.specs.Places.{before_rows}
 use Rattle.source_tree.specs.Rows.{RowExpr}
 use Rattle.source_tree.specs.Systems.{reader_place, with_rows, with_write_at, writer_place}
 use Rattle.candidate_join.proofs.leaf.push_writer_without.Goals as goal
+use Rattle.plain_data.proofs.Lists.{slice_get-some}
 
 pub loop-level-init : goal.loop-level-init
 loop-level-init c = record {
@@ -40,7 +41,7 @@ loop-level-preserved c =
     record {
       refuted = λ cx before made old.
           (let levels = before_rows u.number u.statement (writer_place cx u) r.number r.statement (reader_place r) in
-          let there = there_at levels level
+          let there = slice_get-some levels level
           (omega (arith, c.loop-level-test.true, c.level_count-level-end.ensures, level_rows_count r u cx)) in
           let f = λ (p : List RowExpr). map (λ q. with_rows (with_write_at r cx u) (p ++ q)) (no_orders u) in
           flat_push f levels level there.0 before c.loop-level.proofs c.push.new.self there.1
@@ -61,8 +62,7 @@ returns c = record {
       let f = λ (p : List RowExpr). map (λ q. with_rows (with_write_at r cx u) (p ++ q)) (no_orders u) in
       let last : c.loop-level.level ≡ c.level_count-level-end.result = omega arith in
       subst (λ xs. AreRefuted (before ++ flat_map f xs) c.loop-level.proofs)
-      (take_all levels c.loop-level.level
-      (omega (arith, last, c.level_count-level-end.ensures, level_rows_count r u cx)))
+      (take_all c.loop-level.level levels (omega (arith, last, c.level_count-level-end.ensures, level_rows_count r u cx)))
       (c.loop-level.invariant.refuted cx before made old));
   sums = c.loop-level.invariant.sums;
 }

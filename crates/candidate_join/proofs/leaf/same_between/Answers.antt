@@ -1,7 +1,7 @@
 use Rattle.std.proofs.Common.{◌+◌, ap, arith}
 use Rattle.std.proofs.lemmas.Result.{IfOk-weaker}
-use Rattle.candidate_join.proofs.Told.{same_fits, same_refutes}
-use Rattle.candidate_join.proofs.Without.{places_are}
+use Rattle.candidate_join.proofs.LeafFacts.{same_fits, same_refutes}
+use Rattle.candidate_join.proofs.NoCandidate.{places_are}
 use Rattle.candidate_join.proofs.leaf.same_between.Goals as goal
 
 pub places-requires : goal.places-requires

@@ -1,12 +1,13 @@
-use Rattle.std.proofs.Common.{◌≡◌, ap, subst}
+use Rattle.std.proofs.Common.{◌≡◌, refl, ap, subst}
 use Rattle.std.proofs.lemmas.List.Elements.{All-contains_itself}
 use Rattle.candidate_order.specs.Joint.{head_systems}
 use Rattle.candidate_order.specs.Reads.{pair_of}
 use Rattle.candidate_join.specs.Leaves.{AddsRefutations}
 use Rattle.candidate_order.specs.Positions.{IsPointAt}
+use Rattle.candidate_order.proofs.Heights.{height_writer}
 use Rattle.candidate_join.proofs.Between.{point_is}
-use Rattle.candidate_join.proofs.Leafing.{writer_tree}
-use Rattle.candidate_join.proofs.Told.{leaf_best}
+use Rattle.candidate_join.proofs.CandidateLeaves.{writer_tree}
+use Rattle.candidate_join.proofs.LeafFacts.{leaf_best}
 use Rattle.source_tree.specs.declared.tree.Tree.TheVariants.{Writer}
 use Rattle.candidate_join.proofs.leaf.writer_leaf.Goals as goal
 
@@ -27,8 +28,8 @@ push_between-requires-clause-problems c = All-contains_itself c.args.state.now.r
 pub point_of-requires : goal.point_of-requires
 point_of-requires c = (leaf_best c.args.state.now c.args.best.now c.args.excluded.now c.requires).1
 
-pub returns : goal.returns
-returns c =
+pub returns-clause-joined : goal.returns-clause-joined
+returns-clause-joined c =
     let state = c.args.state.now in
     let best = c.args.best.now in
     let r = state.read.now in
@@ -46,3 +47,7 @@ returns c =
     (subst (λ old. AddsRefutations context (head_systems pair place) old c.push_heads.new.proofs) c.new-proofs.ensures
     (c.in_ok-push_heads.ensures r context place b c.requires.path.context_is c.len-here.ensures point))
     (c.in_ok-push_between.ensures place point)
+
+pub returns-clause-low : goal.returns-clause-low
+returns-clause-low c = height_writer _ c.args.best.now.candidate.now.writes.write.number c.in_ok-forms.forms
+    c.push_between.new.proofs refl

@@ -21,10 +21,10 @@ use Rattle.candidate_join.specs.declared.path.State.{State}
 use Rattle.candidate_join.specs.declared.leaf.Excluded.{Excluded}
 use Rattle.candidate_order.proofs.Absent.{path_from}
 use Rattle.std.proofs.lemmas.Option.{slice_get-get_or}
-use Rattle.candidate_join.proofs.Choosing.{all_asked, next_below, one_absent, one_excluded, one_taken}
+use Rattle.candidate_join.proofs.NextCandidate.{all_asked, next_below, one_absent, one_excluded, one_taken}
 use Rattle.candidate_join.proofs.Moves.{none_copied}
-use Rattle.lex_max.proofs.Walking.{all_at}
 use Rattle.candidate_join.proofs.path.+choose.Goals as goal
+use Rattle.plain_data.proofs.Lists.{All-slice_get}
 
 -- the number that is asked, and its candidate
 module _ (state : State) (path : IsPath state 0 None) (all left : List ℕ) (number : ℕ) (out : List Excluded)
@@ -45,7 +45,7 @@ module _ (state : State) (path : IsPath state 0 None) (all left : List ℕ) (num
 
     is : IsCandidate state.read.now candidate
     is =
-        all_at (IsCandidate state.read.now) state.candidates.now number candidate path.candidates_are.each asked
+        All-slice_get (IsCandidate state.read.now) state.candidates.now number candidate path.candidates_are.each asked
 
 best_here : (state : State) → IsPath state 0 None → (best : Position) → option_copied state.best ≡ Some best
     → IsBest state.read.now state.context.now best

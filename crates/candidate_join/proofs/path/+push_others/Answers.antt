@@ -2,7 +2,7 @@ use Rattle.std.proofs.Common.{◌≡◌, ◌∷◌, ◌++◌, [], true, sym, ap,
 use Rattle.std.specs.List.{filter}
 use Rattle.std.proofs.lemmas.List.{append-nil, append_assoc, nil_from_length}
 use Rattle.std.proofs.lemmas.Result.{on_ok_weaker}
-use Rattle.candidate_join.proofs.Stepping.{is_other, kept_other, left_itself}
+use Rattle.candidate_join.proofs.PathSteps.{is_other, kept_other, left_itself}
 use Rattle.candidate_join.proofs.path.+push_others.Goals as goal
 
 pub returns-in_default : goal.returns-in_default

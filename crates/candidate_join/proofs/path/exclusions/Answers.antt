@@ -5,14 +5,14 @@ use Rattle.std.proofs.Common.{◌≡◌, ◌+◌, length, sym, ap, ◌∙◌, su
 use Rattle.std.specs.Prelude.{IfSome, None, Some, nat_lt, slice_get}
 use Rattle.std.proofs.lemmas.List.{length_push}
 use Rattle.int_polyhedra.specs.declared.system.Proof.TheVariants.{Sum}
-use Rattle.candidate_order.proofs.Counting.{few_before}
+use Rattle.candidate_order.proofs.LevelCounts.{few_before}
 use Rattle.candidate_order.specs.Candidates.{levels_before, IsCandidate}
 use Rattle.candidate_order.specs.Reads.{pair_of}
 use Rattle.candidate_order.specs.Refutations.{IsPointIn, RefutesBetween}
 use Rattle.candidate_order.proofs.Absent.{path_from}
 use Rattle.candidate_join.proofs.Between.{few_levels, point_is}
 use Rattle.candidate_order.proofs.Outcomes.{same_point}
-use Rattle.candidate_join.proofs.Told.{each_pushed}
+use Rattle.candidate_join.proofs.LeafFacts.{each_pushed}
 use Rattle.candidate_order.specs.declared.candidates.Read.{Read}
 use Rattle.lex_max.specs.Asked.{write_of}
 use Rattle.lex_max.specs.Level.{common_of}

@@ -3,14 +3,14 @@ use Rattle.std.specs.Prelude.{All, IfSome}
 use Rattle.std.proofs.lemmas.List.Elements.{All-head, All-tail}
 use Rattle.std.proofs.lemmas.Option.{IfSome_then}
 use Rattle.std.proofs.lemmas.Result.{IfOk-weaker}
-use Rattle.candidate_order.proofs.Asking.{negation_over}
+use Rattle.candidate_order.proofs.NextLoop.{negation_over}
 use Rattle.candidate_order.proofs.Rounds.{cycle_contradicts, rows_fit}
 use Rattle.int_polyhedra.specs.declared.system.Term.{Term}
 use Rattle.lex_max.specs.Answer.{IsCycle}
 use Rattle.lex_max.specs.Facts.{form_parts, IsFact}
 use Rattle.lex_max.specs.Paths.{terms_from}
-use Rattle.lex_max.proofs.Small.{farther}
 use Rattle.candidate_order.proofs.absence.+by_cycles.Goals as goal
+use Rattle.row_sums.proofs.Within.{IsWithin-weaker}
 
 pub opposite-requires : goal.opposite-requires
 opposite-requires t c =
@@ -19,7 +19,7 @@ opposite-requires t c =
     let one : IsCycle c.args.context.now.vars h.0 c.in-Some.cycle.now
     = All-head (IsCycle c.args.context.now.vars h.0) c.in-Some.cycle.now c.in-Some.cycles.now
     (subst (All (IsCycle c.args.context.now.vars h.0)) first h.2) in
-    farther (2 ^ 40) (2 ^ 60) c.in-Some.cycle.now.form (omega arith) one.within
+    IsWithin-weaker (2 ^ 40) (2 ^ 60) c.in-Some.cycle.now.form (omega arith) one.within
 
 pub known-requires-clause-over : goal.known-requires-clause-over
 known-requires-clause-over t c =
@@ -29,7 +29,7 @@ known-requires-clause-over t c =
     = All-head (IsCycle c.args.context.now.vars h.0) c.in-Some.cycle.now c.in-Some.cycles.now
     (subst (All (IsCycle c.args.context.now.vars h.0)) first h.2) in
     negation_over c.in-Some.cycle.now.form c.opposite.result
-    (farther (2 ^ 40) (2 ^ 60) c.in-Some.cycle.now.form (omega arith) one.within) c.opposite.ensures ∙ one.over
+    (IsWithin-weaker (2 ^ 40) (2 ^ 60) c.in-Some.cycle.now.form (omega arith) one.within) c.opposite.ensures ∙ one.over
 
 pub refutation-requires-clause-rows : goal.refutation-requires-clause-rows
 refutation-requires-clause-rows t c =

@@ -12,8 +12,8 @@ use Rattle.candidate_order.proofs.OrderEdges.{back_edge, forms_rest, less_edge, 
 use Rattle.candidate_order.proofs.OrderEdges.{one_pushed, orders_behind, orders_end, orders_equal, orders_less}
 use Rattle.candidate_order.proofs.OrderEdges.{orders_same, out_edge}
 use Rattle.lex_max.specs.declared.edges.Edge.{Edge}
-use Rattle.lex_max.proofs.Small.{farther}
 use Rattle.row_sums.specs.Parts.{IsWithin}
+use Rattle.row_sums.proofs.Within.{IsWithin-weaker}
 use Rattle.candidate_order.proofs.absence.+push_order_edges.Goals as goal
 
 pub returns-in_default-clause-rows : goal.returns-in_default-clause-rows
@@ -28,7 +28,7 @@ negative-requires t c =
     let first : c.args.place.now ≡ c.in-Some.value.now ∷ c.in-Some.place.now = search rules in
     let f = c.requires.forms in
     let forms : AreForms f.0 (c.in-Some.value.now ∷ c.in-Some.place.now) = subst (AreForms f.0) first f.1 in
-    farther (2 ^ 48) (2 ^ 60) c.in-Some.value.now (omega arith)
+    IsWithin-weaker (2 ^ 48) (2 ^ 60) c.in-Some.value.now (omega arith)
     (All-head (IsWithin (2 ^ 48)) c.in-Some.value.now c.in-Some.place.now forms.within)
 
 pub raised-requires-clause-small : goal.raised-requires-clause-small
@@ -37,7 +37,7 @@ raised-requires-clause-small t c =
     let f = c.requires.forms in
     let forms : AreForms f.0 (c.in-Some.value.now ∷ c.in-Some.place.now) = subst (AreForms f.0) first f.1 in
     let near = near_back f.0 c.args.at c.args.zero c.in-Some.value.now c.in-Some.place.now forms in
-    subst (IsWithin (2 ^ 60)) (sym c.negative.ensures) (farther (2 ^ 49) (2 ^ 60) _ (omega arith) near.within)
+    subst (IsWithin (2 ^ 60)) (sym c.negative.ensures) (IsWithin-weaker (2 ^ 49) (2 ^ 60) _ (omega arith) near.within)
 
 -- the edge at the level
 abbrev one_below : Form → Form

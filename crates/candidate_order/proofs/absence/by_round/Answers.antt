@@ -9,12 +9,12 @@ use Rattle.lex_max.specs.declared.closure.Bound.{Bound}
 use Rattle.lex_max.specs.declared.edges.Edge.{Edge}
 use Rattle.lex_max.specs.Facts.{form_parts, IsFact}
 use Rattle.lex_max.specs.Paths.{term_of, terms_from}
-use Rattle.lex_max.proofs.Rounding.{round_form, round_terms}
-use Rattle.lex_max.proofs.Small.{farther}
-use Rattle.candidate_order.proofs.Asking.{negation_over}
+use Rattle.lex_max.proofs.ZeroCycles.{round_form, round_terms}
+use Rattle.candidate_order.proofs.NextLoop.{negation_over}
 use Rattle.candidate_order.proofs.Rounds.{even, form_over, form_small, round_contradicts, rows_fit, rows_named}
 use Rattle.candidate_order.proofs.Rounds.{sum_small}
 use Rattle.row_sums.specs.Parts.{IsWithin}
+use Rattle.row_sums.proofs.Within.{IsWithin-weaker}
 use Rattle.candidate_order.proofs.absence.by_round.Goals as goal
 
 pub sum-requires-clause-over : goal.sum-requires-clause-over
@@ -25,17 +25,17 @@ sum-requires-clause-over c =
 
 pub sum-requires-clause-first : goal.sum-requires-clause-first
 sum-requires-clause-first c = let a = c.requires.round
-    in farther (2 ^ 49) (2 ^ 60) c.args.out.now.weight (omega arith) a.2.out_near.within
+    in IsWithin-weaker (2 ^ 49) (2 ^ 60) c.args.out.now.weight (omega arith) a.2.out_near.within
 
 pub sum-requires-clause-second : goal.sum-requires-clause-second
 sum-requires-clause-second c = let a = c.requires.round
-    in farther (2 ^ 49) (2 ^ 60) c.args.back.now.weight (omega arith) a.2.back_near.within
+    in IsWithin-weaker (2 ^ 49) (2 ^ 60) c.args.back.now.weight (omega arith) a.2.back_near.within
 
 pub form_beyond-form-requires-clause-form : goal.form_beyond-form-requires-clause-form
 form_beyond-form-requires-clause-form c =
     let a = c.requires.round in
     subst (IsWithin (2 ^ 60)) (sym c.sum.ensures)
-    (farther (2 ^ 50) (2 ^ 60) _ (omega arith) (sum_small a.0 c.args.context.now.vars c.args.out.now c.args.back.now
+    (IsWithin-weaker (2 ^ 50) (2 ^ 60) _ (omega arith) (sum_small a.0 c.args.context.now.vars c.args.out.now c.args.back.now
     c.args.bound.now c.args.out_number c.args.back_number a.2))
 
 pub form_beyond-form-requires-clause-bound : goal.form_beyond-form-requires-clause-bound

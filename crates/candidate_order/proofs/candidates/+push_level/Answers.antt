@@ -1,15 +1,15 @@
 -- The candidates of the later problems come first. That of the first one is added where the level is one before the read,
 -- of the kind that is asked.
-use Rattle.std.proofs.Common.{◌≡◌, ◌∷◌, [], ◌<◌, ℕ, Bool, true, false, length, refl, ap, ◌∙◌, sym, subst}
+use Rattle.std.proofs.Common.{◌≡◌, ◌∷◌, [], Bool, true, false, length, refl, ap, ◌∙◌, sym, subst}
 use Rattle.std.proofs.Common.{rules, arith}
 use Rattle.std.specs.Prelude.{All, Contains, nat_lt, not}
 use Rattle.std.proofs.Math.Bool.{beq}
 use Rattle.std.proofs.lemmas.List.{nil_from_length}
 use Rattle.std.proofs.lemmas.List.Elements.{All-head, All-tail}
 use Rattle.std.proofs.lemmas.Result.{on_ok_weaker}
-use Rattle.candidate_order.specs.Candidates.{levels_before, AddsLevel, IsOfLevel}
-use Rattle.candidate_order.specs.Reads.{pair_in, read_in, write_in}
-use Rattle.candidate_order.proofs.Counting.{has_level, level_below}
+use Rattle.candidate_order.specs.Candidates.{AddsLevel}
+use Rattle.candidate_order.specs.Reads.{read_in, write_in}
+use Rattle.candidate_order.proofs.LevelCounts.{has_level, level_below}
 use Rattle.candidate_order.proofs.Levels.{adds_no_level, adds_none, adds_one}
 use Rattle.lex_max.specs.Level.{common_of}
 use Rattle.sanlp.specs.Order.{common_loops}

@@ -9,7 +9,7 @@ use Rattle.lex_max.specs.Edges.{domain_edge_of, AreEdgesOf, IsGraph}
 use Rattle.lex_max.specs.declared.edges.Edge.{Edge}
 use Rattle.lex_max.specs.declared.writes.Writes.{Writes}
 use Rattle.lex_max.specs.Rounds.{IsGraphOf}
-use Rattle.lex_max.proofs.Zeroing.{simple_wider}
+use Rattle.lex_max.proofs.ZeroLeaves.{simple_wider}
 use Rattle.candidate_order.proofs.candidates.candidate_of.Goals as goal
 
 pub closure_of-requires-clause-few : goal.closure_of-requires-clause-few

@@ -1,9 +1,9 @@
 -- After so many levels, the deepest first, the candidates of those levels are there.
 use Rattle.std.proofs.Common.{◌≡◌, ◌-◌, length, sym, ap, subst, arith}
-use Rattle.std.specs.Prelude.{All, Contains}
+use Rattle.std.specs.Prelude.{All}
 use Rattle.std.proofs.lemmas.List.Elements.{All-contains_itself, All-nil}
 use Rattle.candidate_order.specs.Candidates.{IsCandidate}
-use Rattle.candidate_order.proofs.Counting.{few_levels}
+use Rattle.candidate_order.proofs.LevelCounts.{few_levels}
 use Rattle.candidate_order.proofs.Levels.{level_more}
 use Rattle.candidate_order.proofs.candidates.candidates_of.Goals as goal
 

@@ -1,15 +1,17 @@
-use Rattle.std.proofs.Common.{◌≡◌, ◌+◌, ◌^◌, ◌<◌, length, ap, ◌∙◌, sym, subst, arith}
+use Rattle.std.proofs.Common.{◌≡◌, ◌+◌, ◌^◌, ◌<◌, ◌≤◌, length, ap, ◌∙◌, sym, subst, arith}
 use Rattle.std.specs.Prelude.{Some, IfSome}
 use Rattle.std.proofs.lemmas.List.{length_push}
 use Rattle.std.proofs.lemmas.Result.{IfOk-weaker}
 use Rattle.affine_core.specs.declared.form.Form.{Form}
-use Rattle.candidate_order.specs.Comparisons.{HasNextLoop, IsComparison, IsGap, IsHad}
+use Rattle.candidate_order.specs.Comparisons.{facts_had, HasNextLoop, IsComparison, IsGap, IsHad}
 use Rattle.candidate_order.specs.Orders.{turned_equal, AreEqual}
 use Rattle.candidate_order.specs.declared.compare.Comparison.TheVariants.{Later}
-use Rattle.candidate_order.proofs.Asking.{earlier_by_loop, later_by_loop, next_best, next_new, one_more_equal}
+use Rattle.candidate_order.specs.declared.order.Equality.{Equality}
+use Rattle.candidate_order.proofs.NextLoop.{earlier_by_loop, few_had, later_by_loop, next_best, next_less, next_new}
+use Rattle.candidate_order.proofs.NextLoop.{none_had, one_more_equal}
 use Rattle.lex_max.specs.Facts.{form_parts, IsFact}
-use Rattle.lex_max.proofs.Small.{farther}
 use Rattle.candidate_order.proofs.compare.+compare_points.Goals as goal
+use Rattle.row_sums.proofs.Within.{IsWithin-weaker}
 
 pub gap-more-requires-clause-first : goal.gap-more-requires-clause-first
 gap-more-requires-clause-first t c =
@@ -43,7 +45,7 @@ pub less_one-requires : goal.less_one-requires
 less_one-requires t c =
     let p = c.requires.points in
     let g = c.gap-more.ensures c.args.context.now.vars p.2.best_forms p.2.new_forms in
-    farther (2 ^ 49) (2 ^ 60) c.gap-more.result (omega arith) g.within
+    IsWithin-weaker (2 ^ 49) (2 ^ 60) c.gap-more.result (omega arith) g.within
 
 pub known-requires-clause-over : goal.known-requires-clause-over
 known-requires-clause-over t c =
@@ -55,7 +57,7 @@ pub less_one-requires-2 : goal.less_one-requires-2
 less_one-requires-2 t c =
     let p = c.requires.points in
     let g = c.gap-less.ensures c.args.context.now.vars p.2.new_forms p.2.best_forms in
-    farther (2 ^ 49) (2 ^ 60) c.gap-less.result (omega arith) g.within
+    IsWithin-weaker (2 ^ 49) (2 ^ 60) c.gap-less.result (omega arith) g.within
 
 pub known-requires-2-clause-over : goal.known-requires-2-clause-over
 known-requires-2-clause-over t c =
@@ -132,7 +134,7 @@ returns-in_default-upper-clause-order t c = λ w u p.
       few = omega (arith, lt);
       equal = c.requires.so_far.equal;
       upper = tt;
-      lower = c.in_ok-lower.ensures pair.new.now pair.best.now l less c.requires.so_far.lower;
+      lower = c.in_ok-lower.ensures.had pair.new.now pair.best.now l less c.requires.so_far.lower;
     }
 
 pub returns-in_default-lower-clause-order : goal.returns-in_default-lower-clause-order
@@ -146,7 +148,7 @@ returns-in_default-lower-clause-order t c = λ w u p.
     = subst (λ n. IsGap context.vars pair.best.now pair.new.now n c.gap-more.result) c.len-at.ensures
     (c.gap-more.ensures context.vars p.best_forms p.new_forms) in
     let upper = subst (IsHad context l pair.best.now pair.new.now) c.in-Some-upper.is
-    (c.in_ok-upper.ensures pair.best.now pair.new.now l more c.requires.so_far.upper) in
+    (c.in_ok-upper.ensures.had pair.best.now pair.new.now l more c.requires.so_far.upper) in
     record { few = omega (arith, lt); equal = c.requires.so_far.equal; upper = upper; lower = tt }
 
 -- The loop is equal
@@ -167,9 +169,9 @@ compare_points-requires t c =
     = subst (λ n. IsGap context.vars pair.new.now pair.best.now n c.gap-less.result) c.len-at.ensures
     (c.gap-less.ensures context.vars p.new_forms p.best_forms) in
     let upper = subst (IsHad context l pair.best.now pair.new.now) c.in-Some-upper.is
-    (c.in_ok-upper.ensures pair.best.now pair.new.now l more c.requires.so_far.upper) in
+    (c.in_ok-upper.ensures.had pair.best.now pair.new.now l more c.requires.so_far.upper) in
     let lower = subst (IsHad context l pair.new.now pair.best.now) c.in-Some-lower.is
-    (c.in_ok-lower.ensures pair.new.now pair.best.now l less c.requires.so_far.lower) in
+    (c.in_ok-lower.ensures.had pair.new.now pair.best.now l less c.requires.so_far.lower) in
     let next = c.in_ok-one_more.field-0 in
     let above = c.in-Some-lower.lower in
     let below = c.in-Some-upper.upper in
@@ -193,15 +195,50 @@ compare_points-requires t c =
       ),
     )
 
+-- What is told further
+
+pub returns-then-at-pair-clause-next : goal.returns-then-at-pair-clause-next
+returns-then-at-pair-clause-next t c =
+    IfOk-weaker c.by_text.result _ _ (λ comparison next. next (facts_had c.args.compared)) c.by_text.ensures.next
+
 pub returns-in_default-upper-clause-next : goal.returns-in_default-upper-clause-next
-returns-in_default-upper-clause-next t c = omega (arith, c.if-at-pair.false, c.len-at.ensures)
+returns-in_default-upper-clause-next t c =
+    let none = none_had c.in_ok-upper.upper c.in_default-upper.not-Some in
+    let few = few_had c.in_ok-lower.lower in (
+      omega (arith, c.if-at-pair.false, c.len-at.ensures),
+      omega (arith, none, c.in_ok-upper.ensures.kept, c.in_ok-lower.ensures.kept),
+      omega (arith, few),
+    )
 
 pub returns-in_default-lower-clause-next : goal.returns-in_default-lower-clause-next
-returns-in_default-lower-clause-next t c = omega (arith, c.if-at-pair.false, c.len-at.ensures)
+returns-in_default-lower-clause-next t c =
+    let none = none_had c.in_ok-lower.lower c.in_default-lower.not-Some in
+    let few = few_had c.args.compared.upper in (
+      omega (arith, c.if-at-pair.false, c.len-at.ensures),
+      omega (arith, none, few, c.in_ok-lower.ensures.kept),
+      omega arith,
+    )
 
 pub returns-in-Some-clause-next : goal.returns-in-Some-clause-next
-returns-in-Some-clause-next t c = subst (HasNextLoop c.args.pair.now) (sym c.earlier.ensures) tt
+returns-in-Some-clause-next t c =
+    subst (HasNextLoop c.args.pair.now (facts_had c.args.compared)) (sym c.earlier.ensures) tt
 
 pub returns-in-Some-is_more-clause-next : goal.returns-in-Some-is_more-clause-next
-returns-in-Some-is_more-clause-next t c =
-    IfOk-weaker c.later.result _ _ (λ comparison is. subst (HasNextLoop c.args.pair.now) (sym is) tt) c.later.ensures
+returns-in-Some-is_more-clause-next t c = IfOk-weaker c.later.result _ _
+    (λ comparison is. subst (HasNextLoop c.args.pair.now (facts_had c.args.compared)) (sym is) tt) c.later.ensures
+
+pub returns-clause-next : goal.returns-clause-next
+returns-clause-next t c =
+    let equal = c.args.compared.equal in
+    let next = c.in_ok-one_more.field-0 in
+    let one : Equality = record { above = c.in-Some-lower.lower; below = c.in-Some-upper.upper } in
+    let longer : length next.equal ≡ length equal + 1 = ap length c.in_ok-one_more.ensures.equal ∙ length_push equal one
+    in
+    let more : facts_had c.args.compared ≤ facts_had next = omega (
+      arith,
+      longer,
+      few_had c.args.compared.upper,
+      few_had c.args.compared.lower,
+    ) in
+    IfOk-weaker c.compare_points.result _ _ (λ comparison. next_less c.args.pair.now _ _ comparison more)
+    c.compare_points.ensures.next

@@ -4,7 +4,7 @@ use Rattle.std.proofs.lemmas.Result.{IfOk-weaker}
 use Rattle.candidate_order.specs.Comparisons.{HasNextLoop, IsComparison}
 use Rattle.candidate_order.specs.Orders.{turned_equal}
 use Rattle.candidate_order.specs.declared.compare.Comparison.TheVariants.{Later}
-use Rattle.candidate_order.proofs.Asking.{all_equal, earlier_by_text, later_by_text}
+use Rattle.candidate_order.proofs.NextLoop.{all_equal, earlier_by_text, later_by_text}
 use Rattle.candidate_order.proofs.compare.by_text.Goals as goal
 
 pub returns-then-pair-clause-order : goal.returns-then-pair-clause-order
@@ -26,8 +26,8 @@ returns-clause-order c =
     c.later.ensures
 
 pub returns-then-pair-clause-next : goal.returns-then-pair-clause-next
-returns-then-pair-clause-next c = subst (HasNextLoop c.args.pair.now) (sym c.earlier.ensures) tt
+returns-then-pair-clause-next c = λ had. subst (HasNextLoop c.args.pair.now had) (sym c.earlier.ensures) tt
 
 pub returns-clause-next : goal.returns-clause-next
-returns-clause-next c =
-    IfOk-weaker c.later.result _ _ (λ comparison is. subst (HasNextLoop c.args.pair.now) (sym is) tt) c.later.ensures
+returns-clause-next c = IfOk-weaker c.later.result _ _
+    (λ comparison is had. subst (HasNextLoop c.args.pair.now had) (sym is) tt) c.later.ensures

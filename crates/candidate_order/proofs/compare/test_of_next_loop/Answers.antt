@@ -1,13 +1,13 @@
 -- The next loop has no half that is had, or one; the Test asks for the half that is missing.
-use Rattle.std.proofs.Common.{◌^◌, ◌+ℤ◌, negsuc, [], ◌∷◌, length, ap, ◌∙◌, subst, arith}
+use Rattle.std.proofs.Common.{◌≡◌, ◌*◌, ◌^◌, ◌+ℤ◌, negsuc, [], ◌∷◌, length, sym, ap, ◌∙◌, subst, arith}
 use Rattle.std.specs.Prelude.{Some, None}
-use Rattle.candidate_order.specs.Comparisons.{IsGap}
+use Rattle.candidate_order.specs.Comparisons.{count_had, facts_had, IsGap, TellsMore}
 use Rattle.candidate_order.specs.Orders.{turned_equal}
 use Rattle.candidate_order.specs.declared.compare.Comparison.TheVariants.{Earlier, Later, Open}
-use Rattle.candidate_order.proofs.Asking.{asks_both, asks_lower, asks_upper, next_best, next_new}
+use Rattle.candidate_order.proofs.NextLoop.{asks_both, asks_lower, asks_upper, next_best, next_new}
 use Rattle.lex_max.specs.Paths.{term_of}
-use Rattle.lex_max.proofs.Small.{farther}
 use Rattle.candidate_order.proofs.compare.test_of_next_loop.Goals as goal
+use Rattle.row_sums.proofs.Within.{IsWithin-weaker}
 
 pub gap-requires-clause-first : goal.gap-requires-clause-first
 gap-requires-clause-first c = let p = c.requires.points
@@ -24,10 +24,10 @@ pub less_one-requires : goal.less_one-requires
 less_one-requires c =
     let p = c.requires.points in
     let g = c.gap.ensures p.2 p.3.best_forms p.3.new_forms in
-    farther (2 ^ 49) (2 ^ 60) c.gap.result (omega arith) g.within
+    IsWithin-weaker (2 ^ 49) (2 ^ 60) c.gap.result (omega arith) g.within
 
-pub returns-in-Some : goal.returns-in-Some
-returns-in-Some c = λ context w u row_is p so_far.
+pub returns-in-Some-clause-question : goal.returns-in-Some-clause-question
+returns-in-Some-clause-question c = λ context w u row_is p so_far.
     let pair = c.args.pair.now in
     let compared = c.args.compared in
     let equal = compared.equal in
@@ -72,10 +72,10 @@ pub less_one-requires-in-Some-lower : goal.less_one-requires-in-Some-lower
 less_one-requires-in-Some-lower c =
     let p = c.requires.points in
     let g = c.gap-in-Some-lower.ensures p.2 p.3.new_forms p.3.best_forms in
-    farther (2 ^ 49) (2 ^ 60) c.gap-in-Some-lower.result (omega arith) g.within
+    IsWithin-weaker (2 ^ 49) (2 ^ 60) c.gap-in-Some-lower.result (omega arith) g.within
 
-pub returns-in-Some-lower : goal.returns-in-Some-lower
-returns-in-Some-lower c = λ context w u row_is p so_far.
+pub returns-in-Some-lower-clause-question : goal.returns-in-Some-lower-clause-question
+returns-in-Some-lower-clause-question c = λ context w u row_is p so_far.
     let pair = c.args.pair.now in
     let compared = c.args.compared in
     let equal = compared.equal in
@@ -120,8 +120,8 @@ gap-requires-in-None-lower-clause-second c = let p = c.requires.points
 pub gap-requires-in-None-lower-clause-forms : goal.gap-requires-in-None-lower-clause-forms
 gap-requires-in-None-lower-clause-forms c = let p = c.requires.points in (p.2, p.3.best_forms, p.3.new_forms)
 
-pub returns : goal.returns
-returns c = λ context w u row_is p so_far.
+pub returns-clause-question : goal.returns-clause-question
+returns-clause-question c = λ context w u row_is p so_far.
     let pair = c.args.pair.now in
     let compared = c.args.compared in
     let equal = compared.equal in
@@ -147,3 +147,25 @@ returns c = λ context w u row_is p so_far.
     (c.in_ok-later-in-None-lower.ensures ∙ ap (λ e. Later
     (record { equal = turned_equal e; strict = Some c.in_ok-also.also })) copy_is
     ∙ ap (λ ts. Later (record { equal = turned_equal equal; strict = Some ts })) also_is))
+
+-- What is told further
+
+pub returns-in-Some-clause-more : goal.returns-in-Some-clause-more
+returns-in-Some-clause-more c = (
+  subst (TellsMore (facts_had c.args.compared)) (sym c.earlier.ensures) tt,
+  omega (arith, c.requires.half),
+)
+
+pub returns-in-Some-lower-clause-more : goal.returns-in-Some-lower-clause-more
+returns-in-Some-lower-clause-more c = (
+  subst (TellsMore (facts_had c.args.compared)) (sym c.in_ok-later-in-Some-lower.ensures) tt,
+  omega (arith, c.requires.half),
+)
+
+pub returns-clause-more : goal.returns-clause-more
+returns-clause-more c =
+    let none : facts_had c.args.compared ≡ 2 * length c.args.compared.equal =
+    omega (arith, ap count_had c.in-None.is, ap count_had c.in-None-lower.is) in (
+      omega (arith, none),
+      subst (TellsMore (facts_had c.args.compared)) (sym c.in_ok-later-in-None-lower.ensures) tt,
+    )

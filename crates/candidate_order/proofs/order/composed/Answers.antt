@@ -1,6 +1,6 @@
 use Rattle.std.proofs.Common.{◌++◌, ap, ◌∙◌}
 use Rattle.candidate_order.specs.Orders.{equal_both}
-use Rattle.candidate_order.proofs.Composing.{composes}
+use Rattle.candidate_order.proofs.OrderChains.{composes}
 use Rattle.candidate_order.proofs.order.composed.Goals as goal
 
 pub returns : goal.returns

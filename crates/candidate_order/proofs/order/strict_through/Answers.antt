@@ -3,7 +3,7 @@ use Rattle.std.specs.Prelude.{None, Some, slice_get}
 use Rattle.std.specs.Option.{option_map}
 use Rattle.std.proofs.lemmas.Result.{IfOk-weaker}
 use Rattle.candidate_order.specs.Orders.{DecidesThrough}
-use Rattle.candidate_order.proofs.Composing.{through_both, through_inner, through_outer, through_text}
+use Rattle.candidate_order.proofs.OrderChains.{through_both, through_inner, through_outer, through_text}
 use Rattle.candidate_order.proofs.order.strict_through.Goals as goal
 
 pub returns-in-Some : goal.returns-in-Some

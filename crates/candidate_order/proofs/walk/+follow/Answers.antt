@@ -1,17 +1,19 @@
-use Rattle.std.proofs.Common.{◌^◌, sym, ◌∙◌, subst, rules, arith}
+use Rattle.std.proofs.Common.{◌^◌, sym, ap, ◌∙◌, subst, rules, arith}
 use Rattle.std.proofs.lemmas.Result.{IfOk-weaker}
+use Rattle.candidate_order.specs.Heights.{height_of}
 use Rattle.candidate_order.specs.Positions.{IsNode}
-use Rattle.candidate_order.proofs.Asking.{negation_over}
-use Rattle.candidate_order.proofs.Made.{node_no, node_yes, test_over, test_within}
+use Rattle.candidate_order.proofs.NextLoop.{negation_over}
+use Rattle.candidate_order.proofs.Heights.{height_sides}
+use Rattle.candidate_order.proofs.TreeNodes.{node_no, node_yes, test_over, test_within}
 use Rattle.lex_max.specs.Facts.{form_parts, IsFact, IsSignOf}
-use Rattle.lex_max.proofs.Small.{farther}
 use Rattle.source_tree.specs.declared.tree.Tree.TheViews.{the_lemmas}
 use Rattle.candidate_order.proofs.walk.+follow.Goals as goal
+use Rattle.row_sums.proofs.Within.{IsWithin-weaker}
 
 pub opposite-requires : goal.opposite-requires
 opposite-requires t c =
     let n = c.requires.node in
-    farther (2 ^ 48) (2 ^ 60) c.in-Test.form (omega arith)
+    IsWithin-weaker (2 ^ 48) (2 ^ 60) c.in-Test.form (omega arith)
     (test_within c.args.context.now n.0 c.args.node.now c.args.rows c.in-Test.form c.in-Test.yes c.in-Test.no
     c.in-Test.is n.1)
 
@@ -25,7 +27,7 @@ pub sign_of-requires-clause-opposite : goal.sign_of-requires-clause-opposite
 sign_of-requires-clause-opposite t c =
     let n = c.requires.node in
     negation_over c.in-Test.form c.opposite.result
-    (farther (2 ^ 48) (2 ^ 60) c.in-Test.form (omega arith)
+    (IsWithin-weaker (2 ^ 48) (2 ^ 60) c.in-Test.form (omega arith)
     (test_within c.args.context.now n.0 c.args.node.now c.args.rows c.in-Test.form c.in-Test.yes c.in-Test.no
     c.in-Test.is n.1)) c.opposite.ensures
     ∙ test_over c.args.context.now n.0 c.args.node.now c.args.rows c.in-Test.form c.in-Test.yes c.in-Test.no
@@ -69,8 +71,8 @@ follow-requires-in-BelowZero t c =
       ),
     )
 
-pub returns-in-AtLeastZero : goal.returns-in-AtLeastZero
-returns-in-AtLeastZero t c =
+pub returns-in-AtLeastZero-clause-node : goal.returns-in-AtLeastZero-clause-node
+returns-in-AtLeastZero-clause-node t c =
     let context = c.args.context.now in
     let fact : IsFact context 65536 (form_parts c.in-Test.form) c.in-AtLeastZero.terms =
     subst (IsSignOf context c.in-Test.form c.opposite.result) c.in-AtLeastZero.is c.in_ok-terms.ensures in
@@ -80,10 +82,10 @@ returns-in-AtLeastZero t c =
     (subst (IsNode context d c.in-Test.yes) (sym c.in_ok-push-in-AtLeastZero.ensures.ok)
     (node_yes context d c.args.node.now c.args.rows c.in-Test.form c.in-Test.yes c.in-Test.no c.in-Test.is h
     c.in-AtLeastZero.terms fact))))
-    c.follow.ensures
+    c.follow.ensures.node
 
-pub returns-in-BelowZero : goal.returns-in-BelowZero
-returns-in-BelowZero t c =
+pub returns-in-BelowZero-clause-node : goal.returns-in-BelowZero-clause-node
+returns-in-BelowZero-clause-node t c =
     let context = c.args.context.now in
     let fact : IsFact context 65536 (form_parts c.opposite.result) c.in-BelowZero.terms =
     subst (IsSignOf context c.in-Test.form c.opposite.result) c.in-BelowZero.is c.in_ok-terms.ensures in
@@ -93,4 +95,17 @@ returns-in-BelowZero t c =
     (subst (IsNode context d c.in-Test.no) (sym c.in_ok-push-in-BelowZero.ensures.ok)
     (node_no context d c.args.node.now c.args.rows c.in-Test.form c.in-Test.yes c.in-Test.no c.in-Test.is h
     c.opposite.result c.in-BelowZero.terms c.opposite.ensures fact))))
-    c.follow-in-BelowZero.ensures
+    c.follow-in-BelowZero.ensures.node
+
+pub returns-in-AtLeastZero-clause-lower : goal.returns-in-AtLeastZero-clause-lower
+returns-in-AtLeastZero-clause-lower t c =
+    let sides = height_sides c.args.node.now c.in-Test.form c.in-Test.yes c.in-Test.no c.in-Test.is in
+    let here = ap height_of c.get.ensures in
+    IfOk-weaker c.follow.result _ _ (λ to le. omega (arith, le, here, sides.0)) c.follow.ensures.lower
+
+pub returns-in-BelowZero-clause-lower : goal.returns-in-BelowZero-clause-lower
+returns-in-BelowZero-clause-lower t c =
+    let sides = height_sides c.args.node.now c.in-Test.form c.in-Test.yes c.in-Test.no c.in-Test.is in
+    let here = ap height_of c.get-in-BelowZero.ensures in
+    IfOk-weaker c.follow-in-BelowZero.result _ _ (λ to le. omega (arith, le, here, sides.1))
+    c.follow-in-BelowZero.ensures.lower

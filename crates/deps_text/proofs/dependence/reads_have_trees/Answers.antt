@@ -1,12 +1,12 @@
-use Rattle.std.proofs.Common.{◌∙◌, ◌≡◌, ◌<◌, true, false, refl, sym, arith, below_more}
+use Rattle.std.proofs.Common.{◌<◌, true, false, refl, arith, below_more}
 use Rattle.sanlp.specs.Access.{read_count}
+use Rattle.sanlp.proofs.ReadCounts.{read_count-some}
 use Rattle.deps_text.specs.Dependences.{HasTree}
-use Rattle.deps_text.proofs.Statements.{count_is}
 use Rattle.deps_text.proofs.dependence.reads_have_trees.Goals as goal
 
 pub returns-then-not-has_tree : goal.returns-then-not-has_tree
 returns-then-not-has_tree c =
-    let count = count_is c.args.nest.now c.args.statement c.statement.result.now c.statement.ensures.value in
+    let count = read_count-some c.args.nest.now c.args.statement c.statement.result.now c.statement.ensures.value in
     let here : c.loop-read.read < read_count c.args.nest.now c.args.statement =
     omega (arith, count, c.len-read-end.ensures, c.loop-read-test.true) in (
       λ is. absurd (cc),
@@ -20,7 +20,7 @@ loop-read-preserved c =
 
 pub returns : goal.returns
 returns c =
-    let count = count_is c.args.nest.now c.args.statement c.statement.result.now c.statement.ensures.value in (
+    let count = read_count-some c.args.nest.now c.args.statement c.statement.result.now c.statement.ensures.value in (
       λ is k h. c.loop-read.invariant k (omega (arith, count, c.len-read-end.ensures, c.loop-read-test.false, h)),
       λ all. refl,
     )

@@ -6,10 +6,10 @@ use Rattle.std.specs.List.{list_all}
 use Rattle.std.proofs.lemmas.Bool.{eq-eqb}
 use Rattle.std.proofs.lemmas.List.{nil_from_length}
 use Rattle.lex_max.specs.Class.{writes_differences}
-use Rattle.last_writer.proofs.Reading.{differences_none, differences_some, writes_elsewhere, writes_here}
-use Rattle.last_writer.proofs.Reading.{writes_nothing}
+use Rattle.last_writer.proofs.ReadClass.{differences_none, differences_some}
 use Rattle.source_tree.specs.Systems.{writes_from, Occurrence}
 use Rattle.last_writer.proofs.class.+all_write_differences.Goals as goal
+use Rattle.stride_rows.proofs.ReadClass.{writes_here, writes_elsewhere, writes_nothing}
 
 pub returns-in_default : goal.returns-in_default
 returns-in_default t c u =

@@ -1,19 +1,21 @@
-use Rattle.std.proofs.Common.{◌≡◌, ◌<◌, length, sym, ap, ◌∙◌, arith}
+use Rattle.std.proofs.Common.{◌≡◌, ◌<◌, length, sym, ap, ◌∙◌, arith, refl}
 use Rattle.std.specs.Prelude.{Some, slice_get}
 use Rattle.std.specs.List.{list_all}
+use Rattle.std.proofs.lemmas.Option.{slice_get_read}
 use Rattle.lex_max.specs.Class.{writes_differences}
-use Rattle.candidate_order.proofs.Asking.{element_is}
-use Rattle.last_writer.proofs.Reading.{class_of, count_is, read_is}
+use Rattle.last_writer.proofs.ReadClass.{class_of}
 use Rattle.sanlp.specs.declared.nest.Access.{Access}
+use Rattle.sanlp.proofs.ReadCounts.{read_count-some}
 use Rattle.source_tree.specs.Systems.{read_at, writes_from, Occurrence}
 use Rattle.last_writer.proofs.class.in_difference_class.Goals as goal
+use Rattle.stride_rows.proofs.ReadClass.{read_is}
 
 pub bounds-as_slice-read : goal.bounds-as_slice-read
 bounds-as_slice-read c =
     omega (
       arith,
       c.requires.read,
-      count_is c.args.nest.now c.args.statement c.statement-reader.result.now
+      read_count-some c.args.nest.now c.args.statement c.statement-reader.result.now
           c.statement-reader.ensures.value,
       ap length c.as_slice.ensures,
     )
@@ -27,12 +29,12 @@ returns c =
     omega (
       arith,
       c.requires.read,
-      count_is n c.args.statement s c.statement-reader.ensures.value,
+      read_count-some n c.args.statement s c.statement-reader.ensures.value,
       ap length c.as_slice.ensures,
     ) in
     let access_is : slice_get s.reads c.args.read ≡ Some access =
     ap (λ reads. slice_get reads c.args.read) (sym c.as_slice.ensures)
-    ∙ element_is c.as_slice.result.now c.args.read access inside c.index-as_slice-read.is in
+    ∙ slice_get_read c.as_slice.result.now (length c.as_slice.result.now) c.args.read access refl inside c.index-as_slice-read.is in
     let r : Occurrence = record { number = c.args.statement; statement = s; access = access } in
     let is : read_at n c.args.statement c.args.read ≡ Some r =
     read_is n c.args.statement c.args.read s access c.statement-reader.ensures.value access_is in

@@ -2,13 +2,13 @@
 use Rattle.std.proofs.Common.{◌≡◌, ◌+◌, ◌^◌, ◌∷◌, [], negsuc, map, refl, sym, ◌∙◌, subst, arith}
 use Rattle.std.specs.Prelude.{Some}
 use Rattle.affine_core.specs.Affine.{form_product, form_sum, widened_form}
-use Rattle.lex_max.proofs.Small.{farther}
 use Rattle.source_tree.specs.Rows.{Take, minus, row_forms}
 use Rattle.source_tree.specs.Systems.{divided_rows, multiple}
-use Rattle.last_writer.proofs.Answering.{above_is, above_over, above_within, below_is, below_over, below_within, form_over}
-use Rattle.last_writer.proofs.Answering.{form_within, made_below, quotients_over, quotients_within, rows_pushed, small_below}
-use Rattle.last_writer.proofs.Answering.{exact_product, two_rows}
+use Rattle.last_writer.proofs.AnswerContexts.{above_is, above_over, above_within, below_is, below_over, below_within, form_over}
+use Rattle.last_writer.proofs.AnswerContexts.{form_within, made_below, quotients_over, quotients_within, rows_pushed, small_below}
+use Rattle.last_writer.proofs.AnswerContexts.{exact_product, two_rows}
 use Rattle.last_writer.proofs.contexts.divided.Goals as goal
+use Rattle.row_sums.proofs.Within.{IsWithin-weaker}
 
 pub difference-first-requires-clause-over : goal.difference-first-requires-clause-over
 difference-first-requires-clause-over c =
@@ -24,7 +24,7 @@ difference-first-requires-clause-over c =
 pub difference-first-requires-clause-first : goal.difference-first-requires-clause-first
 difference-first-requires-clause-first c =
     let t = c.requires.test in
-    farther (2 ^ 33) (2 ^ 60) c.widened-form.result (omega arith)
+    IsWithin-weaker (2 ^ 33) (2 ^ 60) c.widened-form.result (omega arith)
     (form_within c.args.context.now.vars t.0 c.args.test.now t.1 t.2 c.widened-form.result c.multiple-quotients.result
     c.widened-form.ensures.form (c.multiple-quotients.ensures c.args.context.now.vars refl
     ∙ exact_product c.args.context.now.vars c.args.test.now.divisor t.1.small))
@@ -32,7 +32,7 @@ difference-first-requires-clause-first c =
 pub difference-first-requires-clause-second : goal.difference-first-requires-clause-second
 difference-first-requires-clause-second c =
     let t = c.requires.test in
-    farther (2 ^ 32) (2 ^ 60) c.multiple-quotients.result (omega arith)
+    IsWithin-weaker (2 ^ 32) (2 ^ 60) c.multiple-quotients.result (omega arith)
     (quotients_within c.args.context.now.vars t.0 c.args.test.now t.1 t.2 c.widened-form.result
     c.multiple-quotients.result c.widened-form.ensures.form (c.multiple-quotients.ensures c.args.context.now.vars refl
     ∙ exact_product c.args.context.now.vars c.args.test.now.divisor t.1.small))
@@ -51,7 +51,7 @@ difference-second-requires-clause-over c =
 pub difference-second-requires-clause-first : goal.difference-second-requires-clause-first
 difference-second-requires-clause-first c =
     let t = c.requires.test in
-    farther (2 ^ 32) (2 ^ 60) c.multiple-quotients.result (omega arith)
+    IsWithin-weaker (2 ^ 32) (2 ^ 60) c.multiple-quotients.result (omega arith)
     (quotients_within c.args.context.now.vars t.0 c.args.test.now t.1 t.2 c.widened-form.result
     c.multiple-quotients.result c.widened-form.ensures.form (c.multiple-quotients.ensures c.args.context.now.vars refl
     ∙ exact_product c.args.context.now.vars c.args.test.now.divisor t.1.small))
@@ -59,7 +59,7 @@ difference-second-requires-clause-first c =
 pub difference-second-requires-clause-second : goal.difference-second-requires-clause-second
 difference-second-requires-clause-second c =
     let t = c.requires.test in
-    farther (2 ^ 33) (2 ^ 60) c.widened-form.result (omega arith)
+    IsWithin-weaker (2 ^ 33) (2 ^ 60) c.widened-form.result (omega arith)
     (form_within c.args.context.now.vars t.0 c.args.test.now t.1 t.2 c.widened-form.result c.multiple-quotients.result
     c.widened-form.ensures.form (c.multiple-quotients.ensures c.args.context.now.vars refl
     ∙ exact_product c.args.context.now.vars c.args.test.now.divisor t.1.small))

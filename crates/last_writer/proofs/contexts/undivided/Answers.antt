@@ -2,13 +2,13 @@
 use Rattle.std.proofs.Common.{◌≡◌, ◌+◌, ◌^◌, ◌∷◌, [], length, pos, negsuc, ◌-ℤ◌, map, refl, sym, ap, ◌∙◌, subst, arith}
 use Rattle.std.specs.Prelude.{Some}
 use Rattle.affine_core.specs.Affine.{form_product, form_sum, widened_form}
-use Rattle.lex_max.proofs.Small.{farther}
 use Rattle.row_sums.specs.Parts.{IsWithin}
+use Rattle.row_sums.proofs.Within.{IsWithin-weaker}
 use Rattle.source_tree.specs.Rows.{Take, Plus, minus, number, one_less, row_forms}
 use Rattle.source_tree.specs.Systems.{multiple, undivided_rows}
-use Rattle.last_writer.proofs.Answering.{above_over, above_within, form_over, form_within, last_is, last_over, last_own, last_within}
-use Rattle.last_writer.proofs.Answering.{made_below, quotients_over, quotients_within, rows_pushed, small_below, strict_is}
-use Rattle.last_writer.proofs.Answering.{exact_product, last_raised, raised_form, strict_within, two_rows}
+use Rattle.last_writer.proofs.AnswerContexts.{above_over, above_within, form_over, form_within, last_is, last_over, last_own, last_within}
+use Rattle.last_writer.proofs.AnswerContexts.{made_below, quotients_over, quotients_within, rows_pushed, small_below, strict_is}
+use Rattle.last_writer.proofs.AnswerContexts.{exact_product, last_raised, raised_form, strict_within, two_rows}
 use Rattle.last_writer.proofs.contexts.undivided.Goals as goal
 
 pub difference-above-requires-clause-over : goal.difference-above-requires-clause-over
@@ -25,7 +25,7 @@ difference-above-requires-clause-over c =
 pub difference-above-requires-clause-first : goal.difference-above-requires-clause-first
 difference-above-requires-clause-first c =
     let t = c.requires.test in
-    farther (2 ^ 33) (2 ^ 60) c.widened-form.result (omega arith)
+    IsWithin-weaker (2 ^ 33) (2 ^ 60) c.widened-form.result (omega arith)
     (form_within c.args.context.now.vars t.0 c.args.test.now t.1 t.2 c.widened-form.result c.multiple-quotients.result
     c.widened-form.ensures.form (c.multiple-quotients.ensures c.args.context.now.vars refl
     ∙ exact_product c.args.context.now.vars c.args.test.now.divisor t.1.small))
@@ -33,7 +33,7 @@ difference-above-requires-clause-first c =
 pub difference-above-requires-clause-second : goal.difference-above-requires-clause-second
 difference-above-requires-clause-second c =
     let t = c.requires.test in
-    farther (2 ^ 32) (2 ^ 60) c.multiple-quotients.result (omega arith)
+    IsWithin-weaker (2 ^ 32) (2 ^ 60) c.multiple-quotients.result (omega arith)
     (quotients_within c.args.context.now.vars t.0 c.args.test.now t.1 t.2 c.widened-form.result
     c.multiple-quotients.result c.widened-form.ensures.form (c.multiple-quotients.ensures c.args.context.now.vars refl
     ∙ exact_product c.args.context.now.vars c.args.test.now.divisor t.1.small))
@@ -48,7 +48,7 @@ raised-last-requires-clause-small c =
     let quotients = c.multiple-quotients.result in
     let is = c.widened-form.ensures.form in
     let are = c.multiple-quotients.ensures q refl ∙ exact_product q d.divisor t.1.small in
-    farther (2 ^ 32) (2 ^ 60) quotients (omega arith) (quotients_within q t.0 d t.1 t.2 form quotients is are)
+    IsWithin-weaker (2 ^ 32) (2 ^ 60) quotients (omega arith) (quotients_within q t.0 d t.1 t.2 form quotients is are)
 
 pub raised-first-requires-clause-small : goal.raised-first-requires-clause-small
 raised-first-requires-clause-small c =
@@ -61,7 +61,7 @@ raised-first-requires-clause-small c =
     let is = c.widened-form.ensures.form in
     let are = c.multiple-quotients.ensures q refl ∙ exact_product q d.divisor t.1.small in
     subst (IsWithin (2 ^ 60)) (sym c.difference-above.ensures)
-    (farther (2 ^ 41) (2 ^ 60) _ (omega arith) (above_within q t.0 d t.1 t.2 form quotients is are))
+    (IsWithin-weaker (2 ^ 41) (2 ^ 60) _ (omega arith) (above_within q t.0 d t.1 t.2 form quotients is are))
 
 pub difference-second-requires-clause-over : goal.difference-second-requires-clause-over
 difference-second-requires-clause-over c =
@@ -90,7 +90,7 @@ difference-second-requires-clause-first c =
     let are = c.multiple-quotients.ensures q refl ∙ exact_product q d.divisor t.1.small in
     subst (IsWithin (2 ^ 60))
     (sym (c.raised-last.ensures ∙ last_raised d.divisor quotients t.1.small))
-    (farther (2 ^ 34) (2 ^ 60) _ (omega arith) (last_own q t.0 d t.1 t.2 form quotients is are))
+    (IsWithin-weaker (2 ^ 34) (2 ^ 60) _ (omega arith) (last_own q t.0 d t.1 t.2 form quotients is are))
 
 pub difference-second-requires-clause-second : goal.difference-second-requires-clause-second
 difference-second-requires-clause-second c =
@@ -102,7 +102,7 @@ difference-second-requires-clause-second c =
     let quotients = c.multiple-quotients.result in
     let is = c.widened-form.ensures.form in
     let are = c.multiple-quotients.ensures q refl ∙ exact_product q d.divisor t.1.small in
-    farther (2 ^ 33) (2 ^ 60) form (omega arith) (form_within q t.0 d t.1 t.2 form quotients is are)
+    IsWithin-weaker (2 ^ 33) (2 ^ 60) form (omega arith) (form_within q t.0 d t.1 t.2 form quotients is are)
 
 pub returns-clause-made : goal.returns-clause-made
 returns-clause-made c cx h =

@@ -1,8 +1,8 @@
 use Rattle.std.proofs.Common.{◌≡◌, ◌∷◌, ◌&&◌, ◌∙◌, true, sym, ap, subst, rules}
 use Rattle.std.specs.List.{list_all}
 use Rattle.last_writer.specs.Leaves.{answer_at, IsRefusalAmong}
-use Rattle.last_writer.proofs.Adding.{match_weaker}
-use Rattle.last_writer.proofs.Gathering.{refusal_behind}
+use Rattle.last_writer.proofs.ProofSteps.{match_weaker}
+use Rattle.last_writer.proofs.WriterLists.{refusal_behind}
 use Rattle.last_writer.proofs.leaves.+first_no.Goals as goal
 
 pub returns : goal.returns

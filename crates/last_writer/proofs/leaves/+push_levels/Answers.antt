@@ -5,7 +5,7 @@ use Rattle.std.specs.Prelude.{All}
 use Rattle.std.proofs.lemmas.List.{nil_from_length}
 use Rattle.std.proofs.lemmas.List.Elements.{All-head, All-tail, All-weaker}
 use Rattle.std.proofs.lemmas.Result.{IfOk-weaker}
-use Rattle.last_writer.proofs.Stepping.{level_step, levels_none}
+use Rattle.last_writer.proofs.OrderSteps.{level_step, levels_none}
 use Rattle.stride_trees.specs.Contexts.{own_system, told_system}
 use Rattle.last_writer.proofs.leaves.+push_levels.Goals as goal
 

@@ -5,7 +5,7 @@ use Rattle.std.specs.List.{flat_map}
 use Rattle.std.proofs.lemmas.List.{nil_from_length}
 use Rattle.std.proofs.lemmas.List.Elements.{All-head, All-tail, All-weaker}
 use Rattle.std.proofs.lemmas.Result.{on_ok_weaker}
-use Rattle.last_writer.proofs.Stepping.{no_order, own_level_step, own_none}
+use Rattle.last_writer.proofs.OrderSteps.{no_order, own_level_step, own_none}
 use Rattle.stride_trees.specs.Contexts.{own_system}
 use Rattle.last_writer.proofs.leaves.+push_undivided_levels.Goals as goal
 

@@ -4,7 +4,7 @@ use Rattle.std.specs.Prelude.{All}
 use Rattle.std.proofs.lemmas.List.{length-append, nil_from_length}
 use Rattle.std.proofs.lemmas.List.Elements.{All-tail}
 use Rattle.std.proofs.lemmas.Result.{on_ok_weaker}
-use Rattle.last_writer.proofs.Stepping.{no_order, only_level, own_none, own_order_step, small_both}
+use Rattle.last_writer.proofs.OrderSteps.{no_order, only_level, own_none, own_order_step, small_both}
 use Rattle.stride_trees.specs.Contexts.{own_system}
 use Rattle.stride_trees.specs.Strides.{depth_of_write}
 use Rattle.last_writer.proofs.leaves.+push_undivided_orders.Goals as goal

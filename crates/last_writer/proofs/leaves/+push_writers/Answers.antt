@@ -7,8 +7,8 @@ use Rattle.std.proofs.lemmas.List.Elements.{All-head, All-tail}
 use Rattle.std.proofs.lemmas.Result.{on_ok_weaker}
 use Rattle.last_writer.specs.Leaves.{own_systems, told_systems}
 use Rattle.last_writer.specs.Writers.{IsWriterOf}
-use Rattle.lex_max.specs.Asked.{occurrence_of}
 use Rattle.source_tree.specs.Checked.{AreRefuted}
+use Rattle.source_tree.specs.References.{occurrence_of}
 use Rattle.last_writer.proofs.leaves.+push_writers.Goals as goal
 
 pub returns-in_default : goal.returns-in_default

@@ -1,13 +1,14 @@
 use Rattle.std.proofs.Common.{◌≡◌, ◌∷◌, length, sym, ap, subst, rules, arith}
 use Rattle.std.specs.Prelude.{Contains}
 use Rattle.last_writer.specs.Leaves.{HasWriter}
-use Rattle.last_writer.proofs.Gathering.{contains_behind, contains_here, has_behind}
+use Rattle.last_writer.proofs.WriterLists.{has_behind}
 use Rattle.last_writer.proofs.leaves.+writer_at.Goals as goal
+use Rattle.plain_data.proofs.Lists.{Contains-first, Contains-later}
 
 pub returns-then-writer-number-clause-among : goal.returns-then-writer-number-clause-among
 returns-then-writer-number-clause-among t c =
     let first : c.args.writers.now ≡ c.in-Some.writer.now ∷ c.in-Some.writers.now = search rules in
-    subst (λ ws. Contains ws c.in-Some.writer.now) (sym first) (contains_here c.in-Some.writer.now c.in-Some.writers.now)
+    subst (λ ws. Contains ws c.in-Some.writer.now) (sym first) (Contains-first c.in-Some.writer.now c.in-Some.writers.now)
 
 pub writer_at-requires : goal.writer_at-requires
 writer_at-requires t c =
@@ -21,4 +22,4 @@ pub returns-clause-among : goal.returns-clause-among
 returns-clause-among t c =
     let first : c.args.writers.now ≡ c.in-Some.writer.now ∷ c.in-Some.writers.now = search rules in
     subst (λ ws. Contains ws c.writer_at.result.now) (sym first)
-    (contains_behind c.in-Some.writer.now c.in-Some.writers.now c.writer_at.result.now c.writer_at.ensures.among)
+    (Contains-later c.in-Some.writer.now c.in-Some.writers.now c.writer_at.result.now c.writer_at.ensures.among)

@@ -1,7 +1,7 @@
 use Rattle.std.proofs.Common.{arith}
-use Rattle.candidate_order.proofs.Counting.{few_before}
-use Rattle.lex_max.specs.Asked.{occurrence_of}
+use Rattle.candidate_order.proofs.LevelCounts.{few_before}
 use Rattle.last_writer.proofs.leaves.after_count.Goals as goal
+use Rattle.source_tree.specs.References.{occurrence_of}
 
 pub overflow_add-result : goal.overflow_add-result
 overflow_add-result c = omega (

@@ -3,14 +3,14 @@
 use Rattle.std.proofs.Common.{◌≡◌, ◌≤◌, true, sym, ◌∙◌, subst, refl}
 use Rattle.std.specs.Prelude.{All, MatchOption}
 use Rattle.std.proofs.lemmas.Result.{IfOk-weaker}
-use Rattle.last_writer.proofs.Standing.{adds_converted, adds_refused, can_be_converted, few_behind, few_counts, is_refusal}
-use Rattle.last_writer.proofs.Standing.{zip_count}
+use Rattle.last_writer.proofs.LeafConversion.{adds_converted, adds_refused, can_be_converted, few_behind, few_counts, is_refusal}
+use Rattle.last_writer.proofs.LeafConversion.{zip_count}
 use Rattle.last_writer.specs.Leaves.{counts_behind, is_told, order_counts, AreOrderRows, IsRefusalAmong}
 use Rattle.last_writer.specs.Writers.{IsTestAt}
-use Rattle.lex_max.specs.Asked.{occurrence_of}
-use Rattle.stride_trees.proofs.Fitting.{are_fitting}
+use Rattle.stride_trees.proofs.ProblemBounds.{are_fitting}
 use Rattle.stride_trees.specs.Strides.{read_of, write_of}
 use Rattle.last_writer.proofs.leaves.push_writer.Goals as goal
+use Rattle.source_tree.specs.References.{occurrence_of}
 
 pub row_counts-requires : goal.row_counts-requires
 row_counts-requires c =

@@ -7,14 +7,14 @@ use Rattle.std.proofs.lemmas.List.Elements.{All-contains, All-drop, All-take}
 use Rattle.affine_core.specs.declared.form.Form.{Form}
 use Rattle.candidate_order.specs.Joint.{orders_behind, IsSum}
 use Rattle.int_polyhedra.specs.declared.system.Proof.{Proof}
-use Rattle.last_writer.proofs.Pointing.{cells_inside, count_inside, first, front_is, is_place, is_told_here, last_is, leaf_writer}
-use Rattle.last_writer.proofs.Pointing.{middle_is, own_point, place_count, second, writer_fits}
-use Rattle.last_writer.proofs.Standing.{can_be_converted, tested}
+use Rattle.last_writer.proofs.WriterLeaves.{cells_inside, count_inside, first, front_is, is_place, is_told_here, last_is, leaf_writer}
+use Rattle.last_writer.proofs.WriterLeaves.{middle_is, own_point, place_count, second, writer_fits}
+use Rattle.last_writer.proofs.LeafConversion.{can_be_converted, tested}
 use Rattle.last_writer.specs.Leaves.{after_systems_count, told_systems}
 use Rattle.last_writer.specs.Writers.{IsWriterOf}
-use Rattle.lex_max.specs.Asked.{occurrence_of}
 use Rattle.source_tree.specs.Checked.{AreRefuted}
 use Rattle.source_tree.specs.Systems.{Context}
+use Rattle.source_tree.specs.References.{occurrence_of}
 use Rattle.stride_trees.specs.Contexts.{outside_cell_systems, IsPlaceIn, IsTestedContext}
 use Rattle.stride_trees.specs.Problem.{told_read, told_write}
 use Rattle.stride_trees.specs.Strides.{depth_of_write, read_of, write_of}

@@ -6,12 +6,12 @@ use Rattle.std.specs.Prelude.{Some, slice_get}
 use Rattle.std.proofs.lemmas.Option.{slice_get_within}
 use Rattle.std.proofs.lemmas.Result.{IfOk-weaker}
 use Rattle.affine_core.specs.Affine.{widened_form}
-use Rattle.last_writer.proofs.Joining.{answers_more, divides_checked, few_loops, few_rows, made_more, small_at, vars_below}
+use Rattle.last_writer.proofs.JointTrees.{answers_more, divides_checked, few_loops, few_rows, made_more, small_at, vars_below}
 use Rattle.last_writer.specs.Answers.{answered_context}
 use Rattle.last_writer.specs.Leaves.{context_of}
-use Rattle.lex_max.specs.Asked.{occurrence_of}
 use Rattle.source_tree.specs.Checked.{IsCheckedIn}
 use Rattle.source_tree.specs.Systems.{every, root_context}
+use Rattle.source_tree.specs.References.{occurrence_of}
 use Rattle.last_writer.proofs.source.+answered.Goals as goal
 
 -- All tests have an answer
@@ -29,11 +29,11 @@ answered-joined-requires-clause-few t c =
 
 pub answered-answered_next-requires : goal.answered-answered_next-requires
 answered-answered_next-requires t c =
-    (omega arith, (c.requires.answered, (c.requires.told, (c.requires.made, (c.requires.rows, (c.requires.count, (c.in-Some.ensures, search rules)))))))
+    (omega arith, (c.requires.answered, (c.requires.told, (c.requires.made, (c.requires.rows, (c.requires.count, c.in-Some.ensures))))))
 
 pub answered-answered_next-requires-2 : goal.answered-answered_next-requires-2
 answered-answered_next-requires-2 t c =
-    (omega arith, (c.requires.answered, (c.requires.told, (c.requires.made, (c.requires.rows, (c.requires.count, (c.in-Some.ensures, search rules)))))))
+    (omega arith, (c.requires.answered, (c.requires.told, (c.requires.made, (c.requires.rows, (c.requires.count, c.in-Some.ensures))))))
 
 pub answered-divides-requires-clause-wider : goal.answered-divides-requires-clause-wider
 answered-divides-requires-clause-wider t c =
@@ -51,15 +51,15 @@ answered-divides-requires-clause-few t c =
     let h = c.requires.answered in
     omega (arith, vars_below w c.args.context.now h c.requires.made, few_loops w h, h.few, h.answers)
 
-pub answered-returns-in-Ok-clause-tree : goal.answered-returns-in-Ok-clause-tree
-answered-returns-in-Ok-clause-tree t c =
+pub answered-returns-in-Ok : goal.answered-returns-in-Ok
+answered-returns-in-Ok t c =
     let w = c.args.w.now in
     let h = c.requires.answered in
     let test = c.in-Some.test.now in
     IfOk-weaker c.divides.result _ _
     (λ tree is. divides_checked w test tree (widened_form c.args.context.now.vars test.form) c.in_ok-yes.yes c.in-Ok.no h
-    c.in-Some.ensures is (ap (λ v. widened_form v test.form) (sym c.requires.made.vars)) c.in_ok-yes.ensures.tree
-    (rw c.in-Ok.is at c.answered_next-2.ensures.tree)) c.divides.ensures
+    c.in-Some.ensures is (ap (λ v. widened_form v test.form) (sym c.requires.made.vars)) c.in_ok-yes.ensures
+    (rw c.in-Ok.is at c.answered_next-2.ensures)) c.divides.ensures
 
 -- The tree below one answer more
 
@@ -99,18 +99,18 @@ answered_next-answered-requires t c =
                 (c.in_ok-next.ensures.made (context_of w) c.requires.made),
             (
               c.in_ok-next.ensures.rows,
-              (omega (arith, c.in_ok-next.ensures.count, c.requires.count, one), search rules),
+              omega (arith, c.in_ok-next.ensures.count, c.requires.count, one),
             ),
           ),
         ),
       ),
     )
 
-pub answered_next-returns-clause-tree : goal.answered_next-returns-clause-tree
-answered_next-returns-clause-tree t c =
+pub answered_next-returns : goal.answered_next-returns
+answered_next-returns t c =
     let w = c.args.w.now in
     let r = occurrence_of w.read in
     let more : c.as_slice.result.now ≡ w.answers.now ++ c.args.answer ∷ [] = c.as_slice.ensures ∙ c.in_ok-answers.ensures in
     IfOk-weaker c.answered.result _ _
     (λ tree. subst (λ answers. IsCheckedIn w.nest.now r every (answered_context (root_context r) w.tests.now answers) tree)
-    more) c.answered.ensures.tree
+    more) c.answered.ensures

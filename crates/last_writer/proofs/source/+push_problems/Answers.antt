@@ -9,15 +9,15 @@ use Rattle.std.proofs.lemmas.Result.{on_ok_weaker}
 use Rattle.candidate_order.specs.Reads.{pair_in, pairs_with}
 use Rattle.candidate_order.specs.declared.candidates.Problem.{Problem}
 use Rattle.candidate_order.specs.declared.candidates.Read.{Read}
-use Rattle.last_writer.proofs.Standing.{refused}
-use Rattle.last_writer.proofs.Telling.{one_more, pairs_refused, pairs_told, problem_pair}
+use Rattle.last_writer.proofs.LeafConversion.{refused}
+use Rattle.last_writer.proofs.QuotientWrites.{one_more, pairs_refused, pairs_told, problem_pair}
 use Rattle.last_writer.specs.Leaves.{told_pair, told_pairs}
 use Rattle.last_writer.specs.Told.{IsTold}
 use Rattle.last_writer.specs.declared.source.Told.{Told}
 use Rattle.last_writer.specs.declared.writers.Writer.{Writer}
-use Rattle.lex_max.specs.Asked.{occurrence_of}
 use Rattle.stride_trees.specs.Strides.{read_of}
 use Rattle.last_writer.proofs.source.+push_problems.Goals as goal
+use Rattle.source_tree.specs.References.{occurrence_of}
 
 abbrev IsOf : Read → Writer → Type 0
 IsOf r w = read_of w.strides ≡ occurrence_of r.reference

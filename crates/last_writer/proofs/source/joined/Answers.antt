@@ -5,13 +5,13 @@ use Rattle.std.proofs.lemmas.List.Elements.{All-weaker}
 use Rattle.std.proofs.lemmas.Result.{IfOk-weaker}
 use Rattle.candidate_order.specs.Contexts.{IsMadeAs}
 use Rattle.int_polyhedra.specs.declared.system.System.{System}
-use Rattle.last_writer.proofs.Joining.{below_here, joined_below, pairs_joined, read_joined}
-use Rattle.last_writer.proofs.Standing.{zip_count}
+use Rattle.last_writer.proofs.JointTrees.{below_here, joined_below, pairs_joined, read_joined}
+use Rattle.last_writer.proofs.LeafConversion.{zip_count}
 use Rattle.last_writer.specs.Answers.{HasSmallRows}
 use Rattle.last_writer.specs.Leaves.{context_of}
 use Rattle.last_writer.specs.Writers.{IsTestAt, IsWriterOf}
-use Rattle.lex_max.specs.Asked.{occurrence_of}
 use Rattle.last_writer.proofs.source.joined.Goals as goal
+use Rattle.source_tree.specs.References.{occurrence_of}
 
 pub push_problems-requires : goal.push_problems-requires
 push_problems-requires c =
@@ -20,8 +20,8 @@ push_problems-requires c =
     (λ x of. zip_count (IsTestAt w.tests.now) x.divisions x.places of.places) w.writers.now
     c.requires.answered.writers.each
 
-pub join-requires-clause-joined : goal.join-requires-clause-joined
-join-requires-clause-joined c =
+pub join-requires : goal.join-requires
+join-requires c =
     let w = c.args.w.now in
     let r = c.read_with-read.result in
     let read = c.read_with-read.ensures in
@@ -43,11 +43,11 @@ converted-requires-clause-tree c =
     c.in_ok-push_problems.ensures in
     let below = below_here w c.args.context.now c.len.result c.len.ensures c.requires.all c.requires.made c.requires.rows in
     let checked = joined_below w r c.args.context.now c.in_ok-tree.tree c.requires.made read.context pairs
-    c.in_ok-tree.ensures.tree in
+    c.in_ok-tree.ensures.joined in
     (context_of w, below, checked)
 
-pub returns-clause-tree : goal.returns-clause-tree
-returns-clause-tree c =
+pub returns : goal.returns
+returns c =
     let w = c.args.w.now in
     let r = c.read_with-read.result in
     let read = c.read_with-read.ensures in
@@ -56,5 +56,9 @@ returns-clause-tree c =
     c.in_ok-push_problems.ensures in
     let below = below_here w c.args.context.now c.len.result c.len.ensures c.requires.all c.requires.made c.requires.rows in
     let checked = joined_below w r c.args.context.now c.in_ok-tree.tree c.requires.made read.context pairs
-    c.in_ok-tree.ensures.tree in
+    c.in_ok-tree.ensures.joined in
     IfOk-weaker c.converted.result _ _ (λ own converts. converts (context_of w) below checked) c.converted.ensures
+
+pub converted-requires-clause-here : goal.converted-requires-clause-here
+converted-requires-clause-here c =
+    omega (arith, c.len.ensures, ap (λ (s : System). length s.rows) c.read_with-read.ensures.context, c.in_ok-tree.ensures.low)

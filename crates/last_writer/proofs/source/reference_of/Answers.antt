@@ -1,10 +1,10 @@
-use Rattle.std.proofs.Common.{◌≡◌, ◌<◌, length, sym, ap, ◌∙◌, arith}
+use Rattle.std.proofs.Common.{◌≡◌, ◌<◌, length, sym, ap, ◌∙◌, arith, refl}
 use Rattle.std.specs.Prelude.{Some, slice_get}
-use Rattle.std.proofs.lemmas.Option.{same_Some, slice_get_within}
-use Rattle.candidate_order.proofs.Asking.{element_is}
-use Rattle.last_writer.proofs.Reading.{read_is, reader_there}
+use Rattle.std.proofs.lemmas.Option.{same_Some, slice_get_within, slice_get_read}
+use Rattle.last_writer.proofs.ReadClass.{reader_there}
 use Rattle.sanlp.specs.declared.nest.Statement.{Statement}
 use Rattle.last_writer.proofs.source.reference_of.Goals as goal
+use Rattle.stride_rows.proofs.ReadClass.{read_is}
 
 pub statement-reader-requires : goal.statement-reader-requires
 statement-reader-requires c =
@@ -42,5 +42,5 @@ returns-clause-read c =
     ) in
     let access_is : slice_get s.reads c.args.read ≡ Some access =
     ap (λ reads. slice_get reads c.args.read) (sym c.as_slice.ensures)
-    ∙ element_is c.as_slice.result.now c.args.read access inside c.index-as_slice-read.is in
+    ∙ slice_get_read c.as_slice.result.now (length c.as_slice.result.now) c.args.read access refl inside c.index-as_slice-read.is in
     read_is n c.args.statement c.args.read s access c.statement-reader.ensures.value access_is

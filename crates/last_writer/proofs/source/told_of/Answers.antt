@@ -1,7 +1,7 @@
 use Rattle.std.proofs.Common.{◌^◌, sym, subst}
 use Rattle.std.specs.Prelude.{All}
 use Rattle.row_sums.specs.Parts.{IsWithin}
-use Rattle.stride_trees.proofs.Fitting.{all_within, are_fitting}
+use Rattle.stride_trees.proofs.ProblemBounds.{all_within, are_fitting}
 use Rattle.stride_trees.specs.Strides.{depth_of_write, read_of, write_of}
 use Rattle.last_writer.proofs.source.told_of.Goals as goal
 

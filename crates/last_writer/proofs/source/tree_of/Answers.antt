@@ -4,10 +4,10 @@ use Rattle.std.proofs.Common.{length, sym, ap, ◌∙◌, subst, arith}
 use Rattle.std.specs.Prelude.{IsTrue}
 use Rattle.std.specs.List.{list_all, sum_by}
 use Rattle.std.proofs.lemmas.Result.{IfOk-weaker}
-use Rattle.last_writer.proofs.Beginning.{all_placed, all_strided, asked_read, begun, checked_root, gathered, reader_rows}
-use Rattle.last_writer.proofs.Beginning.{root_made, root_small}
-use Rattle.last_writer.proofs.Joining.{few_loops}
-use Rattle.lex_max.specs.declared.writes.Reference.{Reference}
+use Rattle.last_writer.proofs.RootContexts.{all_placed, all_strided, asked_read, begun, checked_root, gathered, reader_rows}
+use Rattle.last_writer.proofs.RootContexts.{root_made, root_small}
+use Rattle.last_writer.proofs.JointTrees.{few_loops}
+use Rattle.source_tree.specs.declared.reference.Reference.{Reference}
 use Rattle.source_tree.specs.Systems.{writes_from}
 use Rattle.stride_rows.specs.Class.{stride_count, writes_strides}
 use Rattle.last_writer.proofs.source.tree_of.Goals as goal
@@ -140,4 +140,4 @@ returns c =
     let w = c.unanswered-w.result in
     let of = c.unanswered-w.ensures in
     IfOk-weaker c.answered.result _ _
-    (λ tree. checked_root w c.args.nest.now c.args.read.now tree of.nest of.read of.answers) c.answered.ensures.tree
+    (λ tree. checked_root w c.args.nest.now c.args.read.now tree of.nest of.read of.answers) c.answered.ensures

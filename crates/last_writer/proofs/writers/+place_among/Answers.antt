@@ -1,6 +1,6 @@
 use Rattle.std.proofs.Common.{◌≡◌, ◌+◌, ◌∷◌, length, sym, ap, subst, rules, arith}
-use Rattle.last_writer.proofs.Adding.{if_some_weaker}
-use Rattle.last_writer.proofs.Gathering.{test_behind, test_here}
+use Rattle.last_writer.proofs.ProofSteps.{if_some_weaker}
+use Rattle.last_writer.proofs.WriterLists.{test_behind, test_here}
 use Rattle.last_writer.specs.Writers.{IsTestAt}
 use Rattle.last_writer.proofs.writers.+place_among.Goals as goal
 

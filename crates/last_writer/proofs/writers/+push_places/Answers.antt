@@ -1,8 +1,8 @@
 use Rattle.std.proofs.Common.{◌≡◌, ◌∷◌, [], length, sym, ap, subst, rules, arith, length-append}
 use Rattle.std.proofs.lemmas.List.{nil_from_length}
 use Rattle.std.proofs.lemmas.Result.{on_ok_weaker}
-use Rattle.last_writer.proofs.Gathering.{adds_more, adds_none, places_more, places_none}
-use Rattle.last_writer.proofs.Adding.{on_ok_both}
+use Rattle.last_writer.proofs.WriterLists.{adds_more, adds_none, places_more, places_none}
+use Rattle.last_writer.proofs.ProofSteps.{on_ok_both}
 use Rattle.last_writer.specs.Writers.{AddsPlaces, AddsTests}
 use Rattle.last_writer.proofs.writers.+push_places.Goals as goal
 

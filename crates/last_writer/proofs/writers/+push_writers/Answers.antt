@@ -3,10 +3,10 @@ use Rattle.std.specs.Prelude.{IsTrue}
 use Rattle.std.specs.List.{list_all, sum_by}
 use Rattle.std.proofs.lemmas.List.{append-nil, append_assoc, nil_from_length}
 use Rattle.std.proofs.lemmas.Result.{on_ok_weaker}
-use Rattle.last_writer.proofs.Following.{all_of_others, first_fits, from_here, from_next, sum_of_both, writes_of_both}
+use Rattle.last_writer.proofs.StatementWrites.{all_of_others, first_fits, from_here, from_next, sum_of_both, writes_of_both}
 use Rattle.last_writer.specs.Writers.{AreWriters}
-use Rattle.lex_max.specs.Asked.{occurrence_of}
 use Rattle.source_tree.specs.Systems.{with_write, write_to, writes_from}
+use Rattle.source_tree.specs.References.{occurrence_of}
 use Rattle.stride_rows.specs.Class.{stride_count, writes_strides}
 use Rattle.last_writer.proofs.writers.+push_writers.Goals as goal
 

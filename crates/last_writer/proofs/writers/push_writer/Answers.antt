@@ -4,11 +4,11 @@ use Rattle.std.specs.List.{sum_by}
 use Rattle.std.proofs.lemmas.List.Sums.{sum_by-cons}
 use Rattle.std.proofs.lemmas.Result.{on_ok_weaker}
 use Rattle.candidate_order.specs.Candidates.{levels_before}
-use Rattle.last_writer.proofs.Following.{says_before, says_not, strided_at}
-use Rattle.last_writer.proofs.Gathering.{few_of, left_out, one_writer, writers_none}
+use Rattle.last_writer.proofs.StatementWrites.{says_before, says_not, strided_at}
+use Rattle.last_writer.proofs.WriterLists.{few_of, left_out, one_writer, writers_none}
 use Rattle.last_writer.specs.Writers.{AddsTests, AreWriters, IsWriterOf}
-use Rattle.lex_max.specs.Asked.{occurrence_of}
 use Rattle.source_tree.specs.Systems.{with_write}
+use Rattle.source_tree.specs.References.{occurrence_of}
 use Rattle.stride_rows.specs.Class.{stride_count, writes_strides}
 use Rattle.stride_trees.specs.Strides.{read_of, tests_of, write_of}
 use Rattle.last_writer.proofs.writers.push_writer.Goals as goal

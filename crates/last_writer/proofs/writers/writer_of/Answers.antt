@@ -1,8 +1,8 @@
 use Rattle.std.proofs.Common.{◌≡◌, ◌^◌, length, sym, ap, ◌∙◌, subst, arith}
 use Rattle.std.specs.Prelude.{All}
 use Rattle.row_sums.specs.Parts.{IsWithin}
-use Rattle.stride_trees.proofs.Fitting.{all_within, are_fitting}
-use Rattle.stride_trees.proofs.Listing.{few_tests}
+use Rattle.stride_trees.proofs.ProblemBounds.{all_within, are_fitting}
+use Rattle.stride_trees.proofs.TestCounts.{few_tests}
 use Rattle.stride_trees.specs.Divisions.{divisions_from}
 use Rattle.stride_trees.specs.Strides.{depth_of_read, depth_of_write, read_of, tests_of, write_of}
 use Rattle.last_writer.proofs.writers.writer_of.Goals as goal

@@ -2,7 +2,7 @@ use Rattle.std.proofs.Common.{◌≡◌, ◌∷◌, sym, ◌∙◌, subst, rules
 use Rattle.std.specs.Prelude.{Some}
 use Rattle.std.proofs.lemmas.Result.{IfOk-weaker}
 use Rattle.lex_max.specs.Closed.{IsBettered}
-use Rattle.lex_max.proofs.Walking.{bettered_by, bettered_past, dropped_at}
+use Rattle.lex_max.proofs.PathSums.{bettered_by, bettered_past, dropped_at}
 use Rattle.lex_max.proofs.closure.+bettered.Goals as goal
 
 pub returns-then-betters : goal.returns-then-betters

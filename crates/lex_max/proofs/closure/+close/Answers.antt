@@ -3,7 +3,7 @@ use Rattle.std.specs.Prelude.{IfNone, IfSome}
 use Rattle.std.proofs.lemmas.Result.{IfOk-weaker}
 use Rattle.lex_max.specs.Closed.{value_at, AreBounds, IsNegativeCycle}
 use Rattle.lex_max.specs.declared.edges.Edge.{Edge}
-use Rattle.lex_max.proofs.Closing.{closed_last, closed_next, closed_wider, few_doublings, small_power}
+use Rattle.lex_max.proofs.FloydWarshall.{closed_last, closed_next, closed_wider, few_doublings, small_power}
 use Rattle.row_sums.specs.Closure.{NotNegative}
 use Rattle.lex_max.proofs.closure.+close.Goals as goal
 

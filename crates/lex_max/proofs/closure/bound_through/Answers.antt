@@ -1,7 +1,7 @@
 use Rattle.std.proofs.Common.{sym, ap, ◌∙◌, arith}
 use Rattle.std.specs.Option.{option_copied}
 use Rattle.std.proofs.lemmas.Result.{IfOk-weaker}
-use Rattle.lex_max.proofs.Closing.{bound_small}
+use Rattle.lex_max.proofs.FloydWarshall.{bound_small}
 use Rattle.lex_max.proofs.closure.bound_through.Goals as goal
 
 pub lesser_bound-requires-clause-first : goal.lesser_bound-requires-clause-first

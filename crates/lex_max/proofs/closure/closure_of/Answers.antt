@@ -1,5 +1,5 @@
 use Rattle.std.proofs.lemmas.Result.{IfOk-weaker}
-use Rattle.lex_max.proofs.Closing.{closed_first}
+use Rattle.lex_max.proofs.FloydWarshall.{closed_first}
 use Rattle.lex_max.proofs.closure.closure_of.Goals as goal
 
 pub close-requires-clause-closed : goal.close-requires-clause-closed

@@ -1,6 +1,6 @@
 use Rattle.std.proofs.Common.{refl}
 use Rattle.std.proofs.lemmas.Result.{IfOk-weaker}
-use Rattle.lex_max.proofs.Walking.{first_from}
+use Rattle.lex_max.proofs.PathSums.{first_from}
 use Rattle.lex_max.proofs.closure.first_bound.Goals as goal
 
 pub returns : goal.returns

@@ -1,5 +1,5 @@
 use Rattle.std.proofs.lemmas.Result.{IfOk-weaker}
-use Rattle.lex_max.proofs.Closing.{through_less, through_more}
+use Rattle.lex_max.proofs.FloydWarshall.{through_less, through_more}
 use Rattle.lex_max.proofs.closure.lesser_bound.Goals as goal
 
 pub returns-then-is_shorter : goal.returns-then-is_shorter

@@ -1,6 +1,6 @@
 use Rattle.std.proofs.Common.{◌≡◌, ◌+◌, sym, subst, arith}
 use Rattle.lex_max.specs.Closed.{AreEach, IsThrough}
-use Rattle.lex_max.proofs.Closing.{each_none, each_push}
+use Rattle.lex_max.proofs.FloydWarshall.{each_none, each_push}
 use Rattle.lex_max.proofs.closure.row_through.Goals as goal
 
 pub loop-to-init : goal.loop-to-init

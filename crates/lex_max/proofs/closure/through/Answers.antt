@@ -4,7 +4,7 @@ use Rattle.lex_max.specs.Closed.{AreEach, IsThrough}
 use Rattle.lex_max.specs.declared.closure.Bound.{Bound}
 use Rattle.lex_max.specs.declared.closure.Bounds.{Bounds}
 use Rattle.lex_max.specs.declared.edges.Edge.{Edge}
-use Rattle.lex_max.proofs.Closing.{each_none, each_push}
+use Rattle.lex_max.proofs.FloydWarshall.{each_none, each_push}
 use Rattle.lex_max.proofs.closure.through.Goals as goal
 
 abbrev AreThrough : List Edge → ℕ → Bounds → ℕ → ℕ → ℕ → List (Option Bound) → Type 0

@@ -1,6 +1,6 @@
 use Rattle.std.proofs.Common.{◌≡◌, ◌∷◌, ◌∙◌, length, ap, rules, arith}
 use Rattle.std.proofs.lemmas.Result.{on_ok_weaker}
-use Rattle.lex_max.proofs.Walking.{dropped_at}
+use Rattle.lex_max.proofs.PathSums.{dropped_at}
 use Rattle.lex_max.proofs.cycles.+push_cycles.Goals as goal
 
 pub push_back-requires-clause-is : goal.push_back-requires-clause-is

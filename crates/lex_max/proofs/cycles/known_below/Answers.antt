@@ -3,7 +3,7 @@ use Rattle.std.proofs.lemmas.Option.{same_Some, IfSome_then}
 use Rattle.std.proofs.lemmas.Result.{IfOk-weaker}
 use Rattle.affine_core.specs.declared.form.Form.{Form}
 use Rattle.lex_max.specs.Facts.{form_parts, IsFact}
-use Rattle.lex_max.proofs.Deciding.{opposite_is, opposite_long}
+use Rattle.lex_max.proofs.DecisionContexts.{opposite_is, opposite_long}
 use Rattle.lex_max.proofs.cycles.known_below.Goals as goal
 
 pub known-requires-clause-over : goal.known-requires-clause-over

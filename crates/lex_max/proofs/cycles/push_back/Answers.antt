@@ -3,9 +3,9 @@ use Rattle.std.proofs.lemmas.Result.{on_ok_weaker}
 use Rattle.lex_max.specs.Asked.{depth_of_write}
 use Rattle.lex_max.specs.Edges.{IsEdge}
 use Rattle.lex_max.specs.Rounds.{IsBack}
-use Rattle.lex_max.proofs.Rounding.{self_is_cycle}
-use Rattle.lex_max.proofs.Walking.{all_at}
+use Rattle.lex_max.proofs.ZeroCycles.{self_is_cycle}
 use Rattle.lex_max.proofs.cycles.push_back.Goals as goal
+use Rattle.plain_data.proofs.Lists.{All-slice_get}
 
 pub returns-then-edge-depth-2-clause-each : goal.returns-then-edge-depth-2-clause-each
 returns-then-edge-depth-2-clause-each c =
@@ -14,7 +14,7 @@ returns-then-edge-depth-2-clause-each c =
     let g = c.args.edge.now in
     let first : g.from ≡ depth_of_write w = omega (arith, c.depth-2.ensures) in
     let last : g.to ≡ depth_of_write w = omega (arith, c.depth.ensures) in
-    let edge = all_at (IsEdge w.vars (depth_of_write w)) edges c.args.number g c.requires.graph.graph.each
+    let edge = All-slice_get (IsEdge w.vars (depth_of_write w)) edges c.args.number g c.requires.graph.graph.each
     c.requires.is in
     on_ok_weaker c.push_least.result
     (λ h all.

@@ -1,7 +1,7 @@
 use Rattle.std.proofs.Common.{length, ap, arith}
 use Rattle.std.proofs.lemmas.List.{length-set, length_push}
 use Rattle.std.proofs.lemmas.Result.{on_ok_weaker}
-use Rattle.lex_max.proofs.Cycling.{cycles_push, cycles_set}
+use Rattle.lex_max.proofs.CycleEdges.{cycles_push, cycles_set}
 use Rattle.lex_max.proofs.cycles.push_least.Goals as goal
 
 pub returns-then-place-count-clause-each : goal.returns-then-place-count-clause-each

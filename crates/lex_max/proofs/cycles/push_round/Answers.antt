@@ -2,7 +2,7 @@ use Rattle.std.proofs.Common.{◌≡◌, sym, ap, ◌∙◌, arith}
 use Rattle.std.specs.Option.{option_copied}
 use Rattle.std.proofs.lemmas.Result.{on_ok_weaker}
 use Rattle.lex_max.specs.Asked.{depth_of_write}
-use Rattle.lex_max.proofs.Cycling.{round_asked}
+use Rattle.lex_max.proofs.CycleEdges.{round_asked}
 use Rattle.lex_max.proofs.cycles.push_round.Goals as goal
 
 pub round-requires : goal.round-requires

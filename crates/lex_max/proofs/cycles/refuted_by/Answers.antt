@@ -4,9 +4,10 @@ use Rattle.int_polyhedra.specs.Steps.{negation_of}
 use Rattle.affine_core.specs.declared.form.Form.{Form}
 use Rattle.lex_max.specs.Answer.{IsContradiction}
 use Rattle.lex_max.specs.Facts.{form_parts, IsFact}
-use Rattle.lex_max.proofs.Deciding.{context_is, known_contradicts}
-use Rattle.lex_max.proofs.Small.{farther, opposite_fits, opposite_form}
+use Rattle.lex_max.proofs.DecisionContexts.{context_is, known_contradicts}
+use Rattle.lex_max.proofs.Small.{opposite_fits, opposite_form}
 use Rattle.lex_max.proofs.cycles.refuted_by.Goals as goal
+use Rattle.row_sums.proofs.Within.{IsWithin-weaker}
 
 pub known_below-requires-clause-context : goal.known_below-requires-clause-context
 known_below-requires-clause-context c =
@@ -17,7 +18,7 @@ known_below-requires-clause-over c = c.requires.cycle.2.over ∙ sym c.requires.
 
 pub known_below-requires-clause-small : goal.known_below-requires-clause-small
 known_below-requires-clause-small c =
-    farther (2 ^ 40) (2 ^ 60) c.args.cycle.now.form (omega arith) c.requires.cycle.2.within
+    IsWithin-weaker (2 ^ 40) (2 ^ 60) c.args.cycle.now.form (omega arith) c.requires.cycle.2.within
 
 pub zero_leaf-leaf-requires-clause-refuted : goal.zero_leaf-leaf-requires-clause-refuted
 zero_leaf-leaf-requires-clause-refuted c =
@@ -27,7 +28,7 @@ zero_leaf-leaf-requires-clause-refuted c =
     let cycle = c.args.cycle.now in
     let shown = c.in-Some.shown in
     let row = opposite_form cycle.form in
-    let row_is = opposite_fits cycle.form (farther (2 ^ 40) (2 ^ 60) cycle.form (omega arith) h.2.within) in
+    let row_is = opposite_fits cycle.form (IsWithin-weaker (2 ^ 40) (2 ^ 60) cycle.form (omega arith) h.2.within) in
     let told = subst (λ o. IfSome o (λ terms. (row : Form) → negation_of cycle.form ≡ Some row
     → IsFact context 65536 (form_parts row) terms)) c.in-Some.is c.in_ok-shown.ensures in
     let against = known_contradicts w h.0 context cycle row shown c.requires.context.vars h.2 row_is

@@ -1,8 +1,8 @@
 use Rattle.std.proofs.Common.{◌++◌, ◌^◌, ℤ, ◌+ℤ◌, [], ◌∷◌, sym, ap, ◌∙◌, subst}
 use Rattle.affine_core.specs.declared.form.Form.{Form}
 use Rattle.lex_max.specs.Paths.{term_of}
-use Rattle.lex_max.proofs.Cycling.{round_even, round_near, round_small, round_sum_small}
-use Rattle.lex_max.proofs.Rounding.{round_is_cycle}
+use Rattle.lex_max.proofs.CycleEdges.{round_even, round_near, round_small, round_sum_small}
+use Rattle.lex_max.proofs.ZeroCycles.{round_is_cycle}
 use Rattle.row_sums.specs.Parts.{IsWithin}
 use Rattle.lex_max.proofs.cycles.round.Goals as goal
 

@@ -4,12 +4,12 @@ use Rattle.std.proofs.lemmas.Result.{IfOk-weaker}
 use Rattle.affine_core.specs.declared.form.Form.{Form}
 use Rattle.int_polyhedra.specs.declared.system.System.{System}
 use Rattle.lex_max.specs.Answer.{IsAnswer, IsContradiction}
-use Rattle.lex_max.proofs.Deciding.{added_contradicts, context_more, cycle_row_over, cycle_row_small}
-use Rattle.lex_max.proofs.Small.{farther}
+use Rattle.lex_max.proofs.DecisionContexts.{added_contradicts, context_more, cycle_row_over, cycle_row_small}
 use Rattle.lex_max.proofs.cycles.zero_below.Goals as goal
+use Rattle.row_sums.proofs.Within.{IsWithin-weaker}
 
 pub opposite-row-requires : goal.opposite-row-requires
-opposite-row-requires c = farther (2 ^ 40) (2 ^ 60) c.args.cycle.now.form (omega arith) c.requires.cycle.2.within
+opposite-row-requires c = IsWithin-weaker (2 ^ 40) (2 ^ 60) c.args.cycle.now.form (omega arith) c.requires.cycle.2.within
 
 pub zero_leaf-requires-clause-context : goal.zero_leaf-requires-clause-context
 zero_leaf-requires-clause-context c =

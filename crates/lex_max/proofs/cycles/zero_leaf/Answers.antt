@@ -1,8 +1,8 @@
 use Rattle.std.proofs.Common.{[], ◌∷◌, ◌++◌, ap, ◌∙◌}
 use Rattle.int_polyhedra.specs.declared.system.Proof.TheVariants.{Sum}
 use Rattle.lex_max.specs.Paths.{terms_from}
-use Rattle.lex_max.proofs.Cycling.{rows_fit}
-use Rattle.lex_max.proofs.Zeroing.{zero_answer}
+use Rattle.lex_max.proofs.CycleEdges.{rows_fit}
+use Rattle.lex_max.proofs.ZeroLeaves.{zero_answer}
 use Rattle.source_tree.specs.declared.tree.Tree.TheVariants.{Zero}
 use Rattle.lex_max.proofs.cycles.zero_leaf.Goals as goal
 

@@ -10,15 +10,15 @@ use Rattle.lex_max.specs.Asked.{depth_of_write}
 use Rattle.lex_max.specs.ChoiceSteps.{IsChoiceStep, IsFollowed, IsSmallForm}
 use Rattle.lex_max.specs.Choices.{choices_left, IsChoosing}
 use Rattle.lex_max.specs.Facts.{with_form}
-use Rattle.lex_max.proofs.Choosing.{choices_behind}
-use Rattle.lex_max.proofs.Deciding.{chosen_all, choosing_end, choosing_start, choosing_step, context_is}
-use Rattle.lex_max.proofs.Deciding.{context_more, few_uppers, next_more, opposite_is, opposite_long, opposite_small}
-use Rattle.lex_max.proofs.Deciding.{some_upper}
-use Rattle.lex_max.proofs.Small.{farther}
-use Rattle.lex_max.proofs.Stepping.{chosen_small, next_small}
-use Rattle.lex_max.proofs.Testing.{answer_test}
-use Rattle.lex_max.proofs.Zeroing.{answer_wider, context_less}
+use Rattle.lex_max.proofs.LeastForm.{choices_behind}
+use Rattle.lex_max.proofs.DecisionContexts.{chosen_all, choosing_end, choosing_start, choosing_step, context_is}
+use Rattle.lex_max.proofs.DecisionContexts.{context_more, few_uppers, next_more, opposite_is, opposite_long, opposite_small}
+use Rattle.lex_max.proofs.DecisionContexts.{some_upper}
+use Rattle.lex_max.proofs.ChoiceForms.{chosen_small, next_small}
+use Rattle.lex_max.proofs.TestTrees.{answer_test}
+use Rattle.lex_max.proofs.ZeroLeaves.{answer_wider, context_less}
 use Rattle.row_sums.specs.Parts.{IsWithin}
+use Rattle.row_sums.proofs.Within.{IsWithin-weaker}
 use Rattle.source_tree.specs.declared.tree.Tree.TheViews.{Test}
 use Rattle.lex_max.proofs.decide.+choose.Goals as goal
 
@@ -277,7 +277,7 @@ pub follow-opposite-row-requires : goal.follow-opposite-row-requires
 follow-opposite-row-requires t c =
     let s = c.requires.step in
     let told = subst (IsChoiceStep c.args.context.now s.form s.choice) c.in-Either.is s.follows in
-    farther (2 ^ 34 + 2 ^ 40) (2 ^ 60) c.in-Either.above (omega arith) told.within
+    IsWithin-weaker (2 ^ 34 + 2 ^ 40) (2 ^ 60) c.in-Either.above (omega arith) told.within
 
 pub follow-choose_with-requires : goal.follow-choose_with-requires
 follow-choose_with-requires t c =
@@ -332,7 +332,7 @@ follow-choose_with-requires-in-Either t c =
         (
           context_more w (choices_left forms more) (choices_left forms more + 1) context (with_form context row) above
               least_is (told.over ∙ c.requires.context.vars)
-              (farther (2 ^ 34 + 2 ^ 40) (2 ^ 41) above (omega arith) told.within) (omega arith) c.requires.context,
+              (IsWithin-weaker (2 ^ 34 + 2 ^ 40) (2 ^ 41) above (omega arith) told.within) (omega arith) c.requires.context,
           choosing_step w edges bounds c.requires.ready context (with_form context row) s.form forms more s.choice
               c.in-Either.same choices s.choosing (told.least (with_form context row) least_is)
               (choices_behind (depth_of_write w) bounds edges context (with_form context row) 0 choices above least_is
@@ -357,7 +357,7 @@ follow-returns-in-Ok t c =
     (λ tree is.
     answer_test w context least (with_form context c.opposite-row.result) above c.opposite-row.result n yes no tree
     (is ∙ ap (λ f. Test f yes no) c.copy.ensures) (told.over ∙ c.requires.context.vars)
-    (farther (2 ^ 34 + 2 ^ 40) (2 ^ 48) above (omega arith) told.within) c.opposite-row.ensures
+    (IsWithin-weaker (2 ^ 34 + 2 ^ 40) (2 ^ 48) above (omega arith) told.within) c.opposite-row.ensures
     (ap (with_form context) c.copy-row.ensures) refl least_is c.in_ok-no-in-Either.ensures) c.test.ensures
 
 pub choose_with-choose-requires : goal.choose_with-choose-requires

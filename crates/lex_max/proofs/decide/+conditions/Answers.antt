@@ -5,10 +5,10 @@ use Rattle.std.proofs.lemmas.List.Elements.{All-head, All-tail}
 use Rattle.std.proofs.lemmas.Result.{IfOk-weaker}
 use Rattle.affine_core.specs.declared.form.Form.{Form}
 use Rattle.lex_max.specs.Answer.{IsAnswer, IsCycle}
-use Rattle.lex_max.proofs.Deciding.{context_is, context_more}
-use Rattle.lex_max.proofs.Small.{farther}
-use Rattle.lex_max.proofs.Zeroing.{answer_wider, context_less}
+use Rattle.lex_max.proofs.DecisionContexts.{context_is, context_more}
+use Rattle.lex_max.proofs.ZeroLeaves.{answer_wider, context_less}
 use Rattle.lex_max.proofs.decide.+conditions.Goals as goal
+use Rattle.row_sums.proofs.Within.{IsWithin-weaker}
 
 pub conditions-choose_all-requires-clause-context : goal.conditions-choose_all-requires-clause-context
 conditions-choose_all-requires-clause-context t c =
@@ -109,7 +109,7 @@ condition-conditions-requires t c =
         c.requires.ready,
         (
           context_more w (length rest + 392) (length rest + 393) context c.in_ok-above.above cycle.form
-              above_is one.over (farther (2 ^ 40) (2 ^ 41) cycle.form (omega arith) one.within)
+              above_is one.over (IsWithin-weaker (2 ^ 40) (2 ^ 41) cycle.form (omega arith) one.within)
               (omega arith) c.requires.context,
           c.requires.rest,
         ),

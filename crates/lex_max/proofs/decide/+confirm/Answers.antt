@@ -5,11 +5,11 @@ use Rattle.std.proofs.lemmas.Result.{IfOk-weaker}
 use Rattle.affine_core.specs.declared.form.Form.{Form}
 use Rattle.lex_max.specs.Choices.{chosen_place, AreCerts, AreCertsSoFar}
 use Rattle.lex_max.specs.EdgeStates.{IsEdgeState}
-use Rattle.lex_max.proofs.Deciding.{certs_all, certs_at, certs_more, certs_next, chosen_more, context_more, cycle_fact}
-use Rattle.lex_max.proofs.Deciding.{own_fact}
-use Rattle.lex_max.proofs.Small.{farther}
-use Rattle.lex_max.proofs.Zeroing.{answer_wider, context_less}
+use Rattle.lex_max.proofs.DecisionContexts.{certs_all, certs_at, certs_more, certs_next, chosen_more, context_more, cycle_fact}
+use Rattle.lex_max.proofs.DecisionContexts.{own_fact}
+use Rattle.lex_max.proofs.ZeroLeaves.{answer_wider, context_less}
 use Rattle.lex_max.proofs.decide.+confirm.Goals as goal
+use Rattle.row_sums.proofs.Within.{IsWithin-weaker}
 
 -- All edges are shown
 
@@ -143,7 +143,7 @@ confirm_above-confirm-requires t c =
         c.requires.ready,
         (
           context_more w (length rest) (length rest + 1) context above form above_is c.requires.cycle.over
-              (farther (2 ^ 40) (2 ^ 41) form (omega arith) c.requires.cycle.within) (omega arith)
+              (IsWithin-weaker (2 ^ 40) (2 ^ 41) form (omega arith) c.requires.cycle.within) (omega arith)
               c.requires.context,
           (
             chosen_more w edges bounds context above form choices above_is c.requires.chosen,

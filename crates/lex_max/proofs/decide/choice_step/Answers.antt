@@ -2,8 +2,8 @@ use Rattle.std.proofs.Common.{◌≡◌, sym, ◌∙◌, subst, rules}
 use Rattle.std.specs.Prelude.{Some, None, IfSome}
 use Rattle.lex_max.specs.ChoiceSteps.{AreEither, IsSmallForm}
 use Rattle.lex_max.specs.Choices.{IsNextChoice}
-use Rattle.lex_max.proofs.Deciding.{next_none}
-use Rattle.lex_max.proofs.Stepping.{form_small, is_above}
+use Rattle.lex_max.proofs.DecisionContexts.{next_none}
+use Rattle.lex_max.proofs.ChoiceForms.{form_small, is_above}
 use Rattle.lex_max.proofs.decide.choice_step.Goals as goal
 
 pub returns-in_default : goal.returns-in_default

@@ -1,6 +1,6 @@
 use Rattle.std.proofs.Common.{sym, subst}
 use Rattle.lex_max.specs.Choices.{chosen_place, AreCertsSoFar}
-use Rattle.lex_max.proofs.Deciding.{certs_none}
+use Rattle.lex_max.proofs.DecisionContexts.{certs_none}
 use Rattle.lex_max.proofs.decide.confirm_all.Goals as goal
 
 pub confirm-requires-clause-certs : goal.confirm-requires-clause-certs

@@ -2,7 +2,7 @@ use Rattle.std.proofs.Common.{ℕ, sym, ◌∙◌, subst}
 use Rattle.std.specs.Prelude.{IfSome}
 use Rattle.lex_max.specs.Answer.{IsAnswer}
 use Rattle.lex_max.specs.Facts.{form_parts, IsFact}
-use Rattle.lex_max.proofs.Deciding.{context_is, cycle_fact}
+use Rattle.lex_max.proofs.DecisionContexts.{context_is, cycle_fact}
 use Rattle.lex_max.proofs.decide.cycle_state.Goals as goal
 
 pub known-requires-clause-context : goal.known-requires-clause-context

@@ -5,10 +5,11 @@ use Rattle.affine_core.specs.declared.form.Form.{Form}
 use Rattle.int_polyhedra.specs.declared.system.System.{System}
 use Rattle.int_polyhedra.specs.Steps.{negation_of}
 use Rattle.lex_max.specs.Answer.{IsAnswer}
-use Rattle.lex_max.proofs.Small.{farther, opposite_fits, opposite_form}
-use Rattle.lex_max.proofs.Testing.{answer_test}
+use Rattle.lex_max.proofs.Small.{opposite_fits, opposite_form}
+use Rattle.lex_max.proofs.TestTrees.{answer_test}
 use Rattle.source_tree.specs.declared.tree.Tree.TheViews.{Test}
 use Rattle.lex_max.proofs.decide.cycle_test.Goals as goal
+use Rattle.row_sums.proofs.Within.{IsWithin-weaker}
 
 pub returns-in-Ok : goal.returns-in-Ok
 returns-in-Ok c =
@@ -19,7 +20,7 @@ returns-in-Ok c =
     let no = c.in-Ok.no in
     let yes = c.args.yes in
     let other = opposite_form form in
-    let other_is = opposite_fits form (farther (2 ^ 40) (2 ^ 60) form (omega arith) one.within) in
+    let other_is = opposite_fits form (IsWithin-weaker (2 ^ 40) (2 ^ 60) form (omega arith) one.within) in
     let below : System = record context { rows = context.rows ++ other ∷ [] } in
     let zero = subst (λ r. IfOk r (λ tree. (below : System) (row : Form) (tests : ℕ)
     → negation_of form ≡ Some row → below ≡ record context { rows = context.rows ++ row ∷ [] }
@@ -27,5 +28,5 @@ returns-in-Ok c =
     IfOk-weaker c.test.result _ _
     (λ tree is above m above_is answer.
     answer_test w context above below form other m yes no tree (is ∙ ap (λ f. Test f yes no) c.copy.ensures)
-    (one.over) (farther (2 ^ 40) (2 ^ 48) form (omega arith) one.within) other_is above_is refl answer
+    (one.over) (IsWithin-weaker (2 ^ 40) (2 ^ 48) form (omega arith) one.within) other_is above_is refl answer
     (zero below other m other_is refl)) c.test.ensures

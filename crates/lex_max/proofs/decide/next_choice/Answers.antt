@@ -5,7 +5,7 @@ use Rattle.affine_core.specs.declared.form.Form.{Form}
 use Rattle.int_polyhedra.specs.declared.system.Term.{Term}
 use Rattle.lex_max.specs.Choices.{with_terms, IsNextChoice}
 use Rattle.lex_max.specs.Facts.{form_parts, IsFact}
-use Rattle.lex_max.proofs.Deciding.{next_kept, next_switched}
+use Rattle.lex_max.proofs.DecisionContexts.{next_kept, next_switched}
 use Rattle.lex_max.proofs.Small.{negative_over}
 use Rattle.lex_max.proofs.decide.next_choice.Goals as goal
 

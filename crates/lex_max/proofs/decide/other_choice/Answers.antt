@@ -3,7 +3,7 @@ use Rattle.std.specs.Prelude.{Some}
 use Rattle.std.proofs.lemmas.Result.{IfOk-weaker}
 use Rattle.int_polyhedra.specs.declared.system.Term.{Term}
 use Rattle.lex_max.specs.Choices.{with_terms}
-use Rattle.lex_max.proofs.Deciding.{next_other}
+use Rattle.lex_max.proofs.DecisionContexts.{next_other}
 use Rattle.lex_max.proofs.decide.other_choice.Goals as goal
 
 pub returns : goal.returns

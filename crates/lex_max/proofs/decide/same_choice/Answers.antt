@@ -1,4 +1,4 @@
-use Rattle.lex_max.proofs.Deciding.{next_same}
+use Rattle.lex_max.proofs.DecisionContexts.{next_same}
 use Rattle.lex_max.proofs.decide.same_choice.Goals as goal
 use Rattle.std.proofs.lemmas.Result.{IfOk-weaker}
 

@@ -1,10 +1,10 @@
 use Rattle.std.proofs.Common.{◌≡◌, ◌<◌, ◌^◌, sym, ap, ◌∙◌, arith}
 use Rattle.std.specs.Option.{option_copied}
 use Rattle.lex_max.specs.Asked.{depth_of_write}
-use Rattle.lex_max.proofs.Closing.{bound_small}
-use Rattle.lex_max.proofs.Leading.{upper_none, upper_out, upper_past, upper_some}
-use Rattle.lex_max.proofs.Small.{farther}
+use Rattle.lex_max.proofs.FloydWarshall.{bound_small}
+use Rattle.lex_max.proofs.ChosenPaths.{upper_none, upper_out, upper_past, upper_some}
 use Rattle.lex_max.proofs.decide.upper_form.Goals as goal
+use Rattle.row_sums.proofs.Within.{IsWithin-weaker}
 
 pub returns-then-edge-depth : goal.returns-then-edge-depth
 returns-then-edge-depth c =
@@ -19,7 +19,7 @@ returns-then-edge-depth-2 c =
     sym (upper_past (depth_of_write w) c.args.bounds.now c.args.variable g (omega (arith, c.depth-2.ensures)))
 
 pub form_beyond-requires-clause-form : goal.form_beyond-requires-clause-form
-form_beyond-requires-clause-form c = farther (2 ^ 33) (2 ^ 60) c.args.edge.now.weight (omega arith) c.requires.2.within
+form_beyond-requires-clause-form c = IsWithin-weaker (2 ^ 33) (2 ^ 60) c.args.edge.now.weight (omega arith) c.requires.2.within
 
 pub form_beyond-requires-clause-bound : goal.form_beyond-requires-clause-bound
 form_beyond-requires-clause-bound c =

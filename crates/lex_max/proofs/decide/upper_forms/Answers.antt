@@ -4,8 +4,8 @@ use Rattle.std.proofs.lemmas.Option.{slice_get_read}
 use Rattle.lex_max.specs.Asked.{depth_of_write}
 use Rattle.lex_max.specs.Choices.{upper_of}
 use Rattle.lex_max.specs.Edges.{IsEdge}
-use Rattle.lex_max.proofs.Walking.{all_at}
 use Rattle.lex_max.proofs.decide.upper_forms.Goals as goal
+use Rattle.plain_data.proofs.Lists.{All-slice_get}
 
 pub upper_form-requires : goal.upper_form-requires
 upper_form-requires c =
@@ -14,7 +14,7 @@ upper_form-requires c =
     let ready = c.requires in (
       edges,
       ready.closed,
-      all_at (IsEdge w.vars (depth_of_write w)) edges c.loop-edge.edge-index c.edge-item.result
+      All-slice_get (IsEdge w.vars (depth_of_write w)) edges c.loop-edge.edge-index c.edge-item.result
           ready.graph.graph.each
           (slice_get_read edges (length edges) c.loop-edge.edge-index c.edge-item.result refl
           (omega arith) c.edge-item.is),

@@ -1,7 +1,7 @@
 use Rattle.std.proofs.Common.{◌≡◌, ◌∷◌, length, ap, arith, rules}
 use Rattle.std.proofs.lemmas.Result.{on_ok_weaker}
 use Rattle.lex_max.specs.Asked.{depth_of_write}
-use Rattle.lex_max.proofs.Adding.{adds_cells, cells_first, kept_twice}
+use Rattle.lex_max.proofs.EdgeRows.{adds_cells, cells_first, kept_twice}
 use Rattle.lex_max.proofs.edges.+push_cells.Goals as goal
 
 pub push_cell-requires-clause-cell : goal.push_cell-requires-clause-cell

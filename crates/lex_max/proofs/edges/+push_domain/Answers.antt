@@ -1,7 +1,7 @@
 use Rattle.std.proofs.Common.{◌≡◌, ◌∷◌, rules, arith}
 use Rattle.std.proofs.lemmas.Result.{on_ok_weaker}
-use Rattle.lex_max.proofs.Adding.{adds_domain, exact_domain}
-use Rattle.lex_max.proofs.Fitting.{asked_fits}
+use Rattle.lex_max.proofs.EdgeRows.{adds_domain, exact_domain}
+use Rattle.lex_max.proofs.ProblemBounds.{asked_fits}
 use Rattle.lex_max.proofs.edges.+push_domain.Goals as goal
 
 pub domain_edge-requires : goal.domain_edge-requires

@@ -4,9 +4,9 @@ use Rattle.std.proofs.lemmas.Result.{on_ok_weaker}
 use Rattle.affine_core.specs.declared.form.Form.{Form}
 use Rattle.affine_core.specs.Affine.{form_product, variable_form}
 use Rattle.lex_max.specs.Asked.{depth_of_read, depth_of_write}
-use Rattle.lex_max.proofs.Adding.{kept_push, kept_twice}
-use Rattle.lex_max.proofs.Fitting.{asked_fits}
-use Rattle.lex_max.proofs.Ordering.{adds_equal, adds_strict, variable_small}
+use Rattle.lex_max.proofs.EdgeRows.{kept_push, kept_twice}
+use Rattle.lex_max.proofs.ProblemBounds.{asked_fits}
+use Rattle.lex_max.proofs.OrderEdges.{adds_equal, adds_strict, variable_small}
 use Rattle.lex_max.proofs.edges.+push_order.Goals as goal
 
 abbrev one_below : Form → Form

@@ -1,9 +1,9 @@
 use Rattle.std.proofs.Common.{◌≡◌, ◌+◌, ◌++◌, [], length, map, ap, ◌∙◌, subst, arith}
 use Rattle.source_tree.specs.Places.{domain_rows}
 use Rattle.lex_max.specs.Edges.{domain_edge_of, AddsEdges}
-use Rattle.lex_max.proofs.Adding.{starts_with}
-use Rattle.lex_max.proofs.Fitting.{asked_fits}
-use Rattle.lex_max.proofs.Ordering.{are_graph, edges_are}
+use Rattle.lex_max.proofs.EdgeRows.{starts_with}
+use Rattle.lex_max.proofs.ProblemBounds.{asked_fits}
+use Rattle.lex_max.proofs.OrderEdges.{are_graph, edges_are}
 use Rattle.lex_max.proofs.edges.edges_of.Goals as goal
 
 pub push_domain-requires-clause-fit : goal.push_domain-requires-clause-fit

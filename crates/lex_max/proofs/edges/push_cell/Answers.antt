@@ -4,8 +4,8 @@ use Rattle.affine_core.specs.Affine.{constant_form, form_product, form_sum}
 use Rattle.lex_max.specs.Asked.{depth_of_write}
 use Rattle.lex_max.specs.Edges.{node_of}
 use Rattle.lex_max.specs.declared.edges.Edge.{Edge}
-use Rattle.lex_max.proofs.Adding.{adds_cell, constant_over, constant_small, kept_push, kept_twice, read_small}
-use Rattle.lex_max.proofs.Fitting.{asked_fits}
+use Rattle.lex_max.proofs.EdgeRows.{adds_cell, constant_over, constant_small, kept_push, kept_twice, read_small}
+use Rattle.lex_max.proofs.ProblemBounds.{asked_fits}
 use Rattle.lex_max.proofs.edges.push_cell.Goals as goal
 
 pub constant_of-constant-requires : goal.constant_of-constant-requires

@@ -4,7 +4,7 @@ use Rattle.int_polyhedra.specs.declared.system.Proof.TheVariants.{Sum}
 use Rattle.int_polyhedra.specs.Rules.{ProvesEntailment}
 use Rattle.lex_max.specs.Facts.{AreLight}
 use Rattle.row_sums.specs.Shown.{with_last}
-use Rattle.lex_max.proofs.Knowing.{fact_is}
+use Rattle.lex_max.proofs.FactLemmas.{fact_is}
 use Rattle.lex_max.proofs.facts.known.Goals as goal
 
 pub returns : goal.returns

@@ -1,7 +1,7 @@
 use Rattle.std.proofs.Common.{subst, arith}
 use Rattle.std.proofs.lemmas.Result.{IfOk-weaker}
 use Rattle.lex_max.specs.Answer.{IsAnswer}
-use Rattle.lex_max.proofs.Naming.{is_checked, is_greatest, is_simple}
+use Rattle.lex_max.proofs.ReadAndWrite.{is_checked, is_greatest, is_simple}
 use Rattle.lex_max.proofs.Root.{root_context_of}
 use Rattle.lex_max.proofs.greatest.candidate.Goals as goal
 

@@ -5,9 +5,9 @@ use Rattle.lex_max.specs.Asked.{depth_of_write}
 use Rattle.lex_max.specs.Closed.{IsClosure}
 use Rattle.lex_max.specs.Edges.{IsGraph}
 use Rattle.lex_max.specs.Rounds.{IsGraphOf}
-use Rattle.lex_max.proofs.Fitting.{asked_fits}
+use Rattle.lex_max.proofs.ProblemBounds.{asked_fits}
 use Rattle.lex_max.proofs.Root.{negative_contradicts}
-use Rattle.lex_max.proofs.Zeroing.{context_less}
+use Rattle.lex_max.proofs.ZeroLeaves.{context_less}
 use Rattle.lex_max.proofs.greatest.tree_of.Goals as goal
 
 pub closure_of-requires-clause-edges : goal.closure_of-requires-clause-edges

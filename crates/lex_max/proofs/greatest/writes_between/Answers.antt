@@ -1,6 +1,6 @@
 use Rattle.std.proofs.Common.{ap, ◌∙◌}
 use Rattle.source_tree.specs.Systems.{Occurrence}
-use Rattle.lex_max.specs.Asked.{occurrence_of}
+use Rattle.source_tree.specs.References.{occurrence_of}
 use Rattle.lex_max.proofs.greatest.writes_between.Goals as goal
 
 pub returns-clause-read : goal.returns-clause-read

@@ -1,4 +1,4 @@
-use Rattle.lex_max.proofs.Naming.{asked_built, problem_built}
+use Rattle.lex_max.proofs.ReadAndWrite.{asked_built, problem_built}
 use Rattle.lex_max.proofs.greatest.writes_of.Goals as goal
 
 pub returns-clause-stands : goal.returns-clause-stands

@@ -1,4 +1,4 @@
-use Rattle.lex_max.proofs.Finishing.{after_few, after_more, at_last, below_last}
+use Rattle.lex_max.proofs.LeafProofs.{after_few, after_more, at_last, below_last}
 use Rattle.lex_max.proofs.leaf.after_count.Goals as goal
 
 pub returns-then-w-clause-levels : goal.returns-then-w-clause-levels

@@ -1,6 +1,6 @@
 use Rattle.std.proofs.Common.{◌+◌, arith}
 use Rattle.std.proofs.lemmas.Result.{IfOk-weaker}
-use Rattle.lex_max.proofs.Finishing.{is_above, is_at, is_below, level_common, many_above, many_at}
+use Rattle.lex_max.proofs.LeafProofs.{is_above, is_at, is_below, level_common, many_above, many_at}
 use Rattle.lex_max.proofs.leaf.after_proof.Goals as goal
 
 pub terms_of-requires : goal.terms_of-requires

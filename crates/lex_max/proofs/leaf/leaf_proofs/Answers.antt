@@ -8,10 +8,10 @@ use Rattle.lex_max.specs.Choices.{chosen_place}
 use Rattle.lex_max.specs.Leaves.{AreOrderCerts, AreShown, IsLeafOf}
 use Rattle.lex_max.specs.Simple.{IsLightSum}
 use Rattle.lex_max.specs.Systems.{place_systems}
-use Rattle.lex_max.proofs.Concluding.{cells_part, leaf_here, leaf_refuted, many, many_behind, order_part}
-use Rattle.lex_max.proofs.Concluding.{outside_part, plain_here}
-use Rattle.lex_max.proofs.Finishing.{plain_of}
-use Rattle.lex_max.proofs.Fitting.{asked_fits}
+use Rattle.lex_max.proofs.LevelProofs.{cells_part, leaf_here, leaf_refuted, many, many_behind, order_part}
+use Rattle.lex_max.proofs.LevelProofs.{outside_part, plain_here}
+use Rattle.lex_max.proofs.LeafProofs.{plain_of}
+use Rattle.lex_max.proofs.ProblemBounds.{asked_fits}
 use Rattle.lex_max.proofs.leaf.leaf_proofs.Goals as goal
 
 pub overflow_mul-cells : goal.overflow_mul-cells

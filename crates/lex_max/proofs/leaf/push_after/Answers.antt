@@ -2,9 +2,9 @@ use Rattle.std.proofs.Common.{◌∷◌, [], map, sym, subst}
 use Rattle.std.proofs.lemmas.Result.{on_ok_weaker}
 use Rattle.lex_max.specs.Asked.{read_of}
 use Rattle.lex_max.specs.Leaves.{after_levels, AddsProofs}
-use Rattle.lex_max.proofs.Concluding.{after_other, after_same}
-use Rattle.lex_max.proofs.Finishing.{level_same}
-use Rattle.lex_max.proofs.Leafing.{adds_more_proofs, adds_no_proofs, adds_one_proof}
+use Rattle.lex_max.proofs.LevelProofs.{after_other, after_same}
+use Rattle.lex_max.proofs.LeafProofs.{level_same}
+use Rattle.lex_max.proofs.LeafParts.{adds_more_proofs, adds_no_proofs, adds_one_proof}
 use Rattle.source_tree.specs.Places.{same_rows}
 use Rattle.source_tree.specs.Systems.{reader_place, with_rows}
 use Rattle.lex_max.proofs.leaf.push_after.Goals as goal

@@ -1,5 +1,5 @@
 use Rattle.lex_max.specs.Choices.{chosen_place}
-use Rattle.lex_max.proofs.Concluding.{AreBetween}
+use Rattle.lex_max.proofs.LevelProofs.{AreBetween}
 use Rattle.lex_max.proofs.leaf.push_between.Given as goal
 
 abbrev pub invariant-loop-level : goal.invariant-loop-level

@@ -1,6 +1,6 @@
 use Rattle.std.proofs.Common.{arith}
 use Rattle.lex_max.specs.Leaves.{after_levels}
-use Rattle.lex_max.proofs.Finishing.{proofs_more, proofs_none, proofs_whole}
+use Rattle.lex_max.proofs.LeafProofs.{proofs_more, proofs_none, proofs_whole}
 use Rattle.source_tree.specs.Systems.{with_rows}
 use Rattle.lex_max.proofs.leaf.push_levels.Goals as goal
 

@@ -1,6 +1,6 @@
 use Rattle.std.proofs.Common.{◌+◌, arith}
 use Rattle.std.proofs.lemmas.Result.{IfOk-weaker}
-use Rattle.lex_max.proofs.Finishing.{is_same, many_at}
+use Rattle.lex_max.proofs.LeafProofs.{is_same, many_at}
 use Rattle.lex_max.proofs.leaf.same_proof.Goals as goal
 
 pub terms_of-requires : goal.terms_of-requires

@@ -1,5 +1,5 @@
 use Rattle.std.proofs.Common.{refl}
-use Rattle.lex_max.proofs.Concluding.{leaf_answer}
+use Rattle.lex_max.proofs.LevelProofs.{leaf_answer}
 use Rattle.lex_max.proofs.leaf.writer_leaf.Goals as goal
 
 pub returns : goal.returns

@@ -2,11 +2,11 @@ use Rattle.std.proofs.Common.{◌≡◌, ◌∙◌, ◌≤ℤ◌, ℤ, pos, int_
 use Rattle.std.specs.Int.{w128}
 use Rattle.std.proofs.lemmas.Int.{ints, to_z-of_z}
 use Rattle.std.proofs.lemmas.Result.{IfOk-weaker}
-use Rattle.source_check.specs.Paths.{occurrence_of}
 use Rattle.source_check.proofs.Contexts.{below_test, below_divides}
 use Rattle.source_check.proofs.Parts.{test_bad, test_end, divides_bad_form, divides_bad_divisor, divides_deep}
 use Rattle.source_check.proofs.Parts.{divides_end, writer_end, zero_end, dead_end}
 use Rattle.source_tree.specs.Systems.{Context, divides_no, divides_yes, test_no, test_yes}
+use Rattle.source_tree.specs.References.{occurrence_of}
 use Rattle.source_check.proofs.check.+check_part.Goals as goal
 use Rattle.source_check.proofs.check.+check_part.Goals.{then-len-vars-2-via-then-len-vars-2}
 use Rattle.source_check.proofs.check.+check_part.Goals.{then-len-vars-2-via-else-len-vars-2+then-divisor-lt2}

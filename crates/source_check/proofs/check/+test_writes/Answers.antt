@@ -1,8 +1,9 @@
 use Rattle.std.proofs.Common.{◌≡◌, ◌∷◌, rules}
 use Rattle.std.proofs.lemmas.Result.{on_ok_weaker}
-use Rattle.source_check.specs.Paths.{further_rows, occurrence_of}
-use Rattle.source_check.proofs.Joined.{no_write, one_write}
+use Rattle.source_check.specs.Paths.{further_rows}
+use Rattle.source_check.proofs.LeafSystems.{no_write, one_write}
 use Rattle.source_tree.specs.Systems.{every, write_systems}
+use Rattle.source_tree.specs.References.{occurrence_of}
 use Rattle.source_check.proofs.check.+test_writes.Goals as goal
 
 pub returns-in_default-write_of : goal.returns-in_default-write_of

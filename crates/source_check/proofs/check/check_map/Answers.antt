@@ -2,13 +2,13 @@ use Rattle.std.proofs.Common.{sym, subst, ap, ◌∙◌, length, List}
 use Rattle.std.specs.Prelude.{IsTrue, nat_le}
 use Rattle.std.specs.List.{flat_map, list_all}
 use Rattle.sanlp.specs.declared.nest.Statement.{Statement}
-use Rattle.source_check.specs.Paths.{occurrence_of}
 use Rattle.source_check.specs.Tests.{after_made, leaf_result, no_test}
 use Rattle.source_check.proofs.Bounds.{short_statements, writer_few}
-use Rattle.source_check.proofs.Joined.{all_parts}
+use Rattle.source_check.proofs.LeafSystems.{all_parts}
 use Rattle.source_check.proofs.Outcomes.{leaf_is}
 use Rattle.source_tree.specs.Places.{before_rows}
 use Rattle.source_tree.specs.Systems.{every, write_systems, writer_place, writer_systems, writes_from}
+use Rattle.source_tree.specs.References.{occurrence_of}
 use Rattle.source_check.proofs.check.check_map.Goals as goal
 
 pub test_writes-requires-clause-short : goal.test_writes-requires-clause-short

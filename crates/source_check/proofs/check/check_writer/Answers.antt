@@ -1,9 +1,9 @@
 use Rattle.std.proofs.Common.{Some, None, sym, ap, ◌∙◌}
 use Rattle.std.proofs.lemmas.Result.{IfOk-weaker}
-use Rattle.source_check.specs.Paths.{occurrence_of}
 use Rattle.source_check.proofs.Parts.{named_is, writer_bad, writer_end_is, writer_gone, writer_long}
 use Rattle.source_tree.specs.Systems.{Context}
 use Rattle.source_tree.specs.Walk.{are_over}
+use Rattle.source_tree.specs.References.{occurrence_of}
 use Rattle.source_check.proofs.check.check_writer.Goals as goal
 
 pub returns-then-not-map_is_over : goal.returns-then-not-map_is_over

@@ -3,11 +3,12 @@ use Rattle.std.specs.Prelude.{IsTrue, nat_le}
 use Rattle.std.specs.List.{list_all}
 use Rattle.sanlp.specs.declared.nest.Statement.{Statement}
 use Rattle.source_check.specs.declared.reference.After.TheVariants.{Nothing}
-use Rattle.source_check.specs.Paths.{occurrence_of, writes_before}
+use Rattle.source_check.specs.Paths.{writes_before}
 use Rattle.source_check.specs.Tests.{after_made, leaf_result, no_test}
 use Rattle.source_check.proofs.Bounds.{short_statements, zero_few}
 use Rattle.source_check.proofs.Outcomes.{leaf_is}
 use Rattle.source_tree.specs.Systems.{every, zero_systems}
+use Rattle.source_tree.specs.References.{occurrence_of}
 use Rattle.source_check.proofs.check.check_zero.Goals as goal
 
 pub test_writes-requires-clause-short : goal.test_writes-requires-clause-short

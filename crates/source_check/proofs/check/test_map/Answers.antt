@@ -3,7 +3,7 @@ use Rattle.source_check.specs.Making.{IsMadeOver}
 use Rattle.source_check.specs.Paths.{path_rows}
 use Rattle.source_check.specs.Tests.{after_one}
 use Rattle.source_check.specs.Verdict.{made_system}
-use Rattle.source_check.proofs.Making.{system_all_over}
+use Rattle.source_check.proofs.SystemRows.{system_all_over}
 use Rattle.source_check.proofs.Points.{other_tested, same_tested}
 use Rattle.source_tree.specs.Places.{same_rows}
 use Rattle.source_check.proofs.check.test_map.Goals as goal

@@ -4,7 +4,7 @@ use Rattle.std.proofs.lemmas.Int.{to_z-of_z}
 use Rattle.std.proofs.lemmas.Result.{IfOk-weaker}
 use Rattle.source_check.specs.Paths.{path_rows}
 use Rattle.source_check.proofs.Contexts.{context_root, context_test, context_divides}
-use Rattle.source_check.proofs.Making.{system_over}
+use Rattle.source_check.proofs.SystemRows.{system_over}
 use Rattle.source_check.proofs.systems.+context.Goals as goal
 
 pub returns-in-Root-clause-value : goal.returns-in-Root-clause-value

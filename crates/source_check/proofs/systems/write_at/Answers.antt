@@ -3,8 +3,8 @@ use Rattle.std.proofs.lemmas.Result.{IfOk-weaker}
 use Rattle.source_check.specs.Making.{IsMadeOver, forms_of, system_with_all}
 use Rattle.source_check.specs.Paths.{path_rows}
 use Rattle.source_check.specs.Verdict.{made_system}
-use Rattle.source_check.proofs.Joined.{write_at_is}
-use Rattle.source_check.proofs.Making.{system_all_over, system_over}
+use Rattle.source_check.proofs.LeafSystems.{write_at_is}
+use Rattle.source_check.proofs.SystemRows.{system_all_over, system_over}
 use Rattle.source_tree.specs.Places.{cell_rows, domain_rows}
 use Rattle.source_check.proofs.systems.write_at.Goals as goal
 

@@ -1,7 +1,7 @@
 use Rattle.std.proofs.Common.{◌≡◌, ◌∷◌, rules, sym, subst, arith}
 use Rattle.std.proofs.lemmas.Result.{on_ok_weaker}
 use Rattle.source_check.specs.Making.{IsMadeOver}
-use Rattle.source_check.proofs.Making.{system_all_over}
+use Rattle.source_check.proofs.SystemRows.{system_all_over}
 use Rattle.source_tree.specs.Rows.{Take, equal_rows}
 use Rattle.source_check.proofs.Steps.{both_tested}
 use Rattle.source_check.proofs.tested.+test_both.Goals as goal

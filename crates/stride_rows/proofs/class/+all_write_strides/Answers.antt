@@ -8,8 +8,8 @@ use Rattle.std.proofs.lemmas.Bool.{eq-eqb, le-leb}
 use Rattle.std.proofs.lemmas.List.{nil_from_length}
 use Rattle.source_tree.specs.Systems.{writes_from, Occurrence}
 use Rattle.stride_rows.specs.Class.{stride_count, writes_strides}
-use Rattle.stride_rows.proofs.Reading.{fails_first, fails_many, passes, passes_first, passes_none, passes_some}
-use Rattle.stride_rows.proofs.Reading.{writes_elsewhere, writes_here, writes_nothing}
+use Rattle.stride_rows.proofs.ReadClass.{fails_first, fails_many, passes, passes_first, passes_none, passes_some}
+use Rattle.stride_rows.proofs.ReadClass.{writes_elsewhere, writes_here, writes_nothing}
 use Rattle.stride_rows.proofs.class.+all_write_strides.Goals as goal
 
 pub returns-in_default : goal.returns-in_default

@@ -1,7 +1,7 @@
 use Rattle.std.proofs.Common.{◌≡◌, sym, ap, ◌∙◌}
 use Rattle.std.specs.Prelude.{Some}
 use Rattle.source_tree.specs.Systems.{array_writes, read_at, writes_from, Occurrence}
-use Rattle.stride_rows.proofs.Reading.{class_of, passes, read_is}
+use Rattle.stride_rows.proofs.ReadClass.{class_of, passes, read_is}
 use Rattle.stride_rows.proofs.class.in_stride_class.Goals as goal
 
 pub returns : goal.returns

@@ -1,4 +1,4 @@
-use Rattle.stride_rows.proofs.Cutting.{converted_is_cut_sum}
+use Rattle.stride_rows.proofs.CutRows.{converted_is_cut_sum}
 use Rattle.stride_rows.proofs.law.converted_sums_are_cut_sums.Goals as goal
 
 pub returns : goal.returns

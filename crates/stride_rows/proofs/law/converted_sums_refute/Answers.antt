@@ -1,4 +1,4 @@
-use Rattle.stride_rows.proofs.Cutting.{converted_refutes}
+use Rattle.stride_rows.proofs.CutRows.{converted_refutes}
 use Rattle.stride_rows.proofs.law.converted_sums_refute.Goals as goal
 
 pub returns : goal.returns

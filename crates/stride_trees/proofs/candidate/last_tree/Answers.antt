@@ -3,9 +3,9 @@ use Rattle.std.proofs.Common.{◌<◌, ◌++◌, length, refl, sym, ap, ◌∙�
 use Rattle.std.specs.Prelude.{All}
 use Rattle.std.specs.List.{range_with_len}
 use Rattle.std.proofs.lemmas.Result.{IfOk-weaker}
-use Rattle.stride_trees.proofs.Listing.{few_tests}
-use Rattle.stride_trees.proofs.Promising.{last_asked, last_made, places_small, rows_count}
-use Rattle.stride_trees.proofs.Testing.{fitting_of}
+use Rattle.stride_trees.proofs.TestCounts.{few_tests}
+use Rattle.stride_trees.proofs.CandidatePromise.{last_asked, last_made, places_small, rows_count}
+use Rattle.stride_trees.proofs.TestNodes.{fitting_of}
 use Rattle.stride_trees.proofs.candidate.last_tree.Goals as goal
 
 pub push_range-requires : goal.push_range-requires

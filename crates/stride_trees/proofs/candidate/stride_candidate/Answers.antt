@@ -1,5 +1,5 @@
 use Rattle.std.proofs.lemmas.Result.{IfOk-weaker}
-use Rattle.stride_trees.proofs.Promising.{is_checked, is_greatest, is_stride_tree}
+use Rattle.stride_trees.proofs.CandidatePromise.{is_checked, is_greatest, is_stride_tree}
 use Rattle.stride_trees.proofs.candidate.stride_candidate.Goals as goal
 
 pub returns-clause-checked : goal.returns-clause-checked

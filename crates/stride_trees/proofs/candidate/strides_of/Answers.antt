@@ -1,4 +1,4 @@
-use Rattle.stride_trees.proofs.Promising.{strided_built}
+use Rattle.stride_trees.proofs.CandidatePromise.{strided_built}
 use Rattle.stride_trees.proofs.candidate.strides_of.Goals as goal
 
 pub returns-clause-strided : goal.returns-clause-strided

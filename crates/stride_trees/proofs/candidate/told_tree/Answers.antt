@@ -4,9 +4,9 @@ use Rattle.std.proofs.lemmas.Result.{IfOk-weaker}
 use Rattle.row_sums.specs.Parts.{IsWithin}
 use Rattle.stride_trees.specs.Problem.{problem_rows, problem_writes}
 use Rattle.stride_trees.specs.Strides.{ArePlaces}
-use Rattle.stride_trees.proofs.Fitting.{all_within}
-use Rattle.stride_trees.proofs.Promising.{context_is, places_are}
-use Rattle.stride_trees.proofs.Testing.{fitting_of}
+use Rattle.stride_trees.proofs.ProblemBounds.{all_within}
+use Rattle.stride_trees.proofs.CandidatePromise.{context_is, places_are}
+use Rattle.stride_trees.proofs.TestNodes.{fitting_of}
 use Rattle.stride_trees.proofs.candidate.told_tree.Goals as goal
 
 pub divided_rows-requires : goal.divided_rows-requires

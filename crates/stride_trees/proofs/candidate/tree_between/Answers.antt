@@ -4,9 +4,9 @@ use Rattle.std.proofs.lemmas.Result.{IfOk-weaker}
 use Rattle.row_sums.specs.Parts.{IsWithin}
 use Rattle.stride_trees.specs.Divisions.{divisions_from}
 use Rattle.stride_trees.specs.Strides.{depth_of_read, root_of, tests_of, IsTested, IsTestOf}
-use Rattle.stride_trees.proofs.Fitting.{all_within}
-use Rattle.stride_trees.proofs.Listing.{few_tests, tests_are}
-use Rattle.stride_trees.proofs.Testing.{fitting_of}
+use Rattle.stride_trees.proofs.ProblemBounds.{all_within}
+use Rattle.stride_trees.proofs.TestCounts.{few_tests, tests_are}
+use Rattle.stride_trees.proofs.TestNodes.{fitting_of}
 use Rattle.stride_trees.proofs.candidate.tree_between.Goals as goal
 
 pub divisions_of-requires-clause-few : goal.divisions_of-requires-clause-few

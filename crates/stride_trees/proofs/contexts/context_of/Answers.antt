@@ -6,9 +6,9 @@ use Rattle.lex_max.specs.Leaves.{IsMadeFrom}
 use Rattle.source_tree.specs.Systems.{root_context}
 use Rattle.stride_trees.specs.Divisions.{divided_context}
 use Rattle.stride_trees.specs.Strides.{read_of, IsTestOf}
-use Rattle.stride_trees.proofs.Listing.{few_tests, tests_are}
-use Rattle.stride_trees.proofs.Tested.{root_made}
-use Rattle.stride_trees.proofs.Testing.{fitting_of}
+use Rattle.stride_trees.proofs.TestCounts.{few_tests, tests_are}
+use Rattle.stride_trees.proofs.YesContexts.{root_made}
+use Rattle.stride_trees.proofs.TestNodes.{fitting_of}
 use Rattle.stride_trees.proofs.contexts.context_of.Goals as goal
 
 pub overflow_cast-context : goal.overflow_cast-context

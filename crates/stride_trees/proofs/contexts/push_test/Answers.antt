@@ -7,8 +7,8 @@ use Rattle.std.proofs.lemmas.Result.{on_ok_weaker}
 use Rattle.stride_trees.specs.declared.divisions.Division.{Division}
 use Rattle.stride_trees.specs.declared.strides.Strides.{Strides}
 use Rattle.stride_trees.specs.Strides.{IsStrided, IsTestOf}
-use Rattle.stride_trees.proofs.Tested.{divisor_small, multiple_within, quotient_rows_from, wide_within}
-use Rattle.stride_trees.proofs.Testing.{form_small}
+use Rattle.stride_trees.proofs.YesContexts.{divisor_small, multiple_within, quotient_rows_from, wide_within}
+use Rattle.stride_trees.proofs.TestNodes.{form_small}
 use Rattle.stride_trees.proofs.contexts.push_test.Goals as goal
 
 read_back : (d : ℤ) → FitsSigned w128 d → to_z w128 (of_z w128 d) ≡ d

@@ -4,7 +4,7 @@ use Rattle.affine_core.specs.Affine.{widened_form}
 use Rattle.int_polyhedra.specs.declared.system.System.{System}
 use Rattle.stride_trees.specs.Divisions.{quotient_rows}
 use Rattle.stride_trees.specs.declared.divisions.Division.{Division}
-use Rattle.stride_trees.proofs.Tested.{next_made, next_over}
+use Rattle.stride_trees.proofs.YesContexts.{next_made, next_over}
 use Rattle.stride_trees.proofs.contexts.with_quotient.Goals as goal
 
 -- the rows that were added one after another

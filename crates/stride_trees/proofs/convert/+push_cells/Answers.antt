@@ -6,7 +6,7 @@ use Rattle.std.proofs.lemmas.Result.{on_ok_weaker}
 use Rattle.row_sums.specs.Parts.{IsWithin}
 use Rattle.stride_trees.specs.Contexts.{IsSum}
 use Rattle.stride_rows.proofs.Places.{behind_kept, next_below}
-use Rattle.stride_trees.proofs.Written.{cells_end, cells_next, cells_odd}
+use Rattle.stride_trees.proofs.ProofConversion.{cells_end, cells_next, cells_odd}
 use Rattle.stride_trees.proofs.convert.+push_cells.Goals as goal
 
 pub returns-in_default : goal.returns-in_default

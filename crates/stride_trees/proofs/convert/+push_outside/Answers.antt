@@ -5,7 +5,7 @@ use Rattle.std.proofs.lemmas.List.Elements.{All-head, All-tail}
 use Rattle.std.proofs.lemmas.Result.{on_ok_weaker}
 use Rattle.row_sums.specs.Parts.{IsWithin}
 use Rattle.stride_trees.specs.Contexts.{IsSum}
-use Rattle.stride_trees.proofs.Written.{outside_end, outside_next, outside_odd}
+use Rattle.stride_trees.proofs.ProofConversion.{outside_end, outside_next, outside_odd}
 use Rattle.stride_trees.proofs.convert.+push_outside.Goals as goal
 
 pub returns-in_default : goal.returns-in_default

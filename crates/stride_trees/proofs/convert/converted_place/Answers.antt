@@ -3,10 +3,10 @@ use Rattle.std.specs.Prelude.{All}
 use Rattle.std.proofs.lemmas.List.{take-append-drop}
 use Rattle.row_sums.specs.Parts.{IsWithin}
 use Rattle.stride_trees.specs.Contexts.{IsSum}
-use Rattle.stride_trees.proofs.Fitting.{all_within}
-use Rattle.stride_trees.proofs.Leafing.{all_parts}
-use Rattle.stride_trees.proofs.Testing.{fitting_of}
-use Rattle.stride_trees.proofs.Written.{placed_cuts, placed_refuted}
+use Rattle.stride_trees.proofs.ProblemBounds.{all_within}
+use Rattle.stride_trees.proofs.LeafConversion.{all_parts}
+use Rattle.stride_trees.proofs.TestNodes.{fitting_of}
+use Rattle.stride_trees.proofs.ProofConversion.{placed_cuts, placed_refuted}
 use Rattle.stride_trees.proofs.convert.converted_place.Goals as goal
 
 pub overflow_cast-root : goal.overflow_cast-root

@@ -1,9 +1,9 @@
 use Rattle.std.proofs.Common.{◌^◌, length, sym, ap, subst, arith}
 use Rattle.std.specs.Prelude.{All}
 use Rattle.row_sums.specs.Parts.{IsWithin}
-use Rattle.stride_trees.proofs.Adding.{write_count}
-use Rattle.stride_trees.proofs.Fitting.{all_within}
-use Rattle.stride_trees.proofs.Testing.{fitting_of}
+use Rattle.stride_trees.proofs.SourceCuts.{write_count}
+use Rattle.stride_trees.proofs.ProblemBounds.{all_within}
+use Rattle.stride_trees.proofs.TestNodes.{fitting_of}
 use Rattle.stride_trees.proofs.convert.of_write.Goals as goal
 
 pub overflow_cast-root : goal.overflow_cast-root

@@ -1,6 +1,6 @@
 use Rattle.std.proofs.Common.{◌≡◌, ◌++◌, ◌∷◌, [], length, ap, ◌∙◌, arith}
 use Rattle.stride_rows.specs.Sources.{own_sources}
-use Rattle.stride_trees.proofs.Adding.{last_count}
+use Rattle.stride_trees.proofs.SourceCuts.{last_count}
 use Rattle.stride_trees.proofs.convert.with_last.Goals as goal
 
 pub converted-requires : goal.converted-requires

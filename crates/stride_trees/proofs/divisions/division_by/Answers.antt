@@ -1,11 +1,11 @@
 use Rattle.std.proofs.Common.{◌^◌, sym, subst, arith}
-use Rattle.lex_max.proofs.Small.{farther}
 use Rattle.row_sums.specs.Parts.{IsWithin}
+use Rattle.row_sums.proofs.Within.{IsWithin-weaker}
 use Rattle.stride_trees.proofs.Systems.{moved_within}
 use Rattle.stride_trees.proofs.divisions.division_by.Goals as goal
 
 pub negative-turned-requires : goal.negative-turned-requires
 negative-turned-requires c =
     subst (IsWithin (2 ^ 60)) (sym c.moved-form.ensures)
-    (farther (2 ^ 33) (2 ^ 60) _ (omega arith)
+    (IsWithin-weaker (2 ^ 33) (2 ^ 60) _ (omega arith)
     (moved_within c.args.write.now c.args.read.now c.requires.write c.requires.read))

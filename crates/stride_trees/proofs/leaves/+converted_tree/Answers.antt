@@ -7,7 +7,7 @@ use Rattle.source_tree.specs.declared.tree.Tree.TheViews.{the_lemmas}
 use Rattle.stride_trees.specs.Contexts.{IsConvertedTree}
 use Rattle.stride_trees.specs.Problem.{told_read, told_write}
 use Rattle.stride_trees.specs.Strides.{read_of, write_of}
-use Rattle.stride_trees.proofs.Leafing.{branches_made, test_made}
+use Rattle.stride_trees.proofs.LeafConversion.{branches_made, test_made}
 use Rattle.stride_trees.proofs.leaves.+converted_tree.Goals as goal
 
 pub converted_tree-requires : goal.converted_tree-requires

@@ -4,7 +4,7 @@ use Rattle.std.proofs.lemmas.List.{nil_from_length}
 use Rattle.std.proofs.lemmas.List.Elements.{All-head, All-tail}
 use Rattle.std.proofs.lemmas.Result.{on_ok_weaker}
 use Rattle.stride_trees.specs.Contexts.{IsSum}
-use Rattle.stride_trees.proofs.Written.{between_end, between_next}
+use Rattle.stride_trees.proofs.ProofConversion.{between_end, between_next}
 use Rattle.stride_trees.proofs.leaves.+push_between.Goals as goal
 
 pub returns-in_default : goal.returns-in_default
@@ -45,5 +45,5 @@ returns t c =
     on_ok_weaker c.push_between.result
     (λ h. between_next c.args.s.now c.args.places.now c.args.here c.args.more c.args.told.now c.in-Some.proof.now
     c.in-Some.told.now c.in_ok-own.own c.args.proofs.now c.push.new.self c.push_between.new.proofs first
-    c.in_ok-push.ensures.ok c.in_ok-own.ensures.refuted c.in_ok-own.ensures.cuts h)
+    c.in_ok-push.ensures.ok c.in_ok-own.ensures.refuted (c.in_ok-own.ensures.cuts c.requires.here) h)
     c.push_between.ensures

@@ -1,5 +1,5 @@
 use Rattle.std.proofs.Common.{arith}
-use Rattle.stride_trees.proofs.Testing.{room}
+use Rattle.stride_trees.proofs.TestNodes.{room}
 use Rattle.stride_trees.proofs.leaves.level_count.Goals as goal
 
 pub overflow_cast-level : goal.overflow_cast-level

@@ -1,7 +1,7 @@
 use Rattle.std.proofs.Common.{◌++◌, refl, ap, ◌∙◌}
-use Rattle.stride_trees.proofs.Leafing.{writer_converted}
+use Rattle.stride_trees.proofs.LeafConversion.{writer_converted}
 use Rattle.stride_trees.proofs.Nodes.{checked_point, simple_leaf}
-use Rattle.stride_trees.proofs.Written.{light_sums}
+use Rattle.stride_trees.proofs.ProofConversion.{light_sums}
 use Rattle.stride_trees.specs.Problem.{told_read, told_write}
 use Rattle.stride_trees.specs.Strides.{read_of, write_of}
 use Rattle.source_tree.specs.declared.tree.Tree.TheVariants.{Writer}

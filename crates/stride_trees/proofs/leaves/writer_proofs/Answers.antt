@@ -3,9 +3,9 @@ use Rattle.std.specs.Prelude.{All}
 use Rattle.std.proofs.lemmas.List.{length-take-le, take-append-drop}
 use Rattle.int_polyhedra.specs.declared.system.Proof.{Proof}
 use Rattle.stride_trees.specs.Contexts.{IsSum}
-use Rattle.stride_trees.proofs.Leafing.{all_parts}
-use Rattle.stride_trees.proofs.Leaving.{enough, leaf_cuts, leaf_refuted}
-use Rattle.stride_trees.proofs.Testing.{fitting_of}
+use Rattle.stride_trees.proofs.LeafConversion.{all_parts}
+use Rattle.stride_trees.proofs.ProofParts.{enough, leaf_cuts, leaf_refuted}
+use Rattle.stride_trees.proofs.TestNodes.{fitting_of}
 use Rattle.stride_trees.proofs.leaves.writer_proofs.Goals as goal
 
 pub overflow_mul-cells : goal.overflow_mul-cells

@@ -1,7 +1,7 @@
 use Rattle.std.proofs.Common.{refl}
-use Rattle.stride_trees.proofs.Leafing.{zero_converted, zero_one}
-use Rattle.stride_trees.proofs.Nodes.{checked_zero, simple_none}
-use Rattle.stride_trees.proofs.Written.{light_sums}
+use Rattle.lex_max.proofs.Nodes.{checked_zero, simple_none}
+use Rattle.stride_trees.proofs.LeafConversion.{zero_converted, zero_one}
+use Rattle.stride_trees.proofs.ProofConversion.{light_sums}
 use Rattle.stride_trees.specs.Problem.{told_read, told_write}
 use Rattle.stride_trees.specs.Strides.{read_of, write_of}
 use Rattle.source_tree.specs.declared.tree.Tree.TheVariants.{Zero}

@@ -1,6 +1,6 @@
 use Rattle.std.proofs.Common.{subst, arith}
-use Rattle.stride_trees.proofs.Leafing.{zero_cuts, zero_refuted}
-use Rattle.stride_trees.proofs.Written.{Between}
+use Rattle.stride_trees.proofs.LeafConversion.{zero_cuts, zero_refuted}
+use Rattle.stride_trees.proofs.ProofConversion.{Between}
 use Rattle.stride_trees.proofs.leaves.zero_proofs.Goals as goal
 
 pub push_between-requires-clause-more : goal.push_between-requires-clause-more

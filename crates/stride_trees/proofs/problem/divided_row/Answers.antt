@@ -2,7 +2,7 @@ use Rattle.std.proofs.Common.{◌≡◌, sym, ◌∙◌, arith}
 use Rattle.std.specs.Prelude.{Some}
 use Rattle.std.proofs.lemmas.Int.{ints}
 use Rattle.stride_rows.specs.Class.{stride_of}
-use Rattle.stride_rows.proofs.Telling.{stride_positive}
+use Rattle.stride_rows.proofs.QuotientRows.{stride_positive}
 use Rattle.stride_trees.proofs.problem.divided_row.Goals as goal
 
 pub quotients-requires : goal.quotients-requires

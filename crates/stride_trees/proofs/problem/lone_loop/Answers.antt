@@ -1,6 +1,6 @@
 use Rattle.std.proofs.Common.{length, ap, arith}
 use Rattle.stride_rows.specs.Sources.{loop_of}
-use Rattle.stride_trees.proofs.Asking.{alone_other}
+use Rattle.stride_trees.proofs.QuotientProblem.{alone_other}
 use Rattle.stride_trees.proofs.problem.lone_loop.Goals as goal
 
 pub variable-requires-clause-within : goal.variable-requires-clause-within

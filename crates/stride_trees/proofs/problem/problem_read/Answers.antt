@@ -1,13 +1,14 @@
 use Rattle.std.proofs.Common.{◌^◌, length, sym, ap, subst, arith}
 use Rattle.affine_core.specs.declared.form.Form.{Form}
-use Rattle.lex_max.proofs.Small.{farther, negative_over}
+use Rattle.lex_max.proofs.Small.{negative_over}
 use Rattle.row_sums.specs.Parts.{IsWithin}
+use Rattle.row_sums.proofs.Within.{IsWithin-weaker}
 use Rattle.stride_trees.proofs.Systems.{moved_within}
 use Rattle.stride_trees.proofs.problem.problem_read.Goals as goal
 
 pub negative-less-requires : goal.negative-less-requires
 negative-less-requires c =
-    farther (2 ^ 33) (2 ^ 60) c.moved.result (omega arith)
+    IsWithin-weaker (2 ^ 33) (2 ^ 60) c.moved.result (omega arith)
     (subst (IsWithin (2 ^ 33)) (sym c.moved.ensures)
     (moved_within c.args.write.now c.args.read.now c.requires.write c.requires.read))
 

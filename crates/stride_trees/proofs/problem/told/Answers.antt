@@ -1,6 +1,6 @@
 use Rattle.std.proofs.Common.{refl}
 use Rattle.stride_trees.specs.Strides.{read_of, write_of}
-use Rattle.stride_trees.proofs.Asking.{told_asked, told_reader, told_writer}
+use Rattle.stride_trees.proofs.QuotientProblem.{told_asked, told_reader, told_writer}
 use Rattle.stride_trees.proofs.problem.told.Goals as goal
 
 pub returns-clause-read : goal.returns-clause-read

@@ -6,9 +6,9 @@ use Rattle.affine_core.specs.declared.form.Form.{Form}
 use Rattle.row_sums.specs.Parts.{IsWithin}
 use Rattle.stride_rows.specs.Class.{is_stride}
 use Rattle.stride_trees.specs.Strides.{depth_of_read}
-use Rattle.stride_trees.proofs.Asking.{reads_short}
-use Rattle.stride_trees.proofs.Fitting.{all_within}
-use Rattle.stride_trees.proofs.Testing.{fitting_of}
+use Rattle.stride_trees.proofs.QuotientProblem.{reads_short}
+use Rattle.stride_trees.proofs.ProblemBounds.{all_within}
+use Rattle.stride_trees.proofs.TestNodes.{fitting_of}
 use Rattle.stride_trees.proofs.problem.told_reads.Goals as goal
 
 pub push_reads-requires-clause-writes : goal.push_reads-requires-clause-writes

@@ -6,7 +6,7 @@ use Rattle.std.proofs.lemmas.List.{nil_from_length}
 use Rattle.std.proofs.lemmas.List.Elements.{All-head, All-tail}
 use Rattle.std.proofs.lemmas.Result.{IfOk-weaker}
 use Rattle.stride_trees.specs.Strides.{IsTested, IsTestOf}
-use Rattle.stride_trees.proofs.Testing.{form_small, room, tested_last, tested_next}
+use Rattle.stride_trees.proofs.TestNodes.{form_small, room, tested_last, tested_next}
 use Rattle.stride_trees.proofs.tests.+with_tests.Goals as goal
 
 pub returns-in_default : goal.returns-in_default

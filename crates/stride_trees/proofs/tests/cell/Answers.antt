@@ -1,5 +1,5 @@
 use Rattle.std.proofs.Common.{arith}
-use Rattle.stride_trees.proofs.Testing.{room, subscript_room}
+use Rattle.stride_trees.proofs.TestNodes.{room, subscript_room}
 use Rattle.stride_trees.proofs.tests.cell.Goals as goal
 
 pub overflow_cast-domain : goal.overflow_cast-domain

@@ -1,5 +1,5 @@
 use Rattle.std.proofs.lemmas.Result.{IfOk-weaker}
-use Rattle.stride_trees.proofs.Testing.{no_is_checked}
+use Rattle.stride_trees.proofs.TestNodes.{no_is_checked}
 use Rattle.stride_trees.proofs.tests.no_leaf.Goals as goal
 
 pub returns : goal.returns

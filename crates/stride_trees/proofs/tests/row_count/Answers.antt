@@ -1,5 +1,5 @@
 use Rattle.std.proofs.Common.{arith}
-use Rattle.stride_trees.proofs.Testing.{room}
+use Rattle.stride_trees.proofs.TestNodes.{room}
 use Rattle.stride_trees.proofs.tests.row_count.Goals as goal
 
 pub overflow_cast-domain : goal.overflow_cast-domain

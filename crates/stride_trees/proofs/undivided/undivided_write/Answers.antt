@@ -1,8 +1,8 @@
 use Rattle.std.proofs.Common.{◌+◌, ◌*◌, ap, ◌∙◌, arith}
 use Rattle.std.proofs.lemmas.Result.{IfOk-weaker}
 use Rattle.stride_rows.proofs.Indivisible.{indivisible_proof}
-use Rattle.stride_trees.proofs.Testing.{fitting_of, subscript_room}
-use Rattle.stride_trees.proofs.Unwritten.{undivided_refuted}
+use Rattle.stride_trees.proofs.TestNodes.{fitting_of, subscript_room}
+use Rattle.stride_trees.proofs.NoWrites.{undivided_refuted}
 use Rattle.stride_trees.proofs.undivided.undivided_write.Goals as goal
 
 pub overflow_cast-root : goal.overflow_cast-root

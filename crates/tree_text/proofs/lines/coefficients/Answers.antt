@@ -1,6 +1,7 @@
 use Rattle.std.proofs.Common.{arith, length}
+use Rattle.cert_lines.proofs.WordCounts.{one_counted}
 use Rattle.tree_text.specs.Lines.{integers}
-use Rattle.tree_text.proofs.Coefficients.{next_integer, one_counted, one_more}
+use Rattle.tree_text.proofs.Coefficients.{next_integer, one_more}
 use Rattle.tree_text.proofs.lines.coefficients.Goals as goal
 
 pub loop-word-preserved : goal.loop-word-preserved

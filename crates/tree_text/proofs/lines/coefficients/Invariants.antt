@@ -1,6 +1,6 @@
 use Rattle.std.proofs.Common.{◌≡◌, ◌+◌, ◌≤◌, length}
 use Rattle.std.specs.Prelude.{IfOk}
-use Rattle.cert_lines.proofs.Gathered.{gathered}
+use Rattle.cert_lines.proofs.WordLists.{gathered}
 use Rattle.tree_text.specs.Lines.{integers}
 use Rattle.tree_text.proofs.lines.coefficients.Given as goal
 

@@ -1,5 +1,5 @@
 use Rattle.tree_text.specs.Lines.{terms}
-use Rattle.tree_text.proofs.Gathering.{next_terms}
+use Rattle.tree_text.proofs.TermWords.{next_terms}
 use Rattle.tree_text.proofs.lines.terms.Goals as goal
 
 pub loop-row-preserved : goal.loop-row-preserved

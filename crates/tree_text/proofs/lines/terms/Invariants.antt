@@ -1,5 +1,5 @@
 use Rattle.std.proofs.Common.{◌≡◌, length}
-use Rattle.cert_lines.proofs.Gathered.{gathered}
+use Rattle.cert_lines.proofs.WordLists.{gathered}
 use Rattle.tree_text.specs.Lines.{terms}
 use Rattle.tree_text.proofs.lines.terms.Given as goal
 

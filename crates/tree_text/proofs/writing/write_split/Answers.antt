@@ -1,5 +1,5 @@
 use Rattle.std.proofs.Common.{codes}
-use Rattle.tree_text.proofs.Spaced.{form_line_wrote}
+use Rattle.tree_text.proofs.LineSpaces.{form_line_wrote}
 use Rattle.tree_text.proofs.writing.write_split.Goals as goal
 
 pub returns : goal.returns

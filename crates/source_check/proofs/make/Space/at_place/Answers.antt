@@ -1,7 +1,7 @@
 use Rattle.std.proofs.Common.{rules, FitsSigned}
 use Rattle.std.specs.Int.{w128}
 use Rattle.std.proofs.lemmas.Int.{to_z-of_z}
-use Rattle.source_check.proofs.Making.{at_place_is}
+use Rattle.source_check.proofs.SystemRows.{at_place_is}
 use Rattle.source_check.proofs.make.Space.at_place.Goals as goal
 
 pub returns-clause-value : goal.returns-clause-value

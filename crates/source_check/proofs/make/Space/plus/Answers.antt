@@ -1,6 +1,6 @@
 use Rattle.std.proofs.Common.{◌≡◌, rules, sym, subst}
 use Rattle.source_check.specs.Making.{plus_of, FormIsOver}
-use Rattle.source_check.proofs.Making.{plus_over}
+use Rattle.source_check.proofs.SystemRows.{plus_over}
 use Rattle.source_check.proofs.make.Space.plus.Goals as goal
 
 pub returns-in-Some-Some-clause-over : goal.returns-in-Some-Some-clause-over

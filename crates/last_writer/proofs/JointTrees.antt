@@ -1,0 +1,344 @@
+-- The joined tree below all answers, and the tree below one answer more.
+--
+-- The context has the reader's rows and two more for each answer, with small numbers, over the reader's loops and as
+-- many quotients as there are tests. Each writer that is told is a problem of differences there, at each of its
+-- levels. An answer more stands behind the others, so the contexts below the two answers of the next test are those
+-- below its Divides. How the proofs of the joined tree become those for all writers is told elsewhere.
+use Rattle.std.proofs.Common.{◌≡◌, ◌+◌, ◌≤◌, ◌<◌, ◌^◌, ℕ, zero, suc, ℤ, List, [], ◌∷◌, ◌++◌, length, Bool, true, false}
+use Rattle.std.proofs.Common.{cond, refl, sym, ap, ◌∙◌, subst, arith}
+use Rattle.std.specs.Prelude.{Option, Some, None, All, Contains, is_some, slice_get}
+use Rattle.std.specs.List.{AllZip, count_by, filter}
+use Rattle.std.specs.Option.{option_map_or}
+use Rattle.std.proofs.lemmas.Bool.{leb-true}
+use Rattle.std.proofs.lemmas.List.{append-nil, length-append, length-map}
+use Rattle.std.proofs.lemmas.List.Elements.{All-cons, All-contains, All-head, All-nil, All-tail, All-weaker}
+use Rattle.std.proofs.lemmas.List.Sums.{sum_by-cons}
+use Rattle.std.proofs.lemmas.Option.{same_Some, slice_get_within}
+use Rattle.affine_core.specs.declared.form.Form.{Form}
+use Rattle.affine_core.specs.Affine.{widened_form}
+use Rattle.candidate_order.specs.Contexts.{IsMadeAs}
+use Rattle.candidate_order.specs.Joint.{IsCheckedForAll, IsJoinedTree}
+use Rattle.candidate_order.specs.Reads.{pair_in, pairs_of as pairs_of_read, pairs_with, IsJoined, ReadAndWrite, StandsInLoopsOf}
+use Rattle.candidate_order.specs.declared.candidates.Problem.{Problem}
+use Rattle.candidate_order.specs.declared.candidates.Read.{Read}
+use Rattle.int_polyhedra.specs.declared.system.System.{System}
+use Rattle.int_polyhedra.specs.Systems.{AreOver}
+use Rattle.last_writer.specs.Answers.{answered_context, below_answer, HasSmallRows}
+use Rattle.last_writer.specs.Leaves.{context_of, is_told, pairs_of, told_pair, told_pairs, vars_of, IsAnswered, IsBelow}
+use Rattle.last_writer.specs.Told.{IsTold}
+use Rattle.last_writer.specs.declared.source.Told.{Told}
+use Rattle.last_writer.specs.Writers.{stands_before, AreWriters, IsReadOf, IsSmallTest, IsTestAt, IsWriterOf}
+use Rattle.last_writer.specs.declared.leaves.Answered.{Answered}
+use Rattle.last_writer.specs.declared.writers.Writer.{Writer}
+use Rattle.last_writer.proofs.Below.{answered_more, vars_are}
+use Rattle.last_writer.proofs.LeafConversion.{zip_count}
+use Rattle.last_writer.proofs.QuotientWrites.{one_pair, told_all}
+use Rattle.lex_max.specs.Asked.{IsProblem}
+use Rattle.lex_max.specs.Level.{HasLevel}
+use Rattle.row_sums.specs.Parts.{IsWithin}
+use Rattle.row_sums.proofs.SmallRows.{widened_length}
+use Rattle.row_sums.proofs.Within.{IsWithin-weaker}
+use Rattle.sanlp.proofs.Elements.{list_all_at}
+use Rattle.sanlp.proofs.Roles.{Fits, fits_of}
+use Rattle.sanlp.specs.declared.nest.Nest.{Nest}
+use Rattle.sanlp.specs.declared.nest.Statement.{Statement}
+use Rattle.sanlp.specs.WellFormed.{statement_fits}
+use Rattle.source_tree.specs.Checked.{at_divides, IsCheckedIn}
+use Rattle.source_tree.specs.Systems.{Context, Occurrence, array_writes, divides_no, divides_yes, every, root_context}
+use Rattle.source_tree.specs.Systems.{with_write, write_to, writes_from}
+use Rattle.source_tree.specs.declared.tree.Tree.{Tree}
+use Rattle.source_tree.specs.declared.tree.Tree.TheViews.{Divides}
+use Rattle.source_tree.specs.References.{occurrence_of}
+use Rattle.stride_rows.specs.Class.{is_stride, stride_of}
+use Rattle.stride_trees.specs.Divisions.{division_of, divisions_from}
+use Rattle.stride_trees.specs.Strides.{depth_of_read, read_of, write_of, ArePlaces}
+use Rattle.stride_trees.specs.declared.divisions.Division.{Division}
+use Rattle.stride_trees.specs.declared.strides.Strides.{Strides}
+use Rattle.stride_trees.proofs.QuotientProblem.{told_problem}
+use Rattle.stride_trees.proofs.ProblemBounds.{are_fitting, AreFitting}
+
+-- The reader
+
+pub reader_fits : (w : Answered) → IsAnswered w → Fits w.nest.now.arrays w.read.statement.now
+reader_fits w h =
+    fits_of w.nest.now.arrays w.read.statement.now
+    (list_all_at (statement_fits w.nest.now.arrays) w.nest.now.statements w.read.number w.read.statement.now
+    w.nest.now.well_formed.statements_fit h.read.statement)
+
+pub few_loops : (w : Answered) → IsAnswered w → length w.read.statement.now.loops ≤ 6
+few_loops w h = leb-true (length w.read.statement.now.loops) 6 (reader_fits w h).few_loops
+
+pub few_rows : (w : Answered) → IsAnswered w → length w.read.statement.now.rows ≤ 32
+few_rows w h = leb-true (length w.read.statement.now.rows) 32 (reader_fits w h).few_rows
+
+-- Places of a writer
+
+strides_count : (k : ℕ) (writes reads : List Form) → length writes ≤ length reads
+    → count_by is_stride writes ≤ length (divisions_from k writes reads)
+strides_count k [] reads le = let none : count_by is_stride [] ≡ 0 = refl in omega (arith, none)
+strides_count k (write ∷ writes) [] le = absurd (omega (arith, le))
+strides_count k (write ∷ writes) (read ∷ reads) le =
+    go (stride_of write) refl (sum_by-cons (λ f. cond {A = ℕ} (is_stride f) 1 0) write writes)
+    (strides_count (k + 1) writes reads (omega (arith, le))) where
+      go : (o : Option ℤ) → stride_of write ≡ o
+          → count_by is_stride (write ∷ writes) ≡ cond (is_stride write) 1 0 + count_by is_stride writes
+          → count_by is_stride writes ≤ length (divisions_from (k + 1) writes reads)
+          → count_by is_stride (write ∷ writes)
+          ≤ length (option_map_or (λ c. division_of k write read c ∷ []) o [] ++ divisions_from (k + 1) writes reads)
+      go None e count rest =
+          let none : cond {A = ℕ} (is_stride write) 1 0 ≡ 0 = ap (λ o. cond {A = ℕ} (is_some o) 1 0) e in
+          omega (arith, count, rest, none)
+      go (Some c) e count rest =
+          let one : cond {A = ℕ} (is_stride write) 1 0 ≡ 1 = ap (λ o. cond {A = ℕ} (is_some o) 1 0) e in
+          omega (arith, count, rest, one)
+
+places_below : (tests ds : List Division) (places : List ℕ) → AllZip (IsTestAt tests) ds places
+    → All (λ place. place < length tests) places
+places_below tests [] [] h = All-nil _
+places_below tests [] (place ∷ places) h = absurd h
+places_below tests (d ∷ ds) [] h = absurd h
+places_below tests (d ∷ ds) (place ∷ places) h =
+    All-cons (λ place. place < length tests) place places (slice_get_within tests place h.0.test h.0.is)
+    (places_below tests ds places h.1)
+
+pub writer_places : (n : Nest) (r : Occurrence) (tests : List Division) (x : Writer) → length tests ≤ 6
+    → IsWriterOf n r tests x → ArePlaces x.strides (depth_of_read x.strides + length tests) x.places
+writer_places n r tests x few of =
+    let s : Strides = x.strides in
+    let f : AreFitting s.nest.now (read_of s) (write_of s) s.level =
+    are_fitting s.nest.now (read_of s) (write_of s) s.level of.strided.strided in
+    record {
+      reader = omega arith;
+      each = All-weaker (λ place. place < length tests)
+          (λ place. depth_of_read s + place < depth_of_read s + length tests) (λ place lt. omega (arith, lt)) x.places
+          (places_below tests x.divisions x.places of.places);
+      enough = omega (
+        arith,
+        strides_count 0 (write_of s).access.subscripts (read_of s).access.subscripts (omega (arith, f.even)),
+        ap length of.divisions,
+        zip_count (IsTestAt tests) x.divisions x.places of.places,
+      );
+      few = omega (arith, few);
+    }
+
+-- Numbers of writers
+
+filter_few : {X : Type 0} (p : X → Bool) (xs : List X) → length (filter p xs) ≤ length xs
+filter_few p [] = omega arith
+filter_few p (x ∷ xs) = go (p x) (filter_few p xs) where
+  go : (b : Bool) → length (filter p xs) ≤ length xs
+      → length (cond b (x ∷ filter p xs) (filter p xs)) ≤ suc (length xs)
+  go true h = omega (arith, h)
+  go false h = omega (arith, h)
+
+few_written : (array u : ℕ) (statements : List Statement) → length (writes_from array u statements) ≤ length statements
+few_written array u [] = omega arith
+few_written array u (s ∷ statements) = go (write_to array u s) (few_written array (u + 1) statements) where
+  go : (o : Option Occurrence) → length (writes_from array (u + 1) statements) ≤ length statements
+      → length (with_write o (writes_from array (u + 1) statements)) ≤ suc (length statements)
+  go None h = omega (arith, h)
+  go (Some w) h = omega (arith, h)
+
+pub few_pairs : (w : Answered) → IsAnswered w → length (pairs_of w) ≤ 64
+few_pairs w h =
+    let n : Nest = w.nest.now in
+    let r : Occurrence = occurrence_of w.read in
+    omega (
+      arith,
+      length-map (filter (is_told w.answers.now) w.writers.now) (told_pair (vars_of w)),
+      filter_few (is_told w.answers.now) w.writers.now,
+      length-map w.writers.now (λ (x : Writer). write_of x.strides),
+      ap length h.writers.are,
+      filter_few (stands_before r) (array_writes n r),
+      few_written r.access.array 0 n.statements,
+      n.well_formed.few_statements,
+    )
+
+-- The read can be joined
+
+abbrev IsAskedPair : ℕ → ReadAndWrite → Type 0
+IsAskedPair vars o = (p : ℕ) → HasLevel o.read o.write p → IsProblem vars o.read o.write p
+
+asked_pair : (w : Answered) → IsAnswered w → (x : Writer)
+    → IsWriterOf w.nest.now (occurrence_of w.read) w.tests.now x → IsAskedPair (vars_of w) (told_pair (vars_of w) x)
+asked_pair w h x of p level =
+    let s : Strides = x.strides in
+    let depth : depth_of_read s ≡ length w.read.statement.now.loops =
+    ap (λ (r : Occurrence). length r.statement.loops) of.read in
+    let places : ArePlaces s (vars_of w) x.places
+    = subst (λ d. ArePlaces s (d + length w.tests.now) x.places) depth
+    (writer_places w.nest.now (occurrence_of w.read) w.tests.now x h.few of) in
+    told_problem s.nest.now (read_of s) (write_of s) s.level p (vars_of w) x.places of.strided.strided level
+    (omega (arith, depth)) (omega (arith, few_loops w h, h.few)) places.each places.enough
+
+stands : (w : Answered) (x : Writer) → IsWriterOf w.nest.now (occurrence_of w.read) w.tests.now x
+    → StandsInLoopsOf w.nest.now (told_pair (vars_of w) x).write
+stands w x of =
+    let s : Strides = x.strides in
+    let f : AreFitting s.nest.now (read_of s) (write_of s) s.level =
+    are_fitting s.nest.now (read_of s) (write_of s) s.level of.strided.strided in
+    record {
+      statement = (write_of s).statement;
+      is = subst (λ (n : Nest). slice_get n.statements (write_of s).number ≡ Some (write_of s).statement) of.nest
+          f.named.is;
+      loops = refl;
+    }
+
+pub read_joined : (w : Answered) (r : Read) → IsAnswered w → length w.answers.now ≡ length w.tests.now
+    → IsMadeAs r.context.now (context_of w) → HasSmallRows r.context.now → length r.context.now.rows ≤ 64
+    → pairs_of_read r ≡ pairs_of w → IsJoined r
+read_joined w r h all made small few pairs =
+    let n : Nest = w.nest.now in
+    let rr : Occurrence = occurrence_of w.read in
+    let vars : r.context.now.vars ≡ vars_of w =
+    omega (arith, made.vars, vars_are (root_context rr) w.tests.now w.answers.now (omega (arith, all)), all) in
+    record {
+      problems = λ o p there level.
+          (subst (λ v. IsProblem v o.read o.write p) (sym vars)
+          (All-contains (IsAskedPair (vars_of w)) (pairs_of w) o
+          (told_all (vars_of w) w.answers.now (IsWriterOf n rr w.tests.now) (IsAskedPair (vars_of w)) (asked_pair w h)
+          w.writers.now h.writers.each) (subst (λ ps. Contains ps o) pairs there) p level));
+      nest = n;
+      stand = subst (All (λ o. StandsInLoopsOf n o.write)) (sym pairs)
+          (told_all (vars_of w) w.answers.now (IsWriterOf n rr w.tests.now) (λ o. StandsInLoopsOf n o.write) (stands w)
+          w.writers.now h.writers.each);
+      one = λ o other there also same.
+          one_pair n rr w.tests.now w.writers.now (vars_of w) w.answers.now h.writers o other
+          (subst (λ ps. Contains ps o) pairs there) (subst (λ ps. Contains ps other) pairs also) same;
+      few = omega (arith, length-map r.problems.now (pair_in r), ap length pairs, few_pairs w h);
+      few_vars = omega (arith, vars, few_loops w h, h.few);
+      over = small.over;
+      within = small.within;
+      few_rows = few;
+    }
+
+-- all writers are of the read
+pub reads_are : (w : Answered) → IsAnswered w
+    → All (λ (x : Writer). read_of x.strides ≡ occurrence_of w.read) w.writers.now
+reads_are w h =
+    All-weaker (IsWriterOf w.nest.now (occurrence_of w.read) w.tests.now)
+    (λ (x : Writer). read_of x.strides ≡ occurrence_of w.read) (λ x of. of.read) w.writers.now h.writers.each
+
+-- the problems that were added to none are the pairs that are told
+pub pairs_joined : (w : Answered) (r : Read) (old made given : List Problem) (told : List Told) → IsAnswered w
+    → AllZip (IsTold (vars_of w)) w.writers.now told → r.reference ≡ w.read → r.problems.now ≡ given → given ≡ made
+    → old ≡ []
+    → ((r : Read) (vars : ℕ) → AllZip (IsTold vars) w.writers.now told
+    → All (λ x. read_of x.strides ≡ occurrence_of r.reference) w.writers.now
+    → pairs_with r made ≡ pairs_with r old ++ told_pairs vars w.answers.now w.writers.now)
+    → pairs_of_read r ≡ pairs_of w
+pairs_joined w r old made given told h zip reference problems is none pushed =
+    ap (pairs_with r) (problems ∙ is)
+    ∙ pushed r (vars_of w) zip
+    (subst (λ u. All (λ (x : Writer). read_of x.strides ≡ occurrence_of u) w.writers.now) (sym reference) (reads_are w h))
+    ∙ ap (λ ps. pairs_with r ps ++ told_pairs (vars_of w) w.answers.now w.writers.now) none
+
+-- The context below all answers
+
+pub below_all : (w : Answered) (context : System) → length w.answers.now ≡ length w.tests.now
+    → IsMadeAs context (context_of w) → HasSmallRows context → IsBelow w (length context.rows) (context_of w)
+below_all w context all made small = record {
+  all = all;
+  small = record {
+    rows = context.rows;
+    made = made.rows;
+    count = refl;
+    over = subst (λ v. AreOver v context.rows) (sym made.vars) small.over;
+    within = All-weaker (IsWithin (2 ^ 41)) (IsWithin (2 ^ 50)) (λ f k. IsWithin-weaker (2 ^ 41) (2 ^ 50) f (omega arith) k)
+        context.rows small.within;
+  };
+  more = [];
+  is = ap (λ rows. record { vars = (context_of w).vars; rows = rows }) (sym (append-nil (context_of w).rows));
+}
+
+pub below_here : (w : Answered) (context : System) (here : ℕ) → here ≡ length context.rows
+    → length w.answers.now ≡ length w.tests.now → IsMadeAs context (context_of w) → HasSmallRows context
+    → IsBelow w here (context_of w)
+below_here w context here count all made small =
+    subst (λ here. IsBelow w here (context_of w)) (sym count) (below_all w context all made small)
+
+-- the joined tree is checked there for the writes that are joined
+pub joined_below : (w : Answered) (r : Read) (context : System) (tree : Tree) → IsMadeAs context (context_of w)
+    → r.context.now ≡ context → pairs_of_read r ≡ pairs_of w → IsJoinedTree r r.context.now tree
+    → IsCheckedForAll (pairs_of w) (context_of w) tree
+joined_below w r context tree made is pairs joined =
+    subst (λ ps. IsCheckedForAll ps (context_of w) tree) pairs
+    (joined (context_of w) (subst (λ (s : System). IsMadeAs s (context_of w)) (sym is) made))
+
+-- One answer more
+
+pub answers_more : (w next : Answered) (answer : Bool) → IsAnswered w → length w.answers.now < length w.tests.now
+    → next.nest ≡ w.nest → next.read ≡ w.read → next.writers ≡ w.writers → next.tests ≡ w.tests
+    → next.answers.now ≡ w.answers.now ++ answer ∷ [] → IsAnswered next
+answers_more w next answer h lt nest read writers tests answers = record {
+  read = subst (λ n. IsReadOf n next.read) (sym (ap (λ x. x.now) nest))
+      (subst (IsReadOf w.nest.now) (sym read) h.read);
+  writers = subst (λ (n : Nest). AreWriters n (occurrence_of next.read) (array_writes n (occurrence_of next.read))
+      next.tests.now next.writers.now) (sym (ap (λ x. x.now) nest))
+      (subst (λ r. AreWriters w.nest.now (occurrence_of r) (array_writes w.nest.now (occurrence_of r)) next.tests.now
+      next.writers.now) (sym read)
+      (subst (λ (ts : List Division). AreWriters w.nest.now (occurrence_of w.read)
+      (array_writes w.nest.now (occurrence_of w.read)) ts next.writers.now) (sym (ap (λ x. x.now) tests))
+      (subst (AreWriters w.nest.now (occurrence_of w.read) (array_writes w.nest.now (occurrence_of w.read)) w.tests.now)
+      (sym (ap (λ x. x.now) writers)) h.writers)));
+  few = omega (arith, ap (λ x. length x.now) tests, h.few);
+  answers = omega (
+    arith,
+    ap length answers,
+    length-append w.answers.now (answer ∷ []),
+    ap (λ x. length x.now) tests,
+    lt,
+  );
+}
+
+element_at : (P : Division → Type 0) (ds : List Division) (k : ℕ) (d : Division) → All P ds → slice_get ds k ≡ Some d → P d
+element_at P [] k d all e = absurd (let none : None ≡ Some d = e in cc)
+element_at P (x ∷ ds) zero d all e = subst P (same_Some x d e) (All-head P x ds all)
+element_at P (x ∷ ds) (suc k) d all e = element_at P ds k d (All-tail P x ds all) e
+
+-- the next test
+pub small_at : (w : Answered) (test : Division) → IsAnswered w → slice_get w.tests.now (length w.answers.now) ≡ Some test
+    → IsSmallTest (length w.read.statement.now.loops) test
+small_at w test h at =
+    element_at (IsSmallTest (length w.read.statement.now.loops)) w.tests.now (length w.answers.now) test h.writers.small at
+
+pub vars_below : (w : Answered) (context : System) → IsAnswered w → IsMadeAs context (context_of w)
+    → context.vars ≡ length w.read.statement.now.loops + length w.answers.now
+vars_below w context h made =
+    sym made.vars ∙ vars_are (root_context (occurrence_of w.read)) w.tests.now w.answers.now h.answers
+
+-- the context below one answer more
+pub made_more : (w : Answered) (answers : List Bool) (test : Division) (answer : Bool) (below : System)
+    → slice_get w.tests.now (length w.answers.now) ≡ Some test → answers ≡ w.answers.now ++ answer ∷ []
+    → IsMadeAs below (below_answer (context_of w) test answer)
+    → IsMadeAs below (answered_context (root_context (occurrence_of w.read)) w.tests.now answers)
+made_more w answers test answer below at is made =
+    let root : Context = root_context (occurrence_of w.read) in
+    subst (IsMadeAs below)
+    (sym (ap (answered_context root w.tests.now) is ∙ answered_more root w.tests.now w.answers.now test answer at)) made
+
+pub divides_checked : (w : Answered) (test : Division) (tree : Tree) (form : Form) (first second : Tree) → IsAnswered w
+    → slice_get w.tests.now (length w.answers.now) ≡ Some test → tree ≡ Divides form test.divisor first second
+    → form ≡ widened_form (context_of w).vars test.form
+    → IsCheckedIn w.nest.now (occurrence_of w.read) every
+    (answered_context (root_context (occurrence_of w.read)) w.tests.now (w.answers.now ++ true ∷ [])) first
+    → IsCheckedIn w.nest.now (occurrence_of w.read) every
+    (answered_context (root_context (occurrence_of w.read)) w.tests.now (w.answers.now ++ false ∷ [])) second
+    → IsCheckedIn w.nest.now (occurrence_of w.read) every (context_of w) tree
+divides_checked w test tree form first second h at is form_is above below =
+    let n : Nest = w.nest.now in
+    let r : Occurrence = occurrence_of w.read in
+    let root : Context = root_context r in
+    let c : Context = context_of w in
+    let small : IsSmallTest (length r.statement.loops) test =
+    small_at w test h at in
+    let vars : c.vars ≡ length r.statement.loops + length w.answers.now = vars_are root w.tests.now w.answers.now h.answers
+    in
+    let within : length w.answers.now < length w.tests.now = slice_get_within w.tests.now (length w.answers.now) test at in
+    at_divides c tree form test.divisor first second is
+    (ap (λ (f : Form). length f.coefs) form_is ∙ widened_length test.form.coefs c.vars (omega (arith, small.over, vars)))
+    small.divisor (omega (arith, vars, within, h.few))
+    (subst (λ f. IsCheckedIn n r every (divides_yes c f test.divisor) first) (sym form_is)
+    (subst (λ c. IsCheckedIn n r every c first) (answered_more root w.tests.now w.answers.now test true at) above))
+    (subst (λ f. IsCheckedIn n r every (divides_no c f test.divisor) second) (sym form_is)
+    (subst (λ c. IsCheckedIn n r every c second) (answered_more root w.tests.now w.answers.now test false at) below))

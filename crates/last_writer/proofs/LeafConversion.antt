@@ -1,0 +1,314 @@
+-- A leaf below all answers, for one writer.
+--
+-- Where its tests all say yes its context has them, so its systems are converted; else one of them says no there. The
+-- order rows of its levels, and those of a place before it, are as many as were counted, and small.
+use Rattle.std.proofs.Common.{◌≡◌, ◌+◌, ◌*◌, ◌≤◌, ◌<◌, ◌^◌, ℕ, zero, suc, List, [], ◌∷◌, ◌++◌, length, map, Bool, true, false}
+use Rattle.std.proofs.Common.{◌&&◌, cond, refl, sym, ap, ◌∙◌, subst, arith}
+use Rattle.std.specs.Prelude.{Option, Some, None, All, IfSome, nat_lt, slice_get}
+use Rattle.std.specs.List.{AllZip, flat_map, list_all}
+use Rattle.std.proofs.lemmas.List.{length-map}
+use Rattle.std.proofs.lemmas.List.Elements.{All-cons, All-head, All-nil, All-tail}
+use Rattle.std.proofs.lemmas.Option.{same_Some, slice_get_within}
+use Rattle.affine_core.specs.declared.form.Form.{Form}
+use Rattle.candidate_order.specs.Candidates.{levels_before}
+use Rattle.candidate_order.proofs.LevelCounts.{few_before}
+use Rattle.last_writer.specs.Leaves.{answer_at, context_of, counts_behind, is_told, order_counts, own_systems}
+use Rattle.last_writer.specs.Leaves.{told_systems, AddsProofs, AreOrderRows, CanBeConverted, IsAnswered, IsBelow, IsFurther}
+use Rattle.last_writer.specs.Leaves.{IsRefusal, IsRefusalAmong}
+use Rattle.last_writer.specs.Writers.{IsTestAt, IsWriterOf}
+use Rattle.last_writer.specs.declared.leaves.Answered.{Answered}
+use Rattle.last_writer.specs.declared.leaves.Refusal.{Refusal}
+use Rattle.last_writer.specs.declared.writers.Writer.{Writer}
+use Rattle.int_polyhedra.specs.declared.system.Proof.{Proof}
+use Rattle.last_writer.proofs.ProofSteps.{adds_own}
+use Rattle.last_writer.proofs.WriterTests.{no_test_in, tests_in, HasAnswers, IsNoTestIn}
+use Rattle.last_writer.proofs.Below.{answer_row, vars_are}
+use Rattle.last_writer.proofs.LevelCounts.{counts_few, orders_made, order_lengths, AreNear}
+use Rattle.lex_max.specs.Level.{common_of}
+use Rattle.source_tree.specs.declared.reference.Reference.{Reference}
+use Rattle.lex_max.proofs.OrderEdges.{length_variables, variable_over, variable_within}
+use Rattle.plain_data.proofs.Lists.{All-slice_get}
+use Rattle.row_sums.specs.Parts.{IsWithin}
+use Rattle.row_sums.proofs.Within.{IsWithin-weaker}
+use Rattle.sanlp.proofs.Precedence.{common_first, common_second}
+use Rattle.source_tree.specs.Checked.{AreRefuted, HaveVariables}
+use Rattle.source_tree.specs.Places.{before_rows, variables}
+use Rattle.source_tree.specs.Rows.{RowExpr, RowSystem, Take}
+use Rattle.source_tree.specs.Systems.{Context, Occurrence, reader_place, root_context, writer_place}
+use Rattle.source_tree.specs.References.{occurrence_of}
+use Rattle.stride_trees.specs.Contexts.{own_system, told_system, AreMadeSmall, IsTestedContext, IsUndividedContext}
+use Rattle.stride_trees.specs.Problem.{told_write}
+use Rattle.stride_trees.specs.Strides.{depth_of_read, depth_of_write, read_of, root_of, tests_of, write_of, IsTestOf}
+use Rattle.stride_trees.specs.declared.divisions.Division.{Division}
+use Rattle.stride_trees.specs.declared.strides.Strides.{Strides}
+use Rattle.stride_trees.proofs.TestCounts.{tests_are}
+
+zip_at : {X Y : Type 0} (R : X → Y → Type 0) (xs : List X) (ys : List Y) (k : ℕ) (x : X) (y : Y) → AllZip R xs ys
+    → slice_get xs k ≡ Some x → slice_get ys k ≡ Some y → R x y
+zip_at R [] ys k x y h e f = absurd (let no : None ≡ Some x = e in cc)
+zip_at R (a ∷ xs) [] k x y h e f = absurd h
+zip_at R (a ∷ xs) (b ∷ ys) zero x y h e f =
+    subst (λ a. R a y) (same_Some a x e) (subst (R a) (same_Some b y f) h.0)
+zip_at R (a ∷ xs) (b ∷ ys) (suc k) x y h e f = zip_at R xs ys k x y h.1 e f
+
+pub zip_count : {X Y : Type 0} (R : X → Y → Type 0) (xs : List X) (ys : List Y) → AllZip R xs ys → length xs ≡ length ys
+zip_count R [] [] h = refl
+zip_count R [] (y ∷ ys) h = absurd h
+zip_count R (x ∷ xs) [] h = absurd h
+zip_count R (x ∷ xs) (y ∷ ys) h = ap suc (zip_count R xs ys h.1)
+
+-- Answers
+
+pub below_answers : (w : Answered) (here : ℕ) (c : Context) → IsBelow w here c
+    → HasAnswers c (length w.read.statement.now.loops) (length w.read.statement.now.rows) w.tests.now w.answers.now
+below_answers w here c h =
+    let r : Occurrence = occurrence_of w.read in
+    let tests : List Division = w.tests.now in
+    let answers : List Bool = w.answers.now in
+    let vars : (context_of w).vars ≡ length r.statement.loops + length answers =
+    vars_are (root_context r) tests answers (omega (arith, h.all)) in
+    record {
+      inside = λ k lt. omega (arith, ap (λ (c : Context). c.vars) h.is, vars, h.all, lt);
+      row = λ k i test answer e t a is.
+          ap (λ (c : Context). slice_get c.rows (length r.statement.rows + (2 * k + i))) h.is
+          ∙ ap (λ n. slice_get ((context_of w).rows ++ h.more) (n + (2 * k + i)))
+          (sym (length-map r.statement.rows Take))
+          ∙ answer_row (root_context r) tests answers h.more k i test answer e t a is;
+    }
+
+pub below_vars : (w : Answered) (here : ℕ) (c : Context) → IsBelow w here c
+    → c.vars ≡ length w.read.statement.now.loops + length w.tests.now
+below_vars w here c h =
+    omega (
+      arith,
+      ap (λ (c : Context). c.vars) h.is,
+      vars_are (root_context (occurrence_of w.read)) w.tests.now w.answers.now (omega (arith, h.all)),
+      h.all,
+    )
+
+module _ (w : Answered) (here : ℕ) (c : Context) (x : Writer) (below : IsBelow w here c)
+    (of : IsWriterOf w.nest.now (occurrence_of w.read) w.tests.now x) where
+  own_answers : HasAnswers c (depth_of_read x.strides) (root_of x.strides) w.tests.now w.answers.now
+  own_answers = subst (λ (r : Occurrence). HasAnswers c (length r.statement.loops) (length r.statement.rows) w.tests.now
+      w.answers.now) (sym of.read) (below_answers w here c below)
+
+  pub reader_inside : depth_of_read x.strides ≤ c.vars
+  reader_inside = omega (
+    arith,
+    ap (λ (r : Occurrence). length r.statement.loops) of.read,
+    below_vars w here c below,
+  )
+
+  pub tested : is_told w.answers.now x ≡ true → IsTestedContext x.strides x.places here c
+  tested says = record {
+    small = below.small;
+    reader = reader_inside;
+    tests = tests_in c (depth_of_read x.strides) (root_of x.strides) w.tests.now w.answers.now own_answers 0 x.places
+        (write_of x.strides).access.subscripts (read_of x.strides).access.subscripts
+        (subst (λ ds. AllZip (IsTestAt w.tests.now) ds x.places) of.divisions of.places) says;
+  }
+
+  pub undivided : (refusal : Refusal) → IsRefusalAmong w.answers.now x.divisions x.places refusal
+      → IsUndividedContext x.strides refusal.division.now refusal.place here c
+  undivided refusal h =
+      let at : IsTestAt w.tests.now refusal.division.now refusal.place
+      = zip_at (IsTestAt w.tests.now) x.divisions x.places h.number refusal.division.now refusal.place of.places
+      h.division h.place in
+      let no : IsNoTestIn c (depth_of_read x.strides) (root_of x.strides) refusal.division.now refusal.place
+      = no_test_in c (depth_of_read x.strides) (root_of x.strides) w.tests.now w.answers.now own_answers
+      refusal.division.now refusal.place below.all at h.no in
+      record { small = below.small; inside = no.inside; first = no.first; second = no.second }
+
+places_inside : (tests ds : List Division) (places : List ℕ) → length tests ≤ 6 → AllZip (IsTestAt tests) ds places
+    → All (λ place. place < 6) places
+places_inside tests [] [] few h = All-nil _
+places_inside tests [] (place ∷ places) few h = absurd h
+places_inside tests (d ∷ ds) [] few h = absurd h
+places_inside tests (d ∷ ds) (place ∷ places) few h =
+    All-cons (λ place. place < 6) place places
+    (omega (arith, slice_get_within tests place h.0.test h.0.is, few)) (places_inside tests ds places few h.1)
+
+pub can_be_converted : (w : Answered) (here : ℕ) (x : Writer) → IsAnswered w → here ≤ 2 ^ 30
+    → IsWriterOf w.nest.now (occurrence_of w.read) w.tests.now x → CanBeConverted x here
+can_be_converted w here x h few of = record {
+  strided = of.strided;
+  places = places_inside w.tests.now x.divisions x.places h.few of.places;
+  few = few;
+}
+
+pub is_refusal : (w : Answered) (x : Writer) (refusal : Refusal) → IsAnswered w
+    → IsWriterOf w.nest.now (occurrence_of w.read) w.tests.now x
+    → IsRefusalAmong w.answers.now x.divisions x.places refusal → IsRefusal x.strides refusal
+is_refusal w x refusal h of among = record {
+  test = All-slice_get (IsTestOf x.strides) (tests_of x.strides) among.number refusal.division.now (tests_are x.strides)
+      (ap (λ ds. slice_get ds among.number) (sym of.divisions) ∙ among.division);
+  place = All-slice_get (λ place. place < 6) x.places among.number refusal.place
+      (places_inside w.tests.now x.divisions x.places h.few of.places) among.place;
+}
+
+-- Order rows
+
+variables_near : (vars k d : ℕ) → k + d ≤ vars → AreNear vars (variables k d)
+variables_near vars k zero le = tt
+variables_near vars k (suc d) le = (
+  record {
+    short = omega (arith, variable_over (k + 1) k (omega arith), le);
+    within = IsWithin-weaker 1 (2 ^ 48) _ (omega arith) (variable_within (k + 1) k);
+  },
+  variables_near vars (k + 1) d (omega (arith, le)),
+)
+
+place_near : (vars more : ℕ) (place : List Form) → HaveVariables vars place → All (IsWithin (2 ^ 48)) place
+    → AreNear (vars + more) place
+place_near vars more [] over within = tt
+place_near vars more (f ∷ place) over within = (
+  record {
+    short = omega (arith, All-head (λ (f : Form). length f.coefs ≡ vars) f place over);
+    within = All-head (IsWithin (2 ^ 48)) f place within;
+  },
+  place_near vars more place (All-tail (λ (f : Form). length f.coefs ≡ vars) f place over)
+      (All-tail (IsWithin (2 ^ 48)) f place within),
+)
+
+pub few_counts : (u w : Occurrence) → length u.statement.loops ≤ 6 → All (λ k. k ≤ 32) (order_counts u w)
+few_counts u w few = counts_few (common_of u w) (levels_before u w) 0 (omega (arith, few_before u w few))
+
+-- the levels of a writer before the read
+pub level_rows : (s : Strides) (c : Context) → depth_of_read s ≤ c.vars
+    → AreOrderRows s c (order_counts (write_of s) (read_of s))
+    (before_rows (write_of s).number (write_of s).statement (writer_place c (write_of s)) (read_of s).number
+    (read_of s).statement (reader_place (read_of s)))
+level_rows s c le =
+    let u : Occurrence = write_of s in
+    let r : Occurrence = read_of s in
+    record {
+      counted = order_lengths (common_of u r) (nat_lt u.number r.number) (writer_place c u) (reader_place r)
+          (omega (
+            arith,
+            length_variables c.vars (length u.statement.loops),
+            common_first u.statement.loops r.statement.loops,
+          ))
+          (omega (arith, length_variables 0 (length r.statement.loops), common_second u.statement.loops r.statement.loops));
+      made = orders_made (c.vars + depth_of_write s) (common_of u r) (nat_lt u.number r.number) (writer_place c u)
+          (reader_place r) (variables_near (c.vars + depth_of_write s) c.vars (length u.statement.loops) (omega arith))
+          (variables_near (c.vars + depth_of_write s) 0 (length r.statement.loops) (omega (arith, le)));
+    }
+
+-- what stands behind them
+pub further_rows : (s : Strides) (c : Context) (behind : Option Reference)
+    (further : Occurrence → List (List RowExpr)) → IsFurther behind c further
+    → AreOrderRows s c (counts_behind behind (write_of s)) (further (write_of s))
+further_rows s c None further h =
+    subst (AreOrderRows s c (0 ∷ [])) (sym (h (write_of s)))
+    (record {
+      counted = refl;
+      made = All-cons (AreMadeSmall (c.vars + depth_of_write s)) [] []
+          (record { forms = []; are_made = refl; within = All-nil _ }) (All-nil _);
+    })
+further_rows s c (Some of) further (place, in_context, is) =
+    let u : Occurrence = write_of s in
+    let v : Occurrence = occurrence_of of in
+    subst (AreOrderRows s c (order_counts v u)) (sym (is u))
+    (record {
+      counted = order_lengths (common_of v u) (nat_lt v.number u.number) place (writer_place c u)
+          (omega (arith, in_context.deep, common_first v.statement.loops u.statement.loops))
+          (omega (
+            arith,
+            length_variables c.vars (length u.statement.loops),
+            common_second v.statement.loops u.statement.loops,
+          ));
+      made = orders_made (c.vars + depth_of_write s) (common_of v u) (nat_lt v.number u.number) place (writer_place c u)
+          (place_near c.vars (depth_of_write s) place in_context.over in_context.within)
+          (variables_near (c.vars + depth_of_write s) c.vars (length u.statement.loops) (omega arith));
+    })
+
+-- a write over quotients has the same rows behind it
+pub same_further : (behind : Option Reference) (c : Context) (further : Occurrence → List (List RowExpr))
+    (u : Occurrence) → IsFurther behind c further → further (told_write u) ≡ further u
+same_further None c further u h = h (told_write u) ∙ sym (h u)
+same_further (Some of) c further u (place, in_context, is) = is (told_write u) ∙ sym (is u)
+
+-- a test that says no is one of those that say whether the writer is told
+pub refused : (answers : List Bool) (x : Writer) (refusal : Refusal)
+    → IsRefusalAmong answers x.divisions x.places refusal → is_told answers x ≡ false
+refused answers x refusal h = one_no x.places h.number refusal.place h.place h.no where
+  and_no : (b : Bool) → (b && false) ≡ false
+  and_no true = refl
+  and_no false = refl
+
+  one_no : (places : List ℕ) (k place : ℕ) → slice_get places k ≡ Some place → answer_at answers place ≡ false
+      → list_all (answer_at answers) places ≡ false
+  one_no [] k place e denies = absurd (let none : None ≡ Some place = e in cc)
+  one_no (p ∷ places) zero place e denies =
+      ap (λ b. b && list_all (answer_at answers) places) (ap (answer_at answers) (same_Some p place e) ∙ denies)
+  one_no (p ∷ places) (suc k) place e denies =
+      ap (λ b. answer_at answers p && b) (one_no places k place e denies) ∙ and_no (answer_at answers p)
+
+-- Systems of one writer
+
+-- the order rows of its levels before the read
+abbrev levels_of : Writer → Context → List (List RowExpr)
+levels_of x c = before_rows (write_of x.strides).number (write_of x.strides).statement
+    (writer_place c (write_of x.strides)) (read_of x.strides).number (read_of x.strides).statement
+    (reader_place (read_of x.strides))
+
+module _ (w : Answered) (c : Context) (behind : Option Reference) (further : Occurrence → List (List RowExpr))
+    (x : Writer) (h : IsFurther behind c further) where
+  abbrev of_told : List (List RowExpr) → List RowSystem
+  of_told rows = flat_map (λ (p : List RowExpr). map (λ (q : List RowExpr). told_system x.strides x.places c (p ++ q)) rows)
+      (levels_of x c)
+
+  pub told_is : is_told w.answers.now x ≡ true
+      → told_systems w.answers.now c further x ≡ of_told (further (write_of x.strides))
+  told_is says =
+      ap (λ (b : Bool). cond b (of_told (further (told_write (write_of x.strides)))) []) says
+      ∙ ap of_told (same_further behind c further (write_of x.strides) h)
+
+  pub none_is : is_told w.answers.now x ≡ false → told_systems w.answers.now c further x ≡ []
+  none_is denies = ap (λ (b : Bool). cond b (of_told (further (told_write (write_of x.strides)))) []) denies
+
+-- how many order rows there are
+pub few_behind : (behind : Option Reference) (u : Occurrence)
+    → IfSome behind (λ of. length of.statement.now.loops ≤ 6) → All (λ k. k ≤ 32) (counts_behind behind u)
+few_behind None u few = All-cons (λ k. k ≤ 32) 0 [] (omega arith) (All-nil _)
+few_behind (Some of) u few = few_counts (occurrence_of of) u few
+
+-- what is added for one writer
+module _ (w : Answered) (here : ℕ) (behind : Option Reference) (x : Writer) (told rest old new : List Proof)
+    (of : IsWriterOf w.nest.now (occurrence_of w.read) w.tests.now x) where
+  levels_are : (c : Context) → IsBelow w here c
+      → AreOrderRows x.strides c (order_counts (write_of x.strides) (occurrence_of w.read)) (levels_of x c)
+  levels_are c below =
+      subst (λ r. AreOrderRows x.strides c (order_counts (write_of x.strides) r) (levels_of x c)) of.read
+      (level_rows x.strides c (reader_inside w here c x below of))
+
+  pub adds_converted : is_told w.answers.now x ≡ true
+      → ((c : Context) (at rows : List (List RowExpr)) → IsTestedContext x.strides x.places here c
+      → AreOrderRows x.strides c (order_counts (write_of x.strides) (occurrence_of w.read)) at
+      → AreOrderRows x.strides c (counts_behind behind (write_of x.strides)) rows
+      → AddsProofs (flat_map (λ p. map (λ q. told_system x.strides x.places c (p ++ q)) rows) at)
+      (flat_map (λ p. map (λ q. own_system x.strides c (p ++ q)) rows) at) told rest old new)
+      → (c : Context) (further : Occurrence → List (List RowExpr)) → IsBelow w here c → IsFurther behind c further
+      → AddsProofs (told_systems w.answers.now c further x) (own_systems c further x) told rest old new
+  adds_converted says h c further below is_further =
+      subst (λ from. AddsProofs from (own_systems c further x) told rest old new)
+      (sym (told_is w c behind further x is_further says))
+      (h c (levels_of x c) (further (write_of x.strides)) (tested w here c x below of says)
+      (levels_are c below) (further_rows x.strides c behind further is_further))
+
+  pub adds_refused : (refusal : Refusal) → IsRefusalAmong w.answers.now x.divisions x.places refusal → rest ≡ told
+      → ((c : Context) (at rows : List (List RowExpr))
+      → IsUndividedContext x.strides refusal.division.now refusal.place here c
+      → AreOrderRows x.strides c (order_counts (write_of x.strides) (occurrence_of w.read)) at
+      → AreOrderRows x.strides c (counts_behind behind (write_of x.strides)) rows
+      → (systems : List RowSystem) → AreRefuted systems old
+      → AreRefuted (systems ++ flat_map (λ p. map (λ q. own_system x.strides c (p ++ q)) rows) at) new)
+      → (c : Context) (further : Occurrence → List (List RowExpr)) → IsBelow w here c → IsFurther behind c further
+      → AddsProofs (told_systems w.answers.now c further x) (own_systems c further x) told rest old new
+  adds_refused refusal among e h c further below is_further =
+      subst (λ from. AddsProofs from (own_systems c further x) told rest old new)
+      (sym (none_is w c behind further x is_further (refused w.answers.now x refusal among)))
+      (subst (λ rest. AddsProofs [] (own_systems c further x) told rest old new) (sym e)
+      (adds_own (own_systems c further x) told old new
+      (h c (levels_of x c) (further (write_of x.strides)) (undivided w here c x below of refusal among)
+      (levels_are c below) (further_rows x.strides c behind further is_further))))

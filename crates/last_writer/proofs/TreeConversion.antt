@@ -1,0 +1,141 @@
+-- A joined tree as one for all writers.
+--
+-- Tests stay, and add a row behind those of the answers. The proofs of a leaf go part by part: the place is in the
+-- domain and writes the read's cell, which is converted; the read isn't before it, which is the same; and no write is
+-- between, or before the read, which goes writer by writer.
+use Rattle.std.proofs.Common.{◌≡◌, ◌+◌, ◌^◌, ℕ, ℤ, pos, negsuc, List, [], ◌∷◌, ◌++◌, length}
+use Rattle.std.proofs.Common.{refl, sym, ap, ◌∙◌, subst, arith, length-append}
+use Rattle.std.specs.Prelude.{Some}
+use Rattle.std.specs.List.{flat_map}
+use Rattle.std.proofs.lemmas.Bool.{eq-eqb, and_from}
+use Rattle.std.proofs.lemmas.List.{append_assoc}
+use Rattle.std.proofs.lemmas.List.Elements.{All-append, All-cons, All-nil}
+use Rattle.std.proofs.lemmas.List.{length-replicate}
+use Rattle.affine_core.specs.declared.form.Form.{Form}
+use Rattle.affine_core.specs.Affine.{constant_form, form_product}
+use Rattle.affine_core.proofs.Linear.{length-sums}
+use Rattle.candidate_order.specs.Joint.{no_orders, write_systems_of}
+use Rattle.int_polyhedra.specs.declared.system.Proof.{Proof}
+use Rattle.last_writer.specs.Leaves.{context_of, own_systems, pairs_of, told_pairs}
+use Rattle.last_writer.specs.Leaves.{told_systems, Converts, IsAnswered, IsBelow}
+use Rattle.last_writer.specs.Leaves.{IsJoinedBelow, IsJoinedPoint, IsOwnPoint}
+use Rattle.last_writer.specs.declared.leaves.Answered.{Answered}
+use Rattle.last_writer.proofs.Nodes.{joined_dead, joined_point, joined_test, joined_zero, AreBothJoined}
+use Rattle.last_writer.proofs.LeafConversion.{below_vars}
+use Rattle.last_writer.proofs.Whole.{own_are, told_are}
+use Rattle.lex_max.proofs.EdgeSums.{over_append}
+use Rattle.lex_max.proofs.Small.{negative_over, opposite_fits, opposite_form, opposite_within}
+use Rattle.lex_max.proofs.TestTrees.{more_made, opposite_made, taken_made}
+use Rattle.row_sums.specs.Parts.{IsWithin}
+use Rattle.row_sums.proofs.Within.{IsWithin-weaker}
+use Rattle.source_tree.specs.Checked.{AreRefuted}
+use Rattle.source_tree.specs.Checked.{at_dead as dead_in, at_test as test_in, at_writer as writer_in, at_zero as zero_in}
+use Rattle.source_tree.specs.Rows.{RowExpr, RowSystem, Take, below_zero, row_forms}
+use Rattle.source_tree.specs.Systems.{Context, Occurrence, array_writes, every, more_rows, test_no, test_yes}
+use Rattle.source_tree.specs.Systems.{write_systems, zero_systems}
+use Rattle.source_tree.specs.declared.tree.Tree.{Tree}
+use Rattle.source_tree.specs.declared.tree.Tree.TheVariants.{Dead, Writer, Zero}
+use Rattle.source_tree.specs.declared.tree.Tree.TheViews.{Test}
+use Rattle.source_tree.specs.References.{occurrence_of}
+
+-- Contexts below a Test
+
+abbrev IsMadeRows : Context → List Form → Type 0
+IsMadeRows c rows = row_forms c.vars c.rows ≡ Some rows
+
+below_more : (w : Answered) (here : ℕ) (c : Context) (e : RowExpr) (f : Form) → IsBelow w here c
+    → ((rows : List Form) → IsMadeRows c rows → IsMadeRows (more_rows c (e ∷ [])) (rows ++ f ∷ []))
+    → length f.coefs ≡ c.vars → IsWithin (2 ^ 50) f → IsBelow w (here + 1) (more_rows c (e ∷ []))
+below_more w here c e f h made over within = record {
+  all = h.all;
+  small = record {
+    rows = h.small.rows ++ f ∷ [];
+    made = made h.small.rows h.small.made;
+    count = omega (arith, length-append h.small.rows (f ∷ []), h.small.count);
+    over = over_append c.vars h.small.rows (f ∷ []) h.small.over
+        (and_from _ _ (eq-eqb (length f.coefs) c.vars over) refl);
+    within = All-append (IsWithin (2 ^ 50)) h.small.rows (f ∷ []) h.small.within
+        (All-cons (IsWithin (2 ^ 50)) f [] within (All-nil _));
+  };
+  more = h.more ++ e ∷ [];
+  is = ap (λ (c : Context). more_rows c (e ∷ [])) h.is
+      ∙ ap (λ rows. record { vars = (context_of w).vars; rows = rows }) (append_assoc (context_of w).rows h.more (e ∷ []));
+}
+
+pub below_yes : (w : Answered) (here : ℕ) (c : Context) (form : Form) → IsBelow w here c → length form.coefs ≡ c.vars
+    → IsWithin (2 ^ 49 + 1) form → IsBelow w (here + 1) (test_yes c form)
+below_yes w here c form h over within =
+    below_more w here c (Take form) form h
+    (λ rows made. more_made c rows (Take form) form made (taken_made c.vars form over)) over
+    (IsWithin-weaker (2 ^ 49 + 1) (2 ^ 50) form (omega arith) within)
+
+pub below_no : (w : Answered) (here : ℕ) (c : Context) (form : Form) → IsBelow w here c → length form.coefs ≡ c.vars
+    → IsWithin (2 ^ 49 + 1) form → IsBelow w (here + 1) (test_no c form)
+below_no w here c form h over within =
+    let other : Form = opposite_form form in
+    below_more w here c (below_zero (Take form)) other h
+    (λ rows made. more_made c rows (below_zero (Take form)) other made
+    (opposite_made c.vars form other over (opposite_fits form (IsWithin-weaker (2 ^ 49 + 1) (2 ^ 60) form (omega arith) within))))
+    (opposite_over form ∙ over)
+    (IsWithin-weaker (2 ^ 49 + 1 + 1) (2 ^ 50) other (omega arith) (opposite_within (2 ^ 49 + 1) form within)) where
+      constant_over : (n : ℕ) (k : ℤ) → length (constant_form n k).coefs ≡ n
+      constant_over n k = length-replicate n (pos 0)
+
+      opposite_over : (f : Form) → length (opposite_form f).coefs ≡ length f.coefs
+      opposite_over f = length-sums (form_product (negsuc 0) f).coefs (constant_form (length f.coefs) (negsuc 0)).coefs
+          (omega (arith, negative_over f, constant_over (length f.coefs) (negsuc 0))) ∙ negative_over f
+
+-- Kinds of trees
+
+module _ (w : Answered) (here : ℕ) where
+  pub test_joined : (tree : Tree) (form : Form) (a b : Tree) → IsJoinedBelow w here tree → tree ≡ Test form a b
+      → IsJoinedBelow w (here + 1) a × IsJoinedBelow w (here + 1) b
+  test_joined tree form a b (c, below, checked) e =
+      let h : AreBothJoined (pairs_of w) c form a b = joined_test (pairs_of w) c tree form a b checked e in (
+        (test_yes c form, below_yes w here c form below h.over h.within, h.above),
+        (test_no c form, below_no w here c form below h.over h.within, h.below),
+      )
+
+  pub test_converts : (tree own : Tree) (form : Form) (a b x y : Tree) → tree ≡ Test form a b → own ≡ Test form x y
+      → Converts w (here + 1) a x → Converts w (here + 1) b y → Converts w here tree own
+  test_converts tree own form a b x y e f above below' c below checked =
+      let h : AreBothJoined (pairs_of w) c form a b = joined_test (pairs_of w) c tree form a b checked e in
+      test_in c own form x y f h.over
+      (above (test_yes c form) (below_yes w here c form below h.over h.within) h.above)
+      (below' (test_no c form) (below_no w here c form below h.over h.within) h.below)
+
+  pub dead_converts : (tree own : Tree) (proof : Proof) → tree ≡ Dead proof → own ≡ Dead proof → Converts w here tree own
+  dead_converts tree own proof e f c below checked =
+      dead_in c own proof f (joined_dead (pairs_of w) c tree proof checked e)
+
+  pub zero_converts : (tree own : Tree) (told proofs : List Proof) → tree ≡ Zero told → own ≡ Zero proofs
+      → ((c : Context) → IsBelow w here c → AreRefuted (write_systems_of (pairs_of w) c no_orders) told
+      → AreRefuted (zero_systems w.nest.now (occurrence_of w.read) every c) proofs) → Converts w here tree own
+  zero_converts tree own told proofs e f h c below checked =
+      zero_in c own proofs f (h c below (joined_zero (pairs_of w) c tree told checked e).0)
+
+  pub point_converts : (tree own : Tree) (number : ℕ) (place : List Form) (told proofs : List Proof)
+      → tree ≡ Writer number place told → own ≡ Writer number place proofs
+      → ((c : Context) (place : List Form) → IsBelow w here c → IsJoinedPoint w c number place told
+      → IsOwnPoint w c number place proofs) → Converts w here tree own
+  point_converts tree own number place told proofs e f h c below checked =
+      let j : IsJoinedPoint w c number place told = joined_point w c tree number place told checked e in
+      let o : IsOwnPoint w c number place proofs = h c place below j in
+      writer_in c own number place proofs o.write f o.named tt o.deep j.over o.refuted
+
+-- All writers
+
+pub all_written : (w : Answered) (here : ℕ) (c : Context) (further : Occurrence → List (List RowExpr)) (told proofs : List Proof)
+    (before : List RowSystem) → IsAnswered w → IsBelow w here c
+    → (AreRefuted (flat_map (told_systems w.answers.now c further) w.writers.now) told
+    → AreRefuted (before ++ flat_map (own_systems c further) w.writers.now) proofs)
+    → AreRefuted (write_systems_of (pairs_of w) c further) told
+    → AreRefuted (before ++ flat_map (write_systems (occurrence_of w.read) every c further)
+    (array_writes w.nest.now (occurrence_of w.read))) proofs
+all_written w here c further told proofs before h below convert refuted =
+    subst (λ xs. AreRefuted (before ++ xs) proofs)
+    (own_are w.nest.now (occurrence_of w.read) w.tests.now c further w.writers.now h.writers)
+    (convert (subst (λ xs. AreRefuted xs told)
+    (sym (told_are w.answers.now c further w.writers.now
+    ∙ ap (λ vars. write_systems_of (told_pairs vars w.answers.now w.writers.now) c further) (below_vars w here c below)))
+    refuted))

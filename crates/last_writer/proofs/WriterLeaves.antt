@@ -1,0 +1,301 @@
+-- A Writer leaf, part by part.
+--
+-- Its write is that of the one writer with its number, which is told. The proofs are those that the place is in the
+-- domain and writes the read's cell, as many as rows and subscripts say, those that the read isn't before it, and
+-- those of the writes between, so they are cut at these numbers and put together again for the nest's own systems.
+use Rattle.std.proofs.Common.{◌≡◌, ◌==◌, ◌+◌, ◌*◌, ◌≤◌, ℕ, zero, suc, List, [], ◌∷◌, ◌++◌, length, map, take, drop}
+use Rattle.std.proofs.Common.{Bool, true, false, cond, refl, sym, ap, ◌∙◌, subst, arith, length-append}
+use Rattle.std.specs.Prelude.{Some, Contains, nat_lt, slice_get}
+use Rattle.std.specs.List.{filter, flat_map}
+use Rattle.std.specs.Option.{option_map}
+use Rattle.std.proofs.lemmas.List.{append_assoc, length-map}
+use Rattle.std.proofs.lemmas.List.Elements.{All-contains}
+use Rattle.std.proofs.lemmas.Option.{same_Some, slice_get-map}
+use Rattle.affine_core.specs.declared.form.Form.{Form}
+use Rattle.candidate_order.specs.Joint.{orders_behind, write_systems_of}
+use Rattle.candidate_order.specs.Reads.{ReadAndWrite}
+use Rattle.candidate_order.proofs.LevelCounts.{order_count}
+use Rattle.int_polyhedra.specs.declared.system.Proof.{Proof}
+use Rattle.last_writer.specs.Leaves.{after_systems_count, is_told, own_systems, pairs_of, told_pair, told_pairs, told_systems}
+use Rattle.last_writer.specs.Leaves.{vars_of, IsAnswered, IsBelow, IsJoinedPoint, IsOwnPoint}
+use Rattle.last_writer.specs.Writers.{IsWriterOf}
+use Rattle.last_writer.specs.declared.leaves.Answered.{Answered}
+use Rattle.last_writer.specs.declared.writers.Writer.{Writer}
+use Rattle.last_writer.proofs.TreeConversion.{all_written}
+use Rattle.last_writer.proofs.LeafConversion.{below_vars}
+use Rattle.last_writer.proofs.QuotientWrites.{contains_at, one_place, writers_ascend, Ascend}
+use Rattle.lex_max.proofs.OrderEdges.{length_variables}
+use Rattle.sanlp.specs.Order.{common_loops}
+use Rattle.sanlp.proofs.Precedence.{common_first, common_second}
+use Rattle.sanlp.specs.declared.nest.Nest.{Nest}
+use Rattle.source_tree.specs.Checked.{AreRefuted}
+use Rattle.source_tree.specs.Places.{at_place, before_rows, differ_rows, same_rows}
+use Rattle.source_tree.specs.Rows.{RowSystem, below_zero}
+use Rattle.source_tree.specs.Systems.{Context, Occurrence, after_systems, cell_systems, named_write, outside_systems, reader_place}
+use Rattle.source_tree.specs.Systems.{array_writes, every, same_systems, with_rows, write_systems}
+use Rattle.source_tree.proofs.Refutations.{AreRefuted-append, length-AreRefuted}
+use Rattle.source_tree.specs.References.{occurrence_of}
+use Rattle.stride_trees.specs.Contexts.{outside_cell_systems, IsPlaceIn}
+use Rattle.stride_trees.specs.Problem.{problem_reads, problem_rows, problem_write, problem_writes, told_read, told_write}
+use Rattle.stride_rows.specs.Sources.{divided_form, places_behind}
+use Rattle.stride_trees.specs.Strides.{depth_of_write, read_of, write_of}
+use Rattle.stride_trees.specs.declared.strides.Strides.{Strides}
+use Rattle.stride_trees.proofs.ProblemBounds.{are_fitting, AreFitting}
+use Rattle.stride_trees.proofs.Lists.{refuted_apart, AreRefutedBoth}
+
+-- The writer of a number
+
+abbrev number_of : Writer → ℕ
+number_of x = (write_of x.strides).number
+
+pub one_writer : (writers : List Writer) → Ascend 0 (map number_of writers) → (x y : Writer) → Contains writers x → Contains writers y → number_of x ≡ number_of y → x ≡ y
+one_writer writers asc x y there also same =
+    let a = contains_at writers x there in
+    let b = contains_at writers y also in
+    let first : slice_get (map number_of writers) a.0 ≡ Some (number_of x) =
+    slice_get-map number_of writers a.0 ∙ ap (option_map number_of) a.1 in
+    let second : slice_get (map number_of writers) b.0 ≡ Some (number_of x) =
+    slice_get-map number_of writers b.0 ∙ ap (option_map number_of) b.1 ∙ ap Some (sym same) in
+    let place : a.0 ≡ b.0 = one_place 0 (map number_of writers) a.0 b.0 (number_of x) asc first second in
+    same_Some x y (sym a.1 ∙ ap (slice_get writers) place ∙ b.1)
+
+-- the writer of a pair that is told
+record IsPairOf (vars : ℕ) (answers : List Bool) (writers : List Writer) (o : ReadAndWrite) : Type 0 where
+  pub writer : Writer
+  pub there : Contains writers writer
+  pub told : is_told answers writer ≡ true
+  pub is : told_pair vars writer ≡ o
+
+behind_first : (x : Writer) (writers : List Writer) (y : Writer) → Contains writers y → Contains (x ∷ writers) y
+behind_first x writers y (k, lt, is) = (suc k, omega (arith, lt), is)
+
+pair_writer : (vars : ℕ) (answers : List Bool) (writers : List Writer) (o : ReadAndWrite)
+    → Contains (told_pairs vars answers writers) o → IsPairOf vars answers writers o
+pair_writer vars answers [] o (k, lt, is) = absurd (omega (arith, lt))
+pair_writer vars answers (x ∷ writers) o there = go (is_told answers x) refl there (pair_writer vars answers writers o) where
+  go : (b : Bool) → is_told answers x ≡ b
+      → Contains (map (told_pair vars) (cond b (x ∷ filter (is_told answers) writers) (filter (is_told answers) writers))) o
+      → (Contains (told_pairs vars answers writers) o → IsPairOf vars answers writers o)
+      → IsPairOf vars answers (x ∷ writers) o
+  go true e (zero, lt, is) rest = record { writer = x; there = (zero, omega arith, refl); told = e; is = is }
+  go true e (suc k, lt, is) rest =
+      let h : IsPairOf vars answers writers o = rest (k, omega (arith, lt), is) in
+      record { writer = h.writer; there = behind_first x writers h.writer h.there; told = h.told; is = h.is }
+  go false e there rest =
+      let h : IsPairOf vars answers writers o = rest there in
+      record { writer = h.writer; there = behind_first x writers h.writer h.there; told = h.told; is = h.is }
+
+-- a leaf names a writer
+pub leaf_writer : (w : Answered) (c : Context) (number : ℕ) (place : List Form) (told : List Proof)
+    → IsJoinedPoint w c number place told
+    → (x : Writer) × Contains w.writers.now x × (x.strides.write.number ≡ number)
+leaf_writer w c number place told j =
+    let h = pair_writer (vars_of w) w.answers.now w.writers.now j.pair j.among in
+    (h.writer, h.there, ap (λ (o : ReadAndWrite). o.write.number) h.is ∙ sym j.number_is)
+
+-- the numbers of a writer are small
+pub writer_fits : (w : Answered) (x : Writer) → IsAnswered w → Contains w.writers.now x
+    → AreFitting x.strides.nest.now (read_of x.strides) (write_of x.strides) x.strides.level
+writer_fits w x h there =
+    let of : IsWriterOf w.nest.now (occurrence_of w.read) w.tests.now x =
+    All-contains (IsWriterOf w.nest.now (occurrence_of w.read) w.tests.now) w.writers.now x h.writers.each there in
+    are_fitting x.strides.nest.now (read_of x.strides) (write_of x.strides) x.strides.level of.strided.strided
+
+module _ (w : Answered) (here : ℕ) (c : Context) (number : ℕ) (place : List Form) (told : List Proof) (x : Writer)
+    (h : IsAnswered w) (below : IsBelow w here c) (j : IsJoinedPoint w c number place told)
+    (there : Contains w.writers.now x) (named : x.strides.write.number ≡ number) where
+  abbrev s : Strides
+  s = x.strides
+
+  abbrev u : Occurrence
+  u = write_of x.strides
+
+  abbrev r : Occurrence
+  r = read_of x.strides
+
+  abbrev r' : Occurrence
+  r' = told_read c.vars x.places (read_of x.strides) (write_of x.strides)
+
+  abbrev u' : Occurrence
+  u' = told_write (write_of x.strides)
+
+  of : IsWriterOf w.nest.now (occurrence_of w.read) w.tests.now x
+  of = All-contains (IsWriterOf w.nest.now (occurrence_of w.read) w.tests.now) w.writers.now x h.writers.each there
+
+  fits : AreFitting s.nest.now r u s.level
+  fits = writer_fits w x h there
+
+  pair_is : (told_pair c.vars x ≡ j.pair) × (is_told w.answers.now x ≡ true)
+  pair_is =
+      let p = pair_writer (vars_of w) w.answers.now w.writers.now j.pair j.among in
+      let same : x ≡ p.writer
+      = one_writer w.writers.now (writers_ascend w.nest.now (occurrence_of w.read) w.tests.now w.writers.now h.writers) x
+      p.writer there p.there (named ∙ j.number_is ∙ sym (ap (λ (o : ReadAndWrite). o.write.number) p.is)) in (
+        ap (λ v. told_pair v x) (below_vars w here c below) ∙ ap (told_pair (vars_of w)) same ∙ p.is,
+        ap (is_told w.answers.now) same ∙ p.told,
+      )
+
+  pub is_told_here : is_told w.answers.now x ≡ true
+  is_told_here = pair_is.1
+
+  -- the systems, part by part
+  abbrev outside : List RowSystem
+  outside = outside_cell_systems r' u' c place
+
+  abbrev after : List RowSystem
+  after = after_systems r c u place
+
+  abbrev between : List RowSystem
+  between = write_systems_of (pairs_of w) c (orders_behind u place c)
+
+  regroup : (a b d e : List RowSystem) → (a ++ (b ++ d)) ++ e ≡ (a ++ b) ++ (d ++ e)
+  regroup a b d e =
+      append_assoc a (b ++ d) e ∙ ap (λ xs. a ++ xs) (append_assoc b d e) ∙ sym (append_assoc a b (d ++ e))
+
+  pub told_refuted : AreRefuted (outside ++ (after ++ between)) told
+  told_refuted =
+      subst (λ xs. AreRefuted xs told)
+      (regroup (outside_systems c u' place) (cell_systems r' c u' place) after between)
+      (subst (λ (o : ReadAndWrite). AreRefuted ((outside_systems c o.write place
+      ++ (cell_systems o.read c o.write place ++ after_systems o.read c o.write place))
+      ++ write_systems_of (pairs_of w) c (orders_behind o.write place c)) told) (sym pair_is.0) j.refuted)
+
+  pub first : AreRefutedBoth outside (after ++ between) told
+  first = refuted_apart outside (after ++ between) told told_refuted
+
+  pub second : AreRefutedBoth after between first.back
+  second = refuted_apart after between first.back first.of_second
+
+  deep : length place ≡ length u.statement.loops
+  deep = j.deep ∙ sym (ap (λ (o : ReadAndWrite). length o.write.statement.loops) pair_is.0)
+
+  pub is_place : IsPlaceIn c (depth_of_write s) place
+  is_place = record { deep = deep; over = j.over; within = j.within }
+
+  differ_count : (writes reads place : List Form) (c : Context) → length writes ≡ length reads
+      → length (map (λ row. with_rows c (row ∷ [])) (differ_rows writes reads place)) ≡ 2 * length writes
+  differ_count [] [] place c e = omega arith
+  differ_count [] (read ∷ reads) place c e = absurd (omega (arith, e))
+  differ_count (write ∷ writes) [] place c e = absurd (omega (arith, e))
+  differ_count (write ∷ writes) (read ∷ reads) place c e =
+      omega (arith, differ_count writes reads place c (omega (arith, e)))
+
+  pub place_count : length first.front ≡ length s.write.statement.now.rows + 2 * length s.write.access.now.subscripts
+  place_count =
+      omega (
+        arith,
+        length-AreRefuted outside first.front first.of_first,
+        length-append (outside_systems c u' place) (cell_systems r' c u' place),
+        length-map (problem_rows u.statement.rows) (λ row. with_rows c (below_zero (at_place row place) ∷ [])),
+        length-map u.statement.rows divided_form,
+        differ_count (problem_writes u.access.subscripts)
+            (problem_reads c.vars (length r.statement.loops) x.places u.access.subscripts r.access.subscripts) place c
+            (length-map u.access.subscripts problem_write
+            ∙ sym (reads_count c.vars (length r.statement.loops) x.places u.access.subscripts r.access.subscripts fits.even)),
+        length-map u.access.subscripts problem_write,
+      ) where
+        reads_count : (vars depth : ℕ) (places : List ℕ) (writes reads : List Form) → length writes ≡ length reads
+            → length (problem_reads vars depth places writes reads) ≡ length writes
+        reads_count vars depth places [] [] e = refl
+        reads_count vars depth places [] (read ∷ reads) e = absurd (omega (arith, e))
+        reads_count vars depth places (write ∷ writes) [] e = absurd (omega (arith, e))
+        reads_count vars depth places (write ∷ writes) (read ∷ reads) e =
+            ap suc (reads_count vars depth (places_behind write places) writes reads (omega (arith, e)))
+
+  pub after_count : length second.front ≡ after_systems_count r u
+  after_count =
+      omega (
+        arith,
+        length-AreRefuted after second.front second.of_first,
+        length-append (map (with_rows c) (before_rows r.number r.statement (reader_place r) u.number u.statement place))
+            (same_systems r c u place),
+        length-map (before_rows r.number r.statement (reader_place r) u.number u.statement place) (with_rows c),
+        order_count (common_loops r.statement.loops u.statement.loops) (nat_lt r.number u.number) (reader_place r) place
+            (omega (
+              arith,
+              length_variables 0 (length r.statement.loops),
+              common_first r.statement.loops u.statement.loops,
+            ))
+            (omega (arith, deep, common_second r.statement.loops u.statement.loops)),
+        same_count (u.number == r.number),
+      ) where
+        same_count : (b : Bool) → length (cond {A = List RowSystem} b (with_rows c (same_rows (reader_place r) place) ∷ []) [])
+            ≡ cond {A = ℕ} b 1 0
+        same_count true = refl
+        same_count false = refl
+
+  -- the cuts
+  take_front : (xs ys : List Proof) (k : ℕ) → length xs ≡ k → take k (xs ++ ys) ≡ xs
+  take_front [] ys zero e = take_none ys where
+    take_none : (ys : List Proof) → take 0 ys ≡ []
+    take_none [] = refl
+    take_none (y ∷ ys) = refl
+  take_front [] ys (suc k) e = absurd (omega (arith, e))
+  take_front (x ∷ xs) ys zero e = absurd (omega (arith, e))
+  take_front (x ∷ xs) ys (suc k) e = ap (λ zs. x ∷ zs) (take_front xs ys k (omega (arith, e)))
+
+  drop_front : (xs ys : List Proof) (k : ℕ) → length xs ≡ k → drop k (xs ++ ys) ≡ ys
+  drop_front [] ys zero e = drop_none ys where
+    drop_none : (ys : List Proof) → drop 0 ys ≡ ys
+    drop_none [] = refl
+    drop_none (y ∷ ys) = refl
+  drop_front [] ys (suc k) e = absurd (omega (arith, e))
+  drop_front (x ∷ xs) ys zero e = absurd (omega (arith, e))
+  drop_front (x ∷ xs) ys (suc k) e = drop_front xs ys k (omega (arith, e))
+
+  module _ (cells count : ℕ)
+      (cells_are : cells ≡ length s.write.statement.now.rows + 2 * length s.write.access.now.subscripts)
+      (count_is : count ≡ after_systems_count r u) where
+    pub front_is : take cells told ≡ first.front
+    front_is = ap (take cells) first.is ∙ take_front first.front first.back cells (place_count ∙ sym cells_are)
+
+    pub back_is : drop cells told ≡ first.back
+    back_is = ap (drop cells) first.is ∙ drop_front first.front first.back cells (place_count ∙ sym cells_are)
+
+    pub cells_inside : cells ≤ length told
+    cells_inside = omega (arith, ap length first.is, length-append first.front first.back, place_count, cells_are)
+
+    pub middle_is : take count (drop cells told) ≡ second.front
+    middle_is = ap (take count) (back_is ∙ second.is)
+        ∙ take_front second.front second.back count (after_count ∙ sym count_is)
+
+    pub last_is : drop count (drop cells told) ≡ second.back
+    last_is = ap (drop count) (back_is ∙ second.is)
+        ∙ drop_front second.front second.back count (after_count ∙ sym count_is)
+
+    pub count_inside : count ≤ length (drop cells told)
+    count_inside =
+        omega (arith, ap length (back_is ∙ second.is), length-append second.front second.back, after_count, count_is)
+
+    -- the proofs of the nest's own leaf
+    pub own_point : (own proofs : List Proof)
+        → (AreRefuted outside first.front → AreRefuted (outside_cell_systems r u c place) own)
+        → ((systems : List RowSystem) → AreRefuted systems (own ++ second.front)
+        → AreRefuted (flat_map (told_systems w.answers.now c (orders_behind u place c)) w.writers.now) second.back
+        → AreRefuted (systems ++ flat_map (own_systems c (orders_behind u place c)) w.writers.now) proofs)
+        → IsOwnPoint w c number place proofs
+    own_point own proofs converted written =
+        let systems : List RowSystem = outside_cell_systems r u c place ++ after in
+        let before : AreRefuted systems (own ++ second.front) =
+        AreRefuted-append (outside_cell_systems r u c place) after own second.front (converted first.of_first) second.of_first in
+        let all : AreRefuted (systems ++ flat_map (write_systems (occurrence_of w.read) every c (orders_behind u place c))
+        (array_writes w.nest.now (occurrence_of w.read))) proofs
+        = all_written w here c (orders_behind u place c) second.back proofs systems h below (written systems before)
+        second.of_second in
+        record {
+          write = u;
+          named = subst (λ (n : Nest). named_write n (occurrence_of w.read) number ≡ Some u) of.nest
+              (subst (λ (r : Occurrence). named_write s.nest.now r number ≡ Some u) of.read
+              (ap (named_write s.nest.now r) (sym named) ∙ of.strided.strided.write));
+          deep = deep;
+          refuted = subst (λ (rr : Occurrence). AreRefuted (outside_systems c u place
+              ++ (cell_systems rr c u place ++ (after_systems rr c u place
+              ++ flat_map (write_systems (occurrence_of w.read) every c (orders_behind u place c))
+              (array_writes w.nest.now (occurrence_of w.read))))) proofs) of.read
+              (subst (λ xs. AreRefuted xs proofs)
+              (apart (outside_systems c u place) (cell_systems r c u place) after
+              (flat_map (write_systems (occurrence_of w.read) every c (orders_behind u place c))
+              (array_writes w.nest.now (occurrence_of w.read)))) all);
+        } where
+          apart : (a b d e : List RowSystem) → ((a ++ b) ++ d) ++ e ≡ a ++ (b ++ (d ++ e))
+          apart a b d e = append_assoc (a ++ b) d e ∙ append_assoc a b (d ++ e)

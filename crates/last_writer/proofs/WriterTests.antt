@@ -1,0 +1,123 @@
+-- A writer's tests in a context below all answers.
+--
+-- Each of its tests has a place, where a test of the same form and divisor was answered. So where all answers at its
+-- places are yes, the rows of its own tests stand at their places, subscript by subscript; and where one of them is
+-- no, that one's do.
+use Rattle.std.proofs.Common.{◌≡◌, ◌+◌, ◌*◌, ◌<◌, ℕ, zero, suc, ℤ, List, [], ◌∷◌, ◌++◌, length, Bool, true, false}
+use Rattle.std.proofs.Common.{cond, refl, sym, ap, ◌∙◌, subst, arith}
+use Rattle.std.specs.Prelude.{Option, Some, None, drop, is_some, slice_get}
+use Rattle.std.specs.List.{AllZip, list_all}
+use Rattle.std.specs.Option.{option_map_or}
+use Rattle.std.proofs.lemmas.Option.{same_Some, slice_get_within}
+use Rattle.std.proofs.lemmas.Bool.{and_parts}
+use Rattle.affine_core.specs.declared.form.Form.{Form}
+use Rattle.affine_core.specs.Affine.{widened_form}
+use Rattle.last_writer.specs.Leaves.{answer_at}
+use Rattle.last_writer.specs.Writers.{IsTestAt}
+use Rattle.last_writer.proofs.Below.{answer_rows}
+use Rattle.source_tree.specs.Rows.{RowExpr, Take, minus}
+use Rattle.source_tree.specs.Systems.{Context, multiple, undivided_rows}
+use Rattle.stride_rows.specs.Class.{stride_of}
+use Rattle.stride_trees.specs.Contexts.{AreTestsIn, IsTestIn}
+use Rattle.stride_trees.specs.Divisions.{division_of, divisions_from}
+use Rattle.stride_trees.specs.declared.divisions.Division.{Division}
+
+-- the rows of all answers stand in the context, behind so many rows and variables
+pub record HasAnswers (c : Context) (depth root : ℕ) (tests : List Division) (answers : List Bool) : Type 0 where
+  pub inside : (k : ℕ) → k < length tests → depth + k < c.vars
+  pub row : (k i : ℕ) (test : Division) (answer : Bool) (e : RowExpr) → slice_get tests k ≡ Some test
+      → slice_get answers k ≡ Some answer → slice_get (answer_rows (depth + k) test answer) i ≡ Some e
+      → slice_get c.rows (root + (2 * k + i)) ≡ Some e
+
+pub is_yes : (answers : List Bool) (place : ℕ) → answer_at answers place ≡ true → slice_get answers place ≡ Some true
+is_yes [] place e = absurd (let no : false ≡ true = e in cc)
+is_yes (answer ∷ answers) zero e = ap Some e
+is_yes (answer ∷ answers) (suc place) e = is_yes answers place e
+
+pub is_no : (answers : List Bool) (place : ℕ) → place < length answers → answer_at answers place ≡ false
+    → slice_get answers place ≡ Some false
+is_no [] place lt e = absurd (omega (arith, lt))
+is_no (answer ∷ answers) zero lt e = ap Some e
+is_no (answer ∷ answers) (suc place) lt e = is_no answers place (omega (arith, lt)) e
+
+-- the rows of a test that was answered with no
+pub record IsNoTestIn (c : Context) (depth root : ℕ) (d : Division) (place : ℕ) : Type 0 where
+  pub inside : depth + place < c.vars
+  pub first : slice_get c.rows (root + 2 * place)
+      ≡ slice_get (undivided_rows (depth + place) (widened_form (depth + place) d.form) d.divisor) 0
+  pub second : slice_get c.rows (root + 2 * place + 1)
+      ≡ slice_get (undivided_rows (depth + place) (widened_form (depth + place) d.form) d.divisor) 1
+
+module _ (c : Context) (depth root : ℕ) (tests : List Division) (answers : List Bool)
+    (has : HasAnswers c depth root tests answers) where
+  -- a test that was answered with yes
+  pub test_in : (d : Division) (place : ℕ) → IsTestAt tests d place → answer_at answers place ≡ true
+      → IsTestIn c (root + 2 * place) (depth + place) d.form d.divisor
+  test_in d place at says =
+      let q : ℕ = depth + place in
+      let answer : slice_get answers place ≡ Some true = is_yes answers place says in
+      let here : root + (2 * place + 0) ≡ root + 2 * place = omega arith in
+      let next : root + (2 * place + 1) ≡ root + 2 * place + 1 = omega arith in
+      record {
+        inside = has.inside place (slice_get_within tests place at.test at.is);
+        low = ap (slice_get c.rows) (sym here)
+            ∙ has.row place 0 at.test true (minus (Take (widened_form q at.test.form)) (multiple at.test.divisor q))
+            at.is answer refl
+            ∙ ap (λ form. Some (minus (Take (widened_form q form)) (multiple at.test.divisor q))) at.form
+            ∙ ap (λ divisor. Some (minus (Take (widened_form q d.form)) (multiple divisor q))) at.divisor;
+        high = ap (slice_get c.rows) (sym next)
+            ∙ has.row place 1 at.test true (minus (multiple at.test.divisor q) (Take (widened_form q at.test.form)))
+            at.is answer refl
+            ∙ ap (λ form. Some (minus (multiple at.test.divisor q) (Take (widened_form q form)))) at.form
+            ∙ ap (λ divisor. Some (minus (multiple divisor q) (Take (widened_form q d.form)))) at.divisor;
+      }
+
+  -- all tests of a writer
+  pub tests_in : (number : ℕ) (places : List ℕ) (writes reads : List Form)
+      → AllZip (IsTestAt tests) (divisions_from number writes reads) places
+      → list_all (answer_at answers) places ≡ true → AreTestsIn c depth root places writes reads
+  tests_in number places [] reads at says = tt
+  tests_in number places (write ∷ writes) [] at says = tt
+  tests_in number places (write ∷ writes) (read ∷ reads) at says =
+      go (stride_of write) refl places at says (λ left. tests_in (number + 1) left writes reads) where
+        go : (o : Option ℤ) → stride_of write ≡ o → (places : List ℕ)
+            → AllZip (IsTestAt tests)
+            (option_map_or (λ x. division_of number write read x ∷ []) o [] ++ divisions_from (number + 1) writes reads)
+            places
+            → list_all (answer_at answers) places ≡ true
+            → ((left : List ℕ) → AllZip (IsTestAt tests) (divisions_from (number + 1) writes reads) left
+            → list_all (answer_at answers) left ≡ true → AreTestsIn c depth root left writes reads)
+            → AreTestsIn c depth root places (write ∷ writes) (read ∷ reads)
+        go None e places at says rest = (
+          λ x is. absurd (let none : None ≡ Some x = sym e ∙ is in cc),
+          subst (λ (b : Bool). AreTestsIn c depth root (cond b (drop 1 places) places) writes reads)
+              (sym (ap is_some e)) (rest places at says),
+        )
+        go (Some x) e [] at says rest = absurd at
+        go (Some x) e (place ∷ places) at says rest =
+            let b = and_parts (answer_at answers place) (list_all (answer_at answers) places) says in (
+              λ y is. subst (λ y. IsTestIn c (root + 2 * place) (depth + place) (division_of 0 write read y).form
+                  (division_of 0 write read y).divisor) (same_Some x y (sym e ∙ is))
+                  (test_in (division_of number write read x) place at.0 b.0),
+              subst (λ (b : Bool). AreTestsIn c depth root (cond b (drop 1 (place ∷ places)) (place ∷ places)) writes reads)
+                  (sym (ap is_some e)) (rest places at.1 b.1),
+            )
+
+  -- a test that was answered with no
+  pub no_test_in : (d : Division) (place : ℕ) → length answers ≡ length tests → IsTestAt tests d place
+      → answer_at answers place ≡ false → IsNoTestIn c depth root d place
+  no_test_in d place all at denies =
+      let q : ℕ = depth + place in
+      let within : place < length tests = slice_get_within tests place at.test at.is in
+      let answer : slice_get answers place ≡ Some false = is_no answers place (omega (arith, within, all)) denies in
+      let here : root + (2 * place + 0) ≡ root + 2 * place = omega arith in
+      let next : root + (2 * place + 1) ≡ root + 2 * place + 1 = omega arith in
+      record {
+        inside = has.inside place within;
+        first = ap (slice_get c.rows) (sym here) ∙ has.row place 0 at.test false _ at.is answer refl
+            ∙ ap (λ form. slice_get (undivided_rows q (widened_form q form) at.test.divisor) 0) at.form
+            ∙ ap (λ divisor. slice_get (undivided_rows q (widened_form q d.form) divisor) 0) at.divisor;
+        second = ap (slice_get c.rows) (sym next) ∙ has.row place 1 at.test false _ at.is answer refl
+            ∙ ap (λ form. slice_get (undivided_rows q (widened_form q form) at.test.divisor) 1) at.form
+            ∙ ap (λ divisor. slice_get (undivided_rows q (widened_form q d.form) divisor) 1) at.divisor;
+      }

@@ -1,0 +1,306 @@
+-- A write is none in a context where one of its tests of divisibility says no.
+--
+-- Two rows of the context say that the test's form lies strictly between two next multiples of its divisor. Two rows of
+-- the write's subscript say that the form is such a multiple, taken with the sign of the stride. These four are refuted
+-- together, whatever the other rows of the context, the writer and the order are.
+use Rattle.std.proofs.Common.{◌≡◌, ◌+◌, ◌*◌, ◌≤◌, ◌<◌, ℕ, ℤ, pos, negsuc, ◌+ℤ◌, ◌*ℤ◌, List, ◌++◌}
+use Rattle.std.proofs.Common.{length, map, Bool, true, false, cond, sym, ap, ◌∙◌, subst, arith}
+use Rattle.std.specs.Prelude.{Some, slice_get, unsigned_abs}
+use Rattle.std.specs.Option.{option_map_or}
+use Rattle.std.specs.Int.RustNames.{int_lt}
+use Rattle.std.proofs.lemmas.Option.{slice_get_within}
+use Rattle.affine_core.specs.declared.form.Form.{Form}
+use Rattle.affine_core.specs.Affine.{variable_form, widened_form}
+use Rattle.int_polyhedra.specs.declared.system.Proof.{Proof}
+use Rattle.int_polyhedra.specs.Rules.{Refutes}
+use Rattle.lex_max.proofs.ProblemBounds.{form_is, FormFits}
+use Rattle.lex_max.proofs.OrderEdges.{variable_at, variable_within}
+use Rattle.plain_data.proofs.Lists.{slice_get-append_left, slice_get-append_right}
+use Rattle.row_sums.specs.Made.{parts_of}
+use Rattle.row_sums.specs.Parts.{Part, part_of, row_part}
+use Rattle.row_sums.specs.Shown.{RowParts}
+use Rattle.row_sums.proofs.Within.{part_of-le}
+use Rattle.sanlp.proofs.Elements.{list_all_at}
+use Rattle.sanlp.specs.declared.nest.Nest.{Nest}
+use Rattle.sanlp.specs.WellFormed.{form_fits}
+use Rattle.source_tree.specs.Checked.{IsRefuted}
+use Rattle.source_tree.specs.Places.{at_place, cell_rows, domain_rows}
+use Rattle.source_tree.specs.Rows.{RowExpr, Take, Plus, minus, number, one_less}
+use Rattle.source_tree.specs.Systems.{Context, Occurrence, multiple, with_rows, with_write_at, writer_place}
+use Rattle.source_tree.proofs.RowLists.{length-domain_rows}
+use Rattle.stride_rows.specs.Class.{is_single, stride_of}
+use Rattle.stride_trees.specs.Contexts.{own_system, AreMadeSmall, IsUndividedContext}
+use Rattle.stride_trees.specs.Divisions.{division_of}
+use Rattle.stride_rows.specs.Sources.{loop_of}
+use Rattle.stride_trees.specs.Strides.{depth_of_read, depth_of_write, read_of, root_of, write_of, AreStrided, IsSmallContext, IsStrided, IsTestOf}
+use Rattle.stride_trees.specs.declared.divisions.Division.{Division}
+use Rattle.stride_trees.specs.declared.strides.Strides.{Strides}
+use Rattle.stride_rows.proofs.Coefficients.{outside_counts}
+use Rattle.stride_trees.proofs.SystemConversion.{widened_at}
+use Rattle.stride_trees.proofs.ProblemBounds.{AreFitting}
+use Rattle.stride_rows.proofs.Indivisible.{indivisible_proof, number_part, undivided_proof, undivided_refutes, AreUndivided}
+use Rattle.stride_trees.proofs.Lists.{forms_count, row_made}
+use Rattle.stride_trees.proofs.NoSystems.{stride_rows, AreStrideRows}
+use Rattle.stride_trees.proofs.Rows.{cells_at, AreCellRows}
+use Rattle.stride_rows.proofs.Singles.{loop_inside}
+use Rattle.stride_trees.proofs.WriteSystems as standing
+use Rattle.stride_trees.proofs.Systems.{stride_is, IsStrideOf}
+
+-- the two rows of a test that says no
+abbrev low_expr : ℕ → Form → ℤ → RowExpr
+low_expr quotient form divisor = one_less (minus (Take form) (multiple divisor quotient))
+
+abbrev high_expr : ℕ → Form → ℤ → RowExpr
+high_expr quotient form divisor = minus (one_less (Plus (multiple divisor quotient) (number divisor))) (Take form)
+
+module _ (n : Nest) (r w : Occurrence) (p : ℕ) (c : Context) (here i : ℕ) (write read : Form) (stride : ℤ)
+    (strided : AreStrided n r w p) (small : IsSmallContext c here) (reader : length r.statement.loops ≤ c.vars)
+    (write_is : slice_get w.access.subscripts i ≡ Some write) (read_is : slice_get r.access.subscripts i ≡ Some read)
+    (is : stride_of write ≡ Some stride) (test quotient : ℕ)
+    (first : slice_get c.rows test
+    ≡ Some (low_expr quotient (widened_form quotient (division_of i write read stride).form) (pos (unsigned_abs stride))))
+    (second : slice_get c.rows (test + 1)
+    ≡ Some (high_expr quotient (widened_form quotient (division_of i write read stride).form) (pos (unsigned_abs stride))))
+    (order : List RowExpr) (order_made : AreMadeSmall (c.vars + length w.statement.loops) order) where
+  abbrev e : ℕ
+  e = length w.statement.loops
+
+  abbrev more : ℕ
+  more = c.vars + e
+
+  abbrev d : ℕ
+  d = unsigned_abs stride
+
+  abbrev place : List Form
+  place = writer_place c w
+
+  abbrev forms : List Form
+  forms = w.statement.rows
+
+  fits : AreFitting n r w p
+  fits = standing.fits n r w p c here strided small reader order order_made
+
+  abbrev whole : List Form
+  whole = standing.whole n r w p c here strided small reader order order_made
+
+  abbrev wide : List Form
+  wide = map (widened_form more) small.rows
+
+  abbrev behind : List Form
+  behind = standing.behind n r w p c here strided small reader order order_made
+
+  abbrev laid : List RowExpr
+  laid = standing.laid n r w p c here strided small reader order order_made
+
+  laid_made : standing.Made n r w p c here strided small reader order order_made laid
+  laid_made = standing.laid_made n r w p c here strided small reader order order_made
+
+  whole_count : length whole ≡ here + (length forms + (2 * length w.access.subscripts + length order))
+  whole_count = standing.whole_count n r w p c here strided small reader order order_made
+
+  rows_count : length c.rows ≡ here
+  rows_count = sym (forms_count c.vars c.rows small.rows small.made) ∙ small.count
+
+  write_fits : FormFits e write
+  write_fits = form_is e write (list_all_at (form_fits e) w.access.subscripts i write fits.writes write_is)
+
+  of_stride : IsStrideOf stride
+  of_stride = stride_is e write stride write_fits is
+
+  -- the rows of the test
+
+  abbrev f : RowParts
+  f part = part_of part (widened_form quotient (division_of i write read stride).form)
+
+  abbrev q : RowParts
+  q part = part_of part (variable_form (quotient + 1) quotient)
+
+  at_context : (k : ℕ) (row : RowExpr) → slice_get c.rows k ≡ Some row → (part : Part)
+      → row_part whole part k ≡ parts_of row part
+  at_context k row row_is part =
+      ap (λ o. option_map_or (part_of part) o (pos 0))
+      (slice_get-append_left wide behind k
+      (omega (
+        arith,
+        slice_get_within c.rows k row row_is,
+        rows_count,
+        standing.wide_count n r w p c here strided small reader
+            order order_made,
+      )))
+      ∙ widened_at more small.rows k part ∙ row_made c.vars c.rows small.rows k row part small.made row_is
+
+  -- the rows of its subscript
+
+  abbrev cells : List RowExpr
+  cells = cell_rows w.access.subscripts r.access.subscripts place ++ order
+
+  cell : AreCellRows cells i write read place
+  cell = cells_at w.access.subscripts r.access.subscripts place i write read order write_is read_is
+
+  at_cell : (k : ℕ) (row : RowExpr) → slice_get cells k ≡ Some row → (part : Part)
+      → row_part whole part (here + (length forms + k)) ≡ parts_of row part
+  at_cell k row row_is part =
+      let domain : List RowExpr = domain_rows forms place in
+      let even : here + (length forms + k) ≡ length c.rows + (length domain + k) =
+      omega (arith, rows_count, length-domain_rows forms place) in
+      ap (row_part whole part) even
+      ∙ row_made more laid whole (length c.rows + (length domain + k)) row part laid_made
+      (slice_get-append_right c.rows (domain ++ cells) (length domain + k) ∙ slice_get-append_right domain cells k ∙ row_is)
+
+  abbrev v : RowParts
+  v part = row_part place part (loop_of write.coefs)
+
+  told : AreStrideRows write read place d f v (int_lt (pos 0) stride)
+  told = stride_rows quotient write read place stride i
+      (write_fits.over ∙ sym (standing.long n r w p c here strided small reader order order_made))
+      (list_all_at is_single w.access.subscripts i write fits.singles write_is) is
+
+  v_small : (part : Part) → unsigned_abs (v part) ≤ 1
+  v_small part =
+      let k : ℕ = loop_of write.coefs in
+      let inside : k < e = omega (arith, loop_inside write.coefs (outside_counts write.coefs stride is), write_fits.over) in
+      let same : v part ≡ part_of part (variable_form (c.vars + k + 1) (c.vars + k)) =
+      ap (λ o. option_map_or (part_of part) o (pos 0)) (variable_at c.vars e k inside) in
+      omega (
+        arith,
+        ap unsigned_abs same,
+        part_of-le 1 (variable_form (c.vars + k + 1) (c.vars + k)) part (variable_within (c.vars + k + 1) (c.vars + k)),
+      )
+
+  abbrev row : ℕ
+  row = here + (length forms + 2 * i)
+
+  first_row : (part : Part) → row_part whole part row ≡ parts_of (minus (at_place write place) (Take read)) part
+  first_row part = at_cell (2 * i) (minus (at_place write place) (Take read)) cell.first part
+
+  second_row : (part : Part) → row_part whole part (row + 1) ≡ parts_of (minus (Take read) (at_place write place)) part
+  second_row part =
+      let next : row + 1 ≡ here + (length forms + (2 * i + 1)) = omega arith in
+      ap (row_part whole part) next ∙ at_cell (2 * i + 1) (minus (Take read) (at_place write place)) cell.second part
+
+  inside : i < length w.access.subscripts
+  inside = slice_get_within w.access.subscripts i write write_is
+
+  test_in : test + 1 < length whole
+  test_in = omega (
+    arith,
+    whole_count,
+    rows_count,
+    slice_get_within c.rows (test + 1)
+        (high_expr quotient (widened_form quotient (division_of i write read stride).form) (pos d)) second,
+  )
+
+  first_in : row < length whole
+  first_in = omega (arith, whole_count, inside)
+
+  second_in : row + 1 < length whole
+  second_in = omega (arith, whole_count, inside)
+
+  low_row : (part : Part) → row_part whole part test
+      ≡ (f part +ℤ ((q part *ℤ pos d) *ℤ negsuc 0)) +ℤ number_part (negsuc 0) part
+  low_row part =
+      at_context test (low_expr quotient (widened_form quotient (division_of i write read stride).form) (pos d)) first part
+
+  high_row : (part : Part) → row_part whole part (test + 1)
+      ≡ (((q part *ℤ pos d) +ℤ number_part (pos d) part) +ℤ number_part (negsuc 0) part) +ℤ (f part *ℤ negsuc 0)
+  high_row part =
+      at_context (test + 1) (high_expr quotient (widened_form quotient (division_of i write read stride).form) (pos d)) second
+      part
+
+  q_small : (part : Part) → unsigned_abs (q part) ≤ 1
+  q_small part = part_of-le 1 (variable_form (quotient + 1) quotient) part (variable_within (quotient + 1) quotient)
+
+  undivided : (b : Bool) → AreStrideRows write read place d f v b
+      → AreUndivided whole d test (cond b row (row + 1)) (cond b (row + 1) row) f q v
+  undivided true h = record {
+    positive = omega (arith, of_stride.at_least);
+    here_in = test_in;
+    up_in = first_in;
+    down_in = second_in;
+    low = low_row;
+    high = high_row;
+    above = λ part. first_row part ∙ h.first part;
+    below = λ part. second_row part ∙ h.second part;
+    small_q = q_small;
+    small_v = v_small;
+  }
+  undivided false h = record {
+    positive = omega (arith, of_stride.at_least);
+    here_in = test_in;
+    up_in = second_in;
+    down_in = first_in;
+    low = low_row;
+    high = high_row;
+    above = λ part. second_row part ∙ h.second part;
+    below = λ part. first_row part ∙ h.first part;
+    small_q = q_small;
+    small_v = v_small;
+  }
+
+  pub undivided_write_refuted : (b : Bool) → int_lt (pos 0) stride ≡ b → IsRefuted (with_rows (with_write_at r c w) order)
+      (undivided_proof d test (cond b row (row + 1)) (cond b (row + 1) row)
+      (here + (length forms + (2 * length w.access.subscripts + length order))))
+  undivided_write_refuted b rises =
+      let up : ℕ = cond b row (row + 1) in
+      let down : ℕ = cond b (row + 1) row in
+      let small_whole = standing.whole_small n r w p c here strided small reader order order_made in
+      record {
+        rows = whole;
+        are_made = standing.own_made n r w p c here strided small reader order order_made;
+        refuted = subst (λ k. Refutes more whole (undivided_proof d test up down k)) whole_count
+            (undivided_refutes more whole d test up down f q v small_whole.over small_whole.within
+            (undivided b (subst (AreStrideRows write read place d f v) rises told)));
+      }
+
+-- the same of what is made
+
+module _ (s : Strides) (d : Division) (strided : IsStrided s) (test : IsTestOf s d) (place here more : ℕ) (c : Context)
+    (at : IsUndividedContext s d place here c) (order : List RowExpr)
+    (order_made : AreMadeSmall (c.vars + depth_of_write s) order) (count : length order ≡ more) (proof : Proof)
+    (row above below all : ℕ) (row_is : row ≡ here + (length s.write.statement.now.rows + 2 * d.subscript))
+    (above_is : above ≡ cond d.rises row (row + 1)) (below_is : below ≡ cond d.rises (row + 1) row)
+    (all_is : all
+    ≡ here + (length s.write.statement.now.rows + (2 * length s.write.access.now.subscripts + more)))
+    (proof_is : proof ≡ indivisible_proof d.divisor (root_of s + 2 * place) above below all) where
+  abbrev m : ℕ
+  m = unsigned_abs test.stride
+
+  abbrev own : ℕ
+  own = here + (length s.write.statement.now.rows + 2 * d.subscript)
+
+  abbrev number_of_rows : ℕ → ℕ
+  number_of_rows k = here + (length s.write.statement.now.rows + (2 * length s.write.access.now.subscripts + k))
+
+  abbrev of_subscript : Division
+  of_subscript = division_of d.subscript test.write test.read test.stride
+
+  abbrev quotient : ℕ
+  quotient = depth_of_read s + place
+
+  abbrev own_test : ℕ
+  own_test = root_of s + 2 * place
+
+  own_first : slice_get c.rows own_test ≡ Some (low_expr quotient (widened_form quotient of_subscript.form) (pos m))
+  own_first = at.first ∙ ap (λ (t : Division). Some (low_expr quotient (widened_form quotient t.form) t.divisor)) test.is
+
+  own_second : slice_get c.rows (own_test + 1) ≡ Some (high_expr quotient (widened_form quotient of_subscript.form) (pos m))
+  own_second = at.second ∙ ap (λ (t : Division). Some (high_expr quotient (widened_form quotient t.form) t.divisor)) test.is
+
+  own_proof : proof ≡ undivided_proof m own_test (cond d.rises own (own + 1)) (cond d.rises (own + 1) own)
+      (number_of_rows (length order))
+  own_proof =
+      proof_is
+      ∙ ap (λ (t : Division). indivisible_proof t.divisor own_test above below all) test.is
+      ∙ ap (λ up. indivisible_proof (pos m) own_test up below all)
+      (above_is ∙ ap (λ row. cond d.rises row (row + 1)) row_is)
+      ∙ ap (λ down. indivisible_proof (pos m) own_test (cond d.rises own (own + 1)) down all)
+      (below_is ∙ ap (λ row. cond d.rises (row + 1) row) row_is)
+      ∙ ap (indivisible_proof (pos m) own_test (cond d.rises own (own + 1)) (cond d.rises (own + 1) own))
+      (all_is ∙ ap number_of_rows (sym count))
+
+  pub undivided_refuted : IsRefuted (own_system s c order) proof
+  undivided_refuted =
+      subst (IsRefuted (own_system s c order)) (sym own_proof)
+      (undivided_write_refuted s.nest.now (read_of s) (write_of s) s.level c here d.subscript test.write test.read test.stride
+      strided.strided at.small (omega (arith, at.inside)) test.write_is test.read_is test.stride_is own_test quotient own_first
+      own_second order order_made d.rises (sym (ap (λ (t : Division). t.rises) test.is)))

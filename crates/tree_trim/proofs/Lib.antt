@@ -1,0 +1,5 @@
+pub mod Naming
+pub mod Refuting
+pub mod Systems
+pub mod Trimming
+pub mod Heights

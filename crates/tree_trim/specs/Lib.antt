@@ -1,0 +1,4 @@
+pub mod Proofs
+pub mod Trees
+pub mod Parts
+pub mod Sides

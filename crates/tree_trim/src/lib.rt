@@ -1,0 +1,10 @@
+//! Trees without the Tests whose rows no proof has a use for: a branch none of whose proofs names the Test's row stands in
+//! the place of the Test, since its proofs hold without that row.
+#![tactic(auto)]
+
+mod branch;
+mod parts;
+mod refutation;
+
+pub use branch::{tree_names_row, tree_without, trim_test};
+pub use refutation::{names_row, proof_without};

@@ -29,8 +29,9 @@ use Rattle.witness_plan.proofs.Downward.{events_left, left_first, left_less}
 use Rattle.witness_plan.proofs.OtherCapacities.{wired_at}
 use Rattle.cap_trim.specs.Rests.{IsLeastRun, StopsAtRest, can_end, least_enabled, least_run, least_run_from}
 use Rattle.cap_trim.specs.Rests.{rest}
-use Rattle.cap_trim.proofs.Found.{all_from, all_pass, by_option, find_is, find_none}
+use Rattle.cap_trim.proofs.FirstPass.{all_from, all_pass, find_is, find_none}
 use Rattle.cap_trim.proofs.MoreRoom.{run_roomier}
+use Rattle.plain_data.proofs.Options.{by_option}
 
 -- The least-process run
 

@@ -10,14 +10,14 @@ use Rattle.std.proofs.Common.{get_or, refl, sym, ap, ◌∙◌, subst, inl, inr,
 use Rattle.std.specs.List.{range_with_len}
 use Rattle.std.specs.Prelude.{◌==◌}
 use Rattle.std.proofs.lemmas.Bool.{both_ways, cases_Bool, cases_eq, cases_lt, eqb-false}
-use Rattle.std.proofs.lemmas.List.FromFn.{get_or-range_with_len, length-range_with_len}
+use Rattle.std.proofs.lemmas.List.FromFn.{length-range_with_len}
 use Rattle.std.proofs.lemmas.List.Sums.{fails_before_first, passes_at_first, prefix_len-le-length}
 use mathlib.Core.Path.{fun_ext}
 use Rattle.net_core.specs.Cuts.{opening}
 use Rattle.net_core.specs.Machine.{Net, replaced}
 use Rattle.net_core.specs.Rules.{tags}
 use Rattle.net_core.specs.Shape.{IsWired, put_count}
-use Rattle.net_core.proofs.Counting.{replaced_same, replaced_other}
+use Rattle.net_core.proofs.EventCounts.{replaced_same, replaced_other}
 use Rattle.net_core.proofs.Positions.{cut_inside}
 use Rattle.witness_plan.proofs.OtherCapacities.{wired_at}
 use Rattle.cap_trim.specs.Capacities.{SticksAt, least_capacity, lowered_network, trimmed_network_below}
@@ -25,11 +25,9 @@ use Rattle.cap_trim.specs.Capacities.{with_capacity, with_room}
 use Rattle.cap_trim.specs.Rests.{can_end, least_run, rest}
 use Rattle.cap_trim.proofs.AtRest.{can_end_roomier, can_end_since, least_cuts, least_ends, rest_at}
 use Rattle.cap_trim.proofs.AtRest.{stops_at_rest}
-use Rattle.cap_trim.proofs.Found.{one_fails}
+use Rattle.cap_trim.proofs.FirstPass.{one_fails}
 use Rattle.cap_trim.proofs.NoRoom.{no_room_no_puts}
-
-number_at : (m k : ℕ) → k < m → get_or (range_with_len 0 m) k 0 ≡ k
-number_at m k lt = omega (arith, get_or-range_with_len 0 m k 0 lt)
+use Rattle.plain_data.proofs.Lists.{get_or-range_with_len_zero}
 
 -- The least capacity of one channel
 
@@ -56,7 +54,7 @@ module _ (n : Net) (c : ℕ) where
   least_passes lt =
       let within : least_capacity n c < length (range_with_len 0 (n.capacity c)) =
       omega (arith, lt, length-range_with_len 0 (n.capacity c)) in
-      ap (λ a. can_end (with_capacity n c a)) (sym (number_at (n.capacity c) (least_capacity n c) lt))
+      ap (λ a. can_end (with_capacity n c a)) (sym (get_or-range_with_len_zero (n.capacity c) (least_capacity n c) lt))
       ∙ passes_at_first (λ a. can_end (with_capacity n c a)) (range_with_len 0 (n.capacity c)) 0 within
 
   -- so it does where it does with its own
@@ -73,7 +71,7 @@ module _ (n : Net) (c : ℕ) where
   pub less_sticks : (a : ℕ) → a < least_capacity n c → can_end (with_capacity n c a) ≡ false
   less_sticks a lt =
       let small : a < n.capacity c = omega (arith, least_within) in
-      ap (λ b. can_end (with_capacity n c b)) (sym (number_at (n.capacity c) a small))
+      ap (λ b. can_end (with_capacity n c b)) (sym (get_or-range_with_len_zero (n.capacity c) a small))
       ∙ fails_before_first (λ b. can_end (with_capacity n c b)) (range_with_len 0 (n.capacity c)) a 0 lt
 
   -- it is the one at which the network ends, where it doesn't with less
@@ -140,11 +138,6 @@ keeps n c (suc j) le =
       | inl lt ↦ turn_there n j c (λ same. omega arith) ∙ keeps n c j (omega arith)
       | inr ge ↦ let same : j ≡ c = omega arith in ap (λ m. (before n (suc m)).capacity c) same
     ]
-
--- and before it
-pub kept_before : (n : Net) (m d : ℕ) → m ≤ d → (trimmed_network_below n m).capacity d ≡ n.capacity d
-kept_before n zero d le = refl
-kept_before n (suc m) d le = turn_there n m d (λ same. omega arith) ∙ kept_before n m d (omega arith)
 
 -- the machine takes the same of it but for the capacities
 pub before_is : (n : Net) (m : ℕ) → trimmed_network_below n m ≡ with_room n (trimmed_network_below n m).capacity

@@ -9,29 +9,21 @@
 use Rattle.std.proofs.Common.{◌≡◌, ℕ, suc, ◌+◌, ◌-◌, ◌<◌, ◌≤◌, List, [], ◌∷◌, ◌++◌, map, set}
 use Rattle.std.proofs.Common.{length, get_or, sym, ap, ◌∙◌, subst, inl, inr, arith, length-set}
 use Rattle.std.specs.List.{range_with_len}
-use Rattle.std.specs.Option.{option_map_or}
 use Rattle.std.specs.Prelude.{slice_index}
 use Rattle.std.proofs.lemmas.Bool.{cases_lt}
 use Rattle.std.proofs.lemmas.List.{get_or_past, set-get_or}
 use Rattle.std.proofs.lemmas.List.FromFn.{fill_by_all, get_or-map-range_with_len, length-map-range_with_len}
 use Rattle.std.proofs.lemmas.List.FromFn.{map-range_with_len_more}
-use Rattle.std.proofs.lemmas.Option.{slice_get_past}
 use mathlib.Core.Path.{fun_ext}
-use Rattle.net_core.specs.declared.network.Channel.{Channel}
-use Rattle.net_core.specs.declared.network.Network.{Network}
-use Rattle.net_core.specs.Machine.{Net, net_of, replaced}
+use Rattle.net_core.specs.Machine.{Net, replaced}
 use Rattle.cap_trim.specs.Capacities.{capacity_list, least_capacity, lowered_network, trimmed_network}
 use Rattle.cap_trim.specs.Capacities.{trimmed_network_below, with_capacity, with_room}
-use Rattle.cap_trim.specs.Progress.{at_capacities}
+use Rattle.net_core.specs.Progress.{at_capacities}
 use Rattle.cap_trim.specs.Rests.{rest}
 use Rattle.cap_trim.proofs.LeastCapacities.{before_is}
-use Rattle.cap_trim.proofs.Trying.{at_replaced, list_replaced, set_twice}
+use Rattle.cap_trim.proofs.CapacitySearch.{at_replaced, list_replaced, set_twice}
 
 -- a channel that isn't there has no room
-
-pub no_room_past : (network : Network) (c : ℕ) → length network.channels ≤ c → (net_of network).capacity c ≡ 0
-no_room_past network c past =
-    ap (λ o. option_map_or (λ (x : Channel). x.capacity) o 0) (slice_get_past network.channels c past)
 
 -- a network is the one with the list of its capacities
 pub listed : (n : Net) → ((c : ℕ) → n.channels ≤ c → n.capacity c ≡ 0)

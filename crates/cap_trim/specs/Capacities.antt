@@ -39,6 +39,7 @@ trimmed_network n = trimmed_network_below n n.channels
 abbrev pub lowered_network : Net → ℕ → Net
 lowered_network n c = with_capacity n c (n.capacity c - 1)
 
+-- the capacities, channel by channel
 abbrev pub capacity_list : Net → List ℕ
 capacity_list n = map n.capacity (range_with_len 0 n.channels)
 

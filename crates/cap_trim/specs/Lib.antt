@@ -1,3 +1,3 @@
 pub mod Capacities
-pub mod Progress
+pub mod LeastRuns
 pub mod Rests

@@ -1,11 +1,11 @@
 ghost use Rattle.std.specs.Prelude.{◌≡◌, length, map, IfOk};
 ghost use Rattle.net_core.specs.Machine.{net_of};
 ghost use Rattle.net_core.specs.Shape.{FitsNumbers, IsShaped, IsWired};
-ghost use Rattle.cap_trim.specs.Progress.{at_capacities};
+ghost use Rattle.net_core.specs.Progress.{at_capacities};
 ghost use Rattle.cap_trim.specs.Rests.{rest};
 
-use crate::progress::Progress;
-use net_core::Network;
+use crate::least_run::go_on;
+use net_core::{Network, Progress};
 use sanlp::Points;
 use std::alloc::{AllocError, Global};
 
@@ -35,19 +35,18 @@ pub(crate) fn rest_at(
         (λ positions. positions.items ≡ rest (at_capacities (net_of network.now) capacities.now)) }
 {
     let mut progress = Progress::new(alloc, network)?;
-    progress.go_on(network, capacities);
+    go_on(&mut progress, network, capacities);
     Ok(progress.into_positions())
 }
 
 /// The positions at which a network comes to rest: those that it reaches where at each state the least enabled process steps,
 /// until none is enabled. Every run that can't go on has them (Kahn 1974). Nothing is refused but want of memory. It takes
 /// the time of the network's events, each with a look at the processes that may go on.
-pub fn rest(alloc: Global, network: &Network, points: &Points) -> Result<Vec<u32>, AllocError>
-    requires shaped { IsShaped (net_of network.now) points.now.of }
+pub fn rest(alloc: Global, network: &Network, _points: &Points) -> Result<Vec<u32>, AllocError>
+    requires shaped { IsShaped (net_of network.now) _points.now.of }
     requires numbers { FitsNumbers (net_of network.now) }
     ensures { IfOk result (λ positions. positions.items ≡ rest (net_of network.now)) }
 {
-    let _ = points;
     let capacities = capacities_of(alloc, network)?;
     rest_at(alloc, network, &capacities)
 }

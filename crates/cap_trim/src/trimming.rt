@@ -1,18 +1,17 @@
 ghost use Rattle.std.specs.Prelude.{◌≡◌, ◌<◌, ◌≤◌, ℕ, length, slice_index, slice_set, IfOk, OnOk};
-ghost use Rattle.sanlp.specs.Points.{points_of};
 ghost use Rattle.net_checker.specs.Fits.{Fits};
 ghost use Rattle.net_maker.specs.Certificates.{swept_cert};
 ghost use Rattle.net_core.specs.Machine.{net_of};
 ghost use Rattle.net_core.specs.Shape.{FitsNumbers, IsWired};
 ghost use Rattle.witness_plan.specs.Sequential.{with_capacities};
 ghost use Rattle.cap_trim.specs.Capacities.{IsPlanned, SticksBelow, capacity_list, least_capacity, lowered_rests, trimmed_network};
-ghost use Rattle.cap_trim.specs.Progress.{at_capacities};
+ghost use Rattle.net_core.specs.Progress.{at_capacities};
 ghost use Rattle.cap_trim.specs.Rests.{least_run};
 
-use crate::progress::Progress;
+use crate::least_run::go_on;
 use crate::resting::{capacities_of, rest_at};
 use derived_names::{has_classes_of_uses, names_last_writers};
-use net_core::Network;
+use net_core::{Network, Progress};
 use plain_data::Items;
 use process_derive::fits_nest;
 use sanlp::{Nest, Points};
@@ -48,7 +47,7 @@ fn lower(
     let mut progress = Progress::new(alloc, network)?;
     for capacity in 0..own {
         capacities[at] = capacity;
-        progress.go_on(network, capacities);
+        go_on(&mut progress, network, capacities);
         if progress.has_ended(network) {
             return Ok(());
         }
@@ -94,8 +93,10 @@ fn lowered_rests(
     Ok(rests)
 }
 
-// The least capacities of a network, and for each channel where it comes to rest with one place less there.
-fn least_and_rests(alloc: Global, network: &Network) -> Result<Trimmed, AllocError>
+/// Lowers the capacities of a network one after the other, in ascending order of channels, each to the least one at which the
+/// network ends, and tells for each channel where the network comes to rest with one place less there. It takes for each
+/// channel the time of two runs. Nothing is refused but want of memory.
+pub fn least_capacities(alloc: Global, network: &Network) -> Result<Trimmed, AllocError>
     requires wired { IsWired (net_of network.now) }
     requires numbers { FitsNumbers (net_of network.now) }
     ensures capacities { IfOk result
@@ -111,17 +112,15 @@ fn least_and_rests(alloc: Global, network: &Network) -> Result<Trimmed, AllocErr
     })
 }
 
-/// Lowers the capacities of a nest's network one after the other, in ascending order of channels, each to the least one at
-/// which the network ends, and tells for each channel where the network sticks with one place less. With the new capacities
-/// and its least-process run the network fits the nest, so it is sound. Nothing is refused but want of memory. It takes for
-/// each channel the time of two runs. Whether the sum of the capacities is the least isn't said.
+/// The answer of `least_capacities` for a nest's network, beside points, which it doesn't need. With one place less
+/// in a channel the network sticks. With the new capacities and its least-process run the network fits the nest, so it is
+/// sound. Whether the sum of the capacities is the least isn't said.
 pub fn trim(
     alloc: Global,
     nest: &Nest,
-    points: &Points,
+    _points: &Points,
     network: &Network,
 ) -> Result<Trimmed, AllocError>
-    requires points { points.now.of ≡ points_of nest.now }
     requires numbers { FitsNumbers (net_of network.now) }
     requires planned { IsPlanned nest.now network.now }
     ensures capacities { IfOk result
@@ -143,6 +142,5 @@ pub fn trim(
     fits_nest(nest);
     names_last_writers(nest);
     has_classes_of_uses(nest);
-    let _ = points;
-    least_and_rests(alloc, network)
+    least_capacities(alloc, network)
 }

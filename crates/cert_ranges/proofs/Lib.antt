@@ -1,2 +1,2 @@
 mod Ranges
-mod Planned
+mod NetworkRanges

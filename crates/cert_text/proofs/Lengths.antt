@@ -1,6 +1,6 @@
 -- A network that a text stands for has fewer than 2 ^ 32 events.
-use Rattle.std.proofs.Common.{◌≡◌, ℕ, zero, suc, ◌+◌, ◌≤◌, Option, Some, None, List, [], ◌∷◌, length, map, take}
-use Rattle.std.proofs.Common.{slice_get, refl, sym, ap, ◌∙◌, subst, arith}
+use Rattle.std.proofs.Common.{◌≡◌, ℕ, zero, suc, ◌+◌, ◌≤◌, List, [], ◌∷◌, length, map, take}
+use Rattle.std.proofs.Common.{slice_get, refl, ap, ◌∙◌, arith}
 use Rattle.std.specs.List.{sum_by}
 use Rattle.std.specs.Option.{option_map_or}
 use Rattle.std.proofs.lemmas.List.{length-map, take_all}
@@ -11,7 +11,7 @@ use Rattle.net_core.specs.declared.network.Process.{Process}
 use Rattle.net_core.specs.Machine.{net_of}
 use Rattle.net_core.specs.Shape.{FitsNumbers, events_below}
 use Rattle.source_tree.specs.declared.cert.Cert.{Cert}
-use Rattle.cert_text.specs.Folding.{Folded, network_of, process_of, scripts}
+use Rattle.cert_text.specs.Folding.{process_of, scripts}
 use Rattle.cert_text.specs.StandsFor.{StandsFor}
 
 abbrev script_at : List Process → ℕ → List Event

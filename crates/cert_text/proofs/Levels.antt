@@ -4,11 +4,10 @@
 -- agree: an item adds itself; a repeat at no level is too deep, at the line where it stands; and at a level it adds so
 -- many times what its parts stand for, which are read at one level less. A repeat that was read has a count of at
 -- least 2, since its line was judged so.
-use Rattle.std.proofs.Common.{◌≡◌, inl, inr, ℕ, zero, suc, ◌+◌, ◌-◌, ◌<◌, ◌≤◌, true, false, Option, Some, None, List}
-use Rattle.std.proofs.Common.{[], ◌∷◌, ◌++◌, codes, Result, Ok, Err, refl, sym, ap, ◌∙◌, subst, arith}
+use Rattle.std.proofs.Common.{◌≡◌, inl, inr, ℕ, zero, suc, ◌+◌, ◌-◌, ◌<◌, ◌≤◌, Option, Some, None, List}
+use Rattle.std.proofs.Common.{[], ◌∷◌, ◌++◌, codes, Result, Ok, Err, ap, ◌∙◌, subst, arith, leb-true}
 use Rattle.std.proofs.lemmas.Bool.{cases_Bool}
-use Rattle.std.proofs.lemmas.Bool.Decides.{nat_tests}
-use Rattle.std.specs.Prelude.{bytes_eq, nat_le}
+use Rattle.std.specs.Prelude.{nat_le}
 use Rattle.script_blocks.specs.declared.blocks.BlockPart.{BlockPart}
 use Rattle.script_blocks.specs.declared.blocks.BlockPart.TheVariants.{Item}
 use Rattle.script_blocks.specs.declared.blocks.BlockPart.TheViews.{Repeat}
@@ -19,8 +18,8 @@ use Rattle.cert_lines.specs.declared.error.CertError.TheVariants.{Deep}
 use Rattle.cert_lines.specs.declared.error.Fault.{Fault}
 use Rattle.cert_lines.specs.declared.error.Fault.TheVariants.{Words, Range}
 use Rattle.cert_lines.specs.Words.{both, made, number, words_of}
-use Rattle.cert_lines.specs.Reading.{Part, Place, cut_read, first_line, followed_by, line, line_read, many}
-use Rattle.cert_lines.proofs.Judged.{at_keyword, both_ok, made_ok}
+use Rattle.cert_lines.specs.Reading.{Place, cut_read, first_line, followed_by, line, line_read, many}
+use Rattle.cert_lines.proofs.Verdicts.{at_keyword, both_ok, made_ok}
 use Rattle.cert_text.specs.declared.places.PartLine.{PartLine}
 use Rattle.cert_text.specs.declared.places.PartLine.TheVariants as of_part
 use Rattle.cert_text.specs.declared.places.Version.{Version}
@@ -49,15 +48,12 @@ said_by judge at next x e = cut_said (first_line at.text) e
 
 -- A repeat's count is at least 2
 
-least_from : (least n : ℕ) → nat_le least n ≡ true → least ≤ n
-least_from least n h = grind (arith, nat_tests)
-
 least_of : (least : ℕ) (said : Result ℕ Fault) (n : ℕ) → at_least least said ≡ Ok n → least ≤ n
 least_of least (Ok m) n e = elim (cases_Bool (nat_le least m)) [
   | inl some ↦
       let read : ◌≡◌ {A = Result ℕ Fault} (Ok m) (Ok n) = rw some at e in
       let same : m ≡ n = cc in
-      rw (← same) (least_from least m some)
+      rw (← same) (leb-true least m some)
   | inr low ↦ let wrong : ◌≡◌ {A = Result ℕ Fault} (Err Range) (Ok n) = rw low at e in absurd (cc wrong)
 ]
 least_of least (Err fault) n e = absurd (cc e)

@@ -1,6 +1,6 @@
 pub mod Fires
-pub mod Judged
-pub mod KeptSame
+pub mod WordVerdicts
+pub mod TextContents
 pub mod Lengths
 pub mod Levels
 pub mod Lists
@@ -11,8 +11,8 @@ pub mod References
 pub mod Shortness
 pub mod Spellings
 pub mod Stands
-pub mod Stretching
+pub mod StretchLists
 pub mod Texts
-pub mod Written
-pub mod Grown
+pub mod TextPieces
+pub mod PartLists
 mod Worked

@@ -3,13 +3,12 @@
 -- The loop keeps the list so far and reads what is left: the list before, with what the parts to come stand for, is
 -- what all parts stand for. One part more moves from the right to the left, since appending is associative, and at the
 -- end nothing is left. Where a part is refused, all are, with the same refusal.
-use Rattle.std.proofs.Common.{◌≡◌, ℕ, zero, suc, ◌+◌, ◌-◌, ◌<◌, ◌≤◌, List, [], ◌∷◌, ◌++◌, Result, Ok, Err, append_assoc}
+use Rattle.std.proofs.Common.{◌≡◌, ℕ, suc, ◌+◌, ◌-◌, ◌<◌, ◌≤◌, List, ◌∷◌, ◌++◌, Result, Ok, Err, append_assoc}
 use Rattle.std.proofs.Common.{append-nil, refl, sym, ap, ◌∙◌, arith}
 use Rattle.script_blocks.specs.declared.blocks.BlockPart.{BlockPart}
 use Rattle.script_blocks.specs.Expansion.{part_expansion, parts_expansion}
 use Rattle.cert_lines.specs.declared.error.CertError.{CertError}
 use Rattle.cert_lines.specs.Reading.{Part, Place, followed_by, many}
-use Rattle.cert_text.specs.Kept.{lists_of}
 
 -- a list, and then what parts stand for
 abbrev pub list_before : {T : Type 0} → List T → Result (List (BlockPart T) × Place) CertError

@@ -2,39 +2,34 @@
 -- and trees: the line of a part is read back by its spelling, the parts of a repeat by the claim at one level less. At
 -- no level a repeat's line is refused, and no repeat is in range, since its body has a part. Version 1 reads items
 -- alone, at any level.
-use Rattle.std.proofs.Common.{◌≡◌, ◌⊎◌, inl, inr, ℕ, zero, suc, ◌<◌, ◌≤◌, true, false, nat_le, List, [], ◌∷◌, ◌++◌, All}
-use Rattle.std.proofs.Common.{Result, Ok, Err, codes, decimal, length, map, append_assoc, refl, sym, ap, subst, ◌∙◌}
-use Rattle.std.proofs.Common.{arith}
+use Rattle.std.proofs.Common.{◌≡◌, inl, inr, ℕ, zero, suc, ◌<◌, ◌≤◌, true, false, nat_le, List, [], ◌∷◌, ◌++◌, All}
+use Rattle.std.proofs.Common.{Result, Ok, Err, codes, decimal, length, append_assoc, refl, sym, ap, subst, ◌∙◌}
+use Rattle.std.proofs.Common.{arith, leb-true, le-leb}
 use Rattle.std.specs.Prelude.{bytes_eq}
-use Rattle.std.specs.List.{flat_map, join_with_byte, list_all}
+use Rattle.std.specs.List.{join_with_byte, list_all}
 use Rattle.std.proofs.lemmas.Bool.{cases_Bool}
-use Rattle.std.proofs.lemmas.Bool.Decides.{nat_tests}
-use Rattle.std.proofs.lemmas.List.Folds.{flat_map-map}
 use Rattle.script_blocks.specs.declared.blocks.Blocks.{Blocks}
 use Rattle.script_blocks.specs.declared.blocks.BlockPart.{BlockPart, out-BlockPart}
 use Rattle.script_blocks.specs.declared.blocks.BlockPart.TheOpen as layer
-use Rattle.script_blocks.specs.declared.blocks.BlockPart.TheFolds.{fold-BlockPart, fold-Blocks, fold-roll-BlockPart}
-use Rattle.script_blocks.specs.declared.blocks.BlockPart.TheFolds.{fold-roll-Blocks}
-use Rattle.script_blocks.specs.declared.blocks.BlockPart.TheViews.{Repeat, outs-Item, outs-Repeat, roll-BlockPart}
+use Rattle.script_blocks.specs.declared.blocks.BlockPart.TheViews.{Repeat, roll-BlockPart}
 use Rattle.script_blocks.specs.declared.blocks.BlockPart.TheViews.{roll-out-BlockPart, rolls-Item, rolls-Repeat}
 use Rattle.script_blocks.specs.declared.blocks.BlockPart.TheVariants.{Item}
 use Rattle.text_out.specs.Words.{line_text}
 use Rattle.cert_lines.specs.declared.error.CertError.{CertError}
-use Rattle.cert_lines.specs.declared.error.CertError.TheVariants.{Deep}
 use Rattle.cert_lines.specs.declared.error.Fault.{Fault}
-use Rattle.cert_lines.specs.declared.error.Fault.TheVariants.{Words, Range}
+use Rattle.cert_lines.specs.declared.error.Fault.TheVariants.{Range}
 use Rattle.cert_lines.specs.Words.{IsInRange, both, made, number}
-use Rattle.cert_lines.specs.Reading.{Part, Place, followed_by, line, many}
+use Rattle.cert_lines.specs.Reading.{Place, line, many}
 use Rattle.cert_lines.proofs.Codecs.{IsCodec, IsSpelled, ReadsTo, followed, line_codec, many_codec, of_value}
 use Rattle.cert_lines.proofs.Codecs.{reads_first}
-use Rattle.cert_lines.proofs.Judged.{at_keyword, both_ok, made_ok, same_words}
+use Rattle.cert_lines.proofs.Verdicts.{at_keyword, both_ok, made_ok, same_words}
 use Rattle.cert_lines.proofs.Numerals.{decimal_of_number, number_of_decimal}
-use Rattle.cert_lines.proofs.Spelled.{is_word, word_of_number}
+use Rattle.cert_lines.proofs.LineWords.{is_word, word_of_number}
 use Rattle.cert_text.specs.declared.places.PartLine.{PartLine}
 use Rattle.cert_text.specs.declared.places.PartLine.TheVariants as of_part
 use Rattle.cert_text.specs.declared.places.Version.{Version}
 use Rattle.cert_text.specs.declared.places.Version.TheVariants.{One, Two}
-use Rattle.cert_text.specs.CertText.{body_lines, most_levels, part_lines, part_text, parts_text, repeat_text}
+use Rattle.cert_text.specs.CertText.{most_levels, part_text, parts_text, repeat_text}
 use Rattle.cert_text.specs.Folding.{IsRepeat, LayerIsInRange, PartIsInRange}
 use Rattle.cert_text.specs.Places.{part_line, repeat_words}
 use Rattle.cert_text.specs.Reading.{part, part_behind, shallow_behind}
@@ -44,14 +39,8 @@ use Rattle.cert_text.proofs.Texts.{text_item, text_repeat}
 
 -- Lines of parts
 
-from_least : (least n : ℕ) → least ≤ n → nat_le least n ≡ true
-from_least least n h = grind (arith, nat_tests)
-
-least_from : (least n : ℕ) → nat_le least n ≡ true → least ≤ n
-least_from least n h = grind (arith, nat_tests)
-
 at_least_back : (least n : ℕ) → least ≤ n → IsInRange n → at_least least (number (decimal n)) ≡ Ok n
-at_least_back least n some few = rw (number_of_decimal n few, from_least least n some) refl
+at_least_back least n some few = rw (number_of_decimal n few, le-leb least n some) refl
 
 at_least_forth : (least : ℕ) (word : List ℕ) (n : ℕ) → at_least least (number word) ≡ Ok n → (word ≡ decimal n)
     × (IsInRange n × (least ≤ n))
@@ -64,7 +53,7 @@ at_least_forth least word n e = judged (number word) refl e
           let read : ◌≡◌ {A = Result ℕ Fault} (Ok m) (Ok n) = rw some at e in
           let same : m ≡ n = cc in
           let k = decimal_of_number word m said in
-          rw (← same) (k.0, (k.1, least_from least m some))
+          rw (← same) (k.0, (k.1, leb-true least m some))
       | inr low ↦ let wrong : ◌≡◌ {A = Result ℕ Fault} (Err Range) (Ok n) = rw low at e in absurd (cc wrong)
     ]
 

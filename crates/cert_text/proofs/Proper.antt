@@ -4,12 +4,11 @@
 -- of parts has at most as many parts as items, and a repeat's count is at most the number of its items too. Both go by
 -- induction over the levels that are left, a part with the parts of its body at one level less; at no level there is no
 -- repeat. It says nothing of blocks that aren't proper: a repeat of nothing stands for no item.
-use Rattle.std.proofs.Common.{◌≡◌, ◌≢◌, ℕ, zero, suc, ◌+◌, ◌-◌, ◌*◌, ◌<◌, ◌≤◌, true, ◌&&◌, List, [], ◌∷◌, ◌++◌, All}
-use Rattle.std.proofs.Common.{map, length, refl, sym, ap, ◌∙◌, subst, arith, length-append}
-use Rattle.std.specs.Prelude.{max, nat_le}
-use Rattle.std.specs.List.{list_all}
+use Rattle.std.proofs.Common.{◌≡◌, ◌≢◌, ℕ, zero, suc, ◌-◌, ◌*◌, ◌<◌, ◌≤◌, true, List, [], ◌∷◌, ◌++◌, All}
+use Rattle.std.proofs.Common.{map, length, sym, ap, ◌∙◌, subst, arith, length-append}
+use Rattle.std.specs.Prelude.{nat_le}
 use Rattle.std.proofs.Math.Nat.{le-max_left, le-max_right}
-use Rattle.std.proofs.lemmas.Bool.{and_parts, false≢true, leb-true}
+use Rattle.std.proofs.lemmas.Bool.{and_parts, leb-true}
 use Rattle.std.proofs.lemmas.Nat.{mul-le}
 use Rattle.std.proofs.lemmas.List.Elements.{All-nil, All-cons, All-head, All-tail}
 use Rattle.script_blocks.specs.declared.blocks.Blocks.{Blocks}
@@ -23,7 +22,7 @@ use Rattle.script_blocks.specs.Nesting.{are_proper, is_body, is_proper, is_prope
 use Rattle.script_blocks.specs.Nesting.{parts_nesting}
 use Rattle.script_blocks.proofs.Expansions.{expansion_item, expansion_repeat, nesting_repeat, proper_repeat}
 use Rattle.script_blocks.proofs.Repetitions.{length-repeated, repeated_before}
-use Rattle.cert_lines.specs.Words.{IsInRange}
+use Rattle.script_blocks.proofs.Depths.{body_parts}
 use Rattle.cert_text.specs.Folding.{BlocksAreInRange, IsRepeat, LayerIsInRange, PartIsInRange}
 
 -- what holds of a list holds of both its halves
@@ -34,15 +33,6 @@ all_halves P (x ∷ xs) ys all =
     (All-cons P x xs (All-head P x (xs ++ ys) all) more.0, more.1)
 
 module _ {T : Type 0} where
-  all_map : (parts : List (BlockPart T)) → list_all (λ b. b) (map is_proper_part parts) ≡ are_proper parts
-  all_map [] = refl
-  all_map (p ∷ parts) = ap (λ b. is_proper_part p && b) (all_map parts)
-
-  body_parts : (parts : List (BlockPart T)) → is_body (map is_proper_part parts) ≡ true
-      → (0 < length parts) × (are_proper parts ≡ true)
-  body_parts [] h = absurd (false≢true h)
-  body_parts (p ∷ parts) h = (omega arith, ap (λ b. is_proper_part p && b) (sym (all_map parts)) ∙ h)
-
   -- what a proper repeat has
   repeat_parts : (count : ℕ) (body : Blocks T) → is_proper_part (Repeat count body) ≡ true
       → (2 ≤ count) × ((0 < length body.parts) × (are_proper body.parts ≡ true))

@@ -9,11 +9,9 @@ use Rattle.std.proofs.Common.{◌≡◌, ℕ, Option, Some, None, List, [], ◌�
 use Rattle.std.proofs.Common.{length, append_assoc, append-nil, false, refl, sym, ap, subst, ◌∙◌, arith}
 use Rattle.std.specs.Prelude.{bytes_eq}
 use Rattle.std.specs.List.{flat_map}
-use Rattle.net_core.specs.declared.network.Channel.{Channel}
 use Rattle.net_core.specs.declared.network.Event.{Event}
 use Rattle.net_core.specs.declared.network.Event.TheVariants.{Get, Fire, Put}
 use Rattle.net_core.specs.declared.network.Network.{Network}
-use Rattle.script_blocks.specs.declared.blocks.BlockPart.{BlockPart}
 use Rattle.source_tree.specs.declared.cert.Cert.{Cert}
 use Rattle.source_tree.specs.declared.cert.Origin.{Origin}
 use Rattle.source_tree.specs.declared.cert.Origin.TheVariants.{Sweep, Tree}
@@ -22,7 +20,7 @@ use Rattle.cert_lines.specs.declared.error.CertError.{CertError}
 use Rattle.cert_lines.specs.Words.{IsInRange, just}
 use Rattle.cert_lines.specs.Reading.{Part, Place, followed_by, found, line, many, text_end}
 use Rattle.cert_lines.proofs.Codecs.{IsCodec, ReadsTo, followed, line_codec, many_codec, of_value, reads_first}
-use Rattle.cert_lines.proofs.Judged.{just_spelled}
+use Rattle.cert_lines.proofs.Verdicts.{just_spelled}
 use Rattle.cert_text.specs.declared.places.Sizes.{Sizes}
 use Rattle.cert_text.specs.declared.places.SourceLine.{SourceLine}
 use Rattle.cert_text.specs.declared.places.SourceLine.TheVariants as of_source
@@ -32,7 +30,7 @@ use Rattle.cert_text.specs.CertText.{ChannelIsInRange, EventIsInRange, IsInRange
 use Rattle.cert_text.specs.CertText.{channel_text, end_text, entry_text, event_text, event_words, folded_text}
 use Rattle.cert_text.specs.CertText.{head_text, most_levels, part_text, parts_text, process_head, process_text}
 use Rattle.cert_text.specs.CertText.{sizes_text, source_text}
-use Rattle.cert_text.specs.Folding.{BlocksAreInRange, Folded, FoldedProcess, PartIsInRange, cert_of, network_of}
+use Rattle.cert_text.specs.Folding.{Folded, FoldedProcess, PartIsInRange, cert_of, network_of}
 use Rattle.cert_text.specs.Folding.{scripts, too_long}
 use Rattle.cert_text.specs.Places.{channel_line, entry_line, event_line, process_line, sizes_line, source_line}
 use Rattle.cert_text.specs.Places.{version_line}
@@ -42,7 +40,7 @@ use Rattle.cert_text.specs.StandsFor.{IsShort, StandsFor}
 use Rattle.tree_text.specs.Reading.{tree}
 use Rattle.tree_text.specs.TreeText.{tree_text}
 use Rattle.tree_text.proofs.ReadBack.{tree_codec}
-use Rattle.cert_text.proofs.Judged.{not_r}
+use Rattle.cert_text.proofs.WordVerdicts.{not_r}
 use Rattle.cert_text.proofs.PartsBack.{part_codec}
 use Rattle.cert_text.proofs.Shortness.{short_where, short_so}
 use Rattle.cert_text.proofs.Spellings.{HeadIsInRange, SizesAreInRange, channel_spelled, channel_words, entry_spelled}

@@ -1,12 +1,12 @@
 -- The references of a fire, word by word.
-use Rattle.std.proofs.Common.{◌≡◌, ◌∙◌, ◌+◌, ℕ, suc, List, [], ◌∷◌, ◌++◌, Result, Ok, Err, length, length-append, sym, ap}
+use Rattle.std.proofs.Common.{◌≡◌, ◌∙◌, ◌+◌, ℕ, List, [], ◌∷◌, ◌++◌, Result, Ok, Err, length, length-append, sym, ap}
 use Rattle.std.proofs.Common.{arith, subst}
 use Rattle.std.specs.Prelude.{IfOk}
 use Rattle.net_core.specs.declared.refs.Ref.{Ref}
 use Rattle.cert_lines.specs.declared.error.Fault.{Fault}
 use Rattle.cert_lines.specs.declared.error.Fault.TheVariants.{Words, Range}
 use Rattle.cert_lines.specs.Words.{both, made}
-use Rattle.cert_lines.proofs.Gathered.{gathered, none_gathered, one_gathered}
+use Rattle.cert_lines.proofs.WordLists.{gathered, one_gathered}
 use Rattle.cert_text.specs.Words.{reference, references}
 
 -- these references, and then those of the words
@@ -21,9 +21,6 @@ pub one_more : (refs : Result (List Ref) Fault) (word : List ℕ) (words : List 
     ≡ all_behind refs (word ∷ words)
 one_more refs word words = one_gathered refs (reference word) (references words)
 
-pub none_more : (refs : Result (List Ref) Fault) → all_behind refs [] ≡ refs
-none_more refs = none_gathered refs
-
 pub next_reference : (refs more : Result (List Ref) Fault) (one : Result Ref Fault) (words rest : List (List ℕ))
     (word : List ℕ) (all : Result (List Ref) Fault)
     → words ≡ word ∷ rest → one ≡ reference word → more ≡ with_one refs one
@@ -32,12 +29,6 @@ next_reference refs more one words rest word all first is joined before =
     ap (λ (front : Result (List Ref) Fault). all_behind front rest) (joined ∙ ap (with_one refs) is)
     ∙ one_more refs word rest
     ∙ ap (λ (ws : List (List ℕ)). all_behind refs ws) (sym first) ∙ before
-
-pub one_counted : (count all : ℕ) (words rest : List (List ℕ)) (word : List ℕ) → words ≡ word ∷ rest
-    → count + length words ≡ all → count + 1 + length rest ≡ all
-one_counted count all words rest word first before =
-    let longer : length words ≡ suc (length rest) = ap (λ (ws : List (List ℕ)). length ws) first in
-    omega (arith, longer, before)
 
 longer : (refs : Result (List Ref) Fault) (one : Result Ref Fault) (count : ℕ) → IfOk refs (λ refs. length refs ≡ count)
     → IfOk (with_one refs one) (λ refs. length refs ≡ count + 1)

@@ -4,28 +4,18 @@
 -- many, all together are few, and the least process up to which they are too many is the first that the code meets as
 -- it adds up. The code counts no script further than one past the most, which tells as well whether the sum passes it.
 use Rattle.std.proofs.Common.{◌≡◌, inl, inr, ℕ, zero, suc, ◌+◌, ◌-◌, ◌<◌, ◌≤◌, Bool, true, false, if◌then◌else◌, Option}
-use Rattle.std.proofs.Common.{Some, None, List, [], ◌∷◌, length, map, take, get_or, refl, sym, ap, ◌∙◌, subst, arith}
-use Rattle.std.proofs.Common.{add-one}
+use Rattle.std.proofs.Common.{Some, None, List, [], ◌∷◌, length, take, get_or, refl, sym, ap, ◌∙◌, subst, arith}
+use Rattle.std.proofs.Common.{ltb-false, le-ltb}
 use Rattle.std.specs.Prelude.{All, nat_lt, find}
 use Rattle.std.specs.Option.{option_or}
 use Rattle.std.specs.List.{range_with_len, sum_by}
 use Rattle.std.proofs.lemmas.Bool.{cases_Bool, cases_lt}
-use Rattle.std.proofs.lemmas.Bool.Decides.{nat_tests}
 use Rattle.std.proofs.lemmas.List.{get_or-map, length-map, take_all}
 use Rattle.std.proofs.lemmas.List.Sums.{sum_by-cons, sum_by-take-le, sum_by_more, sum_by_more_le}
 use Rattle.net_core.specs.declared.network.Event.{Event}
 use Rattle.cert_text.specs.declared.kept.KeptProcess.{KeptProcess}
 use Rattle.cert_text.specs.Folding.{are_long_to, long_script, most_events, too_long}
 use Rattle.cert_text.specs.Kept.{scripts_of}
-
-pub within : (limit n : ℕ) → nat_lt limit n ≡ false → n ≤ limit
-within limit n h = grind (arith, nat_tests)
-
-pub not_past : (limit n : ℕ) → n ≤ limit → nat_lt limit n ≡ false
-not_past limit n h = grind (arith, nat_tests)
-
-pub past : (limit n : ℕ) → limit < n → nat_lt limit n ≡ true
-past limit n h = grind (arith, nat_tests)
 
 find_none : {X : Type 0} (p : X → Bool) (xs : List X) → ((x : X) → p x ≡ false) → find p xs ≡ None
 find_none p [] never = refl
@@ -47,10 +37,10 @@ pub short_so : (scripts : List (List Event)) (schedule : List ℕ) → sum_by le
     → length schedule ≤ most_events → too_long scripts schedule ≡ None
 short_so scripts schedule events entries =
     let each : (p : ℕ) → are_long_to scripts p ≡ false = λ p.
-    not_past most_events (sum_by length (take (p + 1) scripts))
+    le-ltb most_events (sum_by length (take (p + 1) scripts))
     (omega (arith, sum_by-take-le (length {A = Event}) scripts (p + 1), events)) in
     let none : long_script scripts ≡ None = find_none (are_long_to scripts) (range_with_len 0 (length scripts)) each in
-    let few : nat_lt most_events (length schedule) ≡ false = not_past most_events (length schedule) entries in
+    let few : nat_lt most_events (length schedule) ≡ false = le-ltb most_events (length schedule) entries in
     ap (λ (o : Option ℕ). option_or o (if nat_lt most_events (length schedule) then Some (length scripts) else None))
     none
     ∙ ap (λ (b : Bool). option_or None (if b then Some (length scripts) else None)) few
@@ -68,7 +58,7 @@ all_events [] e = omega arith
 all_events (s ∷ more) e =
     let n = length more in
     let fails = none_in (are_long_to (s ∷ more)) 0 (length (s ∷ more)) e n (omega arith) (omega arith) in
-    let le = within most_events (sum_by length (take (n + 1) (s ∷ more))) fails in
+    let le = ltb-false most_events (sum_by length (take (n + 1) (s ∷ more))) fails in
     subst (λ (xs : List (List Event)). sum_by length xs ≤ most_events) (take_all (n + 1) (s ∷ more) (omega arith)) le
 
 pub short_where : (scripts : List (List Event)) (schedule : List ℕ) → too_long scripts schedule ≡ None
@@ -77,7 +67,7 @@ short_where scripts schedule e =
     let parts = none_of (long_script scripts)
     (if nat_lt most_events (length schedule) then Some (length scripts) else None) e in (
       all_events scripts parts.0,
-      within most_events (length schedule) (no_test (nat_lt most_events (length schedule)) (length scripts) parts.1),
+      ltb-false most_events (length schedule) (no_test (nat_lt most_events (length schedule)) (length scripts) parts.1),
     )
 
 -- A walk over the scripts

@@ -5,7 +5,7 @@
 -- tells most kinds from others; behind it each number, class and reference is read back from its spelling, and too few
 -- or too many words are refused, which is by cases on the list of words. The version alone is judged by the line as a
 -- whole. How the lines follow one another isn't treated here.
-use Rattle.std.proofs.Common.{◌≡◌, inl, inr, ℕ, ◌<◌, ◌≤◌, true, nat_le, if◌then◌else◌, List, [], ◌∷◌, Result, Ok, Err}
+use Rattle.std.proofs.Common.{◌≡◌, inl, inr, ℕ, ◌<◌, ◌≤◌, true, nat_le, List, [], ◌∷◌, Result, Ok, Err}
 use Rattle.std.proofs.Common.{codes, decimal, map, length, refl, ap, arith}
 use Rattle.std.specs.Prelude.{bytes_eq}
 use Rattle.std.specs.List.{join_with_byte, list_all}
@@ -31,11 +31,11 @@ use Rattle.cert_text.specs.Words.{class, references}
 use Rattle.cert_text.specs.Places.{channel_line, entry_line, event_line, fire_words, get_words, process_line, put_words}
 use Rattle.cert_text.specs.Places.{sizes_line, source_line, version_line}
 use Rattle.cert_lines.proofs.Codecs.{IsSpelled, by_words}
-use Rattle.cert_lines.proofs.Judged.{at_keyword, behind_keyword, both_ok, made_ok, of_equal, same_words, two_numbers}
-use Rattle.cert_text.proofs.Judged.{class_of_word, class_word_is_word, references_of_words, ref_words_are_words}
-use Rattle.cert_text.proofs.Judged.{word_of_class, words_of_references}
+use Rattle.cert_lines.proofs.Verdicts.{at_keyword, behind_keyword, both_ok, made_ok, of_equal, same_words, two_numbers}
+use Rattle.cert_text.proofs.WordVerdicts.{class_of_word, class_word_is_word, references_of_words, ref_words_are_words}
+use Rattle.cert_text.proofs.WordVerdicts.{word_of_class, words_of_references}
 use Rattle.cert_lines.proofs.Numerals.{decimal_of_number, number_of_decimal}
-use Rattle.cert_lines.proofs.Spelled.{is_word, word_of_number}
+use Rattle.cert_lines.proofs.LineWords.{is_word, word_of_number}
 
 -- Versions
 

@@ -4,7 +4,7 @@
 -- and stand for the script. Items in range make blocks in range: a count and a number of parts are at most as large as
 -- the list that the blocks stand for (`Proper`), which is short. The schedule's blocks are its greatest stretches, of
 -- which the same holds (`Stretching`).
-use Rattle.std.proofs.Common.{◌≡◌, ℕ, ◌≤◌, List, [], ◌∷◌, All, length, map, refl, sym, ap, ◌∙◌, subst, arith}
+use Rattle.std.proofs.Common.{◌≡◌, ℕ, ◌≤◌, List, [], ◌∷◌, All, length, map, sym, ap, ◌∙◌, subst, arith}
 use Rattle.std.specs.List.{sum_by}
 use Rattle.std.proofs.lemmas.List.{length-map}
 use Rattle.std.proofs.lemmas.List.Elements.{All-nil, All-cons, All-head, All-tail}
@@ -18,12 +18,12 @@ use Rattle.source_tree.specs.declared.cert.Cert.{Cert}
 use Rattle.source_tree.specs.declared.cert.Origin.{Origin}
 use Rattle.cert_lines.specs.Words.{IsInRange}
 use Rattle.cert_text.specs.CertText.{ChannelIsInRange, EventIsInRange, OriginIsInRange, ProcessIsInRange}
-use Rattle.cert_text.specs.Folding.{BlocksAreInRange, FoldedProcess, cert_of, most_events, network_of, process_of}
+use Rattle.cert_text.specs.Folding.{BlocksAreInRange, FoldedProcess, cert_of, most_events, process_of}
 use Rattle.cert_text.specs.StandsFor.{HasProperScript, HasText, IsWrittenOf, StandsFor}
 use Rattle.cert_text.specs.Stretches.{stretch_blocks}
 use Rattle.cert_text.specs.declared.places.Version.TheVariants.{Two}
 use Rattle.cert_text.proofs.Proper.{blocks_in_range}
-use Rattle.cert_text.proofs.Stretching.{stretched, stretched_proper, stretched_shallow}
+use Rattle.cert_text.proofs.StretchLists.{stretched, stretched_proper, stretched_shallow}
 
 abbrev SlotsAreInRange : Process → Type 0
 SlotsAreInRange p = IsInRange p.slots

@@ -10,7 +10,7 @@ use Rattle.std.proofs.lemmas.List.Folds.{flat_map-map}
 use Rattle.script_blocks.specs.declared.blocks.Blocks.{Blocks}
 use Rattle.script_blocks.specs.declared.blocks.BlockPart.{BlockPart}
 use Rattle.script_blocks.specs.declared.blocks.BlockPart.TheOpen as layer
-use Rattle.script_blocks.specs.declared.blocks.BlockPart.TheFolds.{fold-BlockPart, fold-Blocks, fold-roll-BlockPart}
+use Rattle.script_blocks.specs.declared.blocks.BlockPart.TheFolds.{fold-Blocks, fold-roll-BlockPart}
 use Rattle.script_blocks.specs.declared.blocks.BlockPart.TheFolds.{fold-roll-Blocks}
 use Rattle.script_blocks.specs.declared.blocks.BlockPart.TheViews.{Repeat, rolls-Item, rolls-Repeat}
 use Rattle.script_blocks.specs.declared.blocks.BlockPart.TheVariants.{Item}

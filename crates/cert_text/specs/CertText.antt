@@ -56,6 +56,7 @@ body_lines blocks = blocks.parts
 abbrev pub part_text : {T : Type 0} → (T → List ℕ) → BlockPart T → List ℕ
 part_text {T} item = fold-BlockPart T (List ℕ) (List (List ℕ)) (part_lines item) body_lines
 
+-- the lines of the parts of a list, one after the other
 abbrev pub parts_text : {T : Type 0} → (T → List ℕ) → List (BlockPart T) → List ℕ
 parts_text item parts = flat_map (part_text item) parts
 
@@ -105,6 +106,8 @@ sizes_text folded = line_text (
 abbrev pub end_text : List ℕ
 end_text = line_text (codes "end" ∷ [])
 
+-- the text in a version: the sizes, each process with its parts, each channel, each source, the parts of the schedule,
+-- `end`
 abbrev pub folded_text : Version → Folded → List ℕ
 folded_text version folded =
     head_text version
@@ -145,6 +148,8 @@ abbrev pub OriginIsInRange : Origin → Type 0
 OriginIsInRange Sweep = Unit {0}
 OriginIsInRange (Tree tree) = TreeIsInRange tree
 
+-- each number is within 32 bits, no fire has more than eight references, each tree is one whose text can be read, and
+-- repeats nest as deep as the version lets them
 pub record IsInRangeOf (version : Version) (folded : Folded) : Type 0 where
   pub process_count : IsInRange (length folded.processes)
   pub channel_count : IsInRange (length folded.channels)

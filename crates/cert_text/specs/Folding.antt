@@ -31,10 +31,12 @@ pub record Folded : Type 0 where
 abbrev pub process_of : FoldedProcess → Process
 process_of folded = record { slots = folded.slots; script = expansion folded.script }
 
+-- the network that one with blocks for its scripts stands for, in which these are expanded
 abbrev pub network_of : Folded → Network
 network_of folded =
     record { processes = map process_of folded.processes; channels = folded.channels }
 
+-- the certificate that one with blocks for its schedule stands for, in which these are expanded
 abbrev pub cert_of : Folded → Cert
 cert_of folded = record { sources = folded.sources; schedule = expansion folded.schedule }
 

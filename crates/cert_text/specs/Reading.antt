@@ -1,5 +1,5 @@
 -- What the reading of a text comes to.
-use Rattle.std.specs.Prelude.{ℕ, zero, suc, ◌+◌, List, Option, Some, None, codes, Result, Ok, Err}
+use Rattle.std.specs.Prelude.{ℕ, zero, suc, List, Option, Some, None, codes, Result, Ok, Err}
 use Rattle.net_core.specs.declared.network.Network.{Network}
 use Rattle.script_blocks.specs.declared.blocks.BlockPart.{BlockPart}
 use Rattle.script_blocks.specs.declared.blocks.BlockPart.TheVariants.{Item}

@@ -29,5 +29,6 @@ stretch_part stretch =
     if stretch.times == 1 then Item stretch.entry
     else Repeat stretch.times (record { parts = Item stretch.entry ∷ [] })
 
+-- the blocks in which each stretch of more than one equal entry is a repeat of one item
 abbrev pub stretch_blocks : List ℕ → Blocks ℕ
 stretch_blocks entries = record { parts = map stretch_part (stretches entries) }

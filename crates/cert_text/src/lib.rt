@@ -1,4 +1,7 @@
 //! The texts of networks with their certificates.
+//!
+//! Between two calls, or from one step of the main loop to the next: written: a front of the text; read: the list that
+//! was read so far, the levels of repeats that are left, and the number of the next line.
 #![tactic(auto)]
 
 mod folded;

@@ -1,5 +1,5 @@
 -- A channel, from its parts.
-use Rattle.std.proofs.Common.{◌≡◌, ◌<◌, ◌≤◌, ◌+◌, ℕ, zero, suc, List, [], ◌∷◌, Bool, true, false, cond, Some, None}
+use Rattle.std.proofs.Common.{◌≡◌, ◌<◌, ℕ, List, [], ◌∷◌, Bool, true, false, cond, Some, None}
 use Rattle.std.proofs.Common.{get_or, refl, ap, arith, ◌==◌}
 use Rattle.std.specs.Prelude.{Option}
 use Rattle.std.specs.List.{All, cons_option, list_any, range_with_len}
@@ -14,6 +14,7 @@ use Rattle.channel_plan.specs.declared.plans.ChannelPlan.{ChannelPlan}
 use Rattle.channel_plan.specs.Plans.{slot_plan}
 use Rattle.channel_plan.specs.Reads.{IsTurnAmong, channel_of}
 use Rattle.channel_plan.specs.Tokens.{is_from, tokens_among, tokens_below, turns_used, uses_of, writers_of}
+use Rattle.plain_data.proofs.Lists.{All-range_with_len}
 
 pub slots_are : (slots : SlotPlan) (uses : List ℕ) → slots.gets_before ≡ gets_before uses
     → slots.slot_of_get ≡ slots_of_gets uses
@@ -50,13 +51,8 @@ turns_within turns w (Some tag ∷ sources) among =
     (λ same. omega (arith, first.1, ap (λ p. get_or turns p 0) (eqb-true tag.process w same)))
     (turns_within turns w sources (All-tail (IsTurnAmong turns) (Some tag) sources among))
 
-range_with_len_within : (a n b : ℕ) → a + n ≤ b → All (λ k. k < b) (range_with_len a n)
-range_with_len_within a zero b h = All-nil (λ k. k < b)
-range_with_len_within a (suc n) b h =
-    All-cons (λ k. k < b) a (range_with_len (a + 1) n) (omega arith) (range_with_len_within (a + 1) n b (omega arith))
-
 pub writers_exist : (processes : ℕ) (sources : List (Option Tag))
     → All (λ w. w < processes) (writers_of processes sources)
 writers_exist processes sources =
     All-filter (λ w. list_any (is_from w) sources) (λ w. w < processes) (range_with_len 0 processes)
-    (range_with_len_within 0 processes processes (omega arith))
+    (All-range_with_len 0 processes processes (omega arith))

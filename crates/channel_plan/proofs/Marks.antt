@@ -1,6 +1,6 @@
 -- Marks for each of so many numbers, and lists that grow by one element of another.
 use Rattle.std.proofs.Common.{◌≡◌, ◌≢◌, ◌<◌, ◌+◌, ℕ, List, [], ◌∷◌, ◌++◌, Bool, true, false, map, length, take, set}
-use Rattle.std.proofs.Common.{get_or, refl, sym, ap, ◌∙◌, arith, ◌||◌}
+use Rattle.std.proofs.Common.{get_or, sym, ap, ◌∙◌, arith, ◌||◌}
 use Rattle.std.specs.Prelude.{Option}
 use Rattle.std.specs.List.{cons_option, filter, filter_map, list_any, range_with_len}
 use Rattle.std.proofs.lemmas.Bool.{or_right}
@@ -8,12 +8,9 @@ use Rattle.std.proofs.lemmas.List.{take_more}
 use Rattle.std.proofs.lemmas.List.Elements.{filter_map-append}
 use Rattle.std.proofs.lemmas.List.Folds.{list_any_more}
 use Rattle.std.proofs.lemmas.List.FromFn.{length-map-range_with_len, get_or-map-range_with_len}
+use Rattle.std.proofs.Math.Bool.{or-false}
 use Rattle.channel_plan.proofs.Counts.{same_filter_from, set_mapped}
 use Rattle.sanlp.proofs.Lists.{map-range_with_len_same}
-
-or_no : (b : Bool) → (b || false) ≡ b
-or_no true = refl
-or_no false = refl
 
 -- for each of m numbers, whether some of the first i elements passes its test
 abbrev pub passed : {X : Type 0} → (ℕ → X → Bool) → List X → ℕ → ℕ → List Bool
@@ -23,7 +20,7 @@ module _ {X : Type 0} (test : ℕ → X → Bool) (xs : List X) (i : ℕ) (d : X
   stays : (k : ℕ) → test k (get_or xs i d) ≡ false → list_any (test k) (take i xs) ≡ list_any (test k) (take (i + 1) xs)
   stays k fails =
       sym (list_any_more (test k) xs i d within ∙ ap (λ b. list_any (test k) (take i xs) || b) fails
-      ∙ or_no (list_any (test k) (take i xs)))
+      ∙ or-false (list_any (test k) (take i xs)))
 
   -- the next element passes the test of one number alone
   pub passed_more : (at m : ℕ) → test at (get_or xs i d) ≡ true → ((k : ℕ) → k ≢ at → test k (get_or xs i d) ≡ false)

@@ -25,12 +25,12 @@ some_used : (b rest : Bool) (turn : ℕ) (used : List ℕ) → (b || rest) ≡ t
 some_used true rest turn used h later = omega arith
 some_used false rest turn used h later = later h
 
-has_use : (w : ℕ) (sources : List (Option Tag)) → list_any (is_from w) sources ≡ true
+pub turns_used-some : (w : ℕ) (sources : List (Option Tag)) → list_any (is_from w) sources ≡ true
     → 0 < length (turns_used w sources)
-has_use w [] h = absurd (cc)
-has_use w (None ∷ sources) h = has_use w sources h
-has_use w (Some tag ∷ sources) h =
-    some_used (tag.process == w) (list_any (is_from w) sources) tag.turn (turns_used w sources) h (has_use w sources)
+turns_used-some w [] h = absurd (cc)
+turns_used-some w (None ∷ sources) h = turns_used-some w sources h
+turns_used-some w (Some tag ∷ sources) h =
+    some_used (tag.process == w) (list_any (is_from w) sources) tag.turn (turns_used w sources) h (turns_used-some w sources)
 
 in_order_where : (b : Bool) → (cond b InOrder Reorder ≡ InOrder) ↔ IsTrue b
 in_order_where true = (λ e. refl, λ t. refl)
@@ -41,7 +41,7 @@ of_plan n p k w from =
     let used = turns_used w (sources_at n p k) in
     let uses = uses_of used in
     let some : 0 < length uses =
-    omega (arith, has_use w (sources_at n p k) from, length-map used (tokens_below used)) in
+    omega (arith, turns_used-some w (sources_at n p k) from, length-map used (tokens_below used)) in
     let one = one_slot uses some in
     let order = in_order_where (never_falls uses) in
     (λ h. order.1 (one.0 h), λ h. one.1 (order.0 h))

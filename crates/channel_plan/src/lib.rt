@@ -1,5 +1,7 @@
 //! The channels of a nest: one for each reader, read and writer of which some point is the source of that read, with the
 //! tokens that it carries, its class, and the slots in which its reader keeps them.
+//!
+//! Between two calls, or from one step of the main loop to the next: the marks are those of the sources passed so far.
 #![tactic(auto)]
 
 mod law;
@@ -9,4 +11,4 @@ mod tokens;
 mod writers;
 
 pub use law::one_slot_in_order;
-pub use plans::{ChannelPlan, channel_plans, channel_plans_by_turns, turn_counts};
+pub use plans::{ChannelPlan, channel_plans, turn_counts};

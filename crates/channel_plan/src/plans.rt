@@ -44,7 +44,7 @@ pub fn turn_counts(alloc: Global, points: &Points) -> Result<Vec<usize>, AllocEr
 /// The channels of a nest, in the order of reader, read and writer (Compaan 2000 and pn 2007 for the general form), where
 /// the statements have so many turns. The table is the exact one. It takes near the time of the table's entries and of the
 /// turns that it marks. Nothing is refused but want of memory.
-pub fn channel_plans_by_turns(
+pub fn channel_plans(
     alloc: Global,
     nest: &Nest,
     turns: &[usize],
@@ -64,20 +64,4 @@ pub fn channel_plans_by_turns(
         first = next;
     }
     Ok(Items::from_vec(plans))
-}
-
-/// The channels of `channel_plans_by_turns`, where these are the points.
-pub fn channel_plans(
-    alloc: Global,
-    nest: &Nest,
-    points: &Points,
-    sources: &SourceTable,
-) -> Result<Items<ChannelPlan>, AllocError>
-    requires size { SizeIsOk nest.now }
-    requires points { points.now.of ≡ points_of nest.now }
-    requires sources { sources.now.of ≡ sources_of nest.now }
-    ensures { IfOk result (λ plans. plans ≡ plans_of nest.now) }
-{
-    let turns = turn_counts(alloc, points)?;
-    channel_plans_by_turns(alloc, nest, &turns, sources)
 }

@@ -1,6 +1,5 @@
 -- The automata of a nest's network are those of its processes in order.
 use Rattle.std.proofs.Common.{◌≡◌, ℕ, zero, suc, ◌+◌, Some, List, [], ◌∷◌, map, length, slice_get, ap, sym, ◌∙◌, arith}
-use Rattle.std.proofs.Common.{refl}
 use Rattle.std.specs.List.{enumerate_from}
 use Rattle.sanlp.specs.declared.nest.Nest.{Nest}
 use Rattle.sanlp.specs.Points.{points_of}
@@ -10,6 +9,7 @@ use Rattle.net_core.specs.Machine.{net_of}
 use Rattle.net_core.specs.Shape.{IsShaped}
 use Rattle.node_automata.specs.declared.node.NodeAuto.{NodeAuto}
 use Rattle.node_automata.specs.Automata.{automata, automaton_of}
+use Rattle.node_automata.proofs.Places.{length_made}
 use Rattle.clock_sim.specs.Nodes.{AreNodesOf}
 
 -- the item at a place of a list that was made from a numbered one
@@ -23,10 +23,6 @@ made_from f a (x ∷ xs) zero k y sum e =
     (x, rw (← number) (cc))
 made_from f a (x ∷ xs) (suc i) k y sum e = made_from f (a + 1) xs i k y (omega arith) e
 
-length_made : {X Y : Type 0} (f : ℕ × X → Y) (a : ℕ) (xs : List X) → length (map f (enumerate_from a xs)) ≡ length xs
-length_made f a [] = refl
-length_made f a (x ∷ xs) = ap suc (length_made f (a + 1) xs)
-
 module _ (nest : Nest) (network : Network) (shaped : IsShaped (net_of network) (points_of nest)) where
   pub processes_are : (net_of network).processes ≡ length nest.statements
   processes_are = shaped.processes ∙ points_length nest
@@ -37,10 +33,6 @@ module _ (nest : Nest) (network : Network) (shaped : IsShaped (net_of network) (
         length_made (λ numbered. automaton_of nest network numbered.0 numbered.1) 0 nest.statements ∙ sym processes_are;
     process = λ i auto e.
         ap (λ (auto : NodeAuto). auto.process)
-        (made_from (λ numbered. automaton_of nest network numbered.0 numbered.1) 0 nest.statements i i auto
-        (omega arith) e).1;
-    events = λ i auto e.
-        ap (λ (auto : NodeAuto). auto.events)
         (made_from (λ numbered. automaton_of nest network numbered.0 numbered.1) 0 nest.statements i i auto
         (omega arith) e).1;
   }

@@ -1,5 +1,5 @@
-pub mod Passing
-pub mod Clocking
-pub mod Passed
+pub mod NumberFilters
+pub mod ClockRuns
+pub mod ClockSteps
 pub mod Automata
-pub mod Gathered
+pub mod SinkLists

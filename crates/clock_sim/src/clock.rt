@@ -1,32 +1,13 @@
-ghost use Rattle.std.specs.Prelude.{◌≡◌, ◌≤◌, ◌<◌, ◌^◌, length, vec_capacity};
+ghost use Rattle.std.specs.Prelude.{◌≡◌, ◌≤◌, ◌<◌, length, vec_capacity};
 ghost use Rattle.net_core.specs.Held.{held_of, run_of, IsFor};
 ghost use Rattle.net_core.specs.Machine.{net_of, start, enabled};
 ghost use Rattle.net_core.specs.Rules.{AllKeepTo};
 ghost use Rattle.clock_sim.specs.Clocks.{ClockedRunEnds, after_clocks, clocks, enabled_processes};
 ghost use Rattle.clock_sim.specs.Nodes.{AreNodesOf};
 
-use net_core::{Event, Firing, Network, State, position, queued};
+use net_core::{Firing, Network, State, enabled};
 use node_automata::NodeAuto;
 use witness_plan::run_by;
-
-// Whether an automaton's next event is enabled: a Get needs a token in its channel's queue, and a Put a queue shorter than
-// its channel's capacity.
-fn is_enabled<T: Copy>(auto: &NodeAuto, network: &Network, state: &State<T>) -> bool
-    requires state { IsFor (net_of network.now) (held_of state.now) }
-    requires process { auto.now.process < (net_of network.now).processes }
-    requires events { auto.now.events ≡ (net_of network.now).script auto.now.process }
-    ensures { result ≡ enabled (net_of network.now) (run_of state.now) auto.now.process }
-{
-    let at = position(state, auto.process);
-    match auto.events.get(at as usize) {
-        None => false,
-        Some(Event::Get { channel, .. }) => queued(state, *channel) > 0,
-        Some(Event::Fire { .. }) => true,
-        Some(Event::Put { channel }) => {
-            queued(state, *channel) < network.channels.as_slice()[*channel as usize].capacity
-        }
-    }
-}
 
 // Lists the processes of the automata whose next event is enabled, in the room of a list.
 fn list_enabled<T: Copy>(
@@ -43,7 +24,7 @@ fn list_enabled<T: Copy>(
 {
     list.clear();
     for auto in autos {
-        if is_enabled(auto, network, state) {
+        if enabled(state, network, auto.process) {
             list.push_reserved(auto.process);
         }
     }

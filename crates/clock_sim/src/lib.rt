@@ -1,4 +1,7 @@
 //! The clocked run of a network: one clock for all processes.
+//!
+//! Between two calls, or from one step of the main loop to the next: the state is that after the clocks so far, and the
+//! list has the processes that are enabled in it.
 #![tactic(auto)]
 
 mod clock;

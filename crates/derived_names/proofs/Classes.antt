@@ -19,6 +19,7 @@ use Rattle.channel_class.specs.Classes.{class_of}
 use Rattle.channel_plan.specs.declared.plans.ChannelPlan.{ChannelPlan}
 use Rattle.channel_plan.specs.Plans.{plan_of, plans_of, sources_at, turn_count}
 use Rattle.channel_plan.specs.Tokens.{tokens_below, turns_used, uses_of}
+use Rattle.channel_plan.proofs.PlanEnds.{plans_of-plan_of}
 use Rattle.net_core.specs.declared.network.Channel.{Channel}
 use Rattle.net_core.specs.declared.network.Event.{Event}
 use Rattle.net_core.specs.declared.network.Event.TheVariants.{Fire}
@@ -28,20 +29,21 @@ use Rattle.net_core.specs.Uses.{use_in, use_of, uses, uses_before}
 use Rattle.process_derive.specs.Derived.{channel_of, net}
 use Rattle.process_derive.specs.Scripts.{Usage, puts_from, ref_of, usage}
 use Rattle.process_derive.proofs.Numbers.{script_at}
-use Rattle.process_derive.proofs.Wired.{channel_at, item_at, reader_at}
+use Rattle.process_derive.proofs.ScriptNames.{channel_at, reader_at}
 use Rattle.sanlp.specs.Access.{read_count}
 use Rattle.sanlp.specs.declared.nest.Nest.{Nest}
 use Rattle.sanlp.specs.declared.nest.Tag.{Tag}
 use Rattle.sanlp.proofs.Lists.{flat_map-range_with_len_more}
 use Rattle.derived_names.proofs.Fires.{no_fire_behind, no_fire_first}
-use Rattle.derived_names.proofs.FoundTokens.{finds_token, points_after, script_splits}
+use Rattle.derived_names.proofs.SlotTokens.{finds_token, points_after, script_splits}
 use Rattle.derived_names.proofs.Gets.{before_fire, events_before, events_split, exists, point_gets, point_refs}
 use Rattle.derived_names.proofs.Gets.{source_at_fire}
 use Rattle.derived_names.proofs.Lists.{drop_next, one_joined}
 use Rattle.derived_names.proofs.Names.{token_is}
 use Rattle.derived_names.proofs.UsesOfFires.{no_use, source_same, turns_read, use_here, use_is, used_where}
 use Rattle.derived_names.proofs.UsesAlong.{fire_adds, passed}
-use Rattle.derived_names.proofs.UsesOfReads.{named_by_all, named_by_fire, plan_at, token_named}
+use Rattle.derived_names.proofs.UsesOfReads.{named_by_all, named_by_fire, token_named}
+use Rattle.plain_data.proofs.Lists.{slice_get-some}
 
 -- Uses of fires
 
@@ -167,8 +169,8 @@ unfolding net
 has_classes_of_uses n c channel e =
     let within : c < length (plans_of n) =
     omega (arith, slice_get_within (map channel_of (plans_of n)) c channel e, length-map (plans_of n) channel_of) in
-    let plan = item_at (plans_of n) c within in
-    let is = plan_at n c plan.0 plan.1 in
+    let plan = slice_get-some (plans_of n) c within in
+    let is = plans_of-plan_of n c plan.0 plan.1 in
     let found : slice_get (plans_of n) c ≡ Some (plan_of n plan.0.reader plan.0.read plan.0.writer) =
     plan.1 ∙ ap Some is in
     let same : Some channel ≡ Some (channel_of plan.0) = sym e ∙ channel_at n c plan.0 plan.1 in

@@ -17,19 +17,18 @@ use Rattle.net_core.specs.declared.network.Event.TheVariants.{Get, Fire, Put}
 use Rattle.net_core.specs.declared.refs.Ref.{Ref}
 use Rattle.net_core.specs.Machine.{net_of}
 use Rattle.net_core.specs.Shape.{fires, is_fire}
-use Rattle.net_core.proofs.Counting.{count-append, count_cons}
+use Rattle.net_core.proofs.EventCounts.{count-append, count_cons}
 use Rattle.process_derive.specs.Derived.{net}
 use Rattle.process_derive.specs.Scripts.{gets_of, point_events, puts_from, usage}
 use Rattle.process_derive.proofs.Numbers.{script_at}
-use Rattle.process_derive.proofs.Wired.{IsGet, all_gets, event_is}
+use Rattle.process_derive.proofs.ScriptNames.{IsGet, all_gets, event_is}
 use Rattle.sanlp.specs.Access.{read_count}
 use Rattle.sanlp.specs.declared.nest.Nest.{Nest}
 use Rattle.sanlp.proofs.Each.{Each, each_flat_map, each_map, each_of, each_then}
-use Rattle.sanlp.proofs.Lists.{slice_get-append_right}
 use Rattle.sanlp.proofs.Members.{at_in, each_in}
-use Rattle.derived_names.proofs.FoundTokens.{take_before}
+use Rattle.derived_names.proofs.SlotTokens.{take_before}
 use Rattle.derived_names.proofs.Gets.{before_fire, events_before, events_more, events_split, point_gets, point_refs}
-use Rattle.derived_names.proofs.Lists.{get_left}
+use Rattle.plain_data.proofs.Lists.{slice_get-append_left, slice_get-append_right}
 
 abbrev pub IsNoFire : Event → Type 0
 IsNoFire (Get c slot) = Unit {0}
@@ -110,7 +109,7 @@ fire_among n p (suc m) k refs e =
     ap (λ es. slice_get es k) (sym (events_more n p m)) ∙ e in
     elim (cases_lt k (length before)) [
       | inl lt ↦
-          let rest = fire_among n p m k refs (sym (get_left before (point_events n p m) k lt) ∙ split) in
+          let rest = fire_among n p m k refs (sym (slice_get-append_left before (point_events n p m) k lt) ∙ split) in
           (rest.0, omega (arith, rest.1), rest.2, rest.3)
       | inr le ↦
           let there : length before + (k - length before) ≡ k = omega arith in

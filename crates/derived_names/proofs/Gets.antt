@@ -25,14 +25,14 @@ use Rattle.net_core.specs.declared.network.Event.TheVariants.{Get, Fire, Put}
 use Rattle.net_core.specs.declared.refs.Ref.{Ref}
 use Rattle.net_core.specs.Machine.{net_of}
 use Rattle.net_core.specs.Shape.{is_get}
-use Rattle.net_core.proofs.Counting.{count_cons}
+use Rattle.net_core.proofs.EventCounts.{count_cons}
 use Rattle.process_derive.specs.Derived.{net}
 use Rattle.process_derive.specs.Scripts.{Usage, gets_for_uses, gets_of, point_events, puts_from, ref_of, slot_base}
 use Rattle.process_derive.specs.Scripts.{usage}
 use Rattle.process_derive.proofs.Counts.{before_more, of_other, of_own}
 use Rattle.process_derive.proofs.Numbers.{before_within, gets_here, script_at}
 use Rattle.process_derive.proofs.Tags.{length-sources}
-use Rattle.process_derive.proofs.Wired.{IsChannelOf, all_channels, item_at}
+use Rattle.process_derive.proofs.ScriptNames.{IsChannelOf, all_channels}
 use Rattle.reorder_slots.specs.Slots.{gets_for, slots_of_gets}
 use Rattle.reorder_slots.proofs.Gets.{more_gets}
 use Rattle.sanlp.specs.Access.{read_count}
@@ -42,6 +42,7 @@ use Rattle.sanlp.proofs.Lists.{flat_map-range_with_len_more, range_with_len-appe
 use Rattle.sanlp.proofs.Members.{at_in, each_in}
 use Rattle.derived_names.proofs.Lists.{one_joined}
 use Rattle.derived_names.proofs.UsesOfFires.{no_use, source_same, turns_read, use_here, use_is, used_where}
+use Rattle.plain_data.proofs.Lists.{slice_get-some}
 
 -- Slots that are got
 
@@ -222,7 +223,7 @@ module _ (n : Nest) (p k w c : ℕ) (found : slice_get (plans_of n) c ≡ Some (
 
   pub source_at_fire : (f : ℕ) → f < turn_count n p
       → (source : Option Tag) × (slice_get (sources_at n p k) f ≡ Some source)
-  source_at_fire f lt = item_at (sources_at n p k) f (omega (arith, length-sources n p k))
+  source_at_fire f lt = slice_get-some (sources_at n p k) f (omega (arith, length-sources n p k))
 
   gets_grow : (f : ℕ) → f < turn_count n p → gets_made f ≤ gets_made (suc f)
   gets_grow f lt =

@@ -4,30 +4,18 @@
 -- By induction on the place, down to Get m itself: a Get of another slot leaves what x has, and one into x would be m.
 -- The three premises are what a plan of slots gives (`IsLastInto`), so nothing is known here of nests. `latest_gets`
 -- is a table that goes along the script, and this reads one entry of it.
-use Rattle.std.proofs.Common.{◌≡◌, ℕ, zero, suc, ◌<◌, ◌≤◌, cond, Option, Some, None, List, length, take, slice_get}
+use Rattle.std.proofs.Common.{◌≡◌, ℕ, zero, suc, ◌<◌, ◌≤◌, cond, Option, Some, None, take, slice_get}
 use Rattle.std.proofs.Common.{count_by, refl, sym, ap, ◌∙◌, inl, inr, arith}
 use Rattle.std.specs.Prelude.{slice_set}
 use Rattle.std.proofs.lemmas.Bool.{cases_eq, eq-eqb, ne_eqb}
-use Rattle.std.proofs.lemmas.List.{length-replicate, length-set}
 use Rattle.net_core.specs.declared.network.Event.{Event}
 use Rattle.net_core.specs.declared.network.Event.TheVariants.{Get, Fire, Put}
 use Rattle.net_core.specs.Machine.{Net}
 use Rattle.net_core.specs.Names.{latest_gets, with_get}
 use Rattle.net_core.specs.Shape.{is_get}
-use Rattle.net_core.proofs.Counting.{count_next, count_none}
+use Rattle.net_core.proofs.EventCounts.{count_next, count_none}
+use Rattle.net_core.proofs.Latest.{length-latest_gets}
 use Rattle.derived_names.proofs.Lists.{get_set_other, get_set_same}
-
-length_with : (n : Net) (p k : ℕ) (e : Option Event) (slots : List (Option (ℕ × ℕ)))
-    → length (with_get n p k e slots) ≡ length slots
-length_with n p k None slots = refl
-length_with n p k (Some (Get c slot)) slots =
-    length-set slots slot (Some (c, count_by (is_get c) (take k (n.script p))))
-length_with n p k (Some (Fire refs)) slots = refl
-length_with n p k (Some (Put c)) slots = refl
-
-length_latest : (n : Net) (p k : ℕ) → length (latest_gets n p k) ≡ n.slots p
-length_latest n p zero = length-replicate (n.slots p) None
-length_latest n p (suc k) = length_with n p k (slice_get (n.script p) k) (latest_gets n p k) ∙ length_latest n p k
 
 -- Get number m of channel c is into slot x, and no later Get before place end is, nor is any of another channel.
 pub record IsLastInto (n : Net) (p c m x end : ℕ) : Type 0 where
@@ -59,7 +47,7 @@ module _ (n : Net) (p c m x end : ℕ) (is : IsLastInto n p c m x end) where
               | inl here ↦
                   let into : slot ≡ x = is.this k slot this here in
                   ap (λ s. slice_get (slice_set slots s new) x) into
-                  ∙ get_set_same slots x new (omega (arith, is.there, length_latest n p k))
+                  ∙ get_set_same slots x new (omega (arith, is.there, length-latest_gets n p k))
                   ∙ ap (λ b. Some (Some (b, count_by (is_get b) (take k (n.script p))))) (sym same)
                   ∙ ap (λ i. Some (Some (c, i))) here
               | inr past ↦

@@ -4,7 +4,7 @@ pub mod Lists
 pub mod UsesOfFires
 pub mod Gets
 pub mod Latest
-pub mod FoundTokens
+pub mod SlotTokens
 pub mod Fires
 pub mod Names
 pub mod UsesAlong

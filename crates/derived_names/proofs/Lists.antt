@@ -62,8 +62,3 @@ drop_next [] zero x rest e = cc
 drop_next [] (suc k) x rest e = cc
 drop_next (y ∷ xs) zero x rest e = cc
 drop_next (y ∷ xs) (suc k) x rest e = drop_next xs k x rest e
-
-pub get_left : {X : Type 0} (xs ys : List X) (k : ℕ) → k < length xs → slice_get (xs ++ ys) k ≡ slice_get xs k
-get_left [] ys k lt = absurd (omega arith)
-get_left (x ∷ xs) ys zero lt = refl
-get_left (x ∷ xs) ys (suc k) lt = get_left xs ys k (omega arith)

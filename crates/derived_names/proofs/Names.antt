@@ -21,7 +21,6 @@ use Rattle.net_core.specs.Names.{latest_gets, name_at, name_in, token_at, tokens
 use Rattle.net_core.specs.Sound.{NamesLastWriters, name_of_source, source_tag}
 use Rattle.process_derive.specs.Derived.{net}
 use Rattle.process_derive.specs.Scripts.{Usage, ref_of, slot_base, usage}
-use Rattle.process_derive.proofs.Wired.{item_at}
 use Rattle.reorder_slots.specs.Slots.{slots_of_uses}
 use Rattle.sanlp.specs.Access.{read_count}
 use Rattle.sanlp.specs.declared.nest.Nest.{Nest}
@@ -33,16 +32,17 @@ use Rattle.sanlp.specs.Writers.{last_writer}
 use Rattle.sanlp.proofs.Lists.{slice_get-map-range_with_len}
 use Rattle.source_tree.specs.Sources.{source_at}
 use Rattle.derived_names.proofs.Fires.{fire_is}
-use Rattle.derived_names.proofs.FoundTokens.{finds_token}
+use Rattle.derived_names.proofs.SlotTokens.{finds_token}
 use Rattle.derived_names.proofs.Gets.{before_fire, point_refs}
 use Rattle.derived_names.proofs.UsesOfFires.{no_use, turns_read, use_here}
 use Rattle.derived_names.proofs.UsesOfReads.{channel_of_source, token_of_source, use_there}
+use Rattle.plain_data.proofs.Lists.{slice_get-some}
 
 -- the source of a fire's read is the tag of its last writer
 pub source_is_tag : (n : Nest) (p f k : ℕ) → f < turn_count n p
     → slice_get (sources_at n p k) f ≡ Some (source_tag n p f k)
 source_is_tag n p f k lt =
-    let entry = item_at (entries_of (trace n) p) f lt in
+    let entry = slice_get-some (entries_of (trace n) p) f lt in
     slice_get-map (source_at n (trace n) k) (entries_of (trace n) p) f
     ∙ ap (option_map (source_at n (trace n) k)) entry.1
     ∙ sym (ap (λ o. Some (option_and_then (tag_at (trace n)) (option_and_then (λ t. last_writer n t k) o))) entry.1)

@@ -16,10 +16,11 @@ use Rattle.std.proofs.lemmas.List.Concat.{flat_map-cons}
 use Rattle.std.proofs.lemmas.List.Sums.{sum_by-append, sum_by-cons}
 use Rattle.std.proofs.lemmas.List.FromFn.{get_or-map-range_with_len}
 use Rattle.std.proofs.lemmas.Option.{same_Some, slice_get-map}
+use Rattle.std.proofs.Math.Seq.{take-append_seam}
 use Rattle.sanlp.specs.Access.{read_count}
 use Rattle.sanlp.specs.declared.nest.Nest.{Nest}
 use Rattle.sanlp.specs.declared.nest.Tag.{Tag}
-use Rattle.sanlp.proofs.Each.{Each, each_flat_map, each_map, each_of}
+use Rattle.sanlp.proofs.Each.{Each}
 use Rattle.sanlp.proofs.Members.{at_in, each_in}
 use Rattle.channel_plan.specs.declared.plans.ChannelPlan.{ChannelPlan}
 use Rattle.channel_plan.specs.Plans.{plan_of, plans_of, sources_at, turn_count}
@@ -31,11 +32,12 @@ use Rattle.net_core.specs.declared.refs.Ref.{Ref}
 use Rattle.net_core.specs.Machine.{Net, net_of}
 use Rattle.net_core.specs.Names.{tag, tokens, tokens_before, with_token}
 use Rattle.net_core.specs.Shape.{fires, is_fire}
+use Rattle.plain_data.proofs.Lists.{slice_get-append_cons}
 use Rattle.process_derive.specs.Derived.{net}
 use Rattle.process_derive.specs.Scripts.{Usage, gets_of, point_events, puts_from, ref_of, script, usage}
-use Rattle.process_derive.proofs.Channels.{get_middle}
 use Rattle.process_derive.proofs.Numbers.{script_at}
-use Rattle.process_derive.proofs.Wired.{IsChannelOf, IsGet, all_channels, all_gets, writer_at}
+use Rattle.process_derive.proofs.ScriptNames.{IsChannelOf, IsGet, all_channels, writer_at}
+use Rattle.process_derive.proofs.NetworkShape.{point_has_gets}
 
 -- The tokens in a list of events
 
@@ -69,10 +71,6 @@ one_event net c k done (Put d) rest before is =
       | inr there ↦ rw there (ap (λ m. before ++ tokens_in c w m rest) same)
     ]
 
-take_front : {X : Type 0} (xs ys : List X) → take (length xs) (xs ++ ys) ≡ xs
-take_front [] ys = refl
-take_front (x ∷ xs) ys = ap (λ zs. x ∷ zs) (take_front xs ys)
-
 tokens_from : (net : Net) (c : ℕ) (front rest : List Event) → net.script (net.writer c) ≡ front ++ rest
     → tokens_before net c (length front) ++ tokens_in c (net.writer c) (count_by is_fire front) rest ≡ tokens net c
 tokens_from net c front [] whole =
@@ -82,9 +80,9 @@ tokens_from net c front (e ∷ rest) whole =
     let w : ℕ = net.writer c in
     let longer : length (front ++ e ∷ []) ≡ suc (length front) = length-append front (e ∷ []) ∙ omega arith in
     let there : slice_get (net.script w) (length front) ≡ Some e =
-    ap (λ es. slice_get es (length front)) whole ∙ get_middle front e rest in
+    ap (λ es. slice_get es (length front)) whole ∙ slice_get-append_cons front e rest in
     let done : fires net w (length front) ≡ count_by is_fire front =
-    ap (λ es. count_by is_fire (take (length front) es)) whole ∙ ap (count_by is_fire) (take_front front (e ∷ rest)) in
+    ap (λ es. count_by is_fire (take (length front) es)) whole ∙ ap (count_by is_fire) (take-append_seam front (e ∷ rest)) in
     let counted : count_by is_fire (front ++ e ∷ []) ≡ count_by is_fire front + cond (is_fire e) 1 0 =
     sum_by-append (λ e. cond (is_fire e) 1 0) front (e ∷ [])
     ∙ ap (λ m. count_by is_fire front + m) (sum_by-cons (λ e. cond (is_fire e) 1 0) e [] ∙ omega arith) in
@@ -159,14 +157,6 @@ one_put c d (suc j) w done f (first ∷ plans) plan rest e number own =
 
 abbrev marked : ChannelPlan → ℕ → Bool
 marked plan f = slice_index_or plan.is_token f false
-
-point_has_gets : (n : Nest) (p f : ℕ)
-    → Each IsGet (flat_map gets_of (map (usage n p f) (range_with_len 0 (read_count n p))))
-point_has_gets n p f =
-    let reads : List ℕ = range_with_len 0 (read_count n p) in
-    each_flat_map IsGet gets_of (map (usage n p f) reads)
-    (each_map (λ u. Each IsGet (gets_of u)) (usage n p f) reads
-    (each_of (λ k. Each IsGet (gets_of (usage n p f k))) reads (λ k. all_gets (usage n p f k))))
 
 points_put : (n : Nest) (c w a m : ℕ) (plan : ChannelPlan) → slice_get (plans_of n) c ≡ Some plan → plan.writer ≡ w
     → tokens_in c w a (flat_map (point_events n w) (range_with_len a m))

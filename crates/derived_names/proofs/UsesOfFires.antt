@@ -4,7 +4,7 @@
 -- whose source is of process w uses just that channel, with its plan of slots, and the use is numbered by how
 -- often the fires before used a turn of w (`use_here`). Each use is of this form (`use_is`), and a fire without
 -- a source has none. So all uses of a channel are at its own read and of turns of its own writer (`used_where`).
-use Rattle.std.proofs.Common.{◌≡◌, ℕ, Option, Some, None, List, length, take, slice_get, refl, sym, ap, ◌∙◌}
+use Rattle.std.proofs.Common.{◌≡◌, ℕ, Some, None, List, length, take, slice_get, sym, ap, ◌∙◌}
 use Rattle.std.specs.Option.{option_and_then, option_map}
 use Rattle.std.proofs.lemmas.Option.{same_Some}
 use Rattle.channel_plan.specs.declared.plans.ChannelPlan.{ChannelPlan}
@@ -14,6 +14,7 @@ use Rattle.process_derive.specs.Scripts.{Usage, channel_from, slot_base, usage, 
 use Rattle.sanlp.specs.declared.nest.Nest.{Nest}
 use Rattle.sanlp.specs.declared.nest.Tag.{Tag}
 use Rattle.derived_names.proofs.UsesOfReads.{found_between, found_by_ends}
+use Rattle.plain_data.proofs.Options.{option_map-some, option_and_then-some}
 
 -- the turns of process w that read k of process p reads
 abbrev pub turns_read : Nest → ℕ → ℕ → ℕ → List ℕ
@@ -28,16 +29,6 @@ use_by n p k w c f = record {
   number = length (turns_used w (take f (sources_at n p k)));
 }
 
-mapped : {A B : Type 0} (f : A → B) (o : Option A) (y : B) → option_map f o ≡ Some y
-    → (x : A) × (o ≡ Some x) × (y ≡ f x)
-mapped f None y h = cc
-mapped f (Some x) y h = let e : y ≡ f x = cc in (x, refl, e)
-
-chained : {A B : Type 0} (f : A → Option B) (o : Option A) (y : B) → option_and_then f o ≡ Some y
-    → (x : A) × (o ≡ Some x) × (f x ≡ Some y)
-chained f None y h = cc
-chained f (Some x) y h = (x, refl, h)
-
 -- a use is of the channel from the process of the fire's source
 pub record IsUse (n : Nest) (p k f : ℕ) (u : Usage) : Type 0 where
   pub source : Tag
@@ -48,12 +39,13 @@ pub record IsUse (n : Nest) (p k f : ℕ) (u : Usage) : Type 0 where
 pub use_is : (n : Nest) (p k f : ℕ) (u : Usage) → usage n p f k ≡ Some u → IsUse n p k f u
 use_is n p k f u h =
     let sources = sources_at n p k in
-    let outer = chained _ (slice_get sources f) u h in
-    let inner = chained _ outer.0 u outer.2 in
+    let outer = option_and_then-some _ (slice_get sources f) u h in
+    let inner = option_and_then-some _ outer.0 u outer.2 in
     let w = inner.0.process in
-    let found = mapped _ (channel_from 0 (plans_of n) w p k) u inner.2 in
+    let found = option_map-some _ (channel_from 0 (plans_of n) w p k) u inner.2 in
+    let made = sym found.2 in
     let is = found_between n w p k found.0 found.1 in
-    let channel : u.channel ≡ found.0.0 = ap (λ (x : Usage). x.channel) found.2 in
+    let channel : u.channel ≡ found.0.0 = ap (λ (x : Usage). x.channel) made in
     let make : ℕ → ChannelPlan → Usage =
     λ c plan. record {
       channel = c;
@@ -66,7 +58,7 @@ use_is n p k f u h =
       source = inner.0;
       at = outer.1 ∙ ap Some inner.1;
       there = ap (slice_get (plans_of n)) channel ∙ is.there;
-      same = found.2 ∙ ap (make found.0.0) is.plan_is ∙ ap (λ c. make c (plan_of n p k w)) (sym channel);
+      same = made ∙ ap (make found.0.0) is.plan_is ∙ ap (λ c. make c (plan_of n p k w)) (sym channel);
     }
 
 -- a fire uses the channel from the process of its source

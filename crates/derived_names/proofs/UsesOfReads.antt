@@ -15,6 +15,8 @@ use Rattle.std.proofs.lemmas.Bool.{and_parts, cases_Bool, eq-eqb, or_cases}
 use Rattle.std.proofs.lemmas.List.{append-nil, map-append}
 use Rattle.std.proofs.lemmas.List.Elements.{filter_map-append}
 use Rattle.std.proofs.lemmas.Option.{same_Some, slice_get-map}
+use Rattle.std.proofs.Math.Seq.{take-length}
+use Rattle.std.proofs.lemmas.Map.Keys.{any_passes_from_place}
 use Rattle.sanlp.specs.Access.{read_count}
 use Rattle.sanlp.specs.declared.nest.Nest.{Nest}
 use Rattle.sanlp.specs.declared.nest.Tag.{Tag}
@@ -25,15 +27,15 @@ use Rattle.sanlp.proofs.Lists.{flat_map-range_with_len_more}
 use Rattle.channel_plan.specs.declared.plans.ChannelPlan.{ChannelPlan}
 use Rattle.channel_plan.specs.Plans.{plan_of, plans_at, plans_of, sources_at, turn_count}
 use Rattle.channel_plan.specs.Tokens.{is_from, is_used, tokens_below, turn_of, turns_used, uses_of, writers_of}
+use Rattle.channel_plan.proofs.PlanEnds.{plans_at-reader}
 use Rattle.net_core.specs.Machine.{net_of}
 use Rattle.net_core.specs.Names.{tokens}
 use Rattle.process_derive.specs.Derived.{net}
 use Rattle.process_derive.specs.Scripts.{channel_from, goes_between}
-use Rattle.process_derive.proofs.Lists.{take_all}
-use Rattle.sanlp.proofs.Lists.{take_next}
 use Rattle.process_derive.proofs.Tags.{IsTurn, length-sources, sources_are}
-use Rattle.process_derive.proofs.Wired.{IsChannelOf, all_channels}
+use Rattle.process_derive.proofs.ScriptNames.{IsChannelOf, all_channels}
 use Rattle.derived_names.proofs.Tokens.{token_of_turn}
+use Rattle.plain_data.proofs.Lists.{take-suc_some}
 
 -- The uses, fire by fire
 
@@ -68,7 +70,7 @@ named_next used w sources f (Some source) e =
     ap (λ xs. map (tokens_below used) (turns_used w (take f sources)) ++ xs) (one_named used w source)
     ∙ sym (map-append (tokens_below used) (turns_used w (take f sources)) (cons_option (turn_of w source) []))
     ∙ ap (map (tokens_below used)) (sym (filter_map-append (turn_of w) (take f sources) (source ∷ [])))
-    ∙ ap (λ xs. map (tokens_below used) (turns_used w xs)) (sym (take_next sources f source e))
+    ∙ ap (λ xs. map (tokens_below used) (turns_used w xs)) (sym (take-suc_some sources f source e))
 
 -- what the first so many fires name
 pub named_before : (used : List ℕ) (w : ℕ) (sources : List (Option Tag)) (f : ℕ)
@@ -90,7 +92,7 @@ named_by_all n p k w =
     let used : List ℕ = turns_used w sources in
     named_before used w sources (turn_count n p)
     ∙ ap (λ m. map (tokens_below used) (turns_used w (take m sources))) (sym (length-sources n p k))
-    ∙ ap (λ xs. map (tokens_below used) (turns_used w xs)) (take_all sources)
+    ∙ ap (λ xs. map (tokens_below used) (turns_used w xs)) (take-length sources)
 
 -- The use of one fire
 
@@ -121,18 +123,10 @@ use_there w sources f t e own =
     slice_get-map (tokens_below used) used (length (turns_used w (take f sources)))
     ∙ ap (option_map (tokens_below used)) (turn_there w sources f t e own)
 
-any_at : {X : Type 0} (test : X → Bool) (xs : List X) (k : ℕ) (x : X) → slice_get xs k ≡ Some x → test x ≡ true
-    → list_any test xs ≡ true
-any_at test [] k x e h = absurd (cc)
-any_at test (y ∷ xs) zero x e h = let here : test y ≡ true = ap test (same_Some y x e) ∙ h in rw here refl
-any_at test (y ∷ xs) (suc k) x e h =
-    let later = any_at test xs k x e h in
-    elim (cases_Bool (test y)) [ inl a ↦ rw a refl | inr a ↦ rw a later ]
-
 pub turn_is_used : (w : ℕ) (sources : List (Option Tag)) (f : ℕ) (t : Tag) → slice_get sources f ≡ Some (Some t)
     → t.process ≡ w → is_used (turns_used w sources) t.turn ≡ true
 turn_is_used w sources f t e own =
-    any_at (λ other. eqb other t.turn) (turns_used w sources) (length (turns_used w (take f sources))) t.turn
+    any_passes_from_place (λ other. eqb other t.turn) (turns_used w sources) (length (turns_used w (take f sources))) t.turn
     (turn_there w sources f t e own) (eq-eqb t.turn t.turn refl)
 
 -- the source of a fire is a turn that its process has
@@ -205,14 +199,6 @@ read_by n p k =
     (writers_of (length n.statements) (sources_at n p k))
     (each_of _ (writers_of (length n.statements) (sources_at n p k)) (λ w. (refl, refl)))
 
-read_in : (n : Nest) (p : ℕ)
-    → Each (λ plan. plan.reader ≡ p) (flat_map (plans_at n p) (range_with_len 0 (read_count n p)))
-read_in n p =
-    each_flat_map (λ plan. plan.reader ≡ p) (plans_at n p) (range_with_len 0 (read_count n p))
-    (each_of _ (range_with_len 0 (read_count n p))
-    (λ k. each_map (λ plan. plan.reader ≡ p) (plan_of n p k) (writers_of (length n.statements) (sources_at n p k))
-    (each_of _ (writers_of (length n.statements) (sources_at n p k)) (λ w. refl))))
-
 pub plans_differ : (n : Nest) → Pairwise Differ (plans_of n)
 unfolding plans_of
 plans_differ n =
@@ -239,9 +225,9 @@ plans_differ n =
       lt,
       reader,
       each_in (λ (plan : ChannelPlan). plan.reader ≡ p) a (flat_map (plans_at n p) (range_with_len 0 (read_count n p)))
-          (read_in n p) in_a,
+          (plans_at-reader n p) in_a,
       each_in (λ (plan : ChannelPlan). plan.reader ≡ q) b (flat_map (plans_at n q) (range_with_len 0 (read_count n q)))
-          (read_in n q) in_b,
+          (plans_at-reader n q) in_b,
     ))
 
 -- a channel with these ends
@@ -377,12 +363,7 @@ pub channel_of_source : (n : Nest) (p k f : ℕ) (t : Tag) → p < length n.stat
     × (slice_get (plans_of n) c ≡ Some (plan_of n p k t.process))
 channel_of_source n p k f t process read e =
     channel_found n p k t.process process read
-    (any_at (is_from t.process) (sources_at n p k) f (Some t) e (eq-eqb t.process t.process refl))
-
--- a channel is the plan of its ends
-pub plan_at : (n : Nest) (c : ℕ) (plan : ChannelPlan) → slice_get (plans_of n) c ≡ Some plan
-    → plan ≡ plan_of n plan.reader plan.read plan.writer
-plan_at n c plan e = (each_in (IsPlanOf n) plan (plans_of n) (plans_are n) (at_in plan (plans_of n) c e)).plan_is
+    (any_passes_from_place (is_from t.process) (sources_at n p k) f (Some t) e (eq-eqb t.process t.process refl))
 
 -- What is found between a process and a read: their plan, and the read has a source of the process.
 pub record IsChannelBetween (n : Nest) (w p k : ℕ) (found : ℕ × ChannelPlan) : Type 0 where

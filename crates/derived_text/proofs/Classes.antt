@@ -7,7 +7,7 @@ use Rattle.channel_plan.specs.declared.plans.ChannelPlan.{ChannelPlan}
 use Rattle.channel_plan.specs.Plans.{plans_of}
 use Rattle.net_core.specs.declared.network.Channel.{Channel}
 use Rattle.process_derive.specs.Derived.{net}
-use Rattle.process_derive.proofs.Wired.{channel_at}
+use Rattle.process_derive.proofs.ScriptNames.{channel_at}
 use Rattle.witness_plan.specs.Sequential.{channels_with, with_capacities}
 
 -- a channel has the class of its plan

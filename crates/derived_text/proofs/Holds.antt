@@ -4,14 +4,15 @@
 -- Gets of the script are those for all uses, and each is into a slot below the hold, counted from where the channel's
 -- slots begin. None of these is left out, since each was made for some Get (`slots_span`), so that number is the hold.
 -- It rests on there being a use, as else there is no Get: each channel of a nest has one, because it is there only for
--- a writer of some source of the read (`some_turn`). For other networks the number needn't be what a channel holds.
+-- a writer of some source of the read (`turns_used-some`). For other networks the number needn't be what a channel holds.
 use Rattle.std.proofs.Common.{◌≡◌, ◌<◌, ◌≤◌, ◌+◌, ◌-◌, ℕ, true, eqb, List, [], ◌∷◌, map, length, take, refl, sym, ap}
 use Rattle.std.proofs.Common.{◌∙◌, subst, inl, inr, arith}
-use Rattle.std.specs.Prelude.{Option, Some, None, slice_get, slice_index}
+use Rattle.std.specs.Prelude.{Option, Some, slice_get, slice_index}
 use Rattle.std.specs.List.{flat_map, list_any, range_with_len}
 use Rattle.std.specs.Option.{option_map_or}
 use Rattle.std.proofs.lemmas.Bool.{cases_Bool}
 use Rattle.std.proofs.lemmas.List.{length-map}
+use Rattle.std.proofs.Math.Seq.{take-length}
 use Rattle.sanlp.specs.declared.nest.Nest.{Nest}
 use Rattle.sanlp.specs.declared.nest.Tag.{Tag}
 use Rattle.sanlp.proofs.Each.{Each, each_map, each_of, each_range_with_len}
@@ -23,18 +24,19 @@ use Rattle.reorder_slots.proofs.Uses.{named_below}
 use Rattle.channel_plan.specs.declared.plans.ChannelPlan.{ChannelPlan}
 use Rattle.channel_plan.specs.Plans.{plan_of, plans_of, sources_at, turn_count}
 use Rattle.channel_plan.specs.Tokens.{is_from, tokens_below, turns_used, uses_of}
+use Rattle.channel_plan.proofs.OneSlot.{turns_used-some}
+use Rattle.channel_plan.proofs.PlanEnds.{plans_of-plan_of}
 use Rattle.net_core.specs.declared.network.Channel.{Channel}
 use Rattle.net_core.specs.declared.network.Event.{Event}
 use Rattle.net_core.specs.declared.network.Event.TheVariants.{Get, Fire, Put}
 use Rattle.net_core.specs.Machine.{net_of}
 use Rattle.process_derive.specs.Derived.{net}
 use Rattle.process_derive.specs.Scripts.{script, slot_base}
-use Rattle.process_derive.proofs.Lists.{take_all}
 use Rattle.process_derive.proofs.Numbers.{script_at}
 use Rattle.process_derive.proofs.Tags.{length-sources}
-use Rattle.process_derive.proofs.Wired.{channel_at}
+use Rattle.process_derive.proofs.ScriptNames.{channel_at}
 use Rattle.derived_names.proofs.Gets.{exists, points_got, slots_got}
-use Rattle.derived_names.proofs.UsesOfReads.{IsPlanOf, plan_at, plans_are}
+use Rattle.derived_names.proofs.UsesOfReads.{IsPlanOf, plans_are}
 use Rattle.net_text.specs.NetworkText.{hold, slot_got, span}
 use Rattle.derived_text.proofs.Spans.{span_is}
 
@@ -47,7 +49,7 @@ slots_span uses base some =
     let held : Held = held_after uses (length uses) in
     let keeps : KeepsTokens uses (length uses) held = KeepsTokens-held uses (length uses) in
     let gets : ℕ = gets_for uses in
-    let count : length held.slot_of_get ≡ gets = length-held uses (length uses) ∙ ap gets_for (take_all uses) in
+    let count : length held.slot_of_get ≡ gets = length-held uses (length uses) ∙ ap gets_for (take-length uses) in
     let slot : ℕ → ℕ = λ m. base + slice_index held.slot_of_get m in
     let all : List ℕ = map slot (range_with_len 0 gets) in
     let made : 0 < hold_of uses = omega (arith, keeps.made 0 (omega (arith, count, named_below uses 0 some))) in
@@ -84,17 +86,6 @@ got_by c (Get channel slot ∷ events) =
 got_by c (Fire refs ∷ events) = got_by c events
 got_by c (Put channel ∷ events) = got_by c events
 
--- a read that has a source of a process uses a turn of it
-some_turn : (w : ℕ) (sources : List (Option Tag)) → list_any (is_from w) sources ≡ true
-    → 0 < length (turns_used w sources)
-some_turn w [] e = absurd (cc)
-some_turn w (None ∷ sources) e = some_turn w sources e
-some_turn w (Some t ∷ sources) e =
-    elim (cases_Bool (eqb t.process w)) [
-      | inl own ↦ rw own (omega arith)
-      | inr other ↦ rw other (some_turn w sources (rw other at e))
-    ]
-
 -- what the text tells as the hold of a channel that some fire uses
 planned : (n : Nest) (p k w c : ℕ) → slice_get (plans_of n) c ≡ Some (plan_of n p k w)
     → list_any (is_from w) (sources_at n p k) ≡ true
@@ -113,19 +104,19 @@ planned n p k w c there read =
     ap (net_of (net n)).script reader ∙ script_at n p (exists n p k w c there).reader in
     let every : take (length (turns_used w (take turns sources))) uses ≡ uses =
     ap (λ m. take (length (turns_used w (take m sources))) uses) (sym (length-sources n p k))
-    ∙ ap (λ xs. take (length (turns_used w xs)) uses) (take_all sources)
+    ∙ ap (λ xs. take (length (turns_used w xs)) uses) (take-length sources)
     ∙ ap (λ m. take m uses) (sym count)
-    ∙ take_all uses in
+    ∙ take-length uses in
     ap (λ es. span (flat_map (slot_got c) es)) events
     ∙ ap span (got_by c (script n p) ∙ points_got n p k w c there turns (omega arith))
     ∙ ap (λ xs. span (map (λ m. base + slice_index (slots_of_gets uses) m) (range_with_len 0 (gets_for xs)))) every
-    ∙ slots_span uses base (omega (arith, count, some_turn w sources read))
+    ∙ slots_span uses base (omega (arith, count, turns_used-some w sources read))
 
 -- what the text tells as a channel's hold is the hold of its plan
 pub hold_planned : (n : Nest) (c : ℕ) (plan : ChannelPlan) → slice_get (plans_of n) c ≡ Some plan
     → hold (net_of (net n)) c ≡ plan.slots.hold
 hold_planned n c plan there =
-    let is : plan ≡ plan_of n plan.reader plan.read plan.writer = plan_at n c plan there in
+    let is : plan ≡ plan_of n plan.reader plan.read plan.writer = plans_of-plan_of n c plan there in
     let own : IsPlanOf n plan =
     each_in (IsPlanOf n) plan (plans_of n) (plans_are n) (at_in plan (plans_of n) c there) in
     planned n plan.reader plan.read plan.writer c (there ∙ ap Some is) own.is_read

@@ -1,4 +1,7 @@
-//! What the text of a nest's network says of a channel is what the channel's plan says.
+//! What the text of a nest's network says of a process is what the nest says, and what it says of a channel is what the
+//! channel's plan says.
+//!
+//! Between two calls, or from one step of the main loop to the next: each slot of a channel is one that some Get names.
 #![tactic(auto)]
 
 mod law;

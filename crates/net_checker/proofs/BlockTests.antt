@@ -8,6 +8,7 @@ use Rattle.std.proofs.Common.{refl, sym, ap, ◌∙◌, arith}
 use Rattle.std.specs.Prelude.{◌&&◌}
 use Rattle.std.specs.List.{list_all}
 use Rattle.std.proofs.lemmas.List.Folds.{list_all-append}
+use Rattle.plain_data.proofs.Tests.{and-true}
 use Rattle.script_blocks.specs.declared.blocks.Blocks.{Blocks}
 use Rattle.script_blocks.specs.declared.blocks.BlockPart.{BlockPart}
 use Rattle.script_blocks.specs.declared.blocks.BlockPart.TheViews.{Repeat}
@@ -18,10 +19,6 @@ use Rattle.script_blocks.proofs.Repetitions.{repeated_none, repeated_next}
 and_same : (b : Bool) → b && b ≡ b
 and_same true = refl
 and_same false = refl
-
-and_true : (b : Bool) → b && true ≡ b
-and_true true = refl
-and_true false = refl
 
 and_second : (a b : Bool) → b ≡ false → a && b ≡ false
 and_second true b h = h
@@ -35,7 +32,7 @@ module _ {T : Type 0} (p : T → Bool) where
   all_repeated : (n : ℕ) (xs : List T) → list_all p (repeated (suc n) xs) ≡ list_all p xs
   all_repeated zero xs =
       ap (list_all p) (repeated_next 0 xs) ∙ list_all-append p xs (repeated 0 xs)
-      ∙ ap (λ ys. list_all p xs && list_all p ys) (repeated_none xs) ∙ and_true (list_all p xs)
+      ∙ ap (λ ys. list_all p xs && list_all p ys) (repeated_none xs) ∙ and-true (list_all p xs)
   all_repeated (suc n) xs =
       ap (list_all p) (repeated_next (suc n) xs) ∙ list_all-append p xs (repeated (suc n) xs)
       ∙ ap (λ b. list_all p xs && b) (all_repeated n xs) ∙ and_same (list_all p xs)

@@ -39,11 +39,10 @@ use Rattle.net_core.specs.Machine.{net_of}
 use Rattle.net_core.specs.Shape.{fires, turns}
 use Rattle.net_core.specs.Sound.{FitsNest, NamesLastWriters, name_of_source, source_tag}
 use Rattle.net_core.proofs.Entries.{entry_at_turn}
-use Rattle.net_core.proofs.Valued.{turn_entry, turn_there}
+use Rattle.net_core.proofs.FireValues.{turn_entry, turn_there}
 use Rattle.net_checker.specs.Shapes.{read_total}
 use Rattle.net_checker.specs.Sources.{AreUsable, IsUsable, NamesWanted}
-use Rattle.net_checker.proofs.Lists.{item_at}
-use Rattle.net_checker.proofs.Numbers.{reads_more}
+use Rattle.plain_data.proofs.Lists.{slice_get-some, sum_by_more_some}
 
 -- a point is that of one entry alone
 same_writer : (n : Nest) (a b : Option ℕ) (found : Found) → IsPointOf (trace n) a found → IsPointOf (trace n) b found
@@ -77,7 +76,7 @@ read_within n s k lt = go (slice_get n.statements s) refl lt where
       omega (
         arith,
         few,
-        reads_more n.statements s st is,
+        sum_by_more_some (λ (st : Statement). length st.reads) n.statements s st is,
         sum_by-take-le (λ (st : Statement). length st.reads) n.statements (s + 1),
       )
 
@@ -121,7 +120,7 @@ module _ (n : Nest) (cert : Cert) (usable : AreUsable n cert) where
       → IsWanted n cert p k f (source_tag n p f k)
   last_is_wanted p k f many lt there =
       let e = turn_entry n p f there in
-      let said = item_at cert.sources (read_number n p k) (omega (arith, many, read_within n p k lt)) in
+      let said = slice_get-some cert.sources (read_number n p k) (omega (arith, many, read_within n p k lt)) in
       record {
         entry = e.entry;
         turn = e.is;

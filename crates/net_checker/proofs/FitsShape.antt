@@ -14,6 +14,7 @@ use Rattle.std.proofs.lemmas.List.Elements.{All-nil, All-cons, All-head, All-tai
 use Rattle.std.proofs.lemmas.List.Sums.{sum_by-take-le}
 use Rattle.std.proofs.lemmas.Option.{slice_get_past, slice_get_within}
 use Rattle.std.specs.List.{list_all, All}
+use Rattle.std.proofs.Math.Seq.{take-length}
 use Rattle.sanlp.specs.Access.{read_count}
 use Rattle.sanlp.specs.declared.nest.Nest.{Nest}
 use Rattle.sanlp.specs.Points.{points_of}
@@ -27,14 +28,15 @@ use Rattle.net_core.specs.declared.refs.Ref.TheVariants.{Zero, Slot}
 use Rattle.net_core.specs.Machine.{Net, net_of}
 use Rattle.net_core.specs.Shape.{fires, is_fire, is_any_get, turns, IsWithin, IsWired}
 use Rattle.net_core.specs.Sound.{FitsNest}
-use Rattle.net_core.proofs.Counting.{count_next}
+use Rattle.net_core.proofs.EventCounts.{count_next}
 use Rattle.net_checker.specs.declared.verdict.Refusal.TheVariants as refusal
 use Rattle.net_checker.specs.Choice.{first_below}
 use Rattle.net_checker.specs.Shapes.{read_total, channel_agrees, agrees, is_own_event, process_shape, shape_refusal}
 use Rattle.net_checker.specs.Firings.{is_within, may_stand, event_firing, process_firing, firing_refusal}
 use Rattle.sanlp.proofs.NestFacts.{points_length}
 use Rattle.net_checker.proofs.Choices.{or_none, first_none, none_first}
-use Rattle.net_checker.proofs.Lists.{passes_where_none, fails_where_none, item_at, all_at, each_all}
+use Rattle.net_checker.proofs.Lists.{passes_where_none, fails_where_none, all_at, each_all}
+use Rattle.plain_data.proofs.Lists.{slice_get-some}
 
 -- Numbers of a nest's points
 
@@ -45,10 +47,6 @@ turns_past n p le = ap length (get_or_past (points_of n) p [] (omega (arith, poi
 
 count_take : (xs : List Event) (k : ℕ) → count_by is_fire (take k xs) ≤ count_by is_fire xs
 count_take xs k = sum_by-take-le (λ e. cond (is_fire e) 1 0) xs k
-
-pub take_all : {X : Type 0} (xs : List X) → take (length xs) xs ≡ xs
-take_all [] = refl
-take_all (x ∷ xs) = ap (λ ys. x ∷ ys) (take_all xs)
 
 -- every event may stand where it does
 abbrev AllMayStand : Nest → Net → ℕ → Type 0
@@ -90,7 +88,7 @@ fires_bounded : (n : Nest) (net : Net) (p : ℕ) → AllMayStand n net p → (k 
     → fires net p k ≤ turns (points_of n) p
 fires_bounded n net p stand zero le = omega arith
 fires_bounded n net p stand (suc k) le =
-    let item = item_at (net.script p) k (omega arith) in
+    let item = slice_get-some (net.script p) k (omega arith) in
     fires_step n net p k item.0 item.1 (stand k item.0 item.1) (fires_bounded n net p stand k (omega arith))
 
 -- a process whose fires are right
@@ -120,7 +118,7 @@ none_fires n net p h =
     ltb-false _ _ (fails_where_none short (refusal.Fires p (length script)) parts.1) in
     let low : fires net p (length script) ≤ turns (points_of n) p =
     fires_bounded n net p stand (length script) (omega arith) in
-    let all : fires net p (length script) ≡ count_by is_fire script = ap (count_by is_fire) (take_all script) in
+    let all : fires net p (length script) ≡ count_by is_fire script = ap (count_by is_fire) (take-length script) in
     record { stand = stand; turns = omega arith }
 
 event_stands : (n : Nest) (net : Net) (p k : ℕ) (o : Option Event)
@@ -247,11 +245,11 @@ module _ (n : Nest) (network : Network) where
   wired cert agree shapes rights = record {
     bounded = no_script;
     writers =
-        λ c lt. (let ch = item_at network.channels c lt in let w =
+        λ c lt. (let ch = slice_get-some network.channels c lt in let w =
         (channel_parts n ch.0 (agree.channels c ch.0 ch.1)).writer in let e : net.writer c
         ≡ ch.0.writer = rw ch.1 refl in omega (arith, agree.processes));
     readers =
-        λ c lt. (let ch = item_at network.channels c lt in let r =
+        λ c lt. (let ch = slice_get-some network.channels c lt in let r =
         (channel_parts n ch.0 (agree.channels c ch.0 ch.1)).reader in let e : net.reader c
         ≡ ch.0.reader = rw ch.1 refl in omega (arith, agree.processes));
     get_channel = λ p k c slot is. (get p k c slot is).channel;

@@ -9,12 +9,10 @@ pub mod Turns
 pub mod Usable
 pub mod FitsNames
 pub mod Tables
-pub mod Fitting
-pub mod Found
-pub mod FittingFires
+pub mod FitsCriteria
+pub mod FirstFault
+pub mod FitsFires
 pub mod Walk
-pub mod Judged
-pub mod Used
-pub mod Numbers
-pub mod UsesAdded
+pub mod FireVerdicts
+pub mod ChannelUses
 pub mod Verdicts

@@ -1,10 +1,17 @@
 -- What holds of each item of a list, and of the item at a place.
 use Rattle.std.proofs.Common.{◌≡◌, ℕ, zero, suc, ◌<◌, ℤ, Bool, true, false, cond, Some, None, List, [], ◌∷◌, length}
-use Rattle.std.proofs.Common.{slice_get, get_or, refl, sym, ap, ◌∙◌, arith}
+use Rattle.std.proofs.Common.{slice_get, get_or, refl, sym, ap, ◌∙◌}
 use Rattle.std.proofs.lemmas.Bool.{and_parts, and_from}
 use Rattle.std.proofs.lemmas.Option.{slice_get-get_or, get_or_from_slice_get}
 use Rattle.std.specs.List.{list_all}
 use Rattle.net_core.specs.Rules.{vector_at}
+use Rattle.net_core.proofs.Vectors.{get_or-none, vector_at-process_past, vector_at-turn_past}
+
+-- where a list has no item at a place, its default stands there
+pub ruleset default_items = (get_or-none)
+
+-- past the last process, or its last turn, a vector is empty
+pub ruleset vectors_past = (vector_at-process_past, vector_at-turn_past)
 
 -- a test that gives nothing where it passes gave nothing
 pub passes_where_none : {A : Type 0} (b : Bool) (x : A) → cond b None (Some x) ≡ None → b ≡ true
@@ -14,12 +21,6 @@ passes_where_none false x h = cc
 pub fails_where_none : {A : Type 0} (b : Bool) (x : A) → cond b (Some x) None ≡ None → b ≡ false
 fails_where_none true x h = cc
 fails_where_none false x h = refl
-
--- there is an item at each place below the length
-pub item_at : {X : Type 0} (xs : List X) (k : ℕ) → k < length xs → (x : X) × (slice_get xs k ≡ Some x)
-item_at [] k lt = absurd (omega arith)
-item_at (x ∷ xs) zero lt = (x, refl)
-item_at (x ∷ xs) (suc k) lt = item_at xs k (omega arith)
 
 pub all_at : {X : Type 0} (p : X → Bool) (xs : List X) (k : ℕ) (x : X) → list_all p xs ≡ true → slice_get xs k ≡ Some x
     → p x ≡ true
@@ -35,17 +36,6 @@ each_all p [] each = refl
 each_all p (x ∷ xs) each =
     and_from (p x) (list_all p xs) (each 0 x refl) (each_all p xs (λ k y is. each (suc k) y is))
 
--- what is read at a place of a list
-pub read_at : {X : Type 0} (xs ys : List X) (k : ℕ) (x : X) → ys ≡ xs → k < length ys → x ≡ get_or ys k x
-    → slice_get xs k ≡ Some x
-read_at xs ys k x same lt is =
-    ap (λ zs. slice_get zs k) (sym same) ∙ slice_get-get_or ys k x lt ∙ ap Some (sym is)
-
-pub default_where_none : {X : Type 0} (xs : List X) (k : ℕ) (d : X) → None ≡ slice_get xs k → get_or xs k d ≡ d
-default_where_none [] k d h = refl
-default_where_none (x ∷ xs) zero d h = cc
-default_where_none (x ∷ xs) (suc k) d h = default_where_none xs k d h
-
 item_where_some : {X : Type 0} (xs : List X) (k : ℕ) (d x : X) → Some x ≡ slice_get xs k → get_or xs k d ≡ x
 item_where_some xs k d x h = get_or_from_slice_get xs k x d (sym h)
 
@@ -54,15 +44,6 @@ pub vector_found : (points : List (List (List ℤ))) (p t : ℕ) (v : List (List
     → Some v ≡ slice_get points p → Some a ≡ slice_get v t → a ≡ vector_at points p t
 vector_found points p t v a h g =
     sym (ap (λ (list : List (List ℤ)). get_or list t []) (item_where_some points p [] v h) ∙ item_where_some v t [] a g)
-
-pub vector_past : (points : List (List (List ℤ))) (p t : ℕ) (v : List (List ℤ)) → Some v ≡ slice_get points p
-    → None ≡ slice_get v t → [] ≡ vector_at points p t
-vector_past points p t v h g =
-    sym (ap (λ (list : List (List ℤ)). get_or list t []) (item_where_some points p [] v h)
-    ∙ default_where_none v t [] g)
-
-pub vectors_past : (points : List (List (List ℤ))) (p t : ℕ) → None ≡ slice_get points p → [] ≡ vector_at points p t
-vectors_past points p t h = sym (ap (λ (list : List (List ℤ)). get_or list t []) (default_where_none points p [] h))
 
 pub read_or : {X : Type 0} (xs ys : List X) (k : ℕ) (d : X) → ys ≡ xs → k < length ys
     → slice_get xs k ≡ Some (get_or ys k d)

@@ -3,19 +3,18 @@
 -- By induction over how it is checked. The context counts the variables that there are at each part of the tree: those
 -- of the reader's loops, and one more below each Divides. That is what following it asks of its forms. A map has a form
 -- for each loop of a statement of the nest, so at most 6.
-use Rattle.std.proofs.Common.{◌≡◌, ◌+◌, ◌==◌, ◌&&◌, ◌≤ℤ◌, ℕ, ℤ, pos, List, [], ◌∷◌, length, get_or, Bool}
-use Rattle.std.proofs.Common.{true, refl, sym, ap, ◌∙◌, arith}
+use Rattle.std.proofs.Common.{◌≡◌, ◌+◌, ◌==◌, ◌&&◌, ◌≤ℤ◌, ℕ, ℤ, pos, List, [], length, get_or, Bool}
+use Rattle.std.proofs.Common.{true, sym, ap, ◌∙◌, arith}
 use Rattle.std.specs.Prelude.{Some, slice_get, nat_lt, nat_le, int_le, IsTrue}
 use Rattle.std.proofs.lemmas.Bool.{and_from, eq-eqb, lt-ltb}
 use Rattle.std.proofs.lemmas.Int.{ints}
-use Rattle.std.proofs.lemmas.List.Elements.{All-head, All-tail}
 use Rattle.std.proofs.lemmas.Option.{slice_get_within, get_or_from_slice_get}
 use Rattle.affine_core.specs.declared.form.Form.{Form}
 use Rattle.int_polyhedra.specs.declared.system.Proof.{Proof}
 use Rattle.sanlp.specs.declared.nest.Nest.{Nest}
 use Rattle.sanlp.specs.declared.nest.Statement.{Statement}
 use Rattle.sanlp.specs.Points.{points_of}
-use Rattle.source_tree.specs.Checked.{HaveVariables, IsCheckedIn, at_test, at_divides, at_writer, at_zero, at_dead}
+use Rattle.source_tree.specs.Checked.{IsCheckedIn, at_test, at_divides, at_writer, at_zero, at_dead}
 use Rattle.source_tree.specs.Checked.{IsChecked}
 use Rattle.source_tree.specs.Systems.{Occurrence, Context, Which, every, named_write, root_context}
 use Rattle.source_tree.specs.Walk.{are_over, ready_step, is_ready}
@@ -25,17 +24,11 @@ use Rattle.source_tree.specs.declared.tree.Tree.TheVariants.{Writer, Zero, Dead}
 use Rattle.source_tree.specs.declared.tree.Tree.TheViews.{Test, Divides, rolls-Test, rolls-Divides, rolls-Writer}
 use Rattle.source_tree.specs.declared.tree.Tree.TheViews.{rolls-Zero, rolls-Dead}
 use Rattle.source_tree.specs.declared.tree.Tree.TheFolds.{fold-roll-Tree}
-use Rattle.net_core.proofs.Valued.{vector_depth}
+use Rattle.source_tree.proofs.RowLists.{are_over-HaveVariables}
+use Rattle.net_core.proofs.FireValues.{vector_depth}
 use Rattle.source_check.proofs.Bounds.{short_statements}
 use Rattle.source_check.proofs.Readers.{named_parts, read_parts}
 use Rattle.net_checker.proofs.Lists.{all_at}
-
-over_all : (vars : ℕ) (forms : List Form) → HaveVariables vars forms → are_over vars forms ≡ true
-over_all vars [] h = refl
-over_all vars (f ∷ forms) h =
-    and_from (length f.coefs == vars) (are_over vars forms)
-    (eq-eqb (length f.coefs) vars (All-head (λ form. length form.coefs ≡ vars) f forms h))
-    (over_all vars forms (All-tail (λ form. length form.coefs ≡ vars) f forms h))
 
 two_or_more : (d : ℤ) → pos 2 ≤ℤ d → int_le (pos 2) d ≡ true
 two_or_more d h = grind (arith, ints)
@@ -103,7 +96,7 @@ module _ (n : Nest) (r : Occurrence) (which : Which) where
       (and_from _ _ (lt-ltb _ _ few) (and_from _ _ (ready_in _ above first) (ready_in _ below second))))
   ready_in _ _ (at_writer c tree s place proofs w is named_is may deep have refuted) =
       ready_writer (length r.statement.loops) c.vars tree s place proofs is
-      ∙ and_from _ _ (short_map n r s w place named_is deep) (over_all c.vars place have)
+      ∙ and_from _ _ (short_map n r s w place named_is deep) (are_over-HaveVariables c.vars place have)
   ready_in _ _ (at_zero c tree proofs is refuted) = ready_zero (length r.statement.loops) c.vars tree proofs is
   ready_in _ _ (at_dead c tree proof is refuted) = ready_dead (length r.statement.loops) c.vars tree proof is
 

@@ -11,6 +11,7 @@ use Rattle.std.specs.List.{range_with_len}
 use Rattle.std.specs.Option.{option_and_then, option_map_or}
 use Rattle.std.proofs.lemmas.List.{map-append}
 use Rattle.std.proofs.lemmas.Option.{slice_get_within, get_or_from_slice_get}
+use Rattle.std.proofs.Math.Seq.{take-length}
 use Rattle.sanlp.specs.Access.{read_count}
 use Rattle.sanlp.specs.declared.nest.Nest.{Nest}
 use Rattle.sanlp.specs.declared.nest.Point.{Point}
@@ -23,7 +24,6 @@ use Rattle.sanlp.specs.Trace.{trace}
 use Rattle.sanlp.specs.Writers.{last_writer}
 use Rattle.sanlp.proofs.Enumerates.{enumerates_domains}
 use Rattle.sanlp.proofs.Lists.{range_with_len_more, split_at}
-use Rattle.sanlp.proofs.Lists.{take_next}
 use Rattle.source_check.proofs.Exactness.{checked_is_exact}
 use Rattle.source_tree.specs.declared.tree.Tree.{Tree}
 use Rattle.source_tree.specs.Checked.{IsChecked}
@@ -31,9 +31,8 @@ use Rattle.source_tree.specs.Exact.{IsPointOf}
 use Rattle.source_tree.specs.Gives.{gives}
 use Rattle.source_tree.specs.Sources.{read_sources, source_at, sources_from, sources_of}
 use Rattle.net_core.specs.Shape.{turns}
-use Rattle.net_core.proofs.Valued.{entry_count, turn_entry}
-use Rattle.net_checker.proofs.FitsShape.{take_all}
-use Rattle.net_checker.proofs.Lists.{item_at}
+use Rattle.net_core.proofs.FireValues.{entry_count, turn_entry}
+use Rattle.plain_data.proofs.Lists.{slice_get-some, take-suc_some}
 
 -- a turn of the reader, and what the tree gives there
 pub record GivenAt (n : Nest) (s k : ℕ) (tree : Tree) (f : ℕ) (at : List ℤ) : Type 0 where
@@ -69,14 +68,14 @@ row_more n s k f at tree before after tag g was told added =
     let entries = entries_of (trace n) s in
     added ∙ ap (λ (xs : List (Option Tag)). xs ++ tag ∷ []) was
     ∙ ap (λ t. sources_upto n s k f ++ t ∷ []) (told (last_writer n g.entry k) g.given)
-    ∙ sym (ap (map (source_at n (trace n) k)) (ap (λ i. take i entries) (add-one f) ∙ take_next entries f g.entry g.is)
+    ∙ sym (ap (map (source_at n (trace n) k)) (ap (λ i. take i entries) (add-one f) ∙ take-suc_some entries f g.entry g.is)
     ∙ map-append (source_at n (trace n) k) (take f entries) (g.entry ∷ []))
 
 -- all turns
 pub row_whole : (n : Nest) (s k f : ℕ) → f ≡ turns (points_of n) s → sources_upto n s k f ≡ read_sources n (trace n) s k
 row_whole n s k f all =
     ap (map (source_at n (trace n) k))
-    (ap (λ i. take i (entries_of (trace n) s)) (all ∙ sym (entry_count n s)) ∙ take_all (entries_of (trace n) s))
+    (ap (λ i. take i (entries_of (trace n) s)) (all ∙ sym (entry_count n s)) ∙ take-length (entries_of (trace n) s))
 
 -- one read more
 pub reads_more : (n : Nest) (s k : ℕ) (initial before after : List (List (Option Tag))) (row : List (Option Tag))
@@ -118,7 +117,7 @@ pub rows_more : (n : Nest) (s : ℕ) (before after : List (List (Option Tag))) �
     ≡ rows_upto n (s + 1)
 rows_more n s before after lt was added = go (slice_get n.statements s) refl where
   go : (o : Option Statement) → slice_get n.statements s ≡ o → after ≡ rows_upto n (s + 1)
-  go None is = absurd (let item = item_at n.statements s lt in let e : Some item.0 ≡ None = sym item.1 ∙ is in cc)
+  go None is = absurd (let item = slice_get-some n.statements s lt in let e : Some item.0 ≡ None = sym item.1 ∙ is in cc)
   go (Some st) is =
       let count : read_count n s ≡ length st.reads =
       ap (λ o. option_map_or (λ (st : Statement). length st.reads) o 0) is in
@@ -130,8 +129,8 @@ rows_more n s before after lt was added = go (slice_get n.statements s) refl whe
       ∙ ap (λ m. rows_upto n s ++ map (read_sources n (trace n) s) (range_with_len 0 m)) count
       ∙ ap (λ q. rows_upto n s ++ map (read_sources n (trace n) q) (range_with_len 0 (length st.reads))) (sym number)
       ∙ sym (ap (sources_from n (trace n) 0) (ap (λ i. take i n.statements) (add-one s)
-      ∙ take_next n.statements s st is) ∙ sources_add n (trace n) 0 (take s n.statements) st)
+      ∙ take-suc_some n.statements s st is) ∙ sources_add n (trace n) 0 (take s n.statements) st)
 
 pub rows_whole : (n : Nest) (s : ℕ) → s ≡ length n.statements → rows_upto n s ≡ sources_of n
 unfolding sources_of
-rows_whole n s all = ap (sources_from n (trace n) 0) (ap (λ i. take i n.statements) all ∙ take_all n.statements)
+rows_whole n s all = ap (sources_from n (trace n) 0) (ap (λ i. take i n.statements) all ∙ take-length n.statements)

@@ -18,6 +18,7 @@ use Rattle.std.specs.declared.cmp.Ordering.TheVariants.{Less, Equal, Greater}
 use Rattle.std.proofs.lemmas.Bool.{cases_Bool, cases_lt}
 use Rattle.std.proofs.lemmas.Cmp.{int_cmp_total}
 use Rattle.std.proofs.lemmas.Option.{same_Some, slice_get_within, slice_get-get_or, get_or_from_slice_get}
+use Rattle.std.proofs.Math.Seq.{take-length}
 use Rattle.sanlp.specs.declared.nest.Nest.{Nest}
 use Rattle.sanlp.specs.declared.nest.Point.{Point}
 use Rattle.sanlp.specs.declared.nest.Statement.{Statement}
@@ -36,13 +37,13 @@ use Rattle.source_tree.specs.declared.tree.Found.TheVariants.{At}
 use Rattle.source_tree.specs.declared.tree.Tree.{Tree}
 use Rattle.source_tree.specs.Exact.{IsPointOf}
 use Rattle.source_tree.specs.Gives.{gives}
-use Rattle.source_tree.proofs.Given.{eval_gives}
+use Rattle.source_tree.proofs.TreeValues.{eval_gives}
 use Rattle.net_core.specs.Shape.{turns}
 use Rattle.net_core.proofs.Entries.{entry_at_turn, turn_of_entry}
-use Rattle.net_core.proofs.Valued.{turn_entry, vectors_at}
+use Rattle.net_core.proofs.FireValues.{turn_entry, vectors_at}
 use Rattle.source_check.proofs.Orders.{common_same}
 use Rattle.net_checker.specs.Tables.{AreInOrder, GivesTag}
-use Rattle.net_checker.proofs.FitsShape.{take_all}
+use Rattle.plain_data.proofs.Tests.{ltb-same}
 
 -- Order
 
@@ -134,9 +135,6 @@ decided_less Less P less e h p = refl
 decided_less Equal P less e h p = absurd (let f : false ≡ true = sym e ∙ h.0 p in cc)
 decided_less Greater P less e h p = absurd (h p)
 
-not_below_itself : (s : ℕ) → nat_lt s s ≡ false
-not_below_itself s = grind arith
-
 module _ (n : Nest) where
   vectors_precede : (p q : Point) → IsPoint n p → IsPoint n q → p.statement ≡ q.statement → Precedes n p q
       → slice_cmp int_cmp p.at q.at ≡ Less
@@ -149,12 +147,12 @@ module _ (n : Nest) where
       let deep_q : length q.at ≡ length ks = b.deep ∙ ap length (sym (loops_found n q b.statement b.found))
       ∙ ap length (sym alike) in
       let less : nat_lt p.statement q.statement ≡ false = ap (nat_lt p.statement) (sym same)
-      ∙ not_below_itself p.statement in
+      ∙ ltb-same p.statement in
       let is = decided (common_loops ks ls) (nat_lt p.statement q.statement) p.at q.at (omega (arith, common, deep_p))
       (omega (arith, common, deep_q)) in
-      let whole_p : take (common_loops ks ls) p.at ≡ p.at = ap (λ c. take c p.at) (common ∙ sym deep_p) ∙ take_all p.at
+      let whole_p : take (common_loops ks ls) p.at ≡ p.at = ap (λ c. take c p.at) (common ∙ sym deep_p) ∙ take-length p.at
       in
-      let whole_q : take (common_loops ks ls) q.at ≡ q.at = ap (λ c. take c q.at) (common ∙ sym deep_q) ∙ take_all q.at
+      let whole_q : take (common_loops ks ls) q.at ≡ q.at = ap (λ c. take c q.at) (common ∙ sym deep_q) ∙ take-length q.at
       in
       sym (ap (λ xs. slice_cmp int_cmp xs (take (common_loops ks ls) q.at)) whole_p
       ∙ ap (slice_cmp int_cmp p.at) whole_q)
@@ -223,11 +221,6 @@ module _ (n : Nest) (u : ℕ) (p : Point) (is : slice_get (trace n) u ≡ Some p
     turn =
         count_by (λ (r : Point). r.statement == q.statement) (take u (trace n));
   })) is)
-
-  pub statement_of_entry : p.statement < length n.statements
-  statement_of_entry =
-      let point = (enumerates_domains n).entry u p is in
-      slice_get_within n.statements p.statement point.statement point.found
 
 -- the entry whose point was found
 pub entry_found : (n : Nest) (w : Option ℕ) (found : Found) (p : Point) → At p ≡ found → IsPointOf (trace n) w found

@@ -4,8 +4,7 @@
 -- and where no outcome at a point of its reader is an overflow. Which read is told first is a matter of Choices and not
 -- of this file.
 use Rattle.std.proofs.Common.{◌≡◌, ◌<◌, ℕ, ℤ, List, [], length, get_or, refl, sym, ap, ◌∙◌, arith}
-use Rattle.std.specs.Prelude.{Option, Some, None, Result, Ok, Err, is_err, true, slice_get}
-use Rattle.std.specs.Result.{result_ok}
+use Rattle.std.specs.Prelude.{Option, Some, None, slice_get}
 use Rattle.std.specs.Option.{option_and_then, option_map, option_map_or, option_or}
 use Rattle.std.proofs.lemmas.Option.{slice_get_within, get_or_from_slice_get, slice_get-get_or}
 use Rattle.sanlp.specs.Access.{read_count}
@@ -32,7 +31,7 @@ use Rattle.net_checker.specs.declared.verdict.Refusal.TheVariants as refusal
 use Rattle.net_checker.specs.Sources.{refusing_rule, overflow_at, first_overflow, tree_refusal, origin_refusal}
 use Rattle.net_checker.specs.Sources.{reads_refusal, source_refusal, IsUsable, AreUsable}
 use Rattle.net_checker.proofs.Choices.{or_none, first_found, first_none, none_first}
-use Rattle.net_checker.proofs.Lists.{item_at}
+use Rattle.plain_data.proofs.Lists.{slice_get-some}
 
 -- a statement with a read is there, and so is the read
 pub read_there : (n : Nest) (s k : ℕ) → k < read_count n s → (r : Occurrence) × (read_at n s k ≡ Some r)
@@ -41,7 +40,7 @@ read_there n s k lt = go (slice_get n.statements s) refl lt where
       → k < option_map_or (λ (st : Statement). length st.reads) o 0 → (r : Occurrence) × (read_at n s k ≡ Some r)
   go None is few = absurd (omega arith)
   go (Some st) is few =
-      let read = item_at st.reads k few in (
+      let read = slice_get-some st.reads k few in (
         record { number = s; statement = st; access = read.0 },
         ap (option_and_then (λ (st : Statement). option_map
             (λ (access : Access). record { number = s; statement = st; access = access }) (slice_get st.reads k))) is
@@ -142,10 +141,6 @@ module _ (n : Nest) (s k : ℕ) (tree : Tree) (lt : k < read_count n s) (v : Tre
   pub refused_judged : (x : Rule) → v ≡ tree_verdict.Refused x → Some x
       ≡ option_and_then (tree_refusal n s tree) (read_at n s k)
   refused_judged x is = judged (tree_verdict.Refused x) is
-
-pub err_none : {T E : Type 0} (r : Result T E) → is_err r ≡ true → result_ok r ≡ None
-err_none (Ok x) h = absurd (cc)
-err_none (Err x) h = refl
 
 pub overflow_found : (tree : Tree) (vectors : List (List ℤ)) (f : ℕ) (at : List ℤ) → slice_get vectors f ≡ Some at
     → ((j : ℕ) → j < f → at_vector tree vectors j ≡ None) → outcome_of tree at ≡ None

@@ -4,8 +4,8 @@
 -- it names, what the definition would still refuse from these positions on is what it would refuse of the whole
 -- schedule, and i events were made. An entry that isn't refused is enabled, so the machine steps and all of it holds
 -- again. Since events are fewer than 2^32, so are the entries that are ever judged, however long the schedule is.
-use Rattle.std.proofs.Common.{◌≡◌, ℕ, zero, suc, ◌+◌, ◌<◌, ◌≤◌, ◌^◌, true, false, cond, Option, Some, None, List, []}
-use Rattle.std.proofs.Common.{◌∷◌, length, map, drop, slice_get, option_map, refl, sym, ap, ◌∙◌, subst}
+use Rattle.std.proofs.Common.{◌≡◌, ℕ, zero, suc, ◌+◌, ◌<◌, ◌≤◌, ◌^◌, true, false, cond, Some, None, List, []}
+use Rattle.std.proofs.Common.{◌∷◌, length, drop, slice_get, refl, sym, ap, ◌∙◌, subst}
 use Rattle.std.proofs.Common.{drop_of_length-le, inl, inr, arith, lt-ltb}
 use Rattle.std.proofs.lemmas.Bool.{cases_Bool, cases_lt, cases_eq, le-ltb}
 use Rattle.std.specs.Option.{option_or}
@@ -20,24 +20,14 @@ use Rattle.net_core.specs.Names.{GivesValues, IsNamed}
 use Rattle.net_core.specs.Rules.{tags}
 use Rattle.net_core.specs.Shape.{events_below}
 use Rattle.net_core.proofs.CutOrder.{advanced_here, advanced_there}
-use Rattle.net_core.proofs.Naming.{named_run, start_named}
+use Rattle.net_core.proofs.PlaceValues.{named_run, start_named}
 use Rattle.net_core.proofs.Positions.{enabled_as_cut, enabled_inside, positions_step}
 use Rattle.net_checker.specs.declared.verdict.Refusal.{Refusal}
 use Rattle.net_checker.specs.declared.verdict.Refusal.TheVariants as refusal
 use Rattle.net_checker.specs.Choice.{first_below}
 use Rattle.net_checker.specs.Entries.{event_refusal, entry_refusal, entries_refusal, unended, schedule_refusal}
 use Rattle.net_checker.proofs.Choices.{first_found, first_none}
-
--- the list from k on begins with the item there
-pub drop_at : {X : Type 0} (xs : List X) (k : ℕ) (x : X) → slice_get xs k ≡ Some x → drop k xs ≡ x ∷ drop (suc k) xs
-drop_at [] k x h = cc
-drop_at (y ∷ ys) zero x h = let s : y ≡ x = cc in ap (λ z. z ∷ ys) s
-drop_at (y ∷ ys) (suc k) x h = drop_at ys k x h
-
-pub map_same : (xs : List (Option Tag)) → map (option_map (λ (t : Tag). t)) xs ≡ xs
-map_same [] = refl
-map_same (None ∷ xs) = ap (λ ys. None ∷ ys) (map_same xs)
-map_same (Some t ∷ xs) = ap (λ ys. Some t ∷ ys) (map_same xs)
+use Rattle.plain_data.proofs.Lists.{drop-some}
 
 -- How many events a cut has made
 
@@ -139,9 +129,9 @@ walked_more n net schedule h h' i p w at fine run state =
       walk = ap (λ k. entries_refusal n net k (suc i) (drop (suc i) schedule)) moves
           ∙ sym (ap (λ o.
           option_or o (entries_refusal n net (advanced (positions h.run) p) (suc i) (drop (suc i) schedule))) fine)
-          ∙ sym (ap (entries_refusal n net (positions h.run) i) (drop_at schedule i p at)) ∙ w.walk;
+          ∙ sym (ap (entries_refusal n net (positions h.run) i) (drop-some schedule i p at)) ∙ w.walk;
       ends = ap (λ k. cut_after k (drop (suc i) schedule)) moves
-          ∙ sym (ap (cut_after (positions h.run)) (drop_at schedule i p at)) ∙ w.ends;
+          ∙ sym (ap (cut_after (positions h.run)) (drop-some schedule i p at)) ∙ w.ends;
       made = ap (λ k. events_made k net.processes) moves ∙ made_advanced (positions h.run) p net.processes there
           ∙ ap suc w.made;
     }
@@ -166,7 +156,7 @@ module _ (n : Nest) (network : Network) (schedule : List ℕ) (h : Held Tag) (i 
       let net = net_of network in
       let later = entries_refusal n net (advanced (positions h.run) p) (suc i) (drop (suc i) schedule) in
       let walk : entries_refusal n net opening 0 schedule ≡ Some x =
-      sym w.walk ∙ ap (entries_refusal n net (positions h.run) i) (drop_at schedule i p at)
+      sym w.walk ∙ ap (entries_refusal n net (positions h.run) i) (drop-some schedule i p at)
       ∙ ap (λ o. option_or o later) is in
       sym (ap (λ o.
       option_or o (first_below (unended net (cut_after opening schedule)) (length network.processes))) walk)

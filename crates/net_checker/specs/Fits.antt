@@ -44,6 +44,7 @@ first n network cert =
     (option_or (source_refusal n cert)
     (option_or (schedule_refusal n network cert.schedule) (class_refusal network))))
 
+-- the verdict that goes with a reason or none
 abbrev pub verdict_of : Option Refusal → Verdict
 verdict_of None = Accepted
 verdict_of (Some refusal) = Refused refusal

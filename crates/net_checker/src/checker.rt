@@ -44,7 +44,7 @@ fn first_refusal(
     if let Some(refusal) = source_refusal(alloc, nest, points, cert, &mut rows)? {
         return Ok(Some(refusal));
     }
-    let table = table(alloc, nest, points, cert, sources, rows)?;
+    let table = table(alloc, nest, cert, sources, rows)?;
     let schedule = cert.schedule.as_slice();
     if let Some(refusal) = schedule_refusal(alloc, nest, points, network, &table, schedule)? {
         return Ok(Some(refusal));

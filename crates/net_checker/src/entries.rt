@@ -13,13 +13,12 @@ ghost use Rattle.net_checker.specs.Choice.{first_below};
 ghost use Rattle.net_checker.specs.Entries.{entry_refusal, is_wanted, name_refusal, point_of, schedule_refusal, seen_of, wanted_of};
 ghost use Rattle.net_checker.specs.Lookups.{refused_reference, source_in};
 
-use crate::parts::reads_before;
 use crate::verdict::{Refusal, Seen, Wanted};
 use affine_core::Vector;
 use net_core::{
     Event, Network, Ref, Refs, State, Tags, enabled, kept, next, slots, start, step, unended,
 };
-use sanlp::{Nest, Point, Points, Tag};
+use sanlp::{Nest, Point, Points, Tag, reads_before};
 use source_tree::SourceTable;
 use std::alloc::{AllocError, Global};
 
@@ -37,7 +36,7 @@ fn source_in(table: &SourceTable, read: usize, turn: usize) -> Option<Tag>
 }
 
 // The iteration vector of a tag, or the empty one where there is no such point.
-#[tactic(auto, using(crate::proofs::Lists::vector_found, crate::proofs::Lists::vector_past, crate::proofs::Lists::vectors_past))]
+#[tactic(auto, using(crate::proofs::Lists::vector_found, crate::proofs::Lists::vectors_past))]
 fn vector_at(points: &Points, tag: Tag) -> Vector
     ensures { result ≡ vector_at points.now.of tag.process tag.turn }
 {

@@ -1,10 +1,9 @@
 ghost use Rattle.std.specs.Prelude.{◌≡◌, ◌<◌, ◌^◌, length};
 ghost use Rattle.sanlp.specs.Points.{points_of};
 ghost use Rattle.net_core.specs.Machine.{net_of};
-ghost use Rattle.net_core.specs.Shape.{FitsNumbers};
+ghost use Rattle.net_core.specs.Shape.{FitsNumbers, is_fire};
 ghost use Rattle.net_checker.specs.Firings.{firing_refusal, may_stand, process_firing};
 
-use crate::event_counts::is_fire;
 use crate::fitting_fires::{fires_fit, fits_reads};
 use crate::parts::{script_of, turns_of};
 use crate::verdict::Refusal;
@@ -30,6 +29,12 @@ fn may_stand(
         }
         Event::Put { .. } => before > 0,
     }
+}
+
+fn is_fire(event: &Event) -> bool
+    ensures { result ≡ is_fire event.now }
+{
+    matches!(event, Event::Fire { .. })
 }
 
 // Where the fires of a process go wrong, if they do, found event by event.

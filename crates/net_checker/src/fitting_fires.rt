@@ -7,9 +7,8 @@ ghost use Rattle.net_checker.specs.Firings.{is_within};
 ghost use Rattle.net_checker.specs.FittingFires.{fires_fit, fits_reads, puts_first};
 ghost use Rattle.script_blocks.specs.Expansion.{part_expansion, parts_expansion};
 
-use crate::event_counts::fire_count;
 use crate::parts::{reads_of, script_of, slots_of, turns_of};
-use net_core::{Event, Network, Ref, Refs};
+use net_core::{Event, Network, Ref, Refs, fire_count};
 use sanlp::{Nest, Points};
 use script_blocks::{BlockPart, Script};
 
@@ -97,6 +96,6 @@ pub(crate) fn fires_fit(nest: &Nest, points: &Points, network: &Network, process
 {
     let script = script_of(network, process);
     parts_fit(nest, network, process, script.blocks().parts.as_slice())
-        && fire_count(script) == turns_of(points, process)
+        && fire_count(script) as usize == turns_of(points, process)
         && !puts_first(script)
 }

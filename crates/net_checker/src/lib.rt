@@ -1,10 +1,12 @@
 //! The checker: whether a network and its certificate fit a nest, and what is wrong first where they don't.
+//!
+//! Between two calls, or from one step of the main loop to the next: the machine stands where the entries so far lead,
+//! and none of them is refused.
 #![tactic(auto)]
 
 mod checker;
 mod classes;
 mod entries;
-mod event_counts;
 mod firings;
 mod fitting_fires;
 mod laws;

@@ -1,12 +1,11 @@
-ghost use Rattle.std.specs.Prelude.{◌≡◌, ◌<◌, ◌≤◌, ◌*◌, take, length};
-ghost use Rattle.std.specs.List.{sum_by};
+ghost use Rattle.std.specs.Prelude.{◌≡◌, ◌<◌, length};
 ghost use Rattle.net_core.specs.Machine.{net_of};
 ghost use Rattle.net_core.specs.Shape.{turns};
 ghost use Rattle.net_checker.specs.Shapes.{read_total};
 ghost use Rattle.sanlp.specs.Access.{read_count};
 
 use net_core::{Event, Network};
-use sanlp::{Nest, Points};
+use sanlp::{Nest, Points, reads_before};
 use script_blocks::Script;
 
 // The script of a process.
@@ -28,7 +27,7 @@ pub(crate) fn slots_of(network: &Network, process: u32) -> u32
 }
 
 // How many points a process has.
-#[tactic(auto, using(crate::proofs::Lists::default_where_none))]
+#[tactic(auto, using(crate::proofs::Lists::default_items))]
 pub(crate) fn turns_of(points: &Points, process: u32) -> usize
     ensures { result ≡ turns points.now.of process }
 {
@@ -46,19 +45,6 @@ pub(crate) fn reads_of(nest: &Nest, process: u32) -> usize
         Some(statement) => statement.reads.len(),
         None => 0,
     }
-}
-
-// How many reads the first so many statements have together.
-pub(crate) fn reads_before(nest: &Nest, statements: usize) -> usize
-    requires { statements ≤ length nest.now.statements }
-    ensures value { result ≡ sum_by (λ s. length s.reads) (take statements nest.now.statements) }
-    ensures small { result ≤ 8 * statements }
-{
-    let mut total = 0;
-    for number in 0..statements {
-        total += nest.statement(number as u32).reads.len();
-    }
-    total
 }
 
 // How many reads all statements have together.

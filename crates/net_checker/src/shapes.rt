@@ -4,10 +4,9 @@ ghost use Rattle.net_core.specs.Machine.{net_of};
 ghost use Rattle.script_blocks.specs.Expansion.{part_expansion, parts_expansion};
 ghost use Rattle.net_checker.specs.Shapes.{agrees, channel_agrees, is_own_event, keeps_shape, shape_refusal};
 
-use crate::event_counts::get_count;
 use crate::parts::{read_total, reads_of, script_of, slots_of};
 use crate::verdict::Refusal;
-use net_core::{Channel, Event, Network};
+use net_core::{Channel, Event, Network, get_count};
 use sanlp::Nest;
 use script_blocks::{BlockPart, Script};
 use source_tree::Cert;
@@ -96,9 +95,8 @@ fn keeps_shape(network: &Network, process: u32) -> bool
     requires { process < length network.now.processes }
     ensures { result ≡ keeps_shape (net_of network.now) process }
 {
-    let slots = slots_of(network, process) as usize;
     let script = script_of(network, process);
-    events_are_own(network, process, script) && slots <= get_count(script)
+    events_are_own(network, process, script) && slots_of(network, process) <= get_count(script)
 }
 
 // What is wrong with the shape, if anything is.

@@ -16,12 +16,12 @@ ghost use Rattle.net_checker.specs.Tables.{is_tree, AreInOrder, GivesTag};
 ghost use Rattle.source_tree.specs.declared.tree.Tree.{Tree};
 ghost use Rattle.tree_eval.specs.Stretches.{IsStretchOf};
 
-use crate::parts::{reads_before, reads_of, turns_of};
+use crate::parts::{reads_of, turns_of};
 use crate::verdict::Refusal;
 use affine_core::Vector;
 use plain_data::Items;
-use sanlp::{Nest, Points, Tag};
-use shadow_sweep::sweep;
+use sanlp::{Nest, Points, Tag, reads_before};
+use shadow_sweep::sweep_counted;
 use source_check::{Rule, TreeVerdict, check_tree};
 use source_tree::{Cert, Found, Origin, SourceTable, Tree};
 use std::alloc::{AllocError, Global};
@@ -100,7 +100,7 @@ fn tag_of(nest: &Nest, points: &Points, found: &Found, steps: &mut Steps) -> Opt
 }
 
 // The iteration vector of a statement's turn, if there is one.
-#[tactic(auto, using(crate::proofs::Lists::default_where_none))]
+#[tactic(auto, using(crate::proofs::Lists::default_items))]
 fn vector_of_turn(points: &Points, statement: u32, turn: u32) -> Option<&Vector>
     ensures { option_copied result
         ≡ slice_get (slice_index_or points.now.of statement []) turn }
@@ -317,13 +317,11 @@ fn are_trees(sources: &[Origin]) -> bool
 pub(crate) fn table(
     alloc: Global,
     nest: &Nest,
-    points: &Points,
     cert: &Cert,
     sources: Option<SourceTable>,
     rows: Items<Items<Option<Tag>>>,
 ) -> Result<SourceTable, AllocError>
     requires size { SizeIsOk nest.now }
-    requires points { points.now.of ≡ points_of nest.now }
     requires sources { IfSome sources (λ table. table.of ≡ sources_of nest.now) }
     requires rows { IsTrue (list_all is_tree cert.now.sources) → rows ≡ sources_of nest.now }
     ensures { IfOk result (λ table. table.of ≡ sources_of nest.now) }
@@ -335,5 +333,6 @@ pub(crate) fn table(
         return Ok(SourceTable { of: rows });
     }
     drop(rows);
-    sweep(alloc, nest, points)
+    let swept = sweep_counted(alloc, nest)?;
+    Ok(swept.sources)
 }

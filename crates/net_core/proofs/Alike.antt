@@ -1,21 +1,13 @@
 -- Two lists gone through side by side are equal exactly where what is left of them is.
 --
 -- Going on by one item that both have keeps this, both ways (`alike_more`). Where the second has another item next or
--- none, the lists differ (`differ_next`). At the end of the first, what is left of the second decides (`alike_end`,
--- `differ_end`). By places it is the fronts that are equal so far (`fronts_more`, `differ_at`, `fronts_all`).
+-- none, the lists differ (`differ_next`). By places it is the fronts that are equal so far (`fronts_more`, `differ_at`,
+-- `fronts_all`).
 use Rattle.std.proofs.Common.{◌≡◌, ℕ, zero, suc, ◌+◌, ◌<◌, ◌≤◌, List, [], ◌∷◌, ◌++◌, length, take, get_or, refl, sym}
 use Rattle.std.proofs.Common.{ap, ap₂, ◌∙◌, arith, take_all}
 use Rattle.std.proofs.lemmas.List.{get_or_read, take_more, take_more_same}
 use Rattle.std.specs.Prelude.{◌↔◌}
-use Rattle.net_core.specs.declared.network.Channel.{Channel}
-use Rattle.net_core.specs.declared.network.Network.{Network}
-use Rattle.net_core.specs.declared.network.Process.{Process}
-
-pub head_of : {X : Type 0} (x y : X) (xs ys : List X) → x ∷ xs ≡ y ∷ ys → x ≡ y
-head_of x y xs ys e = cc
-
-tail_of : {X : Type 0} (x y : X) (xs ys : List X) → x ∷ xs ≡ y ∷ ys → xs ≡ ys
-tail_of x y xs ys e = cc
+use Rattle.plain_data.proofs.Lists.{same_tail}
 
 pub not_empty : {X : Type 0} (x : X) (xs : List X) → x ∷ xs ≡ [] → ⊥
 not_empty x xs e = cc
@@ -24,19 +16,12 @@ module _ {X : Type 0} (all also left rest : List X) (alike : (all ≡ also) ↔ 
     (goes_on : left ≡ x ∷ later) where
   pub alike_more : (rest' : List X) → rest ≡ x ∷ rest' → (all ≡ also) ↔ (later ≡ rest')
   alike_more rest' next = (
-    λ e. tail_of x x later rest' (sym goes_on ∙ alike.0 e ∙ next),
+    λ e. same_tail x x later rest' (sym goes_on ∙ alike.0 e ∙ next),
     λ e. alike.1 (goes_on ∙ ap (λ xs. x ∷ xs) e ∙ sym next),
   )
 
   pub differ_next : ((items : List X) → rest ≡ x ∷ items → ⊥) → all ≡ also → ⊥
   differ_next other e = other later (sym (alike.0 e) ∙ goes_on)
-
-module _ {X : Type 0} (all also left rest : List X) (alike : (all ≡ also) ↔ (left ≡ rest)) (ended : left ≡ []) where
-  pub alike_end : rest ≡ [] → all ≡ also
-  alike_end none = alike.1 (ended ∙ sym none)
-
-  pub differ_end : (y : X) (items : List X) → rest ≡ y ∷ items → all ≡ also → ⊥
-  differ_end y items next e = not_empty y items (sym next ∙ sym (alike.0 e) ∙ ended)
 
 module _ {X : Type 0} (xs ys : List X) (i : ℕ) (x y : X) (in_xs : i < length xs) (in_ys : i < length ys)
     (x_is : x ≡ get_or xs i x) (y_is : y ≡ get_or ys i y) where
@@ -73,14 +58,3 @@ pub copied_more : {X : Type 0} (xs copies copies' : List X) (i : ℕ) (x y : X) 
     → copies' ≡ copies ++ y ∷ [] → y ≡ x → copies' ≡ take (i + 1) xs
 copied_more xs copies copies' i x y lt is so_far pushed same =
     pushed ∙ ap₂ (λ l z. l ++ z ∷ []) so_far (same ∙ is) ∙ sym (take_more xs i x lt)
-
-pub process_from : (a b : Process) → a.slots ≡ b.slots → a.script ≡ b.script → a ≡ b
-process_from a b slots script = λ i. record { slots = slots i; script = script i }
-
-pub channel_from : (a b : Channel) → a.writer ≡ b.writer → a.reader ≡ b.reader → a.read ≡ b.read → a.capacity
-    ≡ b.capacity → a.class ≡ b.class → a ≡ b
-channel_from a b writer reader read capacity class =
-    λ i. record { writer = writer i; reader = reader i; read = read i; capacity = capacity i; class = class i }
-
-pub network_from : (a b : Network) → a.processes ≡ b.processes → a.channels ≡ b.channels → a ≡ b
-network_from a b processes channels = λ i. record { processes = processes i; channels = channels i }

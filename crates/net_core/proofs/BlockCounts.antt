@@ -18,7 +18,7 @@ use Rattle.script_blocks.proofs.Repetitions.{repeated_none, repeated_next}
 use Rattle.net_core.specs.declared.network.Event.{Event}
 use Rattle.net_core.specs.declared.network.Event.TheVariants.{Get, Fire, Put}
 use Rattle.net_core.specs.Shape.{is_put}
-use Rattle.net_core.proofs.Counting.{count_cons, count-append}
+use Rattle.net_core.proofs.EventCounts.{count_cons, count-append}
 
 module _ {T : Type 0} (q : T → Bool) where
   pub count_repeated : (n : ℕ) (xs : List T) → count_by q (repeated n xs) ≡ n * count_by q xs

@@ -15,7 +15,7 @@ use Rattle.net_core.specs.declared.network.Event.TheVariants.{Get, Fire, Put}
 use Rattle.net_core.specs.Machine.{Net}
 use Rattle.net_core.specs.Shape.{is_get, is_put, IsWired}
 use Rattle.net_core.specs.Cuts.{Cut, gets_at, puts_at, can_come_at, enabled_at, advanced, cut_after, IsCutRun, IsLegal}
-use Rattle.net_core.proofs.Counting.{count_mono, count_past, replaced_same, replaced_other}
+use Rattle.net_core.proofs.EventCounts.{count_mono, count_past, replaced_same, replaced_other}
 
 pub gets_mono : (n : Net) (k c : Cut) (ch : ℕ) → k (n.reader ch) ≤ c (n.reader ch) → gets_at n k ch ≤ gets_at n c ch
 gets_mono n k c ch h = count_mono (is_get ch) (n.script (n.reader ch)) _ _ h

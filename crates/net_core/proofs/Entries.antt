@@ -10,7 +10,7 @@ use Rattle.std.proofs.lemmas.Bool.{cond-true, cond-false, cases_Bool}
 use Rattle.sanlp.specs.declared.nest.Point.{Point}
 use Rattle.sanlp.specs.Laws.{entries_from}
 use Rattle.sanlp.specs.Points.{vectors_of}
-use Rattle.net_core.proofs.Counting.{count_cons}
+use Rattle.net_core.proofs.EventCounts.{count_cons}
 
 -- this entry is the f-th of process s
 pub record EntryAt (t : ℕ) (points : List Point) (s f u : ℕ) : Type 0 where

@@ -4,8 +4,8 @@
 -- (`AreFresh`, `AreEmpty`). One more at the end keeps both, since what stood there stays at its place. When all are
 -- made, the state is the machine's start: what isn't there has no event, no slot and nothing in its queue, as the
 -- network is shaped (`run_is_start`). So the held state is for this network (`start_is_for`).
-use Rattle.std.proofs.Common.{◌≡◌, ℕ, zero, suc, ◌+◌, ◌<◌, ◌≤◌, ℤ, min, Some, None, List, [], ◌∷◌, ◌++◌, length, take}
-use Rattle.std.proofs.Common.{drop, replicate, slice_get, count_by, get_or, refl, sym, ap, ◌∙◌, subst, inl, inr, arith}
+use Rattle.std.proofs.Common.{◌≡◌, ℕ, ◌+◌, ◌<◌, ◌≤◌, ℤ, min, Some, None, List, [], ◌∷◌, ◌++◌, length, take}
+use Rattle.std.proofs.Common.{drop, replicate, slice_get, count_by, get_or, sym, ap, ◌∙◌, subst, inl, inr, arith}
 use Rattle.std.proofs.Common.{length-append, take_all, drop_of_length-le, append-nil}
 use mathlib.Core.Path.{fun_ext}
 use Rattle.std.specs.VecDeque.{deque_capacity}
@@ -13,7 +13,7 @@ use Rattle.std.specs.declared.collections.VecDeque.{VecDeque}
 use Rattle.std.specs.Global.{Global}
 use Rattle.std.proofs.lemmas.Bool.{cases_eq, cases_lt}
 use Rattle.std.proofs.lemmas.List.{length-replicate}
-use Rattle.std.proofs.lemmas.Option.{slice_get_past, slice_get_read, slice_get-get_or}
+use Rattle.std.proofs.lemmas.Option.{slice_get_past, slice_get-get_or}
 use Rattle.std.specs.Option.{option_map_or}
 use Rattle.net_core.specs.declared.machine.Local.{Local}
 use Rattle.net_core.specs.declared.network.Channel.{Channel}
@@ -24,18 +24,8 @@ use Rattle.net_core.specs.Shape.{is_any_get, is_fire, put_count, IsShaped, FitsN
 use Rattle.net_core.specs.Cuts.{IsCounted}
 use Rattle.net_core.specs.Held.{Queues, held, fresh_local, left_at, local_at, queue_at, IsFor, AreFresh, AreEmpty}
 use Rattle.net_core.specs.Rooms.{local_of}
-use Rattle.net_core.proofs.Naming.{get_append}
 use Rattle.net_core.proofs.Positions.{start_counted}
-
-pub item_found : {X : Type 0} (xs ys : List X) (i : ℕ) (x : X) → ys ≡ xs → i < length ys → x ≡ get_or ys i x
-    → slice_get xs i ≡ Some x
-item_found xs ys i x same lt is = ap (λ zs. slice_get zs i) (sym same) ∙ slice_get_read ys (length ys) i x refl lt is
-
-get_last : {X : Type 0} (xs : List X) (x : X) (i : ℕ) → i ≡ length xs → slice_get (xs ++ x ∷ []) i ≡ Some x
-get_last [] x zero e = refl
-get_last [] x (suc i) e = absurd (omega arith)
-get_last (y ∷ xs) x zero e = absurd (omega arith)
-get_last (y ∷ xs) x (suc i) e = get_last xs x i (omega arith)
+use Rattle.plain_data.proofs.Lists.{slice_get_push_at, slice_get-append_left}
 
 -- what was written through a slice of the whole list
 pub written_back : {X : Type 0} (new items : List X) (len : ℕ) → len ≡ length items → length new ≡ length items
@@ -53,10 +43,10 @@ module _ {T : Type 0} (n : Net) where
       record {
         number = length-append locals (x ∷ []) ∙ ap (λ k. k + 1) fresh.number;
         fresh = λ p lt. elim (cases_eq p at) [
-          | inl same ↦ get_last locals x p (same ∙ sym fresh.number) ∙ ap Some (made ∙ ap (fresh_local n) (sym same))
+          | inl same ↦ slice_get_push_at locals x p (same ∙ sym fresh.number) ∙ ap Some (made ∙ ap (fresh_local n) (sym same))
           | inr other ↦
               let lower : p < at = omega arith in
-              get_append locals (x ∷ []) p (omega (arith, fresh.number)) ∙ fresh.fresh p lower
+              slice_get-append_left locals (x ∷ []) p (omega (arith, fresh.number)) ∙ fresh.fresh p lower
         ];
       }
       )
@@ -70,21 +60,21 @@ module _ {T : Type 0} (n : Net) where
         number = length-append queues (x ∷ []) ∙ ap (λ k. k + 1) empty.number;
         empty = λ c lt. elim (cases_eq c at) [
           | inl same ↦ ap (λ o. option_map_or (λ (q : VecDeque T Global). q.items) o [])
-              (get_last queues x c (same ∙ sym empty.number)) ∙ items
+              (slice_get_push_at queues x c (same ∙ sym empty.number)) ∙ items
           | inr other ↦
               let lower : c < at = omega arith in
               ap (λ o. option_map_or (λ (q : VecDeque T Global). q.items) o [])
-              (get_append queues (x ∷ []) c (omega (arith, empty.number))) ∙ empty.empty c lower
+              (slice_get-append_left queues (x ∷ []) c (omega (arith, empty.number))) ∙ empty.empty c lower
         ];
         room = λ c lt. elim (cases_eq c at) [
           | inl same ↦
               ap (λ o. option_map_or (λ (q : VecDeque T Global). deque_capacity q) o 0)
-              (get_last queues x c (same ∙ sym empty.number)) ∙ room
+              (slice_get_push_at queues x c (same ∙ sym empty.number)) ∙ room
               ∙ ap (λ d. min (n.capacity d) (put_count n d)) (sym same)
           | inr other ↦
               let lower : c < at = omega arith in
               ap (λ o. option_map_or (λ (q : VecDeque T Global). deque_capacity q) o 0)
-              (get_append queues (x ∷ []) c (omega (arith, empty.number))) ∙ empty.room c lower
+              (slice_get-append_left queues (x ∷ []) c (omega (arith, empty.number))) ∙ empty.room c lower
         ];
       }
       )

@@ -18,7 +18,7 @@ use Rattle.net_core.specs.Machine.{queue_after, after_event, step, after, IsRun}
 use Rattle.net_core.specs.Shape.{is_get, is_put, is_fire, IsWired}
 use Rattle.net_core.specs.Cuts.{Cut, gets_at, puts_at, can_come_at, enabled_at, advanced, cut_after, IsCutRun}
 use Rattle.net_core.specs.Cuts.{positions, IsCounted}
-use Rattle.net_core.proofs.Counting.{count_next, replaced_same, replaced_other}
+use Rattle.net_core.proofs.EventCounts.{count_next, replaced_same, replaced_other}
 use Rattle.net_core.proofs.CutOrder.{advanced_here, advanced_there}
 use Rattle.net_core.proofs.TwoSteps.{get_reader, put_writer}
 

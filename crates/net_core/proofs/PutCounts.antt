@@ -5,7 +5,7 @@ use Rattle.std.proofs.lemmas.Bool.{cases_eq, cases_Bool}
 use Rattle.std.proofs.lemmas.List.Sums.{count_by-le-length}
 use Rattle.net_core.specs.Machine.{Net}
 use Rattle.net_core.specs.Shape.{is_put, put_count, IsWired, events_below}
-use Rattle.net_core.proofs.Counting.{count_cons}
+use Rattle.net_core.proofs.EventCounts.{count_cons}
 use Rattle.net_core.proofs.TwoSteps.{put_writer}
 
 -- the Puts of a channel in the scripts of the first so many processes
@@ -25,17 +25,17 @@ events_grow n p (suc m) le =
       | inr other ↦ omega (arith, events_grow n p m (omega arith))
     ]
 
-count_none_of : {X : Type 0} (q : X → Bool) (xs : List X) → ((k : ℕ) (x : X) → slice_get xs k ≡ Some x → q x ≡ false)
+pub count_by-none : {X : Type 0} (q : X → Bool) (xs : List X) → ((k : ℕ) (x : X) → slice_get xs k ≡ Some x → q x ≡ false)
     → count_by q xs ≡ 0
-count_none_of q [] h = refl
-count_none_of q (x ∷ xs) h =
+count_by-none q [] h = refl
+count_by-none q (x ∷ xs) h =
     let here : cond {A = ℕ} (q x) 1 0 ≡ 0 = ap (λ b. cond {A = ℕ} b 1 0) (h 0 x refl) in
-    omega (arith, count_cons q x xs, count_none_of q xs (λ k y is. h (suc k) y is))
+    omega (arith, count_cons q x xs, count_by-none q xs (λ k y is. h (suc k) y is))
 
 -- a process that isn't the writer puts nothing
 other_puts : (n : Net) → IsWired n → (c p : ℕ) → (n.writer c ≡ p → ⊥) → count_by (is_put c) (n.script p) ≡ 0
 other_puts n wired c p other =
-    count_none_of (is_put c) (n.script p) (λ k e is. elim (cases_Bool (is_put c e)) [
+    count_by-none (is_put c) (n.script p) (λ k e is. elim (cases_Bool (is_put c e)) [
       | inl put ↦ absurd (other (put_writer n wired p k c e is put))
       | inr not_put ↦ not_put
     ])

@@ -4,7 +4,7 @@
 -- the room is for all that may ever be there. So an event that can come finds its room made, and no number passes
 -- 2^32, since the scripts together are shorter than that. It is inductive: an event moves one position, and changes
 -- one process and one queue by what the counts say (`for_after`). That some event can come isn't shown here.
-use Rattle.std.proofs.Common.{◌≡◌, ℕ, zero, suc, ◌+◌, ◌^◌, ◌<◌, ◌≤◌, Bool, true, Some, List, [], ◌∷◌, length, take}
+use Rattle.std.proofs.Common.{◌≡◌, ℕ, zero, suc, ◌+◌, ◌^◌, ◌<◌, ◌≤◌, Bool, true, Some, List, length, take}
 use Rattle.std.proofs.Common.{drop, slice_get, count_by, refl, sym, ap, ◌∙◌, subst, inl, inr, arith, add-one, ltb-true}
 use Rattle.std.proofs.Common.{eq-eqb, length-set, take_all}
 use Rattle.std.proofs.lemmas.Bool.{cases_eq, cases_lt}
@@ -19,7 +19,7 @@ use Rattle.net_core.specs.Machine.{step}
 use Rattle.net_core.specs.Shape.{is_put, is_fire, IsWired, FitsNumbers, events_below, put_count}
 use Rattle.net_core.specs.Cuts.{puts_at, positions}
 use Rattle.net_core.specs.Held.{Held, IsFor, HasPassed, IsReached}
-use Rattle.net_core.proofs.Counting.{count_past, replaced_same, replaced_other}
+use Rattle.net_core.proofs.EventCounts.{count_past, replaced_same, replaced_other}
 use Rattle.net_core.proofs.Positions.{local_after_position, counted_step}
 
 -- the whole of a script is the most that is counted
@@ -37,26 +37,19 @@ count_short q xs i = omega (arith, count_by-le-length q (take i xs), length-take
 pub drop_next : {X : Type 0} (k : ℕ) (xs : List X) → drop 1 (drop k xs) ≡ drop (suc k) xs
 drop_next k xs = drop-drop 1 k xs ∙ ap (λ j. drop j xs) (add-one k)
 
--- the first of what is left is the event at the place
-pub first_left : {X : Type 0} (k : ℕ) (xs : List X) → slice_get (drop k xs) 0 ≡ slice_get xs k
-first_left zero [] = refl
-first_left zero (x ∷ xs) = refl
-first_left (suc k) [] = refl
-first_left (suc k) (x ∷ xs) = first_left k xs
-
-one_below : (n : Net) (p m : ℕ) → p < m → length (n.script p) ≤ events_below n m
-one_below n p zero lt = absurd (omega arith)
-one_below n p (suc m) lt =
+pub length-script-le : (n : Net) (p m : ℕ) → p < m → length (n.script p) ≤ events_below n m
+length-script-le n p zero lt = absurd (omega arith)
+length-script-le n p (suc m) lt =
     elim (cases_eq p m) [
       | inl e ↦ let same : length (n.script p) ≡ length (n.script m) = ap (λ q. length (n.script q)) e in omega arith
-      | inr d ↦ omega (arith, one_below n p m (omega arith))
+      | inr d ↦ omega (arith, length-script-le n p m (omega arith))
     ]
 
 -- each script has fewer than 2 ^ 32 events
 pub script_short : (n : Net) → IsWired n → FitsNumbers n → (p : ℕ) → length (n.script p) < 2 ^ 32
 script_short n wired numbers p =
     elim (cases_lt p n.processes) [
-      | inl lt ↦ omega (arith, one_below n p n.processes lt, numbers.events)
+      | inl lt ↦ omega (arith, length-script-le n p n.processes lt, numbers.events)
       | inr le ↦ let none : length (n.script p) ≡ 0 = ap length (wired.bounded p le) in omega arith
     ]
 
@@ -122,9 +115,6 @@ module _ {T : Type 0} (n : Net) (h : Held T) (is_for : IsFor n h) where
         is_for.kept_room p,
         count_all is_fire (n.script p) (h.run.local p).position (Fire refs) is refl,
       )
-
-  pub some_kept : (p c : ℕ) → next n h.run p ≡ Some (Put c) → 0 < length (h.run.local p).kept
-  some_kept p c is = omega (arith, is_for.counted.kept p, is_for.wired.put_fired p (h.run.local p).position c is)
 
   pub queue_reserved : (p c : ℕ) → next n h.run p ≡ Some (Put c) → can_come n h.run (Some (Put c)) ≡ true
       → length (h.run.queue c) < h.queue_room c

@@ -21,8 +21,8 @@ use Rattle.net_core.specs.Orders.{EndsAll, reached}
 use Rattle.net_core.specs.Rules.{tags, values}
 use Rattle.net_core.specs.Sound.{FitsNest, IsSound, NamesLastWriters, sink_lists_from, tag_value}
 use Rattle.net_core.proofs.EveryOrder.{ends_always, same_ends}
-use Rattle.net_core.proofs.Naming.{ended_kept}
-use Rattle.net_core.proofs.Valued.{gives_values, all_fired_values}
+use Rattle.net_core.proofs.PlaceValues.{ended_kept}
+use Rattle.net_core.proofs.FireValues.{gives_values, all_fired_values}
 
 sinks_alike : (n : Nest) (d : Inputs) (s : ℕ) (declared : List ArrayDecl)
     → sink_lists_from (values_of n d) s declared ≡ sink_values_from n d s declared

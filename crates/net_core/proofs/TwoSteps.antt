@@ -15,7 +15,7 @@ use Rattle.net_core.specs.declared.network.Event.TheVariants.{Get, Fire, Put}
 use Rattle.net_core.specs.Machine.{Net, Local, State, Rule, next, can_come, enabled, front, last_of, local_after}
 use Rattle.net_core.specs.Machine.{queue_after, after_event, step}
 use Rattle.net_core.specs.Shape.{is_get, is_put, IsWired}
-use Rattle.net_core.proofs.Counting.{replaced_same, replaced_other}
+use Rattle.net_core.proofs.EventCounts.{replaced_same, replaced_other}
 
 -- two events of different processes at one channel: not both Gets, not both Puts
 pub Apart : Event → Event → Type 0

@@ -12,6 +12,7 @@ Cut = ℕ → ℕ
 abbrev pub opening : Cut
 opening = λ p. 0
 
+-- the cut of a state: each process's position
 abbrev pub positions : {T : Type 0} → State T → Cut
 positions s = λ p. (s.local p).position
 
@@ -19,6 +20,7 @@ positions s = λ p. (s.local p).position
 abbrev pub gets_at : Net → Cut → ℕ → ℕ
 gets_at n k c = count_by (is_get c) (take (k (n.reader c)) (n.script (n.reader c)))
 
+-- the Puts of a channel before a cut
 abbrev pub puts_at : Net → Cut → ℕ → ℕ
 puts_at n k c = count_by (is_put c) (take (k (n.writer c)) (n.script (n.writer c)))
 
@@ -40,6 +42,7 @@ can_come_at n k (Some (Get c slot)) = nat_lt (gets_at n k c) (puts_at n k c)
 can_come_at n k (Some (Fire refs)) = true
 can_come_at n k (Some (Put c)) = nat_lt (puts_at n k c) (gets_at n k c + n.capacity c)
 
+-- whether a process may go on at a cut
 abbrev pub enabled_at : Net → Cut → ℕ → Bool
 enabled_at n k p = can_come_at n k (slice_get (n.script p) (k p))
 
@@ -47,6 +50,7 @@ enabled_at n k p = can_come_at n k (slice_get (n.script p) (k p))
 abbrev pub advanced : Cut → ℕ → Cut
 advanced k p = replaced k p (suc (k p))
 
+-- the cut after a list of steps
 abbrev pub cut_after : Cut → List ℕ → Cut
 cut_after k [] = k
 cut_after k (p ∷ run) = cut_after (advanced k p) run

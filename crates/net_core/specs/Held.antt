@@ -54,6 +54,7 @@ held locals queues = record {
   queue_room = queue_room queues;
 }
 
+-- the state of the machine that the code holds, with the room of its lists
 abbrev pub held_of : {T : Type 0} → code.State T → Held T
 held_of s = held s.locals.items s.queues.items
 

@@ -11,3 +11,5 @@ pub mod Rooms
 pub mod Rules
 pub mod Held
 pub mod Sound
+pub mod Progress
+pub mod Kinds

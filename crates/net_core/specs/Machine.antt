@@ -17,6 +17,7 @@ pub record Net : Type 0 where
   pub reader : ℕ → ℕ
   pub capacity : ℕ → ℕ
 
+-- what the machine takes of this network
 abbrev pub net_of : Network → Net
 net_of network = record {
   processes = length network.processes;
@@ -37,6 +38,7 @@ pub record Local (T : Type 0) : Type 0 where
   pub slots : List (Option T)
   pub kept : List T
 
+-- of each process its position, its slots and all that it fired, and of each channel its queue
 pub record State (T : Type 0) : Type 0 where
   pub local : ℕ → Local T
   pub queue : ℕ → List T
@@ -61,6 +63,7 @@ can_come n s (Some (Get channel slot)) = nat_lt 0 (length (s.queue channel))
 can_come n s (Some (Fire refs)) = true
 can_come n s (Some (Put channel)) = nat_lt (length (s.queue channel)) (n.capacity channel)
 
+-- whether a process may make its next event: a Get needs a token, a Put needs room, a Fire nothing
 abbrev pub enabled : {T : Type 0} → Net → State T → ℕ → Bool
 enabled n s p = can_come n s (next n s p)
 

@@ -11,11 +11,13 @@ is_any_get (Get channel slot) = true
 is_any_get (Fire refs) = false
 is_any_get (Put channel) = false
 
+-- whether an event is a Get of a channel
 abbrev pub is_get : ℕ → Event → Bool
 is_get c (Get channel slot) = c == channel
 is_get c (Fire refs) = false
 is_get c (Put channel) = false
 
+-- whether an event is a Put of a channel
 abbrev pub is_put : ℕ → Event → Bool
 is_put c (Get channel slot) = false
 is_put c (Fire refs) = false

@@ -60,6 +60,7 @@ sink_lists_from kept s (array ∷ declared) =
     if is_output array.kind then kept s ∷ sink_lists_from kept (s + 1) declared
     else [] ∷ sink_lists_from kept s declared
 
+-- the lists that the sinks have kept, one for each declared array, empty where it is no output
 abbrev pub sink_lists : Nest → State ℤ → List (List ℤ)
 sink_lists n s =
     sink_lists_from (λ p. (s.local p).kept)

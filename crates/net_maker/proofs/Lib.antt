@@ -1,5 +1,5 @@
 pub mod Numbers
-pub mod Fitting
+pub mod FitsNest
 pub mod Levels
 pub mod ReadNumbers
-pub mod Recertified
+pub mod OtherOrigins

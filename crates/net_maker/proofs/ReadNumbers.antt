@@ -4,7 +4,7 @@
 -- alone. Therefore an origin that is added at the end stands for the read whose number is the count so far, and for no
 -- other: what held of the origins before it goes on to hold.
 use Rattle.std.proofs.Common.{◌≡◌, ◌∙◌, ◌+◌, ◌<◌, ◌≤◌, ℕ, zero, suc, List, [], ◌∷◌, ◌++◌, Some, None, length, take, refl}
-use Rattle.std.proofs.Common.{◌⊎◌, inl, inr, slice_get, sym, ap, subst, arith}
+use Rattle.std.proofs.Common.{◌⊎◌, inl, inr, slice_get, sym, ap, subst, arith, take-take}
 use Rattle.std.specs.List.{sum_by}
 use Rattle.std.proofs.lemmas.Bool.{cases_order}
 use Rattle.std.proofs.lemmas.List.{length_push}
@@ -12,41 +12,29 @@ use Rattle.std.proofs.lemmas.List.Sums.{sum_by-take-le}
 use Rattle.std.proofs.lemmas.Option.{same_Some}
 use Rattle.net_checker.specs.Shapes.{read_total}
 use Rattle.net_checker.specs.Sources.{AreUsable}
-use Rattle.net_checker.proofs.FitsShape.{take_all}
-use Rattle.net_checker.proofs.Lists.{item_at}
-use Rattle.net_checker.proofs.Numbers.{reads_more}
 use Rattle.net_checker.proofs.Usable.{statement_there}
 use Rattle.sanlp.specs.Access.{read_count}
 use Rattle.sanlp.specs.declared.nest.Nest.{Nest}
 use Rattle.sanlp.specs.declared.nest.Statement.{Statement}
+use Rattle.sanlp.proofs.ReadCounts.{read_count-some}
 use Rattle.source_tree.specs.declared.cert.Cert.{Cert}
 use Rattle.source_tree.specs.declared.cert.Origin.{Origin}
 use Rattle.source_tree.specs.declared.cert.Origin.TheVariants as origin
 use Rattle.source_tree.specs.declared.tree.Tree.{Tree}
 use Rattle.source_tree.specs.Sources.{read_number}
-use Rattle.std.specs.Option.{option_map_or}
+use Rattle.std.proofs.Math.Seq.{take-length}
 use Rattle.tree_text.specs.TreeText.{TreeIsInRange}
 use Rattle.net_maker.specs.Certificates.{HasOrigins, IsUsableOrigin}
+use Rattle.plain_data.proofs.Lists.{slice_get-some, sum_by_more_some}
 
 -- Numbers of reads
-
-pub read_count_is : (n : Nest) (s : ℕ) (st : Statement) → slice_get n.statements s ≡ Some st
-    → read_count n s ≡ length st.reads
-read_count_is n s st is = ap (λ o. option_map_or (λ (st : Statement). length st.reads) o 0) is
 
 -- the first read of the next statement comes behind those of this one
 pub next_statement : (n : Nest) (s : ℕ) → s < length n.statements
     → read_number n (s + 1) 0 ≡ read_number n s (read_count n s)
 next_statement n s lt =
-    let there = item_at n.statements s lt in
-    omega (arith, reads_more n.statements s there.0 there.1, read_count_is n s there.0 there.1)
-
--- a front of a front
-take_less : {X : Type 0} (a b : ℕ) (xs : List X) → a ≤ b → take a (take b xs) ≡ take a xs
-take_less zero b xs le = refl
-take_less (suc a) zero xs le = absurd (omega arith)
-take_less (suc a) (suc b) [] le = refl
-take_less (suc a) (suc b) (x ∷ xs) le = ap (λ ys. x ∷ ys) (take_less a b xs (omega arith))
+    let there = slice_get-some n.statements s lt in
+    omega (arith, sum_by_more_some (λ (st : Statement). length st.reads) n.statements s there.0 there.1, read_count-some n s there.0 there.1)
 
 reads_of_less : (n : Nest) (a b : ℕ) → a ≤ b → read_number n a 0 ≤ read_number n b 0
 reads_of_less n a b le =
@@ -54,7 +42,7 @@ reads_of_less n a b le =
     omega (
       arith,
       sum_by-take-le (λ (st : Statement). length st.reads) (take b n.statements) a,
-      ap reads (take_less a b n.statements le),
+      ap reads (take-take a b n.statements le),
     )
 
 -- a read of a statement before has a lower number
@@ -113,19 +101,12 @@ module _ (n : Nest) (s k : ℕ) (sources after : List Origin) (o : Origin) (few 
 
 -- Before the first, and behind the last
 
-pub no_origins : (n : Nest) → HasOrigins n (read_number n 0 0) []
-no_origins n = record {
-  total = refl;
-  each = λ p q x lt at. absurd (let none : None ≡ Some x = at in cc);
-  in_range = λ j tree at. absurd (let none : None ≡ Some (origin.Tree tree) = at in cc);
-}
-
 pub origins_whole : (n : Nest) (s : ℕ) (sources : List Origin) → s ≡ length n.statements
     → HasOrigins n (read_number n s 0) sources → HasOrigins n (read_total n) sources
 origins_whole n s sources all h =
     let reads : List Statement → ℕ = λ sts. sum_by (λ (st : Statement). length st.reads) sts in
     let whole : read_number n s 0 ≡ read_total n =
-    omega (arith, ap (λ (i : ℕ). read_number n i 0) all, ap reads (take_all n.statements)) in
+    omega (arith, ap (λ (i : ℕ). read_number n i 0) all, ap reads (take-length n.statements)) in
     subst (λ (count : ℕ). HasOrigins n count sources) whole h
 
 -- so the trees of a certificate with these origins are usable

@@ -1,4 +1,7 @@
 //! The network of a nest with the capacities that a schedule needs, and the certificate of that.
+//!
+//! Between two calls, or from one step of the main loop to the next: other capacities leave shape, names and uses; each
+//! origin so far may stand for its read.
 #![tactic(auto)]
 
 mod law;
@@ -7,6 +10,4 @@ mod origins;
 mod ranges;
 
 pub use law::has_certificate;
-pub use making::{
-    CountedNetwork, SweptNetwork, compile, compile_network, compile_swept, compile_with_sources,
-};
+pub use making::{SweptNetwork, compile, compile_network, compile_with_sources};

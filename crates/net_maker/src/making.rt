@@ -1,4 +1,4 @@
-ghost use Rattle.std.specs.Prelude.{◌≡◌, ◌++◌, length, map, IfOk, OnOk, replicate};
+ghost use Rattle.std.specs.Prelude.{◌≡◌, ◌++◌, IfOk, OnOk, replicate};
 ghost use Rattle.sanlp.specs.Size.{SizeIsOk};
 ghost use Rattle.sanlp.specs.Points.{points_of};
 ghost use Rattle.net_checker.specs.Fits.{Fits};
@@ -7,15 +7,17 @@ ghost use Rattle.source_tree.specs.Sources.{sources_of};
 ghost use Rattle.source_tree.specs.declared.cert.Origin.TheVariants.{Sweep};
 ghost use Rattle.net_core.specs.Machine.{net_of};
 ghost use Rattle.net_core.specs.Shape.{FitsNumbers};
+ghost use Rattle.net_core.specs.Sound.{IsSound};
 ghost use Rattle.process_derive.specs.Derived.{net};
 ghost use Rattle.witness_plan.specs.Schedules.{planned_network, schedule};
 ghost use Rattle.net_maker.specs.Certificates.{swept_cert, IsCertificate};
 
+use crate::law::has_certificate;
 use crate::origins::origins;
-use derived_names::{has_classes_of_uses, names_last_writers};
+use net_checker::is_sound;
 use net_core::Network;
 use plain_data::Items;
-use process_derive::{derive_by_turns, fits_nest, numbers_fit};
+use process_derive::{derive_by_turns, numbers_fit};
 use sanlp::{Nest, Points};
 use shadow_sweep::sweep_counted;
 use source_tree::{Cert, Origin, SourceTable};
@@ -33,7 +35,7 @@ fn add_swept(sources: &mut Items<Origin>, count: usize) -> Result<(), AllocError
 }
 
 // For each read, that its values come from the last writers.
-fn swept(alloc: Global, nest: &Nest) -> Result<Items<Origin>, AllocError>
+fn all_swept(alloc: Global, nest: &Nest) -> Result<Items<Origin>, AllocError>
     ensures { IfOk result (λ sources. sources ≡ replicate (read_total nest.now) Sweep) }
 {
     let mut sources = Items::new(alloc);
@@ -43,80 +45,63 @@ fn swept(alloc: Global, nest: &Nest) -> Result<Items<Origin>, AllocError>
     Ok(sources)
 }
 
-/// A network of a nest, and how many turns each of its processes has.
-#[derive(Drop)]
-pub struct CountedNetwork {
-    pub network: Network,
-    pub turns: Vec<usize>,
-}
-
 // The network of a nest, each channel with the number of its tokens as its capacity. The table of sources ends here.
-fn derived_network(alloc: Global, nest: &Nest) -> Result<CountedNetwork, AllocError>
+fn derived_network(alloc: Global, nest: &Nest) -> Result<Network, AllocError>
     requires { SizeIsOk nest.now }
-    ensures network { IfOk result (λ made. made.network ≡ net nest.now) }
-    ensures turns { IfOk result (λ made. made.turns.items ≡ map length (points_of nest.now)) }
+    ensures { IfOk result (λ network. network ≡ net nest.now) }
 {
     let swept = sweep_counted(alloc, nest)?;
     let network = derive_by_turns(alloc, nest, &swept.turns, &swept.sources)?;
-    Ok(CountedNetwork {
-        network,
-        turns: swept.turns,
-    })
+    Ok(network)
 }
 
-/// The network of `compile_swept`, and how many turns each process has. Nothing is refused but want of memory.
-pub fn compile_network(
-    alloc: Global,
-    nest: &Nest,
-    policy: Policy,
-) -> Result<CountedNetwork, AllocError>
-    requires { SizeIsOk nest.now }
-    ensures network { IfOk result (λ made. made.network ≡ planned_network nest.now policy) }
-    ensures numbers { IfOk result (λ made. FitsNumbers (net_of made.network)) }
-    ensures turns { IfOk result (λ made. made.turns.items ≡ map length (points_of nest.now)) }
-{
-    numbers_fit(nest);
-    other_capacities();
-    let derived = derived_network(alloc, nest)?;
-    let witness = plan_for(alloc, nest, &derived.network, policy)?;
-    let network = with_capacities(alloc, derived.network, witness.capacities.as_slice())?;
-    Ok(CountedNetwork {
-        network,
-        turns: derived.turns,
-    })
+// A network with the capacities that a schedule needs, and that schedule.
+#[derive(Drop)]
+struct Planned {
+    network: Network,
+    schedule: Items<u32>,
 }
 
-// The network with the capacities that its schedule under a policy needs, and the certificate with that schedule, from the
-// network that was derived.
-fn planned_pair(
+// The network with the capacities that its schedule under a policy needs, from the network that was derived.
+fn plan_network(
     alloc: Global,
     nest: &Nest,
     policy: Policy,
     derived: Network,
-) -> Result<(Network, Cert), AllocError>
+) -> Result<Planned, AllocError>
     requires size { SizeIsOk nest.now }
     requires derived { derived ≡ net nest.now }
-    ensures network { IfOk result (λ made. made.0 ≡ planned_network nest.now policy) }
-    ensures numbers { IfOk result (λ made. FitsNumbers (net_of made.0)) }
-    ensures cert { IfOk result
-        (λ made. made.1 ≡ swept_cert nest.now (schedule nest.now policy)) }
-    ensures fits { IfOk result (λ made. Fits nest.now made.0 made.1) }
+    ensures network { IfOk result (λ made. made.network ≡ planned_network nest.now policy) }
+    ensures numbers { IfOk result (λ made. FitsNumbers (net_of made.network)) }
+    ensures schedule { IfOk result (λ made. made.schedule ≡ schedule nest.now policy) }
 {
-    fits_nest(nest);
     numbers_fit(nest);
-    names_last_writers(nest);
-    has_classes_of_uses(nest);
     other_capacities();
     let witness = plan_for(alloc, nest, &derived, policy)?;
     let network = with_capacities(alloc, derived, witness.capacities.as_slice())?;
-    let cert = Cert {
-        sources: swept(alloc, nest)?,
+    Ok(Planned {
+        network,
         schedule: witness.schedule,
-    };
-    Ok((network, cert))
+    })
 }
 
-/// A network of a nest, its certificate, and the last writers that the network was derived from.
+/// The network of a nest (Compaan 2000, pn 2007) with the capacities that its schedule under a policy needs. It is sound, as
+/// each network is that the checker accepts: in every order of events it computes what the nest computes. Neither points nor a
+/// certificate are made. Nothing is refused but want of memory.
+pub fn compile_network(alloc: Global, nest: &Nest, policy: Policy) -> Result<Network, AllocError>
+    requires { SizeIsOk nest.now }
+    ensures network { IfOk result (λ network. network ≡ planned_network nest.now policy) }
+    ensures numbers { IfOk result (λ network. FitsNumbers (net_of network)) }
+    ensures sound { IfOk result (λ network. IsSound nest.now network) }
+{
+    has_certificate(nest);
+    is_sound();
+    let derived = derived_network(alloc, nest)?;
+    let made = plan_network(alloc, nest, policy, derived)?;
+    Ok(made.network)
+}
+
+/// A network of a nest, a certificate of it, and the last writers that the network was derived from.
 #[derive(Drop)]
 pub struct SweptNetwork {
     pub network: Network,
@@ -124,8 +109,9 @@ pub struct SweptNetwork {
     pub sources: SourceTable,
 }
 
-/// The answer of `compile_swept`, and the last writers of all reads, with which `check_with_sources` needs no sweep of its
-/// own. Nothing is refused but want of memory.
+/// The network of `compile_network`, its certificate whose reads all have their values from the last writers, and these, with
+/// which `check_with_sources` needs no sweep of its own. Network and certificate fit the nest, so the checker accepts them.
+/// Nothing is refused but want of memory.
 pub fn compile_with_sources(
     alloc: Global,
     nest: &Nest,
@@ -139,42 +125,25 @@ pub fn compile_with_sources(
     ensures fits { IfOk result (λ made. Fits nest.now made.network made.cert) }
     ensures sources { IfOk result (λ made. made.sources.of ≡ sources_of nest.now) }
 {
+    has_certificate(nest);
     let swept = sweep_counted(alloc, nest)?;
     let derived = derive_by_turns(alloc, nest, &swept.turns, &swept.sources)?;
-    let (network, cert) = planned_pair(alloc, nest, policy, derived)?;
+    let made = plan_network(alloc, nest, policy, derived)?;
+    let cert = Cert {
+        sources: all_swept(alloc, nest)?,
+        schedule: made.schedule,
+    };
     Ok(SweptNetwork {
-        network,
+        network: made.network,
         cert,
         sources: swept.sources,
     })
 }
 
-/// The network of a nest (Compaan 2000, pn 2007) with the capacities that its schedule under a policy needs, and the
-/// certificate with that schedule whose reads all have their values from the last writers. Both fit the nest, so the checker
-/// accepts them. The points of the nest aren't needed. Nothing is refused but want of memory.
-pub fn compile_swept(
-    alloc: Global,
-    nest: &Nest,
-    points: &Points,
-    policy: Policy,
-) -> Result<(Network, Cert), AllocError>
-    requires size { SizeIsOk nest.now }
-    requires points { points.now.of ≡ points_of nest.now }
-    ensures network { IfOk result (λ made. made.0 ≡ planned_network nest.now policy) }
-    ensures numbers { IfOk result (λ made. FitsNumbers (net_of made.0)) }
-    ensures cert { IfOk result
-        (λ made. made.1 ≡ swept_cert nest.now (schedule nest.now policy)) }
-    ensures fits { IfOk result (λ made. Fits nest.now made.0 made.1) }
-{
-    let _ = points;
-    let made = derived_network(alloc, nest)?;
-    planned_pair(alloc, nest, policy, made.network)
-}
-
-/// The network of `compile_swept`, and a certificate of it with trees: a read of the difference class has its values from the
-/// points that its tree gives, where a tree of at most 1,024 nodes is made, at most 128 Tests deep, which overflows at no point
-/// of the reader, and whose proofs nest at most 512 deep. Other reads have theirs from the last writers. The checker accepts
-/// both, and they have a text. Nothing is refused but want of memory.
+/// The network of `compile_network`, and a certificate of it with trees: a read of the difference class has its values from the
+/// points that its tree gives, where the tree overflows at no point of the reader, and it and its proofs nest at most 512 deep.
+/// Other reads have theirs from the last writers. The checker accepts both, and they have a text. Nothing is refused but want
+/// of memory.
 pub fn compile(
     alloc: Global,
     nest: &Nest,
@@ -188,10 +157,9 @@ pub fn compile(
     ensures certificate { IfOk result (λ made. IsCertificate nest.now policy made.1) }
     ensures fits { IfOk result (λ made. Fits nest.now made.0 made.1) }
 {
-    let (network, swept) = compile_swept(alloc, nest, points, policy)?;
-    let cert = Cert {
-        sources: origins(alloc, nest, points)?,
-        schedule: swept.schedule,
-    };
-    Ok((network, cert))
+    has_certificate(nest);
+    let derived = derived_network(alloc, nest)?;
+    let Planned { network, schedule } = plan_network(alloc, nest, policy, derived)?;
+    let sources = origins(alloc, nest, points)?;
+    Ok((network, Cert { sources, schedule }))
 }

@@ -11,16 +11,13 @@ ghost use Rattle.tree_text.specs.TreeText.{TreeIsInRange};
 
 use crate::ranges::has_text;
 use affine_core::Vector;
-use last_writer::{in_difference_class, source_within};
+use last_writer::{in_difference_class, source_of};
 use plain_data::Items;
 use sanlp::{Nest, Points};
 use source_tree::{Origin, Tree};
 use std::alloc::{AllocError, Global};
 use stride_rows::differences_are_strides;
 use tree_eval::Follower;
-
-// The room for a tree: so many nodes. A tree that has no room, or nests too deep to be made, isn't made.
-const NODES: u64 = 1_024;
 
 // Whether the tree overflows at none of these points.
 fn overflows_nowhere(tree: &Tree, vectors: &[Vector]) -> bool
@@ -53,8 +50,8 @@ fn may_stand(points: &Points, statement: u32, tree: &Tree) -> bool
     has_text(tree) && overflows_nowhere(tree, points.of.as_slice()[statement as usize].as_slice())
 }
 
-// Where a read has its values from: from the points that its tree gives, where one is made that may stand in a certificate,
-// and else from the last writers.
+// Where a read has its values from: from the points that its tree gives, where that may stand in a certificate, and else
+// from the last writers.
 fn origin(
     alloc: Global,
     nest: &Nest,
@@ -71,16 +68,11 @@ fn origin(
         return Ok(Origin::Sweep);
     }
     differences_are_strides();
-    let made = source_within(alloc, nest, statement, read, NODES)?;
-    match made {
-        Some(tree) => {
-            if may_stand(points, statement, &tree) {
-                Ok(Origin::Tree(tree))
-            } else {
-                Ok(Origin::Sweep)
-            }
-        }
-        None => Ok(Origin::Sweep),
+    let tree = source_of(alloc, nest, statement, read)?;
+    if may_stand(points, statement, &tree) {
+        Ok(Origin::Tree(tree))
+    } else {
+        Ok(Origin::Sweep)
     }
 }
 

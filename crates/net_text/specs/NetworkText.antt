@@ -1,5 +1,5 @@
 -- The text of a network.
-use Rattle.std.specs.Prelude.{ℕ, suc, ◌-◌, ◌==◌, min, max, if◌then◌else◌, Option, Some, List, [], ◌∷◌, ◌++◌, codes, decimal, fold, length, slice_get}
+use Rattle.std.specs.Prelude.{ℕ, suc, ◌-◌, ◌==◌, min, max, if◌then◌else◌, Option, Some, List, [], ◌∷◌, ◌++◌, codes, count_by, decimal, fold, length, slice_get}
 use Rattle.std.specs.List.{flat_map, enumerate_from}
 use Rattle.std.specs.Option.{option_map, option_and_then, option_map_or}
 use Rattle.channel_class.specs.declared.ChannelClass.{ChannelClass}
@@ -9,14 +9,13 @@ use Rattle.sanlp.specs.declared.nest.Nest.{Nest}
 use Rattle.sanlp.specs.declared.nest.Role.{Role}
 use Rattle.sanlp.specs.declared.nest.Role.TheVariants.{Source, Assign, Sink}
 use Rattle.sanlp.specs.declared.nest.Statement.{Statement}
-use Rattle.sanlp.specs.Points.{points_of}
 use Rattle.net_core.specs.declared.network.Channel.{Channel}
 use Rattle.net_core.specs.declared.network.Event.{Event}
 use Rattle.net_core.specs.declared.network.Event.TheVariants.{Get, Fire, Put}
 use Rattle.net_core.specs.declared.network.Network.{Network}
 use Rattle.net_core.specs.declared.network.Process.{Process}
 use Rattle.net_core.specs.Machine.{Net, net_of}
-use Rattle.net_core.specs.Shape.{turns, put_count, events_below}
+use Rattle.net_core.specs.Shape.{is_fire, put_count, events_below}
 use Rattle.text_out.specs.Words.{line_text}
 
 -- Processes
@@ -51,7 +50,7 @@ name_word nest p = option_map_or (array_name nest) (slice_get nest.statements p)
 abbrev pub process_line : Nest → ℕ → Process → List ℕ
 process_line nest p process = line_text (
     codes "process" ∷ decimal p ∷ kind_word nest p ∷ name_word nest p
-    ∷ codes "fires" ∷ decimal (turns (points_of nest) p)
+    ∷ codes "fires" ∷ decimal (count_by is_fire process.script)
     ∷ codes "slots" ∷ decimal process.slots ∷ [])
 
 -- a line for each of these processes, the first having number 0
@@ -82,7 +81,7 @@ abbrev pub order_word : UseOrder → List ℕ
 order_word InOrder = codes "inorder"
 order_word Reorder = codes "reorder"
 
--- the same with a plus where some token is used more than once
+-- the word of a class: in order or not, with a plus where some token is used more than once
 abbrev pub class_word : ChannelClass → List ℕ
 class_word class = order_word class.order ++ (if class.multiplicity then codes "+" else [])
 

@@ -1,81 +1,20 @@
-ghost use Rattle.std.specs.Prelude.{◌≡◌, ◌≤◌, ◌+◌, ◌-◌, count_by, min, slice_index};
+ghost use Rattle.std.specs.Prelude.{◌≡◌, ◌≤◌, ◌+◌, ◌-◌, count_by};
 ghost use Rattle.std.specs.List.{flat_map};
 ghost use Rattle.net_core.specs.Machine.{net_of};
-ghost use Rattle.net_core.specs.Shape.{is_put, turns, FitsNumbers};
+ghost use Rattle.net_core.specs.Shape.{is_put, FitsNumbers};
 ghost use Rattle.script_blocks.specs.Expansion.{part_expansion, parts_expansion};
 ghost use Rattle.net_text.specs.NetworkText.{slot_got, span, event_count as count_of_events};
 ghost use Rattle.net_text.specs.Ranges.{joined as join_of_ranges, range_of};
 
-use net_core::{Event, Network};
-use sanlp::Points;
+use net_core::{Event, Network, event_count as total_events, put_count as puts_to};
 use script_blocks::{BlockPart, Script};
-
-/// How often a process fires.
-pub(crate) fn fire_count(points: &Points, process: usize) -> usize
-    ensures { result ≡ turns points.now.of process }
-{
-    match points.of.get(process) {
-        Some(vectors) => vectors.len(),
-        None => 0,
-    }
-}
-
-/// The number at a place, 0 past the end.
-pub(crate) fn number_at(numbers: &[usize], place: usize) -> usize
-    ensures { result ≡ slice_index numbers.now place }
-{
-    numbers.get(place).copied().unwrap_or(0)
-}
-
-/// Whether an event puts to a channel.
-fn is_put(event: &Event, channel: usize) -> bool
-    ensures { result ≡ is_put channel event.now }
-{
-    match event {
-        Event::Put { channel: put } => channel == *put as usize,
-        Event::Get { .. } | Event::Fire { .. } => false,
-    }
-}
-
-/// How often these parts put to a channel, or 2^64 - 1 where that is less.
-#[cycle(puts)]
-pub(crate) fn puts_of_parts(parts: &[BlockPart<Event>], channel: usize) -> u64
-    ensures { result ≡ min (count_by (is_put channel) (parts_expansion parts.now)) u64.MAX }
-{
-    let mut count: u64 = 0;
-    for part in parts {
-        count = count.saturating_add(puts_of_part(part, channel));
-    }
-    count
-}
-
-#[cycle(puts)]
-fn puts_of_part(part: &BlockPart<Event>, channel: usize) -> u64
-    ensures { result ≡ min (count_by (is_put channel) (part_expansion part.now)) u64.MAX }
-{
-    match part {
-        BlockPart::Item(event) => u64::from(is_put(event, channel)),
-        BlockPart::Repeat(count, body) => {
-            u64::from(*count).saturating_mul(puts_of_parts(body.parts.as_slice(), channel))
-        }
-    }
-}
-
-/// How often a script puts to a channel.
-fn puts_in(script: &Script<Event>, channel: usize) -> usize
-    ensures { result ≡ count_by (is_put channel) script.now }
-{
-    // No script has more puts than events.
-    let most = u64::from(script.len());
-    puts_of_parts(script.blocks().parts.as_slice(), channel).min(most) as usize
-}
 
 /// How often a process puts to a channel.
 pub(crate) fn put_count(network: &Network, process: u32, channel: usize) -> usize
     ensures { result ≡ count_by (is_put channel) ((net_of network.now).script process) }
 {
     match network.processes.get(process as usize) {
-        Some(process) => puts_in(&process.script, channel),
+        Some(process) => puts_to(&process.script, channel) as usize,
         None => 0,
     }
 }
@@ -162,9 +101,5 @@ pub fn event_count(network: &Network) -> u64
     requires { FitsNumbers (net_of network.now) }
     ensures { result ≡ count_of_events network.now }
 {
-    let mut count = 0;
-    for process in network.processes.as_slice() {
-        count += u64::from(process.script.len());
-    }
-    count
+    u64::from(total_events(network))
 }

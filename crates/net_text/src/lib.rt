@@ -1,10 +1,10 @@
 //! The texts of networks.
+//!
+//! Between two calls, or from one step of the main loop to the next: the writer was given a front of the text.
 #![tactic(auto)]
 
-mod counted_text;
 mod counts;
 mod network_text;
 
-pub use counted_text::write_net_by_turns;
 pub use counts::event_count;
-pub use network_text::{class_word, write_net};
+pub use network_text::{class_word, write_net, write_network};

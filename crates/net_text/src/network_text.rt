@@ -1,16 +1,15 @@
 ghost use Rattle.std.specs.Prelude.{◌≡◌, ◌++◌, slice_get, OnOk, OnErr};
 ghost use Rattle.std.specs.Io.KnownBytes.{Appends};
 ghost use Rattle.io_edge.specs.Causes.{Rose, AppendsFront};
-ghost use Rattle.sanlp.specs.Points.{points_of};
 ghost use Rattle.net_core.specs.Machine.{net_of};
-ghost use Rattle.net_core.specs.Shape.{turns, FitsNumbers};
+ghost use Rattle.net_core.specs.Shape.{FitsNumbers};
 ghost use Rattle.text_out.specs.Wrote.{Wrote};
 ghost use Rattle.net_text.specs.NetworkText.{role_word as word_of_role, array_by_role, array_name as name_of_array, kind_word as word_of_kind, name_word as word_of_name, class_word as word_of_class, process_line, process_lines, channel_line, channel_lines, version_line, end_lines, net_text};
 
-use crate::counts::{event_count, fire_count, hold, put_count};
+use crate::counts::{event_count, hold, put_count};
 use channel_class::{ChannelClass, UseOrder};
 use io_edge::{Sink, WriteFault};
-use net_core::{Channel, Network, Process};
+use net_core::{Channel, Network, Process, fire_count};
 use sanlp::{Nest, Points, Role, Statement};
 use text_out::{TextWriter, Word, Writer, write_line};
 
@@ -68,15 +67,7 @@ fn name_word(nest: &Nest, process: usize) -> &[u8]
     }
 }
 
-/// Writes the line of a process that fires so often.
-pub(crate) fn write_process<W: TextWriter>(
-    nest: &Nest,
-    fires: usize,
-    number: usize,
-    process: &Process,
-    out: &mut W,
-)
-    requires { fires ≡ turns (points_of nest.now) number }
+fn write_process<W: TextWriter>(nest: &Nest, number: usize, process: &Process, out: &mut W)
     ensures { Wrote W.given out.old out.new (process_line nest.now number process.now) }
 {
     let words = [
@@ -85,20 +76,19 @@ pub(crate) fn write_process<W: TextWriter>(
         Word::Text(kind_word(nest, number)),
         Word::Text(name_word(nest, number)),
         Word::Text(b"fires"),
-        Word::Number(fires as u64),
+        Word::Number(u64::from(fire_count(&process.script))),
         Word::Text(b"slots"),
         Word::Number(u64::from(process.slots)),
     ];
     write_line(&words, out);
 }
 
-#[tactic(auto, using(text_out::proofs::Numbered::numbered))]
-fn write_processes<W: TextWriter>(nest: &Nest, points: &Points, processes: &[Process], out: &mut W)
-    requires { points.now.of ≡ points_of nest.now }
+#[tactic(auto, using(text_out::proofs::ItemNumbers::numbered))]
+fn write_processes<W: TextWriter>(nest: &Nest, processes: &[Process], out: &mut W)
     ensures { Wrote W.given out.old out.new (process_lines nest.now processes.now) }
 {
     for (number, process) in processes.iter().enumerate() {
-        write_process(nest, fire_count(points, number), number, process, out);
+        write_process(nest, number, process, out);
     }
 }
 
@@ -139,8 +129,8 @@ fn write_channel<W: TextWriter>(network: &Network, number: usize, channel: &Chan
     write_line(&words, out);
 }
 
-#[tactic(auto, using(text_out::proofs::Numbered::numbered))]
-pub(crate) fn write_channels<W: TextWriter>(network: &Network, out: &mut W)
+#[tactic(auto, using(text_out::proofs::ItemNumbers::numbered))]
+fn write_channels<W: TextWriter>(network: &Network, out: &mut W)
     ensures { Wrote W.given out.old out.new (channel_lines network.now) }
 {
     for (number, channel) in network.channels.as_slice().iter().enumerate() {
@@ -149,14 +139,14 @@ pub(crate) fn write_channels<W: TextWriter>(network: &Network, out: &mut W)
 }
 
 /// Writes the line of the version.
-pub(crate) fn write_version<W: TextWriter>(out: &mut W)
+fn write_version<W: TextWriter>(out: &mut W)
     ensures { Wrote W.given out.old out.new version_line }
 {
     write_line(&[Word::Text(b"net"), Word::Text(b"1")], out);
 }
 
 /// Writes the lines behind those of the processes.
-pub(crate) fn write_rest<W: TextWriter>(network: &Network, out: &mut W)
+fn write_rest<W: TextWriter>(network: &Network, out: &mut W)
     requires { FitsNumbers (net_of network.now) }
     ensures { Wrote W.given out.old out.new (channel_lines network.now ++ end_lines network.now) }
 {
@@ -166,29 +156,26 @@ pub(crate) fn write_rest<W: TextWriter>(network: &Network, out: &mut W)
     write_line(&[Word::Text(b"end")], out);
 }
 
-fn write_parts<W: TextWriter>(nest: &Nest, points: &Points, network: &Network, out: &mut W)
-    requires points { points.now.of ≡ points_of nest.now }
-    requires numbers { FitsNumbers (net_of network.now) }
+fn write_parts<W: TextWriter>(nest: &Nest, network: &Network, out: &mut W)
+    requires { FitsNumbers (net_of network.now) }
     ensures { Wrote W.given out.old out.new (net_text nest.now network.now) }
 {
     write_version(out);
-    write_processes(nest, points, network.processes.as_slice(), out);
+    write_processes(nest, network.processes.as_slice(), out);
     write_rest(network, out);
 }
 
-/// Writes the network text. It takes no memory.
+/// Writes the network text. It takes no memory: what is counted of a script is counted as it is folded.
 ///
 /// After `net 1` there is one line for each process and one for each channel, in order, then the number of events of
 /// all scripts and `end`. At `WriteFault` the sink holds what it held and a front of the text, and its count rose in
 /// this call.
-pub fn write_net<K: Sink>(
+pub fn write_network<K: Sink>(
     nest: &Nest,
-    points: &Points,
     network: &Network,
     sink: &mut K,
 ) -> Result<(), WriteFault>
-    requires points { points.now.of ≡ points_of nest.now }
-    requires numbers { FitsNumbers (net_of network.now) }
+    requires { FitsNumbers (net_of network.now) }
     ensures ok { OnOk result
         (Appends (K.held sink.old) (K.held sink.new) (net_text nest.now network.now)) }
     ensures quiet { OnOk result (K.faults sink.new ≡ K.faults sink.old) }
@@ -197,6 +184,24 @@ pub fn write_net<K: Sink>(
     ensures cause { OnErr result (Rose (K.faults sink.old) (K.faults sink.new)) }
 {
     let mut out = Writer::new(sink);
-    write_parts(nest, points, network, &mut out);
+    write_parts(nest, network, &mut out);
     out.finish()
+}
+
+/// Writes the text of `write_network`, beside points, which it doesn't need.
+pub fn write_net<K: Sink>(
+    nest: &Nest,
+    _points: &Points,
+    network: &Network,
+    sink: &mut K,
+) -> Result<(), WriteFault>
+    requires { FitsNumbers (net_of network.now) }
+    ensures ok { OnOk result
+        (Appends (K.held sink.old) (K.held sink.new) (net_text nest.now network.now)) }
+    ensures quiet { OnOk result (K.faults sink.new ≡ K.faults sink.old) }
+    ensures front { OnErr result
+        (AppendsFront (K.held sink.old) (K.held sink.new) (net_text nest.now network.now)) }
+    ensures cause { OnErr result (Rose (K.faults sink.old) (K.faults sink.new)) }
+{
+    write_network(nest, network, sink)
 }

@@ -19,7 +19,7 @@ use Rattle.net_core.specs.Machine.{Net, Rule, replaced, start, IsRun}
 use Rattle.net_core.specs.Orders.{EndsAll}
 use Rattle.net_core.specs.Rules.{tags}
 use Rattle.net_core.specs.Shape.{IsWired, is_put, put_count}
-use Rattle.net_core.proofs.Counting.{count_past, replaced_other, replaced_same}
+use Rattle.net_core.proofs.EventCounts.{count_past, replaced_other, replaced_same}
 use Rattle.net_core.proofs.Positions.{cut_run, enabled_inside, run_cut, run_ends, start_counted}
 use Rattle.witness_plan.proofs.OtherCapacities.{wired_at}
 use Rattle.cap_trim.specs.Capacities.{with_capacity, with_room}

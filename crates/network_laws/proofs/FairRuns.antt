@@ -13,7 +13,7 @@ use Rattle.net_core.specs.Orders.{EndsAll, EndsAlways, reached}
 use Rattle.net_core.specs.Shape.{IsWired}
 use Rattle.net_core.proofs.Positions.{enabled_inside}
 use Rattle.witness_plan.proofs.Downward.{events_left, left_less}
-use Rattle.clock_sim.proofs.Passing.{some_passes}
+use Rattle.clock_sim.proofs.NumberFilters.{some_passes}
 use Rattle.network_laws.specs.Stalls.{IsFair, run_with_stalls}
 use Rattle.network_laws.proofs.RunsWithStalls.{clock_at, enabled_there, none_past, place, stalled_cuts, stalled_runs}
 

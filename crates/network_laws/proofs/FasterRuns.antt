@@ -22,7 +22,7 @@ use Rattle.witness_plan.proofs.OtherCapacities.{wired_at}
 use Rattle.cap_trim.specs.Capacities.{with_room}
 use Rattle.cap_trim.proofs.MoreRoom.{enabled_roomier, ends_roomier, run_roomier}
 use Rattle.clock_sim.specs.Clocks.{ClockedRunEnds, after_clocks, clocked_run, clocks}
-use Rattle.clock_sim.proofs.Clocking.{none_from_stuck}
+use Rattle.clock_sim.proofs.ClockRuns.{none_from_stuck}
 use Rattle.network_laws.specs.Stalls.{run_with_stalls, steps_of_clock}
 use Rattle.network_laws.proofs.RunsWithStalls.{always, clocked_is_stalled, enabled_there, place, place_few, place_moved}
 use Rattle.network_laws.proofs.RunsWithStalls.{reached_at, reached_enabled, reached_run, stalled_cuts}

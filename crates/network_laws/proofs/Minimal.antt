@@ -9,7 +9,7 @@ use Rattle.net_core.specs.Machine.{Net, Rule}
 use Rattle.net_core.specs.Orders.{EndsAll}
 use Rattle.net_core.specs.Rules.{tags}
 use Rattle.net_core.specs.Shape.{IsWired}
-use Rattle.net_core.proofs.Counting.{replaced_other, replaced_same}
+use Rattle.net_core.proofs.EventCounts.{replaced_other, replaced_same}
 use Rattle.witness_plan.proofs.OtherCapacities.{wired_at}
 use Rattle.cap_trim.specs.Capacities.{lowered_network, trimmed_network, with_room}
 use Rattle.cap_trim.specs.Rests.{can_end, least_run}

@@ -1,2 +1,2 @@
-mod Passing
-mod Places
+pub mod NumberFilters
+pub mod Places

@@ -1,5 +1,5 @@
 -- The item at a place of a list that was made from a numbered one, and how many automata there are.
-use Rattle.std.proofs.Common.{◌≡◌, ℕ, zero, suc, ◌+◌, Some, List, [], ◌∷◌, map, length, slice_get, refl, ap, ◌∙◌, arith}
+use Rattle.std.proofs.Common.{◌≡◌, ℕ, zero, suc, ◌+◌, Some, List, [], ◌∷◌, map, length, slice_get, refl, ap, arith}
 use Rattle.std.specs.List.{enumerate_from}
 use Rattle.net_core.specs.declared.network.Network.{Network}
 use Rattle.node_automata.specs.Automata.{automata, automaton_of}
@@ -16,7 +16,7 @@ pub made_at : {X Y : Type 0} (f : ℕ × X → Y) (xs : List X) (i : ℕ) (x : X
     → slice_get (map f (enumerate_from 0 xs)) i ≡ Some (f (i, x))
 made_at f xs i x e = made_from f 0 xs i i x (omega arith) e
 
-length_made : {X Y : Type 0} (f : ℕ × X → Y) (n : ℕ) (xs : List X) → length (map f (enumerate_from n xs)) ≡ length xs
+pub length_made : {X Y : Type 0} (f : ℕ × X → Y) (n : ℕ) (xs : List X) → length (map f (enumerate_from n xs)) ≡ length xs
 length_made f n [] = refl
 length_made f n (x ∷ xs) = ap suc (length_made f (n + 1) xs)
 

@@ -12,6 +12,7 @@ use Rattle.node_automata.specs.declared.node.NodeAuto.{NodeAuto}
 abbrev pub incoming : Net → ℕ → List ℕ
 incoming n p = filter (λ c. n.reader c == p) (range_with_len 0 n.channels)
 
+-- the channels whose writer process p is, ascending
 abbrev pub outgoing : Net → ℕ → List ℕ
 outgoing n p = filter (λ c. n.writer c == p) (range_with_len 0 n.channels)
 

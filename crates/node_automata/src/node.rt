@@ -30,8 +30,8 @@ pub struct NodeAuto {
     pub puts: Items<u32>,
     /// The number of its slots.
     pub slots: u32,
-    /// Its script.
-    pub events: Items<Event>,
+    /// Its script, whose blocks it shares with the network.
+    pub events: Script<Event>,
     /// Its points.
     pub values: Items<Vector>,
     /// Its statement's expression.
@@ -85,14 +85,6 @@ fn copied_vectors(alloc: Global, vectors: &[Vector]) -> Result<Items<Vector>, Al
     Ok(copies)
 }
 
-/// The events of a script, one by one.
-fn expanded(alloc: Global, script: &Script<Event>) -> Result<Items<Event>, AllocError>
-    ensures { IfOk result (λ events. events ≡ script.now) }
-{
-    let events = script.iter().collect(alloc)?;
-    Ok(Items::from_vec(events))
-}
-
 /// The automaton of a process: its events are the process's script, and its values the process's points.
 pub fn automaton(
     alloc: Global,
@@ -112,7 +104,7 @@ pub fn automaton(
     let body = &network.processes.as_slice()[at];
     let gets = channels_in(alloc, network, process)?;
     let puts = channels_out(alloc, network, process)?;
-    let events = expanded(alloc, &body.script)?;
+    let events = body.script.share()?;
     let values = copied_vectors(alloc, points.of.as_slice()[at].as_slice())?;
     let expr = copied(alloc, &statement.expr)?;
     Ok(NodeAuto {

@@ -1,4 +1,4 @@
 pub mod PortLemmas
 pub mod TokenLemmas
-pub mod Turning
+pub mod EventSteps
 pub mod LogLemmas

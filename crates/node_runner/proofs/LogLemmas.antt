@@ -8,14 +8,14 @@ use Rattle.std.specs.declared.vec.Vec.{Vec}
 use Rattle.std.specs.Global.{Global}
 use Rattle.std.proofs.lemmas.Bool.{cases_eq, cases_lt}
 use Rattle.std.proofs.lemmas.List.{get_or_past}
-use Rattle.std.proofs.lemmas.List.Sums.{sum_by_push, sum_by_more, sum_by-take-le}
+use Rattle.std.proofs.lemmas.List.Sums.{sum_by_push, sum_by_more}
 use Rattle.std.proofs.lemmas.Option.{slice_get_past, slice_get-get_or}
 use Rattle.net_core.specs.declared.network.Channel.{Channel}
 use Rattle.net_core.specs.declared.network.Network.{Network}
-use Rattle.net_core.proofs.Fresh.{item_found}
 use Rattle.ruled_links.specs.Ports.{Port, fresh}
 use Rattle.node_runner.specs.Nodes.{Ports, incoming, outgoing}
 use Rattle.node_runner.specs.Logs.{left_of, left_in, nth_stream, value_count}
+use Rattle.plain_data.proofs.Lists.{slice_get_read_same}
 
 before_last : {X : Type 0} (xs : List X) (x d : X) (c : ℕ) → c < length xs
     → slice_index_or (xs ++ x ∷ []) c d ≡ slice_index_or xs c d
@@ -72,7 +72,7 @@ module _ (streams : List (Vec ℤ Global)) (network : Network) (p : ℕ)
       let found : slice_get network.channels at ≡ Some channel =
       ap (λ l. slice_get l at) (sym are) ∙ slice_get-get_or channels at other lt in
       let there : slice_get streams at ≡ Some stream =
-      item_found streams streams at stream refl (omega (arith, lt, ap length are, same)) stream_is in
+      slice_get_read_same streams streams at stream refl (omega (arith, lt, ap length are, same)) stream_is in
       let nth : nth_stream streams at ≡ stream.items =
       ap (λ o. option_map_or (λ (s : Vec ℤ Global). s.items) o []) there in
       is ∙ ap (λ l. cond (channel.reader == p) (Some (fresh l)) None) (values_are ∙ sym nth)
@@ -90,7 +90,7 @@ module _ (streams : List (Vec ℤ Global)) (network : Network) (p : ℕ)
       let found : slice_get network.channels at ≡ Some channel =
       ap (λ l. slice_get l at) (sym are) ∙ slice_get-get_or channels at other lt in
       let there : slice_get streams at ≡ Some stream =
-      item_found streams streams at stream refl (omega (arith, lt, ap length are, same)) stream_is in
+      slice_get_read_same streams streams at stream refl (omega (arith, lt, ap length are, same)) stream_is in
       let nth : nth_stream streams at ≡ stream.items =
       ap (λ o. option_map_or (λ (s : Vec ℤ Global). s.items) o []) there in
       is ∙ ap (λ l. cond (channel.writer == p) (Some (fresh l)) None) (values_are ∙ sym nth)
@@ -119,11 +119,3 @@ pub outgoing_past : (streams : ℕ → List ℤ) (network : Network) (p c : ℕ)
 outgoing_past streams network p c le =
     ap (λ o. option_and_then (λ (ch : Channel). cond (ch.writer == p) (Some (fresh (streams c))) None) o)
     (slice_get_past network.channels c le)
-
--- twice as many calls as values
-pub enough_room : (gets puts : List (Option Port)) (streams : List (Vec ℤ Global)) (at count room : ℕ)
-    → left_in gets ≤ value_count (take at streams) → left_in puts ≤ value_count (take at streams)
-    → count ≡ value_count streams
-    → left_in gets + left_in puts ≤ count + count
-enough_room gets puts streams at count room g p is =
-    omega (arith, g, p, is, sum_by-take-le (λ (s : Vec ℤ Global). length s.items) streams at)

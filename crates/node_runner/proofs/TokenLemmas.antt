@@ -16,12 +16,9 @@ use Rattle.net_core.specs.Names.{tag, with_token, tokens_before, tokens}
 use Rattle.net_core.specs.Rules.{values}
 use Rattle.net_core.specs.Shape.{is_get, is_put, fires}
 use Rattle.net_core.specs.Sound.{IsSound}
-use Rattle.net_core.proofs.Naming.{tokens_length, get_append}
+use Rattle.net_core.proofs.PlaceValues.{tokens_length}
 use Rattle.net_core.proofs.Positions.{run_counted, start_counted}
-
-last_at : {X : Type 0} (xs : List X) (x : X) → slice_get (xs ++ x ∷ []) (length xs) ≡ Some x
-last_at [] x = refl
-last_at (y ∷ xs) x = last_at xs x
+use Rattle.plain_data.proofs.Lists.{slice_get_push, slice_get-append_left}
 
 with_token_keeps : (n : Net) (c k : ℕ) (o : Option Event) (ts : List Tag) (m : ℕ) (t : Tag) → slice_get ts m ≡ Some t
     → slice_get (with_token n c k o ts) m ≡ Some t
@@ -30,7 +27,7 @@ with_token_keeps n c k (Some (Get d slot)) ts m t at = at
 with_token_keeps n c k (Some (Fire refs)) ts m t at = at
 with_token_keeps n c k (Some (Put d)) ts m t at =
     elim (cases_Bool (c == d)) [
-      | inl same ↦ rw same (get_append ts _ m (slice_get_within ts m t at) ∙ at)
+      | inl same ↦ rw same (slice_get-append_left ts _ m (slice_get_within ts m t at) ∙ at)
       | inr other ↦ rw other at
     ]
 
@@ -44,7 +41,7 @@ put_stays n c k zero is =
     let itself : (c == c) ≡ true = eq-eqb c c refl in
     let put : tokens_before n c (suc k) ≡ ts ++ new ∷ [] =
     ap (λ o. with_token n c k o ts) is ∙ ap (λ b. cond b (ts ++ new ∷ []) ts) itself in
-    rw (zero-add (suc k)) (ap (λ l. slice_get l (length ts)) put ∙ last_at ts new)
+    rw (zero-add (suc k)) (ap (λ l. slice_get l (length ts)) put ∙ slice_get_push ts new)
 put_stays n c k (suc more) is =
     rw (suc-add more (suc k))
     (

@@ -10,6 +10,7 @@ abbrev pub left_of : Option Port → ℕ
 left_of None = 0
 left_of (Some p) = length p.stream - length p.moved
 
+-- how many values are left to go through ports
 abbrev pub left_in : List (Option Port) → ℕ
 left_in ports = sum_by left_of ports
 

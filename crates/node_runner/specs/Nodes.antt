@@ -32,6 +32,7 @@ incoming streams network p c =
     option_and_then (λ channel. if channel.reader == p then Some (fresh (streams c)) else None)
     (slice_get network.channels c)
 
+-- the ports of the channels that a process writes, through which nothing has gone
 abbrev pub outgoing : (ℕ → List ℤ) → Network → ℕ → Ports
 outgoing streams network p c =
     option_and_then (λ channel. if channel.writer == p then Some (fresh (streams c)) else None)

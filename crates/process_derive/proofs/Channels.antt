@@ -12,8 +12,10 @@ use Rattle.std.specs.List.{find}
 use Rattle.std.specs.Option.{option_map_or}
 use Rattle.std.proofs.lemmas.Bool.{cases_Bool}
 use Rattle.std.proofs.lemmas.List.Sums.{sum_by-cons, sum_by-append}
+use Rattle.std.proofs.Math.Seq.{take-append_seam}
 use Rattle.channel_plan.specs.declared.plans.ChannelPlan.{ChannelPlan}
 use Rattle.net_core.specs.declared.network.Event.TheVariants.{Put}
+use Rattle.plain_data.proofs.Lists.{slice_get-append_cons}
 use Rattle.process_derive.specs.declared.incoming.Incoming.{Incoming}
 use Rattle.process_derive.specs.Incoming.{carries, comes_from, incoming_from, outgoing_from, puts_to}
 use Rattle.process_derive.specs.Scripts.{channel_from, puts_from, slot_base, slots_of}
@@ -31,14 +33,6 @@ AreSame plans p None None = Unit {0}
 AreSame plans p None (Some found) = ⊥
 AreSame plans p (Some i) None = ⊥
 AreSame plans p (Some i) (Some found) = IsChannel plans p i found
-
-pub get_middle : {X : Type 0} (xs : List X) (y : X) (ys : List X) → slice_get (xs ++ y ∷ ys) (length xs) ≡ Some y
-get_middle [] y ys = refl
-get_middle (x ∷ xs) y ys = get_middle xs y ys
-
-take_front : {X : Type 0} (xs ys : List X) → take (length xs) (xs ++ ys) ≡ xs
-take_front [] ys = refl
-take_front (x ∷ xs) ys = ap (λ zs. x ∷ zs) (take_front xs ys)
 
 abbrev weight : ℕ → ChannelPlan → ℕ
 weight p plan = cond (eqb plan.reader p) plan.slots.hold 0
@@ -63,9 +57,9 @@ found_here : (front rest : List ChannelPlan) (plan : ChannelPlan) (p c base : �
     (c, plan)
 found_here front rest plan p c base e b own = record {
   number = refl;
-  base = sym b ∙ ap (λ xs. slots_of xs p) (sym (take_front front (plan ∷ rest)))
+  base = sym b ∙ ap (λ xs. slots_of xs p) (sym (take-append_seam front (plan ∷ rest)))
       ∙ ap (λ n. slots_of (take n (front ++ plan ∷ rest)) p) e;
-  there = ap (slice_get (front ++ plan ∷ rest)) (sym e) ∙ get_middle front plan rest;
+  there = ap (slice_get (front ++ plan ∷ rest)) (sym e) ∙ slice_get-append_cons front plan rest;
   reader = eqb-true plan.reader p own;
 }
 
@@ -117,7 +111,7 @@ puts_same front (plan ∷ rest) p f c e =
     ∙ puts_same (front ++ plan ∷ []) rest p f (suc c) (longer front plan ∙ ap suc e) in
     let here : carries (front ++ plan ∷ rest) f c ≡ slice_index_or plan.is_token f false =
     carries_there (front ++ plan ∷ rest) f c plan
-    (ap (slice_get (front ++ plan ∷ rest)) (sym e) ∙ get_middle front plan rest) in
+    (ap (slice_get (front ++ plan ∷ rest)) (sym e) ∙ slice_get-append_cons front plan rest) in
     elim (cases_Bool (eqb plan.writer p)) [
       | inl own ↦ elim (cases_Bool (slice_index_or plan.is_token f false)) [
         | inl token ↦ rw (own, here, token) (ap (λ es. Put c ∷ es) next)

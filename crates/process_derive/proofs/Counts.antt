@@ -5,7 +5,7 @@
 -- count of that process by 1 and no other, and a fire without a source raises none (`counts_more`); for
 -- this each source must be of a process that has a count. So the number of a fire's use is the count of its
 -- source's process (`used_here`), and it is no more than the number of the fires before (`before_few`).
-use Rattle.std.proofs.Common.{◌≡◌, ◌<◌, ◌≤◌, ◌+◌, ℕ, zero, suc, cond, List, [], ◌∷◌, ◌++◌, map, length, take, set}
+use Rattle.std.proofs.Common.{◌≡◌, ◌<◌, ◌≤◌, ◌+◌, ℕ, zero, suc, cond, List, [], ◌∷◌, map, length, take, set}
 use Rattle.std.proofs.Common.{get_or, refl, sym, ap, ◌∙◌, arith, add-one, length-append}
 use Rattle.std.specs.Prelude.{Option, Some, None, slice_get, replicate}
 use Rattle.std.specs.List.{cons_option, range_with_len}
@@ -14,17 +14,17 @@ use Rattle.std.proofs.lemmas.Bool.{ne_eqb, eq-eqb}
 use Rattle.std.proofs.lemmas.List.Elements.{filter_map-append}
 use Rattle.std.proofs.lemmas.List.FromFn.{get_or-map-range_with_len}
 use Rattle.sanlp.specs.declared.nest.Tag.{Tag}
-use Rattle.sanlp.proofs.Lists.{map-range_with_len_same, map-range_with_len_replicate, set_counted, take_next}
+use Rattle.sanlp.proofs.Lists.{map-range_with_len_same, map-range_with_len_replicate, set_counted}
 use Rattle.channel_plan.specs.Tokens.{turn_of, turns_used}
+use Rattle.plain_data.proofs.Lists.{take-suc_some}
 use Rattle.process_derive.specs.declared.incoming.Incoming.{Incoming}
-use Rattle.process_derive.specs.declared.uses.ChannelUse.{ChannelUse}
 use Rattle.process_derive.specs.Uses.{CountsBelow, OnlyBelow, counted, use_at, use_from, uses_before}
 
 pub before_more : (sources : List (Option Tag)) (i w : ℕ) (source : Option Tag) → slice_get sources i ≡ Some source
     → uses_before sources (i + 1) w ≡ uses_before sources i w + length (cons_option (turn_of w source) [])
 before_more sources i w source e =
     ap (λ k. length (turns_used w (take k sources))) (add-one i)
-    ∙ ap (λ xs. length (turns_used w xs)) (take_next sources i source e)
+    ∙ ap (λ xs. length (turns_used w xs)) (take-suc_some sources i source e)
     ∙ ap length (filter_map-append (turn_of w) (take i sources) (source ∷ []))
     ∙ length-append (turns_used w (take i sources)) (cons_option (turn_of w source) [])
 

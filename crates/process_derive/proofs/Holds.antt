@@ -11,27 +11,28 @@ use Rattle.std.specs.Prelude.{Option, Some, slice_get}
 use Rattle.std.specs.List.{flat_map, list_any, sum_by, range_with_len}
 use Rattle.std.proofs.lemmas.Bool.{eq-eqb}
 use Rattle.std.proofs.lemmas.List.{length-map}
-use Rattle.std.proofs.lemmas.List.Sums.{sum_by-cons}
+use Rattle.std.proofs.lemmas.List.Sums.{sum_by-cons, sum_by-le-sum_by}
 use Rattle.std.proofs.lemmas.List.FromFn.{length-range_with_len}
+use Rattle.std.proofs.Math.Seq.{take-length}
 use Rattle.sanlp.specs.Access.{read_count}
 use Rattle.sanlp.specs.declared.nest.Nest.{Nest}
 use Rattle.sanlp.specs.declared.nest.Tag.{Tag}
 use Rattle.sanlp.specs.Size.{SizeIsOk}
-use Rattle.sanlp.proofs.Each.{Each, each_flat_map, each_map, each_of}
+use Rattle.sanlp.proofs.Each.{Each}
 use Rattle.sanlp.proofs.Members.{at_in, each_in}
 use Rattle.sanlp.proofs.NestFacts.{few_read_count}
 use Rattle.reorder_slots.specs.Slots.{gets_for, hold_of}
 use Rattle.channel_plan.specs.declared.plans.ChannelPlan.{ChannelPlan}
 use Rattle.channel_plan.specs.Plans.{plan_of, plans_at, plans_of, sources_at, turn_count}
 use Rattle.channel_plan.specs.Tokens.{is_from, tokens_below, turns_used, uses_of, writers_of}
+use Rattle.channel_plan.proofs.PlanEnds.{plans_at-reader}
 use Rattle.process_derive.specs.Scripts.{slot_base, slots_of}
 use Rattle.process_derive.specs.Uses.{SlotsFit, uses_before}
 use Rattle.process_derive.proofs.Bounds.{few_entries}
-use Rattle.process_derive.proofs.Lists.{take_all}
 use Rattle.process_derive.proofs.Numbers.{IsPlanned, all_planned, gets_by, gets_here, gets_until, until_few}
 use Rattle.process_derive.proofs.Shares.{used}
 use Rattle.process_derive.proofs.Slots.{IsHeld, hold_made, plan_held}
-use Rattle.process_derive.proofs.Sums.{sum_at, sum_filter, sum_joined, sum_less, sum_map, sum_one, sum_within}
+use Rattle.process_derive.proofs.Sums.{sum_at, sum_filter, sum_joined, sum_map, sum_one, sum_within}
 use Rattle.process_derive.proofs.Tags.{few_turns, length-sources}
 
 -- the hold of a channel is no more than its Gets
@@ -42,14 +43,14 @@ hold_by uses zero e = omega (arith, hold_made uses 0 (none_of uses (sym e))) whe
   none_of (token ∷ uses) e = absurd (omega arith)
 hold_by uses (suc q) e =
     let next : q + 1 ≡ length uses = omega (arith, e) in
-    let whole : take (q + 1) uses ≡ uses = ap (λ k. take k uses) next ∙ take_all uses in
+    let whole : take (q + 1) uses ≡ uses = ap (λ k. take k uses) next ∙ take-length uses in
     omega (arith, hold_made uses (gets_for uses) (omega arith), gets_here uses q (omega (arith, e)), ap gets_for whole)
 
 all_used : (n : Nest) (p k w : ℕ) → uses_before (sources_at n p k) (turn_count n p) w ≡ length (uses_of (used n p k w))
 all_used n p k w =
     let sources : List (Option Tag) = sources_at n p k in
     ap (λ m. length (turns_used w (take m sources))) (sym (length-sources n p k))
-    ∙ ap (λ xs. length (turns_used w xs)) (take_all sources)
+    ∙ ap (λ xs. length (turns_used w xs)) (take-length sources)
     ∙ sym (length-map (used n p k w) (tokens_below (used n p k w)))
 
 abbrev weight : ℕ → ChannelPlan → ℕ
@@ -66,10 +67,9 @@ read_holds n p k =
     omega (
       arith,
       sum_map (weight p) (plan_of n p k) ws,
-      sum_less (λ w. weight p (plan_of n p k w)) hold ws own,
+      sum_by-le-sum_by (λ w. weight p (plan_of n p k w)) hold ws own,
       sum_filter hold (λ w. list_any (is_from w) (sources_at n p k)) (range_with_len 0 (length n.statements)),
-      sum_less hold (λ w. gets_by (uses_of (used n p k w)) (uses w)) (range_with_len 0 (length n.statements))
-          (λ w. hold_by (uses_of (used n p k w)) (uses w) (all_used n p k w)),
+      sum_by-le-sum_by hold (λ w. gets_by (uses_of (used n p k w)) (uses w)) (range_with_len 0 (length n.statements)) (λ w. hold_by (uses_of (used n p k w)) (uses w) (all_used n p k w)),
     )
 
 none_held : (p q : ℕ) (plans : List ChannelPlan) → eqb q p ≡ false → Each (λ plan. plan.reader ≡ q) plans
@@ -80,15 +80,6 @@ none_held p q (plan ∷ plans) other h =
     ap (λ r. cond {A = ℕ} (eqb r p) plan.slots.hold 0) h.0 ∙ ap (λ b. cond {A = ℕ} b plan.slots.hold 0) other in
     omega (arith, sum_by-cons (weight p) plan plans, none, none_held p q plans other h.1)
 
-all_own : (n : Nest) (q : ℕ)
-    → Each (λ plan. plan.reader ≡ q) (flat_map (plans_at n q) (range_with_len 0 (read_count n q)))
-all_own n q =
-    let writers : ℕ → List ℕ = λ k. writers_of (length n.statements) (sources_at n q k) in
-    let own : (k : ℕ) → Each (λ plan. plan.reader ≡ q) (plans_at n q k) = λ k.
-    each_map (λ plan. plan.reader ≡ q) (plan_of n q k) (writers k) (each_of (λ w. q ≡ q) (writers k) (λ w. refl)) in
-    each_flat_map (λ plan. plan.reader ≡ q) (plans_at n q) (range_with_len 0 (read_count n q))
-    (each_of (λ k. Each (λ plan. plan.reader ≡ q) (plans_at n q k)) (range_with_len 0 (read_count n q)) own)
-
 pub process_holds : (n : Nest) (p : ℕ)
     → slots_of (plans_of n) p ≤ sum_by (λ k. gets_until n p k (turn_count n p)) (range_with_len 0 (read_count n p))
 unfolding plans_of
@@ -98,9 +89,9 @@ process_holds n p =
     let gets : ℕ → ℕ = λ k. gets_until n p k (turn_count n p) in
     subst (λ m. m ≤ sum_by gets reads) (sym (sum_joined (weight p) all (range_with_len 0 (length n.statements))))
     (sum_one (λ q. sum_by (weight p) (all q)) p (sum_by gets reads) 0 (length n.statements)
-    (λ q other. none_held p q (all q) other (all_own n q))
+    (λ q other. none_held p q (all q) other (plans_at-reader n q))
     (subst (λ m. m ≤ sum_by gets reads) (sym (sum_joined (weight p) (plans_at n p) reads))
-    (sum_less (λ k. sum_by (weight p) (plans_at n p k)) gets reads (read_holds n p))))
+    (sum_by-le-sum_by (λ k. sum_by (weight p) (plans_at n p k)) gets reads (read_holds n p))))
 
 -- at most eight slots for each point of a process
 pub few_slots : (n : Nest) (p : ℕ) → slots_of (plans_of n) p ≤ 8 * turn_count n p

@@ -14,5 +14,5 @@ pub mod Holds
 pub mod Scripts
 pub mod Parts
 pub mod Worked
-pub mod Wired
-pub mod Shaped
+pub mod ScriptNames
+pub mod NetworkShape

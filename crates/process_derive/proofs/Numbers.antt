@@ -14,6 +14,7 @@ use Rattle.std.proofs.lemmas.List.{length-map}
 use Rattle.std.proofs.lemmas.List.Concat.{length-flat_map}
 use Rattle.std.proofs.lemmas.List.FromFn.{get_or-map-range_with_len, length-range_with_len, length-map-range_with_len}
 use Rattle.std.proofs.lemmas.Option.{slice_get-get_or}
+use Rattle.std.proofs.lemmas.List.Sums.{sum_by-le-sum_by}
 use Rattle.sanlp.specs.Access.{read_count}
 use Rattle.sanlp.specs.declared.nest.Nest.{Nest}
 use Rattle.sanlp.specs.declared.nest.Tag.{Tag}
@@ -41,7 +42,7 @@ use Rattle.process_derive.proofs.Counts.{before_more, of_other, of_own}
 use Rattle.process_derive.proofs.Puts.{all_puts, point_puts, process_puts}
 use Rattle.process_derive.proofs.Shares.{all_turns, uses_within, used, uses_shared}
 use Rattle.process_derive.proofs.Slots.{each_take, few_gets}
-use Rattle.process_derive.proofs.Sums.{sum_added, sum_less, sum_map, sum_push, sum_raised, sum_turned, sum_within}
+use Rattle.process_derive.proofs.Sums.{sum_added, sum_map, sum_push, sum_raised, sum_turned, sum_within}
 use Rattle.process_derive.proofs.Tags.{length-sources, processes_below}
 
 -- The Gets of a channel before its uses
@@ -169,9 +170,7 @@ fire_gets n p k f None e below =
     (λ source. option_and_then (λ (t : Tag). usage_from (plans_of n) sources p k f t.process) source) o))) e in
     let next : f + 1 ≡ suc f = omega arith in
     let same : gets_until n p k f ≤ gets_until n p k (suc f) =
-    sum_less (λ w. gets_by (uses_of (used n p k w)) (uses_before sources f w))
-    (λ w. gets_by (uses_of (used n p k w)) (uses_before sources (suc f) w)) (range_with_len 0 (length n.statements))
-    (λ w. (let q : uses_before sources f w
+    sum_by-le-sum_by (λ w. gets_by (uses_of (used n p k w)) (uses_before sources f w)) (λ w. gets_by (uses_of (used n p k w)) (uses_before sources (suc f) w)) (range_with_len 0 (length n.statements)) (λ w. (let q : uses_before sources f w
     ≡ uses_before sources (suc f) w = omega
     (arith, before_more sources f w None e, ap (λ j. uses_before sources j w) next) in
     omega (arith, ap (gets_by (uses_of (used n p k w))) q))) in
@@ -222,9 +221,7 @@ until_few n p k f =
     omega (
       arith,
       uses_shared n p k (length n.statements),
-      sum_less (λ w. gets_by (uses_of (used n p k w)) (before w)) (λ w. length (used n p k w))
-          (range_with_len 0 (length n.statements))
-          (λ w. gets_few (uses_of (used n p k w)) (length (used n p k w)) (before w) (uses_within (used n p k w))),
+      sum_by-le-sum_by (λ w. gets_by (uses_of (used n p k w)) (before w)) (λ w. length (used n p k w)) (range_with_len 0 (length n.statements)) (λ w. gets_few (uses_of (used n p k w)) (length (used n p k w)) (before w) (uses_within (used n p k w))),
     )
 
 -- The events of one process
@@ -258,7 +255,7 @@ script_few n p =
     omega (
       arith,
       length-flat_map (point_events n p) fires,
-      sum_less (λ f. length (point_events n p f)) (λ f. point_gets n p f + point_puts n p f + 1) fires (point_few n p),
+      sum_by-le-sum_by (λ f. length (point_events n p f)) (λ f. point_gets n p f + point_puts n p f + 1) fires (point_few n p),
       sum_added (λ f. point_gets n p f + point_puts n p f) (λ f. 1) fires,
       sum_added (point_gets n p) (point_puts n p) fires,
       process_gets n p,

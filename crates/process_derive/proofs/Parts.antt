@@ -5,8 +5,8 @@
 -- as it has reads: they are the sources of its reads (`own_sources`), and what is behind them is that
 -- of the statements from p + 1 on (`later_sources`). The turns of a process are as many as its points,
 -- which stand in the same order (`turns_there`). That the table is exact is a premise here.
-use Rattle.std.proofs.Common.{◌≡◌, ◌<◌, ◌≤◌, ◌+◌, ℤ, ℕ, List, [], ◌∷◌, ◌++◌, map, length, take, drop, get_or, refl, sym}
-use Rattle.std.proofs.Common.{ap, ◌∙◌, arith, add-one, length-append}
+use Rattle.std.proofs.Common.{◌≡◌, ◌<◌, ◌≤◌, ◌+◌, ℕ, List, ◌++◌, map, length, take, drop, get_or, sym}
+use Rattle.std.proofs.Common.{ap, ◌∙◌, arith, add-one, length-append, drop_at}
 use Rattle.std.specs.Prelude.{Option, Some, slice_get}
 use Rattle.std.specs.Option.{option_map_or}
 use Rattle.std.specs.List.{range_with_len}
@@ -25,12 +25,8 @@ use Rattle.net_core.specs.declared.network.Process.{Process}
 use Rattle.channel_plan.specs.declared.plans.ChannelPlan.{ChannelPlan}
 use Rattle.channel_plan.specs.Plans.{plans_of, sources_at, turn_count}
 use Rattle.channel_plan.proofs.Nests.{turns_are}
+use Rattle.plain_data.proofs.Lists.{drop-some}
 use Rattle.process_derive.specs.Derived.{channel_of, net, process_of}
-use Rattle.process_derive.proofs.Lists.{drop_at}
-
-drop_front : {X : Type 0} (xs ys : List X) (n : ℕ) → length xs ≡ n → drop n (xs ++ ys) ≡ ys
-drop_front [] ys n e = ap (λ k. drop k ys) (sym e)
-drop_front (x ∷ xs) ys n e = ap (λ k. drop k (x ∷ (xs ++ ys))) (sym e) ∙ drop_front xs ys (length xs) refl
 
 abbrev rest_from : Nest → ℕ → List (List (Option Tag))
 rest_from n p = sources_from n (trace n) p (drop p n.statements)
@@ -41,7 +37,7 @@ sources_of_reads n p reads = map (sources_at n p) (range_with_len 0 reads)
 next_rest : (n : Nest) (p : ℕ) (s : Statement) → slice_get n.statements p ≡ Some s
     → rest_from n p ≡ sources_of_reads n p (length s.reads) ++ rest_from n (p + 1)
 next_rest n p s e =
-    ap (sources_from n (trace n) p) (drop_at n.statements p s e)
+    ap (sources_from n (trace n) p) (drop-some n.statements p s e)
     ∙ ap (λ k. sources_of_reads n p (length s.reads) ++ sources_from n (trace n) (p + 1) (drop k n.statements))
     (sym (add-one p))
 
@@ -72,7 +68,7 @@ pub later_sources : (n : Nest) (p reads : ℕ) (s : Statement) (rest later : Lis
     → rest ≡ rest_from n p → later ≡ drop reads rest → later ≡ rest_from n (p + 1)
 later_sources n p reads s rest later e counts is f =
     f ∙ ap (drop reads) (is ∙ next_rest n p s e)
-    ∙ drop_front (sources_of_reads n p (length s.reads)) (rest_from n (p + 1)) reads
+    ∙ drop_at (sources_of_reads n p (length s.reads)) (rest_from n (p + 1)) reads
     (length-map-range_with_len (sources_at n p) 0 (length s.reads) ∙ sym counts)
 
 pub all_sources : (n : Nest) (rest table : List (List (Option Tag))) → rest ≡ table → table ≡ sources_of n

@@ -11,7 +11,7 @@ use Rattle.std.specs.Prelude.{slice_index_or}
 use Rattle.std.specs.List.{flat_map, list_any, range_with_len, sum_by}
 use Rattle.std.proofs.lemmas.Bool.{cases_Bool, eq-eqb, ne_eqb}
 use Rattle.std.proofs.lemmas.List.FromFn.{get_or-map-range_with_len, length-range_with_len}
-use Rattle.std.proofs.lemmas.List.Sums.{sum_by-cons}
+use Rattle.std.proofs.lemmas.List.Sums.{sum_by-cons, sum_by-le-sum_by}
 use Rattle.sanlp.specs.Access.{read_count}
 use Rattle.sanlp.specs.declared.nest.Nest.{Nest}
 use Rattle.sanlp.specs.Trace.{trace}
@@ -21,7 +21,7 @@ use Rattle.channel_plan.specs.Plans.{plan_of, plans_at, plans_of, sources_at, tu
 use Rattle.channel_plan.specs.Tokens.{is_from, is_used, tokens_among, writers_of}
 use Rattle.process_derive.specs.Scripts.{puts_from}
 use Rattle.process_derive.proofs.Shares.{all_turns, few_tokens, used, uses_shared}
-use Rattle.process_derive.proofs.Sums.{one_if, sum_counted, sum_filter, sum_joined, sum_less, sum_map, sum_none}
+use Rattle.process_derive.proofs.Sums.{one_if, sum_counted, sum_filter, sum_joined, sum_map, sum_none}
 use Rattle.process_derive.proofs.Sums.{sum_risen, sum_same, sum_scaled, sum_turned, sum_within}
 
 -- the Puts of point f of process p, and of all its points
@@ -99,7 +99,7 @@ read_puts n p k m =
     omega (
       arith,
       sum_map puts (plan_of n p k) ws,
-      sum_less (λ w. puts (plan_of n p k w)) uses ws (λ w. channel_puts n p k w m),
+      sum_by-le-sum_by (λ w. puts (plan_of n p k w)) uses ws (λ w. channel_puts n p k w m),
       sum_filter uses (λ w. list_any (is_from w) (sources_at n p k)) (range_with_len 0 (length n.statements)),
       uses_shared n p k (length n.statements),
     )

@@ -7,12 +7,12 @@
 -- the nest's size: it is only for the numbers of the slots to fit (`uses_fit`).
 use Rattle.std.proofs.Common.{◌≡◌, ◌<◌, ◌≤◌, ◌^◌, ℕ, zero, suc, List, [], ◌∷◌, ◌++◌, map, length, get_or, refl, sym, ap}
 use Rattle.std.proofs.Common.{◌∙◌, subst, arith}
-use Rattle.std.specs.Prelude.{All, Option, Some, None, slice_get, slice_index_or}
+use Rattle.std.specs.Prelude.{Option, Some, None, slice_get, slice_index_or}
 use Rattle.std.specs.List.{find, flat_map, range_with_len}
 use Rattle.std.specs.Option.{option_and_then, option_map, option_map_or}
-use Rattle.std.proofs.lemmas.List.Elements.{All-map}
 use Rattle.std.proofs.lemmas.List.FromFn.{length-map-range_with_len, get_or-map-range_with_len}
 use Rattle.std.proofs.lemmas.Option.{slice_get_within}
+use Rattle.std.proofs.lemmas.Simd.{map-map}
 use Rattle.channel_plan.specs.declared.plans.ChannelPlan.{ChannelPlan}
 use Rattle.channel_plan.specs.Plans.{plans_of, sources_at, turn_count}
 use Rattle.sanlp.specs.Access.{read_count}
@@ -108,10 +108,6 @@ used_fits n p k f sources (Some (Some t)) ok =
     (find (comes_from t.process k) (incoming_from 0 0 (plans_of n) p)) (channel_from 0 (plans_of n) t.process p k)
     (channel_same (plans_of n) p t.process k) (λ c plan e own. slots_fit n p c plan ok e own)
 
-map_map : {X Y Z : Type 0} (g : Y → Z) (f : X → Y) (xs : List X) → map g (map f xs) ≡ map (λ x. g (f x)) xs
-map_map g f [] = refl
-map_map g f (x ∷ xs) = ap (λ ys. g (f x) ∷ ys) (map_map g f xs)
-
 abbrev sources_of_process : Nest → ℕ → List (List (Option Tag))
 sources_of_process n p = map (sources_at n p) (range_with_len 0 (read_count n p))
 
@@ -143,7 +139,7 @@ usages_same n p f fire =
     let plans : List ChannelPlan = plans_of n in
     let incoming : List Incoming = incoming_from 0 0 plans p in
     let sources : List (List (Option Tag)) = sources_of_process n p in
-    map_map (λ list. with_slots plans (at_fire f list)) (λ k. read_uses incoming k (slice_index_or sources k []))
+    map-map (λ list. with_slots plans (at_fire f list)) (λ k. read_uses incoming k (slice_index_or sources k []))
     (range_with_len 0 (length sources))
     ∙ ap (λ m. map (λ k. with_slots plans (at_fire f (read_uses incoming k (slice_index_or sources k []))))
     (range_with_len 0 m)) (length-map-range_with_len (sources_at n p) 0 (read_count n p))

@@ -10,6 +10,7 @@ use Rattle.std.proofs.Common.{ap, ◌∙◌, inl, inr, arith, le_of_eq}
 use Rattle.std.specs.Prelude.{Option, Some, None}
 use Rattle.std.specs.List.{sum_by, range_with_len}
 use Rattle.std.proofs.lemmas.Bool.{cases_Bool, cond-true, eq-eqb, ne_eqb, or_left, or_right}
+use Rattle.std.proofs.lemmas.List.Sums.{sum_by-le-sum_by}
 use Rattle.sanlp.specs.declared.nest.Nest.{Nest}
 use Rattle.sanlp.specs.declared.nest.Point.{Point}
 use Rattle.sanlp.specs.declared.nest.Tag.{Tag}
@@ -21,7 +22,7 @@ use Rattle.channel_plan.specs.Tokens.{is_used, tokens_below, turn_of, turns_used
 use Rattle.channel_plan.proofs.Uses.{tokens_more}
 use Rattle.net_core.proofs.Entries.{entries_length}
 use Rattle.process_derive.proofs.Counts.{few_kept}
-use Rattle.process_derive.proofs.Sums.{one_if, sum_less, sum_none, sum_risen}
+use Rattle.process_derive.proofs.Sums.{one_if, sum_none, sum_risen}
 use Rattle.process_derive.proofs.Tags.{length-sources}
 
 -- Processes
@@ -46,7 +47,7 @@ all_turns n m =
     let vectors : ℕ → ℕ = λ w. length (vectors_of (trace n) w) in
     omega (
       arith,
-      sum_less (turn_count n) vectors (range_with_len 0 m) (λ w. omega (arith, entries_length 0 (trace n) w)),
+      sum_by-le-sum_by (turn_count n) vectors (range_with_len 0 m) (λ w. omega (arith, entries_length 0 (trace n) w)),
       turns_of_all (trace n) m,
     )
 

@@ -2,31 +2,25 @@
 --
 -- Two invariants hold as the Gets are made one after the other: there are no more slots than Gets, and no
 -- Get's slot is numbered past the number of slots (`IsInside`); and each Get that was made has a slot below
--- that number (`AreBelow`). A Get takes a slot that is there or the next new one (`lowest_within`), and no
+-- that number (`AreBelow`). A Get takes a slot that is there or the next new one (`lowest_free-le`), and no
 -- slot goes away, so both hold again. In the end the Gets for all uses are made (`all_made`), so each use's
 -- slot is below the hold (`uses_inside`). That a slot still has its token when it is used isn't shown here.
 use Rattle.std.proofs.Common.{◌≡◌, ◌<◌, ◌≤◌, ◌+◌, ◌-◌, ℕ, zero, suc, List, [], ◌∷◌, ◌++◌, map, length, take, drop}
-use Rattle.std.proofs.Common.{get_or, ap, ◌∙◌, inl, inr, arith, length-append, length-drop, refl}
-use Rattle.std.proofs.lemmas.Bool.{cases_Bool}
+use Rattle.std.proofs.Common.{get_or, ap, ◌∙◌, arith, length-append, length-drop, refl}
 use Rattle.std.proofs.lemmas.List.{length-take-le}
 use Rattle.std.specs.Prelude.{slice_index_or}
 use Rattle.reorder_slots.specs.declared.slots.SlotPlan.{SlotPlan}
-use Rattle.reorder_slots.specs.Slots.{Held, after_get, after_gets, filled, gets_for, held_after, hold_of, is_wanted}
+use Rattle.reorder_slots.specs.Slots.{Held, after_get, after_gets, filled, gets_for, held_after, hold_of}
 use Rattle.reorder_slots.specs.Slots.{lowest_free, slots_of_gets, slots_of_uses}
+use Rattle.reorder_slots.proofs.Gets.{length-after_gets}
+use Rattle.reorder_slots.proofs.Held.{lowest_free-le}
+use Rattle.reorder_slots.proofs.Uses.{named_below}
 use Rattle.channel_plan.specs.Plans.{slot_plan}
 use Rattle.sanlp.proofs.Each.{Each}
 
 record IsInside (held : Held) : Type 0 where
   few : length held.slots ≤ length held.slot_of_get
   gets : (m : ℕ) → get_or held.slot_of_get m 0 ≤ length held.slots
-
-lowest_within : (uses : List ℕ) (q : ℕ) (slots : List ℕ) → lowest_free uses q slots ≤ length slots
-lowest_within uses q [] = omega arith
-lowest_within uses q (token ∷ slots) =
-    elim (cases_Bool (is_wanted uses q token)) [
-      | inl wanted ↦ rw wanted (omega (arith, lowest_within uses q slots))
-      | inr free ↦ rw free (omega arith)
-    ]
 
 length-filled : (slots : List ℕ) (slot token : ℕ) → slot ≤ length slots
     → length (filled slots slot token) ≡ slot + suc (length slots - (slot + 1))
@@ -44,7 +38,7 @@ read_push (y ∷ xs) x (suc m) b all le = read_push xs x m b (λ i. all (suc i))
 inside_get : (uses : List ℕ) (q : ℕ) (held : Held) → IsInside held → IsInside (after_get uses q held)
 inside_get uses q held inside =
     let slot : ℕ = lowest_free uses q held.slots in
-    let low : slot ≤ length held.slots = lowest_within uses q held.slots in
+    let low : slot ≤ length held.slots = lowest_free-le uses q held.slots in
     let made = length-filled held.slots slot (length held.slot_of_get) low in
     let got = length-append held.slot_of_get (slot ∷ []) in
     record {
@@ -65,13 +59,6 @@ inside_after uses (suc q) =
     inside_gets uses q (gets_for (take (q + 1) uses) - length (held_after uses q).slot_of_get) (held_after uses q)
     (inside_after uses q)
 
-count_gets : (uses : List ℕ) (q gets : ℕ) (held : Held)
-    → length (after_gets uses q gets held).slot_of_get ≡ length held.slot_of_get + gets
-count_gets uses q zero held = omega arith
-count_gets uses q (suc gets) held =
-    let more = length-append held.slot_of_get (lowest_free uses q held.slots ∷ []) in
-    count_gets uses q gets (after_get uses q held) ∙ omega (arith, more)
-
 few_after : (uses : List ℕ) (limit : ℕ) → ((q : ℕ) → gets_for (take q uses) ≤ limit) → (q : ℕ)
     → length (held_after uses q).slot_of_get ≤ limit
 unfolding held_after
@@ -80,7 +67,7 @@ few_after uses limit all (suc q) =
     let held : Held = held_after uses q in
     omega (
       arith,
-      count_gets uses q (gets_for (take (q + 1) uses) - length held.slot_of_get) held,
+      length-after_gets uses q (gets_for (take (q + 1) uses) - length held.slot_of_get) held,
       few_after uses limit all q,
       all (q + 1),
     )
@@ -127,7 +114,7 @@ AreBelow held = (m : ℕ) → m < length held.slot_of_get → get_or held.slot_o
 below_get : (uses : List ℕ) (q : ℕ) (held : Held) → AreBelow held → AreBelow (after_get uses q held)
 below_get uses q held below m lt =
     let slot : ℕ = lowest_free uses q held.slots in
-    let low : slot ≤ length held.slots = lowest_within uses q held.slots in
+    let low : slot ≤ length held.slots = lowest_free-le uses q held.slots in
     let made = length-filled held.slots slot (length held.slot_of_get) low in
     read_push_below held.slot_of_get slot m (length (filled held.slots slot (length held.slot_of_get)))
     (λ i h. omega (arith, made, below i h)) (omega (arith, made)) lt
@@ -152,7 +139,7 @@ made_after uses (suc q) =
     let next : suc q ≡ q + 1 = omega arith in
     omega (
       arith,
-      count_gets uses q (gets_for (take (q + 1) uses) - length held.slot_of_get) held,
+      length-after_gets uses q (gets_for (take (q + 1) uses) - length held.slot_of_get) held,
       ap (λ k. gets_for (take k uses)) next,
     )
 
@@ -172,11 +159,6 @@ pub gets_inside : (uses : List ℕ) (q m : ℕ) → m < gets_for (take q uses)
     → get_or (slots_of_gets uses) m 0 < hold_of uses
 gets_inside uses q m lt = below_after uses (length uses) m (omega (arith, lt, gets_part uses q, all_made uses))
 
-token_made : (uses : List ℕ) (q : ℕ) → q < length uses → get_or uses q 0 < gets_for uses
-token_made [] q lt = absurd (omega arith)
-token_made (token ∷ uses) zero lt = omega arith
-token_made (token ∷ uses) (suc q) lt = omega (arith, token_made uses q (omega arith))
-
 read_token : (gets uses : List ℕ) (q : ℕ) → q < length uses
     → get_or (map (λ token. slice_index_or gets token 0) uses) q 0 ≡ get_or gets (get_or uses q 0) 0
 read_token gets [] q lt = absurd (omega arith)
@@ -188,7 +170,7 @@ uses_inside uses q lt =
     omega (
       arith,
       read_token (slots_of_gets uses) uses q lt,
-      below_after uses (length uses) (get_or uses q 0) (omega (arith, token_made uses q lt, all_made uses)),
+      below_after uses (length uses) (get_or uses q 0) (omega (arith, named_below uses q lt, all_made uses)),
     )
 
 -- the hold is no more than the Gets

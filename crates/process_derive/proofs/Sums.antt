@@ -74,10 +74,6 @@ sum_one f p b a (suc m) none le =
           (arith, sum_by-cons f a (range_with_len (a + 1) m), none a there, sum_one f p b (a + 1) m none le)
     ]
 
-pub sum_less : {X : Type 0} (f g : X → ℕ) (xs : List X) → ((x : X) → f x ≤ g x) → sum_by f xs ≤ sum_by g xs
-sum_less f g [] all = omega arith
-sum_less f g (x ∷ xs) all = omega (arith, sum_by-cons f x xs, sum_by-cons g x xs, all x, sum_less f g xs all)
-
 pub sum_scaled : {X : Type 0} (c : ℕ) (f g : X → ℕ) (xs : List X) → ((x : X) → f x ≤ c * g x)
     → sum_by f xs ≤ c * sum_by g xs
 sum_scaled c f g [] all = omega arith

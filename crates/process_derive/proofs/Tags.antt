@@ -4,7 +4,7 @@
 -- so the entry is a point of a statement of the nest, and the tag's process exists. Its turn is the number of the
 -- entries of that statement before it, and the entry itself is one more, so the process has a turn of that number
 -- (`count_before`). That the entry comes before the fire that reads it isn't needed for this, and isn't shown here.
-use Rattle.std.proofs.Common.{◌≡◌, ◌<◌, ◌≤◌, ◌+◌, ◌==◌, ℕ, zero, suc, true, cond, eqb, List, [], ◌∷◌, length, take}
+use Rattle.std.proofs.Common.{◌≡◌, ◌<◌, ◌≤◌, ◌==◌, ℕ, zero, suc, true, cond, eqb, List, [], ◌∷◌, length, take}
 use Rattle.std.proofs.Common.{get_or, refl, ap, ◌∙◌, inl, inr, arith}
 use Rattle.std.specs.Prelude.{Option, Some, None, slice_get, count_by}
 use Rattle.std.specs.Option.{option_and_then, option_map}
@@ -15,7 +15,7 @@ use Rattle.std.proofs.lemmas.Option.{same_Some, slice_get_within}
 use Rattle.sanlp.specs.declared.nest.Nest.{Nest}
 use Rattle.sanlp.specs.declared.nest.Point.{Point}
 use Rattle.sanlp.specs.declared.nest.Tag.{Tag}
-use Rattle.sanlp.specs.Laws.{entries_from, entries_of}
+use Rattle.sanlp.specs.Laws.{entries_of}
 use Rattle.sanlp.specs.Points.{vectors_of}
 use Rattle.sanlp.specs.Tags.{tag_at}
 use Rattle.sanlp.specs.Trace.{trace}

@@ -10,10 +10,10 @@ use Rattle.std.proofs.lemmas.List.Concat.{flat_map-cons}
 use Rattle.channel_plan.specs.declared.plans.ChannelPlan.{ChannelPlan}
 use Rattle.net_core.specs.declared.network.Event.{Event}
 use Rattle.net_core.specs.declared.refs.Ref.{Ref}
+use Rattle.plain_data.proofs.Lists.{take-suc_some}
 use Rattle.process_derive.specs.declared.uses.ChannelUse.{ChannelUse}
 use Rattle.process_derive.specs.Scripts.{Usage, gets_of, ref_of}
 use Rattle.process_derive.specs.Uses.{usages_at, with_slots}
-use Rattle.sanlp.proofs.Lists.{take_next}
 
 at_end : {X : Type 0} (xs : List X) → xs ++ [] ≡ xs
 at_end [] = refl
@@ -25,7 +25,7 @@ usages_more : (plans : List ChannelPlan) (uses : List (List (Option ChannelUse))
     ≡ usages_at plans (take i uses) f ++ with_slots plans (option_and_then (λ found. found) (slice_get list f)) ∷ []
 usages_more plans uses i f list e =
     ap (λ k. usages_at plans (take k uses) f) (add-one i)
-    ∙ ap (λ xs. usages_at plans xs f) (take_next uses i list e)
+    ∙ ap (λ xs. usages_at plans xs f) (take-suc_some uses i list e)
     ∙ map-append (λ list. with_slots plans (option_and_then (λ found. found) (slice_get list f))) (take i uses)
     (list ∷ [])
 

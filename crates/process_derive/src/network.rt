@@ -5,7 +5,7 @@ ghost use Rattle.source_tree.specs.Sources.{sources_of};
 ghost use Rattle.process_derive.specs.Derived.{channel_of, net};
 
 use crate::process::make_processes;
-use channel_plan::{ChannelPlan, channel_plans_by_turns, turn_counts};
+use channel_plan::{ChannelPlan, channel_plans, turn_counts};
 use net_core::{Channel, Network};
 use plain_data::Items;
 use sanlp::{Nest, Points};
@@ -51,7 +51,7 @@ pub fn derive_by_turns(
     requires sources { sources.now.of ≡ sources_of nest.now }
     ensures { IfOk result (λ network. network ≡ net nest.now) }
 {
-    let plans = channel_plans_by_turns(alloc, nest, turns, sources)?;
+    let plans = channel_plans(alloc, nest, turns, sources)?;
     Ok(Network {
         processes: make_processes(alloc, nest, turns, sources, plans.as_slice())?,
         channels: make_channels(alloc, plans.as_slice())?,

@@ -1,31 +1,16 @@
 -- Parts that grow by what they stand for.
-use Rattle.std.proofs.Common.{◌≡◌, ◌+◌, ◌-◌, ◌<◌, ℕ, Bool, true, List, [], ◌∷◌, ◌++◌, take, length, get_or, refl, sym}
+use Rattle.std.proofs.Common.{◌≡◌, ◌+◌, ◌-◌, ◌<◌, ℕ, List, [], ◌∷◌, ◌++◌, take, length, get_or, sym}
 use Rattle.std.proofs.Common.{ap, ◌∙◌, arith, append_assoc}
-use Rattle.std.specs.Cmp.Lexicographic.{pointwise}
-use Rattle.std.proofs.lemmas.Bool.{and_parts, false≢true}
 use Rattle.std.proofs.lemmas.Grind.{flat_map-append}
 use Rattle.std.specs.Prelude.{slice_index_or}
 use Rattle.std.proofs.lemmas.List.{append-nil, length-append, length-map, map-append, take_at, take-map}
 use Rattle.script_blocks.specs.declared.blocks.Blocks.{Blocks}
 use Rattle.script_blocks.specs.declared.blocks.BlockPart.{BlockPart}
-use Rattle.script_blocks.specs.declared.blocks.BlockPart.TheVariants.{Item}
 use Rattle.script_blocks.specs.declared.blocks.BlockPart.TheViews.{Repeat}
 use Rattle.script_blocks.specs.Expansion.{part_expansion, parts_expansion, repeated}
 use Rattle.script_blocks.specs.Labels.{items_or}
-use Rattle.script_blocks.proofs.Expansions.{expansion_item, expansion_repeat}
+use Rattle.script_blocks.proofs.Expansions.{expansion_repeat}
 use Rattle.script_blocks.proofs.Labels.{items_more, items_repeated}
-
--- lists that a test finds equal are the same where items that it finds equal are
-pub pointwise_same : {T : Type 0} (E : T → T → Bool) → ((a b : T) → E a b ≡ true → a ≡ b) → (xs ys : List T)
-    → pointwise E xs ys ≡ true → xs ≡ ys
-pointwise_same E same [] [] h = refl
-pointwise_same E same [] (y ∷ ys) h = absurd (false≢true h)
-pointwise_same E same (x ∷ xs) [] h = absurd (false≢true h)
-pointwise_same E same (x ∷ xs) (y ∷ ys) h =
-    let parts = and_parts (E x y) (pointwise E xs ys) h in
-    let here = same x y parts.0 in
-    let rest = pointwise_same E same xs ys parts.1 in
-    cc
 
 pub expansion_push : {T : Type 0} (parts : List (BlockPart T)) (part : BlockPart T)
     → parts_expansion (parts ++ part ∷ []) ≡ parts_expansion parts ++ part_expansion part
@@ -98,20 +83,3 @@ module _ {T : Type 0} (kinds : List T) (other : T) where
       added ∙ ap (λ xs. xs ++ items (get_or labels i 0 ∷ [])) was
       ∙ append_assoc (parts_expansion before) (items (take i labels)) (items (get_or labels i 0 ∷ []))
       ∙ ap (λ xs. parts_expansion before ++ xs) (sym (items_more kinds other labels i lt))
-
-  -- the item of the first label
-  pub item_built : (parts grown : List (BlockPart T)) (labels rest : List ℕ) (label : ℕ) → labels ≡ label ∷ rest
-      → parts_expansion grown ≡ parts_expansion parts ++ items (label ∷ [])
-      → parts_expansion parts ++ items labels ≡ parts_expansion grown ++ items rest
-  item_built parts grown labels rest label is added =
-      ap (λ ls. parts_expansion parts ++ items ls) is
-      ∙ sym (append_assoc (parts_expansion parts) (items (label ∷ [])) (items rest))
-      ∙ ap (λ xs. xs ++ items rest) (sym added)
-
-  -- the part of one label
-  pub item_pushed : (parts grown : List (BlockPart T)) (label : ℕ) (item : T) → grown ≡ parts ++ Item item ∷ []
-      → item ≡ slice_index_or kinds label other
-      → parts_expansion grown ≡ parts_expansion parts ++ items (label ∷ [])
-  item_pushed parts grown label item pushed is =
-      ap parts_expansion pushed ∙ expansion_push parts (Item item)
-      ∙ ap (λ xs. parts_expansion parts ++ xs) (expansion_item item ∙ ap (λ x. x ∷ []) is)

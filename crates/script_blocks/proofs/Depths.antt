@@ -7,7 +7,6 @@
 use Rattle.std.proofs.Common.{◌≡◌, ◌+◌, ◌*◌, ◌^◌, ◌<◌, ◌≤◌, ℕ, true, ◌&&◌, List, [], ◌∷◌, map, length, refl, sym, ap}
 use Rattle.std.proofs.Common.{◌∙◌, subst, inl, inr, arith}
 use Rattle.std.specs.Prelude.{max, nat_le}
-use Rattle.std.specs.List.{list_all}
 use Rattle.std.proofs.lemmas.Bool.{and_parts, cases_lt, false≢true, leb-true}
 use Rattle.std.proofs.lemmas.Nat.{mul-le, pow-add, pow_below}
 use Rattle.std.proofs.lemmas.List.{length-append}
@@ -23,6 +22,7 @@ use Rattle.script_blocks.specs.Nesting.{parts_nesting}
 use Rattle.script_blocks.proofs.Expansions.{expansion_item, expansion_repeat, nesting_item, nesting_repeat}
 use Rattle.script_blocks.proofs.Expansions.{proper_repeat}
 use Rattle.script_blocks.proofs.Repetitions.{length-repeated}
+use Rattle.script_blocks.proofs.Nestings.{list_all-is_proper_part}
 
 -- a part that nests deep is long
 abbrev IsLong : {T : Type 0} → BlockPart T → Type 0
@@ -35,15 +35,11 @@ AreLong parts = are_proper parts ≡ true → 0 < length parts → 2 ^ parts_nes
 item_long : {T : Type 0} (x : T) → IsLong (Item x)
 item_long x proper = rw (nesting_item x, expansion_item x) (omega arith)
 
-all_map : {T : Type 0} (parts : List (BlockPart T)) → list_all (λ b. b) (map is_proper_part parts) ≡ are_proper parts
-all_map [] = refl
-all_map (p ∷ parts) = ap (λ b. is_proper_part p && b) (all_map parts)
-
 -- a body has a part, and its parts are proper
-body_parts : {T : Type 0} (parts : List (BlockPart T)) → is_body (map is_proper_part parts) ≡ true
+pub body_parts : {T : Type 0} (parts : List (BlockPart T)) → is_body (map is_proper_part parts) ≡ true
     → (0 < length parts) × (are_proper parts ≡ true)
 body_parts [] h = absurd (false≢true h)
-body_parts (p ∷ parts) h = (omega arith, ap (λ b. is_proper_part p && b) (sym (all_map parts)) ∙ h)
+body_parts (p ∷ parts) h = (omega arith, ap (λ b. is_proper_part p && b) (sym (list_all-is_proper_part parts)) ∙ h)
 
 repeat_long : {T : Type 0} (count : ℕ) (body : Blocks T) → AreLong body.parts → IsLong (Repeat count body)
 repeat_long count body inner proper =

@@ -1,11 +1,10 @@
 -- The folds over blocks at each kind of part.
-use Rattle.std.proofs.Common.{◌≡◌, ◌+◌, ◌<◌, ℕ, Bool, true, ◌&&◌, List, [], ◌∷◌, ◌++◌, map, take, length, get_or, refl}
+use Rattle.std.proofs.Common.{◌≡◌, ◌+◌, ◌<◌, ℕ, Bool, true, ◌&&◌, List, [], ◌∷◌, ◌++◌, map, take, length, get_or}
 use Rattle.std.proofs.Common.{sym, ap, ◌∙◌}
 use Rattle.std.specs.Prelude.{nat_le}
-use Rattle.std.specs.List.{sum, sum_by}
 use Rattle.std.proofs.lemmas.List.{map_push, take_more}
 use Rattle.std.proofs.lemmas.List.Folds.{flat_map-map}
-use Rattle.std.proofs.lemmas.List.Sums.{sum_by-cons}
+use Rattle.std.proofs.lemmas.List.Sums.{sum-map}
 use Rattle.script_blocks.specs.declared.blocks.Blocks.{Blocks}
 use Rattle.script_blocks.specs.declared.blocks.BlockPart.TheOpen as open_part
 use Rattle.script_blocks.specs.declared.blocks.BlockPart.TheViews.{Repeat, rolls-Item, rolls-Repeat}
@@ -45,17 +44,13 @@ expansion_repeat {T} count body =
     fold_repeat T (List T) (List T) expand_part expand_list count body
     ∙ ap (repeated count) (flat_map-map (λ part. part) part_expansion body.parts)
 
-sum_map : {T : Type 0} (f : T → ℕ) (xs : List T) → sum (map f xs) ≡ sum_by f xs
-sum_map f [] = refl
-sum_map f (x ∷ xs) = sum_by-cons (λ n. n) (f x) (map f xs) ∙ ap (λ n. f x + n) (sum_map f xs) ∙ sym (sum_by-cons f x xs)
-
 pub nodes_item : {T : Type 0} (x : T) → part_nodes (Item x) ≡ 1
 nodes_item {T} x = fold_item T ℕ ℕ count_part count_list x
 
 pub nodes_repeat : {T : Type 0} (count : ℕ) (body : Blocks T)
     → part_nodes (Repeat count body) ≡ parts_nodes body.parts + 1
 nodes_repeat {T} count body =
-    fold_repeat T ℕ ℕ count_part count_list count body ∙ ap (λ n. n + 1) (sum_map part_nodes body.parts)
+    fold_repeat T ℕ ℕ count_part count_list count body ∙ ap (λ n. n + 1) (sum-map part_nodes body.parts)
 
 pub nesting_item : {T : Type 0} (x : T) → part_nesting (Item x) ≡ 0
 nesting_item {T} x = fold_item T ℕ ℕ nest_part nest_list x

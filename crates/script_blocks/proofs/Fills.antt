@@ -6,7 +6,7 @@
 -- said of what was added: only at the end, where the batch had nothing, is it what was left.
 use Rattle.std.proofs.Common.{◌≡◌, ◌+◌, ◌<◌, ◌-◌, ◌≢◌, ℕ, true, false, List, [], ◌∷◌, ◌++◌, drop}
 use Rattle.std.proofs.Common.{length, get_or, refl, sym, ap, ◌∙◌, arith, append_assoc}
-use Rattle.std.proofs.lemmas.List.{append-nil, length-append}
+use Rattle.std.proofs.lemmas.List.{length-append}
 use Rattle.script_blocks.specs.declared.blocks.BlockPart.{BlockPart}
 use Rattle.script_blocks.specs.declared.cursor.Frame.{Frame}
 use Rattle.script_blocks.specs.Expansion.{parts_expansion, repeated}
@@ -19,9 +19,6 @@ pub behind : {T : Type 0} (before after xs ys others : List T) → before ++ xs 
     → before ++ (xs ++ others) ≡ after ++ (ys ++ others)
 behind before after xs ys others is =
     sym (append_assoc before xs others) ∙ ap (λ zs. zs ++ others) is ∙ append_assoc after ys others
-
-pub item_moved : {T : Type 0} (before : List T) (item : T) → before ++ item ∷ [] ≡ (before ++ item ∷ []) ++ []
-item_moved before item = sym (append-nil (before ++ item ∷ []))
 
 module _ {T : Type 0} (before after : List T) where
   -- a step within the part that the walk is at

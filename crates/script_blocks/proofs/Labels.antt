@@ -76,15 +76,6 @@ as_many (x ∷ kinds) (label ∷ labels) below =
     (slice_get-get_or (x ∷ kinds) label x (All-head (λ l. l < length (x ∷ kinds)) label labels below))
     ∙ ap suc (as_many (x ∷ kinds) labels (All-tail (λ l. l < length (x ∷ kinds)) label labels below))
 
--- there is no label exactly where there is no item
-pub empty_as : {T : Type 0} (kinds : List T) (labels : List ℕ) (value : List T) → AreBelow kinds labels
-    → items_at kinds labels ≡ value → (labels ≡ [] → value ≡ []) × (value ≡ [] → labels ≡ [])
-empty_as kinds [] value below is = ((λ e. sym is), (λ e. refl))
-empty_as kinds (label ∷ labels) value below is = (
-  (λ e. absurd (omega (arith, ap length e))),
-  (λ e. absurd (omega (arith, ap length e, ap length is, as_many kinds (label ∷ labels) below))),
-)
-
 -- where there is no kind, there is no item
 pub no_kind : {T : Type 0} (kinds : List T) (labels : List ℕ) → kinds ≡ [] → AreBelow kinds labels
     → items_at kinds labels ≡ []

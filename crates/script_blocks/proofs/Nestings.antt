@@ -6,6 +6,7 @@ use Rattle.std.specs.List.{list_all}
 use Rattle.std.proofs.Math.Nat.{le-max_left, le-max_right}
 use Rattle.std.proofs.lemmas.Bool.{and_from, false≢true, le-leb}
 use Rattle.std.proofs.lemmas.List.{map_push, take_more}
+use Rattle.plain_data.proofs.Tests.{and-true}
 use Rattle.script_blocks.specs.declared.blocks.Blocks.{Blocks}
 use Rattle.script_blocks.specs.declared.blocks.BlockPart.{BlockPart}
 use Rattle.script_blocks.specs.declared.blocks.BlockPart.TheViews.{Repeat}
@@ -41,17 +42,13 @@ nesting_within (p ∷ parts) (suc i) part lt e =
     let more = le-max_right (part_nesting p) (parts_nesting parts) in
     omega arith
 
-and_true : (b : Bool) → b && true ≡ b
-and_true true = refl
-and_true false = refl
-
 and_assoc : (a b c : Bool) → a && (b && c) ≡ (a && b) && c
 and_assoc true b c = refl
 and_assoc false b c = refl
 
 pub proper_push : {T : Type 0} (parts : List (BlockPart T)) (part : BlockPart T)
     → are_proper (parts ++ part ∷ []) ≡ are_proper parts && is_proper_part part
-proper_push [] part = and_true (is_proper_part part)
+proper_push [] part = and-true (is_proper_part part)
 proper_push (p ∷ parts) part =
     ap (λ b. is_proper_part p && b) (proper_push parts part)
     ∙ and_assoc (is_proper_part p) (are_proper parts) (is_proper_part part)
@@ -67,16 +64,16 @@ nesting_with_item parts x =
 pub proper_with_item : {T : Type 0} (parts : List (BlockPart T)) (x : T)
     → are_proper (parts ++ Item x ∷ []) ≡ are_proper parts
 proper_with_item parts x =
-    proper_push parts (Item x) ∙ ap (λ b. are_proper parts && b) (proper_item x) ∙ and_true (are_proper parts)
+    proper_push parts (Item x) ∙ ap (λ b. are_proper parts && b) (proper_item x) ∙ and-true (are_proper parts)
 
-all_map : {T : Type 0} (parts : List (BlockPart T)) → list_all (λ b. b) (map is_proper_part parts) ≡ are_proper parts
-all_map [] = refl
-all_map (p ∷ parts) = ap (λ b. is_proper_part p && b) (all_map parts)
+pub list_all-is_proper_part : {T : Type 0} (parts : List (BlockPart T)) → list_all (λ b. b) (map is_proper_part parts) ≡ are_proper parts
+list_all-is_proper_part [] = refl
+list_all-is_proper_part (p ∷ parts) = ap (λ b. is_proper_part p && b) (list_all-is_proper_part parts)
 
 body_is : {T : Type 0} (parts : List (BlockPart T)) → 0 < length parts → are_proper parts ≡ true
     → is_body (map is_proper_part parts) ≡ true
 body_is [] lt h = absurd (omega arith)
-body_is (p ∷ parts) lt h = ap (λ b. is_proper_part p && b) (all_map parts) ∙ h
+body_is (p ∷ parts) lt h = ap (λ b. is_proper_part p && b) (list_all-is_proper_part parts) ∙ h
 
 -- a repeat at the end of the parts
 module _ {T : Type 0} (parts : List (BlockPart T)) (count : ℕ) (body : Blocks T) where

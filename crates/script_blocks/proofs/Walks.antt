@@ -1,9 +1,8 @@
 -- Steps of a cursor, over plain variables.
-use Rattle.std.proofs.Common.{◌≡◌, ◌+◌, ◌<◌, ◌≢◌, ℕ, zero, suc, Bool, true, false, cond, List, [], ◌∷◌, ◌++◌, drop, set}
+use Rattle.std.proofs.Common.{◌≡◌, ◌+◌, ◌<◌, ℕ, zero, suc, Bool, true, false, cond, List, [], ◌∷◌, ◌++◌, drop, set}
 use Rattle.std.proofs.Common.{length, get_or, refl, sym, ap, ◌∙◌, arith, add-one}
-use Rattle.std.specs.Prelude.{MatchOption, Option, Some, None, slice_get, is_some}
+use Rattle.std.specs.Prelude.{MatchOption, Option, Some, None, is_some}
 use Rattle.std.proofs.lemmas.Bool.{false≢true}
-use Rattle.std.proofs.lemmas.List.{append-nil}
 use Rattle.script_blocks.specs.declared.blocks.Blocks.{Blocks}
 use Rattle.script_blocks.specs.declared.blocks.BlockPart.{BlockPart, out-BlockPart}
 use Rattle.script_blocks.specs.declared.blocks.BlockPart.TheViews.{Repeat, outs-Repeat}
@@ -12,7 +11,6 @@ use Rattle.script_blocks.specs.Expansion.{part_expansion, parts_expansion, repea
 use Rattle.script_blocks.specs.Places.{Left, left, left_inside, left_of_part, left_of_parts, left_of_repeat}
 use Rattle.script_blocks.specs.Places.{left_of_turns}
 use Rattle.script_blocks.proofs.Expansions.{expansion_repeat}
-use Rattle.script_blocks.proofs.Firsts.{first_of_front, first_of_other, first_repeated}
 use Rattle.script_blocks.proofs.Repetitions.{repeated_next, repeated_none, repeated_nothing}
 
 -- before the first of a list of parts
@@ -72,31 +70,6 @@ left_outside f inner [] e = refl
 left_outside {T} f inner (p ∷ parts) e =
     ap (λ b. cond b (left_inside f inner (out-BlockPart T p)) (part_expansion p) ++ parts_expansion parts) e
 
--- the next item of the part that the cursor is at, or of the parts after it
-module _ {T : Type 0} (f : Frame) (inner : Left T) (parts : List (BlockPart T)) (i : ℕ) (part : BlockPart T)
-    (lt : i < length parts) (e : part ≡ get_or parts i part) where
-  pub first_here : is_some (slice_get (left_of_part f inner part) 0) ≡ true
-      → slice_get (left_of_parts f inner (drop i parts)) 0 ≡ slice_get (left_of_part f inner part) 0
-  first_here some =
-      ap (λ xs. slice_get xs 0) (left_from_part f inner parts i part lt e)
-      ∙ first_of_front (left_of_part f inner part) (parts_expansion (drop (i + 1) parts)) some
-
-  pub first_later : is_some (slice_get (left_of_part f inner part) 0) ≡ false
-      → slice_get (left_of_parts f inner (drop i parts)) 0 ≡ slice_get (parts_expansion (drop (i + 1) parts)) 0
-  first_later none =
-      ap (λ xs. slice_get xs 0) (left_from_part f inner parts i part lt e)
-      ∙ first_of_other (left_of_part f inner part) (parts_expansion (drop (i + 1) parts)) none
-
--- the first item after the part that the cursor is at, where that part has none
-pub peek_later : {T : Type 0} (f : Frame) (frames deeper : List Frame) (parts : List (BlockPart T)) (part : BlockPart T)
-    (item : Option T)
-    → frames ≡ f ∷ deeper → f.part < length parts → part ≡ get_or parts f.part part
-    → item ≡ slice_get (left_of_part f (left deeper) part) 0 → is_some item ≡ false
-    → slice_get (parts_expansion (drop (f.part + 1) parts)) 0 ≡ slice_get (left frames parts) 0
-peek_later f frames deeper parts part item is lt e item_is none =
-    sym (ap (λ fs. slice_get (left fs parts) 0) is
-    ∙ first_later f (left deeper) parts f.part part lt e (sym (ap is_some item_is) ∙ none))
-
 -- a repetition that has just begun, and the later ones
 pub turn_begun : {T : Type 0} (f : Frame) (inner : Left T) (body : List (BlockPart T)) (later : ℕ) → f.later ≡ later
     → inner body ≡ parts_expansion body → left_of_turns f inner body ≡ repeated (later + 1) (parts_expansion body)
@@ -134,24 +107,3 @@ outside_is f inner count body e =
     ap (λ b. cond b (left_of_turns f inner body) (repeated count (parts_expansion body))) e
 
 pub ruleset turns = (inside_is, outside_is, turns_empty, turns_later, turns_item, repeated_none)
-
--- the next item of the repetition that the cursor is in, or of a later one
-module _ {T : Type 0} (f : Frame) (inner : Left T) (body : List (BlockPart T)) where
-  pub first_of_turn : is_some (slice_get (inner body) 0) ≡ true
-      → slice_get (left_of_turns f inner body) 0 ≡ slice_get (inner body) 0
-  first_of_turn some = first_of_front (inner body) (repeated f.later (parts_expansion body)) some
-
-  pub first_of_last_turn : f.later ≡ 0 → slice_get (left_of_turns f inner body) 0 ≡ slice_get (inner body) 0
-  first_of_last_turn e =
-      ap (λ xs. slice_get (inner body ++ xs) 0)
-      (ap (λ n. repeated n (parts_expansion body)) e ∙ repeated_none (parts_expansion body))
-      ∙ ap (λ xs. slice_get xs 0) (append-nil (inner body))
-
-  pub first_of_later_turn : is_some (slice_get (inner body) 0) ≡ false → f.later ≢ 0
-      → slice_get (left_of_turns f inner body) 0 ≡ slice_get (parts_expansion body) 0
-  first_of_later_turn none some =
-      first_of_other (inner body) (repeated f.later (parts_expansion body)) none
-      ∙ first_repeated f.later (parts_expansion body) some
-
-pub ruleset peeks =
-    (left_of_repeat_is, inside_is, first_here, first_later, first_of_turn, first_of_last_turn, first_of_later_turn)

@@ -26,5 +26,6 @@ part_expansion {T} = fold-BlockPart T (List T) (List T) expand_part expand_list
 abbrev pub parts_expansion : {T : Type 0} → List (BlockPart T) → List T
 parts_expansion parts = flat_map part_expansion parts
 
+-- an item expands to itself, a repeat to so many expansions of its body, a list to its parts in order
 abbrev pub expansion : {T : Type 0} → Blocks T → List T
 expansion blocks = parts_expansion blocks.parts

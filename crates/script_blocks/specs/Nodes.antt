@@ -20,5 +20,6 @@ part_nodes {T} = fold-BlockPart T ℕ ℕ count_part count_list
 abbrev pub parts_nodes : {T : Type 0} → List (BlockPart T) → ℕ
 parts_nodes parts = sum_by part_nodes parts
 
+-- the number of items and repeats as they are kept, each counted once
 abbrev pub node_count : {T : Type 0} → Blocks T → ℕ
 node_count blocks = parts_nodes blocks.parts

@@ -1,4 +1,4 @@
-ghost use Rattle.std.specs.Prelude.{◌≡◌, ◌<◌, ◌≤◌, [], ◌∷◌, ◌++◌, length, slice_get};
+ghost use Rattle.std.specs.Prelude.{◌≡◌, ◌<◌, ◌≤◌, [], ◌∷◌, ◌++◌, length, slice_get, OnSome};
 ghost use Rattle.std.specs.Option.{option_copied};
 
 use std::marker::Model;
@@ -48,7 +48,8 @@ impl<T: Copy> Batch<T> {
 
     /// The item at a place, or `None` past the last.
     pub(crate) fn get(&self, place: usize) -> Option<&T>
-        ensures { option_copied result ≡ slice_get self.now place }
+        ensures item { option_copied result ≡ slice_get self.now place }
+        ensures few { OnSome result (place < 16) }
     {
         if place < self.len {
             self.items[place].as_ref()

@@ -1,6 +1,5 @@
-ghost use Rattle.std.specs.Prelude.{◌≡◌, ◌+◌, ◌<◌, ◌≤◌, [], ◌∷◌, ◌++◌, drop, length, slice_get, false, true, MatchOption, IsTrue, OnOk, vec_len};
-ghost use Rattle.std.specs.Option.{option_copied};
-ghost use Rattle.script_blocks.specs.Expansion.{part_expansion, parts_expansion, repeated};
+ghost use Rattle.std.specs.Prelude.{◌≡◌, ◌+◌, ◌<◌, ◌≤◌, [], ◌∷◌, ◌++◌, drop, length, false, true, MatchOption, IsTrue, OnOk, vec_len};
+ghost use Rattle.script_blocks.specs.Expansion.{parts_expansion, repeated};
 ghost use Rattle.script_blocks.specs.Nesting.{part_nesting, parts_nesting};
 ghost use Rattle.script_blocks.specs.Places.{left, left_of_part, left_of_parts, left_of_repeat, left_of_turns};
 
@@ -310,83 +309,6 @@ fn fill_of_new_turns<T: Copy>(
     }
 }
 
-// The first item of these parts.
-#[cycle(first)]
-#[tactic(auto, using(crate::proofs::Firsts::firsts))]
-fn first_in<T>(parts: &[BlockPart<T>]) -> Option<&T>
-    ensures { option_copied result ≡ slice_get (parts_expansion parts.now) 0 }
-{
-    for part in parts {
-        let item = first_of_part(part);
-        if item.is_some() {
-            return item;
-        }
-    }
-    None
-}
-
-#[cycle(first)]
-#[tactic(auto, using(crate::proofs::Firsts::firsts))]
-fn first_of_part<T>(part: &BlockPart<T>) -> Option<&T>
-    ensures { option_copied result ≡ slice_get (part_expansion part.now) 0 }
-{
-    match part {
-        BlockPart::Item(item) => Some(item),
-        BlockPart::Repeat(count, body) => {
-            if *count == 0 {
-                None
-            } else {
-                first_in(body.parts.as_slice())
-            }
-        }
-    }
-}
-
-/// The next item of these parts, where the frames stay as they are.
-#[cycle(peek)]
-#[tactic(auto, using(crate::proofs::Walks::peeks))]
-pub(crate) fn peek_in<'a, T>(parts: &'a [BlockPart<T>], frames: &[Frame]) -> Option<&'a T>
-    ensures { option_copied result ≡ slice_get (left frames.now parts.now) 0 }
-{
-    let (frame, deeper) = frames.split_first()?;
-    if frame.part >= parts.len() {
-        return None;
-    }
-    let item = peek_of_part(&parts[frame.part], frame, deeper);
-    if item.is_some() {
-        return item;
-    }
-    first_in(&parts[frame.part + 1..])
-}
-
-#[cycle(peek)]
-#[tactic(auto, using(crate::proofs::Walks::peeks))]
-fn peek_of_part<'a, T>(part: &'a BlockPart<T>, frame: &Frame, deeper: &[Frame]) -> Option<&'a T>
-    ensures { option_copied result
-        ≡ slice_get (left_of_part frame.now (left deeper.now) part.now) 0 }
-{
-    if !frame.inside {
-        return first_of_part(part);
-    }
-    match part {
-        BlockPart::Item(_) => None,
-        BlockPart::Repeat(_, body) => peek_of_turns(body.parts.as_slice(), frame, deeper),
-    }
-}
-
-#[cycle(peek)]
-#[tactic(auto, using(crate::proofs::Walks::peeks))]
-fn peek_of_turns<'a, T>(body: &'a [BlockPart<T>], frame: &Frame, deeper: &[Frame]) -> Option<&'a T>
-    ensures { option_copied result
-        ≡ slice_get (left_of_turns frame.now (left deeper.now) body.now) 0 }
-{
-    let item = peek_in(body, deeper);
-    if item.is_some() || frame.later == 0 {
-        return item;
-    }
-    first_in(body)
-}
-
 // Makes enough frames for these parts. So many lists of parts stand round them.
 #[cycle(room)]
 #[tactic(auto, using(crate::proofs::Nestings::nesting_more))]
@@ -431,8 +353,7 @@ pub struct Cursor {
 }
 
 impl Cursor {
-    ghost use Rattle.std.specs.Option.{option_copied};
-    ghost use Rattle.std.specs.Prelude.{◌≡◌, [], ◌∷◌, slice_get, IfOk, MatchOption};
+    ghost use Rattle.std.specs.Prelude.{◌≡◌, [], ◌∷◌, IfOk, MatchOption};
     ghost use Rattle.script_blocks.specs.Expansion.{expansion};
     ghost use Rattle.script_blocks.specs.Cursors.{HasFramesFor, rest};
 
@@ -459,13 +380,5 @@ impl Cursor {
             (λ item. rest blocks.now self.old ≡ item ∷ rest blocks.now self.new) }
     {
         next_in(blocks.parts.as_slice(), self.frames.as_mut_slice())
-    }
-
-    /// The item that `next` would give, or `None` exactly where there is no more; the cursor stays as it is. It takes no memory.
-    #[tactic(auto, unfolding(crate::specs::Cursors::rest))]
-    pub fn peek<'a, T>(&self, blocks: &'a Blocks<T>) -> Option<&'a T>
-        ensures { option_copied result ≡ slice_get (rest blocks.now self.now) 0 }
-    {
-        peek_in(blocks.parts.as_slice(), self.frames.as_slice())
     }
 }

@@ -1,4 +1,7 @@
 //! Scripts as repeat blocks: lists in which stretches that repeat are folded, with cursors over what they stand for.
+//!
+//! Between two calls, or from one step of the main loop to the next: what a cursor has given and what it has left are
+//! the expansion; a script's repeats count at least 2 and have a body, so that it nests at most 31 deep.
 #![tactic(auto)]
 
 mod batch;

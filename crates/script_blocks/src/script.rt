@@ -132,10 +132,9 @@ pub struct ScriptItems<'a, T> {
 }
 
 impl<'a, T> Model for ScriptItems<'a, T> {
-    ghost use Rattle.std.specs.Prelude.{◌≤◌, List};
+    ghost use Rattle.std.specs.Prelude.{List};
     ghost use Rattle.std.specs.Coded.{coded_list};
-    ghost use Rattle.script_blocks.specs.Nesting.{parts_nesting};
-    ghost use Rattle.script_blocks.specs.Scripts.{items_left};
+    ghost use Rattle.script_blocks.specs.Scripts.{IsWalk, items_left};
 
     ghost Value = { List T };
 
@@ -143,7 +142,7 @@ impl<'a, T> Model for ScriptItems<'a, T> {
 
     ghost view = { λ items. items_left items.place items.parts.now };
 
-    ghost invariant = { λ items. parts_nesting items.parts.now ≤ 31 };
+    ghost invariant = { λ items. IsWalk items.place items.parts.now };
 }
 
 impl<'a, T: Copy> ScriptItems<'a, T> {
@@ -184,11 +183,10 @@ pub struct ScriptCursor<T> {
 }
 
 impl<T> Model for ScriptCursor<T> {
-    ghost use Rattle.std.specs.Prelude.{◌≤◌, List};
+    ghost use Rattle.std.specs.Prelude.{List};
     ghost use Rattle.std.specs.Arc.{arc_value};
     ghost use Rattle.std.specs.Coded.{coded_list};
-    ghost use Rattle.script_blocks.specs.Nesting.{nesting};
-    ghost use Rattle.script_blocks.specs.Scripts.{items_left};
+    ghost use Rattle.script_blocks.specs.Scripts.{IsWalk, items_left};
 
     ghost Value = { List T };
 
@@ -196,7 +194,7 @@ impl<T> Model for ScriptCursor<T> {
 
     ghost view = { λ cursor. items_left cursor.place (arc_value cursor.blocks).parts };
 
-    ghost invariant = { λ cursor. nesting (arc_value cursor.blocks) ≤ 31 };
+    ghost invariant = { λ cursor. IsWalk cursor.place (arc_value cursor.blocks).parts };
 }
 
 impl<T: Copy> ScriptCursor<T> {

@@ -1,4 +1,4 @@
-pub mod Making
+pub mod ProcessEnds
 pub mod Rooms
-pub mod Gathering
-pub mod Answering
+pub mod BenchLists
+pub mod ArrayAnswers

@@ -7,17 +7,8 @@ use Rattle.sanlp.specs.Laws.{values_of}
 use Rattle.net_core.specs.declared.network.Network.{Network}
 use Rattle.net_core.specs.Rooms.{Store}
 use Rattle.node_runner.specs.Nodes.{Ports}
+use Rattle.plain_data.proofs.Lists.{slice_get_push, slice_get-append_some}
 use Rattle.thread_runner.specs.Runs.{MayWork, MayStart, HaveKept}
-
-pub get_front : {X : Type 0} (xs ys : List X) (p : ℕ) (x : X) → slice_get xs p ≡ Some x
-    → slice_get (xs ++ ys) p ≡ Some x
-get_front [] ys p x e = absurd (cc)
-get_front (y ∷ xs) ys zero x e = e
-get_front (y ∷ xs) ys (suc p) x e = get_front xs ys p x e
-
-pub get_last : {X : Type 0} (xs : List X) (x : X) → slice_get (xs ++ x ∷ []) (length xs) ≡ Some x
-get_last [] x = refl
-get_last (y ∷ xs) x = get_last xs x
 
 pub get_snoc : {X : Type 0} (xs : List X) (x y : X) (p : ℕ) → slice_get (xs ++ x ∷ []) p ≡ Some y
     → (slice_get xs p ≡ Some y) ⊎ ((p ≡ length xs) × (x ≡ y))
@@ -40,8 +31,8 @@ module _ {E : Type 0} (from to : E → Ports) (nest : Nest) (points : List (List
         numbers = m.numbers;
         sound = m.sound;
         there = omega (arith, is, m.there, length-append rooms (room ∷ []));
-        room_is = m.rooms_are p room (ap (slice_get (rooms ++ room ∷ [])) is ∙ get_last rooms room);
-        ends_are = m.ends_are p mine (ap (slice_get (ends ++ mine ∷ [])) (is ∙ sym n) ∙ get_last ends mine);
+        room_is = m.rooms_are p room (ap (slice_get (rooms ++ room ∷ [])) is ∙ slice_get_push rooms room);
+        ends_are = m.ends_are p mine (ap (slice_get (ends ++ mine ∷ [])) (is ∙ sym n) ∙ slice_get_push ends mine);
       }
 
   pub rest_starts : MayStart from to nest points d network (rooms ++ room ∷ []) (ends ++ mine ∷ [])
@@ -52,8 +43,8 @@ module _ {E : Type 0} (from to : E → Ports) (nest : Nest) (points : List (List
     sound = m.sound;
     there = omega (arith, m.there, length-append rooms (room ∷ []));
     same = omega (arith, m.same, length-append rooms (room ∷ []), length-append ends (mine ∷ []));
-    rooms_are = λ p r e. m.rooms_are p r (get_front rooms (room ∷ []) p r e);
-    ends_are = λ p x e. m.ends_are p x (get_front ends (mine ∷ []) p x e);
+    rooms_are = λ p r e. m.rooms_are p r (slice_get-append_some rooms (room ∷ []) p r e);
+    ends_are = λ p x e. m.ends_are p x (slice_get-append_some ends (mine ∷ []) p x e);
   }
 
 pub all_kept : (nest : Nest) (d : Inputs) (rooms : List (Store ℤ)) (room : Store ℤ) → HaveKept nest d rooms

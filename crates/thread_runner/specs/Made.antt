@@ -24,6 +24,7 @@ abbrev pub AreOfCapacity : Network → List (Option LinkEnd) → Type 0
 AreOfCapacity network ends = (c : ℕ) (end : LinkEnd) → slice_get ends c ≡ Some (Some end)
     → end.capacity ≡ max ((net_of network).capacity c) 1
 
+-- each end is of a link that holds as many values as its channel's capacity, and at least one
 abbrev pub AreOfCapacities : Network → List NodeEnds → Type 0
 AreOfCapacities network ends = (p : ℕ) (e : NodeEnds) → slice_get ends p ≡ Some e
     → AreOfCapacity network e.gets.items × AreOfCapacity network e.puts.items

@@ -1,4 +1,7 @@
 //! The run of a network by one thread for each process.
+//!
+//! Between two calls, or from one step of the main loop to the next: the rooms that have come back, of threads that
+//! ran, have kept their points' values.
 #![tactic(auto)]
 
 mod bench;

@@ -1,4 +1,3 @@
-pub mod Counted
-pub mod Laned
-pub mod Boarded
-pub mod Ended
+pub mod LaneAnswers
+pub mod BoardSteps
+pub mod BoardEnd

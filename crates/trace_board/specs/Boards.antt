@@ -22,6 +22,7 @@ pub record NetworkRun : Type 0 where
   pub network : Network
   pub history : List ℕ
 
+-- a network with the processes that made its events so far
 abbrev pub network_run : Network → List ℕ → NetworkRun
 network_run network history = record { network = network; history = history }
 

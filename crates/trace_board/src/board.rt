@@ -1,13 +1,13 @@
-ghost use Rattle.std.specs.Prelude.{◌≡◌, ◌<◌, ◌↔◌, ◌++◌, ◌∷◌, [], ℕ, length, true, vec_capacity, IfOk};
+ghost use Rattle.std.specs.Prelude.{◌≡◌, ◌<◌, ◌↔◌, ◌++◌, ◌∷◌, [], ℕ, true, vec_capacity, IfOk};
 ghost use Rattle.net_core.specs.Held.{held_of, run_of};
 ghost use Rattle.net_core.specs.Machine.{net_of, enabled};
-ghost use Rattle.net_core.specs.Shape.{IsShaped, FitsNumbers, events_below};
+ghost use Rattle.net_core.specs.Shape.{IsShaped, FitsNumbers};
 ghost use Rattle.trace_board.specs.Advances.{history_after};
 ghost use Rattle.trace_board.specs.Boards.{IsBoard, IsRunFromStart, state_of};
 ghost use Rattle.trace_board.specs.Lanes.{IsLeastEnabled, IsLaneIdle, HasLaneEnded};
 
 use crate::lanes::{Advance, look};
-use net_core::{Network, State, Tags, start, step};
+use net_core::{Network, State, Tags, event_count, start, step};
 use sanlp::{Points, Tag};
 use std::alloc::{AllocError, Global};
 use std::marker::Model;
@@ -35,18 +35,6 @@ impl Model for Board {
         (vec_capacity board.history) };
 }
 
-// How many events the scripts of a network have together.
-fn event_count(network: &Network) -> usize
-    requires { FitsNumbers (net_of network.now) }
-    ensures { result ≡ events_below (net_of network.now) (net_of network.now).processes }
-{
-    let mut count = 0;
-    for process in network.processes.as_slice() {
-        count += process.script.len() as usize;
-    }
-    count
-}
-
 // One event of an enabled process, which the history notes. It takes no memory.
 fn make_event(network: &Network, state: &mut State<Tag>, history: &mut Vec<u32>, process: u32)
     requires board { IsBoard network.now (held_of state.old) history.old.items
@@ -69,7 +57,7 @@ impl Board {
         ensures history { IfOk result (λ board. board.history ≡ []) }
     {
         let state = start(alloc, &network, points)?;
-        let history = Vec::with_capacity(alloc, event_count(&network))?;
+        let history = Vec::with_capacity(alloc, event_count(&network) as usize)?;
         Ok(Board {
             network,
             state,

@@ -77,6 +77,6 @@ unread_text (error.Deep line) = Some (refused_line (codes "Deep" ∷ decimal lin
 unread_text (error.Long process) = Some (refused_line (codes "Long" ∷ decimal process ∷ []))
 unread_text error.Memory = None
 
--- what is written of it: nothing where there is no such reason
+-- what is written of a text that can't be read: the line of its reason, or nothing where there is none
 abbrev pub unread_line : CertError → List ℕ
 unread_line error = unwrap_or (unread_text error) []

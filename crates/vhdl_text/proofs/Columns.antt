@@ -5,14 +5,15 @@
 -- the events with both counts running (`column_entries`). So how many there are is the number of events or of fires.
 -- The text of a constant has a comma before each entry but the first, the code writes one behind each but the last, and
 -- both are one text (`constant_pieces`).
-use Rattle.std.proofs.Common.{◌≡◌, ℕ, suc, ◌+◌, List, [], ◌∷◌, ◌++◌, codes, count_by, decimal, length, map, slice_get}
+use Rattle.std.proofs.Common.{◌≡◌, ℕ, suc, ◌+◌, ◌≤◌, List, [], ◌∷◌, ◌++◌, codes, count_by, decimal, length, map, slice_get}
 use Rattle.std.proofs.Common.{append_assoc, append-nil, refl, sym, ap, ◌∙◌, arith}
 use Rattle.std.specs.List.{concat, enumerate_from, flat_map, join_by}
 use Rattle.std.proofs.lemmas.List.{length-map}
 use Rattle.net_core.specs.declared.network.Event.{Event}
 use Rattle.net_core.specs.declared.network.Event.TheVariants.{Get, Fire, Put}
 use Rattle.net_core.specs.Shape.{is_fire}
-use Rattle.net_core.proofs.Counting.{count_cons}
+use Rattle.net_core.proofs.EventCounts.{count_cons}
+use Rattle.text_out.specs.Wrote.{Given, Wrote}
 use Rattle.vhdl_text.specs.declared.constants.Column.{Column}
 use Rattle.vhdl_text.specs.declared.constants.Column.TheVariants.{Op, Arg, Dst, Read}
 use Rattle.vhdl_text.specs.Constants.{args_from, column_values, constant_text, dst_of, entry, fires_of, op_of}
@@ -81,6 +82,24 @@ column_entries Op events = op_entries 0 0 events
 column_entries Arg events = arg_entries 0 0 events
 column_entries Dst events = dst_entries 0 0 events
 column_entries (Read k) events = read_entries k 0 0 events
+
+pub fires_few : (f : ℕ) (event : Event) → fires_after f event ≤ f + 1
+fires_few f (Get channel slot) = omega arith
+fires_few f (Fire refs) = omega arith
+fires_few f (Put channel) = omega arith
+
+-- the entry of the next event goes behind what was written, before those of the events that are left
+pub entries_next : {W : Type 0} (given : W → Given) {mid new : W} (column : Column) (i f : ℕ) (left later : List Event)
+    (event : Event) (all : List ℕ) → left ≡ event ∷ later
+    → (given mid).text ++ event_entries column i f left ≡ all
+    → Wrote given mid new (event_entry column i f event)
+    → (given new).text ++ event_entries column (i + 1) (fires_after f event) later ≡ all
+entries_next given {mid} column i f left later event all next before wrote =
+    ap (λ (text : List ℕ). text ++ event_entries column (i + 1) (fires_after f event) later) wrote.1
+    ∙ append_assoc (given mid).text (event_entry column i f event)
+    (event_entries column (i + 1) (fires_after f event) later)
+    ∙ ap (λ (events : List Event). (given mid).text ++ event_entries column i f events) (sym next)
+    ∙ before
 
 -- The text of a constant
 

@@ -1,17 +1,14 @@
 -- Texts written one behind another. In a function that writes long literals `grind` takes up each byte of them, and
--- finds no room for the steps that matter: there `and_then` says how what one call wrote goes before what the next one
+-- finds no room for the steps that matter: there `Wrote-append` says how what one call wrote goes before what the next one
 -- did, and `one_more` and `one_more_number` say the same of a loop.
-use Rattle.std.proofs.Common.{◌≡◌, ℕ, zero, suc, ◌+◌, ◌<◌, List, [], ◌∷◌, ◌++◌, length, take, get_or, add-one}
-use Rattle.std.proofs.Common.{append_assoc, append-nil, ap, ◌∙◌, arith}
+use Rattle.std.proofs.Common.{◌≡◌, ℕ, ◌+◌, ◌<◌, List, [], ◌∷◌, ◌++◌, length, take, get_or}
+use Rattle.std.proofs.Common.{append-nil, ap, ◌∙◌, arith}
 use Rattle.std.specs.List.{enumerate_from, flat_map, range_with_len}
 use Rattle.std.proofs.lemmas.Grind.{flat_map-append, take_at_read}
+use Rattle.sanlp.proofs.Lists.{flat_map-range_with_len_more}
 use Rattle.text_out.specs.Wrote.{Given, Wrote}
-use Rattle.text_out.proofs.Numbered.{numbered_at_read}
-
-pub and_then : {W : Type 0} (given : W → Given) {old mid new : W} (first second : List ℕ)
-    → Wrote given old mid first → Wrote given mid new second → Wrote given old new (first ++ second)
-and_then given {old} first second one two =
-    (two.0 ∙ one.0, two.1 ∙ ap (λ (text : List ℕ). text ++ second) one.1 ∙ append_assoc (given old).text first second)
+use Rattle.text_out.proofs.ItemNumbers.{numbered_at_read}
+use Rattle.text_out.proofs.Wrote.{Wrote-append}
 
 -- the texts of some items, and of one more
 text_more : {X : Type 0} (f : X → List ℕ) (xs : List X) (x : X) → flat_map f (xs ++ x ∷ []) ≡ flat_map f xs ++ f x
@@ -23,7 +20,7 @@ pub one_more_item : {W : Type 0} (given : W → Given) {old mid new : W} {X : Ty
     → Wrote given old mid (flat_map f (take i xs)) → Wrote given mid new (f x)
     → Wrote given old new (flat_map f (take (i + 1) xs))
 one_more_item given f xs i x inside is before now =
-    rw ((take_at_read xs i x inside).1, ← is, text_more f (take i xs) x) (and_then given _ _ before now)
+    rw ((take_at_read xs i x inside).1, ← is, text_more f (take i xs) x) (Wrote-append given _ _ before now)
 
 -- the items before a place, each with its number, and the item there
 pub one_more : {W : Type 0} (given : W → Given) {old mid new : W} {X : Type 0} (f : ℕ × X → List ℕ) (xs : List X)
@@ -32,11 +29,7 @@ pub one_more : {W : Type 0} (given : W → Given) {old mid new : W} {X : Type 0}
     → Wrote given old new (flat_map f (enumerate_from 0 (take (i + 1) xs)))
 one_more given f xs i d inside before now =
     rw ((numbered_at_read xs i d inside).1, text_more f (enumerate_from 0 (take i xs)) _)
-    (and_then given _ _ before now)
-
-range_more : (a n k : ℕ) → a + n ≡ k → range_with_len a (suc n) ≡ range_with_len a n ++ k ∷ []
-range_more a zero k sum = let e : a ≡ k = omega (arith, sum) in ap (λ (number : ℕ). number ∷ []) e
-range_more a (suc n) k sum = ap (λ (rest : List ℕ). a ∷ rest) (range_more (a + 1) n k (omega (arith, sum)))
+    (Wrote-append given _ _ before now)
 
 -- the numbers below one, and that number
 pub one_more_number : {W : Type 0} (given : W → Given) {old mid new : W} (f : ℕ → List ℕ) (i : ℕ)
@@ -44,6 +37,5 @@ pub one_more_number : {W : Type 0} (given : W → Given) {old mid new : W} (f : 
     → Wrote given old new (flat_map f (range_with_len 0 (i + 1)))
 one_more_number given f i before now =
     let texts : flat_map f (range_with_len 0 (i + 1)) ≡ flat_map f (range_with_len 0 i) ++ f i =
-    ap (λ (k : ℕ). flat_map f (range_with_len 0 k)) (add-one i) ∙ ap (flat_map f) (range_more 0 i i (omega arith))
-    ∙ text_more f (range_with_len 0 i) i in
-    rw texts (and_then given _ _ before now)
+    flat_map-range_with_len_more f 0 i i (omega arith) in
+    rw texts (Wrote-append given _ _ before now)

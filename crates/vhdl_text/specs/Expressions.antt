@@ -36,5 +36,6 @@ expr_step (Min a b) = pair (codes "least(") a (codes ", ") b
 expr_step (Max a b) = pair (codes "most(") a (codes ", ") b
 expr_step (Neg a) = last_operand (codes "(zero - ") a
 
+-- an expression with its operators as VHDL has them, or as calls of the node's functions
 abbrev pub expr_text : Expr → List ℕ
 expr_text = fold-Expr (List ℕ) expr_step

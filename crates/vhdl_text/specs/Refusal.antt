@@ -7,9 +7,17 @@ use Rattle.vhdl_text.specs.declared.error.VhdlError.{VhdlError}
 use Rattle.vhdl_text.specs.declared.error.VhdlError.TheVariants.{ScriptTooLong, WriteFault}
 use Rattle.node_automata.specs.declared.node.NodeAuto.{NodeAuto}
 
+-- so many events are too many for a node
+abbrev pub are_too_many : ℕ → Bool
+are_too_many events = nat_lt 65536 events
+
 -- a script has more than 65,536 events
 abbrev pub is_too_long : NodeAuto → Bool
-is_too_long a = nat_lt 65536 (length a.events)
+is_too_long a = are_too_many (length a.events)
+
+-- the process of an automaton, and the number of its events
+abbrev pub process_and_length : NodeAuto → ℕ × ℕ
+process_and_length a = (a.process, length a.events)
 
 -- the first automaton whose script is too long
 abbrev pub first_too_long : List NodeAuto → Option NodeAuto

@@ -1,5 +1,4 @@
-ghost use Rattle.std.specs.Prelude.{◌≡◌, ◌+◌, ◌<◌, ◌++◌, ◌^◌, pos, codes, count_by, decimal, length, slice_get, slice_index_or};
-ghost use Rattle.net_core.specs.Shape.{is_fire};
+ghost use Rattle.std.specs.Prelude.{◌≡◌, ◌+◌, ◌<◌, ◌++◌, ◌^◌, pos, codes, decimal, length, slice_get, slice_index_or};
 ghost use Rattle.text_out.specs.Wrote.{Wrote};
 ghost use Rattle.text_out.specs.Words.{word_text};
 ghost use Rattle.vhdl_text.specs.Constants.{column_values, dst_of as slot_of_event, event_constant, last_of as last_value, name_of, op_of as kind_of_event, read_constants, slot_text, variable_constant, variable_constants, variable_values};
@@ -8,8 +7,9 @@ ghost use Rattle.vhdl_text.specs.Literals.{literal};
 
 use crate::literal::literal as literal_of;
 use affine_core::Vector;
-use net_core::{Event, Ref, Refs};
+use net_core::{Event, Ref, Refs, fire_count};
 use node_automata::NodeAuto;
+use script_blocks::Script;
 use text_out::{TextWriter, Word, write_number, write_word};
 
 /// A constant array over the events or the fires of a node.
@@ -74,28 +74,16 @@ fn fires_after(fires: u64, event: &Event) -> u64
     }
 }
 
-fn fire_count(events: &[Event]) -> u64
-    ensures { result ≡ count_by is_fire events.now }
-{
-    let mut count = 0;
-    for event in events {
-        if let Event::Fire { .. } = event {
-            count += 1;
-        }
-    }
-    count
-}
-
 /// How many values a constant has before its last one.
 #[tactic(auto, using(crate::proofs::Columns::arg_length, crate::proofs::Columns::read_length))]
-fn value_count(column: Column, events: &[Event]) -> u64
+fn value_count(column: Column, events: &Script<Event>) -> u64
     ensures { result ≡ length (column_values column events.now) }
 {
     match column {
-        Column::Op => events.len() as u64,
-        Column::Arg => events.len() as u64,
-        Column::Dst => events.len() as u64,
-        Column::Read(_) => fire_count(events),
+        Column::Op => u64::from(events.len()),
+        Column::Arg => u64::from(events.len()),
+        Column::Dst => u64::from(events.len()),
+        Column::Read(_) => u64::from(fire_count(events)),
     }
 }
 
@@ -131,13 +119,15 @@ fn write_event_entry<W: TextWriter>(
     }
 }
 
-fn write_event_entries<W: TextWriter>(column: Column, events: &[Event], out: &mut W)
+fn write_event_entries<W: TextWriter>(column: Column, events: &Script<Event>, out: &mut W)
     ensures { Wrote W.given out.old out.new (event_entries column 0 0 events.now) }
 {
+    let mut index = 0;
     let mut fires = 0;
-    for (index, event) in events.iter().enumerate() {
-        write_event_entry(column, index as u64, fires, event, out);
-        fires = fires_after(fires, event);
+    for event in events.iter() {
+        write_event_entry(column, index, fires, &event, out);
+        fires = fires_after(fires, &event);
+        index += 1;
     }
 }
 
@@ -189,10 +179,9 @@ fn write_tail<W: TextWriter>(index: u64, value: Word, out: &mut W)
 pub(crate) fn write_column<W: TextWriter>(column: Column, auto: &NodeAuto, out: &mut W)
     ensures { Wrote W.given out.old out.new (event_constant column auto.now) }
 {
-    let events = auto.events.as_slice();
-    let count = value_count(column, events);
+    let count = value_count(column, &auto.events);
     write_head(column, count, out);
-    write_event_entries(column, events, out);
+    write_event_entries(column, &auto.events, out);
     write_tail(count, last_of(column), out);
 }
 

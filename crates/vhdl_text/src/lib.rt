@@ -1,4 +1,6 @@
 //! The VHDL text of a network.
+//!
+//! Between two calls: the writer was given a front of the text.
 #![tactic(auto)]
 
 mod channels;
@@ -10,4 +12,4 @@ mod node;
 mod text;
 
 pub use error::VhdlError;
-pub use text::{too_long, write_vhdl};
+pub use text::{too_long, too_long_script, write_vhdl};

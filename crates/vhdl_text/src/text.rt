@@ -1,8 +1,11 @@
-ghost use Rattle.std.specs.Prelude.{◌≡◌, MatchOption};
+ghost use Rattle.std.specs.Prelude.{◌≡◌, ◌<◌, ◌^◌, length, MatchOption};
 ghost use Rattle.std.specs.List.{flat_map};
-ghost use Rattle.std.specs.Option.{option_copied};
+ghost use Rattle.std.specs.Option.{option_copied, option_map};
+ghost use Rattle.net_core.specs.Machine.{net_of};
+ghost use Rattle.node_automata.specs.Automata.{automata};
+ghost use Rattle.sanlp.specs.declared.nest.Nest.{Nest};
 ghost use Rattle.text_out.specs.Wrote.{Wrote};
-ghost use Rattle.vhdl_text.specs.Refusal.{first_too_long, IsRefused, IsWritten};
+ghost use Rattle.vhdl_text.specs.Refusal.{are_too_many, first_too_long, process_and_length, IsRefused, IsWritten};
 ghost use Rattle.vhdl_text.specs.VhdlText.{channel_line, channel_lines, node_text, vhdl_text};
 
 use crate::error::VhdlError;
@@ -13,15 +16,48 @@ use node_automata::NodeAuto;
 use text_out::{TextWriter, Writer, write_number};
 
 /// The most events of a node.
-const MOST_EVENTS: usize = 65_536;
+const MOST_EVENTS: u32 = 65_536;
+
+// Whether a script with so many events is too long for a node.
+fn are_too_many(events: u32) -> bool
+    ensures { result ≡ are_too_many events }
+{
+    events > MOST_EVENTS
+}
 
 /// The first automaton whose script is too long for a node: it has more than 65,536 events.
 pub fn too_long(autos: &[NodeAuto]) -> Option<&NodeAuto>
     ensures { option_copied result ≡ first_too_long autos.now }
 {
     for auto in autos {
-        if auto.events.len() > MOST_EVENTS {
+        if are_too_many(auto.events.len()) {
             return Some(auto);
+        }
+    }
+    None
+}
+
+// The number of a process's events.
+fn event_count(network: &Network, process: u32) -> u32
+    ensures { result ≡ length ((net_of network.now).script process) }
+{
+    match network.processes.get(process as usize) {
+        Some(process) => process.script.len(),
+        None => 0,
+    }
+}
+
+/// The first process whose script is too long for a node, and how many events it has: what `write_vhdl` refuses where it is
+/// given the automata of the network of some nest. It takes no memory, and the time of a look at each process.
+pub fn too_long_script(network: &Network) -> Option<(u32, u32)>
+    requires { length network.now.processes < 2 ^ 32 }
+    ensures { (nest : Nest) → length nest.statements ≡ length network.now.processes
+        → result ≡ option_map process_and_length (first_too_long (automata nest network.now)) }
+{
+    for process in 0..network.processes.len() as u32 {
+        let events = event_count(network, process);
+        if are_too_many(events) {
+            return Some((process, events));
         }
     }
     None
@@ -80,7 +116,7 @@ pub fn write_vhdl<K: Sink>(
         (K.faults sink.new) auto) }
 {
     if let Some(auto) = too_long(autos) {
-        return Err(VhdlError::ScriptTooLong(auto.process, auto.events.len() as u64));
+        return Err(VhdlError::ScriptTooLong(auto.process, u64::from(auto.events.len())));
     }
     let mut out = Writer::new(sink);
     write_text(network, autos, &mut out);

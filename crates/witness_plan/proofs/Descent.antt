@@ -12,7 +12,7 @@ use Rattle.net_core.specs.Cuts.{advanced, cut_after, opening}
 use Rattle.net_core.specs.Machine.{Net}
 use Rattle.net_core.specs.Shape.{IsWired}
 use Rattle.std.specs.Prelude.{slice_get}
-use Rattle.witness_plan.specs.Progress.{bound_after}
+use Rattle.witness_plan.specs.Records.{bound_after}
 use Rattle.witness_plan.specs.Schedules.{downward_from, downward_schedule, highest_ready, is_ready}
 use Rattle.witness_plan.proofs.AlongCuts.{cut_after-append}
 use Rattle.witness_plan.proofs.Downward.{events_left, from_none, from_some, highest_above, highest_from, highest_is}

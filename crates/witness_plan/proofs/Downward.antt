@@ -18,7 +18,8 @@ use Rattle.net_core.specs.Machine.{Net}
 use Rattle.net_core.specs.Shape.{IsWired, events_below, is_put}
 use Rattle.net_core.proofs.CutOrder.{advanced_here, advanced_there, gets_mono, no_further}
 use Rattle.net_core.proofs.Positions.{cut_inside, puts_advanced}
-use Rattle.witness_plan.specs.Progress.{bound_after}
+use Rattle.plain_data.proofs.Options.{by_option}
+use Rattle.witness_plan.specs.Records.{bound_after}
 use Rattle.witness_plan.specs.Schedules.{IsDownward, could_come_at, downward_from, downward_schedule, highest_ready}
 use Rattle.witness_plan.specs.Schedules.{is_ready}
 use Rattle.witness_plan.proofs.NeverFull.{could_come, never_full, ready_comes}
@@ -134,10 +135,6 @@ left_first n (suc m) = omega (arith, left_first n m)
 
 -- The schedule
 
-by_highest : {X : Type 0} (o : Option ℕ) → (o ≡ None → X) → ((p : ℕ) → o ≡ Some p → X) → X
-by_highest None none some = none refl
-by_highest (Some p) none some = some p refl
-
 pub from_none : (n : Net) (many : ℕ) (k : Cut) → highest_ready n k n.processes ≡ None → downward_from n many k ≡ []
 from_none n zero k is = refl
 from_none n (suc many) k is = ap (λ o. option_map_or (λ p. p ∷ downward_from n many (advanced k p)) o []) is
@@ -161,11 +158,11 @@ goes_further n k p run is later (suc i) le = later i (omega arith)
 
 goes_down : (n : Net) (many : ℕ) (k : Cut) → events_left n k n.processes ≤ many → GoesDown n k (downward_from n many k)
 goes_down n zero k few =
-    by_highest (highest_ready n k n.processes) (goes_nowhere n k)
+    by_option (highest_ready n k n.processes) (goes_nowhere n k)
     (λ p is. (let found = highest_is n k n.processes p is in absurd
     (omega (arith, left_less n k p n.processes found.0 (ready_inside n k p found.1)))))
 goes_down n (suc many) k few =
-    by_highest (highest_ready n k n.processes)
+    by_option (highest_ready n k n.processes)
     (λ is. subst (GoesDown n k) (sym (from_none n (suc many) k is)) (goes_nowhere n k is))
     (λ p is.
     (let found = highest_is n k n.processes p is in

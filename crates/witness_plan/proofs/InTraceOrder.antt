@@ -15,8 +15,8 @@ use Rattle.std.proofs.lemmas.List.Concat.{flat_map-append}
 use Rattle.std.proofs.lemmas.List.Elements.{filter_map-append}
 use Rattle.net_core.specs.declared.network.Event.{Event}
 use Rattle.net_core.specs.Cuts.{cut_after, opening}
-use Rattle.net_core.proofs.Counting.{count_next}
-use Rattle.process_derive.proofs.Wired.{item_at}
+use Rattle.net_core.proofs.EventCounts.{count_next}
+use Rattle.plain_data.proofs.Lists.{slice_get-some}
 use Rattle.sanlp.specs.declared.nest.Point.{Point}
 use Rattle.sanlp.specs.declared.nest.Tag.{Tag}
 use Rattle.sanlp.specs.Tags.{tag_at}
@@ -102,5 +102,5 @@ module _ (events : ℕ → ℕ → List Event) (points : List Point) where
   pub stands : (t q : ℕ) → t ≤ length points → cut_after opening (until t) q ≡ stand q (turns_before points t q)
   stands zero q le = refl
   stands (suc t) q le =
-      let p = item_at points t (omega arith) in
+      let p = slice_get-some points t (omega arith) in
       stands_more t q p.0 p.1 (stands t q (omega arith))

@@ -3,42 +3,27 @@
 -- A cursor has left what the schedule so far left. The event that it gives next is the first of these, so one entry of
 -- its process takes one event off. Along a point the schedule, with one entry for each event of the point that is left,
 -- stays the same: that is what the loops over a point's events keep.
-use Rattle.std.proofs.Common.{◌≡◌, ℕ, zero, suc, ◌<◌, Some, None, List, [], ◌∷◌, ◌++◌, map, drop, set, replicate}
+use Rattle.std.proofs.Common.{◌≡◌, ℕ, zero, suc, Some, None, List, [], ◌∷◌, ◌++◌, drop, replicate}
 use Rattle.std.proofs.Common.{slice_get, refl, sym, ap, ◌∙◌, append_assoc}
-use Rattle.std.specs.List.{range_with_len}
 use Rattle.net_core.specs.declared.network.Event.{Event}
 use Rattle.net_core.specs.declared.network.Event.TheVariants.{Get, Fire, Put}
 use Rattle.net_core.specs.declared.refs.Ref.{Ref}
 use Rattle.net_core.specs.Cuts.{advanced, cut_after, opening}
 use Rattle.net_core.specs.Machine.{Net}
-use Rattle.net_core.proofs.CutOrder.{advanced_here, advanced_there}
-use Rattle.witness_plan.specs.Progress.{left_after}
+use Rattle.net_core.proofs.CutOrder.{advanced_here}
+use Rattle.net_core.proofs.ProgressLemmas.{some_left}
+use Rattle.plain_data.proofs.Lists.{drop-some}
+use Rattle.witness_plan.specs.Records.{left_after}
 use Rattle.witness_plan.specs.Steps.{point_length, put_length}
 use Rattle.witness_plan.proofs.AlongCuts.{cut_after-append}
-use Rattle.witness_plan.proofs.CountedLists.{set_at}
 
--- Lists
-
-pub first_left : {X : Type 0} (xs : List X) (k : ℕ) → slice_get (drop k xs) 0 ≡ slice_get xs k
-first_left [] zero = refl
-first_left [] (suc k) = refl
-first_left (x ∷ xs) zero = refl
-first_left (x ∷ xs) (suc k) = first_left xs k
-
-some_left : {X : Type 0} (xs : List X) (k : ℕ) (x : X) → slice_get xs k ≡ Some x → drop k xs ≡ x ∷ drop (suc k) xs
-some_left [] k x is = cc
-some_left (y ∷ xs) zero x is =
-    let same : y ≡ x = cc in
-    ap (λ z. z ∷ xs) same
-some_left (y ∷ xs) (suc k) x is = some_left xs k x is
+-- No event is left
 
 none_left : {X : Type 0} (xs : List X) (k : ℕ) → slice_get xs k ≡ None → drop k xs ≡ []
 none_left [] zero is = refl
 none_left [] (suc k) is = refl
 none_left (y ∷ xs) zero is = cc
 none_left (y ∷ xs) (suc k) is = none_left xs k is
-
--- No event is left
 
 module _ (net : Net) (schedule : List ℕ) (p : ℕ) where
   pub nothing_left : slice_get (net.script p) (cut_after opening schedule p) ≡ None → left_after net schedule p ≡ []
@@ -47,11 +32,11 @@ module _ (net : Net) (schedule : List ℕ) (p : ℕ) where
   -- no Put is left before the next Get or Fire
   pub no_put_at_get : (c slot : ℕ) → slice_get (net.script p) (cut_after opening schedule p) ≡ Some (Get c slot)
       → put_length (left_after net schedule p) ≡ 0
-  no_put_at_get c slot is = ap put_length (some_left (net.script p) (cut_after opening schedule p) (Get c slot) is)
+  no_put_at_get c slot is = ap put_length (drop-some (net.script p) (cut_after opening schedule p) (Get c slot) is)
 
   pub no_put_at_fire : (refs : List Ref) → slice_get (net.script p) (cut_after opening schedule p) ≡ Some (Fire refs)
       → put_length (left_after net schedule p) ≡ 0
-  no_put_at_fire refs is = ap put_length (some_left (net.script p) (cut_after opening schedule p) (Fire refs) is)
+  no_put_at_fire refs is = ap put_length (drop-some (net.script p) (cut_after opening schedule p) (Fire refs) is)
 
 -- One event more
 
@@ -62,22 +47,9 @@ module _ (net : Net) (schedule more : List ℕ) (p : ℕ) (grown : more ≡ sche
   pub left_next : (e : Event) → slice_get (net.script p) (cut_after opening schedule p) ≡ Some e
       → left_after net schedule p ≡ e ∷ left_after net more p
   left_next e is =
-      some_left (net.script p) (cut_after opening schedule p) e is
+      drop-some (net.script p) (cut_after opening schedule p) e is
       ∙ ap (λ k. e ∷ drop k (net.script p))
       (sym (ap (λ cut. cut p) next_cut ∙ advanced_here (cut_after opening schedule) p p refl))
-
-  left_other : (q : ℕ) → (q ≡ p → ⊥) → left_after net schedule q ≡ left_after net more q
-  left_other q other =
-      ap (λ k. drop k (net.script q))
-      (sym (ap (λ cut. cut q) next_cut ∙ advanced_there (cut_after opening schedule) p q other))
-
-  -- what all processes have left, where a list says what they had
-  pub left_more : (lists : List (List Event)) (later : List Event)
-      → lists ≡ map (left_after net schedule) (range_with_len 0 net.processes) → p < net.processes
-      → later ≡ left_after net more p → set lists p later ≡ map (left_after net more) (range_with_len 0 net.processes)
-  left_more lists later is there here =
-      ap (λ all. set all p later) is
-      ∙ set_at (left_after net schedule) (left_after net more) net.processes p later there (sym here) left_other
 
   one_entry : (m fewer : ℕ) → m ≡ suc fewer → more ++ replicate fewer p ≡ schedule ++ replicate m p
   one_entry m fewer is =

@@ -21,13 +21,13 @@ use Rattle.net_core.specs.Machine.{IsRun, Net, State, net_of, start, step}
 use Rattle.net_core.specs.Orders.{EndsAll, reached}
 use Rattle.net_core.specs.Rules.{tags}
 use Rattle.net_core.specs.Shape.{IsWired, is_get, is_put, put_count}
-use Rattle.net_core.proofs.Counting.{count_past}
+use Rattle.net_core.proofs.EventCounts.{count_past}
 use Rattle.net_core.proofs.Positions.{cut_run, gets_advanced, puts_advanced, run_counted, run_ends, start_counted}
 use Rattle.sanlp.specs.declared.nest.Tag.{Tag}
 use Rattle.witness_plan.specs.Schedules.{could_come_at, is_ready}
 use Rattle.witness_plan.specs.Sequential.{capacities, channels_with, greatest_length, queue_length, with_capacities}
 use Rattle.witness_plan.proofs.AlongCuts.{cut_after-append}
-use Rattle.witness_plan.proofs.NotedTraffic.{greatest_more, now_within}
+use Rattle.witness_plan.proofs.GreatestLengths.{greatest_more, now_within}
 use Rattle.witness_plan.proofs.OtherCapacities.{net_kept, reader_kept, wired_kept, writer_kept}
 
 -- the network with room for all its tokens in each channel
@@ -136,7 +136,7 @@ front_runs n s [] (suc count) is = tt
 front_runs n s (p ∷ run) zero is = tt
 front_runs n s (p ∷ run) (suc count) is = (is.0, front_runs n (step n tags s p) run count is.1)
 
-capacity_given : (channels : List Channel) (capacities : List ℕ) (c : ℕ) → c < length channels → c < length capacities
+pub capacity_given : (channels : List Channel) (capacities : List ℕ) (c : ℕ) → c < length channels → c < length capacities
     → option_map_or (λ (x : Channel). x.capacity) (slice_get (channels_with channels capacities) c) 0
     ≡ get_or capacities c 0
 capacity_given [] capacities c lt within = absurd (omega arith)

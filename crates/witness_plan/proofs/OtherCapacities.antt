@@ -26,11 +26,11 @@ writer_kept (x ∷ channels) [] (suc c) = writer_kept channels [] c
 writer_kept (x ∷ channels) (y ∷ capacities) zero = refl
 writer_kept (x ∷ channels) (y ∷ capacities) (suc c) = writer_kept channels capacities c
 
-count_kept : (channels : List Channel) (capacities : List ℕ)
+pub length-channels_with : (channels : List Channel) (capacities : List ℕ)
     → length (channels_with channels capacities) ≡ length channels
-count_kept [] capacities = refl
-count_kept (x ∷ channels) [] = ap suc (count_kept channels [])
-count_kept (x ∷ channels) (y ∷ capacities) = ap suc (count_kept channels capacities)
+length-channels_with [] capacities = refl
+length-channels_with (x ∷ channels) [] = ap suc (length-channels_with channels [])
+length-channels_with (x ∷ channels) (y ∷ capacities) = ap suc (length-channels_with channels capacities)
 
 same_net : (n : Net) (channels : ℕ) (writer reader : ℕ → ℕ) → channels ≡ n.channels → writer ≡ n.writer
     → reader ≡ n.reader
@@ -48,7 +48,7 @@ net_kept network capacities =
     same_net (record (net_of network) { capacity = (net_of (with_capacities network capacities)).capacity })
     (length (channels_with network.channels capacities)) (net_of (with_capacities network capacities)).writer
     (net_of (with_capacities network capacities)).reader
-    (count_kept network.channels capacities) (fun_ext (writer_kept network.channels capacities))
+    (length-channels_with network.channels capacities) (fun_ext (writer_kept network.channels capacities))
     (fun_ext (reader_kept network.channels capacities))
 
 pub wired_at : (n : Net) (capacity : ℕ → ℕ) → IsWired n → IsWired (record n { capacity = capacity })

@@ -21,23 +21,25 @@ use Rattle.net_core.specs.declared.network.Event.TheVariants.{Get, Fire, Put}
 use Rattle.net_core.specs.Cuts.{Cut, IsCutRun, advanced, cut_after, enabled_at, gets_at, opening, puts_at}
 use Rattle.net_core.specs.Machine.{Net, net_of}
 use Rattle.net_core.specs.Shape.{is_get, is_put}
-use Rattle.net_core.proofs.Counting.{count-append, count_mono, count_next}
+use Rattle.net_core.proofs.EventCounts.{count-append, count_mono, count_next}
 use Rattle.net_core.proofs.CutOrder.{advanced_here}
+use Rattle.net_core.proofs.Positions.{gets_advanced}
+use Rattle.plain_data.proofs.Lists.{slice_get-some}
 use Rattle.process_derive.specs.Derived.{net}
 use Rattle.process_derive.specs.Scripts.{point_events, script}
 use Rattle.process_derive.proofs.Numbers.{count_channels, script_at}
-use Rattle.process_derive.proofs.Wired.{is_wired, item_at, reader_at, script_past, writer_at}
+use Rattle.process_derive.proofs.ScriptNames.{is_wired, reader_at, script_past, writer_at}
 use Rattle.sanlp.specs.declared.nest.Nest.{Nest}
 use Rattle.sanlp.specs.declared.nest.Point.{Point}
 use Rattle.sanlp.specs.Laws.{entries_from}
 use Rattle.sanlp.specs.Trace.{trace}
-use Rattle.sanlp.proofs.Enumerates.{enumerates_domains}
 use Rattle.sanlp.proofs.Lists.{range_with_len-append}
+use Rattle.sanlp.proofs.ReadCounts.{trace-statement}
 use Rattle.witness_plan.specs.Schedules.{could_come_at, is_ready}
 use Rattle.witness_plan.specs.Sequential.{sequential_schedule}
-use Rattle.witness_plan.specs.Traffic.{IsOwn}
-use Rattle.witness_plan.proofs.AlongCuts.{cut_here, cut_there, gets_more}
-use Rattle.witness_plan.proofs.GetsMade.{gets_made}
+use Rattle.witness_plan.specs.Records.{IsOwn}
+use Rattle.witness_plan.proofs.AlongCuts.{cut_here, cut_there}
+use Rattle.witness_plan.proofs.GetCounts.{gets_made}
 use Rattle.witness_plan.proofs.InTraceOrder.{stands, turns_before, until, until_more}
 use Rattle.witness_plan.proofs.NeverFull.{never_full, ready_comes}
 use Rattle.witness_plan.proofs.OwnChannels.{wired_own}
@@ -70,10 +72,6 @@ none_of t (q ∷ points) s low =
     (ne_eqb q.statement s (λ e. omega arith))
     ∙ none_of (t + 1) points s (λ i r is. low (suc i) r is)
 
-low_statement : (n : Nest) (i : ℕ) (q : Point) → slice_get (trace n) i ≡ Some q → q.statement < length n.statements
-low_statement n i q is =
-    let at = (enumerates_domains n).entry i q is in slice_get_within n.statements q.statement at.statement at.found
-
 -- also a process that isn't there has the script of its points, of which there are none
 script_is : (n : Nest) (p : ℕ) → (net_of (net n)).script p ≡ script n p
 script_is n p =
@@ -81,7 +79,7 @@ script_is n p =
       | inl lt ↦ script_at n p lt
       | inr le ↦
           let none : turn_count n p ≡ 0 =
-          ap length (none_of 0 (trace n) p (λ i q is. (let low = low_statement n i q is in omega arith))) in
+          ap length (none_of 0 (trace n) p (λ i q is. (let low = trace-statement n i q is in omega arith))) in
           script_past n p le ∙ ap (λ m. flat_map (point_events n p) (range_with_len 0 m)) (sym none)
     ]
 
@@ -202,7 +200,7 @@ module _ (n : Nest) (t : ℕ) (q : Point) (here : slice_get (trace n) t ≡ Some
     token_there : (d slot : ℕ) → slice_get (m.script q.statement) (c q.statement) ≡ Some (Get d slot)
         → IsOwn m q.statement (Get d slot) → gets_at m c d < puts_at m c d
     token_there d slot is own =
-        let plan = item_at (plans_of n) d (omega (arith, own.0, count_channels n)) in
+        let plan = slice_get-some (plans_of n) d (omega (arith, own.0, count_channels n)) in
         let w = plan.0.writer in
         let b = turns_before (trace n) t w in
         let reader : plan.0.reader ≡ q.statement = sym (reader_at n d plan.0 plan.1) ∙ own.1 in
@@ -232,7 +230,7 @@ module _ (n : Nest) (t : ℕ) (q : Point) (here : slice_get (trace n) t ≡ Some
         let later : puts_at m k d ≤ puts_at m c d =
         count_mono (is_put d) (m.script (m.writer d)) (k (m.writer d)) (c (m.writer d)) (no_less (m.writer d)) in
         let more =
-        gets_more m c q.statement d (Get d slot) is (λ h. own.1)
+        gets_advanced m (is_wired n) c q.statement (Get d slot) d is
         ∙ ap (λ b. gets_at m c d + cond b 1 0) (eq-eqb d d refl) in
         let got : gets_at m (advanced c q.statement) d ≤ count_by (is_get d) (events_before n q.statement (suc f)) =
         (
@@ -267,14 +265,14 @@ module _ (n : Nest) where
 
     ready : is_ready derived cut q.statement ≡ true
     ready =
-        let event = item_at (derived.script q.statement) (cut q.statement) (inside n t q here j lt) in
+        let event = slice_get-some (derived.script q.statement) (cut q.statement) (inside n t q here j lt) in
         let own = wired_own derived (is_wired n) q.statement (cut q.statement) event.0 event.1 in
         ap (could_come_at derived cut) event.1 ∙ could_come event.0 event.1 own
 
   runs_until : (t : ℕ) → t ≤ length (trace n) → IsCutRun (never_full derived) opening (before n t)
   runs_until zero le = tt
   runs_until (suc t) le =
-      let q = item_at (trace n) t (omega arith) in
+      let q = slice_get-some (trace n) t (omega arith) in
       let p = q.0.statement in
       let many = length (point_events n p (turns_before (trace n) t p)) in
       subst (IsCutRun (never_full derived) opening) (sym (until_more (point_events n) (trace n) t q.0 q.1))

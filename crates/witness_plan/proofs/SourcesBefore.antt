@@ -18,7 +18,8 @@ use Rattle.std.proofs.lemmas.Option.{slice_get-get_or}
 use Rattle.channel_plan.specs.Plans.{sources_at}
 use Rattle.channel_plan.specs.Tokens.{is_used, tokens_below, turn_of, turns_used, uses_of}
 use Rattle.channel_plan.proofs.Uses.{tokens_more}
-use Rattle.net_core.proofs.Counting.{count_cons, count_mono, count_next}
+use Rattle.net_core.proofs.EventCounts.{count_cons, count_mono, count_next}
+use Rattle.plain_data.proofs.Options.{option_map-some, option_and_then-some}
 use Rattle.reorder_slots.specs.Slots.{gets_for}
 use Rattle.sanlp.specs.declared.nest.Nest.{Nest}
 use Rattle.sanlp.specs.declared.nest.Point.{Point}
@@ -29,9 +30,8 @@ use Rattle.sanlp.specs.Tags.{tag_at}
 use Rattle.sanlp.specs.Trace.{trace}
 use Rattle.sanlp.specs.Writers.{cell_read, greatest_below, last_before, writes_at}
 use Rattle.source_tree.specs.Sources.{source_at}
-use Rattle.witness_plan.proofs.GetsMade.{turns_first}
+use Rattle.witness_plan.proofs.GetCounts.{turns_first}
 use Rattle.witness_plan.proofs.InTraceOrder.{turns_before}
-use Rattle.witness_plan.proofs.Usages.{chained, mapped}
 
 -- Sources
 
@@ -58,19 +58,21 @@ last_is_before n points t cell u h = greatest_is_below (writes_at n points cell)
 source_turn : (n : Nest) (points : List Point) (k e : ℕ) (tag : Tag) → source_at n points k e ≡ Some tag
     → tag.turn < turns_before points e tag.process
 source_turn n points k e tag h =
-    let outer = chained (tag_at points) (option_and_then (last_before n points e) (cell_read n points e k)) tag h in
-    let inner = chained (last_before n points e) (cell_read n points e k) outer.0 outer.1 in
+    let outer =
+    option_and_then-some (tag_at points) (option_and_then (last_before n points e) (cell_read n points e k)) tag h in
+    let inner = option_and_then-some (last_before n points e) (cell_read n points e k) outer.0 outer.1 in
     let u = outer.0 in
     let before = last_is_before n points e inner.0 u inner.2 in
-    let is = mapped _ (slice_get points u) tag outer.2 in
+    let is = option_map-some _ (slice_get points u) tag outer.2 in
+    let made = sym is.2 in
     let q = is.0 in
     let next : turns_before points (suc u) q.statement
     ≡ turns_before points u q.statement + cond (q.statement == q.statement) 1 0 =
     count_next (λ (r : Point). r.statement == q.statement) points u q is.1 in
     let one = ap (λ b. cond {A = ℕ} b 1 0) (eq-eqb q.statement q.statement refl) in
     let later = count_mono (λ (r : Point). r.statement == q.statement) points (suc u) e before in
-    let process : tag.process ≡ q.statement = ap (λ (x : Tag). x.process) is.2 in
-    let turn : tag.turn ≡ turns_before points u q.statement = ap (λ (x : Tag). x.turn) is.2 in
+    let process : tag.process ≡ q.statement = ap (λ (x : Tag). x.process) made in
+    let turn : tag.turn ≡ turns_before points u q.statement = ap (λ (x : Tag). x.turn) made in
     let bound : tag.turn < turns_before points e q.statement = omega arith in
     subst (λ s. tag.turn < turns_before points e s) (sym process) bound
 
@@ -184,7 +186,7 @@ use_of turn (x ∷ used) (suc k) is =
     or_true true = refl
     or_true false = refl
 
-tokens_mono : (used : List ℕ) (g more : ℕ) → tokens_below used g ≤ tokens_below used (g + more)
+pub tokens_mono : (used : List ℕ) (g more : ℕ) → tokens_below used g ≤ tokens_below used (g + more)
 tokens_mono used g zero = let same : g + 0 ≡ g = omega arith in omega (arith, ap (tokens_below used) same)
 tokens_mono used g (suc more) =
     let next : g + suc more ≡ g + more + 1 = omega arith in

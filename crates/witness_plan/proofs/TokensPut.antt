@@ -14,15 +14,15 @@ use Rattle.channel_plan.specs.declared.plans.ChannelPlan.{ChannelPlan}
 use Rattle.channel_plan.specs.Plans.{plans_of, sources_at, turn_count}
 use Rattle.channel_plan.specs.Tokens.{is_used, tokens_below, turns_used}
 use Rattle.channel_plan.proofs.Uses.{tokens_more}
+use Rattle.channel_plan.proofs.PlanEnds.{plans_of-plan_of}
 use Rattle.net_core.specs.declared.network.Event.TheVariants.{Fire, Put}
 use Rattle.net_core.specs.Shape.{is_put}
-use Rattle.net_core.proofs.Counting.{count-append, count_cons}
+use Rattle.net_core.proofs.EventCounts.{count-append, count_cons}
 use Rattle.process_derive.specs.Scripts.{gets_of, point_events, puts_from, ref_of, usage}
 use Rattle.sanlp.specs.Access.{read_count}
 use Rattle.sanlp.specs.declared.nest.Nest.{Nest}
 use Rattle.sanlp.proofs.Lists.{flat_map-range_with_len_more}
 use Rattle.witness_plan.proofs.PointEvents.{events_before}
-use Rattle.witness_plan.proofs.Usages.{plan_is}
 
 pub events_more : (n : Nest) (p g : ℕ) → events_before n p (suc g) ≡ events_before n p g ++ point_events n p g
 events_more n p g =
@@ -61,7 +61,7 @@ module _ (n : Nest) (c : ℕ) (plan : ChannelPlan) (found : slice_get (plans_of 
       let usages = map (usage n w g) (range_with_len 0 (read_count n w)) in
       let puts = puts_from 0 (plans_of n) w g in
       let here : get_or plan.is_token g false ≡ true =
-      ap (λ (x : ChannelPlan). get_or x.is_token g false) (plan_is n c plan found)
+      ap (λ (x : ChannelPlan). get_or x.is_token g false) (plans_of-plan_of n c plan found)
       ∙ get_or-map-range_with_len (is_used used) 0 (turn_count n w) g g false lt (omega arith) ∙ token in
       let front : 0 + c ≡ c = omega arith in
       let one : 1 ≤ count_by (is_put c) puts =

@@ -3,37 +3,21 @@
 -- A use is found by a search through all channels for one from the process of the fire's source to its
 -- read. What the search finds has these ends and stands at the place of its number (`channel_found`, by
 -- induction along the channels). Each channel of a nest is the plan of its own ends, since all are made so
--- (`plan_is`). So a use tells its source, its channel and plan of slots, and its number (`use_is`). That a
+-- (`plans_of-plan_of`). So a use tells its source, its channel and plan of slots, and its number (`use_is`). That a
 -- source's channel is always found isn't shown here, nor that there is no other with the same ends.
-use Rattle.std.proofs.Common.{◌≡◌, ℕ, suc, ◌+◌, true, false, cond, Option, Some, None, List, [], ◌∷◌, length, take}
-use Rattle.std.proofs.Common.{slice_get, refl, sym, ap, ◌∙◌, subst, inl, inr, arith}
-use Rattle.std.specs.Prelude.{All, ◌==◌}
-use Rattle.std.specs.List.{flat_map, range_with_len}
-use Rattle.std.specs.Option.{option_and_then, option_map}
+use Rattle.std.proofs.Common.{◌≡◌, ℕ, suc, ◌+◌, true, false, cond, Option, Some, List, [], ◌∷◌, length, take}
+use Rattle.std.proofs.Common.{slice_get, sym, ap, ◌∙◌, inl, inr, arith}
+use Rattle.std.specs.Prelude.{◌==◌}
 use Rattle.std.proofs.lemmas.Bool.{and_parts, cases_Bool, eqb-true}
-use Rattle.std.proofs.lemmas.List.Elements.{All-append, All-cons, All-map, All-nil}
-use Rattle.std.proofs.lemmas.Option.{get_or_from_slice_get, slice_get_within}
 use Rattle.channel_plan.specs.declared.plans.ChannelPlan.{ChannelPlan}
-use Rattle.channel_plan.specs.Plans.{plan_of, plans_at, plans_of, sources_at}
-use Rattle.channel_plan.specs.Tokens.{turns_used, writers_of}
+use Rattle.channel_plan.specs.Plans.{plans_of, sources_at}
+use Rattle.channel_plan.specs.Tokens.{turns_used}
+use Rattle.plain_data.proofs.Options.{option_map-some, option_and_then-some}
 use Rattle.process_derive.specs.Scripts.{Usage, channel_from, goes_between, usage}
-use Rattle.sanlp.specs.Access.{read_count}
 use Rattle.sanlp.specs.declared.nest.Nest.{Nest}
 use Rattle.sanlp.specs.declared.nest.Tag.{Tag}
 
 -- Lists
-
-all_flat_map : {X Y : Type 0} (P : Y → Type 0) (f : X → List Y) → ((x : X) → All P (f x)) → (xs : List X)
-    → All P (flat_map f xs)
-all_flat_map P f each [] = All-nil P
-all_flat_map P f each (x ∷ xs) = All-append P (f x) (flat_map f xs) (each x) (all_flat_map P f each xs)
-
-each_all : {X : Type 0} (P : X → Type 0) → ((x : X) → P x) → (xs : List X) → All P xs
-each_all P each [] = All-nil P
-each_all P each (x ∷ xs) = All-cons P x xs (each x) (each_all P each xs)
-
-all_at : {X : Type 0} (P : X → Type 0) (xs : List X) (k : ℕ) (x : X) → All P xs → slice_get xs k ≡ Some x → P x
-all_at P xs k x all is = subst P (get_or_from_slice_get xs k x x is) (all k x (slice_get_within xs k x is))
 
 -- Channels
 
@@ -72,24 +56,6 @@ channel_found c (plan ∷ plans) w p k found h =
           }
     ]
 
-abbrev IsPlan : Nest → ChannelPlan → Type 0
-IsPlan n plan = plan ≡ plan_of n plan.reader plan.read plan.writer
-
--- each channel of a nest is that of its reader, read and writer
-pub plan_is : (n : Nest) (c : ℕ) (plan : ChannelPlan) → slice_get (plans_of n) c ≡ Some plan
-    → plan ≡ plan_of n plan.reader plan.read plan.writer
-unfolding plans_of
-plan_is n c plan is = all_at (IsPlan n) (plans_of n) c plan every is
-  where
-    every : All (IsPlan n) (plans_of n)
-    every =
-        all_flat_map (IsPlan n) (λ p. flat_map (plans_at n p) (range_with_len 0 (read_count n p)))
-        (λ p. all_flat_map (IsPlan n) (plans_at n p)
-        (λ k. All-map (IsPlan n) (plan_of n p k) (writers_of (length n.statements) (sources_at n p k))
-        (each_all (λ w. IsPlan n (plan_of n p k w)) (λ w. refl) (writers_of (length n.statements) (sources_at n p k))))
-        (range_with_len 0 (read_count n p)))
-        (range_with_len 0 (length n.statements))
-
 -- Uses
 
 -- a fire's use at a read: its source, its channel, and its number
@@ -103,26 +69,17 @@ pub record IsUse (n : Nest) (p f k : ℕ) (u : Usage) : Type 0 where
   pub slots : u.slots ≡ plan.slots
   pub number : u.number ≡ length (turns_used source.process (take f (sources_at n p k)))
 
-pub mapped : {A B : Type 0} (f : A → B) (o : Option A) (y : B) → option_map f o ≡ Some y
-    → (x : A) × (o ≡ Some x) × (y ≡ f x)
-mapped f None y h = cc
-mapped f (Some x) y h = let e : y ≡ f x = cc in (x, refl, e)
-
-pub chained : {A B : Type 0} (f : A → Option B) (o : Option A) (y : B) → option_and_then f o ≡ Some y
-    → (x : A) × (o ≡ Some x) × (f x ≡ Some y)
-chained f None y h = cc
-chained f (Some x) y h = (x, refl, h)
-
 pub use_is : (n : Nest) (p f k : ℕ) (u : Usage) → usage n p f k ≡ Some u → IsUse n p f k u
 use_is n p f k u h =
     let plans = plans_of n in
     let sources = sources_at n p k in
-    let outer = chained _ (slice_get sources f) u h in
-    let inner = chained _ outer.0 u outer.2 in
+    let outer = option_and_then-some _ (slice_get sources f) u h in
+    let inner = option_and_then-some _ outer.0 u outer.2 in
     let w = inner.0.process in
-    let found = mapped _ (channel_from 0 plans w p k) u inner.2 in
+    let found = option_map-some _ (channel_from 0 plans w p k) u inner.2 in
+    let made = sym found.2 in
     let is = channel_found 0 plans w p k found.0 found.1 in
-    let channel : u.channel ≡ is.place = ap (λ (x : Usage). x.channel) found.2 ∙ is.number ∙ omega arith in
+    let channel : u.channel ≡ is.place = ap (λ (x : Usage). x.channel) made ∙ is.number ∙ omega arith in
     let between = and_parts _ (found.0.1.read == k) is.between in
     let ends = and_parts (found.0.1.writer == w) (found.0.1.reader == p) between.0 in
     record {
@@ -132,6 +89,6 @@ use_is n p f k u h =
       is = ap (slice_get plans) channel ∙ is.is;
       read = eqb-true found.0.1.read k between.1;
       writer = eqb-true found.0.1.writer w ends.0;
-      slots = ap (λ (x : Usage). x.slots) found.2;
-      number = ap (λ (x : Usage). x.number) found.2;
+      slots = ap (λ (x : Usage). x.slots) made;
+      number = ap (λ (x : Usage). x.number) made;
     }

@@ -1,5 +1,4 @@
-pub mod Progress
+pub mod Records
 pub mod Schedules
 pub mod Sequential
 pub mod Steps
-pub mod Traffic

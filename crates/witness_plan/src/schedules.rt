@@ -1,19 +1,16 @@
-ghost use Rattle.std.specs.Prelude.{◌≡◌, ◌<◌, ◌^◌, length, IfOk};
+ghost use Rattle.std.specs.Prelude.{◌≡◌, IfOk};
 ghost use Rattle.sanlp.specs.Size.{SizeIsOk};
-ghost use Rattle.sanlp.specs.Points.{points_of};
 ghost use Rattle.net_core.specs.Machine.{net_of};
 ghost use Rattle.net_core.specs.Orders.{EndsAll};
 ghost use Rattle.net_core.specs.Rules.{tags};
-ghost use Rattle.net_core.specs.Shape.{IsWired};
+ghost use Rattle.net_core.specs.Shape.{FitsNumbers, IsWired};
 ghost use Rattle.process_derive.specs.Derived.{net};
 ghost use Rattle.witness_plan.specs.Schedules.{downward_schedule, schedule};
 ghost use Rattle.witness_plan.specs.Sequential.{capacities, channels_with, sequential_schedule, with_capacities};
-ghost use Rattle.witness_plan.specs.Traffic.{NamesOwnChannels};
 
 use crate::laws::schedule_runs;
-use crate::progress::{Progress, bound_after};
+use crate::recorder::{Recorder, bound_after};
 use crate::steps::make_point;
-use crate::traffic::greatest_lengths;
 use loop_walk::Walk;
 use net_core::{Channel, Network};
 use plain_data::Items;
@@ -43,45 +40,38 @@ pub struct Witness {
 fn sequential(alloc: Global, nest: &Nest, network: &Network) -> Result<Witness, AllocError>
     requires size { SizeIsOk nest.now }
     requires network { network.now ≡ net nest.now }
+    requires wired { IsWired (net_of network.now) }
+    requires numbers { FitsNumbers (net_of network.now) }
     ensures schedule { IfOk result (λ witness. witness.schedule ≡ sequential_schedule nest.now) }
     ensures capacities { IfOk result
         (λ witness. witness.capacities ≡ capacities network.now (sequential_schedule nest.now)) }
 {
-    let mut progress = Progress::new(alloc, network)?;
+    let mut recorder = Recorder::new(alloc, network)?;
     let mut walk = Walk::new(alloc, nest)?;
     while let Some(point) = walk.next(nest) {
-        make_point(&mut progress, network, point.statement)?;
+        make_point(&mut recorder, network, point.statement)?;
     }
-    let lengths = greatest_lengths(alloc, &progress.traffic)?;
-    Ok(Witness {
-        schedule: progress.schedule,
-        capacities: lengths,
-    })
+    Ok(recorder.into_witness())
 }
 
 // The schedule that takes at each state the highest-numbered process that is ready, with its capacities. After an event of
 // that process no higher one is ready but a Put's reader, so the search goes on from there.
 fn downward(alloc: Global, network: &Network) -> Result<Witness, AllocError>
     requires wired { IsWired (net_of network.now) }
-    requires channels { NamesOwnChannels (net_of network.now) }
-    requires few { length network.now.processes < 2 ^ 32 }
+    requires numbers { FitsNumbers (net_of network.now) }
     ensures schedule { IfOk result
         (λ witness. witness.schedule ≡ downward_schedule (net_of network.now)) }
     ensures capacities { IfOk result
         (λ witness. witness.capacities
         ≡ capacities network.now (downward_schedule (net_of network.now))) }
 {
-    let mut progress = Progress::new(alloc, network)?;
+    let mut recorder = Recorder::new(alloc, network)?;
     let mut below = network.processes.len() as u32;
-    while let Some(process) = progress.highest_ready(network, below) {
-        let event = progress.make_event(network, process)?;
+    while let Some(process) = recorder.highest_ready(network, below) {
+        let event = recorder.make_event(network, process)?;
         below = bound_after(network, process, &event);
     }
-    let capacities = greatest_lengths(alloc, &progress.traffic)?;
-    Ok(Witness {
-        schedule: progress.schedule,
-        capacities,
-    })
+    Ok(recorder.into_witness())
 }
 
 /// The schedule of a nest's network under a policy, and the greatest length of each channel's queue along it. With these
@@ -109,16 +99,15 @@ pub fn plan_for(
     }
 }
 
-/// The answer of `plan_for`, beside the nest's points, which it doesn't need.
+/// The answer of `plan_for`, beside points, which it doesn't need.
 pub fn plan(
     alloc: Global,
     nest: &Nest,
-    points: &Points,
+    _points: &Points,
     network: &Network,
     policy: Policy,
 ) -> Result<Witness, AllocError>
     requires size { SizeIsOk nest.now }
-    requires points { points.now.of ≡ points_of nest.now }
     requires network { network.now ≡ net nest.now }
     ensures schedule { IfOk result (λ witness. witness.schedule ≡ schedule nest.now policy) }
     ensures capacities { IfOk result
@@ -127,7 +116,6 @@ pub fn plan(
         (λ witness. EndsAll
         (net_of (with_capacities network.now witness.capacities)) tags witness.schedule) }
 {
-    let _ = points;
     plan_for(alloc, nest, network, policy)
 }
 

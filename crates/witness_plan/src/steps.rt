@@ -1,29 +1,27 @@
 ghost use Rattle.std.specs.Prelude.{◌≡◌, ◌<◌, ◌++◌, length, replicate, OnOk};
 ghost use Rattle.net_core.specs.Machine.{net_of};
-ghost use Rattle.witness_plan.specs.Progress.{IsProgress, left_after};
+ghost use Rattle.witness_plan.specs.Records.{IsRecord, left_after};
 ghost use Rattle.witness_plan.specs.Steps.{point_length, put_length};
-ghost use Rattle.witness_plan.specs.Traffic.{NamesOwnChannels};
 
-use crate::progress::Progress;
+use crate::recorder::Recorder;
 use net_core::{Event, Network};
 use std::alloc::AllocError;
 
 // Lets a process make all its events up to a Fire.
-fn make_fire(progress: &mut Progress, network: &Network, process: u32) -> Result<(), AllocError>
-    requires progress { IsProgress (net_of network.now) progress.old }
-    requires channels { NamesOwnChannels (net_of network.now) }
+fn make_fire(recorder: &mut Recorder, network: &Network, process: u32) -> Result<(), AllocError>
+    requires recorder { IsRecord (net_of network.now) recorder.old }
     requires process { process < length network.now.processes }
     ensures schedule { OnOk result
-        (progress.new.schedule
+        (recorder.new.schedule
         ++ replicate
-        (put_length (left_after (net_of network.now) progress.new.schedule process)) process
-        ≡ progress.old.schedule
+        (put_length (left_after (net_of network.now) recorder.new.schedule process)) process
+        ≡ recorder.old.schedule
         ++ replicate
-        (point_length (left_after (net_of network.now) progress.old.schedule process)) process) }
-    ensures progress { OnOk result (IsProgress (net_of network.now) progress.new) }
+        (point_length (left_after (net_of network.now) recorder.old.schedule process)) process) }
+    ensures recorder { OnOk result (IsRecord (net_of network.now) recorder.new) }
 {
-    while let Some(event) = progress.next_event(network, process) {
-        progress.make_event(network, process)?;
+    while let Some(event) = recorder.next_event(network, process) {
+        recorder.make_event(network, process)?;
         if let Event::Fire { .. } = event {
             return Ok(());
         }
@@ -32,20 +30,19 @@ fn make_fire(progress: &mut Progress, network: &Network, process: u32) -> Result
 }
 
 // Lets a process make the Puts that come next.
-fn make_puts(progress: &mut Progress, network: &Network, process: u32) -> Result<(), AllocError>
-    requires progress { IsProgress (net_of network.now) progress.old }
-    requires channels { NamesOwnChannels (net_of network.now) }
+fn make_puts(recorder: &mut Recorder, network: &Network, process: u32) -> Result<(), AllocError>
+    requires recorder { IsRecord (net_of network.now) recorder.old }
     requires process { process < length network.now.processes }
     ensures schedule { OnOk result
-        (progress.new.schedule
-        ≡ progress.old.schedule
+        (recorder.new.schedule
+        ≡ recorder.old.schedule
         ++ replicate
-        (put_length (left_after (net_of network.now) progress.old.schedule process)) process) }
-    ensures progress { OnOk result (IsProgress (net_of network.now) progress.new) }
+        (put_length (left_after (net_of network.now) recorder.old.schedule process)) process) }
+    ensures recorder { OnOk result (IsRecord (net_of network.now) recorder.new) }
 {
-    while let Some(event) = progress.next_event(network, process) {
+    while let Some(event) = recorder.next_event(network, process) {
         match event {
-            Event::Put { .. } => progress.make_event(network, process)?,
+            Event::Put { .. } => recorder.make_event(network, process)?,
             Event::Get { .. } | Event::Fire { .. } => return Ok(()),
         };
     }
@@ -54,21 +51,20 @@ fn make_puts(progress: &mut Progress, network: &Network, process: u32) -> Result
 
 /// Lets a process make the events of its next point, and counts them: all up to its Fire, and the Puts behind it.
 pub(crate) fn make_point(
-    progress: &mut Progress,
+    recorder: &mut Recorder,
     network: &Network,
     process: u32,
 ) -> Result<(), AllocError>
-    requires progress { IsProgress (net_of network.now) progress.old }
-    requires channels { NamesOwnChannels (net_of network.now) }
+    requires recorder { IsRecord (net_of network.now) recorder.old }
     requires process { process < length network.now.processes }
     ensures schedule { OnOk result
-        (progress.new.schedule
-        ≡ progress.old.schedule
+        (recorder.new.schedule
+        ≡ recorder.old.schedule
         ++ replicate
-        (point_length (left_after (net_of network.now) progress.old.schedule process)) process) }
-    ensures progress { OnOk result (IsProgress (net_of network.now) progress.new) }
+        (point_length (left_after (net_of network.now) recorder.old.schedule process)) process) }
+    ensures recorder { OnOk result (IsRecord (net_of network.now) recorder.new) }
 {
-    make_fire(progress, network, process)?;
-    make_puts(progress, network, process)?;
+    make_fire(recorder, network, process)?;
+    make_puts(recorder, network, process)?;
     Ok(())
 }

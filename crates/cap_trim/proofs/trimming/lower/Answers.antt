@@ -1,6 +1,6 @@
 use Rattle.std.proofs.Common.{◌≡◌, ◌∙◌, ◌<◌, true, false, length, get_or, sym, subst, arith}
 use Rattle.net_core.specs.Machine.{net_of}
-use Rattle.cap_trim.proofs.Trying.{IsTrying, least_found, least_own, trying_first, trying_more}
+use Rattle.cap_trim.proofs.CapacitySearch.{IsTrying, least_found, least_own, trying_first, trying_more}
 use Rattle.cap_trim.proofs.trimming.lower.Goals as goal
 
 pub loop-capacity-init : goal.loop-capacity-init
@@ -16,7 +16,7 @@ loop-capacity-preserved c =
     in
     trying_more (net_of c.args.network.now) c.requires.wired c.args.capacities.now c.args.channel there
     c.loop-capacity.capacity c.loop-capacity.progress c.loop-capacity.capacities c.loop-capacity.invariant
-    c.go_on.new.self c.go_on.ensures.run c.go_on.ensures.stuck c.go_on.ensures.progress
+    c.go_on.new.progress c.go_on.ensures.run c.go_on.ensures.stuck c.go_on.ensures.progress
     (λ ended. (let off : true ≡ false = sym (c.has_ended.ensures.1 ended) ∙ c.if-has_ended.false in cc))
 
 pub returns-then-has_ended : goal.returns-then-has_ended
@@ -25,7 +25,7 @@ returns-then-has_ended c =
     in
     least_found (net_of c.args.network.now) c.requires.wired c.args.capacities.now c.args.channel there
     c.loop-capacity.capacity c.loop-capacity.progress c.loop-capacity.capacities c.loop-capacity.invariant
-    c.go_on.new.self c.go_on.ensures.run c.go_on.ensures.stuck (omega arith) (c.has_ended.ensures.0 c.if-has_ended.true)
+    c.go_on.new.progress c.go_on.ensures.run c.go_on.ensures.stuck (omega arith) (c.has_ended.ensures.0 c.if-has_ended.true)
 
 pub returns : goal.returns
 returns c =

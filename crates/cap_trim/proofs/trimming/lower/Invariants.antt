@@ -1,5 +1,5 @@
 use Rattle.net_core.specs.Machine.{net_of}
-use Rattle.cap_trim.proofs.Trying.{IsTrying}
+use Rattle.cap_trim.proofs.CapacitySearch.{IsTrying}
 use Rattle.cap_trim.proofs.trimming.lower.Given as goal
 
 abbrev pub invariant-loop-capacity : goal.invariant-loop-capacity

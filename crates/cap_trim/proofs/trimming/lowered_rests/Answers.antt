@@ -1,7 +1,7 @@
 use Rattle.std.proofs.Common.{◌∙◌, ◌-◌, ◌<◌, List, ℕ, set, length, ap, arith}
 use Rattle.std.specs.Prelude.{slice_index}
 use Rattle.net_core.specs.Machine.{net_of}
-use Rattle.cap_trim.specs.Progress.{at_capacities}
+use Rattle.net_core.specs.Progress.{at_capacities}
 use Rattle.cap_trim.specs.Rests.{rest}
 use Rattle.cap_trim.proofs.Turns.{rest_lowered, rests_more, set_back}
 use Rattle.cap_trim.proofs.trimming.lowered_rests.Goals as goal

@@ -2,7 +2,7 @@ use Rattle.std.proofs.Common.{◌≡◌, map}
 use Rattle.std.specs.List.{range_with_len}
 use Rattle.net_core.specs.Machine.{net_of}
 use Rattle.cap_trim.specs.Capacities.{lowered_network}
-use Rattle.cap_trim.specs.Progress.{at_capacities}
+use Rattle.net_core.specs.Progress.{at_capacities}
 use Rattle.cap_trim.specs.Rests.{rest}
 use Rattle.cap_trim.proofs.trimming.lowered_rests.Given as goal
 

@@ -1,15 +1,16 @@
 use Rattle.std.proofs.Common.{◌≡◌, ◌∙◌, List, ℕ, set, drop, length, ap, subst, arith}
 use Rattle.std.proofs.lemmas.List.{take_at}
 use Rattle.net_core.specs.Machine.{net_of}
+use Rattle.net_core.proofs.Fresh.{no_capacity}
 use Rattle.cap_trim.specs.Capacities.{least_capacity}
-use Rattle.cap_trim.specs.Progress.{at_capacities}
+use Rattle.net_core.specs.Progress.{at_capacities}
 use Rattle.cap_trim.proofs.ChannelCapacities.{capacities_are}
-use Rattle.cap_trim.proofs.Turns.{HaveTurned, no_room_past, turned_all, turned_more, turned_none}
+use Rattle.cap_trim.proofs.Turns.{HaveTurned, turned_all, turned_more, turned_none}
 use Rattle.cap_trim.proofs.trimming.trimmed_capacities.Goals as goal
 
 pub loop-channel-init : goal.loop-channel-init
 loop-channel-init c =
-    turned_none (net_of c.args.network.now) (no_room_past c.args.network.now) c.in_ok-capacities.capacities.items
+    turned_none (net_of c.args.network.now) (no_capacity c.args.network.now) c.in_ok-capacities.capacities.items
     (c.in_ok-capacities.ensures ∙ capacities_are c.args.network.now)
 
 pub loop-channel-preserved : goal.loop-channel-preserved

@@ -1,4 +1,4 @@
-use Rattle.cert_ranges.proofs.Planned.{planned_has_text}
+use Rattle.cert_ranges.proofs.NetworkRanges.{planned_has_text}
 use Rattle.cert_ranges.proofs.law.certificate_has_text.Goals as goal
 
 pub returns : goal.returns

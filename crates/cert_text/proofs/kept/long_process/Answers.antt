@@ -1,8 +1,9 @@
-use Rattle.std.proofs.Common.{◌≡◌, ◌+◌, ◌<◌, ◌≤◌, ℕ, true, false, Some, length, take, sym, ap, ◌∙◌, arith}
+use Rattle.std.proofs.Common.{◌+◌, ◌<◌, ◌≤◌, ℕ, Some, length, take, sym, ap, ◌∙◌, arith, lt-ltb}
+use Rattle.std.proofs.Common.{le-ltb}
 use Rattle.std.specs.List.{sum_by}
-use Rattle.cert_text.specs.Folding.{are_long_to, most_events}
+use Rattle.cert_text.specs.Folding.{most_events}
 use Rattle.cert_text.specs.Kept.{scripts_of}
-use Rattle.cert_text.proofs.Shortness.{long_here, long_later, long_none, more_events, not_past, past, scripts_count}
+use Rattle.cert_text.proofs.Shortness.{long_here, long_later, long_none, more_events, scripts_count}
 use Rattle.cert_text.proofs.kept.long_process.Goals as goal
 
 pub returns-then-len-events : goal.returns-then-len-events
@@ -15,7 +16,7 @@ returns-then-len-events c =
     let many : most_events < sum_by length (take (i + 1) (scripts_of ps)) =
     omega (arith, more, c.loop-process.invariant.events, c.loop-process.invariant.few, c.capped_len-len.ensures) in
     ap (λ (n : ℕ). Some n) c.loop-process.invariant.place
-    ∙ sym (long_here (scripts_of ps) i inside (past most_events (sum_by length (take (i + 1) (scripts_of ps))) many))
+    ∙ sym (long_here (scripts_of ps) i inside (lt-ltb most_events (sum_by length (take (i + 1) (scripts_of ps))) many))
     ∙ c.loop-process.invariant.later
 
 pub loop-process-preserved : goal.loop-process-preserved
@@ -33,7 +34,7 @@ loop-process-preserved c =
           (arith, more, c.loop-process.invariant.events, c.loop-process.invariant.few, c.capped_len-len.ensures);
       few = omega (arith, c.loop-process.invariant.few);
       later =
-          long_later (scripts_of ps) i inside (not_past most_events (sum_by length (take (i + 1) (scripts_of ps))) few)
+          long_later (scripts_of ps) i inside (le-ltb most_events (sum_by length (take (i + 1) (scripts_of ps))) few)
           ∙ c.loop-process.invariant.later;
     }
 

@@ -1,4 +1,3 @@
-use Rattle.std.proofs.Common.{arith}
 use Rattle.cert_text.proofs.Shortness.{each_short, short_where}
 use Rattle.cert_text.specs.Kept.{scripts_of}
 use Rattle.cert_text.proofs.kept.unfold.Goals as goal

@@ -1,6 +1,7 @@
 use Rattle.std.proofs.Common.{arith, length}
+use Rattle.cert_lines.proofs.WordCounts.{one_counted}
 use Rattle.cert_text.specs.Words.{references}
-use Rattle.cert_text.proofs.References.{next_reference, one_counted, one_longer}
+use Rattle.cert_text.proofs.References.{next_reference, one_longer}
 use Rattle.cert_text.proofs.places.references.Goals as goal
 
 pub loop-word-preserved : goal.loop-word-preserved

@@ -4,7 +4,7 @@ use Rattle.net_core.specs.declared.network.Network.{Network}
 use Rattle.source_tree.specs.declared.cert.Cert.{Cert}
 use Rattle.cert_text.specs.Reading.{reading}
 use Rattle.cert_text.specs.StandsFor.{StandsFor}
-use Rattle.cert_lines.proofs.Found.{answer_of_text, if_answered}
+use Rattle.cert_lines.proofs.Outcomes.{answer_of_text, if_answered}
 use Rattle.cert_text.proofs.Lengths.{few_events}
 use Rattle.cert_text.proofs.ReadBack.{reads_back, stands_for}
 use Rattle.cert_text.proofs.reading.read_cert.Goals as goal

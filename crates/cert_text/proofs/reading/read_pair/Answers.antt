@@ -7,7 +7,7 @@ use Rattle.cert_lines.specs.Reading.{Place, found}
 use Rattle.cert_text.specs.declared.kept.Kept.{Kept}
 use Rattle.cert_text.specs.Kept.{cert_of_kept, network_of_kept, whole_kept}
 use Rattle.cert_text.specs.Reading.{pair_unless, reading}
-use Rattle.cert_text.proofs.KeptSame.{pair_of_kept, reading_kept}
+use Rattle.cert_text.proofs.TextContents.{pair_of_kept, reading_kept}
 use Rattle.cert_text.proofs.reading.read_pair.Goals as goal
 
 -- what a text comes to by what its reading kept

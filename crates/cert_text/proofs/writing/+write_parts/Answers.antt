@@ -1,9 +1,9 @@
 use Rattle.std.proofs.Common.{ℕ, List, length, sym, subst}
 use Rattle.text_out.specs.Wrote.{Wrote}
+use Rattle.text_out.proofs.Wrote.{Wrote-append}
 use Rattle.script_blocks.specs.declared.blocks.BlockPart.{BlockPart}
 use Rattle.cert_text.specs.CertText.{part_text, parts_text, repeat_text}
 use Rattle.cert_text.proofs.Texts.{text_item, text_repeat}
-use Rattle.cert_text.proofs.Written.{wrote_on}
 use Rattle.cert_text.proofs.writing.+write_parts.Goals as goal
 
 pub write_part-returns-in-Item : goal.write_part-returns-in-Item
@@ -23,6 +23,6 @@ write_part-returns-in-Repeat g t c =
     (part_text lines part)) (sym c.in-Repeat.is)
     (subst (λ (text : List ℕ). Wrote g.W.TextWriter.given c.args.out.now c.write_parts.new.out text)
     (sym (text_repeat lines times body))
-    (wrote_on g.W.TextWriter.given c.args.out.now c.write_repeat.new.out c.write_parts.new.out
+    (Wrote-append g.W.TextWriter.given
     (repeat_text times (length body.parts)) (parts_text lines body.parts)
     (rw c.len.ensures at c.write_repeat.ensures) (rw c.as_slice.ensures at c.write_parts.ensures)))

@@ -1,6 +1,6 @@
 use Rattle.std.proofs.Common.{◌≡◌, ℕ, suc, List, length, ap, ◌∙◌, arith}
 use Rattle.cert_text.specs.Stretches.{Stretch, stretches}
-use Rattle.cert_text.proofs.Stretching.{no_entries}
+use Rattle.cert_text.proofs.StretchLists.{no_entries}
 use Rattle.cert_text.proofs.writing.stretch_count.Goals as goal
 
 pub loop-entry-preserved : goal.loop-entry-preserved

@@ -1,6 +1,6 @@
-use Rattle.std.proofs.Common.{◌≡◌, ◌+◌, ℕ, List, ◌∷◌, drop, sym, ap, ◌∙◌}
+use Rattle.std.proofs.Common.{◌+◌, ℕ, List, ◌∷◌, drop, sym, ap, ◌∙◌}
 use Rattle.cert_text.specs.Stretches.{Stretch, stretches}
-use Rattle.cert_text.proofs.Stretching.{stretch_first}
+use Rattle.cert_text.proofs.StretchLists.{stretch_first}
 use Rattle.cert_text.proofs.writing.take_stretch.Goals as goal
 
 abbrev with_others : ℕ → ℕ → List ℕ → List Stretch

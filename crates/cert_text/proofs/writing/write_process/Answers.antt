@@ -1,11 +1,10 @@
 use Rattle.std.proofs.Common.{ap, arith}
 use Rattle.net_core.specs.declared.network.Event.{Event}
-use Rattle.net_core.specs.declared.network.Process.{Process}
 use Rattle.std.specs.Prelude.{List}
 use Rattle.cert_text.specs.CertText.{event_text, parts_text, process_head}
 use Rattle.cert_text.specs.Folding.{FoldedProcess}
-use Rattle.cert_text.proofs.Written.{wrote_on}
 use Rattle.cert_text.proofs.writing.write_process.Goals as goal
+use Rattle.text_out.proofs.Wrote.{Wrote-append}
 
 pub returns : goal.returns
 returns g c =
@@ -19,7 +18,7 @@ returns g c =
         shallow =
             omega (arith, c.blocks-blocks.ensures.shallow);
       };
-      wrote = wrote_on g.W.TextWriter.given c.args.out.now c.write_process_head.new.out c.write_parts.new.out
+      wrote = Wrote-append g.W.TextWriter.given
           (process_head folded) (parts_text event_text folded.script.parts)
           (rw c.len.ensures at c.write_process_head.ensures) (rw c.as_slice.ensures at c.write_parts.ensures);
     }

@@ -2,7 +2,7 @@ use Rattle.std.proofs.Common.{◌≡◌, ◌+◌, List, [], ◌∷◌, ◌++◌,
 use Rattle.std.proofs.lemmas.List.{take_all, take_more}
 use Rattle.net_core.specs.declared.network.Process.{Process}
 use Rattle.cert_text.specs.Writing.{WritesProcesses}
-use Rattle.cert_text.proofs.Written.{none_wrote, process_wrote}
+use Rattle.cert_text.proofs.TextPieces.{none_wrote, process_wrote}
 use Rattle.cert_text.proofs.writing.write_processes.Goals as goal
 
 pub loop-process-init : goal.loop-process-init

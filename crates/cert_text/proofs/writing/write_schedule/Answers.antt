@@ -1,7 +1,7 @@
-use Rattle.std.proofs.Common.{◌≡◌, ◌++◌, ℕ, List, [], append_assoc, append-nil, sym, ap, ◌∙◌}
+use Rattle.std.proofs.Common.{◌++◌, ℕ, List, append_assoc, append-nil, sym, ap, ◌∙◌}
 use Rattle.cert_text.specs.CertText.{entry_text, part_text, parts_text}
 use Rattle.cert_text.specs.Stretches.{stretch_blocks, stretch_part}
-use Rattle.cert_text.proofs.Stretching.{no_entries}
+use Rattle.cert_text.proofs.StretchLists.{no_entries}
 use Rattle.cert_text.proofs.Texts.{schedule_next}
 use Rattle.cert_text.proofs.writing.write_schedule.Goals as goal
 

@@ -1,4 +1,4 @@
-use Rattle.cert_text.proofs.Written.{text_wrote}
+use Rattle.cert_text.proofs.TextPieces.{text_wrote}
 use Rattle.cert_text.proofs.writing.write_text.Goals as goal
 
 pub returns : goal.returns

@@ -1,6 +1,109 @@
-use Rattle.std.proofs.Common.{ap, ◌∙◌, map, length}
+use Rattle.std.proofs.Common.{◌≡◌, ◌+◌, ◌-◌, ℕ, List, take, drop, length, refl, subst, sym, ap, ◌∙◌, arith}
+use Rattle.std.specs.Prelude.{slice_get}
+use Rattle.std.specs.List.{All}
+use Rattle.std.proofs.lemmas.Option.{slice_get_read}
+use Rattle.channel_plan.specs.Reads.{AreFew, IsTurnAmong}
+use Rattle.channel_plan.proofs.Nests.{few_before, few_turns, part_among, part_exists, part_is, part_short, plans_all}
+use Rattle.channel_plan.proofs.Nests.{plans_more, sum_more, turns_are}
 use Rattle.channel_plan.proofs.plans.channel_plans.Goals as goal
 
-pub channel_plans_by_turns-requires-clause-turns : goal.channel_plans_by_turns-requires-clause-turns
-channel_plans_by_turns-requires-clause-turns c =
-    c.deref.ensures.value ∙ c.in_ok-turns.ensures ∙ ap (map length) c.requires.points
+pub overflow_add-next : goal.overflow_add-next
+overflow_add-next c =
+    let n = c.args.nest.now in
+    let p = c.loop-reader.reader in
+    let s = c.statement-item.result in
+    let statements = c.as_slice-statement-items.ensures in
+    let found = ap (λ xs. slice_get xs p) (sym statements)
+    ∙ slice_get_read c.as_slice-statement-items.result.now
+    (length c.as_slice-statement-items.result.now) p s refl c.loop-reader-test.true c.statement-item.is in
+    let exact = c.as_slice-table.ensures ∙ c.requires.sources in
+    omega (
+      arith,
+      few_before n (p + 1),
+      sum_more n c.as_slice-table.result.now exact p s found c.loop-reader.first
+          c.len.result c.loop-reader.invariant.first c.len.ensures,
+    )
+
+pub offset_bounds-table-first : goal.offset_bounds-table-first
+offset_bounds-table-first c =
+    omega (arith, few_before c.args.nest.now c.loop-reader.reader, c.loop-reader.invariant.first)
+
+pub slice_bounds-add_channels_to-end : goal.slice_bounds-add_channels_to-end
+slice_bounds-add_channels_to-end c =
+    let n = c.args.nest.now in
+    let p = c.loop-reader.reader in
+    let s = c.statement-item.result in
+    let statements = c.as_slice-statement-items.ensures in
+    let found = ap (λ xs. slice_get xs p) (sym statements)
+    ∙ slice_get_read c.as_slice-statement-items.result.now
+    (length c.as_slice-statement-items.result.now) p s refl c.loop-reader-test.true c.statement-item.is in
+    let exact = c.as_slice-table.ensures ∙ c.requires.sources in
+    part_exists n c.as_slice-table.result.now exact p s found c.loop-reader.first c.len.result
+    c.loop-reader.invariant.first c.len.ensures
+
+pub add_channels_to-requires-clause-few : goal.add_channels_to-requires-clause-few
+add_channels_to-requires-clause-few c =
+    let n = c.args.nest.now in
+    let turns = c.requires.turns ∙ turns_are n in
+    subst AreFew (sym turns) (few_turns n c.requires.size)
+
+pub add_channels_to-requires-clause-reads : goal.add_channels_to-requires-clause-reads
+add_channels_to-requires-clause-reads c =
+    let n = c.args.nest.now in
+    let p = c.loop-reader.reader in
+    let s = c.statement-item.result in
+    let statements = c.as_slice-statement-items.ensures in
+    let found = ap (λ xs. slice_get xs p) (sym statements)
+    ∙ slice_get_read c.as_slice-statement-items.result.now
+    (length c.as_slice-statement-items.result.now) p s refl c.loop-reader-test.true c.statement-item.is in
+    let exact = c.as_slice-table.ensures ∙ c.requires.sources in
+    omega (
+      arith,
+      part_short n c.as_slice-table.result.now exact p s found c.loop-reader.first c.len.result
+          c.loop-reader.invariant.first c.len.ensures,
+    )
+
+pub add_channels_to-requires-clause-among : goal.add_channels_to-requires-clause-among
+add_channels_to-requires-clause-among c =
+    let n = c.args.nest.now in
+    let p = c.loop-reader.reader in
+    let s = c.statement-item.result in
+    let statements = c.as_slice-statement-items.ensures in
+    let found = ap (λ xs. slice_get xs p) (sym statements)
+    ∙ slice_get_read c.as_slice-statement-items.result.now
+    (length c.as_slice-statement-items.result.now) p s refl c.loop-reader-test.true c.statement-item.is in
+    let exact = c.as_slice-table.ensures ∙ c.requires.sources in
+    let turns = c.requires.turns ∙ turns_are n in
+    let part =
+    take (c.loop-reader.first + c.len.result - c.loop-reader.first)
+    (drop c.loop-reader.first c.as_slice-table.result.now) in
+    subst (λ (ts : List ℕ). All (All (IsTurnAmong ts)) part) (sym turns)
+    (part_among n c.as_slice-table.result.now exact p s found c.loop-reader.first c.len.result
+    c.loop-reader.invariant.first c.len.ensures)
+
+pub loop-reader-preserved : goal.loop-reader-preserved
+loop-reader-preserved c =
+    let n = c.args.nest.now in
+    let p = c.loop-reader.reader in
+    let s = c.statement-item.result in
+    let statements = c.as_slice-statement-items.ensures in
+    let found = ap (λ xs. slice_get xs p) (sym statements)
+    ∙ slice_get_read c.as_slice-statement-items.result.now
+    (length c.as_slice-statement-items.result.now) p s refl c.loop-reader-test.true c.statement-item.is in
+    let exact = c.as_slice-table.ensures ∙ c.requires.sources in
+    let turns = c.requires.turns ∙ turns_are n in
+    record {
+      first = sum_more n c.as_slice-table.result.now exact p s found c.loop-reader.first c.len.result
+          c.loop-reader.invariant.first c.len.ensures;
+      plans = plans_more n p s _ c.loop-reader.plans.items c.add_channels_to.new.plans.items c.args.turns.now found
+          (part_is n c.as_slice-table.result.now exact p s found c.loop-reader.first c.len.result
+          c.loop-reader.invariant.first c.len.ensures)
+          turns c.loop-reader.invariant.plans c.in_ok-add_channels_to.ensures;
+    }
+
+pub returns : goal.returns
+returns c =
+    let n = c.args.nest.now in
+    let all : c.loop-reader.reader ≡ length n.statements =
+    omega (arith, ap length c.as_slice-statement-items.ensures) in
+    c.from_vec.ensures ∙ plans_all n c.loop-reader.reader c.loop-reader.plans.items all c.loop-reader.invariant.plans

@@ -3,7 +3,7 @@ use Rattle.std.proofs.lemmas.Bool.{eqb-false}
 use Rattle.net_core.specs.Held.{run_of}
 use Rattle.net_core.specs.Machine.{net_of, after}
 use Rattle.clock_sim.specs.Clocks.{clocks}
-use Rattle.clock_sim.proofs.Passed.{clock_left, clock_more}
+use Rattle.clock_sim.proofs.ClockSteps.{clock_left, clock_more}
 use Rattle.clock_sim.proofs.clock.run_by_clock.Goals as goal
 
 pub loop-state-smaller : goal.loop-state-smaller

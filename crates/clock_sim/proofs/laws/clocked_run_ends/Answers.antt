@@ -1,6 +1,6 @@
 use Rattle.std.proofs.Common.{[]}
 use Rattle.net_core.specs.Rules.{tags}
-use Rattle.clock_sim.proofs.Clocking.{clocked_run_ends}
+use Rattle.clock_sim.proofs.ClockRuns.{clocked_run_ends}
 use Rattle.clock_sim.proofs.laws.clocked_run_ends.Goals as goal
 
 pub returns : goal.returns

@@ -1,4 +1,4 @@
-use Rattle.clock_sim.proofs.Clocking.{clock_run}
+use Rattle.clock_sim.proofs.ClockRuns.{clock_run}
 use Rattle.clock_sim.proofs.laws.enabled_in_turn.Goals as goal
 
 pub returns : goal.returns

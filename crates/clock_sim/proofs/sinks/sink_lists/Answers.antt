@@ -1,10 +1,11 @@
 use Rattle.std.proofs.Common.{◌≡◌, ◌∙◌, ◌++◌, ◌∷◌, [], ℕ, ℤ, List, true, false, ap, sym, arith}
 use Rattle.sanlp.specs.Cells.{is_output}
 use Rattle.net_core.specs.Held.{run_of}
-use Rattle.clock_sim.proofs.Gathered.{array_here, numbers_printed, numbers_other, lists_printed, lists_other}
+use Rattle.clock_sim.proofs.SinkLists.{numbers_printed, numbers_other, lists_printed, lists_other}
 use Rattle.clock_sim.proofs.sinks.sink_lists.Goals.{then-is_output+in_ok-from_slice+in_ok-push}
 use Rattle.clock_sim.proofs.sinks.sink_lists.Goals.{else-is_output+in_ok-push-2}
 use Rattle.clock_sim.proofs.sinks.sink_lists.Goals as goal
+use Rattle.plain_data.proofs.Lists.{drop_read_same}
 
 pub loop-array-preserved : goal.loop-array-preserved
 loop-array-preserved c =
@@ -15,7 +16,7 @@ loop-array-preserved c =
     let kept : ℕ → List ℤ = λ p. ((run_of c.args.state.now).local p).kept in
     let lists = c.loop-array.lists in
     let here =
-    array_here declared c.as_slice-array-items.result.now at array c.as_slice-array-items.ensures c.loop-array-test.true
+    drop_read_same declared c.as_slice-array-items.result.now at array c.as_slice-array-items.ensures c.loop-array-test.true
     c.array-item.is in
     elim c.if-is_output.branch [
       | then-is_output+in_ok-from_slice+in_ok-push w ↦

@@ -11,6 +11,7 @@ use Rattle.derived_text.proofs.law.other_capacities_tell_the_plans.Goals as goal
 
 pub returns : goal.returns
 returns c = record {
+  fires = λ capacities. c.fits_nest.ensures.shaped.turns;
   tokens =
       λ capacities number plan there. ap (λ (n : Net). put_count n number) (net_kept (net c.args.nest.now) capacities)
       ∙ puts_planned c.args.nest.now number plan there;

@@ -5,6 +5,7 @@ use Rattle.derived_text.proofs.law.text_tells_the_plans.Goals as goal
 
 pub returns : goal.returns
 returns c = record {
+  fires = c.fits_nest.ensures.shaped.turns;
   tokens = puts_planned c.args.nest.now;
   hold = hold_planned c.args.nest.now;
   class =

@@ -4,8 +4,9 @@ use Rattle.script_blocks.proofs.Loops.{had_all, had_more, next_item, one_longer}
 use Rattle.net_core.specs.declared.refs.Ref.{Ref}
 use Rattle.net_core.specs.Uses.{use_of}
 use Rattle.net_core.specs.Machine.{net_of}
-use Rattle.net_checker.proofs.Used.{collected_as, collected_fire, collected_get, collected_gets, collected_none}
-use Rattle.net_checker.proofs.Used.{collected_put, collected_uses, get_number, get_short, slots_got, slots_length}
+use Rattle.net_core.proofs.Latest.{length-latest_gets}
+use Rattle.net_checker.proofs.ChannelUses.{collected_as, collected_fire, collected_get, collected_gets, collected_none}
+use Rattle.net_checker.proofs.ChannelUses.{collected_put, collected_uses, get_number, get_short, slots_got}
 use Rattle.net_checker.proofs.classes.add_events.Goals as goal
 
 pub loop-event-init : goal.loop-event-init
@@ -71,7 +72,7 @@ bounds-slots-slot c =
       arith,
       c.requires.wired.get_slot p k c.in-Get.channel c.in-Get.slot is,
       ap length c.loop-event.invariant.collected.slots_are,
-      slots_length net p k,
+      length-latest_gets net p k,
     )
 
 pub add_fire-requires : goal.add_fire-requires

@@ -1,5 +1,5 @@
 use Rattle.std.proofs.Common.{◌≡◌, ◌++◌, length}
-use Rattle.net_checker.proofs.Used.{IsCollected}
+use Rattle.net_checker.proofs.ChannelUses.{IsCollected}
 use Rattle.net_core.specs.Machine.{net_of}
 use Rattle.net_checker.proofs.classes.add_events.Given as goal
 

@@ -3,7 +3,7 @@ use Rattle.net_core.specs.Shape.{is_get}
 use Rattle.net_core.specs.Uses.{uses_before}
 use Rattle.net_core.specs.Machine.{net_of}
 use Rattle.net_core.proofs.Fresh.{written_back}
-use Rattle.net_checker.proofs.Used.{below_more, below_as}
+use Rattle.net_checker.proofs.ChannelUses.{below_more, below_as}
 use Rattle.net_checker.proofs.classes.channel_uses.Goals as goal
 
 pub loop-process-preserved : goal.loop-process-preserved

@@ -1,4 +1,4 @@
-use Rattle.net_checker.proofs.Used.{AreUsesBelow}
+use Rattle.net_checker.proofs.ChannelUses.{AreUsesBelow}
 use Rattle.net_core.specs.Machine.{net_of}
 use Rattle.net_checker.proofs.classes.channel_uses.Given as goal
 

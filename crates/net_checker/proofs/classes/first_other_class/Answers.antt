@@ -3,7 +3,7 @@ use Rattle.channel_class.specs.Classes.{class_of}
 use Rattle.channel_class.specs.declared.UseOrder.TheVariants.{InOrder}
 use Rattle.net_core.specs.declared.network.Channel.{Channel}
 use Rattle.net_checker.specs.Classes.{used_class}
-use Rattle.net_checker.proofs.Found.{channel_fine, channel_wrong, classes_fine, list_used}
+use Rattle.net_checker.proofs.FirstFault.{channel_fine, channel_wrong, classes_fine, list_used}
 use Rattle.net_checker.proofs.Lists.{read_or}
 use Rattle.net_checker.proofs.classes.first_other_class.Goals as goal
 

@@ -5,7 +5,7 @@ use Rattle.net_core.specs.Cuts.{positions}
 use Rattle.net_core.specs.Held.{run_of}
 use Rattle.net_core.specs.Machine.{net_of}
 use Rattle.net_checker.specs.Entries.{entry_refusal}
-use Rattle.net_checker.proofs.Judged.{enabled_there, few_references, fire_judged}
+use Rattle.net_checker.proofs.FireVerdicts.{enabled_there, few_references, fire_judged}
 use Rattle.sanlp.proofs.NestFacts.{few_statements}
 use Rattle.net_checker.proofs.entries.is_fine.Goals as goal
 

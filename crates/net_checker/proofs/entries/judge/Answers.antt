@@ -1,6 +1,6 @@
 use Rattle.std.proofs.Common.{Some, length, ap, sym, ◌∙◌, arith}
 use Rattle.net_core.specs.Held.{run_of}
-use Rattle.net_checker.proofs.Judged.{enabled_there, few_references, fire_judged}
+use Rattle.net_checker.proofs.FireVerdicts.{enabled_there, few_references, fire_judged}
 use Rattle.sanlp.proofs.NestFacts.{few_statements}
 use Rattle.net_checker.proofs.entries.judge.Goals as goal
 

@@ -1,6 +1,6 @@
 use Rattle.std.proofs.Common.{ap, sym, ◌∙◌, length, get_or, arith, below_more}
 use Rattle.net_core.specs.declared.refs.Ref.TheVariants.{Zero}
-use Rattle.net_checker.proofs.Judged.{reference_judged, reference_found, references_fine}
+use Rattle.net_checker.proofs.FireVerdicts.{reference_judged, reference_found, references_fine}
 use Rattle.net_checker.proofs.Lists.{read_or}
 use Rattle.net_checker.proofs.entries.judge_fire.Goals as goal
 

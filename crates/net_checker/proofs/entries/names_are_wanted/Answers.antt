@@ -3,7 +3,7 @@ use Rattle.net_core.specs.declared.refs.Ref.TheVariants.{Zero}
 use Rattle.net_core.specs.Names.{name_of}
 use Rattle.net_checker.specs.Entries.{is_wanted}
 use Rattle.net_checker.specs.Lookups.{source_in}
-use Rattle.net_checker.proofs.Judged.{reference_judged, reference_wanted, references_fine}
+use Rattle.net_checker.proofs.FireVerdicts.{reference_judged, reference_wanted, references_fine}
 use Rattle.net_checker.proofs.Lists.{read_or}
 use Rattle.net_checker.proofs.entries.names_are_wanted.Goals as goal
 

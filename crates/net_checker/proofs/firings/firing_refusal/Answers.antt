@@ -1,6 +1,6 @@
 use Rattle.std.proofs.Common.{sym, ◌∙◌, arith}
 use Rattle.net_core.specs.Machine.{net_of}
-use Rattle.net_checker.proofs.Found.{script_short, firing_found, firing_fine}
+use Rattle.net_checker.proofs.FirstFault.{script_short, firing_found, firing_fine}
 use Rattle.net_checker.proofs.firings.firing_refusal.Goals as goal
 
 pub process_firing-requires-clause-short : goal.process_firing-requires-clause-short

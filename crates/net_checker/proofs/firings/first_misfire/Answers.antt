@@ -3,7 +3,7 @@ use Rattle.script_blocks.proofs.Loops.{had_all, had_more, next_inside, next_item
 use Rattle.net_core.specs.Machine.{net_of}
 use Rattle.net_core.specs.Shape.{turns}
 use Rattle.net_checker.specs.declared.verdict.Refusal.TheVariants.{Fires}
-use Rattle.net_checker.proofs.Found.{event_fine, place_wrong, few_fires, enough_fires, fired_yes, fired_no, fired_all}
+use Rattle.net_checker.proofs.FirstFault.{event_fine, place_wrong, few_fires, enough_fires, fired_yes, fired_no, fired_all}
 use Rattle.net_checker.proofs.firings.first_misfire.Goals as goal
 use Rattle.net_checker.proofs.firings.first_misfire.Goals.{then-is_fire, else-is_fire}
 

@@ -1,6 +1,6 @@
 use Rattle.std.proofs.Common.{sym, ◌∙◌}
 use Rattle.net_core.specs.Machine.{net_of}
-use Rattle.net_checker.proofs.FittingFires.{fitting_fires}
+use Rattle.net_checker.proofs.FitsFires.{fitting_fires}
 use Rattle.net_checker.proofs.firings.process_firing.Goals as goal
 
 pub returns-then-fires_fit : goal.returns-then-fires_fit

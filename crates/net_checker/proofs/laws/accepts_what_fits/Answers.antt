@@ -1,4 +1,4 @@
-use Rattle.net_checker.proofs.Fitting.{first_fits, fits_first}
+use Rattle.net_checker.proofs.FitsCriteria.{first_fits, fits_first}
 use Rattle.net_checker.proofs.laws.accepts_what_fits.Goals as goal
 
 pub returns : goal.returns

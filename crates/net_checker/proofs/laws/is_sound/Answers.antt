@@ -1,5 +1,5 @@
 use Rattle.net_core.proofs.Soundness.{is_sound}
-use Rattle.net_checker.proofs.Fitting.{fits_last}
+use Rattle.net_checker.proofs.FitsCriteria.{fits_last}
 use Rattle.net_checker.proofs.laws.is_sound.Goals as goal
 
 pub returns : goal.returns

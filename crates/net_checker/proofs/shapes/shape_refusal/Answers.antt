@@ -1,6 +1,6 @@
 use Rattle.std.proofs.Common.{Some, sym, ap, ◌∙◌, arith}
 use Rattle.net_checker.specs.declared.verdict.Refusal.TheVariants.{Shape}
-use Rattle.net_checker.proofs.Found.{whole_wrong, process_wrong, shape_fine}
+use Rattle.net_checker.proofs.FirstFault.{whole_wrong, process_wrong, shape_fine}
 use Rattle.net_checker.proofs.shapes.shape_refusal.Goals as goal
 
 pub returns-then-not-agrees : goal.returns-then-not-agrees

@@ -4,14 +4,15 @@ use Rattle.std.specs.Option.{option_and_then}
 use Rattle.sanlp.specs.Tags.{tag_at}
 use Rattle.sanlp.specs.Trace.{trace}
 use Rattle.sanlp.proofs.NestFacts.{points_length}
-use Rattle.net_checker.proofs.Turns.{entry_found, statement_of_entry, tag_of_entry, turn_is, turn_small}
+use Rattle.sanlp.proofs.ReadCounts.{trace-statement}
+use Rattle.net_checker.proofs.Turns.{entry_found, tag_of_entry, turn_is, turn_small}
 use Rattle.net_checker.proofs.sources.tag_of.Goals as goal
 
 pub vectors_of-vectors-requires : goal.vectors_of-vectors-requires
 vectors_of-vectors-requires c =
     let n = c.args.nest.now in
     let entry = entry_found n c.requires.writer.0 c.args.found.now c.in-At.point (sym c.in-At.is) c.requires.writer.1 in
-    omega (arith, statement_of_entry n entry.0 c.in-At.point entry.2, points_length n, ap length c.requires.points)
+    omega (arith, trace-statement n entry.0 c.in-At.point entry.2, points_length n, ap length c.requires.points)
 
 pub returns-in_err-turn-in-At : goal.returns-in_err-turn-in-At
 returns-in_err-turn-in-At c writer h =

@@ -1,8 +1,9 @@
 use Rattle.std.proofs.Common.{◌≡◌, ◌∷◌, ◌∙◌, ap, sym, true≢false}
 use Rattle.std.proofs.lemmas.Bool.{false≢true}
 use Rattle.net_core.specs.declared.network.Event.{Event}
-use Rattle.net_core.proofs.Alike.{head_of, not_empty}
+use Rattle.net_core.proofs.Alike.{not_empty}
 use Rattle.net_core.proofs.copies.is_next.Goals as goal
+use Rattle.plain_data.proofs.Lists.{same_head}
 
 pub returns-in-Some : goal.returns-in-Some
 returns-in-Some c =
@@ -11,7 +12,7 @@ returns-in-Some c =
       other = λ f items e.
           let whole : c.in-Some.further ∷ c.next.new.self ≡ c.args.event.now ∷ items = sym c.in-Some.ensures.steps ∙ e
           in
-          let same : c.in-Some.further ≡ c.args.event.now = head_of _ _ _ _ whole in
+          let same : c.in-Some.further ≡ c.args.event.now = same_head _ _ _ _ whole in
           true≢false (sym (c.is_same_event.ensures.1 same) ∙ f);
     }
 

@@ -1,4 +1,4 @@
-use Rattle.net_core.proofs.Naming.{every_run_named, ended_kept}
+use Rattle.net_core.proofs.PlaceValues.{every_run_named, ended_kept}
 use Rattle.net_core.proofs.laws.names.Goals as goal
 
 pub returns : goal.returns

@@ -1,5 +1,5 @@
 use Rattle.net_core.proofs.Soundness.{is_sound}
-use Rattle.net_core.proofs.Valued.{turn_there}
+use Rattle.net_core.proofs.FireValues.{turn_there}
 use Rattle.net_core.proofs.laws.sound.Goals as goal
 
 pub returns : goal.returns

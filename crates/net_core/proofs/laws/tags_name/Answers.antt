@@ -1,4 +1,4 @@
-use Rattle.net_core.proofs.Naming.{tags_named}
+use Rattle.net_core.proofs.PlaceValues.{tags_named}
 use Rattle.net_core.proofs.laws.tags_name.Goals as goal
 
 pub returns : goal.returns

@@ -6,8 +6,8 @@ use Rattle.std.proofs.lemmas.Option.{slice_get_read}
 use Rattle.net_core.specs.declared.machine.Local.{Local}
 use Rattle.net_core.specs.Machine.{net_of}
 use Rattle.net_core.specs.Held.{run_of}
-use Rattle.net_core.proofs.Ready.{first_left}
 use Rattle.net_core.proofs.machine.upcoming.Goals as goal
+use Rattle.plain_data.proofs.Lists.{slice_get-drop}
 
 pub returns-in-Some : goal.returns-in-Some
 returns-in-Some g c =
@@ -20,7 +20,7 @@ returns-in-Some g c =
     let here = ap (λ locals. slice_get locals p) (sym c.deref.ensures.value) ∙ found in
     let left = ap (λ o. option_map_or (λ (l : Local g.row.T.Denot). l.room.left) o []) here in
     c.upcoming.ensures ∙ ap (λ events. slice_get events 0) (sym left ∙ c.requires.left p)
-    ∙ first_left ((run_of c.args.state.now).local p).position (n.script p)
+    ∙ slice_get-drop ((run_of c.args.state.now).local p).position (n.script p)
 
 pub returns-in-None : goal.returns-in-None
 returns-in-None g c =

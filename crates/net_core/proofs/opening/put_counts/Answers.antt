@@ -4,9 +4,10 @@ use Rattle.std.specs.Option.{option_map_or}
 use Rattle.net_core.specs.declared.network.Process.{Process}
 use Rattle.net_core.specs.Machine.{net_of}
 use Rattle.net_core.specs.Shape.{is_put, events_below}
-use Rattle.net_core.proofs.Fresh.{item_found, written_back}
+use Rattle.net_core.proofs.Fresh.{written_back}
 use Rattle.net_core.proofs.PutCounts.{puts_below, puts_within, events_grow, all_puts}
 use Rattle.net_core.proofs.opening.put_counts.Goals as goal
+use Rattle.plain_data.proofs.Lists.{slice_get_read_same}
 
 pub count_puts-requires-clause-channels : goal.count_puts-requires-clause-channels
 count_puts-requires-clause-channels c k d is =
@@ -14,7 +15,7 @@ count_puts-requires-clause-channels c k d is =
     let n = net_of network in
     let i = c.loop-process.process-index in
     let found =
-    item_found network.processes c.as_slice-process-items.result.now i c.process-item.result
+    slice_get_read_same network.processes c.as_slice-process-items.result.now i c.process-item.result
     c.as_slice-process-items.ensures c.loop-process-test.true c.process-item.is in
     let script : n.script i ≡ c.process-item.result.script =
     ap (λ o. option_map_or (λ (process : Process). process.script) o []) found in
@@ -28,7 +29,7 @@ count_puts-requires-clause-room c d lt =
     let n = net_of network in
     let i = c.loop-process.process-index in
     let found =
-    item_found network.processes c.as_slice-process-items.result.now i c.process-item.result
+    slice_get_read_same network.processes c.as_slice-process-items.result.now i c.process-item.result
     c.as_slice-process-items.ensures c.loop-process-test.true c.process-item.is in
     let script : n.script i ≡ c.process-item.result.script =
     ap (λ o. option_map_or (λ (process : Process). process.script) o []) found in
@@ -51,7 +52,7 @@ loop-process-preserved c =
     let n = net_of network in
     let i = c.loop-process.process-index in
     let found =
-    item_found network.processes c.as_slice-process-items.result.now i c.process-item.result
+    slice_get_read_same network.processes c.as_slice-process-items.result.now i c.process-item.result
     c.as_slice-process-items.ensures c.loop-process-test.true c.process-item.is in
     let script : n.script i ≡ c.process-item.result.script =
     ap (λ o. option_map_or (λ (process : Process). process.script) o []) found in

@@ -1,7 +1,7 @@
 use Rattle.std.proofs.Common.{List, ℕ, refl}
 use Rattle.std.proofs.lemmas.List.{length-replicate}
 use Rattle.net_core.specs.declared.network.Network.{Network}
-use Rattle.net_maker.proofs.Fitting.{fits_with, no_tree, swept_are_usable}
+use Rattle.net_maker.proofs.FitsNest.{fits_with, no_tree, swept_are_usable}
 use Rattle.net_maker.specs.Certificates.{swept_cert}
 use Rattle.net_checker.specs.Shapes.{read_total}
 use Rattle.process_derive.specs.Derived.{net}

@@ -1,25 +1,33 @@
-use Rattle.std.proofs.Common.{refl, ap, subst}
+use Rattle.std.proofs.Common.{sym, subst}
 use Rattle.net_core.specs.declared.network.Network.{Network}
 use Rattle.net_checker.specs.Fits.{Fits}
 use Rattle.net_maker.proofs.ReadNumbers.{origins_are_usable}
-use Rattle.net_maker.proofs.Recertified.{fits_again}
+use Rattle.net_maker.proofs.OtherOrigins.{fits_again}
+use Rattle.net_maker.specs.Certificates.{swept_cert}
+use Rattle.sanlp.specs.declared.nest.Nest.{Nest}
 use Rattle.source_tree.specs.declared.cert.Cert.{Cert}
+use Rattle.witness_plan.specs.Schedules.{planned_network, schedule}
 use Rattle.net_maker.proofs.making.compile.Goals as goal
-
-pub returns-clause-fits : goal.returns-clause-fits
-returns-clause-fits c =
-    let cert : Cert = record { sources = c.in_ok-origins.field-0; schedule = c.in_ok-network.swept.schedule } in
-    fits_again c.args.nest.now c.in_ok-network.network c.in_ok-network.swept cert c.in_ok-network.ensures.fits refl
-    c.in_ok-origins.ensures.total (origins_are_usable c.args.nest.now cert c.in_ok-origins.ensures)
 
 pub returns-clause-certificate : goal.returns-clause-certificate
 returns-clause-certificate c =
-    let cert : Cert = record { sources = c.in_ok-origins.field-0; schedule = c.in_ok-network.swept.schedule } in
-    let fits : Fits c.args.nest.now c.in_ok-network.network cert =
-    fits_again c.args.nest.now c.in_ok-network.network c.in_ok-network.swept cert c.in_ok-network.ensures.fits refl
-    c.in_ok-origins.ensures.total (origins_are_usable c.args.nest.now cert c.in_ok-origins.ensures) in
+    let nest : Nest = c.args.nest.now in
+    let policy = c.args.policy in
+    let cert : Cert = record { sources = c.in_ok-sources.sources; schedule = c.in_ok-network.field-0.schedule } in
     record {
-      of_policy = ap (λ (s : Cert). s.schedule) c.in_ok-network.ensures.cert;
-      fits = subst (λ (network : Network). Fits c.args.nest.now network cert) c.in_ok-network.ensures.network fits;
-      in_range = c.in_ok-origins.ensures.in_range;
+      of_policy = c.in_ok-network.ensures.schedule;
+      fits = fits_again nest (planned_network nest policy) (swept_cert nest (schedule nest policy)) cert
+          (c.has_certificate.ensures policy).fits c.in_ok-network.ensures.schedule c.in_ok-sources.ensures.total
+          (origins_are_usable nest cert c.in_ok-sources.ensures);
+      in_range = c.in_ok-sources.ensures.in_range;
     }
+
+pub returns-clause-fits : goal.returns-clause-fits
+returns-clause-fits c =
+    let nest : Nest = c.args.nest.now in
+    let policy = c.args.policy in
+    let cert : Cert = record { sources = c.in_ok-sources.sources; schedule = c.in_ok-network.field-0.schedule } in
+    subst (λ (n : Network). Fits nest n cert) (sym c.in_ok-network.ensures.network)
+    (fits_again nest (planned_network nest policy) (swept_cert nest (schedule nest policy)) cert
+    (c.has_certificate.ensures policy).fits c.in_ok-network.ensures.schedule c.in_ok-sources.ensures.total
+    (origins_are_usable nest cert c.in_ok-sources.ensures))

@@ -1,14 +1,8 @@
 use Rattle.std.proofs.Common.{sym, subst}
-use Rattle.net_core.specs.declared.network.Network.{Network}
-use Rattle.net_core.specs.Machine.{net_of}
-use Rattle.net_core.specs.Shape.{FitsNumbers}
-use Rattle.net_maker.proofs.Numbers.{numbers_stay}
+use Rattle.net_core.specs.Sound.{IsSound}
 use Rattle.net_maker.proofs.making.compile_network.Goals as goal
 
-pub returns-clause-numbers : goal.returns-clause-numbers
-returns-clause-numbers c =
-    let derived : Network = c.in_ok-derived.derived.network in
-    let fits : FitsNumbers (net_of derived) =
-    subst (λ (n : Network). FitsNumbers (net_of n)) (sym c.in_ok-derived.ensures.network) c.numbers_fit.ensures in
-    subst (λ (n : Network). FitsNumbers (net_of n)) (sym c.in_ok-network.ensures)
-    (numbers_stay (net_of derived) _ _ (c.other_capacities.ensures.same derived _) fits)
+pub returns-clause-sound : goal.returns-clause-sound
+returns-clause-sound c =
+    subst (IsSound c.args.nest.now) (sym c.in_ok-made.ensures.network)
+    (c.is_sound.ensures c.args.nest.now _ _ (c.has_certificate.ensures c.args.policy).fits)

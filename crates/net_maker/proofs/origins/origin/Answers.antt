@@ -3,8 +3,8 @@ use Rattle.sanlp.proofs.NestFacts.{points_length}
 use Rattle.net_checker.proofs.Ready.{ready_at}
 use Rattle.net_maker.proofs.origins.origin.Goals as goal
 
-pub source_within-requires-clause-class : goal.source_within-requires-clause-class
-source_within-requires-clause-class c =
+pub source_of-requires : goal.source_of-requires
+source_of-requires c =
     c.differences_are_strides.ensures c.args.nest.now c.args.statement c.args.read
     (c.in_difference_class.ensures.0 c.if-not-in_difference_class.false)
 
@@ -14,5 +14,5 @@ may_stand-requires-clause-statement c =
 
 pub may_stand-requires-clause-ready : goal.may_stand-requires-clause-ready
 may_stand-requires-clause-ready c = λ f at is.
-    ready_at c.args.nest.now c.args.statement c.args.read c.in-Some.tree (rw c.in-Some.is at c.in_ok-made.ensures) f at
+    ready_at c.args.nest.now c.args.statement c.args.read c.in_ok-tree.tree c.in_ok-tree.ensures.checked f at
     (ap (λ (of : List (List (List ℤ))). slice_get (get_or of c.args.statement []) f) (sym c.requires.points) ∙ is)

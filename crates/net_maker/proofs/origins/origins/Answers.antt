@@ -1,5 +1,5 @@
 use Rattle.std.proofs.Common.{arith}
-use Rattle.net_maker.proofs.ReadNumbers.{no_origins, origins_whole}
+use Rattle.net_maker.proofs.ReadNumbers.{origins_whole}
 use Rattle.net_maker.proofs.origins.origins.Goals as goal
 
 pub returns : goal.returns

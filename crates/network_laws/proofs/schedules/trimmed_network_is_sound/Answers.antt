@@ -3,7 +3,7 @@ use Rattle.net_core.specs.Rules.{tags}
 use Rattle.net_maker.specs.Certificates.{swept_cert}
 use Rattle.witness_plan.specs.Sequential.{with_capacities}
 use Rattle.cap_trim.specs.Rests.{least_run}
-use Rattle.cap_trim.proofs.Planned.{fits_trimmed, planned_puts, planned_wired}
+use Rattle.cap_trim.proofs.TrimFits.{fits_trimmed, planned_puts, planned_wired}
 use Rattle.network_laws.proofs.schedules.trimmed_network_is_sound.Goals as goal
 
 pub returns : goal.returns

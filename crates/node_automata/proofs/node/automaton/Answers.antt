@@ -3,12 +3,12 @@ use Rattle.std.specs.Option.{option_map_or}
 use Rattle.std.proofs.lemmas.Option.{get_or_from_slice_get}
 use Rattle.net_core.specs.declared.network.Process.{Process}
 use Rattle.net_core.specs.Machine.{net_of}
-use Rattle.net_core.proofs.Fresh.{item_found}
 use Rattle.sanlp.specs.Points.{points_of}
 use Rattle.sanlp.proofs.NestFacts.{points_length}
 use Rattle.node_automata.specs.Automata.{automaton_of}
 use Rattle.node_automata.proofs.Places.{made_at}
 use Rattle.node_automata.proofs.node.automaton.Goals as goal
+use Rattle.plain_data.proofs.Lists.{slice_get_read_same}
 
 pub statement-statement-requires : goal.statement-statement-requires
 statement-statement-requires c =
@@ -24,7 +24,7 @@ returns c =
     let statement = c.statement-statement.result.now in
     let body = c.index-as_slice-at.result in
     let found : slice_get network.processes p ≡ Some body =
-    item_found network.processes c.as_slice.result.now p body c.as_slice.ensures
+    slice_get_read_same network.processes c.as_slice.result.now p body c.as_slice.ensures
     (omega (arith, ap length c.as_slice.ensures, c.requires.process)) c.index-as_slice-at.is in
     let slots : (net_of network).slots p ≡ body.slots =
     ap (λ o. option_map_or (λ (process : Process). process.slots) o 0) found in
@@ -33,7 +33,7 @@ returns c =
     let events = script ∙ sym c.in_ok-events.ensures in
     let vectors = c.index-as_slice-at-2.result in
     let points : slice_get (points_of nest) p ≡ Some vectors =
-    item_found (points_of nest) c.as_slice-2.result.now p vectors (c.as_slice-2.ensures ∙ c.requires.points)
+    slice_get_read_same (points_of nest) c.as_slice-2.result.now p vectors (c.as_slice-2.ensures ∙ c.requires.points)
     (omega (arith, ap length c.as_slice-2.ensures, c.requires.shaped.processes, c.requires.process))
     c.index-as_slice-at-2.is in
     let values : get_or (points_of nest) p [] ≡ c.in_ok-values.values =

@@ -5,7 +5,7 @@ use Rattle.std.proofs.lemmas.Option.{slice_get-get_or}
 use Rattle.channel_class.specs.declared.UseOrder.TheVariants.{InOrder}
 use Rattle.net_core.specs.declared.network.Channel.{Channel}
 use Rattle.net_core.specs.Machine.{net_of}
-use Rattle.node_automata.proofs.Passing.{passing_more, passing_same}
+use Rattle.node_automata.proofs.NumberFilters.{passing_more, passing_same}
 use Rattle.node_automata.proofs.node.channels_out.Goals as goal
 use Rattle.node_automata.proofs.node.channels_out.Goals.{then-channel-process+in_ok-push, else-channel-process}
 

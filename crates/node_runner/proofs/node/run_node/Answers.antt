@@ -5,8 +5,8 @@ use Rattle.net_core.specs.Rooms.{Store, store_past_event}
 use Rattle.net_core.specs.Rules.{values, value_limits}
 use Rattle.net_core.specs.Sound.{tag_value}
 use Rattle.node_runner.specs.Nodes.{calls_of, CanTurn}
-use Rattle.node_runner.proofs.Turning.{Stands, can_turn, turned, begins, ends, told_more, all_made, event_is, left_then}
-use Rattle.node_runner.proofs.Turning.{stands_passed}
+use Rattle.node_runner.proofs.EventSteps.{Stands, can_turn, turned, begins, ends, told_more, all_made, event_is, left_then}
+use Rattle.node_runner.proofs.EventSteps.{stands_passed}
 use Rattle.node_runner.proofs.node.run_node.Given.{Over}
 use Rattle.node_runner.proofs.node.run_node.Goals.{In_default}
 use Rattle.node_runner.proofs.node.run_node.Goals as goal

@@ -1,7 +1,7 @@
 use Rattle.std.proofs.Common.{length}
 use Rattle.net_core.specs.Machine.{net_of}
 use Rattle.net_core.specs.Sound.{tag_value}
-use Rattle.node_runner.proofs.Turning.{Goes}
+use Rattle.node_runner.proofs.EventSteps.{Goes}
 use Rattle.node_runner.proofs.node.run_node.Given as goal
 
 abbrev pub invariant-loop-event : goal.invariant-loop-event

@@ -1,4 +1,4 @@
-use Rattle.process_derive.proofs.Shaped.{has_few_slots}
+use Rattle.process_derive.proofs.NetworkShape.{has_few_slots}
 use Rattle.process_derive.proofs.law.few_slots.Goals as goal
 
 pub returns : goal.returns

@@ -1,4 +1,4 @@
-use Rattle.process_derive.proofs.Shaped.{fits_nest}
+use Rattle.process_derive.proofs.NetworkShape.{fits_nest}
 use Rattle.process_derive.proofs.law.fits_nest.Goals as goal
 
 pub returns : goal.returns

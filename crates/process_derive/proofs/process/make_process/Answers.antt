@@ -3,7 +3,7 @@ use Rattle.std.specs.Prelude.{None, [], slice_index_or}
 use Rattle.process_derive.specs.Scripts.{slots_of}
 use Rattle.process_derive.specs.Uses.{OnlyBelow}
 use Rattle.process_derive.proofs.Bounds.{few_plans}
-use Rattle.process_derive.proofs.Wired.{short_script}
+use Rattle.process_derive.proofs.ScriptNames.{short_script}
 use Rattle.process_derive.proofs.Holds.{slots_within}
 use Rattle.process_derive.proofs.Scripts.{few_fires, few_sources_read, script_same, sources_exist, sources_there, uses_fit}
 use Rattle.process_derive.proofs.process.make_process.Goals as goal

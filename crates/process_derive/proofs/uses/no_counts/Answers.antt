@@ -1,5 +1,4 @@
-use Rattle.std.proofs.Common.{◌≡◌, ◌∙◌, ap, arith}
-use Rattle.std.specs.Prelude.{replicate}
+use Rattle.std.proofs.Common.{arith}
 use Rattle.process_derive.proofs.Points.{first_counts}
 use Rattle.process_derive.proofs.uses.no_counts.Goals as goal
 

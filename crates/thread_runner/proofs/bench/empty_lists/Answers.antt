@@ -3,7 +3,7 @@ use Rattle.sanlp.specs.Points.{points_of}
 use Rattle.sanlp.specs.WellFormed.{output_numbers}
 use Rattle.sanlp.proofs.NestFacts.{points_length}
 use Rattle.net_core.specs.Shape.{turns}
-use Rattle.thread_runner.proofs.Gathering.{few_outputs, space_more, turns_read}
+use Rattle.thread_runner.proofs.BenchLists.{few_outputs, space_more, turns_read}
 use Rattle.thread_runner.proofs.bench.empty_lists.Goals as goal
 
 pub bounds-as_slice-sink : goal.bounds-as_slice-sink

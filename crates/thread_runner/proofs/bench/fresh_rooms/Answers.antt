@@ -1,4 +1,4 @@
-use Rattle.thread_runner.proofs.Gathering.{fresh_more}
+use Rattle.thread_runner.proofs.BenchLists.{fresh_more}
 use Rattle.thread_runner.proofs.bench.fresh_rooms.Goals as goal
 
 pub loop-process-preserved : goal.loop-process-preserved

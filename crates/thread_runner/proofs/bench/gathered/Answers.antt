@@ -5,8 +5,9 @@ use Rattle.std.specs.Global.{Global}
 use Rattle.sanlp.specs.Cells.{is_output}
 use Rattle.sanlp.specs.Points.{points_of}
 use Rattle.net_core.specs.Shape.{turns}
+use Rattle.plain_data.proofs.Lists.{drop_read_same}
 use Rattle.thread_runner.specs.Benches.{HaveSpace}
-use Rattle.thread_runner.proofs.Gathering.{array_here, space_less, numbers_out, numbers_other, lists_out, lists_other}
+use Rattle.thread_runner.proofs.BenchLists.{space_less, numbers_out, numbers_other, lists_out, lists_other}
 use Rattle.thread_runner.proofs.bench.gathered.Goals.{then-is_output+in-Some, else-is_output}
 use Rattle.thread_runner.proofs.bench.gathered.Goals as goal
 
@@ -17,7 +18,7 @@ loop-array-preserved g c =
     let nest = c.args.nest.now in
     let f = g.K.Keeper.values c.args.keeper.now in
     let here =
-    array_here nest.arrays c.as_slice-array-items.result.now at c.array-item.result c.as_slice-array-items.ensures
+    drop_read_same nest.arrays c.as_slice-array-items.result.now at c.array-item.result c.as_slice-array-items.ensures
     c.loop-array-test.true c.array-item.is in
     elim c.if-is_output.branch [
       | then-is_output+in-Some w ↦

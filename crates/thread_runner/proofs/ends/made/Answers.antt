@@ -1,7 +1,7 @@
 use Rattle.std.proofs.Common.{◌<◌, arith, length, ap, ◌∙◌}
 use Rattle.ruled_links.specs.Ports.{stream_at}
-use Rattle.thread_runner.proofs.Making.{made_more, made_all, made_capacities, streams_number, stream_is, channel_read}
-use Rattle.thread_runner.proofs.Making.{writer_read, reader_read}
+use Rattle.thread_runner.proofs.ProcessEnds.{made_more, made_all, made_capacities, streams_number, stream_is, channel_read}
+use Rattle.thread_runner.proofs.ProcessEnds.{writer_read, reader_read}
 use Rattle.thread_runner.proofs.ends.made.Goals as goal
 
 pub link-requires-clause-channel : goal.link-requires-clause-channel

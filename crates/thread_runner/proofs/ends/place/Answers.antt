@@ -1,5 +1,5 @@
 use Rattle.std.proofs.Common.{rules}
-use Rattle.thread_runner.proofs.Making.{placed}
+use Rattle.thread_runner.proofs.ProcessEnds.{placed}
 use Rattle.thread_runner.proofs.ends.place.Goals as goal
 
 pub returns : goal.returns

@@ -1,5 +1,5 @@
 use Rattle.std.proofs.Common.{length, ap, ◌∙◌, arith}
-use Rattle.thread_runner.proofs.Answering.{values_number, gives_arrays}
+use Rattle.thread_runner.proofs.ArrayAnswers.{values_number, gives_arrays}
 use Rattle.thread_runner.proofs.run.answer.Goals as goal
 
 pub gathered-requires-clause-values : goal.gathered-requires-clause-values

@@ -1,5 +1,5 @@
 use Rattle.net_core.specs.Held.{run_of}
-use Rattle.thread_runner.proofs.Answering.{scheduled_values}
+use Rattle.thread_runner.proofs.ArrayAnswers.{scheduled_values}
 use Rattle.thread_runner.proofs.run.run_along.Goals as goal
 
 pub run_by-requires-clause-limits : goal.run_by-requires-clause-limits

@@ -1,7 +1,7 @@
 use Rattle.std.proofs.Common.{◌≡◌, ℤ, List, length, ap, sym, ◌∙◌, subst}
 use Rattle.net_core.specs.Rooms.{Store}
 use Rattle.thread_runner.specs.Runs.{HaveKept}
-use Rattle.thread_runner.proofs.Answering.{rooms_values, processes_are}
+use Rattle.thread_runner.proofs.ArrayAnswers.{rooms_values, processes_are}
 use Rattle.thread_runner.proofs.run.run_threads.Goals as goal
 
 pub answer-requires-clause-processes : goal.answer-requires-clause-processes

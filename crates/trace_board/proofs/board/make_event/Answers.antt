@@ -1,6 +1,6 @@
 use Rattle.std.proofs.Common.{vec_capacity, arith}
 use Rattle.net_core.specs.Held.{held_of}
-use Rattle.trace_board.proofs.Boarded.{board_more, room_left}
+use Rattle.trace_board.proofs.BoardSteps.{board_more, room_left}
 use Rattle.trace_board.proofs.board.make_event.Goals as goal
 
 pub step-requires-clause-state : goal.step-requires-clause-state

@@ -2,7 +2,7 @@ use Rattle.std.proofs.Common.{inl, inr, arith}
 use Rattle.std.proofs.lemmas.Bool.{cases_lt}
 use Rattle.net_core.specs.Held.{run_of}
 use Rattle.net_core.specs.Machine.{net_of}
-use Rattle.trace_board.proofs.Laned.{enabled_past}
+use Rattle.trace_board.proofs.LaneAnswers.{enabled_past}
 use Rattle.trace_board.proofs.lanes.least_enabled.Goals as goal
 
 pub returns-clause-none : goal.returns-clause-none

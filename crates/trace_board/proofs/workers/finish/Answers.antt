@@ -2,7 +2,7 @@ use Rattle.std.proofs.Common.{List, ℕ, sym, subst}
 use Rattle.net_core.specs.Machine.{net_of}
 use Rattle.net_core.specs.Orders.{EndsAll}
 use Rattle.net_core.specs.Rules.{tags}
-use Rattle.trace_board.proofs.Ended.{finished, fewer_left}
+use Rattle.trace_board.proofs.BoardEnd.{finished, fewer_left}
 use Rattle.trace_board.proofs.workers.finish.Goals as goal
 
 pub loop-smaller : goal.loop-smaller

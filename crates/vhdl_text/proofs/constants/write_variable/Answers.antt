@@ -1,9 +1,9 @@
 use Rattle.std.proofs.Common.{◌≡◌, ◌++◌, ◌∙◌, pos, codes, decimal, length, slice_index_or, sym, ap}
 use Rattle.std.proofs.lemmas.List.{length-map}
+use Rattle.text_out.proofs.Wrote.{Wrote-append}
 use Rattle.vhdl_text.specs.Constants.{variable_values}
 use Rattle.vhdl_text.specs.Literals.{literal}
 use Rattle.vhdl_text.proofs.Columns.{constant_pieces}
-use Rattle.vhdl_text.proofs.Sequences.{and_then}
 use Rattle.vhdl_text.proofs.constants.write_variable.Goals as goal
 
 pub returns : goal.returns
@@ -19,4 +19,4 @@ returns g c =
     let entries = rw c.as_slice-values.ensures at c.write_point_entries.ensures in
     let tail = rw (count, c.literal.ensures) at c.write_tail.ensures in
     rw (constant_pieces (codes "v" ++ decimal n) (codes "words") values (literal (pos 0)))
-    (and_then w _ _ head (and_then w _ _ entries tail))
+    (Wrote-append w _ _ head (Wrote-append w _ _ entries tail))

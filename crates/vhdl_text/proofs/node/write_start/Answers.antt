@@ -1,7 +1,7 @@
-use Rattle.vhdl_text.proofs.Sequences.{and_then}
+use Rattle.text_out.proofs.Wrote.{Wrote-append}
 use Rattle.vhdl_text.proofs.node.write_start.Goals as goal
 
 pub returns : goal.returns
 returns g c =
     let w = g.W.TextWriter.given in
-    and_then w _ _ c.put.ensures (and_then w _ _ c.write_number.ensures c.put-2.ensures)
+    Wrote-append w _ _ c.put.ensures (Wrote-append w _ _ c.write_number.ensures c.put-2.ensures)

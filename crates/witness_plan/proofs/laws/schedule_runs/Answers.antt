@@ -1,5 +1,5 @@
-use Rattle.process_derive.proofs.Wired.{is_wired}
-use Rattle.witness_plan.proofs.Planned.{ends_all, queue_lengths}
+use Rattle.process_derive.proofs.ScriptNames.{is_wired}
+use Rattle.witness_plan.proofs.PolicyRuns.{ends_all, queue_lengths}
 use Rattle.witness_plan.proofs.laws.schedule_runs.Goals as goal
 
 pub returns : goal.returns

@@ -1,18 +1,11 @@
-use Rattle.std.proofs.Common.{◌≡◌, sym, subst}
+use Rattle.std.proofs.Common.{◌≡◌, subst}
 use Rattle.std.specs.Prelude.{IfOk}
 use Rattle.net_core.specs.Machine.{net_of}
 use Rattle.witness_plan.specs.declared.schedules.Policy.TheVariants.{Seq, Down}
 use Rattle.witness_plan.specs.Schedules.{downward_schedule}
 use Rattle.witness_plan.specs.Sequential.{capacities}
-use Rattle.witness_plan.specs.Traffic.{NamesOwnChannels}
-use Rattle.witness_plan.proofs.OwnChannels.{names_own}
-use Rattle.witness_plan.proofs.Planned.{ends_planned}
+use Rattle.witness_plan.proofs.PolicyRuns.{ends_planned}
 use Rattle.witness_plan.proofs.schedules.plan_for.Goals as goal
-
-pub downward-requires-clause-channels : goal.downward-requires-clause-channels
-downward-requires-clause-channels c =
-    subst (λ network. NamesOwnChannels (net_of network)) (sym c.requires.network)
-    (names_own c.args.nest.now c.requires.size)
 
 pub returns-in-Seq-clause-run : goal.returns-in-Seq-clause-run
 returns-in-Seq-clause-run c =

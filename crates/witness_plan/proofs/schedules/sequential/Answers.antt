@@ -1,12 +1,9 @@
-use Rattle.std.proofs.Common.{◌≡◌, ◌-◌, ◌∙◌, drop, length, arith, sym, ap, subst}
+use Rattle.std.proofs.Common.{◌≡◌, ◌-◌, ◌∙◌, drop, length, arith, sym, ap}
 use Rattle.sanlp.specs.Trace.{trace}
 use Rattle.loop_walk.specs.Walks.{rest}
-use Rattle.net_core.specs.Machine.{net_of}
 use Rattle.witness_plan.specs.Sequential.{capacities}
-use Rattle.witness_plan.specs.Traffic.{NamesOwnChannels}
-use Rattle.witness_plan.proofs.OwnChannels.{names_own}
-use Rattle.witness_plan.proofs.Sequenced.{capacities_are, left_later, process_exists, sequenced, sequenced_all}
-use Rattle.witness_plan.proofs.Sequenced.{sequenced_more}
+use Rattle.witness_plan.proofs.TraceSteps.{left_later, process_exists, sequenced, sequenced_all}
+use Rattle.witness_plan.proofs.TraceSteps.{sequenced_more}
 use Rattle.witness_plan.proofs.schedules.sequential.Goals as goal
 
 pub loop-point-init : goal.loop-point-init
@@ -17,8 +14,8 @@ loop-point-init c =
     record {
       walk = c.in_ok-walk.ensures.walk;
       left = ap (λ k. drop k (trace n)) started ∙ sym c.in_ok-walk.ensures.rest;
-      schedule = c.in_ok-progress.ensures.schedule ∙ ap (sequenced n) (sym started);
-      progress = c.in_ok-progress.ensures.progress;
+      schedule = c.in_ok-recorder.ensures.schedule ∙ ap (sequenced n) (sym started);
+      recorder = c.in_ok-recorder.ensures.recorder;
     }
 
 pub make_point-requires-clause-process : goal.make_point-requires-clause-process
@@ -26,12 +23,7 @@ make_point-requires-clause-process c =
     let n = c.args.nest.now in
     process_exists n
     (rest n c.loop-point.walk) _ c.in-Some.point c.loop-point.invariant.left c.in-Some.ensures.next
-    c.loop-point.progress.schedule c.loop-point.invariant.schedule c.args.network.now c.requires.network
-
-pub make_point-requires-clause-channels : goal.make_point-requires-clause-channels
-make_point-requires-clause-channels c =
-    subst (λ network. NamesOwnChannels (net_of network)) (sym c.requires.network)
-    (names_own c.args.nest.now c.requires.size)
+    c.loop-point.recorder.schedule c.loop-point.invariant.schedule c.args.network.now c.requires.network
 
 pub loop-point-preserved : goal.loop-point-preserved
 loop-point-preserved c =
@@ -43,9 +35,9 @@ loop-point-preserved c =
       schedule =
           sequenced_more n
           (rest n c.loop-point.walk) _ c.in-Some.point c.loop-point.invariant.left c.in-Some.ensures.next
-          c.loop-point.progress.schedule c.loop-point.invariant.schedule c.args.network.now c.requires.network
-          c.make_point.new.progress.schedule c.in_ok-make_point.ensures.schedule;
-      progress = c.in_ok-make_point.ensures.progress;
+          c.loop-point.recorder.schedule c.loop-point.invariant.schedule c.args.network.now c.requires.network
+          c.make_point.new.recorder.schedule c.in_ok-make_point.ensures.schedule;
+      recorder = c.in_ok-make_point.ensures.recorder;
     }
 
 pub returns-clause-schedule : goal.returns-clause-schedule
@@ -53,14 +45,14 @@ returns-clause-schedule c =
     let n = c.args.nest.now in
     let whole : length (trace n) - length (rest n c.loop-point.walk) ≡ length (trace n) =
     omega (arith, ap length c.in_default.ensures.next.0) in
-    sequenced_all n c.loop-point.progress.schedule (c.loop-point.invariant.schedule ∙ ap (sequenced n) whole)
+    c.into_witness.ensures.schedule
+    ∙ sequenced_all n c.loop-point.recorder.schedule (c.loop-point.invariant.schedule ∙ ap (sequenced n) whole)
 
 pub returns-clause-capacities : goal.returns-clause-capacities
 returns-clause-capacities c =
     let n = c.args.nest.now in
     let whole : length (trace n) - length (rest n c.loop-point.walk) ≡ length (trace n) =
     omega (arith, ap length c.in_default.ensures.next.0) in
-    capacities_are c.args.network.now c.loop-point.progress.schedule c.deref.result.now c.in_ok-lengths.lengths
-    c.in_ok-lengths.ensures (c.deref.ensures.value ∙ c.loop-point.invariant.progress.traffic)
+    c.into_witness.ensures.capacities ∙ c.loop-point.invariant.recorder.greatest
     ∙ ap (capacities c.args.network.now)
-    (sequenced_all n c.loop-point.progress.schedule (c.loop-point.invariant.schedule ∙ ap (sequenced n) whole))
+    (sequenced_all n c.loop-point.recorder.schedule (c.loop-point.invariant.schedule ∙ ap (sequenced n) whole))

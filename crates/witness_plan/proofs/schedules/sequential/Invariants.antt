@@ -2,8 +2,8 @@ use Rattle.std.proofs.Common.{◌≡◌, ◌-◌, drop, length}
 use Rattle.sanlp.specs.Trace.{trace}
 use Rattle.loop_walk.specs.Walks.{IsWalkOf, rest}
 use Rattle.net_core.specs.Machine.{net_of}
-use Rattle.witness_plan.specs.Progress.{IsProgress}
-use Rattle.witness_plan.proofs.Sequenced.{sequenced}
+use Rattle.witness_plan.specs.Records.{IsRecord}
+use Rattle.witness_plan.proofs.TraceSteps.{sequenced}
 use Rattle.witness_plan.proofs.schedules.sequential.Given as goal
 
 abbrev pub invariant-loop-point : goal.invariant-loop-point
@@ -11,8 +11,8 @@ invariant-loop-point l =
     record {
       walk : IsWalkOf l.nest l.walk;
       left : drop (length (trace l.nest) - length (rest l.nest l.walk)) (trace l.nest) ≡ rest l.nest l.walk;
-      schedule : l.progress.schedule ≡ sequenced l.nest (length (trace l.nest) - length (rest l.nest l.walk));
-      progress : IsProgress (net_of l.network) l.progress;
+      schedule : l.recorder.schedule ≡ sequenced l.nest (length (trace l.nest) - length (rest l.nest l.walk));
+      recorder : IsRecord (net_of l.network) l.recorder;
     }
 
 abbrev pub decreases-loop-point : goal.decreases-loop-point

@@ -10,12 +10,12 @@ pub make_event-requires-clause-left : goal.make_event-requires-clause-left
 make_event-requires-clause-left c =
     let net = net_of c.args.network.now in
     slice_get_within (net.script c.args.process)
-    (cut_after opening c.loop-event.progress.schedule c.args.process) c.in-Some.event (sym c.in-Some.ensures)
+    (cut_after opening c.loop-event.recorder.schedule c.args.process) c.in-Some.event (sym c.in-Some.ensures)
 
 pub returns-in-Fire-clause-schedule : goal.returns-in-Fire-clause-schedule
 returns-in-Fire-clause-schedule c =
     let net = net_of c.args.network.now in
-    fire_made net c.loop-event.progress.schedule c.make_event.new.self.schedule c.args.process
+    fire_made net c.loop-event.recorder.schedule c.make_event.new.self.schedule c.args.process
     c.in_ok-make_event.ensures.schedule c.in-Fire.refs (sym c.in-Some.ensures ∙ ap Some c.in-Fire.is)
     ∙ c.loop-event.invariant.made
 
@@ -24,7 +24,7 @@ loop-event-smaller c =
     let net = net_of c.args.network.now in
     omega (
       arith,
-      ap length (left_next net c.loop-event.progress.schedule c.make_event.new.self.schedule c.args.process
+      ap length (left_next net c.loop-event.recorder.schedule c.make_event.new.self.schedule c.args.process
           c.in_ok-make_event.ensures.schedule c.in-Some.event (sym c.in-Some.ensures)),
     )
 
@@ -32,8 +32,8 @@ pub loop-event-preserved : goal.loop-event-preserved
 loop-event-preserved c =
     let net = net_of c.args.network.now in
     record {
-      progress = c.in_ok-make_event.ensures.progress;
-      made = event_made net c.loop-event.progress.schedule c.make_event.new.self.schedule c.args.process
+      recorder = c.in_ok-make_event.ensures.recorder;
+      made = event_made net c.loop-event.recorder.schedule c.make_event.new.self.schedule c.args.process
           c.in_ok-make_event.ensures.schedule c.in-Some.event (sym c.in-Some.ensures) c.in_default-event.not-Fire
           ∙ c.loop-event.invariant.made;
     }
@@ -42,7 +42,7 @@ pub returns-clause-schedule : goal.returns-clause-schedule
 returns-clause-schedule c =
     let net = net_of c.args.network.now in
     let p = c.args.process in
-    let s = c.loop-event.progress.schedule in
+    let s = c.loop-event.recorder.schedule in
     let none = nothing_left net s p (sym c.in_default.ensures) in
     ap (λ events. s ++ replicate (put_length events) p) none
     ∙ sym (ap (λ events. s ++ replicate (point_length events) p) none)

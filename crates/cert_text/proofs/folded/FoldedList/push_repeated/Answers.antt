@@ -1,7 +1,7 @@
 use Rattle.std.proofs.Common.{◌≡◌, ◌++◌, ◌∙◌, List, [], sym, ap}
 use Rattle.std.proofs.lemmas.Bool.{false≢true}
 use Rattle.script_blocks.specs.Expansion.{expansion, parts_expansion, repeated}
-use Rattle.cert_text.proofs.Grown.{grown_by_repeat, nothing_repeated, proper_by_repeat}
+use Rattle.cert_text.proofs.PartLists.{grown_by_repeat, nothing_repeated, proper_by_repeat}
 use Rattle.cert_text.proofs.folded.FoldedList.push_repeated.Goals as goal
 
 pub returns-then-is_empty : goal.returns-then-is_empty

@@ -1,6 +1,6 @@
 use Rattle.std.proofs.Common.{◌≡◌, ◌∙◌, true, refl, sym}
 use Rattle.std.specs.Prelude.{bytes_eq, codes}
-use Rattle.cert_lines.proofs.Counted.{is_keyword, one_before}
+use Rattle.cert_lines.proofs.WordCounts.{is_keyword, one_before}
 use Rattle.cert_text.proofs.places.SizesFromLine.from_line.Goals as goal
 
 pub returns : goal.returns

@@ -5,8 +5,9 @@ use Rattle.std.proofs.lemmas.Int.{to_z-of_z}
 use Rattle.std.proofs.lemmas.List.{length-map}
 use Rattle.wrap_expr.specs.Value.{UsesOnly}
 use Rattle.sanlp.specs.Points.{points_of}
+use Rattle.sanlp.proofs.ReadCounts.{read_count-some}
 use Rattle.net_core.specs.Rules.{read_slot}
-use Rattle.net_core.proofs.Valued.{turn_in, vector_depth, vector_read, expr_fits, reads_are, fire_value}
+use Rattle.net_core.proofs.FireValues.{turn_in, vector_depth, vector_read, expr_fits, fire_value}
 use Rattle.net_core.proofs.firing.ValuesFiringI64.fire.Goals as goal
 
 pub statement-statement-requires : goal.statement-statement-requires
@@ -32,7 +33,7 @@ eval-requires c =
     sym (ap length at_is ∙ vector_depth n p f statement c.requires.limits.0 is) in
     let many : length statement.reads ≡ length reads =
     sym (ap length (c.as_slice-3.ensures.value ∙ c.read_all-reads.ensures)
-    ∙ length-map c.args.refs.now (read_slot c.args.slots.now) ∙ c.requires.limits.1 ∙ reads_are n p statement is) in
+    ∙ length-map c.args.refs.now (read_slot c.args.slots.now) ∙ c.requires.limits.1 ∙ read_count-some n p statement is) in
     subst (λ k. UsesOnly k (length reads) statement.expr) depth
     (subst (λ k. UsesOnly (length statement.loops) k statement.expr) many
     (expr_fits n.arrays statement c.statement-statement.ensures.fits))

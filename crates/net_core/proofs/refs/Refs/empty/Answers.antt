@@ -1,5 +1,5 @@
 use Rattle.net_core.specs.Padded.{pad}
-use Rattle.net_core.proofs.PaddedLemmas.{IsPadded-empty}
+use Rattle.net_core.proofs.ArrayPadding.{IsPadded-empty}
 use Rattle.net_core.proofs.refs.Refs.empty.Goals as goal
 
 pub invariant_of-result : goal.invariant_of-result

@@ -1,6 +1,6 @@
 use Rattle.std.proofs.Common.{arith, ap, length, ◌<◌}
 use Rattle.std.proofs.lemmas.List.{length-take}
-use Rattle.net_core.proofs.PaddedLemmas.{IsPadded-push}
+use Rattle.net_core.proofs.ArrayPadding.{IsPadded-push}
 use Rattle.net_core.proofs.refs.Refs.push.Goals as goal
 
 pub invariant_of-self : goal.invariant_of-self

@@ -1,5 +1,5 @@
 use Rattle.script_blocks.specs.Places.{left}
-use Rattle.script_blocks.proofs.Given.{none_filled}
+use Rattle.script_blocks.proofs.CursorItems.{none_filled}
 use Rattle.script_blocks.proofs.place.Place.prepare.Goals as goal
 
 pub returns-clause-ready : goal.returns-clause-ready

@@ -2,8 +2,8 @@ use Rattle.std.proofs.Common.{vec_capacity}
 use Rattle.net_core.specs.Held.{held_of, run_of}
 use Rattle.net_core.specs.Machine.{net_of}
 use Rattle.trace_board.specs.declared.lanes.Advance.TheVariants.{Stepped}
-use Rattle.trace_board.proofs.Laned.{stepped_is_least, told_alike}
-use Rattle.trace_board.proofs.Boarded.{told_stepped, told_idle, told_done}
+use Rattle.trace_board.proofs.LaneAnswers.{stepped_is_least, told_alike}
+use Rattle.trace_board.proofs.BoardSteps.{told_stepped, told_idle, told_done}
 use Rattle.trace_board.proofs.board.Board.advance.Goals as goal
 
 pub make_event-requires-clause-board : goal.make_event-requires-clause-board

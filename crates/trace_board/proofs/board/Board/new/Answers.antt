@@ -1,6 +1,6 @@
 use Rattle.std.proofs.Common.{vec_capacity, arith}
 use Rattle.net_core.specs.Held.{held_of}
-use Rattle.trace_board.proofs.Boarded.{board_none}
+use Rattle.trace_board.proofs.BoardSteps.{board_none}
 use Rattle.trace_board.proofs.board.Board.new.Goals as goal
 
 pub invariant_of-result : goal.invariant_of-result

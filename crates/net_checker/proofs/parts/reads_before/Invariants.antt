@@ -1,7 +1,0 @@
-use Rattle.std.proofs.Common.{◌≡◌, ◌*◌, ◌≤◌, length, take}
-use Rattle.std.specs.List.{sum_by}
-use Rattle.net_checker.proofs.parts.reads_before.Given as goal
-
-abbrev pub invariant-loop-number : goal.invariant-loop-number
-invariant-loop-number l =
-    (l.total ≡ sum_by (λ s. length s.reads) (take l.number l.nest.statements)) × (l.total ≤ 8 * l.number)

@@ -2,8 +2,7 @@
 -- points, and each entry is of a statement that is there, so all points together are the trace. The induction goes
 -- over the entries: one of them is of the next statement, of an earlier one, or of a later one. Nothing is said of
 -- their order.
-use Rattle.std.proofs.Common.{◌≡◌, ◌+◌, ◌<◌, ◌≤◌, ℕ, ℤ, zero, suc, Bool, true, false, cond, List, [], ◌∷◌, Some, length, map, get_or}
-use Rattle.std.proofs.Common.{count_by, slice_get, refl, sym, ap, ◌∙◌, arith, inl, inr, nat_lt, eqb, eq-eqb, ne_eqb}
+use Rattle.std.proofs.Common.{◌≡◌, ◌+◌, ◌<◌, ◌≤◌, ℕ, ℤ, suc, Bool, true, false, cond, List, [], ◌∷◌, Some, length, get_or, count_by, slice_get, refl, sym, ap, ◌∙◌, arith, inl, inr, nat_lt, eqb, eq-eqb, ne_eqb}
 use Rattle.std.proofs.lemmas.Bool.{cases_lt, le-ltb, lt-ltb}
 use Rattle.std.proofs.lemmas.List.Sums.{count_by-le-length}
 use Rattle.std.proofs.lemmas.Option.{get_or_from_slice_get, slice_get_read}
@@ -11,9 +10,9 @@ use Rattle.sanlp.specs.declared.nest.Nest.{Nest}
 use Rattle.sanlp.specs.declared.nest.Point.{Point}
 use Rattle.sanlp.specs.Points.{points_of, vectors_of}
 use Rattle.sanlp.specs.Trace.{trace}
-use Rattle.net_core.proofs.Counting.{count_cons}
-use Rattle.net_core.proofs.Valued.{vectors_at}
-use Rattle.net_checker.proofs.Turns.{statement_of_entry}
+use Rattle.sanlp.proofs.ReadCounts.{trace-statement}
+use Rattle.net_core.proofs.EventCounts.{count_cons}
+use Rattle.net_core.proofs.FireValues.{vectors_at}
 
 -- the entry is of one of the first so many statements
 abbrev pub is_below : ℕ → Point → Bool
@@ -25,57 +24,37 @@ none_below (p ∷ points) =
     let here : nat_lt p.statement 0 ≡ false = le-ltb p.statement 0 (omega arith) in
     omega (arith, count_cons (is_below 0) p points, ap (λ b. cond {A = ℕ} b 1 0) here, none_below points)
 
+-- an entry of the first so many statements and one more is of those, or of the next
+here_more : (s m : ℕ)
+    → cond {A = ℕ} (nat_lt s (m + 1)) 1 0 ≡ cond {A = ℕ} (nat_lt s m) 1 0 + cond {A = ℕ} (eqb s m) 1 0
+here_more s m =
+    elim (cases_lt s m) [
+      | inl low ↦ rw (lt-ltb s (m + 1) (omega arith), lt-ltb s m low, ne_eqb s m (λ e. omega (arith, low, e))) refl
+      | inr high ↦ elim (cases_lt m s) [
+        | inl later ↦ rw
+            (le-ltb s (m + 1) (omega arith), le-ltb s m (omega arith), ne_eqb s m (λ e. omega (arith, later, e)))
+            refl
+        | inr same ↦ rw (lt-ltb s (m + 1) (omega arith), le-ltb s m (omega arith), eq-eqb s m (omega arith)) refl
+      ]
+    ]
+
+length-cond : {X : Type 0} (t : Bool) (x : X) (xs : List X)
+    → length (cond t (x ∷ xs) xs) ≡ cond {A = ℕ} t 1 0 + length xs
+length-cond true x xs = omega arith
+length-cond false x xs = omega arith
+
 one_more : (points : List Point) (m : ℕ)
     → count_by (is_below (m + 1)) points ≡ count_by (is_below m) points + length (vectors_of points m)
 one_more [] m = refl
 one_more (p ∷ points) m =
-    let rest = one_more points m in
-    let next = count_cons (is_below (m + 1)) p points in
-    let now = count_cons (is_below m) p points in
-    elim (cases_lt p.statement m) [
-      | inl low ↦ (
-          let a : nat_lt p.statement (m + 1) ≡ true = lt-ltb p.statement (m + 1) (omega arith) in
-          let b : nat_lt p.statement m ≡ true = lt-ltb p.statement m low in
-          let c : eqb p.statement m ≡ false = ne_eqb p.statement m (λ e. omega (arith, low, e)) in
-          omega (
-            arith,
-            rest,
-            next,
-            now,
-            ap (λ t. cond {A = ℕ} t 1 0) a,
-            ap (λ t. cond {A = ℕ} t 1 0) b,
-            ap (λ t. length (cond t (p.at ∷ vectors_of points m) (vectors_of points m))) c,
-          ))
-      | inr high ↦ elim (cases_lt m p.statement) [
-        | inl later ↦ (
-            let a : nat_lt p.statement (m + 1) ≡ false = le-ltb p.statement (m + 1) (omega arith) in
-            let b : nat_lt p.statement m ≡ false = le-ltb p.statement m (omega arith) in
-            let c : eqb p.statement m ≡ false = ne_eqb p.statement m (λ e. omega (arith, later, e)) in
-            omega (
-              arith,
-              rest,
-              next,
-              now,
-              ap (λ t. cond {A = ℕ} t 1 0) a,
-              ap (λ t. cond {A = ℕ} t 1 0) b,
-              ap (λ t. length (cond t (p.at ∷ vectors_of points m) (vectors_of points m))) c,
-            ))
-        | inr same ↦ (
-            let e : p.statement ≡ m = omega arith in
-            let a : nat_lt p.statement (m + 1) ≡ true = lt-ltb p.statement (m + 1) (omega arith) in
-            let b : nat_lt p.statement m ≡ false = le-ltb p.statement m (omega arith) in
-            let c : eqb p.statement m ≡ true = eq-eqb p.statement m e in
-            omega (
-              arith,
-              rest,
-              next,
-              now,
-              ap (λ t. cond {A = ℕ} t 1 0) a,
-              ap (λ t. cond {A = ℕ} t 1 0) b,
-              ap (λ t. length (cond t (p.at ∷ vectors_of points m) (vectors_of points m))) c,
-            ))
-      ]
-    ]
+    omega (
+      arith,
+      one_more points m,
+      count_cons (is_below (m + 1)) p points,
+      count_cons (is_below m) p points,
+      here_more p.statement m,
+      length-cond (eqb p.statement m) p.at (vectors_of points m),
+    )
 
 -- one statement more
 pub statement_more : (n : Nest) (m : ℕ)
@@ -95,7 +74,7 @@ all_of (p ∷ points) m there =
     )
 
 pub all_entries : (n : Nest) → count_by (is_below (length n.statements)) (trace n) ≡ length (trace n)
-all_entries n = all_of (trace n) (length n.statements) (λ u p is. statement_of_entry n u p is)
+all_entries n = all_of (trace n) (length n.statements) (λ u p is. trace-statement n u p is)
 
 pub few_below : (n : Nest) (m : ℕ) → count_by (is_below m) (trace n) ≤ length (trace n)
 few_below n m = count_by-le-length (is_below m) (trace n)

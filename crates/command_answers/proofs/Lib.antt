@@ -1,10 +1,11 @@
-mod Checked
-mod Described
+mod ArrayCounts
+mod CheckAnswers
+mod VhdlAnswers
 mod EntryCounts
-mod Inputs
 mod Loads
-mod Printed
+mod TextAnswers
 mod Runs
 mod Sources
+mod StatusNumbers
+mod Stops
 mod TellsSources
-mod Traced

@@ -22,7 +22,7 @@ use Rattle.command_answers.specs.Steps.{HasSize}
 use Rattle.command_answers.specs.declared.answer.Answer.{Answer}
 use Rattle.command_answers.specs.declared.refusal.Refusal.{Refusal}
 use Rattle.command_answers.specs.declared.refusal.Stop.{Stop}
-use Rattle.command_answers.specs.declared.refusal.Stop.TheVariants.{Refused, ReadFault, Memory}
+use Rattle.command_answers.proofs.Stops.{Judges-Err}
 
 abbrev pub JudgesLoad : Policy → ℕ → Result Answer Stop → Type 0
 JudgesLoad policy rows result = Judges (λ answer. Loads policy rows (as_reply answer)) result
@@ -35,10 +35,10 @@ loads_too_many policy rows refusal many is =
 pub loads_without_size : (policy : Policy) (rows : ℕ) (nest : Nest) (stop : Stop) → rows ≤ load_limit
     → IsMatrixNest rows nest
     → Judges (HasSize nest) (Err stop) → JudgesLoad policy rows (Err stop)
-loads_without_size policy rows nest (Refused refusal) few is step =
-    subst (λ (r : Refusal). Loads policy rows (Err r)) (sym step.2) (size_refused nest step.0 few is step.1)
-loads_without_size policy rows nest ReadFault few is step = step
-loads_without_size policy rows nest Memory few is step = tt
+loads_without_size policy rows nest stop few is =
+    Judges-Err (HasSize nest) (λ answer. Loads policy rows (as_reply answer)) stop
+    (λ refusal step.
+    subst (λ (r : Refusal). Loads policy rows (Err r)) (sym step.2) (size_refused nest step.0 few is step.1))
 
 pub loads_summed : (policy : Policy) (rows : ℕ) (nest : Nest) (total : ℕ) (inputs : Inputs) (network : Network)
     (outputs : List (List ℤ)) (summary : Summary)

@@ -1,33 +1,25 @@
 -- What the commands that run a source on its data come to, from what their steps come to.
 use Rattle.std.proofs.Common.{◌≡◌, ℕ, ℤ, List, Result, Ok, Err, sym, subst}
-use Rattle.command_line.specs.Bundle.{source_part, data_part}
+use Rattle.bundle.specs.Parts.{source_part, data_part}
 use Rattle.sanlp.specs.Size.{SizeIsOk}
 use Rattle.sanlp.specs.declared.nest.Inputs.{Inputs}
 use Rattle.sanlp.specs.declared.nest.Nest.{Nest}
 use Rattle.command_answers.specs.Judging.{Judges}
 use Rattle.command_answers.specs.Replying.{as_reply}
 use Rattle.command_answers.specs.Replies.{done}
-use Rattle.command_answers.specs.Run.{IsInputs, Runs, source_refused, data_refused, answered}
+use Rattle.command_answers.specs.Run.{IsInputs, Runs, data_refused, answered}
 use Rattle.command_answers.specs.Source.{GivesWithinSize}
 use Rattle.command_answers.specs.Steps.{HasInputs, HasSizedNest, IsPrepared}
 use Rattle.command_answers.specs.declared.answer.Answer.{Answer}
 use Rattle.command_answers.specs.declared.refusal.Stop.{Stop}
 use Rattle.command_answers.specs.declared.refusal.Stop.TheVariants.{Refused, ReadFault, Memory}
-use Rattle.command_answers.proofs.Printed.{nest_is}
+use Rattle.command_answers.proofs.Stops.{Judges-Err, nest_is}
 
 abbrev pub JudgesRun : (Nest → Inputs → List ℕ) → List (List ℕ × ℤ) → List ℕ → Result Answer Stop → Type 0
 JudgesRun text params bundle result = Judges (λ answer. Runs text params bundle (as_reply answer)) result
 
 abbrev pub JudgesPrepared : List (List ℕ × ℤ) → List ℕ → Result (Nest × Inputs) Stop → Type 0
 JudgesPrepared params bundle result = Judges (IsPrepared params bundle) result
-
-pub prepared_without_nest : (params : List (List ℕ × ℤ)) (bundle source : List ℕ) (stop : Stop)
-    → source ≡ source_part bundle
-    → Judges (HasSizedNest source params) (Err stop) → JudgesPrepared params bundle (Err stop)
-prepared_without_nest params bundle source (Refused refusal) is step = λ text.
-    source_refused refusal (nest_is params bundle source (Err refusal) is step)
-prepared_without_nest params bundle source ReadFault is step = step
-prepared_without_nest params bundle source Memory is step = tt
 
 pub prepared_from : (params : List (List ℕ × ℤ)) (bundle source bytes : List ℕ) (nest : Nest)
     (answer : Result (Nest × Inputs) Stop)
@@ -49,9 +41,9 @@ prepared_from params bundle source bytes nest (Err Memory) is bytes_are sized ha
 -- what refuses the nest or its inputs refuses the run
 pub unprepared : (text : Nest → Inputs → List ℕ) (params : List (List ℕ × ℤ)) (bundle : List ℕ) (stop : Stop)
     → JudgesPrepared params bundle (Err stop) → JudgesRun text params bundle (Err stop)
-unprepared text params bundle (Refused refusal) judged = judged text
-unprepared text params bundle ReadFault judged = judged
-unprepared text params bundle Memory judged = judged
+unprepared text params bundle stop =
+    Judges-Err (IsPrepared params bundle) (λ answer. Runs text params bundle (as_reply answer)) stop
+    (λ refusal judged. judged text)
 
 pub runs_to_text : (text : Nest → Inputs → List ℕ) (params : List (List ℕ × ℤ)) (bundle : List ℕ) (nest : Nest)
     (inputs : Inputs) (written : List ℕ)

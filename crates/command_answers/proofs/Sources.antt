@@ -6,25 +6,25 @@ use Rattle.loop_grammar.specs.Lexemes.{IsTree}
 use Rattle.loop_grammar.specs.declared.tree.Tree.{Tree}
 use Rattle.sanlp.specs.declared.nest.Nest.{Nest}
 use Rattle.command_answers.specs.Judging.{Judges}
-use Rattle.command_answers.specs.Source.{Gives, GivesWithinSize, no_tokens, no_tree, not_bound, bound, source_refused}
-use Rattle.command_answers.specs.Source.{size_refused}
+use Rattle.command_answers.specs.Source.{Gives, GivesWithinSize, no_tokens, no_tree, not_bound, bound, source_refused, size_refused}
 use Rattle.command_answers.specs.Steps.{HasSize, HasSizedNest, HasTokens, HasSyntaxTree, HasNest}
 use Rattle.command_answers.specs.declared.refusal.Refusal.{Refusal}
 use Rattle.command_answers.specs.declared.refusal.Stop.{Stop}
 use Rattle.command_answers.specs.declared.refusal.Stop.TheVariants.{Refused, ReadFault, Memory}
+use Rattle.command_answers.proofs.Stops.{Judges-Err}
 
 pub gives_without_tokens : (source : List ℕ) (params : List (List ℕ × ℤ)) (stop : Stop)
     → Judges (HasTokens source) (Err stop) → Judges (Gives source params) (Err stop)
-gives_without_tokens source params (Refused refusal) step = no_tokens step.0 refusal step.1 step.2
-gives_without_tokens source params ReadFault step = step
-gives_without_tokens source params Memory step = tt
+gives_without_tokens source params stop =
+    Judges-Err (HasTokens source) (Gives source params) stop
+    (λ refusal step. no_tokens step.0 refusal step.1 step.2)
 
 pub gives_without_tree : (source : List ℕ) (params : List (List ℕ × ℤ)) (found : List Token) (stop : Stop)
     → tokens source ≡ Ok found → Judges (HasSyntaxTree source found) (Err stop) → Judges (Gives source params) (Err stop)
-gives_without_tree source params found (Refused refusal) lexed step =
-    subst (λ (r : Refusal). Gives source params (Err r)) (sym step.2) (no_tree found step.0 lexed step.1)
-gives_without_tree source params found ReadFault lexed step = step
-gives_without_tree source params found Memory lexed step = tt
+gives_without_tree source params found stop lexed =
+    Judges-Err (HasSyntaxTree source found) (Gives source params) stop
+    (λ refusal step.
+    subst (λ (r : Refusal). Gives source params (Err r)) (sym step.2) (no_tree found step.0 lexed step.1))
 
 pub gives_nest : (source : List ℕ) (params : List (List ℕ × ℤ)) (found : List Token) (tree : Tree)
     (answer : Result Nest Stop)
@@ -38,13 +38,13 @@ gives_nest source params found tree (Err Memory) lexed parsed step = tt
 
 pub sized_without_nest : (source : List ℕ) (params : List (List ℕ × ℤ)) (stop : Stop)
     → Judges (Gives source params) (Err stop) → Judges (HasSizedNest source params) (Err stop)
-sized_without_nest source params (Refused refusal) step = source_refused refusal step
-sized_without_nest source params ReadFault step = step
-sized_without_nest source params Memory step = tt
+sized_without_nest source params stop =
+    Judges-Err (Gives source params) (HasSizedNest source params) stop (λ refusal step. source_refused refusal step)
 
 pub sized_without_size : (source : List ℕ) (params : List (List ℕ × ℤ)) (nest : Nest) (stop : Stop)
     → Gives source params (Ok nest) → Judges (HasSize nest) (Err stop) → Judges (HasSizedNest source params) (Err stop)
-sized_without_size source params nest (Refused refusal) gives step =
-    subst (λ (r : Refusal). GivesWithinSize source params (Err r)) (sym step.2) (size_refused nest step.0 gives step.1)
-sized_without_size source params nest ReadFault gives step = step
-sized_without_size source params nest Memory gives step = tt
+sized_without_size source params nest stop gives =
+    Judges-Err (HasSize nest) (HasSizedNest source params) stop
+    (λ refusal step.
+    subst (λ (r : Refusal). GivesWithinSize source params (Err r)) (sym step.2)
+    (size_refused nest step.0 gives step.1))

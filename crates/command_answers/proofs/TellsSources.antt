@@ -1,13 +1,11 @@
 -- What the command `deps` comes to, from what its steps come to.
 use Rattle.std.proofs.Common.{◌≡◌, ℕ, ℤ, List, Option, Some, None, Result, Ok, Err, refl, sym, subst}
-use Rattle.command_line.specs.Bundle.{source_part}
-use Rattle.deps_text.specs.Dependences.{AllHaveTrees, AreDependences}
+use Rattle.bundle.specs.Parts.{source_part}
+use Rattle.deps_text.specs.Dependences.{AreDependences}
 use Rattle.deps_text.specs.DepsText.{deps_text}
-use Rattle.deps_text.specs.FireLines.{IsSweptOf, IsSweptOfIfAny}
 use Rattle.deps_text.specs.declared.dependence.Dependence.{Dependence}
 use Rattle.deps_text.specs.declared.swept.Swept.{Swept}
 use Rattle.sanlp.specs.declared.nest.Nest.{Nest}
-use Rattle.std.proofs.lemmas.Option.{same_Some}
 use Rattle.command_answers.specs.Judging.{Judges}
 use Rattle.command_answers.specs.Replying.{as_reply}
 use Rattle.command_answers.specs.Replies.{done}
@@ -16,7 +14,7 @@ use Rattle.command_answers.specs.Telling.{HasSwept, TellsSources, source_refused
 use Rattle.command_answers.specs.declared.answer.Answer.{Answer}
 use Rattle.command_answers.specs.declared.refusal.Refusal.{Refusal}
 use Rattle.command_answers.specs.declared.refusal.Stop.{Stop}
-use Rattle.command_answers.specs.declared.refusal.Stop.TheVariants.{Refused, ReadFault, Memory}
+use Rattle.command_answers.proofs.Stops.{Judges-Err}
 
 abbrev pub JudgesTold : List (List ℕ × ℤ) → List ℕ → Result Answer Stop → Type 0
 JudgesTold params bundle result = Judges (λ answer. TellsSources params bundle (as_reply answer)) result
@@ -30,29 +28,18 @@ of_bundle params bundle source result is gives = subst (λ (s : List ℕ). Gives
 pub told_without_nest : (params : List (List ℕ × ℤ)) (bundle source : List ℕ) (stop : Stop)
     → source ≡ source_part bundle
     → Judges (Gives source params) (Err stop) → JudgesTold params bundle (Err stop)
-told_without_nest params bundle source (Refused refusal) is step =
-    source_refused refusal (of_bundle params bundle source (Err refusal) is step)
-told_without_nest params bundle source ReadFault is step = step
-told_without_nest params bundle source Memory is step = tt
+told_without_nest params bundle source stop is =
+    Judges-Err (Gives source params) (λ answer. TellsSources params bundle (as_reply answer)) stop
+    (λ refusal step. source_refused refusal (of_bundle params bundle source (Err refusal) is step))
 
 pub told_without_size : (params : List (List ℕ × ℤ)) (bundle source : List ℕ) (nest : Nest) (stop : Stop)
     → source ≡ source_part bundle → Gives source params (Ok nest)
     → Judges (HasSwept nest) (Err stop) → JudgesTold params bundle (Err stop)
-told_without_size params bundle source nest (Refused refusal) is gives step =
+told_without_size params bundle source nest stop is gives =
+    Judges-Err (HasSwept nest) (λ answer. TellsSources params bundle (as_reply answer)) stop
+    (λ refusal step.
     subst (λ (r : Refusal). TellsSources params bundle (Err r)) (sym step.3)
-    (size_refused nest step.1 (of_bundle params bundle source (Ok nest) is gives) step.0 step.2)
-told_without_size params bundle source nest ReadFault is gives step = step
-told_without_size params bundle source nest Memory is gives step = tt
-
--- what was swept is of the nest
-pub swept_is : (nest : Nest) (swept : Option Swept) → HasSwept nest (Ok swept) → IsSweptOfIfAny nest swept
-swept_is nest None has = λ found is. absurd (cc)
-swept_is nest (Some one) has = λ found is. subst (λ (s : Swept). IsSweptOf nest s) (same_Some one found is) has.3
-
--- where nothing was swept every read has a tree
-pub unswept_trees : (nest : Nest) (swept : Option Swept) → HasSwept nest (Ok swept) → swept ≡ None → AllHaveTrees nest
-unswept_trees nest None has is = has
-unswept_trees nest (Some one) has is = absurd (cc)
+    (size_refused nest step.1 (of_bundle params bundle source (Ok nest) is gives) step.0 step.2))
 
 pub told_nest : (params : List (List ℕ × ℤ)) (bundle source : List ℕ) (nest : Nest) (swept : Option Swept)
     (list : List Dependence)

@@ -1,7 +1,7 @@
 -- What the command `cert` comes to on a bundle: one case for each cause, in the order in which they decide.
 use Rattle.std.specs.Prelude.{ℕ, ℤ, List, Result, Ok, Err}
 use Rattle.cert_text.specs.StandsFor.{IsWrittenOf}
-use Rattle.command_line.specs.Bundle.{source_part}
+use Rattle.bundle.specs.Parts.{source_part}
 use Rattle.net_maker.specs.Certificates.{IsCertificate}
 use Rattle.sanlp.specs.declared.nest.Nest.{Nest}
 use Rattle.source_tree.specs.declared.cert.Cert.{Cert}

@@ -2,7 +2,7 @@
 use Rattle.std.specs.Prelude.{◌≡◌, ℕ, ℤ, List, Some, None, Result, Ok, Err}
 use Rattle.cert_text.specs.Reading.{reading}
 use Rattle.cert_lines.specs.declared.error.CertError.{CertError}
-use Rattle.command_line.specs.Bundle.{certificate_part, source_part}
+use Rattle.bundle.specs.Parts.{certificate_part, source_part}
 use Rattle.net_checker.specs.Fits.{first, verdict_of}
 use Rattle.net_checker.specs.declared.verdict.Verdict.{Verdict}
 use Rattle.net_checker.specs.declared.verdict.Verdict.TheVariants.{Accepted, Refused}
@@ -14,14 +14,16 @@ use Rattle.command_answers.specs.Replies.{Reply}
 use Rattle.command_answers.specs.Source.{GivesWithinSize}
 use Rattle.command_answers.specs.declared.refusal.Refusal.{Refusal}
 use Rattle.command_answers.specs.declared.refusal.Refusal.TheVariants.{NoPart}
+use Rattle.command_answers.specs.declared.status.Status.{Status}
+use Rattle.command_answers.specs.declared.status.Status.TheVariants.{CertificateRefused, Done}
 
--- what was refused is told on the output, with status 1
+-- what was refused of a certificate is told on the output
 abbrev pub refused : List ℕ → Reply
-refused text = record { status = 1; text = text }
+refused text = record { status = CertificateRefused; text = text }
 
-abbrev pub verdict_status : Verdict → ℕ
-verdict_status Accepted = 0
-verdict_status (Refused refusal) = 1
+abbrev pub verdict_status : Verdict → Status
+verdict_status Accepted = Done
+verdict_status (Refused refusal) = CertificateRefused
 
 -- the reply that tells a verdict
 abbrev pub verdict_reply : Verdict → Reply

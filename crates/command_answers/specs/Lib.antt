@@ -10,6 +10,7 @@ pub mod Replying
 pub mod Run
 pub mod Simulating
 pub mod Source
+pub mod Statuses
 pub mod Steps
 pub mod Telling
 pub mod Tracing

@@ -1,6 +1,6 @@
 -- What the command `net` comes to on a bundle: one case for each cause, in the order in which they decide.
 use Rattle.std.specs.Prelude.{ℕ, ℤ, List, Result, Ok, Err}
-use Rattle.command_line.specs.Bundle.{source_part}
+use Rattle.bundle.specs.Parts.{source_part}
 use Rattle.net_text.specs.NetworkText.{net_text}
 use Rattle.sanlp.specs.declared.nest.Nest.{Nest}
 use Rattle.witness_plan.specs.declared.schedules.Policy.{Policy}

@@ -12,13 +12,10 @@ use Rattle.array_data.specs.declared.error.DataError.{DataError}
 use Rattle.array_data.specs.declared.error.DataError.TheVariants as records
 use Rattle.node_automata.specs.declared.node.NodeAuto.{NodeAuto}
 use Rattle.sanlp.specs.declared.nest.ArrayDecl.{ArrayDecl}
-use Rattle.command_answers.specs.declared.refusal.ClassReason.{ClassReason}
 use Rattle.command_answers.specs.declared.refusal.ClassReason.TheVariants.{UnknownName, Duplicate, Unbound, NotAffine, WrongCount, ElseForm, StepMax, StepRange}
-use Rattle.command_answers.specs.declared.refusal.LimitReason.{LimitReason}
 use Rattle.command_answers.specs.declared.refusal.LimitReason.TheVariants.{TooManyProcesses, TooDeep, TooManyReads, TooManyRows, Large, Size, LoopValue}
 use Rattle.command_answers.specs.declared.refusal.Refusal.{Refusal}
 use Rattle.command_answers.specs.declared.refusal.Refusal.TheVariants.{Text, Class, Limit, Script, UnknownArray, Twice, Missing, Count, NotANumber}
-use Rattle.command_answers.specs.declared.refusal.TextReason.{TextReason}
 use Rattle.command_answers.specs.declared.refusal.TextReason.TheVariants.{BadByte, OpenComment, LargeNumber, TooMany, Syntax}
 
 -- the matrices of `load` have more rows than a parameter's limit; the parameter's name starts at

@@ -32,6 +32,7 @@ reply_of (Trimmed trimmed) = done (trim_text trimmed.capacities trimmed.rests)
 reply_of (Trace run) = done (trace_text run)
 reply_of (Dependences answer) = done (deps_text answer.nest answer.dependences)
 
+-- an answer as the reply that it is, what is written of it with its status, or a refusal
 abbrev pub as_reply : Result Answer Refusal → Result Reply Refusal
 as_reply (Ok answer) = Ok (reply_of answer)
 as_reply (Err refusal) = Err refusal

@@ -1,7 +1,7 @@
 -- What the commands that run a source on its data come to on a bundle: one case for each cause, in the order in which they
 -- decide.
 use Rattle.std.specs.Prelude.{◌≡◌, ℕ, ℤ, List, Some, Result, Ok, Err}
-use Rattle.command_line.specs.Bundle.{source_part, data_part}
+use Rattle.bundle.specs.Parts.{source_part, data_part}
 use Rattle.sanlp.specs.Meaning.{arrays}
 use Rattle.sanlp.specs.declared.nest.Inputs.{Inputs}
 use Rattle.sanlp.specs.declared.nest.Nest.{Nest}

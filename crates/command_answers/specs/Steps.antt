@@ -15,19 +15,15 @@ use Rattle.sanlp.specs.Size.{SizeIsOk}
 use Rattle.loop_walk.specs.Counting.{counted}
 use Rattle.loop_walk.specs.declared.count.SizeError.{SizeError}
 use Rattle.cert_lines.specs.declared.error.CertError.{CertError}
-use Rattle.command_line.specs.Bundle.{data_part, source_part}
-use Rattle.net_core.specs.declared.network.Network.{Network}
-use Rattle.node_automata.specs.declared.node.NodeAuto.{NodeAuto}
+use Rattle.bundle.specs.Parts.{data_part, source_part}
 use Rattle.sanlp.specs.declared.nest.Inputs.{Inputs}
 use Rattle.sanlp.specs.declared.nest.Nest.{Nest}
-use Rattle.command_answers.specs.Refusals.{byte_of, lex_refusal, syntax_refusal, bind_refusal, script_refusal, size_refusal}
+use Rattle.command_answers.specs.Refusals.{byte_of, lex_refusal, syntax_refusal, bind_refusal, size_refusal}
 use Rattle.command_answers.specs.Run.{IsInputs, Runs}
 use Rattle.command_answers.specs.Source.{GivesWithinSize}
 use Rattle.verdict_text.specs.VerdictText.{unread_line, unread_text}
-use Rattle.vhdl_text.specs.Refusal.{first_too_long}
 use Rattle.command_answers.specs.declared.answer.Answer.{Answer}
 use Rattle.command_answers.specs.declared.answer.Answer.TheVariants.{Unread}
-use Rattle.command_answers.specs.declared.answer.NodesAnswer.{NodesAnswer}
 use Rattle.command_answers.specs.declared.refusal.Refusal.{Refusal}
 
 abbrev pub HasTokens : List ℕ → Result (Vec Token) Refusal → Type 0
@@ -69,13 +65,6 @@ IsPrepared params bundle (Ok made) =
     × IsInputs made.0 (data_part bundle) (Ok made.1) × SizeIsOk made.0
 IsPrepared params bundle (Err refusal) =
     (text : Nest → Inputs → List ℕ) → Runs text params bundle (Err refusal)
-
--- the automata are to be written with their network, or a script is too long
-abbrev pub HasNodes : Network → List NodeAuto → Result NodesAnswer Refusal → Type 0
-HasNodes network autos (Ok answer) =
-    (answer.network ≡ network) × (answer.autos ≡ autos) × (first_too_long autos ≡ None)
-HasNodes network autos (Err refusal) =
-    (auto : NodeAuto) × (first_too_long autos ≡ Some auto) × (refusal ≡ script_refusal auto)
 
 -- the error is told, which isn't want of memory
 abbrev pub TellsError : CertError → Result Answer Refusal → Type 0

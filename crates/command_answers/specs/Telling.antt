@@ -1,7 +1,7 @@
 -- What the command `deps` comes to on a bundle: one case for each cause, in the order in which they decide. The size is asked
 -- for exactly where some read has no tree.
 use Rattle.std.specs.Prelude.{◌≡◌, ℕ, ℤ, List, Option, Some, None, Result, Ok, Err}
-use Rattle.command_line.specs.Bundle.{source_part}
+use Rattle.bundle.specs.Parts.{source_part}
 use Rattle.deps_text.specs.Dependences.{AllHaveTrees}
 use Rattle.deps_text.specs.DepsText.{TellsDependences}
 use Rattle.deps_text.specs.FireLines.{IsSweptOf}

@@ -1,6 +1,6 @@
 -- What the command `trace` comes to on a bundle: one case for each cause, in the order in which they decide.
 use Rattle.std.specs.Prelude.{ℕ, ℤ, List, Result, Ok, Err}
-use Rattle.command_line.specs.Bundle.{source_part}
+use Rattle.bundle.specs.Parts.{source_part}
 use Rattle.net_core.specs.Machine.{net_of}
 use Rattle.net_core.specs.Orders.{EndsAll}
 use Rattle.net_core.specs.Rules.{tags}

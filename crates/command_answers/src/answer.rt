@@ -1,8 +1,7 @@
-ghost use Rattle.std.specs.Prelude.{◌≡◌, None, IsTrue, length, map};
+ghost use Rattle.std.specs.Prelude.{◌≡◌, None, IsTrue, length};
 ghost use Rattle.std.specs.List.{list_all};
 ghost use Rattle.deps_text.specs.FireLines.{IsSweptOfIfAny, can_be_told};
 ghost use Rattle.vhdl_text.specs.Refusal.{first_too_long};
-ghost use Rattle.sanlp.specs.Points.{points_of};
 ghost use Rattle.net_core.specs.Machine.{net_of};
 ghost use Rattle.net_core.specs.Shape.{FitsNumbers};
 
@@ -26,13 +25,11 @@ pub struct ArrayAnswer {
     ghost whole: { length arrays.arrays ≡ length nest.arrays },
 }
 
-/// A network of a nest, with how many turns each process has.
+/// A network of a nest.
 #[derive(Drop)]
 pub struct NetworkAnswer {
     pub nest: Nest,
-    pub turns: Vec<usize>,
     pub network: Network,
-    ghost turns_of_nest: { turns.items ≡ map length (points_of nest) },
     ghost numbers: { FitsNumbers (net_of network) },
 }
 

@@ -6,7 +6,7 @@ ghost use Rattle.command_answers.specs.Telling.{HasSwept, TellsSources};
 use crate::answer::{Answer, DependencesAnswer};
 use crate::refusal::Stop;
 use crate::source::{nest_of, size_of};
-use command_line::parts_of;
+use bundle::parts_of;
 use deps_text::{Swept, all_have_trees, dependences, dependences_can_be_told, sweep_nest};
 use loop_class::Params;
 use sanlp::Nest;

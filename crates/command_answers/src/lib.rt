@@ -1,10 +1,14 @@
 //! What each command answers to a bundle and its parameters, or why there is no answer. Nothing is read or written here.
+//!
+//! Between two calls, or from one step of the main loop to the next: nothing is read or written: an answer is a value,
+//! and `specs/Replying.antt` says what is to be written of it.
 #![tactic(auto)]
 
 mod answer;
 mod check;
 mod dependences;
 mod describing;
+mod law;
 mod loading;
 mod network_run;
 mod printing;
@@ -12,6 +16,7 @@ mod refusal;
 mod run;
 mod simulating;
 mod source;
+mod status;
 mod tracing;
 mod trimming;
 
@@ -22,10 +27,12 @@ pub use answer::{
 pub use check::check_certificate;
 pub use dependences::tell_dependences;
 pub use describing::describe_network;
+pub use law::statuses_have_own_numbers;
 pub use loading::load;
 pub use printing::{print_certificate, print_network};
 pub use refusal::{ClassReason, LimitReason, Refusal, Stop, TextReason};
 pub use run::{run_by_interpreter, run_by_network};
 pub use simulating::run_by_clock;
+pub use status::Status;
 pub use tracing::trace_network;
 pub use trimming::trim_network;

@@ -1,4 +1,4 @@
-ghost use Rattle.std.specs.Prelude.{◌≡◌, ◌<◌, ◌^◌, length};
+ghost use Rattle.std.specs.Prelude.{◌<◌, ◌^◌, length};
 ghost use Rattle.command_answers.specs.Certifying.{PrintsCertificate};
 ghost use Rattle.command_answers.specs.Judging.{Judges};
 ghost use Rattle.command_answers.specs.Replying.{JudgesTexts, as_reply};
@@ -7,7 +7,7 @@ ghost use Rattle.command_answers.specs.Printing.{Prints, network_text};
 use crate::answer::{Answer, CertificateAnswer, NetworkAnswer};
 use crate::refusal::Stop;
 use crate::source::sized_nest;
-use command_line::parts_of;
+use bundle::parts_of;
 use loop_class::Params;
 use loop_walk::points;
 use net_maker::{compile, compile_network};
@@ -27,12 +27,8 @@ pub fn print_network(
 {
     let parts = parts_of(bundle);
     let nest = sized_nest(alloc, parts.source, params)?;
-    let made = compile_network(alloc, &nest, policy)?;
-    Ok(Answer::Network(NetworkAnswer {
-        nest,
-        turns: made.turns,
-        network: made.network,
-    }))
+    let network = compile_network(alloc, &nest, policy)?;
+    Ok(Answer::Network(NetworkAnswer { nest, network }))
 }
 
 /// The network of a bundle's source with its certificate.

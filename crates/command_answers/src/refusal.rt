@@ -1,12 +1,11 @@
 ghost use Rattle.std.specs.Prelude.{◌≡◌};
-ghost use Rattle.command_answers.specs.Refusals.{bind_refusal, byte_of, data_refusal, lex_refusal, script_refusal, size_refusal, syntax_refusal, too_many_rows};
+ghost use Rattle.command_answers.specs.Refusals.{bind_refusal, byte_of, data_refusal, lex_refusal, size_refusal, syntax_refusal, too_many_rows};
 ghost use Rattle.command_answers.specs.declared.refusal.Stop.TheVariants.{Memory};
 
 use array_data::DataError;
 use loop_class::BindError;
 use loop_lex::{LexError, Token};
 use loop_walk::SizeError;
-use node_automata::NodeAuto;
 use plain_data::Items;
 use sanlp::ArrayDecl;
 use std::alloc::AllocError;
@@ -98,12 +97,6 @@ pub(crate) fn too_many_rows() -> Refusal
     ensures { result ≡ too_many_rows }
 {
     Refusal::Limit(LimitReason::Large, 6)
-}
-
-pub(crate) fn script_refusal(auto: &NodeAuto) -> Refusal
-    ensures { result ≡ script_refusal auto.now }
-{
-    Refusal::Script(auto.process, auto.events.len() as u64)
 }
 
 /// The byte at which the token of this number starts, or the length of the source for the place at the end.

@@ -10,7 +10,7 @@ use crate::network_run::run_by_threads;
 use crate::refusal::{Stop, data_refusal};
 use crate::source::sized_nest;
 use array_data::read_inputs;
-use command_line::parts_of;
+use bundle::parts_of;
 use io_edge::Gate;
 use loop_class::Params;
 use loop_run::interpret;

@@ -15,8 +15,7 @@ use crate::run::prepared;
 use clock_sim::{Clocked, simulate};
 use loop_class::Params;
 use loop_walk::points;
-use net_checker::is_sound;
-use net_maker::compile_swept;
+use net_maker::compile_network;
 use node_automata::automata;
 use sanlp::{Inputs, Nest};
 use std::alloc::{AllocError, Global};
@@ -35,9 +34,8 @@ fn clocked_run(
     ensures clocks { IfOk result
         (λ clocked. clocked.clocks ≡ clocks_of (net_of (planned_network nest.now policy))) }
 {
-    is_sound();
+    let network = compile_network(alloc, nest, policy)?;
     let points = points(alloc, nest)?;
-    let (network, _) = compile_swept(alloc, nest, &points, policy)?;
     let autos = automata(alloc, nest, &points, &network)?;
     simulate(alloc, nest, &points, inputs, &network, &autos)
 }

@@ -7,12 +7,11 @@ ghost use Rattle.command_answers.specs.Tracing.{EndsNetwork, Traces};
 use crate::answer::Answer;
 use crate::refusal::Stop;
 use crate::source::sized_nest;
-use command_line::parts_of;
+use bundle::parts_of;
 use io_edge::Gate;
 use loop_class::Params;
 use loop_walk::points;
-use net_checker::is_sound;
-use net_maker::compile_swept;
+use net_maker::compile_network;
 use plain_data::Items;
 use sanlp::Nest;
 use std::alloc::{AllocError, Global};
@@ -35,9 +34,8 @@ fn traced<R: Threads + Wait + Sync, G: Gate + Sync>(
     requires { SizeIsOk nest.now }
     ensures { IfOk result (λ run. EndsNetwork policy nest.now run.items) }
 {
-    is_sound();
+    let network = compile_network(alloc, nest, policy)?;
     let points = points(alloc, nest)?;
-    let (network, _) = compile_swept(alloc, nest, &points, policy)?;
     run_board(rt, alloc, nest, &network, &points, LANES, gate)
 }
 

@@ -11,16 +11,15 @@ ghost use Rattle.command_answers.specs.Trimming.{trimming_text};
 use crate::answer::Answer;
 use crate::refusal::Stop;
 use crate::source::sized_nest;
-use cap_trim::{Trimmed, trim};
-use command_line::parts_of;
+use bundle::parts_of;
+use cap_trim::{Trimmed, least_capacities};
 use loop_class::Params;
-use loop_walk::points;
-use net_maker::compile_swept;
+use net_maker::compile_network;
 use sanlp::Nest;
 use std::alloc::{AllocError, Global};
 use witness_plan::Policy;
 
-// The least capacities of the network of a nest, and where it sticks with one place less.
+// The least capacities of the network of a nest, and where it sticks with one place less. No points are made.
 fn trimmed(alloc: Global, policy: Policy, nest: &Nest) -> Result<Trimmed, AllocError>
     requires { SizeIsOk nest.now }
     ensures capacities { IfOk result
@@ -30,9 +29,8 @@ fn trimmed(alloc: Global, policy: Policy, nest: &Nest) -> Result<Trimmed, AllocE
         (λ made. made.rests
         ≡ lowered_rests (trimmed_network (net_of (planned_network nest.now policy)))) }
 {
-    let points = points(alloc, nest)?;
-    let (network, _) = compile_swept(alloc, nest, &points, policy)?;
-    trim(alloc, nest, &points, &network)
+    let network = compile_network(alloc, nest, policy)?;
+    least_capacities(alloc, &network)
 }
 
 /// The least capacities of the network of a bundle's source.

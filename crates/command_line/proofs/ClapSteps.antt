@@ -4,8 +4,9 @@
 -- word and each kind of state: nothing waits for a value, `--policy` waits for one, or `--` was read. Of the word only
 -- those tests are known that the walk makes of it (`IsPlain`, `IsUnknown`), so each of its branches is followed by
 -- rewriting with them. Which word is of which kind is told in `WordCases`.
-use Rattle.std.proofs.Common.{◌≡◌, ℕ, refl, codes, true, false, List, [], ◌∷◌, ◌++◌, Some, None, Option, Bool, ◌&&◌}
+use Rattle.std.proofs.Common.{◌≡◌, ℕ, refl, codes, true, false, List, [], ◌∷◌, ◌++◌, Some, None, Option}
 use Rattle.std.specs.Str.{bytes_eq, chars}
+use Rattle.std.proofs.lemmas.Bool.{and_right}
 use Rattle.clap.specs.Lexer.{long_of, short_of}
 use Rattle.clap.specs.Walk.{Text, Row, Waiting, Walk, idle, positional, option, walked, settled_rows, arg_by_long}
 use Rattle.clap.specs.Kinds.{Kinds, or_else}
@@ -13,10 +14,6 @@ use Rattle.clap.specs.Faults.{turn_fault, settle_fault}
 use Rattle.clap.specs.declared.error.kind.ErrorKind.TheVariants as kind
 use Rattle.clap.proofs.OnLiterals.{clap_on_literals}
 use Rattle.command_line.proofs.ClapCommand.{shape, rules, at, held}
-
-and_false : (b : Bool) → (b && false) ≡ false
-and_false true = refl
-and_false false = refl
 
 pub or_else-nil : (kinds : Kinds) → or_else kinds [] ≡ kinds
 or_else-nil [] = refl
@@ -58,22 +55,22 @@ module _ (rows : List Row) where
           ≡ at (settled_rows rules pending rows) (Some (codes "items", word ∷ [])) positional false
       go None waiting when_idle (no_dash short) = rw (plain.dashes, plain.long, short) refl
       go (Some p) waiting when_idle (no_dash short) =
-          rw (plain.dashes, plain.long, short, and_false (bytes_eq p.0 (codes "items"))) refl
+          rw (plain.dashes, plain.long, short, and_right (bytes_eq p.0 (codes "items")) false refl) refl
       go None waiting when_positional (no_dash short) = rw (plain.dashes, plain.long, short) refl
       go (Some p) waiting when_positional (no_dash short) =
-          rw (plain.dashes, plain.long, short, and_false (bytes_eq p.0 (codes "items"))) refl
+          rw (plain.dashes, plain.long, short, and_right (bytes_eq p.0 (codes "items")) false refl) refl
       go None waiting when_idle (no_char [] short none) = rw (plain.dashes, plain.long, short) refl
       go (Some p) waiting when_idle (no_char [] short none) =
-          rw (plain.dashes, plain.long, short, and_false (bytes_eq p.0 (codes "items"))) refl
+          rw (plain.dashes, plain.long, short, and_right (bytes_eq p.0 (codes "items")) false refl) refl
       go None waiting when_positional (no_char [] short none) = rw (plain.dashes, plain.long, short) refl
       go (Some p) waiting when_positional (no_char [] short none) =
-          rw (plain.dashes, plain.long, short, and_false (bytes_eq p.0 (codes "items"))) refl
+          rw (plain.dashes, plain.long, short, and_right (bytes_eq p.0 (codes "items")) false refl) refl
       go None waiting when_idle (no_char (y ∷ ys) short none) = rw (plain.dashes, plain.long, short, none) refl
       go (Some p) waiting when_idle (no_char (y ∷ ys) short none) =
-          rw (plain.dashes, plain.long, short, none, and_false (bytes_eq p.0 (codes "items"))) refl
+          rw (plain.dashes, plain.long, short, none, and_right (bytes_eq p.0 (codes "items")) false refl) refl
       go None waiting when_positional (no_char (y ∷ ys) short none) = rw (plain.dashes, plain.long, short, none) refl
       go (Some p) waiting when_positional (no_char (y ∷ ys) short none) =
-          rw (plain.dashes, plain.long, short, none, and_false (bytes_eq p.0 (codes "items"))) refl
+          rw (plain.dashes, plain.long, short, none, and_right (bytes_eq p.0 (codes "items")) false refl) refl
 
   pub plain_fault : (pending : Option (Text × List Text)) (waiting : Waiting) → IsFree waiting → (word : Text)
       → IsPlain word
@@ -90,17 +87,17 @@ module _ (rows : List Row) where
       go None waiting when_positional (no_char [] short none) = rw (plain.dashes, plain.long, short) refl
       go None waiting when_positional (no_char (y ∷ ys) short none) = rw (plain.dashes, plain.long, short, none) refl
       go (Some p) waiting when_idle (no_dash short) =
-          rw (plain.dashes, plain.long, short, and_false (bytes_eq p.0 (codes "items"))) refl
+          rw (plain.dashes, plain.long, short, and_right (bytes_eq p.0 (codes "items")) false refl) refl
       go (Some p) waiting when_idle (no_char [] short none) =
-          rw (plain.dashes, plain.long, short, and_false (bytes_eq p.0 (codes "items"))) refl
+          rw (plain.dashes, plain.long, short, and_right (bytes_eq p.0 (codes "items")) false refl) refl
       go (Some p) waiting when_idle (no_char (y ∷ ys) short none) =
-          rw (plain.dashes, plain.long, short, none, and_false (bytes_eq p.0 (codes "items"))) refl
+          rw (plain.dashes, plain.long, short, none, and_right (bytes_eq p.0 (codes "items")) false refl) refl
       go (Some p) waiting when_positional (no_dash short) =
-          rw (plain.dashes, plain.long, short, and_false (bytes_eq p.0 (codes "items"))) refl
+          rw (plain.dashes, plain.long, short, and_right (bytes_eq p.0 (codes "items")) false refl) refl
       go (Some p) waiting when_positional (no_char [] short none) =
-          rw (plain.dashes, plain.long, short, and_false (bytes_eq p.0 (codes "items"))) refl
+          rw (plain.dashes, plain.long, short, and_right (bytes_eq p.0 (codes "items")) false refl) refl
       go (Some p) waiting when_positional (no_char (y ∷ ys) short none) =
-          rw (plain.dashes, plain.long, short, none, and_false (bytes_eq p.0 (codes "items"))) refl
+          rw (plain.dashes, plain.long, short, none, and_right (bytes_eq p.0 (codes "items")) false refl) refl
 
   -- an option that isn't there is refused
   pub unknown_fault : (pending : Option (Text × List Text)) (waiting : Waiting) (word : Text)
@@ -144,13 +141,13 @@ pub trailing_step : (rows : List Row) (pending : Option (Text × List Text)) (wa
     ≡ at (settled_rows rules pending rows) (Some (codes "items", word ∷ [])) positional true
 unfolding clap_on_literals
 trailing_step rows None waiting word = refl
-trailing_step rows (Some p) waiting word = rw (and_false (bytes_eq p.0 (codes "items"))) refl
+trailing_step rows (Some p) waiting word = rw (and_right (bytes_eq p.0 (codes "items")) false refl) refl
 
 pub trailing_fault : (rows : List Row) (pending : Option (Text × List Text)) (waiting : Waiting) (word : Text)
     → turn_fault shape [] (at rows pending waiting true) word ≡ settle_fault rules false (held rows pending)
 unfolding clap_on_literals
 trailing_fault rows None waiting word = refl
-trailing_fault rows (Some p) waiting word = rw (and_false (bytes_eq p.0 (codes "items"))) refl
+trailing_fault rows (Some p) waiting word = rw (and_right (bytes_eq p.0 (codes "items")) false refl) refl
 
 pub dashes_step : (rows : List Row) (pending : Option (Text × List Text)) (waiting : Waiting) → IsFree waiting
     → walked rules [] (at rows pending waiting false) (codes "--") ≡ at rows pending waiting true

@@ -5,12 +5,10 @@
 -- far and of what the split of the words behind gives: without a fault the order of both together is that of the rows
 -- that are found, and with a fault there is no order. One word either moves from the words behind to the split, or is a
 -- fault that no later word mends (`Refusals`). Which fault comes first isn't compared.
-use Rattle.std.proofs.Common.{◌≡◌, refl, sym, ap, ap₂, subst, codes, true, false, List, [], ◌∷◌, ◌++◌, Some, None}
-use Rattle.std.proofs.Common.{Option, unwrap_or, fold, append_assoc, append-nil, ◌∙◌}
+use Rattle.std.proofs.Common.{◌≡◌, refl, sym, ap, ap₂, subst, codes, true, false, List, [], ◌∷◌, ◌++◌, Some, None, Option, unwrap_or, fold, append_assoc, append-nil, ◌∙◌}
 use Rattle.std.specs.List.{cons_option}
 use Rattle.std.specs.Option.{option_map}
-use Rattle.clap.specs.Walk.{Row, Walk, Waiting, idle, positional, option, all_of, first_of, walk_from, walked}
-use Rattle.clap.specs.Walk.{settled_rows, nothing_held}
+use Rattle.clap.specs.Walk.{Row, Walk, Waiting, idle, positional, option, all_of, first_of, walk_from, walked, settled_rows, nothing_held}
 use Rattle.clap.specs.Kinds.{Kinds, or_else}
 use Rattle.clap.specs.Faults.{turn_fault, settle_fault, walk_fault}
 use Rattle.clap.specs.declared.error.kind.ErrorKind.{ErrorKind}
@@ -18,14 +16,10 @@ use Rattle.clap.specs.declared.error.kind.ErrorKind.TheVariants as kind
 use Rattle.command_line.specs.Words.{Text, Split, with_item, with_policy, split_words, split_value, order_of_split}
 use Rattle.command_line.proofs.ClapCommand.{shape, rules, at, held}
 use Rattle.command_line.proofs.WordCases.{Case, case_of, ends, asks, gives, unknown, stray, plain}
-use Rattle.command_line.proofs.ClapRows.{Rows, Pending, Keeping, rows_in, pending_in, split_in, with_pending, kept}
-use Rattle.command_line.proofs.ClapRows.{keeping, rows-kept, clean, twice, nothing, item, value, neither, items, policy}
-use Rattle.command_line.proofs.ClapRows.{items_policy, policy_items}
-use Rattle.command_line.proofs.Refusals.{join, order_from, given_twice, no_such_policy, no_such_item}
-use Rattle.command_line.proofs.Refusals.{option_is_no_policy}
+use Rattle.command_line.proofs.ClapRows.{Rows, Pending, Keeping, rows_in, pending_in, split_in, with_pending, kept, keeping, rows-kept, clean, twice, nothing, item, value, neither, items, policy, items_policy, policy_items}
+use Rattle.command_line.proofs.Refusals.{join, order_from, given_twice, no_such_policy, no_such_item, option_is_no_policy}
 use Rattle.command_line.proofs.ClapSteps as step
-use Rattle.command_line.proofs.ClapSteps.{IsFree, when_idle, when_positional, IsPlain, IsUnknown, waiting_at}
-use Rattle.command_line.proofs.ClapSteps.{or_else-nil}
+use Rattle.command_line.proofs.ClapSteps.{IsFree, when_idle, when_positional, IsPlain, waiting_at}
 
 -- the items and the policy among some rows
 abbrev pub split_of : List Row → Split

@@ -4,10 +4,9 @@
 -- This program has no subcommand, no default and nothing to check, so nothing of these adds a row or a fault, and what
 -- `ClapWalk` says of the walk holds of the whole. So an answer with matches has the order of its matches, and one with
 -- an error has none, unless memory was wanting.
-use Rattle.std.proofs.Common.{◌≡◌, ◌||◌, refl, sym, ap, true, false, List, [], Some, None, Option, Bool, Result, Ok}
-use Rattle.std.proofs.Common.{Err, IfOk, IfErr, ◌≢◌, inl, inr, ap₂, subst, unwrap_or, codes, fold, is_some}
-use Rattle.std.proofs.Common.{if◌then◌else◌, ◌∙◌}
+use Rattle.std.proofs.Common.{◌≡◌, ◌||◌, refl, sym, ap, true, false, List, [], Some, None, Option, Bool, Result, Ok, Err, IfOk, IfErr, ◌≢◌, inl, inr, ap₂, subst, unwrap_or, codes, fold, is_some, if◌then◌else◌, ◌∙◌}
 use Rattle.std.specs.List.{cons_option}
+use Rattle.std.proofs.lemmas.Bool.{or_right}
 use Rattle.clap.specs.Matches.{found_of}
 use Rattle.clap.specs.Values.{kind_of}
 use Rattle.clap.specs.declared.error.Error.{Error}
@@ -19,8 +18,7 @@ use Rattle.clap.proofs.WalkLemmas.{first_value-rows, raw_values-rows}
 use Rattle.clap.specs.Walk.{Held, Row, Text, has_row, rows_of, walk, nothing_held, with_default, finished, settled}
 use Rattle.clap.specs.Simple.{HasMatchesOf, built, entered, filled, is_simple, matches_of, with_index}
 use Rattle.clap.specs.Kinds.{FailsBy, IsAmong, Kinds, or_else}
-use Rattle.clap.specs.Faults.{fault_of, is_simple_and_free, entered_fault, defaults_fault, check_fault, settle_fault}
-use Rattle.clap.specs.Faults.{walk_fault}
+use Rattle.clap.specs.Faults.{fault_of, is_simple_and_free, entered_fault, defaults_fault, check_fault, settle_fault, walk_fault}
 use Rattle.command_line.specs.Matches.{split_found}
 use Rattle.command_line.specs.Words.{Split, order_of, order_of_split}
 use Rattle.command_line.proofs.ClapCommand.{app, shape, rules, items_rule, policy_rule}
@@ -35,10 +33,6 @@ simple : is_simple app ≡ true
 unfolding clap_on_literals
 simple = refl
 
-or_true : (b : Bool) → (b || true) ≡ true
-or_true true = refl
-or_true false = refl
-
 no_subcommand_fault : (stop : Option (Text × List Text)) → entered_fault (built app) stop ≡ []
 no_subcommand_fault None = refl
 no_subcommand_fault (Some p) = refl
@@ -47,8 +41,8 @@ no_default_fault : (rows : List Row) → defaults_fault rows rules ≡ []
 unfolding defaults_fault
 no_default_fault rows =
     rw (
-      or_true (has_row (codes "policy") rows),
-      or_true (has_row (codes "items") (with_default rows (with_index 1 (filled policy_rule)))),
+      or_right (has_row (codes "policy") rows) true refl,
+      or_right (has_row (codes "items") (with_default rows (with_index 1 (filled policy_rule)))) true refl,
     ) refl
 
 no_check_fault : (rows : List Row) (entered : Bool) → check_fault shape rows entered ≡ []

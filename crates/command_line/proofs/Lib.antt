@@ -4,8 +4,6 @@ pub mod ClapSteps
 pub mod ClapWalk
 pub mod ClapWords
 pub mod Digits
-pub mod Lines
-pub mod Positions
 pub mod Refusals
 pub mod WordCases
 pub mod Worked

@@ -5,18 +5,16 @@
 -- parameter, so no items among which it stands give an order: by cases on the items before it and on the command, and
 -- for parameters by induction on those before it. Only these refusals are treated, not those that a later word may turn
 -- into an order.
-use Rattle.std.proofs.Common.{◌≡◌, ◌==◌, ◌&&◌, refl, ap, true, false, List, [], ◌∷◌, ◌++◌, Some, None, Option, Bool}
-use Rattle.std.proofs.Common.{option_and_then, is_some, length, nat_le, if◌then◌else◌, arith}
+use Rattle.std.proofs.Common.{◌≡◌, ◌==◌, ◌&&◌, refl, ap, true, false, List, [], ◌∷◌, ◌++◌, Some, None, Option, Bool, option_and_then, is_some, length, nat_le, if◌then◌else◌, arith}
 use Rattle.std.specs.Option.{option_map}
 use Rattle.std.proofs.lemmas.Bool.Decides.{nat_tests}
+use Rattle.std.proofs.lemmas.Bool.{and_parts}
 use Rattle.witness_plan.specs.declared.schedules.Policy.{Policy}
 use Rattle.loop_bind.specs.Names.{value_named}
 use Rattle.command_line.specs.declared.words.Command.{Command}
 use Rattle.command_line.specs.declared.words.Command.TheVariants.{Run, Seq, Net, Cert, Check, Deps, Vhdl, Load, Sim, Trim, Trace}
 use Rattle.command_line.specs.declared.words.Order.{Order}
-use Rattle.command_line.specs.Words.{Text, Param, Split, with_policy, is_option, command_of, number_of, param_of}
-use Rattle.command_line.specs.Words.{params_with, policy_named, policy_of, load_order, params_order, order_with}
-use Rattle.command_line.specs.Words.{order_of_items, order_of_split}
+use Rattle.command_line.specs.Words.{Text, Param, Split, with_policy, is_option, command_of, number_of, param_of, params_with, policy_named, policy_of, load_order, params_order, order_with, order_of_items, order_of_split}
 use Rattle.command_line.proofs.WordCases.{before-other}
 
 abbrev pub join : Split → Split → Split
@@ -53,14 +51,10 @@ no_such_policy split v none (Some rest) =
 abbrev IsDashed : Text → Type 0
 IsDashed word = (rest : Text) × (word ≡ 45 ∷ rest)
 
-and_left : (a b : Bool) → (a && b) ≡ true → a ≡ true
-and_left true b e = refl
-and_left false b e = e
-
 is_dashed : (word : Text) → is_option word ≡ true → IsDashed word
 is_dashed [] e = cc
 is_dashed (x ∷ xs) e =
-    let first : (x == 45) ≡ true = and_left (x == 45) _ e in
+    let first : (x == 45) ≡ true = (and_parts (x == 45) _ e).0 in
     let same : x ≡ 45 = grind (arith, nat_tests) in
     (xs, ap (λ y. y ∷ xs) same)
 

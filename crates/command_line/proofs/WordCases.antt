@@ -5,12 +5,12 @@
 -- the name ends at the first `=`, so the word asks for a policy or gives one just where that name is the policy's
 -- (`has_front`). Behind one dash the first character names an option that isn't there; a word without one, which isn't
 -- text, is plain (`stray`).
-use Rattle.std.proofs.Common.{◌≡◌, ◌⊎◌, ◌==◌, ◌+◌, ℕ, refl, sym, ap, subst, inl, inr, codes, true, false, [], ◌∷◌, ◌++◌}
-use Rattle.std.proofs.Common.{Bool, suc, take, drop, arith, ◌∙◌}
+use Rattle.std.proofs.Common.{◌≡◌, ◌⊎◌, ◌==◌, ◌+◌, ℕ, refl, sym, ap, subst, inl, inr, codes, true, false, [], ◌∷◌, ◌++◌, Bool, suc, take, drop, arith, ◌∙◌}
+use Rattle.std.proofs.Common.{eqb-true}
 use Rattle.std.specs.List.{before_first, position_or_len}
 use Rattle.std.specs.Str.{bytes_eq, chars}
 use Rattle.std.specs.Cmp.Lexicographic.{same_text}
-use Rattle.std.proofs.lemmas.Bool.{true≢false}
+use Rattle.std.proofs.lemmas.Bool.{true≢false, false_from_ne_true}
 use Rattle.std.proofs.lemmas.Bool.Decides.{nat_tests}
 use Rattle.std.proofs.lemmas.List.{take-append-drop}
 use Rattle.command_line.specs.Words.{Text, is_end_of_options, is_policy_option, has_policy_value, is_option}
@@ -33,13 +33,6 @@ pub data Case (word : Text) : Type 0 where
 abbrev pub is_equals : ℕ → Bool
 is_equals byte = byte == 61
 
-refuted : (b : Bool) → (b ≡ true → ⊥) → b ≡ false
-refuted true never = absurd (never refl)
-refuted false never = refl
-
-is_same : (x y : ℕ) → (x == y) ≡ true → x ≡ y
-is_same x y e = grind (arith, nat_tests)
-
 pub before-other : (x : ℕ) (xs : Text) → (x == 61) ≡ false
     → before_first is_equals (x ∷ xs) ≡ x ∷ before_first is_equals xs
 before-other x xs e =
@@ -58,7 +51,7 @@ has_front : (text : Text) → HasFront text (before_first is_equals text)
 has_front [] = inl refl
 has_front (x ∷ xs) =
     elim (x == 61) as (λ t. (x == 61) ≡ t → HasFront (x ∷ xs) (before_first is_equals (x ∷ xs))) [
-      | true ↦ λ e. inr (xs, rw e (ap (λ n. n ∷ xs) (is_same x 61 e)))
+      | true ↦ λ e. inr (xs, rw e (ap (λ n. n ∷ xs) (eqb-true x 61 e)))
       | false ↦ λ e. subst (HasFront (x ∷ xs)) (sym (before-other x xs e))
           (one_more x xs (before_first is_equals xs) (has_front xs))
     ] refl
@@ -83,8 +76,8 @@ no_value text other e =
 unmarked : (z : ℕ) (zs : Text) → HasOtherName (z ∷ zs) → IsUnmarked (45 ∷ 45 ∷ z ∷ zs)
 unmarked z zs other = record {
   dashes = refl;
-  policy = refuted _ (not_policy (z ∷ zs) other);
-  value = refuted _ (no_value (z ∷ zs) other);
+  policy = false_from_ne_true _ (not_policy (z ∷ zs) other);
+  value = false_from_ne_true _ (no_value (z ∷ zs) other);
 }
 
 is_option-more : (x : ℕ) (xs : Text) → is_option (45 ∷ x ∷ xs) ≡ true
@@ -121,7 +114,7 @@ dash_case [] =
     (record { dashes = refl; long = refl; short = no_dash refl })
 dash_case (y ∷ ys) =
     elim (y == 45) as (λ t. (y == 45) ≡ t → Case (45 ∷ y ∷ ys)) [
-      | true ↦ λ e. subst (λ z. Case (45 ∷ z ∷ ys)) (sym (is_same y 45 e)) (two ys)
+      | true ↦ λ e. subst (λ z. Case (45 ∷ z ∷ ys)) (sym (eqb-true y 45 e)) (two ys)
       | false ↦ λ e. short_case y ys e
     ] refl
   where
@@ -135,7 +128,7 @@ case_of [] =
     (record { dashes = refl; long = refl; short = no_dash refl })
 case_of (x ∷ xs) =
     elim (x == 45) as (λ t. (x == 45) ≡ t → Case (x ∷ xs)) [
-      | true ↦ λ e. subst (λ y. Case (y ∷ xs)) (sym (is_same x 45 e)) (dash_case xs)
+      | true ↦ λ e. subst (λ y. Case (y ∷ xs)) (sym (eqb-true x 45 e)) (dash_case xs)
       | false ↦ λ e. plain (record { dashes = rw e refl; policy = rw e refl; value = rw e refl }) (rw e refl)
           (record { dashes = rw e refl; long = rw e refl; short = no_dash (rw e refl) })
     ] refl

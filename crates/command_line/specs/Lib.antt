@@ -1,3 +1,2 @@
-pub mod Bundle
 pub mod Matches
 pub mod Words

@@ -1,8 +1,9 @@
-//! What a call of the program is given: its words, and the parts of its bundle.
+//! What the words of a call order.
+//!
+//! Between two calls, or from one step of the main loop to the next: the words passed so far were split as `clap`
+//! splits them.
 #![tactic(auto)]
 
-mod bundle;
 mod words;
 
-pub use bundle::{Parts, parts_of};
 pub use words::{Command, Order, WordsError, read_words};

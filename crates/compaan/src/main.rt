@@ -1,14 +1,11 @@
 //! The program `compaan`: the top call over the words and the streams of the process.
 #![tactic(auto)]
 
-use compaan_top::compaan;
+use compaan_top::{Status, compaan};
 use io_edge::{Open, StdIn, StdOut};
 use std::process::ExitCode;
 use std::rt::Env;
 use std::{env, io};
-
-/// The status where the runtime refuses the words. The top call never answers it.
-const WORDS_REFUSED: u8 = 11;
 
 /// The words after the program's name.
 fn words_of(rt: &(impl Env + AllocGlobal)) -> io::Result<Vec<String>> {
@@ -21,7 +18,7 @@ fn words_of(rt: &(impl Env + AllocGlobal)) -> io::Result<Vec<String>> {
 
 fn main(rt: HostRuntime) -> ExitCode {
     let Ok(words) = words_of(&rt) else {
-        return ExitCode::from(WORDS_REFUSED);
+        return ExitCode::from(Status::NoWords.number());
     };
     let mut input = StdIn::new(rt.stdin());
     let mut output = StdOut::new(rt.stdout());

@@ -1,10 +1,10 @@
-pub mod Certified
-pub mod Clocked
+pub mod Calls
+pub mod CertVerdict
+pub mod TextFronts
 pub mod Endings
 pub mod Facts
 pub mod OwnStatuses
-pub mod Parts
 pub mod Statuses
-pub mod Told
-pub mod Unlimited
-pub mod Vouched
+pub mod SourceBytes
+pub mod NoLimit
+pub mod Acceptance

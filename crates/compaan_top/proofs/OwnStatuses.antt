@@ -1,18 +1,18 @@
 -- The statuses with which each command may end.
 --
--- A refused source has status 6, 7 or 8 (`IsOfSource`), and the list of each command that reads a source has all three;
--- every other case has one status, and that it is in the list is computed. So an outcome has a status of its command's
--- list (`outcomes_own`), and a call has one of those, 4, 10, or 3 where it reads (`calls_own`). That each status of a
--- list arises isn't shown here. Where no sink has a fault, 10 alone may be a status of calls for all words
--- (`no_one_status`): refused words have 2 or 10, and those that order `seq` never 2.
-use Rattle.std.proofs.Common.{◌≡◌, ◌∙◌, ◌⊎◌, ◌==◌, ◌++◌, ℕ, ℤ, true, true≢false, List, [], ◌∷◌, Option, Some, None}
-use Rattle.std.proofs.Common.{Result, Ok, Err, refl, sym, subst, inl, inr}
+-- A refused source has one of three statuses (`IsOfSource`), and the list of each command that reads a source has all
+-- three; every other case has one status, and that it is in the list is computed. So an outcome has a status of its
+-- command's list (`outcomes_own`), and a call has one of those, that of a failed write, of want of memory, or, where it
+-- reads, of a failed read (`calls_own`). That each status of a list arises isn't shown here. Where no sink has a fault,
+-- want of memory alone may be a status of calls for all words (`no_one_status`): refused words have their own or that,
+-- and those that order `seq` never theirs.
+use Rattle.std.proofs.Common.{◌≡◌, ◌∙◌, ◌⊎◌, ◌==◌, ◌++◌, ℕ, ℤ, true, true≢false, List, [], ◌∷◌, Option, Some, None, Result, Ok, Err, refl, sym, subst, inl, inr}
 use Rattle.std.proofs.lemmas.Bool.{or_right}
-use Rattle.command_line.specs.Bundle.{source_part, data_part}
+use Rattle.std.proofs.lemmas.Option.{same_Some}
+use Rattle.bundle.specs.Parts.{source_part, data_part}
 use Rattle.command_line.specs.declared.words.Command.{Command}
 use Rattle.command_line.specs.declared.words.Command.TheVariants.{Run, Seq, Net, Cert, Check, Deps, Vhdl, Load, Sim, Trim, Trace}
 use Rattle.command_line.specs.declared.words.Order.{Order}
-use Rattle.io_edge.specs.InMemory.{is_among}
 use Rattle.loop_bind.specs.declared.error.BindError.{BindError}
 use Rattle.loop_bind.specs.declared.error.BindError.TheVariants as binding
 use Rattle.loop_lex.specs.declared.token.LexError.{LexError}
@@ -28,15 +28,13 @@ use Rattle.command_answers.specs.Certifying as certify
 use Rattle.command_answers.specs.Certifying.{PrintsCertificate}
 use Rattle.command_answers.specs.Checking as check
 use Rattle.command_answers.specs.Checking.{Checks, verdict_reply}
-use Rattle.compaan_top.specs.Commands.{Reads, source_alone, source_and_data, source_and_certificate, nothing, read_by}
-use Rattle.compaan_top.specs.Commands.{reads_of}
+use Rattle.compaan_top.specs.Commands.{Reads, source_alone, source_and_data, source_and_certificate, nothing, read_by, reads_of}
 use Rattle.command_answers.specs.Describing as describe
 use Rattle.command_answers.specs.Describing.{Describes}
 use Rattle.compaan_top.specs.Laws.{HasStatusOf, MayEndWith, command_statuses, outcome_statuses, read_statuses}
 use Rattle.command_answers.specs.Load as load
 use Rattle.command_answers.specs.Load.{Loads}
-use Rattle.compaan_top.specs.Outcome.{Outcome, IsOutcome, outcome_of, Performs, words_refused, bundle_refused}
-use Rattle.compaan_top.specs.Outcome.{performed}
+use Rattle.compaan_top.specs.Outcome.{Outcome, IsOutcome, outcome_of, Performs, words_refused, bundle_refused, performed}
 use Rattle.command_answers.specs.Printing as print
 use Rattle.command_answers.specs.Printing.{Prints, network_text}
 use Rattle.command_answers.specs.Refusals.{byte_of, lex_refusal, bind_refusal}
@@ -51,15 +49,18 @@ use Rattle.command_answers.specs.Tracing.{Traces}
 use Rattle.command_answers.specs.Trimming.{trimming_text}
 use Rattle.command_answers.specs.Source as sized
 use Rattle.command_answers.specs.Source.{Gives, GivesWithinSize, no_tokens, no_tree, not_bound, bound}
+use Rattle.command_answers.specs.Statuses.{is_one_of, status_number}
 use Rattle.command_answers.specs.declared.refusal.Refusal.{Refusal}
-use Rattle.compaan_top.proofs.Statuses.{data_status, same_value, size_status}
+use Rattle.command_answers.specs.declared.status.Status.{Status}
+use Rattle.command_answers.specs.declared.status.Status.TheVariants.{BundleRefused, ClassRefused, InputFailed, LimitPassed, NoMemory, OutputFailed, TextRefused, WordsRefused}
+use Rattle.compaan_top.proofs.Statuses.{data_status, size_status}
 
 -- the statuses of what is wrong with a source
-abbrev pub IsOfSource : ℕ → Type 0
-IsOfSource status = (status ≡ 6) ⊎ ((status ≡ 7) ⊎ (status ≡ 8))
+abbrev pub IsOfSource : Status → Type 0
+IsOfSource status = (status ≡ TextRefused) ⊎ ((status ≡ ClassRefused) ⊎ (status ≡ LimitPassed))
 
 refused_of : (made r : Refusal) → Some made ≡ Some r → IsOfSource (refusal_status made) → IsOfSource (refusal_status r)
-refused_of made r e own = subst (λ (t : Refusal). IsOfSource (refusal_status t)) (same_value made r e) own
+refused_of made r e own = subst (λ (t : Refusal). IsOfSource (refusal_status t)) (same_Some made r e) own
 
 lex_status : (e : LexError) (r : Refusal) → lex_refusal e ≡ Some r → IsOfSource (refusal_status r)
 lex_status (lexical.BadByte at) r made = refused_of _ r made (inl refl)
@@ -103,17 +104,17 @@ sized_refused source params (sized.size_refused n e g c) = inr (inr (size_status
 sized_refused source params (sized.within_size n t g c) = tt
 
 -- a list that has the three statuses of sources has that of a refused source
-among : (list : List ℕ) (status : ℕ) → is_among list 6 ≡ true → is_among list 7 ≡ true → is_among list 8 ≡ true
-    → IsOfSource status → is_among list status ≡ true
-among list status six seven eight (inl e) = subst (λ (s : ℕ). is_among list s ≡ true) (sym e) six
-among list status six seven eight (inr (inl e)) = subst (λ (s : ℕ). is_among list s ≡ true) (sym e) seven
-among list status six seven eight (inr (inr e)) = subst (λ (s : ℕ). is_among list s ≡ true) (sym e) eight
+among : (list : List Status) (status : Status) → is_one_of list TextRefused ≡ true → is_one_of list ClassRefused ≡ true
+    → is_one_of list LimitPassed ≡ true → IsOfSource status → is_one_of list status ≡ true
+among list status text class limit (inl e) = subst (λ (s : Status). is_one_of list s ≡ true) (sym e) text
+among list status text class limit (inr (inl e)) = subst (λ (s : Status). is_one_of list s ≡ true) (sym e) class
+among list status text class limit (inr (inr e)) = subst (λ (s : Status). is_one_of list s ≡ true) (sym e) limit
 
 abbrev HasStatus : Reads → Result Reply Refusal → Type 0
-HasStatus reads x = is_among (command_statuses reads) (outcome_of x).status ≡ true
+HasStatus reads x = is_one_of (command_statuses reads) (outcome_of x).status ≡ true
 
 inputs_status : (bytes : List ℕ) (n : Nest) (r : Refusal) → IsInputs n bytes (Err r)
-    → is_among (command_statuses source_and_data) (refusal_status r) ≡ true
+    → is_one_of (command_statuses source_and_data) (refusal_status r) ≡ true
 inputs_status bytes n r i = rw (data_status n.arrays i.0 r i.2) refl
 
 runs_own : (text : Nest → Inputs → List ℕ) (params : List (List ℕ × ℤ)) (bundle : List ℕ) {x : Result Reply Refusal}
@@ -139,7 +140,7 @@ certificate_own policy params bundle (certify.source_refused r g) =
 certificate_own policy params bundle (certify.printed n c t g is w) = refl
 
 verdict_own : (found : Option NetRefusal)
-    → is_among (command_statuses source_and_certificate) (verdict_reply (verdict_of found)).status ≡ true
+    → is_one_of (command_statuses source_and_certificate) (verdict_reply (verdict_of found)).status ≡ true
 verdict_own None = refl
 verdict_own (Some refusal) = refl
 
@@ -195,71 +196,72 @@ performs_own Trim order bundle x made = prints_own (trimming_text order.policy) 
 performs_own Trace order bundle x made = traces_own order.policy order.params bundle made
 
 -- where something is read, too long a bundle has its status
-long_status : (reads : Reads) → (reads ≡ nothing → ⊥) → is_among (command_statuses reads) 5 ≡ true
+long_status : (reads : Reads) → (reads ≡ nothing → ⊥) → is_one_of (command_statuses reads) BundleRefused ≡ true
 long_status source_alone some = refl
 long_status source_and_data some = refl
 long_status source_and_certificate some = refl
 long_status nothing some = absurd (some refl)
 
 -- the statuses of an order's outcomes are those of its command
-of_command : (wanted : Option Order) (order : Order) (status : ℕ) → wanted ≡ Some order
-    → is_among (command_statuses (reads_of order.command)) status ≡ true
-    → is_among (outcome_statuses wanted) status ≡ true
+of_command : (wanted : Option Order) (order : Order) (status : Status) → wanted ≡ Some order
+    → is_one_of (command_statuses (reads_of order.command)) status ≡ true
+    → is_one_of (outcome_statuses wanted) status ≡ true
 of_command wanted order status ordered own =
-    subst (λ (o : Option Order). is_among (outcome_statuses o) status ≡ true) (sym ordered) own
+    subst (λ (o : Option Order). is_one_of (outcome_statuses o) status ≡ true) (sym ordered) own
 
 pub outcomes_own : (wanted : Option Order) (bundle : List ℕ) {a : Outcome} → IsOutcome wanted bundle a
-    → is_among (outcome_statuses wanted) a.status ≡ true
+    → is_one_of (outcome_statuses wanted) a.status ≡ true
 outcomes_own wanted bundle (words_refused x) =
-    subst (λ (o : Option Order). is_among (outcome_statuses o) 2 ≡ true) (sym x) refl
+    subst (λ (o : Option Order). is_one_of (outcome_statuses o) WordsRefused ≡ true) (sym x) refl
 outcomes_own wanted bundle (bundle_refused o x reads long) =
-    of_command wanted o 5 x (long_status (reads_of o.command) reads)
+    of_command wanted o BundleRefused x (long_status (reads_of o.command) reads)
 outcomes_own wanted bundle (performed o answer x within made) =
     of_command wanted o (outcome_of answer).status x (performs_own o.command o bundle answer made)
 
 -- ---- the statuses of calls
 
-is_behind : (front list : List ℕ) (status : ℕ) → is_among list status ≡ true → is_among (front ++ list) status ≡ true
+is_behind : (front list : List Status) (status : Status) → is_one_of list status ≡ true
+    → is_one_of (front ++ list) status ≡ true
 is_behind [] list status there = there
-is_behind (one ∷ front) list status there = or_right (one == status) _ (is_behind front list status there)
+is_behind (one ∷ front) list status there = or_right (status_number one == status_number status) _ (is_behind front list status there)
 
-read_status : (reads : Reads) (list : List ℕ) → (reads ≡ nothing → ⊥)
-    → is_among (4 ∷ 10 ∷ (read_statuses reads ++ list)) 3 ≡ true
+read_status : (reads : Reads) (list : List Status) → (reads ≡ nothing → ⊥)
+    → is_one_of (OutputFailed ∷ NoMemory ∷ (read_statuses reads ++ list)) InputFailed ≡ true
 read_status source_alone list some = refl
 read_status source_and_data list some = refl
 read_status source_and_certificate list some = refl
 read_status nothing list some = absurd (some refl)
 
-outcome_status : (wanted : Option Order) (status : ℕ) → is_among (outcome_statuses wanted) status ≡ true
+outcome_status : (wanted : Option Order) (status : Status) → is_one_of (outcome_statuses wanted) status ≡ true
     → HasStatusOf wanted status
 outcome_status wanted status own =
-    is_behind (4 ∷ 10 ∷ []) (read_statuses (read_by wanted) ++ outcome_statuses wanted) status
+    is_behind (OutputFailed ∷ NoMemory ∷ []) (read_statuses (read_by wanted) ++ outcome_statuses wanted) status
     (is_behind (read_statuses (read_by wanted)) (outcome_statuses wanted) status own)
 
-pub calls_own : (wanted : Option Order) (input output complaint : Change) {status : ℕ}
+pub calls_own : (wanted : Option Order) (input output complaint : Change) {status : Status}
     → Ends wanted input output complaint status → HasStatusOf wanted status
 calls_own wanted input output complaint (no_memory quiet taken writes) = refl
 calls_own wanted input output complaint (read_fault o x reads fault taken writes) =
-    subst (λ (w : Option Order). HasStatusOf w 3) (sym x)
+    subst (λ (w : Option Order). HasStatusOf w InputFailed) (sym x)
     (read_status (reads_of o.command) (outcome_statuses (Some o)) reads)
 calls_own wanted input output complaint (written bundle outcome quiet read is writes) =
     outcome_status wanted outcome.status (outcomes_own wanted bundle is)
 calls_own wanted input output complaint (cut_short bundle outcome quiet read is writes) = refl
 
--- ---- no status for all calls: refused words have 2 or that of want of memory, and an order never has 2
+-- ---- no status for all calls: refused words have theirs or that of want of memory, and an order never has theirs
 
 no_order : (order : Order) → ◌≡◌ {A = Option Order} None (Some order) → ⊥
 no_order order is = cc
 
 refused_outcome : (wanted : Option Order) (bundle : List ℕ) {a : Outcome} → wanted ≡ None → IsOutcome wanted bundle a
-    → a.status ≡ 2
+    → a.status ≡ WordsRefused
 refused_outcome wanted bundle none (words_refused x) = refl
 refused_outcome wanted bundle none (bundle_refused o x reads long) = absurd (no_order o (sym none ∙ x))
 refused_outcome wanted bundle none (performed o answer x within made) = absurd (no_order o (sym none ∙ x))
 
-refused_status : (wanted : Option Order) (input output complaint : Change) {status : ℕ} → wanted ≡ None
+refused_status : (wanted : Option Order) (input output complaint : Change) {status : Status} → wanted ≡ None
     → (HasFault output → ⊥) → (HasFault complaint → ⊥)
-    → Ends wanted input output complaint status → (status ≡ 2) ⊎ (status ≡ 10)
+    → Ends wanted input output complaint status → (status ≡ WordsRefused) ⊎ (status ≡ NoMemory)
 refused_status wanted input output complaint none sound quiet (no_memory same taken writes) = inr refl
 refused_status wanted input output complaint none sound quiet (read_fault o x reads fault taken writes) =
     absurd (no_order o (sym none ∙ x))
@@ -274,17 +276,17 @@ refused_status wanted input output complaint none sound quiet (cut_short bundle 
 abbrev an_order : Order
 an_order = record { command = Seq; policy = policy.Seq; params = []; load = 0 }
 
-ordered_status : (status : ℕ) → HasStatusOf (Some an_order) status → status ≡ 2 → ⊥
-ordered_status status has two = true≢false (sym (subst (λ (s : ℕ). HasStatusOf (Some an_order) s) two has))
+ordered_status : (status : Status) → HasStatusOf (Some an_order) status → status ≡ WordsRefused → ⊥
+ordered_status status has words = true≢false (sym (subst (λ (s : Status). HasStatusOf (Some an_order) s) words has))
 
-pub no_one_status : (status : ℕ) → ((wanted : Option Order) → MayEndWith wanted status) → status ≡ 10
+pub no_one_status : (status : Status) → ((wanted : Option Order) → MayEndWith wanted status) → status ≡ NoMemory
 no_one_status status may =
     let refused = may None in
     let ordered = may (Some an_order) in
     elim (refused_status None refused.input refused.output refused.complaint refl refused.output_sound
     refused.complaint_sound refused.ends) [
-      | inl two ↦ absurd
+      | inl words ↦ absurd
           (ordered_status status
-          (calls_own (Some an_order) ordered.input ordered.output ordered.complaint ordered.ends) two)
-      | inr ten ↦ ten
+          (calls_own (Some an_order) ordered.input ordered.output ordered.complaint ordered.ends) words)
+      | inr none ↦ none
     ]

@@ -6,13 +6,13 @@
 -- which is a hypothesis here (`OneTree`). Nests are alike in arrays, statements and body; the verdict and the automata
 -- don't depend on the facts that a nest keeps. Success is the same comparison, with what a valid order allows. Only
 -- statuses are compared, not texts.
-use Rattle.std.proofs.Common.{◌≡◌, ◌≤◌, ℕ, suc, ℤ, List, [], length, drop, Option, Some, None, Result, Ok, Err, refl}
-use Rattle.std.proofs.Common.{sym, ap, ◌∙◌, subst, arith, map, inl, inr, take-append-drop}
+use Rattle.std.proofs.Common.{◌≡◌, ◌≤◌, ℕ, suc, ℤ, List, [], length, drop, Option, Some, None, Result, Ok, Err, refl, sym, ap, ◌∙◌, subst, arith, map, inl, inr, take-append-drop}
 use Rattle.sanlp.specs.WellFormed.{IsWellFormed}
 use Rattle.std.specs.Prelude.{◌<◌, IsTrue, slice_get}
 use Rattle.std.specs.List.{list_all, sum_by}
 use Rattle.std.specs.Option.{option_and_then, option_map, option_map_or}
 use Rattle.std.proofs.lemmas.Bool.{cases_lt}
+use Rattle.std.proofs.lemmas.Option.{same_Some}
 use Rattle.loop_lex.specs.Tokens.{tokens}
 use Rattle.loop_lex.specs.declared.token.Token.{Token}
 use Rattle.loop_lex.specs.declared.token.LexError.{LexError}
@@ -28,8 +28,7 @@ use Rattle.loop_walk.specs.declared.count.SizeError.{SizeError}
 use Rattle.loop_walk.specs.declared.count.SizeError.TheVariants.{Limit, LoopValue}
 use Rattle.array_data.specs.Data.{Record, fault_of, inputs_of, lists_of, records_of, unless}
 use Rattle.array_data.specs.declared.error.DataError.{DataError}
-use Rattle.array_data.specs.declared.error.DataError.TheVariants.{UnknownArray, Twice, Missing, Count, NotANumber}
-use Rattle.array_data.specs.declared.error.DataError.TheVariants.{Memory}
+use Rattle.array_data.specs.declared.error.DataError.TheVariants.{UnknownArray, Twice, Missing, Count, NotANumber, Memory}
 use Rattle.witness_plan.specs.declared.schedules.Policy.{Policy}
 use Rattle.cert_text.specs.Reading.{reading}
 use Rattle.cert_lines.specs.declared.error.CertError.{CertError}
@@ -46,7 +45,7 @@ use Rattle.sanlp.specs.declared.nest.Nest.{Nest}
 use Rattle.sanlp.specs.declared.nest.Node.{Node}
 use Rattle.sanlp.specs.declared.nest.Statement.{Statement}
 use Rattle.sanlp.specs.declared.nest.Inputs.{Inputs}
-use Rattle.command_line.specs.Bundle.{certificate_part, data_part, source_part}
+use Rattle.bundle.specs.Parts.{certificate_part, data_part, source_part}
 use Rattle.command_line.specs.declared.words.Order.{Order}
 use Rattle.command_line.specs.declared.words.Command.{Command}
 use Rattle.command_line.specs.declared.words.Command.TheVariants.{Run, Seq, Net, Cert, Check, Deps, Vhdl, Load, Sim, Trim, Trace}
@@ -71,8 +70,7 @@ use Rattle.command_answers.specs.Load.{Loads, load_limit}
 use Rattle.matrix_load.specs.Product.{IsMatrixNest, matrix_product, size_given}
 use Rattle.command_answers.specs.Printing as print
 use Rattle.command_answers.specs.Printing.{Prints, network_text}
-use Rattle.compaan_top.specs.Outcome.{Outcome, IsOutcome, outcome_of, Performs, words_refused, bundle_refused}
-use Rattle.compaan_top.specs.Outcome.{performed}
+use Rattle.compaan_top.specs.Outcome.{Outcome, IsOutcome, outcome_of, Performs, words_refused, bundle_refused, performed}
 use Rattle.command_answers.specs.Replies.{Reply}
 use Rattle.command_answers.specs.Refusals.{byte_of, lex_refusal, bind_refusal, size_refusal, data_refusal}
 use Rattle.compaan_top.specs.Complaints.{refusal_status}
@@ -86,14 +84,12 @@ use Rattle.command_answers.specs.Trimming.{trimming_text}
 use Rattle.command_answers.specs.Source as sized
 use Rattle.command_answers.specs.Source.{Gives, GivesWithinSize, no_tokens, no_tree, not_bound, bound}
 use Rattle.command_answers.specs.declared.refusal.Refusal.{Refusal}
+use Rattle.command_answers.specs.declared.status.Status.TheVariants.{DataRefused, Done, LimitPassed}
 use Rattle.compaan_top.proofs.Facts.{facts_aside}
 
 -- tokens have one tree
 abbrev pub OneTree : Type 0
 OneTree = (bytes : List ℕ) (found : List Token) (a b : Tree) → IsTree bytes found a → IsTree bytes found b → a ≡ b
-
-pub same_value : {A : Type 0} (x y : A) → Some x ≡ Some y → x ≡ y
-same_value x y e = cc
 
 -- ---- a source comes to one end
 
@@ -124,7 +120,7 @@ no_both source a b x y = cc
 
 same_refusal : (a b : Option Refusal) (r s : Refusal) → a ≡ Some r → b ≡ Some s → a ≡ b
     → refusal_status r ≡ refusal_status s
-same_refusal a b r s x y e = ap refusal_status (same_value r s (sym x ∙ e ∙ y))
+same_refusal a b r s x y e = ap refusal_status (same_Some r s (sym x ∙ e ∙ y))
 
 -- no tokens of one list have a tree and a refused place
 no_tree_at_place : (source : List ℕ) (a b : List Token) (place : ℕ) (tree : Tree) → tokens source ≡ Ok a
@@ -207,7 +203,7 @@ gives_alike one source params (not_bound a t reason r lexed derived least made)
     (not_bound b u reason' s lexed' derived' least' made') =
     let trees : t ≡ u = one_tree_of one source a b t u lexed lexed' derived derived' in
     let reasons : reason ≡ reason' =
-    same_value reason reason' (sym least ∙ ap (λ (z : Tree). least_from None (findings z params)) trees ∙ least') in
+    same_Some reason reason' (sym least ∙ ap (λ (z : Tree). least_from None (findings z params)) trees ∙ least') in
     let lists : a ≡ b = same_list source a b lexed lexed' in
     same_refusal (bind_refusal (byte_of source a) reason) (bind_refusal (byte_of source b) reason') r s made made'
     (ap (λ (l : List Token). bind_refusal (byte_of source l) reason) lists
@@ -237,7 +233,7 @@ same_counted : (n m : Nest) → n.body ≡ m.body → counted n ≡ counted m
 unfolding counted
 same_counted n m e = ap (λ (body : List Node). counted_parts (map counted_node body) [] 0) e
 
-pub size_status : (e : SizeError) → refusal_status (size_refusal e) ≡ 8
+pub size_status : (e : SizeError) → refusal_status (size_refusal e) ≡ LimitPassed
 size_status (Limit count) = refl
 size_status (LoopValue loop) = refl
 
@@ -271,12 +267,12 @@ abbrev pub SameStatus : Result Reply Refusal → Result Reply Refusal → Type 0
 SameStatus x y = (outcome_of x).status ≡ (outcome_of y).status
 
 pub data_status : (list : List ArrayDecl) (fault : DataError) (r : Refusal) → data_refusal list fault ≡ Some r
-    → refusal_status r ≡ 9
-data_status list (UnknownArray number) r told = ap refusal_status (sym (same_value _ r told))
-data_status list (Twice number) r told = ap refusal_status (sym (same_value _ r told))
-data_status list (Missing array) r told = ap refusal_status (sym (same_value _ r told))
-data_status list (Count number got want) r told = ap refusal_status (sym (same_value _ r told))
-data_status list (NotANumber number field) r told = ap refusal_status (sym (same_value _ r told))
+    → refusal_status r ≡ DataRefused
+data_status list (UnknownArray number) r told = ap refusal_status (sym (same_Some _ r told))
+data_status list (Twice number) r told = ap refusal_status (sym (same_Some _ r told))
+data_status list (Missing array) r told = ap refusal_status (sym (same_Some _ r told))
+data_status list (Count number got want) r told = ap refusal_status (sym (same_Some _ r told))
+data_status list (NotANumber number field) r told = ap refusal_status (sym (same_Some _ r told))
 data_status list Memory r told = cc
 
 -- the arrays decide what the records give
@@ -560,7 +556,7 @@ outcomes_alike one wanted bundle (performed o answer x within made) (bundle_refu
     absurd (omega arith)
 outcomes_alike one wanted bundle (performed o answer x within made) (performed p answer' y within' made') =
     performs_alike one o.command o bundle answer answer' made
-    (subst (λ (q : Order). Performs q.command q bundle answer') (same_value p o (sym y ∙ x)) made')
+    (subst (λ (q : Order). Performs q.command q bundle answer') (same_Some p o (sym y ∙ x)) made')
 
 -- ---- success
 
@@ -582,7 +578,7 @@ checks_done one params bundle n part gives there (check.judged other m network c
 
 loads_done : OneTree → (policy : Policy) (rows : ℕ) (n : Nest) (total : ℕ) → rows ≤ load_limit → IsMatrixNest rows n
     → counted n ≡ Ok total
-    → {x : Result Reply Refusal} → Loads policy rows x → (outcome_of x).status ≡ 0
+    → {x : Result Reply Refusal} → Loads policy rows x → (outcome_of x).status ≡ Done
 loads_done one policy rows n total within is counts (load.too_large a) = absurd (omega (arith, a, within))
 loads_done one policy rows n total within is counts (load.size_refused m e a g c) =
     absurd (no_both_sizes m n e total (matrix_alike one rows m n g is).2 c counts)
@@ -590,21 +586,21 @@ loads_done one policy rows n total within is counts (load.summed m t k a g c i) 
 
 certificate_done : OneTree → (policy : Policy) (params : List (List ℕ × ℤ)) (bundle : List ℕ) (n : Nest)
     → GivesWithinSize (source_part bundle) params (Ok n) → {x : Result Reply Refusal}
-    → PrintsCertificate policy params bundle x → (outcome_of x).status ≡ 0
+    → PrintsCertificate policy params bundle x → (outcome_of x).status ≡ Done
 certificate_done one policy params bundle n gives (certify.source_refused r g) =
     absurd (sized_alike one (source_part bundle) params gives g)
 certificate_done one policy params bundle n gives (certify.printed m c t g is w) = refl
 
 traces_done : OneTree → (policy : Policy) (params : List (List ℕ × ℤ)) (bundle : List ℕ) (n : Nest)
     → GivesWithinSize (source_part bundle) params (Ok n)
-    → {x : Result Reply Refusal} → Traces policy params bundle x → (outcome_of x).status ≡ 0
+    → {x : Result Reply Refusal} → Traces policy params bundle x → (outcome_of x).status ≡ Done
 traces_done one policy params bundle n gives (tracing.source_refused r g) =
     absurd (sized_alike one (source_part bundle) params gives g)
 traces_done one policy params bundle n gives (tracing.traced m run g e) = refl
 
 tells_done : OneTree → (params : List (List ℕ × ℤ)) (bundle : List ℕ) (n : Nest) (total : ℕ)
     → Gives (source_part bundle) params (Ok n) → IsSmallWhereSwept n total
-    → {x : Result Reply Refusal} → TellsSources params bundle x → (outcome_of x).status ≡ 0
+    → {x : Result Reply Refusal} → TellsSources params bundle x → (outcome_of x).status ≡ Done
 tells_done one params bundle n total gives small (telling.source_refused r g) =
     absurd (gives_alike one (source_part bundle) params gives g)
 tells_done one params bundle n total gives small (telling.size_refused m e h some c) =
@@ -652,4 +648,4 @@ outcomes_succeed one wanted bundle v (words_refused x) = absurd (no_order wanted
 outcomes_succeed one wanted bundle v (bundle_refused o x reads long) = absurd (omega (arith, v.within))
 outcomes_succeed one wanted bundle v (performed o answer x within made) =
     performs_done one v.order.command v.order bundle v.nest v.total v.inputs v.gives v.counts v.limited v.has answer
-    (subst (λ (q : Order). Performs q.command q bundle answer) (same_value o v.order (sym x ∙ v.ordered)) made)
+    (subst (λ (q : Order). Performs q.command q bundle answer) (same_Some o v.order (sym x ∙ v.ordered)) made)

@@ -1,7 +1,9 @@
 -- What a call of the program does to its source and its two sinks.
-use Rattle.std.specs.Prelude.{◌≡◌, ◌≢◌, ◌⊎◌, ◌≤◌, ◌+◌, ℕ, List, [], length, Option, Some}
+use Rattle.std.specs.Prelude.{◌≡◌, ◌≢◌, ◌⊎◌, ◌≤◌, ◌+◌, ℕ, List, [], length, OnErr, OnOk, Option, Some, Result}
 use Rattle.std.specs.Io.KnownBytes.{Appends, Consumes, IsAtEnd, Keeps}
 use Rattle.io_edge.specs.Causes.{Rose, AppendsFront, ConsumesAtMost}
+use Rattle.command_answers.specs.declared.status.Status.{Status}
+use Rattle.command_answers.specs.declared.status.Status.TheVariants.{InputFailed, NoMemory, OutputFailed}
 use Rattle.command_line.specs.declared.words.Order.{Order}
 use Rattle.compaan_top.specs.Commands.{Reads, source_alone, source_and_data, source_and_certificate, nothing, read_by, reads_of}
 use Rattle.compaan_top.specs.Outcome.{Outcome, IsOutcome, bundle_limit}
@@ -13,15 +15,28 @@ pub record Change : Type 0 where
   pub faults_old : ℕ
   pub faults_new : ℕ
 
-abbrev pub change : Option (List ℕ) → Option (List ℕ) → ℕ → ℕ → Change
-change old new faults_old faults_new =
-    record { old = old; new = new; faults_old = faults_old; faults_new = faults_new }
+-- that of a source or a sink whose trait gives its bytes and its faults so
+abbrev pub change : {Edge : Type 0} → (Edge → Option (List ℕ)) → (Edge → ℕ) → Edge → Edge → Change
+change bytes faults before after = record {
+  old = bytes before;
+  new = bytes after;
+  faults_old = faults before;
+  faults_new = faults after;
+}
 
 abbrev pub IsQuiet : Change → Type 0
 IsQuiet change = change.faults_new ≡ change.faults_old
 
 abbrev pub HasFault : Change → Type 0
 HasFault change = Rose change.faults_old change.faults_new
+
+-- a text that was to be written on a sink was written whole, and the sink had no fault; or it had one, and gained a front
+pub record Writes {T E : Type 0} (sink : Change) (text : List ℕ)
+    (result : Result T E) : Type 0 where
+  pub ok : OnOk result (Appends sink.old sink.new text)
+  pub quiet : OnOk result (IsQuiet sink)
+  pub front : OnErr result (AppendsFront sink.old sink.new text)
+  pub cause : OnErr result (HasFault sink)
 
 -- the source gave the bundle: to its end, or to one byte past the limit
 pub record ReadsTo (input : Change) (bundle : List ℕ) : Type 0 where
@@ -77,16 +92,16 @@ pub record WritesFront (outcome : Outcome) (output complaint : Change) : Type 0 
 -- How a call may end, and its status, where this order is wanted, or None where the words are refused: it wrote nothing, for
 -- want of memory or since the source had a fault, or it wrote the outcome of the order and the bundle, or a sink had a fault
 -- while it did.
-pub data Ends (wanted : Option Order) (input output complaint : Change) : ℕ → Type 0 where
+pub data Ends (wanted : Option Order) (input output complaint : Change) : Status → Type 0 where
   no_memory : IsQuiet input → TakesAtMost input (most_taken (read_by wanted))
       → WritesNothing output complaint
-      → Ends wanted input output complaint 10
+      → Ends wanted input output complaint NoMemory
   read_fault : (order : Order) → wanted ≡ Some order → reads_of order.command ≢ nothing
       → HasFault input → TakesAtMost input bundle_limit
-      → WritesNothing output complaint → Ends wanted input output complaint 3
+      → WritesNothing output complaint → Ends wanted input output complaint InputFailed
   written : (bundle : List ℕ) (outcome : Outcome) → IsQuiet input → IsRead wanted input bundle
       → IsOutcome wanted bundle outcome
       → WritesAll outcome output complaint → Ends wanted input output complaint outcome.status
   cut_short : (bundle : List ℕ) (outcome : Outcome) → IsQuiet input → IsRead wanted input bundle
       → IsOutcome wanted bundle outcome
-      → WritesFront outcome output complaint → Ends wanted input output complaint 4
+      → WritesFront outcome output complaint → Ends wanted input output complaint OutputFailed

@@ -1,8 +1,8 @@
 -- What `check` answers to what `cert` writes.
 use Rattle.std.specs.Prelude.{◌≡◌, ◌≤◌, ℕ, ℤ, List, ◌++◌, length, Contains, Some, Ok}
-use Rattle.bundle_laws.specs.Certified.{with_line_end}
+use Rattle.bundle.specs.Certified.{with_line_end}
 use Rattle.cert_text.specs.StandsFor.{StandsFor}
-use Rattle.command_line.specs.Bundle.{certificate_part, source_part}
+use Rattle.bundle.specs.Parts.{certificate_part, source_part}
 use Rattle.command_line.specs.declared.words.Command.TheVariants as command
 use Rattle.command_line.specs.declared.words.Order.{Order}
 use Rattle.loop_bind.specs.Names.{value_named}
@@ -21,6 +21,8 @@ use Rattle.compaan_top.specs.Answers.{Change, Ends}
 use Rattle.compaan_top.specs.Headline.{accepted}
 use Rattle.compaan_top.specs.Outcome.{Outcome, IsOutcome, bundle_limit}
 use Rattle.command_answers.specs.Source.{GivesWithinSize}
+use Rattle.command_answers.specs.declared.status.Status.{Status}
+use Rattle.command_answers.specs.declared.status.Status.TheVariants.{Done}
 
 -- a tree declares a parameter of this name
 pub record HasParameter (tree : Tree) (name : List ℕ) : Type 0 where
@@ -42,7 +44,7 @@ AgreeOn source a b =
 pub record Certifies (order : Order) (bundle : List ℕ) (written : Outcome) : Type 0 where
   pub command : order.command ≡ command.Cert
   pub outcome : IsOutcome (Some order) bundle written
-  pub done : written.status ≡ 0
+  pub done : written.status ≡ Done
 
 -- The source gives a nest within the limit on its size, and the text stands for the nest's network, with the capacities that
 -- its schedule needs, and for a certificate of it, which has that schedule and fits the nest.
@@ -70,13 +72,13 @@ pub record Call : Type 0 where
   pub input : Change
   pub output : Change
   pub complaint : Change
-  pub status : ℕ
+  pub status : Status
   pub ended : Ends (Some order) input output complaint status
 
 -- a call to `cert` that had this bundle left to read and wrote this text
 pub record WroteCertificate (call : Call) (bundle text : List ℕ) : Type 0 where
   pub command : call.order.command ≡ command.Cert
-  pub done : call.status ≡ 0
+  pub done : call.status ≡ Done
   pub left : call.input.old ≡ Some bundle
   pub held : List ℕ
   pub before : call.output.old ≡ Some held

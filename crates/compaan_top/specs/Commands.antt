@@ -11,6 +11,8 @@ pub data Reads : Type 0 where
   source_and_certificate : Reads
   nothing : Reads
 
+-- the parts of a bundle that a command reads: the source, the source and the data, the source and the certificate, or
+-- nothing
 abbrev pub reads_of : Command → Reads
 reads_of Run = source_and_data
 reads_of Seq = source_and_data
@@ -36,6 +38,10 @@ waits Load = true
 waits Sim = false
 waits Trim = false
 waits Trace = true
+
+-- the commands that threads are waited for in
+abbrev pub WaitsForThreads : Command → Type 0
+WaitsForThreads command = waits command ≡ true
 
 -- the commands that no thread is waited for in
 abbrev pub WaitsForNobody : Command → Type 0

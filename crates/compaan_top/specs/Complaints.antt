@@ -9,22 +9,25 @@ use Rattle.command_answers.specs.declared.refusal.LimitReason.{LimitReason}
 use Rattle.command_answers.specs.declared.refusal.LimitReason.TheVariants.{TooManyProcesses, TooDeep, TooManyReads, TooManyRows, Large, Size, LoopValue}
 use Rattle.command_answers.specs.declared.refusal.Refusal.{Refusal}
 use Rattle.command_answers.specs.declared.refusal.Refusal.TheVariants.{Usage, TooLong, NoPart, Text, Class, Limit, Script, UnknownArray, Twice, Missing, Count, NotANumber}
+use Rattle.command_answers.specs.declared.status.Status.{Status}
+use Rattle.command_answers.specs.declared.status.Status.TheVariants.{BundleRefused, ClassRefused, DataRefused, LimitPassed, TextRefused, WordsRefused}
 use Rattle.command_answers.specs.declared.refusal.TextReason.{TextReason}
 use Rattle.command_answers.specs.declared.refusal.TextReason.TheVariants.{BadByte, OpenComment, LargeNumber, TooMany, Syntax}
 
-abbrev pub refusal_status : Refusal → ℕ
-refusal_status Usage = 2
-refusal_status TooLong = 5
-refusal_status NoPart = 5
-refusal_status (Text reason byte) = 6
-refusal_status (Class reason byte) = 7
-refusal_status (Limit reason number) = 8
-refusal_status (Script process events) = 8
-refusal_status (UnknownArray number) = 9
-refusal_status (Twice number) = 9
-refusal_status (Missing arrays array) = 9
-refusal_status (Count number got want) = 9
-refusal_status (NotANumber number field) = 9
+-- the status of a refusal
+abbrev pub refusal_status : Refusal → Status
+refusal_status Usage = WordsRefused
+refusal_status TooLong = BundleRefused
+refusal_status NoPart = BundleRefused
+refusal_status (Text reason byte) = TextRefused
+refusal_status (Class reason byte) = ClassRefused
+refusal_status (Limit reason number) = LimitPassed
+refusal_status (Script process events) = LimitPassed
+refusal_status (UnknownArray number) = DataRefused
+refusal_status (Twice number) = DataRefused
+refusal_status (Missing arrays array) = DataRefused
+refusal_status (Count number got want) = DataRefused
+refusal_status (NotANumber number field) = DataRefused
 
 abbrev pub text_word : TextReason → List ℕ
 text_word BadByte = codes "text: BadByte"
@@ -75,5 +78,6 @@ refusal_words (Count number got want) =
 refusal_words (NotANumber number field) =
     codes "data: NotANumber" ∷ decimal number ∷ decimal field ∷ []
 
+-- the line of a refusal: its reason with its place and its numbers, with a space between two of them, and LF
 abbrev pub refusal_line : Refusal → List ℕ
 refusal_line refusal = line_text (refusal_words refusal)

@@ -1,7 +1,7 @@
 -- What the program vouches for where `check` accepts.
 use Rattle.std.specs.Prelude.{◌≡◌, ◌≤◌, ◌↔◌, ℕ, ℤ, List, [], length, codes, Option, Some, Ok}
 use Rattle.cert_text.specs.StandsFor.{StandsFor}
-use Rattle.command_line.specs.Bundle.{certificate_part, source_part}
+use Rattle.bundle.specs.Parts.{certificate_part, source_part}
 use Rattle.command_line.specs.declared.words.Command.TheVariants.{Check}
 use Rattle.command_line.specs.declared.words.Order.{Order}
 use Rattle.net_checker.specs.Fits.{Fits}
@@ -13,6 +13,8 @@ use Rattle.std.specs.Io.KnownBytes.{Appends}
 use Rattle.compaan_top.specs.Answers.{Change}
 use Rattle.compaan_top.specs.Outcome.{Outcome, IsOutcome, bundle_limit}
 use Rattle.command_answers.specs.Source.{GivesWithinSize}
+use Rattle.command_answers.specs.declared.status.Status.{Status}
+use Rattle.command_answers.specs.declared.status.Status.TheVariants.{Done}
 
 -- The source gives a nest within the limit on its size, and the certificate part stands for a network and a certificate that
 -- fit this nest.
@@ -35,15 +37,15 @@ pub record HasSoundCertificate (params : List (List ℕ × ℤ)) (bundle : List 
 
 -- what is written where the checker accepts
 abbrev pub accepted : Outcome
-accepted = record { status = 0; output = codes "accepted\n"; complaint = [] }
+accepted = record { status = Done; output = codes "accepted\n"; complaint = [] }
 
 -- the bundle is within its limit and has a sound certificate
 abbrev pub IsAcceptable : List (List ℕ × ℤ) → List ℕ → Type 0
 IsAcceptable params bundle = (length bundle ≤ bundle_limit) × HasSoundCertificate params bundle
 
 -- `accepted` was written, with its status
-abbrev pub SaysAccepted : Change → ℕ → Type 0
-SaysAccepted output status = (status ≡ 0) × Appends output.old output.new accepted.output
+abbrev pub SaysAccepted : Change → Status → Type 0
+SaysAccepted output status = (status ≡ Done) × Appends output.old output.new accepted.output
 
 -- An order to `check` comes to `accepted` exactly where the bundle has a fitting certificate.
 abbrev pub AcceptsWhatFits : Option Order → List ℕ → Type 0

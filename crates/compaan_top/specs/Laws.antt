@@ -1,10 +1,9 @@
 -- What follows of the definitions alone.
 use Rattle.std.specs.Prelude.{◌≡◌, ◌⊎◌, ◌≤◌, ℕ, true, List, [], ◌∷◌, ◌++◌, length, Option, Some, None, Ok}
-use Rattle.command_line.specs.Bundle.{certificate_part, data_part, source_part}
+use Rattle.bundle.specs.Parts.{certificate_part, data_part, source_part}
 use Rattle.command_line.specs.declared.words.Command.{Command}
 use Rattle.command_line.specs.declared.words.Command.TheVariants.{Deps, Vhdl}
 use Rattle.command_line.specs.declared.words.Order.{Order}
-use Rattle.io_edge.specs.InMemory.{is_among}
 use Rattle.matrix_load.specs.Product.{IsMatrixNest}
 use Rattle.sanlp.specs.declared.nest.Inputs.{Inputs}
 use Rattle.sanlp.specs.declared.nest.Nest.{Nest}
@@ -18,7 +17,10 @@ use Rattle.command_answers.specs.Load.{load_limit}
 use Rattle.compaan_top.specs.Outcome.{Outcome, IsOutcome, bundle_limit}
 use Rattle.command_answers.specs.Run.{IsInputs}
 use Rattle.command_answers.specs.Source.{Gives}
+use Rattle.command_answers.specs.Statuses.{is_one_of}
 use Rattle.command_answers.specs.Telling.{IsSmallWhereSwept}
+use Rattle.command_answers.specs.declared.status.Status.{Status}
+use Rattle.command_answers.specs.declared.status.Status.TheVariants.{BundleRefused, CertificateRefused, ClassRefused, DataRefused, Done, InputFailed, LimitPassed, NoMemory, OutputFailed, TextRefused, WordsRefused}
 
 -- the order and the bundle determine the status
 abbrev pub DetermineStatus : Option Order → List ℕ → Type 0
@@ -26,37 +28,44 @@ DetermineStatus wanted bundle = (a b : Outcome) → IsOutcome wanted bundle a
     → IsOutcome wanted bundle b → a.status ≡ b.status
 
 -- the statuses of what a command comes to
-abbrev pub command_statuses : Reads → List ℕ
-command_statuses source_alone = 0 ∷ 5 ∷ 6 ∷ 7 ∷ 8 ∷ []
-command_statuses source_and_data = 0 ∷ 5 ∷ 6 ∷ 7 ∷ 8 ∷ 9 ∷ []
-command_statuses source_and_certificate = 0 ∷ 1 ∷ 5 ∷ 6 ∷ 7 ∷ 8 ∷ []
-command_statuses nothing = 0 ∷ 8 ∷ []
+abbrev pub command_statuses : Reads → List Status
+command_statuses source_alone =
+    Done ∷ BundleRefused ∷ TextRefused ∷ ClassRefused ∷ LimitPassed ∷ []
+command_statuses source_and_data =
+    Done ∷ BundleRefused ∷ TextRefused ∷ ClassRefused ∷ LimitPassed ∷ DataRefused ∷ []
+command_statuses source_and_certificate =
+    Done ∷ CertificateRefused ∷ BundleRefused ∷ TextRefused ∷ ClassRefused ∷ LimitPassed ∷ []
+command_statuses nothing = Done ∷ LimitPassed ∷ []
 
 -- the statuses of outcomes: a failed read, a failed write and want of memory have others
-abbrev pub outcome_statuses : Option Order → List ℕ
-outcome_statuses None = 2 ∷ []
+abbrev pub outcome_statuses : Option Order → List Status
+outcome_statuses None = WordsRefused ∷ []
 outcome_statuses (Some order) = command_statuses (reads_of order.command)
 
+-- each outcome of this order and bundle has one of the statuses that its order may come to
 abbrev pub HaveOwnStatuses : Option Order → List ℕ → Type 0
 HaveOwnStatuses wanted bundle = (outcome : Outcome) → IsOutcome wanted bundle outcome
-    → is_among (outcome_statuses wanted) outcome.status ≡ true
+    → is_one_of (outcome_statuses wanted) outcome.status ≡ true
 
 -- a failed read has a status where something is read
-abbrev pub read_statuses : Reads → List ℕ
-read_statuses source_alone = 3 ∷ []
-read_statuses source_and_data = 3 ∷ []
-read_statuses source_and_certificate = 3 ∷ []
+abbrev pub read_statuses : Reads → List Status
+read_statuses source_alone = InputFailed ∷ []
+read_statuses source_and_data = InputFailed ∷ []
+read_statuses source_and_certificate = InputFailed ∷ []
 read_statuses nothing = []
 
 -- the statuses of calls: those of a failed write, of want of memory, of a failed read and of outcomes
-abbrev pub call_statuses : Option Order → List ℕ
-call_statuses wanted = 4 ∷ 10 ∷ (read_statuses (read_by wanted) ++ outcome_statuses wanted)
+abbrev pub call_statuses : Option Order → List Status
+call_statuses wanted =
+    OutputFailed ∷ NoMemory ∷ (read_statuses (read_by wanted) ++ outcome_statuses wanted)
 
-abbrev pub HasStatusOf : Option Order → ℕ → Type 0
-HasStatusOf wanted status = is_among (call_statuses wanted) status ≡ true
+-- the status is one that a call with this order may have: what the order comes to, a failed write, want of memory, and
+-- a failed read where something is read
+abbrev pub HasStatusOf : Option Order → Status → Type 0
+HasStatusOf wanted status = is_one_of (call_statuses wanted) status ≡ true
 
 -- a call for this order may end with this status, where neither sink had a fault
-pub record MayEndWith (wanted : Option Order) (status : ℕ) : Type 0 where
+pub record MayEndWith (wanted : Option Order) (status : Status) : Type 0 where
   pub input : Change
   pub output : Change
   pub complaint : Change
@@ -104,12 +113,12 @@ pub record IsValid (wanted : Option Order) (bundle : List ℕ) : Type 0 where
   pub limited : IsWithinOwnLimit order.command order.policy nest
   pub has : HasParts (reads_of order.command) nest bundle inputs
 
--- the status is 0, or 1 where a certificate is read and its refusal is told
-abbrev pub IsDone : Reads → ℕ → Type 0
-IsDone source_alone status = status ≡ 0
-IsDone source_and_data status = status ≡ 0
-IsDone source_and_certificate status = (status ≡ 0) ⊎ (status ≡ 1)
-IsDone nothing status = status ≡ 0
+-- the command was done, or a certificate that it read was refused on the output
+abbrev pub IsDone : Reads → Status → Type 0
+IsDone source_alone status = status ≡ Done
+IsDone source_and_data status = status ≡ Done
+IsDone source_and_certificate status = (status ≡ Done) ⊎ (status ≡ CertificateRefused)
+IsDone nothing status = status ≡ Done
 
 -- with this order and this bundle the command is done
 abbrev pub Succeeds : Option Order → List ℕ → Type 0

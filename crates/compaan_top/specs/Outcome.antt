@@ -19,10 +19,11 @@ use Rattle.command_answers.specs.Tracing.{Traces}
 use Rattle.command_answers.specs.Trimming.{trimming_text}
 use Rattle.command_answers.specs.declared.refusal.Refusal.{Refusal}
 use Rattle.command_answers.specs.declared.refusal.Refusal.TheVariants.{Usage, TooLong}
+use Rattle.command_answers.specs.declared.status.Status.{Status}
 
 -- a status, what is written on the output, and what on the complaint sink
 pub record Outcome : Type 0 where
-  pub status : ℕ
+  pub status : Status
   pub output : List ℕ
   pub complaint : List ℕ
 

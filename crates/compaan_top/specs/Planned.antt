@@ -4,7 +4,8 @@ use Rattle.std.specs.Global.{Vec}
 use Rattle.cert_text.specs.StandsFor.{IsWrittenOf}
 use Rattle.command_line.specs.declared.words.Order.{Order}
 use Rattle.command_answers.specs.Replies.{Reply, done}
-use Rattle.command_answers.specs.Replying.{reply_of}
+use Rattle.command_answers.specs.Judging.{Judges}
+use Rattle.command_answers.specs.Replying.{as_reply, reply_of}
 use Rattle.command_answers.specs.declared.answer.Answer.{Answer}
 use Rattle.command_answers.specs.declared.answer.CertificateAnswer.{CertificateAnswer}
 use Rattle.command_answers.specs.declared.refusal.Refusal.{Refusal}
@@ -13,7 +14,7 @@ use Rattle.command_answers.specs.declared.refusal.Stop.{Stop}
 use Rattle.command_answers.specs.declared.refusal.Stop.TheVariants.{Refused, ReadFault, Memory}
 use Rattle.compaan_top.specs.Answers.{Change, IsQuiet, HasFault, IsRead, ReadsTo, TakesAtMost, most_taken}
 use Rattle.compaan_top.specs.Commands.{nothing, read_by, reads_of}
-use Rattle.compaan_top.specs.Outcome.{IsOutcome, outcome_of, bundle_limit}
+use Rattle.compaan_top.specs.Outcome.{IsOutcome, Performs, outcome_of, bundle_limit}
 
 abbrev pub IsOrdered : Option Order → Result Order Refusal → Type 0
 IsOrdered wanted (Ok order) = wanted ≡ Some order
@@ -32,6 +33,11 @@ ReadsBundle input (Err Memory) = IsQuiet input × TakesAtMost input (bundle_limi
 abbrev pub ReadsAndJudges : Option Order → Change → Result Reply Refusal → Type 0
 ReadsAndJudges wanted input answer =
     (bundle : List ℕ) × IsRead wanted input bundle × IsOutcome wanted bundle (outcome_of answer)
+
+-- what an order comes to on a bundle that was read, told as the reply that it is
+abbrev pub JudgesOrder : Order → List ℕ → Result Answer Stop → Type 0
+JudgesOrder order bundle answer =
+    Judges (λ made. Performs order.command order bundle (as_reply made)) answer
 
 abbrev pub IsPlanned : Option Order → Change → Result Answer Stop → Type 0
 IsPlanned wanted input (Ok answer) =

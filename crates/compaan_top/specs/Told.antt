@@ -1,5 +1,7 @@
 -- What a call comes to whose source tells its bytes.
 use Rattle.std.specs.Prelude.{◌≡◌, ◌≢◌, ℕ, List, [], Option, Some}
+use Rattle.command_answers.specs.declared.status.Status.{Status}
+use Rattle.command_answers.specs.declared.status.Status.TheVariants.{InputFailed, NoMemory, OutputFailed}
 use Rattle.command_line.specs.declared.words.Order.{Order}
 use Rattle.compaan_top.specs.Answers.{Change, WritesAll}
 use Rattle.compaan_top.specs.Commands.{Reads, source_alone, source_and_data, source_and_certificate, nothing}
@@ -13,12 +15,12 @@ IsTold source_and_certificate left bundle = left ≡ Some bundle
 IsTold nothing left bundle = bundle ≡ []
 
 -- the status is that of neither a failed read, a failed write nor want of memory
-abbrev pub IsAnswered : ℕ → Type 0
-IsAnswered status = (status ≢ 3) × (status ≢ 4) × (status ≢ 10)
+abbrev pub IsAnswered : Status → Type 0
+IsAnswered status = (status ≢ InputFailed) × (status ≢ OutputFailed) × (status ≢ NoMemory)
 
 -- the call wrote, with its status, what the order and the bundle come to
 pub record ComesTo (wanted : Option Order) (bundle : List ℕ) (output complaint : Change)
-    (status : ℕ) : Type 0 where
+    (status : Status) : Type 0 where
   pub outcome : Outcome
   pub is : IsOutcome wanted bundle outcome
   pub has_status : status ≡ outcome.status

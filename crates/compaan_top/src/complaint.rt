@@ -1,31 +1,30 @@
-ghost use Rattle.std.specs.Prelude.{◌≡◌, [], ◌∷◌, decimal, OnOk, OnErr};
-ghost use Rattle.std.specs.Io.KnownBytes.{Appends};
-ghost use Rattle.io_edge.specs.Causes.{Rose, AppendsFront};
+ghost use Rattle.std.specs.Prelude.{◌≡◌, [], ◌∷◌, decimal};
 ghost use Rattle.text_out.specs.Wrote.{Wrote};
 ghost use Rattle.text_out.specs.Words.{line_text};
+ghost use Rattle.compaan_top.specs.Answers.{Writes, change};
 ghost use Rattle.compaan_top.specs.Complaints.{class_word as word_of_class, limit_word as word_of_limit, name_of, refusal_line, refusal_status, text_word as word_of_text};
 ghost use Rattle.command_answers.specs.declared.refusal.Refusal.TheVariants.{Count};
 
-use command_answers::{ClassReason, LimitReason, Refusal, TextReason};
+use command_answers::{ClassReason, LimitReason, Refusal, Status, TextReason};
 use io_edge::{Sink, WriteFault};
 use sanlp::ArrayDecl;
 use text_out::{TextWriter, Word, Writer, write_line};
 
 /// The status of a program that has told a refusal.
-pub(crate) fn refusal_status(refusal: &Refusal) -> u8
+pub(crate) fn refusal_status(refusal: &Refusal) -> Status
     ensures { result ≡ refusal_status refusal.now }
 {
     match refusal {
-        Refusal::Usage => 2,
-        Refusal::TooLong | Refusal::NoPart => 5,
-        Refusal::Text(_, _) => 6,
-        Refusal::Class(_, _) => 7,
-        Refusal::Limit(_, _) | Refusal::Script(_, _) => 8,
+        Refusal::Usage => Status::WordsRefused,
+        Refusal::TooLong | Refusal::NoPart => Status::BundleRefused,
+        Refusal::Text(_, _) => Status::TextRefused,
+        Refusal::Class(_, _) => Status::ClassRefused,
+        Refusal::Limit(_, _) | Refusal::Script(_, _) => Status::LimitPassed,
         Refusal::UnknownArray(_)
         | Refusal::Twice(_)
         | Refusal::Missing(_, _)
         | Refusal::Count(_, _, _)
-        | Refusal::NotANumber(_, _) => 9,
+        | Refusal::NotANumber(_, _) => Status::DataRefused,
     }
 }
 
@@ -146,12 +145,7 @@ fn write_refusal_line<W: TextWriter>(refusal: &Refusal, out: &mut W)
 
 /// Writes the line of a refusal. It takes no memory.
 pub(crate) fn write_refusal<K: Sink>(refusal: &Refusal, sink: &mut K) -> Result<(), WriteFault>
-    ensures ok { OnOk result (Appends (K.held sink.old) (K.held sink.new)
-        (refusal_line refusal.now)) }
-    ensures quiet { OnOk result (K.faults sink.new ≡ K.faults sink.old) }
-    ensures front { OnErr result (AppendsFront (K.held sink.old) (K.held sink.new)
-        (refusal_line refusal.now)) }
-    ensures cause { OnErr result (Rose (K.faults sink.old) (K.faults sink.new)) }
+    ensures { Writes (change K.held K.faults sink.old sink.new) (refusal_line refusal.now) result }
 {
     let mut out = Writer::new(sink);
     write_refusal_line(refusal, &mut out);

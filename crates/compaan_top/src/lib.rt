@@ -1,4 +1,6 @@
 //! The program: its words, its input and its two outputs in, its status out.
+//!
+//! Between two calls, or from one step of the main loop to the next: nothing is written before all is decided.
 #![tactic(auto)]
 
 mod call;
@@ -7,7 +9,8 @@ mod law;
 mod writing;
 
 pub use call::{compaan, quiet};
+pub use command_answers::Status;
 pub use law::{
     calls_have_their_statuses, no_status_ends_every_call, status_is_determined,
-    what_cert_writes_is_accepted, what_fits_is_accepted,
+    what_cert_writes_is_accepted, what_ends_is_a_call, what_fits_is_accepted,
 };

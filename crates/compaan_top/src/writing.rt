@@ -1,17 +1,16 @@
-ghost use Rattle.std.specs.Prelude.{◌≡◌, [], ◌∷◌, ℕ, codes, decimal, OnOk, OnErr};
-ghost use Rattle.std.specs.Io.KnownBytes.{Appends};
-ghost use Rattle.io_edge.specs.Causes.{Rose, AppendsFront};
+ghost use Rattle.std.specs.Prelude.{◌≡◌};
 ghost use Rattle.vhdl_text.specs.VhdlText.{vhdl_text};
 ghost use Rattle.command_answers.specs.Replying.{reply_of};
 ghost use Rattle.command_answers.specs.Simulating.{clocked_text, clocks_line};
+ghost use Rattle.compaan_top.specs.Answers.{Writes, change};
 
 use array_data::write_answer;
-use command_answers::{Answer, ClockedAnswer, NodesAnswer};
+use command_answers::{Answer, ClockedAnswer, NodesAnswer, Status};
 use deps_text::write_deps;
 use io_edge::{Sink, WriteFault};
 use matrix_load::write_summary;
 use net_checker::Verdict;
-use net_text::write_net_by_turns;
+use net_text::write_network;
 use text_out::{Word, Writer, write_line};
 use trace_text::write_trace;
 use trim_text::write_trim;
@@ -19,14 +18,8 @@ use verdict_text::{write_unread, write_verdict};
 use vhdl_text::{VhdlError, write_vhdl};
 
 fn write_nodes<K: Sink>(answer: &NodesAnswer, sink: &mut K) -> Result<(), WriteFault>
-    ensures ok { OnOk result
-        (Appends (K.held sink.old) (K.held sink.new)
-        (vhdl_text answer.now.network answer.now.autos)) }
-    ensures quiet { OnOk result (K.faults sink.new ≡ K.faults sink.old) }
-    ensures front { OnErr result
-        (AppendsFront (K.held sink.old) (K.held sink.new)
-        (vhdl_text answer.now.network answer.now.autos)) }
-    ensures cause { OnErr result (Rose (K.faults sink.old) (K.faults sink.new)) }
+    ensures { Writes (change K.held K.faults sink.old sink.new)
+        (vhdl_text answer.now.network answer.now.autos) result }
 {
     match write_vhdl(&answer.network, answer.autos.as_slice(), sink) {
         Ok(()) => Ok(()),
@@ -36,11 +29,7 @@ fn write_nodes<K: Sink>(answer: &NodesAnswer, sink: &mut K) -> Result<(), WriteF
 }
 
 fn write_clocks<K: Sink>(clocks: u64, sink: &mut K) -> Result<(), WriteFault>
-    ensures ok { OnOk result (Appends (K.held sink.old) (K.held sink.new) (clocks_line clocks)) }
-    ensures quiet { OnOk result (K.faults sink.new ≡ K.faults sink.old) }
-    ensures front { OnErr result
-        (AppendsFront (K.held sink.old) (K.held sink.new) (clocks_line clocks)) }
-    ensures cause { OnErr result (Rose (K.faults sink.old) (K.faults sink.new)) }
+    ensures { Writes (change K.held K.faults sink.old sink.new) (clocks_line clocks) result }
 {
     let mut out = Writer::new(sink);
     write_line(&[Word::Text(b"clocks"), Word::Number(clocks)], &mut out);
@@ -48,16 +37,9 @@ fn write_clocks<K: Sink>(clocks: u64, sink: &mut K) -> Result<(), WriteFault>
 }
 
 fn write_clocked<K: Sink>(answer: &ClockedAnswer, sink: &mut K) -> Result<(), WriteFault>
-    ensures ok { OnOk result
-        (Appends (K.held sink.old) (K.held sink.new)
+    ensures { Writes (change K.held K.faults sink.old sink.new)
         (clocked_text answer.now.nest.arrays answer.now.clocked.arrays.arrays
-        answer.now.clocked.clocks)) }
-    ensures quiet { OnOk result (K.faults sink.new ≡ K.faults sink.old) }
-    ensures front { OnErr result
-        (AppendsFront (K.held sink.old) (K.held sink.new)
-        (clocked_text answer.now.nest.arrays answer.now.clocked.arrays.arrays
-        answer.now.clocked.clocks)) }
-    ensures cause { OnErr result (Rose (K.faults sink.old) (K.faults sink.new)) }
+        answer.now.clocked.clocks) result }
 {
     write_answer(&answer.nest, &answer.clocked.arrays, sink)?;
     write_clocks(answer.clocked.clocks, sink)
@@ -65,18 +47,11 @@ fn write_clocked<K: Sink>(answer: &ClockedAnswer, sink: &mut K) -> Result<(), Wr
 
 /// Writes an answer's text. It takes no memory.
 pub(crate) fn write_text<K: Sink>(answer: &Answer, sink: &mut K) -> Result<(), WriteFault>
-    ensures ok { OnOk result
-        (Appends (K.held sink.old) (K.held sink.new) (reply_of answer.now).text) }
-    ensures quiet { OnOk result (K.faults sink.new ≡ K.faults sink.old) }
-    ensures front { OnErr result
-        (AppendsFront (K.held sink.old) (K.held sink.new) (reply_of answer.now).text) }
-    ensures cause { OnErr result (Rose (K.faults sink.old) (K.faults sink.new)) }
+    ensures { Writes (change K.held K.faults sink.old sink.new) (reply_of answer.now).text result }
 {
     match answer {
         Answer::Arrays(answer) => write_answer(&answer.nest, &answer.arrays, sink),
-        Answer::Network(answer) => {
-            write_net_by_turns(&answer.nest, &answer.turns, &answer.network, sink)
-        }
+        Answer::Network(answer) => write_network(&answer.nest, &answer.network, sink),
         Answer::Verdict(verdict) => write_verdict(verdict, sink),
         Answer::Unread(error) => write_unread(*error, sink),
         Answer::Summary(summary) => write_summary(summary, sink),
@@ -102,7 +77,7 @@ pub(crate) fn write_text<K: Sink>(answer: &Answer, sink: &mut K) -> Result<(), W
 }
 
 /// The status of a program that has written an answer.
-pub(crate) fn status_of(answer: &Answer) -> u8
+pub(crate) fn status_of(answer: &Answer) -> Status
     ensures { result ≡ (reply_of answer.now).status }
 {
     match answer {
@@ -113,9 +88,9 @@ pub(crate) fn status_of(answer: &Answer) -> u8
         | Answer::Clocked(_)
         | Answer::Trimmed(_)
         | Answer::Trace(_)
-        | Answer::Dependences(_) => 0,
-        Answer::Verdict(Verdict::Accepted) => 0,
-        Answer::Verdict(Verdict::Refused(_)) => 1,
-        Answer::Unread(_) => 1,
+        | Answer::Dependences(_) => Status::Done,
+        Answer::Verdict(Verdict::Accepted) => Status::Done,
+        Answer::Verdict(Verdict::Refused(_)) => Status::CertificateRefused,
+        Answer::Unread(_) => Status::CertificateRefused,
     }
 }

@@ -1,5 +1,5 @@
 use Rattle.std.proofs.lemmas.Result.{err_from_is_err_and}
-use Rattle.command_answers.proofs.TellsSources.{swept_is, told_nest, told_without_nest, told_without_size, unswept_trees}
+use Rattle.command_answers.proofs.TellsSources.{told_nest, told_without_nest, told_without_size}
 use Rattle.command_answers.proofs.dependences.tell_dependences.Goals as goal
 
 pub returns-in_err-nest : goal.returns-in_err-nest

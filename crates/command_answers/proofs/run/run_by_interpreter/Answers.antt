@@ -2,7 +2,7 @@ use Rattle.std.proofs.Common.{◌∙◌, ap, length}
 use Rattle.std.proofs.lemmas.Result.{err_from_is_err_and}
 use Rattle.array_data.specs.Answer.{answer_text}
 use Rattle.command_answers.specs.Run.{run_text}
-use Rattle.command_answers.proofs.Inputs.{length-arrays}
+use Rattle.command_answers.proofs.ArrayCounts.{length-arrays}
 use Rattle.command_answers.proofs.Runs.{runs_to_text, unprepared}
 use Rattle.command_answers.proofs.run.run_by_interpreter.Goals as goal
 

@@ -5,9 +5,6 @@ use Rattle.net_core.specs.declared.network.Network.{Network}
 use Rattle.net_core.specs.Machine.{net_of}
 use Rattle.command_answers.proofs.simulating.clocked_run.Goals as goal
 
-pub simulate-requires-clause-sound : goal.simulate-requires-clause-sound
-simulate-requires-clause-sound c = c.is_sound.ensures _ _ _ c.in_ok-network.ensures.fits
-
 pub returns-clause-clocks : goal.returns-clause-clocks
 returns-clause-clocks c =
     subst (λ (n : Network). IfOk c.simulate.result (λ clocked. clocked.clocks ≡ clocks (net_of n)))

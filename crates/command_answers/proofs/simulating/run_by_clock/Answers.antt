@@ -1,7 +1,7 @@
 use Rattle.std.proofs.Common.{◌∙◌, ap, ap₂, length}
 use Rattle.std.proofs.lemmas.Result.{err_from_is_err_and}
 use Rattle.command_answers.specs.Simulating.{clocked_text, simulation_text}
-use Rattle.command_answers.proofs.Inputs.{length-arrays}
+use Rattle.command_answers.proofs.ArrayCounts.{length-arrays}
 use Rattle.command_answers.proofs.Runs.{runs_to_text, unprepared}
 use Rattle.command_answers.proofs.simulating.run_by_clock.Goals as goal
 

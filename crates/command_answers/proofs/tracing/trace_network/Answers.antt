@@ -2,16 +2,17 @@ use Rattle.std.proofs.Common.{ℕ, List, Ok, sym, subst}
 use Rattle.std.proofs.lemmas.Result.{err_from_is_err_and}
 use Rattle.trace_text.specs.TraceText.{trace_text}
 use Rattle.command_answers.specs.Replies.{done}
-use Rattle.command_answers.specs.Tracing.{Traces, traced}
-use Rattle.command_answers.proofs.Printed.{nest_is}
-use Rattle.command_answers.proofs.Traced.{traced_without_nest}
+use Rattle.command_answers.specs.Replying.{as_reply}
+use Rattle.command_answers.specs.Tracing.{Traces, source_refused, traced}
+use Rattle.command_answers.proofs.Stops.{nest_is, without_nest}
 use Rattle.command_answers.proofs.tracing.trace_network.Goals as goal
 
 pub returns-in_err-nest : goal.returns-in_err-nest
 returns-in_err-nest g c =
     let stop = err_from_is_err_and c.from_residual.result c.from_residual.ensures.1 in
     rw (stop.1, stop.2)
-    (traced_without_nest c.args.policy c.args.params.now c.args.bundle.now c.parts_of-parts.result.source.now _
+    (without_nest (λ answer. Traces c.args.policy c.args.params.now c.args.bundle.now (as_reply answer))
+    c.args.params.now c.args.bundle.now c.parts_of-parts.result.source.now _ source_refused
     c.parts_of-parts.ensures.source c.in_err-nest.ensures)
 
 pub returns : goal.returns

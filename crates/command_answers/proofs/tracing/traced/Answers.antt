@@ -6,9 +6,6 @@ use Rattle.net_core.specs.Orders.{EndsAll}
 use Rattle.net_core.specs.Rules.{tags}
 use Rattle.command_answers.proofs.tracing.traced.Goals as goal
 
-pub run_board-requires-clause-sound : goal.run_board-requires-clause-sound
-run_board-requires-clause-sound g c κs within = c.is_sound.ensures _ _ _ c.in_ok-network.ensures.fits
-
 pub returns : goal.returns
 returns g c =
     subst (λ (n : Network). IfOk c.run_board.result (λ run. EndsAll (net_of n) tags run.items))

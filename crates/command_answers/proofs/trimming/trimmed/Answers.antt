@@ -5,15 +5,15 @@ use Rattle.net_core.specs.declared.network.Network.{Network}
 use Rattle.net_core.specs.Machine.{net_of}
 use Rattle.command_answers.proofs.trimming.trimmed.Goals as goal
 
-pub trim-requires-clause-planned : goal.trim-requires-clause-planned
-trim-requires-clause-planned c = (c.args.policy, c.in_ok-network.ensures.network)
+pub least_capacities-requires-clause-wired : goal.least_capacities-requires-clause-wired
+least_capacities-requires-clause-wired c = c.in_ok-network.ensures.sound.fits.shaped.wired
 
 pub returns-clause-capacities : goal.returns-clause-capacities
 returns-clause-capacities c =
-    subst (λ (n : Network). IfOk c.trim.result (λ made. made.capacities ≡ capacity_list (trimmed_network (net_of n))))
-    c.in_ok-network.ensures.network c.trim.ensures.capacities
+    subst (λ (n : Network). IfOk c.least_capacities.result (λ made. made.capacities ≡ capacity_list (trimmed_network (net_of n))))
+    c.in_ok-network.ensures.network c.least_capacities.ensures.capacities
 
 pub returns-clause-rests : goal.returns-clause-rests
 returns-clause-rests c =
-    subst (λ (n : Network). IfOk c.trim.result (λ made. made.rests ≡ lowered_rests (trimmed_network (net_of n))))
-    c.in_ok-network.ensures.network c.trim.ensures.rests
+    subst (λ (n : Network). IfOk c.least_capacities.result (λ made. made.rests ≡ lowered_rests (trimmed_network (net_of n))))
+    c.in_ok-network.ensures.network c.least_capacities.ensures.rests

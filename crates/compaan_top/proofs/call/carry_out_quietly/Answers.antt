@@ -1,7 +1,21 @@
+use Rattle.compaan_top.proofs.Endings.{planned_certificate, planned_refusal_of_bundle, planned_work, quiet_reads}
 use Rattle.compaan_top.proofs.call.carry_out_quietly.Goals as goal
 
 pub returns-in-Cert : goal.returns-in-Cert
-returns-in-Cert g c = c.finish_certificate.ensures _ _ c.plan_certificate.ensures
+returns-in-Cert g c =
+    c.finish_certificate.ensures _ _
+    (planned_certificate c.args.order.now _ c.in-Ok.bundle c.print_certificate-made.result c.in-Cert.is c.in-Ok.ensures
+    (rw c.deref.ensures.value at c.print_certificate-made.ensures))
 
-pub returns-in_default : goal.returns-in_default
-returns-in_default g c = c.finish.ensures _ _ c.plan.ensures
+pub returns-in-Ok : goal.returns-in-Ok
+returns-in-Ok g c =
+    c.finish.ensures _ _
+    (planned_work c.args.order.now _ c.in-Ok.bundle c.perform.result
+    (quiet_reads c.args.order.now.command c.requires) c.in-Ok.ensures
+    (rw c.deref-in_default.ensures.value at c.perform.ensures))
+
+pub returns : goal.returns
+returns g c =
+    c.finish-in-Err.ensures _ _
+    (planned_refusal_of_bundle c.args.order.now _ c.in-Err.stop
+    (quiet_reads c.args.order.now.command c.requires) c.in-Err.ensures)

@@ -1,6 +1,5 @@
 use Rattle.command_answers.specs.Replying.{reply_of}
-use Rattle.compaan_top.proofs.Endings.{answer_written, answer_cut_short, refusal_written, refusal_cut_short}
-use Rattle.compaan_top.proofs.Endings.{ends_at_fault, ends_without_memory}
+use Rattle.compaan_top.proofs.Endings.{answer_written, answer_cut_short, refusal_written, refusal_cut_short, ends_at_fault, ends_without_memory}
 use Rattle.compaan_top.proofs.call.finish.Goals as goal
 
 pub returns-in-Ok-write_text : goal.returns-in-Ok-write_text

@@ -1,4 +1,4 @@
-use Rattle.compaan_top.proofs.Certified.{accepts_bytes, accepts_calls, accepts_parts, stands_planned}
+use Rattle.compaan_top.proofs.CertVerdict.{accepts_bytes, accepts_calls, accepts_parts, stands_planned}
 use Rattle.compaan_top.proofs.law.what_cert_writes_is_accepted.Goals as goal
 
 pub returns-clause-stands : goal.returns-clause-stands

@@ -1,4 +1,4 @@
-use Rattle.compaan_top.proofs.Vouched.{accepts_fitting}
+use Rattle.compaan_top.proofs.Acceptance.{accepts_fitting}
 use Rattle.compaan_top.proofs.law.what_fits_is_accepted.Goals as goal
 
 pub returns : goal.returns

@@ -1,4 +1,4 @@
-use Rattle.compaan_top.proofs.Vouched.{checks_vouched}
+use Rattle.compaan_top.proofs.Acceptance.{checks_vouched}
 use Rattle.compaan_top.proofs.law.what_is_accepted_fits.Goals as goal
 
 pub returns : goal.returns

@@ -1,0 +1,7 @@
+mod CertifiedParts
+mod Feeds
+mod LineEnds
+mod Lines
+mod Positions
+mod Separators
+mod Worked

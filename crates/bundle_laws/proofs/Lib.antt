@@ -1,5 +1,0 @@
-mod Feeds
-mod LineEnds
-mod Parts
-mod Separators
-mod Worked

@@ -1,5 +1,0 @@
-use Rattle.bundle_laws.proofs.Parts.{certified_certificate, certified_data, certified_source}
-use Rattle.bundle_laws.proofs.law.certified_bundle_has_its_parts.Goals as goal
-
-pub returns : goal.returns
-returns c = record { source = certified_source; between = certified_data; certificate = certified_certificate }

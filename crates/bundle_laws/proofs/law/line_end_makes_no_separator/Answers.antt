@@ -1,5 +1,0 @@
-use Rattle.bundle_laws.proofs.Separators.{no_late_separator}
-use Rattle.bundle_laws.proofs.law.line_end_makes_no_separator.Goals as goal
-
-pub returns : goal.returns
-returns c = no_late_separator

@@ -1,0 +1,15 @@
+use Rattle.compaan_top.proofs.Endings.{others_read, planned_refusal_of_bundle, planned_work}
+use Rattle.compaan_top.proofs.call.carry_out_by_threads.Goals as goal
+
+pub returns-in-Ok : goal.returns-in-Ok
+returns-in-Ok g c =
+    c.finish.ensures _ _
+    (planned_work c.args.order.now _ c.in-Ok.bundle c.perform_by_threads.result
+    (others_read c.args.order.now.command c.requires.other) c.in-Ok.ensures
+    (rw c.deref.ensures.value at c.perform_by_threads.ensures))
+
+pub returns-in-Err : goal.returns-in-Err
+returns-in-Err g c =
+    c.finish-in-Err.ensures _ _
+    (planned_refusal_of_bundle c.args.order.now _ c.in-Err.stop
+    (others_read c.args.order.now.command c.requires.other) c.in-Err.ensures)

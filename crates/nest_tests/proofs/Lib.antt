@@ -1,2 +1,2 @@
 mod Streams
-mod Wrapped
+mod EndWrappers

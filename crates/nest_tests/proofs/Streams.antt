@@ -1,17 +1,15 @@
 -- The stream of a channel, from what its writer has kept.
-use Rattle.std.proofs.Common.{◌≡◌, ◌<◌, ◌≤◌, ◌+◌, ◌-◌, ◌==◌, ℕ, zero, suc, pred, true, false, true≢false, cond, ℤ}
-use Rattle.std.proofs.Common.{Option, Some, None, List, [], ◌∷◌, ◌++◌, length, map, slice_get, refl, sym, ap, ◌∙◌}
-use Rattle.std.proofs.Common.{subst, arith, inl, inr, length-append}
+use Rattle.std.proofs.Common.{◌≡◌, ◌<◌, ◌≤◌, ◌+◌, ◌-◌, ℕ, zero, suc, pred, true, false, true≢false, cond, ℤ}
+use Rattle.std.proofs.Common.{Some, List, [], ◌∷◌, ◌++◌, length, map, slice_get, refl, sym, ap, ◌∙◌}
+use Rattle.std.proofs.Common.{arith, inl, inr, sub-one}
 use Rattle.std.proofs.lemmas.Bool.{cases_lt, cases_eq}
 use Rattle.std.proofs.lemmas.List.{map-append}
-use Rattle.std.specs.Prelude.{slice_index_or}
 use Rattle.std.specs.Option.{option_map_or}
 use Rattle.std.specs.declared.vec.Vec.{Vec}
 use Rattle.std.specs.Global.{Global}
 use Rattle.sanlp.specs.declared.nest.Inputs.{Inputs}
 use Rattle.sanlp.specs.declared.nest.Nest.{Nest}
 use Rattle.sanlp.specs.declared.nest.Tag.{Tag}
-use Rattle.net_core.specs.declared.network.Channel.{Channel}
 use Rattle.net_core.specs.declared.network.Event.{Event}
 use Rattle.net_core.specs.declared.network.Event.TheVariants.{Get, Fire, Put}
 use Rattle.net_core.specs.declared.network.Network.{Network}
@@ -22,12 +20,13 @@ use Rattle.net_core.specs.Rules.{tags, values}
 use Rattle.net_core.specs.Shape.{fires, is_put}
 use Rattle.net_core.specs.Sound.{IsSound, tag_value}
 use Rattle.net_core.proofs.EveryOrder.{same_ends}
-use Rattle.net_core.proofs.Fresh.{item_found}
-use Rattle.net_core.proofs.Naming.{get_append, ended_kept}
-use Rattle.net_core.proofs.Valued.{gives_values}
+use Rattle.net_core.proofs.PlaceValues.{ended_kept}
+use Rattle.net_core.proofs.FireValues.{gives_values}
 use Rattle.node_runner.specs.Logs.{nth_stream}
-use Rattle.node_runner.specs.Nodes.{Ports, incoming, outgoing}
+use Rattle.node_runner.specs.Nodes.{incoming, outgoing}
 use Rattle.node_runner.proofs.LogLemmas.{incoming_past, outgoing_past}
+use Rattle.node_runner.proofs.EventSteps.{length_fired}
+use Rattle.plain_data.proofs.Lists.{slice_get_push, slice_get-append_left}
 
 -- along a schedule that ends all, each process keeps the values of its fires
 pub kept_along : (nest : Nest) (network : Network) (d : Inputs) → IsSound nest network
@@ -44,10 +43,6 @@ kept_along nest network d sound run begun last whole opening stepped p =
 
 -- One value of what was fired
 
-length_fired : {T : Type 0} (v : Tag → T) (p f : ℕ) → length (fired v p f) ≡ f
-length_fired v p zero = refl
-length_fired v p (suc f) = omega (arith, length-append (fired v p f) (v (tag p f) ∷ []), length_fired v p f)
-
 at_end : {T : Type 0} (xs : List T) (y : T) (m : ℕ) (x : T) → length xs ≤ m → slice_get (xs ++ y ∷ []) m ≡ Some x
     → (m ≡ length xs) × (x ≡ y)
 at_end [] y zero x le e = (refl, cc)
@@ -59,15 +54,11 @@ fired_at : {T : Type 0} (v : Tag → T) (p f m : ℕ) (x : T) → slice_get (fir
 fired_at v p zero m x is = absurd (cc)
 fired_at v p (suc f) m x is =
     elim (cases_lt m (length (fired v p f))) [
-      | inl lt ↦ fired_at v p f m x (sym (get_append (fired v p f) (v (tag p f) ∷ []) m lt) ∙ is)
+      | inl lt ↦ fired_at v p f m x (sym (slice_get-append_left (fired v p f) (v (tag p f) ∷ []) m lt) ∙ is)
       | inr le ↦
           let last = at_end (fired v p f) (v (tag p f)) m x le is in
           last.1 ∙ ap (λ i. v (tag p i)) (sym (last.0 ∙ length_fired v p f))
     ]
-
-pred_is : (f : ℕ) → f - 1 ≡ pred f
-pred_is zero = omega arith
-pred_is (suc f) = omega arith
 
 -- One event
 
@@ -95,7 +86,7 @@ module _ (n : Net) (v : Tag → ℤ) (c k : ℕ) (e : Event) (at : slice_get (n.
       ap (λ o. with_token n c k o ts) at ∙ with_put n c k e ts put in
       let value : x ≡ v t =
       fired_at v w total (many - 1) x (ap (λ l. slice_get l (many - 1)) (sym kept_is) ∙ here)
-      ∙ ap (λ i. v (tag w i)) (pred_is many ∙ ap pred many_is) in
+      ∙ ap (λ i. v (tag w i)) (sub-one many ∙ ap pred many_is) in
       grown ∙ ap (λ l. l ++ x ∷ []) was ∙ ap (λ y. map v ts ++ y ∷ []) value ∙ sym (map-append v ts (t ∷ []))
       ∙ ap (map v) (sym token)
 
@@ -103,14 +94,6 @@ module _ (n : Net) (v : Tag → ℤ) (c k : ℕ) (e : Event) (at : slice_get (n.
   put_none none =
       was ∙ ap (map v)
       (sym (ap (λ o. with_token n c k o (tokens_before n c k)) at ∙ without_put n c k e (tokens_before n c k) none))
-
--- the writer of a channel that the code reads
-pub writer_is : (network : Network) (channels : List Channel) (channel : Channel) (c : ℕ) → channels ≡ network.channels
-    → c < length network.channels → channel ≡ slice_index_or channels c channel
-    → (channel.writer ≡ (net_of network).writer c)
-writer_is network channels channel c same lt is =
-    sym (ap (λ o. option_map_or (λ (ch : Channel). ch.writer) o 0)
-    (item_found network.channels channels c channel same (subst (λ k. c < k) (sym (ap length same)) lt) is))
 
 -- Ends over the same streams
 
@@ -130,19 +113,7 @@ same_outgoing s t network p same c =
       | inr past ↦ outgoing_past s network p c past ∙ sym (outgoing_past t network p c past)
     ]
 
-pub writer_there : (nest : Nest) (network : Network) → IsSound nest network
-    → (channels : List Channel) (channel : Channel) (c : ℕ) → channels ≡ network.channels → c < length network.channels
-    → channel ≡ slice_index_or channels c channel
-    → channel.writer < length network.processes
-writer_there nest network sound channels channel c same lt is =
-    subst (λ w. w < length network.processes) (sym (writer_is network channels channel c same lt is))
-    (sound.fits.shaped.wired.writers c lt)
-
 -- Lists of streams that grow by one
-
-last_at : {X : Type 0} (xs : List X) (x : X) → slice_get (xs ++ x ∷ []) (length xs) ≡ Some x
-last_at [] x = refl
-last_at (y ∷ xs) x = last_at xs x
 
 pub more_streams : (streams streams' : List (Vec ℤ Global)) (x : Vec ℤ Global) (at : ℕ) (f : ℕ → List ℤ)
     → streams' ≡ streams ++ x ∷ [] → length streams ≡ at
@@ -153,11 +124,11 @@ more_streams streams streams' x at f grown many before here c lt =
     ∙ elim (cases_eq c at) [
       | inl same ↦
           ap (λ i. nth_stream (streams ++ x ∷ []) i) (same ∙ sym many)
-          ∙ ap (λ o. option_map_or (λ (s : Vec ℤ Global). s.items) o []) (last_at streams x)
+          ∙ ap (λ o. option_map_or (λ (s : Vec ℤ Global). s.items) o []) (slice_get_push streams x)
           ∙ here ∙ ap f (sym same)
       | inr other ↦
           let lower : c < at = omega arith in
           ap (λ o. option_map_or (λ (s : Vec ℤ Global). s.items) o [])
-          (get_append streams (x ∷ []) c (omega (arith, many)))
+          (slice_get-append_left streams (x ∷ []) c (omega (arith, many)))
           ∙ before c lower
     ]

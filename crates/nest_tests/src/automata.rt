@@ -10,6 +10,7 @@ use affine_core::Vector;
 use net_core::{Event, Ref, Refs};
 use node_automata::{NodeAuto, automata, automaton};
 use sanlp::Role;
+use script_blocks::Script;
 use std::alloc::{AllocError, Global};
 use std::test::Fail;
 use witness_plan::Policy;
@@ -130,12 +131,17 @@ fn is_event(event: &Event, word: &[u8]) -> bool {
     }
 }
 
-fn is_script(events: &[Event], script: &[u8]) -> bool {
-    events.len() == script.split(|byte| *byte == b' ').count()
-        && events
-            .iter()
-            .zip(script.split(|byte| *byte == b' '))
-            .all(|(event, word)| is_event(event, word))
+fn is_script(events: &Script<Event>, script: &[u8]) -> bool {
+    let mut words = script.split(|byte| *byte == b' ');
+    for event in events.iter() {
+        let Some(word) = words.next() else {
+            return false;
+        };
+        if !is_event(&event, word) {
+            return false;
+        }
+    }
+    words.next().is_none()
 }
 
 fn is_negation(left: &Expr, right: &Expr) -> bool {
@@ -174,7 +180,7 @@ fn is_wanted(auto: &NodeAuto, wanted: &Wanted) -> bool {
         && auto.gets.as_slice() == wanted.gets
         && auto.puts.as_slice() == wanted.puts
         && auto.slots == wanted.slots
-        && is_script(auto.events.as_slice(), wanted.script)
+        && is_script(&auto.events, wanted.script)
         && are_points(auto.values.as_slice(), wanted.values)
         && is_expression(&auto.expr, wanted.expr)
 }

@@ -5,9 +5,8 @@ ghost use Rattle.sanlp.specs.Size.{SizeIsOk};
 use crate::bound::nest_of;
 use channel_class::{ChannelClass, UseOrder};
 use channel_plan::{ChannelPlan, channel_plans};
-use loop_walk::points;
 use sanlp::Nest;
-use shadow_sweep::sweep;
+use shadow_sweep::sweep_counted;
 use std::alloc::{AllocError, Global};
 use std::test::Fail;
 
@@ -91,11 +90,9 @@ fn are_channels(plans: &[ChannelPlan], wanted: &[Carried]) -> bool {
 fn has_channels(alloc: Global, nest: &Nest, wanted: &[Carried]) -> Result<bool, AllocError>
     requires { SizeIsOk nest.now }
 {
-    let points = points(alloc, nest)?;
-    let table = sweep(alloc, nest, &points)?;
-    let plans = channel_plans(alloc, nest, &points, &table);
-    drop(table);
-    drop(points);
+    let swept = sweep_counted(alloc, nest)?;
+    let plans = channel_plans(alloc, nest, &swept.turns, &swept.sources);
+    drop(swept);
     Ok(are_channels(plans?.as_slice(), wanted))
 }
 

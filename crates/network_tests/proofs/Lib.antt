@@ -1,2 +1,2 @@
 mod HandOn
-mod Starved
+mod EmptyQueue

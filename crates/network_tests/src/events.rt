@@ -36,11 +36,7 @@ fn event(step: Step) -> Event {
 }
 
 /// These events, and behind them so many fires without references.
-pub(crate) fn events(
-    alloc: Global,
-    steps: &[Step],
-    fires: u32,
-) -> Result<Items<Event>, AllocError> {
+fn events(alloc: Global, steps: &[Step], fires: u32) -> Result<Items<Event>, AllocError> {
     let mut events = Items::new(alloc);
     for step in steps {
         events.push(event(*step))?;
@@ -51,12 +47,21 @@ pub(crate) fn events(
     Ok(events)
 }
 
+/// The folded script of these events, and of so many fires without references behind them.
+pub(crate) fn script(
+    alloc: Global,
+    steps: &[Step],
+    fires: u32,
+) -> Result<Script<Event>, AllocError> {
+    equal_is_same();
+    let events = events(alloc, steps, fires)?;
+    let few = events.len().min(100_000);
+    Script::folded(alloc, &events.as_slice()[..few])
+}
+
 /// A process with these events, whose script is folded.
 pub(crate) fn folded(alloc: Global, slots: u32, steps: &[Step]) -> Result<Process, AllocError> {
-    equal_is_same();
-    let events = events(alloc, steps, 0)?;
-    let few = events.len().min(1_000);
-    let script = Script::folded(alloc, &events.as_slice()[..few])?;
+    let script = script(alloc, steps, 0)?;
     Ok(Process { slots, script })
 }
 

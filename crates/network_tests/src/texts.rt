@@ -7,9 +7,9 @@ use crate::events::{Step, channel, folded};
 use channel_class::UseOrder;
 use io_edge::{MemSink, WriteFault};
 use net_core::{Channel, Network, Process};
-use net_text::write_net;
+use net_text::write_network;
 use plain_data::Items;
-use sanlp::{Nest, Points};
+use sanlp::Nest;
 use std::alloc::{AllocError, Global};
 use std::test::Fail;
 
@@ -92,10 +92,7 @@ fn write(alloc: Global, network: &Network, sink: &mut MemSink) -> Result<(), Wri
         statements: Items::new(alloc),
         body: Items::new(alloc),
     };
-    let points = Points {
-        of: Items::new(alloc),
-    };
-    write_net(&nest, &points, network, sink)
+    write_network(&nest, network, sink)
 }
 
 // What is held and whether a write failed, where a sink of this room takes so many bytes at once and fails at a call.
@@ -120,7 +117,7 @@ static FRONTS: [(usize, usize, u32, &[u8]); 6] = [
         1_000,
         5,
         999,
-        b"net 1\nprocess 0   fires 0 slots 1\nprocess 1   fires 0 slots 4\n\
+        b"net 1\nprocess 0   fires 4 slots 1\nprocess 1   fires 3 slots 4\n\
         channel 0 from 0 to 1 read 7 tokens 4 capacity 90 hold 3 class reorder\n\
         channel 1 from 0 to 1 read 0 tokens 1 capacity 91 hold 1 class inorder+\n\
         channel 2 from 1 to 0 read 0 tokens 0 capacity 92 hold 0 class inorder\n\

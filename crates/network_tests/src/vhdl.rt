@@ -1,6 +1,6 @@
 //! Tests of `vhdl_text`.
 
-use crate::events::{Step, channel, events};
+use crate::events::{Step, channel, script};
 use affine_core::Vector;
 use channel_class::UseOrder;
 use io_edge::MemSink;
@@ -285,7 +285,7 @@ fn expression(alloc: Global, computes: Computes) -> Result<Expr, AllocError> {
 /// The automaton of a process.
 fn automaton(alloc: Global, node: &Node) -> Result<NodeAuto, AllocError> {
     let [process, depth, reads, slots] = node.numbers;
-    let events = events(alloc, node.steps, node.fires)?;
+    let events = script(alloc, node.steps, node.fires)?;
     let gets = Items::from_slice(alloc, node.gets)?;
     let puts = Items::from_slice(alloc, node.puts)?;
     let values = points(alloc, node.values)?;

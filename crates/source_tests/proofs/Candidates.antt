@@ -11,7 +11,7 @@ use Rattle.sanlp.specs.declared.nest.Nest.{Nest}
 use Rattle.sanlp.specs.declared.nest.Statement.{Statement}
 use Rattle.source_tree.specs.Systems.{Occurrence, write_to}
 use Rattle.lex_max.specs.Asked.{WritesArrayOf}
-use Rattle.last_writer.proofs.Reading.{read_is}
+use Rattle.stride_rows.proofs.ReadClass.{read_is}
 
 pub writes_array : (n : Nest) (s k u : ℕ) (reader writer : Statement) (access : Access) (w : Occurrence)
     → slice_get n.statements s ≡ Some reader → slice_get reader.reads k ≡ Some access

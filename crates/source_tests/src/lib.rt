@@ -16,3 +16,5 @@ mod programs;
 mod sweeps;
 #[cfg(test)]
 mod trees;
+#[cfg(test)]
+mod trims;

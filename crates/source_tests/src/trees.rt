@@ -11,12 +11,12 @@ use crate::programs::{
 use affine_core::Vector;
 use candidate_order::level_count;
 use last_writer::{in_difference_class, source_of, write_to};
-use lex_max::{Reference, candidate};
+use lex_max::candidate;
 use loop_walk::{points, size};
 use plain_data::Items;
 use sanlp::{Nest, Points, Tag};
 use shadow_sweep::sweep;
-use source_tree::{SourceTable, Tree};
+use source_tree::{Reference, SourceTable, Tree};
 use std::alloc::{AllocError, Global};
 use std::test::Fail;
 use stride_rows::in_stride_class;

@@ -1,4 +1,4 @@
-use Rattle.std.proofs.Common.{◌≡◌, ◌∙◌, length, ap, sym}
+use Rattle.std.proofs.Common.{◌∙◌, length, ap, sym}
 use Rattle.net_core.specs.Machine.{net_of}
 use Rattle.net_core.specs.Names.{fired}
 use Rattle.net_core.specs.Shape.{fires}

@@ -4,7 +4,7 @@ use Rattle.net_core.specs.Machine.{net_of}
 use Rattle.net_core.specs.Names.{tokens_before}
 use Rattle.net_core.specs.Shape.{fires, is_fire, is_put}
 use Rattle.net_core.specs.Sound.{tag_value}
-use Rattle.net_core.proofs.Counting.{count_next}
+use Rattle.net_core.proofs.EventCounts.{count_next}
 use Rattle.nest_tests.proofs.Streams.{put_more, put_none}
 use Rattle.nest_tests.proofs.alone.values_put.Goals as goal
 

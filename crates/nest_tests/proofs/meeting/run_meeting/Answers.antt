@@ -4,7 +4,7 @@ use Rattle.thread_runner.specs.declared.ends.NodeEnds.{NodeEnds}
 use Rattle.thread_runner.specs.Made.{port_at}
 use Rattle.thread_runner.specs.Runs.{AreEndsOf}
 use Rattle.nest_tests.specs.declared.meeting.MeetEnds.{MeetEnds}
-use Rattle.nest_tests.proofs.Wrapped.{wrapped_ends}
+use Rattle.nest_tests.proofs.EndWrappers.{wrapped_ends}
 use Rattle.nest_tests.proofs.meeting.run_meeting.Goals as goal
 
 pub run_threads-requires-clause-ends : goal.run_threads-requires-clause-ends

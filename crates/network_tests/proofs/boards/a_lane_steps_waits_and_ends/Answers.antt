@@ -3,7 +3,7 @@ use Rattle.net_core.specs.declared.network.Network.{Network}
 use Rattle.net_core.specs.Machine.{net_of}
 use Rattle.net_core.specs.Shape.{IsShaped, FitsNumbers}
 use Rattle.network_tests.specs.Examples.{starved}
-use Rattle.network_tests.proofs.Starved.{shaped, numbers}
+use Rattle.network_tests.proofs.EmptyQueue.{shaped, numbers}
 use Rattle.network_tests.proofs.boards.a_lane_steps_waits_and_ends.Goals as goal
 
 pub new-requires-clause-shaped : goal.new-requires-clause-shaped

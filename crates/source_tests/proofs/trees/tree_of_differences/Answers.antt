@@ -1,7 +1,7 @@
 use Rattle.std.proofs.Common.{sym}
-use Rattle.lex_max.specs.Asked.{occurrence_of}
 use Rattle.source_tests.proofs.Candidates.{writes_array}
 use Rattle.source_tests.proofs.trees.tree_of_differences.Goals as goal
+use Rattle.source_tree.specs.References.{occurrence_of}
 
 pub candidate-requires-clause-class : goal.candidate-requires-clause-class
 candidate-requires-clause-class c = c.in_difference_class.ensures.0 c.if-not-in_difference_class.false

@@ -1,7 +1,7 @@
 use Rattle.std.proofs.Common.{sym}
-use Rattle.lex_max.specs.Asked.{occurrence_of}
 use Rattle.source_tests.proofs.Candidates.{writes_array}
 use Rattle.source_tests.proofs.trees.tree_of_strides.Goals as goal
+use Rattle.source_tree.specs.References.{occurrence_of}
 
 pub stride_candidate-requires-clause-class : goal.stride_candidate-requires-clause-class
 stride_candidate-requires-clause-class c = c.in_stride_class.ensures.0 c.if-not-in_stride_class.false

@@ -52,8 +52,11 @@ candidate_order.Joint.IsCheckedForAll candidate_order.Reads.pairs_of candidate_o
 cap_trim.Capacities.trimmed_network_below cap_trim.Capacities.capacity_list cap_trim.Rests.least_run_from cert_text.CertText.IsInRangeOf
 cert_text.CertText.folded_text cert_text.Folding.Folded cert_text.Folding.cert_of cert_text.Folding.network_of cert_text.StandsFor.IsShort
 cert_text.Stretches.stretch_blocks channel_plan.Tokens.is_used channel_plan.Tokens.turns_used channel_plan.Tokens.uses_of
-clock_sim.Clocks.clocked_run command_answers.Source.Gives command_answers.Source.GivesWithinSize compaan_top.Complaints.refusal_line
-compaan_top.Complaints.refusal_status compaan_top.Headline.HasFittingCertificate compaan_top.Outcome.IsOutcome deps_text.Dependences.HasTree
+clock_sim.Clocks.clocked_run command_answers.Source.Gives command_answers.Source.GivesWithinSize command_answers.Telling.GivesTrees
+compaan_top.Answers.ReadsTo compaan_top.Commands.read_by compaan_top.Commands.reads_of compaan_top.Complaints.refusal_line
+compaan_top.Complaints.refusal_status compaan_top.Headline.HasFittingCertificate compaan_top.Headline.HasSoundCertificate
+compaan_top.Headline.IsAcceptable compaan_top.Laws.IsDone compaan_top.Laws.IsValid compaan_top.Outcome.IsOutcome compaan_top.Told.ComesTo
+compaan_top.Told.IsTold deps_text.Dependences.HasTree
 deps_text.DepsText.TellsDependences lex_max.Systems.later_systems lex_max.Systems.none_systems lex_max.Systems.place_systems
 loop_bind.Judging.judged loop_bind.Parts.part_made loop_bind.Reasons.least_from loop_bind.Values.valued loop_grammar.Grammar.Derives
 loop_lex.Lexical.is_separator loop_lex.Lexical.is_token loop_lex.Tokens.longest loop_print.Numbers.without_token_numbers
@@ -72,6 +75,7 @@ CLAIMS = [
     ("that the nest is that of the source: `Gives`", "these, and the crates `loop_lex` to `loop_class`", "command_answers.Source.Gives"),
     ("what `check` vouches for: `HasSoundCertificate`", "these, and texts of certificates", "compaan_top.Headline.HasSoundCertificate"),
     ("how a call may end: `Ends`", "nearly all", "compaan_top.Answers.Ends"),
+    ("all that a call promises: `IsCallOf`", "these, and what follows of `Ends`", "compaan_top.Calls.IsCallOf"),
 ]
 MEANING, SOUNDNESS = "sanlp.Meaning.arrays", "net_core.Sound.IsSound"
 # A row of the table of measures, the aim, and what of the row is to be within it.

@@ -1,0 +1,68 @@
+-- The instructions at each kind of part.
+use Rattle.std.proofs.Common.{◌≡◌, ◌+◌, ℕ, List, [], ◌∷◌, ◌++◌, map, length, refl, sym, ap, ◌∙◌}
+use Rattle.std.specs.List.{sum_by}
+use Rattle.std.proofs.lemmas.List.Sums.{sum-map}
+use Rattle.script_blocks.specs.declared.blocks.Blocks.{Blocks}
+use Rattle.script_blocks.specs.declared.blocks.BlockPart.TheOpen as open_part
+use Rattle.script_blocks.specs.declared.blocks.BlockPart.TheViews.{Repeat, rolls-Item, rolls-Repeat}
+use Rattle.script_blocks.specs.declared.blocks.BlockPart.TheVariants.{Item}
+use Rattle.script_blocks.specs.declared.blocks.BlockPart.TheFolds.{fold-BlockPart, fold-roll-BlockPart}
+use Rattle.script_blocks.specs.declared.blocks.BlockPart.TheFolds.{fold-roll-Blocks}
+use Rattle.repeat_sequencer.specs.declared.sequencer.RepeatEnd.{RepeatEnd}
+use Rattle.repeat_sequencer.specs.Instructions.{Code, code_of, code_of_list, in_order, part_code, parts_code}
+use Rattle.repeat_sequencer.specs.Size.{items_of, items_of_list, part_items}
+
+module _ (T A B : Type 0) (part_step : open_part.BlockPart-F T A B → A) (list_step : open_part.Blocks-F T A B → B) where
+  fold_item : (x : T) → fold-BlockPart T A B part_step list_step (Item x) ≡ part_step (open_part.Item x)
+  fold_item x =
+      ap (fold-BlockPart T A B part_step list_step) (sym (rolls-Item x))
+      ∙ fold-roll-BlockPart T A B part_step list_step (open_part.Item x)
+
+  fold_repeat : (count : ℕ) (body : Blocks T) → fold-BlockPart T A B part_step list_step (Repeat count body)
+      ≡ part_step (open_part.Repeat count
+      (list_step (record { parts = map (fold-BlockPart T A B part_step list_step) body.parts })))
+  fold_repeat count body =
+      ap (fold-BlockPart T A B part_step list_step) (sym (rolls-Repeat count body))
+      ∙ fold-roll-BlockPart T A B part_step list_step (open_part.Repeat count body)
+      ∙ ap (λ b. part_step (open_part.Repeat count b))
+      (fold-roll-Blocks T A B part_step list_step (record { parts = body.parts }))
+
+pub code_item : {T : Type 0} (x : T) → part_code (Item x) ≡ code_of (open_part.Item x)
+code_item {T} x = fold_item T (Code T) (Code T) code_of code_of_list x
+
+pub code_repeat : {T : Type 0} (count : ℕ) (body : Blocks T)
+    → part_code (Repeat count body) ≡ code_of (open_part.Repeat count (parts_code body.parts))
+code_repeat {T} count body = fold_repeat T (Code T) (Code T) code_of code_of_list count body
+
+-- the instructions of a part that is an item, or a repeat
+module _ {T : Type 0} (level first : ℕ) (ends : List RepeatEnd) where
+  pub code_item_at : (x : T) → part_code (Item x) level first ends ≡ record { item = x; ends = ends } ∷ []
+  code_item_at x = ap (λ (c : Code T). c level first ends) (code_item x)
+
+  pub code_repeat_at : (count : ℕ) (body : Blocks T) → part_code (Repeat count body) level first ends
+      ≡ parts_code body.parts (level + 1) first (record { level = level; first = first; count = count } ∷ ends)
+  code_repeat_at count body = ap (λ (c : Code T). c level first ends) (code_repeat count body)
+
+pub items_item : {T : Type 0} (x : T) → part_items (Item x) ≡ 1
+items_item {T} x = fold_item T ℕ ℕ items_of items_of_list x
+
+pub items_repeat : {T : Type 0} (count : ℕ) (body : Blocks T)
+    → part_items (Repeat count body) ≡ sum_by part_items body.parts
+items_repeat {T} count body =
+    fold_repeat T ℕ ℕ items_of items_of_list count body ∙ sum-map part_items body.parts
+
+-- codes one after the other
+module _ {T : Type 0} (level first : ℕ) (ends : List RepeatEnd) where
+  pub in_order_none : in_order {T = T} [] level first ends ≡ []
+  unfolding in_order
+  in_order_none = refl
+
+  pub in_order_last : (code : Code T) → in_order (code ∷ []) level first ends ≡ code level first ends
+  unfolding in_order
+  in_order_last code = refl
+
+  pub in_order_next : (code next : Code T) (codes : List (Code T))
+      → in_order (code ∷ (next ∷ codes)) level first ends
+      ≡ code level first [] ++ in_order (next ∷ codes) level (first + length (code level first [])) ends
+  unfolding in_order
+  in_order_next code next codes = refl

@@ -1,0 +1,6 @@
+pub mod Inductions
+pub mod Codes
+pub mod Given
+pub mod Sizes
+pub mod Builds
+mod Worked

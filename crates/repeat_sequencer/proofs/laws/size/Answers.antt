@@ -1,0 +1,5 @@
+use Rattle.repeat_sequencer.proofs.Sizes.{all_few, as_many}
+use Rattle.repeat_sequencer.proofs.laws.size.Goals as goal
+
+pub returns : goal.returns
+returns g c = record { items = λ blocks. as_many blocks; nodes = λ blocks. all_few blocks }

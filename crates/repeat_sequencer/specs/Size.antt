@@ -1,0 +1,24 @@
+-- How many items blocks keep.
+use Rattle.std.specs.Prelude.{ℕ}
+use Rattle.std.specs.List.{sum, sum_by}
+use Rattle.script_blocks.specs.declared.blocks.Blocks.{Blocks}
+use Rattle.script_blocks.specs.declared.blocks.BlockPart.{BlockPart}
+use Rattle.script_blocks.specs.declared.blocks.BlockPart.TheOpen.{BlockPart-F, Blocks-F, Item, Repeat}
+use Rattle.script_blocks.specs.declared.blocks.BlockPart.TheFolds.{fold-BlockPart}
+
+-- an item is one, and a repeat has those of its body, however often it repeats
+abbrev pub items_of : {T : Type 0} → BlockPart-F T ℕ ℕ → ℕ
+items_of (Item x) = 1
+items_of (Repeat count body) = body
+
+-- a list has those of its parts
+abbrev pub items_of_list : {T : Type 0} → Blocks-F T ℕ ℕ → ℕ
+items_of_list blocks = sum blocks.parts
+
+-- the number of items that a part keeps
+abbrev pub part_items : {T : Type 0} → BlockPart T → ℕ
+part_items {T} = fold-BlockPart T ℕ ℕ items_of items_of_list
+
+-- the number of items as they are kept, each counted once
+abbrev pub item_count : {T : Type 0} → Blocks T → ℕ
+item_count blocks = sum_by part_items blocks.parts

@@ -1,0 +1,423 @@
+-- What the walk over the trace counts of the channels.
+--
+-- The invariant is that after t entries each channel's counts are those of the schedule so far: the tokens among its
+-- writer's turns, the uses by its reader's turns, and the greatest length of its queue (`queue_at`). One entry changes
+-- the channels of its process alone. A channel that it reads has one use more where the source for its read is of the
+-- channel's writer (`uses_more`), one that it writes has one Put more where the turn is a token (`puts_more`). With no
+-- Put more the queue is no longer than it was, and else it is as long as Puts less Gets say (`greatest_more`). Counts
+-- never reach 2^32, since no process has so many turns.
+use Rattle.std.proofs.Common.{◌≡◌, ℕ, zero, suc, ◌+◌, ◌-◌, ◌<◌, ◌≤◌, max, min, Bool, false, cond, Option, Some, None}
+use Rattle.std.proofs.Common.{List, [], length, map, take, slice_get, get_or, refl, sym, ap, ap₂, ◌∙◌}
+use Rattle.std.proofs.Common.{subst, inl, inr, arith, add-one}
+use Rattle.std.specs.Prelude.{slice_index, slice_index_or, ◌==◌, ◌&&◌}
+use Rattle.std.specs.List.{cons_option, fold, range_with_len}
+use Rattle.std.specs.Option.{option_map, option_map_or}
+use Rattle.std.proofs.lemmas.Bool.{cases_Bool, cases_eq, eq-eqb, ne_eqb}
+use Rattle.std.proofs.lemmas.List.{length-map}
+use Rattle.std.proofs.lemmas.List.FromFn.{length-range_with_len}
+use Rattle.std.proofs.lemmas.List.Sums.{count_by-le-length}
+use Rattle.std.proofs.lemmas.Option.{get_or_from_slice_get, slice_get-map}
+use Rattle.channel_plan.specs.declared.plans.ChannelPlan.{ChannelPlan}
+use Rattle.channel_plan.specs.Plans.{plans_of, slot_plan, sources_at, turn_count}
+use Rattle.channel_plan.specs.Tokens.{is_from, is_used, tokens_below, turn_of, turns_used, uses_of}
+use Rattle.channel_plan.proofs.Uses.{tokens_more}
+use Rattle.net_core.specs.Machine.{net_of}
+use Rattle.net_core.proofs.EventCounts.{count_next}
+use Rattle.network_numbers.specs.declared.queues.Queue.{Queue}
+use Rattle.network_numbers.specs.Entries.{after_entry, is_used_at, source_in, with_put}
+use Rattle.network_numbers.specs.Links.{links_of, outgoing, read_lists}
+use Rattle.network_numbers.specs.Queues.{after_put, after_use, empty_queue}
+use Rattle.process_derive.specs.Derived.{net}
+use Rattle.process_derive.specs.Incoming.{carries}
+use Rattle.process_derive.specs.Scripts.{gets_for_uses}
+use Rattle.process_derive.specs.Uses.{slots_at}
+use Rattle.process_derive.proofs.Bounds.{few_entries}
+use Rattle.process_derive.proofs.Counts.{before_few, before_more}
+use Rattle.process_derive.proofs.Numbers.{before_within, gets_here}
+use Rattle.process_derive.proofs.Tags.{length-sources, few_turns as turns_few}
+use Rattle.plain_data.proofs.Lists.{slice_get-some}
+use Rattle.reorder_slots.specs.declared.slots.SlotPlan.{SlotPlan}
+use Rattle.reorder_slots.specs.Slots.{gets_for}
+use Rattle.reorder_slots.proofs.Gets.{more_gets}
+use Rattle.sanlp.specs.Access.{read_count}
+use Rattle.sanlp.specs.Size.{SizeIsOk}
+use Rattle.sanlp.specs.Trace.{trace}
+use Rattle.sanlp.specs.declared.nest.Nest.{Nest}
+use Rattle.sanlp.specs.declared.nest.Point.{Point}
+use Rattle.sanlp.specs.declared.nest.Tag.{Tag}
+use Rattle.sanlp.proofs.Lists.{map-range_with_len_same}
+use Rattle.source_tree.specs.Sources.{read_number, read_sources, sources_of}
+use Rattle.source_tree.proofs.TableNumbers.{read_at}
+use Rattle.witness_plan.specs.Sequential.{greatest_length}
+use Rattle.witness_plan.proofs.InTraceOrder.{turns_before}
+use Rattle.witness_plan.proofs.GreatestLengths.{now_within}
+use Rattle.witness_plan.proofs.TraceSteps.{sequenced}
+use Rattle.channel_plan.proofs.PlanEnds.{plans_of-plan_of}
+use Rattle.network_numbers.proofs.EntryLengths.{greatest_entry, in_trace, turn_exists}
+use Rattle.network_numbers.proofs.PassedQueues.{passed}
+use Rattle.network_numbers.proofs.QueueCounts.{ends, few_turns, mark_is, queue_counted}
+
+-- what is counted of a channel after the first t entries
+abbrev pub queue_with : Nest → ℕ → ℕ → ChannelPlan → Queue
+queue_with n t c plan =
+    let sources = sources_at n plan.reader plan.read in
+    record {
+      puts = tokens_below (turns_used plan.writer sources) (turns_before (trace n) t plan.writer);
+      uses = length (turns_used plan.writer (take (turns_before (trace n) t plan.reader) sources));
+      greatest = greatest_length (net_of (net n)) (sequenced n t) c;
+    }
+
+abbrev pub queue_at : Nest → ℕ → ℕ → Queue
+queue_at n t c = option_map_or (queue_with n t c) (slice_get (plans_of n) c) empty_queue
+
+abbrev pub queues_at : Nest → ℕ → List Queue
+queues_at n t = map (queue_at n t) (range_with_len 0 (length (plans_of n)))
+
+-- The table
+
+-- what the table has for a read
+table_row : (n : Nest) (p k : ℕ) → k < read_count n p → get_or (sources_of n) (read_number n p k) [] ≡ sources_at n p k
+unfolding sources_of
+table_row n p k h =
+    let front : 0 + p ≡ p = omega arith in
+    get_or_from_slice_get (sources_of n) (read_number n p k) (read_sources n (trace n) p k) []
+    (read_at n (trace n) 0 n.statements p k h ∙ ap (λ q. Some (read_sources n (trace n) q k)) front)
+
+-- Small counts
+
+below_turn : (used : List ℕ) (turn : ℕ) → tokens_below used turn ≤ turn
+below_turn used turn =
+    omega (arith, count_by-le-length (is_used used) (range_with_len 0 turn), length-range_with_len 0 turn)
+
+named : (w : ℕ) (source : Option Tag) → length (cons_option (turn_of w source) []) ≡ cond (is_from w source) 1 0
+named w None = refl
+named w (Some t) = elim (cases_Bool (t.process == w)) [ inl own ↦ rw own refl | inr other ↦ rw other refl ]
+
+gets_so_far : (uses : List ℕ) (q : ℕ) → q ≤ length uses → gets_for_uses (slot_plan uses) q ≡ gets_for (take q uses)
+gets_so_far uses zero le = refl
+gets_so_far uses (suc q) le = gets_here uses q (omega arith) ∙ ap (λ i. gets_for (take i uses)) (add-one q)
+
+same_queue : (puts puts' uses uses' greatest greatest' : ℕ) → puts ≡ puts' → uses ≡ uses' → greatest ≡ greatest'
+    → (let a : Queue = record { puts = puts; uses = uses; greatest = greatest } in a)
+    ≡ record { puts = puts'; uses = uses'; greatest = greatest' }
+same_queue puts puts' uses uses' greatest greatest' e f g = cc
+
+-- what an entry makes of a channel's counts, by whether it uses the channel and whether it puts to it
+abbrev both : Bool → Bool → SlotPlan → Queue → Queue
+both uses_it puts_it slots queue =
+    cond puts_it (after_put slots (cond uses_it (after_use queue) queue)) (cond uses_it (after_use queue) queue)
+
+module _ (n : Nest) (sized : SizeIsOk n) (t : ℕ) (q : Point) (here : slice_get (trace n) t ≡ Some q) (c : ℕ)
+    (plan : ChannelPlan) (found : slice_get (plans_of n) c ≡ Some plan) where
+  abbrev sources : List (Option Tag)
+  sources = sources_at n plan.reader plan.read
+
+  abbrev used : List ℕ
+  used = turns_used plan.writer (sources_at n plan.reader plan.read)
+
+  abbrev f : ℕ
+  f = turns_before (trace n) t q.statement
+
+  -- whether the entry uses the channel, and whether it puts to it
+  abbrev uses_it : Bool
+  uses_it = (plan.reader == q.statement)
+      && is_from plan.writer (slice_index_or (sources_at n plan.reader plan.read)
+      (turns_before (trace n) t q.statement) None)
+
+  abbrev puts_it : Bool
+  puts_it = (plan.writer == q.statement) && slice_index_or plan.is_token (turns_before (trace n) t q.statement) false
+
+  turns_more : (p : ℕ) → turns_before (trace n) (suc t) p
+      ≡ turns_before (trace n) t p + cond (q.statement == p) 1 0
+  turns_more p = count_next (λ (r : Point). r.statement == p) (trace n) t q here
+
+  uses_more : length (turns_used plan.writer (take (turns_before (trace n) (suc t) plan.reader) sources))
+      ≡ length (turns_used plan.writer (take (turns_before (trace n) t plan.reader) sources)) + cond uses_it 1 0
+  uses_more =
+      let w = plan.writer in
+      let r = plan.reader in
+      elim (cases_eq plan.reader q.statement) [
+        | inl same ↦
+            let more : turns_before (trace n) (suc t) plan.reader ≡ turns_before (trace n) t plan.reader + 1 =
+            turns_more plan.reader
+            ∙ ap (λ b. turns_before (trace n) t plan.reader + cond b 1 0) (eq-eqb q.statement plan.reader (sym same)) in
+            let turn : turns_before (trace n) t plan.reader ≡ turns_before (trace n) t q.statement =
+            ap (turns_before (trace n) t) same in
+            let below : turns_before (trace n) t plan.reader < turn_count n plan.reader =
+            subst (λ p. turns_before (trace n) t p < turn_count n p) (sym same) (turn_exists n t q here) in
+            let item = slice_get-some sources (turns_before (trace n) t plan.reader) (omega (arith, length-sources n r plan.read)) in
+            let value : slice_index_or sources (turns_before (trace n) t q.statement) None ≡ item.0 =
+            ap (λ i. slice_index_or sources i None) (sym turn)
+            ∙ get_or_from_slice_get sources (turns_before (trace n) t plan.reader) item.0 None item.1 in
+            let is : cond {A = ℕ} (is_from plan.writer item.0) 1 0
+            ≡ cond ((plan.reader == q.statement)
+            && is_from plan.writer (slice_index_or sources (turns_before (trace n) t q.statement) None)) 1 0 =
+            ap (λ s. cond {A = ℕ} (is_from plan.writer s) 1 0) (sym value)
+            ∙ ap (λ b. cond {A = ℕ} (b
+            && is_from plan.writer (slice_index_or sources (turns_before (trace n) t q.statement) None)) 1 0)
+            (sym (eq-eqb plan.reader q.statement same)) in
+            ap (λ i. length (turns_used plan.writer (take i sources))) more
+            ∙ before_more sources (turns_before (trace n) t plan.reader) plan.writer item.0 item.1
+            ∙ ap (λ m. length (turns_used plan.writer (take (turns_before (trace n) t plan.reader) sources)) + m)
+            (named plan.writer item.0 ∙ is)
+        | inr other ↦
+            let none : turns_before (trace n) (suc t) plan.reader ≡ turns_before (trace n) t plan.reader =
+            turns_more plan.reader
+            ∙ ap (λ b. turns_before (trace n) t plan.reader + cond b 1 0)
+            (ne_eqb q.statement plan.reader (λ e. other (sym e)))
+            ∙ omega arith in
+            let is : cond {A = ℕ} ((plan.reader == q.statement)
+            && is_from plan.writer (slice_index_or sources (turns_before (trace n) t q.statement) None)) 1 0 ≡ 0 =
+            ap (λ b. cond {A = ℕ} (b
+            && is_from plan.writer (slice_index_or sources (turns_before (trace n) t q.statement) None)) 1 0)
+            (ne_eqb plan.reader q.statement other) in
+            omega (arith, ap (λ i. length (turns_used plan.writer (take i sources))) none, is)
+      ]
+
+  puts_more : tokens_below used (turns_before (trace n) (suc t) plan.writer)
+      ≡ tokens_below used (turns_before (trace n) t plan.writer) + cond puts_it 1 0
+  puts_more =
+      elim (cases_eq plan.writer q.statement) [
+        | inl same ↦
+            let more : turns_before (trace n) (suc t) plan.writer ≡ turns_before (trace n) t plan.writer + 1 =
+            turns_more plan.writer
+            ∙ ap (λ b. turns_before (trace n) t plan.writer + cond b 1 0) (eq-eqb q.statement plan.writer (sym same)) in
+            let turn : turns_before (trace n) t plan.writer ≡ turns_before (trace n) t q.statement =
+            ap (turns_before (trace n) t) same in
+            let below : turns_before (trace n) t plan.writer < turn_count n plan.writer =
+            subst (λ p. turns_before (trace n) t p < turn_count n p) (sym same) (turn_exists n t q here) in
+            let is : cond {A = ℕ} (is_used used (turns_before (trace n) t plan.writer)) 1 0
+            ≡ cond ((plan.writer == q.statement)
+            && slice_index_or plan.is_token (turns_before (trace n) t q.statement) false) 1 0 =
+            ap (λ b. cond {A = ℕ} b 1 0) (sym (mark_is n c plan found (turns_before (trace n) t plan.writer) below))
+            ∙ ap (λ i. cond {A = ℕ} (slice_index_or plan.is_token i false) 1 0) turn
+            ∙ ap (λ b. cond {A = ℕ} (b && slice_index_or plan.is_token (turns_before (trace n) t q.statement) false) 1 0)
+            (sym (eq-eqb plan.writer q.statement same)) in
+            ap (tokens_below used) more ∙ tokens_more used (turns_before (trace n) t plan.writer)
+            ∙ ap (λ m. tokens_below used (turns_before (trace n) t plan.writer) + m) is
+        | inr other ↦
+            let none : turns_before (trace n) (suc t) plan.writer ≡ turns_before (trace n) t plan.writer =
+            turns_more plan.writer
+            ∙ ap (λ b. turns_before (trace n) t plan.writer + cond b 1 0)
+            (ne_eqb q.statement plan.writer (λ e. other (sym e)))
+            ∙ omega arith in
+            let is : cond {A = ℕ} ((plan.writer == q.statement)
+            && slice_index_or plan.is_token (turns_before (trace n) t q.statement) false) 1 0 ≡ 0 =
+            ap (λ b. cond {A = ℕ} (b && slice_index_or plan.is_token (turns_before (trace n) t q.statement) false) 1 0)
+            (ne_eqb plan.writer q.statement other) in
+            omega (arith, ap (tokens_below used) none, is)
+      ]
+
+  -- the Gets for so many uses, as the plan has them
+  gets_planned : (i : ℕ) → gets_for_uses plan.slots (length (turns_used plan.writer (take i sources)))
+      ≡ gets_for (take (length (turns_used plan.writer (take i sources))) (uses_of used))
+  gets_planned i =
+      let slots : plan.slots ≡ slot_plan (uses_of used) = ap (λ (x : ChannelPlan). x.slots) (plans_of-plan_of n c plan found) in
+      ap (λ s. gets_for_uses s (length (turns_used plan.writer (take i sources)))) slots
+      ∙ gets_so_far (uses_of used) (length (turns_used plan.writer (take i sources)))
+      (omega (arith, before_within sources i plan.writer, length-map used (tokens_below used)))
+
+  -- the greatest length so far, or the queue as it stands
+  greatest_more : greatest_length (net_of (net n)) (sequenced n (suc t)) c
+      ≡ max (greatest_length (net_of (net n)) (sequenced n t) c)
+      (tokens_below used (turns_before (trace n) (suc t) plan.writer)
+      - gets_for_uses plan.slots (length (turns_used plan.writer
+      (take (turns_before (trace n) (suc t) plan.reader) sources))))
+  greatest_more =
+      let queue = queue_counted n c plan found (suc t) (omega (arith, in_trace n t q here)) in
+      omega (
+        arith,
+        greatest_entry n t q here c,
+        queue,
+        gets_planned (turns_before (trace n) (suc t) plan.reader),
+      )
+
+  -- the queue was no longer before
+  queue_before : tokens_below used (turns_before (trace n) t plan.writer)
+      - gets_for_uses plan.slots (length (turns_used plan.writer
+      (take (turns_before (trace n) (suc t) plan.reader) sources)))
+      ≤ greatest_length (net_of (net n)) (sequenced n t) c
+  queue_before =
+      let queue = queue_counted n c plan found t (omega (arith, in_trace n t q here)) in
+      omega (
+        arith,
+        now_within (net_of (net n)) (sequenced n t) c,
+        queue,
+        gets_planned (turns_before (trace n) (suc t) plan.reader),
+        more_gets (uses_of used) (length (turns_used plan.writer (take (turns_before (trace n) t plan.reader) sources)))
+            (length (turns_used plan.writer (take (turns_before (trace n) (suc t) plan.reader) sources)))
+            (omega (arith, uses_more)),
+      )
+
+  few_puts : tokens_below used (turns_before (trace n) (suc t) plan.writer) < 4294967295
+  few_puts =
+      omega (
+        arith,
+        below_turn used (turns_before (trace n) (suc t) plan.writer),
+        few_turns n (suc t) plan.writer,
+        turns_few n plan.writer,
+        few_entries n sized,
+      )
+
+  few_uses : length (turns_used plan.writer (take (turns_before (trace n) (suc t) plan.reader) sources)) < 4294967295
+  few_uses =
+      omega (
+        arith,
+        before_few sources (turns_before (trace n) (suc t) plan.reader) plan.writer,
+        few_turns n (suc t) plan.reader,
+        turns_few n plan.reader,
+        few_entries n sized,
+      )
+
+  -- the counts after the entry
+  channel_passed : both uses_it puts_it plan.slots (queue_with n t c plan) ≡ queue_with n (suc t) c plan
+  channel_passed =
+      let G = greatest_more in
+      let Q = queue_before in
+      let U = uses_more in
+      let P = puts_more in
+      elim (cases_Bool uses_it) [
+        | inl uses ↦
+            let uses_is : min (length (turns_used plan.writer (take (turns_before (trace n) t plan.reader) sources)) + 1)
+            4294967295
+            ≡ length (turns_used plan.writer (take (turns_before (trace n) (suc t) plan.reader) sources)) =
+            omega (arith, uses_more, ap (λ b. cond {A = ℕ} b 1 0) uses, few_uses) in
+            elim (cases_Bool puts_it) [
+              | inl puts ↦
+                  let puts_is : min (tokens_below used (turns_before (trace n) t plan.writer) + 1) 4294967295
+                  ≡ tokens_below used (turns_before (trace n) (suc t) plan.writer) =
+                  omega (arith, puts_more, ap (λ b. cond {A = ℕ} b 1 0) puts, few_puts) in
+                  ap₂ (λ a b. both a b plan.slots (queue_with n t c plan)) uses puts
+                  ∙ same_queue _ _ _ _ _ _ puts_is uses_is
+                  (ap₂ (λ a b. max (greatest_length (net_of (net n)) (sequenced n t) c)
+                  (a - gets_for_uses plan.slots b)) puts_is uses_is ∙ sym greatest_more)
+              | inr none ↦
+                  let puts_is : tokens_below used (turns_before (trace n) t plan.writer)
+                  ≡ tokens_below used (turns_before (trace n) (suc t) plan.writer) =
+                  omega (arith, puts_more, ap (λ b. cond {A = ℕ} b 1 0) none) in
+                  ap₂ (λ a b. both a b plan.slots (queue_with n t c plan)) uses none
+                  ∙ same_queue _ _ _ _ _ _ puts_is uses_is (omega (arith, greatest_more, queue_before, puts_is))
+            ]
+        | inr no_use ↦
+            let uses_is : length (turns_used plan.writer (take (turns_before (trace n) t plan.reader) sources))
+            ≡ length (turns_used plan.writer (take (turns_before (trace n) (suc t) plan.reader) sources)) =
+            omega (arith, uses_more, ap (λ b. cond {A = ℕ} b 1 0) no_use) in
+            elim (cases_Bool puts_it) [
+              | inl puts ↦
+                  let puts_is : min (tokens_below used (turns_before (trace n) t plan.writer) + 1) 4294967295
+                  ≡ tokens_below used (turns_before (trace n) (suc t) plan.writer) =
+                  omega (arith, puts_more, ap (λ b. cond {A = ℕ} b 1 0) puts, few_puts) in
+                  ap₂ (λ a b. both a b plan.slots (queue_with n t c plan)) no_use puts
+                  ∙ same_queue _ _ _ _ _ _ puts_is uses_is
+                  (ap₂ (λ a b. max (greatest_length (net_of (net n)) (sequenced n t) c)
+                  (a - gets_for_uses plan.slots b)) puts_is uses_is ∙ sym greatest_more)
+              | inr none ↦
+                  let puts_is : tokens_below used (turns_before (trace n) t plan.writer)
+                  ≡ tokens_below used (turns_before (trace n) (suc t) plan.writer) =
+                  omega (arith, puts_more, ap (λ b. cond {A = ℕ} b 1 0) none) in
+                  ap₂ (λ a b. both a b plan.slots (queue_with n t c plan)) no_use none
+                  ∙ same_queue _ _ _ _ _ _ puts_is uses_is (omega (arith, greatest_more, queue_before, puts_is))
+            ]
+      ]
+
+-- All channels
+
+module _ (n : Nest) (sized : SizeIsOk n) (t : ℕ) (q : Point) (here : slice_get (trace n) t ≡ Some q)
+    (lists : List ℕ) (table : List (List (Option Tag))) (listed : lists ≡ read_lists n (plans_of n))
+    (exact : table ≡ sources_of n) where
+  reads : ℕ → Bool
+  reads c = option_map_or (λ (plan : ChannelPlan). plan.reader == q.statement) (slice_get (plans_of n) c) false
+
+  writes : ℕ → Bool
+  writes c = option_map_or (λ (plan : ChannelPlan). plan.writer == q.statement) (slice_get (plans_of n) c) false
+
+  list_is : (c : ℕ) (plan : ChannelPlan) → slice_get (plans_of n) c ≡ Some plan
+      → slice_index lists c ≡ read_number n plan.reader plan.read
+  list_is c plan found =
+      ap (λ xs. slice_index xs c) listed
+      ∙ get_or_from_slice_get (read_lists n (plans_of n)) c (read_number n plan.reader plan.read) 0
+      (slice_get-map (λ (x : ChannelPlan). read_number n x.reader x.read) (plans_of n) c
+      ∙ ap (option_map (λ (x : ChannelPlan). read_number n x.reader x.read)) found)
+
+  source_is : (c : ℕ) (plan : ChannelPlan) → slice_get (plans_of n) c ≡ Some plan
+      → source_in table (slice_index lists c) (turns_before (trace n) t q.statement)
+      ≡ slice_index_or (sources_at n plan.reader plan.read) (turns_before (trace n) t q.statement) None
+  source_is c plan found =
+      ap₂ (λ xs i. source_in xs i (turns_before (trace n) t q.statement)) exact (list_is c plan found)
+      ∙ ap (λ xs. slice_index_or xs (turns_before (trace n) t q.statement) None)
+      (table_row n plan.reader plan.read (ends n c plan found).read)
+
+  -- one channel, as the two passes change it
+  abbrev once : ℕ → Queue
+  once c =
+      cond (option_map_or (λ (plan : ChannelPlan). plan.reader == q.statement) (slice_get (plans_of n) c) false
+      && is_used_at (plans_of n) lists table (turns_before (trace n) t q.statement) c)
+      (after_use (queue_at n t c)) (queue_at n t c)
+
+  abbrev twice : ℕ → Queue
+  twice c =
+      cond (option_map_or (λ (plan : ChannelPlan). plan.writer == q.statement) (slice_get (plans_of n) c) false
+      && carries (plans_of n) (turns_before (trace n) t q.statement) c)
+      (after_put (slots_at (plans_of n) c) (once c)) (once c)
+
+  place_passed : (c : ℕ) (plan : ChannelPlan) → slice_get (plans_of n) c ≡ Some plan → twice c ≡ queue_at n (suc t) c
+  place_passed c plan found =
+      let f = turns_before (trace n) t q.statement in
+      let used_is : is_used_at (plans_of n) lists table (turns_before (trace n) t q.statement) c
+      ≡ is_from plan.writer (slice_index_or (sources_at n plan.reader plan.read)
+      (turns_before (trace n) t q.statement) None) =
+      ap (λ o. option_map_or (λ (plan : ChannelPlan).
+      is_from plan.writer (source_in table (slice_index lists c) (turns_before (trace n) t q.statement))) o false) found
+      ∙ ap (is_from plan.writer) (source_is c plan found) in
+      let use_is =
+      ap₂ (λ a b. a && b)
+      (ap (λ o. option_map_or (λ (plan : ChannelPlan). plan.reader == q.statement) o false) found) used_is in
+      let put_is =
+      ap₂ (λ a b. a && b)
+      (ap (λ o. option_map_or (λ (plan : ChannelPlan). plan.writer == q.statement) o false) found)
+      (ap (λ o. option_map_or (λ (plan : ChannelPlan).
+      slice_index_or plan.is_token (turns_before (trace n) t q.statement) false) o false) found) in
+      let slots_is : slots_at (plans_of n) c ≡ plan.slots =
+      ap (λ o. option_map_or (λ (plan : ChannelPlan). plan.slots) o
+      (record { gets_before = []; slot_of_get = []; slot_of_use = []; hold = 0 })) found in
+      let queue_is : (s : ℕ) → queue_at n s c ≡ queue_with n s c plan = λ s.
+      ap (λ o. option_map_or (queue_with n s c) o empty_queue) found in
+      ap₂ (λ a b. both a b (slots_at (plans_of n) c) (queue_at n t c)) use_is put_is
+      ∙ ap₂ (λ s x. both ((plan.reader == q.statement)
+      && is_from plan.writer (slice_index_or (sources_at n plan.reader plan.read)
+      (turns_before (trace n) t q.statement) None))
+      ((plan.writer == q.statement) && slice_index_or plan.is_token (turns_before (trace n) t q.statement) false) s x)
+      slots_is (queue_is t)
+      ∙ channel_passed n sized t q here c plan found
+      ∙ sym (queue_is (suc t))
+
+  -- the entry takes all counts one entry on
+  pub entry_passed : after_entry (plans_of n) lists table (links_of (plans_of n) q.statement)
+      (turns_before (trace n) t q.statement) (queues_at n t) ≡ queues_at n (suc t)
+  entry_passed =
+      let f = turns_before (trace n) t q.statement in
+      let many = length (plans_of n) in
+      ap (λ xs. fold (with_put (plans_of n) (turns_before (trace n) t q.statement)) xs
+      (outgoing (plans_of n) q.statement))
+      (passed empty_queue
+      (λ c. option_map_or (λ (plan : ChannelPlan). plan.reader == q.statement) (slice_get (plans_of n) c) false)
+      (is_used_at (plans_of n) lists table (turns_before (trace n) t q.statement)) (λ c. after_use)
+      (length (plans_of n)) (queue_at n t))
+      ∙ passed empty_queue
+      (λ c. option_map_or (λ (plan : ChannelPlan). plan.writer == q.statement) (slice_get (plans_of n) c) false)
+      (carries (plans_of n) (turns_before (trace n) t q.statement)) (λ c. after_put (slots_at (plans_of n) c))
+      (length (plans_of n)) once
+      ∙ map-range_with_len_same twice (queue_at n (suc t)) 0 (length (plans_of n))
+      (λ c from below. (let item = slice_get-some (plans_of n) c (omega arith) in place_passed c item.0 item.1))
+
+-- Before the first entry
+
+no_turn : (n : Nest) (p : ℕ) → turns_before (trace n) 0 p ≡ 0
+no_turn n p = refl
+
+pub none_passed : (n : Nest) (c : ℕ) → queue_at n 0 c ≡ empty_queue
+none_passed n c = go (slice_get (plans_of n) c)
+  where
+    go : (o : Option ChannelPlan) → option_map_or (queue_with n 0 c) o empty_queue ≡ empty_queue
+    go None = refl
+    go (Some plan) = refl

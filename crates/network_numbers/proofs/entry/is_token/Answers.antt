@@ -1,0 +1,24 @@
+use Rattle.std.proofs.Common.{◌∙◌, ap, sym, refl, false, length}
+use Rattle.std.specs.Prelude.{slice_index_or}
+use Rattle.std.specs.Option.{option_map_or, unwrap_or}
+use Rattle.std.proofs.lemmas.Bool.{ltb-true}
+use Rattle.std.proofs.lemmas.Option.{slice_get_past, slice_get_read, unwrap_or-slice_get}
+use Rattle.network_numbers.proofs.entry.is_token.Goals as goal
+
+pub returns-in-Some : goal.returns-in-Some
+returns-in-Some c =
+    let plans = c.args.plans.now in
+    let plan = c.in-Some.plan.now in
+    let lookup = c.in-Some.ensures.lookup in
+    let there = slice_get_read plans (length plans) c.args.channel plan refl
+    (ltb-true c.args.channel (length plans) (sym lookup.0)) lookup.1 in
+    c.unwrap_or.ensures
+    ∙ ap (λ o. unwrap_or o false) (c.copied.ensures ∙ c.get-in-Some.ensures.value)
+    ∙ unwrap_or-slice_get plan.is_token c.args.turn false
+    ∙ sym (ap (λ o. option_map_or (λ plan. slice_index_or plan.is_token c.args.turn false) o false) there)
+
+pub returns-in-None : goal.returns-in-None
+returns-in-None c =
+    let plans = c.args.plans.now in
+    sym (ap (λ o. option_map_or (λ plan. slice_index_or plan.is_token c.args.turn false) o false)
+    (slice_get_past plans c.args.channel c.in-None.ensures.lookup.3))

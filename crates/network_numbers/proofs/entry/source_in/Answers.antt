@@ -1,0 +1,16 @@
+use Rattle.std.proofs.Common.{◌∙◌, [], None, ap, sym, refl, length}
+use Rattle.std.specs.Prelude.{slice_index_or}
+use Rattle.std.proofs.lemmas.Bool.{ltb-true}
+use Rattle.std.proofs.lemmas.Option.{get_or_from_slice_get, slice_get_read}
+use Rattle.network_numbers.proofs.entry.source_in.Goals as goal
+
+pub returns-in-Some : goal.returns-in-Some
+returns-in-Some c =
+    let table = c.args.table.now in
+    let sources = c.in-Some.sources.now in
+    let lookup = c.in-Some.ensures.lookup in
+    let there = slice_get_read table (length table) c.args.list sources refl
+    (ltb-true c.args.list (length table) (sym lookup.0)) lookup.1 in
+    c.source_at.ensures
+    ∙ ap (λ xs. slice_index_or xs c.args.turn None)
+    (c.as_slice.ensures ∙ sym (get_or_from_slice_get table c.args.list sources [] there))

@@ -5,6 +5,7 @@ use Rattle.cert_text.specs.StandsFor.{IsWrittenOf}
 use Rattle.deps_text.specs.DepsText.{deps_text}
 use Rattle.matrix_load.specs.Summary.{summary_text}
 use Rattle.net_text.specs.NetworkText.{net_text}
+use Rattle.number_text.specs.Numbers.{numbers_text}
 use Rattle.trace_text.specs.TraceText.{trace_text}
 use Rattle.trim_text.specs.TrimText.{trim_text}
 use Rattle.verdict_text.specs.VerdictText.{unread_line}
@@ -13,7 +14,7 @@ use Rattle.command_answers.specs.Checking.{refused, verdict_reply}
 use Rattle.command_answers.specs.Replies.{Reply, done}
 use Rattle.command_answers.specs.Simulating.{clocked_text}
 use Rattle.command_answers.specs.declared.answer.Answer.{Answer}
-use Rattle.command_answers.specs.declared.answer.Answer.TheVariants.{Arrays, Network, Verdict, Unread, Summary, Nodes, Clocked, Trimmed, Trace, Dependences}
+use Rattle.command_answers.specs.declared.answer.Answer.TheVariants.{Arrays, Network, Numbers, Verdict, Unread, Summary, Nodes, Clocked, Trimmed, Trace, Dependences}
 use Rattle.command_answers.specs.declared.answer.CertificateAnswer.{CertificateAnswer}
 use Rattle.command_answers.specs.declared.refusal.Refusal.{Refusal}
 
@@ -21,6 +22,7 @@ use Rattle.command_answers.specs.declared.refusal.Refusal.{Refusal}
 abbrev pub reply_of : Answer → Reply
 reply_of (Arrays answer) = done (answer_text answer.nest.arrays answer.arrays.arrays)
 reply_of (Network answer) = done (net_text answer.nest answer.network)
+reply_of (Numbers answer) = done (numbers_text answer.nest answer.numbers)
 reply_of (Verdict verdict) = verdict_reply verdict
 reply_of (Unread error) = refused (unread_line error)
 reply_of (Nodes answer) = done (vhdl_text answer.network answer.autos)

@@ -13,6 +13,7 @@ use matrix_load::Summary;
 use net_checker::Verdict;
 use net_core::Network;
 use node_automata::NodeAuto;
+use number_text::NetworkNumbers;
 use plain_data::Items;
 use sanlp::{Arrays, Nest};
 use source_tree::Cert;
@@ -31,6 +32,13 @@ pub struct NetworkAnswer {
     pub nest: Nest,
     pub network: Network,
     ghost numbers: { FitsNumbers (net_of network) },
+}
+
+/// What the text tells of a nest's network, where there is no network.
+#[derive(Drop)]
+pub struct NumbersAnswer {
+    pub nest: Nest,
+    pub numbers: NetworkNumbers,
 }
 
 /// A network with its certificate.
@@ -71,6 +79,8 @@ pub struct DependencesAnswer {
 pub enum Answer {
     Arrays(ArrayAnswer),
     Network(NetworkAnswer),
+    /// A network by its numbers.
+    Numbers(NumbersAnswer),
     /// What the checker says of a certificate.
     Verdict(Verdict),
     /// Why a certificate can't be read. It isn't want of memory.

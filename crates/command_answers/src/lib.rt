@@ -22,7 +22,7 @@ mod trimming;
 
 pub use answer::{
     Answer, ArrayAnswer, CertificateAnswer, ClockedAnswer, DependencesAnswer, NetworkAnswer,
-    NodesAnswer,
+    NodesAnswer, NumbersAnswer,
 };
 pub use check::check_certificate;
 pub use dependences::tell_dependences;

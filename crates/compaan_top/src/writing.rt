@@ -11,6 +11,7 @@ use io_edge::{Sink, WriteFault};
 use matrix_load::write_summary;
 use net_checker::Verdict;
 use net_text::write_network;
+use number_text::write_numbers;
 use text_out::{Word, Writer, write_line};
 use trace_text::write_trace;
 use trim_text::write_trim;
@@ -52,6 +53,7 @@ pub(crate) fn write_text<K: Sink>(answer: &Answer, sink: &mut K) -> Result<(), W
     match answer {
         Answer::Arrays(answer) => write_answer(&answer.nest, &answer.arrays, sink),
         Answer::Network(answer) => write_network(&answer.nest, &answer.network, sink),
+        Answer::Numbers(answer) => write_numbers(&answer.nest, &answer.numbers, sink),
         Answer::Verdict(verdict) => write_verdict(verdict, sink),
         Answer::Unread(error) => write_unread(*error, sink),
         Answer::Summary(summary) => write_summary(summary, sink),
@@ -83,6 +85,7 @@ pub(crate) fn status_of(answer: &Answer) -> Status
     match answer {
         Answer::Arrays(_)
         | Answer::Network(_)
+        | Answer::Numbers(_)
         | Answer::Summary(_)
         | Answer::Nodes(_)
         | Answer::Clocked(_)

@@ -20,6 +20,8 @@ mod meeting;
 #[cfg(test)]
 mod nodes;
 #[cfg(test)]
+mod numbers;
+#[cfg(test)]
 mod orders;
 #[cfg(test)]
 mod plans;

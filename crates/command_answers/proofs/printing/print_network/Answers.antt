@@ -1,7 +1,7 @@
 use Rattle.std.proofs.lemmas.Result.{err_from_is_err_and}
-use Rattle.std.proofs.Common.{ap}
-use Rattle.net_text.specs.NetworkText.{net_text}
+use Rattle.std.proofs.Common.{Ok, refl, sym, subst}
 use Rattle.command_answers.specs.Printing.{Prints, network_text, source_refused}
+use Rattle.command_answers.specs.Replies.{Reply}
 use Rattle.command_answers.specs.Replying.{as_reply}
 use Rattle.command_answers.proofs.TextAnswers.{prints_text}
 use Rattle.command_answers.proofs.Stops.{without_nest}
@@ -18,7 +18,7 @@ returns-in_err-nest c =
 
 pub returns : goal.returns
 returns c =
-    prints_text (network_text c.args.policy) c.args.params.now c.args.bundle.now c.parts_of-parts.result.source.now _
-    c.in_ok-nest.nest
-    c.parts_of-parts.ensures.source c.in_ok-nest.ensures.0
-    (ap (net_text c.in_ok-nest.nest) c.in_ok-network.ensures.network)
+    subst (λ (reply : Reply). Prints (network_text c.args.policy) c.args.params.now c.args.bundle.now (Ok reply))
+    (sym c.in_ok-answer.ensures)
+    (prints_text (network_text c.args.policy) c.args.params.now c.args.bundle.now c.parts_of-parts.result.source.now _
+    c.in_ok-nest.nest c.parts_of-parts.ensures.source c.in_ok-nest.ensures.0 refl)

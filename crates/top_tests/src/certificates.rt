@@ -1,22 +1,18 @@
 //! Certificates, by what `cert` writes and by what `check` answers.
 
-use crate::calls::{Call, SOUND, expect_all, expect_of, joined, written_by};
-use crate::limits::push_repeated;
 use cert_text::read_cert;
 use std::alloc::{AllocError, Global};
 use std::process::Abort;
 use std::sync::Wait;
 use std::test::Fail;
 use std::thread::Threads;
+use top_calls::{Call, INCREMENT, SOUND, expect_all, expect_of, written_by};
 
 /// Changes of a certificate: the number of a line, from 1, and what stands in its place.
 type Changes<'a> = &'a [(usize, &'a [u8])];
 
 /// Changes of a certificate, and the line that `check` answers.
 pub(crate) type Change = (Changes<'static>, &'static [u8]);
-
-pub(crate) const INCREMENT: &[u8] =
-    b"param N; in x[N]; out y[N]; for (i = 0; i < N; i++) y[i] = x[i] + 1;";
 
 const COPY: &[u8] = b"param N; in x[N]; out y[N];";
 
@@ -403,7 +399,7 @@ pub(crate) fn expect_checked(
     parts: &[&[u8]],
     line: &[u8],
 ) -> Result<(), Fail> {
-    let bundle = joined(rt.alloc(), parts)?;
+    let bundle = parts.concat(rt.alloc())?;
     let status = u8::from(line != b"accepted\n".as_slice());
     let end = expect_of(rt, "check", params, &bundle, status, line);
     drop(bundle);
@@ -542,14 +538,22 @@ fn changed_certificates_are_judged(rt: HostRuntime) -> Result<(), Fail> {
     expect_line(&rt, &["N=1"], INCREMENT, b"", b"refused Truncated\n")
 }
 
+/// A tree of a proof of so many splits, one in the other.
+fn deep_tree(alloc: Global, splits: usize) -> Result<Vec<u8>, AllocError> {
+    let mut text = Vec::from_slice(alloc, b"tree\nx\n")?;
+    for _ in 0..splits {
+        text.extend_from_slice(b"b 0\n")?;
+    }
+    Ok(text)
+}
+
 /// Expects this line where the first source of the certificate is a proof of so many splits, one in the other.
 fn expect_deep(
     rt: &(impl Abort + AllocGlobal + Threads + Wait + Sync),
     splits: usize,
     line: &[u8],
 ) -> Result<(), Fail> {
-    let mut deep = Vec::from_slice(rt.alloc(), b"tree\nx\n")?;
-    push_repeated(&mut deep, b"b 0\n", splits)?;
+    let deep = deep_tree(rt.alloc(), splits)?;
     let end = expect_changed(rt, &["N=1"], INCREMENT, ONCE, &[(15, &deep)], line);
     drop(deep);
     end

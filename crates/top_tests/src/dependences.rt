@@ -1,7 +1,7 @@
 //! Sources by `deps`.
 
-use crate::calls::{Call, SOUND, expect_all};
 use std::test::Fail;
+use top_calls::{Call, SOUND, expect_all};
 
 const RUNNING_SUM: &[u8] =
     b"param N; in x[N]; out s[N]; for (i = 0; i < N; i++) s[i] = s[i - 1] + x[i];";

@@ -1,6 +1,6 @@
 //! Classical kernels.
 
-use crate::calls::Program;
+use top_calls::Program;
 
 /// Classical kernels: the values of their parameters, their bundles, and their answers, which other programs computed.
 pub(crate) static KERNELS: [Program; 12] = [

@@ -1,26 +1,14 @@
 //! Networks by their texts.
 
-use crate::calls::{Call, Program, SOUND, expect_all, expect_of};
 use std::test::Fail;
+use top_calls::{Call, INCREMENT, INCREMENT_NETWORK, Program, SOUND, expect_all, expect_of};
 
 /// Sources with the values of their parameters and the texts of their networks.
-pub(crate) static NETWORKS: [Program; 12] = [
-    (
-        &["N=3"],
-        b"param N; in x[N]; out y[N]; for (i = 0; i < N; i++) y[i] = x[i] + 1;",
-        b"net 1
-process 0 source x fires 3 slots 0
-process 1 assign y fires 3 slots 1
-process 2 sink y fires 3 slots 1
-channel 0 from 0 to 1 read 0 tokens 3 capacity 3 hold 1 class inorder
-channel 1 from 1 to 2 read 0 tokens 3 capacity 3 hold 1 class inorder
-events 21
-end
-",
-    ),
+static NETWORKS: [Program; 12] = [
+    (&["N=3"], INCREMENT, INCREMENT_NETWORK),
     (
         &["N=0"],
-        b"param N; in x[N]; out y[N]; for (i = 0; i < N; i++) y[i] = x[i] + 1;",
+        INCREMENT,
         b"net 1
 process 0 source x fires 0 slots 0
 process 1 assign y fires 0 slots 0
@@ -181,7 +169,7 @@ end
 static DOWNWARD: [Call; 2] = [
     (
         &["net", "--policy", "down", "N=3"],
-        b"param N; in x[N]; out y[N]; for (i = 0; i < N; i++) y[i] = x[i] + 1;",
+        INCREMENT,
         0,
         b"net 1\nprocess 0 source x fires 3 slots 0\nprocess 1 assign y fires 3 slots 1\nprocess 2 sink y fires 3 slots 1\nchannel 0 from 0 to 1 read 0 tokens 3 capacity 1 hold 1 class inorder\nchannel 1 from 1 to 2 read 0 tokens 3 capacity 1 hold 1 class inorder\nevents 21\nend\n",
     ),

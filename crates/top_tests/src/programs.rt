@@ -1,8 +1,8 @@
 //! Programs and their answers.
 
-use crate::calls::{Call, Program, SOUND, expect_all, expect_answers};
 use crate::kernels::KERNELS;
 use std::test::Fail;
+use top_calls::{Call, Program, SOUND, expect_all, expect_answers};
 
 /// Programs: the values of their parameters, their bundles, and their answers.
 static PROGRAMS: [Program; 25] = [

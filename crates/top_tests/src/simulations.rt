@@ -1,12 +1,11 @@
 //! Answers and clocks by `sim`.
 
-use crate::calls::{Call, Devices, SOUND, UNREAD, end_of, expect, expect_all};
 use crate::kernels::KERNELS;
-use crate::refusals::USAGE;
 use std::process::Abort;
 use std::sync::Wait;
 use std::test::Fail;
 use std::thread::Threads;
+use top_calls::{Call, Devices, SOUND, UNREAD, USAGE, end_of, expect, expect_all};
 
 static SIMULATIONS: [Call; 5] = [
     (

@@ -1,11 +1,11 @@
 //! Loops with steps.
 
-use crate::calls::{expect_answer, expect_of, joined};
 use crate::certificates::{Change, expect_accepted, expect_certificate, expect_lines};
 use std::process::Abort;
 use std::sync::Wait;
 use std::test::Fail;
 use std::thread::Threads;
+use top_calls::{expect_answer, expect_of};
 
 /// Programs whose loops have steps: the values of their parameters, their sources and data, and their answers.
 static STEPPED: [(&[&str], &[u8], &[u8], &[u8]); 11] = [
@@ -252,7 +252,7 @@ fn expect_stepped(
     data: &[u8],
     answer: &[u8],
 ) -> Result<(), Fail> {
-    let bundle = joined(rt.alloc(), &[source, b"\n%%\n", data])?;
+    let bundle = [source, b"\n%%\n", data].concat(rt.alloc())?;
     let answered = expect_answer(rt, params, &bundle, 0, answer);
     drop(bundle);
     answered?;

@@ -1,8 +1,8 @@
 //! Capacities that are lowered.
 
-use crate::calls::{Call, SOUND, expect_all};
-use crate::certificates::{INCREMENT, LAST_VALUE};
+use crate::certificates::LAST_VALUE;
 use std::test::Fail;
+use top_calls::{Call, INCREMENT, SOUND, expect_all};
 
 const INCREMENT_TRIMMED: &[u8] =
     b"trim 1\nchannel 0 capacity 1 rest 1 0 0\nchannel 1 capacity 1 rest 5 2 0\nend\n";

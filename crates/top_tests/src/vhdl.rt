@@ -1,12 +1,10 @@
 //! Networks in VHDL.
 
-use crate::calls::{Call, SOUND, expect_all, written_by};
 use std::process::Abort;
 use std::sync::Wait;
 use std::test::Fail;
 use std::thread::Threads;
-
-const INCREMENT: &[u8] = b"param N; in x[N]; out y[N]; for (i = 0; i < N; i++) y[i] = x[i] + 1;";
+use top_calls::{Call, INCREMENT, SOUND, expect_all, written_by};
 
 const COUNTER: &[u8] = b"param N; var a; for (i = 0; i < N; i++) a = i;";
 

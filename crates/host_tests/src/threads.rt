@@ -1,6 +1,5 @@
 //! The threads of `run` and of `load`.
 
-use crate::calls::{SOUND, end_by};
 use crate::meeting::{MOST_TURNS, Meeting};
 use io_edge::Gate;
 use std::alloc::{AllocError, Global};
@@ -10,6 +9,7 @@ use std::sync::atomic::{AtomicU64, Ordering};
 use std::test::Fail;
 use std::thread;
 use std::thread::Threads;
+use top_calls::{SOUND, end_by};
 
 /// What was heard of one process: how often it passed and how much it told, which is to be these channels and values.
 #[derive(Drop)]

@@ -1,11 +1,10 @@
 //! Devices that fail.
 
-use crate::calls::{Devices, SOUND, end_of, expect};
-use crate::networks::NETWORKS;
 use std::process::Abort;
 use std::sync::Wait;
 use std::test::Fail;
 use std::thread::Threads;
+use top_calls::{Devices, INCREMENT, INCREMENT_NETWORK, SOUND, end_of, expect};
 
 const SUMS: &[u8] = b"param N; out y[N]; var s; for (i = 0; i < N; i++) { s = s + i; y[i] = s; }";
 
@@ -98,18 +97,17 @@ fn meets_write(
     rt: &(impl Abort + AllocGlobal + Threads + Wait + Sync),
     output_failing: u32,
 ) -> Result<bool, Fail> {
-    let (params, source, text) = NETWORKS[0];
     let devices = Devices {
         output_piece: 7,
         output_failing,
         ..SOUND
     };
-    let end = end_of(rt, devices, &["net"], params, source)?;
+    let end = end_of(rt, devices, &["net"], &["N=3"], INCREMENT)?;
     let held = end.output.held();
     let most = (output_failing as usize).saturating_mul(7);
-    let is_front = text.starts_with(held) && held.len() <= most;
+    let is_front = INCREMENT_NETWORK.starts_with(held) && held.len() <= most;
     let meets = is_front && end.is(4, held, b"");
-    let passes = end.is(0, text, b"");
+    let passes = end.is(0, INCREMENT_NETWORK, b"");
     drop(end);
     assert!(rt; meets || passes, "write {output_failing}");
     Ok(meets)

@@ -1,7 +1,7 @@
 //! The matrix product of `load`.
 
-use crate::calls::{Call, UNREAD, expect_all};
 use std::test::Fail;
+use top_calls::{Call, UNREAD, expect_all};
 
 /// Sizes and summaries, and sizes past the limits. No other command leaves its input unread.
 static LOADS: [Call; 9] = [

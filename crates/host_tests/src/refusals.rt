@@ -1,12 +1,10 @@
 //! Refusals with their lines.
 
-use crate::calls::{Call, SOUND, expect_all, expect_answer, joined};
 use std::process::Abort;
 use std::sync::Wait;
 use std::test::Fail;
 use std::thread::Threads;
-
-pub(crate) const USAGE: &[u8] = b"usage: compaan COMMAND [--policy seq|down] [NAME=VALUE]...\n";
+use top_calls::{Call, INCREMENT, SOUND, USAGE, expect_all, expect_answer};
 
 static WRONG_WORDS: [Call; 12] = [
     (&[], b"var a;", 2, USAGE),
@@ -132,8 +130,6 @@ fn wrong_sources_are_refused(rt: HostRuntime) -> Result<(), Fail> {
     expect_all(&rt, SOUND, &WRONG_SOURCES)
 }
 
-const INCREMENT: &[u8] = b"param N; in x[N]; out y[N]; for (i = 0; i < N; i++) y[i] = x[i] + 1;";
-
 /// Sources with what stands behind them, and the lines of their refusals.
 static WRONG_DATA: [(&[u8], &[u8], &[u8]); 12] = [
     (INCREMENT, b"\n%%\nx,5\n", b"data: Count 1 1 3\n"),
@@ -169,7 +165,7 @@ fn expect_refused_data(
     data: &[u8],
     complaint: &[u8],
 ) -> Result<(), Fail> {
-    let bundle = joined(rt.alloc(), &[source, data])?;
+    let bundle = [source, data].concat(rt.alloc())?;
     let refused = expect_answer(rt, &["N=3"], &bundle, 9, complaint);
     drop(bundle);
     refused

@@ -1,11 +1,11 @@
 //! The greatest inputs, and greater ones.
 
-use crate::calls::{expect_answer, expect_of};
-use std::alloc::AllocError;
+use std::alloc::{AllocError, Global};
 use std::process::Abort;
 use std::sync::Wait;
 use std::test::Fail;
 use std::thread::Threads;
+use top_calls::{expect_answer, expect_of};
 
 /// The head of a source, how it goes on and how many times, its middle, what then stands as many times, and its tail; the status
 /// and the text of `run` and of `seq`.
@@ -20,11 +20,7 @@ type Nested = (
     &'static [u8],
 );
 
-pub(crate) fn push_repeated(
-    bytes: &mut Vec<u8>,
-    piece: &[u8],
-    times: usize,
-) -> Result<(), AllocError> {
+fn push_repeated(bytes: &mut Vec<u8>, piece: &[u8], times: usize) -> Result<(), AllocError> {
     for _ in 0..times {
         bytes.extend_from_slice(piece)?;
     }
@@ -155,6 +151,26 @@ fn deep_programs_are_run(rt: HostRuntime) -> Result<(), Fail> {
         expect_nested(&rt, nested)?;
     }
     Ok(())
+}
+
+/// A source of 677 arrays, the last of which but one is read.
+fn source_of_many_arrays(alloc: Global) -> Result<Vec<u8>, AllocError> {
+    let mut source = Vec::from_slice(alloc, b"out y; var ")?;
+    for first in b'A'..=b'Z' {
+        for second in b'A'..=b'Z' {
+            source.extend_from_slice(&[first, second, b','])?;
+        }
+    }
+    source.extend_from_slice(b"a; ZZ = 7; y = ZZ + 1;")?;
+    Ok(source)
+}
+
+#[test]
+fn many_arrays_are_declared(rt: HostRuntime) -> Result<(), Fail> {
+    let source = source_of_many_arrays(rt.alloc())?;
+    let end = expect_answer(&rt, &[], &source, 0, b"y,8\n");
+    drop(source);
+    end
 }
 
 #[test]

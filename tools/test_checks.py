@@ -64,12 +64,12 @@ def spoiled(command: str, pattern: bytes, new: bytes) -> Callable[[Path, str], t
     return make
 
 
-def in_c(text: str) -> Callable[[Path, str], tuple[Path, str]]:
+def in_c(text: str, *flags: str) -> Callable[[Path, str], tuple[Path, str]]:
     """This repository with a program in C, which has the path of the built one as PROGRAM."""
 
     def make(folder: Path, program: str) -> tuple[Path, str]:
         (folder / "program.c").write_text(text, encoding="utf-8")
-        subprocess.run(["cc", "-O1", f'-DPROGRAM="{program}"', "-o", folder / "compaan", folder / "program.c"], check=True)
+        subprocess.run(["cc", "-O1", *flags, f'-DPROGRAM="{program}"', "-o", folder / "compaan", folder / "program.c"], check=True)
         return TOP, str(folder / "compaan")
 
     return make
@@ -95,7 +95,9 @@ def changed(file: str, old: str, new: str, copied: tuple[str, ...] = ()) -> Call
 
 
 CARELESS = in_c((TOP / "tools" / "careless.c").read_text(encoding="utf-8"))
+CARELESS_ALONE = in_c((TOP / "tools" / "careless.c").read_text(encoding="utf-8"), "-static")
 ALWAYS_TEN = in_c("int main(void) { return 10; }\n")
+NO_MEMORY = in_c('#include <unistd.h>\nint main(void) { return write(1, "y,6,7,8\\n", 8) != 8; }\n')
 NO_STATUS = in_c(
     "#include <stdio.h>\n#include <stdlib.h>\n#include <string.h>\nint main(int n, char **w) { static char line[1 << 16]; strcpy(line, PROGRAM);"
     ' for (int k = 1; k < n; k++) { strcat(line, " \'"); strcat(line, w[k]); strcat(line, "\'"); } system(line); return 0; }\n'
@@ -167,10 +169,23 @@ def faults() -> Iterator[Fault]:
     yield Fault("check_isl.py", FEW, "deps: another test", spoiled("deps", rb"(?m)^t (-?\d+) ", rb"t \g<1>1 "))
     yield Fault("check_isl.py", FEW, "net: a fire more", spoiled("net", rb"assign (\w+) fires (\d+)", rb"assign \1 fires 1\2"))
     yield Fault("hostile/calls.py", [], "a careless program", CARELESS)
+    yield Fault("hostile/calls.py", [], "a careless program without a loader", CARELESS_ALONE)
     yield Fault("hostile/devices.py", [], "a careless program", CARELESS)
     yield Fault("hostile/memory.py", ["--most", "3"], "a careless program", CARELESS)
-    for section in ("deep", "repeats", "size", "announce", "bundle"):
-        yield Fault("hostile/limits.py", ["--only", section], "a program that always ends with 10", ALWAYS_TEN)
+    small_run = ["--only", "run of the increment"]
+    yield Fault("hostile/memory.py", small_run, "a program that always ends with 10", ALWAYS_TEN)
+    yield Fault("hostile/memory.py", small_run, "a program that asks for no memory", NO_MEMORY)
+    for section in ("deep", "trees", "writers", "repeats", "size", "announce", "bundle", "threads"):
+        yield Fault("hostile/limits.py", ["--only", section, "--quick"], "a program that always ends with 10", ALWAYS_TEN)
+    for command, what, pattern, new in (
+        ("net", "a capacity above the tokens", rb"capacity 1 ", b"capacity 2 "),
+        ("vhdl", "another node", rb"entity node_0 is", b"entity node_1 is"),
+        ("deps", "a tree without an end", rb"(?m)^z$", b"t 0"),
+        ("trim", "a rest behind the end", rb"rest 1", b"rest 9"),
+        ("trace", "an event less", rb"\n0\n", b"\n"),
+        ("sim", "another value", rb",", b",1"),
+    ):
+        yield Fault("hostile/limits.py", ["--only", "deep", "--quick"], f"{command}: {what}", spoiled(command, pattern, new))
     for command, pattern, new in (
         ("run", rb",", b",1"),
         ("vhdl", rb"pc <= 0;", b"pc <= 1;"),

@@ -178,11 +178,14 @@ def passed_on(made: Answer, is_read: bool) -> bool:
 
 
 def explain(words: Words, bundle: Bundle | None, made: Answer, program: str | Path) -> None:
-    """Says on standard error what a refusal means. Where that can't be told, the refusal is what it is."""
+    """Says on standard error what a refusal or want of memory means. Where that can't be told, the refusal is what it is."""
     from .explain import UNEXPECTED, Explainer
+    from .memory import NO_MEMORY, said_of_memory
     from .wrong_words import said_of
 
-    if made.complaint.startswith(b"usage: "):
+    if made.status == NO_MEMORY and not made.complaint:
+        said = iter([said_of_memory(words)])
+    elif made.complaint.startswith(b"usage: "):
         said = iter([f"compaan: {said_of(words) or 'the program takes no such words (./compaan help)'}"])
     else:
         explainer = Explainer(words, bundle, lambda passed, text: run(program, passed, text, True))

@@ -51,6 +51,8 @@ def commands(program: str) -> tuple[list[Command], list[Command]]:
     cert = asking.ask(program, ["cert", *items], source).output
     found = [(name, [name, *items], both) for name in ("run", "seq", "net", "cert", "deps", "vhdl", "sim", "trim")]
     found += [("check", ["check", *items], both + b"%%\n" + cert), ("check, refused", ["check", *items], both + b"%%\n" + cert[:-4])]
+    # with N=1 this network has one run
+    found += [("trace", ["trace", "N=1"], b"param N; in x[N]; out y[N]; for (i = 0; i < N; i++) y[i] = x[i] + 1;\n%%\nx,1\n")]
     found += [("load 2", ["load", "2"], b"")]
     complaining = [
         ("no words", [], b""),

@@ -10,9 +10,9 @@ tell the least capacities and the positions that meaning.py finds by halving; an
 certificate, and `deps` the last writers that meaning.py finds, by trees for just the reads that have one.
 
 Then one part of its bundle is damaged: bytes, tokens, numbers, lines or whole parts. A command on the damaged bundle must come to the
-status, the output and the complaint that meaning.py says. A run that ends by a signal, takes too long or takes more than 2 GB is a
-difference too. Prints one line for each difference, keeps its bundle and words in FOLDER, and fails where there is one. The same seed makes
-the same inputs, whatever COUNT and JOBS are. It is a test, outside the proof.
+status, the output and the complaint that meaning.py says, and where that tells no text, to one that texts.py takes for one. A run that ends
+by a signal, takes too long or takes more than 2 GB is a difference too. Prints one line for each difference, keeps its bundle and words in
+FOLDER, and fails where there is one. The same seed makes the same inputs, whatever COUNT and JOBS are. It is a test, outside the proof.
 """
 from __future__ import annotations
 
@@ -31,7 +31,7 @@ sys.path.insert(0, str(Path(__file__).resolve().parents[1]))
 from common import bundled, parser_of, program_of, table
 from hardware.nodes import read_nodes, run_nodes
 from hardware.wiring import Unfit, read_net
-from hostile import asking, meaning
+from hostile import asking, meaning, texts
 from hostile.asking import End
 from hostile.meaning import Outcome
 from outline import values_of
@@ -591,6 +591,10 @@ class Job:
         if wanted is None:
             return end
         is_own = wanted[1] is None and end.status == 0 and end.output and not end.complaint
+        if is_own and command in texts.COMMANDS:
+            net = b"" if command in ("net", "deps") else self.run(number, "net", words, bundle, policy).output
+            if fault := texts.fault_of(command, end.output, net):
+                self.differ(number, command, words, bundle, fault, "a text")
         is_long = command == "vhdl" and wanted[0] == 0 and end.complaint.startswith(b"limit: Script ")
         if not is_own and not is_long and end.said != wanted:
             self.differ(number, command, words, bundle, end.said, wanted)

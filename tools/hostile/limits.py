@@ -1,7 +1,7 @@
 #!/usr/bin/env python3
 """The built program at its limits: depth, size, certificates of tens of millions of lines, large data, refused starts of threads.
 
-usage: tools/hostile/limits.py [--only SECTION] [--space GB] [--compaan PROGRAM]
+usage: tools/hostile/limits.py [--only SECTION] [--quick] [--space GB] [--compaan PROGRAM]
 
 Every run has a stack of 8 MB, 4 GB of address space and a time limit. Times are those of processors. Each section prints a table:
 
@@ -15,7 +15,7 @@ Every run has a stack of 8 MB, 4 GB of address space and a time limit. Times are
   announce  certificates that announce much and bring little
   bundle    sources and data of 64 MiB
   threads   64, 63 and 62 processes where each start of a thread is refused in turn, with all later ones: by a shim before the C
-            library, and by the system's own limit on tasks; and on few processors
+            library, and by the system's own limit on tasks; the same of `load` and of `trace`; and on few processors
 
 A run that ends by a signal, that isn't done in its time, or that ends otherwise than is wanted is told behind the tables, and makes the
 script fail. The system's limit on tasks is tried by root alone, as a user of its own. It is a test, outside the proof.
@@ -36,7 +36,7 @@ from typing import NamedTuple
 
 sys.path.insert(0, str(Path(__file__).resolve().parents[1]))
 from common import bundled, examples, parser_of, program_of, table
-from hostile import asking, meaning
+from hostile import asking, meaning, texts
 from hostile.asking import End
 
 # What a run is wanted to come to: status, output and complaint.
@@ -50,15 +50,8 @@ BUNDLE = meaning.BUNDLE_LIMIT
 KILO = 1 << 10
 # The greatest memory that is wanted of `check`, in kilobytes.
 MOST_OF_CHECK = 1 << 20
-# How a text begins and ends that isn't known whole.
-ENDS = {
-    "deps": (b"deps 1\n", b"end\n"),
-    "net": (b"net 1\n", b"\nend\n"),
-    "cert": (b"cert ", b"\nend\n"),
-    "vhdl": (b"-- compaan vhdl 1\n", b"end architecture;\n"),
-    "trim": (b"trim 1\n", b"end\n"),
-    "trace": (b"trace 1\n", b"\nend\n"),
-}
+# With --quick no least stack is looked for.
+QUICK: list[bool] = []
 
 
 def with_limits(space: int) -> None:
@@ -98,11 +91,10 @@ def judge(name: str, end: End, wanted: Wanted | None = None, kilobytes: int | No
     return is_well
 
 
-def any_text(command: str, end: End) -> Wanted:
-    """Any text of its kind is wanted of a command: the one that came, if it begins and ends so."""
-    first, last = ENDS[command]
-    is_one = end.output.startswith(first) and (end.output.endswith(last) or end.output == first)
-    return 0, end.output if is_one else first + b".." + last, b""
+def any_text(command: str, end: End, net: bytes) -> Wanted:
+    """Any text of its kind is wanted of a command, beside what `net` wrote of the same network: the one that came, if it is one."""
+    fault = texts.fault_of(command, end.output, net)
+    return 0, end.output if fault is None else f"a text of {command}, where this is none: {fault}".encode(), b""
 
 
 # ---------------------------------------------------------------------------------------------------------------- deep
@@ -157,6 +149,8 @@ def deep_sources() -> Iterator[tuple[str, str, str | tuple[int, str]]]:
 
 def least_stack(program: str, words: Sequence[str], bundle: bytes, end: End) -> int:
     """The least stack, in kilobytes, by which a run ends as it does by the whole. Below it the program ends by a signal."""
+    if QUICK:
+        return 8192
     low, high = 16, 8192
     while high > low * 1.1 and high - low > 16:
         middle = (low + high) // 2
@@ -239,10 +233,11 @@ def writers(program: str) -> None:
     rows = []
     for name, source, n, is_large in writer_sources():
         row = [name]
+        net = ask(program, ["net", f"N={n}"], source).output if n <= 64 else b""
         for command in ("deps", "cert") if n <= 64 else ("deps",):
             words = [command, f"N={n}"]
             end = ask(program, words, source)
-            wanted = any_text(command, end)
+            wanted = any_text(command, end, net)
             if is_large and (end.hung or end.said == (10, b"", b"")):
                 row += [told(end), f"{end.cpu:.2f}", megabytes(end), ""]
                 continue
@@ -314,6 +309,13 @@ def repeats(program: str) -> None:
 
 # The greatest memory that is wanted of a deep source, in kilobytes.
 MOST_OF_DEEP = 64 << 10
+DEEP_COMMANDS = ("run", "seq", "net", "cert", "check", "deps", "vhdl", "sim", "trim", "trace")
+
+
+def with_clocks(answer: bytes, end: End) -> Wanted:
+    """An answer and a line of clocks behind it, whose number may be any."""
+    clocks = re.search(rb"clocks \d+\n\Z", end.output)
+    return 0, answer + (clocks[0] if clocks else b"clocks ..\n"), b""
 
 
 def deep(program: str) -> None:
@@ -321,22 +323,24 @@ def deep(program: str) -> None:
     for name, text, wanted in deep_sources():
         source = text.encode()
         row, worst = [name], (0, "")
-        cert = ask(program, ["cert"], source)
-        for command in ("run", "seq", "net", "cert", "check", "vhdl"):
+        cert, net = ask(program, ["cert"], source), ask(program, ["net"], source).output
+        for command in DEEP_COMMANDS:
             bundle = bundled(source, b"\n", cert.output) if command == "check" else source
             end = ask(program, [command], bundle)
             if isinstance(wanted, tuple):
                 may = (wanted[0], b"", wanted[1].encode() + b"\n")
-            elif command in ENDS:
-                may = any_text(command, end)
+            elif command in texts.COMMANDS:
+                may = any_text(command, end, net)
+            elif command == "sim":
+                may = with_clocks(wanted.encode(), end)
             else:
                 may = (0, b"accepted\n" if command == "check" else wanted.encode(), b"")
             row.append("as wanted" if judge(f"{name}, {command}", end, may, MOST_OF_DEEP) else told(end))
             worst = max(worst, (least_stack(program, [command], bundle, end), command))
             row[-1] += f", {end.cpu:.2f} s" if end.cpu >= 0.1 else ""
-        rows.append([*row, f"{worst[0]} kB, {worst[1]}"])
+        rows.append([*row, "" if QUICK else f"{worst[0]} kB, {worst[1]}"])
         print(rows[-1], file=sys.stderr, flush=True)
-    table(["Source", "run", "seq", "net", "cert", "check", "vhdl", "Least stack"], rows)
+    table(["Source", *DEEP_COMMANDS, "Least stack"], rows)
 
 
 # ---------------------------------------------------------------------------------------------------------------- size
@@ -351,12 +355,14 @@ class Sized(NamedTuple):
     words: list[str]
     answer: bytes = b""
     is_beyond: bool = False
+    # The greatest memory that is wanted, in kilobytes.
+    most: int = 2 << 20
 
 
-# The greatest memory that is wanted at the limit on the size, in kilobytes.
-MOST_OF_SIZE = 2 << 20
 TOO_LARGE = (8, b"", b"limit: Size %d\n" % (meaning.SIZE_LIMIT + 1))
-SIZED_COMMANDS = ("run", "seq", "net", "cert", "check", "vhdl", "sim", "trim", "trace")
+# The most events of a process that `vhdl` takes.
+SCRIPT_LIMIT = 65_536
+SIZED_COMMANDS = ("net", "run", "seq", "cert", "check", "deps", "vhdl", "sim", "trim", "trace")
 
 
 def sized() -> Iterator[Sized]:
@@ -388,6 +394,11 @@ def sized() -> Iterator[Sized]:
     yield Sized("8 reads of a cell, 262,144 times", reads, b"", ["N=262144"], b"a,%d\n" % value)
     source, data, words = pipeline(62, 65536)
     yield Sized("62 stages of a pipeline", source, data, words, b"y" + b",%d" % (1 + 61 * 62 // 2) * 65536 + b"\n")
+    # all rows of cells together have 4,194,304 places, of 16 bytes each: the first array takes them, and the others are kept in a map
+    names = [f"a{it}" for it in range(40)]
+    cells = "; ".join(f"{it}[4194303] = {at}" for at, it in enumerate(names))
+    rows_of_cells = f"out y; var {', '.join(f'{it}[4194304]' for it in names)}; {cells}; y = a0[4194303] + a39[4194303] + 5;"
+    yield Sized("40 arrays, each with one far cell", rows_of_cells.encode(), b"", [], b"y,44\n", most=112 << 10)
     yield Sized("one turn too many", counter, b"", ["N=4194304"], is_beyond=True)
 
 
@@ -400,34 +411,44 @@ def pipeline(stages: int, items: int) -> tuple[bytes, bytes, list[str]]:
     return text.encode(), ("x" + ",1" * items + "\n").encode(), [f"N={items}"]
 
 
-def wanted_at(it: Sized, command: str, end: End) -> Wanted:
+def wanted_at(it: Sized, command: str, end: End, net: bytes) -> Wanted:
     """What a command is wanted to come to. A text that isn't known whole may be any of its kind."""
-    if it.is_beyond:
+    # whose reads all have trees, so that no size is judged
+    if it.is_beyond and command != "deps":
         return TOO_LARGE
     if command in ("run", "seq"):
         return 0, it.answer, b""
     if command == "sim":
-        clocks = re.search(rb"clocks \d+\n\Z", end.output)
-        return 0, it.answer + (clocks[0] if clocks else b"clocks ..\n"), b""
+        return with_clocks(it.answer, end)
     if command == "check":
         return 0, b"accepted\n", b""
-    if command == "vhdl" and end.complaint.startswith(b"limit: Script "):
-        return 8, b"", end.complaint
-    return any_text(command, end)
+    if command == "vhdl" and (refusal := script_refusal(net)):
+        return 8, b"", refusal
+    return any_text(command, end, net)
+
+
+def script_refusal(net: bytes) -> bytes:
+    """What `vhdl` says of the first process whose script is too long, or nothing."""
+    try:
+        lengths = texts.net_of(net).lengths()
+    except texts.Odd:
+        return b""
+    return next((b"limit: Script %d %d\n" % it for it in enumerate(lengths) if it[1] > SCRIPT_LIMIT), b"")
 
 
 def size(program: str) -> None:
     rows: list[list[object]] = []
     for it in sized():
-        cert = ask(program, ["cert", *it.words], it.source)
+        cert, net = ask(program, ["cert", *it.words], it.source), b""
         for command in SIZED_COMMANDS:
             whole = bundled(it.source, b"\n", cert.output) if command == "check" else bundled(it.source, it.data)
             if len(whole) > BUNDLE:
                 rows.append([it.name, command, f"a bundle of {len(whole)} bytes is too long", "", ""])
                 continue
             end = ask(program, [command, *it.words], whole)
-            judge(f"{it.name}, {command}", end, wanted_at(it, command, end), MOST_OF_SIZE)
-            size_of = f", {len(end.output)} bytes" if command in ENDS else ""
+            net = end.output if command == "net" else net
+            judge(f"{it.name}, {command}", end, wanted_at(it, command, end, net), it.most)
+            size_of = f", {len(end.output)} bytes" if command in texts.COMMANDS else ""
             rows.append([it.name, command, told(end) + size_of, f"{end.cpu:.2f}", megabytes(end)])
             print(rows[-1], file=sys.stderr, flush=True)
     table(["Program", "Command", "Status, first line", "s", "MB"], rows)
@@ -560,6 +581,8 @@ def bundles() -> Iterator[tuple[str, str, bytes, Wanted | None]]:
 
     yield "spaces", "run", to_limit(b"", b" "), (0, b"", b"")
     yield "spaces, and one more", "run", b" " * (BUNDLE + 1), (5, b"", b"bundle: TooLong\n")
+    for command, text in (("trim", b"trim 1\nend\n"), ("trace", b"trace 1\nend\n"), ("sim", b"clocks 0\n")):
+        yield "spaces", command, to_limit(b"", b" "), (0, text, b"")
     yield "one comment", "run", to_limit(b"/*", b"*", b"/"), (0, b"", b"")
     yield "comments", "run", to_limit(b"", b"/**/"), (0, b"", b"")
     yield "a comment that isn't closed", "run", to_limit(b"/*", b"* "), (6, b"", b"text: OpenComment 0\n")
@@ -571,6 +594,12 @@ def bundles() -> Iterator[tuple[str, str, bytes, Wanted | None]]:
     head = b"in x; out y; y = x;\n%%\n"
     yield "a record of empty fields", "run", to_limit(head + b"x", b","), None
     yield "a record of values", "run", to_limit(head + b"x", b",1"), None
+    yield "a record of values", "sim", to_limit(head + b"x", b",1"), None
+    for command, text in (
+        ("trim", b"trim 1\nchannel 0 capacity 1 rest 1 0 0\nchannel 1 capacity 1 rest 2 2 0\nend\n"),
+        ("trace", b"trace 1\n0\n0\n1\n1\n1\n2\n2\nend\n"),
+    ):
+        yield "data that is passed over", command, to_limit(head + b"x", b",1"), (0, text, b"")
     yield "records of one byte", "run", to_limit(head, b"x\n"), (9, b"", b"data: Count 1 0 1\n")
     yield "empty lines", "run", to_limit(head, b"\n", b"x,3\n"), (0, b"y,3\n", b"")
     yield "one quoted field", "run", to_limit(head + b'x,"', b'""'), (9, b"", b"data: NotANumber 1 1\n")
@@ -642,17 +671,34 @@ def grouped(rows: Iterable[tuple[int, str, float]]) -> list[list[object]]:
     return [[f"{a} to {b}" if a < b else a, statuses, f"{seconds:.2f}"] for a, b, statuses, seconds in groups]
 
 
-def tried(name: str, count: int, wanted: Wanted, call: Callable[[], End]) -> tuple[str, float]:
+def tried(name: str, count: int, wanted: Callable[[End], Wanted], call: Callable[[], End]) -> tuple[str, float]:
     """So many runs of a call: their statuses in words, and the longest one's seconds."""
     statuses: Counter[str] = Counter()
     longest = 0.0
     for _ in range(count):
         end = call()
         # where a start is refused the network goes along its schedule, in one thread
-        is_well = judge(name, end, wanted)
-        statuses["hung" if end.hung else f"{end.status}, {'the same answer' if is_well else 'not as wanted'}"] += 1
+        is_well = judge(name, end, wanted(end))
+        statuses["hung" if end.hung else f"{end.status}, {'as wanted' if is_well else 'not as wanted'}"] += 1
         longest = max(longest, end.seconds)
     return ", ".join(f"{count} x {it}" for it, count in sorted(statuses.items())), longest
+
+
+def threaded(program: str) -> Iterator[tuple[str, int, list[str], bytes, Callable[[End], Wanted]]]:
+    """The commands that start threads: a name, how many are started, the words, the bundle, and what is wanted of an end."""
+
+    def always(wanted: Wanted) -> Callable[[End], Wanted]:
+        return lambda _: wanted
+
+    for processes in (64, 63, 62):
+        source, data, words = pipeline(processes - 2, 20)
+        bundle = bundled(source, data)
+        wanted = asking.ask(program, ["seq", *words], bundle).said
+        yield f"run, {processes} processes", processes, ["run", *words], bundle, always(wanted)
+    yield "load 2", 5, ["load", "2"], b"", always((0, b"points 24\nchannels 5\nevents 64\nsum 9\n", b""))
+    source, data, words = pipeline(6, 20)
+    net = asking.ask(program, ["net", *words], source).output
+    yield "trace", 4, ["trace", *words], source, lambda end: any_text("trace", end, net)
 
 
 def refused_by_shim(program: str) -> None:
@@ -660,20 +706,17 @@ def refused_by_shim(program: str) -> None:
     rows = []
     with tempfile.TemporaryDirectory() as folder:
         shim = asking.compiled("shim.c", os.path.join(folder, "shim.so"), "-shared", "-fPIC", "-ldl")
-        for processes in (64, 63, 62):
-            source, data, words = pipeline(processes - 2, 20)
-            bundle = bundled(source, data)
-            wanted = asking.ask(program, ["seq", *words], bundle).said
+        for name, count, words, bundle, wanted in threaded(program):
             found: list[tuple[int, str, float]] = []
-            for number in range(1, processes + 2):
+            for number in range(1, count + 2):
                 env = {**os.environ, "LD_PRELOAD": shim, "HOSTILE_START": str(number)}
-                name = f"{processes} processes, start {number} and all later ones refused"
-                found.append((number, *tried(name, 1, wanted, lambda: asking.ask(program, ["run", *words], bundle, 10, env))))
+                said = f"{name}, start {number} and all later ones refused"
+                found.append((number, *tried(said, 1, wanted, lambda: asking.ask(program, words, bundle, 10, env))))
                 if len(BAD) > 20:
                     break
-            rows += [[processes, *row] for row in grouped(found)]
+            rows += [[name, *row] for row in grouped(found)]
             print(rows[-1], file=sys.stderr, flush=True)
-    table(["Processes", "The first start that is refused", "Statuses", "The longest, s"], rows)
+    table(["Command", "The first start that is refused", "Statuses", "The longest, s"], rows)
 
 
 def refused_by_system(program: str, words: Sequence[str], bundle: bytes, plain: End) -> None:
@@ -707,7 +750,8 @@ def refused_by_system(program: str, words: Sequence[str], bundle: bytes, plain: 
             return end
 
         for limit in [*range(1, 67), 80]:
-            rows.append((limit, *tried(f"64 processes under a limit of {limit} tasks", 5, plain.said, lambda: limited(limit))))
+            name = f"64 processes under a limit of {limit} tasks"
+            rows.append((limit, *tried(name, 5, lambda _: plain.said, lambda: limited(limit))))
             print(rows[-1], file=sys.stderr, flush=True)
     table(["Tasks that are allowed", "Statuses of 5 runs each", "The longest, s"], grouped(rows))
 
@@ -728,10 +772,12 @@ SECTIONS: dict[str, Callable[[str], None]] = {
 def main() -> int:
     parser = parser_of(__doc__)
     parser.add_argument("--only", metavar="SECTION", choices=SECTIONS, help="this section alone")
+    parser.add_argument("--quick", action="store_true", help="looks for no least stack")
     parser.add_argument("--space", metavar="GB", type=int, default=4, help="how much address space a run has at most (4); 0 sets no limit")
     given = parser.parse_args()
     program = program_of(given.compaan)
     with_limits(given.space)
+    QUICK.extend([True] * given.quick)
     for name, section in SECTIONS.items():
         if given.only in (None, name):
             print(f"\n## {name}\n")

@@ -1,18 +1,20 @@
 #!/usr/bin/env python3
 """Each request for memory of the built program refused in turn: by a shim before the C library, and by the kernel.
 
-usage: tools/hostile/memory.py [--jobs JOBS] [--most COUNT] [--compaan PROGRAM]
+usage: tools/hostile/memory.py [--jobs JOBS] [--most COUNT] [--only ROW] [--compaan PROGRAM]
 
 Each command is run once to count its requests (calls of malloc, realloc and the like, and starts of threads), and then, for each N up
 to that count, with the Nth refused, and again with the Nth and all later ones refused. Every run must end by itself within its time,
 with status 10 and both streams empty (11 while the words are taken over, before the top call), or with the output, complaint and status
-that it has without refusals, and must have joined the threads that it started; those of trace are waited for by a count. Where there is strace, the kernel's own calls (mmap, brk, mremap, mprotect and the start of a thread) are refused in the same way;
+that it has without refusals, and must have joined the threads that it started; those of trace are waited for by a count. The small rows at
+the head, whose texts stand here, are refused each request whatever COUNT is. In each row some refusal must end the run with 10. Where there is strace, the kernel's own calls (mmap, brk, mremap, mprotect and the start of a thread) are refused in the same way;
 there the first calls, as many as /bin/true makes, are the dynamic loader's, which may break off before the program's first instruction, by
 status 127 or a signal. Prints a table and one line for each run that isn't as wanted, and fails where there is one. It is a test, outside the
 proof.
 """
 from __future__ import annotations
 
+import itertools
 import os
 import shutil
 import signal
@@ -25,12 +27,14 @@ from concurrent.futures import Future, ProcessPoolExecutor
 from pathlib import Path
 
 sys.path.insert(0, str(Path(__file__).resolve().parents[1]))
-from common import examples, parser_of, program_of, table
+from common import examples, parser_of, program_of, stop, table
 from hostile import asking
 from hostile.asking import End
 
 # A name, the words and the bundle of each run.
 Row = tuple[str, list[str], bytes]
+# The same with the status and the output that are wanted.
+Small = tuple[str, list[str], bytes, int, bytes]
 # The statuses of runs, and what isn't as wanted.
 Found = tuple[Counter[object], list[str]]
 
@@ -38,6 +42,91 @@ SECONDS = 20
 CALLS = "mmap,brk,mremap,mprotect,clone,clone3"
 # Where memory is wanting: 11 where the system can't give the words.
 WANTING = ((10, b"", b""), (11, b"", b""))
+
+
+INCREMENT = b"param N; in x[N]; out y[N]; for (i = 0; i < N; i++) y[i] = x[i] + 1;\n"
+RUNNING_SUM = b"param N; in x[N]; out s[N]; for (i = 0; i < N; i++) s[i] = s[i-1] + x[i];\n"
+NETWORK = b"""net 1
+process 0 source x fires 3 slots 0
+process 1 assign y fires 3 slots 1
+process 2 sink y fires 3 slots 1
+channel 0 from 0 to 1 read 0 tokens 3 capacity 3 hold 1 class inorder
+channel 1 from 1 to 2 read 0 tokens 3 capacity 3 hold 1 class inorder
+events 21
+end
+"""
+TREES = b"""deps 1
+read 1 0
+tree
+t -1 1
+w 1 1
+m -1 1
+z
+read 1 1
+tree
+w 0 1
+m 0 1
+read 2 0
+tree
+w 1 1
+m 0 1
+end
+"""
+# The network of the increment with N=3 and its certificate, in version 1 and in version 2.
+FIRES = b"""process 0 6
+f
+p 0
+f
+p 0
+f
+p 0
+process 1 9
+g 0 0
+f 0
+p 1
+g 0 0
+f 0
+p 1
+g 0 0
+f 0
+p 1
+process 1 6
+g 1 0
+f 0
+g 1 0
+f 0
+g 1 0
+f 0
+channel 0 1 0 3 inorder
+channel 1 2 0 3 inorder
+sweep
+sweep
+"""
+WRITTEN_OUT = b"cert 1\nsizes 3 2 2 21\n" + FIRES + b"0\n" * 6 + b"1\n" * 9 + b"2\n" * 6 + b"end\n"
+
+
+def small_rows(program: str) -> Iterator[Small]:
+    """Small runs whose texts stand here, but for that of `cert`, which is what the program writes and `check` accepts."""
+    data = b"%%\nx,5,6,7\n"
+    made = asking.ask(program, ["cert", "N=3"], INCREMENT).output
+    for command in ("run", "seq"):
+        yield f"{command} of the increment", [command, "N=3"], INCREMENT + data, 0, b"y,6,7,8\n"
+        yield f"{command} of the running sum", [command, "N=3"], RUNNING_SUM + b"%%\nx,1,2,3\n", 0, b"s,1,3,6\n"
+    yield "net of the increment", ["net", "N=3"], INCREMENT, 0, NETWORK
+    yield "net of the increment, down", ["net", "N=3", "--policy=down"], INCREMENT, 0, NETWORK.replace(b"capacity 3", b"capacity 1")
+    yield "deps of the running sum, at any size", ["deps", "N=1000000000"], RUNNING_SUM, 0, TREES
+    yield "cert of the increment", ["cert", "N=3"], INCREMENT, 0, made
+    front = INCREMENT + b"%%\n%%\n"
+    for name, text in (("that was made", made), ("that is written out", WRITTEN_OUT)):
+        less = text.replace(b"channel 0 1 0 3 inorder", b"channel 0 1 0 2 inorder")
+        yield f"check of the certificate {name}", ["check", "N=3"], front + text, 0, b"accepted\n"
+        yield f"check of the certificate {name}, a capacity less", ["check", "N=3"], front + less, 1, b"refused NotEnabled 5\n"
+    yield "load 2", ["load", "2"], b"", 0, b"points 24\nchannels 5\nevents 64\nsum 9\n"
+    yield "sim of the increment", ["sim", "N=3"], INCREMENT + data, 0, b"y,6,7,8\nclocks 13\n"
+    trimmed = b"trim 1\nchannel 0 capacity 1 rest 1 0 0\nchannel 1 capacity 1 rest 5 2 0\nend\n"
+    yield "trim of the increment", ["trim", "N=3"], INCREMENT, 0, trimmed
+    # with N=1 there is one run
+    yield "trace of the increment", ["trace", "N=1"], INCREMENT, 0, b"trace 1\n0\n0\n1\n1\n1\n2\n2\nend\n"
 
 
 def rows(program: str) -> Iterator[Row]:
@@ -57,7 +146,6 @@ def rows(program: str) -> Iterator[Row]:
     yield "deps fir", ["deps", *items], source
     yield "deps fir, at any size", ["deps", "N=1000000000", "T=1000000000"], source
     yield "vhdl fir", ["vhdl", *items], source
-    yield "load 2", ["load", "2"], b""
     yield "run fir, a value less", ["run", *items], both.replace(b",", b"", 1)
     yield "run fir, cut", ["run", *items], both[:100]
     yield "run fir, no values", ["run"], both
@@ -151,15 +239,15 @@ def kernel_asks(program: str, words: Sequence[str], bundle: bytes, number: int, 
     return end, max(Counter(first).values(), default=0)
 
 
-def together(parts: Iterable[Future[Found]]) -> tuple[str, list[str]]:
-    """The statuses of several parts of a row as one text, and what isn't as wanted."""
+def together(parts: Iterable[Future[Found]]) -> Found:
+    """The statuses of several parts of a row, and what isn't as wanted."""
     statuses: Counter[object] = Counter()
     bad: list[str] = []
     for part in parts:
         found = part.result()
         statuses.update(found[0])
         bad += found[1]
-    return shown(statuses), bad
+    return statuses, bad
 
 
 def main() -> int:
@@ -168,9 +256,14 @@ def main() -> int:
     parser.add_argument(
         "--most", metavar="COUNT", type=int, default=2000, help="of a row with more requests only so many are refused, evenly (2000)"
     )
+    parser.add_argument("--only", metavar="ROW", help="the rows whose names begin so")
     given = parser.parse_args()
     program = program_of(given.compaan)
     bad, found, kernel = [], [], []
+    small = {row[0]: row for row in small_rows(program)}
+    chosen = [it for it in itertools.chain((row[:3] for row in small.values()), rows(program)) if it[0].startswith(given.only or "")]
+    if not chosen:
+        stop(f"no row begins with {given.only}")
     asking.starter()
     with tempfile.TemporaryDirectory() as folder, ProcessPoolExecutor(given.jobs) as pool:
         shim = Shim(folder)
@@ -178,7 +271,7 @@ def main() -> int:
         # what a program that does nothing asks for is asked by the loader
         loading = kernel_asks("/bin/true", [], b"", 0, folder)[1] if has_strace else 0
         rows_found = []
-        for row in rows(program):
+        for row in chosen:
             name, words, bundle = row
             plain, (requests, _, threads, joined, asked) = shim.ask(program, words, bundle)
             unlike = asking.ask(program, words, bundle)
@@ -186,7 +279,9 @@ def main() -> int:
                 bad.append(
                     f"{name}: the shim changes it, or {threads} threads were started and {joined} joined, or the environment was read {asked} times"
                 )
-            numbers = range(1, requests + 1, max(1, -(-requests // given.most)))
+            if name in small and unlike.said != (*small[name][3:], b""):
+                bad.append(f"{name}: {unlike} without a refusal"[:400])
+            numbers = range(1, requests + 1, 1 if name in small else max(1, -(-requests // given.most)))
             ways = [[pool.submit(refused, shim, program, row, plain, way, numbers[at::8]) for at in range(8)] for way in (0, 1)]
             calls = kernel_asks(program, words, bundle, 0, folder)[1] if has_strace else 0
             by_kernel = [
@@ -196,9 +291,11 @@ def main() -> int:
         for name, status, requests, tried, threads, calls, ways, by_kernel in rows_found:
             texts = []
             for parts in (*ways, by_kernel):
-                text, more = together(parts)
-                texts.append(text)
+                statuses, more = together(parts)
+                texts.append(shown(statuses))
                 bad += more
+                if parts is not by_kernel and not statuses[10]:
+                    bad.append(f"{name}: no refusal ends it with 10, so none reached it")
             found.append([name, status, requests, tried, threads, *texts[:2]])
             kernel.append([name, status, calls, texts[2]])
             print(f"{name}: {found[-1][1:]} {kernel[-1][2:]}", file=sys.stderr, flush=True)

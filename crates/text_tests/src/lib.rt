@@ -11,6 +11,8 @@ mod proofs;
 #[cfg(test)]
 mod scripts;
 #[cfg(test)]
+mod sequencers;
+#[cfg(test)]
 mod streams;
 #[cfg(test)]
 mod traces;

@@ -12,8 +12,8 @@ from pathlib import Path
 from typing import NoReturn
 
 from front_door.base import Stop
-from front_door.proved import BUILT_BY_RT, proved_program
-from front_door.unproved import kept_unproved
+from front_door.kept import proved_program, unproved_program
+from front_door.proved import BUILT_BY_RT
 
 TOP = Path(__file__).resolve().parents[1]
 EXAMPLES = TOP / "examples"
@@ -55,7 +55,7 @@ def program_of(named: str | None) -> str:
     try:
         found = proved_program() or (BUILT_BY_RT if os.access(BUILT_BY_RT, os.X_OK) else None)
         if found is None:
-            found = kept_unproved()
+            found = unproved_program()
             if found is not None:
                 print(f"{Path(sys.argv[0]).name}: by the unproved program, {found}", file=sys.stderr)
     except Stop as error:

@@ -7,6 +7,9 @@ import sys
 from enum import IntEnum
 from pathlib import Path
 
+# What only types name is imported where types are checked: each answer waits for the imports that are made.
+TYPE_CHECKING = False
+
 TOP = Path(__file__).resolve().parents[2]
 CRATE = TOP / "crates" / "compaan"
 # Kept beside the crates' own folders out/, which the toolchain makes and empties.

@@ -3,11 +3,13 @@ from __future__ import annotations
 
 import re
 import sys
-from dataclasses import dataclass
-from typing import BinaryIO
 
-from .base import Status, Stop, printable
-from .words import Words
+from .base import TYPE_CHECKING, Status, Stop, printable
+
+if TYPE_CHECKING:
+    from typing import BinaryIO
+
+    from .words import Words
 
 # The most bytes that the program reads.
 BUNDLE_LIMIT = 67_108_864
@@ -15,31 +17,27 @@ SEPARATOR = re.compile(rb"\n%%(?:\r?\n|\Z)")
 FIRST_SEPARATOR = re.compile(rb"%%(?:\r?\n|\Z)")
 
 
-@dataclass(frozen=True)
 class Part:
     """A part of the bundle: a stretch of a file."""
 
-    name: str
-    whole: bytes
-    first: int
-    end: int
+    def __init__(self, name: str, whole: bytes, first: int, end: int) -> None:
+        self.name, self.whole, self.first, self.end = name, whole, first, end
 
     @property
     def text(self) -> bytes:
         return self.whole[self.first : self.end]
 
 
-@dataclass
 class Bundle:
     """What the program reads. The parts are told apart only where a complaint is about one."""
 
-    name: str
-    bytes: bytes
-    # The files that --data and --certificate name, each by its name and bytes.
-    given_data: tuple[str, bytes] | None = None
-    given_certificate: tuple[str, bytes] | None = None
-    # The bytes of FILE, and the source as it stands there.
-    file: bytes = b""
+    def __init__(self, name: str, file: bytes) -> None:
+        self.name, self.bytes = name, file
+        # The bytes of FILE, and the source as it stands there.
+        self.file = file
+        # The files that --data and --certificate name, each by its name and bytes.
+        self.given_data: tuple[str, bytes] | None = None
+        self.given_certificate: tuple[str, bytes] | None = None
 
     def part(self, number: int) -> Part | None:
         """The source, the data or the certificate by its number, 0 to 2, in the file where it stands."""
@@ -109,7 +107,7 @@ def bundle_of(words: Words) -> Bundle:
     """Reads the files of a call. Together they have at most a byte more than the program takes."""
     name = words.file or "-"
     text = read_file(name, BUNDLE_LIMIT)
-    made = Bundle(shown(name), text, file=text)
+    made = Bundle(shown(name), text)
     if words.data is None and words.certificate is None:
         return made
     refuse_separator(name, text)

@@ -4,16 +4,20 @@ from __future__ import annotations
 import contextlib
 import os
 import signal
-import subprocess
 import sys
-from pathlib import Path
 
-from .base import Status, Stop, printable, put, tell, write_all
-from .bundle import Bundle, bundle_of
-from .program import Answer, Signalled, run
-from .proved import build, proved_program, take_built
-from .unproved import kept_unproved, unproved_program
-from .words import COMMANDS, Words, command_help, help_text, words_of
+from .base import TOP, TYPE_CHECKING, Status, Stop, printable, put, tell, write_all
+from .bundle import bundle_of
+from .kept import proved_program, unproved_program
+from .program import Signalled, run
+from .words import COMMANDS, command_help, help_text, words_of
+
+if TYPE_CHECKING:
+    from pathlib import Path
+
+    from .bundle import Bundle
+    from .program import Answer
+    from .words import Words
 
 UNPROVED = "compaan: UNPROVED: the program of this answer was compiled without a proof; ./compaan build makes the proved one"
 # The program's own status where standard output or standard error failed.
@@ -42,7 +46,7 @@ def main(arguments: list[str]) -> int:
         import traceback
 
         last = traceback.extract_tb(error.__traceback__)[-1]
-        tell(f"compaan: a fault of this script: {type(error).__name__}: {printable(str(error))} ({Path(last.filename).name}:{last.lineno})")
+        tell(f"compaan: a fault of this script: {type(error).__name__}: {printable(str(error))} ({os.path.basename(last.filename)}:{last.lineno})")
         return Status.OWN_FAULT
 
 
@@ -67,7 +71,9 @@ def answer(arguments: list[str]) -> int:
 
 def other_tool(name: str, words: list[str]) -> int:
     """Runs another of the tools, and gives its status."""
-    return subprocess.run([sys.executable, "-B", str(Path(__file__).resolve().parent.parent / name), *words], check=False).returncode
+    import subprocess
+
+    return subprocess.run([sys.executable, "-B", str(TOP / "tools" / name), *words], check=False).returncode
 
 
 def report(words: Words) -> int:
@@ -82,6 +88,9 @@ def report(words: Words) -> int:
 
 
 def build_by(words: Words) -> int:
+    from .proved import build, take_built
+    from .unproved import make_unproved
+
     rest = words.passed[1:]
     if words.file is not None or rest not in ([], ["--built"]) or (rest and words.unproved):
         raise Stop(Status.WRONG_WORDS, "build takes --unproved, --built or nothing (./compaan build --help)")
@@ -89,7 +98,7 @@ def build_by(words: Words) -> int:
         return take_built()
     if not words.unproved:
         return build()
-    tell(f"compaan: the unproved program of these sources is {unproved_program(again=True)}; ./compaan build makes the proved one")
+    tell(f"compaan: the unproved program of these sources is {make_unproved(again=True)}; ./compaan build makes the proved one")
     return 0
 
 
@@ -101,10 +110,12 @@ def program_for(words: Words) -> tuple[str | Path, bool]:
     proved = None if words.unproved else proved_program()
     if proved is not None:
         return proved, False
-    made = kept_unproved()
+    made = unproved_program()
     if made is None:
+        from .unproved import make_unproved
+
         refuse_wrong_words(words)
-        made = unproved_program()
+        made = make_unproved()
     return made, True
 
 

@@ -15,15 +15,6 @@ from typing import IO
 from .base import CRATE, KEPT, Status, Stop, tell
 from .program import run
 
-UNPROVED, PROVED = "unproved", "proved"
-
-
-def kept(kind: str, total: str) -> Path | None:
-    """The program of this kind that was made of the sources with this sum."""
-    program = KEPT / kind / total
-    return program if os.access(program, os.X_OK) else None
-
-
 def keep(kind: str, total: str, program: Path) -> Path:
     """Keeps a program in place of those of other sources."""
     place = folder(kind) / total

@@ -6,11 +6,12 @@ import os
 import signal
 import subprocess
 import sys
-from collections.abc import Iterator, Sequence
-from dataclasses import dataclass
-from typing import IO, Any
 
-from .base import Status, Stop, printable, write_all
+from .base import TYPE_CHECKING, Status, Stop, printable, write_all
+
+if TYPE_CHECKING:
+    from collections.abc import Iterator, Sequence
+    from typing import IO, Any
 
 ENDING = (signal.SIGTERM, signal.SIGHUP, signal.SIGINT, signal.SIGQUIT)
 
@@ -23,15 +24,12 @@ class Signalled(Exception):
         self.number = number
 
 
-@dataclass(frozen=True)
 class Answer:
-    """What the program came to: its status as a shell has it, and what was read of its output and its complaint."""
+    """What the program came to: its status as a shell has it, what was read of its output and its complaint, and the signal that ended
+    it, or 0."""
 
-    status: int
-    output: bytes = b""
-    complaint: bytes = b""
-    # The signal that ended it, or 0.
-    signal: int = 0
+    def __init__(self, status: int, output: bytes, complaint: bytes, signal: int) -> None:
+        self.status, self.output, self.complaint, self.signal = status, output, complaint, signal
 
 
 @contextlib.contextmanager

@@ -10,7 +10,8 @@ from pathlib import Path
 from typing import BinaryIO
 
 from .base import CRATE, KEPT, Status, Stop, tell
-from .making import PROVED, Progress, alone, answers_well, example_words, keep, kept, writing
+from .kept import PROVED, kept
+from .making import Progress, alone, answers_well, example_words, keep, writing
 from .program import started
 from .sources import STATEMENTS, crates_below, expected_minutes, listed, sum_of
 from .toolchain import toolchain
@@ -20,11 +21,6 @@ LOG = KEPT / "build.log"
 BYTES_A_JOB = 4 << 30
 BUILT_BY_RT = CRATE / "out" / "compaan"
 WITHOUT_PASS = Path(__file__).with_name("rt_by_proofs_alone.py")
-
-
-def proved_program() -> Path | None:
-    """The proved program of these sources, where it was built."""
-    return kept(PROVED, sum_of(STATEMENTS)) if (KEPT / PROVED).is_dir() else None
 
 
 def build() -> int:

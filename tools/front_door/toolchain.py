@@ -3,17 +3,16 @@ from __future__ import annotations
 
 import shutil
 import subprocess
-from dataclasses import dataclass
 from pathlib import Path
 
 from .base import Status, Stop
 
 
-@dataclass(frozen=True)
 class Toolchain:
     """The toolchain, by the folder of all that it has."""
 
-    folder: Path
+    def __init__(self, folder: Path) -> None:
+        self.folder = folder
 
     @property
     def rt(self) -> str:

@@ -18,7 +18,8 @@ from pathlib import Path
 from typing import IO
 
 from .base import CRATE, KEPT, Status, Stop, tell
-from .making import UNPROVED, Progress, alone, answers_well, example_words, folder, keep, kept, writing
+from .kept import UNPROVED, kept
+from .making import Progress, alone, answers_well, example_words, folder, keep, writing
 from .program import started
 from .sources import CODE, sum_of
 from .toolchain import Toolchain, toolchain
@@ -29,12 +30,7 @@ TARGET = "x86_64-unknown-linux-gnu"
 STEPS = ("1 of 3: the toolchain reads the sources", "2 of 3: clang compiles them", "3 of 3: it is linked and tried")
 
 
-def kept_unproved() -> Path | None:
-    """The unproved program of these sources, where it was made."""
-    return kept(UNPROVED, sum_of(CODE))
-
-
-def unproved_program(again: bool = False) -> Path:
+def make_unproved(again: bool = False) -> Path:
     """The unproved program of these sources, which is made where it isn't there. One that couldn't be made is tried anew only `again`."""
     total = sum_of(CODE)
     found = kept(UNPROVED, total)

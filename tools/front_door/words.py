@@ -3,11 +3,12 @@ from __future__ import annotations
 
 import argparse
 import re
-from collections.abc import Iterable
-from dataclasses import dataclass, field
-from typing import NoReturn
 
-from .base import Status, Stop, printable
+from .base import TYPE_CHECKING, Status, Stop, printable
+
+if TYPE_CHECKING:
+    from collections.abc import Iterable
+    from typing import NoReturn
 
 # Each command with what `./compaan help` says of it, and what the program reads for it.
 COMMANDS = {
@@ -56,21 +57,21 @@ RESERVED = "param in out inout var int for if else min max".split()
 NAME = re.compile("[A-Za-z_][A-Za-z_0-9]*")
 
 
-@dataclass
 class Words:
     """The words of a call."""
 
-    command: str | None = None
-    file: str | None = None
-    data: str | None = None
-    certificate: str | None = None
-    isl: bool = False
-    unproved: bool = False
-    wants_help: bool = False
-    # Whether a word of digits is among them, which names no file, so that `load 60` reads none.
-    has_number: bool = False
-    # The words that the program gets, its command first.
-    passed: list[str] = field(default_factory=list)
+    def __init__(self) -> None:
+        self.command: str | None = None
+        self.file: str | None = None
+        self.data: str | None = None
+        self.certificate: str | None = None
+        self.isl = False
+        self.unproved = False
+        self.wants_help = False
+        # Whether a word of digits is among them, which names no file, so that `load 60` reads none.
+        self.has_number = False
+        # The words that the program gets, its command first.
+        self.passed: list[str] = []
 
     @property
     def reads_nothing(self) -> bool:
@@ -106,7 +107,8 @@ def words_of(arguments: list[str]) -> Words:
     """Takes the words of a call apart. What isn't the script's goes to the program as it is."""
     cut = arguments.index("--") if "--" in arguments else len(arguments)
     options, rest = parser().parse_known_args(arguments[:cut])
-    words = Words(isl=options.isl, unproved=options.unproved, wants_help=options.help)
+    words = Words()
+    words.isl, words.unproved, words.wants_help = options.isl, options.unproved, options.help
     words.data = only_file("--data", options.data)
     words.certificate = only_file("--certificate", options.certificate)
     for word in rest:

@@ -24,6 +24,7 @@ from __future__ import annotations
 
 import itertools
 import os
+import random
 import re
 import resource
 import shutil
@@ -463,6 +464,14 @@ def filled(before: bytes, line: bytes, after: bytes, most: int = BUNDLE) -> tupl
     return count, before.replace(b"COUNT", str(count).encode()) + line * count + after
 
 
+def mixed(before: bytes, lines: list[bytes], after: bytes, most: int = BUNDLE) -> tuple[int, bytes]:
+    """The same of different lines at random, the first one first."""
+    draw = random.Random(len(lines))
+    count = (most - len(before) - len(after) - 100) * len(lines) // len(b"".join(lines)) * 99 // 100
+    body = lines[0] + b"".join(draw.choices(lines, k=count - 1))
+    return count, before.replace(b"COUNT", str(count).encode()) + body + after
+
+
 def line_texts(share: int) -> Iterator[tuple[str, int, bytes, bytes]]:
     """A name, a certificate and what `check` answers to it, for the source `out y;`, which has one process with one read."""
     most = BUNDLE // share - 40
@@ -489,6 +498,14 @@ def line_texts(share: int) -> Iterator[tuple[str, int, bytes, bytes]]:
     yield "r 2 1 and 0, of the schedule", *filled(
         b"cert 2\nsizes 1 0 1 COUNT\nprocess 0 1\nf z\nsweep\n", b"r 2 1\n0\n", b"end\n", most
     ), b"refused NotEnabled 1\n"
+    # lists that don't fold
+    yield "0 or 1 at random, of the schedule", *mixed(
+        b"cert 1\nsizes 1 0 1 COUNT\nprocess 0 1\nf z\nsweep\n", [b"0\n", b"1\n"], b"end\n", most
+    ), b"refused NotEnabled 1\n"
+    yield "f or f z at random", *mixed(b"cert 1\nsizes 1 0 1 0\nprocess 0 COUNT\n", [b"f\n", b"f z\n"], end, most), b"refused Fires 0 0\n"
+    yield "g 0 d at random, d below 10", *mixed(
+        b"cert 1\nsizes 1 0 1 0\nprocess 0 COUNT\n", [b"g 0 %d\n" % slot for slot in range(10)], end, most
+    ), b"refused Shape 0\n"
     tree = b"cert 1\nsizes 1 0 1 0\nprocess 0 1\nf z\ntree\n"
     for line in (b"s\n", b"s 0 1\n", b"s 0 1 0 1 0 1 0 1\n"):
         count, text = filled(tree + b"z COUNT\n", line, b"end\n", most)
@@ -554,7 +571,41 @@ def announcing() -> Iterator[bytes]:
     yield b"cert 1\nsizes 1 1 1 3\nprocess 1 3\nf z\np 0\ng 0 0\nchannel 0 0 0 %s inorder\nsweep\n0\n0\n0\nend\n" % most
 
 
+def announced() -> Iterator[tuple[str, bytes, bytes, int]]:
+    """A name, a certificate of a few lines for `out y;`, what `check` answers to it, and how many kilobytes it may take."""
+    most = 142_606_000
+    held = 1 << 24
+
+    def text(slots: int, script: bytes, parts: int, schedule: bytes, entries: int) -> bytes:
+        capacity = b"channel 0 0 0 4294967295 inorder\n"
+        return b"cert 2\nsizes 1 1 1 %d\nprocess %d %d\n" % (entries, slots, parts) + script + capacity + b"sweep\n" + schedule + b"end\n"
+
+    unended = b"refused Unended 0\n"
+    gets = b"f z\nr %d 1\ng 0 0\n" % most
+    yield f"{most} slots, all empty", text(most, gets, 2, b"0\n", 1), unended, 16 << 10
+    one = b"f z\np 0\ng 0 %d\nr %d 1\ng 0 0\n" % (most - 1, most - 1)
+    yield f"{most} slots, of which the last is filled", text(most, one, 4, b"r 3 1\n0\n", 1), unended, 16 << 10
+    puts = b"f z\nr %d 1\np 0\n" % most
+    yield f"{most} Puts that don't come", text(0, puts, 2, b"0\n", 1), unended, 16 << 10
+    # The schedule itself is written out, at four bytes an entry.
+    puts = b"f z\nr %d 1\np 0\n" % held
+    yield f"a queue of {held} tokens of one fire", text(0, puts, 2, b"r %d 1\n0\n" % (held + 1), 1), b"accepted\n", 144 << 10
+    for name, script in [
+        ("one after the other", b"f z\nr %d 2\np 0\ng 0 0\n" % (held // 2)),
+        ("in repeats 23 deep", b"f z\n" + b"r 2 1\n" * 22 + b"r 2 2\np 0\ng 0 0\n"),
+    ]:
+        yield f"{held} events {name}", text(1, script, 2, b"r %d 1\n0\n" % (held + 1), 1), b"accepted\n", 144 << 10
+
+
 def announce(program: str) -> None:
+    rows = []
+    for name, text, answer, most in announced():
+        end = ask(program, ["check"], b"out y;\n%%\n%%\n" + text)
+        well = judge(name, end, (0 if answer == b"accepted\n" else 1, answer, b""), most)
+        rows.append([name, len(text), "as wanted" if well else told(end), f"{end.cpu:.2f}", megabytes(end)])
+        print(rows[-1], file=sys.stderr, flush=True)
+    table(["Certificate", "Bytes", "check", "s", "MB"], rows)
+    print()
     ends: list[End] = []
     statuses: Counter[str] = Counter()
     for text in announcing():

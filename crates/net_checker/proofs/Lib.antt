@@ -16,3 +16,7 @@ pub mod Walk
 pub mod FireVerdicts
 pub mod ChannelUses
 pub mod Verdicts
+pub mod SlotLemmas
+pub mod QueueLemmas
+pub mod TagSteps
+mod Worked

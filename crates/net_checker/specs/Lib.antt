@@ -7,4 +7,7 @@ pub mod Lookups
 pub mod Classes
 pub mod Sources
 pub mod Tables
+pub mod SlotRows
+pub mod TurnQueues
+pub mod TagStates
 pub mod Fits

@@ -4,8 +4,11 @@ ghost use Rattle.net_core.specs.Machine.{net_of};
 ghost use Rattle.net_core.specs.Shape.{is_get, FitsNumbers, IsWired};
 ghost use Rattle.net_core.specs.Uses.{use_of, uses, uses_before};
 ghost use Rattle.net_checker.specs.Classes.{class_refusal, same_class};
+ghost use Rattle.net_checker.specs.SlotRows.{slots_in};
 
-use crate::parts::{script_of, slots_of};
+use crate::parts::{process_of, script_of};
+use crate::slots::Slots;
+use crate::tag_state::empty_slots;
 use crate::verdict::Refusal;
 use channel_class::{ChannelClass, class_of};
 use net_core::{Event, Network, Ref};
@@ -15,19 +18,19 @@ use std::alloc::{AllocError, Global};
 // Adds what a reference uses: the Get whose token it names, to the list of that Get's channel.
 fn add_use(
     reference: Ref,
-    slots: &[Option<(u32, u32)>],
+    slots: &Slots<(u32, u32)>,
     uses: &mut [Items<u32>],
 ) -> Result<(), AllocError>
-    requires { (k : ℕ) (got : ℕ × ℕ) → slice_get slots.now k ≡ Some (Some got)
+    requires { (k : ℕ) (got : ℕ × ℕ) → slice_get (slots_in slots.now) k ≡ Some (Some got)
         → got.0 < length uses.old }
     ensures { OnOk result ((c : ℕ) → c < length uses.old
         → slice_index_or uses.new c []
-        ≡ slice_index_or uses.old c [] ++ use_of c slots.now reference) }
+        ≡ slice_index_or uses.old c [] ++ use_of c (slots_in slots.now) reference) }
 {
     match reference {
         Ref::Zero => Ok(()),
-        Ref::Slot(slot) => match slots.get(slot as usize) {
-            Some(Some((channel, get))) => uses[*channel as usize].push(*get),
+        Ref::Slot(slot) => match slots.get(slot) {
+            Some(Some((channel, get))) => uses[channel as usize].push(get),
             _ => Ok(()),
         },
     }
@@ -36,14 +39,14 @@ fn add_use(
 // Adds what the references of a fire use.
 fn add_fire(
     refs: &[Ref],
-    slots: &[Option<(u32, u32)>],
+    slots: &Slots<(u32, u32)>,
     uses: &mut [Items<u32>],
 ) -> Result<(), AllocError>
-    requires { (k : ℕ) (got : ℕ × ℕ) → slice_get slots.now k ≡ Some (Some got)
+    requires { (k : ℕ) (got : ℕ × ℕ) → slice_get (slots_in slots.now) k ≡ Some (Some got)
         → got.0 < length uses.old }
     ensures { OnOk result ((c : ℕ) → c < length uses.old
         → slice_index_or uses.new c []
-        ≡ slice_index_or uses.old c [] ++ flat_map (use_of c slots.now) refs.now) }
+        ≡ slice_index_or uses.old c [] ++ flat_map (use_of c (slots_in slots.now)) refs.now) }
 {
     for reference in refs {
         add_use(*reference, slots, uses)?;
@@ -55,14 +58,14 @@ fn add_fire(
 fn add_events(
     network: &Network,
     process: u32,
-    slots: &mut [Option<(u32, u32)>],
+    slots: &mut Slots<(u32, u32)>,
     gets: &mut [u32],
     uses: &mut [Items<u32>],
 ) -> Result<(), AllocError>
     requires wired { IsWired (net_of network.now) }
     requires numbers { FitsNumbers (net_of network.now) }
     requires process { process < length network.now.processes }
-    requires slots { slots.old ≡ replicate ((net_of network.now).slots process) None }
+    requires slots { slots_in slots.old ≡ replicate ((net_of network.now).slots process) None }
     requires gets { length gets.old ≡ length network.now.channels }
     requires uses { length uses.old ≡ length network.now.channels }
     requires fresh { (c : ℕ) → (net_of network.now).reader c ≡ process
@@ -80,7 +83,7 @@ fn add_events(
         match event {
             Event::Get { channel, slot } => {
                 let get = gets[channel as usize];
-                slots[slot as usize] = Some((channel, get));
+                slots.fill(slot, (channel, get))?;
                 gets[channel as usize] = get + 1;
             }
             Event::Fire { refs } => add_fire(refs.as_slice(), slots, uses)?,
@@ -114,7 +117,7 @@ fn add_script(
         ++ uses_before (net_of network.now) c process
         (length ((net_of network.now).script process))) }
 {
-    let mut slots = vec![in alloc; None; slots_of(network, process) as usize]?;
+    let mut slots = empty_slots(alloc, process_of(network, process))?;
     add_events(network, process, &mut slots, gets, uses)
 }
 
@@ -173,7 +176,7 @@ fn first_other_class(
     Ok(None)
 }
 
-// The first channel whose class isn't that of its uses, if there is one.
+/// The first channel whose class isn't that of its uses, if there is one.
 pub(crate) fn class_refusal(alloc: Global, network: &Network) -> Result<Option<Refusal>, AllocError>
     requires wired { IsWired (net_of network.now) }
     requires numbers { FitsNumbers (net_of network.now) }

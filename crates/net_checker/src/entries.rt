@@ -3,21 +3,22 @@ ghost use Rattle.std.specs.Prelude.{◌≡◌, ◌<◌, ◌+◌, ◌^◌, ℕ, �
 ghost use Rattle.sanlp.specs.Points.{points_of};
 ghost use Rattle.source_tree.specs.Sources.{sources_of};
 ghost use Rattle.net_core.specs.Cuts.{positions};
-ghost use Rattle.net_core.specs.Held.{held_of, run_of, IsFor};
 ghost use Rattle.net_core.specs.Machine.{enabled, net_of};
-ghost use Rattle.net_core.specs.Names.{name_of, IsNamed};
+ghost use Rattle.net_core.specs.Names.{name_of};
 ghost use Rattle.net_core.specs.Rules.{vector_at};
 ghost use Rattle.net_core.specs.Shape.{FitsNumbers};
 ghost use Rattle.net_core.specs.Sound.{FitsNest};
 ghost use Rattle.net_checker.specs.Choice.{first_below};
-ghost use Rattle.net_checker.specs.Entries.{entry_refusal, is_wanted, name_refusal, point_of, schedule_refusal, seen_of, wanted_of};
+ghost use Rattle.net_checker.specs.Entries.{entry_refusal, is_wanted, name_refusal, point_of, schedule_refusal, seen_of, unended, wanted_of};
 ghost use Rattle.net_checker.specs.Lookups.{refused_reference, source_in};
+ghost use Rattle.net_checker.specs.SlotRows.{slots_in};
+ghost use Rattle.net_checker.specs.TagStates.{IsTagState, cut_in, state_of};
 
+use crate::slots::Slots;
+use crate::tag_state::TagState;
 use crate::verdict::{Refusal, Seen, Wanted};
 use affine_core::Vector;
-use net_core::{
-    Event, Network, Ref, Refs, State, Tags, enabled, kept, next, slots, start, step, unended,
-};
+use net_core::{Event, Network, Ref, Refs};
 use sanlp::{Nest, Point, Points, Tag, reads_before};
 use source_tree::SourceTable;
 use std::alloc::{AllocError, Global};
@@ -60,26 +61,26 @@ fn point_of(points: &Points, tag: Tag) -> Point
 }
 
 // Whether a reference names what the read wants, which is the value of this source or zero.
-fn is_wanted(slots: &[Option<Tag>], reference: Ref, source: Option<Tag>) -> bool
-    ensures { result ≡ is_wanted (name_of slots.now reference) source }
+fn is_wanted(slots: &Slots<Tag>, reference: Ref, source: Option<Tag>) -> bool
+    ensures { result ≡ is_wanted (name_of (slots_in slots.now) reference) source }
 {
     match reference {
         Ref::Zero => source.is_none(),
-        Ref::Slot(slot) => match (slots.get(slot as usize), source) {
-            (Some(Some(token)), Some(source)) => *token == source,
+        Ref::Slot(slot) => match (slots.get(slot), source) {
+            (Some(Some(token)), Some(source)) => token == source,
             _ => false,
         },
     }
 }
 
 // What a reference names.
-fn seen(points: &Points, slots: &[Option<Tag>], reference: Ref) -> Seen
-    ensures { result ≡ seen_of points.now.of (name_of slots.now reference) }
+fn seen(points: &Points, slots: &Slots<Tag>, reference: Ref) -> Seen
+    ensures { result ≡ seen_of points.now.of (name_of (slots_in slots.now) reference) }
 {
     match reference {
         Ref::Zero => Seen::Zero,
-        Ref::Slot(slot) => match slots.get(slot as usize) {
-            Some(Some(token)) => Seen::At(point_of(points, *token)),
+        Ref::Slot(slot) => match slots.get(slot) {
+            Some(Some(token)) => Seen::At(point_of(points, token)),
             _ => Seen::Empty,
         },
     }
@@ -102,11 +103,11 @@ fn judge_reference(
     read: usize,
     turn: usize,
     entry: u32,
-    slots: &[Option<Tag>],
+    slots: &Slots<Tag>,
     reference: &Ref,
 ) -> Option<Refusal>
     ensures { result
-        ≡ name_refusal points.now.of entry (name_of slots.now reference.now)
+        ≡ name_refusal points.now.of entry (name_of (slots_in slots.now) reference.now)
         (source_in table.now.of read turn) }
 {
     let source = source_in(table, read, turn);
@@ -124,14 +125,14 @@ fn judge_fire(
     first_read: usize,
     turn: usize,
     entry: u32,
-    slots: &[Option<Tag>],
+    slots: &Slots<Tag>,
     refs: &Refs,
 ) -> Option<Refusal>
     requires { first_read + length refs.now < 2 ^ 64 }
     ensures { result
         ≡ first_below
-        (λ j. refused_reference points.now.of table.now.of first_read turn slots.now entry j
-        (slice_get refs.now j)) (length refs.now) }
+        (λ j. refused_reference points.now.of table.now.of first_read turn
+        (slots_in slots.now) entry j (slice_get refs.now j)) (length refs.now) }
 {
     for (read, reference) in refs.as_slice().iter().enumerate() {
         let number = first_read + read;
@@ -150,33 +151,33 @@ fn judge(
     points: &Points,
     network: &Network,
     table: &SourceTable,
-    state: &State<Tag>,
+    state: &TagState,
     entry: u32,
     process: u32,
 ) -> Option<Refusal>
     requires points { points.now.of ≡ points_of nest.now }
     requires fits { FitsNest nest.now network.now }
     requires table { table.now.of ≡ sources_of nest.now }
-    requires state { IsFor (net_of network.now) (held_of state.now) }
-    requires named { IsNamed (net_of network.now) (λ t. t) (run_of state.now) }
+    requires state { IsTagState (net_of network.now) state.now }
     ensures { result
-        ≡ entry_refusal nest.now (net_of network.now) (positions (run_of state.now)) entry process }
+        ≡ entry_refusal nest.now (net_of network.now)
+        (positions (state_of (net_of network.now) state.now)) entry process }
 {
-    if !enabled(state, network, process) {
+    if !state.is_enabled(network, process) {
         return Some(Refusal::NotEnabled(entry));
     }
-    match next(state, network, process) {
+    match state.next(network, process) {
         Event::Get { .. } | Event::Put { .. } => None,
         Event::Fire { refs } => {
             let first_read = reads_before(nest, process as usize);
-            let turn = kept(state, process).len();
+            let turn = state.turn(network, process) as usize;
             judge_fire(
                 points,
                 table,
                 first_read,
                 turn,
                 entry,
-                slots(state, process),
+                state.slots(network, process),
                 refs,
             )
         }
@@ -188,13 +189,13 @@ fn names_are_wanted(
     table: &SourceTable,
     first_read: usize,
     turn: usize,
-    slots: &[Option<Tag>],
+    slots: &Slots<Tag>,
     refs: &Refs,
 ) -> bool
     requires { first_read + length refs.now < 2 ^ 64 }
     ensures { OnTrue result
         ((points : List (List (List ℤ))) (entry : ℕ) → first_below
-        (λ j. refused_reference points table.now.of first_read turn slots.now entry j
+        (λ j. refused_reference points table.now.of first_read turn (slots_in slots.now) entry j
         (slice_get refs.now j)) (length refs.now) ≡ None) }
 {
     for (read, reference) in refs.as_slice().iter().enumerate() {
@@ -211,30 +212,43 @@ fn is_fine(
     nest: &Nest,
     network: &Network,
     table: &SourceTable,
-    state: &State<Tag>,
+    state: &TagState,
     process: u32,
 ) -> bool
     requires fits { FitsNest nest.now network.now }
     requires table { table.now.of ≡ sources_of nest.now }
-    requires state { IsFor (net_of network.now) (held_of state.now) }
-    requires named { IsNamed (net_of network.now) (λ t. t) (run_of state.now) }
+    requires state { IsTagState (net_of network.now) state.now }
     ensures enabled { OnTrue result
-        (enabled (net_of network.now) (run_of state.now) process ≡ true) }
+        (enabled (net_of network.now) (state_of (net_of network.now) state.now) process ≡ true) }
     ensures fine { OnTrue result
-        ((entry : ℕ) → entry_refusal nest.now (net_of network.now) (positions (run_of state.now))
-        entry process ≡ None) }
+        ((entry : ℕ) → entry_refusal nest.now (net_of network.now)
+        (positions (state_of (net_of network.now) state.now)) entry process ≡ None) }
 {
-    if !enabled(state, network, process) {
+    if !state.is_enabled(network, process) {
         return false;
     }
-    match next(state, network, process) {
+    match state.next(network, process) {
         Event::Get { .. } | Event::Put { .. } => true,
         Event::Fire { refs } => {
             let first_read = reads_before(nest, process as usize);
-            let turn = kept(state, process).len();
-            names_are_wanted(table, first_read, turn, slots(state, process), refs)
+            let turn = state.turn(network, process) as usize;
+            names_are_wanted(table, first_read, turn, state.slots(network, process), refs)
         }
     }
+}
+
+// The least process that isn't at its script's end, if there is one.
+fn unended(network: &Network, state: &TagState) -> Option<Refusal>
+    requires { IsTagState (net_of network.now) state.now }
+    ensures { result ≡ first_below (unended (net_of network.now) (cut_in state.now))
+        (length network.now.processes) }
+{
+    for process in 0..network.processes.len() as u32 {
+        if let Some(_) = state.next_event(network, process) {
+            return Some(Refusal::Unended(process));
+        }
+    }
+    None
 }
 
 // The first entry of the schedule that is refused, and else the least process that it leaves unended, if there is one.
@@ -253,19 +267,16 @@ pub(crate) fn schedule_refusal(
     ensures { IfOk result
         (λ refusal. refusal ≡ schedule_refusal nest.now network.now schedule.now) }
 {
-    let mut state = start(alloc, network, points)?;
+    let mut state = TagState::new(alloc, network)?;
     for (entry, process) in schedule.iter().enumerate() {
         if is_fine(nest, network, table, &state, *process) {
-            step(&mut state, network, &Tags {}, *process);
+            state.step(network, *process)?;
             continue;
         }
         if let Some(refusal) = judge(nest, points, network, table, &state, entry as u32, *process) {
             return Ok(Some(refusal));
         }
-        step(&mut state, network, &Tags {}, *process);
+        state.step(network, *process)?;
     }
-    match unended(&state, network) {
-        Some(process) => Ok(Some(Refusal::Unended(process))),
-        None => Ok(None),
-    }
+    Ok(unended(network, &state))
 }

@@ -74,7 +74,7 @@ fn process_firing(nest: &Nest, points: &Points, network: &Network, process: u32)
     first_misfire(nest, points, network, process)
 }
 
-// The least process whose fires go wrong, and where, if there is one.
+/// The least process whose fires go wrong, and where, if there is one.
 pub(crate) fn firing_refusal(nest: &Nest, points: &Points, network: &Network) -> Option<Refusal>
     requires points { points.now.of ≡ points_of nest.now }
     requires numbers { FitsNumbers (net_of network.now) }

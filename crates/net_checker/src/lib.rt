@@ -1,7 +1,7 @@
 //! The checker: whether a network and its certificate fit a nest, and what is wrong first where they don't.
 //!
 //! Between two calls, or from one step of the main loop to the next: the machine stands where the entries so far lead,
-//! and none of them is refused.
+//! and none of them is refused. Its queues and slots take memory for what is in them.
 #![tactic(auto)]
 
 mod checker;
@@ -12,7 +12,10 @@ mod fitting_fires;
 mod laws;
 mod parts;
 mod shapes;
+mod slots;
 mod sources;
+mod tag_state;
+mod turn_queue;
 mod verdict;
 
 pub use checker::{check, check_with_sources};

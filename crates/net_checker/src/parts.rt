@@ -4,16 +4,25 @@ ghost use Rattle.net_core.specs.Shape.{turns};
 ghost use Rattle.net_checker.specs.Shapes.{read_total};
 ghost use Rattle.sanlp.specs.Access.{read_count};
 
-use net_core::{Event, Network};
+use net_core::{Event, Network, Process};
 use sanlp::{Nest, Points, reads_before};
 use script_blocks::Script;
+
+// A process.
+pub(crate) fn process_of(network: &Network, process: u32) -> &Process
+    requires { process < length network.now.processes }
+    ensures script { result.now.script ≡ (net_of network.now).script process }
+    ensures slots { result.now.slots ≡ (net_of network.now).slots process }
+{
+    &network.processes.as_slice()[process as usize]
+}
 
 // The script of a process.
 pub(crate) fn script_of(network: &Network, process: u32) -> &Script<Event>
     requires { process < length network.now.processes }
     ensures { result.now ≡ (net_of network.now).script process }
 {
-    &network.processes.as_slice()[process as usize].script
+    &process_of(network, process).script
 }
 
 // The number of a process's slots. A process that isn't there has none.
@@ -22,6 +31,26 @@ pub(crate) fn slots_of(network: &Network, process: u32) -> u32
 {
     match network.processes.get(process as usize) {
         Some(process) => process.slots,
+        None => 0,
+    }
+}
+
+// The writer of a channel.
+pub(crate) fn writer_of(network: &Network, channel: u32) -> u32
+    ensures { result ≡ (net_of network.now).writer channel }
+{
+    match network.channels.get(channel as usize) {
+        Some(channel) => channel.writer,
+        None => 0,
+    }
+}
+
+// The capacity of a channel.
+pub(crate) fn capacity_of(network: &Network, channel: u32) -> u32
+    ensures { result ≡ (net_of network.now).capacity channel }
+{
+    match network.channels.get(channel as usize) {
+        Some(channel) => channel.capacity,
         None => 0,
     }
 }

@@ -99,7 +99,7 @@ fn keeps_shape(network: &Network, process: u32) -> bool
     events_are_own(network, process, script) && slots_of(network, process) <= get_count(script)
 }
 
-// What is wrong with the shape, if anything is.
+/// What is wrong with the shape, if anything is.
 pub(crate) fn shape_refusal(nest: &Nest, network: &Network, cert: &Cert) -> Option<Refusal>
     requires { length network.now.processes < 2 ^ 32 }
     ensures { result ≡ shape_refusal nest.now network.now cert.now }

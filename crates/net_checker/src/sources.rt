@@ -312,8 +312,8 @@ fn are_trees(sources: &[Origin]) -> bool
         .all(|origin| matches!(origin, Origin::Tree(_)))
 }
 
-// The last writers of each read: those that are known, or what the rows have where each origin is a tree. Otherwise the nest is
-// swept.
+/// The last writers of each read: those that are known, or what the rows have where each origin is a tree. Otherwise the nest is
+/// swept.
 pub(crate) fn table(
     alloc: Global,
     nest: &Nest,

@@ -4,7 +4,7 @@ use Rattle.script_blocks.proofs.Loops.{had_all, had_more, next_item, one_longer}
 use Rattle.net_core.specs.declared.refs.Ref.{Ref}
 use Rattle.net_core.specs.Uses.{use_of}
 use Rattle.net_core.specs.Machine.{net_of}
-use Rattle.net_core.proofs.Latest.{length-latest_gets}
+use Rattle.net_checker.specs.SlotRows.{slots_in}
 use Rattle.net_checker.proofs.ChannelUses.{collected_as, collected_fire, collected_get, collected_gets, collected_none}
 use Rattle.net_checker.proofs.ChannelUses.{collected_put, collected_uses, get_number, get_short, slots_got}
 use Rattle.net_checker.proofs.classes.add_events.Goals as goal
@@ -12,8 +12,8 @@ use Rattle.net_checker.proofs.classes.add_events.Goals as goal
 pub loop-event-init : goal.loop-event-init
 loop-event-init c = record {
   whole = c.into_iter-event-iterator.ensures.into_iter_gives ∙ c.iter-event-items.ensures.items ∙ c.script_of.ensures;
-  collected = collected_none (net_of c.args.network.now) c.args.process c.args.gets.now c.args.uses.now c.args.slots.now
-      c.requires.gets c.requires.uses c.requires.slots;
+  collected = collected_none (net_of c.args.network.now) c.args.process c.args.gets.now c.args.uses.now
+      (slots_in c.args.slots.now) c.requires.gets c.requires.uses c.requires.slots;
 }
 
 pub overflow_add-gets : goal.overflow_add-gets
@@ -27,8 +27,8 @@ overflow_add-gets c =
     omega (
       arith,
       get_number net p c.args.gets.now c.args.uses.now c.loop-event.gets c.loop-event.uses
-          c.loop-event.slots k c.loop-event.invariant.collected c.in-Get.channel c.in-Get.slot c.requires.wired
-          c.requires.fresh is,
+          (slots_in c.loop-event.slots) k c.loop-event.invariant.collected c.in-Get.channel c.in-Get.slot
+          c.requires.wired c.requires.fresh is,
       get_short net p k c.in-Get.channel c.in-Get.slot c.requires.wired c.requires.numbers is,
     )
 
@@ -60,21 +60,6 @@ bounds-gets-channel-in-Get c =
       c.loop-event.invariant.collected.gets_length,
     )
 
-pub bounds-slots-slot : goal.bounds-slots-slot
-bounds-slots-slot c =
-    let net = net_of c.args.network.now in
-    let p = c.args.process in
-    let had = c.loop-event.yielded in
-    let k = length had in
-    let is = next_item (net.script p) had c.loop-event.event-iterator c.loop-event.invariant.whole c.in-Some.event
-    c.next.new.self c.in-Some.ensures.steps ∙ ap Some c.in-Get.is in
-    omega (
-      arith,
-      c.requires.wired.get_slot p k c.in-Get.channel c.in-Get.slot is,
-      ap length c.loop-event.invariant.collected.slots_are,
-      length-latest_gets net p k,
-    )
-
 pub add_fire-requires : goal.add_fire-requires
 add_fire-requires c j got h =
     let net = net_of c.args.network.now in
@@ -99,9 +84,9 @@ loop-event-preserved c =
       whole = had_more (net.script p) had c.loop-event.event-iterator c.loop-event.invariant.whole c.in-Some.event
           c.next.new.self c.in-Some.ensures.steps;
       collected = collected_as net p c.args.gets.now c.args.uses.now c.loop-event.gets c.loop-event.uses
-          c.loop-event.slots k _ (one_longer had c.in-Some.event)
-          (collected_put net p c.args.gets.now c.args.uses.now c.loop-event.gets c.loop-event.uses c.loop-event.slots k
-          c.loop-event.invariant.collected c.in-Put.channel is);
+          (slots_in c.loop-event.slots) k _ (one_longer had c.in-Some.event)
+          (collected_put net p c.args.gets.now c.args.uses.now c.loop-event.gets c.loop-event.uses
+          (slots_in c.loop-event.slots) k c.loop-event.invariant.collected c.in-Put.channel is);
     }
 
 pub loop-event-preserved-in-Get : goal.loop-event-preserved-in-Get
@@ -117,13 +102,14 @@ loop-event-preserved-in-Get c =
           c.next.new.self c.in-Some.ensures.steps;
       collected =
           collected_as net p c.args.gets.now c.args.uses.now _ c.loop-event.uses _ k _ (one_longer had c.in-Some.event)
-          (collected_get net p c.args.gets.now c.args.uses.now c.loop-event.gets c.loop-event.uses c.loop-event.slots k
-          c.loop-event.invariant.collected c.in-Get.channel c.in-Get.slot _ c.requires.wired c.requires.fresh is
-          refl);
+          (rw c.in_ok-fill-in-Get.ensures
+          (collected_get net p c.args.gets.now c.args.uses.now c.loop-event.gets c.loop-event.uses
+          (slots_in c.loop-event.slots) k c.loop-event.invariant.collected c.in-Get.channel c.in-Get.slot _
+          c.requires.wired c.requires.fresh is refl));
     }
 
-pub loop-event-preserved-in-Continue-1 : goal.loop-event-preserved-in-Continue-1
-loop-event-preserved-in-Continue-1 c =
+pub loop-event-preserved-in-Continue-branch-2 : goal.loop-event-preserved-in-Continue-branch-2
+loop-event-preserved-in-Continue-branch-2 c =
     let net = net_of c.args.network.now in
     let p = c.args.process in
     let had = c.loop-event.yielded in
@@ -134,12 +120,13 @@ loop-event-preserved-in-Continue-1 c =
       whole = had_more (net.script p) had c.loop-event.event-iterator c.loop-event.invariant.whole c.in-Some.event
           c.next.new.self c.in-Some.ensures.steps;
       collected = collected_as net p c.args.gets.now c.args.uses.now c.loop-event.gets c.add_fire.new.uses
-          c.loop-event.slots k _ (one_longer had c.in-Some.event)
-          (collected_fire net p c.args.gets.now c.args.uses.now c.loop-event.gets c.loop-event.uses c.loop-event.slots k
-          c.loop-event.invariant.collected c.in-Fire.refs c.add_fire.new.uses is (omega arith)
+          (slots_in c.loop-event.slots) k _ (one_longer had c.in-Some.event)
+          (collected_fire net p c.args.gets.now c.args.uses.now c.loop-event.gets c.loop-event.uses
+          (slots_in c.loop-event.slots) k c.loop-event.invariant.collected c.in-Fire.refs c.add_fire.new.uses is
+          (omega arith)
           (λ d lt. c.in_ok-add_fire-in-Fire.ensures d lt
-          ∙ ap (λ (xs : List Ref). get_or c.loop-event.uses d [] ++ flat_map (use_of d c.loop-event.slots) xs)
-          c.as_slice.ensures));
+          ∙ ap (λ (xs : List Ref). get_or c.loop-event.uses d []
+          ++ flat_map (use_of d (slots_in c.loop-event.slots)) xs) c.as_slice.ensures));
     }
 
 pub returns-clause-gets : goal.returns-clause-gets
@@ -148,8 +135,8 @@ returns-clause-gets c d lt =
     let p = c.args.process in
     let all = had_all (net.script p) c.loop-event.yielded c.loop-event.event-iterator c.loop-event.invariant.whole
     c.in-None.ensures.steps.0 in
-    collected_gets net p c.args.gets.now c.args.uses.now c.loop-event.gets c.loop-event.uses c.loop-event.slots
-    c.loop-event.yielded c.loop-event.invariant.collected all d lt
+    collected_gets net p c.args.gets.now c.args.uses.now c.loop-event.gets c.loop-event.uses
+    (slots_in c.loop-event.slots) c.loop-event.yielded c.loop-event.invariant.collected all d lt
 
 pub returns-clause-uses : goal.returns-clause-uses
 returns-clause-uses c d lt =
@@ -157,5 +144,5 @@ returns-clause-uses c d lt =
     let p = c.args.process in
     let all = had_all (net.script p) c.loop-event.yielded c.loop-event.event-iterator c.loop-event.invariant.whole
     c.in-None.ensures.steps.0 in
-    collected_uses net p c.args.gets.now c.args.uses.now c.loop-event.gets c.loop-event.uses c.loop-event.slots
-    c.loop-event.yielded c.loop-event.invariant.collected all d lt
+    collected_uses net p c.args.gets.now c.args.uses.now c.loop-event.gets c.loop-event.uses
+    (slots_in c.loop-event.slots) c.loop-event.yielded c.loop-event.invariant.collected all d lt

@@ -1,31 +1,44 @@
-use Rattle.std.proofs.Common.{Some, length, ap, sym, ◌∙◌, arith}
-use Rattle.net_core.specs.Held.{run_of}
+use Rattle.std.proofs.Common.{Some, ap, sym, ◌∙◌, arith}
+use Rattle.net_core.specs.Machine.{net_of}
+use Rattle.net_core.specs.declared.network.Event.TheVariants.{Fire}
+use Rattle.net_core.proofs.Ready.{process_there}
 use Rattle.net_checker.proofs.FireVerdicts.{enabled_there, few_references, fire_judged}
 use Rattle.sanlp.proofs.NestFacts.{few_statements}
+use Rattle.net_checker.specs.TagStates.{cut_in, state_of}
 use Rattle.net_checker.proofs.entries.judge.Goals as goal
 
 pub reads_before-first_read-requires : goal.reads_before-first_read-requires
 reads_before-first_read-requires c =
     omega (
       arith,
-      enabled_there c.args.nest.now c.args.network.now (run_of c.args.state.now) c.args.process
-          c.in-Fire.refs c.requires.fits (c.next.ensures ∙ ap Some c.in-Fire.is),
+      enabled_there c.args.nest.now c.args.network.now (state_of (net_of c.args.network.now) c.args.state.now)
+          c.args.process c.in-Fire.refs c.requires.fits (c.next.ensures ∙ ap Some c.in-Fire.is),
     )
 
 pub judge_fire-requires : goal.judge_fire-requires
 judge_fire-requires c =
     let is = c.next.ensures ∙ ap Some c.in-Fire.is in
     let few = few_references c.args.nest.now c.args.network.now
-    (run_of c.args.state.now) c.args.process c.in-Fire.refs c.requires.fits is in
+    (state_of (net_of c.args.network.now) c.args.state.now) c.args.process c.in-Fire.refs c.requires.fits is in
     let there = enabled_there c.args.nest.now c.args.network.now
-    (run_of c.args.state.now) c.args.process c.in-Fire.refs c.requires.fits is in
+    (state_of (net_of c.args.network.now) c.args.state.now) c.args.process c.in-Fire.refs c.requires.fits is in
     omega (arith, c.reads_before-first_read.ensures.small, few_statements c.args.nest.now)
+
+pub turn-turn-requires-clause-process : goal.turn-turn-requires-clause-process
+turn-turn-requires-clause-process c =
+    process_there (net_of c.args.network.now) c.requires.fits.shaped.wired c.args.process
+    (cut_in c.args.state.now c.args.process) (Fire c.in-Fire.refs) (c.next.ensures ∙ ap Some c.in-Fire.is)
+
+pub slots-requires-clause-process : goal.slots-requires-clause-process
+slots-requires-clause-process c =
+    process_there (net_of c.args.network.now) c.requires.fits.shaped.wired c.args.process
+    (cut_in c.args.state.now c.args.process) (Fire c.in-Fire.refs) (c.next.ensures ∙ ap Some c.in-Fire.is)
 
 pub returns-in-Fire : goal.returns-in-Fire
 returns-in-Fire c =
-    let s = run_of c.args.state.now in
+    let s = state_of (net_of c.args.network.now) c.args.state.now in
     c.judge_fire.ensures
-    ∙ fire_judged c.args.nest.now c.args.network.now c.requires.fits s c.requires.state.counted c.requires.named
+    ∙ fire_judged c.args.nest.now c.args.network.now c.requires.fits s c.requires.state.counted c.requires.state.named
     c.args.points.now.of c.args.table.now.of c.args.process c.args.entry _ _ _ c.in-Fire.refs c.requires.points
-    c.requires.table c.slots.ensures (ap length c.kept-turn.ensures) c.reads_before-first_read.ensures.value
-    (sym c.enabled.ensures ∙ c.if-not-enabled.false) (c.next.ensures ∙ ap Some c.in-Fire.is)
+    c.requires.table c.slots.ensures c.turn-turn.ensures c.reads_before-first_read.ensures.value
+    (sym c.is_enabled.ensures ∙ c.if-not-is_enabled.false) (c.next.ensures ∙ ap Some c.in-Fire.is)

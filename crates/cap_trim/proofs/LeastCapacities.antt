@@ -105,7 +105,7 @@ module _ (n : Net) (c : ℕ) where
 abbrev before : Net → ℕ → Net
 before n m = trimmed_network_below n m
 
-turn_here : (n : Net) (c : ℕ) → (before n (suc c)).capacity c ≡ least_capacity (before n c) c
+pub turn_here : (n : Net) (c : ℕ) → (before n (suc c)).capacity c ≡ least_capacity (before n c) c
 turn_here n c = replaced_same (before n c).capacity c (least_capacity (before n c) c) c refl
 
 turn_there : (n : Net) (c d : ℕ) → (d ≡ c → ⊥) → (before n (suc c)).capacity d ≡ (before n c).capacity d
@@ -122,7 +122,7 @@ turn_falls n c d =
       | inr other ↦ omega (arith, turn_there n c d other)
     ]
 
-falls : (n : Net) (m j d : ℕ) → m ≤ j → (before n j).capacity d ≤ (before n m).capacity d
+pub falls : (n : Net) (m j d : ℕ) → m ≤ j → (before n j).capacity d ≤ (before n m).capacity d
 falls n m zero d le = let same : m ≡ 0 = omega arith in rw same (omega arith)
 falls n m (suc j) d le =
     elim (cases_lt m (suc j)) [
@@ -131,7 +131,7 @@ falls n m (suc j) d le =
     ]
 
 -- after its turn a channel keeps its capacity
-keeps : (n : Net) (c j : ℕ) → suc c ≤ j → (before n j).capacity c ≡ (before n (suc c)).capacity c
+pub keeps : (n : Net) (c j : ℕ) → suc c ≤ j → (before n j).capacity c ≡ (before n (suc c)).capacity c
 keeps n c zero le = absurd (omega arith)
 keeps n c (suc j) le =
     elim (cases_lt c j) [

@@ -11,3 +11,4 @@ pub mod Turns
 pub mod CapacityLists
 pub mod ChannelTokens
 pub mod TrimFits
+mod Worked

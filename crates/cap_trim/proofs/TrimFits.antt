@@ -16,8 +16,8 @@ use Rattle.net_core.specs.Orders.{EndsAll}
 use Rattle.net_core.specs.Rules.{tags}
 use Rattle.net_core.specs.Shape.{IsWired, put_count}
 use Rattle.net_core.specs.Sound.{FitsNest, NamesLastWriters}
-use Rattle.net_maker.specs.Certificates.{swept_cert}
-use Rattle.net_maker.proofs.FitsNest.{HasClasses, fits_with, swept_are_usable}
+use Rattle.swept_net.specs.Certificates.{swept_cert}
+use Rattle.swept_net.proofs.FitsNest.{HasClasses, fits_with, swept_are_usable}
 use Rattle.process_derive.specs.Derived.{net}
 use Rattle.process_derive.proofs.ScriptNames.{is_wired}
 use Rattle.sanlp.specs.declared.nest.Nest.{Nest}

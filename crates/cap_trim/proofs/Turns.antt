@@ -5,7 +5,7 @@
 -- next turn sets item m to the least capacity in that same network, which is how the definition goes on
 -- (`turned_more`), so after the last turn the list is that of the definition (`turned_all`). The last
 -- part is of the network with one place less: an item is lowered, where the network then comes to rest
--- is noted, and the item is set back. How a least capacity is found is shown in Trying.
+-- is noted, and the item is set back. How a least capacity is found is shown in CapacitySearch.
 use Rattle.std.proofs.Common.{◌≡◌, ℕ, suc, ◌+◌, ◌-◌, ◌<◌, ◌≤◌, List, [], ◌∷◌, ◌++◌, map, set}
 use Rattle.std.proofs.Common.{length, get_or, sym, ap, ◌∙◌, subst, inl, inr, arith, length-set}
 use Rattle.std.specs.List.{range_with_len}

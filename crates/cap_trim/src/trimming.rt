@@ -1,6 +1,6 @@
 ghost use Rattle.std.specs.Prelude.{◌≡◌, ◌<◌, ◌≤◌, ℕ, length, slice_index, slice_set, IfOk, OnOk};
 ghost use Rattle.net_checker.specs.Fits.{Fits};
-ghost use Rattle.net_maker.specs.Certificates.{swept_cert};
+ghost use Rattle.swept_net.specs.Certificates.{swept_cert};
 ghost use Rattle.net_core.specs.Machine.{net_of};
 ghost use Rattle.net_core.specs.Shape.{FitsNumbers, IsWired};
 ghost use Rattle.witness_plan.specs.Sequential.{with_capacities};

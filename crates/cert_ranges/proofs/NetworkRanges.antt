@@ -22,8 +22,8 @@ use Rattle.net_core.specs.declared.network.Channel.{Channel}
 use Rattle.net_core.specs.Machine.{Net, net_of}
 use Rattle.net_core.specs.Shape.{FitsNumbers, events_below, is_put}
 use Rattle.net_core.proofs.Scripts.{events_below-capacities}
-use Rattle.net_maker.proofs.Numbers.{numbers_stay}
-use Rattle.net_maker.specs.Certificates.{IsCertificate}
+use Rattle.swept_net.proofs.Numbers.{numbers_stay}
+use Rattle.swept_net.specs.Certificates.{IsCertificate}
 use Rattle.process_derive.proofs.Bounds.{few_entries}
 use Rattle.process_derive.proofs.Numbers.{has_few_events, numbers_fit}
 use Rattle.process_derive.proofs.ScriptNames.{is_wired}

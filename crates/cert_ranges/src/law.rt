@@ -1,6 +1,6 @@
 ghost use Rattle.cert_text.specs.StandsFor.{HasText};
 ghost use Rattle.sanlp.specs.Size.{SizeIsOk};
-ghost use Rattle.net_maker.specs.Certificates.{IsCertificate};
+ghost use Rattle.swept_net.specs.Certificates.{IsCertificate};
 ghost use Rattle.sanlp.specs.declared.nest.Nest.{Nest};
 ghost use Rattle.source_tree.specs.declared.cert.Cert.{Cert};
 ghost use Rattle.witness_plan.specs.declared.schedules.Policy.{Policy};

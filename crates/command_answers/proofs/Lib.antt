@@ -7,5 +7,4 @@ mod TextAnswers
 mod Runs
 mod Sources
 mod StatusNumbers
-mod Stops
-mod TellsSources
+pub mod Stops

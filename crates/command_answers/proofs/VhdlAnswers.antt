@@ -1,4 +1,11 @@
 -- What the command `vhdl` comes to, from what its steps come to.
+--
+-- The code asks a network for the first script that is too long, and the definitions ask the automata of the planned
+-- network for it. The network at hand is the planned one, so its automata are the planned ones, and what is found is
+-- the same: none, or a process with the number of its events, which is all that the refusal tells. So the nodes are to
+-- be written or the script is refused, and the whole command has a case for each of these and one for a source that
+-- gives no nest. Whether a script is too long, and what the text is, is judged in crate vhdl_text and taken as it
+-- stands.
 use Rattle.std.proofs.Common.{◌≡◌, ◌∙◌, ℕ, ℤ, List, Option, Some, None, Result, Ok, Err, ap, refl, sym, subst}
 use Rattle.std.proofs.lemmas.Option.{same_Some}
 use Rattle.std.specs.Option.{option_map}

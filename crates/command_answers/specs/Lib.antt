@@ -1,4 +1,3 @@
-pub mod Certifying
 pub mod Checking
 pub mod Describing
 pub mod Judging
@@ -12,6 +11,5 @@ pub mod Simulating
 pub mod Source
 pub mod Statuses
 pub mod Steps
-pub mod Telling
 pub mod Tracing
 pub mod Trimming

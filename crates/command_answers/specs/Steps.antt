@@ -43,6 +43,7 @@ HasNest source found tree params (Err refusal) =
     (reason : BindError) × (least_from None (findings tree params) ≡ Some reason)
     × (bind_refusal (byte_of source found) reason ≡ Some refusal)
 
+-- the size of a nest, which is within the limit, or why the nest is refused
 abbrev pub HasSize : Nest → Result ℕ Refusal → Type 0
 HasSize nest (Ok total) = (counted nest ≡ Ok total) × SizeIsOk nest
 HasSize nest (Err refusal) =

@@ -70,8 +70,8 @@ pub struct DependencesAnswer {
     pub nest: Nest,
     pub dependences: Items<Dependence>,
     pub swept: Option<Swept>,
-    ghost swept_of_nest: { IsSweptOfIfAny nest swept },
-    ghost told: { IsTrue (list_all (can_be_told nest swept) dependences) },
+    pub ghost swept_of_nest: { IsSweptOfIfAny nest swept },
+    pub ghost told: { IsTrue (list_all (can_be_told nest swept) dependences) },
 }
 
 /// What is to be written on the output.

@@ -10,11 +10,11 @@ use crate::source::sized_nest;
 use bundle::parts_of;
 use loop_class::Params;
 use loop_walk::points;
-use net_maker::compile_network;
 use node_automata::automata;
 use plain_data::Items;
 use sanlp::Nest;
 use std::alloc::Global;
+use swept_net::compile_network;
 use vhdl_text::too_long_script;
 use witness_plan::Policy;
 

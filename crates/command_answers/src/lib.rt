@@ -1,4 +1,5 @@
-//! What each command answers to a bundle and its parameters, or why there is no answer. Nothing is read or written here.
+//! What each command but `cert` and `deps` answers to a bundle and its parameters, or why there is no answer. Nothing is read or
+//! written here.
 //!
 //! Between two calls, or from one step of the main loop to the next: nothing is read or written: an answer is a value,
 //! and `specs/Replying.antt` says what is to be written of it.
@@ -6,7 +7,6 @@
 
 mod answer;
 mod check;
-mod dependences;
 mod describing;
 mod law;
 mod loading;
@@ -25,14 +25,14 @@ pub use answer::{
     NodesAnswer, NumbersAnswer,
 };
 pub use check::check_certificate;
-pub use dependences::tell_dependences;
 pub use describing::describe_network;
 pub use law::statuses_have_own_numbers;
 pub use loading::load;
-pub use printing::{print_certificate, print_network};
+pub use printing::print_network;
 pub use refusal::{ClassReason, LimitReason, Refusal, Stop, TextReason};
 pub use run::{run_by_interpreter, run_by_network};
 pub use simulating::run_by_clock;
+pub use source::{nest_of, size_of, sized_nest};
 pub use status::Status;
 pub use tracing::trace_network;
 pub use trimming::trim_network;

@@ -11,11 +11,11 @@ use io_edge::Gate;
 use loop_walk::points;
 use net_checker::{Verdict, check_with_sources};
 use net_core::Network;
-use net_maker::{SweptNetwork, compile_with_sources};
 use sanlp::{Arrays, Inputs, Nest, Points};
 use std::alloc::{AllocError, Global};
 use std::sync::Wait;
 use std::thread::Threads;
+use swept_net::{SweptNetwork, compile_with_sources};
 use thread_runner::{Bench, make_ends, run_threads};
 use witness_plan::Policy;
 

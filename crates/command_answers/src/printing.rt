@@ -1,23 +1,21 @@
 ghost use Rattle.std.specs.Prelude.{◌≡◌, ◌<◌, ◌^◌, length, IfOk};
-ghost use Rattle.command_answers.specs.Certifying.{PrintsCertificate};
 ghost use Rattle.command_answers.specs.Judging.{Judges};
 ghost use Rattle.command_answers.specs.Printing.{Prints, network_text};
 ghost use Rattle.command_answers.specs.Replies.{done};
-ghost use Rattle.command_answers.specs.Replying.{JudgesTexts, as_reply, reply_of};
+ghost use Rattle.command_answers.specs.Replying.{as_reply, reply_of};
 ghost use Rattle.sanlp.specs.Size.{SizeIsOk};
 ghost use Rattle.witness_plan.specs.declared.schedules.Policy.TheVariants.{Seq};
 
-use crate::answer::{Answer, CertificateAnswer, NetworkAnswer, NumbersAnswer};
+use crate::answer::{Answer, NetworkAnswer, NumbersAnswer};
 use crate::refusal::Stop;
 use crate::source::sized_nest;
 use bundle::parts_of;
 use loop_class::Params;
-use loop_walk::points;
-use net_maker::{compile, compile_network};
 use network_numbers::sequential_numbers;
 use number_text::text_tells_numbers;
 use sanlp::Nest;
 use std::alloc::{AllocError, Global};
+use swept_net::compile_network;
 use witness_plan::Policy;
 
 // The network of a nest with the capacities that the sequential schedule needs, told by its numbers: no script is made.
@@ -65,21 +63,4 @@ pub fn print_network(
     let nest = sized_nest(alloc, parts.source, params)?;
     let answer = network_answer(alloc, nest, policy)?;
     Ok(answer)
-}
-
-/// The network of a bundle's source with its certificate.
-pub fn print_certificate(
-    alloc: Global,
-    policy: Policy,
-    params: &Params,
-    bundle: &[u8],
-) -> Result<CertificateAnswer, Stop>
-    requires { length bundle.now < 2 ^ 32 }
-    ensures { Judges (JudgesTexts (PrintsCertificate policy params.now bundle.now)) result }
-{
-    let parts = parts_of(bundle);
-    let nest = sized_nest(alloc, parts.source, params)?;
-    let points = points(alloc, &nest)?;
-    let (network, cert) = compile(alloc, &nest, &points, policy)?;
-    Ok(CertificateAnswer { network, cert })
 }

@@ -126,6 +126,7 @@ pub(crate) fn lex_refusal(error: LexError) -> Option<Refusal>
     }
 }
 
+/// The refusal of a source at this place of its tokens: no rule of the grammar goes on there.
 pub(crate) fn syntax_refusal(source: &[u8], tokens: &[Token], place: u32) -> Refusal
     ensures { result ≡ syntax_refusal (byte_of source.now tokens.now place) }
 {
@@ -184,6 +185,7 @@ pub(crate) fn bind_refusal(source: &[u8], tokens: &[Token], reason: BindError) -
     Some(refusal)
 }
 
+/// The refusal of a nest that is too large, or of a loop value that is.
 pub(crate) fn size_refusal(error: SizeError) -> Refusal
     ensures { result ≡ size_refusal error }
 {

@@ -15,10 +15,10 @@ use crate::run::prepared;
 use clock_sim::{Clocked, simulate};
 use loop_class::Params;
 use loop_walk::points;
-use net_maker::compile_network;
 use node_automata::automata;
 use sanlp::{Inputs, Nest};
 use std::alloc::{AllocError, Global};
+use swept_net::compile_network;
 use witness_plan::Policy;
 
 // The clocked run of the network of a nest.

@@ -57,8 +57,9 @@ fn bound(
     }
 }
 
-/// The nest of a source with these values of its parameters.
-pub(crate) fn nest_of(alloc: Global, source: &[u8], params: &Params) -> Result<Nest, Stop>
+/// The nest of a source with these values of its parameters. A source is refused that has no tokens, whose tokens have no
+/// tree, or whose tree can't be bound: in this order, and with the byte of the place. Its size isn't asked for.
+pub fn nest_of(alloc: Global, source: &[u8], params: &Params) -> Result<Nest, Stop>
     requires { length source.now < 2 ^ 32 }
     ensures { Judges (Gives source.now params.now) result }
 {
@@ -68,7 +69,9 @@ pub(crate) fn nest_of(alloc: Global, source: &[u8], params: &Params) -> Result<N
     bound(alloc, source, found, &tree, params)
 }
 
-pub(crate) fn size_of(nest: &Nest) -> Result<u64, Stop>
+/// The size of a nest: the number of its executed statements and loop turns. A nest is refused whose size passes the limit,
+/// or that enters a loop with a value outside the limit of loop values. It takes no memory.
+pub fn size_of(nest: &Nest) -> Result<u64, Stop>
     ensures { Judges (HasSize nest.now) result }
 {
     match size(nest) {
@@ -77,8 +80,9 @@ pub(crate) fn size_of(nest: &Nest) -> Result<u64, Stop>
     }
 }
 
-/// The nest of a source with these values of its parameters, within the limit on its size.
-pub(crate) fn sized_nest(alloc: Global, source: &[u8], params: &Params) -> Result<Nest, Stop>
+/// The nest of a source with these values of its parameters, within the limit on its size: what `nest_of` refuses, and
+/// then what `size_of` does, is refused.
+pub fn sized_nest(alloc: Global, source: &[u8], params: &Params) -> Result<Nest, Stop>
     requires { length source.now < 2 ^ 32 }
     ensures { Judges (HasSizedNest source.now params.now) result }
 {

@@ -11,12 +11,12 @@ use bundle::parts_of;
 use io_edge::Gate;
 use loop_class::Params;
 use loop_walk::points;
-use net_maker::compile_network;
 use plain_data::Items;
 use sanlp::Nest;
 use std::alloc::{AllocError, Global};
 use std::sync::Wait;
 use std::thread::Threads;
+use swept_net::compile_network;
 use trace_board::run_board;
 use witness_plan::Policy;
 

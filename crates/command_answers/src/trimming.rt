@@ -14,9 +14,9 @@ use crate::source::sized_nest;
 use bundle::parts_of;
 use cap_trim::{Trimmed, least_capacities};
 use loop_class::Params;
-use net_maker::compile_network;
 use sanlp::Nest;
 use std::alloc::{AllocError, Global};
+use swept_net::compile_network;
 use witness_plan::Policy;
 
 // The least capacities of the network of a nest, and where it sticks with one place less. No points are made.

@@ -1,8 +1,8 @@
 -- What one can rely on of a call follows of how it ended.
 --
 -- Each of the promises is shown of all ends in a file of its own: the statuses in `OwnStatuses`, that acceptance vouches for
--- a sound certificate in `Vouched`, what a call comes to whose source tells its bytes in `Told`, and that `deps` passes no
--- limit in `Unlimited`. Here they are put together. What is said of outcomes alone are the laws, which are hypotheses.
+-- a sound certificate in `Acceptance`, what a call comes to whose source tells its bytes in `SourceBytes`, and that `deps`
+-- passes no limit in `NoLimit`. Here they are put together. What is said of outcomes alone are the laws, which are hypotheses.
 use Rattle.std.proofs.Common.{◌≡◌, ℕ, List, Option, Some, refl, sym, subst}
 use Rattle.command_answers.specs.Statuses.{status_number}
 use Rattle.command_answers.specs.declared.status.Status.{Status}

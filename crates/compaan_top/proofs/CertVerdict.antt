@@ -30,7 +30,7 @@ use Rattle.std.proofs.lemmas.List.{append_cancel_left}
 use Rattle.std.proofs.lemmas.List.Elements.{Contains-append_right}
 use Rattle.std.proofs.lemmas.Option.{same_Some}
 use Rattle.loop_walk.specs.declared.count.SizeError.{SizeError}
-use Rattle.net_maker.specs.Certificates.{IsCertificate}
+use Rattle.swept_net.specs.Certificates.{IsCertificate}
 use Rattle.sanlp.specs.declared.nest.Nest.{Nest}
 use Rattle.source_tree.specs.declared.cert.Cert.{Cert}
 use Rattle.std.specs.Prelude.{Contains, IfOk}
@@ -41,7 +41,7 @@ use Rattle.compaan_top.specs.Certified.{Accepts, AgreeOn, Call, Certifies, HasCe
 use Rattle.compaan_top.specs.Commands.{reads_of}
 use Rattle.compaan_top.specs.Headline.{AcceptsWhatFits, HasFittingCertificate, SaysAccepted}
 use Rattle.compaan_top.specs.Outcome.{Outcome, IsOutcome, Performs, outcome_of, words_refused, bundle_refused, performed}
-use Rattle.command_answers.specs.Certifying.{PrintsCertificate, source_refused, printed}
+use Rattle.tree_answers.specs.Certifying.{PrintsCertificate, source_refused, printed}
 use Rattle.compaan_top.specs.Complaints.{refusal_status}
 use Rattle.command_answers.specs.Replies.{Reply}
 use Rattle.command_answers.specs.Source as sized
@@ -85,7 +85,7 @@ no_nest refusal nest e = cc
 same_nest : (m nest : Nest) → ◌≡◌ {A = Result Nest Refusal} (Ok m) (Ok nest) → m ≡ nest
 same_nest m nest e = cc
 
-binding_of : (source : List ℕ) (params : List (List ℕ × ℤ)) (nest : Nest) {answer : Result Nest Refusal}
+pub binding_of : (source : List ℕ) (params : List (List ℕ × ℤ)) (nest : Nest) {answer : Result Nest Refusal}
     → Gives source params answer → answer ≡ Ok nest → HasBinding source params nest
 binding_of source params nest (no_tokens error refusal lexed made) e = absurd (no_nest refusal nest e)
 binding_of source params nest (no_tree found place lexed stops) e = absurd (no_nest _ nest e)
@@ -102,7 +102,7 @@ binding_of source params nest (bound found tree m lexed parsed is) e =
     }
 
 -- gives it with its last line ended, too
-gives_ended : TokensStay → SentenceStays → (source : List ℕ) (params : List (List ℕ × ℤ)) (nest : Nest)
+pub gives_ended : TokensStay → SentenceStays → (source : List ℕ) (params : List (List ℕ × ℤ)) (nest : Nest)
     → HasBinding source params nest → Gives (with_line_end source) params (Ok nest)
 gives_ended tokens_stay sentence_stays source params nest b =
     bound b.found b.tree nest (tokens_stay source ∙ b.lexed)
@@ -174,7 +174,7 @@ bound_alike a b tree nest agree is =
       body = is.body ∙ ap (λ (p : Parts). p.body) parts;
     }
 
-rebound : (source : List ℕ) (a b : List (List ℕ × ℤ)) (nest : Nest) → AgreeOn source a b → HasBinding source a nest
+pub rebound : (source : List ℕ) (a b : List (List ℕ × ℤ)) (nest : Nest) → AgreeOn source a b → HasBinding source a nest
     → HasBinding source b nest
 rebound source a b nest agree binding = record {
   found = binding.found;
@@ -198,12 +198,12 @@ pub record HasWritten (params : List (List ℕ × ℤ)) (policy : Policy) (bundl
   pub certificate : IsCertificate nest policy cert
   pub is : IsWrittenOf text (planned_network nest policy) cert
 
-record HasTotal (source : List ℕ) (params : List (List ℕ × ℤ)) (nest : Nest) : Type 0 where
-  total : ℕ
-  gives : Gives source params (Ok nest)
-  counts : counted nest ≡ Ok total
+pub record HasTotal (source : List ℕ) (params : List (List ℕ × ℤ)) (nest : Nest) : Type 0 where
+  pub total : ℕ
+  pub gives : Gives source params (Ok nest)
+  pub counts : counted nest ≡ Ok total
 
-total_of : (source : List ℕ) (params : List (List ℕ × ℤ)) (nest : Nest) {answer : Result Nest Refusal}
+pub total_of : (source : List ℕ) (params : List (List ℕ × ℤ)) (nest : Nest) {answer : Result Nest Refusal}
     → GivesWithinSize source params answer → answer ≡ Ok nest → HasTotal source params nest
 total_of source params nest (sized.source_refused refusal gives) e = absurd (no_nest refusal nest e)
 total_of source params nest (sized.size_refused m error gives counts) e = absurd (no_nest _ nest e)

@@ -5,7 +5,7 @@
 -- (`comes_to`): its three other ends have the statuses that `IsAnswered` excludes. For `check` this gives
 -- that `accepted` is said exactly where the bundle is within the limit and has a sound certificate (`call_accepted`).
 -- That acceptance vouches for a fitting pair, that what fits is sound, and that what fits is accepted are hypotheses
--- here (`Vouched`).
+-- here (`Acceptance`).
 use Rattle.std.proofs.Common.{◌≡◌, ◌∙◌, ◌⊎◌, ◌≤◌, ◌<◌, ◌++◌, arith, ℕ, List, length, length-append, append-nil, Option, Some, None, refl, sym, ap, subst, inl, inr}
 use Rattle.std.specs.Io.KnownBytes.{Appends, Consumes, IsAtEnd}
 use Rattle.std.specs.Prelude.{◌↔◌}

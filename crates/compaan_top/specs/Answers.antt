@@ -15,7 +15,7 @@ pub record Change : Type 0 where
   pub faults_old : ℕ
   pub faults_new : ℕ
 
--- that of a source or a sink whose trait gives its bytes and its faults so
+-- the bytes and the count of faults of a source or a sink, before a call and after it, by what its trait gives
 abbrev pub change : {Edge : Type 0} → (Edge → Option (List ℕ)) → (Edge → ℕ) → Edge → Edge → Change
 change bytes faults before after = record {
   old = bytes before;

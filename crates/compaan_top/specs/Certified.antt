@@ -13,7 +13,7 @@ use Rattle.loop_grammar.specs.declared.tree.Named.{Named}
 use Rattle.loop_grammar.specs.declared.tree.Tree.{Tree}
 use Rattle.loop_lex.specs.Tokens.{tokens}
 use Rattle.loop_lex.specs.declared.token.Token.{Token}
-use Rattle.net_maker.specs.Certificates.{IsCertificate}
+use Rattle.swept_net.specs.Certificates.{IsCertificate}
 use Rattle.sanlp.specs.declared.nest.Nest.{Nest}
 use Rattle.source_tree.specs.declared.cert.Cert.{Cert}
 use Rattle.witness_plan.specs.Schedules.{planned_network}

@@ -15,14 +15,14 @@ use crate::writing::{status_of, write_text};
 use cert_text::write_cert;
 use command_answers::{
     Answer, CertificateAnswer, Refusal, Status, Stop, check_certificate, describe_network, load,
-    print_certificate, print_network, run_by_clock, run_by_interpreter, run_by_network,
-    tell_dependences, trace_network, trim_network,
+    print_network, run_by_clock, run_by_interpreter, run_by_network, trace_network, trim_network,
 };
 use command_line::{Command, Order, WordsError, read_words};
 use io_edge::{Gate, ReadError, Sink, Source, read_all};
 use std::alloc::Global;
 use std::sync::Wait;
 use std::thread::Threads;
+use tree_answers::{print_certificate, tell_dependences};
 
 /// The most bytes that a bundle has.
 const BUNDLE_LIMIT: usize = 67_108_864;

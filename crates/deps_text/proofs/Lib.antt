@@ -1,4 +1,3 @@
 mod Fires
 mod Lookups
-mod Statements
 mod DependenceRange

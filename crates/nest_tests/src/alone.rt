@@ -257,7 +257,7 @@ fn streams_along(
     streams
 }
 
-// What a process of a sound network has kept, and the calls of its ends, where it runs alone over ends in memory.
+/// What a process of a sound network has kept, and the calls of its ends, where it runs alone over ends in memory.
 pub(crate) fn run_alone<R: Wait>(
     rt: &R,
     alloc: Global,

@@ -24,7 +24,7 @@ use Rattle.source_tree.specs.declared.tree.Tree.{Tree}
 use Rattle.source_tree.specs.Sources.{read_number}
 use Rattle.std.proofs.Math.Seq.{take-length}
 use Rattle.tree_text.specs.TreeText.{TreeIsInRange}
-use Rattle.net_maker.specs.Certificates.{HasOrigins, IsUsableOrigin}
+use Rattle.net_maker.specs.Origins.{HasOrigins, IsUsableOrigin}
 use Rattle.plain_data.proofs.Lists.{slice_get-some, sum_by_more_some}
 
 -- Numbers of reads

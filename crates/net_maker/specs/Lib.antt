@@ -1,1 +1,1 @@
-pub mod Certificates
+pub mod Origins

@@ -1,7 +1,7 @@
 ghost use Rattle.std.specs.Prelude.{◌≡◌, ◌<◌, ◌+◌, ◌↔◌, ℕ, ℤ, List, [], None, Some, length, slice_get, slice_index_or, IfOk, IsTrue, OnOk};
 ghost use Rattle.net_checker.specs.Shapes.{read_total};
 ghost use Rattle.net_checker.specs.Sources.{IsUsable};
-ghost use Rattle.net_maker.specs.Certificates.{HasOrigins, IsUsableOrigin};
+ghost use Rattle.net_maker.specs.Origins.{HasOrigins, IsUsableOrigin};
 ghost use Rattle.sanlp.specs.Access.{read_count};
 ghost use Rattle.sanlp.specs.Points.{points_of};
 ghost use Rattle.source_tree.specs.Checked.{IsChecked};

@@ -1,14 +1,15 @@
 -- The text of a certificate with the lines of a full run as its schedule stands for the certificate with that run.
 --
 -- A text keeps scripts, channels, sources and schedule apart, and just the number of the schedule's parts stands before. So
--- with other entries, one line for each, it is a text of the same network and sources, where each entry is in its range and
--- there are not too many. That is so of a run that ends all: each of its entries is a process, and it has as many as the
--- scripts have events. Nothing is said of a run that doesn't end all.
-use Rattle.std.proofs.Common.{◌≡◌, ℕ, ◌<◌, List, [], ◌∷◌, ◌++◌, map, length, refl, sym, ap, ◌∙◌}
+-- with other entries, one line for each (`entries_text`), it is a text of the same network and sources, where each entry is
+-- in its range and there are not too many. That is so of a run that ends all: each of its entries is a process, and it has
+-- as many as the scripts have events. Nothing is said of a run that doesn't end all.
+use Rattle.std.proofs.Common.{◌≡◌, ℕ, ◌<◌, List, [], ◌∷◌, ◌++◌, map, length, refl, sym, ap, subst, ◌∙◌}
 use Rattle.std.proofs.Common.{Option, Some, None, true, arith}
 use Rattle.std.specs.Prelude.{All}
 use Rattle.std.specs.List.{flat_map}
 use Rattle.std.proofs.lemmas.List.Elements.{All-cons, All-head, All-nil, All-tail}
+use Rattle.script_blocks.specs.declared.blocks.Blocks.{Blocks}
 use Rattle.script_blocks.specs.declared.blocks.BlockPart.TheVariants.{Item}
 use Rattle.script_blocks.specs.Expansion.{expansion, part_expansion}
 use Rattle.script_blocks.proofs.Expansions.{expansion_item}
@@ -26,23 +27,31 @@ use Rattle.source_tree.specs.declared.cert.Origin.{Origin}
 use Rattle.trace_text.specs.TraceText.{entry_line}
 use Rattle.cert_lines.specs.Words.{IsInRange}
 use Rattle.cert_text.specs.CertText.{entry_text, parts_text}
-use Rattle.cert_text.specs.CertText.{folded_text, most_levels}
-use Rattle.cert_text.specs.Folding.{BlocksAreInRange, PartIsInRange}
+use Rattle.cert_text.specs.CertText.{folded_text, head_text, most_levels}
+use Rattle.cert_text.specs.Folding.{BlocksAreInRange, Folded, PartIsInRange}
 use Rattle.cert_text.specs.StandsFor.{IsShort, StandsFor}
 use Rattle.cert_text.proofs.Lengths.{all_events, few_events}
 use Rattle.cert_text.proofs.Proper.{item_in_range}
 use Rattle.cert_text.proofs.Texts.{text_item}
-use Rattle.network_laws.specs.Entries.{entry_blocks, with_entries}
+use Rattle.network_laws.specs.Entries.{scheduled_text, text_with_lines}
+
+-- a part for each entry
+abbrev entry_blocks : List ℕ → Blocks ℕ
+entry_blocks entries = record { parts = map Item entries }
+
+-- the same blocks but for the schedule, which has a part for each of these entries
+abbrev with_entries : Folded → List ℕ → Folded
+with_entries folded entries = record folded { schedule = entry_blocks entries }
 
 -- what the parts stand for
-pub expansion-entry_blocks : (entries : List ℕ) → expansion (entry_blocks entries) ≡ entries
+expansion-entry_blocks : (entries : List ℕ) → expansion (entry_blocks entries) ≡ entries
 expansion-entry_blocks [] = refl
 expansion-entry_blocks (entry ∷ entries) =
     ap (λ (l : List ℕ). l ++ flat_map part_expansion (map Item entries)) (expansion_item entry)
     ∙ ap (λ (l : List ℕ). entry ∷ l) (expansion-entry_blocks entries)
 
 -- and their lines
-pub parts_text-entry_blocks : (entries : List ℕ)
+parts_text-entry_blocks : (entries : List ℕ)
     → parts_text entry_text (entry_blocks entries).parts ≡ flat_map entry_line entries
 parts_text-entry_blocks [] = refl
 parts_text-entry_blocks (entry ∷ entries) =
@@ -109,8 +118,8 @@ module _ (n : Nest) (network : Network) (cert : Cert) (text : List ℕ) (run : L
       parts = items_in_range (most_levels stands.version) run entries;
     }
 
-    pub stands_with_run : StandsFor (folded_text stands.version (with_entries stands.folded run)) network other
-    stands_with_run = record {
+    stands_folded : StandsFor (folded_text stands.version (with_entries stands.folded run)) network other
+    stands_folded = record {
       version = stands.version;
       folded = with_entries stands.folded run;
       is_text = refl;
@@ -130,3 +139,14 @@ module _ (n : Nest) (network : Network) (cert : Cert) (text : List ℕ) (run : L
           (sym (expansion-entry_blocks run));
       short = short;
     }
+
+    -- which has these lines
+    entries_text : folded_text stands.version (with_entries stands.folded run) ≡ scheduled_text stands run
+    entries_text =
+        ap (λ (m : ℕ). head_text stands.version
+        ++ text_with_lines stands.folded m (parts_text entry_text (entry_blocks run).parts)) (length-items run)
+        ∙ ap (λ (lines : List ℕ). head_text stands.version ++ text_with_lines stands.folded (length run) lines)
+        (parts_text-entry_blocks run)
+
+    pub stands_with_run : StandsFor (scheduled_text stands run) network other
+    stands_with_run = subst (λ (bytes : List ℕ). StandsFor bytes network other) entries_text stands_folded

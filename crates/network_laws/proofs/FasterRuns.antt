@@ -1,12 +1,12 @@
--- The clocked run is nowhere behind an execution in which processes are held back, and more room is never slower.
+-- The clocked run is nowhere behind an execution in which processes are held back, and greater capacities are never slower.
 --
 -- At every clock each process of the execution is at most where the clocked run has it. For a process that is behind, one
 -- event can't bring it past. A process that is equally far and may go on in the execution may go on in the clocked run
 -- too, since all others are as far there or farther, and what may come at a cut may come at each later cut that leaves its
--- process where it is (`place_behind`, by induction on the clocks). With more room a clocked run is an execution in which
--- just those are held back that the lesser room holds back. Nothing is said of executions in which an event is enabled by
--- another one of the same clock.
-use Rattle.std.proofs.Common.{◌≡◌, ℕ, zero, suc, ◌≤◌, Bool, true, false, ◌&&◌, cond, List, ◌++◌}
+-- process where it is (`place_behind`, by induction on the clocks). With greater capacities a clocked run is an execution in
+-- which just those are held back that the lesser ones hold back. Nothing is said of executions in which an event is enabled
+-- by another one of the same clock.
+use Rattle.std.proofs.Common.{◌≡◌, ℕ, zero, suc, ◌<◌, ◌≤◌, Bool, true, false, ◌&&◌, cond, List, ◌++◌}
 use Rattle.std.proofs.Common.{length, ap, sym, subst, ◌∙◌, refl, inl, inr, arith}
 use Rattle.std.specs.List.{range_with_len}
 use Rattle.std.proofs.lemmas.Bool.{cases_Bool, cases_lt}
@@ -20,12 +20,32 @@ use Rattle.net_core.proofs.CutOrder.{enabled_stays_at}
 use Rattle.net_core.proofs.Positions.{cut_inside, run_cut, start_counted}
 use Rattle.witness_plan.proofs.OtherCapacities.{wired_at}
 use Rattle.cap_trim.specs.Capacities.{with_room}
-use Rattle.cap_trim.proofs.MoreRoom.{enabled_roomier, ends_roomier, run_roomier}
 use Rattle.clock_sim.specs.Clocks.{ClockedRunEnds, after_clocks, clocked_run, clocks}
 use Rattle.clock_sim.proofs.ClockRuns.{none_from_stuck}
 use Rattle.network_laws.specs.Stalls.{run_with_stalls, steps_of_clock}
+use Rattle.network_laws.proofs.ChannelCapacities.{cuts_with_more, enabled_with_more, ends_with_more}
 use Rattle.network_laws.proofs.RunsWithStalls.{always, clocked_is_stalled, enabled_there, place, place_few, place_moved}
 use Rattle.network_laws.proofs.RunsWithStalls.{reached_at, reached_enabled, reached_run, stalled_cuts}
+
+-- The clocked run itself
+
+module _ {T : Type 0} (n : Net) (rule : Rule T) (wired : IsWired n) where
+  pub clocked_is_run : (k : ℕ) → IsRun n rule (start n) (clocked_run n rule k)
+  clocked_is_run k =
+      subst (λ (run : List ℕ). IsRun n rule (start n) run) (sym (clocked_is_stalled n rule k))
+      (reached_run n rule wired (run_with_stalls n rule always k) (stalled_cuts n rule wired always k))
+
+  pub clocked_cuts : (k : ℕ) → IsCutRun n opening (clocked_run n rule k)
+  clocked_cuts k = run_cut n rule wired (clocked_run n rule k) (start n) (start_counted n) (clocked_is_run k)
+
+  -- where it stands after so many clocks
+  pub clocked_at : (k p : ℕ) → positions (after_clocks n rule k) p ≡ place n rule wired always k p
+  clocked_at k p =
+      ap (λ (run : List ℕ). positions (reached n rule run) p) (clocked_is_stalled n rule k)
+      ∙ ap (λ (c : Cut). c p)
+      (reached_at n rule wired (run_with_stalls n rule always k) (stalled_cuts n rule wired always k))
+
+-- An execution in which processes are held back
 
 module _ {T : Type 0} (n : Net) (rule : Rule T) (wired : IsWired n) (may : ℕ → ℕ → Bool) where
   -- where the execution and the clocked run stand at the beginning of a clock
@@ -73,14 +93,8 @@ module _ {T : Type 0} (n : Net) (rule : Rule T) (wired : IsWired n) (may : ℕ �
   held_at : (k p : ℕ) → positions (reached n rule (run_with_stalls n rule may k)) p ≡ held k p
   held_at k p = ap (λ (c : Cut). c p) (reached_at n rule wired (run_with_stalls n rule may k) (stalled_cuts n rule wired may k))
 
-  clocked_at : (k p : ℕ) → positions (after_clocks n rule k) p ≡ free k p
-  clocked_at k p =
-      ap (λ (run : List ℕ). positions (reached n rule run) p) (clocked_is_stalled n rule k)
-      ∙ ap (λ (c : Cut). c p)
-      (reached_at n rule wired (run_with_stalls n rule always k) (stalled_cuts n rule wired always k))
-
   pub never_ahead : (k p : ℕ) → positions (reached n rule (run_with_stalls n rule may k)) p ≤ positions (after_clocks n rule k) p
-  never_ahead k p = omega (arith, held_at k p, clocked_at k p, place_behind k p)
+  never_ahead k p = omega (arith, held_at k p, clocked_at n rule wired k p, place_behind k p)
 
   -- where every script is at its end, nobody may go on
   stuck_at_end : (k : ℕ) → ((p : ℕ) → free k p ≡ length (n.script p)) → IsStuck n (after_clocks n rule k)
@@ -109,71 +123,67 @@ module _ {T : Type 0} (n : Net) (rule : Rule T) (wired : IsWired n) (may : ℕ �
   pub script_short : ClockedRunEnds n rule → (p : ℕ) → length (n.script p) ≤ clocks n
   script_short ends p =
       let there : positions (after_clocks n rule (clocks n)) p ≡ length (n.script p) = ends.ends.1 p in
-      omega (arith, there, clocked_at (clocks n) p, place_few n rule wired always (clocks n) p)
+      omega (arith, there, clocked_at n rule wired (clocks n) p, place_few n rule wired always (clocks n) p)
 
--- More room
+-- Greater capacities
 
-module _ {T : Type 0} (n : Net) (rule : Rule T) (room : ℕ → ℕ) (wired : IsWired n)
-    (more : (c : ℕ) → n.capacity c ≤ room c) where
-  abbrev roomier : Net
-  roomier = with_room n room
+module _ {T : Type 0} (n : Net) (rule : Rule T) (capacities : ℕ → ℕ) (wired : IsWired n)
+    (more : (c : ℕ) → c < n.channels → n.capacity c ≤ capacities c) where
+  abbrev greater : Net
+  greater = with_room n capacities
 
-  -- those are held back that the lesser room holds back
+  greater_wired : IsWired greater
+  greater_wired = wired_at n capacities wired
+
+  -- those are held back that the lesser capacities hold back
   abbrev as_before : ℕ → ℕ → Bool
   as_before k p = enabled n (after_clocks n rule k) p
 
-  clocked_is_run : (k : ℕ) → IsRun n rule (start n) (clocked_run n rule k)
-  clocked_is_run k =
-      subst (λ (run : List ℕ). IsRun n rule (start n) run) (sym (clocked_is_stalled n rule k))
-      (reached_run n rule wired (run_with_stalls n rule always k) (stalled_cuts n rule wired always k))
+  cuts_there : (k : ℕ) → IsCutRun greater opening (clocked_run n rule k)
+  cuts_there k = cuts_with_more n wired capacities more (clocked_run n rule k) opening (clocked_cuts n rule wired k)
 
-  clocked_cuts : (k : ℕ) → IsCutRun n opening (clocked_run n rule k)
-  clocked_cuts k = run_cut n rule wired (clocked_run n rule k) (start n) (start_counted n) (clocked_is_run k)
-
-  cuts_with_more : (k : ℕ) → IsCutRun roomier opening (clocked_run n rule k)
-  cuts_with_more k = run_roomier n room more (clocked_run n rule k) opening (clocked_cuts k)
-
-  enabled_with_more : (k p : ℕ) → as_before k p ≡ true → enabled roomier (reached roomier rule (clocked_run n rule k)) p ≡ true
-  enabled_with_more k p on =
+  enabled_there_too : (k p : ℕ) → as_before k p ≡ true
+      → enabled greater (reached greater rule (clocked_run n rule k)) p ≡ true
+  enabled_there_too k p on =
       let run = clocked_run n rule k in
-      reached_enabled roomier rule (wired_at n room wired) run (cuts_with_more k) p
-      ∙ enabled_roomier n room more (cut_after opening run) p
-      (sym (reached_enabled n rule wired run (clocked_cuts k) p) ∙ on)
+      reached_enabled greater rule greater_wired run (cuts_there k) p
+      ∙ enabled_with_more n wired capacities more (cut_after opening run) p
+      (sym (reached_enabled n rule wired run (clocked_cuts n rule wired k) p) ∙ on)
 
-  pub same_run : (k : ℕ) → run_with_stalls roomier rule as_before k ≡ clocked_run n rule k
+  pub same_run : (k : ℕ) → run_with_stalls greater rule as_before k ≡ clocked_run n rule k
   same_run zero = refl
   same_run (suc k) =
-      ap (λ (run : List ℕ). run ++ steps_of_clock roomier (as_before k) (reached roomier rule run)) (same_run k)
+      ap (λ (run : List ℕ). run ++ steps_of_clock greater (as_before k) (reached greater rule run)) (same_run k)
       ∙ ap (λ (clock : List ℕ). clocked_run n rule k ++ clock)
-      (filter_agree (λ p. as_before k p && enabled roomier (reached roomier rule (clocked_run n rule k)) p)
+      (filter_agree (λ p. as_before k p && enabled greater (reached greater rule (clocked_run n rule k)) p)
       (enabled n (after_clocks n rule k)) agree (range_with_len 0 n.processes))
     where
-      agree : (p : ℕ) → (as_before k p && enabled roomier (reached roomier rule (clocked_run n rule k)) p) ≡ as_before k p
+      agree : (p : ℕ) → (as_before k p && enabled greater (reached greater rule (clocked_run n rule k)) p) ≡ as_before k p
       agree p =
           elim (cases_Bool (as_before k p)) [
-            | inl on ↦ rw (on, enabled_with_more k p on) refl
+            | inl on ↦ rw (on, enabled_there_too k p on) refl
             | inr off ↦ rw off refl
           ]
 
   -- at every clock each process has come at least as far
-  pub never_behind : (k p : ℕ) → positions (after_clocks n rule k) p ≤ positions (after_clocks roomier rule k) p
+  pub never_behind : (k p : ℕ) → positions (after_clocks n rule k) p ≤ positions (after_clocks greater rule k) p
   never_behind k p =
       let run = clocked_run n rule k in
-      let here = reached_at n rule wired run (clocked_cuts k) in
-      let there = reached_at roomier rule (wired_at n room wired) run (cuts_with_more k) in
+      let here = reached_at n rule wired run (clocked_cuts n rule wired k) in
+      let there = reached_at greater rule greater_wired run (cuts_there k) in
       omega (
         arith,
         ap (λ (c : Cut). c p) here,
         ap (λ (c : Cut). c p) there,
-        ap (λ (r : List ℕ). positions (reached roomier rule r) p) (same_run k),
-        never_ahead roomier rule (wired_at n room wired) as_before k p,
+        ap (λ (r : List ℕ). positions (reached greater rule r) p) (same_run k),
+        never_ahead greater rule greater_wired as_before k p,
       )
 
-  pub roomier_ends : ClockedRunEnds n rule → EndsAll roomier rule (clocked_run n rule (clocks n))
-  roomier_ends ends = ends_roomier n room more rule wired (clocked_run n rule (clocks n)) ends.ends
+  pub all_ends : ClockedRunEnds n rule → EndsAll greater rule (clocked_run n rule (clocks n))
+  all_ends ends = ends_with_more n wired capacities more rule (clocked_run n rule (clocks n)) ends.ends
 
-  pub never_slower : ClockedRunEnds n rule → ClockedRunEnds roomier rule → clocks roomier ≤ clocks n
+  pub never_slower : ClockedRunEnds n rule → ClockedRunEnds greater rule → clocks greater ≤ clocks n
   never_slower ends more_ends =
-      clocks_least roomier rule (wired_at n room wired) as_before more_ends (clocks n)
-      (subst (λ (run : List ℕ). HasEnded roomier (reached roomier rule run)) (sym (same_run (clocks n)))
-      (roomier_ends ends).1)
+      clocks_least greater rule greater_wired as_before more_ends (clocks n)
+      (subst (λ (run : List ℕ). HasEnded greater (reached greater rule run)) (sym (same_run (clocks n)))
+      (all_ends ends).1)

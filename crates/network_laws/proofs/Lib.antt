@@ -1,9 +1,12 @@
 pub mod OneClock
 pub mod RunsWithStalls
 pub mod FairRuns
+pub mod ChannelCapacities
 pub mod FasterRuns
-pub mod EnoughRoom
+pub mod LeastForClocks
+pub mod EnoughCapacity
 pub mod Minimal
 pub mod FewestSlots
 pub mod EntryTexts
 pub mod Worked
+pub mod WorkedTexts

@@ -1,4 +1,4 @@
-ghost use Rattle.std.specs.Prelude.{◌≡◌, ◌≤◌, ℕ, Bool, length};
+ghost use Rattle.std.specs.Prelude.{◌≡◌, ◌<◌, ◌≤◌, ℕ, Bool, length};
 ghost use Rattle.sanlp.specs.declared.nest.Inputs.{Inputs};
 ghost use Rattle.sanlp.specs.declared.nest.Nest.{Nest};
 ghost use Rattle.sanlp.specs.Meaning.{arrays};
@@ -51,15 +51,16 @@ pub fn clocked_run_is_fastest<T: Copy>()
     every_order::<T, T>();
 }
 
-/// More room is never slower: where no channel has less room than in a network that is the same otherwise, each process has come
-/// at least as far at every clock. So where that network ends, the clocked run has no more clocks.
-pub fn more_room_is_never_slower<T: Copy>()
-    ensures ahead { (n : Net) (rule : Rule T) (room : ℕ → ℕ) (k p : ℕ) → IsWired n
-        → ((c : ℕ) → n.capacity c ≤ room c)
+/// Greater capacities are never slower: where no channel has a lesser capacity than in a network that is the same otherwise, each
+/// process has come at least as far at every clock. So where that network ends, the clocked run has no more clocks.
+pub fn greater_capacities_are_never_slower<T: Copy>()
+    ensures ahead { (n : Net) (rule : Rule T) (capacities : ℕ → ℕ) (k p : ℕ) → IsWired n
+        → ((c : ℕ) → c < n.channels → n.capacity c ≤ capacities c)
         → positions (after_clocks n rule k) p
-        ≤ positions (after_clocks (with_room n room) rule k) p }
-    ensures clocks { (n : Net) (rule : Rule T) (room : ℕ → ℕ) → IsWired n → EndsAlways n rule
-        → ((c : ℕ) → n.capacity c ≤ room c) → clocks (with_room n room) ≤ clocks n }
+        ≤ positions (after_clocks (with_room n capacities) rule k) p }
+    ensures clocks { (n : Net) (rule : Rule T) (capacities : ℕ → ℕ) → IsWired n
+        → EndsAlways n rule → ((c : ℕ) → c < n.channels → n.capacity c ≤ capacities c)
+        → clocks (with_room n capacities) ≤ clocks n }
 {
     clocked_run_ends::<T>();
     every_order::<T, T>();

@@ -1,5 +1,4 @@
-ghost use Rattle.std.specs.Prelude.{◌≡◌, ◌<◌, ◌≤◌, ℕ, List, length};
-ghost use Rattle.std.specs.List.{flat_map};
+ghost use Rattle.std.specs.Prelude.{◌≡◌, ◌<◌, ◌≤◌, ◌++◌, ℕ, List, length};
 ghost use Rattle.sanlp.specs.declared.nest.Inputs.{Inputs};
 ghost use Rattle.sanlp.specs.declared.nest.Nest.{Nest as NestOf};
 ghost use Rattle.source_tree.specs.declared.cert.Cert.{Cert};
@@ -9,14 +8,13 @@ ghost use Rattle.net_core.specs.Orders.{EndsAll};
 ghost use Rattle.net_core.specs.Rules.{tags, values};
 ghost use Rattle.net_core.specs.Sound.{IsSound};
 ghost use Rattle.net_checker.specs.Fits.{Fits};
-ghost use Rattle.net_maker.specs.Certificates.{swept_cert};
+ghost use Rattle.swept_net.specs.Certificates.{swept_cert};
 ghost use Rattle.witness_plan.specs.Sequential.{with_capacities};
 ghost use Rattle.cap_trim.specs.Capacities.{IsPlanned, capacity_list, trimmed_network, with_room};
 ghost use Rattle.cap_trim.specs.Rests.{least_run};
-ghost use Rattle.trace_text.specs.TraceText.{entry_line};
-ghost use Rattle.cert_text.specs.CertText.{entry_text, folded_text, parts_text};
+ghost use Rattle.cert_text.specs.CertText.{entry_text, head_text, parts_text};
 ghost use Rattle.cert_text.specs.StandsFor.{StandsFor};
-ghost use Rattle.network_laws.specs.Entries.{entry_blocks, with_entries};
+ghost use Rattle.network_laws.specs.Entries.{scheduled_text, text_with_lines};
 
 use crate::capacities::least_capacities_are_minimal;
 use derived_names::{has_classes_of_uses, names_last_writers};
@@ -40,18 +38,21 @@ pub fn any_full_run_is_a_schedule()
     every_order::<i64, Tag>();
 }
 
-/// So it is with texts: where a text stands for a network and a certificate that fit a nest, the same text with another schedule
-/// and its number of entries in the line of sizes, a line for each event of a run that ends all, stands for the network and the
-/// certificate with that run. These lines are those that `trace` writes between its first and its last. So the checker accepts
-/// what the text stands for.
+/// So it is with texts: where a text stands for a network and a certificate that fit a nest, the same text with a run that ends all
+/// in the place of its schedule stands for the network and the certificate with that run. It has a line for each event of the run,
+/// those that `trace` writes between its first line and its last, and their number in the line of sizes; before and behind them
+/// all is as it was. So the checker accepts what the text stands for.
 pub fn any_full_run_has_a_text()
     ensures stands { (n : NestOf) (network : Network) (cert : Cert) (text run : List ℕ)
         → (stands : StandsFor text network cert) → Fits n network cert
         → EndsAll (net_of network) tags run
-        → StandsFor (folded_text stands.version (with_entries stands.folded run)) network
+        → StandsFor (scheduled_text stands run) network
         (record { sources = cert.sources; schedule = run }) }
-    ensures lines { (entries : List ℕ)
-        → parts_text entry_text (entry_blocks entries).parts ≡ flat_map entry_line entries }
+    ensures before { (network : Network) (cert : Cert) (text : List ℕ)
+        → (stands : StandsFor text network cert)
+        → text ≡ head_text stands.version
+        ++ text_with_lines stands.folded (length stands.folded.schedule.parts)
+        (parts_text entry_text stands.folded.schedule.parts) }
 {
     any_full_run_is_a_schedule();
 }
@@ -66,11 +67,12 @@ pub fn trimmed_network_is_sound(nest: &Nest)
     ensures sound { (network : Network) (capacities : List ℕ) → IsPlanned nest.now network
         → capacities ≡ capacity_list (trimmed_network (net_of network))
         → IsSound nest.now (with_capacities network capacities) }
-    ensures minimal { (network : Network) (room : ℕ → ℕ) (c : ℕ) (run : List ℕ)
+    ensures minimal { (network : Network) (lesser : ℕ → ℕ) (c : ℕ) (run : List ℕ)
         → IsPlanned nest.now network → c < length network.channels
-        → ((d : ℕ) → room d ≤ (trimmed_network (net_of network)).capacity d)
-        → room c < (trimmed_network (net_of network)).capacity c
-        → EndsAll (with_room (net_of network) room) tags run → ⊥ }
+        → ((d : ℕ) → d < length network.channels
+        → lesser d ≤ (trimmed_network (net_of network)).capacity d)
+        → lesser c < (trimmed_network (net_of network)).capacity c
+        → EndsAll (with_room (net_of network) lesser) tags run → ⊥ }
 {
     fits_nest(nest);
     names_last_writers(nest);

@@ -6,7 +6,7 @@ use Rattle.net_core.specs.Machine.{net_of}
 use Rattle.witness_plan.specs.Sequential.{with_capacities}
 use Rattle.cap_trim.specs.declared.trimming.Trimmed.{Trimmed}
 use Rattle.cap_trim.specs.Capacities.{SticksBelow, capacity_list, lowered_rests, trimmed_network}
-use Rattle.net_maker.specs.Certificates.{swept_cert}
+use Rattle.swept_net.specs.Certificates.{swept_cert}
 use Rattle.cap_trim.specs.Rests.{least_run}
 use Rattle.cap_trim.proofs.TrimFits.{fits_trimmed, ok_both, places_stick, places_within, planned_wired}
 use Rattle.cap_trim.proofs.trimming.trim.Goals as goal

@@ -3,7 +3,7 @@ use Rattle.net_core.specs.declared.network.Network.{Network}
 use Rattle.net_checker.specs.Fits.{Fits}
 use Rattle.net_maker.proofs.ReadNumbers.{origins_are_usable}
 use Rattle.net_maker.proofs.OtherOrigins.{fits_again}
-use Rattle.net_maker.specs.Certificates.{swept_cert}
+use Rattle.swept_net.specs.Certificates.{swept_cert}
 use Rattle.sanlp.specs.declared.nest.Nest.{Nest}
 use Rattle.source_tree.specs.declared.cert.Cert.{Cert}
 use Rattle.witness_plan.specs.Schedules.{planned_network, schedule}

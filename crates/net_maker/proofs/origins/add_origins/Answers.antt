@@ -2,7 +2,7 @@ use Rattle.std.proofs.Common.{◌≡◌, ◌<◌, ◌+◌, ℕ, subst, arith}
 use Rattle.sanlp.specs.Access.{read_count}
 use Rattle.sanlp.proofs.ReadCounts.{read_count-some}
 use Rattle.source_tree.specs.Sources.{read_number}
-use Rattle.net_maker.specs.Certificates.{HasOrigins}
+use Rattle.net_maker.specs.Origins.{HasOrigins}
 use Rattle.net_maker.proofs.ReadNumbers.{next_statement, origins_more}
 use Rattle.net_maker.proofs.origins.add_origins.Goals as goal
 

@@ -1,4 +1,4 @@
-use Rattle.net_maker.specs.Certificates.{HasOrigins}
+use Rattle.net_maker.specs.Origins.{HasOrigins}
 use Rattle.source_tree.specs.Sources.{read_number}
 use Rattle.net_maker.proofs.origins.origins.Given as goal
 

@@ -1,9 +1,9 @@
 use Rattle.net_core.specs.Machine.{net_of}
 use Rattle.net_core.specs.Rules.{tags}
-use Rattle.net_maker.specs.Certificates.{swept_cert}
+use Rattle.swept_net.specs.Certificates.{swept_cert}
 use Rattle.witness_plan.specs.Sequential.{with_capacities}
 use Rattle.cap_trim.specs.Rests.{least_run}
-use Rattle.cap_trim.proofs.TrimFits.{fits_trimmed, planned_puts, planned_wired}
+use Rattle.cap_trim.proofs.TrimFits.{fits_trimmed, planned_wired}
 use Rattle.network_laws.proofs.schedules.trimmed_network_is_sound.Goals as goal
 
 pub returns : goal.returns
@@ -18,8 +18,7 @@ returns c =
           c.is_sound.ensures nest trimmed (swept_cert nest (least_run (net_of trimmed)))
           (fits_trimmed nest network capacities planned c.fits_nest.ensures c.names_last_writers.ensures
           c.has_classes_of_uses.ensures is (planned_wired nest network planned));
-      minimal = λ network room at run planned there within below whole.
-          let wired = planned_wired nest network planned in
-          c.least_capacities_are_minimal.ensures (net_of network) tags room at run wired
-          there (planned_puts nest network planned at there) within below whole;
+      minimal = λ network lesser at run planned there within below whole.
+          c.least_capacities_are_minimal.ensures (net_of network) tags lesser at run
+          (planned_wired nest network planned) there within below whole;
     }

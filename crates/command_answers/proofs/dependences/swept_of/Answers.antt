@@ -1,4 +1,0 @@
-use Rattle.command_answers.proofs.dependences.swept_of.Goals as goal
-
-pub returns-then-all_have_trees : goal.returns-then-all_have_trees
-returns-then-all_have_trees c = c.all_have_trees.ensures.0 c.if-all_have_trees.true

@@ -1,0 +1,2 @@
+mod CertificateAnswers
+mod TellsSources

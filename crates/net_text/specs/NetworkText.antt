@@ -43,6 +43,7 @@ abbrev pub kind_word : Nest → ℕ → List ℕ
 kind_word nest p =
     option_map_or (λ statement. role_word statement.role) (slice_get nest.statements p) []
 
+-- the name of the array that process p gives, takes or assigns to
 abbrev pub name_word : Nest → ℕ → List ℕ
 name_word nest p = option_map_or (array_name nest) (slice_get nest.statements p) []
 

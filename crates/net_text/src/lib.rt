@@ -7,4 +7,4 @@ mod counts;
 mod network_text;
 
 pub use counts::event_count;
-pub use network_text::{class_word, write_net, write_network};
+pub use network_text::{class_word, kind_word, name_word, write_net, write_network, write_version};

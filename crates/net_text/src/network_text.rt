@@ -49,7 +49,8 @@ fn array_name<'a>(nest: &'a Nest, statement: &Statement) -> &'a [u8]
     }
 }
 
-fn kind_word(nest: &Nest, process: usize) -> &'static [u8]
+/// The word of a process's kind: `source`, `assign` or `sink`. It is empty where there is no such process.
+pub fn kind_word(nest: &Nest, process: usize) -> &'static [u8]
     ensures { result.now ≡ word_of_kind nest.now process }
 {
     match nest.statements.get(process) {
@@ -58,7 +59,8 @@ fn kind_word(nest: &Nest, process: usize) -> &'static [u8]
     }
 }
 
-fn name_word(nest: &Nest, process: usize) -> &[u8]
+/// The name of the array that a process is given, assigns or prints. It is empty where there is no such process.
+pub fn name_word(nest: &Nest, process: usize) -> &[u8]
     ensures { result.now ≡ word_of_name nest.now process }
 {
     match nest.statements.get(process) {
@@ -138,8 +140,8 @@ fn write_channels<W: TextWriter>(network: &Network, out: &mut W)
     }
 }
 
-/// Writes the line of the version.
-fn write_version<W: TextWriter>(out: &mut W)
+/// Writes the line of the version, `net 1`.
+pub fn write_version<W: TextWriter>(out: &mut W)
     ensures { Wrote W.given out.old out.new version_line }
 {
     write_line(&[Word::Text(b"net"), Word::Text(b"1")], out);

@@ -6,7 +6,7 @@
 -- channel's writer (`uses_more`), one that it writes has one Put more where the turn is a token (`puts_more`). With no
 -- Put more the queue is no longer than it was, and else it is as long as Puts less Gets say (`greatest_more`). Counts
 -- never reach 2^32, since no process has so many turns.
-use Rattle.std.proofs.Common.{◌≡◌, ℕ, zero, suc, ◌+◌, ◌-◌, ◌<◌, ◌≤◌, max, min, Bool, false, cond, Option, Some, None}
+use Rattle.std.proofs.Common.{◌≡◌, ℕ, zero, suc, ◌+◌, ◌-◌, ◌<◌, ◌≤◌, max, min, Bool, true, false, cond, Option, Some, None}
 use Rattle.std.proofs.Common.{List, [], length, map, take, slice_get, get_or, refl, sym, ap, ap₂, ◌∙◌}
 use Rattle.std.proofs.Common.{subst, inl, inr, arith, add-one}
 use Rattle.std.specs.Prelude.{slice_index, slice_index_or, ◌==◌, ◌&&◌}
@@ -23,9 +23,10 @@ use Rattle.channel_plan.specs.Tokens.{is_from, is_used, tokens_below, turn_of, t
 use Rattle.channel_plan.proofs.Uses.{tokens_more}
 use Rattle.net_core.specs.Machine.{net_of}
 use Rattle.net_core.proofs.EventCounts.{count_next}
-use Rattle.network_numbers.specs.declared.queues.Queue.{Queue}
+use Rattle.network_numbers.specs.declared.links.End.TheVariants.{Writer}
+use Rattle.network_numbers.specs.declared.queues.QueueCounts.{QueueCounts}
 use Rattle.network_numbers.specs.Entries.{after_entry, is_used_at, source_in, with_put}
-use Rattle.network_numbers.specs.Links.{links_of, outgoing, read_lists}
+use Rattle.network_numbers.specs.Links.{channels_at, links_of, read_lists}
 use Rattle.network_numbers.specs.Queues.{after_put, after_use, empty_queue}
 use Rattle.process_derive.specs.Derived.{net}
 use Rattle.process_derive.specs.Incoming.{carries}
@@ -58,7 +59,7 @@ use Rattle.network_numbers.proofs.PassedQueues.{passed}
 use Rattle.network_numbers.proofs.QueueCounts.{ends, few_turns, mark_is, queue_counted}
 
 -- what is counted of a channel after the first t entries
-abbrev pub queue_with : Nest → ℕ → ℕ → ChannelPlan → Queue
+abbrev pub queue_with : Nest → ℕ → ℕ → ChannelPlan → QueueCounts
 queue_with n t c plan =
     let sources = sources_at n plan.reader plan.read in
     record {
@@ -67,10 +68,10 @@ queue_with n t c plan =
       greatest = greatest_length (net_of (net n)) (sequenced n t) c;
     }
 
-abbrev pub queue_at : Nest → ℕ → ℕ → Queue
+abbrev pub queue_at : Nest → ℕ → ℕ → QueueCounts
 queue_at n t c = option_map_or (queue_with n t c) (slice_get (plans_of n) c) empty_queue
 
-abbrev pub queues_at : Nest → ℕ → List Queue
+abbrev pub queues_at : Nest → ℕ → List QueueCounts
 queues_at n t = map (queue_at n t) (range_with_len 0 (length (plans_of n)))
 
 -- The table
@@ -97,15 +98,41 @@ gets_so_far : (uses : List ℕ) (q : ℕ) → q ≤ length uses → gets_for_use
 gets_so_far uses zero le = refl
 gets_so_far uses (suc q) le = gets_here uses q (omega arith) ∙ ap (λ i. gets_for (take i uses)) (add-one q)
 
-same_queue : (puts puts' uses uses' greatest greatest' : ℕ) → puts ≡ puts' → uses ≡ uses' → greatest ≡ greatest'
-    → (let a : Queue = record { puts = puts; uses = uses; greatest = greatest } in a)
-    ≡ record { puts = puts'; uses = uses'; greatest = greatest' }
-same_queue puts puts' uses uses' greatest greatest' e f g = cc
+abbrev counts : ℕ → ℕ → ℕ → QueueCounts
+counts puts uses greatest = record { puts = puts; uses = uses; greatest = greatest }
+
+same_counts : (puts puts' uses uses' greatest greatest' : ℕ) → puts ≡ puts' → uses ≡ uses' → greatest ≡ greatest'
+    → counts puts uses greatest ≡ counts puts' uses' greatest'
+same_counts puts puts' uses uses' greatest greatest' e f g = cc
 
 -- what an entry makes of a channel's counts, by whether it uses the channel and whether it puts to it
-abbrev both : Bool → Bool → SlotPlan → Queue → Queue
+abbrev both : Bool → Bool → SlotPlan → QueueCounts → QueueCounts
 both uses_it puts_it slots queue =
     cond puts_it (after_put slots (cond uses_it (after_use queue) queue)) (cond uses_it (after_use queue) queue)
+
+use_counted : (it : Bool) (puts uses uses' greatest : ℕ) → uses' ≡ uses + cond it 1 0 → uses' < 4294967295
+    → cond it (after_use (counts puts uses greatest)) (counts puts uses greatest) ≡ counts puts uses' greatest
+use_counted true puts uses uses' greatest more few =
+    let is : min (uses + 1) 4294967295 ≡ uses' = omega (arith, more, few) in
+    same_counts puts puts (min (uses + 1) 4294967295) uses' greatest greatest refl is refl
+use_counted false puts uses uses' greatest more few =
+    let is : uses ≡ uses' = omega (arith, more) in
+    same_counts puts puts uses uses' greatest greatest refl is refl
+
+put_counted : (it : Bool) (slots : SlotPlan) (puts puts' uses greatest greatest' : ℕ) → puts' ≡ puts + cond it 1 0
+    → puts' < 4294967295 → greatest' ≡ max greatest (puts' - gets_for_uses slots uses)
+    → puts - gets_for_uses slots uses ≤ greatest
+    → cond it (after_put slots (counts puts uses greatest)) (counts puts uses greatest) ≡ counts puts' uses greatest'
+put_counted true slots puts puts' uses greatest greatest' more few longer before =
+    let is : min (puts + 1) 4294967295 ≡ puts' = omega (arith, more, few) in
+    same_counts (min (puts + 1) 4294967295) puts' uses uses
+    (max greatest (min (puts + 1) 4294967295 - gets_for_uses slots uses)) greatest' is refl
+    (ap (λ m. max greatest (m - gets_for_uses slots uses)) is ∙ sym longer)
+put_counted false slots puts puts' uses greatest greatest' more few longer before =
+    let is : puts ≡ puts' = omega (arith, more) in
+    let same : max greatest (puts - gets_for_uses slots uses) ≡ greatest = omega (arith, before) in
+    same_counts puts puts' uses uses greatest greatest' is refl
+    (sym same ∙ ap (λ m. max greatest (m - gets_for_uses slots uses)) is ∙ sym longer)
 
 module _ (n : Nest) (sized : SizeIsOk n) (t : ℕ) (q : Point) (here : slice_get (trace n) t ≡ Some q) (c : ℕ)
     (plan : ChannelPlan) (found : slice_get (plans_of n) c ≡ Some plan) where
@@ -272,53 +299,16 @@ module _ (n : Nest) (sized : SizeIsOk n) (t : ℕ) (q : Point) (here : slice_get
   -- the counts after the entry
   channel_passed : both uses_it puts_it plan.slots (queue_with n t c plan) ≡ queue_with n (suc t) c plan
   channel_passed =
-      let G = greatest_more in
-      let Q = queue_before in
-      let U = uses_more in
-      let P = puts_more in
-      elim (cases_Bool uses_it) [
-        | inl uses ↦
-            let uses_is : min (length (turns_used plan.writer (take (turns_before (trace n) t plan.reader) sources)) + 1)
-            4294967295
-            ≡ length (turns_used plan.writer (take (turns_before (trace n) (suc t) plan.reader) sources)) =
-            omega (arith, uses_more, ap (λ b. cond {A = ℕ} b 1 0) uses, few_uses) in
-            elim (cases_Bool puts_it) [
-              | inl puts ↦
-                  let puts_is : min (tokens_below used (turns_before (trace n) t plan.writer) + 1) 4294967295
-                  ≡ tokens_below used (turns_before (trace n) (suc t) plan.writer) =
-                  omega (arith, puts_more, ap (λ b. cond {A = ℕ} b 1 0) puts, few_puts) in
-                  ap₂ (λ a b. both a b plan.slots (queue_with n t c plan)) uses puts
-                  ∙ same_queue _ _ _ _ _ _ puts_is uses_is
-                  (ap₂ (λ a b. max (greatest_length (net_of (net n)) (sequenced n t) c)
-                  (a - gets_for_uses plan.slots b)) puts_is uses_is ∙ sym greatest_more)
-              | inr none ↦
-                  let puts_is : tokens_below used (turns_before (trace n) t plan.writer)
-                  ≡ tokens_below used (turns_before (trace n) (suc t) plan.writer) =
-                  omega (arith, puts_more, ap (λ b. cond {A = ℕ} b 1 0) none) in
-                  ap₂ (λ a b. both a b plan.slots (queue_with n t c plan)) uses none
-                  ∙ same_queue _ _ _ _ _ _ puts_is uses_is (omega (arith, greatest_more, queue_before, puts_is))
-            ]
-        | inr no_use ↦
-            let uses_is : length (turns_used plan.writer (take (turns_before (trace n) t plan.reader) sources))
-            ≡ length (turns_used plan.writer (take (turns_before (trace n) (suc t) plan.reader) sources)) =
-            omega (arith, uses_more, ap (λ b. cond {A = ℕ} b 1 0) no_use) in
-            elim (cases_Bool puts_it) [
-              | inl puts ↦
-                  let puts_is : min (tokens_below used (turns_before (trace n) t plan.writer) + 1) 4294967295
-                  ≡ tokens_below used (turns_before (trace n) (suc t) plan.writer) =
-                  omega (arith, puts_more, ap (λ b. cond {A = ℕ} b 1 0) puts, few_puts) in
-                  ap₂ (λ a b. both a b plan.slots (queue_with n t c plan)) no_use puts
-                  ∙ same_queue _ _ _ _ _ _ puts_is uses_is
-                  (ap₂ (λ a b. max (greatest_length (net_of (net n)) (sequenced n t) c)
-                  (a - gets_for_uses plan.slots b)) puts_is uses_is ∙ sym greatest_more)
-              | inr none ↦
-                  let puts_is : tokens_below used (turns_before (trace n) t plan.writer)
-                  ≡ tokens_below used (turns_before (trace n) (suc t) plan.writer) =
-                  omega (arith, puts_more, ap (λ b. cond {A = ℕ} b 1 0) none) in
-                  ap₂ (λ a b. both a b plan.slots (queue_with n t c plan)) no_use none
-                  ∙ same_queue _ _ _ _ _ _ puts_is uses_is (omega (arith, greatest_more, queue_before, puts_is))
-            ]
-      ]
+      ap (λ queue. cond puts_it (after_put plan.slots queue) queue)
+      (use_counted uses_it (tokens_below used (turns_before (trace n) t plan.writer))
+      (length (turns_used plan.writer (take (turns_before (trace n) t plan.reader) sources)))
+      (length (turns_used plan.writer (take (turns_before (trace n) (suc t) plan.reader) sources)))
+      (greatest_length (net_of (net n)) (sequenced n t) c) uses_more few_uses)
+      ∙ put_counted puts_it plan.slots (tokens_below used (turns_before (trace n) t plan.writer))
+      (tokens_below used (turns_before (trace n) (suc t) plan.writer))
+      (length (turns_used plan.writer (take (turns_before (trace n) (suc t) plan.reader) sources)))
+      (greatest_length (net_of (net n)) (sequenced n t) c) (greatest_length (net_of (net n)) (sequenced n (suc t)) c)
+      puts_more few_puts greatest_more queue_before
 
 -- All channels
 
@@ -348,13 +338,13 @@ module _ (n : Nest) (sized : SizeIsOk n) (t : ℕ) (q : Point) (here : slice_get
       (table_row n plan.reader plan.read (ends n c plan found).read)
 
   -- one channel, as the two passes change it
-  abbrev once : ℕ → Queue
+  abbrev once : ℕ → QueueCounts
   once c =
       cond (option_map_or (λ (plan : ChannelPlan). plan.reader == q.statement) (slice_get (plans_of n) c) false
       && is_used_at (plans_of n) lists table (turns_before (trace n) t q.statement) c)
       (after_use (queue_at n t c)) (queue_at n t c)
 
-  abbrev twice : ℕ → Queue
+  abbrev twice : ℕ → QueueCounts
   twice c =
       cond (option_map_or (λ (plan : ChannelPlan). plan.writer == q.statement) (slice_get (plans_of n) c) false
       && carries (plans_of n) (turns_before (trace n) t q.statement) c)
@@ -398,7 +388,7 @@ module _ (n : Nest) (sized : SizeIsOk n) (t : ℕ) (q : Point) (here : slice_get
       let f = turns_before (trace n) t q.statement in
       let many = length (plans_of n) in
       ap (λ xs. fold (with_put (plans_of n) (turns_before (trace n) t q.statement)) xs
-      (outgoing (plans_of n) q.statement))
+      (channels_at (plans_of n) Writer q.statement))
       (passed empty_queue
       (λ c. option_map_or (λ (plan : ChannelPlan). plan.reader == q.statement) (slice_get (plans_of n) c) false)
       (is_used_at (plans_of n) lists table (turns_before (trace n) t q.statement)) (λ c. after_use)

@@ -3,7 +3,7 @@ use Rattle.std.proofs.Common.{◌≡◌, ◌<◌, ℕ, Bool, true, false, cond, 
 use Rattle.std.specs.Option.{option_map_or}
 use Rattle.std.proofs.lemmas.Option.{slice_get_read}
 use Rattle.channel_plan.specs.declared.plans.ChannelPlan.{ChannelPlan}
-use Rattle.network_numbers.specs.declared.queues.Queue.{Queue}
+use Rattle.network_numbers.specs.declared.queues.QueueCounts.{QueueCounts}
 use Rattle.network_numbers.specs.Entries.{with_put}
 use Rattle.network_numbers.specs.Queues.{after_put, empty_queue}
 use Rattle.process_derive.specs.Incoming.{carries}
@@ -16,7 +16,7 @@ slots_read plans c plan lt is =
     (record { gets_before = []; slot_of_get = []; slot_of_use = []; hold = 0 }))
     (slice_get_read plans (length plans) c plan refl lt is)
 
-pub put_length : (plans : List ChannelPlan) (turn : ℕ) (queues : List Queue) (c : ℕ)
+pub put_length : (plans : List ChannelPlan) (turn : ℕ) (queues : List QueueCounts) (c : ℕ)
     → length (with_put plans turn queues c) ≡ length queues
 put_length plans turn queues c = go (carries plans turn c)
   where

@@ -1,4 +1,8 @@
 -- A list with an entry for each item and its number: the entries so far, and one more.
+--
+-- This is a loop's turn: the entries of the first k items, and then that of item k, are those of the first k + 1. By
+-- induction over the items before it, at any number of the first, the item behind them has the first number and their
+-- count as its own. It is asked that there is an item k; the entry is any function of the number and the item.
 use Rattle.std.proofs.Common.{◌≡◌, ℕ, ◌+◌, ◌<◌, List, [], ◌∷◌, ◌++◌, length, map, take, get_or, ap, ◌∙◌, arith}
 use Rattle.std.specs.List.{enumerate_from}
 use Rattle.std.proofs.lemmas.List.{length-take-le, take_more}

@@ -20,7 +20,7 @@ use Rattle.net_core.specs.declared.network.Process.{Process}
 use Rattle.net_core.specs.Machine.{Net, net_of}
 use Rattle.net_core.specs.Shape.{events_below, is_fire, put_count, turns}
 use Rattle.net_text.specs.NetworkText.{event_count, hold}
-use Rattle.network_numbers.specs.Told.{channels_by_plans, event_total, process_by_plans, processes_by_plans}
+use Rattle.network_numbers.specs.PlanNumbers.{channels_by_plans, event_total, process_by_plans, processes_by_plans}
 use Rattle.number_text.specs.declared.numbers.ChannelNumbers.{ChannelNumbers}
 use Rattle.number_text.specs.declared.numbers.NetworkNumbers.{NetworkNumbers}
 use Rattle.number_text.specs.declared.numbers.ProcessNumbers.{ProcessNumbers}

@@ -17,10 +17,11 @@ use Rattle.channel_plan.specs.declared.plans.ChannelPlan.{ChannelPlan}
 use Rattle.channel_plan.specs.Plans.{plans_of}
 use Rattle.net_core.specs.Machine.{net_of}
 use Rattle.net_core.proofs.EventCounts.{count_next}
+use Rattle.network_numbers.specs.declared.links.End.{End}
 use Rattle.network_numbers.specs.declared.links.Links.{Links}
-use Rattle.network_numbers.specs.declared.queues.Queue.{Queue}
+use Rattle.network_numbers.specs.declared.queues.QueueCounts.{QueueCounts}
 use Rattle.network_numbers.specs.Entries.{after_entry}
-use Rattle.network_numbers.specs.Links.{incoming, links_of, outgoing, read_lists}
+use Rattle.network_numbers.specs.Links.{channels_at, links_of, process_at, read_lists}
 use Rattle.network_numbers.specs.Queues.{empty_queue}
 use Rattle.process_derive.specs.Derived.{net}
 use Rattle.process_derive.proofs.Bounds.{few_entries}
@@ -54,20 +55,19 @@ all_below keep a (suc m) many le = go (keep a) (all_below keep (a + 1) m many (o
     go true later = All-cons (λ c. c < many) a (filter keep (range_with_len (a + 1) m)) (omega arith) later
     go false later = later
 
-pub incoming_below : (plans : List ChannelPlan) (p : ℕ) → All (λ c. c < length plans) (incoming plans p)
-incoming_below plans p =
-    all_below (λ c. option_map_or (λ (plan : ChannelPlan). plan.reader == p) (slice_get plans c) false) 0 (length plans)
-    (length plans) (omega arith)
+pub channels_below : (plans : List ChannelPlan) (end : End) (p : ℕ)
+    → All (λ c. c < length plans) (channels_at plans end p)
+channels_below plans end p =
+    all_below (λ c. option_map_or (λ (plan : ChannelPlan). process_at end plan == p) (slice_get plans c) false) 0
+    (length plans) (length plans) (omega arith)
 
-pub outgoing_below : (plans : List ChannelPlan) (p : ℕ) → All (λ c. c < length plans) (outgoing plans p)
-outgoing_below plans p =
-    all_below (λ c. option_map_or (λ (plan : ChannelPlan). plan.writer == p) (slice_get plans c) false) 0 (length plans)
-    (length plans) (omega arith)
-
+-- the channels of a process, as they are read in the list for all processes
 pub links_at : (plans : List ChannelPlan) (links : List Links) (many p : ℕ) (one : Links)
-    → links ≡ map (links_of plans) (range_with_len 0 many) → p < many → one ≡ get_or links p one → one ≡ links_of plans p
+    → links ≡ map (links_of plans) (range_with_len 0 many) → p < many → one ≡ get_or links p (links_of plans p)
+    → one ≡ links_of plans p
 links_at plans links many p one e lt is =
-    is ∙ ap (λ xs. get_or xs p one) e ∙ get_or-map-range_with_len (links_of plans) 0 many p p one lt (omega arith)
+    is ∙ ap (λ xs. get_or xs p (links_of plans p)) e
+    ∙ get_or-map-range_with_len (links_of plans) 0 many p p (links_of plans p) lt (omega arith)
 
 -- At first
 
@@ -76,7 +76,7 @@ pub no_turns : (n : Nest) (turns : List ℕ) → turns ≡ replicate (length n.s
 no_turns n turns e =
     e ∙ sym (map-range_with_len_replicate (turns_before (trace n) 0) 0 0 (length n.statements) (λ p. refl))
 
-pub no_queues : (n : Nest) (queues : List Queue) → queues ≡ replicate (length (plans_of n)) empty_queue
+pub no_queues : (n : Nest) (queues : List QueueCounts) → queues ≡ replicate (length (plans_of n)) empty_queue
     → queues ≡ queues_at n 0
 no_queues n queues e =
     e ∙ sym (map-range_with_len_replicate (queue_at n 0) empty_queue 0 (length (plans_of n)) (none_passed n))
@@ -131,7 +131,7 @@ module _ (n : Nest) (sized : SizeIsOk n) (left later : List Point) (q : Point)
         (sym (next_time n left later q e f))
 
   pub queues_later : (plans : List ChannelPlan) (lists : List ℕ) (table : List (List (Option Tag))) (links : Links)
-      (turn : ℕ) (before after : List Queue) → plans ≡ plans_of n → lists ≡ read_lists n plans → table ≡ sources_of n
+      (turn : ℕ) (before after : List QueueCounts) → plans ≡ plans_of n → lists ≡ read_lists n plans → table ≡ sources_of n
       → links ≡ links_of plans q.statement
       → turn ≡ turns_before (trace n) (length (trace n) - length left) q.statement
       → before ≡ queues_at n (length (trace n) - length left)
@@ -158,12 +158,12 @@ greatest_at n c lt =
     let item = slice_get-some (plans_of n) c lt in
     ap (λ o. (option_map_or (queue_with n (length (trace n)) c) o empty_queue).greatest) item.1
 
-pub capacities_are : (n : Nest) (queues : List Queue) (lengths : List ℕ) → queues ≡ queues_at n (length (trace n))
+pub capacities_are : (n : Nest) (queues : List QueueCounts) (lengths : List ℕ) → queues ≡ queues_at n (length (trace n))
     → lengths ≡ map (λ queue. queue.greatest) queues
     → lengths ≡ capacities (net n) (sequential_schedule n)
 capacities_are n queues lengths e f =
-    f ∙ ap (map (λ (queue : Queue). queue.greatest)) e
-    ∙ map-map (λ (queue : Queue). queue.greatest) (queue_at n (length (trace n))) (range_with_len 0 (length (plans_of n)))
+    f ∙ ap (map (λ (queue : QueueCounts). queue.greatest)) e
+    ∙ map-map (λ (queue : QueueCounts). queue.greatest) (queue_at n (length (trace n))) (range_with_len 0 (length (plans_of n)))
     ∙ map-range_with_len_same (λ c. (queue_at n (length (trace n)) c).greatest)
     (greatest_length (net_of (net n)) (sequenced n (length (trace n)))) 0 (length (plans_of n))
     (λ c from below. greatest_at n c (omega arith))

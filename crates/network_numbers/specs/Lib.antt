@@ -1,4 +1,4 @@
 pub mod Entries
 pub mod Links
 pub mod Queues
-pub mod Told
+pub mod PlanNumbers

@@ -2,12 +2,12 @@ ghost use Rattle.std.specs.List.{All, fold};
 ghost use Rattle.std.specs.Prelude.{◌≡◌, ◌<◌, [], None, length, slice_index, slice_index_or};
 ghost use Rattle.channel_plan.specs.Tokens.{is_from};
 ghost use Rattle.network_numbers.specs.Entries.{after_entry, is_used_at, source_in, with_put, with_use};
-ghost use Rattle.process_derive.specs.Incoming.{carries};
 
 use crate::links::Links;
-use crate::queues::Queue;
+use crate::queues::QueueCounts;
 use channel_plan::ChannelPlan;
 use plain_data::Items;
+use process_derive::is_token;
 use sanlp::Tag;
 
 // Whether a source is a point of this process.
@@ -63,16 +63,6 @@ fn is_used_at(
     }
 }
 
-// Whether a turn of its writer is a token of a channel.
-fn is_token(plans: &[ChannelPlan], turn: usize, channel: u32) -> bool
-    ensures { result ≡ carries plans.now turn channel }
-{
-    match plans.get(channel as usize) {
-        Some(plan) => plan.is_token.get(turn).copied().unwrap_or(false),
-        None => false,
-    }
-}
-
 // Counts the uses of these channels at a turn of their reader.
 fn pass_uses(
     plans: &[ChannelPlan],
@@ -80,7 +70,7 @@ fn pass_uses(
     table: &[Items<Option<Tag>>],
     incoming: &[u32],
     turn: usize,
-    queues: &mut [Queue],
+    queues: &mut [QueueCounts],
 )
     requires { All (λ c. c < length queues.old) incoming.now }
     ensures { queues.new
@@ -95,7 +85,7 @@ fn pass_uses(
 
 // Counts the Put to a channel at a turn of its writer, where the turn is a token.
 #[tactic(auto, using(crate::proofs::Folded::slots_read))]
-fn pass_put(plans: &[ChannelPlan], channel: u32, turn: usize, queues: &mut [Queue])
+fn pass_put(plans: &[ChannelPlan], channel: u32, turn: usize, queues: &mut [QueueCounts])
     requires queue { channel < length queues.old }
     requires plan { channel < length plans.now }
     ensures { queues.new ≡ with_put plans.now turn queues.old channel }
@@ -107,7 +97,7 @@ fn pass_put(plans: &[ChannelPlan], channel: u32, turn: usize, queues: &mut [Queu
 
 // Counts the Puts to these channels at a turn of their writer.
 #[tactic(auto, using(crate::proofs::Folded::put_length))]
-fn pass_puts(plans: &[ChannelPlan], outgoing: &[u32], turn: usize, queues: &mut [Queue])
+fn pass_puts(plans: &[ChannelPlan], outgoing: &[u32], turn: usize, queues: &mut [QueueCounts])
     requires queues { All (λ c. c < length queues.old) outgoing.now }
     requires plans { All (λ c. c < length plans.now) outgoing.now }
     ensures { queues.new ≡ fold (with_put plans.now turn) queues.old outgoing.now }
@@ -124,7 +114,7 @@ pub(crate) fn pass_entry(
     table: &[Items<Option<Tag>>],
     links: &Links,
     turn: usize,
-    queues: &mut [Queue],
+    queues: &mut [QueueCounts],
 )
     requires incoming { All (λ c. c < length plans.now) links.now.incoming }
     requires outgoing { All (λ c. c < length plans.now) links.now.outgoing }

@@ -7,7 +7,7 @@ ghost use Rattle.witness_plan.specs.Sequential.{capacities, sequential_schedule}
 
 use crate::entry::pass_entry;
 use crate::links::{links_of_processes, read_lists};
-use crate::queues::{Queue, greatest_lengths};
+use crate::queues::{QueueCounts, greatest_lengths};
 use channel_plan::ChannelPlan;
 use loop_walk::Walk;
 use sanlp::Nest;
@@ -45,7 +45,7 @@ pub(crate) fn capacities(
     let links = links_of_processes(alloc, plans, nest.statements.len())?;
     let lists = read_lists(alloc, nest, plans)?;
     let mut turns = vec![in alloc; 0; nest.statements.len()]?;
-    let mut queues = vec![in alloc; Queue::EMPTY; plans.len()]?;
+    let mut queues = vec![in alloc; QueueCounts::EMPTY; plans.len()]?;
     let mut walk = Walk::new(alloc, nest)?;
     while let Some(point) = walk.next(nest) {
         let process = point.statement as usize;

@@ -1,7 +1,7 @@
 ghost use Rattle.std.specs.Prelude.{◌≡◌, ◌<◌, ◌≤◌, ◌^◌, length, map, take, IfOk};
 ghost use Rattle.std.specs.List.{range_with_len};
 ghost use Rattle.channel_plan.specs.Plans.{plans_of};
-ghost use Rattle.network_numbers.specs.Links.{incoming, links_of, outgoing, read_lists};
+ghost use Rattle.network_numbers.specs.Links.{channels_at, links_of, process_at, read_lists};
 ghost use Rattle.source_tree.specs.Sources.{read_number};
 
 use channel_plan::ChannelPlan;
@@ -16,36 +16,37 @@ pub(crate) struct Links {
     pub outgoing: Items<u32>,
 }
 
-// The numbers of the channels that a process reads.
-fn incoming_channels(
-    alloc: Global,
-    plans: &[ChannelPlan],
-    process: u32,
-) -> Result<Items<u32>, AllocError>
-    requires { length plans.now < 2 ^ 32 }
-    ensures { IfOk result (λ channels. channels ≡ incoming plans.now process) }
-{
-    let mut channels = Items::new(alloc);
-    for (channel, plan) in plans.iter().enumerate() {
-        if plan.reader == process {
-            channels.push(channel as u32)?;
-        }
-    }
-    Ok(channels)
+// The two ends of a channel.
+#[derive(Clone, Copy)]
+enum End {
+    Writer,
+    Reader,
 }
 
-// The numbers of the channels that a process writes.
-fn outgoing_channels(
+// The process at an end of a channel.
+fn process_at(plan: &ChannelPlan, end: End) -> u32
+    ensures { result ≡ process_at end plan.now }
+{
+    match end {
+        End::Writer => plan.writer,
+        End::Reader => plan.reader,
+    }
+}
+
+// The numbers of the channels that have a process at this end, ascending.
+fn channels_at(
     alloc: Global,
     plans: &[ChannelPlan],
+    end: End,
     process: u32,
 ) -> Result<Items<u32>, AllocError>
     requires { length plans.now < 2 ^ 32 }
-    ensures { IfOk result (λ channels. channels ≡ outgoing plans.now process) }
+    ensures { IfOk result (λ channels. channels ≡ channels_at plans.now end process) }
 {
     let mut channels = Items::new(alloc);
     for (channel, plan) in plans.iter().enumerate() {
-        if plan.writer == process {
+        let there = process_at(plan, end);
+        if there == process {
             channels.push(channel as u32)?;
         }
     }
@@ -65,10 +66,9 @@ pub(crate) fn links_of_processes(
 {
     let mut links = Vec::with_capacity(alloc, processes)?;
     for process in 0..processes {
-        links.push(Links {
-            incoming: incoming_channels(alloc, plans, process as u32)?,
-            outgoing: outgoing_channels(alloc, plans, process as u32)?,
-        })?;
+        let incoming = channels_at(alloc, plans, End::Reader, process as u32)?;
+        let outgoing = channels_at(alloc, plans, End::Writer, process as u32)?;
+        links.push(Links { incoming, outgoing })?;
     }
     Ok(links)
 }

@@ -1,6 +1,6 @@
 ghost use Rattle.std.specs.Prelude.{◌≡◌, ◌<◌, ◌^◌, ℕ, length, map, IfOk};
 ghost use Rattle.channel_plan.specs.Plans.{plans_of};
-ghost use Rattle.network_numbers.specs.Told.{channel_by_plan, channels_by_plans, process_by_plans, processes_by_plans};
+ghost use Rattle.network_numbers.specs.PlanNumbers.{channel_by_plan, channels_by_plans, process_by_plans, processes_by_plans};
 ghost use Rattle.number_text.specs.Numbers.{network_numbers};
 ghost use Rattle.process_derive.specs.Scripts.{slots_of};
 ghost use Rattle.sanlp.specs.Points.{points_of};
@@ -10,11 +10,11 @@ ghost use Rattle.witness_plan.specs.Schedules.{planned_network};
 ghost use Rattle.witness_plan.specs.declared.schedules.Policy.TheVariants.{Seq};
 
 use crate::lengths::capacities;
-use crate::queues::number_at;
-use crate::totals::{event_total, slot_count};
+use crate::totals::event_total;
 use channel_plan::{ChannelPlan, channel_plans};
 use number_text::{ChannelNumbers, NetworkNumbers, ProcessNumbers};
 use plain_data::Items;
+use process_derive::{number_at, slot_count};
 use sanlp::Nest;
 use shadow_sweep::sweep_counted;
 use source_tree::SourceTable;
@@ -102,8 +102,8 @@ fn numbers_by_turns(
 
 /// What the text tells of the network of a nest (Compaan 2000, pn 2007) with the capacities that the sequential schedule needs:
 /// for each process its fires and its slots; for each channel its ends, its read, its tokens, its capacity, its hold and its
-/// class; and the number of events. It takes the time of three walks over the trace, and makes no event, no script and no
-/// schedule. Nothing is refused but want of memory.
+/// class; and the number of events. It walks twice over the trace, and looks at each point at every channel of its process. It
+/// makes no event, no script and no schedule. Nothing is refused but want of memory.
 pub fn sequential_numbers(alloc: Global, nest: &Nest) -> Result<NetworkNumbers, AllocError>
     requires { SizeIsOk nest.now }
     ensures { IfOk result (λ numbers. numbers ≡ network_numbers (planned_network nest.now Seq)) }

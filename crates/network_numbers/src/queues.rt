@@ -1,39 +1,22 @@
-ghost use Rattle.std.specs.Prelude.{◌≡◌, map, slice_index, IfOk};
+ghost use Rattle.std.specs.Prelude.{◌≡◌, map, IfOk};
 ghost use Rattle.network_numbers.specs.Queues.{after_put, after_use};
-ghost use Rattle.process_derive.specs.Scripts.{gets_for_uses};
 
+use process_derive::gets_for;
 use reorder_slots::SlotPlan;
 use std::alloc::{AllocError, Global};
 
 /// How often a channel's writer has put to it, how often its reader's fires have used it, and the greatest length that its
 /// queue has had at the end of an entry. Counts past 2^32 - 1 stay there.
 #[derive(Clone, Copy)]
-pub(crate) struct Queue {
+pub(crate) struct QueueCounts {
     puts: u32,
     uses: u32,
     greatest: u32,
 }
 
-/// The number at a place, 0 past the end.
-pub(crate) fn number_at(numbers: &[u32], place: usize) -> u32
-    ensures { result ≡ slice_index numbers.now place }
-{
-    numbers.get(place).copied().unwrap_or(0)
-}
-
-// How many Gets of a channel stand before so many of its uses.
-fn gets_for(slots: &SlotPlan, uses: u32) -> u32
-    ensures { result ≡ gets_for_uses slots.now uses }
-{
-    match uses.checked_sub(1) {
-        Some(last) => number_at(slots.gets_before.as_slice(), last as usize),
-        None => 0,
-    }
-}
-
-impl Queue {
+impl QueueCounts {
     /// No Put and no use yet.
-    pub(crate) const EMPTY: Queue = Queue {
+    pub(crate) const EMPTY: QueueCounts = QueueCounts {
         puts: 0,
         uses: 0,
         greatest: 0,
@@ -57,7 +40,10 @@ impl Queue {
 }
 
 /// The greatest length of each channel's queue.
-pub(crate) fn greatest_lengths(alloc: Global, queues: &[Queue]) -> Result<Vec<u32>, AllocError>
+pub(crate) fn greatest_lengths(
+    alloc: Global,
+    queues: &[QueueCounts],
+) -> Result<Vec<u32>, AllocError>
     ensures { IfOk result (λ lengths. lengths.items ≡ map (λ queue. queue.greatest) queues.now) }
 {
     queues.iter().map(|queue| queue.greatest).collect(alloc)

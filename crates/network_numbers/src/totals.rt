@@ -1,26 +1,8 @@
 ghost use Rattle.std.specs.Prelude.{◌≡◌, ◌<◌, ◌+◌, ◌*◌, ◌^◌};
 ghost use Rattle.std.specs.List.{sum_by};
-ghost use Rattle.network_numbers.specs.Told.{event_total};
-ghost use Rattle.process_derive.specs.Scripts.{slots_of};
+ghost use Rattle.network_numbers.specs.PlanNumbers.{event_total};
 
 use channel_plan::ChannelPlan;
-
-/// How many slots the channels of a process have.
-pub(crate) fn slot_count(plans: &[ChannelPlan], process: u32) -> u32
-    requires { slots_of plans.now process < 2 ^ 32 }
-    ensures { result ≡ slots_of plans.now process }
-{
-    plans
-        .iter()
-        .map(|plan| {
-            if plan.reader == process {
-                plan.slots.hold
-            } else {
-                0
-            }
-        })
-        .sum()
-}
 
 // How many turns all processes have.
 fn turn_total(turns: &[usize]) -> u64

@@ -1,4 +1,9 @@
 -- The text of a network is the text of its numbers: a line is made of an item's number and what is told of the item.
+--
+-- The one text walks over the items and tells of each what its line says; the other walks over what was told before. By
+-- induction over the items, at any number of the first, both have the same lines: a list and the list of what is told
+-- of it have the same numbers. Where what is told depends on the number, as a channel's tokens do, it was told at that
+-- number. Nothing is said of what is told: the lines are any function of a number and of it.
 use Rattle.std.proofs.Common.{◌≡◌, ℕ, ◌+◌, List, [], ◌∷◌, ◌++◌, map, refl, ap, ap₂, ◌∙◌}
 use Rattle.std.specs.List.{flat_map, enumerate_from}
 use Rattle.std.proofs.lemmas.List.Concat.{flat_map-cons}

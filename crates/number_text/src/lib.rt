@@ -5,7 +5,6 @@
 
 mod law;
 mod numbers;
-mod words;
 mod writing;
 
 pub use law::text_tells_numbers;

@@ -23,7 +23,7 @@ pub struct ChannelNumbers {
     pub tokens: u64,
     /// How many tokens its queue has room for.
     pub capacity: u32,
-    /// How many slots there are from the least to the greatest that its reader's Gets name.
+    /// How many slots there are from the least to the greatest that the Gets of it name.
     pub hold: u64,
     pub class: ChannelClass,
 }

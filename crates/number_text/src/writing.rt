@@ -1,14 +1,12 @@
 ghost use Rattle.std.specs.Prelude.{◌≡◌, OnOk, OnErr};
 ghost use Rattle.std.specs.Io.KnownBytes.{Appends};
 ghost use Rattle.io_edge.specs.Causes.{Rose, AppendsFront};
-ghost use Rattle.net_text.specs.NetworkText.{version_line};
 ghost use Rattle.number_text.specs.Numbers.{channel_text, channel_texts, end_text, numbers_text, process_text, process_texts};
 ghost use Rattle.text_out.specs.Wrote.{Wrote};
 
 use crate::numbers::{ChannelNumbers, NetworkNumbers, ProcessNumbers};
-use crate::words::{kind_word, name_word};
 use io_edge::{Sink, WriteFault};
-use net_text::class_word;
+use net_text::{class_word, kind_word, name_word, write_version};
 use sanlp::Nest;
 use text_out::{TextWriter, Word, Writer, write_line};
 
@@ -68,13 +66,6 @@ fn write_channels<W: TextWriter>(channels: &[ChannelNumbers], out: &mut W)
     for (number, numbers) in channels.iter().enumerate() {
         write_channel(number, *numbers, out);
     }
-}
-
-// Writes the line of the version.
-fn write_version<W: TextWriter>(out: &mut W)
-    ensures { Wrote W.given out.old out.new version_line }
-{
-    write_line(&[Word::Text(b"net"), Word::Text(b"1")], out);
 }
 
 // Writes the lines behind those of the channels.

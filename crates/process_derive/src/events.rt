@@ -45,15 +45,15 @@ fn push_event(event: Event, events: &mut ScriptBuilder<Event>) -> Result<(), All
     events.push_with_key(key_of(&event), &event)
 }
 
-// The number at a place, 0 past the end.
-fn number_at(numbers: &[u32], at: usize) -> u32
+/// The number at a place, 0 past the end.
+pub fn number_at(numbers: &[u32], at: usize) -> u32
     ensures { result ≡ slice_index numbers.now at }
 {
     numbers.get(at).copied().unwrap_or(0)
 }
 
-// How many Gets of a channel stand before so many of its uses.
-fn gets_for(slots: &SlotPlan, uses: u32) -> u32
+/// How many Gets of a channel stand before so many of its uses.
+pub fn gets_for(slots: &SlotPlan, uses: u32) -> u32
     ensures { result ≡ gets_for_uses slots.now uses }
 {
     match uses.checked_sub(1) {
@@ -121,8 +121,8 @@ fn add_use(
     }
 }
 
-// Whether a turn of its writer is a token of a channel.
-fn is_token(plans: &[ChannelPlan], turn: usize, channel: u32) -> bool
+/// Whether a turn of its writer is a token of a channel. Where there is no such channel none is.
+pub fn is_token(plans: &[ChannelPlan], turn: usize, channel: u32) -> bool
     ensures { result ≡ carries plans.now turn channel }
 {
     match plans.get(channel as usize) {

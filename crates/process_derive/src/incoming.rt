@@ -19,8 +19,8 @@ pub(crate) struct Incoming {
     pub base: u32,
 }
 
-/// How many slots the channels of a process have.
-pub(crate) fn slot_count(plans: &[ChannelPlan], process: u32) -> u32
+/// How many slots the channels that a process reads have together.
+pub fn slot_count(plans: &[ChannelPlan], process: u32) -> u32
     requires { slots_of plans.now process < 2 ^ 32 }
     ensures { result ≡ slots_of plans.now process }
 {

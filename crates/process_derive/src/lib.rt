@@ -11,5 +11,7 @@ mod network;
 mod process;
 mod uses;
 
+pub use events::{gets_for, is_token, number_at};
+pub use incoming::slot_count;
 pub use law::{few_events, few_slots, fits_nest, numbers_fit};
 pub use network::{derive, derive_by_turns};

@@ -1,5 +1,10 @@
--- Instructions that grow by a part. What was made, followed by the instructions of the parts that are left, is the same list
--- at each turn: a part's instructions go from the front of the one to the end of the other.
+-- Instructions that grow by a part.
+--
+-- The invariant: what was made, followed by the instructions of the parts that are left, is the same list at each turn.
+-- A turn takes a part's instructions from the front of the one to the end of the other, and the number of the next
+-- part's first instruction is how many have been made. The repeats that end behind the whole list are those behind its
+-- last part, and behind another part none ends: so a turn asks how many parts come later. Where none is left, what was
+-- made is all. This is the loop over one list; that a body's instructions are made so is the recursion's own contract.
 use Rattle.std.proofs.Common.{◌≡◌, ◌+◌, ◌<◌, ◌≤◌, ◌≢◌, ℕ, List, [], ◌∷◌, ◌++◌, map, drop, length, get_or}
 use Rattle.std.proofs.Common.{refl, sym, ap, ◌∙◌, arith, append_assoc, append-nil}
 use Rattle.std.proofs.lemmas.List.{drop_all, length-append, length-drop}

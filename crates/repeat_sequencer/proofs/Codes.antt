@@ -1,4 +1,9 @@
--- The instructions at each kind of part.
+-- The instructions at each kind of part, and how many items it keeps.
+--
+-- Both are folds, and the fold of something built is a step over the folds of its parts: an item or a repeat is taken
+-- back to its layer, and there the fold is the step. Below a repeat stands a list of parts, whose fold is that of the
+-- list's own layer, so a repeat needs both steps. `in_order` is told at no code, at one, and at one that others follow.
+-- No lemma here is an induction; those of Builds, Sizes and Given unfold no fold but cite these.
 use Rattle.std.proofs.Common.{◌≡◌, ◌+◌, ℕ, List, [], ◌∷◌, ◌++◌, map, length, refl, sym, ap, ◌∙◌}
 use Rattle.std.specs.List.{sum_by}
 use Rattle.std.proofs.lemmas.List.Sums.{sum-map}

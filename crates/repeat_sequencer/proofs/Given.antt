@@ -30,7 +30,8 @@ use Rattle.repeat_sequencer.specs.declared.sequencer.Instruction.{Instruction}
 use Rattle.repeat_sequencer.specs.declared.sequencer.RepeatEnd.{RepeatEnd}
 use Rattle.repeat_sequencer.specs.declared.sequencer.Sequencer.{Sequencer}
 use Rattle.repeat_sequencer.specs.Instructions.{Code, code_of, in_order, part_code, parts_code, sequencer_of}
-use Rattle.repeat_sequencer.specs.Steps.{State, Gives, around, at_end, at_start, given, past, past_ends, step, step_around}
+use Rattle.repeat_sequencer.specs.Steps.{State, Gives, at_end, at_start, item_at, past_ends, restart, state_behind, step}
+use Rattle.repeat_sequencer.specs.Steps.{step_and_restart}
 use Rattle.repeat_sequencer.proofs.Inductions.{each_list}
 use Rattle.repeat_sequencer.proofs.Codes.{code_item, code_repeat, in_order_last, in_order_next, in_order_none}
 
@@ -39,7 +40,7 @@ module _ {T : Type 0} (s : Sequencer T) (next : State → State) where
   unfolding Gives
   gives_none a b e = e
 
-  pub gives_one : (x : T) (a b : State) → given s a ≡ Some x → next a ≡ b → Gives s next a (x ∷ []) b
+  pub gives_one : (x : T) (a b : State) → item_at s a ≡ Some x → next a ≡ b → Gives s next a (x ∷ []) b
   unfolding Gives
   gives_one x a b is e = (is, e)
 
@@ -82,7 +83,7 @@ module _ {T : Type 0} (s : Sequencer T) where
       let behind : first + 1 ≡ next = omega (arith, stands.next_is) in
       gives_one s (step s) x (record { at = first; counters = counters }) (past_ends ends next counters)
       (ap (option_map (λ (i : Instruction T). i.item)) there)
-      (ap (λ o. past o (record { at = first; counters = counters })) there ∙ ap (λ n. past_ends ends n counters) behind)
+      (ap (λ o. state_behind o (record { at = first; counters = counters })) there ∙ ap (λ n. past_ends ends n counters) behind)
 
   last_gives : (c : Code T) (xs : List T) (deep : ℕ) → GivesCode c xs deep
       → GivesCode (in_order (c ∷ [])) (xs ++ []) (max deep 0)
@@ -257,18 +258,18 @@ module _ {T : Type 0} (s : Sequencer T) where
   all_given : (parts : List (BlockPart T)) → AreGiven parts
   all_given parts = each_list IsGiven AreGiven given_item given_repeat given_list parts
 
--- a whole frame
+-- a whole round
 module _ {T : Type 0} (blocks : Blocks T) (proper : is_proper blocks ≡ true) where
   abbrev s : Sequencer T
   s = sequencer_of blocks
 
-  frame_of : (parts : List (BlockPart T)) → blocks.parts ≡ parts
+  round_of : (parts : List (BlockPart T)) → blocks.parts ≡ parts
       → Gives s (step s) (at_start s) (parts_expansion parts) (at_end s)
-  frame_of [] e =
+  round_of [] e =
       gives_none s (step s) (at_start s) (at_end s)
       (ap (λ n. record { at = n; counters = replicate s.levels 0 })
       (sym (ap (λ ps. length (parts_code ps 0 0 [])) e ∙ ap length (in_order_none 0 0 []))))
-  frame_of (p ∷ ps) e =
+  round_of (p ∷ ps) e =
       let code : List (Instruction T) = parts_code blocks.parts 0 0 [] in
       let proper_parts : are_proper (p ∷ ps) ≡ true = sym (ap are_proper e) ∙ proper in
       let same : parts_code (p ∷ ps) 0 0 [] ≡ code = ap (λ qs. parts_code qs 0 0 []) (sym e) in
@@ -287,56 +288,56 @@ module _ {T : Type 0} (blocks : Blocks T) (proper : is_proper blocks ≡ true) w
       })
       (record { room = room; none = λ i le. get_or-replicate_same s.levels i 0 }))
 
-  pub frame : Gives s (step s) (at_start s) (expansion blocks) (at_end s)
-  frame = frame_of blocks.parts refl
+  pub round : Gives s (step s) (at_start s) (expansion blocks) (at_end s)
+  round = round_of blocks.parts refl
 
--- frame after frame
+-- round after round
 module _ {T : Type 0} (s : Sequencer T) where
-  given_within : (is : List (Instruction T)) (k : ℕ) (x : T)
+  item_within : (is : List (Instruction T)) (k : ℕ) (x : T)
       → option_map (λ (i : Instruction T). i.item) (slice_get is k) ≡ Some x → k < length is
-  given_within [] k x e = cc
-  given_within (i ∷ is) zero x e = omega arith
-  given_within (i ∷ is) (suc k) x e = let lt = given_within is k x e in omega arith
+  item_within [] k x e = cc
+  item_within (i ∷ is) zero x e = omega arith
+  item_within (i ∷ is) (suc k) x e = let lt = item_within is k x e in omega arith
 
   abbrev anew : State → State
   anew b = record { at = 0; counters = b.counters }
 
-  around_end : (b : State) → b.at ≡ length s.instructions → around s b ≡ anew b
-  around_end b e = ap (λ (t : Bool). cond t (anew b) b) (eq-eqb b.at (length s.instructions) e)
+  restart_end : (b : State) → b.at ≡ length s.instructions → restart s b ≡ anew b
+  restart_end b e = ap (λ (t : Bool). cond t (anew b) b) (eq-eqb b.at (length s.instructions) e)
 
-  around_within : (b : State) (x : T) → given s b ≡ Some x → around s b ≡ b
-  around_within b x e =
-      let lt = given_within s.instructions b.at x e in
+  restart_within : (b : State) (x : T) → item_at s b ≡ Some x → restart s b ≡ b
+  restart_within b x e =
+      let lt = item_within s.instructions b.at x e in
       ap (λ (t : Bool). cond t (anew b) b) (ne_eqb b.at (length s.instructions) (λ is. absurd (omega arith)))
 
-  goes_around : (x : T) (xs : List T) (a b : State) → b.at ≡ length s.instructions
-      → Gives s (step s) a (x ∷ xs) b → Gives s (step_around s) a (x ∷ xs) (anew b)
+  restart_gives : (x : T) (xs : List T) (a b : State) → b.at ≡ length s.instructions
+      → Gives s (step s) a (x ∷ xs) b → Gives s (step_and_restart s) a (x ∷ xs) (anew b)
   unfolding Gives
-  goes_around x [] a b e p = (p.0, ap (around s) p.1 ∙ around_end b e)
-  goes_around x (y ∷ ys) a b e p = (
+  restart_gives x [] a b e p = (p.0, ap (restart s) p.1 ∙ restart_end b e)
+  restart_gives x (y ∷ ys) a b e p = (
     p.0,
-    subst (λ (z : State). Gives s (step_around s) z (y ∷ ys) (anew b)) (sym (around_within (step s a) y p.1.0))
-        (goes_around y ys (step s a) b e p.1),
+    subst (λ (z : State). Gives s (step_and_restart s) z (y ∷ ys) (anew b)) (sym (restart_within (step s a) y p.1.0))
+        (restart_gives y ys (step s a) b e p.1),
   )
 
-  again : (items : List T) (a : State) → Gives s (step_around s) a items a → (count : ℕ)
-      → Gives s (step_around s) a (repeated count items) a
+  again : (items : List T) (a : State) → Gives s (step_and_restart s) a items a → (count : ℕ)
+      → Gives s (step_and_restart s) a (repeated count items) a
   again items a one zero =
-      subst (λ (ys : List T). Gives s (step_around s) a ys a) (sym (repeated_none items))
-      (gives_none s (step_around s) a a refl)
+      subst (λ (ys : List T). Gives s (step_and_restart s) a ys a) (sym (repeated_none items))
+      (gives_none s (step_and_restart s) a a refl)
   again items a one (suc count) =
-      subst (λ (ys : List T). Gives s (step_around s) a ys a) (sym (repeated_next count items))
-      (gives_append s (step_around s) items (repeated count items) a a a one (again items a one count))
+      subst (λ (ys : List T). Gives s (step_and_restart s) a ys a) (sym (repeated_next count items))
+      (gives_append s (step_and_restart s) items (repeated count items) a a a one (again items a one count))
 
-  pub frames_of : (items : List T) (count : ℕ) → Gives s (step s) (at_start s) items (at_end s)
-      → Gives s (step_around s) (at_start s) (repeated count items) (at_start s)
-  frames_of [] count one =
-      again [] (at_start s) (gives_none s (step_around s) (at_start s) (at_start s) refl) count
-  frames_of (x ∷ xs) count one =
-      again (x ∷ xs) (at_start s) (goes_around x xs (at_start s) (at_end s) refl one) count
+  pub rounds_of : (items : List T) (count : ℕ) → Gives s (step s) (at_start s) items (at_end s)
+      → Gives s (step_and_restart s) (at_start s) (repeated count items) (at_start s)
+  rounds_of [] count one =
+      again [] (at_start s) (gives_none s (step_and_restart s) (at_start s) (at_start s) refl) count
+  rounds_of (x ∷ xs) count one =
+      again (x ∷ xs) (at_start s) (restart_gives x xs (at_start s) (at_end s) refl one) count
 
 -- at its end it gives nothing
-pub ended : {T : Type 0} (blocks : Blocks T) → given (sequencer_of blocks) (at_end (sequencer_of blocks)) ≡ None
+pub ended : {T : Type 0} (blocks : Blocks T) → item_at (sequencer_of blocks) (at_end (sequencer_of blocks)) ≡ None
 ended {T} blocks =
     ap (option_map (λ (i : Instruction T). i.item))
     (slice_get_past (sequencer_of blocks).instructions (length (sequencer_of blocks).instructions) (omega arith))

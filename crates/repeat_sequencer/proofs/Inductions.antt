@@ -1,5 +1,10 @@
--- What holds of each item, of each repeat where it holds of its body, and of each list where it holds of its parts, holds of
--- all parts and of all lists of them.
+-- Induction over parts and lists of parts at once.
+--
+-- What holds of each item, of each repeat where it holds of its body, and of each list where it holds of its parts,
+-- holds of all parts and of all lists of them. A part and a list are types that contain each other, so there are two
+-- statements, one about parts and one about lists, and the derived induction wants the step for each layer of both.
+-- Here the step is asked by kinds of parts, and of a list as one of parts with what holds of each, so that whoever
+-- cites it names no layer. A count is free in it: a repeat isn't unrolled, and nothing is an induction over its turns.
 use Rattle.std.proofs.Common.{◌≡◌, ℕ, List, [], ◌∷◌, map, refl, sym, ap, subst}
 use Rattle.script_blocks.specs.declared.blocks.Blocks.{Blocks}
 use Rattle.script_blocks.specs.declared.blocks.BlockPart.{BlockPart}

@@ -1,11 +1,15 @@
--- A worked nest of two repeats, computed from the definitions.
+-- A nest of two repeats and an item behind them, worked out from the definitions.
+--
+-- Its instructions are computed part by part, and then its steps: nine items, of which one instruction gives six. At
+-- the last of these both repeats end behind the same instruction. It shows what the definitions mean at one nest, and
+-- no law is proved from it: `one_round` and `rounds` hold of all proper blocks.
 use Rattle.std.proofs.Common.{◌≡◌, ℕ, [], ◌∷◌, None, refl}
 use Rattle.script_blocks.specs.declared.blocks.Blocks.{Blocks}
 use Rattle.script_blocks.specs.declared.blocks.BlockPart.TheViews.{Repeat}
 use Rattle.script_blocks.specs.declared.blocks.BlockPart.TheVariants.{Item}
 use Rattle.repeat_sequencer.specs.declared.sequencer.Sequencer.{Sequencer}
 use Rattle.repeat_sequencer.specs.Instructions.{in_order, sequencer_of}
-use Rattle.repeat_sequencer.specs.Steps.{Gives, at_end, at_start, given, past_ends, step, step_around}
+use Rattle.repeat_sequencer.specs.Steps.{Gives, at_end, at_start, item_at, past_ends, step, step_and_restart}
 use Rattle.repeat_sequencer.proofs.Codes.{code_item_at, code_repeat_at}
 use Rattle.script_blocks.proofs.Expansions.{nesting_item, nesting_repeat}
 
@@ -37,9 +41,9 @@ row_gives : Gives row (step row) (at_start row) (1 ∷ 2 ∷ 2 ∷ 2 ∷ 1 ∷ 2
 unfolding Gives past_ends
 row_gives = (refl, (refl, (refl, (refl, (refl, (refl, (refl, (refl, (refl, refl)))))))))
 
-row_ends : given row (at_end row) ≡ None
+row_ends : item_at row (at_end row) ≡ None
 row_ends = refl
 
-row_goes_around : Gives row (step_around row) (at_start row) (1 ∷ 2 ∷ 2 ∷ 2 ∷ 1 ∷ 2 ∷ 2 ∷ 2 ∷ 3 ∷ []) (at_start row)
+row_restarts : Gives row (step_and_restart row) (at_start row) (1 ∷ 2 ∷ 2 ∷ 2 ∷ 1 ∷ 2 ∷ 2 ∷ 2 ∷ 3 ∷ []) (at_start row)
 unfolding Gives past_ends
-row_goes_around = (refl, (refl, (refl, (refl, (refl, (refl, (refl, (refl, (refl, refl)))))))))
+row_restarts = (refl, (refl, (refl, (refl, (refl, (refl, (refl, (refl, (refl, refl)))))))))

@@ -21,43 +21,44 @@ past_ends (end ∷ ends) next counters =
     then record { at = end.first; counters = slice_set counters end.level turns }
     else past_ends ends next (slice_set counters end.level 0)
 
--- behind an instruction, if there is one
-abbrev pub past : {T : Type 0} → Option (Instruction T) → State → State
-past None s = s
-past (Some instruction) s = past_ends instruction.ends (s.at + 1) s.counters
+-- the state behind the instruction of this state; where there is none, this state
+abbrev pub state_behind : {T : Type 0} → Option (Instruction T) → State → State
+state_behind None s = s
+state_behind (Some instruction) s = past_ends instruction.ends (s.at + 1) s.counters
 
--- a step
+-- the state after a step
 abbrev pub step : {T : Type 0} → Sequencer T → State → State
-step sequencer s = past (slice_get sequencer.instructions s.at) s
+step sequencer s = state_behind (slice_get sequencer.instructions s.at) s
 
--- the item that is given at a step
-abbrev pub given : {T : Type 0} → Sequencer T → State → Option T
-given sequencer s = option_map (λ i. i.item) (slice_get sequencer.instructions s.at)
+-- the item that is given at a step from this state, or none at the end
+abbrev pub item_at : {T : Type 0} → Sequencer T → State → Option T
+item_at sequencer s = option_map (λ i. i.item) (slice_get sequencer.instructions s.at)
 
--- before the first instruction
+-- the state before the first instruction, in which no turn has ended
 abbrev pub at_start : {T : Type 0} → Sequencer T → State
 at_start sequencer = record { at = 0; counters = replicate sequencer.levels 0 }
 
--- behind the last
+-- the state behind the last instruction, with the counters of the start
 abbrev pub at_end : {T : Type 0} → Sequencer T → State
 at_end sequencer = record {
   at = length sequencer.instructions;
   counters = replicate sequencer.levels 0;
 }
 
--- where a sequencer that begins anew at its end goes on, if it would be here
-abbrev pub around : {T : Type 0} → Sequencer T → State → State
-around sequencer next =
+-- the state before the first instruction in place of one behind the last
+abbrev pub restart : {T : Type 0} → Sequencer T → State → State
+restart sequencer next =
     if next.at == length sequencer.instructions
     then record { at = 0; counters = next.counters }
     else next
 
--- a step of a sequencer that begins anew at its end
-abbrev pub step_around : {T : Type 0} → Sequencer T → State → State
-step_around sequencer s = around sequencer (step sequencer s)
+-- the state after a step of a sequencer that begins anew at its end
+abbrev pub step_and_restart : {T : Type 0} → Sequencer T → State → State
+step_and_restart sequencer s = restart sequencer (step sequencer s)
 
--- by such steps, from one state to another, it gives these items, one at each
-unfoldable pub Gives : {T : Type 0} → Sequencer T → (State → State) → State → List T → State → Type 0
+-- from one state to another it gives these items, one at each step, where `next` is the state after a step
+unfoldable pub Gives : {T : Type 0}
+    → Sequencer T → (State → State) → State → List T → State → Type 0
 Gives sequencer next s [] t = s ≡ t
 Gives sequencer next s (item ∷ items) t =
-    (given sequencer s ≡ Some item) × Gives sequencer next (next s) items t
+    (item_at sequencer s ≡ Some item) × Gives sequencer next (next s) items t

@@ -7,5 +7,5 @@
 mod laws;
 mod sequencer;
 
-pub use laws::{frames, one_frame, size};
+pub use laws::{one_round, rounds, size};
 pub use sequencer::{Instruction, RepeatEnd, Sequencer};

@@ -1,6 +1,8 @@
-ghost use Rattle.std.specs.Prelude.{◌≡◌, ◌≢◌, ◌+◌, ◌≤◌, ◌∷◌, ◌++◌, [], length, IfOk, OnOk};
-ghost use Rattle.script_blocks.specs.Nesting.{nesting, part_nesting, parts_nesting};
+ghost use Rattle.std.specs.Prelude.{◌≡◌, ◌≢◌, ◌+◌, ◌≤◌, ◌∷◌, ◌++◌, [], true, length, IfOk, OnOk};
+ghost use Rattle.script_blocks.specs.Expansion.{expansion};
+ghost use Rattle.script_blocks.specs.Nesting.{is_proper, nesting, part_nesting, parts_nesting};
 ghost use Rattle.repeat_sequencer.specs.Instructions.{part_code, parts_code, sequencer_of};
+ghost use Rattle.repeat_sequencer.specs.Steps.{at_end, at_start, step, Gives};
 
 use plain_data::Items;
 use script_blocks::{BlockPart, Blocks};
@@ -75,7 +77,7 @@ fn ends_before(later: usize, ends: &[RepeatEnd]) -> &[RepeatEnd]
     if later == 0 { ends } else { &ends[..0] }
 }
 
-// Adds the instructions of these parts at a level. So many repeats end behind the last.
+// Adds the instructions of these parts at a level. These repeats end behind the last.
 #[cycle(code)]
 #[tactic(auto, using(crate::proofs::Builds::nestings))]
 fn add_parts<T: Copy>(
@@ -126,19 +128,30 @@ fn add_part<T: Copy>(
     }
 }
 
+// The sequencer of blocks, by its definition.
+fn sequencer_for<T: Copy>(alloc: Global, blocks: &Blocks<T>) -> Result<Sequencer<T>, AllocError>
+    requires { nesting blocks.now ≤ 31 }
+    ensures { IfOk result (λ sequencer. sequencer ≡ sequencer_of blocks.now) }
+{
+    let parts = blocks.parts.as_slice();
+    let mut instructions = Items::new(alloc);
+    add_parts(parts, 0, &[], &mut instructions)?;
+    Ok(Sequencer {
+        levels: levels_of(parts),
+        instructions,
+    })
+}
+
 impl<T: Copy> Sequencer<T> {
     /// The sequencer of blocks that nest at most 31 deep, as those of a script do, or want of memory. It has as many
-    /// instructions as the blocks have items, each counted once.
+    /// instructions as the blocks have items, each counted once. Of proper blocks it gives from its start what they stand for.
     pub fn of_blocks(alloc: Global, blocks: &Blocks<T>) -> Result<Sequencer<T>, AllocError>
         requires { nesting blocks.now ≤ 31 }
-        ensures { IfOk result (λ sequencer. sequencer ≡ sequencer_of blocks.now) }
+        ensures sequencer { IfOk result (λ sequencer. sequencer ≡ sequencer_of blocks.now) }
+        ensures gives { IfOk result (λ sequencer. is_proper blocks.now ≡ true
+            → Gives sequencer (step sequencer) (at_start sequencer) (expansion blocks.now)
+            (at_end sequencer)) }
     {
-        let parts = blocks.parts.as_slice();
-        let mut instructions = Items::new(alloc);
-        add_parts(parts, 0, &[], &mut instructions)?;
-        Ok(Sequencer {
-            levels: levels_of(parts),
-            instructions,
-        })
+        sequencer_for(alloc, blocks)
     }
 }

@@ -1,4 +1,10 @@
--- Laws of sums of rows.
+-- Laws of sums of rows, as statements: SumAlgebra, NegativeSums, EntailmentTerms and PointRows prove them.
+--
+-- They speak of rows in two ways. What terms show is said of numbers without bounds, so it combines, is carried to
+-- other rows and holds at points with no word on sizes (SumAlgebra, PointRows). What refutes is checked within 128
+-- bits, so to come to it from what is shown the weight of the terms times the bound of the rows has to be below 2^127
+-- (NegativeSums); the other way nothing has to be small. No multiplier is negative in any of them, so no row is ever
+-- subtracted.
 use Rattle.std.specs.Prelude.{◌≡◌, ◌<◌, ◌≤◌, ◌≤ℤ◌, ℕ, ◌^◌, ◌*◌, ℤ, pos, ◌+ℤ◌, ◌*ℤ◌, List, [], ◌∷◌, ◌++◌, length, All}
 use Rattle.affine_core.specs.declared.form.Form.{Form}
 use Rattle.affine_core.specs.Affine.{form_at}

@@ -1,4 +1,9 @@
--- Forms none of whose parts is greater than a bound, by their parts and within a greater bound.
+-- Forms none of whose numbers is greater than a bound, by their parts and within a greater bound.
+--
+-- A form's parts are its constant and its coefficients, and past its last coefficient each part is 0. So a bound on all
+-- parts is a bound on all numbers and the other way round, and zeros behind the coefficients keep it: how many
+-- variables a form has doesn't matter. A part of a row is that of the form at the row's number, if there is one; past
+-- the last row it is 0 too, and that isn't told here.
 use Rattle.std.proofs.Common.{◌≡◌, ◌-◌, ◌≤◌, ℕ, zero, suc, ℤ, pos, List, [], ◌∷◌, length, replicate, Some, slice_get, ap, arith}
 use Rattle.std.specs.Prelude.{All, slice_index_or, unsigned_abs}
 use Rattle.std.specs.Option.{option_map_or}

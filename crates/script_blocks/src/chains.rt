@@ -37,6 +37,7 @@ fn some(number: u32) -> Option<u32> {
 }
 
 impl Chains {
+    /// No number was seen.
     pub(crate) fn new(alloc: Global) -> Chains {
         Chains {
             latest: Vec::new(alloc),

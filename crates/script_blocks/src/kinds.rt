@@ -29,6 +29,7 @@ pub(crate) struct Finder {
 }
 
 impl Finder {
+    /// No kind was seen.
     pub(crate) fn new(alloc: Global) -> Finder {
         Finder {
             chains: Chains::new(alloc),

@@ -35,6 +35,7 @@ pub(crate) struct Stretch {
 }
 
 impl Stretch {
+    /// How often the bodies stand one behind the other.
     pub(crate) fn times(&self) -> u32 {
         self.times
     }
@@ -92,6 +93,7 @@ impl Plan {
         Ok(())
     }
 
+    /// The labels and the stretches that are left, in order.
     pub(crate) fn symbols(&self) -> &[u32] {
         self.symbols.as_slice()
     }

@@ -1,4 +1,11 @@
 -- What each kind of tree gives at a point, and what the forms of a place are there.
+--
+-- What a tree gives is a fold whose result is a function of the point, so each lemma of the first part is the fold's
+-- step at one kind of tree, asked at a point: a Divides asks its trees at the point with the quotient behind it. None
+-- of them is an induction. Those about places are, over the list: the forms of the variables are told of those in the
+-- middle of a point, since each turn moves one from the middle to the front, and a row at a place is told from whatever
+-- sum came before. Where a place has too few forms for the coefficients, both sides stop with it, so nothing is asked
+-- of their lengths.
 use Rattle.std.proofs.Common.{◌≡◌, ◌+◌, ◌%◌, ◌==◌, ◌∙◌, ℕ, ℤ, pos, List, [], ◌∷◌, ◌++◌, length, cond, refl, sym, ap, arith}
 use Rattle.std.proofs.Common.{append_assoc, length-append}
 use Rattle.std.specs.Prelude.{int_le, unsigned_abs}

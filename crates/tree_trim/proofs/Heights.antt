@@ -1,4 +1,10 @@
 -- A tree without a row is as high as it was, and what trimming leaves of a Test is no higher than the Test.
+--
+-- A row that is taken away changes proofs, and a height counts none. By induction over the tree: a leaf stays a leaf of
+-- height 0, and a Test or a Divides is one higher than the higher of its branches, which have kept their heights. So it
+-- holds at any row, named or not, and says nothing of what the tree is worth without it. Of a Test one branch is left,
+-- which is lower than the Test, or the Test itself; it may be lower by more than one, so this is a bound and no
+-- equality.
 use Rattle.std.proofs.Common.{◌≡◌, ◌+◌, ◌≤◌, ℕ, ℤ, List, true, false, refl, sym, ap, subst, ◌∙◌, inl, inr, arith}
 use Rattle.std.specs.Prelude.{max}
 use Rattle.std.proofs.lemmas.Bool.{cases_Bool}

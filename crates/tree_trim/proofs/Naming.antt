@@ -1,4 +1,9 @@
 -- What each kind of proof and of tree names, and what it is once a row is away.
+--
+-- Both are folds, and the fold of something built is a step over the folds of its parts. So each lemma takes what is
+-- built back to its layer and reads one case of the step there. None is an induction: those over a proof and over a
+-- tree are in Refuting and Trimming, which unfold no fold but cite these. There is none for Divides, which a joined
+-- tree doesn't have.
 use Rattle.std.proofs.Common.{◌≡◌, ℕ, ℤ, List, Bool, ◌||◌, sym, ap, ◌∙◌}
 use Rattle.affine_core.specs.declared.form.Form.{Form}
 use Rattle.int_polyhedra.specs.declared.system.Proof.{Proof}

@@ -1,18 +1,26 @@
-use Rattle.std.proofs.Common.{◌≡◌, ◌<◌, ◌-◌, ◌∙◌, List, drop, get_or, length, map, replicate, arith, sym, ap, refl, subst}
+-- The greatest lengths of the queues, by one walk over the trace.
+--
+-- The invariant: with the points that are left to the walk, so many entries of the trace are gone, each process has had
+-- the turns that they are of it, and each channel's queue has counted them (`turns_before`, `queues_at`). An entry
+-- gives its process the next turn, which is the number of those before; its channels exist and are those of its
+-- process, and what is counted of them is what the entry changes (`queues_later`). Other processes' turns and other
+-- channels' queues stay. At the end all entries are gone, and a queue's greatest length is its channel's capacity
+-- (`capacities_are`): the schedule that the capacities are defined by is nowhere made.
+use Rattle.std.proofs.Common.{◌≡◌, ◌<◌, ◌-◌, ◌∙◌, List, drop, length, map, replicate, arith, sym, ap, refl, subst}
 use Rattle.std.specs.Prelude.{All, IfOk, ℕ}
 use Rattle.std.specs.List.{range_with_len}
 use Rattle.std.proofs.lemmas.List.{get_or_read, take_at}
-use Rattle.std.proofs.lemmas.List.FromFn.{get_or-map-range_with_len, length-map-range_with_len}
+use Rattle.std.proofs.lemmas.List.FromFn.{length-map-range_with_len}
 use Rattle.sanlp.specs.Trace.{trace}
-use Rattle.channel_plan.specs.declared.plans.ChannelPlan.{ChannelPlan}
 use Rattle.channel_plan.specs.Plans.{plans_of}
+use Rattle.network_numbers.specs.declared.links.End.TheVariants.{Reader, Writer}
 use Rattle.network_numbers.specs.declared.links.Links.{Links}
 use Rattle.loop_walk.specs.Walks.{rest}
 use Rattle.network_numbers.specs.Links.{links_of}
 use Rattle.network_numbers.specs.Queues.{empty_queue}
 use Rattle.network_numbers.proofs.EntryPassed.{queue_at, queues_at}
-use Rattle.network_numbers.proofs.WholeTrace.{capacities_are, incoming_below, no_queues, no_turns}
-use Rattle.network_numbers.proofs.WholeTrace.{outgoing_below, process_exists, queues_later, turn_is, turn_small, turns_later}
+use Rattle.network_numbers.proofs.WholeTrace.{capacities_are, channels_below, links_at, no_queues, no_turns}
+use Rattle.network_numbers.proofs.WholeTrace.{process_exists, queues_later, turn_is, turn_small, turns_later}
 use Rattle.network_numbers.proofs.lengths.capacities.Goals as goal
 use Rattle.process_derive.proofs.Bounds.{few_plans}
 use Rattle.witness_plan.proofs.InTraceOrder.{turns_before}
@@ -89,14 +97,6 @@ returns c =
     subst (λ (x : List ℕ). IfOk c.greatest_lengths.result (λ lengths. lengths.items ≡ x))
     (capacities_are n c.deref-2.result.now _ all refl) c.greatest_lengths.ensures
 
--- the channels of the entry's process
-at_entry : (plans : List ChannelPlan) (links : List Links) (many p : ℕ) (one : Links)
-    → links ≡ map (links_of plans) (range_with_len 0 many) → p < many → one ≡ get_or links p (links_of plans p)
-    → one ≡ links_of plans p
-at_entry plans links many p one e lt is =
-    is ∙ ap (λ xs. get_or xs p (links_of plans p)) e
-    ∙ get_or-map-range_with_len (links_of plans) 0 many p p (links_of plans p) lt (omega arith)
-
 pub pass_entry-requires-clause-incoming : goal.pass_entry-requires-clause-incoming
 pass_entry-requires-clause-incoming c =
     let n = c.args.nest.now in
@@ -104,10 +104,10 @@ pass_entry-requires-clause-incoming c =
     (rest n c.loop-point.walk) _ c.in-Some.point c.loop-point.invariant.left c.in-Some.ensures.next in
     let count = ap length c.in_ok-links.ensures ∙ length-map-range_with_len (links_of c.args.plans.now) 0 c.len.result in
     subst (λ (l : Links). All (λ c'. c' < length c.args.plans.now) l.incoming)
-    (sym (at_entry c.args.plans.now c.in_ok-links.links.items c.len.result c.in-Some.point.statement c.index.result.now
+    (sym (links_at c.args.plans.now c.in_ok-links.links.items c.len.result c.in-Some.point.statement c.index.result.now
     c.in_ok-links.ensures (omega (arith, c.len.ensures, exists))
     (get_or_read c.in_ok-links.links.items _ _ (omega (arith, count, c.len.ensures, exists)) c.index.ensures _)))
-    (incoming_below c.args.plans.now c.in-Some.point.statement)
+    (channels_below c.args.plans.now Reader c.in-Some.point.statement)
 
 pub pass_entry-requires-clause-outgoing : goal.pass_entry-requires-clause-outgoing
 pass_entry-requires-clause-outgoing c =
@@ -116,10 +116,10 @@ pass_entry-requires-clause-outgoing c =
     (rest n c.loop-point.walk) _ c.in-Some.point c.loop-point.invariant.left c.in-Some.ensures.next in
     let count = ap length c.in_ok-links.ensures ∙ length-map-range_with_len (links_of c.args.plans.now) 0 c.len.result in
     subst (λ (l : Links). All (λ c'. c' < length c.args.plans.now) l.outgoing)
-    (sym (at_entry c.args.plans.now c.in_ok-links.links.items c.len.result c.in-Some.point.statement c.index.result.now
+    (sym (links_at c.args.plans.now c.in_ok-links.links.items c.len.result c.in-Some.point.statement c.index.result.now
     c.in_ok-links.ensures (omega (arith, c.len.ensures, exists))
     (get_or_read c.in_ok-links.links.items _ _ (omega (arith, count, c.len.ensures, exists)) c.index.ensures _)))
-    (outgoing_below c.args.plans.now c.in-Some.point.statement)
+    (channels_below c.args.plans.now Writer c.in-Some.point.statement)
 
 pub loop-point-preserved : goal.loop-point-preserved
 loop-point-preserved c =
@@ -129,7 +129,7 @@ loop-point-preserved c =
     (rest n c.loop-point.walk) _ c.in-Some.point c.loop-point.invariant.left c.in-Some.ensures.next in
     let count = ap length c.in_ok-links.ensures ∙ length-map-range_with_len (links_of c.args.plans.now) 0 c.len.result in
     let linked =
-    at_entry c.args.plans.now c.in_ok-links.links.items c.len.result c.in-Some.point.statement c.index.result.now
+    links_at c.args.plans.now c.in_ok-links.links.items c.len.result c.in-Some.point.statement c.index.result.now
     c.in_ok-links.ensures (omega (arith, c.len.ensures, exists))
     (get_or_read c.in_ok-links.links.items _ _ (omega (arith, count, c.len.ensures, exists)) c.index.ensures _) in
     let before = c.deref_mut.ensures.value ∙ c.loop-point.invariant.turns in

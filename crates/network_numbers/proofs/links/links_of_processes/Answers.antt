@@ -12,10 +12,10 @@ loop-process-preserved c =
     c.in_ok-push.ensures.items
     ∙ ap (λ (xs : List Links). xs
     ++ (let l : Links = record {
-      incoming = c.in_ok-incoming_channels.field-0;
-      outgoing = c.in_ok-outgoing_channels.field-0;
+      incoming = c.in_ok-incoming.incoming;
+      outgoing = c.in_ok-outgoing.outgoing;
     } in l) ∷ []) c.loop-process.invariant
     ∙ ap₂ (λ a b. map (links_of plans) (range_with_len 0 k)
     ++ (let l : Links = record { incoming = a; outgoing = b } in l) ∷ [])
-    c.in_ok-incoming_channels.ensures c.in_ok-outgoing_channels.ensures
+    c.in_ok-incoming.ensures c.in_ok-outgoing.ensures
     ∙ sym (map-range_with_len_more (links_of plans) 0 k k (omega arith))

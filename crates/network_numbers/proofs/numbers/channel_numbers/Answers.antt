@@ -1,7 +1,7 @@
 use Rattle.std.proofs.Common.{◌++◌, ◌∷◌, [], ap, ap₂, sym, ◌∙◌}
 use Rattle.std.specs.Prelude.{slice_index}
 use Rattle.channel_plan.specs.declared.plans.ChannelPlan.{ChannelPlan}
-use Rattle.network_numbers.specs.Told.{channel_by_plan}
+use Rattle.network_numbers.specs.PlanNumbers.{channel_by_plan}
 use Rattle.network_numbers.proofs.NumberedItems.{entries_more}
 use Rattle.network_numbers.proofs.numbers.channel_numbers.Goals as goal
 

@@ -1,5 +1,5 @@
 use Rattle.std.proofs.Common.{◌≡◌, take}
-use Rattle.network_numbers.specs.Told.{channels_by_plans}
+use Rattle.network_numbers.specs.PlanNumbers.{channels_by_plans}
 use Rattle.network_numbers.proofs.numbers.channel_numbers.Given as goal
 
 -- the channels so far are told

@@ -2,7 +2,7 @@ use Rattle.std.proofs.Common.{length, ap, ap₂, ◌∙◌, arith}
 use Rattle.std.proofs.lemmas.List.FromFn.{length-map-range_with_len}
 use Rattle.channel_plan.specs.Plans.{turn_count}
 use Rattle.channel_plan.proofs.Nests.{turns_are}
-use Rattle.network_numbers.specs.Told.{channels_by_plans, event_total, processes_by_plans}
+use Rattle.network_numbers.specs.PlanNumbers.{channels_by_plans, event_total, processes_by_plans}
 use Rattle.network_numbers.proofs.TextNumbers.{events_told, numbers_told}
 use Rattle.network_numbers.proofs.numbers.numbers_by_turns.Goals as goal
 use Rattle.process_derive.specs.Derived.{net}

@@ -1,5 +1,5 @@
 use Rattle.std.proofs.Common.{◌++◌, ◌∷◌, [], ap₂, sym, ◌∙◌}
-use Rattle.network_numbers.specs.Told.{process_by_plans}
+use Rattle.network_numbers.specs.PlanNumbers.{process_by_plans}
 use Rattle.network_numbers.proofs.NumberedItems.{entries_more}
 use Rattle.network_numbers.proofs.numbers.process_numbers.Goals as goal
 

@@ -1,5 +1,5 @@
 use Rattle.std.proofs.Common.{◌≡◌, take}
-use Rattle.network_numbers.specs.Told.{processes_by_plans}
+use Rattle.network_numbers.specs.PlanNumbers.{processes_by_plans}
 use Rattle.network_numbers.proofs.numbers.process_numbers.Given as goal
 
 -- the processes so far are told

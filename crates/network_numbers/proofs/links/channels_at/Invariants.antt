@@ -2,11 +2,12 @@ use Rattle.std.proofs.Common.{◌≡◌, false}
 use Rattle.std.specs.Prelude.{◌==◌, slice_get}
 use Rattle.std.specs.List.{filter, range_with_len}
 use Rattle.std.specs.Option.{option_map_or}
-use Rattle.network_numbers.proofs.links.incoming_channels.Given as goal
+use Rattle.network_numbers.specs.Links.{process_at}
+use Rattle.network_numbers.proofs.links.channels_at.Given as goal
 
 -- the channels below this one were looked at
 abbrev pub invariant-loop-channel : goal.invariant-loop-channel
 invariant-loop-channel l =
     l.channels
-    ≡ filter (λ c. option_map_or (λ plan. plan.reader == l.process) (slice_get l.plans c) false)
+    ≡ filter (λ c. option_map_or (λ plan. process_at l.end plan == l.process) (slice_get l.plans c) false)
     (range_with_len 0 l.channel)

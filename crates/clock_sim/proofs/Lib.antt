@@ -3,3 +3,4 @@ pub mod ClockRuns
 pub mod ClockSteps
 pub mod Automata
 pub mod SinkLists
+mod Worked

@@ -1,3 +1,4 @@
 pub mod LaneAnswers
 pub mod BoardSteps
 pub mod BoardEnd
+mod Worked

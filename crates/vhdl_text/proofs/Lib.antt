@@ -1,3 +1,4 @@
 pub mod Columns
 pub mod Sequences
 pub mod LongScripts
+mod Worked

@@ -55,10 +55,11 @@ sightings_from (seen.Before at order ∷ rest) = before at order ∷ sightings_f
 sightings_from (seen.After at order ∷ rest) =
     with_passed (best_from rest) order (sightings_from rest)
 
--- the same, the last one at the end
+-- the position whose point is the best of those that were seen, the last one at the end
 abbrev pub best_in : List Seen → Option Position
 best_in all = best_from (reverse all)
 
+-- what became of all candidates that were seen but the best, the last one at the end
 abbrev pub sightings_of : List Seen → List Sighting
 sightings_of all = sightings_from (reverse all)
 

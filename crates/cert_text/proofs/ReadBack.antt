@@ -312,7 +312,7 @@ behind_sizes version sizes at = followed_by (folded version sizes at) (λ f at. 
 abbrev behind_version : Version → Part (Version × Folded)
 behind_version version at = followed_by (line sizes_line at) (λ sizes at. behind_sizes version sizes at)
 
-whole_back : (version : Version) (f : Folded) → IsInRangeOf version f
+pub whole_back : (version : Version) (f : Folded) → IsInRangeOf version f
     → found (whole_text (record { line = 1; text = folded_text version f })) ≡ Ok (version, f)
 whole_back version f k =
     let sizes = sizes_of f in
@@ -391,10 +391,10 @@ nothing_left n (byte ∷ text) u next e = absurd (cc e)
 sizes_are : (s : Sizes) (f : Folded) (version : Version) → Fits version s f → s ≡ sizes_of f
 sizes_are s f version k = rw (k.process_count, k.channel_count, k.source_count, k.part_count) refl
 
-abbrev IsKept : List ℕ → Version × Folded → Type 0
+abbrev pub IsKept : List ℕ → Version × Folded → Type 0
 IsKept text kept = (text ≡ folded_text kept.0 kept.1) × IsInRangeOf kept.0 kept.1
 
-whole_forth : (text : List ℕ) (kept : Version × Folded) → found (whole_text (record { line = 1; text = text }))
+pub whole_forth : (text : List ℕ) (kept : Version × Folded) → found (whole_text (record { line = 1; text = text }))
     ≡ Ok kept → IsKept text kept
 whole_forth text kept e =
     let start : Place = record { line = 1; text = text } in

@@ -93,6 +93,7 @@ abbrev pub version_word : Version → List ℕ
 version_word One = codes "1"
 version_word Two = codes "2"
 
+-- the first line of a text: `cert` and its version
 abbrev pub head_text : Version → List ℕ
 head_text version = line_text (codes "cert" ∷ version_word version ∷ [])
 

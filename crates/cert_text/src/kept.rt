@@ -15,12 +15,14 @@ use std::alloc::{AllocError, Global};
 /// The most events of all scripts together, and the most entries of a schedule.
 const MOST_EVENTS: u64 = 142_606_336;
 
+/// A process as a text is read: its slots, and its script kept folded.
 #[derive(Drop)]
 pub(crate) struct KeptProcess {
     pub(crate) slots: u32,
     pub(crate) script: FoldedList<Event>,
 }
 
+/// A network and its certificate as a text is read: scripts and schedule are kept folded.
 #[derive(Drop)]
 pub(crate) struct Kept {
     pub(crate) processes: Items<KeptProcess>,

@@ -3,7 +3,7 @@
 --
 -- The plan's uses are counted from the sources, fire by fire; those of the network are read off the references and the
 -- Gets that they name. By induction on the reader's points both lists grow alike: a fire adds what its reference at
--- the channel's read names, which is the token of its use (FoundTokens), and its references at other reads, or to
+-- the channel's read names, which is the token of its use (SlotTokens), and its references at other reads, or to
 -- other writers, add nothing.
 use Rattle.std.proofs.Common.{◌≡◌, ℕ, zero, suc, ◌+◌, ◌<◌, ◌≤◌, cond, Option, Some, None, List, [], ◌∷◌, ◌++◌, length}
 use Rattle.std.proofs.Common.{map, take, drop, slice_get, get_or, refl, sym, ap, ◌∙◌, inl, inr, arith, add-one}

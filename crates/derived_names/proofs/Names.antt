@@ -1,7 +1,7 @@
 -- Each reference of a nest's network names the last writer of what it reads, or nothing where there is none.
 --
 -- A fire of the script is that of a point (Fires), its reference at a read is that of the point's use there, and the
--- latest Get of the slot that it names is that of its token (FoundTokens). The token of that number is the tag of the
+-- latest Get of the slot that it names is that of its token (SlotTokens). The token of that number is the tag of the
 -- turn that the use counts (Tokens), and that turn is the source, which is defined as the last writer's tag. Where a
 -- read has no source its reference is Zero. So the law is about the definition of the network, whatever its capacities
 -- and whatever order it runs in.

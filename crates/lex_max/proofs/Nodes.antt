@@ -1,4 +1,9 @@
 -- A Zero leaf of a tree that is checked or simple: its proofs refute the systems without a writer, and are light sums.
+--
+-- Both kinds of evidence have a case for each kind of node, and each case holds the tree's node as an equality. A tree
+-- has one node (`node_unique`), so of a Zero leaf the cases of a Test and of a Writer contradict, and in the case of a
+-- Zero leaf the proofs are those of the leaf. This only reads the evidence of a leaf: it is no induction, and a tree's
+-- other leaves are reached by whoever goes down to them.
 use Rattle.std.proofs.Common.{◌≡◌, ℕ, List, subst}
 use Rattle.std.specs.Prelude.{All}
 use Rattle.int_polyhedra.specs.declared.system.Proof.{Proof}

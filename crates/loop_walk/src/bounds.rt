@@ -15,7 +15,7 @@ use sanlp::{add_product, moderate};
 /// The greatest absolute value of a form of an entered loop.
 const LOOP_VALUE_LIMIT: i128 = 4_611_686_018_427_387_904;
 
-// The value of a form. Its coefficients are so small that at values of 64 bits no sum leaves 128 bits.
+/// The value of a form. Its coefficients are so small that at values of 64 bits no sum leaves 128 bits.
 #[tactic(auto, using(sanlp::proofs::ModerateForms::as_many))]
 pub(crate) fn form_value(form: &Form, at: &LoopValues) -> i128
     requires { IsTrue (form_fits (length at.now) form.now) }

@@ -1,6 +1,6 @@
 -- Where each reference names the last writer of what it reads, each fire gives the value of its entry in the trace.
 --
--- It is what Naming asks of the rule of values, and no induction of its own: the f-th fire of a process is at the
+-- It is what PlaceValues asks of the rule of values, and no induction of its own: the f-th fire of a process is at the
 -- process's f-th entry (`turn_entry`), a reference that names a tag reads the value of that tag's entry, one that
 -- names nothing reads 0, and the value of an entry is by definition its expression over just these. So all fires of a
 -- process give the values of its entries in order. That the references do name the last writers is a premise here: the

@@ -4,7 +4,7 @@
 -- together the Puts before the writer's, and each process has kept one value for each of its fires. It holds at the
 -- start, and each enabled step keeps it: a Get takes one of at least one, a Put appends exactly one value, since no
 -- Put stands before the first fire. So whether a process may go on is a matter of the positions alone, and runs of the
--- machine are runs on cuts, both ways (`run_cut`, `cut_run`). It says nothing of what the values are: that is Naming.
+-- machine are runs on cuts, both ways (`run_cut`, `cut_run`). It says nothing of what the values are: that is PlaceValues.
 use Rattle.std.proofs.Common.{◌≡◌, ℕ, suc, ◌+◌, ◌<◌, ◌≤◌, true, false, cond, eqb, Option, Some, None, List, [], ◌∷◌}
 use Rattle.std.proofs.Common.{length, take, slice_get, count_by, refl, sym, ap, ◌∙◌, subst, inl, inr, arith, ltb-true}
 use Rattle.std.proofs.Common.{lt-ltb, eqb-true, length-append, length-drop}

@@ -2,8 +2,8 @@
 --
 -- Here all is joined. A run over tags is one over values too, for all inputs, since which process may go on doesn't
 -- depend on what a fire gives; so EveryOrder speaks of the run of values. In each ended state a process has kept the
--- values of its fires (Naming), which are those of its entries (Valued), and of the sinks these are the arrays after
--- the nest (sanlp's Outputs). Of the capacities nothing is asked but that one run ends all.
+-- values of its fires (PlaceValues), which are those of its entries (FireValues), and of the sinks these are the arrays
+-- after the nest (sanlp's Outputs). Of the capacities nothing is asked but that one run ends all.
 use Rattle.std.proofs.Common.{◌≡◌, ℕ, ◌+◌, ◌-◌, List, [], ◌∷◌, length, ap, sym, ◌∙◌, refl}
 use mathlib.Core.Path.{fun_ext}
 use Rattle.sanlp.specs.declared.nest.ArrayDecl.{ArrayDecl}

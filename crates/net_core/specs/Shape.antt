@@ -6,6 +6,7 @@ use Rattle.net_core.specs.declared.network.Event.{Event}
 use Rattle.net_core.specs.declared.network.Event.TheVariants.{Get, Fire, Put}
 use Rattle.net_core.specs.Machine.{Net}
 
+-- whether an event is a Get, of whatever channel
 abbrev pub is_any_get : Event → Bool
 is_any_get (Get channel slot) = true
 is_any_get (Fire refs) = false
@@ -23,6 +24,7 @@ is_put c (Get channel slot) = false
 is_put c (Fire refs) = false
 is_put c (Put channel) = c == channel
 
+-- whether an event is a Fire
 abbrev pub is_fire : Event → Bool
 is_fire (Get channel slot) = false
 is_fire (Fire refs) = true

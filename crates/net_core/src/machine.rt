@@ -12,7 +12,7 @@ use crate::refs::Refs;
 use crate::room::Room;
 use std::collections::VecDeque;
 
-// What one process has: how many events it has made, and its room.
+/// What one process has: how many events it has made, and its room.
 #[derive(Drop)]
 pub(crate) struct Local<T> {
     pub(crate) position: u32,

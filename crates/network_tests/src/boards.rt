@@ -13,6 +13,7 @@ use std::alloc::{AllocError, Global};
 use std::test::Fail;
 use trace_board::{Advance, Board};
 
+/// A process with so many slots and these events.
 pub(crate) fn process(alloc: Global, slots: u32, events: &[Event]) -> Result<Process, AllocError>
     requires { length events.now < 2 ^ 32 }
     ensures { IfOk result (λ process. process ≡ record { slots = slots; script = events.now }) }

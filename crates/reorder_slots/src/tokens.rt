@@ -15,7 +15,7 @@ fn tokens_of(uses: &[u32]) -> usize
     tokens
 }
 
-// For each token the number of its last use, and 0 for a token without one.
+/// For each token the number of its last use, and 0 for a token without one.
 pub(crate) fn last_uses(alloc: Global, uses: &[u32]) -> Result<Vec<usize>, AllocError>
     ensures tokens { IfOk result (λ last. vec_len last ≡ gets_for uses.now) }
     ensures last { IfOk result (λ last. HasLastUses uses.now (length uses.now) last.items) }

@@ -58,7 +58,7 @@ impl Model for GetEnd {
         (known_by e.pass).moved) };
 }
 
-// The two ends of a new link. The channel is given so that a caller can pick its stream.
+/// The two ends of a new link. The channel is given so that a caller can pick its stream.
 pub(crate) fn linked<S: Stream>(
     alloc: Global,
     capacity: u32,

@@ -4,7 +4,7 @@ use crossbeam_channel::protocol::{Lesson, Outcome, Protocol, Split};
 use std::collections::LinkedList;
 use std::marker::{Brand, PhantomData};
 
-// What the pass of one end knows. No value of it is ever made.
+/// What the pass of one end knows. No value of it is ever made.
 pub struct View {
     pub puts: bool,
     pub split: bool,
@@ -13,6 +13,7 @@ pub struct View {
     pub capacity: u64,
 }
 
+/// The rule of a link (`Linked`): what was got, and then what waits, is what was put, which begins the stream.
 pub struct InStep;
 
 impl Protocol<i64, View> for InStep {
@@ -23,7 +24,7 @@ impl Protocol<i64, View> for InStep {
     ghost first = { opening };
 }
 
-// The stream of one link, and how many values may wait in it.
+/// The stream of one link, and how many values may wait in it.
 pub trait Stream {
     ghost use Rattle.std.specs.Prelude.{ℕ, ℤ, List};
 
@@ -40,7 +41,7 @@ impl Stream for Brand {
     ghost capacity = { 1 };
 }
 
-// Splits off the get end's pass, and names the stream in both views.
+/// Splits off the get end's pass, and names the stream in both views.
 pub struct Named<S: Stream>(PhantomData<S>);
 
 impl<S: Stream> Split<View> for Named<S> {
@@ -52,7 +53,7 @@ impl<S: Stream> Split<View> for Named<S> {
     ghost right = { λ v. get_view S.values S.capacity [] };
 }
 
-// A send: the value was put.
+/// A send: the value was put.
 pub struct Sent;
 
 impl Outcome<i64, View> for Sent {
@@ -67,7 +68,7 @@ impl Lesson<i64, View> for Sent {
     ghost fact = { λ v items. Unit {0} };
 }
 
-// A receive: the value that was got is the next one of the stream.
+/// A receive: the value that was got is the next one of the stream.
 pub struct Received;
 
 impl Outcome<i64, View> for Received {

@@ -1,8 +1,8 @@
 -- The trace has exactly the points of the iteration domains, each once, in the order of execution.
 --
 -- Three inductions on the nodes are joined here: each point of a node comes from a place of it, with values at which
--- the place's rows hold (Domains); each such vector is reached (Reached); of two points of a node the one that
--- precedes stands first (Ordered). The facts of a nest say that the places are those that the statements name, in
+-- the place's rows hold (Domains); each such vector is reached (DomainPoints); of two points of a node the one that
+-- precedes stands first (ExecutionOrder). The facts of a nest say that the places are those that the statements name, in
 -- ascending order. No two points precede each other, so "each once" and "earlier exactly where it precedes" follow
 -- from the order alone.
 use Rattle.std.proofs.Common.{◌≡◌, ◌<◌, ◌≤◌, ℕ, zero, suc, ◌+◌, ℤ, List, [], ◌∷◌, length, Bool, true, inl, inr, refl}

@@ -22,6 +22,7 @@ impl Model for Waiting {
 }
 
 impl Waiting {
+    /// No byte waits.
     pub(crate) fn new() -> Waiting
         ensures { result ≡ [] }
     {
@@ -31,6 +32,7 @@ impl Waiting {
         }
     }
 
+    /// The bytes that wait, the first of them first.
     pub(crate) fn as_slice(&self) -> &[u8]
         ensures { result.now ≡ self.now }
     {
@@ -45,6 +47,7 @@ impl Waiting {
         BLOCK - self.len
     }
 
+    /// Lets these bytes wait behind the others. There is room for them.
     pub(crate) fn append(&mut self, piece: &[u8])
         requires { length self.old + length piece.now ≤ BLOCK }
         ensures { self.new ≡ self.old ++ piece.now }
@@ -54,6 +57,7 @@ impl Waiting {
         self.len = end;
     }
 
+    /// Lets no byte wait any more.
     pub(crate) fn clear(&mut self)
         ensures { self.new ≡ [] }
     {

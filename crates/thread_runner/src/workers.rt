@@ -197,7 +197,7 @@ fn start<'s, S, R: Threads + Wait + Sync, E: Ends + Send + Drop + 's, G: Gate + 
     }
 }
 
-// Runs all processes, each by a thread of its own. The answer says whether each of them ran.
+/// Runs all processes, each by a thread of its own. The answer says whether each of them ran.
 pub(crate) fn run_workers<R: Threads + Wait + Sync, E: Ends + Send + Drop, G: Gate + Sync>(
     rt: &R,
     nest: &Nest,

@@ -3,7 +3,7 @@ ghost use Rattle.affine_core.specs.Within.{combined_in_128_bits, sum_in_128_bits
 
 use affine_core::Form;
 
-// A sum with one more product, if no number leaves 64 bits. Most coefficients are 0, and add nothing.
+/// A sum with one more product, if no number leaves 64 bits. Most coefficients are 0, and add nothing.
 pub(crate) fn add_product(total: i64, coef: i128, value: i64) -> Option<i64>
     ensures { IfSome result (λ sum. sum_in_128_bits total coef value ≡ Some sum) }
 {

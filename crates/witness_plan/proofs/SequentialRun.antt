@@ -2,7 +2,7 @@
 --
 -- By induction on the trace: after t entries each process has made the events of its points among them (InTraceOrder).
 -- Within entry t only a Get could wait. Its channel's Gets so far, this one included, are no more than its uses up to
--- this entry want (GetsMade), these want no more tokens than the writer's points so far are (SourcesBefore), and all
+-- this entry want (GetCounts), these want no more tokens than the writer's points so far are (SourcesBefore), and all
 -- those were put (TokensPut). So the queue isn't empty. Room is no question here: the channels are as wide as all
 -- their tokens. The capacities that such a run needs are NeverFull's.
 use Rattle.std.proofs.Common.{◌≡◌, ℕ, zero, suc, ◌+◌, ◌-◌, ◌<◌, ◌≤◌, true, cond, Some, List, [], ◌∷◌, ◌++◌, length}

@@ -52,7 +52,7 @@ candidate_order.Joint.IsCheckedForAll candidate_order.Reads.pairs_of candidate_o
 cap_trim.Capacities.trimmed_network_below cap_trim.Capacities.capacity_list cap_trim.Rests.least_run_from cert_text.CertText.IsInRangeOf
 cert_text.CertText.folded_text cert_text.Folding.Folded cert_text.Folding.cert_of cert_text.Folding.network_of cert_text.StandsFor.IsShort
 cert_text.Stretches.stretch_blocks channel_plan.Tokens.is_used channel_plan.Tokens.turns_used channel_plan.Tokens.uses_of
-clock_sim.Clocks.clocked_run command_answers.Source.Gives command_answers.Source.GivesWithinSize command_answers.Telling.GivesTrees
+clock_sim.Clocks.clocked_run command_answers.Source.Gives command_answers.Source.GivesWithinSize
 compaan_top.Answers.ReadsTo compaan_top.Commands.read_by compaan_top.Commands.reads_of compaan_top.Complaints.refusal_line
 compaan_top.Complaints.refusal_status compaan_top.Headline.HasFittingCertificate compaan_top.Headline.HasSoundCertificate
 compaan_top.Headline.IsAcceptable compaan_top.Laws.IsDone compaan_top.Laws.IsValid compaan_top.Outcome.IsOutcome compaan_top.Told.ComesTo
@@ -61,11 +61,12 @@ deps_text.DepsText.TellsDependences lex_max.Systems.later_systems lex_max.System
 loop_bind.Judging.judged loop_bind.Parts.part_made loop_bind.Reasons.least_from loop_bind.Values.valued loop_grammar.Grammar.Derives
 loop_lex.Lexical.is_separator loop_lex.Lexical.is_token loop_lex.Tokens.longest loop_print.Numbers.without_token_numbers
 net_checker.Sources.AreUsable net_checker.Sources.IsUsable net_core.Cuts.IsLegal net_core.Names.name_at
-net_maker.Certificates.IsUsableOrigin node_automata.Automata.incoming node_automata.Automata.outgoing process_derive.Scripts.point_events
+net_maker.Origins.IsUsableOrigin node_automata.Automata.incoming node_automata.Automata.outgoing process_derive.Scripts.point_events
 reorder_slots.Slots.gets_for reorder_slots.Slots.lowest_free sanlp.Meaning.exec sanlp.Memory.Memory sanlp.Tags.tag_at
-sanlp.Writers.last_writer sanlp.Writers.value_at source_tree.Wanted.IsWanted source_tree.Wanted.IsWriterBy trim_text.TrimText.channel_line
-vhdl_text.Constants.column_values vhdl_text.Constants.variable_values vhdl_text.Expressions.expr_text vhdl_text.Literals.literal
-vhdl_text.VhdlText.node_text witness_plan.Schedules.is_ready witness_plan.Sequential.sequential_schedule
+sanlp.Writers.last_writer sanlp.Writers.value_at source_tree.Wanted.IsWanted source_tree.Wanted.IsWriterBy
+tree_answers.Telling.GivesTrees trim_text.TrimText.channel_line vhdl_text.Constants.column_values vhdl_text.Constants.variable_values
+vhdl_text.Expressions.expr_text vhdl_text.Literals.literal vhdl_text.VhdlText.node_text witness_plan.Schedules.is_ready
+witness_plan.Sequential.sequential_schedule
 """.split()
 
 # What is claimed, what is to be read for it, and the definition that says it.

@@ -3,7 +3,7 @@
 -- Where no Test is asked, the frames stay and more may be seen. A Test puts a frame for its second side; once the first
 -- side is made, what was seen on it is cut off, so the second side stands where the Test does. What is told of a walk
 -- here is told of its parts by equalities, since a turn changes some of them.
-use Rattle.std.proofs.Common.{◌≡◌, ◌+◌, ◌*◌, ◌^◌, ◌≤◌, ◌<◌, ℕ, List, [], ◌∷◌, ◌++◌, length, take, refl, sym, ap, ◌∙◌}
+use Rattle.std.proofs.Common.{◌≡◌, ◌+◌, ◌*◌, ◌^◌, ◌≤◌, ◌<◌, ℕ, List, [], ◌∷◌, ◌++◌, length, take, false, refl, sym, ap, ◌∙◌}
 use Rattle.std.proofs.Common.{subst, arith}
 use Rattle.std.specs.Prelude.{◌-◌, max, sum_by, Option, Some, IfSome}
 use Rattle.std.proofs.lemmas.List.{append-nil, length_push}
@@ -28,9 +28,9 @@ use Rattle.candidate_join.specs.declared.path.Walk.{Walk}
 use Rattle.candidate_join.proofs.PathSteps.{path_context}
 use Rattle.std.proofs.Math.Nat.{max-le}
 use Rattle.std.proofs.lemmas.Option.{same_Some}
-use Rattle.tree_trim.specs.Sides.{AreJoinedSides}
-use Rattle.tree_trim.specs.Trees.{branch_or_test}
-use Rattle.tree_trim.proofs.Heights.{height_of-branch_or_test}
+use Rattle.tree_trim.specs.Sides.{AreJoinedSides, IsJoinedBranch}
+use Rattle.tree_trim.specs.Trees.{branch_or_test, tree_names_row, tree_without}
+use Rattle.tree_trim.proofs.Heights.{height_of-branch_or_test, height_of-tree_without}
 use Rattle.candidate_join.proofs.Walks.{frames_more, turns_some}
 use Rattle.lex_max.specs.Facts.{with_form, IsContext}
 use Rattle.source_tree.specs.declared.tree.Tree.{Tree}
@@ -191,6 +191,39 @@ module _ (task : Task) (walk new : Walk) where
     second_ready context_is seen_is left_is =
         same_ready r cs (with_form h.context other) new.context h.seen new.seen left new.left next context_is seen_is
         left_is second_is
+
+  -- the first side is made, and no proof of it names the Test's row
+  module _ (count : ℕ) (left : List ℕ) (next : Next) (above : Tree) (h : IsClosing task walk (First count left next) above)
+      (number : ℕ) (number_is : number ≡ length h.context.rows) (unnamed : tree_names_row number above ≡ false) where
+    pub unnamed_branch : IsJoinedBranch r h.context number h.row above
+    unnamed_branch = record {
+      number = number_is;
+      over = h.open_is.0.over;
+      joined = subst (λ context. IsJoinedTree r context above) h.context_is h.made.0;
+      unnamed = unnamed;
+    }
+
+    pub stands : (tree : Tree) → tree ≡ tree_without number above → IsJoinedTree r h.context tree
+        → new.context ≡ h.context → new.seen ≡ walk.seen → new.frames ≡ walk.frames
+        → GoesOn task (turns_of_frame (First count left next) + sum_by turns_of_frame walk.frames) new (Made tree)
+    stands tree is joined context_is seen_is frames_are = (
+      (
+        same_frames h.context (h.seen ++ h.more) walk.frames context_is (seen_is ∙ h.seen_is) frames_are
+            (frames_more r cs h.context h.seen h.more walk.frames h.frames),
+        subst (λ context. IsMade r context tree) (sym context_is) (
+          joined,
+          omega (
+            arith,
+            ap height_of is,
+            height_of-tree_without number above,
+            h.made.1,
+            ap (λ (s : System). length s.rows) h.context_is,
+            length_push h.context.rows h.row,
+          ),
+        ),
+      ),
+      omega (arith, ap (sum_by turns_of_frame) frames_are),
+    )
 
   -- both sides are made
   pub closed : (form : Form) (above below tree : Tree) → (h : IsClosing task walk (Second form above) below)

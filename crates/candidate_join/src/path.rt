@@ -40,7 +40,7 @@ use plain_data::Items;
 use sanlp::common_loops;
 use source_tree::Tree;
 use std::alloc::{AllocError, Global};
-use tree_trim::trim_test;
+use tree_trim::{branch_without, tree_names_row, trim_test};
 
 /// A read and its candidates.
 #[derive(Clone, Copy)]
@@ -321,6 +321,30 @@ fn turn<'a>(
     }
 }
 
+// The first side of the last Test has this tree. Where its proofs name the Test's row, the second side is walked. Else the
+// tree holds without that row and stands in the Test's place, and nothing is walked for it.
+fn first_made<'a>(
+    task: &Task<'a>,
+    walk: &mut Walk<'a>,
+    count: usize,
+    left: Items<u32>,
+    next: Next<'a>,
+    yes: Tree,
+) -> Result<Step<'a>, AllocError>
+    requires { IsClosing task.now walk.old (Frame.First count left next) yes }
+    ensures { IfOk result (GoesOn task.now
+        (turns_of_frame (Frame.First count left next.entry) + sum_by turns_of_frame walk.old.frames)
+        walk.new) }
+{
+    let row = walk.context.rows.len() as u32 - 1;
+    if tree_names_row(&yes, row) {
+        return turn(task, walk, count, left, next, yes);
+    }
+    last_row(&mut walk.context);
+    let tree = branch_without(task.read.alloc, yes, row)?;
+    Ok(Step::Made(tree))
+}
+
 // A side of the last Test, which this frame was of, has this tree.
 fn close<'a>(
     task: &Task<'a>,
@@ -333,7 +357,7 @@ fn close<'a>(
         (turns_of_frame frame.entry + sum_by turns_of_frame walk.old.frames) walk.new) }
 {
     match frame {
-        Frame::First(count, left, next) => turn(task, walk, count, left, next, tree),
+        Frame::First(count, left, next) => first_made(task, walk, count, left, next, tree),
         Frame::Second(form, yes) => {
             last_row(&mut walk.context);
             let made = joint_test(task.read.alloc, &walk.context, form, yes, tree)?;

@@ -25,16 +25,19 @@ use Rattle.int_polyhedra.specs.declared.system.System.{System}
 use Rattle.int_polyhedra.specs.Systems.{AreOver}
 use Rattle.last_writer.specs.Answers.{answered_context, below_answer, HasSmallRows}
 use Rattle.last_writer.specs.Leaves.{context_of, is_told, pairs_of, told_pair, told_pairs, vars_of, IsAnswered, IsBelow}
-use Rattle.last_writer.specs.Told.{IsTold}
+use Rattle.last_writer.specs.Told.{IsToldOf}
 use Rattle.last_writer.specs.declared.source.Told.{Told}
-use Rattle.last_writer.specs.Writers.{stands_before, AreWriters, IsReadOf, IsSmallTest, IsTestAt, IsWriterOf}
+use Rattle.last_writer.specs.Writers.{is_never, stands_before, AreWriters, IsPlaceOf, IsReadOf, IsSmallTest, IsTestAt}
+use Rattle.last_writer.specs.Writers.{IsWriterOf}
 use Rattle.last_writer.specs.declared.leaves.Answered.{Answered}
 use Rattle.last_writer.specs.declared.writers.Writer.{Writer}
 use Rattle.last_writer.proofs.Below.{answered_more, vars_are}
 use Rattle.last_writer.proofs.LeafConversion.{zip_count}
+use Rattle.last_writer.proofs.WriterTests.{tests_asked, told_asked}
 use Rattle.last_writer.proofs.QuotientWrites.{one_pair, told_all}
 use Rattle.lex_max.specs.Asked.{IsProblem}
 use Rattle.lex_max.specs.Level.{HasLevel}
+use Rattle.plain_data.proofs.Lists.{slice_get-append_right}
 use Rattle.row_sums.specs.Parts.{IsWithin}
 use Rattle.row_sums.proofs.SmallRows.{widened_length}
 use Rattle.row_sums.proofs.Within.{IsWithin-weaker}
@@ -44,16 +47,19 @@ use Rattle.sanlp.specs.declared.nest.Nest.{Nest}
 use Rattle.sanlp.specs.declared.nest.Statement.{Statement}
 use Rattle.sanlp.specs.WellFormed.{statement_fits}
 use Rattle.source_tree.specs.Checked.{at_divides, IsCheckedIn}
+use Rattle.source_tree.specs.Rows.{RowExpr}
 use Rattle.source_tree.specs.Systems.{Context, Occurrence, array_writes, divides_no, divides_yes, every, root_context}
-use Rattle.source_tree.specs.Systems.{with_write, write_to, writes_from}
+use Rattle.source_tree.specs.Systems.{undivided_rows, with_write, write_to, writes_from}
 use Rattle.source_tree.specs.declared.tree.Tree.{Tree}
 use Rattle.source_tree.specs.declared.tree.Tree.TheViews.{Divides}
 use Rattle.source_tree.specs.References.{occurrence_of}
 use Rattle.stride_rows.specs.Class.{is_stride, stride_of}
+use Rattle.stride_trees.specs.Contexts.{IsNoIn}
 use Rattle.stride_trees.specs.Divisions.{division_of, divisions_from}
 use Rattle.stride_trees.specs.Strides.{depth_of_read, read_of, write_of, ArePlaces}
 use Rattle.stride_trees.specs.declared.divisions.Division.{Division}
 use Rattle.stride_trees.specs.declared.strides.Strides.{Strides}
+use Rattle.stride_trees.proofs.Lists.{forms_count}
 use Rattle.stride_trees.proofs.QuotientProblem.{told_problem}
 use Rattle.stride_trees.proofs.ProblemBounds.{are_fitting, AreFitting}
 
@@ -102,8 +108,8 @@ places_below tests (d ∷ ds) (place ∷ places) h =
     (places_below tests ds places h.1)
 
 pub writer_places : (n : Nest) (r : Occurrence) (tests : List Division) (x : Writer) → length tests ≤ 6
-    → IsWriterOf n r tests x → ArePlaces x.strides (depth_of_read x.strides + length tests) x.places
-writer_places n r tests x few of =
+    → IsWriterOf n r tests x → is_never x ≡ false → ArePlaces x.strides (depth_of_read x.strides + length tests) x.places
+writer_places n r tests x few of asked =
     let s : Strides = x.strides in
     let f : AreFitting s.nest.now (read_of s) (write_of s) s.level =
     are_fitting s.nest.now (read_of s) (write_of s) s.level of.strided.strided in
@@ -111,12 +117,12 @@ writer_places n r tests x few of =
       reader = omega arith;
       each = All-weaker (λ place. place < length tests)
           (λ place. depth_of_read s + place < depth_of_read s + length tests) (λ place lt. omega (arith, lt)) x.places
-          (places_below tests x.divisions x.places of.places);
+          (places_below tests x.divisions x.places (tests_asked tests x.divisions x.places asked of.places));
       enough = omega (
         arith,
         strides_count 0 (write_of s).access.subscripts (read_of s).access.subscripts (omega (arith, f.even)),
         ap length of.divisions,
-        zip_count (IsTestAt tests) x.divisions x.places of.places,
+        zip_count (IsPlaceOf tests) x.divisions x.places of.places,
       );
       few = omega (arith, few);
     }
@@ -160,20 +166,22 @@ abbrev IsAskedPair : ℕ → ReadAndWrite → Type 0
 IsAskedPair vars o = (p : ℕ) → HasLevel o.read o.write p → IsProblem vars o.read o.write p
 
 asked_pair : (w : Answered) → IsAnswered w → (x : Writer)
-    → IsWriterOf w.nest.now (occurrence_of w.read) w.tests.now x → IsAskedPair (vars_of w) (told_pair (vars_of w) x)
-asked_pair w h x of p level =
+    → IsWriterOf w.nest.now (occurrence_of w.read) w.tests.now x → is_told w.answers.now x ≡ true
+    → IsAskedPair (vars_of w) (told_pair (vars_of w) x)
+asked_pair w h x of says p level =
     let s : Strides = x.strides in
     let depth : depth_of_read s ≡ length w.read.statement.now.loops =
     ap (λ (r : Occurrence). length r.statement.loops) of.read in
     let places : ArePlaces s (vars_of w) x.places
     = subst (λ d. ArePlaces s (d + length w.tests.now) x.places) depth
-    (writer_places w.nest.now (occurrence_of w.read) w.tests.now x h.few of) in
+    (writer_places w.nest.now (occurrence_of w.read) w.tests.now x h.few of
+    (told_asked w.answers.now x (omega (arith, h.answers, h.few)) says)) in
     told_problem s.nest.now (read_of s) (write_of s) s.level p (vars_of w) x.places of.strided.strided level
     (omega (arith, depth)) (omega (arith, few_loops w h, h.few)) places.each places.enough
 
 stands : (w : Answered) (x : Writer) → IsWriterOf w.nest.now (occurrence_of w.read) w.tests.now x
-    → StandsInLoopsOf w.nest.now (told_pair (vars_of w) x).write
-stands w x of =
+    → is_told w.answers.now x ≡ true → StandsInLoopsOf w.nest.now (told_pair (vars_of w) x).write
+stands w x of says =
     let s : Strides = x.strides in
     let f : AreFitting s.nest.now (read_of s) (write_of s) s.level =
     are_fitting s.nest.now (read_of s) (write_of s) s.level of.strided.strided in
@@ -221,9 +229,9 @@ reads_are w h =
 
 -- the problems that were added to none are the pairs that are told
 pub pairs_joined : (w : Answered) (r : Read) (old made given : List Problem) (told : List Told) → IsAnswered w
-    → AllZip (IsTold (vars_of w)) w.writers.now told → r.reference ≡ w.read → r.problems.now ≡ given → given ≡ made
+    → AllZip (IsToldOf (vars_of w)) w.writers.now told → r.reference ≡ w.read → r.problems.now ≡ given → given ≡ made
     → old ≡ []
-    → ((r : Read) (vars : ℕ) → AllZip (IsTold vars) w.writers.now told
+    → ((r : Read) (vars : ℕ) → AllZip (IsToldOf vars) w.writers.now told
     → All (λ x. read_of x.strides ≡ occurrence_of r.reference) w.writers.now
     → pairs_with r made ≡ pairs_with r old ++ told_pairs vars w.answers.now w.writers.now)
     → pairs_of_read r ≡ pairs_of w
@@ -316,6 +324,49 @@ made_more w answers test answer below at is made =
     let root : Context = root_context (occurrence_of w.read) in
     subst (IsMadeAs below)
     (sym (ap (answered_context root w.tests.now) is ∙ answered_more root w.tests.now w.answers.now test answer at)) made
+
+-- the rows of an answer that is no, below a context
+pub no_in : (w : Answered) (test : Division) (context below : System) (before : ℕ) → before ≡ length context.rows
+    → IsMadeAs context (context_of w)
+    → IsMadeAs below (below_answer (context_of w) test false) → HasSmallRows below
+    → length below.rows ≡ length context.rows + 2
+    → IsNoIn test before (context_of w).vars (before + 2) (below_answer (context_of w) test false)
+no_in w test context below before before_is made made_below small count =
+    let c : Context = context_of w in
+    let two : List RowExpr = undivided_rows c.vars (widened_form c.vars test.form) test.divisor in
+    let rows : length c.rows ≡ length context.rows = sym (forms_count c.vars c.rows context.rows made.rows) in
+    let zero_more : before ≡ length c.rows + 0 = omega (arith, rows, before_is) in
+    let one_more : before + 1 ≡ length c.rows + 1 = omega (arith, rows, before_is) in
+    record {
+      small = record {
+        rows = below.rows;
+        made = made_below.rows;
+        count = omega (arith, count, before_is);
+        over = subst (λ v. AreOver v below.rows) (sym made_below.vars) small.over;
+        within = All-weaker (IsWithin (2 ^ 41)) (IsWithin (2 ^ 50))
+            (λ f k. IsWithin-weaker (2 ^ 41) (2 ^ 50) f (omega arith) k) below.rows small.within;
+      };
+      first = ap (slice_get (c.rows ++ two)) zero_more ∙ slice_get-append_right c.rows two 0;
+      second = ap (slice_get (c.rows ++ two)) one_more ∙ slice_get-append_right c.rows two 1;
+    }
+
+-- the answer is no where no point comes to it
+pub answers_no : (answer always : Bool) → cond answer false always ≡ true → (answer ≡ false) × (always ≡ true)
+answers_no false always h = (refl, h)
+answers_no true always h = absurd (let no : false ≡ true = h in cc)
+
+-- a tree below one answer more
+pub no_checked : (w : Answered) (test : Division) (answer : Bool) (tree : Tree)
+    → slice_get w.tests.now (length w.answers.now) ≡ Some test → answer ≡ false
+    → IsCheckedIn w.nest.now (occurrence_of w.read) every (below_answer (context_of w) test false) tree
+    → IsCheckedIn w.nest.now (occurrence_of w.read) every
+    (answered_context (root_context (occurrence_of w.read)) w.tests.now (w.answers.now ++ answer ∷ [])) tree
+no_checked w test answer tree at is h =
+    let root : Context = root_context (occurrence_of w.read) in
+    subst (λ answer. IsCheckedIn w.nest.now (occurrence_of w.read) every
+    (answered_context root w.tests.now (w.answers.now ++ answer ∷ [])) tree) (sym is)
+    (subst (λ c. IsCheckedIn w.nest.now (occurrence_of w.read) every c tree)
+    (sym (answered_more root w.tests.now w.answers.now test false at)) h)
 
 pub divides_checked : (w : Answered) (test : Division) (tree : Tree) (form : Form) (first second : Tree) → IsAnswered w
     → slice_get w.tests.now (length w.answers.now) ≡ Some test → tree ≡ Divides form test.divisor first second

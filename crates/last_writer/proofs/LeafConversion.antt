@@ -14,14 +14,14 @@ use Rattle.candidate_order.specs.Candidates.{levels_before}
 use Rattle.candidate_order.proofs.LevelCounts.{few_before}
 use Rattle.last_writer.specs.Leaves.{answer_at, context_of, counts_behind, is_told, order_counts, own_systems}
 use Rattle.last_writer.specs.Leaves.{told_systems, AddsProofs, AreOrderRows, CanBeConverted, IsAnswered, IsBelow, IsFurther}
-use Rattle.last_writer.specs.Leaves.{IsRefusal, IsRefusalAmong}
-use Rattle.last_writer.specs.Writers.{IsTestAt, IsWriterOf}
+use Rattle.last_writer.specs.Leaves.{IsRefusal, IsRefusalAmong, IsRefusalBy, IsRefusedContext}
+use Rattle.last_writer.specs.Writers.{is_never, no_place, IsPlaceBy, IsPlaceOf, IsTestAt, IsWriterOf}
 use Rattle.last_writer.specs.declared.leaves.Answered.{Answered}
 use Rattle.last_writer.specs.declared.leaves.Refusal.{Refusal}
 use Rattle.last_writer.specs.declared.writers.Writer.{Writer}
 use Rattle.int_polyhedra.specs.declared.system.Proof.{Proof}
 use Rattle.last_writer.proofs.ProofSteps.{adds_own}
-use Rattle.last_writer.proofs.WriterTests.{no_test_in, tests_in, HasAnswers, IsNoTestIn}
+use Rattle.last_writer.proofs.WriterTests.{no_test_in, tests_asked, tests_in, told_asked, HasAnswers, IsNoTestIn}
 use Rattle.last_writer.proofs.Below.{answer_row, vars_are}
 use Rattle.last_writer.proofs.LevelCounts.{counts_few, orders_made, order_lengths, AreNear}
 use Rattle.lex_max.specs.Level.{common_of}
@@ -37,6 +37,7 @@ use Rattle.source_tree.specs.Rows.{RowExpr, RowSystem, Take}
 use Rattle.source_tree.specs.Systems.{Context, Occurrence, reader_place, root_context, writer_place}
 use Rattle.source_tree.specs.References.{occurrence_of}
 use Rattle.stride_trees.specs.Contexts.{own_system, told_system, AreMadeSmall, IsTestedContext, IsUndividedContext}
+use Rattle.stride_trees.specs.Divisions.{never_divides}
 use Rattle.stride_trees.specs.Problem.{told_write}
 use Rattle.stride_trees.specs.Strides.{depth_of_read, depth_of_write, read_of, root_of, tests_of, write_of, IsTestOf}
 use Rattle.stride_trees.specs.declared.divisions.Division.{Division}
@@ -99,25 +100,39 @@ module _ (w : Answered) (here : ℕ) (c : Context) (x : Writer) (below : IsBelow
     below_vars w here c below,
   )
 
-  pub tested : is_told w.answers.now x ≡ true → IsTestedContext x.strides x.places here c
-  tested says = record {
-    small = below.small;
-    reader = reader_inside;
-    tests = tests_in c (depth_of_read x.strides) (root_of x.strides) w.tests.now w.answers.now own_answers 0 x.places
-        (write_of x.strides).access.subscripts (read_of x.strides).access.subscripts
-        (subst (λ ds. AllZip (IsTestAt w.tests.now) ds x.places) of.divisions of.places) says;
-  }
+  pub tested : IsAnswered w → is_told w.answers.now x ≡ true → IsTestedContext x.strides x.places here c
+  tested h says =
+      let asked : is_never x ≡ false =
+      told_asked w.answers.now x (omega (arith, h.answers, h.few)) says in
+      record {
+        small = below.small;
+        reader = reader_inside;
+        tests = tests_in c (depth_of_read x.strides) (root_of x.strides) w.tests.now w.answers.now own_answers 0 x.places
+            (write_of x.strides).access.subscripts (read_of x.strides).access.subscripts
+            (subst (λ ds. AllZip (IsTestAt w.tests.now) ds x.places) of.divisions
+            (tests_asked w.tests.now x.divisions x.places asked of.places)) says;
+      }
 
-  pub undivided : (refusal : Refusal) → IsRefusalAmong w.answers.now x.divisions x.places refusal
-      → IsUndividedContext x.strides refusal.division.now refusal.place here c
-  undivided refusal h =
-      let at : IsTestAt w.tests.now refusal.division.now refusal.place
-      = zip_at (IsTestAt w.tests.now) x.divisions x.places h.number refusal.division.now refusal.place of.places
-      h.division h.place in
+  undivided : (refusal : Refusal) → IsRefusalAmong w.answers.now x.divisions x.places refusal
+      → refusal.place < no_place → IsUndividedContext x.strides refusal.division.now refusal.place here c
+  undivided refusal h inside =
+      let at : IsTestAt w.tests.now refusal.division.now refusal.place =
+      asked_at (never_divides refusal.division.now)
+      (zip_at (IsPlaceOf w.tests.now) x.divisions x.places h.number refusal.division.now refusal.place of.places
+      h.division h.place) in
       let no : IsNoTestIn c (depth_of_read x.strides) (root_of x.strides) refusal.division.now refusal.place
       = no_test_in c (depth_of_read x.strides) (root_of x.strides) w.tests.now w.answers.now own_answers
       refusal.division.now refusal.place below.all at h.no in
-      record { small = below.small; inside = no.inside; first = no.first; second = no.second }
+      record { small = below.small; inside = no.inside; first = no.first; second = no.second } where
+        asked_at : (b : Bool) → IsPlaceBy b w.tests.now refusal.division.now refusal.place
+            → IsTestAt w.tests.now refusal.division.now refusal.place
+        asked_at true same = absurd (omega (arith, same, inside))
+        asked_at false at = at
+
+  pub refused_here : (refusal : Refusal) → IsRefusalAmong w.answers.now x.divisions x.places refusal
+      → IsRefusedContext x.strides refusal here c
+  refused_here refusal h =
+      record { small = below.small; reader = reader_inside; asked = undivided refusal h }
 
 places_inside : (tests ds : List Division) (places : List ℕ) → length tests ≤ 6 → AllZip (IsTestAt tests) ds places
     → All (λ place. place < 6) places
@@ -129,10 +144,12 @@ places_inside tests (d ∷ ds) (place ∷ places) few h =
     (omega (arith, slice_get_within tests place h.0.test h.0.is, few)) (places_inside tests ds places few h.1)
 
 pub can_be_converted : (w : Answered) (here : ℕ) (x : Writer) → IsAnswered w → here ≤ 2 ^ 30
-    → IsWriterOf w.nest.now (occurrence_of w.read) w.tests.now x → CanBeConverted x here
-can_be_converted w here x h few of = record {
+    → IsWriterOf w.nest.now (occurrence_of w.read) w.tests.now x → is_told w.answers.now x ≡ true → CanBeConverted x here
+can_be_converted w here x h few of says = record {
   strided = of.strided;
-  places = places_inside w.tests.now x.divisions x.places h.few of.places;
+  places = places_inside w.tests.now x.divisions x.places h.few
+      (tests_asked w.tests.now x.divisions x.places
+      (told_asked w.answers.now x (omega (arith, h.answers, h.few)) says) of.places);
   few = few;
 }
 
@@ -142,9 +159,13 @@ pub is_refusal : (w : Answered) (x : Writer) (refusal : Refusal) → IsAnswered 
 is_refusal w x refusal h of among = record {
   test = All-slice_get (IsTestOf x.strides) (tests_of x.strides) among.number refusal.division.now (tests_are x.strides)
       (ap (λ ds. slice_get ds among.number) (sym of.divisions) ∙ among.division);
-  place = All-slice_get (λ place. place < 6) x.places among.number refusal.place
-      (places_inside w.tests.now x.divisions x.places h.few of.places) among.place;
-}
+  place = by_form (never_divides refusal.division.now)
+      (zip_at (IsPlaceOf w.tests.now) x.divisions x.places among.number refusal.division.now refusal.place of.places
+      among.division among.place);
+} where
+  by_form : (b : Bool) → IsPlaceBy b w.tests.now refusal.division.now refusal.place → IsRefusalBy b refusal.place
+  by_form true same = same
+  by_form false at = omega (arith, slice_get_within w.tests.now refusal.place at.test at.is, h.few)
 
 -- Order rows
 
@@ -282,7 +303,7 @@ module _ (w : Answered) (here : ℕ) (behind : Option Reference) (x : Writer) (t
       subst (λ r. AreOrderRows x.strides c (order_counts (write_of x.strides) r) (levels_of x c)) of.read
       (level_rows x.strides c (reader_inside w here c x below of))
 
-  pub adds_converted : is_told w.answers.now x ≡ true
+  pub adds_converted : IsAnswered w → is_told w.answers.now x ≡ true
       → ((c : Context) (at rows : List (List RowExpr)) → IsTestedContext x.strides x.places here c
       → AreOrderRows x.strides c (order_counts (write_of x.strides) (occurrence_of w.read)) at
       → AreOrderRows x.strides c (counts_behind behind (write_of x.strides)) rows
@@ -290,15 +311,15 @@ module _ (w : Answered) (here : ℕ) (behind : Option Reference) (x : Writer) (t
       (flat_map (λ p. map (λ q. own_system x.strides c (p ++ q)) rows) at) told rest old new)
       → (c : Context) (further : Occurrence → List (List RowExpr)) → IsBelow w here c → IsFurther behind c further
       → AddsProofs (told_systems w.answers.now c further x) (own_systems c further x) told rest old new
-  adds_converted says h c further below is_further =
+  adds_converted answered says h c further below is_further =
       subst (λ from. AddsProofs from (own_systems c further x) told rest old new)
       (sym (told_is w c behind further x is_further says))
-      (h c (levels_of x c) (further (write_of x.strides)) (tested w here c x below of says)
+      (h c (levels_of x c) (further (write_of x.strides)) (tested w here c x below of answered says)
       (levels_are c below) (further_rows x.strides c behind further is_further))
 
   pub adds_refused : (refusal : Refusal) → IsRefusalAmong w.answers.now x.divisions x.places refusal → rest ≡ told
       → ((c : Context) (at rows : List (List RowExpr))
-      → IsUndividedContext x.strides refusal.division.now refusal.place here c
+      → IsRefusedContext x.strides refusal here c
       → AreOrderRows x.strides c (order_counts (write_of x.strides) (occurrence_of w.read)) at
       → AreOrderRows x.strides c (counts_behind behind (write_of x.strides)) rows
       → (systems : List RowSystem) → AreRefuted systems old
@@ -310,5 +331,5 @@ module _ (w : Answered) (here : ℕ) (behind : Option Reference) (x : Writer) (t
       (sym (none_is w c behind further x is_further (refused w.answers.now x refusal among)))
       (subst (λ rest. AddsProofs [] (own_systems c further x) told rest old new) (sym e)
       (adds_own (own_systems c further x) told old new
-      (h c (levels_of x c) (further (write_of x.strides)) (undivided w here c x below of refusal among)
+      (h c (levels_of x c) (further (write_of x.strides)) (refused_here w here c x below of refusal among)
       (levels_are c below) (further_rows x.strides c behind further is_further))))

@@ -93,15 +93,16 @@ contains_at {X} xs x (k, lt, is) = (k, at xs k lt is) where
 
 -- what holds of all writers holds of those that are told, as pairs
 pub told_all : (vars : ℕ) (answers : List Bool) (P : Writer → Type 0) (Q : ReadAndWrite → Type 0)
-    → ((w : Writer) → P w → Q (told_pair vars w)) → (writers : List Writer) → All P writers
+    → ((w : Writer) → P w → is_told answers w ≡ true → Q (told_pair vars w)) → (writers : List Writer) → All P writers
     → All Q (told_pairs vars answers writers)
 told_all vars answers P Q one [] all = All-nil _
 told_all vars answers P Q one (w ∷ writers) all =
-    go (is_told answers w) (told_all vars answers P Q one writers (All-tail P w writers all)) where
-      go : (b : Bool) → All Q (told_pairs vars answers writers)
+    go (is_told answers w) refl (told_all vars answers P Q one writers (All-tail P w writers all)) where
+      go : (b : Bool) → is_told answers w ≡ b → All Q (told_pairs vars answers writers)
           → All Q (map (told_pair vars) (cond b (w ∷ filter (is_told answers) writers) (filter (is_told answers) writers)))
-      go true rest = All-cons Q (told_pair vars w) (told_pairs vars answers writers) (one w (All-head P w writers all)) rest
-      go false rest = rest
+      go true says rest =
+          All-cons Q (told_pair vars w) (told_pairs vars answers writers) (one w (All-head P w writers all) says) rest
+      go false says rest = rest
 
 -- the numbers of the writers ascend
 pub writers_ascend : (n : Nest) (r : Occurrence) (tests : List Division) (writers : List Writer)

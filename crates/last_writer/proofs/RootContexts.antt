@@ -3,7 +3,7 @@
 -- The read is in the stride class, so its statement and its access are there, and all writers of its array together
 -- have at most six tests. The context is the reader's domain rows as they stand, over its loops alone: their numbers
 -- are those of the nest, and no answer has changed them. What is added by answers is told elsewhere.
-use Rattle.std.proofs.Common.{◌≡◌, ◌+◌, ◌≤◌, ◌++◌, ℕ, List, [], length, refl, sym, ap, ◌∙◌, subst, arith}
+use Rattle.std.proofs.Common.{◌≡◌, ◌+◌, ◌≤◌, ◌++◌, ℕ, List, [], length, false, refl, sym, ap, ◌∙◌, subst, arith}
 use Rattle.std.specs.Prelude.{Some, All, IsTrue}
 use Rattle.std.specs.List.{list_all, sum_by}
 use Rattle.std.proofs.lemmas.List.Elements.{All-nil, All-weaker}
@@ -12,7 +12,7 @@ use Rattle.candidate_order.specs.Contexts.{IsMadeAs}
 use Rattle.int_polyhedra.specs.declared.system.System.{System}
 use Rattle.last_writer.specs.Answers.{answered_context, HasSmallRows}
 use Rattle.last_writer.specs.Leaves.{context_of, vars_of, IsAnswered}
-use Rattle.last_writer.specs.Writers.{AreWriters, IsReadOf, IsWriterOf}
+use Rattle.last_writer.specs.Writers.{is_never, AreWriters, IsReadOf, IsWriterOf}
 use Rattle.last_writer.specs.declared.leaves.Answered.{Answered}
 use Rattle.last_writer.specs.declared.writers.Writer.{Writer}
 use Rattle.last_writer.proofs.Below.{answered_none}
@@ -92,13 +92,14 @@ all_strided w h =
     (λ x of. of.strided) w.writers.now h.writers.each
 
 pub all_placed : (w : Answered) (vars : ℕ) → IsAnswered w → vars ≡ vars_of w
-    → All (λ (x : Writer). ArePlaces x.strides vars x.places) w.writers.now
+    → All (λ (x : Writer). is_never x ≡ false → ArePlaces x.strides vars x.places) w.writers.now
 all_placed w vars h is =
-    All-weaker (IsWriterOf w.nest.now (occurrence_of w.read) w.tests.now) (λ (x : Writer). ArePlaces x.strides vars x.places)
-    (λ x of. (let depth : depth_of_read x.strides + length w.tests.now ≡ vars
+    All-weaker (IsWriterOf w.nest.now (occurrence_of w.read) w.tests.now)
+    (λ (x : Writer). is_never x ≡ false → ArePlaces x.strides vars x.places)
+    (λ x of asked. (let depth : depth_of_read x.strides + length w.tests.now ≡ vars
     = ap (λ (r : Occurrence). length r.statement.loops + length w.tests.now) of.read ∙ sym is in
     subst (λ v. ArePlaces x.strides v x.places) depth
-    (writer_places w.nest.now (occurrence_of w.read) w.tests.now x h.few of)))
+    (writer_places w.nest.now (occurrence_of w.read) w.tests.now x h.few of asked)))
     w.writers.now h.writers.each
 
 -- The context

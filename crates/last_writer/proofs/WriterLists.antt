@@ -11,13 +11,15 @@ use Rattle.std.proofs.lemmas.List.{append-nil, append_assoc, map-append}
 use Rattle.std.proofs.lemmas.List.Elements.{All-append, All-cons, All-contains, All-nil, All-weaker, filter-append}
 use Rattle.std.proofs.lemmas.List.Sums.{sum_by_push}
 use Rattle.last_writer.specs.Leaves.{HasWriter, IsRefusalAmong}
-use Rattle.last_writer.specs.Writers.{stands_before, AddsPlaces, AddsTests, AreWriters, IsSmallTest, IsTestAt, IsWriterOf}
+use Rattle.last_writer.specs.Writers.{no_place, stands_before, AddsPlaces, AddsTests, AreWriters, IsPlaceBy, IsPlaceOf}
+use Rattle.last_writer.specs.Writers.{IsSmallTest, IsTestAt, IsWriterOf}
 use Rattle.last_writer.specs.declared.leaves.Refusal.{Refusal}
 use Rattle.last_writer.specs.declared.writers.Writer.{Writer}
 use Rattle.plain_data.proofs.Lists.{slice_get-append_some}
 use Rattle.sanlp.specs.declared.nest.Nest.{Nest}
 use Rattle.source_tree.specs.Systems.{Occurrence}
 use Rattle.stride_rows.specs.Class.{stride_count}
+use Rattle.stride_trees.specs.Divisions.{never_divides}
 use Rattle.stride_trees.specs.Strides.{depth_of_read, tests_of, write_of, IsStrided, IsTestOf}
 use Rattle.stride_trees.specs.declared.divisions.Division.{Division}
 use Rattle.stride_trees.specs.declared.strides.Strides.{Strides}
@@ -32,13 +34,28 @@ pub test_kept : (tests more : List Division) (d : Division) (place : ℕ) → Is
 test_kept tests more d place at =
     record { test = at.test; is = slice_get-append_some tests more place at.test at.is; form = at.form; divisor = at.divisor }
 
-pub tests_kept : (tests more ds : List Division) (places : List ℕ) → AllZip (IsTestAt tests) ds places
-    → AllZip (IsTestAt (tests ++ more)) ds places
-tests_kept tests more [] [] at = tt
-tests_kept tests more [] (place ∷ places) at = absurd at
-tests_kept tests more (d ∷ ds) [] at = absurd at
-tests_kept tests more (d ∷ ds) (place ∷ places) at =
-    (test_kept tests more d place at.0, tests_kept tests more ds places at.1)
+place_kept : (tests more : List Division) (d : Division) (place : ℕ) → IsPlaceOf tests d place
+    → IsPlaceOf (tests ++ more) d place
+place_kept tests more d place = go (never_divides d) where
+  go : (b : Bool) → IsPlaceBy b tests d place → IsPlaceBy b (tests ++ more) d place
+  go true at = at
+  go false at = test_kept tests more d place at
+
+places_kept : (tests more ds : List Division) (places : List ℕ) → AllZip (IsPlaceOf tests) ds places
+    → AllZip (IsPlaceOf (tests ++ more)) ds places
+places_kept tests more [] [] at = tt
+places_kept tests more [] (place ∷ places) at = absurd at
+places_kept tests more (d ∷ ds) [] at = absurd at
+places_kept tests more (d ∷ ds) (place ∷ places) at =
+    (place_kept tests more d place at.0, places_kept tests more ds places at.1)
+
+-- a test that is never asked, and one that is
+pub place_never : (tests : List Division) (d : Division) → never_divides d ≡ true → IsPlaceOf tests d no_place
+place_never tests d never = subst (λ b. IsPlaceBy b tests d no_place) (sym never) refl
+
+pub place_asked : (tests : List Division) (d : Division) (place : ℕ) → never_divides d ≡ false → IsTestAt tests d place
+    → IsPlaceOf tests d place
+place_asked tests d place asked at = subst (λ b. IsPlaceBy b tests d place) (sym asked) at
 
 pub test_here : (first : Division) (tests : List Division) (d : Division) → first.form ≡ d.form
     → first.divisor ≡ d.divisor → IsTestAt (first ∷ tests) d 0
@@ -85,13 +102,13 @@ pub places_none : (tests : List Division) (places : List ℕ) → AddsPlaces tes
 places_none tests places = record { more = []; grown = sym (append-nil places); places = tt }
 
 pub places_more : (d : Division) (ds middle tests : List Division) (place : ℕ) (old next new : List ℕ)
-    → AddsTests ds middle tests → IsTestAt middle d place → next ≡ old ++ place ∷ [] → AddsPlaces tests ds next new
+    → AddsTests ds middle tests → IsPlaceOf middle d place → next ≡ old ++ place ∷ [] → AddsPlaces tests ds next new
     → AddsPlaces tests (d ∷ ds) old new
 places_more d ds middle tests place old next new adds at e rest = record {
   more = place ∷ rest.more;
   grown = rest.grown ∙ ap (λ xs. xs ++ rest.more) e ∙ append_assoc old (place ∷ []) rest.more;
   places = (
-    subst (λ tests. IsTestAt tests d place) (sym adds.grown) (test_kept middle adds.more d place at),
+    subst (λ tests. IsPlaceOf tests d place) (sym adds.grown) (place_kept middle adds.more d place at),
     rest.places,
   );
 }
@@ -126,7 +143,7 @@ writer_kept n r tests more w h = record {
   nest = h.nest;
   read = h.read;
   divisions = h.divisions;
-  places = tests_kept tests more w.divisions w.places h.places;
+  places = places_kept tests more w.divisions w.places h.places;
 }
 
 pub writers_none : (n : Nest) (r : Occurrence) (before : List Occurrence) (tests : List Division) (writers : List Writer)

@@ -1,26 +1,63 @@
 -- A writer's tests in a context below all answers.
 --
--- Each of its tests has a place, where a test of the same form and divisor was answered. So where all answers at its
--- places are yes, the rows of its own tests stand at their places, subscript by subscript; and where one of them is
--- no, that one's do.
+-- Where none of its tests says no by its form alone, each has a place, where a test of the same form and divisor was
+-- answered. So where all answers at its places are yes, the rows of its own tests stand at their places, subscript by
+-- subscript; and where one of them is no, that one's do.
 use Rattle.std.proofs.Common.{◌≡◌, ◌+◌, ◌*◌, ◌<◌, ℕ, zero, suc, ℤ, List, [], ◌∷◌, ◌++◌, length, Bool, true, false}
-use Rattle.std.proofs.Common.{cond, refl, sym, ap, ◌∙◌, subst, arith}
+use Rattle.std.proofs.Common.{◌==◌, ◌≤◌, inl, inr, cond, refl, sym, ap, ◌∙◌, subst, arith, eqb-true}
 use Rattle.std.specs.Prelude.{Option, Some, None, drop, is_some, slice_get}
-use Rattle.std.specs.List.{AllZip, list_all}
+use Rattle.std.specs.List.{AllZip, list_all, list_any}
 use Rattle.std.specs.Option.{option_map_or}
+use Rattle.std.proofs.lemmas.Bool.{and_parts, cases_Bool, eq-eqb, or_from, or_parts}
 use Rattle.std.proofs.lemmas.Option.{same_Some, slice_get_within}
-use Rattle.std.proofs.lemmas.Bool.{and_parts}
 use Rattle.affine_core.specs.declared.form.Form.{Form}
 use Rattle.affine_core.specs.Affine.{widened_form}
-use Rattle.last_writer.specs.Leaves.{answer_at}
-use Rattle.last_writer.specs.Writers.{IsTestAt}
+use Rattle.last_writer.specs.Leaves.{answer_at, is_told}
+use Rattle.last_writer.specs.Writers.{is_never, no_place, IsPlaceBy, IsPlaceOf, IsTestAt}
+use Rattle.last_writer.specs.declared.writers.Writer.{Writer}
 use Rattle.last_writer.proofs.Below.{answer_rows}
 use Rattle.source_tree.specs.Rows.{RowExpr, Take, minus}
 use Rattle.source_tree.specs.Systems.{Context, multiple, undivided_rows}
 use Rattle.stride_rows.specs.Class.{stride_of}
 use Rattle.stride_trees.specs.Contexts.{AreTestsIn, IsTestIn}
-use Rattle.stride_trees.specs.Divisions.{division_of, divisions_from}
+use Rattle.stride_trees.specs.Divisions.{division_of, divisions_from, never_divides}
 use Rattle.stride_trees.specs.declared.divisions.Division.{Division}
+
+-- Writers of whose tests none says no by its form alone
+
+no_answer : (answers : List Bool) (place : ℕ) → length answers ≤ place → answer_at answers place ≡ false
+no_answer [] place le = refl
+no_answer (answer ∷ answers) zero le = absurd (omega (arith, le))
+no_answer (answer ∷ answers) (suc place) le = no_answer answers place (omega (arith, le))
+
+-- where all answers at its places are yes, it is such
+pub told_asked : (answers : List Bool) (x : Writer) → length answers ≤ no_place → is_told answers x ≡ true
+    → is_never x ≡ false
+told_asked answers x few = go x.places where
+  go : (places : List ℕ) → list_all (answer_at answers) places ≡ true → list_any (λ place. place == no_place) places ≡ false
+  go [] says = refl
+  go (place ∷ places) says =
+      let b = and_parts (answer_at answers place) (list_all (answer_at answers) places) says in
+      or_from (place == no_place) (list_any (λ place. place == no_place) places) (other place b.0) (go places b.1) where
+        other : (place : ℕ) → answer_at answers place ≡ true → (place == no_place) ≡ false
+        other place says = elim (cases_Bool (place == no_place)) [
+          | inl same ↦ absurd (let no : false ≡ true = sym (no_answer answers no_place few)
+              ∙ ap (answer_at answers) (sym (eqb-true place no_place same)) ∙ says in cc)
+          | inr differs ↦ differs
+        ]
+
+-- and each of its places is that of a test that is asked
+pub tests_asked : (tests ds : List Division) (places : List ℕ) → list_any (λ place. place == no_place) places ≡ false
+    → AllZip (IsPlaceOf tests) ds places → AllZip (IsTestAt tests) ds places
+tests_asked tests [] [] none at = tt
+tests_asked tests [] (place ∷ places) none at = absurd at
+tests_asked tests (d ∷ ds) [] none at = absurd at
+tests_asked tests (d ∷ ds) (place ∷ places) none at =
+    let n = or_parts (place == no_place) (list_any (λ place. place == no_place) places) none in
+    (go (never_divides d) n.0 at.0, tests_asked tests ds places n.1 at.1) where
+      go : (b : Bool) → (place == no_place) ≡ false → IsPlaceBy b tests d place → IsTestAt tests d place
+      go true other same = absurd (let no : true ≡ false = sym (eq-eqb place no_place same) ∙ other in cc)
+      go false other at = at
 
 -- the rows of all answers stand in the context, behind so many rows and variables
 pub record HasAnswers (c : Context) (depth root : ℕ) (tests : List Division) (answers : List Bool) : Type 0 where

@@ -1,5 +1,5 @@
 -- Leaves below tests of divisibility: the writes that are joined there, and proofs for the writes of all writers.
-use Rattle.std.specs.Prelude.{◌≡◌, ◌≤◌, ◌<◌, ◌+◌, ◌*◌, ◌^◌, ◌==◌, ℕ, Bool, false, Contains, slice_get, List, [], ◌∷◌, ◌++◌, map, length, nat_lt, All, Option, Some, None, slice_index_or, if◌then◌else◌}
+use Rattle.std.specs.Prelude.{◌≡◌, ◌≤◌, ◌<◌, ◌+◌, ◌*◌, ◌^◌, ◌==◌, ℕ, Bool, true, false, Contains, slice_get, List, [], ◌∷◌, ◌++◌, map, length, nat_lt, All, Option, Some, None, slice_index_or, if◌then◌else◌}
 use Rattle.std.specs.List.{filter, list_all, range_with_len}
 use Rattle.affine_core.specs.declared.form.Form.{Form}
 use Rattle.candidate_order.specs.Candidates.{levels_before}
@@ -7,7 +7,7 @@ use Rattle.candidate_order.specs.Joint.{place_systems, IsCheckedForAll, IsSum}
 use Rattle.candidate_order.specs.Reads.{ReadAndWrite}
 use Rattle.int_polyhedra.specs.declared.system.Proof.{Proof}
 use Rattle.last_writer.specs.Answers.{answered_context}
-use Rattle.last_writer.specs.Writers.{AreWriters, IsReadOf}
+use Rattle.last_writer.specs.Writers.{no_place, AreWriters, IsReadOf}
 use Rattle.last_writer.specs.declared.leaves.Answered.{Answered}
 use Rattle.last_writer.specs.declared.leaves.Refusal.{Refusal}
 use Rattle.last_writer.specs.declared.writers.Writer.{Writer}
@@ -20,9 +20,10 @@ use Rattle.source_tree.specs.Rows.{RowExpr, RowSystem}
 use Rattle.source_tree.specs.Systems.{Context, Occurrence, array_writes, every, more_rows, named_write, root_context, write_systems, writer_place, writer_systems}
 use Rattle.source_tree.specs.declared.tree.Tree.{Tree}
 use Rattle.source_tree.specs.References.{occurrence_of}
-use Rattle.stride_trees.specs.Contexts.{AreMadeSmall, IsPlaceIn}
+use Rattle.stride_trees.specs.Contexts.{AreMadeSmall, IsPlaceIn, IsUndividedContext}
+use Rattle.stride_trees.specs.Divisions.{never_divides}
 use Rattle.stride_trees.specs.Problem.{told_read, told_write}
-use Rattle.stride_trees.specs.Strides.{depth_of_write, read_of, write_of, IsSmallContext, IsStrided, IsTestOf}
+use Rattle.stride_trees.specs.Strides.{depth_of_read, depth_of_write, read_of, write_of, IsSmallContext, IsStrided, IsTestOf}
 use Rattle.stride_trees.specs.declared.divisions.Division.{Division}
 use Rattle.stride_trees.specs.declared.strides.Strides.{Strides}
 
@@ -136,10 +137,24 @@ pub record IsRefusalAmong (answers : List Bool) (divisions : List Division) (pla
   pub place : slice_get places number ≡ Some refusal.place
   pub no : answer_at answers refusal.place ≡ false
 
--- it is one of the tests of the write, at a place there may be
+-- the place of a test that says no: whether its form alone does comes first
+abbrev pub IsRefusalBy : Bool → ℕ → Type 0
+IsRefusalBy true place = place ≡ no_place
+IsRefusalBy false place = place < no_place
+
+-- it is one of the tests of the write; where its form alone doesn't say no, its place is one of those that
+-- are asked
 pub record IsRefusal (s : Strides) (refusal : Refusal) : Type 0 where
   pub test : IsTestOf s refusal.division.now
-  pub place : refusal.place < 6
+  pub place : IsRefusalBy (never_divides refusal.division.now) refusal.place
+
+-- a context of so many rows where the test says no: a test that is asked has its two rows there
+pub record IsRefusedContext (s : Strides) (refusal : Refusal) (here : ℕ) (c : Context)
+    : Type 0 where
+  pub small : IsSmallContext c here
+  pub reader : depth_of_read s ≤ c.vars
+  pub asked : refusal.place < no_place
+      → IsUndividedContext s refusal.division.now refusal.place here c
 
 -- proofs for its writes can be converted in a context of so many rows
 pub record CanBeConverted (w : Writer) (here : ℕ) : Type 0 where

@@ -1,6 +1,6 @@
 -- The writers of a read's array, and their tests of divisibility, each once.
-use Rattle.std.specs.Prelude.{◌≡◌, ◌≤◌, ◌^◌, ◌≤ℤ◌, ℕ, pos, Bool, List, ◌++◌, map, length, nat_lt, All, Some, Contains, slice_get, unsigned_abs}
-use Rattle.std.specs.List.{AllZip, filter, sum_by}
+use Rattle.std.specs.Prelude.{◌≡◌, ◌≤◌, ◌==◌, ◌^◌, ◌≤ℤ◌, ℕ, pos, Bool, true, false, List, ◌++◌, map, length, nat_lt, All, Some, Contains, slice_get, unsigned_abs}
+use Rattle.std.specs.List.{AllZip, filter, list_any, sum_by}
 use Rattle.candidate_order.specs.Candidates.{levels_before}
 use Rattle.last_writer.specs.declared.writers.Writer.{Writer}
 use Rattle.source_tree.specs.declared.reference.Reference.{Reference}
@@ -8,6 +8,7 @@ use Rattle.row_sums.specs.Parts.{IsWithin}
 use Rattle.sanlp.specs.declared.nest.Nest.{Nest}
 use Rattle.source_tree.specs.Systems.{Occurrence}
 use Rattle.stride_rows.specs.Class.{stride_count}
+use Rattle.stride_trees.specs.Divisions.{never_divides}
 use Rattle.stride_trees.specs.Strides.{read_of, tests_of, write_of, IsStrided}
 use Rattle.stride_trees.specs.declared.divisions.Division.{Division}
 
@@ -25,6 +26,19 @@ pub record IsTestAt (tests : List Division) (d : Division) (place : ℕ) : Type 
   pub form : test.form ≡ d.form
   pub divisor : test.divisor ≡ d.divisor
 
+-- The place of a test that says no by its form alone: it isn't among the tests that are asked, which have lower places.
+abbrev pub no_place : ℕ
+no_place = 6
+
+-- the place of a test: whether its form alone says no comes first
+abbrev pub IsPlaceBy : Bool → List Division → Division → ℕ → Type 0
+IsPlaceBy true tests d place = place ≡ no_place
+IsPlaceBy false tests d place = IsTestAt tests d place
+
+-- the place of a test of a writer
+abbrev pub IsPlaceOf : List Division → Division → ℕ → Type 0
+IsPlaceOf tests d place = IsPlaceBy (never_divides d) tests d place
+
 -- tests of these were added at the end, none of them twice
 pub record AddsTests (from old new : List Division) : Type 0 where
   pub more : List Division
@@ -36,7 +50,7 @@ pub record AddsTests (from old new : List Division) : Type 0 where
 pub record AddsPlaces (tests divisions : List Division) (old new : List ℕ) : Type 0 where
   pub more : List ℕ
   pub grown : new ≡ old ++ more
-  pub places : AllZip (IsTestAt tests) divisions more
+  pub places : AllZip (IsPlaceOf tests) divisions more
 
 -- a writer of the read's array, with its tests and their places among the tests of all writers
 pub record IsWriterOf (n : Nest) (r : Occurrence) (tests : List Division)
@@ -45,7 +59,11 @@ pub record IsWriterOf (n : Nest) (r : Occurrence) (tests : List Division)
   pub nest : w.strides.nest.now ≡ n
   pub read : read_of w.strides ≡ r
   pub divisions : w.divisions ≡ tests_of w.strides
-  pub places : AllZip (IsTestAt tests) w.divisions w.places
+  pub places : AllZip (IsPlaceOf tests) w.divisions w.places
+
+-- one of its tests says no by its form alone: so it has no write before the read
+abbrev pub is_never : Writer → Bool
+is_never w = list_any (λ place. place == no_place) w.places
 
 -- the reference is a read of its statement
 pub record IsReadOf (n : Nest) (r : Reference) : Type 0 where

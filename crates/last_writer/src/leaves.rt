@@ -4,19 +4,19 @@ ghost use Rattle.affine_core.specs.declared.form.Form.{Form as FormOf};
 ghost use Rattle.candidate_order.specs.Heights.{height_of};
 ghost use Rattle.candidate_order.specs.Joint.{no_orders, write_systems_of, IsSum};
 ghost use Rattle.int_polyhedra.specs.declared.system.Proof.TheVariants.{Sum};
-ghost use Rattle.last_writer.specs.Leaves.{after_systems_count, answer_at as answer_of, counts_behind as behind_counts, is_told, level_count_of, order_counts, own_systems, pairs_of, told_systems, AddsProofs, AreOrderRows, CanBeConverted, Converts, HasWriter, IsAnswered, IsBelow, IsFurther, IsJoinedBelow, IsJoinedPoint, IsOwnPoint, IsRefusal, IsRefusalAmong};
+ghost use Rattle.last_writer.specs.Leaves.{after_systems_count, answer_at as answer_of, counts_behind as behind_counts, is_told, level_count_of, order_counts, own_systems, pairs_of, told_systems, AddsProofs, AreOrderRows, CanBeConverted, Converts, HasWriter, IsAnswered, IsBelow, IsFurther, IsJoinedBelow, IsJoinedPoint, IsOwnPoint, IsRefusal, IsRefusalAmong, IsRefusedContext};
 ghost use Rattle.last_writer.specs.Converted.{turns_left, IsConverting};
 ghost use Rattle.last_writer.specs.Writers.{IsWriterOf};
-ghost use Rattle.source_tree.specs.Checked.{AreRefuted};
+ghost use Rattle.source_tree.specs.Checked.{AreRefuted, IsRefuted};
 ghost use Rattle.source_tree.specs.Rows.{RowExpr, RowSystem};
 ghost use Rattle.source_tree.specs.declared.tree.Tree.{Tree as TreeOf};
 ghost use Rattle.source_tree.specs.declared.tree.Tree.TheViews.{Test as TestOf};
 ghost use Rattle.source_tree.specs.Systems.{zero_systems, every, Context, Occurrence};
-ghost use Rattle.stride_trees.specs.Contexts.{own_system, told_system, IsTestedContext, IsUndividedContext};
-ghost use Rattle.stride_trees.specs.Strides.{IsStrided};
+ghost use Rattle.stride_trees.specs.Contexts.{own_system, told_system, AreMadeSmall, IsTestedContext};
+ghost use Rattle.stride_trees.specs.Strides.{depth_of_write, IsStrided};
 ghost use Rattle.source_tree.specs.References.{occurrence_of};
 
-use crate::writers::Writer;
+use crate::writers::{NO_PLACE, Writer};
 use affine_core::Form;
 use candidate_order::level_count;
 use int_polyhedra::{Proof, Term};
@@ -25,7 +25,9 @@ use plain_data::Items;
 use sanlp::{Nest, common_loops};
 use source_tree::{Reference, Tree};
 use std::alloc::{AllocError, Global};
-use stride_trees::{Division, Strides, converted_place, converted_write, undivided_write};
+use stride_trees::{
+    Division, Strides, converted_place, converted_write, never_write, undivided_write,
+};
 
 /// The writers of a read, where the first of their tests of divisibility have answers.
 #[derive(Clone, Copy)]
@@ -205,6 +207,24 @@ fn push_levels<'t>(
     push_levels(proofs, writer, here, levels, orders, told)
 }
 
+// The proof for a write of which this test says no.
+fn refused_write(s: &Strides, test: &Refusal, here: u32, more: u32) -> Result<Proof, AllocError>
+    requires strided { IsStrided s.now }
+    requires test { IsRefusal s.now test.now }
+    requires here { here ≤ 2 ^ 30 }
+    requires more { more ≤ 64 }
+    ensures { IfOk result (λ proof. (c : Context) (order : List RowExpr)
+        → IsRefusedContext s.now test.now here c
+        → AreMadeSmall (c.vars + depth_of_write s.now) order → length order ≡ more
+        → IsRefuted (own_system s.now c order) proof) }
+{
+    if test.place < NO_PLACE {
+        undivided_write(s, test.division, test.place, here, more)
+    } else {
+        never_write(s, test.division, here, more)
+    }
+}
+
 // Adds the proofs for a write of which this test says no, for each of these numbers of order rows behind so many.
 fn push_undivided_orders(
     proofs: &mut Items<Proof>,
@@ -219,7 +239,7 @@ fn push_undivided_orders(
     requires here { here ≤ 2 ^ 30 }
     requires counts { All (λ order. before + order ≤ 64) orders.now }
     ensures { OnOk result ((c : Context) (level : List RowExpr) (rows : List (List RowExpr))
-        → IsUndividedContext s.now test.now.division.now test.now.place here c
+        → IsRefusedContext s.now test.now here c
         → AreOrderRows s.now c (before ∷ []) (level ∷ []) → AreOrderRows s.now c orders.now rows
         → (systems : List RowSystem) → AreRefuted systems proofs.old
         → AreRefuted (systems ++ map (λ q. own_system s.now c (level ++ q)) rows) proofs.new) }
@@ -227,7 +247,7 @@ fn push_undivided_orders(
     let Some((order, orders)) = orders.split_first() else {
         return Ok(());
     };
-    proofs.push(undivided_write(s, test.division, test.place, here, before + *order)?)?;
+    proofs.push(refused_write(s, test, here, before + *order)?)?;
     push_undivided_orders(proofs, s, test, here, before, orders)
 }
 
@@ -246,7 +266,7 @@ fn push_undivided_levels(
     requires levels { All (λ level. level ≤ 32) levels.now }
     requires orders { All (λ order. order ≤ 32) orders.now }
     ensures { OnOk result ((c : Context) (at rows : List (List RowExpr))
-        → IsUndividedContext s.now test.now.division.now test.now.place here c
+        → IsRefusedContext s.now test.now here c
         → AreOrderRows s.now c levels.now at → AreOrderRows s.now c orders.now rows
         → (systems : List RowSystem) → AreRefuted systems proofs.old
         → AreRefuted (systems ++ flat_map (λ p. map (λ q. own_system s.now c (p ++ q)) rows) at)

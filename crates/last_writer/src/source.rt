@@ -1,4 +1,4 @@
-ghost use Rattle.std.specs.Prelude.{◌≡◌, ◌≤◌, ◌<◌, ◌+◌, ◌*◌, ◌^◌, ◌++◌, [], ◌∷◌, ℕ, List, length, slice_get, All, Some, None, IfOk, IfSome, MatchOption, OnOk};
+ghost use Rattle.std.specs.Prelude.{◌≡◌, ◌≤◌, ◌<◌, ◌+◌, ◌*◌, ◌≤ℤ◌, ◌^◌, ◌++◌, [], ◌∷◌, ℕ, pos, false, if◌then◌else◌, List, length, slice_get, All, Some, None, IfOk, IfSome, IsTrue, MatchOption, OnOk};
 ghost use Rattle.std.specs.List.{AllZip};
 ghost use Rattle.affine_core.specs.Affine.{widened_form};
 ghost use Rattle.candidate_order.specs.Contexts.{IsMadeAs};
@@ -6,19 +6,23 @@ ghost use Rattle.candidate_order.specs.Reads.{pairs_with};
 ghost use Rattle.candidate_order.specs.declared.candidates.Read.{Read as ReadOf};
 ghost use Rattle.last_writer.specs.Answers.{answered_context, HasSmallRows};
 ghost use Rattle.last_writer.specs.Leaves.{context_of, told_pairs, vars_of, IsAnswered};
-ghost use Rattle.last_writer.specs.Told.{IsTold};
+ghost use Rattle.last_writer.specs.Told.{IsToldOf};
+ghost use Rattle.last_writer.specs.Writers.{is_never, IsSmallTest};
 ghost use Rattle.last_writer.specs.declared.source.Told.{Told as ToldOf};
 ghost use Rattle.source_tree.specs.Checked.{IsChecked, IsCheckedIn};
 ghost use Rattle.source_tree.specs.Exact.{IsExact};
-ghost use Rattle.source_tree.specs.Systems.{every, read_at, root_context};
+ghost use Rattle.source_tree.specs.Systems.{every, read_at, root_context, Context, Occurrence};
+ghost use Rattle.sanlp.specs.declared.nest.Nest.{Nest as NestOf};
 ghost use Rattle.source_tree.specs.declared.tree.Tree.TheViews.{Divides as DividesOf};
 ghost use Rattle.stride_rows.specs.Class.{IsInStrideClass};
+ghost use Rattle.stride_trees.specs.Contexts.{IsNoIn};
+ghost use Rattle.stride_trees.specs.Divisions.{always_divides};
 ghost use Rattle.stride_trees.specs.Strides.{read_of, ArePlaces, IsStrided};
 ghost use Rattle.source_tree.specs.References.{occurrence_of};
 
 use crate::contexts::below_test;
 use crate::leaves::{Answered, converted, refusal_of};
-use crate::writers::{Writer, push_writers};
+use crate::writers::{Writer, is_never, push_writers};
 use affine_core::{Form, Row};
 use candidate_join::join;
 use candidate_order::{Problem, Read};
@@ -27,7 +31,9 @@ use plain_data::{Boxed, Items};
 use sanlp::{Nest, Statement};
 use source_tree::{Reference, Tree};
 use std::alloc::{AllocError, Global};
-use stride_trees::{Division, divided_rows, told_reads, told_writes};
+use stride_trees::{
+    Division, always_divides, divided_rows, no_is_nowhere, told_reads, told_writes,
+};
 
 // A write over quotients: its domain rows and subscripts, and those of the read.
 #[derive(Drop)]
@@ -37,12 +43,21 @@ struct Told {
     read_forms: Items<Form>,
 }
 
+// The write over quotients. Nothing is told of a writer that has no write before the read.
 fn told_of(writer: &Writer, vars: usize) -> Result<Told, AllocError>
     requires strided { IsStrided writer.now.strides }
-    requires places { ArePlaces writer.now.strides vars writer.now.places }
-    ensures { IfOk result (IsTold vars writer.now) }
+    requires places { is_never writer.now ≡ false
+        → ArePlaces writer.now.strides vars writer.now.places }
+    ensures { IfOk result (IsToldOf vars writer.now) }
 {
     let s = &writer.strides;
+    if is_never(writer) {
+        return Ok(Told {
+            rows: Items::new(s.alloc),
+            write_forms: Items::new(s.alloc),
+            read_forms: Items::new(s.alloc),
+        });
+    }
     Ok(Told {
         rows: divided_rows(s.alloc, s.write.statement.rows.as_slice())?,
         write_forms: told_writes(s.alloc, s.write.access.subscripts.as_slice())?,
@@ -53,9 +68,9 @@ fn told_of(writer: &Writer, vars: usize) -> Result<Told, AllocError>
 // Adds these writers over so many variables.
 fn push_told(told: &mut Items<Told>, writers: &[Writer], vars: usize) -> Result<(), AllocError>
     requires strided { All (λ w. IsStrided w.strides) writers.now }
-    requires places { All (λ w. ArePlaces w.strides vars w.places) writers.now }
+    requires places { All (λ w. is_never w ≡ false → ArePlaces w.strides vars w.places) writers.now }
     ensures { OnOk result ((more : List ToldOf) × (told.new ≡ told.old ++ more)
-        × AllZip (IsTold vars) writers.now more) }
+        × AllZip (IsToldOf vars) writers.now more) }
 {
     let Some((writer, writers)) = writers.split_first() else {
         return Ok(());
@@ -71,8 +86,9 @@ fn push_problems<'a>(
     told: &'a [Told],
     answers: &[bool],
 ) -> Result<(), AllocError>
-    requires { All (λ w. length w.divisions ≡ length w.places) writers.now }
-    ensures { OnOk result ((r : ReadOf) (vars : ℕ) → AllZip (IsTold vars) writers.now told.now
+    requires places { All (λ w. length w.divisions ≡ length w.places) writers.now }
+    requires few { length answers.now ≤ 6 }
+    ensures { OnOk result ((r : ReadOf) (vars : ℕ) → AllZip (IsToldOf vars) writers.now told.now
         → All (λ w. read_of w.strides ≡ occurrence_of r.reference) writers.now
         → pairs_with r problems.new
         ≡ pairs_with r problems.old ++ told_pairs vars answers.now writers.now) }
@@ -114,7 +130,7 @@ fn read_with<'a>(w: &Answered<'a>, context: &'a System, problems: &'a [Problem<'
 // The tree where all tests of divisibility have an answer.
 fn joined<'a>(w: &Answered<'a>, told: &'a [Told], context: &'a System) -> Result<Tree, AllocError>
     requires answered { IsAnswered w.now }
-    requires told { AllZip (IsTold (vars_of w.now)) w.now.writers.now told.now }
+    requires told { AllZip (IsToldOf (vars_of w.now)) w.now.writers.now told.now }
     requires all { length w.now.answers.now ≡ length w.now.tests.now }
     requires made { IsMadeAs context.now (context_of w.now) }
     requires rows { HasSmallRows context.now }
@@ -177,7 +193,7 @@ fn next_test<'a>(w: &Answered<'a>) -> Option<&'a Division>
 #[cycle(answered)]
 fn answered<'a>(w: &Answered<'a>, told: &'a [Told], context: &'a System) -> Result<Tree, AllocError>
     requires answered { IsAnswered w.now }
-    requires told { AllZip (IsTold (vars_of w.now)) w.now.writers.now told.now }
+    requires told { AllZip (IsToldOf (vars_of w.now)) w.now.writers.now told.now }
     requires made { IsMadeAs context.now (context_of w.now) }
     requires rows { HasSmallRows context.now }
     requires count { length context.now.rows
@@ -201,7 +217,31 @@ fn answered<'a>(w: &Answered<'a>, told: &'a [Told], context: &'a System) -> Resu
     }
 }
 
-// The tree below the answers and this one, which is that to the next test.
+// Whether no point comes to this answer to a test: the form alone says the other.
+fn is_nowhere(test: &Division, answer: bool) -> bool
+    requires { pos 1 ≤ℤ test.now.divisor }
+    ensures { result ≡ (if answer then false else always_divides test.now) }
+{
+    if answer {
+        return false;
+    }
+    always_divides(test)
+}
+
+// The Dead leaf at the no of a test that says yes by its form alone. So many rows stand before the two of the test.
+fn nowhere(alloc: Global, test: &Division, before: u32) -> Result<Tree, AllocError>
+    requires test { (depth : ℕ) × IsSmallTest depth test.now }
+    requires always { IsTrue (always_divides test.now) }
+    requires before { before ≤ 64 }
+    ensures { IfOk result (λ tree. (n : NestOf) (r : Occurrence) (c : Context) (quotient : ℕ)
+        → IsNoIn test.now before quotient (before + 2) c → IsCheckedIn n r every c tree) }
+{
+    let proof = no_is_nowhere(alloc, test, before, before + 2)?;
+    Ok(Tree::Dead(proof))
+}
+
+// The tree below the answers and this one, which is that to the next test. Where no point comes to it, no writer is joined
+// there.
 #[cycle(answered)]
 fn answered_next<'a>(
     w: &Answered<'a>,
@@ -211,7 +251,7 @@ fn answered_next<'a>(
     answer: bool,
 ) -> Result<Tree, AllocError>
     requires answered { IsAnswered w.now }
-    requires told { AllZip (IsTold (vars_of w.now)) w.now.writers.now told.now }
+    requires told { AllZip (IsToldOf (vars_of w.now)) w.now.writers.now told.now }
     requires made { IsMadeAs context.now (context_of w.now) }
     requires rows { HasSmallRows context.now }
     requires count { length context.now.rows
@@ -222,6 +262,10 @@ fn answered_next<'a>(
         (w.now.answers.now ++ answer ∷ []))) }
 {
     let next = below_test(w.alloc, context, test, answer)?;
+    if is_nowhere(test, answer) {
+        let before = context.rows.len() as u32;
+        return nowhere(w.alloc, test, before);
+    }
     let answers = with_answer(w.alloc, w.answers, answer)?;
     let more = Answered {
         answers: answers.as_slice(),

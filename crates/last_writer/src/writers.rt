@@ -1,6 +1,6 @@
-ghost use Rattle.std.specs.Prelude.{◌≡◌, ◌<◌, ◌≤◌, ◌+◌, ◌^◌, [], ◌∷◌, ◌++◌, ℕ, List, drop, length, All, None, Some, slice_get, IfOk, IfSome, IsTrue, MatchOption, OnOk};
+ghost use Rattle.std.specs.Prelude.{◌≡◌, ◌<◌, ◌≤◌, ◌≤ℤ◌, ◌+◌, ◌^◌, [], ◌∷◌, ◌++◌, ℕ, pos, List, drop, length, All, None, Some, slice_get, IfOk, IfSome, IsTrue, MatchOption, OnOk};
 ghost use Rattle.std.specs.List.{list_all, sum_by};
-ghost use Rattle.last_writer.specs.Writers.{AddsPlaces, AddsTests, AreWriters, IsReadOf, IsTestAt, IsWriterOf};
+ghost use Rattle.last_writer.specs.Writers.{is_never, AddsPlaces, AddsTests, AreWriters, IsPlaceOf, IsReadOf, IsTestAt, IsWriterOf};
 ghost use Rattle.source_tree.specs.Systems.{read_at, with_write, write_to as write_of, writes_from, Occurrence};
 ghost use Rattle.stride_rows.specs.Class.{stride_count, writes_strides};
 ghost use Rattle.stride_trees.specs.Strides.{read_of, tests_of, write_of as strides_write, AreStrided, IsStrided};
@@ -11,10 +11,14 @@ use plain_data::Items;
 use sanlp::{Nest, Statement, common_loops};
 use source_tree::Reference;
 use std::alloc::{AllocError, Global};
-use stride_trees::{Division, Strides, divisions_of};
+use stride_trees::{Division, Strides, divisions_of, never_divides};
+
+/// The place of a test that says no by its form alone, which is never asked. Those that are asked have lower places.
+pub const NO_PLACE: u32 = 6;
 
 /// A write of the read's array that stands before the read at some level of order. `divisions` are its tests of
-/// divisibility, in the order of its subscripts, and `places` tells which of the tests of all writers each of them is.
+/// divisibility, in the order of its subscripts, and `places` tells which of the tests of all writers each of them is, or
+/// `NO_PLACE`.
 #[derive(Drop)]
 pub struct Writer<'a> {
     pub strides: Strides<'a>,
@@ -78,12 +82,16 @@ fn copy_of(division: &Division) -> Division
     }
 }
 
-// Which of the tests this one is. It's added where it is none of them.
+// Which of the tests this one is. It's added where it is none of them, unless its form alone says no.
 fn place_of(tests: &mut Items<Division>, division: &Division) -> Result<u32, AllocError>
-    requires { length tests.old ≤ 12 }
-    ensures place { IfOk result (IsTestAt tests.new division.now) }
+    requires few { length tests.old ≤ 12 }
+    requires divisor { pos 1 ≤ℤ division.now.divisor }
+    ensures place { IfOk result (IsPlaceOf tests.new division.now) }
     ensures tests { OnOk result (AddsTests (division.now ∷ []) tests.old tests.new) }
 {
+    if never_divides(division) {
+        return Ok(NO_PLACE);
+    }
     let found = place_among(tests.as_slice(), division, 0);
     match found {
         Some(place) => Ok(place),
@@ -101,7 +109,8 @@ fn push_places(
     tests: &mut Items<Division>,
     divisions: &[Division],
 ) -> Result<(), AllocError>
-    requires { length tests.old + length divisions.now ≤ 12 }
+    requires few { length tests.old + length divisions.now ≤ 12 }
+    requires divisors { All (λ d. pos 1 ≤ℤ d.divisor) divisions.now }
     ensures places { OnOk result (AddsPlaces tests.new divisions.now places.old places.new) }
     ensures tests { OnOk result (AddsTests divisions.now tests.old tests.new) }
 {
@@ -111,6 +120,17 @@ fn push_places(
     let place = place_of(tests, division)?;
     places.push(place)?;
     push_places(places, tests, divisions)
+}
+
+/// Whether a test of the writer says no by its form alone, so that it has no write before the read.
+pub fn is_never(writer: &Writer) -> bool
+    ensures { result ≡ is_never writer.now }
+{
+    writer
+        .places
+        .as_slice()
+        .iter()
+        .any(|place| *place == NO_PLACE)
 }
 
 fn writer_of<'a>(

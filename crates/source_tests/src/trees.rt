@@ -381,3 +381,58 @@ fn a_tree_is_as_small_at_any_size(rt: HostRuntime) -> Result<(), Fail> {
     assert!(rt; small?);
     Ok(())
 }
+
+// Two reads of cells that are written at even places: one at even places, one at odd ones.
+const EVEN: &[u8] = b"param N; in x[N]; out y[N], z[N]; var a[2 * N]; \
+    for (i = 0; i < N; i++) a[2 * i] = x[i]; \
+    for (i = 0; i < N; i++) { y[i] = a[2 * i]; z[i] = a[2 * i + 1]; }";
+
+fn is_dead(tree: &Tree) -> bool {
+    match tree {
+        Tree::Dead(_) => true,
+        _ => false,
+    }
+}
+
+// How many tests of divisibility a tree has, and how many of them have more than a Dead leaf at their no.
+fn test_counts(tree: &Tree) -> (usize, usize) {
+    match tree {
+        Tree::Test(_, above, below) => {
+            let (first, second) = (test_counts(above.get()), test_counts(below.get()));
+            (
+                first.0.saturating_add(second.0),
+                first.1.saturating_add(second.1),
+            )
+        }
+        Tree::Divides(_, _, above, below) => {
+            let (first, second) = (test_counts(above.get()), test_counts(below.get()));
+            let open: usize = if is_dead(below.get()) { 0 } else { 1 };
+            (
+                first.0.saturating_add(second.0).saturating_add(1),
+                first.1.saturating_add(second.1).saturating_add(open),
+            )
+        }
+        _ => (0, 0),
+    }
+}
+
+// Sources, a statement, a read, and the counts of its tree.
+static TESTS: [(&[u8], u32, u32, (usize, usize)); 3] = [
+    (STRIDED, 2, 0, (1, 1)),
+    // it always divides
+    (EVEN, 2, 0, (1, 0)),
+    // it never does
+    (EVEN, 3, 0, (0, 0)),
+];
+
+#[test]
+fn a_test_that_its_form_decides_has_one_side(rt: HostRuntime) -> Result<(), Fail> {
+    for (source, statement, read, wanted) in &TESTS {
+        let nest = nest(rt.alloc(), source, 5)?;
+        let tree = joined(rt.alloc(), &nest, *statement, *read)?;
+        let counts = test_counts(&tree);
+        drop(tree);
+        assert!(rt; counts == *wanted);
+    }
+    Ok(())
+}

@@ -9,7 +9,13 @@ pub mod TestNodes
 mod MadeRows
 mod WriteSystems
 mod SystemConversion
+mod Subscript
 mod NoWrites
+mod RoundedRows
+mod NeverMultiple
+mod AlwaysMultiple
+mod NeverDivided
+mod AlwaysDivided
 mod LastRows
 mod DomainDifferences
 mod YesContexts

@@ -3,8 +3,8 @@
 -- Two rows of the context say that the test's form lies strictly between two next multiples of its divisor. Two rows of
 -- the write's subscript say that the form is such a multiple, taken with the sign of the stride. These four are refuted
 -- together, whatever the other rows of the context, the writer and the order are.
-use Rattle.std.proofs.Common.{◌≡◌, ◌+◌, ◌*◌, ◌≤◌, ◌<◌, ℕ, ℤ, pos, negsuc, ◌+ℤ◌, ◌*ℤ◌, List, ◌++◌}
-use Rattle.std.proofs.Common.{length, map, Bool, true, false, cond, sym, ap, ◌∙◌, subst, arith}
+use Rattle.std.proofs.Common.{◌≡◌, ◌+◌, ◌*◌, ◌≤◌, ◌<◌, ℕ, ℤ, pos, negsuc, ◌+ℤ◌, ◌*ℤ◌, List}
+use Rattle.std.proofs.Common.{length, map, Bool, cond, sym, ap, ◌∙◌, subst, arith}
 use Rattle.std.specs.Prelude.{Some, slice_get, unsigned_abs}
 use Rattle.std.specs.Option.{option_map_or}
 use Rattle.std.specs.Int.RustNames.{int_lt}
@@ -13,38 +13,29 @@ use Rattle.affine_core.specs.declared.form.Form.{Form}
 use Rattle.affine_core.specs.Affine.{variable_form, widened_form}
 use Rattle.int_polyhedra.specs.declared.system.Proof.{Proof}
 use Rattle.int_polyhedra.specs.Rules.{Refutes}
-use Rattle.lex_max.proofs.ProblemBounds.{form_is, FormFits}
-use Rattle.lex_max.proofs.OrderEdges.{variable_at, variable_within}
-use Rattle.plain_data.proofs.Lists.{slice_get-append_left, slice_get-append_right}
+use Rattle.lex_max.proofs.OrderEdges.{variable_within}
+use Rattle.plain_data.proofs.Lists.{slice_get-append_left}
 use Rattle.row_sums.specs.Made.{parts_of}
 use Rattle.row_sums.specs.Parts.{Part, part_of, row_part}
 use Rattle.row_sums.specs.Shown.{RowParts}
 use Rattle.row_sums.proofs.Within.{part_of-le}
-use Rattle.sanlp.proofs.Elements.{list_all_at}
 use Rattle.sanlp.specs.declared.nest.Nest.{Nest}
-use Rattle.sanlp.specs.WellFormed.{form_fits}
 use Rattle.source_tree.specs.Checked.{IsRefuted}
-use Rattle.source_tree.specs.Places.{at_place, cell_rows, domain_rows}
 use Rattle.source_tree.specs.Rows.{RowExpr, Take, Plus, minus, number, one_less}
 use Rattle.source_tree.specs.Systems.{Context, Occurrence, multiple, with_rows, with_write_at, writer_place}
-use Rattle.source_tree.proofs.RowLists.{length-domain_rows}
-use Rattle.stride_rows.specs.Class.{is_single, stride_of}
+use Rattle.stride_rows.specs.Class.{stride_of}
 use Rattle.stride_trees.specs.Contexts.{own_system, AreMadeSmall, IsUndividedContext}
 use Rattle.stride_trees.specs.Divisions.{division_of}
 use Rattle.stride_rows.specs.Sources.{loop_of}
 use Rattle.stride_trees.specs.Strides.{depth_of_read, depth_of_write, read_of, root_of, write_of, AreStrided, IsSmallContext, IsStrided, IsTestOf}
 use Rattle.stride_trees.specs.declared.divisions.Division.{Division}
 use Rattle.stride_trees.specs.declared.strides.Strides.{Strides}
-use Rattle.stride_rows.proofs.Coefficients.{outside_counts}
 use Rattle.stride_trees.proofs.SystemConversion.{widened_at}
-use Rattle.stride_trees.proofs.ProblemBounds.{AreFitting}
 use Rattle.stride_rows.proofs.Indivisible.{indivisible_proof, number_part, undivided_proof, undivided_refutes, AreUndivided}
 use Rattle.stride_trees.proofs.Lists.{forms_count, row_made}
-use Rattle.stride_trees.proofs.NoSystems.{stride_rows, AreStrideRows}
-use Rattle.stride_trees.proofs.Rows.{cells_at, AreCellRows}
-use Rattle.stride_rows.proofs.Singles.{loop_inside}
 use Rattle.stride_trees.proofs.WriteSystems as standing
-use Rattle.stride_trees.proofs.Systems.{stride_is, IsStrideOf}
+use Rattle.stride_trees.proofs.Subscript as subscript
+use Rattle.stride_trees.proofs.Subscript.{AreLoopRows}
 
 -- the two rows of a test that says no
 abbrev low_expr : ℕ → Form → ℤ → RowExpr
@@ -77,9 +68,6 @@ module _ (n : Nest) (r w : Occurrence) (p : ℕ) (c : Context) (here i : ℕ) (w
   abbrev forms : List Form
   forms = w.statement.rows
 
-  fits : AreFitting n r w p
-  fits = standing.fits n r w p c here strided small reader order order_made
-
   abbrev whole : List Form
   whole = standing.whole n r w p c here strided small reader order order_made
 
@@ -89,23 +77,11 @@ module _ (n : Nest) (r w : Occurrence) (p : ℕ) (c : Context) (here i : ℕ) (w
   abbrev behind : List Form
   behind = standing.behind n r w p c here strided small reader order order_made
 
-  abbrev laid : List RowExpr
-  laid = standing.laid n r w p c here strided small reader order order_made
-
-  laid_made : standing.Made n r w p c here strided small reader order order_made laid
-  laid_made = standing.laid_made n r w p c here strided small reader order order_made
-
   whole_count : length whole ≡ here + (length forms + (2 * length w.access.subscripts + length order))
   whole_count = standing.whole_count n r w p c here strided small reader order order_made
 
   rows_count : length c.rows ≡ here
   rows_count = sym (forms_count c.vars c.rows small.rows small.made) ∙ small.count
-
-  write_fits : FormFits e write
-  write_fits = form_is e write (list_all_at (form_fits e) w.access.subscripts i write fits.writes write_is)
-
-  of_stride : IsStrideOf stride
-  of_stride = stride_is e write stride write_fits is
 
   -- the rows of the test
 
@@ -131,55 +107,17 @@ module _ (n : Nest) (r w : Occurrence) (p : ℕ) (c : Context) (here i : ℕ) (w
 
   -- the rows of its subscript
 
-  abbrev cells : List RowExpr
-  cells = cell_rows w.access.subscripts r.access.subscripts place ++ order
-
-  cell : AreCellRows cells i write read place
-  cell = cells_at w.access.subscripts r.access.subscripts place i write read order write_is read_is
-
-  at_cell : (k : ℕ) (row : RowExpr) → slice_get cells k ≡ Some row → (part : Part)
-      → row_part whole part (here + (length forms + k)) ≡ parts_of row part
-  at_cell k row row_is part =
-      let domain : List RowExpr = domain_rows forms place in
-      let even : here + (length forms + k) ≡ length c.rows + (length domain + k) =
-      omega (arith, rows_count, length-domain_rows forms place) in
-      ap (row_part whole part) even
-      ∙ row_made more laid whole (length c.rows + (length domain + k)) row part laid_made
-      (slice_get-append_right c.rows (domain ++ cells) (length domain + k) ∙ slice_get-append_right domain cells k ∙ row_is)
-
   abbrev v : RowParts
   v part = row_part place part (loop_of write.coefs)
-
-  told : AreStrideRows write read place d f v (int_lt (pos 0) stride)
-  told = stride_rows quotient write read place stride i
-      (write_fits.over ∙ sym (standing.long n r w p c here strided small reader order order_made))
-      (list_all_at is_single w.access.subscripts i write fits.singles write_is) is
-
-  v_small : (part : Part) → unsigned_abs (v part) ≤ 1
-  v_small part =
-      let k : ℕ = loop_of write.coefs in
-      let inside : k < e = omega (arith, loop_inside write.coefs (outside_counts write.coefs stride is), write_fits.over) in
-      let same : v part ≡ part_of part (variable_form (c.vars + k + 1) (c.vars + k)) =
-      ap (λ o. option_map_or (part_of part) o (pos 0)) (variable_at c.vars e k inside) in
-      omega (
-        arith,
-        ap unsigned_abs same,
-        part_of-le 1 (variable_form (c.vars + k + 1) (c.vars + k)) part (variable_within (c.vars + k + 1) (c.vars + k)),
-      )
 
   abbrev row : ℕ
   row = here + (length forms + 2 * i)
 
-  first_row : (part : Part) → row_part whole part row ≡ parts_of (minus (at_place write place) (Take read)) part
-  first_row part = at_cell (2 * i) (minus (at_place write place) (Take read)) cell.first part
-
-  second_row : (part : Part) → row_part whole part (row + 1) ≡ parts_of (minus (Take read) (at_place write place)) part
-  second_row part =
-      let next : row + 1 ≡ here + (length forms + (2 * i + 1)) = omega arith in
-      ap (row_part whole part) next ∙ at_cell (2 * i + 1) (minus (Take read) (at_place write place)) cell.second part
-
-  inside : i < length w.access.subscripts
-  inside = slice_get_within w.access.subscripts i write write_is
+  loop_rows : (b : Bool) → int_lt (pos 0) stride ≡ b
+      → AreLoopRows whole d (cond b row (row + 1)) (cond b (row + 1) row) f v
+  loop_rows =
+      subscript.subscript_rows n r w p c here i write read stride strided small reader write_is read_is is quotient order
+      order_made
 
   test_in : test + 1 < length whole
   test_in = omega (
@@ -189,12 +127,6 @@ module _ (n : Nest) (r w : Occurrence) (p : ℕ) (c : Context) (here i : ℕ) (w
     slice_get_within c.rows (test + 1)
         (high_expr quotient (widened_form quotient (division_of i write read stride).form) (pos d)) second,
   )
-
-  first_in : row < length whole
-  first_in = omega (arith, whole_count, inside)
-
-  second_in : row + 1 < length whole
-  second_in = omega (arith, whole_count, inside)
 
   low_row : (part : Part) → row_part whole part test
       ≡ (f part +ℤ ((q part *ℤ pos d) *ℤ negsuc 0)) +ℤ number_part (negsuc 0) part
@@ -210,31 +142,19 @@ module _ (n : Nest) (r w : Occurrence) (p : ℕ) (c : Context) (here i : ℕ) (w
   q_small : (part : Part) → unsigned_abs (q part) ≤ 1
   q_small part = part_of-le 1 (variable_form (quotient + 1) quotient) part (variable_within (quotient + 1) quotient)
 
-  undivided : (b : Bool) → AreStrideRows write read place d f v b
+  undivided : (b : Bool) → AreLoopRows whole d (cond b row (row + 1)) (cond b (row + 1) row) f v
       → AreUndivided whole d test (cond b row (row + 1)) (cond b (row + 1) row) f q v
-  undivided true h = record {
-    positive = omega (arith, of_stride.at_least);
+  undivided b h = record {
+    positive = h.positive;
     here_in = test_in;
-    up_in = first_in;
-    down_in = second_in;
+    up_in = h.up_in;
+    down_in = h.down_in;
     low = low_row;
     high = high_row;
-    above = λ part. first_row part ∙ h.first part;
-    below = λ part. second_row part ∙ h.second part;
+    above = h.above;
+    below = h.below;
     small_q = q_small;
-    small_v = v_small;
-  }
-  undivided false h = record {
-    positive = omega (arith, of_stride.at_least);
-    here_in = test_in;
-    up_in = second_in;
-    down_in = first_in;
-    low = low_row;
-    high = high_row;
-    above = λ part. second_row part ∙ h.second part;
-    below = λ part. first_row part ∙ h.first part;
-    small_q = q_small;
-    small_v = v_small;
+    small_v = h.small_v;
   }
 
   pub undivided_write_refuted : (b : Bool) → int_lt (pos 0) stride ≡ b → IsRefuted (with_rows (with_write_at r c w) order)
@@ -249,7 +169,7 @@ module _ (n : Nest) (r w : Occurrence) (p : ℕ) (c : Context) (here i : ℕ) (w
         are_made = standing.own_made n r w p c here strided small reader order order_made;
         refuted = subst (λ k. Refutes more whole (undivided_proof d test up down k)) whole_count
             (undivided_refutes more whole d test up down f q v small_whole.over small_whole.within
-            (undivided b (subst (AreStrideRows write read place d f v) rises told)));
+            (undivided b (loop_rows b rises)));
       }
 
 -- the same of what is made

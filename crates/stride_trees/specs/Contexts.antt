@@ -70,6 +70,15 @@ pub record IsUndividedContext (s : Strides) (d : Division) (place here : ℕ) (c
   pub second : slice_get c.rows (root_of s + 2 * place + 1)
       ≡ slice_get (no_rows s d place) 1
 
+-- so many small rows, the two rows of a test that says no among them: they stand from this row on, for the quotient
+-- that is this variable
+pub record IsNoIn (d : Division) (row quotient here : ℕ) (c : Context) : Type 0 where
+  pub small : IsSmallContext c here
+  pub first : slice_get c.rows row
+      ≡ slice_get (undivided_rows quotient (widened_form quotient d.form) d.divisor) 0
+  pub second : slice_get c.rows (row + 1)
+      ≡ slice_get (undivided_rows quotient (widened_form quotient d.form) d.divisor) 1
+
 -- the system of a write before the read, with these order rows, and the same over quotients
 abbrev pub own_system : Strides → Context → List RowExpr → RowSystem
 own_system s c order = with_rows (with_write_at (read_of s) c (write_of s)) order

@@ -1,10 +1,12 @@
 -- Tests whether the stride of a write's subscript divides what the read's is from it.
-use Rattle.std.specs.Prelude.{◌+◌, ◌-◌, ℕ, ℤ, pos, negsuc, ◌-ℤ◌, List, [], ◌∷◌, ◌++◌, unsigned_abs, if◌then◌else◌}
+use Rattle.std.specs.Prelude.{◌+◌, ◌-◌, ℕ, ℤ, pos, negsuc, ◌-ℤ◌, Bool, ◌&&◌, not, List, [], ◌∷◌, ◌++◌, unsigned_abs, if◌then◌else◌}
+use Rattle.std.specs.List.{list_all}
 use Rattle.std.specs.Option.{option_map_or}
 use Rattle.std.specs.Int.RustNames.{int_lt}
 use Rattle.affine_core.specs.declared.form.Form.{Form}
 use Rattle.affine_core.specs.Affine.{form_product, form_sum, variable_form, widened_form}
 use Rattle.source_tree.specs.Systems.{Context, divides_yes}
+use Rattle.source_tree.specs.Walk.{divides}
 use Rattle.stride_rows.specs.Class.{stride_of}
 use Rattle.stride_trees.specs.declared.divisions.Division.{Division}
 
@@ -29,6 +31,16 @@ divisions_from number (write ∷ writes) [] = []
 divisions_from number (write ∷ writes) (read ∷ reads) =
     option_map_or (λ c. division_of number write read c ∷ []) (stride_of write) []
     ++ divisions_from (number + 1) writes reads
+
+-- whether a test says no by its form alone: the divisor divides each coefficient, and not the constant
+abbrev pub never_divides : Division → Bool
+never_divides d =
+    list_all (λ c. divides c d.divisor) d.form.coefs && not (divides d.form.constant d.divisor)
+
+-- whether a test says yes by its form alone: the divisor divides each coefficient, and the constant
+abbrev pub always_divides : Division → Bool
+always_divides d =
+    list_all (λ c. divides c d.divisor) d.form.coefs && divides d.form.constant d.divisor
 
 -- the context where all these tests say yes; each has one variable more
 abbrev pub divided_context : Context → List Division → Context

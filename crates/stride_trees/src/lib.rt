@@ -5,20 +5,24 @@
 //! the numbers of their rows and quotients in every context below them.
 #![tactic(auto)]
 
+mod always;
 mod candidate;
 mod contexts;
 mod convert;
 mod divisions;
 mod leaves;
+mod never;
 mod problem;
 mod strides;
 mod tests;
 mod undivided;
 
+pub use always::{always_divides, no_is_nowhere};
 pub use candidate::{stride_candidate, strides_of};
 pub use convert::{converted_place, converted_write};
 pub use divisions::{Division, divisions_of};
 pub use leaves::converted_tree;
+pub use never::{never_divides, never_write};
 pub use problem::{divided_rows, told, told_reads, told_writes};
 pub use strides::Strides;
 pub use tests::with_tests;

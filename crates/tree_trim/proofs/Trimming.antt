@@ -33,7 +33,7 @@ use Rattle.source_tree.specs.Systems.{Context, dead_systems, test_no, test_yes}
 use Rattle.source_tree.specs.declared.tree.Tree.{Tree}
 use Rattle.source_tree.specs.declared.tree.Tree.TheViews.{Test}
 use Rattle.tree_trim.specs.Proofs.{names_row, proof_without, term_without, terms_without}
-use Rattle.tree_trim.specs.Sides.{AreJoinedSides}
+use Rattle.tree_trim.specs.Sides.{AreJoinedSides, IsJoinedBranch}
 use Rattle.tree_trim.specs.Trees.{branch_or_test, proofs_name, proofs_without, tree_names_row, tree_without}
 use Rattle.tree_trim.proofs.Naming.{names_dead, names_test, names_writer, names_zero, without_dead, without_sum}
 use Rattle.tree_trim.proofs.Naming.{without_test, without_writer, without_zero}
@@ -133,6 +133,12 @@ branch_joined r context row tree over h none c made =
     subst (λ n. IsCheckedForAll pairs c (tree_without n tree)) count
     (subst (λ rows. IsCheckedForAll pairs (rows_over c.vars rows) (tree_without (length c.rows) tree))
     (append-nil c.rows) less)
+
+pub unnamed_joined : (r : Read) (context : System) (k : ℕ) (row : Form) (tree : Tree)
+    → IsJoinedBranch r context k row tree → IsJoinedTree r context (tree_without k tree)
+unnamed_joined r context k row tree h =
+    subst (λ k. IsJoinedTree r context (tree_without k tree)) (sym h.number)
+    (branch_joined r context row tree h.over h.joined (ap (λ k. tree_names_row k tree) (sym h.number) ∙ h.unnamed))
 
 pub joined_test : (r : Read) (context : System) (form other : Form) (above below : Tree)
     → length form.coefs ≡ context.vars → IsWithin (2 ^ 49 + 1) form → negation_of form ≡ Some other

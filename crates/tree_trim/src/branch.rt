@@ -1,9 +1,10 @@
 ghost use Rattle.std.specs.Prelude.{◌≡◌, IfOk};
+ghost use Rattle.affine_core.specs.declared.form.Form.{Form as FormOf};
 ghost use Rattle.candidate_order.specs.Joint.{IsJoinedTree};
 ghost use Rattle.candidate_order.specs.declared.candidates.Read.{Read as ReadOf};
 ghost use Rattle.int_polyhedra.specs.declared.system.System.{System as SystemOf};
 ghost use Rattle.source_tree.specs.declared.tree.Tree.TheViews.{Divides as DividesOf, Test as TestOf};
-ghost use Rattle.tree_trim.specs.Sides.{AreJoinedSides};
+ghost use Rattle.tree_trim.specs.Sides.{AreJoinedSides, IsJoinedBranch};
 ghost use Rattle.tree_trim.specs.Trees.{branch_or_test, proofs_name, tree_names_row, tree_without};
 
 use crate::parts::{Parts, parts_of};
@@ -111,8 +112,13 @@ pub fn tree_without(alloc: Global, tree: Boxed<Tree>, row: u32) -> Result<Boxed<
     }
 }
 
-fn branch_without(alloc: Global, tree: Tree, row: u32) -> Result<Tree, AllocError>
-    ensures { IfOk result (λ other. other ≡ tree_without row tree) }
+/// A branch of a Test once the Test's row is away, which is the row of this number of the branch's context. Of a branch that is
+/// joined there and none of whose proofs names that row the tree is joined where the Test stands, whatever the other branch
+/// is. It takes memory and stack as `tree_without` does.
+pub fn branch_without(alloc: Global, tree: Tree, row: u32) -> Result<Tree, AllocError>
+    ensures tree { IfOk result (λ other. other ≡ tree_without row tree) }
+    ensures joined { IfOk result (λ other. (r : ReadOf) (context : SystemOf) (form : FormOf)
+        → IsJoinedBranch r context row form tree → IsJoinedTree r context other) }
 {
     let tree = Boxed::new(alloc, tree)?;
     let other = tree_without(alloc, tree, row)?;

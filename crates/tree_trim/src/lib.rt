@@ -6,5 +6,5 @@ mod branch;
 mod parts;
 mod refutation;
 
-pub use branch::{tree_names_row, tree_without, trim_test};
+pub use branch::{branch_without, tree_names_row, tree_without, trim_test};
 pub use refutation::{names_row, proof_without};

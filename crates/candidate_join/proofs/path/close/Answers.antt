@@ -1,7 +1,7 @@
-use Rattle.std.proofs.Common.{refl, sym, ap, subst, ◌∙◌, arith}
+use Rattle.std.proofs.Common.{refl, sym, ap, subst, ◌∙◌}
 use Rattle.std.proofs.lemmas.Result.{IfOk-weaker}
 use Rattle.candidate_join.specs.Walking.{turns_of_frame, GoesOn, IsClosing}
-use Rattle.std.specs.Prelude.{◌+◌, IfOk, sum_by}
+use Rattle.std.specs.Prelude.{◌+◌, sum_by}
 use Rattle.candidate_join.specs.declared.path.Step.TheVariants.{Made}
 use Rattle.candidate_join.specs.declared.path.Walk.{Walk}
 use Rattle.int_polyhedra.specs.declared.system.System.{System}
@@ -11,15 +11,15 @@ use Rattle.tree_trim.specs.Trees.{branch_or_test}
 use Rattle.candidate_join.proofs.Turning.{closed, test_made}
 use Rattle.candidate_join.proofs.path.close.Goals as goal
 
-pub turn-requires : goal.turn-requires
-turn-requires c = subst (λ frame. IsClosing c.args.task.now c.args.walk.now frame c.args.tree) c.in-First.is c.requires
+pub first_made-requires : goal.first_made-requires
+first_made-requires c = subst (λ frame. IsClosing c.args.task.now c.args.walk.now frame c.args.tree) c.in-First.is c.requires
 
 pub returns-in-First : goal.returns-in-First
 returns-in-First c =
-    IfOk-weaker c.turn.result _ _
+    IfOk-weaker c.first_made.result _ _
     (λ step. subst (λ frame. GoesOn c.args.task.now
-    (turns_of_frame frame + sum_by turns_of_frame c.args.walk.now.frames) c.turn.new.walk step) (sym c.in-First.is))
-    c.turn.ensures
+    (turns_of_frame frame + sum_by turns_of_frame c.args.walk.now.frames) c.first_made.new.walk step) (sym c.in-First.is))
+    c.first_made.ensures
 
 pub last_row-requires : goal.last_row-requires
 last_row-requires c = let h = c.requires in (h.context, h.row, h.context_is)

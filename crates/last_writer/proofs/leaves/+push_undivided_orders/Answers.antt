@@ -38,9 +38,9 @@ returns t c =
     (λ others cx level rows undivided one more.
     (let before = only_level s cx c.args.before level one in
     own_order_step s cx (λ q. own_system s cx (level ++ q)) c.args.orders.now c.in-Some.order.now c.in-Some.orders.now rows
-    c.in_ok-undivided_write.field-0 c.args.proofs.now c.push.new.self c.push_undivided_orders.new.proofs order more
+    c.in_ok-refused_write.field-0 c.args.proofs.now c.push.new.self c.push_undivided_orders.new.proofs order more
     c.in_ok-push.ensures.ok
-    (λ row count made. c.in_ok-undivided_write.ensures cx (level ++ row) undivided
+    (λ row count made. c.in_ok-refused_write.ensures cx (level ++ row) undivided
     (small_both (cx.vars + depth_of_write s) level row before.1 made)
     (omega (arith, length-append level row, before.0, count)))
     (λ left behind. others cx level left undivided one behind))) c.push_undivided_orders.ensures

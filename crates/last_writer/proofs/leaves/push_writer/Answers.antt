@@ -6,7 +6,7 @@ use Rattle.std.proofs.lemmas.Result.{IfOk-weaker}
 use Rattle.last_writer.proofs.LeafConversion.{adds_converted, adds_refused, can_be_converted, few_behind, few_counts, is_refusal}
 use Rattle.last_writer.proofs.LeafConversion.{zip_count}
 use Rattle.last_writer.specs.Leaves.{counts_behind, is_told, order_counts, AreOrderRows, IsRefusalAmong}
-use Rattle.last_writer.specs.Writers.{IsTestAt}
+use Rattle.last_writer.specs.Writers.{IsPlaceOf}
 use Rattle.stride_trees.proofs.ProblemBounds.{are_fitting}
 use Rattle.stride_trees.specs.Strides.{read_of, write_of}
 use Rattle.last_writer.proofs.leaves.push_writer.Goals as goal
@@ -19,7 +19,7 @@ row_counts-requires c =
 
 pub refusal_of-requires : goal.refusal_of-requires
 refusal_of-requires c =
-    zip_count (IsTestAt c.args.w.now.tests.now) c.args.writer.now.divisions c.args.writer.now.places
+    zip_count (IsPlaceOf c.args.w.now.tests.now) c.args.writer.now.divisions c.args.writer.now.places
     c.requires.writer.places
 
 pub push_undivided_levels-requires-clause-strided : goal.push_undivided_levels-requires-clause-strided
@@ -47,6 +47,8 @@ push_undivided_levels-requires-clause-orders c =
 pub push_levels-requires-clause-writer : goal.push_levels-requires-clause-writer
 push_levels-requires-clause-writer c =
     can_be_converted c.args.w.now c.args.here c.args.writer.now c.requires.answered c.requires.here c.requires.writer
+    (subst (λ o. MatchOption o (is_told c.args.w.now.answers.now c.args.writer.now ≡ true) (IsRefusalAmong
+    c.args.w.now.answers.now c.args.writer.now.divisions c.args.writer.now.places)) c.in-None.is c.refusal_of.ensures)
 
 pub push_levels-requires-clause-levels : goal.push_levels-requires-clause-levels
 push_levels-requires-clause-levels c =
@@ -88,7 +90,7 @@ returns-clause-proofs c =
     c.as_slice-orders.ensures ∙ c.in_ok-orders.ensures in
     IfOk-weaker c.push_levels.result _ _
     (λ rest added. adds_converted w c.args.here c.args.behind.now x c.args.told.now rest.now c.args.proofs.now
-    c.push_levels.new.proofs c.requires.writer
+    c.push_levels.new.proofs c.requires.writer c.requires.answered
     (subst (λ o. MatchOption o (is_told w.answers.now x ≡ true) (IsRefusalAmong w.answers.now x.divisions x.places))
     c.in-None.is c.refusal_of.ensures)
     (λ cx at rows tested l o. added cx at rows tested (subst (λ ks. AreOrderRows s cx ks at) (sym levels_are) l)

@@ -71,7 +71,9 @@ converted_place-requires-clause-places c =
     let of = All-contains (IsWriterOf w.nest.now (occurrence_of w.read) w.tests.now) w.writers.now x
     c.requires.answered.writers.each c.writer_at-writer.ensures.among in
     subst (All (λ i. i < 6)) (sym c.as_slice.ensures)
-    (can_be_converted w c.args.here x c.requires.answered c.requires.here of).places
+    (let p = c.requires.point in can_be_converted w c.args.here x c.requires.answered c.requires.here of
+    (is_told_here w c.args.here p.0 c.args.number p.1 c.args.told.now x c.requires.answered p.2 p.3
+    c.writer_at-writer.ensures.among c.writer_at-writer.ensures.number)).places
 
 pub converted_place-requires-clause-sums : goal.converted_place-requires-clause-sums
 converted_place-requires-clause-sums c =
@@ -165,7 +167,8 @@ returns c cx place below j =
     c.writer_at-writer.ensures.among c.writer_at-writer.ensures.number cells count cells_are count_is own
     c.push_writers.new.proofs
     (λ told. convert cx place
-    (tested w c.args.here cx x below of (is_told_here w c.args.here cx c.args.number place c.args.told.now x c.requires.answered below j
+    (tested w c.args.here cx x below of c.requires.answered
+    (is_told_here w c.args.here cx c.args.number place c.args.told.now x c.requires.answered below j
     c.writer_at-writer.ensures.among c.writer_at-writer.ensures.number))
     place_in (subst (AreRefuted (outside_cell_systems (told_read cx.vars x.places (read_of s) u) (told_write u) cx place))
     (sym front_same) told))

@@ -1,17 +1,21 @@
 -- The next test is asked: its yes and its no are the contexts below one answer more, so the trees below them are checked there,
 -- and their Divides in the context here. Each answer adds two rows and a variable, and at most six tests have one.
-use Rattle.std.proofs.Common.{◌≡◌, ◌+◌, ◌<◌, ◌∷◌, ◌++◌, [], length, refl, sym, ap, ◌∙◌, subst}
+use Rattle.std.proofs.Common.{◌≡◌, ◌+◌, ◌<◌, ◌∷◌, ◌++◌, [], length, false, refl, sym, ap, ◌∙◌, subst}
 use Rattle.std.proofs.Common.{rules, arith, length-append}
 use Rattle.std.specs.Prelude.{Some, slice_get}
+use Rattle.std.proofs.lemmas.Int.{ints}
 use Rattle.std.proofs.lemmas.Option.{slice_get_within}
 use Rattle.std.proofs.lemmas.Result.{IfOk-weaker}
 use Rattle.affine_core.specs.Affine.{widened_form}
-use Rattle.last_writer.proofs.JointTrees.{answers_more, divides_checked, few_loops, few_rows, made_more, small_at, vars_below}
-use Rattle.last_writer.specs.Answers.{answered_context}
+use Rattle.last_writer.proofs.JointTrees.{answers_more, divides_checked, few_loops, few_rows, made_more, no_checked, no_in}
+use Rattle.last_writer.proofs.JointTrees.{answers_no, small_at, vars_below}
+use Rattle.candidate_order.specs.Contexts.{IsMadeAs}
+use Rattle.last_writer.specs.Answers.{answered_context, below_answer}
 use Rattle.last_writer.specs.Leaves.{context_of}
 use Rattle.source_tree.specs.Checked.{IsCheckedIn}
 use Rattle.source_tree.specs.Systems.{every, root_context}
 use Rattle.source_tree.specs.References.{occurrence_of}
+use Rattle.stride_trees.specs.Divisions.{always_divides}
 use Rattle.last_writer.proofs.source.+answered.Goals as goal
 
 -- All tests have an answer
@@ -77,6 +81,46 @@ answered_next-below_test-requires-clause-test t c =
       small_at w c.args.test.now h c.requires.test,
       omega (arith, vars_below w c.args.context.now h c.requires.made),
     )
+
+pub answered_next-is_nowhere-requires : goal.answered_next-is_nowhere-requires
+answered_next-is_nowhere-requires t c =
+    omega (arith, ints, (small_at c.args.w.now c.args.test.now c.requires.answered c.requires.test).divisor)
+
+pub answered_next-nowhere-requires-clause-test : goal.answered_next-nowhere-requires-clause-test
+answered_next-nowhere-requires-clause-test t c =
+    let w = c.args.w.now in
+    (length w.read.statement.now.loops, small_at w c.args.test.now c.requires.answered c.requires.test)
+
+pub answered_next-nowhere-requires-clause-always : goal.answered_next-nowhere-requires-clause-always
+answered_next-nowhere-requires-clause-always t c =
+    (answers_no c.args.answer (always_divides c.args.test.now) (sym c.is_nowhere.ensures ∙ c.if-is_nowhere.true)).1
+
+pub answered_next-overflow_cast-before : goal.answered_next-overflow_cast-before
+answered_next-overflow_cast-before t c =
+    let w = c.args.w.now in
+    let h = c.requires.answered in
+    omega (arith, c.len-before.ensures, c.requires.count, few_rows w h, h.few, h.answers)
+
+pub answered_next-nowhere-requires-clause-before : goal.answered_next-nowhere-requires-clause-before
+answered_next-nowhere-requires-clause-before t c =
+    let w = c.args.w.now in
+    let h = c.requires.answered in
+    omega (arith, c.len-before.ensures, c.requires.count, few_rows w h, h.few, h.answers)
+
+pub answered_next-returns-then-is_nowhere : goal.answered_next-returns-then-is_nowhere
+answered_next-returns-then-is_nowhere t c =
+    let w = c.args.w.now in
+    let test = c.args.test.now in
+    let r = occurrence_of w.read in
+    let no : c.args.answer ≡ false =
+    (answers_no c.args.answer (always_divides test) (sym c.is_nowhere.ensures ∙ c.if-is_nowhere.true)).0 in
+    IfOk-weaker c.nowhere.result _ _
+    (λ tree checked. no_checked w test c.args.answer tree c.requires.test no
+    (checked w.nest.now r _ (context_of w).vars
+    (no_in w test c.args.context.now c.in_ok-next.next _ c.len-before.ensures c.requires.made
+    (subst (λ answer. IsMadeAs c.in_ok-next.next (below_answer (context_of w) test answer)) no
+    (c.in_ok-next.ensures.made (context_of w) c.requires.made)) c.in_ok-next.ensures.rows c.in_ok-next.ensures.count)))
+    c.nowhere.ensures
 
 pub answered_next-answered-requires : goal.answered_next-answered-requires
 answered_next-answered-requires t c =

@@ -9,10 +9,11 @@ use Rattle.std.proofs.lemmas.Result.{on_ok_weaker}
 use Rattle.candidate_order.specs.Reads.{pair_in, pairs_with}
 use Rattle.candidate_order.specs.declared.candidates.Problem.{Problem}
 use Rattle.candidate_order.specs.declared.candidates.Read.{Read}
+use Rattle.last_writer.proofs.WriterTests.{told_asked}
 use Rattle.last_writer.proofs.LeafConversion.{refused}
 use Rattle.last_writer.proofs.QuotientWrites.{one_more, pairs_refused, pairs_told, problem_pair}
 use Rattle.last_writer.specs.Leaves.{told_pair, told_pairs}
-use Rattle.last_writer.specs.Told.{IsTold}
+use Rattle.last_writer.specs.Told.{IsToldOf}
 use Rattle.last_writer.specs.declared.source.Told.{Told}
 use Rattle.last_writer.specs.declared.writers.Writer.{Writer}
 use Rattle.stride_trees.specs.Strides.{read_of}
@@ -24,9 +25,9 @@ IsOf r w = read_of w.strides ≡ occurrence_of r.reference
 
 -- both lists begin with one
 first_of : (vars : ℕ) (ws others : List Writer) (ts rest : List Told) (w : Writer) (t : Told) → ws ≡ w ∷ others
-    → ts ≡ t ∷ rest → AllZip (IsTold vars) ws ts → AllZip (IsTold vars) (w ∷ others) (t ∷ rest)
+    → ts ≡ t ∷ rest → AllZip (IsToldOf vars) ws ts → AllZip (IsToldOf vars) (w ∷ others) (t ∷ rest)
 first_of vars ws others ts rest w t e f h =
-    subst (AllZip (IsTold vars) (w ∷ others)) f (subst (λ ws. AllZip (IsTold vars) ws ts) e h)
+    subst (AllZip (IsToldOf vars) (w ∷ others)) f (subst (λ ws. AllZip (IsToldOf vars) ws ts) e h)
 
 pub returns-in_default : goal.returns-in_default
 returns-in_default t c r vars told reads =
@@ -38,21 +39,24 @@ pub returns-in_default-split_first : goal.returns-in_default-split_first
 returns-in_default-split_first t c r vars told reads =
     let first : c.args.writers.now ≡ c.in-Some.writer.now ∷ c.in-Some.writers.now = search rules in
     let none : c.args.told.now ≡ [] = nil_from_length c.args.told.now c.in_default-split_first.ensures.cases in
-    absurd (subst (AllZip (IsTold vars) (c.in-Some.writer.now ∷ c.in-Some.writers.now)) none
-    (subst (λ ws. AllZip (IsTold vars) ws c.args.told.now) first told))
+    absurd (subst (AllZip (IsToldOf vars) (c.in-Some.writer.now ∷ c.in-Some.writers.now)) none
+    (subst (λ ws. AllZip (IsToldOf vars) ws c.args.told.now) first told))
 
 pub refusal_of-requires : goal.refusal_of-requires
 refusal_of-requires t c =
     let P = λ (w : Writer). length w.divisions ≡ length w.places in
     let first : c.args.writers.now ≡ c.in-Some.writer.now ∷ c.in-Some.writers.now = search rules in
-    All-head P c.in-Some.writer.now c.in-Some.writers.now (subst (All P) first c.requires)
+    All-head P c.in-Some.writer.now c.in-Some.writers.now (subst (All P) first c.requires.places)
 
 pub push_problems-requires : goal.push_problems-requires
 push_problems-requires t c =
     let P = λ (w : Writer). length w.divisions ≡ length w.places in
     let first : c.args.writers.now ≡ c.in-Some.writer.now ∷ c.in-Some.writers.now = search rules in (
       omega (arith, ap length first),
-      All-tail P c.in-Some.writer.now c.in-Some.writers.now (subst (All P) first c.requires),
+      (
+        All-tail P c.in-Some.writer.now c.in-Some.writers.now (subst (All P) first c.requires.places),
+        c.requires.few,
+      ),
     )
 
 pub push_problems-requires-in-None : goal.push_problems-requires-in-None
@@ -60,7 +64,10 @@ push_problems-requires-in-None t c =
     let P = λ (w : Writer). length w.divisions ≡ length w.places in
     let first : c.args.writers.now ≡ c.in-Some.writer.now ∷ c.in-Some.writers.now = search rules in (
       omega (arith, ap length first),
-      All-tail P c.in-Some.writer.now c.in-Some.writers.now (subst (All P) first c.requires),
+      (
+        All-tail P c.in-Some.writer.now c.in-Some.writers.now (subst (All P) first c.requires.places),
+        c.requires.few,
+      ),
     )
 
 pub returns-in-Some-refusal_of : goal.returns-in-Some-refusal_of
@@ -102,6 +109,6 @@ returns-in_ok-push-in-None t c =
     let all = subst (All (IsOf r)) first reads in
     one_more (pair_in r) c.args.problems.now c.push.new.self c.push_problems-in-None.new.problems p (told_pair vars w)
     (told_pairs vars answers ws) (told_pairs vars answers c.args.writers.now) c.in_ok-push-in-None.ensures.ok
-    (problem_pair r p vars w t both.0 (All-head (IsOf r) w ws all) refl c.as_slice.ensures c.as_slice-in-None.ensures
+    (problem_pair r p vars w t (both.0 (told_asked answers w c.requires.few c.in-None.ensures)) (All-head (IsOf r) w ws all) refl c.as_slice.ensures c.as_slice-in-None.ensures
     c.as_slice-in-None-2.ensures) (rest r vars both.1 (All-tail (IsOf r) w ws all))
     (ap (told_pairs vars answers) first ∙ pairs_told vars answers w ws c.in-None.ensures))) c.push_problems-in-None.ensures

@@ -9,16 +9,20 @@ use Rattle.last_writer.proofs.JointTrees.{below_here, joined_below, pairs_joined
 use Rattle.last_writer.proofs.LeafConversion.{zip_count}
 use Rattle.last_writer.specs.Answers.{HasSmallRows}
 use Rattle.last_writer.specs.Leaves.{context_of}
-use Rattle.last_writer.specs.Writers.{IsTestAt, IsWriterOf}
+use Rattle.last_writer.specs.Writers.{IsPlaceOf, IsWriterOf}
 use Rattle.last_writer.proofs.source.joined.Goals as goal
 use Rattle.source_tree.specs.References.{occurrence_of}
 
-pub push_problems-requires : goal.push_problems-requires
-push_problems-requires c =
+pub push_problems-requires-clause-places : goal.push_problems-requires-clause-places
+push_problems-requires-clause-places c =
     let w = c.args.w.now in
     All-weaker (IsWriterOf w.nest.now (occurrence_of w.read) w.tests.now) (λ x. length x.divisions ≡ length x.places)
-    (λ x of. zip_count (IsTestAt w.tests.now) x.divisions x.places of.places) w.writers.now
+    (λ x of. zip_count (IsPlaceOf w.tests.now) x.divisions x.places of.places) w.writers.now
     c.requires.answered.writers.each
+
+pub push_problems-requires-clause-few : goal.push_problems-requires-clause-few
+push_problems-requires-clause-few c =
+    omega (arith, c.requires.answered.answers, c.requires.answered.few)
 
 pub join-requires : goal.join-requires
 join-requires c =

@@ -1,10 +1,24 @@
-use Rattle.std.proofs.Common.{◌≡◌, ◌∷◌, [], length, sym, ap, subst, rules, arith, length-append}
+use Rattle.std.proofs.Common.{◌≡◌, ◌≤ℤ◌, ◌∷◌, [], pos, length, sym, ap, subst, rules, arith, length-append}
+use Rattle.std.specs.Prelude.{All}
 use Rattle.std.proofs.lemmas.List.{nil_from_length}
+use Rattle.std.proofs.lemmas.List.Elements.{All-head, All-tail}
 use Rattle.std.proofs.lemmas.Result.{on_ok_weaker}
 use Rattle.last_writer.proofs.WriterLists.{adds_more, adds_none, places_more, places_none}
 use Rattle.last_writer.proofs.ProofSteps.{on_ok_both}
 use Rattle.last_writer.specs.Writers.{AddsPlaces, AddsTests}
+use Rattle.stride_trees.specs.declared.divisions.Division.{Division}
 use Rattle.last_writer.proofs.writers.+push_places.Goals as goal
+
+abbrev IsPositive : Division → Type 0
+IsPositive d = pos 1 ≤ℤ d.divisor
+
+pub place_of-requires-clause-divisor : goal.place_of-requires-clause-divisor
+place_of-requires-clause-divisor t c =
+    let first : c.args.divisions.now ≡ c.in-Some.division.now ∷ c.in-Some.divisions.now = search rules in
+    All-head IsPositive c.in-Some.division.now c.in-Some.divisions.now (subst (All IsPositive) first c.requires.divisors)
+
+pub place_of-requires-clause-few : goal.place_of-requires-clause-few
+place_of-requires-clause-few t c = omega (arith, c.requires.few)
 
 pub returns-in_default-clause-places : goal.returns-in_default-clause-places
 returns-in_default-clause-places t c =
@@ -19,13 +33,17 @@ pub push_places-requires : goal.push_places-requires
 push_places-requires t c =
     let first : c.args.divisions.now ≡ c.in-Some.division.now ∷ c.in-Some.divisions.now = search rules in (
       omega (arith, ap length first),
-      omega (
-        arith,
-        ap length first,
-        c.requires,
-        ap length c.in_ok-place.ensures.tests.grown,
-        length-append c.args.tests.now c.in_ok-place.ensures.tests.more,
-        c.in_ok-place.ensures.tests.few,
+      (
+        omega (
+          arith,
+          ap length first,
+          c.requires.few,
+          ap length c.in_ok-place.ensures.tests.grown,
+          length-append c.args.tests.now c.in_ok-place.ensures.tests.more,
+          c.in_ok-place.ensures.tests.few,
+        ),
+        All-tail IsPositive c.in-Some.division.now c.in-Some.divisions.now
+            (subst (All IsPositive) first c.requires.divisors),
       ),
     )
 

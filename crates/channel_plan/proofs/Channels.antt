@@ -1,6 +1,6 @@
 -- A channel, from its parts.
 use Rattle.std.proofs.Common.{◌≡◌, ◌<◌, ℕ, List, [], ◌∷◌, Bool, true, false, cond, Some, None}
-use Rattle.std.proofs.Common.{get_or, refl, ap, arith, ◌==◌}
+use Rattle.std.proofs.Common.{get_or, refl, ap, arith, ◌==◌, Ok, Err, IfOk, Result}
 use Rattle.std.specs.Prelude.{Option}
 use Rattle.std.specs.List.{All, cons_option, list_any, range_with_len}
 use Rattle.std.proofs.lemmas.Bool.{eqb-true}
@@ -20,6 +20,16 @@ pub slots_are : (slots : SlotPlan) (uses : List ℕ) → slots.gets_before ≡ g
     → slots.slot_of_get ≡ slots_of_gets uses
     → slots.slot_of_use ≡ slots_of_uses uses → slots.hold ≡ hold_of uses → slots ≡ slot_plan uses
 slots_are slots uses e f g h = λ i. record { gets_before = e i; slot_of_get = f i; slot_of_use = g i; hold = h i }
+
+-- the same of slots that are there unless memory is wanting
+pub slots_if : {E : Type 0} (slots : Result SlotPlan E) (uses : List ℕ)
+    → IfOk slots (λ plan. plan.gets_before ≡ gets_before uses)
+    → IfOk slots (λ plan. plan.slot_of_get ≡ slots_of_gets uses)
+    → IfOk slots (λ plan. plan.slot_of_use ≡ slots_of_uses uses)
+    → IfOk slots (λ plan. plan.hold ≡ hold_of uses)
+    → IfOk slots (λ plan. plan ≡ slot_plan uses)
+slots_if (Ok slots) uses e f g h = slots_are slots uses e f g h
+slots_if (Err error) uses e f g h = tt
 
 pub channel_is : (p k : ℕ) (sources : List (Option Tag)) (turns w : ℕ) (is_token : List Bool) (tokens : ℕ)
     (class : ChannelClass) (slots : SlotPlan)

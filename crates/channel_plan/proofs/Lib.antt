@@ -1,5 +1,7 @@
 pub mod Channels
 pub mod Counts
+pub mod InOrder
+pub mod MarkBits
 pub mod Marks
 pub mod Nests
 pub mod OneSlot

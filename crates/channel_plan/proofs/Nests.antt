@@ -16,7 +16,7 @@ use Rattle.std.proofs.lemmas.List.{drop-drop, drop_at, length-append, take_at}
 use Rattle.std.proofs.lemmas.List.Elements.{All-map, All-same, All-weaker}
 use Rattle.std.proofs.lemmas.List.Sums.{sum_by-cons, sum_by-le, sum_by-take-le, sum_by_more, sum_by_more_le}
 use Rattle.std.proofs.lemmas.List.FromFn.{length-map-range_with_len, get_or-map-range_with_len}
-use Rattle.std.proofs.lemmas.Option.{get_or_from_slice_get, same_Some, slice_get-get_or, slice_get_within}
+use Rattle.std.proofs.lemmas.Option.{get_or_from_slice_get, same_Some, slice_get-get_or, slice_get_read, slice_get_within}
 use Rattle.sanlp.specs.Access.{read_count}
 use Rattle.sanlp.specs.declared.nest.Nest.{Nest}
 use Rattle.sanlp.specs.declared.nest.Point.{Point}
@@ -171,6 +171,12 @@ part_from n points p (first ∷ statements) (suc j) s e =
     (length-map-range_with_len (read_sources n points p) 0 (length first.reads)))
     ∙ part_from n points (p + 1) statements j s e
     ∙ ap (λ q. map (read_sources n points q) (range_with_len 0 (length s.reads))) later
+
+-- the statement that is read at a place of a nest's statements
+pub statement_read : (n : Nest) (statements : List Statement) (p : ℕ) (s : Statement) → statements ≡ n.statements
+    → p < length statements → s ≡ get_or statements p s → slice_get n.statements p ≡ Some s
+statement_read n statements p s are lt is =
+    ap (λ xs. slice_get xs p) (sym are) ∙ slice_get_read statements (length statements) p s refl lt is
 
 module _ (n : Nest) (table : List (List (Option Tag))) (exact : table ≡ sources_of n) (p : ℕ) (s : Statement)
     (found : slice_get n.statements p ≡ Some s)

@@ -32,7 +32,7 @@ turns_used-some w (None ∷ sources) h = turns_used-some w sources h
 turns_used-some w (Some tag ∷ sources) h =
     some_used (tag.process == w) (list_any (is_from w) sources) tag.turn (turns_used w sources) h (turns_used-some w sources)
 
-in_order_where : (b : Bool) → (cond b InOrder Reorder ≡ InOrder) ↔ IsTrue b
+pub in_order_where : (b : Bool) → (cond b InOrder Reorder ≡ InOrder) ↔ IsTrue b
 in_order_where true = (λ e. refl, λ t. refl)
 in_order_where false = (λ e. absurd (cc), λ t. absurd (cc))
 

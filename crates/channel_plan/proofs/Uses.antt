@@ -66,7 +66,7 @@ uses_found turns used found uses marks e f g within =
     ∙ uses_are turns used within
 
 -- no token has a greater number than its turn
-below_turn : (used : List ℕ) (turn : ℕ) → tokens_below used turn ≤ turn
+pub below_turn : (used : List ℕ) (turn : ℕ) → tokens_below used turn ≤ turn
 below_turn used turn =
     omega (arith, count_by-le-length (is_used used) (range_with_len 0 turn), length-range_with_len 0 turn)
 

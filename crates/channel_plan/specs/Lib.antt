@@ -1,3 +1,4 @@
+pub mod MarkBits
 pub mod Plans
 pub mod Reads
 pub mod Tokens

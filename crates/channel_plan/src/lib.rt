@@ -7,8 +7,11 @@
 mod law;
 mod plans;
 mod read;
+mod slots;
+mod token_marks;
 mod tokens;
 mod writers;
 
 pub use law::one_slot_in_order;
 pub use plans::{ChannelPlan, channel_plans, turn_counts};
+pub use token_marks::TokenMarks;

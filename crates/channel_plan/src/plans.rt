@@ -5,6 +5,7 @@ ghost use Rattle.source_tree.specs.Sources.{sources_of};
 ghost use Rattle.channel_plan.specs.Plans.{plans_of};
 
 use crate::read::add_channels_to;
+use crate::token_marks::TokenMarks;
 use channel_class::ChannelClass;
 use plain_data::Items;
 use reorder_slots::SlotPlan;
@@ -22,7 +23,7 @@ pub struct ChannelPlan {
     /// The process that writes.
     pub writer: u32,
     /// For each turn of the writer, whether it is a token: whether some fire of the reader names it.
-    pub is_token: Items<bool>,
+    pub is_token: TokenMarks,
     /// The number of tokens.
     pub tokens: u32,
     pub class: ChannelClass,

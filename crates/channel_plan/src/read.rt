@@ -5,11 +5,12 @@ ghost use Rattle.channel_plan.specs.Reads.{AreFew, IsTurnAmong, channel_of, chan
 ghost use Rattle.channel_plan.specs.Tokens.{turns_used};
 
 use crate::plans::ChannelPlan;
+use crate::slots::slots_of;
+use crate::token_marks::TokenMarks;
 use crate::tokens::{token_count, tokens_among, turns_used, uses_of};
 use crate::writers::writers_of;
 use channel_class::class_of;
 use plain_data::Items;
-use reorder_slots::plan;
 use sanlp::Tag;
 use std::alloc::{AllocError, Global};
 
@@ -31,12 +32,13 @@ fn channel_of(
     let tokens = token_count(&is_token);
     let uses = uses_of(alloc, used, &is_token)?;
     let class = class_of(alloc, &uses)?;
-    let slots = plan(alloc, &uses)?;
+    let slots = slots_of(alloc, &uses, class)?;
+    let marks = TokenMarks::of(alloc, &is_token)?;
     Ok(ChannelPlan {
         reader,
         read,
         writer,
-        is_token: Items::from_vec(is_token),
+        is_token: marks,
         tokens,
         class,
         slots,

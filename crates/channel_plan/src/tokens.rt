@@ -29,11 +29,7 @@ pub(crate) fn turns_used(
 ) -> Result<Vec<u32>, AllocError>
     ensures { IfOk result (λ used. used.items ≡ turns_used writer sources.now) }
 {
-    let count = sources
-        .iter()
-        .filter(|source| turn_of(writer, source).is_some())
-        .count();
-    let mut used = Vec::with_capacity(alloc, count)?;
+    let mut used = Vec::with_capacity(alloc, sources.len())?;
     for source in sources {
         if let Some(turn) = turn_of(writer, source) {
             used.push(turn)?;

@@ -1,10 +1,8 @@
-use Rattle.std.proofs.Common.{◌≡◌, ◌+◌, ◌-◌, ℕ, List, take, drop, length, refl, subst, sym, ap, ◌∙◌, arith}
-use Rattle.std.specs.Prelude.{slice_get}
+use Rattle.std.proofs.Common.{◌≡◌, ◌+◌, ◌-◌, ℕ, List, take, drop, length, subst, sym, ap, ◌∙◌, arith}
 use Rattle.std.specs.List.{All}
-use Rattle.std.proofs.lemmas.Option.{slice_get_read}
 use Rattle.channel_plan.specs.Reads.{AreFew, IsTurnAmong}
 use Rattle.channel_plan.proofs.Nests.{few_before, few_turns, part_among, part_exists, part_is, part_short, plans_all}
-use Rattle.channel_plan.proofs.Nests.{plans_more, sum_more, turns_are}
+use Rattle.channel_plan.proofs.Nests.{plans_more, statement_read, sum_more, turns_are}
 use Rattle.channel_plan.proofs.plans.channel_plans.Goals as goal
 
 pub overflow_add-next : goal.overflow_add-next
@@ -12,10 +10,9 @@ overflow_add-next c =
     let n = c.args.nest.now in
     let p = c.loop-reader.reader in
     let s = c.statement-item.result in
-    let statements = c.as_slice-statement-items.ensures in
-    let found = ap (λ xs. slice_get xs p) (sym statements)
-    ∙ slice_get_read c.as_slice-statement-items.result.now
-    (length c.as_slice-statement-items.result.now) p s refl c.loop-reader-test.true c.statement-item.is in
+    let found =
+    statement_read n c.as_slice-statement-items.result.now p s c.as_slice-statement-items.ensures
+    c.loop-reader-test.true c.statement-item.is in
     let exact = c.as_slice-table.ensures ∙ c.requires.sources in
     omega (
       arith,
@@ -33,10 +30,9 @@ slice_bounds-add_channels_to-end c =
     let n = c.args.nest.now in
     let p = c.loop-reader.reader in
     let s = c.statement-item.result in
-    let statements = c.as_slice-statement-items.ensures in
-    let found = ap (λ xs. slice_get xs p) (sym statements)
-    ∙ slice_get_read c.as_slice-statement-items.result.now
-    (length c.as_slice-statement-items.result.now) p s refl c.loop-reader-test.true c.statement-item.is in
+    let found =
+    statement_read n c.as_slice-statement-items.result.now p s c.as_slice-statement-items.ensures
+    c.loop-reader-test.true c.statement-item.is in
     let exact = c.as_slice-table.ensures ∙ c.requires.sources in
     part_exists n c.as_slice-table.result.now exact p s found c.loop-reader.first c.len.result
     c.loop-reader.invariant.first c.len.ensures
@@ -52,10 +48,9 @@ add_channels_to-requires-clause-reads c =
     let n = c.args.nest.now in
     let p = c.loop-reader.reader in
     let s = c.statement-item.result in
-    let statements = c.as_slice-statement-items.ensures in
-    let found = ap (λ xs. slice_get xs p) (sym statements)
-    ∙ slice_get_read c.as_slice-statement-items.result.now
-    (length c.as_slice-statement-items.result.now) p s refl c.loop-reader-test.true c.statement-item.is in
+    let found =
+    statement_read n c.as_slice-statement-items.result.now p s c.as_slice-statement-items.ensures
+    c.loop-reader-test.true c.statement-item.is in
     let exact = c.as_slice-table.ensures ∙ c.requires.sources in
     omega (
       arith,
@@ -68,10 +63,9 @@ add_channels_to-requires-clause-among c =
     let n = c.args.nest.now in
     let p = c.loop-reader.reader in
     let s = c.statement-item.result in
-    let statements = c.as_slice-statement-items.ensures in
-    let found = ap (λ xs. slice_get xs p) (sym statements)
-    ∙ slice_get_read c.as_slice-statement-items.result.now
-    (length c.as_slice-statement-items.result.now) p s refl c.loop-reader-test.true c.statement-item.is in
+    let found =
+    statement_read n c.as_slice-statement-items.result.now p s c.as_slice-statement-items.ensures
+    c.loop-reader-test.true c.statement-item.is in
     let exact = c.as_slice-table.ensures ∙ c.requires.sources in
     let turns = c.requires.turns ∙ turns_are n in
     let part =
@@ -86,10 +80,9 @@ loop-reader-preserved c =
     let n = c.args.nest.now in
     let p = c.loop-reader.reader in
     let s = c.statement-item.result in
-    let statements = c.as_slice-statement-items.ensures in
-    let found = ap (λ xs. slice_get xs p) (sym statements)
-    ∙ slice_get_read c.as_slice-statement-items.result.now
-    (length c.as_slice-statement-items.result.now) p s refl c.loop-reader-test.true c.statement-item.is in
+    let found =
+    statement_read n c.as_slice-statement-items.result.now p s c.as_slice-statement-items.ensures
+    c.loop-reader-test.true c.statement-item.is in
     let exact = c.as_slice-table.ensures ∙ c.requires.sources in
     let turns = c.requires.turns ∙ turns_are n in
     record {

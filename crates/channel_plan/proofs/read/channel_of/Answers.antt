@@ -2,9 +2,10 @@ use Rattle.std.proofs.Common.{◌<◌, ℕ, length, count_by, subst, sym, ap, �
 use Rattle.std.specs.List.{All}
 use Rattle.std.proofs.lemmas.List.Elements.{All-same}
 use Rattle.channel_class.specs.Classes.{class_of}
-use Rattle.reorder_slots.specs.Slots.{NamesAllBelow, gets_before, hold_of, slots_of_gets, slots_of_uses}
+use Rattle.reorder_slots.specs.Slots.{NamesAllBelow}
+use Rattle.channel_plan.specs.Plans.{slot_plan}
 use Rattle.channel_plan.specs.Tokens.{tokens_among, turns_used, uses_of}
-use Rattle.channel_plan.proofs.Channels.{channel_is, slots_are}
+use Rattle.channel_plan.proofs.Channels.{channel_is}
 use Rattle.channel_plan.proofs.Uses.{few_uses, long_marks, marks_all, names_all_below, uses_found}
 use Rattle.channel_plan.proofs.read.channel_of.Goals as goal
 
@@ -26,8 +27,8 @@ uses_of-requires-clause-within c =
     (subst (λ (n : ℕ). All (λ turn. turn < n) used)
     (sym (long_marks c.args.turns c.deref.result.now c.deref-3.result.now marks)) c.requires.within)
 
-pub plan-requires-clause-dense : goal.plan-requires-clause-dense
-plan-requires-clause-dense c =
+pub slots_of-requires-clause-dense : goal.slots_of-requires-clause-dense
+slots_of-requires-clause-dense c =
     let used = turns_used c.args.writer c.args.sources.now in
     let marks =
     c.deref-3.ensures.value ∙ c.in_ok-is_token.ensures ∙ ap (tokens_among c.args.turns) c.deref.ensures.value in
@@ -35,8 +36,8 @@ plan-requires-clause-dense c =
     c.in_ok-used.ensures marks c.in_ok-uses.ensures c.requires.within in
     subst (λ us. NamesAllBelow us) (sym (c.deref-5.ensures.value ∙ uses)) (names_all_below used)
 
-pub plan-requires-clause-small : goal.plan-requires-clause-small
-plan-requires-clause-small c =
+pub slots_of-requires-clause-small : goal.slots_of-requires-clause-small
+slots_of-requires-clause-small c =
     let used = turns_used c.args.writer c.args.sources.now in
     let marks =
     c.deref-3.ensures.value ∙ c.in_ok-is_token.ensures ∙ ap (tokens_among c.args.turns) c.deref.ensures.value in
@@ -44,6 +45,10 @@ plan-requires-clause-small c =
     c.in_ok-used.ensures marks c.in_ok-uses.ensures c.requires.within in
     All-same (λ named. named < 4294967295) c.deref-5.result.now (uses_of used) (c.deref-5.ensures.value ∙ uses)
     (few_uses c.args.turns used c.requires.few c.requires.within)
+
+pub slots_of-requires-clause-class : goal.slots_of-requires-clause-class
+slots_of-requires-clause-class c =
+    c.in_ok-class.ensures ∙ ap class_of (c.deref-4.ensures.value ∙ sym c.deref-5.ensures.value)
 
 pub returns : goal.returns
 returns c =
@@ -55,13 +60,9 @@ returns c =
     let tokens = marks ∙ ap (tokens_among turns) c.in_ok-used.ensures in
     let planned = c.deref-5.ensures.value ∙ uses in
     channel_is c.args.reader c.args.read c.args.sources.now turns c.args.writer
-    c.from_vec.result c.token_count-tokens.result c.in_ok-class.class c.in_ok-slots.slots
-    (c.from_vec.ensures ∙ tokens)
+    c.in_ok-marks.marks c.token_count-tokens.result c.in_ok-class.class c.in_ok-slots.slots
+    (c.in_ok-marks.ensures ∙ c.deref-6.ensures.value ∙ tokens)
     (c.token_count-tokens.ensures ∙ ap (count_by (λ mark. mark)) (c.deref-2.ensures.value ∙ tokens)
     ∙ marks_all turns used)
     (c.in_ok-class.ensures ∙ ap class_of (c.deref-4.ensures.value ∙ uses))
-    (slots_are c.in_ok-slots.slots (uses_of used)
-    (c.in_ok-slots.ensures.gets ∙ ap gets_before planned)
-    (c.in_ok-slots.ensures.slots ∙ ap slots_of_gets planned)
-    (c.in_ok-slots.ensures.uses ∙ ap slots_of_uses planned)
-    (c.in_ok-slots.ensures.hold ∙ ap hold_of planned))
+    (c.in_ok-slots.ensures ∙ ap slot_plan planned)

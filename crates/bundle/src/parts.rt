@@ -6,7 +6,7 @@ ghost use Rattle.bundle.specs.Parts.{after_separator, before_separator, certific
 #[derive(Clone, Copy)]
 pub struct Parts<'a> {
     pub source: &'a [u8],
-    pub data: &'a [u8],
+    pub array_data: &'a [u8],
     pub certificate: Option<&'a [u8]>,
 }
 
@@ -58,7 +58,7 @@ fn split_at_separator(bytes: &[u8]) -> (&[u8], Option<&[u8]>)
 /// it. A separator is a line that is exactly `%%`; LF, CR LF or the end of the bundle ends it.
 pub fn parts_of(bundle: &[u8]) -> Parts<'_>
     ensures source { result.source.now ≡ source_part bundle.now }
-    ensures between { result.data.now ≡ data_part bundle.now }
+    ensures between { result.array_data.now ≡ data_part bundle.now }
     ensures certificate { option_copied result.certificate ≡ certificate_part bundle.now }
     ensures within { length result.source.now ≤ length bundle.now }
 {
@@ -66,14 +66,14 @@ pub fn parts_of(bundle: &[u8]) -> Parts<'_>
     match rest {
         None => Parts {
             source,
-            data: &[],
+            array_data: &[],
             certificate: None,
         },
         Some(rest) => {
-            let (data, certificate) = split_at_separator(rest);
+            let (array_data, certificate) = split_at_separator(rest);
             Parts {
                 source,
-                data,
+                array_data,
                 certificate,
             }
         }

@@ -5,7 +5,7 @@
 -- at a Get its writer, at a Put its reader (`stays_shut`). The events so far are a run from where the code began, and
 -- each event leaves one less. Values and slots don't come in, nor does it matter that the process is the least: any
 -- enabled one would lead to the same positions.
-use Rattle.std.proofs.Common.{◌≡◌, ℕ, ◌+◌, ◌-◌, ◌<◌, ◌≤◌, true, false, cond, Option, Some, None, List}
+use Rattle.std.proofs.Common.{◌≡◌, ℕ, ◌+◌, ◌-◌, ◌<◌, ◌≤◌, true, false, cond, Option, Some, None}
 use Rattle.std.proofs.Common.{[], ◌∷◌, ◌++◌, length, slice_get, refl, sym, ap, ◌∙◌, subst, inl, inr, arith, ltb-false}
 use Rattle.std.proofs.Common.{eqb-true}
 use Rattle.std.specs.List.{find, range_with_len}
@@ -18,7 +18,7 @@ use Rattle.net_core.specs.Machine.{Net}
 use Rattle.net_core.specs.Shape.{IsWired, is_get, is_put}
 use Rattle.net_core.proofs.CutOrder.{advanced_there, gets_mono, puts_mono}
 use Rattle.net_core.proofs.Positions.{gets_advanced, puts_advanced}
-use Rattle.witness_plan.proofs.AlongCuts.{cut_after-append}
+use Rattle.witness_plan.proofs.AlongCuts.{IsCutRun-append, cut_after-append}
 use Rattle.cap_trim.specs.LeastRuns.{LeadsTo, least_after}
 use Rattle.cap_trim.proofs.FirstPass.{find_is, find_least, find_none}
 use Rattle.cap_trim.proofs.MoreRoom.{run_roomier}
@@ -28,16 +28,11 @@ use Rattle.cap_trim.proofs.MoreRoom.{run_roomier}
 pub leads_nowhere : (n : Net) (k : Cut) → LeadsTo n k k
 leads_nowhere n k = ([], tt, refl)
 
-cut_run_append : (n : Net) (run more : List ℕ) (k : Cut) → IsCutRun n k run → IsCutRun n (cut_after k run) more
-    → IsCutRun n k (run ++ more)
-cut_run_append n [] more k is later = later
-cut_run_append n (p ∷ run) more k is later = (is.0, cut_run_append n run more (advanced k p) is.1 later)
-
 -- one run after another
 pub leads_on : (n : Net) (k m j : Cut) → LeadsTo n k m → LeadsTo n m j → LeadsTo n k j
 leads_on n k m j first later = (
   first.0 ++ later.0,
-  cut_run_append n first.0 later.0 k first.1
+  IsCutRun-append n first.0 later.0 k first.1
       (subst (λ (c : Cut). IsCutRun n c later.0) first.2 later.1),
   later.2 ∙ ap (λ (c : Cut). cut_after c later.0) first.2 ∙ sym (cut_after-append k first.0 later.0),
 )

@@ -30,7 +30,6 @@ use Rattle.process_derive.proofs.Slots.{gets_inside}
 use Rattle.process_derive.proofs.Sums.{sum_at}
 use Rattle.process_derive.proofs.ScriptNames.{event_is, slots_there}
 use Rattle.reorder_slots.specs.Slots.{gets_for, hold_of, slots_of_gets, slots_of_uses}
-use Rattle.reorder_slots.proofs.Gets.{length-held, more_gets}
 use Rattle.reorder_slots.proofs.Laws.{keeps_until_used}
 use Rattle.reorder_slots.proofs.Uses.{named_before}
 use Rattle.sanlp.specs.declared.nest.Nest.{Nest}
@@ -132,9 +131,6 @@ module _ (n : Nest) (p k w c : ℕ) (found : slice_get (plans_of n) c ≡ Some (
   inside : slice_index (slots_of_gets uses) token < hold_of uses
   inside = gets_inside uses (suc use_number) token is_got
 
-  all_gets_made : (q : ℕ) → q ≤ length uses → gets_for (take q uses) ≤ length (slots_of_gets uses)
-  all_gets_made q le = omega (arith, more_gets uses q (length uses) le, length-held uses (length uses))
-
   into_slot : place n p k w c found token < (net_of (net n)).slots p
   into_slot =
       let plan : ChannelPlan = plan_of n p k w in
@@ -158,9 +154,7 @@ module _ (n : Nest) (p k w c : ℕ) (found : slice_get (plans_of n) c ≡ Some (
         ap (λ j. gets_for (take j uses)) next,
       ) in
       let same : get_or gets m 0 ≡ get_or gets token 0 = omega (arith, into, (slot_is n p k w c found i slot at).1) in
-      let enough = all_gets_made (use_number + 1) (omega (arith, few)) in
-      keeps_until_used uses use_number token m (slice_get-get_or uses use_number 0 few) later earlier
-      (slice_get-get_or gets m 0 (omega arith) ∙ ap Some same ∙ sym (slice_get-get_or gets token 0 (omega arith)))
+      keeps_until_used uses use_number token m (slice_get-get_or uses use_number 0 few) later earlier same
 
   of_others : (i d slot : ℕ) → slice_get ((net_of (net n)).script p) i ≡ Some (Get d slot) → (d ≡ c → ⊥)
       → slot ≡ place n p k w c found token → ⊥

@@ -20,8 +20,8 @@ use Rattle.std.proofs.lemmas.Map.Keys.{any_passes_from_place}
 use Rattle.sanlp.specs.Access.{read_count}
 use Rattle.sanlp.specs.declared.nest.Nest.{Nest}
 use Rattle.sanlp.specs.declared.nest.Tag.{Tag}
-use Rattle.sanlp.proofs.Each.{Each, each_filter, each_flat_map, each_map, each_of}
-use Rattle.sanlp.proofs.Members.{In, Pairwise, at_in, each_in, in_at, in_filter, in_flat_map, in_map, in_range_with_len}
+use Rattle.sanlp.proofs.Each.{Each, each_filter, each_map, each_of}
+use Rattle.sanlp.proofs.Members.{Pairwise, at_in, each_in, in_at}
 use Rattle.sanlp.proofs.Members.{pairwise_flat_map, range_with_len_ascends}
 use Rattle.sanlp.proofs.Lists.{flat_map-range_with_len_more}
 use Rattle.channel_plan.specs.declared.plans.ChannelPlan.{ChannelPlan}
@@ -32,6 +32,7 @@ use Rattle.net_core.specs.Machine.{net_of}
 use Rattle.net_core.specs.Names.{tokens}
 use Rattle.process_derive.specs.Derived.{net}
 use Rattle.process_derive.specs.Scripts.{channel_from, goes_between}
+use Rattle.process_derive.proofs.EachPlan.{each_plan, plan_there}
 use Rattle.process_derive.proofs.Tags.{IsTurn, length-sources, sources_are}
 use Rattle.process_derive.proofs.ScriptNames.{IsChannelOf, all_channels}
 use Rattle.derived_names.proofs.Tokens.{token_of_turn}
@@ -150,29 +151,14 @@ pub record IsPlanOf (n : Nest) (plan : ChannelPlan) : Type 0 where
   pub plan_is : plan ≡ plan_of n plan.reader plan.read plan.writer
   pub is_read : list_any (is_from plan.writer) (sources_at n plan.reader plan.read) ≡ true
 
-each_passes : {X : Type 0} (test : X → Bool) (xs : List X) → Each (λ x. test x ≡ true) (filter test xs)
-each_passes test [] = tt
-each_passes test (x ∷ xs) =
-    elim (cases_Bool
-    (test x)) [ inl kept ↦ rw kept ((kept, each_passes test xs)) | inr left ↦ rw left (each_passes test xs) ]
-
 each_then_map : {X Y : Type 0} (P : X → Type 0) (Q : Y → Type 0) (f : X → Y) (xs : List X) → ((x : X) → P x → Q (f x))
     → Each P xs → Each Q (map f xs)
 each_then_map P Q f [] then h = tt
 each_then_map P Q f (x ∷ xs) then h = (then x h.0, each_then_map P Q f xs then h.1)
 
 pub plans_are : (n : Nest) → Each (IsPlanOf n) (plans_of n)
-unfolding plans_of
 plans_are n =
-    each_flat_map (IsPlanOf n) (λ p. flat_map (plans_at n p) (range_with_len 0 (read_count n p)))
-    (range_with_len 0 (length n.statements))
-    (each_of _ (range_with_len 0 (length n.statements))
-    (λ p. each_flat_map (IsPlanOf n) (plans_at n p) (range_with_len 0 (read_count n p))
-    (each_of _ (range_with_len 0 (read_count n p))
-    (λ k. each_then_map (λ w. list_any (is_from w) (sources_at n p k) ≡ true) (IsPlanOf n) (plan_of n p k)
-    (writers_of (length n.statements) (sources_at n p k))
-    (λ w h. record { plan_is = refl; is_read = h })
-    (each_passes (λ w. list_any (is_from w) (sources_at n p k)) (range_with_len 0 (length n.statements)))))))
+    each_plan n (IsPlanOf n) (λ p k w process read writer from. record { plan_is = refl; is_read = from })
 
 -- no two channels go from one process to one read
 abbrev Differ : ChannelPlan → ChannelPlan → Type 0
@@ -317,21 +303,7 @@ found_is plans w p k found e =
     let number : found.0 ≡ at.0 = omega (arith, at.1) in
     record { there = ap (slice_get plans) number ∙ at.2; ends = at.3 }
 
-plan_there : (n : Nest) (p k w : ℕ) → p < length n.statements → k < read_count n p → w < length n.statements
-    → list_any (is_from w) (sources_at n p k) ≡ true
-    → In (plan_of n p k w) (plans_of n)
-unfolding plans_of
-plan_there n p k w process read writer from =
-    in_flat_map (λ p. flat_map (plans_at n p) (range_with_len 0 (read_count n p))) p (plan_of n p k w)
-    (range_with_len 0 (length n.statements))
-    (in_range_with_len 0 (length n.statements) p (omega arith) (omega arith))
-    (in_flat_map (plans_at n p) k (plan_of n p k w) (range_with_len 0 (read_count n p))
-    (in_range_with_len 0 (read_count n p) k (omega arith) (omega arith))
-    (in_map (plan_of n p k) (writers_of (length n.statements) (sources_at n p k)) w
-    (in_filter (λ w. list_any (is_from w) (sources_at n p k)) (range_with_len 0 (length n.statements)) w
-    (in_range_with_len 0 (length n.statements) w (omega arith) (omega arith)) from)))
-
-any_found : {X : Type 0} (test : X → Bool) (xs : List X) → list_any test xs ≡ true
+pub any_found : {X : Type 0} (test : X → Bool) (xs : List X) → list_any test xs ≡ true
     → (f : ℕ) × (x : X) × (slice_get xs f ≡ Some x) × (test x ≡ true)
 any_found test [] e = absurd (cc)
 any_found test (x ∷ xs) e =

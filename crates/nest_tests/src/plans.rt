@@ -68,12 +68,22 @@ static CHANNELS: [(&[u8], &[Carried]); 4] = [
     ),
 ];
 
+// Whether the turns of the writer that are tokens are these.
+fn has_tokens(plan: &ChannelPlan, is_token: &[bool]) -> bool {
+    for (turn, token) in is_token.iter().enumerate() {
+        if plan.is_token.has(turn) != *token {
+            return false;
+        }
+    }
+    !plan.is_token.has(is_token.len())
+}
+
 fn is_channel(plan: &ChannelPlan, wanted: Carried) -> bool {
     let (reader, read, writer, is_token, class) = wanted;
     plan.reader == reader
         && plan.read == read
         && plan.writer == writer
-        && plan.is_token.as_slice() == is_token
+        && has_tokens(plan, is_token)
         && plan.tokens as usize == is_token.iter().filter(|token| **token).count()
         && plan.class == class
 }

@@ -22,7 +22,7 @@ use Rattle.net_core.specs.declared.network.Event.TheVariants.{Get, Fire, Put}
 use Rattle.net_core.specs.declared.network.Network.{Network}
 use Rattle.net_core.specs.declared.refs.Ref.TheVariants.{Slot}
 use Rattle.net_core.specs.Machine.{net_of}
-use Rattle.net_text.specs.NetworkText.{channel_line, class_word, hold, net_text, span}
+use Rattle.net_text.specs.NetworkText.{channel_numbers, channel_text, class_word, hold, net_text, span}
 use Rattle.net_text.specs.Ranges.{joined, range_of}
 
 -- in x[3]; out y[3]; for (i = 0; i < 3; i++) y[i] = x[i];
@@ -160,7 +160,7 @@ corner = record {
   channels = channel 0 1 4 Reorder ∷ channel 1 2 4 InOrder ∷ [];
 }
 
-turned_line : channel_line corner 0 (channel 0 1 4 Reorder)
+turned_line : channel_text 0 (channel_numbers corner 0 (channel 0 1 4 Reorder))
     ≡ codes "channel 0 from 0 to 1 read 0 tokens 4 capacity 4 hold 2 class reorder\n"
 unfolding digits
 turned_line = refl

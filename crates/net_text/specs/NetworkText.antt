@@ -16,6 +16,8 @@ use Rattle.net_core.specs.declared.network.Network.{Network}
 use Rattle.net_core.specs.declared.network.Process.{Process}
 use Rattle.net_core.specs.Machine.{Net, net_of}
 use Rattle.net_core.specs.Shape.{is_fire, put_count, events_below}
+use Rattle.net_text.specs.declared.numbers.ChannelNumbers.{ChannelNumbers}
+use Rattle.net_text.specs.declared.numbers.ProcessNumbers.{ProcessNumbers}
 use Rattle.text_out.specs.Words.{line_text}
 
 -- Processes
@@ -47,17 +49,23 @@ kind_word nest p =
 abbrev pub name_word : Nest → ℕ → List ℕ
 name_word nest p = option_map_or (array_name nest) (slice_get nest.statements p) []
 
--- process p with its numbers of fires and of slots
-abbrev pub process_line : Nest → ℕ → Process → List ℕ
-process_line nest p process = line_text (
+-- how often a process fires, and its slots
+abbrev pub process_numbers : Process → ProcessNumbers
+process_numbers process =
+    record { fires = count_by is_fire process.script; slots = process.slots }
+
+-- process p with these numbers of fires and of slots
+abbrev pub process_text : Nest → ℕ → ProcessNumbers → List ℕ
+process_text nest p numbers = line_text (
     codes "process" ∷ decimal p ∷ kind_word nest p ∷ name_word nest p
-    ∷ codes "fires" ∷ decimal (count_by is_fire process.script)
-    ∷ codes "slots" ∷ decimal process.slots ∷ [])
+    ∷ codes "fires" ∷ decimal numbers.fires
+    ∷ codes "slots" ∷ decimal numbers.slots ∷ [])
 
 -- a line for each of these processes, the first having number 0
 abbrev pub process_lines : Nest → List Process → List ℕ
 process_lines nest processes =
-    flat_map (λ numbered. process_line nest numbered.0 numbered.1) (enumerate_from 0 processes)
+    flat_map (λ numbered. process_text nest numbered.0 (process_numbers numbered.1))
+    (enumerate_from 0 processes)
 
 -- Channels
 
@@ -86,21 +94,34 @@ order_word Reorder = codes "reorder"
 abbrev pub class_word : ChannelClass → List ℕ
 class_word class = order_word class.order ++ (if class.multiplicity then codes "+" else [])
 
--- channel c with its ends, the read that it serves, its tokens, its capacity, its hold and its class
-abbrev pub channel_line : Network → ℕ → Channel → List ℕ
-channel_line network c channel = line_text (
-    codes "channel" ∷ decimal c ∷ codes "from" ∷ decimal channel.writer ∷ codes "to"
-    ∷ decimal channel.reader
-    ∷ codes "read" ∷ decimal channel.read
-    ∷ codes "tokens" ∷ decimal (put_count (net_of network) c)
-    ∷ codes "capacity" ∷ decimal channel.capacity
-    ∷ codes "hold" ∷ decimal (hold (net_of network) c)
-    ∷ codes "class" ∷ class_word channel.class ∷ [])
+-- channel c's ends, the read that it serves, its tokens, its capacity, its hold and its class
+abbrev pub channel_numbers : Network → ℕ → Channel → ChannelNumbers
+channel_numbers network c channel =
+    record {
+      writer = channel.writer;
+      reader = channel.reader;
+      read = channel.read;
+      tokens = put_count (net_of network) c;
+      capacity = channel.capacity;
+      hold = hold (net_of network) c;
+      class = channel.class;
+    }
+
+-- channel c with these numbers
+abbrev pub channel_text : ℕ → ChannelNumbers → List ℕ
+channel_text c numbers = line_text (
+    codes "channel" ∷ decimal c ∷ codes "from" ∷ decimal numbers.writer ∷ codes "to"
+    ∷ decimal numbers.reader
+    ∷ codes "read" ∷ decimal numbers.read
+    ∷ codes "tokens" ∷ decimal numbers.tokens
+    ∷ codes "capacity" ∷ decimal numbers.capacity
+    ∷ codes "hold" ∷ decimal numbers.hold
+    ∷ codes "class" ∷ class_word numbers.class ∷ [])
 
 -- a line for each channel
 abbrev pub channel_lines : Network → List ℕ
 channel_lines network =
-    flat_map (λ numbered. channel_line network numbered.0 numbered.1)
+    flat_map (λ numbered. channel_text numbered.0 (channel_numbers network numbered.0 numbered.1))
     (enumerate_from 0 network.channels)
 
 -- The text
@@ -109,16 +130,17 @@ channel_lines network =
 abbrev pub event_count : Network → ℕ
 event_count network = events_below (net_of network) (length network.processes)
 
--- the line of the version, and those behind the channels
+-- the line of the version
 abbrev pub version_line : List ℕ
 version_line = line_text (codes "net" ∷ codes "1" ∷ [])
 
-abbrev pub end_lines : Network → List ℕ
-end_lines network =
-    line_text (codes "events" ∷ decimal (event_count network) ∷ []) ++ line_text (codes "end" ∷ [])
+-- the lines behind those of the channels, with this number of events
+abbrev pub end_text : ℕ → List ℕ
+end_text events =
+    line_text (codes "events" ∷ decimal events ∷ []) ++ line_text (codes "end" ∷ [])
 
 -- the version of the text, the processes, the channels and the number of events
 abbrev pub net_text : Nest → Network → List ℕ
 net_text nest network =
     version_line
-    ++ (process_lines nest network.processes ++ (channel_lines network ++ end_lines network))
+    ++ (process_lines nest network.processes ++ (channel_lines network ++ end_text (event_count network)))

@@ -5,6 +5,11 @@
 
 mod counts;
 mod network_text;
+mod numbers;
 
 pub use counts::event_count;
-pub use network_text::{class_word, kind_word, name_word, write_net, write_network, write_version};
+pub use network_text::{
+    class_word, kind_word, name_word, write_channel_numbers, write_end, write_net, write_network,
+    write_process_numbers, write_version,
+};
+pub use numbers::{ChannelNumbers, ProcessNumbers};

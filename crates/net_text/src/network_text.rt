@@ -1,12 +1,13 @@
-ghost use Rattle.std.specs.Prelude.{◌≡◌, ◌++◌, slice_get, OnOk, OnErr};
+ghost use Rattle.std.specs.Prelude.{◌≡◌, slice_get, OnOk, OnErr};
 ghost use Rattle.std.specs.Io.KnownBytes.{Appends};
 ghost use Rattle.io_edge.specs.Causes.{Rose, AppendsFront};
 ghost use Rattle.net_core.specs.Machine.{net_of};
 ghost use Rattle.net_core.specs.Shape.{FitsNumbers};
 ghost use Rattle.text_out.specs.Wrote.{Wrote};
-ghost use Rattle.net_text.specs.NetworkText.{role_word as word_of_role, array_by_role, array_name as name_of_array, kind_word as word_of_kind, name_word as word_of_name, class_word as word_of_class, process_line, process_lines, channel_line, channel_lines, version_line, end_lines, net_text};
+ghost use Rattle.net_text.specs.NetworkText.{role_word as word_of_role, array_by_role, array_name as name_of_array, kind_word as word_of_kind, name_word as word_of_name, class_word as word_of_class, process_numbers, process_text, process_lines, channel_numbers, channel_text, channel_lines, version_line, end_text, net_text};
 
 use crate::counts::{event_count, hold, put_count};
+use crate::numbers::{ChannelNumbers, ProcessNumbers};
 use channel_class::{ChannelClass, UseOrder};
 use io_edge::{Sink, WriteFault};
 use net_core::{Channel, Network, Process, fire_count};
@@ -69,8 +70,14 @@ pub fn name_word(nest: &Nest, process: usize) -> &[u8]
     }
 }
 
-fn write_process<W: TextWriter>(nest: &Nest, number: usize, process: &Process, out: &mut W)
-    ensures { Wrote W.given out.old out.new (process_line nest.now number process.now) }
+/// Writes the line of a process with these numbers.
+pub fn write_process_numbers<W: TextWriter>(
+    nest: &Nest,
+    number: usize,
+    numbers: ProcessNumbers,
+    out: &mut W,
+)
+    ensures { Wrote W.given out.old out.new (process_text nest.now number numbers) }
 {
     let words = [
         Word::Text(b"process"),
@@ -78,11 +85,22 @@ fn write_process<W: TextWriter>(nest: &Nest, number: usize, process: &Process, o
         Word::Text(kind_word(nest, number)),
         Word::Text(name_word(nest, number)),
         Word::Text(b"fires"),
-        Word::Number(u64::from(fire_count(&process.script))),
+        Word::Number(numbers.fires),
         Word::Text(b"slots"),
-        Word::Number(u64::from(process.slots)),
+        Word::Number(numbers.slots),
     ];
     write_line(&words, out);
+}
+
+fn write_process<W: TextWriter>(nest: &Nest, number: usize, process: &Process, out: &mut W)
+    ensures { Wrote W.given out.old out.new
+        (process_text nest.now number (process_numbers process.now)) }
+{
+    let numbers = ProcessNumbers {
+        fires: u64::from(fire_count(&process.script)),
+        slots: u64::from(process.slots),
+    };
+    write_process_numbers(nest, number, numbers, out);
 }
 
 #[tactic(auto, using(text_out::proofs::ItemNumbers::numbered))]
@@ -106,29 +124,46 @@ pub fn class_word(class: ChannelClass) -> &'static [u8]
     }
 }
 
-fn write_channel<W: TextWriter>(network: &Network, number: usize, channel: &Channel, out: &mut W)
-    requires { slice_get network.now.channels number ≡ Some channel.now }
-    ensures { Wrote W.given out.old out.new (channel_line network.now number channel.now) }
+/// Writes the line of a channel with these numbers.
+pub fn write_channel_numbers<W: TextWriter>(number: usize, numbers: ChannelNumbers, out: &mut W)
+    ensures { Wrote W.given out.old out.new (channel_text number numbers) }
 {
     let words = [
         Word::Text(b"channel"),
         Word::Number(number as u64),
         Word::Text(b"from"),
-        Word::Number(u64::from(channel.writer)),
+        Word::Number(u64::from(numbers.writer)),
         Word::Text(b"to"),
-        Word::Number(u64::from(channel.reader)),
+        Word::Number(u64::from(numbers.reader)),
         Word::Text(b"read"),
-        Word::Number(u64::from(channel.read)),
+        Word::Number(u64::from(numbers.read)),
         Word::Text(b"tokens"),
-        Word::Number(put_count(network, channel.writer, number) as u64),
+        Word::Number(numbers.tokens),
         Word::Text(b"capacity"),
-        Word::Number(u64::from(channel.capacity)),
+        Word::Number(u64::from(numbers.capacity)),
         Word::Text(b"hold"),
-        Word::Number(hold(network, channel.reader, number)),
+        Word::Number(numbers.hold),
         Word::Text(b"class"),
-        Word::Text(class_word(channel.class)),
+        Word::Text(class_word(numbers.class)),
     ];
     write_line(&words, out);
+}
+
+fn write_channel<W: TextWriter>(network: &Network, number: usize, channel: &Channel, out: &mut W)
+    requires { slice_get network.now.channels number ≡ Some channel.now }
+    ensures { Wrote W.given out.old out.new
+        (channel_text number (channel_numbers network.now number channel.now)) }
+{
+    let numbers = ChannelNumbers {
+        writer: channel.writer,
+        reader: channel.reader,
+        read: channel.read,
+        tokens: put_count(network, channel.writer, number) as u64,
+        capacity: channel.capacity,
+        hold: hold(network, channel.reader, number),
+        class: channel.class,
+    };
+    write_channel_numbers(number, numbers, out);
 }
 
 #[tactic(auto, using(text_out::proofs::ItemNumbers::numbered))]
@@ -147,14 +182,11 @@ pub fn write_version<W: TextWriter>(out: &mut W)
     write_line(&[Word::Text(b"net"), Word::Text(b"1")], out);
 }
 
-/// Writes the lines behind those of the processes.
-fn write_rest<W: TextWriter>(network: &Network, out: &mut W)
-    requires { FitsNumbers (net_of network.now) }
-    ensures { Wrote W.given out.old out.new (channel_lines network.now ++ end_lines network.now) }
+/// Writes the lines behind those of the channels, with this number of events.
+pub fn write_end<W: TextWriter>(events: u64, out: &mut W)
+    ensures { Wrote W.given out.old out.new (end_text events) }
 {
-    write_channels(network, out);
-    let events = [Word::Text(b"events"), Word::Number(event_count(network))];
-    write_line(&events, out);
+    write_line(&[Word::Text(b"events"), Word::Number(events)], out);
     write_line(&[Word::Text(b"end")], out);
 }
 
@@ -164,7 +196,8 @@ fn write_parts<W: TextWriter>(nest: &Nest, network: &Network, out: &mut W)
 {
     write_version(out);
     write_processes(nest, network.processes.as_slice(), out);
-    write_rest(network, out);
+    write_channels(network, out);
+    write_end(event_count(network), out);
 }
 
 /// Writes the network text. It takes no memory: what is counted of a script is counted as it is folded.

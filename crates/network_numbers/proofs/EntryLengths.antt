@@ -3,7 +3,7 @@
 -- An entry adds the events of one point: Gets, a Fire and Puts, which stand next in the script of its process, since by
 -- then that process has made the events of its earlier points (witness_plan's InTraceOrder). So by PointLengths the
 -- greatest length of a queue after the entry is that before it or the queue's length at the end of the entry.
-use Rattle.std.proofs.Common.{◌≡◌, ℕ, suc, ◌+◌, ◌-◌, ◌<◌, max, false, Option, Some, List, [], ◌∷◌, ◌++◌, length, map, replicate}
+use Rattle.std.proofs.Common.{◌≡◌, ℕ, suc, ◌+◌, ◌-◌, max, false, Option, Some, List, [], ◌∷◌, ◌++◌, length, map, replicate}
 use Rattle.std.proofs.Common.{slice_get, refl, sym, ◌∙◌, subst, inl, inr, arith}
 use Rattle.std.specs.Prelude.{slice_index_or, ◌==◌, ◌&&◌}
 use Rattle.std.specs.List.{flat_map, range_with_len}
@@ -16,22 +16,20 @@ use Rattle.net_core.specs.declared.network.Event.TheVariants.{Get, Fire, Put}
 use Rattle.net_core.specs.Cuts.{cut_after, opening}
 use Rattle.net_core.specs.Machine.{net_of}
 use Rattle.net_core.specs.Shape.{is_get, is_put}
-use Rattle.net_core.proofs.Entries.{turn_of_entry}
 use Rattle.process_derive.specs.Derived.{net}
 use Rattle.process_derive.specs.Scripts.{Usage, gets_of, point_events, puts_from, ref_of, usage}
 use Rattle.process_derive.proofs.Numbers.{script_at}
 use Rattle.process_derive.proofs.ScriptNames.{IsGet, all_gets, is_wired}
 use Rattle.sanlp.specs.Access.{read_count}
-use Rattle.sanlp.specs.Laws.{entries_of}
 use Rattle.sanlp.specs.Trace.{trace}
 use Rattle.sanlp.specs.declared.nest.Nest.{Nest}
 use Rattle.sanlp.specs.declared.nest.Point.{Point}
 use Rattle.sanlp.proofs.Each.{Each, each_flat_map, each_of}
-use Rattle.sanlp.proofs.Enumerates.{enumerates_domains}
+use Rattle.sanlp.proofs.ReadCounts.{trace-statement}
 use Rattle.witness_plan.specs.Sequential.{greatest_length, queue_length}
 use Rattle.witness_plan.proofs.InTraceOrder.{stands, turns_before, until_more}
 use Rattle.witness_plan.proofs.PointEvents.{events_before, script_splits}
-use Rattle.witness_plan.proofs.TraceSteps.{sequenced}
+use Rattle.witness_plan.proofs.TraceSteps.{sequenced, turn_exists}
 use Rattle.network_numbers.proofs.PointLengths.{AreNext, are_next, greatest_point}
 
 -- Gets are no Puts, and behind the Gets there are no Gets
@@ -58,23 +56,6 @@ none_got c b (plan ∷ plans) p f =
     ]
 
 module _ (n : Nest) (t : ℕ) (q : Point) (here : slice_get (trace n) t ≡ Some q) where
-  -- the turn of the entry
-  abbrev pub turn : ℕ
-  turn = turns_before (trace n) t q.statement
-
-  pub exists : q.statement < length n.statements
-  exists =
-      let is = (enumerates_domains n).entry t q here in
-      slice_get_within n.statements q.statement is.statement is.found
-
-  pub turn_exists : turns_before (trace n) t q.statement < turn_count n q.statement
-  turn_exists =
-      slice_get_within (entries_of (trace n) q.statement) (turns_before (trace n) t q.statement) _
-      (turn_of_entry 0 (trace n) t q here)
-
-  pub in_trace : t < length (trace n)
-  in_trace = slice_get_within (trace n) t q here
-
   -- the events of the entry's point stand next in its process's script
   stand_next : AreNext ((net_of (net n)).script q.statement) (cut_after opening (sequenced n t) q.statement)
       (point_events n q.statement (turns_before (trace n) t q.statement))
@@ -82,11 +63,11 @@ module _ (n : Nest) (t : ℕ) (q : Point) (here : slice_get (trace n) t ≡ Some
       let p = q.statement in
       let f = turns_before (trace n) t q.statement in
       let place : cut_after opening (sequenced n t) p ≡ length (events_before n p f) =
-      stands (point_events n) (trace n) t p (omega (arith, in_trace)) in
+      stands (point_events n) (trace n) t p (omega (arith, slice_get_within (trace n) t q here)) in
       let later = flat_map (point_events n p) (range_with_len (f + 1) (turn_count n p - f - 1)) in
       subst (λ k. AreNext ((net_of (net n)).script p) k (point_events n p f)) (sym place)
       (are_next ((net_of (net n)).script p) (events_before n p f) (point_events n p f) later
-      (script_at n p exists ∙ script_splits n p f turn_exists))
+      (script_at n p (trace-statement n t q here) ∙ script_splits n p f (turn_exists n t q here)))
 
   pub greatest_entry : (c : ℕ) → greatest_length (net_of (net n)) (sequenced n (suc t)) c
       ≡ max (greatest_length (net_of (net n)) (sequenced n t) c)

@@ -6,21 +6,19 @@
 -- channel's writer (`uses_more`), one that it writes has one Put more where the turn is a token (`puts_more`). With no
 -- Put more the queue is no longer than it was, and else it is as long as Puts less Gets say (`greatest_more`). Counts
 -- never reach 2^32, since no process has so many turns.
-use Rattle.std.proofs.Common.{◌≡◌, ℕ, zero, suc, ◌+◌, ◌-◌, ◌<◌, ◌≤◌, max, min, Bool, true, false, cond, Option, Some, None}
+use Rattle.std.proofs.Common.{◌≡◌, ℕ, suc, ◌+◌, ◌-◌, ◌<◌, ◌≤◌, max, min, Bool, true, false, cond, Option, Some, None}
 use Rattle.std.proofs.Common.{List, [], length, map, take, slice_get, get_or, refl, sym, ap, ap₂, ◌∙◌}
-use Rattle.std.proofs.Common.{subst, inl, inr, arith, add-one}
+use Rattle.std.proofs.Common.{subst, inl, inr, arith}
 use Rattle.std.specs.Prelude.{slice_index, slice_index_or, ◌==◌, ◌&&◌}
 use Rattle.std.specs.List.{cons_option, fold, range_with_len}
 use Rattle.std.specs.Option.{option_map, option_map_or}
 use Rattle.std.proofs.lemmas.Bool.{cases_Bool, cases_eq, eq-eqb, ne_eqb}
 use Rattle.std.proofs.lemmas.List.{length-map}
-use Rattle.std.proofs.lemmas.List.FromFn.{length-range_with_len}
-use Rattle.std.proofs.lemmas.List.Sums.{count_by-le-length}
-use Rattle.std.proofs.lemmas.Option.{get_or_from_slice_get, slice_get-map}
+use Rattle.std.proofs.lemmas.Option.{get_or_from_slice_get, slice_get-map, slice_get_within}
 use Rattle.channel_plan.specs.declared.plans.ChannelPlan.{ChannelPlan}
 use Rattle.channel_plan.specs.Plans.{plans_of, slot_plan, sources_at, turn_count}
 use Rattle.channel_plan.specs.Tokens.{is_from, is_used, tokens_below, turn_of, turns_used, uses_of}
-use Rattle.channel_plan.proofs.Uses.{tokens_more}
+use Rattle.channel_plan.proofs.Uses.{below_turn, tokens_more}
 use Rattle.net_core.specs.Machine.{net_of}
 use Rattle.net_core.proofs.EventCounts.{count_next}
 use Rattle.network_numbers.specs.declared.links.End.TheVariants.{Writer}
@@ -34,7 +32,7 @@ use Rattle.process_derive.specs.Scripts.{gets_for_uses}
 use Rattle.process_derive.specs.Uses.{slots_at}
 use Rattle.process_derive.proofs.Bounds.{few_entries}
 use Rattle.process_derive.proofs.Counts.{before_few, before_more}
-use Rattle.process_derive.proofs.Numbers.{before_within, gets_here}
+use Rattle.process_derive.proofs.Numbers.{before_within}
 use Rattle.process_derive.proofs.Tags.{length-sources, few_turns as turns_few}
 use Rattle.plain_data.proofs.Lists.{slice_get-some}
 use Rattle.reorder_slots.specs.declared.slots.SlotPlan.{SlotPlan}
@@ -52,11 +50,13 @@ use Rattle.source_tree.proofs.TableNumbers.{read_at}
 use Rattle.witness_plan.specs.Sequential.{greatest_length}
 use Rattle.witness_plan.proofs.InTraceOrder.{turns_before}
 use Rattle.witness_plan.proofs.GreatestLengths.{now_within}
-use Rattle.witness_plan.proofs.TraceSteps.{sequenced}
+use Rattle.witness_plan.proofs.SequentialRun.{few_turns}
+use Rattle.witness_plan.proofs.GetCounts.{gets_so_far}
+use Rattle.witness_plan.proofs.TraceSteps.{sequenced, turn_exists}
 use Rattle.channel_plan.proofs.PlanEnds.{plans_of-plan_of}
-use Rattle.network_numbers.proofs.EntryLengths.{greatest_entry, in_trace, turn_exists}
+use Rattle.network_numbers.proofs.EntryLengths.{greatest_entry}
 use Rattle.network_numbers.proofs.PassedQueues.{passed}
-use Rattle.network_numbers.proofs.QueueCounts.{ends, few_turns, mark_is, queue_counted}
+use Rattle.network_numbers.proofs.QueueCounts.{ends, mark_is, queue_counted}
 
 -- what is counted of a channel after the first t entries
 abbrev pub queue_with : Nest → ℕ → ℕ → ChannelPlan → QueueCounts
@@ -84,19 +84,11 @@ table_row n p k h =
     get_or_from_slice_get (sources_of n) (read_number n p k) (read_sources n (trace n) p k) []
     (read_at n (trace n) 0 n.statements p k h ∙ ap (λ q. Some (read_sources n (trace n) q k)) front)
 
--- Small counts
-
-below_turn : (used : List ℕ) (turn : ℕ) → tokens_below used turn ≤ turn
-below_turn used turn =
-    omega (arith, count_by-le-length (is_used used) (range_with_len 0 turn), length-range_with_len 0 turn)
+-- Counts
 
 named : (w : ℕ) (source : Option Tag) → length (cons_option (turn_of w source) []) ≡ cond (is_from w source) 1 0
 named w None = refl
 named w (Some t) = elim (cases_Bool (t.process == w)) [ inl own ↦ rw own refl | inr other ↦ rw other refl ]
-
-gets_so_far : (uses : List ℕ) (q : ℕ) → q ≤ length uses → gets_for_uses (slot_plan uses) q ≡ gets_for (take q uses)
-gets_so_far uses zero le = refl
-gets_so_far uses (suc q) le = gets_here uses q (omega arith) ∙ ap (λ i. gets_for (take i uses)) (add-one q)
 
 abbrev counts : ℕ → ℕ → ℕ → QueueCounts
 counts puts uses greatest = record { puts = puts; uses = uses; greatest = greatest }
@@ -251,7 +243,7 @@ module _ (n : Nest) (sized : SizeIsOk n) (t : ℕ) (q : Point) (here : slice_get
       - gets_for_uses plan.slots (length (turns_used plan.writer
       (take (turns_before (trace n) (suc t) plan.reader) sources))))
   greatest_more =
-      let queue = queue_counted n c plan found (suc t) (omega (arith, in_trace n t q here)) in
+      let queue = queue_counted n c plan found (suc t) (omega (arith, slice_get_within (trace n) t q here)) in
       omega (
         arith,
         greatest_entry n t q here c,
@@ -265,7 +257,7 @@ module _ (n : Nest) (sized : SizeIsOk n) (t : ℕ) (q : Point) (here : slice_get
       (take (turns_before (trace n) (suc t) plan.reader) sources)))
       ≤ greatest_length (net_of (net n)) (sequenced n t) c
   queue_before =
-      let queue = queue_counted n c plan found t (omega (arith, in_trace n t q here)) in
+      let queue = queue_counted n c plan found t (omega (arith, slice_get_within (trace n) t q here)) in
       omega (
         arith,
         now_within (net_of (net n)) (sequenced n t) c,
@@ -315,12 +307,6 @@ module _ (n : Nest) (sized : SizeIsOk n) (t : ℕ) (q : Point) (here : slice_get
 module _ (n : Nest) (sized : SizeIsOk n) (t : ℕ) (q : Point) (here : slice_get (trace n) t ≡ Some q)
     (lists : List ℕ) (table : List (List (Option Tag))) (listed : lists ≡ read_lists n (plans_of n))
     (exact : table ≡ sources_of n) where
-  reads : ℕ → Bool
-  reads c = option_map_or (λ (plan : ChannelPlan). plan.reader == q.statement) (slice_get (plans_of n) c) false
-
-  writes : ℕ → Bool
-  writes c = option_map_or (λ (plan : ChannelPlan). plan.writer == q.statement) (slice_get (plans_of n) c) false
-
   list_is : (c : ℕ) (plan : ChannelPlan) → slice_get (plans_of n) c ≡ Some plan
       → slice_index lists c ≡ read_number n plan.reader plan.read
   list_is c plan found =
@@ -401,9 +387,6 @@ module _ (n : Nest) (sized : SizeIsOk n) (t : ℕ) (q : Point) (here : slice_get
       (λ c from below. (let item = slice_get-some (plans_of n) c (omega arith) in place_passed c item.0 item.1))
 
 -- Before the first entry
-
-no_turn : (n : Nest) (p : ℕ) → turns_before (trace n) 0 p ≡ 0
-no_turn n p = refl
 
 pub none_passed : (n : Nest) (c : ℕ) → queue_at n 0 c ≡ empty_queue
 none_passed n c = go (slice_get (plans_of n) c)

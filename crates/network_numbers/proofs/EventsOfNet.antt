@@ -4,7 +4,7 @@
 -- and its Puts are the channel's tokens where the process is the channel's reader or its writer, and none else
 -- (`traffic_is`). Summed over the processes each channel's tokens come twice. It is a count of what scripts have; whether
 -- all of it can come is witness_plan's.
-use Rattle.std.proofs.Common.{◌≡◌, ℕ, zero, suc, ◌+◌, ◌*◌, ◌<◌, ◌≤◌, Bool, false, cond, Some}
+use Rattle.std.proofs.Common.{◌≡◌, ℕ, zero, suc, ◌+◌, ◌*◌, ◌<◌, ◌≤◌, false, cond, Some}
 use Rattle.std.proofs.Common.{List, [], ◌∷◌, length, take, slice_get, count_by, refl, sym, ap, ap₂, ◌∙◌}
 use Rattle.std.proofs.Common.{subst, inl, inr, arith}
 use Rattle.std.specs.Prelude.{◌==◌}
@@ -19,7 +19,7 @@ use Rattle.net_core.specs.declared.network.Event.{Event}
 use Rattle.net_core.specs.declared.network.Event.TheVariants.{Get, Fire, Put}
 use Rattle.net_core.specs.Machine.{Net, net_of}
 use Rattle.net_core.specs.Shape.{events_below, is_get, is_put, turns}
-use Rattle.net_core.proofs.EventCounts.{count_cons}
+use Rattle.net_core.proofs.PutCounts.{count_by-none}
 use Rattle.process_derive.specs.Derived.{net}
 use Rattle.process_derive.specs.Scripts.{script}
 use Rattle.process_derive.proofs.Numbers.{count_channels, count_processes, script_at}
@@ -49,17 +49,6 @@ use Rattle.std.proofs.lemmas.Bool.{eqb-true}
 by_place : {X : Type 0} (P : X → Type 0) (xs : List X) → ((k : ℕ) (x : X) → slice_get xs k ≡ Some x → P x) → Each P xs
 by_place P [] each = tt
 by_place P (x ∷ xs) each = (each 0 x refl, by_place P xs (λ k y is. each (suc k) y is))
-
-none_counted : {X : Type 0} (test : X → Bool) (xs : List X)
-    → ((k : ℕ) (x : X) → slice_get xs k ≡ Some x → test x ≡ false) → count_by test xs ≡ 0
-none_counted test [] none = refl
-none_counted test (x ∷ xs) none =
-    omega (
-      arith,
-      count_cons test x xs,
-      ap (λ b. cond {A = ℕ} b 1 0) (none 0 x refl),
-      none_counted test xs (λ k y is. none (suc k) y is),
-    )
 
 pub same_sums : (f g : ℕ → ℕ) (many : ℕ) → ((k : ℕ) → k < many → f k ≡ g k)
     → sum_by f (range_with_len 0 many) ≡ sum_by g (range_with_len 0 many)
@@ -169,7 +158,7 @@ module _ (n : Nest) where
             ∙ ap (λ r. count_by (is_get c) (script n r)) is ∙ gets_are n c item.0 item.1 ∙ sym tokens
             ∙ sym (ap (λ b. cond b (tokens_at n c) 0) (eq-eqb ((net_of (net n)).reader c) p same))
         | inr other ↦
-            none_counted (is_get c) ((net_of (net n)).script p)
+            count_by-none (is_get c) ((net_of (net n)).script p)
             (λ k e is. got_by_reader (net_of (net n)) p c e (wired_own (net_of (net n)) (is_wired n) p k e is) other)
             ∙ sym (ap (λ b. cond b (tokens_at n c) 0) (ne_eqb ((net_of (net n)).reader c) p other))
       ] in
@@ -182,7 +171,7 @@ module _ (n : Nest) where
             ∙ ap (λ r. count_by (is_put c) (script n r)) is ∙ puts_are n c item.0 item.1 ∙ sym tokens
             ∙ sym (ap (λ b. cond b (tokens_at n c) 0) (eq-eqb ((net_of (net n)).writer c) p same))
         | inr other ↦
-            none_counted (is_put c) ((net_of (net n)).script p)
+            count_by-none (is_put c) ((net_of (net n)).script p)
             (λ k e is. put_by_writer (net_of (net n)) p c e (wired_own (net_of (net n)) (is_wired n) p k e is) other)
             ∙ sym (ap (λ b. cond b (tokens_at n c) 0) (ne_eqb ((net_of (net n)).writer c) p other))
       ] in

@@ -6,19 +6,18 @@
 -- it or that of the queue as it then stands, whichever is more (`greatest_point`): lengths within a point needn't be
 -- looked at. It is of lists of events alone; which Gets and Puts a point has doesn't come in.
 use Rattle.std.proofs.Common.{◌≡◌, ℕ, zero, suc, ◌+◌, ◌≤◌, max, false, cond, Some, List, [], ◌∷◌, ◌++◌}
-use Rattle.std.proofs.Common.{length, replicate, slice_get, refl, sym, ap, ◌∙◌, subst, inl, inr, arith, append_assoc}
+use Rattle.std.proofs.Common.{length, replicate, slice_get, refl, sym, ap, ◌∙◌, subst, arith, append_assoc}
 use Rattle.std.proofs.Common.{length-append}
-use Rattle.std.proofs.lemmas.Bool.{cases_eq}
 use Rattle.std.proofs.lemmas.List.{append-nil}
 use Rattle.net_core.specs.declared.network.Event.{Event}
-use Rattle.net_core.specs.Cuts.{Cut, advanced, cut_after, gets_at, opening, puts_at}
+use Rattle.net_core.specs.Cuts.{advanced, cut_after, gets_at, opening, puts_at}
 use Rattle.net_core.specs.Machine.{Net}
 use Rattle.net_core.specs.Shape.{IsWired, is_get, is_put}
-use Rattle.net_core.proofs.CutOrder.{advanced_here, advanced_there, gets_mono, puts_mono}
+use Rattle.net_core.proofs.CutOrder.{advanced_here, gets_mono, puts_mono}
 use Rattle.plain_data.proofs.Lists.{slice_get-append_cons}
 use Rattle.sanlp.proofs.Each.{Each}
 use Rattle.witness_plan.specs.Sequential.{greatest_length, queue_length}
-use Rattle.witness_plan.proofs.AlongCuts.{cut_after-append, cut_here}
+use Rattle.witness_plan.proofs.AlongCuts.{cut_after-append, cut_here, le-advanced}
 use Rattle.net_core.proofs.Positions.{gets_advanced}
 use Rattle.net_core.proofs.Positions.{puts_advanced}
 use Rattle.witness_plan.proofs.GreatestLengths.{greatest_more, now_within}
@@ -55,13 +54,6 @@ replicate_more (suc a) b p =
     let next : suc (a + b) ≡ suc a + b = omega arith in
     ap (λ ps. p ∷ ps) (replicate_more a b p) ∙ ap (λ m. replicate m p) next
 
-no_less : (k : Cut) (p q : ℕ) → k q ≤ advanced k p q
-no_less k p q =
-    elim (cases_eq q p) [
-      | inl same ↦ omega (arith, advanced_here k p q same)
-      | inr other ↦ omega (arith, advanced_there k p q other)
-    ]
-
 module _ (net : Net) (wired : IsWired net) (p c : ℕ) where
   -- one event more, and where its process then stands
   one_more : (schedule : List ℕ) (m : ℕ) → (schedule ++ p ∷ []) ++ replicate m p ≡ schedule ++ replicate (suc m) p
@@ -84,7 +76,7 @@ module _ (net : Net) (wired : IsWired net) (p c : ℕ) where
       ∙ ap (λ b. puts_at net (cut_after opening schedule) c + cond b 1 0) none in
       let gets =
       gets_mono net (cut_after opening schedule) (advanced (cut_after opening schedule) p) c
-      (no_less (cut_after opening schedule) p (net.reader c)) in
+      (le-advanced (cut_after opening schedule) p (net.reader c)) in
       omega (arith, greatest_more net schedule p c, now_within net schedule c, puts, gets)
 
   pub greatest_without_puts : (schedule : List ℕ) (es : List Event)
@@ -108,7 +100,7 @@ module _ (net : Net) (wired : IsWired net) (p c : ℕ) where
       ∙ ap (λ b. gets_at net (cut_after opening schedule) c + cond b 1 0) none in
       let puts =
       puts_mono net (cut_after opening schedule) (advanced (cut_after opening schedule) p) c
-      (no_less (cut_after opening schedule) p (net.writer c)) in
+      (le-advanced (cut_after opening schedule) p (net.writer c)) in
       omega (arith, puts, gets, ap (λ k. queue_length net k c) (later schedule))
 
   all_grown : (schedule : List ℕ) (es : List Event) → AreNext (net.script p) (cut_after opening schedule p) es

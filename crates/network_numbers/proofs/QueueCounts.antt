@@ -6,7 +6,7 @@
 -- the first Gets take). So both counts, and the length of the queue, are known by how many turns the channel's two
 -- processes have had (`queue_counted`), without the events. Nothing is said of lengths within an entry.
 use Rattle.std.proofs.Common.{◌≡◌, ℕ, zero, suc, ◌+◌, ◌-◌, ◌<◌, ◌≤◌, true, false, cond, Some, List, [], ◌∷◌}
-use Rattle.std.proofs.Common.{◌++◌, length, map, take, drop, slice_get, count_by, refl, sym, ap, ◌∙◌, inl, inr}
+use Rattle.std.proofs.Common.{◌++◌, length, map, take, slice_get, count_by, refl, sym, ap, ◌∙◌, inl, inr}
 use Rattle.std.proofs.Common.{arith, add-one}
 use Rattle.std.specs.Prelude.{slice_index_or, ◌==◌, ◌&&◌}
 use Rattle.std.specs.List.{flat_map, range_with_len}
@@ -33,31 +33,19 @@ use Rattle.reorder_slots.specs.Slots.{gets_for}
 use Rattle.sanlp.specs.Access.{read_count}
 use Rattle.sanlp.specs.Trace.{trace}
 use Rattle.sanlp.specs.declared.nest.Nest.{Nest}
-use Rattle.sanlp.specs.declared.nest.Point.{Point}
 use Rattle.sanlp.proofs.Each.{Each, each_flat_map, each_of}
 use Rattle.sanlp.proofs.Lists.{range_with_len-append}
 use Rattle.sanlp.proofs.Members.{at_in, each_in}
-use Rattle.std.proofs.lemmas.List.{take-append-drop}
 use Rattle.std.proofs.lemmas.List.Concat.{flat_map-append}
 use Rattle.witness_plan.specs.Sequential.{queue_length}
 use Rattle.witness_plan.proofs.InTraceOrder.{stands, turns_before}
 use Rattle.witness_plan.proofs.PointEvents.{events_before}
+use Rattle.witness_plan.proofs.SequentialRun.{few_turns}
 use Rattle.witness_plan.proofs.TraceSteps.{sequenced}
-use Rattle.witness_plan.proofs.SourcesBefore.{entries_count}
 use Rattle.witness_plan.proofs.TokensPut.{events_more}
 use Rattle.channel_plan.proofs.PlanEnds.{plans_of-plan_of}
 
 -- Turns
-
-pub few_turns : (n : Nest) (t p : ℕ) → turns_before (trace n) t p ≤ turn_count n p
-few_turns n t p =
-    let whole = ap (count_by (λ (q : Point). q.statement == p)) (take-append-drop t (trace n)) in
-    omega (
-      arith,
-      whole,
-      count-append (λ (q : Point). q.statement == p) (take t (trace n)) (drop t (trace n)),
-      entries_count 0 (trace n) p,
-    )
 
 -- the events of the first turns come first in a script
 front_is : (n : Nest) (p f : ℕ) → f ≤ turn_count n p

@@ -21,10 +21,11 @@ use Rattle.net_core.specs.Machine.{Net, net_of}
 use Rattle.net_core.specs.Shape.{events_below, is_fire, put_count, turns}
 use Rattle.net_text.specs.NetworkText.{event_count, hold}
 use Rattle.network_numbers.specs.PlanNumbers.{channels_by_plans, event_total, process_by_plans, processes_by_plans}
-use Rattle.number_text.specs.declared.numbers.ChannelNumbers.{ChannelNumbers}
+use Rattle.net_text.specs.declared.numbers.ChannelNumbers.{ChannelNumbers}
 use Rattle.number_text.specs.declared.numbers.NetworkNumbers.{NetworkNumbers}
-use Rattle.number_text.specs.declared.numbers.ProcessNumbers.{ProcessNumbers}
-use Rattle.number_text.specs.Numbers.{channel_numbers, network_numbers, process_numbers}
+use Rattle.net_text.specs.declared.numbers.ProcessNumbers.{ProcessNumbers}
+use Rattle.net_text.specs.NetworkText.{channel_numbers, process_numbers}
+use Rattle.number_text.specs.Numbers.{network_numbers}
 use Rattle.process_derive.specs.Derived.{channel_of, net, process_of}
 use Rattle.process_derive.specs.Scripts.{script}
 use Rattle.process_derive.proofs.NetworkShape.{fits_nest}

@@ -3,15 +3,16 @@
 -- With the entries that are gone from the walk goes that the turns of each process and the counts of each channel are those
 -- after so many entries. Before the first there are none, each entry takes both one entry on (EntryPassed), and after the
 -- last the schedule so far is the sequential one, so the greatest lengths are its capacities.
-use Rattle.std.proofs.Common.{◌≡◌, ℕ, zero, suc, ◌+◌, ◌-◌, ◌<◌, ◌≤◌, Bool, true, false, cond, Option, Some, List, ◌∷◌}
+use Rattle.std.proofs.Common.{◌≡◌, ℕ, zero, suc, ◌+◌, ◌-◌, ◌<◌, ◌≤◌, Bool, true, false, cond, Option, List, ◌∷◌}
 use Rattle.std.proofs.Common.{length, map, drop, set, slice_get, get_or, replicate, refl, sym, ap, ◌∙◌}
 use Rattle.std.proofs.Common.{arith}
 use Rattle.std.specs.Prelude.{All, ◌==◌}
 use Rattle.std.specs.List.{filter, range_with_len}
 use Rattle.std.specs.Option.{option_map_or}
 use Rattle.std.proofs.lemmas.Bool.{eq-eqb, ne_eqb}
+use Rattle.std.proofs.lemmas.List.{get_or_read_under}
 use Rattle.std.proofs.lemmas.List.Elements.{All-cons, All-nil}
-use Rattle.std.proofs.lemmas.List.FromFn.{get_or-map-range_with_len}
+use Rattle.std.proofs.lemmas.List.FromFn.{get_or-map-range_with_len, length-map-range_with_len}
 use Rattle.std.proofs.lemmas.Simd.{map-map}
 use Rattle.channel_plan.specs.declared.plans.ChannelPlan.{ChannelPlan}
 use Rattle.channel_plan.specs.Plans.{plans_of}
@@ -38,9 +39,7 @@ use Rattle.source_tree.specs.Sources.{sources_of}
 use Rattle.witness_plan.specs.Sequential.{capacities, greatest_length, sequential_schedule}
 use Rattle.net_core.proofs.CountedLists.{set_at}
 use Rattle.witness_plan.proofs.InTraceOrder.{turns_before}
-use Rattle.witness_plan.proofs.TraceSteps.{next_time, sequenced, sequenced_all}
-use Rattle.plain_data.proofs.Lists.{drop_parts}
-use Rattle.network_numbers.proofs.EntryLengths.{exists, turn_exists}
+use Rattle.witness_plan.proofs.TraceSteps.{here, next_time, sequenced, sequenced_all, statement_exists, turn_exists}
 use Rattle.network_numbers.proofs.EntryPassed.{entry_passed, none_passed, queue_at, queue_with, queues_at}
 
 -- Places of channels
@@ -63,10 +62,12 @@ channels_below plans end p =
 
 -- the channels of a process, as they are read in the list for all processes
 pub links_at : (plans : List ChannelPlan) (links : List Links) (many p : ℕ) (one : Links)
-    → links ≡ map (links_of plans) (range_with_len 0 many) → p < many → one ≡ get_or links p (links_of plans p)
+    → links ≡ map (links_of plans) (range_with_len 0 many) → p < many → one ≡ get_or links p one
     → one ≡ links_of plans p
 links_at plans links many p one e lt is =
-    is ∙ ap (λ xs. get_or xs p (links_of plans p)) e
+    get_or_read_under links p many one (links_of plans p) is lt
+    (sym (ap length e ∙ length-map-range_with_len (links_of plans) 0 many))
+    ∙ ap (λ xs. get_or xs p (links_of plans p)) e
     ∙ get_or-map-range_with_len (links_of plans) 0 many p p (links_of plans p) lt (omega arith)
 
 -- At first
@@ -85,15 +86,6 @@ no_queues n queues e =
 
 module _ (n : Nest) (sized : SizeIsOk n) (left later : List Point) (q : Point)
     (e : drop (length (trace n) - length left) (trace n) ≡ left) (f : left ≡ q ∷ later) where
-  abbrev pub time : ℕ
-  time = length (trace n) - length left
-
-  pub found : slice_get (trace n) (length (trace n) - length left) ≡ Some q
-  found = (drop_parts (trace n) (length (trace n) - length left) q later (e ∙ f)).0
-
-  pub process_exists : q.statement < length n.statements
-  process_exists = exists n (length (trace n) - length left) q found
-
   module _ (turns : List ℕ)
       (so_far : turns ≡ map (turns_before (trace n) (length (trace n) - length left))
       (range_with_len 0 (length n.statements))) where
@@ -102,14 +94,14 @@ module _ (n : Nest) (sized : SizeIsOk n) (left later : List Point) (q : Point)
     turn_is =
         ap (λ xs. get_or xs q.statement 0) so_far
         ∙ get_or-map-range_with_len (turns_before (trace n) (length (trace n) - length left)) 0 (length n.statements)
-        q.statement q.statement 0 process_exists (omega arith)
+        q.statement q.statement 0 (statement_exists n left later q e f) (omega arith)
 
     pub turn_small : get_or turns q.statement 0 < 4294967295
     turn_small =
         omega (
           arith,
           turn_is,
-          turn_exists n (length (trace n) - length left) q found,
+          turn_exists n (length (trace n) - length left) q (here n left later q e f),
           turns_few n q.statement,
           few_entries n sized,
         )
@@ -121,10 +113,10 @@ module _ (n : Nest) (sized : SizeIsOk n) (left later : List Point) (q : Point)
         let g = turns_before (trace n) (length (trace n) - length left) in
         let h = turns_before (trace n) (suc (length (trace n) - length left)) in
         let next : (p : ℕ) → h p ≡ g p + cond (q.statement == p) 1 0 = λ p.
-        count_next (λ (r : Point). r.statement == p) (trace n) (length (trace n) - length left) q found in
+        count_next (λ (r : Point). r.statement == p) (trace n) (length (trace n) - length left) q (here n left later q e f) in
         ap (λ m. set turns q.statement (m + 1)) turn_is
         ∙ ap (λ xs. set xs q.statement (g q.statement + 1)) so_far
-        ∙ set_at g h (length n.statements) q.statement (g q.statement + 1) process_exists
+        ∙ set_at g h (length n.statements) q.statement (g q.statement + 1) (statement_exists n left later q e f)
         (next q.statement ∙ ap (λ b. g q.statement + cond b 1 0) (eq-eqb q.statement q.statement refl))
         (λ k ne. sym (next k ∙ ap (λ b. g k + cond b 1 0) (ne_eqb q.statement k (λ e. ne (sym e))) ∙ omega arith))
         ∙ ap (λ t. map (turns_before (trace n) t) (range_with_len 0 (length n.statements)))
@@ -146,7 +138,7 @@ module _ (n : Nest) (sized : SizeIsOk n) (left later : List Point) (q : Point)
       ∙ ap (λ ps. after_entry ps lists table (links_of ps q.statement)
       (turns_before (trace n) (length (trace n) - length left) q.statement)
       (queues_at n (length (trace n) - length left))) planned
-      ∙ entry_passed n sized (length (trace n) - length left) q found lists table
+      ∙ entry_passed n sized (length (trace n) - length left) q (here n left later q e f) lists table
       (listed ∙ ap (read_lists n) planned) exact
       ∙ ap (queues_at n) (sym (next_time n left later q e f))
 

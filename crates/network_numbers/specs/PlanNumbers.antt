@@ -2,8 +2,8 @@
 use Rattle.std.specs.Prelude.{ℕ, ◌+◌, ◌*◌, List, map, slice_index}
 use Rattle.std.specs.List.{enumerate_from, sum_by}
 use Rattle.channel_plan.specs.declared.plans.ChannelPlan.{ChannelPlan}
-use Rattle.number_text.specs.declared.numbers.ChannelNumbers.{ChannelNumbers}
-use Rattle.number_text.specs.declared.numbers.ProcessNumbers.{ProcessNumbers}
+use Rattle.net_text.specs.declared.numbers.ChannelNumbers.{ChannelNumbers}
+use Rattle.net_text.specs.declared.numbers.ProcessNumbers.{ProcessNumbers}
 use Rattle.process_derive.specs.Scripts.{slots_of}
 
 -- the numbers of process p, which fires so often

@@ -240,41 +240,28 @@ module _ (nest : Nest) (network : Network) (d : Inputs) (sound : IsSound nest ne
         space = ap (λ (r : Store ℤ). r.space) t.4 ∙ st.space;
       }
 
-  incoming_fresh : (c : ℕ) → from₀ c ≡ advanced (from₀ c) 0
-  incoming_fresh c = comes c ∙ go (slice_get network.channels c) ∙ ap (λ o. advanced o 0) (sym (comes c))
+  -- the ends of a process's own channels, none of whose values has passed
+  none_passed : (own : Channel → Bool) (c : ℕ) (o : Option Channel)
+      → option_and_then (λ (channel : Channel). cond (own channel) (Some (fresh (stream nest network d c))) None) o
+      ≡ advanced (option_and_then
+      (λ (channel : Channel). cond (own channel) (Some (fresh (stream nest network d c))) None) o) 0
+  none_passed own c None = refl
+  none_passed own c (Some channel) = pick (own channel)
     where
-      pick : (b : Bool)
-          → cond b (Some (fresh (stream nest network d c))) None
+      pick : (b : Bool) → cond b (Some (fresh (stream nest network d c))) None
           ≡ advanced (cond b (Some (fresh (stream nest network d c))) None) 0
       pick true = refl
       pick false = refl
 
-      go : (o : Option Channel)
-          → option_and_then
-          (λ (channel : Channel). cond (channel.reader == p) (Some (fresh (stream nest network d c))) None) o
-          ≡ advanced (option_and_then
-          (λ (channel : Channel).
-          cond (channel.reader == p) (Some (fresh (stream nest network d c))) None) o) 0
-      go None = refl
-      go (Some channel) = pick (channel.reader == p)
+  incoming_fresh : (c : ℕ) → from₀ c ≡ advanced (from₀ c) 0
+  incoming_fresh c =
+      comes c ∙ none_passed (λ channel. channel.reader == p) c (slice_get network.channels c)
+      ∙ ap (λ o. advanced o 0) (sym (comes c))
 
   outgoing_fresh : (c : ℕ) → to₀ c ≡ advanced (to₀ c) 0
-  outgoing_fresh c = goes c ∙ go (slice_get network.channels c) ∙ ap (λ o. advanced o 0) (sym (goes c))
-    where
-      pick : (b : Bool)
-          → cond b (Some (fresh (stream nest network d c))) None
-          ≡ advanced (cond b (Some (fresh (stream nest network d c))) None) 0
-      pick true = refl
-      pick false = refl
-
-      go : (o : Option Channel)
-          → option_and_then
-          (λ (channel : Channel). cond (channel.writer == p) (Some (fresh (stream nest network d c))) None) o
-          ≡ advanced (option_and_then
-          (λ (channel : Channel).
-          cond (channel.writer == p) (Some (fresh (stream nest network d c))) None) o) 0
-      go None = refl
-      go (Some channel) = pick (channel.writer == p)
+  outgoing_fresh c =
+      goes c ∙ none_passed (λ channel. channel.writer == p) c (slice_get network.channels c)
+      ∙ ap (λ o. advanced o 0) (sym (goes c))
 
   pub begins : (s : Store ℤ) → s ≡ fresh_store (net_of network) p
       → Stands (net_of network) (tag_value nest d) p from₀ to₀ 0 from₀ to₀ s

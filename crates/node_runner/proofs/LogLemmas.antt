@@ -60,43 +60,25 @@ more_left ports ports' x there streams stream values at grown values_are is lt r
     ap (λ (s : Vec ℤ Global). length s.items) read in
     omega (arith, sum, small, more, here, left)
 
-module _ (streams : List (Vec ℤ Global)) (network : Network) (p : ℕ)
-    (same : length streams ≡ length network.channels) where
-  pub incoming_here : (at : ℕ) (channels : List Channel) (other : Channel) (stream : Vec ℤ Global) (values : List ℤ)
-      (x : Option Port) → channels ≡ network.channels → at < length channels
-      → stream ≡ get_or streams at stream → values ≡ stream.items
-      → x ≡ cond ((get_or channels at other).reader == p) (Some (fresh values)) None
-      → x ≡ incoming (nth_stream streams) network p at
-  incoming_here at channels other stream values x are lt stream_is values_are is =
-      let channel = get_or channels at other in
-      let found : slice_get network.channels at ≡ Some channel =
-      ap (λ l. slice_get l at) (sym are) ∙ slice_get-get_or channels at other lt in
-      let there : slice_get streams at ≡ Some stream =
-      slice_get_read_same streams streams at stream refl (omega (arith, lt, ap length are, same)) stream_is in
-      let nth : nth_stream streams at ≡ stream.items =
-      ap (λ o. option_map_or (λ (s : Vec ℤ Global). s.items) o []) there in
-      is ∙ ap (λ l. cond (channel.reader == p) (Some (fresh l)) None) (values_are ∙ sym nth)
-      ∙ sym (ap (λ o.
-      option_and_then
-      (λ (ch : Channel). cond (ch.reader == p) (Some (fresh (nth_stream streams at))) None) o) found)
-
-  pub outgoing_here : (at : ℕ) (channels : List Channel) (other : Channel) (stream : Vec ℤ Global) (values : List ℤ)
-      (x : Option Port) → channels ≡ network.channels → at < length channels
-      → stream ≡ get_or streams at stream → values ≡ stream.items
-      → x ≡ cond ((get_or channels at other).writer == p) (Some (fresh values)) None
-      → x ≡ outgoing (nth_stream streams) network p at
-  outgoing_here at channels other stream values x are lt stream_is values_are is =
-      let channel = get_or channels at other in
-      let found : slice_get network.channels at ≡ Some channel =
-      ap (λ l. slice_get l at) (sym are) ∙ slice_get-get_or channels at other lt in
-      let there : slice_get streams at ≡ Some stream =
-      slice_get_read_same streams streams at stream refl (omega (arith, lt, ap length are, same)) stream_is in
-      let nth : nth_stream streams at ≡ stream.items =
-      ap (λ o. option_map_or (λ (s : Vec ℤ Global). s.items) o []) there in
-      is ∙ ap (λ l. cond (channel.writer == p) (Some (fresh l)) None) (values_are ∙ sym nth)
-      ∙ sym (ap (λ o.
-      option_and_then
-      (λ (ch : Channel). cond (ch.writer == p) (Some (fresh (nth_stream streams at))) None) o) found)
+-- the end at a channel that may be a process's own
+pub end_here : (streams : List (Vec ℤ Global)) (network : Network) → length streams ≡ length network.channels
+    → (own : Channel → Bool) (at : ℕ) (channels : List Channel) (other : Channel) (stream : Vec ℤ Global)
+    (values : List ℤ) (x : Option Port) → channels ≡ network.channels → at < length channels
+    → stream ≡ get_or streams at stream → values ≡ stream.items
+    → x ≡ cond (own (get_or channels at other)) (Some (fresh values)) None
+    → x ≡ option_and_then (λ (ch : Channel). cond (own ch) (Some (fresh (nth_stream streams at))) None)
+    (slice_get network.channels at)
+end_here streams network same own at channels other stream values x are lt stream_is values_are is =
+    let channel = get_or channels at other in
+    let found : slice_get network.channels at ≡ Some channel =
+    ap (λ l. slice_get l at) (sym are) ∙ slice_get-get_or channels at other lt in
+    let there : slice_get streams at ≡ Some stream =
+    slice_get_read_same streams streams at stream refl (omega (arith, lt, ap length are, same)) stream_is in
+    let nth : nth_stream streams at ≡ stream.items =
+    ap (λ o. option_map_or (λ (s : Vec ℤ Global). s.items) o []) there in
+    is ∙ ap (λ l. cond (own channel) (Some (fresh l)) None) (values_are ∙ sym nth)
+    ∙ sym (ap (λ o.
+    option_and_then (λ (ch : Channel). cond (own ch) (Some (fresh (nth_stream streams at))) None) o) found)
 
 -- past the channels there is no end
 pub all_ends : (ports : List (Option Port)) (n at : ℕ) (f : Ports) → n ≤ at → length ports ≡ at

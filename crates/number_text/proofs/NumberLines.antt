@@ -8,8 +8,9 @@ use Rattle.std.proofs.Common.{◌≡◌, ℕ, ◌+◌, List, [], ◌∷◌, ◌+
 use Rattle.std.specs.List.{flat_map, enumerate_from}
 use Rattle.std.proofs.lemmas.List.Concat.{flat_map-cons}
 use Rattle.net_core.specs.declared.network.Network.{Network}
-use Rattle.net_text.specs.NetworkText.{end_lines, version_line}
-use Rattle.number_text.specs.Numbers.{TellsNumbers, channel_numbers, channel_text, process_numbers, process_text}
+use Rattle.net_text.specs.NetworkText.{channel_numbers, channel_text, end_text, event_count, process_numbers}
+use Rattle.net_text.specs.NetworkText.{process_text, version_line}
+use Rattle.number_text.specs.Numbers.{TellsNumbers}
 use Rattle.sanlp.specs.declared.nest.Nest.{Nest}
 
 -- the lines of numbered items, by what is told of each with its number
@@ -33,6 +34,6 @@ items_told told line k (x ∷ xs) =
 
 pub tells_numbers : (nest : Nest) (network : Network) → TellsNumbers nest network
 tells_numbers nest network =
-    ap₂ (λ processes channels. version_line ++ (processes ++ (channels ++ end_lines network)))
+    ap₂ (λ processes channels. version_line ++ (processes ++ (channels ++ end_text (event_count network))))
     (items_told process_numbers (process_text nest) 0 network.processes)
     (lines_told (channel_numbers network) channel_text 0 network.channels)

@@ -8,5 +8,5 @@ mod numbers;
 mod writing;
 
 pub use law::text_tells_numbers;
-pub use numbers::{ChannelNumbers, NetworkNumbers, ProcessNumbers};
+pub use numbers::NetworkNumbers;
 pub use writing::write_numbers;

@@ -9,6 +9,7 @@ pub mod Sums
 pub mod Shares
 pub mod Bounds
 pub mod Puts
+pub mod EachPlan
 pub mod Numbers
 pub mod Holds
 pub mod Scripts

@@ -8,7 +8,7 @@
 use Rattle.std.proofs.Common.{◌≡◌, ◌≢◌, ◌<◌, ◌≤◌, ◌+◌, ◌-◌, ◌*◌, ℕ, zero, suc, Bool, true, false, cond, eqb, List, []}
 use Rattle.std.proofs.Common.{◌∷◌, map, length, get_or, refl, sym, ap, ◌∙◌, subst, inl, inr, arith}
 use Rattle.std.specs.Prelude.{Option, Some, None, slice_get, slice_index, slice_index_or, count_by}
-use Rattle.std.specs.List.{flat_map, list_any, sum_by, range_with_len}
+use Rattle.std.specs.List.{flat_map, sum_by, range_with_len}
 use Rattle.std.specs.Option.{option_and_then, option_map, option_map_or}
 use Rattle.std.proofs.lemmas.Bool.{cases_Bool, cases_lt, eq-eqb}
 use Rattle.std.proofs.lemmas.List.{get_or_past, length-map}
@@ -23,12 +23,12 @@ use Rattle.sanlp.specs.declared.nest.Tag.{Tag}
 use Rattle.sanlp.specs.Points.{points_of, vectors_of}
 use Rattle.sanlp.specs.Trace.{trace}
 use Rattle.sanlp.proofs.Each.{Each, each_flat_map, each_map, each_of}
-use Rattle.sanlp.proofs.Members.{In, at_in, each_in, in_filter, in_flat_map, in_map, in_range_with_len}
+use Rattle.sanlp.proofs.Members.{In, at_in, each_in}
 use Rattle.sanlp.proofs.NestFacts.{points_length}
 use Rattle.reorder_slots.specs.declared.slots.SlotPlan.{SlotPlan}
 use Rattle.channel_plan.specs.declared.plans.ChannelPlan.{ChannelPlan}
-use Rattle.channel_plan.specs.Plans.{plan_of, plans_at, plans_of, sources_at, turn_count}
-use Rattle.channel_plan.specs.Tokens.{is_from, uses_of, writers_of}
+use Rattle.channel_plan.specs.Plans.{plan_of, plans_of, sources_at, turn_count}
+use Rattle.channel_plan.specs.Tokens.{is_from, uses_of}
 use Rattle.net_core.specs.declared.network.Channel.{Channel}
 use Rattle.net_core.specs.declared.network.Event.{Event}
 use Rattle.net_core.specs.declared.network.Event.TheVariants.{Get, Fire, Put}
@@ -45,6 +45,7 @@ use Rattle.process_derive.specs.Scripts.{Usage, channel_from, gets_for_uses, get
 use Rattle.process_derive.specs.Scripts.{puts_from, ref_of, script, slot_base, slots_of, usage, usage_from}
 use Rattle.process_derive.specs.Uses.{OnlyBelow, uses_before}
 use Rattle.process_derive.proofs.Counts.{before_more, of_other, of_own}
+use Rattle.process_derive.proofs.EachPlan.{plan_there}
 use Rattle.process_derive.proofs.Holds.{few_slots, process_holds}
 use Rattle.process_derive.proofs.Numbers.{HasSlots, all_planned, count_processes, found_slots, gets_by, gets_until}
 use Rattle.process_derive.proofs.Numbers.{point_gets, script_at}
@@ -133,22 +134,6 @@ fires_are n p =
 
 -- The channel of a source is there
 
-plan_there : (n : Nest) (p k f : ℕ) (t : Tag) → p < length n.statements → k < read_count n p
-    → t.process < length n.statements → slice_get (sources_at n p k) f ≡ Some (Some t)
-    → In (plan_of n p k t.process) (plans_of n)
-unfolding plans_of
-plan_there n p k f t process read writer e =
-    let w : ℕ = t.process in
-    let from = any_passes_from_place (is_from w) (sources_at n p k) f (Some t) e (eq-eqb w w refl) in
-    in_flat_map (λ p. flat_map (plans_at n p) (range_with_len 0 (read_count n p))) p (plan_of n p k w)
-    (range_with_len 0 (length n.statements))
-    (in_range_with_len 0 (length n.statements) p (omega arith) (omega arith))
-    (in_flat_map (plans_at n p) k (plan_of n p k w) (range_with_len 0 (read_count n p))
-    (in_range_with_len 0 (read_count n p) k (omega arith) (omega arith))
-    (in_map (plan_of n p k) (writers_of (length n.statements) (sources_at n p k)) w
-    (in_filter (λ w. list_any (is_from w) (sources_at n p k)) (range_with_len 0 (length n.statements)) w
-    (in_range_with_len 0 (length n.statements) w (omega arith) (omega arith)) from)))
-
 not_first : (c : ℕ) (first : ChannelPlan) (plans : List ChannelPlan) (w p k : ℕ) → goes_between w p k first ≡ true
     → channel_from c (first ∷ plans) w p k ≡ None → ⊥
 not_first c first plans w p k here e =
@@ -219,7 +204,8 @@ fire_makes n p k f (Some t) process read e below =
     sym (ap (λ j. uses_before sources j w) next) ∙ before_more sources f w (Some t) e
     ∙ ap (λ xs. uses_before sources f w + length xs) (of_other w t (λ same. ne (sym same))) ∙ omega arith in
     let some : channel_from 0 (plans_of n) v p k ≡ None → ⊥ =
-    λ none. not_none 0 (plans_of n) v p k (plan_of n p k v) (plan_there n p k f t process read below e)
+    λ none. not_none 0 (plans_of n) v p k (plan_of n p k v) (plan_there n p k v process read below
+    (any_passes_from_place (is_from v) (sources_at n p k) f (Some t) e (eq-eqb v v refl)))
     (goes_own n p k v) none in
     let found : length (gets_of (usage n p f k)) ≡ gets_by (uses v) (suc q) - gets_by (uses v) q =
     subst (λ o. length

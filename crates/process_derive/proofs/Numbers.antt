@@ -19,15 +19,15 @@ use Rattle.sanlp.specs.Access.{read_count}
 use Rattle.sanlp.specs.declared.nest.Nest.{Nest}
 use Rattle.sanlp.specs.declared.nest.Tag.{Tag}
 use Rattle.sanlp.specs.Trace.{trace}
-use Rattle.sanlp.proofs.Each.{Each, each_flat_map, each_map, each_of}
+use Rattle.sanlp.proofs.Each.{Each}
 use Rattle.sanlp.proofs.Lists.{slice_get-map-range_with_len}
 use Rattle.sanlp.proofs.NestFacts.{few_statements, few_read_count}
 use Rattle.sanlp.specs.Size.{SizeIsOk}
 use Rattle.reorder_slots.specs.declared.slots.SlotPlan.{SlotPlan}
 use Rattle.reorder_slots.specs.Slots.{gets_for}
 use Rattle.channel_plan.specs.declared.plans.ChannelPlan.{ChannelPlan}
-use Rattle.channel_plan.specs.Plans.{plan_of, plans_at, plans_of, slot_plan, sources_at, turn_count}
-use Rattle.channel_plan.specs.Tokens.{tokens_below, turn_of, turns_used, uses_of, writers_of}
+use Rattle.channel_plan.specs.Plans.{plans_of, slot_plan, sources_at, turn_count}
+use Rattle.channel_plan.specs.Tokens.{tokens_below, turn_of, turns_used, uses_of}
 use Rattle.net_core.specs.declared.network.Event.TheVariants.{Get, Fire}
 use Rattle.net_core.specs.declared.network.Process.{Process}
 use Rattle.net_core.specs.Machine.{net_of}
@@ -41,6 +41,7 @@ use Rattle.process_derive.proofs.Bounds.{few_entries, few_plans}
 use Rattle.process_derive.proofs.Counts.{before_more, of_other, of_own}
 use Rattle.process_derive.proofs.Puts.{all_puts, point_puts, process_puts}
 use Rattle.process_derive.proofs.Shares.{all_turns, uses_within, used, uses_shared}
+use Rattle.process_derive.proofs.EachPlan.{each_plan}
 use Rattle.process_derive.proofs.Slots.{each_take, few_gets}
 use Rattle.process_derive.proofs.Sums.{sum_added, sum_map, sum_push, sum_raised, sum_turned, sum_within}
 use Rattle.process_derive.proofs.Tags.{length-sources, processes_below}
@@ -90,15 +91,7 @@ abbrev pub IsPlanned : Nest → ChannelPlan → Type 0
 IsPlanned n plan = plan.slots ≡ slot_plan (uses_of (used n plan.reader plan.read plan.writer))
 
 pub all_planned : (n : Nest) → Each (IsPlanned n) (plans_of n)
-unfolding plans_of
-all_planned n =
-    each_flat_map (IsPlanned n) (λ p. flat_map (plans_at n p) (range_with_len 0 (read_count n p)))
-    (range_with_len 0 (length n.statements))
-    (each_of _ (range_with_len 0 (length n.statements))
-    (λ p. each_flat_map (IsPlanned n) (plans_at n p) (range_with_len 0 (read_count n p))
-    (each_of _ (range_with_len 0 (read_count n p))
-    (λ k. each_map (IsPlanned n) (plan_of n p k) (writers_of (length n.statements) (sources_at n p k))
-    (each_of _ (writers_of (length n.statements) (sources_at n p k)) (λ w. refl))))))
+all_planned n = each_plan n (IsPlanned n) (λ p k w process read writer from. refl)
 
 abbrev pub HasSlots : Nest → ℕ → ℕ → ℕ → Option (ℕ × ChannelPlan) → Type 0
 HasSlots n p k w None = Unit {0}

@@ -8,7 +8,7 @@
 use Rattle.std.proofs.Common.{◌≡◌, ◌<◌, ◌≤◌, ◌+◌, ◌-◌, ◌^◌, ℕ, zero, suc, false, cond, eqb, List, [], ◌∷◌, ◌++◌}
 use Rattle.std.proofs.Common.{map, length, take, refl, sym, ap, ◌∙◌, subst, inl, inr, arith, eqb-true, append_assoc}
 use Rattle.std.specs.Prelude.{All, Option, Some, None, slice_get, slice_index, slice_index_or, count_by}
-use Rattle.std.specs.List.{find, flat_map, list_any, range_with_len}
+use Rattle.std.specs.List.{find, flat_map, range_with_len}
 use Rattle.std.specs.Option.{option_and_then, option_map, option_map_or}
 use Rattle.std.proofs.lemmas.Bool.{cases_Bool, cases_lt, eq-eqb}
 use Rattle.std.proofs.lemmas.List.{length-map}
@@ -20,15 +20,15 @@ use Rattle.sanlp.specs.Access.{read_count}
 use Rattle.sanlp.specs.declared.nest.Nest.{Nest}
 use Rattle.sanlp.specs.declared.nest.Tag.{Tag}
 use Rattle.sanlp.specs.Size.{SizeIsOk}
-use Rattle.sanlp.proofs.Each.{Each, all_from_each, each_append, each_filter, each_flat_map, each_map, each_of}
+use Rattle.sanlp.proofs.Each.{Each, all_from_each, each_append, each_flat_map, each_map, each_of}
 use Rattle.sanlp.proofs.Each.{each_range_with_len}
 use Rattle.sanlp.proofs.Members.{at_in, each_in}
 use Rattle.sanlp.proofs.Lists.{slice_get-map-range_with_len}
 use Rattle.reorder_slots.specs.declared.slots.SlotPlan.{SlotPlan}
 use Rattle.reorder_slots.specs.Slots.{gets_for}
 use Rattle.channel_plan.specs.declared.plans.ChannelPlan.{ChannelPlan}
-use Rattle.channel_plan.specs.Plans.{plan_of, plans_at, plans_of, slot_plan, sources_at, turn_count}
-use Rattle.channel_plan.specs.Tokens.{is_from, tokens_below, uses_of, writers_of}
+use Rattle.channel_plan.specs.Plans.{plans_of, slot_plan, sources_at, turn_count}
+use Rattle.channel_plan.specs.Tokens.{tokens_below, uses_of}
 use Rattle.net_core.specs.declared.network.Channel.{Channel}
 use Rattle.net_core.specs.declared.network.Event.{Event}
 use Rattle.net_core.specs.declared.network.Event.TheVariants.{Get, Fire, Put}
@@ -46,6 +46,7 @@ use Rattle.process_derive.specs.Uses.{uses_before}
 use Rattle.process_derive.specs.Incoming.{comes_from, incoming_from}
 use Rattle.process_derive.proofs.Channels.{AreSame, longer}
 use Rattle.process_derive.proofs.Counts.{before_more, of_own}
+use Rattle.process_derive.proofs.EachPlan.{each_plan}
 use Rattle.process_derive.proofs.Numbers.{HasSlots, all_planned, before_within, count_channels, count_processes}
 use Rattle.process_derive.proofs.Numbers.{found_slots, gets_here, numbers_fit, script_at}
 use Rattle.process_derive.proofs.Scripts.{channel_same}
@@ -235,19 +236,9 @@ pub record IsChannelOf (n : Nest) (plan : ChannelPlan) : Type 0 where
   pub read : plan.read < read_count n plan.reader
 
 pub all_channels : (n : Nest) → Each (IsChannelOf n) (plans_of n)
-unfolding plans_of
 all_channels n =
-    each_flat_map (IsChannelOf n) (λ p. flat_map (plans_at n p) (range_with_len 0 (read_count n p)))
-    (range_with_len 0 (length n.statements))
-    (each_range_with_len (λ p. Each (IsChannelOf n) (flat_map (plans_at n p) (range_with_len 0 (read_count n p)))) 0
-    (length n.statements)
-    (λ p from below. each_flat_map (IsChannelOf n) (plans_at n p) (range_with_len 0 (read_count n p))
-    (each_range_with_len (λ k. Each (IsChannelOf n) (plans_at n p k)) 0 (read_count n p)
-    (λ k at under. each_map (IsChannelOf n) (plan_of n p k) (writers_of (length n.statements) (sources_at n p k))
-    (each_filter (λ w. IsChannelOf n (plan_of n p k w)) (λ w. list_any (is_from w) (sources_at n p k))
-    (range_with_len 0 (length n.statements))
-    (each_range_with_len (λ w. IsChannelOf n (plan_of n p k w)) 0 (length n.statements)
-    (λ w since lt. record { writer = omega arith; reader = omega arith; read = omega arith })))))))
+    each_plan n (IsChannelOf n)
+    (λ p k w process read writer from. record { writer = writer; reader = process; read = read })
 
 pub channel_at : (n : Nest) (c : ℕ) (plan : ChannelPlan) → slice_get (plans_of n) c ≡ Some plan
     → slice_get (net n).channels c ≡ Some (channel_of plan)

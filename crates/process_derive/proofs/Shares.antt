@@ -5,7 +5,7 @@
 -- no more than its length. So all processes together have no more turns than the trace has entries, a
 -- read has no more uses over all writers than its reader has turns, and a channel has no more tokens than
 -- uses. Therefore each use names a token whose number is below the number of uses (`uses_within`).
-use Rattle.std.proofs.Common.{◌≡◌, ◌≢◌, ◌<◌, ◌≤◌, ◌+◌, ◌==◌, ℕ, Bool, true, eqb, List, [], ◌∷◌, map, length, sym, refl}
+use Rattle.std.proofs.Common.{◌≡◌, ◌≢◌, ◌<◌, ◌≤◌, ◌+◌, ◌==◌, ℕ, true, eqb, List, [], ◌∷◌, map, length, sym, refl}
 use Rattle.std.proofs.Common.{ap, ◌∙◌, inl, inr, arith, le_of_eq}
 use Rattle.std.specs.Prelude.{Option, Some, None}
 use Rattle.std.specs.List.{sum_by, range_with_len}
@@ -22,13 +22,10 @@ use Rattle.channel_plan.specs.Tokens.{is_used, tokens_below, turn_of, turns_used
 use Rattle.channel_plan.proofs.Uses.{tokens_more}
 use Rattle.net_core.proofs.Entries.{entries_length}
 use Rattle.process_derive.proofs.Counts.{few_kept}
-use Rattle.process_derive.proofs.Sums.{one_if, sum_none, sum_risen}
+use Rattle.process_derive.proofs.Sums.{one_if, one_if-le, sum_none, sum_risen}
 use Rattle.process_derive.proofs.Tags.{length-sources}
 
 -- Processes
-
-one_few : (b : Bool) → one_if b ≤ 1
-one_few b = elim (cases_Bool b) [ inl h ↦ rw h (omega arith) | inr h ↦ rw h (omega arith) ]
 
 turns_of_all : (points : List Point) (m : ℕ)
     → sum_by (λ w. length (vectors_of points w)) (range_with_len 0 m) ≤ length points
@@ -84,7 +81,7 @@ few_tokens [] turns = le_of_eq (sum_none (range_with_len 0 turns))
 few_tokens (turn ∷ used) turns =
     let f : ℕ → ℕ = λ t. one_if (is_used used t) in
     let g : ℕ → ℕ = λ t. one_if (is_used (turn ∷ used) t) in
-    let own : g turn ≤ f turn + 1 = omega (arith, one_few (is_used (turn ∷ used) turn)) in
+    let own : g turn ≤ f turn + 1 = omega (arith, one_if-le (is_used (turn ∷ used) turn)) in
     let other : (t : ℕ) → t ≢ turn → g t ≡ f t = λ t ne. rw (ne_eqb turn t (λ e. ne (sym e))) refl in
     omega (arith, sum_risen f g turn 1 own other 0 turns, few_tokens used turns)
 

@@ -1,17 +1,21 @@
 -- Sums over lists and over numbers that are counted up.
-use Rattle.std.proofs.Common.{◌≡◌, ◌≢◌, ◌<◌, ◌≤◌, ◌+◌, ◌*◌, ℕ, zero, suc, Bool, true, false, cond, eqb, List, [], ◌∷◌}
-use Rattle.std.proofs.Common.{map, length, take, refl, sym, ap, ◌∙◌, inl, inr, arith, eqb-true, mul-add}
+use Rattle.std.proofs.Common.{◌≡◌, ◌≢◌, ◌<◌, ◌≤◌, ◌+◌, ◌-◌, ◌*◌, ℕ, zero, suc, Bool, true, false, cond, eqb, List, []}
+use Rattle.std.proofs.Common.{◌∷◌, map, length, take, refl, sym, ap, ◌∙◌, inl, inr, arith, eqb-true, le_of_eq, mul-add}
 use Rattle.std.specs.Prelude.{Some, slice_get}
 use Rattle.std.specs.List.{filter, flat_map, sum_by, range_with_len}
-use Rattle.std.proofs.lemmas.Bool.{cases_Bool, eq-eqb, ne_eqb}
+use Rattle.std.proofs.lemmas.Bool.{cases_Bool, cases_eq, eq-eqb, ne_eqb}
 use Rattle.std.proofs.lemmas.List.Concat.{flat_map-cons}
 use Rattle.std.proofs.lemmas.List.Sums.{sum_by-append, sum_by-cons, sum_by_push}
 use Rattle.std.proofs.lemmas.Option.{same_Some}
-use Rattle.sanlp.proofs.Lists.{range_with_len_more}
+use Rattle.sanlp.proofs.Lists.{range_with_len_more, slice_get-range_with_len}
 
 -- 1 where a test passes
 abbrev pub one_if : Bool → ℕ
 one_if b = cond b 1 0
+
+pub one_if-le : (b : Bool) → one_if b ≤ 1
+one_if-le true = omega arith
+one_if-le false = omega arith
 
 pub sum_within : {X : Type 0} (f : X → ℕ) (b m : ℕ) (xs : List X) → ((x : X) → f x ≤ b) → length xs ≤ m
     → sum_by f xs ≤ m * b
@@ -45,34 +49,6 @@ pub sum_at : {X : Type 0} (f : X → ℕ) (xs : List X) (k : ℕ) (x : X) → sl
 sum_at f [] k x e = absurd (cc)
 sum_at f (y ∷ xs) zero x e = omega (arith, sum_by-cons f y xs, ap f (same_Some y x e))
 sum_at f (y ∷ xs) (suc k) x e = omega (arith, sum_by-cons f y (take k xs), sum_by-cons f y xs, sum_at f xs k x e)
-
--- only the number p adds, and no more than b
-sum_past : (f : ℕ → ℕ) (p a m : ℕ) → ((q : ℕ) → eqb q p ≡ false → f q ≡ 0) → p < a → sum_by f (range_with_len a m) ≡ 0
-sum_past f p a zero none lt = refl
-sum_past f p a (suc m) none lt =
-    omega (
-      arith,
-      sum_by-cons f a (range_with_len (a + 1) m),
-      none a (ne_eqb a p (λ e. omega arith)),
-      sum_past f p (a + 1) m none (omega arith),
-    )
-
-pub sum_one : (f : ℕ → ℕ) (p b a m : ℕ) → ((q : ℕ) → eqb q p ≡ false → f q ≡ 0) → f p ≤ b
-    → sum_by f (range_with_len a m) ≤ b
-sum_one f p b a zero none le = omega arith
-sum_one f p b a (suc m) none le =
-    elim (cases_Bool (eqb a p)) [
-      | inl here ↦
-          let same = eqb-true a p here in
-          omega (
-            arith,
-            sum_by-cons f a (range_with_len (a + 1) m),
-            ap f same,
-            sum_past f p (a + 1) m none (omega (arith, same)),
-          )
-      | inr there ↦ omega
-          (arith, sum_by-cons f a (range_with_len (a + 1) m), none a there, sum_one f p b (a + 1) m none le)
-    ]
 
 pub sum_scaled : {X : Type 0} (c : ℕ) (f g : X → ℕ) (xs : List X) → ((x : X) → f x ≤ c * g x)
     → sum_by f xs ≤ c * sum_by g xs
@@ -124,70 +100,52 @@ sum_push f k =
     ap (λ m. sum_by f (range_with_len 0 m)) more ∙ ap (sum_by f) (range_with_len_more 0 k k (omega arith))
     ∙ sum_by_push f (range_with_len 0 k) k
 
-sum_agree : (f g : ℕ → ℕ) (a m : ℕ) → ((k : ℕ) → a ≤ k → f k ≡ g k)
-    → sum_by f (range_with_len a m) ≡ sum_by g (range_with_len a m)
-sum_agree f g a zero same = refl
-sum_agree f g a (suc m) same =
-    omega (
-      arith,
-      sum_by-cons f a (range_with_len (a + 1) m),
-      sum_by-cons g a (range_with_len (a + 1) m),
-      same a (omega arith),
-      sum_agree f g (a + 1) m (λ k h. same k (omega arith)),
-    )
+-- only the number p adds, and no more than b
+pub sum_one : (f : ℕ → ℕ) (p b a m : ℕ) → ((q : ℕ) → eqb q p ≡ false → f q ≡ 0) → f p ≤ b
+    → sum_by f (range_with_len a m) ≤ b
+sum_one f p b a zero none le = omega arith
+sum_one f p b a (suc m) none le =
+    elim (cases_Bool (eqb a p)) [
+      | inl here ↦
+          let same = eqb-true a p here in
+          omega (
+            arith,
+            sum_by-cons f a (range_with_len (a + 1) m),
+            ap f same,
+            sum_counted f (λ q. 0) (a + 1) m (λ q from below. le_of_eq (none q (ne_eqb q p (λ e. omega (arith, same))))),
+            sum_none (range_with_len (a + 1) m),
+          )
+      | inr there ↦ omega
+          (arith, sum_by-cons f a (range_with_len (a + 1) m), none a there, sum_one f p b (a + 1) m none le)
+    ]
 
 -- a function that takes at least d more at i alone
 pub sum_raised : (f g : ℕ → ℕ) (i d : ℕ) → f i + d ≤ g i → ((k : ℕ) → k ≢ i → f k ≡ g k)
     → (a m : ℕ) → a ≤ i → i < a + m → sum_by f (range_with_len a m) + d ≤ sum_by g (range_with_len a m)
-sum_raised f g i d more same a zero le lt = absurd (omega arith)
-sum_raised f g i d more same a (suc m) le lt =
-    elim (cases_Bool (eqb a i)) [
-      | inl here ↦
-          let is = eqb-true a i here in
-          omega (
-            arith,
-            sum_by-cons f a (range_with_len (a + 1) m),
-            sum_by-cons g a (range_with_len (a + 1) m),
-            ap f is,
-            ap g is,
-            more,
-            sum_agree f g (a + 1) m (λ k h. same k (λ e. omega (arith, e, is))),
-          )
-      | inr there ↦
-          let other : a ≢ i = λ e. (let bad : eqb a i ≡ true = eq-eqb a i e in absurd (cc)) in
-          omega (
-            arith,
-            sum_by-cons f a (range_with_len (a + 1) m),
-            sum_by-cons g a (range_with_len (a + 1) m),
-            same a other,
-            sum_raised f g i d more same (a + 1) m (omega (arith, other)) (omega arith),
-          )
-    ]
+sum_raised f g i d more same a m le lt =
+    let grows : (k : ℕ) → f k + (g k - f k) ≤ g k = λ k.
+    elim (cases_eq k i) [
+      | inl here ↦ omega (arith, more, ap f here, ap g here)
+      | inr other ↦ omega (arith, same k other)
+    ] in
+    omega (
+      arith,
+      more,
+      sum_added f (λ k. g k - f k) (range_with_len a m),
+      sum_counted (λ k. f k + (g k - f k)) g a m (λ k from below. grows k),
+      sum_at (λ k. g k - f k) (range_with_len a m) (i - a) i
+          (slice_get-range_with_len a m (i - a) i (omega arith) (omega arith)),
+    )
 
 -- a function that takes at most d more at i alone
 pub sum_risen : (f g : ℕ → ℕ) (i d : ℕ) → g i ≤ f i + d → ((k : ℕ) → k ≢ i → g k ≡ f k) → (a m : ℕ)
     → sum_by g (range_with_len a m) ≤ sum_by f (range_with_len a m) + d
-sum_risen f g i d more same a zero = omega arith
-sum_risen f g i d more same a (suc m) =
-    elim (cases_Bool (eqb a i)) [
-      | inl here ↦
-          let is = eqb-true a i here in
-          omega (
-            arith,
-            sum_by-cons f a (range_with_len (a + 1) m),
-            sum_by-cons g a (range_with_len (a + 1) m),
-            ap f is,
-            ap g is,
-            more,
-            sum_agree g f (a + 1) m (λ k h. same k (λ e. omega (arith, e, is))),
-          )
-      | inr there ↦
-          let other : a ≢ i = λ e. (let bad : eqb a i ≡ true = eq-eqb a i e in absurd (cc)) in
-          omega (
-            arith,
-            sum_by-cons f a (range_with_len (a + 1) m),
-            sum_by-cons g a (range_with_len (a + 1) m),
-            same a other,
-            sum_risen f g i d more same (a + 1) m,
-          )
-    ]
+sum_risen f g i d more same a m =
+    let still : (k : ℕ) → eqb k i ≡ false → g k - f k ≡ 0 = λ k off.
+    (let other : k ≢ i = λ e. (let bad : eqb k i ≡ true = eq-eqb k i e in absurd (cc)) in omega (arith, same k other)) in
+    omega (
+      arith,
+      sum_counted g (λ k. f k + (g k - f k)) a m (λ k from below. omega arith),
+      sum_added f (λ k. g k - f k) (range_with_len a m),
+      sum_one (λ k. g k - f k) i d a m still (omega (arith, more)),
+    )

@@ -126,7 +126,7 @@ pub fn is_token(plans: &[ChannelPlan], turn: usize, channel: u32) -> bool
     ensures { result ≡ carries plans.now turn channel }
 {
     match plans.get(channel as usize) {
-        Some(plan) => plan.is_token.get(turn).copied().unwrap_or(false),
+        Some(plan) => plan.is_token.has(turn),
         None => false,
     }
 }

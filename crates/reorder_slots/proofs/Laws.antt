@@ -17,7 +17,7 @@ use Rattle.reorder_slots.specs.Slots.{hold_of, is_wanted, lowest_free, slots_of_
 use Rattle.reorder_slots.specs.Readers.{KeepsTokens}
 use Rattle.reorder_slots.proofs.Uses.{named_before, named_below, wanted_at, wanted_from}
 use Rattle.reorder_slots.proofs.Held.{KeepsTokens-get, length-filled, lowest_free-is}
-use Rattle.reorder_slots.proofs.Gets.{KeepsTokens-got, KeepsTokens-held, held-more, held-zero, length-held, more_gets}
+use Rattle.reorder_slots.proofs.Gets.{KeepsTokens-got, KeepsTokens-held, held-more, held-zero, length-held}
 use Rattle.reorder_slots.proofs.Gets.{stays}
 
 -- the token of use q is in the slot of its Get when the Gets before use q are over
@@ -53,20 +53,14 @@ finds uses = λ q token slot here at.
     ∙ in_its_slot uses q lt ∙ named in
     slice_get-get_or held.slots slot 0 within ∙ ap Some found
 
-pub keeps_until_used : (uses : List ℕ) → KeepsUntilUsed uses
+pub keeps_until_used : (uses : List ℕ) → KeepsUntilUsed uses (λ get. get_or (slots_of_gets uses) get 0)
 keeps_until_used uses = λ q token get here later before same.
     let lt : q < length uses = slice_get_within uses q token here in
     let named : get_or uses q 0 ≡ token = get_or_from_slice_get uses q token 0 here in
     let held = held_after uses (q + 1) in
-    let end = slots_of_gets uses in
     let within : token < gets_for (take (q + 1) uses) = omega arith in
-    let count : gets_for (take (q + 1) uses) ≤ length end =
-    omega (arith, length-held uses (length uses), more_gets uses (q + 1) (length uses) (omega arith)) in
-    let apart : get_or end get 0 ≡ get_or end token 0 =
-    same_Some _ _
-    (sym (slice_get-get_or end get 0 (omega arith)) ∙ same ∙ slice_get-get_or end token 0 (omega arith)) in
     let same_slot : get_or held.slot_of_get get 0 ≡ get_or held.slot_of_get token 0 =
-    sym (stays uses (q + 1) (length uses) get (omega arith) before) ∙ apart
+    sym (stays uses (q + 1) (length uses) get (omega arith) before) ∙ same
     ∙ stays uses (q + 1) (length uses) token (omega arith) within in
     let in_slot : get_or held.slots (get_or held.slot_of_get token 0) 0 ≡ token =
     ap (λ t. get_or held.slots (get_or held.slot_of_get t 0) 0) (sym named) ∙ in_its_slot uses q lt ∙ named in

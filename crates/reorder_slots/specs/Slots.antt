@@ -79,12 +79,11 @@ FindsItsToken uses =
     → slice_get (slots_of_uses uses) q ≡ Some slot
     → slice_get (held_after uses (q + 1)).slots slot ≡ Some token
 
--- Between the Get of a token and a use of it no other Get takes its slot.
-abbrev pub KeepsUntilUsed : List ℕ → Type 0
-KeepsUntilUsed uses =
+-- Where the Gets are given these slots, between the Get of a token and a use of it no other Get takes its slot.
+abbrev pub KeepsUntilUsed : List ℕ → (ℕ → ℕ) → Type 0
+KeepsUntilUsed uses slot_of =
     (q token get : ℕ) → slice_get uses q ≡ Some token → token < get
-    → get < gets_for (take (q + 1) uses)
-    → slice_get (slots_of_gets uses) get ≢ slice_get (slots_of_gets uses) token
+    → get < gets_for (take (q + 1) uses) → slot_of get ≢ slot_of token
 
 -- the uses name every token below their greatest
 abbrev pub NamesAllBelow : List ℕ → Type 0

@@ -1,5 +1,4 @@
 ghost use Rattle.std.specs.Prelude.{◌≡◌, ◌+◌, ◌-◌, ◌^◌, ◌<◌, ◌≤◌, ℕ, [], length, vec_len, vec_capacity, IfOk, Some, slice_get};
-ghost use Rattle.sanlp.specs.Cells.{is_output};
 ghost use Rattle.sanlp.specs.Points.{points_of};
 ghost use Rattle.sanlp.specs.WellFormed.{output_numbers};
 ghost use Rattle.net_core.specs.Machine.{net_of};
@@ -10,7 +9,7 @@ ghost use Rattle.thread_runner.specs.Benches.{IsFreshBench, AreFreshRooms, HaveS
 
 use net_core::{Network, Room, State, kept, start};
 use plain_data::Items;
-use sanlp::{ArrayDecl, Arrays, Kind, Nest, Points};
+use sanlp::{ArrayDecl, Arrays, Nest, Points};
 use std::alloc::{AllocError, Global};
 
 /// All memory that a run needs besides its ends and its starts: a fresh room for each process, the answer's lists with room
@@ -67,20 +66,13 @@ fn fresh_rooms(
     Ok(rooms)
 }
 
-// Whether an array is printed.
-fn is_output(array: &ArrayDecl) -> bool
-    ensures { result ≡ is_output array.now.kind }
-{
-    matches!(array.kind, Kind::Output | Kind::Both)
-}
-
 // How many of these arrays are printed.
 fn output_count(arrays: &[ArrayDecl]) -> usize
     ensures { result ≡ length (output_numbers arrays.now) }
 {
     let mut count = 0;
     for array in arrays {
-        if is_output(array) {
+        if array.kind.is_output() {
             count += 1;
         }
     }
@@ -180,7 +172,7 @@ pub(crate) fn gathered<K: Keeper>(
 {
     let mut sink = nest.statements.len() - output_count(nest.arrays.as_slice());
     for array in nest.arrays.as_slice() {
-        if is_output(array) {
+        if array.kind.is_output() {
             let Some(list) = lists.pop() else {
                 unreachable!();
             };

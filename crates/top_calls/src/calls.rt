@@ -1,7 +1,7 @@
 //! Calls of the program by its top call, and what they are to come to.
 
-ghost use Rattle.std.specs.Prelude.{◌≡◌, ◌++◌, ◌∷◌, ◌↔◌, [], IsTrue, IfOk, OnOk, map, string_bytes};
-ghost use Rattle.top_calls.specs.Ends.{EndsWith, IsEnd, Says};
+ghost use Rattle.std.specs.Prelude.{◌≡◌, ◌++◌, ◌∷◌, ◌↔◌, [], All, IsTrue, IfOk, OnOk, map, string_bytes};
+ghost use Rattle.top_calls.specs.Ends.{BothSay, EndsWith, IsEnd, Says};
 
 use compaan_top::compaan;
 use io_edge::{Gate, MemSink, MemSource, Open};
@@ -24,6 +24,7 @@ pub struct Devices {
     pub complaint_room: usize,
 }
 
+/// Devices that never fail, with room for 1,000 bytes in each sink.
 pub const SOUND: Devices = Devices {
     piece: 65_536,
     failing: NO_CALL,
@@ -211,18 +212,37 @@ pub fn expect_of(
     }
 }
 
+// Expects the end of a call.
+fn expect_end(
+    rt: &(impl AllocGlobal + Threads + Wait + Sync),
+    devices: Devices,
+    words: &[&str],
+    bundle: &[u8],
+    status: u8,
+    text: &[u8],
+) -> Result<(), Fail>
+    ensures { OnOk result
+        (Says (map (λ word. word.now) words.now) bundle.now status text.now) }
+{
+    if status < 2 {
+        expect(rt, devices, words, bundle, status, text, b"")
+    } else {
+        expect(rt, devices, words, bundle, status, b"", text)
+    }
+}
+
 /// Expects these ends of these calls.
 pub fn expect_all(
     rt: &(impl AllocGlobal + Threads + Wait + Sync),
     devices: Devices,
     calls: &[Call],
-) -> Result<(), Fail> {
-    for (words, bundle, status, text) in calls {
-        if *status < 2 {
-            expect(rt, devices, words, bundle, *status, text, b"")?;
-        } else {
-            expect(rt, devices, words, bundle, *status, b"", text)?;
-        }
+) -> Result<(), Fail>
+    ensures { OnOk result (All
+        (λ call. Says (map (λ word. word.now) call.0.now) call.1.now call.2 call.3.now) calls.now) }
+{
+    for call in calls {
+        let (words, bundle, status, text) = *call;
+        expect_end(rt, devices, words, bundle, status, text)?;
     }
     Ok(())
 }
@@ -234,17 +254,24 @@ pub fn expect_answer(
     bundle: &[u8],
     status: u8,
     text: &[u8],
-) -> Result<(), Fail> {
+) -> Result<(), Fail>
+    ensures { OnOk result
+        (BothSay (map (λ word. word.now) params.now) bundle.now status text.now) }
+{
     expect_of(rt, "run", params, bundle, status, text)?;
     expect_of(rt, "seq", params, bundle, status, text)
 }
 
-/// Expects these answers of `run` and of `seq`.
+/// Expects these answers of `run` and of `seq`, with status 0.
 pub fn expect_answers(
     rt: &(impl AllocGlobal + Threads + Wait + Sync),
     programs: &[Program],
-) -> Result<(), Fail> {
-    for (params, bundle, answer) in programs {
+) -> Result<(), Fail>
+    ensures { OnOk result (All
+        (λ it. BothSay (map (λ word. word.now) it.0.now) it.1.now 0 it.2.now) programs.now) }
+{
+    for program in programs {
+        let (params, bundle, answer) = *program;
         expect_answer(rt, params, bundle, 0, answer)?;
     }
     Ok(())

@@ -1,7 +1,24 @@
 -- Cuts along a schedule that grows at its end.
-use Rattle.std.proofs.Common.{◌≡◌, ℕ, zero, suc, ◌+◌, List, [], ◌∷◌, ◌++◌, replicate, refl, ◌∙◌, arith}
-use Rattle.net_core.specs.Cuts.{Cut, advanced, cut_after}
+use Rattle.std.proofs.Common.{◌≡◌, ℕ, zero, suc, ◌+◌, ◌≤◌, List, [], ◌∷◌, ◌++◌, replicate, refl, ◌∙◌, inl, inr, arith}
+use Rattle.std.proofs.lemmas.Bool.{cases_eq}
+use Rattle.net_core.specs.Cuts.{Cut, IsCutRun, advanced, cut_after}
+use Rattle.net_core.specs.Machine.{Net}
 use Rattle.net_core.proofs.CutOrder.{advanced_here, advanced_there}
+
+-- a cut is nowhere past the one after a process's step
+pub le-advanced : (k : Cut) (p q : ℕ) → k q ≤ advanced k p q
+le-advanced k p q =
+    elim (cases_eq q p) [
+      | inl same ↦ omega (arith, advanced_here k p q same)
+      | inr other ↦ omega (arith, advanced_there k p q other)
+    ]
+
+-- one run after another
+pub IsCutRun-append : (n : Net) (run more : List ℕ) (k : Cut) → IsCutRun n k run → IsCutRun n (cut_after k run) more
+    → IsCutRun n k (run ++ more)
+IsCutRun-append n [] more k first later = later
+IsCutRun-append n (p ∷ run) more k first later =
+    (first.0, IsCutRun-append n run more (advanced k p) first.1 later)
 
 pub cut_after-append : (k : Cut) (run more : List ℕ) → cut_after k (run ++ more) ≡ cut_after (cut_after k run) more
 cut_after-append k [] more = refl

@@ -42,7 +42,7 @@ next_gets : (uses : List ℕ) (q : ℕ) → q < length uses
     → gets_for_uses (slot_plan uses) (suc q) ≡ gets_for (take (suc q) uses)
 next_gets uses q lt = gets_here uses q lt ∙ ap (λ i. gets_for (take i uses)) (add-one q)
 
-gets_so_far : (uses : List ℕ) (q : ℕ) → q ≤ length uses → gets_for_uses (slot_plan uses) q ≡ gets_for (take q uses)
+pub gets_so_far : (uses : List ℕ) (q : ℕ) → q ≤ length uses → gets_for_uses (slot_plan uses) q ≡ gets_for (take q uses)
 gets_so_far uses zero le = refl
 gets_so_far uses (suc q) le = next_gets uses q (omega arith)
 

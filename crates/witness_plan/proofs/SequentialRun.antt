@@ -109,7 +109,7 @@ length_front n p f le =
       length-append (events_before n p f) (flat_map (point_events n p) (range_with_len f (turn_count n p - f))),
     )
 
-few_turns : (n : Nest) (t p : ℕ) → turns_before (trace n) t p ≤ turn_count n p
+pub few_turns : (n : Nest) (t p : ℕ) → turns_before (trace n) t p ≤ turn_count n p
 few_turns n t p =
     let points = trace n in
     let is = λ (q : Point). q.statement == p in

@@ -186,14 +186,14 @@ use_of turn (x ∷ used) (suc k) is =
     or_true true = refl
     or_true false = refl
 
-pub tokens_mono : (used : List ℕ) (g more : ℕ) → tokens_below used g ≤ tokens_below used (g + more)
+tokens_mono : (used : List ℕ) (g more : ℕ) → tokens_below used g ≤ tokens_below used (g + more)
 tokens_mono used g zero = let same : g + 0 ≡ g = omega arith in omega (arith, ap (tokens_below used) same)
 tokens_mono used g (suc more) =
     let next : g + suc more ≡ g + more + 1 = omega arith in
     omega (arith, tokens_mono used g more, ap (tokens_below used) next, tokens_more used (g + more))
 
 -- a token below the turns so far is one of their tokens
-token_below : (used : List ℕ) (turn most : ℕ) → turn < most → is_used used turn ≡ true
+pub token_below : (used : List ℕ) (turn most : ℕ) → turn < most → is_used used turn ≡ true
     → tokens_below used turn + 1 ≤ tokens_below used most
 token_below used turn most lt named =
     let whole : turn + 1 + (most - (turn + 1)) ≡ most = omega arith in

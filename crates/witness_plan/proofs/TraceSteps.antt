@@ -5,11 +5,10 @@
 -- in what it has left is that of this entry's point (PointEvents). With the process repeated so often the schedule is
 -- that of one entry more (`sequenced_more`), and at the end of the trace it is the sequential one. Whether the events can
 -- come in this order isn't asked here.
-use Rattle.std.proofs.Common.{◌≡◌, ℕ, zero, suc, ◌-◌, ◌<◌, Some, List, [], ◌∷◌, ◌++◌, length, drop, replicate}
+use Rattle.std.proofs.Common.{◌≡◌, ℕ, suc, ◌-◌, ◌<◌, Some, List, ◌∷◌, ◌++◌, length, drop, replicate}
 use Rattle.std.proofs.Common.{slice_get, sym, ap, ◌∙◌, arith}
 use Rattle.std.proofs.lemmas.List.{length-drop}
 use Rattle.std.proofs.lemmas.Option.{slice_get_within}
-use Rattle.std.proofs.lemmas.Simd.{map-map}
 use Rattle.channel_plan.specs.Plans.{turn_count}
 use Rattle.net_core.specs.declared.network.Network.{Network}
 use Rattle.net_core.specs.Cuts.{cut_after, opening}
@@ -23,7 +22,7 @@ use Rattle.sanlp.specs.declared.nest.Nest.{Nest}
 use Rattle.sanlp.specs.declared.nest.Point.{Point}
 use Rattle.sanlp.specs.Laws.{entries_of}
 use Rattle.sanlp.specs.Trace.{trace}
-use Rattle.sanlp.proofs.Enumerates.{enumerates_domains}
+use Rattle.sanlp.proofs.ReadCounts.{trace-statement}
 use Rattle.witness_plan.specs.Records.{left_after}
 use Rattle.witness_plan.specs.Sequential.{sequential_schedule}
 use Rattle.witness_plan.specs.Steps.{point_length}
@@ -34,6 +33,13 @@ use Rattle.witness_plan.proofs.PointEvents.{events_before, point_found}
 abbrev pub sequenced : Nest → ℕ → List ℕ
 sequenced n t = until (point_events n) (trace n) t
 
+-- an entry is a turn of its process
+pub turn_exists : (n : Nest) (t : ℕ) (p : Point) → slice_get (trace n) t ≡ Some p
+    → turns_before (trace n) t p.statement < turn_count n p.statement
+turn_exists n t p here =
+    slice_get_within (entries_of (trace n) p.statement) (turns_before (trace n) t p.statement) _
+    (turn_of_entry 0 (trace n) t p here)
+
 -- Lists of what is left
 
 module _ (n : Nest) (left later : List Point) (p : Point) (e : drop (length (trace n) - length left) (trace n) ≡ left)
@@ -41,7 +47,7 @@ module _ (n : Nest) (left later : List Point) (p : Point) (e : drop (length (tra
   pub next_time : length (trace n) - length later ≡ suc (length (trace n) - length left)
   next_time = omega (arith, length-drop (length (trace n) - length left) (trace n), ap length e, ap length f)
 
-  here : slice_get (trace n) (length (trace n) - length left) ≡ Some p
+  pub here : slice_get (trace n) (length (trace n) - length left) ≡ Some p
   here = (drop_parts (trace n) (length (trace n) - length left) p later (e ∙ f)).0
 
   pub left_later : drop (length (trace n) - length later) (trace n) ≡ later
@@ -49,18 +55,11 @@ module _ (n : Nest) (left later : List Point) (p : Point) (e : drop (length (tra
       ap (λ k. drop k (trace n)) next_time ∙ (drop_parts (trace n) (length (trace n) - length left) p later (e ∙ f)).1
 
   pub statement_exists : p.statement < length n.statements
-  statement_exists =
-      let is = (enumerates_domains n).entry (length (trace n) - length left) p here in
-      slice_get_within n.statements p.statement is.statement is.found
+  statement_exists = trace-statement n (length (trace n) - length left) p here
 
   -- the turn of the entry
   abbrev turn : ℕ
   turn = turns_before (trace n) (length (trace n) - length left) p.statement
-
-  turn_exists : turn < turn_count n p.statement
-  turn_exists =
-      slice_get_within (entries_of (trace n) p.statement) turn _
-      (turn_of_entry 0 (trace n) (length (trace n) - length left) p here)
 
   module _ (schedule : List ℕ) (before : schedule ≡ sequenced n (length (trace n) - length left)) where
     -- the process has made the events of its earlier points
@@ -83,7 +82,7 @@ module _ (n : Nest) (left later : List Point) (p : Point) (e : drop (length (tra
       found_here =
           ap (λ xs. point_length (drop (cut_after opening schedule p.statement) xs)) script_is
           ∙ ap (λ k. point_length (drop k (script n p.statement))) stands_here
-          ∙ point_found n p.statement turn turn_exists
+          ∙ point_found n p.statement turn (turn_exists n (length (trace n) - length left) p here)
 
       pub sequenced_more : (more : List ℕ)
           → more ≡ schedule ++ replicate (point_length (left_after (net_of network) schedule p.statement)) p.statement

@@ -9,7 +9,7 @@
 use Rattle.std.proofs.Common.{◌≡◌, ◌<◌, ◌-◌, ◌∙◌, List, drop, length, map, replicate, arith, sym, ap, refl, subst}
 use Rattle.std.specs.Prelude.{All, IfOk, ℕ}
 use Rattle.std.specs.List.{range_with_len}
-use Rattle.std.proofs.lemmas.List.{get_or_read, take_at}
+use Rattle.std.proofs.lemmas.List.{take_at}
 use Rattle.std.proofs.lemmas.List.FromFn.{length-map-range_with_len}
 use Rattle.sanlp.specs.Trace.{trace}
 use Rattle.channel_plan.specs.Plans.{plans_of}
@@ -20,11 +20,11 @@ use Rattle.network_numbers.specs.Links.{links_of}
 use Rattle.network_numbers.specs.Queues.{empty_queue}
 use Rattle.network_numbers.proofs.EntryPassed.{queue_at, queues_at}
 use Rattle.network_numbers.proofs.WholeTrace.{capacities_are, channels_below, links_at, no_queues, no_turns}
-use Rattle.network_numbers.proofs.WholeTrace.{process_exists, queues_later, turn_is, turn_small, turns_later}
+use Rattle.network_numbers.proofs.WholeTrace.{queues_later, turn_is, turn_small, turns_later}
 use Rattle.network_numbers.proofs.lengths.capacities.Goals as goal
 use Rattle.process_derive.proofs.Bounds.{few_plans}
 use Rattle.witness_plan.proofs.InTraceOrder.{turns_before}
-use Rattle.witness_plan.proofs.TraceSteps.{left_later}
+use Rattle.witness_plan.proofs.TraceSteps.{left_later, statement_exists}
 
 pub links_of_processes-requires-clause-few : goal.links_of_processes-requires-clause-few
 links_of_processes-requires-clause-few c =
@@ -56,8 +56,7 @@ next_turn-turn-requires-clause-exists c =
       ap length (c.deref_mut.ensures.value ∙ c.loop-point.invariant.turns)
           ∙ length-map-range_with_len (turns_before (trace n) (length (trace n) - length (rest n c.loop-point.walk))) 0
           (length n.statements),
-      process_exists n c.requires.size
-          (rest n c.loop-point.walk) _ c.in-Some.point c.loop-point.invariant.left c.in-Some.ensures.next,
+      statement_exists n (rest n c.loop-point.walk) _ c.in-Some.point c.loop-point.invariant.left c.in-Some.ensures.next,
     )
 
 pub next_turn-turn-requires-clause-few : goal.next_turn-turn-requires-clause-few
@@ -75,8 +74,7 @@ index-requires c =
       c.in_ok-links.links.ok.0,
       ap length c.in_ok-links.ensures ∙ length-map-range_with_len (links_of c.args.plans.now) 0 c.len.result,
       c.len.ensures,
-      process_exists n c.requires.size
-          (rest n c.loop-point.walk) _ c.in-Some.point c.loop-point.invariant.left c.in-Some.ensures.next,
+      statement_exists n (rest n c.loop-point.walk) _ c.in-Some.point c.loop-point.invariant.left c.in-Some.ensures.next,
     )
 
 pub pass_entry-requires-clause-queues : goal.pass_entry-requires-clause-queues
@@ -100,38 +98,28 @@ returns c =
 pub pass_entry-requires-clause-incoming : goal.pass_entry-requires-clause-incoming
 pass_entry-requires-clause-incoming c =
     let n = c.args.nest.now in
-    let exists = process_exists n c.requires.size
-    (rest n c.loop-point.walk) _ c.in-Some.point c.loop-point.invariant.left c.in-Some.ensures.next in
-    let count = ap length c.in_ok-links.ensures ∙ length-map-range_with_len (links_of c.args.plans.now) 0 c.len.result in
+    let exists = statement_exists n (rest n c.loop-point.walk) _ c.in-Some.point c.loop-point.invariant.left c.in-Some.ensures.next in
     subst (λ (l : Links). All (λ c'. c' < length c.args.plans.now) l.incoming)
     (sym (links_at c.args.plans.now c.in_ok-links.links.items c.len.result c.in-Some.point.statement c.index.result.now
-    c.in_ok-links.ensures (omega (arith, c.len.ensures, exists))
-    (get_or_read c.in_ok-links.links.items _ _ (omega (arith, count, c.len.ensures, exists)) c.index.ensures _)))
+    c.in_ok-links.ensures (omega (arith, c.len.ensures, exists)) c.index.ensures))
     (channels_below c.args.plans.now Reader c.in-Some.point.statement)
 
 pub pass_entry-requires-clause-outgoing : goal.pass_entry-requires-clause-outgoing
 pass_entry-requires-clause-outgoing c =
     let n = c.args.nest.now in
-    let exists = process_exists n c.requires.size
-    (rest n c.loop-point.walk) _ c.in-Some.point c.loop-point.invariant.left c.in-Some.ensures.next in
-    let count = ap length c.in_ok-links.ensures ∙ length-map-range_with_len (links_of c.args.plans.now) 0 c.len.result in
+    let exists = statement_exists n (rest n c.loop-point.walk) _ c.in-Some.point c.loop-point.invariant.left c.in-Some.ensures.next in
     subst (λ (l : Links). All (λ c'. c' < length c.args.plans.now) l.outgoing)
     (sym (links_at c.args.plans.now c.in_ok-links.links.items c.len.result c.in-Some.point.statement c.index.result.now
-    c.in_ok-links.ensures (omega (arith, c.len.ensures, exists))
-    (get_or_read c.in_ok-links.links.items _ _ (omega (arith, count, c.len.ensures, exists)) c.index.ensures _)))
+    c.in_ok-links.ensures (omega (arith, c.len.ensures, exists)) c.index.ensures))
     (channels_below c.args.plans.now Writer c.in-Some.point.statement)
 
 pub loop-point-preserved : goal.loop-point-preserved
 loop-point-preserved c =
     let n = c.args.nest.now in
-    let left = rest n c.loop-point.walk in
-    let exists = process_exists n c.requires.size
-    (rest n c.loop-point.walk) _ c.in-Some.point c.loop-point.invariant.left c.in-Some.ensures.next in
-    let count = ap length c.in_ok-links.ensures ∙ length-map-range_with_len (links_of c.args.plans.now) 0 c.len.result in
+    let exists = statement_exists n (rest n c.loop-point.walk) _ c.in-Some.point c.loop-point.invariant.left c.in-Some.ensures.next in
     let linked =
     links_at c.args.plans.now c.in_ok-links.links.items c.len.result c.in-Some.point.statement c.index.result.now
-    c.in_ok-links.ensures (omega (arith, c.len.ensures, exists))
-    (get_or_read c.in_ok-links.links.items _ _ (omega (arith, count, c.len.ensures, exists)) c.index.ensures _) in
+    c.in_ok-links.ensures (omega (arith, c.len.ensures, exists)) c.index.ensures in
     let before = c.deref_mut.ensures.value ∙ c.loop-point.invariant.turns in
     let turns =
     c.next_turn-turn.ensures.counted

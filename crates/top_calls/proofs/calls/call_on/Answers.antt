@@ -4,7 +4,7 @@ use Rattle.command_line.specs.Words.{order_of}
 use Rattle.compaan_top.specs.Answers.{Change, change}
 use Rattle.compaan_top.specs.Calls.{IsCallOf}
 use Rattle.io_edge.specs.InMemory.{SinkState, SourceState}
-use Rattle.top_calls.specs.Ends.{filled}
+use Rattle.top_calls.specs.Ends.{change_of_sink}
 use Rattle.top_calls.proofs.calls.call_on.Goals as goal
 
 -- what a call did to a source and to a sink in memory
@@ -23,10 +23,10 @@ returns g c =
     let complaint = c.compaan-status.new.complaint in
     record {
       input = input;
-      given = refl;
+      bundle_is = refl;
       call =
           subst (λ (sink : SinkState).
-          IsCallOf order input (of_sink sink output) (filled complaint) c.compaan-status.result)
+          IsCallOf order input (of_sink sink output) (change_of_sink complaint) c.compaan-status.result)
           c.in_ok-output.ensures
           (subst (λ (sink : SinkState).
           IsCallOf order input (of_sink c.in_ok-output.output output) (of_sink sink complaint)

@@ -1,8 +1,7 @@
-use Rattle.std.proofs.Common.{◌≡◌, ◌<◌, ◌+◌, ◌∷◌, [], length, length-append, ap, sym, ◌∙◌, arith}
+use Rattle.std.proofs.Common.{◌≡◌, ◌<◌, ◌+◌, ◌==◌, ◌∷◌, [], length, length-append, ap, sym, ◌∙◌, arith}
 use Rattle.node_runner.specs.Nodes.{incoming, outgoing}
 use Rattle.node_runner.specs.Logs.{nth_stream}
-use Rattle.node_runner.proofs.LogLemmas.{more_ends, more_left, incoming_here, outgoing_here, all_ends, incoming_past}
-use Rattle.node_runner.proofs.LogLemmas.{outgoing_past}
+use Rattle.node_runner.proofs.LogLemmas.{all_ends, end_here, incoming_past, more_ends, more_left, outgoing_past}
 use Rattle.node_runner.proofs.logged.LogEnds.new.Goals as goal
 
 pub loop-at-preserved : goal.loop-at-preserved
@@ -16,13 +15,14 @@ loop-at-preserved c =
     let lt : at < length streams =
     omega (arith, c.loop-at-test.true, ap length c.as_slice-channel-items.ensures, c.requires) in
     let into : _ ≡ incoming (nth_stream streams) network p at =
-    incoming_here streams network p c.requires at channels _ c.index-streams-at.result c.deref.result.now
-    c.in_ok-end_if.field-0 c.as_slice-channel-items.ensures c.loop-at-test.true c.index-streams-at.is
-    c.deref.ensures.value c.in_ok-end_if.ensures in
+    end_here streams network c.requires (λ channel. channel.reader == p) at channels _ c.index-streams-at.result
+    c.deref.result.now c.in_ok-end_if.field-0 c.as_slice-channel-items.ensures c.loop-at-test.true
+    c.index-streams-at.is c.deref.ensures.value c.in_ok-end_if.ensures in
     let out : _ ≡ outgoing (nth_stream streams) network p at =
-    outgoing_here streams network p c.requires at channels _ c.index-streams-at-in-loop-at.result
-    c.deref-in-loop-at.result.now c.in_ok-end_if-2.field-0 c.as_slice-channel-items.ensures c.loop-at-test.true
-    c.index-streams-at-in-loop-at.is c.deref-in-loop-at.ensures.value c.in_ok-end_if-2.ensures in
+    end_here streams network c.requires (λ channel. channel.writer == p) at channels _
+    c.index-streams-at-in-loop-at.result c.deref-in-loop-at.result.now c.in_ok-end_if-2.field-0
+    c.as_slice-channel-items.ensures c.loop-at-test.true c.index-streams-at-in-loop-at.is
+    c.deref-in-loop-at.ensures.value c.in_ok-end_if-2.ensures in
     record {
       gets_many =
           ap length c.in_ok-push.ensures.items ∙ length-append c.loop-at.gets.items (c.in_ok-end_if.field-0 ∷ [])

@@ -1,5 +1,6 @@
 pub mod Fires
 pub mod WordVerdicts
+pub mod TextAnswers
 pub mod TextContents
 pub mod Lengths
 pub mod Levels

@@ -4,6 +4,7 @@ pub mod Folding
 pub mod CertText
 pub mod Stretches
 pub mod Reading
+pub mod FoldedCerts
 pub mod Kept
 pub mod StandsFor
 pub mod Writing

@@ -1,14 +1,14 @@
 //! What is kept of a text before its scripts and its schedule are known to be short enough.
 
-ghost use Rattle.std.specs.Prelude.{◌≡◌, ◌+◌, ◌≤◌, ◌++◌, IfOk, OnOk, All, None, length, map, min};
-ghost use Rattle.script_blocks.specs.Expansion.{part_expansion, parts_expansion};
+ghost use Rattle.std.specs.Prelude.{◌≡◌, ◌+◌, ◌≤◌, IfOk, All, None, length, map, min};
+ghost use Rattle.cert_text.specs.FoldedCerts.{whole_cert};
 ghost use Rattle.cert_text.specs.Folding.{long_script, most_events, too_long as long_of};
 ghost use Rattle.cert_text.specs.Kept.{cert_of_kept, network_of_kept, process_of_kept, scripts_of};
 
 use crate::folded::FoldedList;
+use crate::folded_cert::FoldedCert;
 use net_core::{Channel, Event, Network, Process};
 use plain_data::Items;
-use script_blocks::{BlockPart, Script};
 use source_tree::{Cert, Origin};
 use std::alloc::{AllocError, Global};
 
@@ -75,83 +75,41 @@ pub(crate) fn too_long(kept: &Kept) -> Option<u32>
     }
 }
 
-fn unfold_process(alloc: Global, process: KeptProcess) -> Result<Process, AllocError>
-    requires { length process.script ≤ most_events }
-    ensures { IfOk result (λ unfolded. unfolded ≡ process_of_kept process) }
+fn process_of(alloc: Global, kept: KeptProcess) -> Result<Process, AllocError>
+    requires { length kept.script ≤ most_events }
+    ensures { IfOk result (λ process. process ≡ process_of_kept kept) }
 {
     Ok(Process {
-        slots: process.slots,
-        script: process.script.into_script(alloc)?,
+        slots: kept.slots,
+        script: kept.script.into_script(alloc)?,
     })
 }
 
-fn unfold_processes(alloc: Global, kept: Items<KeptProcess>) -> Result<Items<Process>, AllocError>
+fn processes_of(alloc: Global, kept: Items<KeptProcess>) -> Result<Items<Process>, AllocError>
     requires { All (λ process. length process.script ≤ most_events) kept }
     ensures { IfOk result (λ processes. processes ≡ map process_of_kept kept) }
 {
     let mut processes = Items::new(alloc);
     for process in kept.into_vec() {
-        processes.push(unfold_process(alloc, process)?)?;
+        processes.push(process_of(alloc, process)?)?;
     }
     Ok(processes)
 }
 
-// Adds the entries for which these parts stand.
-#[cycle(entries)]
-fn add_entries(parts: &[BlockPart<u32>], entries: &mut Items<u32>) -> Result<(), AllocError>
-    ensures { OnOk result (entries.new ≡ entries.old ++ parts_expansion parts.now) }
-{
-    for part in parts {
-        add_entries_of(part, entries)?;
-    }
-    Ok(())
-}
-
-#[cycle(entries)]
-fn add_entries_of(part: &BlockPart<u32>, entries: &mut Items<u32>) -> Result<(), AllocError>
-    ensures { OnOk result (entries.new ≡ entries.old ++ part_expansion part.now) }
-{
-    match part {
-        BlockPart::Item(entry) => entries.push(*entry),
-        BlockPart::Repeat(count, body) => {
-            for _ in 0..*count {
-                add_entries(body.parts.as_slice(), entries)?;
-            }
-            Ok(())
-        }
-    }
-}
-
-/// The entries of a script, or want of memory.
-fn entries_in(alloc: Global, script: &Script<u32>) -> Result<Items<u32>, AllocError>
-    ensures { IfOk result (λ entries. entries ≡ script.now) }
-{
-    let mut entries = Items::new(alloc);
-    add_entries(script.blocks().parts.as_slice(), &mut entries)?;
-    Ok(entries)
-}
-
-/// The entries of a schedule one by one, or want of memory.
-fn entries_of(alloc: Global, schedule: FoldedList<u32>) -> Result<Items<u32>, AllocError>
-    requires { length schedule ≤ most_events }
-    ensures { IfOk result (λ entries. entries ≡ schedule) }
-{
-    let script = schedule.into_script(alloc)?;
-    entries_in(alloc, &script)
-}
-
-/// The pair that was kept, or want of memory.
-pub(crate) fn unfold(alloc: Global, kept: Kept) -> Result<(Network, Cert), AllocError>
+/// The pair that was kept, or want of memory. Scripts and schedule stay folded.
+pub(crate) fn pair_of(alloc: Global, kept: Kept) -> Result<(Network, FoldedCert), AllocError>
     requires { long_of (scripts_of kept.processes) kept.schedule ≡ None }
-    ensures { IfOk result (λ pair. pair ≡ (network_of_kept kept, cert_of_kept kept)) }
+    ensures network { IfOk result (λ pair. pair.0 ≡ network_of_kept kept) }
+    ensures cert { IfOk result (λ pair. whole_cert pair.1 ≡ cert_of_kept kept) }
 {
     let network = Network {
-        processes: unfold_processes(alloc, kept.processes)?,
+        processes: processes_of(alloc, kept.processes)?,
         channels: kept.channels,
     };
-    let cert = Cert {
+    let schedule = kept.schedule.into_script(alloc)?;
+    let rest = Cert {
         sources: kept.sources,
-        schedule: entries_of(alloc, kept.schedule)?,
+        schedule: Items::new(alloc),
     };
-    Ok((network, cert))
+    Ok((network, FoldedCert { rest, schedule }))
 }

@@ -5,6 +5,7 @@
 #![tactic(auto)]
 
 mod folded;
+mod folded_cert;
 mod gathering;
 mod kept;
 mod keys;
@@ -14,6 +15,7 @@ mod places;
 mod reading;
 mod writing;
 
+pub use folded_cert::FoldedCert;
 pub use law::{reads_what_is_written, what_is_written_stands};
-pub use reading::read_cert;
-pub use writing::write_cert;
+pub use reading::{read_cert, read_folded};
+pub use writing::{HasBlocks, ProcessBlocks, write_cert, write_cert_by_blocks};

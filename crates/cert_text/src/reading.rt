@@ -5,14 +5,16 @@ ghost use Rattle.net_core.specs.Shape.{FitsNumbers};
 ghost use Rattle.source_tree.specs.declared.cert.Cert.{Cert as AnyCert};
 ghost use Rattle.plain_data.specs.Answers.{IsUnlessMemory};
 ghost use Rattle.cert_lines.specs.Reading.{Reads, line as one_line, many};
+ghost use Rattle.cert_text.specs.FoldedCerts.{whole_answer};
 ghost use Rattle.cert_text.specs.Kept.{AddsPart, lists_of, pair_kept, process_kept, whole_kept};
 ghost use Rattle.cert_text.specs.Places.{part_line};
 ghost use Rattle.cert_text.specs.Reading.{part as part_within, reading, source as source_part};
 ghost use Rattle.cert_text.specs.StandsFor.{StandsFor};
 
 use crate::folded::FoldedList;
+use crate::folded_cert::FoldedCert;
 use crate::gathering::Gathering;
-use crate::kept::{Kept, KeptProcess, too_long, unfold};
+use crate::kept::{Kept, KeptProcess, pair_of, too_long};
 use crate::keys::Keyed;
 use crate::lines::{FromLine, read_line, read_lines};
 use crate::places::{PartLine, ProcessHead, Sizes, SourceLine, Version, part_line_of};
@@ -165,15 +167,25 @@ fn read_whole(alloc: Global, lines: &mut Lines) -> Result<Kept, CertError>
     Ok(kept)
 }
 
-fn read_pair(alloc: Global, bytes: &[u8]) -> Result<(Network, Cert), CertError>
-    ensures { IsUnlessMemory CertError.Memory result (reading bytes.now) }
+// The network and its certificate, whose schedule stays folded.
+fn read_pair(alloc: Global, bytes: &[u8]) -> Result<(Network, FoldedCert), CertError>
+    ensures { IsUnlessMemory CertError.Memory (whole_answer result) (reading bytes.now) }
 {
     let mut lines = Lines::new(bytes);
     let kept = read_whole(alloc, &mut lines)?;
     match too_long(&kept) {
         Some(process) => Err(CertError::Long(process)),
-        None => Ok(unfold(alloc, kept)?),
+        None => Ok(pair_of(alloc, kept)?),
     }
+}
+
+// The same, with the schedule entry by entry.
+fn read_entries(alloc: Global, bytes: &[u8]) -> Result<(Network, Cert), CertError>
+    ensures { IsUnlessMemory CertError.Memory result (reading bytes.now) }
+{
+    let (network, cert) = read_pair(alloc, bytes)?;
+    let cert = cert.unfold(alloc)?;
+    Ok((network, cert))
 }
 
 /// Reads the text of a network with its certificate, of version 1 or 2.
@@ -182,8 +194,9 @@ fn read_pair(alloc: Global, bytes: &[u8]) -> Result<(Network, Cert), CertError>
 /// 142,606,336 events together, with the least process up to which they do; and else where the schedule stands for more
 /// than 142,606,336 entries, with the number of processes.
 ///
-/// The lists grow with the lines that come, so a count that a text announces takes no memory by itself. The stack grows with
-/// the nesting of repeats, trees and proofs, which the limit keeps within 8 MB.
+/// The lists grow with the lines that come, so a count that a text announces takes no memory by itself; the schedule's
+/// entries take four bytes each, which `read_folded` spares. The stack grows with the nesting of repeats, trees and
+/// proofs, which the limit keeps within 8 MB.
 pub fn read_cert(alloc: Global, bytes: &[u8]) -> Result<(Network, Cert), CertError>
     ensures exact { IsUnlessMemory CertError.Memory result (reading bytes.now) }
 
@@ -194,6 +207,19 @@ pub fn read_cert(alloc: Global, bytes: &[u8]) -> Result<(Network, Cert), CertErr
         MatchResult result (λ pair. pair ≡ (network, cert)) (λ error. error ≡ CertError.Memory) }
 
     ensures few { IfOk result (λ pair. FitsNumbers (net_of pair.0)) }
+{
+    read_entries(alloc, bytes)
+}
+
+/// What `read_cert` answers, with a certificate whose schedule stays folded: a schedule takes memory by its lines, and none
+/// by its entries.
+pub fn read_folded(alloc: Global, bytes: &[u8]) -> Result<(Network, FoldedCert), CertError>
+    ensures exact { IsUnlessMemory CertError.Memory (whole_answer result) (reading bytes.now) }
+    ensures is_text { IfOk (whole_answer result) (λ pair. StandsFor bytes.now pair.0 pair.1) }
+    ensures reads_text { (network : AnyNetwork) (cert : AnyCert) →
+        StandsFor bytes.now network cert → MatchResult (whole_answer result)
+        (λ pair. pair ≡ (network, cert)) (λ error. error ≡ CertError.Memory) }
+    ensures few { IfOk (whole_answer result) (λ pair. FitsNumbers (net_of pair.0)) }
 {
     read_pair(alloc, bytes)
 }

@@ -1,18 +1,19 @@
 ghost use Rattle.std.specs.Prelude.{◌≡◌, ◌≤◌, ◌==◌, ℕ, List, [], ◌∷◌, ◌++◌, codes, decimal, length, map, OnOk, OnErr};
-ghost use Rattle.std.specs.List.{flat_map, prefix_len};
+ghost use Rattle.std.specs.List.{AllZip, flat_map, prefix_len};
 ghost use Rattle.std.specs.Io.KnownBytes.{Appends};
 ghost use Rattle.io_edge.specs.Causes.{Rose, AppendsFront};
 ghost use Rattle.text_out.specs.Wrote.{Wrote};
 ghost use Rattle.text_out.specs.Words.{line_text, word_text};
 ghost use Rattle.cert_text.specs.CertText.{channel_text as text_of_channel, entry_text, event_text, part_text, parts_text, ref_word, repeat_text, source_text};
-ghost use Rattle.cert_text.specs.StandsFor.{IsWrittenOf};
+ghost use Rattle.cert_text.specs.Folding.{FoldedProcess};
+ghost use Rattle.cert_text.specs.StandsFor.{IsFoldedOf, IsWrittenOf, written_text};
 ghost use Rattle.cert_text.specs.Stretches.{stretch_blocks, stretch_part, stretches};
-ghost use Rattle.cert_text.specs.Writing.{WritesProcess, WritesProcesses, WritesText};
+ghost use Rattle.cert_text.specs.Writing.{WritesProcess, WritesProcesses, WritesText, folded_process};
 
 use io_edge::{Sink, WriteFault};
 use net_core::{Channel, Event, Network, Process, Ref, Refs};
 use net_text::class_word;
-use script_blocks::BlockPart;
+use script_blocks::{BlockPart, Blocks};
 use source_tree::{Cert, Origin};
 use text_out::{TextWriter, Word, Writer, write_line, write_spaced};
 use tree_text::write_tree;
@@ -128,17 +129,55 @@ fn write_process_head<W: TextWriter>(slots: u32, parts: usize, out: &mut W)
     write_line(&[Word::Text(b"process"), number(slots), count(parts)], out);
 }
 
-/// Writes a process, its script by its blocks.
-fn write_process<W: TextWriter>(process: &Process, out: &mut W)
-    ensures { WritesProcess W.given out.old out.new process.now }
-{
-    let blocks = process.script.blocks();
-    write_process_head(process.slots, blocks.parts.len(), out);
-    write_parts(blocks.parts.as_slice(), out);
+/// A process, by its number of slots, with blocks in the place of its script.
+#[derive(Clone, Copy)]
+pub struct ProcessBlocks<'a> {
+    pub slots: u32,
+    pub script: &'a Blocks<Event>,
 }
 
-fn write_processes<W: TextWriter>(processes: &[Process], out: &mut W)
-    ensures { WritesProcesses W.given out.old out.new processes.now }
+/// What gives a process with blocks in the place of its script. The process is then written by these blocks.
+pub trait HasBlocks {
+    /// The processes with blocks that it may give.
+    ghost gives: { Self → FoldedProcess → Type 0 };
+
+    /// One of these. It takes no memory.
+    fn process_blocks(&self) -> ProcessBlocks<'_>
+        ensures { gives self.now (folded_process result) };
+}
+
+/// It gives itself and nothing else, so the text is known to the byte.
+impl<'a> HasBlocks for ProcessBlocks<'a> {
+    ghost gives = { λ process folded. folded ≡ folded_process process };
+
+    fn process_blocks(&self) -> ProcessBlocks<'_> {
+        *self
+    }
+}
+
+/// It gives the blocks in which its script is kept. Contracts see of these what they stand for, and that they are proper.
+impl HasBlocks for Process {
+    ghost gives = { IsFoldedOf };
+
+    fn process_blocks(&self) -> ProcessBlocks<'_> {
+        ProcessBlocks {
+            slots: self.slots,
+            script: self.script.blocks(),
+        }
+    }
+}
+
+/// Writes a process by its blocks.
+fn write_process<P: HasBlocks, W: TextWriter>(process: &P, out: &mut W)
+    ensures { WritesProcess W.given P.gives out.old out.new process.now }
+{
+    let blocks = process.process_blocks();
+    write_process_head(blocks.slots, blocks.script.parts.len(), out);
+    write_parts(blocks.script.parts.as_slice(), out);
+}
+
+fn write_processes<P: HasBlocks, W: TextWriter>(processes: &[P], out: &mut W)
+    ensures { WritesProcesses W.given P.gives out.old out.new processes.now }
 {
     for process in processes {
         write_process(process, out);
@@ -264,27 +303,56 @@ fn write_sizes<W: TextWriter>(
     write_line(&words, out);
 }
 
-fn write_text<W: TextWriter>(network: &Network, cert: &Cert, out: &mut W)
-    ensures { WritesText W.given out.old out.new network.now cert.now }
+fn write_text<P: HasBlocks, W: TextWriter>(
+    processes: &[P],
+    channels: &[Channel],
+    cert: &Cert,
+    out: &mut W,
+)
+    ensures { WritesText W.given P.gives out.old out.new processes.now channels.now cert.now }
 {
     write_line(&[Word::Text(b"cert"), Word::Text(b"2")], out);
     write_sizes(
-        network.processes.len(),
-        network.channels.len(),
+        processes.len(),
+        channels.len(),
         cert.sources.len(),
         stretch_count(cert.schedule.as_slice()),
         out,
     );
-    write_processes(network.processes.as_slice(), out);
-    write_each(network.channels.as_slice(), out);
+    write_processes(processes, out);
+    write_each(channels, out);
     write_each(cert.sources.as_slice(), out);
     write_schedule(cert.schedule.as_slice(), out);
     write_line(&[Word::Text(b"end")], out);
 }
 
-/// Writes a version 2 text of a network with its certificate: each script by its blocks, an item as its event and a repeat as
-/// its line with its body, and each greatest stretch of n equal entries of the schedule, where n is at least 2, as a repeat of
-/// one entry. It takes no memory.
+/// Writes the version 2 text of processes, channels and a certificate: each process by the blocks that it gives, an item as its
+/// event and a repeat as its line with its body, and each greatest stretch of n equal entries of the schedule, where n is at
+/// least 2, as a repeat of one entry. It takes no memory, and its stack grows with the nesting of the blocks.
+///
+/// Of `ProcessBlocks` the text is determined: the blocks stand in it as they are. It is read back where they are proper.
+/// At `WriteFault` the sink holds what it held and a front of the text, and its count rose in this call.
+pub fn write_cert_by_blocks<P: HasBlocks, K: Sink>(
+    processes: &[P],
+    channels: &[Channel],
+    cert: &Cert,
+    sink: &mut K,
+) -> Result<(), WriteFault>
+    ensures text { (folded : List FoldedProcess) × AllZip P.gives processes.now folded
+        × OnOk result (Appends (K.held sink.old) (K.held sink.new)
+        (written_text folded channels.now cert.now))
+        × OnErr result (AppendsFront (K.held sink.old) (K.held sink.new)
+        (written_text folded channels.now cert.now)) }
+    ensures quiet { OnOk result (K.faults sink.new ≡ K.faults sink.old) }
+    ensures cause { OnErr result (Rose (K.faults sink.old) (K.faults sink.new)) }
+{
+    let mut out = Writer::new(sink);
+    write_text(processes, channels, cert, &mut out);
+    out.finish()
+}
+
+/// Writes a version 2 text of a network with its certificate, as `write_cert_by_blocks` does: each script by the blocks in which it is
+/// kept. It takes no memory.
 ///
 /// Each repeat of a script has a count of at least 2 and a body with a part, and nests at most 31 deep, by the script's type.
 /// At `WriteFault` the sink holds what it held and a front of the text, and its count rose in this call.
@@ -295,7 +363,10 @@ pub fn write_cert<K: Sink>(network: &Network, cert: &Cert, sink: &mut K) -> Resu
     ensures quiet { OnOk result (K.faults sink.new ≡ K.faults sink.old) }
     ensures cause { OnErr result (Rose (K.faults sink.old) (K.faults sink.new)) }
 {
-    let mut out = Writer::new(sink);
-    write_text(network, cert, &mut out);
-    out.finish()
+    write_cert_by_blocks(
+        network.processes.as_slice(),
+        network.channels.as_slice(),
+        cert,
+        sink,
+    )
 }

@@ -1,4 +1,4 @@
-//! Tests of `net_checker::check`.
+//! Tests of `net_checker::check`, and of `check_folded` beside it.
 ghost use Rattle.std.specs.Prelude.{IsTrue};
 ghost use Rattle.sanlp.specs.Size.{SizeIsOk};
 ghost use Rattle.net_core.specs.Machine.{net_of};
@@ -8,7 +8,7 @@ use crate::bound::{self, nest};
 use affine_core::Vector;
 use channel_class::{ChannelClass, UseOrder};
 use loop_walk::points;
-use net_checker::{Refusal, Seen, Verdict, Wanted, check};
+use net_checker::{Refusal, Seen, Verdict, Wanted, check, check_folded};
 use net_core::{Channel, Event, Network, Process, Ref, Refs};
 use plain_data::Items;
 use sanlp::{Nest, Point};
@@ -183,7 +183,28 @@ fn checked(
     verdict
 }
 
-// The verdict on a network of a nest, where its numbers are within their limits.
+// The verdict on the same certificate where its schedule is kept folded.
+fn checked_folded(
+    alloc: Global,
+    nest: &Nest,
+    network: &Network,
+    cert: &Cert,
+) -> Result<Verdict, AllocError>
+    requires size { SizeIsOk nest.now }
+    requires numbers { FitsNumbers (net_of network.now) }
+{
+    if cert.schedule.len() > 1_000 {
+        return Err(AllocError);
+    }
+    let schedule = Script::folded(alloc, cert.schedule.as_slice())?;
+    let points = points(alloc, nest)?;
+    let verdict = check_folded(alloc, nest, &points, network, cert, &schedule);
+    drop(points);
+    verdict
+}
+
+// The verdict on a network of a nest, where its numbers are within their limits, and where the schedule is kept folded it is the
+// same.
 fn judged(alloc: Global, nest: &Nest, row: &Row, cert: &Cert) -> Result<Verdict, Fail>
     requires { SizeIsOk nest.now }
 {
@@ -192,8 +213,13 @@ fn judged(alloc: Global, nest: &Nest, row: &Row, cert: &Cert) -> Result<Verdict,
         return Err(Fail::from("the network is large"));
     }
     let verdict = checked(alloc, nest, &network, cert);
+    let folded = checked_folded(alloc, nest, &network, cert);
     drop(network);
-    Ok(verdict?)
+    let verdict = verdict?;
+    if folded? != verdict {
+        return Err(Fail::from("a folded schedule is judged otherwise"));
+    }
+    Ok(verdict)
 }
 
 // The verdict on a network of a source.

@@ -1,5 +1,6 @@
 ghost use Rattle.std.specs.Prelude.{◌≡◌, ◌<◌, ◌^◌, length, IfOk};
 ghost use Rattle.sanlp.specs.Size.{SizeIsOk};
+ghost use Rattle.cert_text.specs.FoldedCerts.{whole_cert};
 ghost use Rattle.net_checker.specs.Fits.{first, verdict_of};
 ghost use Rattle.net_core.specs.Machine.{net_of};
 ghost use Rattle.net_core.specs.Shape.{FitsNumbers};
@@ -13,13 +14,12 @@ use crate::refusal::{Refusal, Stop};
 use crate::source::sized_nest;
 use bundle::parts_of;
 use cert_lines::CertError;
-use cert_text::read_cert;
+use cert_text::{FoldedCert, read_folded};
 use loop_class::Params;
 use loop_walk::points;
-use net_checker::{Verdict, check};
+use net_checker::{Verdict, check_folded};
 use net_core::Network;
 use sanlp::Nest;
-use source_tree::Cert;
 use std::alloc::{AllocError, Global};
 
 // The checker's verdict.
@@ -27,14 +27,15 @@ fn verdict_on(
     alloc: Global,
     nest: &Nest,
     network: &Network,
-    cert: &Cert,
+    cert: &FoldedCert,
 ) -> Result<Verdict, AllocError>
     requires size { SizeIsOk nest.now }
     requires numbers { FitsNumbers (net_of network.now) }
-    ensures { IfOk result (λ verdict. verdict ≡ verdict_of (first nest.now network.now cert.now)) }
+    ensures { IfOk result
+        (λ verdict. verdict ≡ verdict_of (first nest.now network.now (whole_cert cert.now))) }
 {
     let points = points(alloc, nest)?;
-    check(alloc, nest, &points, network, cert)
+    check_folded(alloc, nest, &points, network, &cert.rest, &cert.schedule)
 }
 
 /// The answer that tells why a certificate can't be read.
@@ -61,7 +62,7 @@ pub fn check_certificate(alloc: Global, params: &Params, bundle: &[u8]) -> Resul
         return Err(Stop::Refused(Refusal::NoPart));
     };
     let nest = sized_nest(alloc, parts.source, params)?;
-    match read_cert(alloc, part) {
+    match read_folded(alloc, part) {
         Ok((network, cert)) => {
             let verdict = verdict_on(alloc, &nest, &network, &cert)?;
             Ok(Answer::Verdict(verdict))

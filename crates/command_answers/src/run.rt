@@ -44,7 +44,7 @@ pub(crate) fn prepared(
 {
     let parts = parts_of(bundle);
     let nest = sized_nest(alloc, parts.source, params)?;
-    with_inputs(alloc, nest, parts.data)
+    with_inputs(alloc, nest, parts.array_data)
 }
 
 /// What the loops of a bundle's source compute, by the interpreter.

@@ -16,6 +16,7 @@ pub mod Walk
 pub mod FireVerdicts
 pub mod ChannelUses
 pub mod Verdicts
+pub mod CertParts
 pub mod SlotLemmas
 pub mod QueueLemmas
 pub mod TagSteps

@@ -1,5 +1,5 @@
 -- When a certificate fits its network and its nest, and what the checker answers.
-use Rattle.std.specs.Prelude.{◌≡◌, ℕ, Option, Some, None, length, slice_get}
+use Rattle.std.specs.Prelude.{◌≡◌, ℕ, List, Option, Some, None, length, slice_get}
 use Rattle.std.specs.Option.{option_or}
 use Rattle.channel_class.specs.Classes.{class_of}
 use Rattle.sanlp.specs.declared.nest.Nest.{Nest}
@@ -36,13 +36,21 @@ pub record Fits (n : Nest) (network : Network) (cert : Cert) : Type 0 where
   pub classes : (c : ℕ) (channel : Channel) → slice_get network.channels c ≡ Some channel
       → channel.class ≡ class_of (uses (net_of network) c)
 
--- what is wrong first, if anything is
-abbrev pub first : Nest → Network → Cert → Option Refusal
-first n network cert =
+-- the certificate with these entries as its schedule, in place of its own
+abbrev pub with_entries : Cert → List ℕ → Cert
+with_entries cert entries = record { sources = cert.sources; schedule = entries }
+
+-- what is wrong first with these entries in place of the certificate's own, if anything is
+abbrev pub first_with : Nest → Network → Cert → List ℕ → Option Refusal
+first_with n network cert entries =
     option_or (shape_refusal n network cert)
     (option_or (firing_refusal n network)
     (option_or (source_refusal n cert)
-    (option_or (schedule_refusal n network cert.schedule) (class_refusal network))))
+    (option_or (schedule_refusal n network entries) (class_refusal network))))
+
+-- what is wrong first, if anything is
+abbrev pub first : Nest → Network → Cert → Option Refusal
+first n network cert = first_with n network cert cert.schedule
 
 -- the verdict that goes with a reason or none
 abbrev pub verdict_of : Option Refusal → Verdict

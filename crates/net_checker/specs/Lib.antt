@@ -10,4 +10,5 @@ pub mod Tables
 pub mod SlotRows
 pub mod TurnQueues
 pub mod TagStates
+pub mod Schedules
 pub mod Fits

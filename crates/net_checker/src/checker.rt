@@ -5,34 +5,39 @@ ghost use Rattle.source_tree.specs.Sources.{sources_of};
 ghost use Rattle.net_core.specs.Machine.{net_of};
 ghost use Rattle.net_core.specs.Shape.{FitsNumbers};
 ghost use Rattle.net_core.specs.Sound.{IsSound};
-ghost use Rattle.net_checker.specs.Fits.{Fits, first, verdict_of};
+ghost use Rattle.net_checker.specs.Fits.{Fits, first, first_with, verdict_of, with_entries};
+ghost use Rattle.net_checker.specs.Schedules.{entries_in};
 
 use crate::classes::class_refusal;
 use crate::entries::schedule_refusal;
 use crate::firings::firing_refusal;
+use crate::schedule::Schedule;
 use crate::shapes::shape_refusal;
 use crate::sources::{source_refusal, table};
 use crate::verdict::{Refusal, Verdict};
 use net_core::Network;
 use plain_data::Items;
 use sanlp::{Nest, Points};
+use script_blocks::Script;
 use source_tree::{Cert, SourceTable};
 use std::alloc::{AllocError, Global};
 
-// What is wrong first, if anything is. The last writers of all reads may be known.
+// What is wrong first with these entries as the schedule, if anything is. The last writers of all reads may be known.
 fn first_refusal(
     alloc: Global,
     nest: &Nest,
     points: &Points,
     network: &Network,
     cert: &Cert,
+    schedule: &Schedule,
     sources: Option<SourceTable>,
 ) -> Result<Option<Refusal>, AllocError>
     requires size { SizeIsOk nest.now }
     requires points { points.now.of ≡ points_of nest.now }
     requires numbers { FitsNumbers (net_of network.now) }
     requires sources { IfSome sources (λ table. table.of ≡ sources_of nest.now) }
-    ensures { IfOk result (λ refusal. refusal ≡ first nest.now network.now cert.now) }
+    ensures { IfOk result (λ refusal. refusal
+        ≡ first_with nest.now network.now cert.now (entries_in schedule.now)) }
 {
     if let Some(refusal) = shape_refusal(nest, network, cert) {
         return Ok(Some(refusal));
@@ -45,7 +50,6 @@ fn first_refusal(
         return Ok(Some(refusal));
     }
     let table = table(alloc, nest, cert, sources, rows)?;
-    let schedule = cert.schedule.as_slice();
     if let Some(refusal) = schedule_refusal(alloc, nest, points, network, &table, schedule)? {
         return Ok(Some(refusal));
     }
@@ -53,13 +57,14 @@ fn first_refusal(
     class_refusal(alloc, network)
 }
 
-// The verdict, where the last writers of all reads may be known.
+// The verdict on the certificate with these entries as its schedule. The last writers of all reads may be known.
 fn judge(
     alloc: Global,
     nest: &Nest,
     points: &Points,
     network: &Network,
     cert: &Cert,
+    schedule: &Schedule,
     sources: Option<SourceTable>,
 ) -> Result<Verdict, AllocError>
     requires size { SizeIsOk nest.now }
@@ -67,13 +72,14 @@ fn judge(
     requires numbers { FitsNumbers (net_of network.now) }
     requires sources { IfSome sources (λ table. table.of ≡ sources_of nest.now) }
     ensures exact { IfOk result
-        (λ verdict. verdict ≡ verdict_of (first nest.now network.now cert.now)) }
-    ensures fits { IfOk result
-        (λ verdict. (verdict ≡ Verdict.Accepted) ↔ Fits nest.now network.now cert.now) }
+        (λ verdict. verdict ≡ verdict_of (first nest.now network.now
+        (with_entries cert.now (entries_in schedule.now)))) }
+    ensures fits { IfOk result (λ verdict. (verdict ≡ Verdict.Accepted)
+        ↔ Fits nest.now network.now (with_entries cert.now (entries_in schedule.now))) }
     ensures sound { IfOk result
         (λ verdict. verdict ≡ Verdict.Accepted → IsSound nest.now network.now) }
 {
-    match first_refusal(alloc, nest, points, network, cert, sources)? {
+    match first_refusal(alloc, nest, points, network, cert, schedule, sources)? {
         Some(refusal) => Ok(Verdict::Refused(refusal)),
         None => Ok(Verdict::Accepted),
     }
@@ -100,7 +106,32 @@ pub fn check(
     ensures sound { IfOk result
         (λ verdict. verdict ≡ Verdict.Accepted → IsSound nest.now network.now) }
 {
-    judge(alloc, nest, points, network, cert, None)
+    let entries = Schedule::Listed(cert.schedule.as_slice());
+    judge(alloc, nest, points, network, cert, &entries, None)
+}
+
+/// The answer of `check` to the certificate with this schedule in place of its own. The schedule stays folded, so that it
+/// takes no memory by its entries. Nothing fails but want of memory.
+pub fn check_folded(
+    alloc: Global,
+    nest: &Nest,
+    points: &Points,
+    network: &Network,
+    cert: &Cert,
+    schedule: &Script<u32>,
+) -> Result<Verdict, AllocError>
+    requires size { SizeIsOk nest.now }
+    requires points { points.now.of ≡ points_of nest.now }
+    requires numbers { FitsNumbers (net_of network.now) }
+    ensures exact { IfOk result (λ verdict. verdict
+        ≡ verdict_of (first nest.now network.now (with_entries cert.now schedule.now))) }
+    ensures fits { IfOk result (λ verdict. (verdict ≡ Verdict.Accepted)
+        ↔ Fits nest.now network.now (with_entries cert.now schedule.now)) }
+    ensures sound { IfOk result
+        (λ verdict. verdict ≡ Verdict.Accepted → IsSound nest.now network.now) }
+{
+    let entries = Schedule::Folded(schedule);
+    judge(alloc, nest, points, network, cert, &entries, None)
 }
 
 /// The answer of `check`, where the last writers of all reads are known, as from the sweep that the network was derived by. The
@@ -124,5 +155,6 @@ pub fn check_with_sources(
     ensures sound { IfOk result
         (λ verdict. verdict ≡ Verdict.Accepted → IsSound nest.now network.now) }
 {
-    judge(alloc, nest, points, network, cert, Some(sources))
+    let entries = Schedule::Listed(cert.schedule.as_slice());
+    judge(alloc, nest, points, network, cert, &entries, Some(sources))
 }

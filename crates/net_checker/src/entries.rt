@@ -11,15 +11,18 @@ ghost use Rattle.net_core.specs.Sound.{FitsNest};
 ghost use Rattle.net_checker.specs.Choice.{first_below};
 ghost use Rattle.net_checker.specs.Entries.{entry_refusal, is_wanted, name_refusal, point_of, schedule_refusal, seen_of, unended, wanted_of};
 ghost use Rattle.net_checker.specs.Lookups.{refused_reference, source_in};
+ghost use Rattle.net_checker.specs.Schedules.{entries_in};
 ghost use Rattle.net_checker.specs.SlotRows.{slots_in};
 ghost use Rattle.net_checker.specs.TagStates.{IsTagState, cut_in, state_of};
 
+use crate::schedule::Schedule;
 use crate::slots::Slots;
 use crate::tag_state::TagState;
 use crate::verdict::{Refusal, Seen, Wanted};
 use affine_core::Vector;
 use net_core::{Event, Network, Ref, Refs};
 use sanlp::{Nest, Point, Points, Tag, reads_before};
+use script_blocks::Script;
 use source_tree::SourceTable;
 use std::alloc::{AllocError, Global};
 
@@ -251,8 +254,8 @@ fn unended(network: &Network, state: &TagState) -> Option<Refusal>
     None
 }
 
-// The first entry of the schedule that is refused, and else the least process that it leaves unended, if there is one.
-pub(crate) fn schedule_refusal(
+// What is wrong with a schedule that stands in a list, if anything is.
+fn listed_refusal(
     alloc: Global,
     nest: &Nest,
     points: &Points,
@@ -279,4 +282,59 @@ pub(crate) fn schedule_refusal(
         state.step(network, *process)?;
     }
     Ok(unended(network, &state))
+}
+
+// The same of a schedule that is kept folded.
+fn folded_refusal(
+    alloc: Global,
+    nest: &Nest,
+    points: &Points,
+    network: &Network,
+    table: &SourceTable,
+    schedule: &Script<u32>,
+) -> Result<Option<Refusal>, AllocError>
+    requires points { points.now.of ≡ points_of nest.now }
+    requires fits { FitsNest nest.now network.now }
+    requires numbers { FitsNumbers (net_of network.now) }
+    requires table { table.now.of ≡ sources_of nest.now }
+    ensures { IfOk result
+        (λ refusal. refusal ≡ schedule_refusal nest.now network.now schedule.now) }
+{
+    let mut state = TagState::new(alloc, network)?;
+    let mut entry: u32 = 0;
+    for process in schedule.iter() {
+        if is_fine(nest, network, table, &state, process) {
+            state.step(network, process)?;
+            entry += 1;
+            continue;
+        }
+        if let Some(refusal) = judge(nest, points, network, table, &state, entry, process) {
+            return Ok(Some(refusal));
+        }
+        state.step(network, process)?;
+        entry += 1;
+    }
+    Ok(unended(network, &state))
+}
+
+// The first entry of the schedule that is refused, and else the least process that it leaves unended, if there is one.
+pub(crate) fn schedule_refusal(
+    alloc: Global,
+    nest: &Nest,
+    points: &Points,
+    network: &Network,
+    table: &SourceTable,
+    schedule: &Schedule,
+) -> Result<Option<Refusal>, AllocError>
+    requires points { points.now.of ≡ points_of nest.now }
+    requires fits { FitsNest nest.now network.now }
+    requires numbers { FitsNumbers (net_of network.now) }
+    requires table { table.now.of ≡ sources_of nest.now }
+    ensures { IfOk result
+        (λ refusal. refusal ≡ schedule_refusal nest.now network.now (entries_in schedule.now)) }
+{
+    match schedule {
+        Schedule::Listed(entries) => listed_refusal(alloc, nest, points, network, table, *entries),
+        Schedule::Folded(script) => folded_refusal(alloc, nest, points, network, table, *script),
+    }
 }

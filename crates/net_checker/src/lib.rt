@@ -11,6 +11,7 @@ mod firings;
 mod fitting_fires;
 mod laws;
 mod parts;
+mod schedule;
 mod shapes;
 mod slots;
 mod sources;
@@ -18,6 +19,6 @@ mod tag_state;
 mod turn_queue;
 mod verdict;
 
-pub use checker::{check, check_with_sources};
+pub use checker::{check, check_folded, check_with_sources};
 pub use laws::{accepts_what_fits, is_sound};
 pub use verdict::{Refusal, Seen, Verdict, Wanted};

@@ -1,6 +1,6 @@
 //! Tests of `cert_text`.
 use cert_lines::CertError;
-use cert_text::{read_cert, write_cert};
+use cert_text::{read_cert, read_folded, write_cert};
 use io_edge::MemSink;
 use std::alloc::{AllocError, Global};
 use std::test::Fail;
@@ -66,6 +66,16 @@ const LEAF: &[u8] = b"tree\n\
     s 2 1\n\
     s 5 1 6 1\n";
 
+// A process whose script has repeats, one of which stands in another. It is written by these blocks, and not event by event.
+const REPEATS: &[u8] = b"process 0 2\n\
+    r 3 2\n\
+    f\n\
+    p 0\n\
+    r 4 2\n\
+    r 2 1\n\
+    f\n\
+    p 0\n";
+
 /// A text with these lines in place of so many from this number on.
 fn with_lines(
     alloc: Global,
@@ -105,11 +115,43 @@ fn a_network_and_its_certificate_are_written_byte_for_byte(rt: HostRuntime) -> R
     let alloc = rt.alloc();
     let leaf = with_lines(alloc, FOLDED, 15, 1, LEAF)?;
     assert!(rt; is_written_as(alloc, leaf.as_slice(), leaf.as_slice(), 1_000)?);
+    let repeats = with_lines(alloc, FOLDED, 3, 3, REPEATS)?;
+    assert!(rt; is_written_as(alloc, repeats.as_slice(), repeats.as_slice(), 1_000)?);
     for room in [1_000, 175, 174, 7, 0] {
         assert!(rt; is_written_as(alloc, TEXT, FOLDED, room)?);
         assert!(rt; is_written_as(alloc, FOLDED, FOLDED, room)?);
     }
     Ok(())
+}
+
+#[test]
+fn a_schedule_that_stays_folded_is_the_same(rt: HostRuntime) -> Result<(), Fail> {
+    let alloc = rt.alloc();
+    for text in [TEXT, FOLDED] {
+        let (network, cert) = read_folded(alloc, text)?;
+        assert!(rt; cert.rest.schedule.is_empty());
+        assert!(rt; cert.schedule.len() == 7);
+        let cert = cert.unfold(alloc)?;
+        let mut sink = MemSink::new(alloc, 1_000, 7, &[])?;
+        assert!(rt; write_cert(&network, &cert, &mut sink).is_ok());
+        assert!(rt; sink.held() == FOLDED);
+    }
+    let large = with_lines(alloc, FOLDED, 17, 6, b"r 142606334 1\n0\n1\n2\n")?;
+    let (network, cert) = read_folded(alloc, large.as_slice())?;
+    drop(network);
+    assert!(rt; cert.schedule.len() == 142_606_336);
+    Ok(())
+}
+
+/// Why a text is refused where its schedule stays folded, or `None` where it is read.
+fn folded_refusal(alloc: Global, text: &[u8]) -> Option<CertError> {
+    match read_folded(alloc, text) {
+        Ok(pair) => {
+            drop(pair);
+            None
+        }
+        Err(error) => Some(error),
+    }
 }
 
 /// Why a text is refused, or `None` where it is read.
@@ -270,6 +312,7 @@ fn lines_are_judged_one_by_one(rt: HostRuntime) -> Result<(), Fail> {
     for (text, number, count, lines, want) in &CHANGES {
         let changed = with_lines(alloc, text, *number, *count, lines)?;
         assert!(rt; refusal(alloc, changed.as_slice()) == *want);
+        assert!(rt; folded_refusal(alloc, changed.as_slice()) == *want);
     }
     let whole = with_lines(alloc, TEXT, 15, 1, LEAF)?;
     for len in 0..whole.len() {

@@ -1,7 +1,5 @@
 use Rattle.std.proofs.Common.{◌≡◌, ℕ, Option, Some, None, List, Result, Ok, Err, sym, ap, ◌∙◌}
 use Rattle.std.proofs.lemmas.Result.{err_from_is_err_and}
-use Rattle.net_core.specs.declared.network.Network.{Network}
-use Rattle.source_tree.specs.declared.cert.Cert.{Cert}
 use Rattle.cert_lines.specs.declared.error.CertError.{CertError}
 use Rattle.cert_lines.specs.Reading.{Place, found}
 use Rattle.cert_text.specs.declared.kept.Kept.{Kept}
@@ -36,9 +34,9 @@ returns-in-Some c = λ known.
     (Ok (c.in_ok-kept.kept, c.read_whole.new.lines)) c.new-lines.ensures c.in_ok-kept.ensures.reads
     ∙ unless (Some c.in-Some.process) _ c.in_ok-kept.kept (sym c.too_long.ensures ∙ c.in-Some.is)
 
-pub returns-in_ok-unfold-in-None : goal.returns-in_ok-unfold-in-None
-returns-in_ok-unfold-in-None c =
+pub returns-in_ok-pair_of-in-None : goal.returns-in_ok-pair_of-in-None
+returns-in_ok-pair_of-in-None c =
     by_kept c.args.bytes.now c.new-lines.result
     (Ok (c.in_ok-kept.kept, c.read_whole.new.lines)) c.new-lines.ensures c.in_ok-kept.ensures.reads
     ∙ unless None _ c.in_ok-kept.kept (sym c.too_long.ensures ∙ c.in-None.is)
-    ∙ ap (λ (pair : Network × Cert). Ok pair) (sym c.in_ok-unfold-in-None.ensures)
+    ∙ (λ i. Ok (sym c.in_ok-pair_of-in-None.ensures.network i, sym c.in_ok-pair_of-in-None.ensures.cert i))

@@ -3,13 +3,11 @@ use Rattle.cert_text.proofs.writing.write_text.Goals as goal
 
 pub returns : goal.returns
 returns g c =
-    text_wrote g.W.TextWriter.given c.args.out.now c.write_line.new.out c.write_sizes.new.out c.write_processes.new.out
-    c.write_each.new.out c.write_each-2.new.out c.write_schedule.new.out c.write_line-2.new.out
-    c.args.network.now c.args.cert.now c.write_line.ensures
-    (rw (c.len.ensures, c.len-2.ensures, c.len-3.ensures, c.stretch_count.ensures, c.as_slice.ensures) at
-    c.write_sizes.ensures)
-    (rw c.as_slice-2.ensures at c.write_processes.ensures)
-    (rw c.as_slice-3.ensures at c.write_each.ensures)
-    (rw c.as_slice-4.ensures at c.write_each-2.ensures)
-    (rw c.as_slice-5.ensures at c.write_schedule.ensures)
+    text_wrote g.W.TextWriter.given g.P.HasBlocks.gives c.args.out.now c.write_line.new.out c.write_sizes.new.out
+    c.write_processes.new.out c.write_each.new.out c.write_each-2.new.out c.write_schedule.new.out c.write_line-2.new.out
+    c.args.processes.now c.args.channels.now c.args.cert.now c.write_line.ensures
+    (rw (c.len.ensures, c.stretch_count.ensures, c.as_slice.ensures) at c.write_sizes.ensures)
+    c.write_processes.ensures c.write_each.ensures
+    (rw c.as_slice-2.ensures at c.write_each-2.ensures)
+    (rw c.as_slice-3.ensures at c.write_schedule.ensures)
     c.write_line-2.ensures

@@ -1,5 +1,6 @@
 use Rattle.std.proofs.Common.{sym}
 use Rattle.std.proofs.lemmas.Result.{err_from_is_err_and}
+use Rattle.cert_text.specs.FoldedCerts.{whole_cert}
 use Rattle.command_answers.specs.Checking.{Checks, part_missing, source_refused}
 use Rattle.command_answers.specs.Replying.{as_reply}
 use Rattle.command_answers.proofs.CheckAnswers.{checks_judged, checks_unread}
@@ -25,7 +26,7 @@ verdict_on-requires-clause-numbers c = c.in-Ok.ensures.few
 pub returns-in-Ok : goal.returns-in-Ok
 returns-in-Ok c =
     checks_judged c.args.params.now c.args.bundle.now c.parts_of-parts.result.source.now c.in-Some.part.now
-    c.in_ok-nest.nest c.in-Ok.network c.in-Ok.cert _ c.parts_of-parts.ensures.source
+    c.in_ok-nest.nest c.in-Ok.network (whole_cert c.in-Ok.cert) _ c.parts_of-parts.ensures.source
     (sym (rw c.in-Some.is at c.parts_of-parts.ensures.certificate)) c.in_ok-nest.ensures.0 c.in-Ok.ensures.exact
     c.in_ok-verdict-in-Ok.ensures
 

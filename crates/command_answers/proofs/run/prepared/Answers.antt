@@ -16,5 +16,5 @@ returns-in_err-nest c =
 pub returns : goal.returns
 returns c =
     prepared_from c.args.params.now c.args.bundle.now c.parts_of-parts.result.source.now
-    c.parts_of-parts.result.data.now c.in_ok-nest.nest c.with_inputs.result
+    c.parts_of-parts.result.array_data.now c.in_ok-nest.nest c.with_inputs.result
     c.parts_of-parts.ensures.source c.parts_of-parts.ensures.between c.in_ok-nest.ensures c.with_inputs.ensures

@@ -3,7 +3,7 @@ use Rattle.std.proofs.lemmas.Bool.{OnTrue_at}
 use Rattle.std.proofs.lemmas.Option.{slice_get-get_or}
 use Rattle.net_core.specs.Machine.{net_of}
 use Rattle.net_checker.proofs.Walk.{walked_start, walked_more, entry_short, entry_found, at_end}
-use Rattle.net_checker.proofs.entries.schedule_refusal.Goals as goal
+use Rattle.net_checker.proofs.entries.listed_refusal.Goals as goal
 
 pub loop-entry-init : goal.loop-entry-init
 loop-entry-init c =

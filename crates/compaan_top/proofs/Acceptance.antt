@@ -3,10 +3,10 @@
 -- That `check` is done leaves one case: every other end, outcome and answer has another status (`IsUndone`). In that case
 -- nothing was found wrong with the pair that was read, so the pair fits, the text stands for it, and the network is sound. The
 -- other way, a text that stands for a fitting pair is read as that pair and its source gives one nest, so no case is
--- left in which it isn't accepted. Hypotheses here: the first fault is none exactly where the pair fits
+-- left in which it isn't accepted, and the case in which it is is there (`accepts_surely`). Hypotheses here: the first fault is none exactly where the pair fits
 -- (`NothingWrongFits`), what fits is sound (`WhatFitsIsSound`), reading and standing for agree (`ReadsItsText`,
 -- `TextIsRead`), and `OneTree`.
-use Rattle.std.proofs.Common.{Err, ◌≡◌, ◌≤◌, ◌∙◌, arith, length, ℕ, ℤ, List, Option, Some, None, Result, Ok, refl, ap, subst, inl, inr}
+use Rattle.std.proofs.Common.{Err, ◌≡◌, ◌≤◌, ◌∙◌, arith, length, ℕ, ℤ, List, Option, Some, None, Result, Ok, refl, sym, ap, subst, inl, inr}
 use Rattle.std.specs.Prelude.{◌↔◌}
 use Rattle.cert_text.specs.StandsFor.{StandsFor}
 use Rattle.cert_text.specs.Reading.{reading}
@@ -23,6 +23,7 @@ use Rattle.sanlp.specs.declared.nest.Nest.{Nest}
 use Rattle.source_tree.specs.declared.cert.Cert.{Cert}
 use Rattle.compaan_top.specs.Answers.{Change, Ends, IsRead, ReadsFor, ReadsTo, no_memory, read_fault, written, cut_short}
 use Rattle.command_answers.specs.Checking.{Checks, verdict_reply, part_missing, source_refused, unread, judged}
+use Rattle.compaan_top.specs.Certified.{Accepts}
 use Rattle.compaan_top.specs.Headline.{AcceptsWhatFits, HasFittingCertificate, HasSoundCertificate, accepted}
 use Rattle.compaan_top.specs.Outcome.{Outcome, IsOutcome, Performs, bundle_limit, outcome_of, words_refused, bundle_refused, performed}
 use Rattle.compaan_top.specs.Complaints.{refusal_status}
@@ -168,7 +169,7 @@ part_read back params bundle part v there =
 no_error : (a : Result (Network × Cert) CertError) (e : CertError) (pair : Network × Cert) → a ≡ Err e → a ≡ Ok pair → ⊥
 no_error a e pair x y = cc
 
-same_pair : (a : Result (Network × Cert) CertError) (x y : Network × Cert) → a ≡ Ok x → a ≡ Ok y → x ≡ y
+pub same_pair : (a : Result (Network × Cert) CertError) (x y : Network × Cert) → a ≡ Ok x → a ≡ Ok y → x ≡ y
 same_pair a x y p q = cc
 
 -- nothing is wrong with a fitting pair
@@ -220,4 +221,23 @@ accepts_fitting one fitting reads back wanted bundle order ordered is within out
       checks_vouched fitting reads params b made done) wanted bundle order ordered is outcome_is
       (ap (λ (o : Outcome). o.status) same),
   λ v. outcome_accepted one fitting back wanted bundle order ordered is within v outcome_is,
+)
+
+-- what has a fitting certificate comes to `accepted`: its text is read as the pair, of which nothing is wrong
+fitting_outcome : NothingWrongFits → TextIsRead → (check : Order) (bundle : List ℕ) → check.command ≡ Check
+    → length bundle ≤ bundle_limit → HasFittingCertificate check.params bundle → IsOutcome (Some check) bundle accepted
+fitting_outcome fitting back check bundle is within v =
+    let answer = Ok (verdict_reply (verdict_of None)) in
+    let made : Checks check.params bundle answer =
+    subst (λ (found : Option NetRefusal). Checks check.params bundle (Ok (verdict_reply (verdict_of found))))
+    ((fitting v.nest v.network v.cert).1 v.fits)
+    (judged v.text v.nest v.network v.cert v.is_part v.gives (back v.text v.network v.cert v.stands)) in
+    performed check answer refl within (subst (λ (c : Command). Performs c check bundle answer) (sym is) made)
+
+-- and to nothing else
+pub accepts_surely : OneTree → NothingWrongFits → TextIsRead → (check : Order) (bundle : List ℕ)
+    → HasFittingCertificate check.params bundle → Accepts check bundle
+accepts_surely one fitting back check bundle v is within outcome = (
+  outcome_accepted one fitting back (Some check) bundle check refl is within v,
+  λ same. subst (IsOutcome (Some check) bundle) (sym same) (fitting_outcome fitting back check bundle is within v),
 )

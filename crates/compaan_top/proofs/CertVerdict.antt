@@ -1,7 +1,7 @@
 -- What `cert` writes is accepted. The values of parameters bear on a nest through the declarations alone, each of which
 -- looks up its own name. So two lists that agree on the declared names bind a tree to the same nest, and the pair that
 -- `cert` wrote fits the nest that `check` makes.
-use Rattle.std.proofs.Common.{◌≡◌, ◌∙◌, ◌++◌, arith, ℕ, ℤ, List, [], ◌∷◌, Option, Some, None, Result, Ok, Err, refl, sym, ap, subst}
+use Rattle.std.proofs.Common.{◌≡◌, ◌∙◌, ◌++◌, ℕ, ℤ, List, [], ◌∷◌, Option, Some, None, Result, Ok, Err, refl, sym, ap, subst}
 use Rattle.bundle.specs.Certified.{certified, with_line_end}
 use Rattle.cert_text.specs.StandsFor.{IsWrittenOf, StandsFor}
 use Rattle.bundle.specs.Parts.{after_separator, certificate_part, source_part}
@@ -27,7 +27,6 @@ use Rattle.loop_grammar.specs.declared.tree.Named.{Named}
 use Rattle.std.specs.List.{fold}
 use Rattle.std.specs.Io.KnownBytes.{Appends}
 use Rattle.std.proofs.lemmas.List.{append_cancel_left}
-use Rattle.std.proofs.lemmas.List.Elements.{Contains-append_right}
 use Rattle.std.proofs.lemmas.Option.{same_Some}
 use Rattle.loop_walk.specs.declared.count.SizeError.{SizeError}
 use Rattle.swept_net.specs.Certificates.{IsCertificate}
@@ -39,9 +38,9 @@ use Rattle.witness_plan.specs.declared.schedules.Policy.{Policy}
 use Rattle.witness_plan.specs.Schedules.{planned_network}
 use Rattle.compaan_top.specs.Certified.{Accepts, AgreeOn, Call, Certifies, HasCertificate, ReadCertificate, StandsForPlanned, WroteCertificate}
 use Rattle.compaan_top.specs.Commands.{reads_of}
-use Rattle.compaan_top.specs.Headline.{AcceptsWhatFits, HasFittingCertificate, SaysAccepted}
+use Rattle.compaan_top.specs.Headline.{HasFittingCertificate, SaysAccepted}
 use Rattle.compaan_top.specs.Outcome.{Outcome, IsOutcome, Performs, outcome_of, words_refused, bundle_refused, performed}
-use Rattle.tree_answers.specs.Certifying.{PrintsCertificate, source_refused, printed}
+use Rattle.compaan_top.specs.Certifying.{PrintsCertificate, source_refused, printed}
 use Rattle.compaan_top.specs.Complaints.{refusal_status}
 use Rattle.command_answers.specs.Replies.{Reply}
 use Rattle.command_answers.specs.Source as sized
@@ -316,16 +315,16 @@ stands_planned stands cert bundle written made =
       certificate = w.certificate;
     }
 
-module _ (accepts : (wanted : Option Order) (bundle : List ℕ) → AcceptsWhatFits wanted bundle)
+module _ (accepts : (check : Order) (bundle : List ℕ) → HasFittingCertificate check.params bundle → Accepts check bundle)
     (stands : WrittenStands) (tokens_stay : TokensStay) (sentence_stays : SentenceStays) where
   pub accepts_parts : (cert check : Order) (bundle other : List ℕ) (written : Outcome)
       → AgreeOn (source_part bundle) cert.params check.params → Certifies cert bundle written
       → HasCertificate bundle other written.output → Accepts check other
-  accepts_parts cert check bundle other written agree made has is within outcome outcome_is =
+  accepts_parts cert check bundle other written agree made has =
       let w : HasWritten check.params cert.policy bundle written.output =
       rewritten cert.params check.params cert.policy bundle written.output agree
       (outcome_written cert bundle made.command made.outcome made.done) in
-      (accepts (Some check) other check refl is within outcome outcome_is).1
+      accepts check other
       (fitting stands tokens_stay sentence_stays check.params cert.policy bundle other written.output w has)
 
   module _ (no_separator : (bundle : List ℕ) → after_separator (source_part bundle) ≡ None)
@@ -371,4 +370,4 @@ module _ (accepts : (wanted : Option Order) (bundle : List ℕ) → AcceptsWhatF
         (accepts_bytes cert.order check.order bundle first.outcome agree
         (record { command = wrote.command; outcome = first.is; done = sym first.has_status ∙ wrote.done })) in
         says_accepted (Some check.order) check.output check.complaint all check.status second
-        (accepted_bytes read.command read.within second.outcome second.is)
+        ((accepted_bytes read.command read.within second.outcome).0 second.is)

@@ -15,7 +15,7 @@ use Rattle.command_line.specs.declared.words.Command.TheVariants.{Run, Seq, Net,
 use Rattle.command_line.specs.declared.words.Order.{Order}
 use Rattle.compaan_top.specs.Answers.{Change, IsQuiet, HasFault, IsRead, ReadsFor, ReadsTo, TakesAtMost, most_taken, Ends, WritesNothing, no_memory, read_fault, written, cut_short}
 use Rattle.compaan_top.specs.Commands.{Reads, source_alone, source_and_data, source_and_certificate, nothing, read_by, reads_of, waits, WaitsForNobody}
-use Rattle.tree_answers.specs.Certifying.{PrintsCertificate}
+use Rattle.compaan_top.specs.Certifying.{PrintsCertificate}
 use Rattle.command_answers.specs.Judging.{Judges}
 use Rattle.command_answers.specs.Load.{Loads}
 use Rattle.compaan_top.specs.Complaints.{refusal_line, refusal_status}

@@ -8,3 +8,5 @@ pub mod Statuses
 pub mod SourceBytes
 pub mod NoLimit
 pub mod Acceptance
+mod CertificateAnswers
+mod TellsSources

@@ -14,7 +14,7 @@ use Rattle.compaan_top.specs.Answers.{Change, Ends}
 use Rattle.compaan_top.specs.Commands.{reads_of}
 use Rattle.compaan_top.specs.Laws.{HasParts, IsDone, IsNestFor, IsValid, IsWithinOwnLimit, IsWithinSizeFor, Succeeds}
 use Rattle.compaan_top.specs.Outcome.{IsOutcome, Outcome, bundle_limit, bundle_refused, outcome_of, performed, words_refused}
-use Rattle.tree_answers.specs.Telling.{GivesTrees}
+use Rattle.compaan_top.specs.Telling.{GivesTrees}
 use Rattle.compaan_top.specs.Told.{ComesTo, IsAnswered, IsTold}
 use Rattle.compaan_top.proofs.SourceBytes.{comes_to}
 

@@ -24,8 +24,8 @@ use Rattle.sanlp.specs.declared.nest.Nest.{Nest}
 use Rattle.witness_plan.specs.declared.schedules.Policy.{Policy}
 use Rattle.witness_plan.specs.declared.schedules.Policy.TheVariants as policy
 use Rattle.compaan_top.specs.Answers.{Change, Ends, HasFault, no_memory, read_fault, written, cut_short}
-use Rattle.tree_answers.specs.Certifying as certify
-use Rattle.tree_answers.specs.Certifying.{PrintsCertificate}
+use Rattle.compaan_top.specs.Certifying as certify
+use Rattle.compaan_top.specs.Certifying.{PrintsCertificate}
 use Rattle.command_answers.specs.Checking as check
 use Rattle.command_answers.specs.Checking.{Checks, verdict_reply}
 use Rattle.compaan_top.specs.Commands.{Reads, source_alone, source_and_data, source_and_certificate, nothing, read_by, reads_of}
@@ -42,8 +42,8 @@ use Rattle.compaan_top.specs.Complaints.{refusal_status}
 use Rattle.command_answers.specs.Replies.{Reply}
 use Rattle.command_answers.specs.Run.{Runs, IsInputs, run_text, source_refused, data_refused, answered}
 use Rattle.command_answers.specs.Simulating.{simulation_text}
-use Rattle.tree_answers.specs.Telling as telling
-use Rattle.tree_answers.specs.Telling.{TellsSources}
+use Rattle.compaan_top.specs.Telling as telling
+use Rattle.compaan_top.specs.Telling.{TellsSources}
 use Rattle.command_answers.specs.Tracing as tracing
 use Rattle.command_answers.specs.Tracing.{Traces}
 use Rattle.command_answers.specs.Trimming.{trimming_text}

@@ -49,8 +49,8 @@ use Rattle.bundle.specs.Parts.{certificate_part, data_part, source_part}
 use Rattle.command_line.specs.declared.words.Order.{Order}
 use Rattle.command_line.specs.declared.words.Command.{Command}
 use Rattle.command_line.specs.declared.words.Command.TheVariants.{Run, Seq, Net, Cert, Check, Deps, Vhdl, Load, Sim, Trim, Trace}
-use Rattle.tree_answers.specs.Certifying as certify
-use Rattle.tree_answers.specs.Certifying.{PrintsCertificate}
+use Rattle.compaan_top.specs.Certifying as certify
+use Rattle.compaan_top.specs.Certifying.{PrintsCertificate}
 use Rattle.command_answers.specs.Checking as check
 use Rattle.command_answers.specs.Checking.{Checks, verdict_reply}
 use Rattle.compaan_top.specs.Commands.{reads_of, source_and_certificate}
@@ -76,8 +76,8 @@ use Rattle.command_answers.specs.Refusals.{byte_of, lex_refusal, bind_refusal, s
 use Rattle.compaan_top.specs.Complaints.{refusal_status}
 use Rattle.command_answers.specs.Run.{Runs, IsInputs, run_text, source_refused, data_refused, answered}
 use Rattle.command_answers.specs.Simulating.{simulation_text}
-use Rattle.tree_answers.specs.Telling as telling
-use Rattle.tree_answers.specs.Telling.{IsSmallWhereSwept, IsSwept, TellsSources}
+use Rattle.compaan_top.specs.Telling as telling
+use Rattle.compaan_top.specs.Telling.{IsSmallWhereSwept, IsSwept, TellsSources}
 use Rattle.command_answers.specs.Tracing as tracing
 use Rattle.command_answers.specs.Tracing.{Traces}
 use Rattle.command_answers.specs.Trimming.{trimming_text}

@@ -1,7 +1,7 @@
 -- What one can rely on of a call of the program.
 use Rattle.std.specs.Prelude.{◌≡◌, ◌≢◌, ◌↔◌, ℕ, List, Option, Some}
 use Rattle.command_answers.specs.Statuses.{status_number}
-use Rattle.tree_answers.specs.Telling.{GivesTrees}
+use Rattle.compaan_top.specs.Telling.{GivesTrees}
 use Rattle.command_answers.specs.declared.status.Status.{Status}
 use Rattle.command_answers.specs.declared.status.Status.TheVariants.{Done, LimitPassed}
 use Rattle.command_line.specs.declared.words.Command.TheVariants.{Check, Deps}

@@ -1,5 +1,5 @@
 -- What `check` answers to what `cert` writes.
-use Rattle.std.specs.Prelude.{◌≡◌, ◌≤◌, ℕ, ℤ, List, ◌++◌, length, Contains, Some, Ok}
+use Rattle.std.specs.Prelude.{◌≡◌, ◌≤◌, ◌↔◌, ℕ, ℤ, List, ◌++◌, length, Contains, Some, Ok}
 use Rattle.bundle.specs.Certified.{with_line_end}
 use Rattle.cert_text.specs.StandsFor.{StandsFor}
 use Rattle.bundle.specs.Parts.{certificate_part, source_part}
@@ -60,11 +60,11 @@ pub record HasCertificate (bundle other text : List ℕ) : Type 0 where
   pub source : source_part other ≡ with_line_end (source_part bundle)
   pub certificate : certificate_part other ≡ Some text
 
--- an order to `check` comes to `accepted` on a bundle within the limit
+-- an order to `check` comes to `accepted`, and to nothing else, on a bundle within the limit
 abbrev pub Accepts : Order → List ℕ → Type 0
 Accepts order bundle =
     order.command ≡ command.Check → length bundle ≤ bundle_limit → (outcome : Outcome)
-    → IsOutcome (Some order) bundle outcome → outcome ≡ accepted
+    → IsOutcome (Some order) bundle outcome ↔ (outcome ≡ accepted)
 
 -- a call with an order, and how it ended
 pub record Call : Type 0 where

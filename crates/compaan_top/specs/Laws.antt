@@ -18,7 +18,7 @@ use Rattle.compaan_top.specs.Outcome.{Outcome, IsOutcome, bundle_limit}
 use Rattle.command_answers.specs.Run.{IsInputs}
 use Rattle.command_answers.specs.Source.{Gives}
 use Rattle.command_answers.specs.Statuses.{is_one_of}
-use Rattle.tree_answers.specs.Telling.{IsSmallWhereSwept}
+use Rattle.compaan_top.specs.Telling.{IsSmallWhereSwept}
 use Rattle.command_answers.specs.declared.status.Status.{Status}
 use Rattle.command_answers.specs.declared.status.Status.TheVariants.{BundleRefused, CertificateRefused, ClassRefused, DataRefused, Done, InputFailed, LimitPassed, NoMemory, OutputFailed, TextRefused, WordsRefused}
 

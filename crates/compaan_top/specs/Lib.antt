@@ -1,10 +1,12 @@
 pub mod Answers
 pub mod Calls
 pub mod Certified
+pub mod Certifying
 pub mod Commands
 pub mod Complaints
 pub mod Headline
 pub mod Laws
 pub mod Outcome
 pub mod Planned
+pub mod Telling
 pub mod Told

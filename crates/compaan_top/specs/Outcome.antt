@@ -4,7 +4,7 @@ use Rattle.std.specs.Prelude.{◌≡◌, ◌≢◌, ◌≤◌, ◌<◌, ℕ, Lis
 use Rattle.command_line.specs.declared.words.Command.{Command}
 use Rattle.command_line.specs.declared.words.Command.TheVariants.{Run, Seq, Net, Cert, Check, Deps, Vhdl, Load, Sim, Trim, Trace}
 use Rattle.command_line.specs.declared.words.Order.{Order}
-use Rattle.tree_answers.specs.Certifying.{PrintsCertificate}
+use Rattle.compaan_top.specs.Certifying.{PrintsCertificate}
 use Rattle.command_answers.specs.Checking.{Checks}
 use Rattle.compaan_top.specs.Commands.{nothing, reads_of}
 use Rattle.command_answers.specs.Describing.{Describes}
@@ -14,7 +14,7 @@ use Rattle.compaan_top.specs.Complaints.{refusal_line, refusal_status}
 use Rattle.command_answers.specs.Replies.{Reply}
 use Rattle.command_answers.specs.Run.{Runs, run_text}
 use Rattle.command_answers.specs.Simulating.{simulation_text}
-use Rattle.tree_answers.specs.Telling.{TellsSources}
+use Rattle.compaan_top.specs.Telling.{TellsSources}
 use Rattle.command_answers.specs.Tracing.{Traces}
 use Rattle.command_answers.specs.Trimming.{trimming_text}
 use Rattle.command_answers.specs.declared.refusal.Refusal.{Refusal}

@@ -9,8 +9,10 @@ ghost use Rattle.compaan_top.specs.Commands.{WaitsForNobody, WaitsForThreads};
 ghost use Rattle.compaan_top.specs.Outcome.{bundle_limit};
 ghost use Rattle.compaan_top.specs.Planned.{IsCertificatePlanned, IsOrdered, IsPlanned, JudgesOrder, ReadsBundle};
 
+use crate::certifying::print_certificate;
 use crate::complaint::{refusal_status, write_refusal};
 use crate::law::what_ends_is_a_call;
+use crate::telling::tell_dependences;
 use crate::writing::{status_of, write_text};
 use cert_text::write_cert;
 use command_answers::{
@@ -22,7 +24,6 @@ use io_edge::{Gate, ReadError, Sink, Source, read_all};
 use std::alloc::Global;
 use std::sync::Wait;
 use std::thread::Threads;
-use tree_answers::{print_certificate, tell_dependences};
 
 /// The most bytes that a bundle has.
 const BUNDLE_LIMIT: usize = 67_108_864;

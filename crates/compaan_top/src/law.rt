@@ -68,9 +68,11 @@ pub fn no_status_ends_every_call()
 {}
 
 /// An order to `check` comes to `accepted` exactly where the certificate part stands for a network and a certificate that fit
-/// the source's nest.
+/// the source's nest (`exact`). On a bundle within the limit where they do, it comes to `accepted` and to nothing else (`fitting`).
 pub fn what_fits_is_accepted()
-    ensures { (wanted : Option Order) (bundle : List ℕ) → AcceptsWhatFits wanted bundle }
+    ensures exact { (wanted : Option Order) (bundle : List ℕ) → AcceptsWhatFits wanted bundle }
+    ensures fitting { (check : Order) (bundle : List ℕ)
+        → HasFittingCertificate check.params bundle → Accepts check bundle }
 {
     one_tree();
     accepts_what_fits();
@@ -78,9 +80,9 @@ pub fn what_fits_is_accepted()
 }
 
 /// Where `cert` is done, what was written stands for the network of the source's nest, with the capacities that its
-/// schedule needs, and for a certificate with that schedule, which fit the nest. And `check` comes to `accepted` on every bundle
-/// within the limit with that source and with what was written as its certificate; so on the source, two separators and what was
-/// written. The values of the parameters are to agree, name by name, on those that the source declares. `calls` says it of two
+/// schedule needs, and for a certificate with that schedule, which fit the nest. And `check` comes to `accepted`, and to nothing
+/// else, on every bundle within the limit with that source and with what was written as its certificate; so on the source, two
+/// separators and what was written. The values of the parameters are to agree, name by name, on those that the source declares. `calls` says it of two
 /// calls: the first wrote a text, and the second read it behind the source.
 pub fn what_cert_writes_is_accepted()
     ensures stands { (cert : Order) (bundle : List ℕ) (written : Outcome)

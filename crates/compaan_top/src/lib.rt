@@ -4,8 +4,10 @@
 #![tactic(auto)]
 
 mod call;
+mod certifying;
 mod complaint;
 mod law;
+mod telling;
 mod writing;
 
 pub use call::{compaan, quiet};

@@ -8,14 +8,14 @@ returns-clause-stands c =
 
 pub returns-clause-parts : goal.returns-clause-parts
 returns-clause-parts c =
-    accepts_parts c.what_fits_is_accepted.ensures
+    accepts_parts c.what_fits_is_accepted.ensures.fitting
     (λ n policy cert text sized certificate written. c.what_is_written_stands.ensures text _ _ written
     (c.certificate_has_text.ensures n policy cert certificate sized))
     c.line_end_changes_no_token.ensures.tokens c.line_end_changes_no_token.ensures.sentence
 
 pub returns-clause-bytes : goal.returns-clause-bytes
 returns-clause-bytes c =
-    accepts_bytes c.what_fits_is_accepted.ensures
+    accepts_bytes c.what_fits_is_accepted.ensures.fitting
     (λ n policy cert text sized certificate written. c.what_is_written_stands.ensures text _ _ written
     (c.certificate_has_text.ensures n policy cert certificate sized))
     c.line_end_changes_no_token.ensures.tokens c.line_end_changes_no_token.ensures.sentence
@@ -24,7 +24,7 @@ returns-clause-bytes c =
 
 pub returns-clause-calls : goal.returns-clause-calls
 returns-clause-calls c =
-    accepts_calls c.what_fits_is_accepted.ensures
+    accepts_calls c.what_fits_is_accepted.ensures.fitting
     (λ n policy cert text sized certificate written. c.what_is_written_stands.ensures text _ _ written
     (c.certificate_has_text.ensures n policy cert certificate sized))
     c.line_end_changes_no_token.ensures.tokens c.line_end_changes_no_token.ensures.sentence

@@ -10,7 +10,7 @@ use Rattle.command_answers.specs.Judging.{Judges}
 use Rattle.command_answers.specs.Replying.{as_reply}
 use Rattle.command_answers.specs.Replies.{done}
 use Rattle.command_answers.specs.Source.{Gives}
-use Rattle.tree_answers.specs.Telling.{HasSwept, TellsSources, source_refused, size_refused, told}
+use Rattle.compaan_top.specs.Telling.{HasSwept, TellsSources, source_refused, size_refused, told}
 use Rattle.command_answers.specs.declared.answer.Answer.{Answer}
 use Rattle.command_answers.specs.declared.refusal.Refusal.{Refusal}
 use Rattle.command_answers.specs.declared.refusal.Stop.{Stop}

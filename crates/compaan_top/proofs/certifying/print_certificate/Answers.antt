@@ -1,9 +1,9 @@
 use Rattle.std.proofs.lemmas.Result.{err_from_is_err_and}
-use Rattle.tree_answers.specs.Certifying.{PrintsCertificate, source_refused}
+use Rattle.compaan_top.specs.Certifying.{PrintsCertificate, source_refused}
 use Rattle.command_answers.specs.Replying.{JudgesTexts}
-use Rattle.tree_answers.proofs.CertificateAnswers.{prints_certificate}
+use Rattle.compaan_top.proofs.CertificateAnswers.{prints_certificate}
 use Rattle.command_answers.proofs.Stops.{without_nest}
-use Rattle.tree_answers.proofs.certifying.print_certificate.Goals as goal
+use Rattle.compaan_top.proofs.certifying.print_certificate.Goals as goal
 
 pub returns-in_err-nest : goal.returns-in_err-nest
 returns-in_err-nest c =

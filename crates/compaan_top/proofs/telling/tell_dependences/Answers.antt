@@ -1,6 +1,6 @@
 use Rattle.std.proofs.lemmas.Result.{err_from_is_err_and}
-use Rattle.tree_answers.proofs.TellsSources.{told_nest, told_without_nest, told_without_size}
-use Rattle.tree_answers.proofs.telling.tell_dependences.Goals as goal
+use Rattle.compaan_top.proofs.TellsSources.{told_nest, told_without_nest, told_without_size}
+use Rattle.compaan_top.proofs.telling.tell_dependences.Goals as goal
 
 pub returns-in_err-nest : goal.returns-in_err-nest
 returns-in_err-nest c =

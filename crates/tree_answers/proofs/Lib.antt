@@ -1,2 +1,0 @@
-mod CertificateAnswers
-mod TellsSources

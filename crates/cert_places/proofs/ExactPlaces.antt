@@ -570,3 +570,21 @@ text_is_read text depths k low = of_outcome (text_outcome text depths k)
         let longer : length before < length depths = omega (arith, ap length split, length-append before (d ∷ after)) in
         let there = shallow_there depths [] before d after low (append-nil depths ∙ split) longer in
         absurd (omega (arith, there, high))
+
+-- a text is read, or refused with one of the causes, none of which is want of memory
+pub no_want_of_memory : (text : List ℕ) → reading text ≢ Err Memory
+no_want_of_memory text memory = of_verdict (verdict_of text (whole_text (start text)) refl)
+  where
+    refused_else : (refusal : CertError) → refusal ≢ Memory → reading text ≡ Err refusal → ⊥
+    refused_else refusal other e = let same : refusal ≡ Memory = cc in other same
+
+    of_verdict : Verdict text → ⊥
+    of_verdict (whole lines each is f ds k low) =
+        elim (text_is_read text ds k low) [
+          | inl read ↦ let is = read.1 in cc
+          | inr long ↦ refused_else (Long long.0) (λ w. cc w) long.1
+        ]
+    of_verdict (line_at m e k) = refused_else (Line m) (λ w. cc w) (reads_so text (Line m) e)
+    of_verdict (number_at m e k) = refused_else (Number m) (λ w. cc w) (reads_so text (Number m) e)
+    of_verdict (deep_at m e k) = refused_else (Deep m) (λ w. cc w) (reads_so text (Deep m) e)
+    of_verdict (cut_off e k) = refused_else Truncated (λ w. cc w) (reads_so text Truncated e)

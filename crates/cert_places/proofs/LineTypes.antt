@@ -1,4 +1,10 @@
 -- The types of what lines say, and the versions, by the definitions that judge the lines.
+--
+-- The values that lines say are of types of their own, which stand in other crates and are known here by their judges
+-- alone: such a type is that of what a judge answers (`said_by`), and a value of it is made by what makes it there
+-- (`made_by`). A judge tries one keyword after the other, and behind each it makes one kind of value. So what holds of
+-- each kind holds of whatever a line says (`part_said`, `proof_said`, `tree_said`, `source_said`), and there are two
+-- versions. It isn't said which words a line has, nor that each value is said by some line.
 use Rattle.std.proofs.Common.{◌≡◌, ◌⊎◌, inl, inr, ℕ, ℤ, List, [], ◌∷◌, Result, Ok, Err, codes, refl, sym, subst}
 use Rattle.std.specs.List.{join_with_byte}
 use Rattle.affine_core.specs.declared.form.Form.{Form}

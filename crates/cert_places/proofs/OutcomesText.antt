@@ -1,4 +1,10 @@
 -- A text that may nest too deep is read, or refused at its first line that is too deep.
+--
+-- A process is its line and so many parts, a source its line and perhaps a tree, and the whole text its lists one behind
+-- the other between three lines of its own. Each of these answers so by itself (`Outcomes`), and what stands behind a
+-- piece begins just where that ended, unless the piece was refused already. The depths are put one behind the other as
+-- the bytes are. Version 1 has no line of a repeat, and no event or entry begins as one does, so none of them is taken
+-- for one. Nothing is said of bytes that are no such text, nor of the length of scripts.
 use Rattle.std.proofs.Common.{◌≡◌, ℕ, ◌+◌, List, [], ◌∷◌, ◌++◌, Ok, codes, decimal, length}
 use Rattle.std.proofs.Common.{append_assoc, append-nil, false, refl, sym, ap, subst, arith}
 use Rattle.std.specs.Prelude.{bytes_eq}

@@ -108,10 +108,11 @@ abbrev pub OriginNestsTo : ℕ → Origin → Type 0
 OriginNestsTo levels Sweep = Unit {0}
 OriginNestsTo levels (Tree tree) = TreeNestsTo levels levels tree
 
--- a version of the text
+-- what a function takes
 abbrev pub domain : {A B : Type 0} → (A → B) → Type 0
 domain {A} f = A
 
+-- A version of the text. The type of versions is private to the texts: it is what `most_levels` takes.
 abbrev pub Version : Type 0
 Version = domain most_levels
 

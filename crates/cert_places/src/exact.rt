@@ -1,7 +1,7 @@
-ghost use Rattle.std.specs.Prelude.{◌≡◌, ◌⊎◌, ℕ, List, All, Ok, Err};
+ghost use Rattle.std.specs.Prelude.{◌≡◌, ◌≢◌, ◌⊎◌, ℕ, List, All, Ok, Err};
 ghost use Rattle.net_core.specs.declared.network.Network.{Network as AnyNetwork};
 ghost use Rattle.source_tree.specs.declared.cert.Cert.{Cert as AnyCert};
-ghost use Rattle.cert_lines.specs.declared.error.CertError.TheVariants.{Deep, Line, Long, Number, Truncated};
+ghost use Rattle.cert_lines.specs.declared.error.CertError.TheVariants.{Deep, Line, Long, Memory, Number, Truncated};
 ghost use Rattle.cert_text.specs.Reading.{reading};
 ghost use Rattle.cert_text.specs.StandsFor.{StandsFor};
 ghost use Rattle.cert_places.specs.Places.{IsCutShort, IsOutOfRangeAt, IsShallow, IsText, IsTooDeepAt, IsTooLong, IsWrongAt};
@@ -16,7 +16,8 @@ use cert_text::reads_what_is_written;
 /// where the first n lines are the first of some text, in which line n is the first that nests more than 512 deep. `Truncated`
 /// comes exactly where the whole lines are the first of some text, none of them too deep, and the bytes are no text. What stands
 /// for a pair is a text of which no line nests too deep, and each such text is read, unless the pair is too long: `Long p` comes
-/// exactly where that is so and p is the number told.
+/// exactly where that is so and p is the number told. No text is refused for want of memory, so each refusal has one of these
+/// causes.
 pub fn refusals_are_exact()
     ensures line { (text : List ℕ) (n : ℕ) → reading text ≡ Err (Line n)
         → IsWrongAt text n × (IsOutOfRangeAt text n → ⊥) }
@@ -41,6 +42,7 @@ pub fn refusals_are_exact()
     ensures read { (text depths : List ℕ) → IsText text depths → All IsShallow depths
         → ((pair : AnyNetwork × AnyCert) × (reading text ≡ Ok pair))
         ⊎ ((p : ℕ) × (reading text ≡ Err (Long p))) }
+    ensures caused { (text : List ℕ) → reading text ≢ Err Memory }
 {
     reads_what_is_written();
 }

@@ -33,7 +33,7 @@ use Rattle.cert_text.specs.StandsFor.{IsShort, StandsFor}
 use Rattle.cert_text.proofs.Lengths.{all_events, few_events}
 use Rattle.cert_text.proofs.Proper.{item_in_range}
 use Rattle.cert_text.proofs.Texts.{text_item}
-use Rattle.network_laws.specs.Entries.{scheduled_text, text_with_lines}
+use Rattle.network_laws.specs.Entries.{text_with_run, text_with_lines}
 
 -- a part for each entry
 abbrev entry_blocks : List ℕ → Blocks ℕ
@@ -141,12 +141,12 @@ module _ (n : Nest) (network : Network) (cert : Cert) (text : List ℕ) (run : L
     }
 
     -- which has these lines
-    entries_text : folded_text stands.version (with_entries stands.folded run) ≡ scheduled_text stands run
+    entries_text : folded_text stands.version (with_entries stands.folded run) ≡ text_with_run stands run
     entries_text =
         ap (λ (m : ℕ). head_text stands.version
         ++ text_with_lines stands.folded m (parts_text entry_text (entry_blocks run).parts)) (length-items run)
         ∙ ap (λ (lines : List ℕ). head_text stands.version ++ text_with_lines stands.folded (length run) lines)
         (parts_text-entry_blocks run)
 
-    pub stands_with_run : StandsFor (scheduled_text stands run) network other
+    pub stands_with_run : StandsFor (text_with_run stands run) network other
     stands_with_run = subst (λ (bytes : List ℕ). StandsFor bytes network other) entries_text stands_folded

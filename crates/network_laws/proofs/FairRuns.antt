@@ -7,6 +7,7 @@
 use Rattle.std.proofs.Common.{◌≡◌, ◌⊎◌, ℕ, zero, suc, ◌+◌, ◌<◌, ◌≤◌, Bool, true, ◌&&◌, List, [], ◌∷◌, ◌++◌}
 use Rattle.std.proofs.Common.{length, ap, sym, ◌∙◌, refl, inl, inr, arith, length-append, append-nil}
 use Rattle.std.proofs.lemmas.Bool.{both_ways, cases_eq, cases_lt}
+use Rattle.std.proofs.lemmas.List.{drop_all}
 use Rattle.net_core.specs.Cuts.{Cut, IsCutRun, advanced, cut_after, enabled_at, opening}
 use Rattle.net_core.specs.Machine.{Net, Rule, enabled, HasEnded}
 use Rattle.net_core.specs.Orders.{EndsAll, EndsAlways, reached}
@@ -49,10 +50,6 @@ module _ {T : Type 0} (n : Net) (rule : Rule T) (wired : IsWired n) (may : ℕ �
   longer : (k : ℕ) → length (run_to (suc k)) ≡ length (run_to k) + length (clock_at n rule wired may k)
   longer k = length-append (run_to k) (clock_at n rule wired may k)
 
-  no_items : (xs : List ℕ) → length xs ≡ 0 → xs ≡ []
-  no_items [] none = refl
-  no_items (x ∷ xs) none = absurd (omega arith)
-
   -- at a later clock either more has happened, or nothing
   pub still_or_longer : (k j : ℕ) → k ≤ j → (length (run_to k) < length (run_to j)) ⊎ (run_to j ≡ run_to k)
   still_or_longer k zero le = let same : 0 ≡ k = omega arith in inr (ap run_to same)
@@ -66,7 +63,7 @@ module _ {T : Type 0} (n : Net) (rule : Rule T) (wired : IsWired n) (may : ℕ �
               | inr same ↦
                   elim (cases_eq (length clock) 0) [
                     | inl none ↦
-                        inr (ap (λ (l : List ℕ). run_to j ++ l) (no_items clock none) ∙ append-nil (run_to j) ∙ same)
+                        inr (ap (λ (l : List ℕ). run_to j ++ l) (drop_all 0 clock (omega (arith, none))) ∙ append-nil (run_to j) ∙ same)
                     | inr some ↦ inl (omega (arith, some, longer j, ap length same))
                   ]
             ]

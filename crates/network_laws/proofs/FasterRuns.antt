@@ -18,6 +18,7 @@ use Rattle.net_core.specs.Orders.{EndsAll, reached}
 use Rattle.net_core.specs.Shape.{IsWired}
 use Rattle.net_core.proofs.CutOrder.{enabled_stays_at}
 use Rattle.net_core.proofs.Positions.{cut_inside, run_cut, start_counted}
+use Rattle.process_derive.proofs.Sums.{one_if-le}
 use Rattle.witness_plan.proofs.OtherCapacities.{wired_at}
 use Rattle.cap_trim.specs.Capacities.{with_room}
 use Rattle.clock_sim.specs.Clocks.{ClockedRunEnds, after_clocks, clocked_run, clocks}
@@ -61,21 +62,13 @@ module _ {T : Type 0} (n : Net) (rule : Rule T) (wired : IsWired n) (may : ℕ �
   goes_on_too k p behind same =
       elim (cases_Bool (enabled_at n (held k) p)) [
         | inl on ↦
-            rw (on, enabled_stays_at n wired (held k) (free k) p behind same on) (with_true (may k p))
+            rw (on, enabled_stays_at n wired (held k) (free k) p behind same on) (one_if-le (may k p && true))
         | inr off ↦ rw off (omega (arith, with_false (may k p)))
       ]
     where
-      with_true : (b : Bool) → cond {A = ℕ} (b && true) 1 0 ≤ 1
-      with_true true = omega arith
-      with_true false = omega arith
-
       with_false : (b : Bool) → cond {A = ℕ} (b && false) 1 0 ≡ 0
       with_false true = refl
       with_false false = refl
-
-  at_most_one : (b : Bool) → cond {A = ℕ} b 1 0 ≤ 1
-  at_most_one true = omega arith
-  at_most_one false = omega arith
 
   pub place_behind : (k p : ℕ) → held k p ≤ free k p
   place_behind zero p = omega arith
@@ -83,7 +76,7 @@ module _ {T : Type 0} (n : Net) (rule : Rule T) (wired : IsWired n) (may : ℕ �
       let one = place_moved n rule wired may k p in
       let all = place_moved n rule wired always k p in
       elim (cases_lt (held k p) (free k p)) [
-        | inl lt ↦ omega (arith, one, all, at_most_one (may k p && enabled_at n (held k) p))
+        | inl lt ↦ omega (arith, one, all, one_if-le (may k p && enabled_at n (held k) p))
         | inr ge ↦
             let same : held k p ≡ free k p = omega (arith, place_behind k p) in
             omega (arith, one, all, same, goes_on_too k p (place_behind k) same)

@@ -4,7 +4,7 @@
 -- number of the range does (`positions_moved`, `positions_kept`). Where each that passes is enabled at the clock's
 -- beginning it still is when its turn comes, since a process that may go on at a cut may do so at each later cut that
 -- leaves it where it is; so the clock is a run (`clock_runs`). Nothing is said of what the fires give.
-use Rattle.std.proofs.Common.{◌≡◌, ◌⊎◌, ℕ, zero, suc, ◌+◌, ◌<◌, ◌≤◌, Bool, true, false, cond, List, [], ◌∷◌, ◌++◌}
+use Rattle.std.proofs.Common.{◌≡◌, ◌⊎◌, ℕ, zero, suc, ◌+◌, ◌<◌, ◌≤◌, Bool, true, false, cond}
 use Rattle.std.proofs.Common.{ap, sym, ◌∙◌, refl, inl, inr, arith}
 use Rattle.std.specs.List.{filter, range_with_len}
 use Rattle.std.proofs.lemmas.Bool.{cases_Bool, cases_eq}
@@ -12,6 +12,7 @@ use Rattle.net_core.specs.Cuts.{Cut, IsCutRun, advanced, cut_after, enabled_at}
 use Rattle.net_core.specs.Machine.{Net}
 use Rattle.net_core.specs.Shape.{IsWired}
 use Rattle.net_core.proofs.CutOrder.{advanced_here, advanced_there, enabled_stays_at}
+use Rattle.witness_plan.proofs.AlongCuts.{le-advanced}
 
 -- a process outside the range stays where it is
 pub positions_kept : (test : ℕ → Bool) (m a : ℕ) (k : Cut) (p : ℕ) → (p < a) ⊎ (a + m ≤ p)
@@ -61,14 +62,6 @@ positions_moved test (suc m) a k p low high =
           ]
     ]
 
--- a cut is nowhere past the one after a process's step
-advanced_le : (k : Cut) (p q : ℕ) → k q ≤ advanced k p q
-advanced_le k p q =
-    elim (cases_eq q p) [
-      | inl same ↦ omega (arith, advanced_here k p q same)
-      | inr other ↦ omega (arith, advanced_there k p q other)
-    ]
-
 -- those that pass are enabled in turn
 pub clock_runs : (n : Net) → IsWired n → (test : ℕ → Bool) (m a : ℕ) (k : Cut)
     → ((q : ℕ) → a ≤ q → test q ≡ true → enabled_at n k q ≡ true)
@@ -82,16 +75,8 @@ clock_runs n wired test (suc m) a k are =
             clock_runs n wired test m (a + 1) (advanced k a)
                 (λ q low on'.
                 (let other : q ≡ a → ⊥ = λ same. omega arith in
-                enabled_stays_at n wired k (advanced k a) q (advanced_le k a) (sym (advanced_there k a q other))
+                enabled_stays_at n wired k (advanced k a) q (le-advanced k a) (sym (advanced_there k a q other))
                 (are q (omega arith) on'))),
           )
       | inr off ↦ rw off (clock_runs n wired test m (a + 1) k (λ q low on'. are q (omega arith) on'))
     ]
-
--- One run after another
-
-pub IsCutRun-append : (n : Net) (run more : List ℕ) (k : Cut) → IsCutRun n k run → IsCutRun n (cut_after k run) more
-    → IsCutRun n k (run ++ more)
-IsCutRun-append n [] more k first later = later
-IsCutRun-append n (p ∷ run) more k first later =
-    (first.0, IsCutRun-append n run more (advanced k p) first.1 later)

@@ -8,7 +8,7 @@
 use Rattle.std.proofs.Common.{◌≡◌, ℕ, zero, suc, ◌+◌, ◌≤◌, Bool, true, false, ◌&&◌, cond, List, ◌++◌}
 use Rattle.std.proofs.Common.{length, ap, sym, ◌∙◌, refl, inl, inr, arith}
 use Rattle.std.specs.List.{filter, range_with_len}
-use Rattle.std.proofs.lemmas.Bool.{cases_lt}
+use Rattle.std.proofs.lemmas.Bool.{and_parts, cases_lt}
 use Rattle.std.proofs.lemmas.Option.{slice_get_past}
 use Rattle.net_core.specs.Cuts.{Cut, IsCutRun, can_come_at, cut_after, enabled_at, opening, positions}
 use Rattle.net_core.specs.Machine.{Net, Rule, start, enabled, IsRun}
@@ -17,13 +17,8 @@ use Rattle.net_core.specs.Shape.{IsWired}
 use Rattle.net_core.proofs.Positions.{cut_run, enabled_as_cut, run_counted, run_ends, start_counted}
 use Rattle.clock_sim.specs.Clocks.{clocked_run, enabled_processes}
 use Rattle.network_laws.specs.Stalls.{run_with_stalls, steps_of_clock}
-use Rattle.witness_plan.proofs.AlongCuts.{cut_after-append}
-use Rattle.network_laws.proofs.OneClock.{IsCutRun-append, clock_runs, positions_kept, positions_moved}
-
--- a test that passes with another passes
-pub second_true : (a b : Bool) → (a && b) ≡ true → b ≡ true
-second_true true b on = on
-second_true false b on = absurd (cc)
+use Rattle.witness_plan.proofs.AlongCuts.{IsCutRun-append, cut_after-append}
+use Rattle.network_laws.proofs.OneClock.{clock_runs, positions_kept, positions_moved}
 
 -- a process that isn't there may never go on
 pub none_past : (n : Net) → IsWired n → (k : Cut) (p : ℕ) → n.processes ≤ p → enabled_at n k p ≡ false
@@ -71,7 +66,7 @@ module _ {T : Type 0} (n : Net) (rule : Rule T) (wired : IsWired n) where
     clock_is_run k is =
         clock_runs n wired (λ p. may k p && enabled n (reached n rule (run_to k)) p) n.processes 0 (place k)
         (λ q low on. sym (reached_enabled (run_to k) is q)
-        ∙ second_true (may k q) (enabled n (reached n rule (run_to k)) q) on)
+        ∙ (and_parts (may k q) (enabled n (reached n rule (run_to k)) q) on).1)
 
     pub stalled_cuts : (k : ℕ) → IsCutRun n opening (run_to k)
     stalled_cuts zero = tt

@@ -6,8 +6,8 @@
 -- is held back for the first four clocks, the network takes eight. These are examples: they show what the words mean. Some
 -- say what they don't: a capacity that is one too large isn't least, and a clock too few isn't enough.
 use Rattle.std.proofs.Common.{◌≡◌, ℕ, zero, suc, ◌<◌, ◌≤◌, ◌%◌, ◌==◌, Bool, true, false, cond, nat_le, nat_lt, List, [], ◌∷◌}
-use Rattle.std.proofs.Common.{length, ap, ◌∙◌, refl, inl, inr, arith, ltb-true}
-use Rattle.std.specs.List.{list_all}
+use Rattle.std.proofs.Common.{length, map, ap, ◌∙◌, refl, inl, inr, arith, ltb-true}
+use Rattle.std.specs.List.{list_all, range_with_len}
 use Rattle.std.proofs.lemmas.Bool.{and_parts, cases_lt}
 use Rattle.channel_class.specs.declared.UseOrder.TheVariants.{InOrder}
 use Rattle.net_core.specs.declared.network.Channel.{Channel}
@@ -26,6 +26,7 @@ use Rattle.cap_trim.specs.Capacities.{SticksAt, capacity_list, lowered_network, 
 use Rattle.cap_trim.specs.Rests.{can_end, least_run, rest}
 use Rattle.clock_sim.specs.Clocks.{clocked_run, clocks}
 use Rattle.network_laws.specs.EndsWithin.{EndsWithin, HasMinimalCapacities}
+use Rattle.network_laws.specs.LiveTokens.{live_tokens}
 use Rattle.network_laws.specs.LowerBounds.{capacity_bound, total_capacity}
 use Rattle.network_laws.specs.Stalls.{run_with_stalls}
 
@@ -286,3 +287,15 @@ after_last_use = refl
 backwards : slots_of_gets (2 ∷ 1 ∷ 0 ∷ []) ≡ 0 ∷ 1 ∷ 2 ∷ []
 unfolding held_after
 backwards = refl
+
+-- how many tokens are live at each Get: the hold is the greatest of these numbers
+live_with_the_first : map (live_tokens (0 ∷ 2 ∷ 0 ∷ [])) (range_with_len 0 3) ≡ 1 ∷ 2 ∷ 2 ∷ []
+live_with_the_first = refl
+
+-- token 1 alone is live as the third Get comes, since token 0 has had its last use
+live_for_a_while : map (live_tokens (0 ∷ 2 ∷ 1 ∷ 3 ∷ [])) (range_with_len 0 4) ≡ 1 ∷ 1 ∷ 2 ∷ 1 ∷ []
+live_for_a_while = refl
+
+hold_for_a_while : hold_of (0 ∷ 2 ∷ 1 ∷ 3 ∷ []) ≡ 2
+unfolding held_after
+hold_for_a_while = refl

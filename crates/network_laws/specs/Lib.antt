@@ -1,5 +1,5 @@
 pub mod Stalls
 pub mod EndsWithin
 pub mod LowerBounds
-pub mod SlotChoices
+pub mod LiveTokens
 pub mod Entries

@@ -1,4 +1,4 @@
-ghost use Rattle.std.specs.Prelude.{◌≡◌, ◌<◌, ◌≤◌, ℕ, Bool, length};
+ghost use Rattle.std.specs.Prelude.{◌≡◌, ◌<◌, ◌≤◌, ℕ, Bool, true, length};
 ghost use Rattle.sanlp.specs.declared.nest.Inputs.{Inputs};
 ghost use Rattle.sanlp.specs.declared.nest.Nest.{Nest};
 ghost use Rattle.sanlp.specs.Meaning.{arrays};
@@ -10,7 +10,7 @@ ghost use Rattle.net_core.specs.Rules.{values};
 ghost use Rattle.net_core.specs.Shape.{IsWired};
 ghost use Rattle.net_core.specs.Sound.{IsSound, sink_lists};
 ghost use Rattle.cap_trim.specs.Capacities.{with_room};
-ghost use Rattle.clock_sim.specs.Clocks.{after_clocks, clocks};
+ghost use Rattle.clock_sim.specs.Clocks.{after_clocks, clocked_run, clocks};
 ghost use Rattle.network_laws.specs.Stalls.{IsFair, run_with_stalls};
 
 use clock_sim::clocked_run_ends;
@@ -36,9 +36,11 @@ pub fn stalls_do_no_harm<T: Copy>()
 {}
 
 /// The clocked run is the fastest execution in which each process makes at most one event a clock, and each event is enabled
-/// at its clock's beginning: at every clock each process has come at least as far. So none that ends all has fewer clocks, and
-/// no process's script is longer than the number of clocks.
+/// at its clock's beginning: it is the one in which nobody is held back, and at every clock each process has come at least as
+/// far as in any. So none that ends all has fewer clocks, and no process's script is longer than the number of clocks.
 pub fn clocked_run_is_fastest<T: Copy>()
+    ensures itself { (n : Net) (rule : Rule T) (k : ℕ)
+        → clocked_run n rule k ≡ run_with_stalls n rule (λ clock p. true) k }
     ensures ahead { (n : Net) (rule : Rule T) (may : ℕ → ℕ → Bool) (k p : ℕ) → IsWired n
         → positions (reached n rule (run_with_stalls n rule may k)) p
         ≤ positions (after_clocks n rule k) p }

@@ -14,7 +14,7 @@ ghost use Rattle.cap_trim.specs.Capacities.{IsPlanned, capacity_list, trimmed_ne
 ghost use Rattle.cap_trim.specs.Rests.{least_run};
 ghost use Rattle.cert_text.specs.CertText.{entry_text, head_text, parts_text};
 ghost use Rattle.cert_text.specs.StandsFor.{StandsFor};
-ghost use Rattle.network_laws.specs.Entries.{scheduled_text, text_with_lines};
+ghost use Rattle.network_laws.specs.Entries.{text_with_run, text_with_lines};
 
 use crate::capacities::least_capacities_are_minimal;
 use derived_names::{has_classes_of_uses, names_last_writers};
@@ -46,7 +46,7 @@ pub fn any_full_run_has_a_text()
     ensures stands { (n : NestOf) (network : Network) (cert : Cert) (text run : List ℕ)
         → (stands : StandsFor text network cert) → Fits n network cert
         → EndsAll (net_of network) tags run
-        → StandsFor (scheduled_text stands run) network
+        → StandsFor (text_with_run stands run) network
         (record { sources = cert.sources; schedule = run }) }
     ensures before { (network : Network) (cert : Cert) (text : List ℕ)
         → (stands : StandsFor text network cert)

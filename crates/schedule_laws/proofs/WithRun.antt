@@ -3,33 +3,27 @@
 -- An accepted bundle has a certificate that fits its source's nest. A text stands for one network and certificate alone, so
 -- these are the ones that it is said to stand for (`pair_fits`). With a run that ends all in the place of its schedule the
 -- certificate fits still, and the text with the run's lines stands for it. So another bundle with this text and the same
--- source has a fitting certificate (`fitting_with_run`). What has one is accepted and comes to nothing else: its text is read
--- as the pair that fits, of which the verdict is that nothing is wrong (`fitting_outcome`). The laws on which this rests are
--- hypotheses here. Nothing is said of bundles past the limit.
-use Rattle.std.proofs.Common.{◌≡◌, ◌≤◌, ◌∙◌, ℕ, ℤ, List, length, Option, Some, None, Result, Ok, refl, sym, ap, subst}
+-- source has a fitting certificate (`fitting_with_run`), and what has one is accepted and comes to nothing else. The laws on
+-- which this rests are hypotheses here. Nothing is said of bundles past the limit.
+use Rattle.std.proofs.Common.{◌≡◌, ◌∙◌, ℕ, ℤ, List, Some, Ok, refl, sym, ap, subst}
 use Rattle.bundle.specs.Certified.{certified}
 use Rattle.bundle.specs.Parts.{certificate_part, source_part}
-use Rattle.cert_lines.specs.declared.error.CertError.{CertError}
 use Rattle.cert_text.specs.Reading.{reading}
 use Rattle.cert_text.specs.StandsFor.{StandsFor}
-use Rattle.command_line.specs.declared.words.Command.{Command}
-use Rattle.command_line.specs.declared.words.Command.TheVariants.{Check}
 use Rattle.command_line.specs.declared.words.Order.{Order}
-use Rattle.net_checker.specs.Fits.{Fits, verdict_of}
-use Rattle.net_checker.specs.declared.verdict.Refusal.{Refusal as NetRefusal}
+use Rattle.net_checker.specs.Fits.{Fits}
 use Rattle.net_core.specs.Machine.{net_of}
 use Rattle.net_core.specs.Orders.{EndsAll}
 use Rattle.net_core.specs.Rules.{tags}
 use Rattle.net_core.specs.declared.network.Network.{Network}
 use Rattle.sanlp.specs.declared.nest.Nest.{Nest}
 use Rattle.source_tree.specs.declared.cert.Cert.{Cert}
-use Rattle.network_laws.specs.Entries.{scheduled_text}
-use Rattle.command_answers.specs.Checking.{Checks, judged, verdict_reply}
+use Rattle.network_laws.specs.Entries.{text_with_run}
 use Rattle.command_answers.specs.Source.{GivesWithinSize}
-use Rattle.compaan_top.specs.Certified.{HasCertificate}
-use Rattle.compaan_top.specs.Headline.{AcceptsWhatFits, HasFittingCertificate, accepted}
-use Rattle.compaan_top.specs.Outcome.{IsOutcome, Performs, bundle_limit, performed}
+use Rattle.compaan_top.specs.Certified.{Accepts, HasCertificate}
+use Rattle.compaan_top.specs.Headline.{HasFittingCertificate}
 use Rattle.compaan_top.proofs.Acceptance.{NothingWrongFits, ReadsItsText, TextIsRead, checks_vouched, outcome_vouched}
+use Rattle.compaan_top.proofs.Acceptance.{same_pair}
 use Rattle.compaan_top.proofs.CertVerdict.{SentenceStays, TokensStay}
 use Rattle.compaan_top.proofs.Statuses.{same_part}
 use Rattle.schedule_laws.specs.Calls.{AcceptsText, SurelyAccepts}
@@ -46,14 +40,14 @@ abbrev pub StandsWithRun : Type 0
 StandsWithRun =
     (n : Nest) (network : Network) (cert : Cert) (text run : List ℕ) → (stands : StandsFor text network cert)
     → Fits n network cert → EndsAll (net_of network) tags run
-    → StandsFor (scheduled_text stands run) network
+    → StandsFor (text_with_run stands run) network
     (record { sources = cert.sources; schedule = run })
 
 pub fitting_with_run : FitsWithRun → StandsWithRun → TokensStay → SentenceStays
     → (params : List (List ℕ × ℤ)) (bundle other text run : List ℕ) (nest : Nest) (network : Network) (cert : Cert)
     → GivesWithinSize (source_part bundle) params (Ok nest) → (stands : StandsFor text network cert)
     → Fits nest network cert → EndsAll (net_of network) tags run
-    → HasCertificate bundle other (scheduled_text stands run) → HasFittingCertificate params other
+    → HasCertificate bundle other (text_with_run stands run) → HasFittingCertificate params other
 fitting_with_run fits_too stands_too tokens_stay sentence_stays params bundle other text run nest network cert gives stands
     fits whole has =
     record {
@@ -63,15 +57,11 @@ fitting_with_run fits_too stands_too tokens_stay sentence_stays params bundle ot
       gives =
           subst (λ (source : List ℕ). GivesWithinSize source params (Ok nest)) (sym has.source)
           (gives_with_end tokens_stay sentence_stays (source_part bundle) params nest gives);
-      text = scheduled_text stands run;
+      text = text_with_run stands run;
       is_part = has.certificate;
       stands = stands_too nest network cert text run stands fits whole;
       fits = fits_too nest network cert run fits whole;
     }
-
--- what a text is read as is one pair
-pub one_pair : (read : Result (Network × Cert) CertError) (x y : Network × Cert) → read ≡ Ok x → read ≡ Ok y → x ≡ y
-one_pair read x y p q = cc
 
 -- the source of a bundle gives a nest that this network and this certificate fit
 pub record HasFittingPair (params : List (List ℕ × ℤ)) (bundle : List ℕ) (network : Network) (cert : Cert) : Type 0 where
@@ -85,7 +75,7 @@ pair_fits : TextIsRead → (params : List (List ℕ × ℤ)) (bundle text : List
 pair_fits back params bundle text network cert stands part v =
     let texts : v.text ≡ text = same_part bundle v.text text v.is_part part in
     let pairs : (v.network, v.cert) ≡ (network, cert) =
-    one_pair (reading text) (v.network, v.cert) (network, cert)
+    same_pair (reading text) (v.network, v.cert) (network, cert)
     (ap reading (sym texts) ∙ back v.text v.network v.cert v.stands) (back text network cert stands) in
     record {
       nest = v.nest;
@@ -106,7 +96,7 @@ FittingWithRun =
     (params : List (List ℕ × ℤ)) (bundle other text run : List ℕ) (nest : Nest) (network : Network) (cert : Cert)
     → GivesWithinSize (source_part bundle) params (Ok nest) → (stands : StandsFor text network cert)
     → Fits nest network cert → EndsAll (net_of network) tags run
-    → HasCertificate bundle other (scheduled_text stands run) → HasFittingCertificate params other
+    → HasCertificate bundle other (text_with_run stands run) → HasFittingCertificate params other
 
 abbrev pub HasOwnParts : Type 0
 HasOwnParts =
@@ -114,48 +104,27 @@ HasOwnParts =
     → GivesWithinSize (source_part bundle) params (Ok nest)
     → HasCertificate bundle (certified (source_part bundle) text) text
 
--- what has a fitting certificate comes to `accepted`
-fitting_outcome : NothingWrongFits → TextIsRead → (check : Order) (bundle : List ℕ) → check.command ≡ Check
-    → length bundle ≤ bundle_limit → HasFittingCertificate check.params bundle → IsOutcome (Some check) bundle accepted
-fitting_outcome fitting back check bundle is within v =
-    let answer = Ok (verdict_reply (verdict_of None)) in
-    let made : Checks check.params bundle answer =
-    subst (λ (found : Option NetRefusal). Checks check.params bundle (Ok (verdict_reply (verdict_of found))))
-    ((fitting v.nest v.network v.cert).1 v.fits)
-    (judged v.text v.nest v.network v.cert v.is_part v.gives (back v.text v.network v.cert v.stands)) in
-    performed check answer refl within (subst (λ (c : Command). Performs c check bundle answer) (sym is) made)
-
 abbrev pub AcceptsFitting : Type 0
-AcceptsFitting =
-    (check : Order) (bundle text : List ℕ) → HasFittingCertificate check.params bundle
-    → certificate_part bundle ≡ Some text → SurelyAccepts check bundle text
-
-pub accepts_surely : (accepts : (wanted : Option Order) (bundle : List ℕ) → AcceptsWhatFits wanted bundle)
-    → NothingWrongFits → TextIsRead → AcceptsFitting
-accepts_surely accepts fitting back check bundle text v part =
-    record {
-      some_outcome = λ is within.
-          record { command = is; outcome = fitting_outcome fitting back check bundle is within v; part = part };
-      every_outcome = λ is within outcome outcome_is.
-          (accepts (Some check) bundle check refl is within outcome outcome_is).1 v;
-    }
+AcceptsFitting = (check : Order) (bundle : List ℕ) → HasFittingCertificate check.params bundle → Accepts check bundle
 
 module _ (accepts : AcceptsFitting) (with_run : FittingWithRun) where
   pub accepts_pair : (check : Order) (bundle other text run : List ℕ) (network : Network) (cert : Cert)
       → HasFittingPair check.params bundle network cert → (stands : StandsFor text network cert)
       → EndsAll (net_of network) tags run
-      → HasCertificate bundle other (scheduled_text stands run)
-      → SurelyAccepts check other (scheduled_text stands run)
+      → HasCertificate bundle other (text_with_run stands run)
+      → SurelyAccepts check other (text_with_run stands run)
   accepts_pair check bundle other text run network cert pair stands whole has =
-      accepts check other (scheduled_text stands run)
-      (with_run check.params bundle other text run pair.nest network cert pair.gives stands pair.fits whole has)
-      has.certificate
+      record {
+        accepts = accepts check other
+            (with_run check.params bundle other text run pair.nest network cert pair.gives stands pair.fits whole has);
+        part = has.certificate;
+      }
 
   pub accepts_own : HasOwnParts → (check : Order) (bundle text run : List ℕ) (network : Network) (cert : Cert)
       → HasFittingPair check.params bundle network cert → (stands : StandsFor text network cert)
       → EndsAll (net_of network) tags run
-      → SurelyAccepts check (certified (source_part bundle) (scheduled_text stands run)) (scheduled_text stands run)
+      → SurelyAccepts check (certified (source_part bundle) (text_with_run stands run)) (text_with_run stands run)
   accepts_own own_parts check bundle text run network cert pair stands whole =
-      let lines : List ℕ = scheduled_text stands run in
+      let lines : List ℕ = text_with_run stands run in
       accepts_pair check bundle (certified (source_part bundle) lines) text run network cert pair stands whole
       (own_parts check.params bundle lines pair.nest pair.gives)

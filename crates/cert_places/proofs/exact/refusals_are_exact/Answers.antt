@@ -1,5 +1,5 @@
 use Rattle.cert_places.proofs.ExactPlaces.{deep_is_too_deep, line_is_wrong, number_is_out_of_range}
-use Rattle.cert_places.proofs.ExactPlaces.{out_of_range_is_refused, pair_has_text, text_is_read}
+use Rattle.cert_places.proofs.ExactPlaces.{no_want_of_memory, out_of_range_is_refused, pair_has_text, text_is_read}
 use Rattle.cert_places.proofs.ExactPlaces.{too_deep_is_refused, truncated_is_cut_short, cut_short_is_refused}
 use Rattle.cert_places.proofs.ExactPlaces.{wrong_is_refused, wrong_words_are_refused}
 use Rattle.cert_places.proofs.TooLong.{long_is_too_long, too_long_is_refused}
@@ -20,4 +20,5 @@ returns c = record {
   too_long = too_long_is_refused;
   stands = pair_has_text c.reads_what_is_written.ensures.back;
   read = text_is_read;
+  caused = no_want_of_memory;
 }

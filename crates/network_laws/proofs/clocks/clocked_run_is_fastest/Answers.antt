@@ -1,11 +1,12 @@
 use Rattle.network_laws.specs.Stalls.{run_with_stalls}
 use Rattle.network_laws.proofs.FasterRuns.{clocks_least, never_ahead, script_short}
-use Rattle.network_laws.proofs.RunsWithStalls.{always, stalled_runs}
+use Rattle.network_laws.proofs.RunsWithStalls.{always, clocked_is_stalled, stalled_runs}
 use Rattle.network_laws.proofs.clocks.clocked_run_is_fastest.Goals as goal
 
 pub returns : goal.returns
 returns g c =
     record {
+      itself = clocked_is_stalled;
       ahead = λ n rule may k p wired. never_ahead n rule wired may k p;
       least = λ n rule may k wired ended.
           let ends =

@@ -1,10 +1,13 @@
-use Rattle.network_laws.proofs.FewestSlots.{hold_fits, own_slots_keep, own_slots_within}
+use Rattle.reorder_slots.proofs.Laws.{keeps_until_used}
+use Rattle.network_laws.proofs.FewestSlots.{hold_fits, hold_is_live, live_in_hold, own_slots_within}
 use Rattle.network_laws.proofs.slots.hold_is_least.Goals as goal
 
 pub returns : goal.returns
 returns c =
     record {
-      enough = own_slots_keep;
+      enough = keeps_until_used;
       within = own_slots_within;
-      least = λ uses slot_of slots keeps below. hold_fits uses slot_of slots keeps below;
+      least = hold_fits;
+      live = live_in_hold;
+      met = hold_is_live;
     }

@@ -7,11 +7,11 @@ returns c =
     let reads = c.reads_what_is_written.ensures in
     record {
       parts = λ check bundle other text run network cert accepts stands whole has.
-          accepts_pair c.fitting_certificate_is_accepted.ensures laws.parts check bundle other text run network cert
+          accepts_pair c.what_fits_is_accepted.ensures.fitting laws.parts check bundle other text run network cert
           (accepted_pair c.accepts_what_fits.ensures reads.forth reads.back check bundle text network cert accepts stands)
           stands whole has;
       bytes = λ check bundle text run network cert accepts stands whole.
-          accepts_own c.fitting_certificate_is_accepted.ensures laws.parts laws.bytes check bundle text run network cert
+          accepts_own c.what_fits_is_accepted.ensures.fitting laws.parts laws.bytes check bundle text run network cert
           (accepted_pair c.accepts_what_fits.ensures reads.forth reads.back check bundle text network cert accepts stands)
           stands whole;
       stands = λ check bundle text run network cert accepts stands whole.
@@ -19,4 +19,9 @@ returns c =
           accepted_pair c.accepts_what_fits.ensures reads.forth reads.back check bundle text network cert accepts
           stands in
           c.any_full_run_has_a_text.ensures.stands pair.nest network cert text run stands pair.fits whole;
+      only = λ check bundle text network cert accepts stands.
+          let pair =
+          accepted_pair c.accepts_what_fits.ensures reads.forth reads.back check bundle text network cert accepts
+          stands in
+          pair.fits.ends;
     }

@@ -16,7 +16,7 @@ returns c =
           );
       cert = λ cert trace check bundle network certificate cert_outcome trace_outcome policies traces checks certifies
           writes stands.
-          accepts_traced c.fitting_certificate_is_accepted.ensures laws.parts laws.bytes c.one_tree.ensures
+          accepts_traced c.what_fits_is_accepted.ensures.fitting laws.parts laws.bytes c.one_tree.ensures
           c.reads_what_is_written.ensures.back cert trace check bundle cert_outcome.output network certificate
           trace_outcome policies traces checks
           (c.what_cert_writes_is_accepted.ensures.stands cert bundle cert_outcome certifies) writes stands;

@@ -1,0 +1,11 @@
+use Rattle.std.proofs.Common.{take}
+use Rattle.std.specs.List.{flat_map}
+use Rattle.text_out.specs.Wrote.{Wrote}
+use Rattle.rtl_text.specs.Networks.{outer_ports}
+use Rattle.rtl_text.proofs.network.write_all_outer_ports.Given as goal
+
+-- those so far were written
+abbrev pub invariant-loop-unit : goal.invariant-loop-unit
+invariant-loop-unit g l =
+    Wrote g.W.TextWriter.given l.fn.out l.out
+    (flat_map (λ unit. outer_ports l.fn.nest unit.auto.role) (take l.unit-index l.units))

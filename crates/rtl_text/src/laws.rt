@@ -1,0 +1,19 @@
+ghost use Rattle.std.specs.Prelude.{◌≡◌, map};
+ghost use Rattle.sanlp.specs.declared.nest.Nest.{Nest};
+ghost use Rattle.unit_text.specs.declared.unit.Unit.{Unit};
+ghost use Rattle.unit_text.specs.Nodes.{entity_text};
+ghost use Rattle.unit_text.specs.Ports.{entity_with, ports};
+ghost use Rattle.rtl_text.specs.Joins.{joins, node_with};
+ghost use Rattle.rtl_text.specs.Networks.{node_part};
+
+// Each of these does nothing: its contract is a law over the definitions.
+
+/// Each port of a process's node is joined, and in the order in which its entity has them: the entity has these ports and no
+/// others, the network's node has these joins and no others, and the names of the joins are those of the ports.
+pub fn node_ports_are_joined_in_order()
+    ensures entity { (unit : Unit) → entity_text unit ≡ entity_with unit.auto.process (ports unit) }
+    ensures node { (nest : Nest) (unit : Unit)
+        → node_part nest unit ≡ node_with unit.auto.process (joins nest unit) }
+    ensures names { (nest : Nest) (unit : Unit)
+        → map (λ join. join.0) (joins nest unit) ≡ map (λ port. port.0) (ports unit) }
+{}

@@ -1,0 +1,12 @@
+//! The VHDL text of a whole design: the channel, for each process a node whose control is a sequencer with repeat counters, and
+//! the network that joins them, with ports by the names of the arrays.
+//!
+//! Between two calls: the writer was given a front of the text.
+#![tactic(auto)]
+
+mod laws;
+mod network;
+mod text;
+
+pub use laws::node_ports_are_joined_in_order;
+pub use text::write_rtl;

@@ -1,0 +1,11 @@
+use Rattle.std.proofs.Common.{map, take}
+use Rattle.text_out.specs.Wrote.{Wrote}
+use Rattle.vhdl_text.specs.Pieces.{entries_from}
+use Rattle.sequencer_text.specs.Tables.{end_value}
+use Rattle.sequencer_text.proofs.tables.write_end_entries.Given as goal
+
+-- the entries so far were written
+abbrev pub invariant-loop-index : goal.invariant-loop-index
+invariant-loop-index g l =
+    Wrote g.W.TextWriter.given l.fn.out l.out
+    (entries_from 0 (take l.index (map (end_value l.fn.column l.fn.place) l.instructions)))

@@ -1,0 +1,259 @@
+ghost use Rattle.text_out.specs.Wrote.{Wrote};
+ghost use Rattle.sequencer_text.specs.Sequencers.{end_lines, end_part_text, end_signals, end_tables, for_ends, name_text, sequencer_end, sequencer_entity, sequencer_head, sequencer_signals, sequencer_text, sequencer_types, turn_lines};
+
+use crate::tables::{EndColumn, most_ends, most_turns, write_end_table};
+use crate::words::write_all;
+use repeat_sequencer::Sequencer;
+use text_out::{TextWriter, Word};
+
+/// The name of the entity of a sequencer.
+#[derive(Clone, Copy)]
+pub enum EntityName {
+    /// Of the script of this process.
+    Control(u32),
+    /// Of what a loop of this process gains.
+    Loop(u32, u32),
+}
+
+/// Writes the name of an entity.
+pub fn write_name<W: TextWriter>(name: EntityName, out: &mut W)
+    ensures { Wrote W.given out.old out.new (name_text name) }
+{
+    match name {
+        EntityName::Control(process) => {
+            write_all(
+                &[Word::Text(b"control_"), Word::Number(u64::from(process))],
+                out,
+            );
+        }
+        EntityName::Loop(process, number) => {
+            write_all(
+                &[
+                    Word::Text(b"loop_"),
+                    Word::Number(u64::from(process)),
+                    Word::Text(b"_"),
+                    Word::Number(u64::from(number)),
+                ],
+                out,
+            );
+        }
+    }
+}
+
+fn write_sequencer_entity<W: TextWriter>(name: EntityName, count: u64, out: &mut W)
+    ensures { Wrote W.given out.old out.new (sequencer_entity name count) }
+{
+    out.put(b"\nlibrary ieee;\nuse ieee.std_logic_1164.all;\nuse ieee.numeric_std.all;\nentity ");
+    write_name(name, out);
+    write_all(
+        &[
+            Word::Text(
+                b" is\n  port (\n    clk : in std_logic;\n    rst : in std_logic;\n    again : in std_logic;\n    step : in std_logic;\n    at : out integer range 0 to ",
+            ),
+            Word::Number(count),
+            Word::Text(b"\n  );\nend entity;\n"),
+        ],
+        out,
+    );
+}
+
+fn write_sequencer_types<W: TextWriter>(name: EntityName, turns: u32, out: &mut W)
+    ensures { Wrote W.given out.old out.new (sequencer_types name turns) }
+{
+    out.put(b"architecture rtl of ");
+    write_name(name, out);
+    write_all(
+        &[
+            Word::Text(
+                b" is\n  type codes is array (natural range <>) of integer;\n  type counts is array (natural range <>) of integer range 0 to ",
+            ),
+            Word::Number(u64::from(turns)),
+            Word::Text(b";\n"),
+        ],
+        out,
+    );
+}
+
+// Writes the tables of the repeats of a place.
+fn write_end_tables<T, W: TextWriter>(sequencer: &Sequencer<T>, place: usize, out: &mut W)
+    ensures { Wrote W.given out.old out.new (end_tables sequencer.now place) }
+{
+    write_end_table(EndColumn::Level, place, sequencer, out);
+    write_end_table(EndColumn::First, place, sequencer, out);
+    write_end_table(EndColumn::Count, place, sequencer, out);
+}
+
+fn write_all_end_tables<T, W: TextWriter>(sequencer: &Sequencer<T>, out: &mut W)
+    ensures { Wrote W.given out.old out.new (for_ends (end_tables sequencer.now) sequencer.now) }
+{
+    for place in 0..most_ends(sequencer) {
+        write_end_tables(sequencer, place, out);
+    }
+}
+
+fn write_sequencer_signals<W: TextWriter>(count: u64, levels: u64, out: &mut W)
+    ensures { Wrote W.given out.old out.new (sequencer_signals count levels) }
+{
+    write_all(
+        &[
+            Word::Text(b"  signal pc : integer range 0 to "),
+            Word::Number(count),
+            Word::Text(b" := 0;\n  signal turns : counts(0 to "),
+            Word::Number(levels),
+            Word::Text(b") := (others => 0);\n"),
+        ],
+        out,
+    );
+}
+
+fn write_end_signals<W: TextWriter>(place: u64, out: &mut W)
+    ensures { Wrote W.given out.old out.new (end_signals place) }
+{
+    let number = Word::Number(place);
+    write_all(
+        &[
+            Word::Text(b"  signal level"),
+            number,
+            Word::Text(b"_here, first"),
+            number,
+            Word::Text(b"_here, count"),
+            number,
+            Word::Text(b"_here : integer;\n"),
+        ],
+        out,
+    );
+}
+
+fn write_end_lines<W: TextWriter>(place: u64, out: &mut W)
+    ensures { Wrote W.given out.old out.new (end_lines place) }
+{
+    let number = Word::Number(place);
+    write_all(
+        &[
+            Word::Text(b"  level"),
+            number,
+            Word::Text(b"_here <= level"),
+            number,
+            Word::Text(b"(pc);\n  first"),
+            number,
+            Word::Text(b"_here <= first"),
+            number,
+            Word::Text(b"(pc);\n  count"),
+            number,
+            Word::Text(b"_here <= count"),
+            number,
+            Word::Text(b"(pc);\n"),
+        ],
+        out,
+    );
+}
+
+fn write_sequencer_head<W: TextWriter>(count: u64, out: &mut W)
+    ensures { Wrote W.given out.old out.new (sequencer_head count) }
+{
+    write_all(
+        &[
+            Word::Text(
+                b"  process (clk)\n    variable ends : boolean;\n    variable target : integer range 0 to ",
+            ),
+            Word::Number(count),
+            Word::Text(
+                b";\n  begin\n    if rising_edge(clk) then\n      if rst = '1' then\n        pc <= 0;\n        turns <= (others => 0);\n      elsif pc = ",
+            ),
+            Word::Number(count),
+            Word::Text(
+                b" then\n        if again = '1' then\n          pc <= 0;\n        end if;\n      elsif step = '1' then\n        ends := true;\n        target := pc + 1;\n",
+            ),
+        ],
+        out,
+    );
+}
+
+fn write_turn_lines<W: TextWriter>(place: u64, out: &mut W)
+    ensures { Wrote W.given out.old out.new (turn_lines place) }
+{
+    let number = Word::Number(place);
+    write_all(
+        &[
+            Word::Text(b"        if ends and count"),
+            number,
+            Word::Text(b"_here > 0 then\n          if turns(level"),
+            number,
+            Word::Text(b"_here) + 1 < count"),
+            number,
+            Word::Text(b"_here then\n            turns(level"),
+            number,
+            Word::Text(b"_here) <= turns(level"),
+            number,
+            Word::Text(b"_here) + 1;\n            target := first"),
+            number,
+            Word::Text(
+                b"_here;\n            ends := false;\n          else\n            turns(level",
+            ),
+            number,
+            Word::Text(b"_here) <= 0;\n          end if;\n        end if;\n"),
+        ],
+        out,
+    );
+}
+
+fn write_sequencer_end<W: TextWriter>(count: u64, out: &mut W)
+    ensures { Wrote W.given out.old out.new (sequencer_end count) }
+{
+    write_all(
+        &[
+            Word::Text(b"        if target = "),
+            Word::Number(count),
+            Word::Text(
+                b" and again = '1' then\n          pc <= 0;\n        else\n          pc <= target;\n        end if;\n      end if;\n    end if;\n  end process;\nend architecture;\n",
+            ),
+        ],
+        out,
+    );
+}
+
+/// What a sequencer's text has for each place of repeats that end.
+#[derive(Clone, Copy)]
+pub(crate) enum EndPart {
+    /// The signals of what its tables have.
+    Signals,
+    /// The lines that drive them.
+    Lines,
+    /// What is done at a step.
+    Turns,
+}
+
+fn write_end_part<W: TextWriter>(part: EndPart, place: u64, out: &mut W)
+    ensures { Wrote W.given out.old out.new (end_part_text part place) }
+{
+    match part {
+        EndPart::Signals => write_end_signals(place, out),
+        EndPart::Lines => write_end_lines(place, out),
+        EndPart::Turns => write_turn_lines(place, out),
+    }
+}
+
+fn write_end_parts<T, W: TextWriter>(part: EndPart, sequencer: &Sequencer<T>, out: &mut W)
+    ensures { Wrote W.given out.old out.new (for_ends (end_part_text part) sequencer.now) }
+{
+    for place in 0..most_ends(sequencer) {
+        write_end_part(part, place as u64, out);
+    }
+}
+
+/// Writes the entity of a sequencer, with an empty line before it.
+pub fn write_sequencer<T, W: TextWriter>(name: EntityName, sequencer: &Sequencer<T>, out: &mut W)
+    ensures { Wrote W.given out.old out.new (sequencer_text name sequencer.now) }
+{
+    let count = sequencer.instructions.len() as u64;
+    write_sequencer_entity(name, count, out);
+    write_sequencer_types(name, most_turns(sequencer), out);
+    write_all_end_tables(sequencer, out);
+    write_sequencer_signals(count, sequencer.levels as u64, out);
+    write_end_parts(EndPart::Signals, sequencer, out);
+    out.put(b"begin\n  at <= pc;\n");
+    write_end_parts(EndPart::Lines, sequencer, out);
+    write_sequencer_head(count, out);
+    write_end_parts(EndPart::Turns, sequencer, out);
+    write_sequencer_end(count, out);
+}

@@ -1,0 +1,3 @@
+pub mod Ports
+mod Counting
+mod Sequences

@@ -1,0 +1,15 @@
+//! The hardware of a process, and its VHDL text: a node whose control is a sequencer with repeat counters, and a counter for
+//! each loop that its expression names.
+//!
+//! Between two calls: the writer was given a front of the text.
+#![tactic(auto)]
+
+mod events;
+mod expression;
+mod laws;
+mod node;
+mod unit;
+
+pub use laws::{controls_give_scripts, counters_give_loop_values};
+pub use node::write_unit;
+pub use unit::{LoopCounter, Unit};

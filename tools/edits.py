@@ -18,7 +18,7 @@ import sys
 import tempfile
 from pathlib import Path
 
-from common import TOP, plain_parser_of
+from common import TOP, plain_parser_of, stop
 
 FOLDERS = ("must-fail", "edits")
 
@@ -79,8 +79,7 @@ def attempt(names: list[str]) -> int:
     """Tries all edits of these crates in a clone."""
     lacking = [name for name in names if not edits_of(TOP / "crates" / name)]
     if lacking:
-        print(f"no edits: {' '.join(lacking)}", file=sys.stderr)
-        return 64
+        stop(f"no edits: {' '.join(lacking)}")
     room = tempfile.mkdtemp(prefix="edits-")
     try:
         clone = Path(room) / "clone"

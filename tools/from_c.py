@@ -15,11 +15,15 @@ is another value here.
 """
 from __future__ import annotations
 
-import argparse
 import re
 import subprocess
 import sys
 from dataclasses import dataclass, field
+
+from front_door.base import put, tell
+from front_door.bundle import BUNDLE_LIMIT, read_file
+from front_door.ending import ended
+from front_door.words import Parser
 
 try:
     from pycparser import c_ast, c_parser
@@ -27,7 +31,7 @@ except ImportError:
     print("compaan c wants the package pycparser (python3-pycparser in Debian)", file=sys.stderr)
     sys.exit(69)
 
-UNFIT, NO_FILE = 65, 66
+UNFIT = 65
 MOST_READS = 8
 RESERVED = {"param", "in", "out", "inout", "var", "int", "for", "if", "else", "min", "max"}
 WHOLE = {
@@ -52,7 +56,7 @@ SIZE_MACRO = re.compile(r"[ \t]*#[ \t]*define[ \t]+([A-Za-z_]\w*)[ \t]+\(?[ \t]*
 class Unfit(Exception):
     """What can't be had, with its line."""
 
-    def __init__(self, node: object, why: str):
+    def __init__(self, node: object, why: str) -> None:
         coord = getattr(node, "coord", None)
         super().__init__(f"{coord.line}: {why}" if coord else why)
 
@@ -136,7 +140,7 @@ class Names:
 class Source:
     """The source that a function becomes."""
 
-    def __init__(self, function: c_ast.FuncDef, sizes: dict[str, int], outputs: list[str]):
+    def __init__(self, function: c_ast.FuncDef, sizes: dict[str, int], outputs: list[str]) -> None:
         self.function, self.sizes, self.outputs = function, sizes, outputs
         self.names = Names()
         # What a name of C is here: its name in the source, by scope, and what kind of thing it is.
@@ -622,24 +626,19 @@ def converted(text: str, function: str | None, outputs: list[str]) -> str:
 
 
 def main() -> int:
-    parser = argparse.ArgumentParser(prog="./compaan c", description="Writes the source of a function in C.")
+    parser = Parser(prog="./compaan c", description="Writes the source of a function in C.")
     parser.add_argument("file", metavar="FILE.c")
     parser.add_argument("--function", metavar="NAME", help="the function, where there are several")
     parser.add_argument("--out", metavar="ARRAY", action="append", default=[], help="an array that is only an output")
     words = parser.parse_args()
+    text = read_file(words.file, BUNDLE_LIMIT).decode(errors="replace")
     try:
-        with open(words.file, encoding="utf-8", errors="replace") as file:
-            text = file.read()
-    except OSError as error:
-        print(f"compaan: {words.file}: {error.strerror}", file=sys.stderr)
-        return NO_FILE
-    try:
-        sys.stdout.write(converted(text, words.function, words.out))
+        put(converted(text, words.function, words.out).encode())
     except Unfit as error:
-        print(f"{words.file}:{error}", file=sys.stderr)
+        tell(f"{words.file}:{error}")
         return UNFIT
     return 0
 
 
 if __name__ == "__main__":
-    sys.exit(main())
+    sys.exit(ended(main))

@@ -21,7 +21,7 @@ import time
 from collections import defaultdict
 from pathlib import Path
 
-from common import TOP, plain_parser_of
+from common import TOP, plain_parser_of, stop
 from crates import crates_below
 
 PAGE = TOP / "docs" / "CONTRIBUTING.md"
@@ -118,6 +118,8 @@ def times_of(files: list[str]) -> Times:
     """The processor minutes of each crate and kind."""
     times: Times = {}
     for file in files:
+        if not Path(file).is_file():
+            stop(f"there is no {file}")
         here: Times = defaultdict(float)
         for line in Path(file).read_text(encoding="utf-8").split("\n"):
             if line and not line.startswith("#"):
@@ -170,8 +172,7 @@ def table(files: list[str], write: bool) -> int:
     page = PAGE.read_text(encoding="utf-8")
     found = re.search(re.escape(HEAD) + r"(\|.*\n)*\n.*\n(?:[^\n#|].*\n)*", page)
     if not found:
-        print(f"{PAGE} has no table with this head", file=sys.stderr)
-        return 65
+        stop(f"{PAGE} has no table with this head")
     PAGE.write_text(page[: found.start()] + text + page[found.end() :], encoding="utf-8")
     return 0
 

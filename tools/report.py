@@ -9,10 +9,10 @@ network, prints, and follows the reader's choice of light or dark. What it shows
 """
 from __future__ import annotations
 
-import argparse
 import html
 import os
 import re
+import shutil
 import subprocess
 import sys
 from dataclasses import dataclass
@@ -21,6 +21,10 @@ import clocked
 import network as networks
 import pieces
 from clocked import AWAIT_ROOM, AWAIT_TOKEN, ENDED, FIRE, GET, PUT
+from front_door.base import Status, Stop, put, tell
+from front_door.bundle import BUNDLE_LIMIT, read_file
+from front_door.ending import ended
+from front_door.words import Parser
 from network import Network
 from outline import Outline, values_of
 
@@ -82,7 +86,7 @@ class Asked:
 class Refused(Exception):
     """The program refuses what it was given: its status and its line."""
 
-    def __init__(self, status: int, line: bytes):
+    def __init__(self, status: int, line: bytes) -> None:
         super().__init__(status, line)
         self.status, self.line = status, line
 
@@ -446,30 +450,28 @@ def page(asked: Asked) -> str:
 
 
 def main() -> int:
-    parser = argparse.ArgumentParser(prog="./compaan report", description="Writes a page about a program and its network.")
+    parser = Parser(prog="./compaan report", description="Writes a page about a program and its network.")
     parser.add_argument("program", metavar="PROGRAM")
     parser.add_argument("file", metavar="FILE")
     parser.add_argument("items", nargs="*", metavar="NAME=VALUE")
     parser.add_argument("--policy", choices=("seq", "down"), default="seq")
     parser.add_argument("--data", metavar="FILE")
     words = parser.parse_args()
-    with open(words.file, "rb") as file:
-        source = file.read()
-    data = b""
-    if words.data:
-        with open(words.data, "rb") as file:
-            data = file.read()
-    ended = b"" if source.endswith(b"\n") or not source else b"\n"
+    if shutil.which(words.program) is None:
+        raise Stop(Status.NO_PROGRAM, f"{words.program} can't be run")
+    source = read_file(words.file, BUNDLE_LIMIT)
+    data = read_file(words.data, BUNDLE_LIMIT) if words.data else b""
+    end = b"" if source.endswith(b"\n") or not source else b"\n"
     asked = Asked(
-        words.program, os.path.basename(words.file), source, source + ended + b"%%\n" + data, words.items, words.policy, bool(words.data)
+        words.program, os.path.basename(words.file), source, source + end + b"%%\n" + data, words.items, words.policy, bool(words.data)
     )
     try:
-        sys.stdout.write(page(asked))
+        put(page(asked).encode())
     except Refused as error:
-        sys.stderr.buffer.write(error.line)
+        tell(error.line.decode(errors="replace"), "")
         return error.status
     return 0
 
 
 if __name__ == "__main__":
-    sys.exit(main())
+    sys.exit(ended(main))

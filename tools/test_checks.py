@@ -144,6 +144,8 @@ def faults() -> Iterator[Fault]:
         "| `out y; y = ;` gives `text: Syntax 10` |",
         "`net_core::nothing`",
         f"| {'long ' * 32} |",
+        f"| `out y; y = 2;` gives `y,2` {'long ' * 32} |",
+        *(["`rattle-kit-0 logic 0`"] if shutil.which("rt") else []),
     ):
         page = changed("examples/page.md", "", f"# A page\n\n{part}\n", ("examples",))
         yield Fault("docs/check.py", ["examples/page.md"], part.replace("\n", " "), page)
@@ -156,6 +158,10 @@ def faults() -> Iterator[Fault]:
         ("layers.svg", "<rect", "<rect "),
     ):
         yield Fault("docs/pages.py", [], f"another {page}", changed(f"docs/{page}", old, new, ("docs",)))
+    other_items = changed("examples/README.md", "| `N=8 T=3` | [picture](pictures/fir.svg)", "| `N=8` | [picture](pictures/fir.svg)", ("examples",))
+    yield Fault("docs/check.py", ["--no-program"], "an example with other items", other_items)
+    other_limit = changed("docs/VHDL.md", "at most 65,536 events", "at most 65,537 events", ("docs",))
+    yield Fault("docs/check.py", ["--no-program"], "another limit", other_limit)
     yield Fault("docs/ample.py", ["loop_bind"], "tests that are none", without_tests)
     edit = changed("crates/affine_core/edits/nothing.edit", "", "file: src/lib.rt\nold: nothing\nnew: something\n", ("crates",))
     yield Fault("edits.py", ["check"], "an edit of no line", edit)
@@ -175,7 +181,7 @@ def faults() -> Iterator[Fault]:
     small_run = ["--only", "run of the increment"]
     yield Fault("hostile/memory.py", small_run, "a program that always ends with 10", ALWAYS_TEN)
     yield Fault("hostile/memory.py", small_run, "a program that asks for no memory", NO_MEMORY)
-    for section in ("deep", "trees", "writers", "repeats", "size", "announce", "bundle", "threads"):
+    for section in ("deep", "trees", "writers", "repeats", "size", "lines", "announce", "bundle", "threads"):
         yield Fault("hostile/limits.py", ["--only", section, "--quick"], "a program that always ends with 10", ALWAYS_TEN)
     for command, what, pattern, new in (
         ("net", "a capacity above the tokens", rb"capacity 1 ", b"capacity 2 "),

@@ -12,7 +12,10 @@ usage: tools/docs/check.py [--compaan PROGRAM|--no-program] [FILE.md]..     (all
   src/, specs/, proofs/, must-fail/ or edits/, or as a document.
 - Tests: in the list of PROVED.md each test stands in one of the crates behind it, and each of these crates has tests.
 - Contracts: what stands in backticks as crate::function is a function of that crate.
-- Rows: a row of a table has at most 160 characters, but for those with an example.
+- Rows: a row of a table has at most 160 characters.
+- Toolchain: where `rt` is, what a page says of its version, as `rattle-kit-..`, is what `rt version` prints.
+- Limits: a number that bounds what the program takes is the one of the code, in each page that is to tell it.
+- Items: each example has a row in examples/README.md, with the words of its NAME.items.
 - Printed parts and definitions: what tools/docs/pages.py prints into pages stands there.
 - Pictures: each example has one in examples/pictures, and the network that it carries is that which `net` prints.
 
@@ -23,6 +26,7 @@ from __future__ import annotations
 
 import os
 import re
+import shutil
 import subprocess
 import sys
 import tempfile
@@ -32,16 +36,26 @@ from pathlib import Path
 
 sys.path.insert(0, str(Path(__file__).resolve().parents[1]))
 import pages
-from common import EXAMPLES, TOP, examples, parser_of, program_of
+from common import EXAMPLES, TOP, examples, parser_of, program_of, stop
 from common import run as run_program
 from crates import CRATES, files_of, read
 
 SECONDS = 600
 LONGEST_ROW = 160
-KINDS = ("links", "tests", "contracts", "rows", "printed parts", "definitions")
+KINDS = ("links", "tests", "contracts", "rows", "items", "limits", "printed parts", "definitions")
 KINDS_OF_PROGRAM = ("commands", "examples", "pictures")
 # The status of a complaint by its first word.
 STATUSES = {"usage": 2, "bundle": 5, "text": 6, "class": 7, "limit": 8, "data": 9}
+# The constants of the code that pages tell, with the pages.
+LIMITS = (
+    ("loop_lex/src/token.rt", "MAX_TOKENS", "docs/LANGUAGE.md docs/SECURITY.md"),
+    ("loop_walk/src/count.rt", "SIZE_LIMIT", "README.md docs/LANGUAGE.md docs/SECURITY.md"),
+    ("compaan_top/src/call.rt", "BUNDLE_LIMIT", "docs/COMMANDS.md docs/LANGUAGE.md docs/CERTIFICATES.md docs/SECURITY.md"),
+    ("cert_text/src/kept.rt", "MOST_EVENTS", "docs/CERTIFICATES.md docs/SECURITY.md"),
+    ("cert_lines/src/lines.rt", "NESTING_LIMIT", "docs/CERTIFICATES.md docs/SECURITY.md"),
+    ("cell_rows/src/places.rt", "ROW_LIMIT", "docs/DECISIONS.md docs/SECURITY.md"),
+    ("vhdl_text/src/text.rt", "MOST_EVENTS", "README.md docs/COMMANDS.md docs/VHDL.md"),
+)
 GIVES = re.compile(r"`([^`]+)` gives `([^`]+)`")
 
 
@@ -216,8 +230,38 @@ def check_contracts(name: str, text: str, tally: Tally) -> None:
 
 def check_rows(name: str, text: str, tally: Tally) -> None:
     for number, line in enumerate(text.split("\n"), 1):
-        if line.startswith("|") and not GIVES.search(line):
+        if line.startswith("|"):
             tally.compare("rows", f"{name}:{number}", len(line) <= LONGEST_ROW, f"a row of {len(line)} characters")
+
+
+def version_of_rt() -> str | None:
+    """The line that the toolchain tells of itself, or None where it isn't here."""
+    rt = shutil.which("rt")
+    done = subprocess.run([rt, "version"], stdin=subprocess.DEVNULL, capture_output=True, text=True, check=False) if rt else None
+    return done.stdout.strip() if done and done.returncode == 0 else None
+
+
+def check_toolchain(version: str | None, name: str, text: str, tally: Tally) -> None:
+    for told in re.findall(r"`(rattle-kit-[^`]+)`", text) if version else ():
+        tally.compare("toolchain", name, told == version, f"{told} isn't what rt version prints, {version}")
+
+
+def check_limits(tally: Tally) -> None:
+    for file, name, told_in in LIMITS:
+        path = CRATES / file
+        found = re.search(rf"\bconst {name}: \w+ = ([\d_]+);", read(path)) if path.is_file() else None
+        said = f"{int(found[1].replace('_', '')):,}" if found else ""
+        for page in told_in.split():
+            is_told = said and re.search(rf"(?<![\d,]){said}(?![\d,]*\d)", read(TOP / page))
+            tally.compare("limits", page, is_told, f"{said or 'nothing'} is the {name} of {file}, and isn't told here")
+
+
+def check_items(tally: Tally) -> None:
+    page = read(EXAMPLES / "README.md")
+    for example in examples():
+        found = re.search(rf"(?m)^\| `{re.escape(example.name)}` \|.*\| `([^`]*)` \| \[picture\]\(pictures/{re.escape(example.name)}\.svg\) \|$", page)
+        shown = f"{example.name} has no row with `{' '.join(example.items)}` and its picture"
+        tally.compare("items", "examples/README.md", found and found[1].split() == example.items, shown)
 
 
 def check_pictures(program: str, tally: Tally) -> None:
@@ -234,16 +278,23 @@ def main() -> int:
     parser.add_argument("names", metavar="FILE.md", nargs="*")
     given = parser.parse_args()
     program, tally = None if given.no_program else program_of(given.compaan), Tally()
+    for it in given.names:
+        if not Path(it).is_file():
+            stop(f"there is no {it}")
+    version = version_of_rt()
     for path in [Path(it).resolve() for it in given.names] or documents():
         text, name = read(path), os.path.relpath(path, TOP)
         check_links(path, name, text, tally)
         check_tests(name, text, tally)
         check_contracts(name, text, tally)
         check_rows(name, text, tally)
+        check_toolchain(version, name, text, tally)
         if program:
             check_sessions(program, name, text, tally)
             check_tables(program, name, text, tally)
     if not given.names:
+        check_items(tally)
+        check_limits(tally)
         for kind, place, shown in pages.differences(program):
             tally.compare(kind, place, not shown, shown)
         if program:

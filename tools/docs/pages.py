@@ -5,7 +5,7 @@ usage: tools/docs/pages.py [--program]             compares each part with its p
                                                    there is one. With --program also what the built program prints
        tools/docs/pages.py [--program] --write     puts them into their pages
        tools/docs/pages.py --printed NAME FILE     puts what a script of measures printed into its page: measures of tools/bench/all.py,
-                                                   limits of tools/hostile/limits.py
+                                                   limits of sections of tools/hostile/limits.py
        tools/docs/pages.py --sentences             lists the definitions whose comment lacks, or tells nothing by itself
 
 A part stands between a line `<!-- tools/docs/pages.py: NAME -->` and a line `<!-- end -->`:
@@ -20,7 +20,7 @@ meaning, soundness   files of definitions: which those are that a claim rests on
 clocks       the clocks of each example, as they stand beside its answer
 aims         what the table of measures says beside the aims
 capacities   of each example the sum of the capacities and the greatest one, by each policy and by trim: by the program
-measures, limits-writers, limits-repeats, limits-lines     tables of time and memory, which nothing compares
+measures, limits    tables of time and memory, which nothing compares
 
 The picture of the layers, docs/layers.svg, and the crates and numbers of edits in the table of docs/CONTRIBUTING.md, which tools/gate.py
 prints, are compared too.
@@ -39,7 +39,7 @@ from pathlib import Path
 sys.path.insert(0, str(Path(__file__).resolve().parents[1]))
 import definitions
 import layers
-from common import POLICIES, TOP, examples, head, parser_of, program_of, row, run
+from common import POLICIES, TOP, examples, head, parser_of, program_of, row, run, stop
 from crates import CRATES, crates, crates_below, read
 
 Key = definitions.Key
@@ -64,7 +64,7 @@ net_checker.Sources.AreUsable net_checker.Sources.IsUsable net_core.Cuts.IsLegal
 net_maker.Origins.IsUsableOrigin node_automata.Automata.incoming node_automata.Automata.outgoing process_derive.Scripts.point_events
 reorder_slots.Slots.gets_for reorder_slots.Slots.lowest_free sanlp.Meaning.exec sanlp.Memory.Memory sanlp.Tags.tag_at
 sanlp.Writers.last_writer sanlp.Writers.value_at source_tree.Wanted.IsWanted source_tree.Wanted.IsWriterBy
-tree_answers.Telling.GivesTrees trim_text.TrimText.channel_line vhdl_text.Constants.column_values vhdl_text.Constants.variable_values
+compaan_top.Telling.GivesTrees trim_text.TrimText.channel_line vhdl_text.Constants.column_values vhdl_text.Constants.variable_values
 vhdl_text.Expressions.expr_text vhdl_text.Literals.literal vhdl_text.VhdlText.node_text witness_plan.Schedules.is_ready
 witness_plan.Sequential.sequential_schedule
 """.split()
@@ -325,11 +325,37 @@ def printed(name: str, text: str) -> None:
     if name == "measures":
         put(name, TOP / "docs" / "MEASURES.md", "".join(f"{it}\n" for it in text.splitlines() if it.startswith("|")))
         return
-    for section, inside in re.findall(r"(?ms)^## (\w+)\n(.*?)(?=^## |\Z)", text):
-        if section in ("writers", "repeats", "lines"):
-            # of lines, those that fill a bundle
-            rows = [it for it in inside.splitlines() if it.startswith("|") and not re.match(r"\|[^|]*\| \d+ \| 4 \|", it)]
-            put(f"limits-{section}", TOP / "docs" / "SECURITY.md", "".join(f"{it}\n" for it in rows))
+    put("limits", TOP / "docs" / "SECURITY.md", limits(text))
+
+
+# The head of the table that each section of the limits prints of its long and large runs, and the sections.
+LONG_HEAD = head(("Given", "Command", "Ends with", "s", "MB"))
+SECTIONS = ("deep", "trees", "writers", "repeats", "size", "lines", "announce", "bundle", "threads")
+
+
+def limits(text: str) -> str:
+    """One table of what takes long, or much, of the sections that were run, and what is told behind it."""
+    sections = re.findall(r"(?ms)^## (\w+)\n(.*?)(?=^## |\Z)", text)
+    rows: list[str] = []
+    stacks: list[tuple[int, str]] = []
+    told = ""
+    for section in SECTIONS:
+        for inside in [inside.partition(LONG_HEAD + "\n")[2] for name, inside in sections if name == section]:
+            found = re.search(r"(?m)^\d+ of \d+ runs take (.*)\.$", inside)
+            if found is None:
+                stop(f"the section {section} wasn't run to its end")
+            rows += [it for it in inside[: found.start()].splitlines() if it.startswith("|")]
+            told = found[1]
+            stacks += [(int(kilobytes), it) for kilobytes, it in re.findall(r"(?m)^The greatest least stack is (\d+) kB: (.*)\.$", inside)]
+    run = [it for it in SECTIONS if it in dict(sections)]
+    if not run:
+        stop("no section is there")
+    of = "" if len(run) == len(SECTIONS) else f" of the sections {', '.join(f'`{it}`' for it in run)}"
+    said = f"No other run{of} takes {told}."
+    if stacks:
+        most, name = max(stacks)
+        said += f" The greatest least stack is {number(most)} kB: {name}."
+    return "".join(f"{it}\n" for it in (LONG_HEAD, *rows)) + "\n" + wrapped(said)
 
 
 Difference = tuple[str, str, str]
@@ -398,7 +424,12 @@ def main() -> int:
             print(f"{name_of(key)}\n  is        {comment or '(no comment)'}\n  better    {said}")
         return 0
     if words.printed:
-        printed(words.printed[0], read(Path(words.printed[1])))
+        name, file = words.printed
+        if name not in ("measures", "limits"):
+            parser.error(f"nothing prints {name}")
+        if not Path(file).is_file():
+            stop(f"there is no {file}")
+        printed(name, read(Path(file)))
     program = program_of(words.compaan) if words.program else None
     if words.write or words.printed:
         write(program)

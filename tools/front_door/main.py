@@ -8,8 +8,9 @@ import sys
 
 from .base import TOP, TYPE_CHECKING, Status, Stop, printable, put, tell, write_all
 from .bundle import bundle_of
+from .ending import ended
 from .kept import proved_program, unproved_program
-from .program import Signalled, run
+from .program import run
 from .words import COMMANDS, command_help, help_text, words_of
 
 if TYPE_CHECKING:
@@ -25,29 +26,8 @@ NOT_SAID = 4
 
 
 def main(arguments: list[str]) -> int:
-    """Answers a call, and gives the status. No failure goes further than this."""
-    try:
-        return answer(arguments)
-    except Stop as stop:
-        tell(f"compaan: {printable(stop.text)}")
-        return stop.status
-    except Signalled as it:
-        # Whoever started the script sees what ended it.
-        signal.signal(it.number, signal.SIG_DFL)
-        os.kill(os.getpid(), it.number)
-        return 128 + it.number
-    except MemoryError:
-        tell("compaan: memory is wanting")
-        return Status.SYSTEM
-    except OSError as error:
-        tell(f"compaan: {printable(str(error.filename or 'the system'))}: {error.strerror}")
-        return Status.SYSTEM
-    except Exception as error:
-        import traceback
-
-        last = traceback.extract_tb(error.__traceback__)[-1]
-        tell(f"compaan: a fault of this script: {type(error).__name__}: {printable(str(error))} ({os.path.basename(last.filename)}:{last.lineno})")
-        return Status.OWN_FAULT
+    """Answers a call, and gives the status."""
+    return ended(lambda: answer(arguments))
 
 
 def answer(arguments: list[str]) -> int:

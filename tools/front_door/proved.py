@@ -1,26 +1,23 @@
-"""The proved program: all crates that it stands on are proved, and then it is proved, compiled and linked."""
+"""The proved program: all crates that it stands on are proved, and then it is compiled and linked."""
 from __future__ import annotations
 
 import os
 import re
-import shlex
+import shutil
 import subprocess
-import sys
+import tempfile
 from pathlib import Path
-from typing import BinaryIO
+from typing import Any, BinaryIO
 
-from .base import CRATE, KEPT, Status, Stop, tell
+from .base import CRATE, KEPT, TOP, Status, Stop, tell
 from .kept import PROVED, kept
-from .making import Progress, alone, answers_well, example_words, keep, writing
+from .making import Progress, alone, answers_well, keep, writing
 from .program import started
-from .sources import STATEMENTS, crates_below, expected_minutes, listed, sum_of
+from .sources import LIST, STATEMENTS, crates_below, expected_minutes, listed, sum_of
 from .toolchain import toolchain
 
 LOG = KEPT / "build.log"
-# A proof of a crate takes up to so many bytes.
-BYTES_A_JOB = 4 << 30
 BUILT_BY_RT = CRATE / "out" / "compaan"
-WITHOUT_PASS = Path(__file__).with_name("rt_by_proofs_alone.py")
 
 
 def build() -> int:
@@ -38,12 +35,7 @@ def build() -> int:
             raise Stop(Status.NO_PROGRAM, f"that build ended without the program: see {LOG}")
         try:
             with writing():
-                prove_all(tools.rt, progress)
-                if sum_of(STATEMENTS) != total:
-                    raise Stop(Status.NO_PROGRAM, "sources changed while they were proved: ./compaan build proves what changed")
-                if not answers_well(BUILT_BY_RT):
-                    raise Stop(Status.NO_PROGRAM, f"{BUILT_BY_RT} doesn't answer its own example")
-                keep(PROVED, total, BUILT_BY_RT)
+                prove_all(tools.rt, total, progress)
         finally:
             progress.end()
     tell("compaan: all crates that the program stands on are proved, and it is built")
@@ -63,37 +55,62 @@ def take_built() -> int:
     return 0
 
 
-def prove_all(rt: str, progress: Progress) -> None:
-    """Proves the crates, as many at once as there are processors and memory for, and has the program built."""
-    count = jobs()
-    number = len(crates_below("compaan")) + 1
-    tell(f"compaan: {number} crates are proved, up to {count} at a time, and then the program is built; the log is {LOG}")
-    minutes = expected(count)
+def prove_all(rt: str, total: str, progress: Progress) -> Path:
+    """Has the toolchain's gate prove the crates and build the program, and gives the copy of it that is kept.
+
+    The gate begins what has the longest chain of crates behind it, and takes as many crates at once as processors and memory allow. It
+    runs over a copy of what the program is made of alone, so it proves no crate of tests and tries no edit, and whoever changes a source
+    meanwhile is in nobody's way."""
+    names = [*crates_below("compaan"), "compaan"]
+    tell(f"compaan: {len(names)} crates are proved, and then the program is built; the log is {LOG}")
+    minutes = expected(names, processors())
     if minutes:
         tell(f"compaan: by the table of docs/CONTRIBUTING.md that takes some {minutes:.0f} minutes, where nothing else is at work")
-    proving = [sys.executable, str(WITHOUT_PASS), rt, "all", "check", "--jobs", str(count)]
-    with open(LOG, "wb") as log, open(LOG, "rb") as news, open(CRATE / "stdin", "rb") as given:
-        for command in (proving, [rt, "run", "--", *example_words()]):
-            done = 0
-            with started(command, stdin=given, stdout=log, stderr=subprocess.STDOUT, cwd=CRATE, start_new_session=True) as process:
-                while process.poll() is None:
-                    done += proved_in(news)
-                    progress.say(f"{done} of {number} crates are proved" if command is proving else "the program is compiled and linked")
+    with tempfile.TemporaryDirectory(prefix="compaan-build-") as room:
+        top = Path(room)
+        copy(names, top)
+        if sum_of(STATEMENTS) != total:
+            raise Stop(Status.NO_PROGRAM, "sources changed while they were copied: ./compaan build begins anew")
+        with open(LOG, "wb") as log, open(LOG, "rb") as news:
+            how: dict[str, Any] = {"stdin": subprocess.DEVNULL, "stdout": log, "stderr": subprocess.STDOUT, "cwd": top}
+            proved: set[bytes] = set()
+            with started([rt, "ci"], start_new_session=True, **how) as process:
+                has_ended = False
+                while not has_ended:
+                    # What it said before it ended is read after that was seen.
+                    has_ended = process.poll() is not None
+                    proved.update(proved_in(news))
+                    progress.say(f"{len(proved)} of {len(names)} crates are proved")
                     progress.pause(process)
-            if process.returncode:
-                words = shlex.join(command[2:] if command is proving else command)
-                raise Stop(Status.NO_PROGRAM, f"{words} in {CRATE} ended with status {process.returncode}: see {LOG}")
+        program = top / BUILT_BY_RT.relative_to(TOP)
+        if process.returncode or not program.is_file():
+            raise Stop(Status.NO_PROGRAM, f"rt ci over the program's crates ended with status {process.returncode}: see {LOG}")
+        if not answers_well(program):
+            raise Stop(Status.NO_PROGRAM, "the program that was built doesn't answer its own example")
+        return keep(PROVED, total, program)
 
 
-def proved_in(news: BinaryIO) -> int:
-    """How many crates are proved by the lines of the log that are new. There is one for each when it is done, and one for their sum."""
-    return len(re.findall(rb"(?m)^== (?!summary$)\w+$", news.read()))
+def copy(names: list[str], to: Path) -> None:
+    """Copies what the program is made of: these crates, with their lines of the list, and without their edits."""
+    try:
+        for name in names:
+            shutil.copytree(TOP / "crates" / name, to / "crates" / name, ignore=shutil.ignore_patterns("out", "must-fail", "edits"))
+    except shutil.Error as error:
+        file, _, why = error.args[0][0]
+        raise Stop(Status.NOT_WRITTEN, f"{file} can't be copied below {to}: {why}") from None
+    lines = [f"{name}: {' '.join(below)}\n" for name, below in listed().items() if name in names]
+    (to / LIST.name).write_text("".join(lines), encoding="utf-8")
+    shutil.copyfile(TOP / "HANDLES", to / "HANDLES")
 
 
-def expected(count: int) -> float:
+def proved_in(news: BinaryIO) -> list[bytes]:
+    """The crates that are proved, or were by an earlier run, by the lines of the log that are new."""
+    return re.findall(rb"(?m)^rt: (\w+) (?:proved|is kept: .*)$", news.read())
+
+
+def expected(crates: list[str], count: int) -> float:
     """How many minutes the proofs take with so many processors, by the table of docs/CONTRIBUTING.md, or 0 where it isn't there."""
-    crates, names = [*crates_below("compaan"), "compaan"], listed()
-    minutes = expected_minutes(crates)
+    names, minutes = listed(), expected_minutes(crates)
     longest: dict[str, float] = {}
     for name in crates:
         # Those that a crate stands on come before it.
@@ -101,18 +118,6 @@ def expected(count: int) -> float:
     return max(sum(minutes.values()) / count, *longest.values())
 
 
-def number_in(file: str, pattern: str) -> int | None:
-    """The number that a pattern finds in a file, or None."""
-    try:
-        found = re.search(pattern, Path(file).read_text(encoding="utf-8"))
-    except (OSError, UnicodeDecodeError):
-        return None
-    return int(found[1]) if found else None
-
-
-def jobs() -> int:
-    """The processors that there are, as far as memory allows so many proofs at once."""
-    free = (number_in("/proc/meminfo", r"MemAvailable: *(\d+) kB") or 0) * 1024
-    group = number_in("/sys/fs/cgroup/memory.max", r"(\d+)")
-    free = min(free, group) if group else free
-    return max(1, min(len(os.sched_getaffinity(0)), free // BYTES_A_JOB))
+def processors() -> int:
+    """The processors that there are."""
+    return len(os.sched_getaffinity(0))

@@ -25,7 +25,7 @@ def toolchain() -> Toolchain:
     if rt is None:
         raise Stop(
             Status.NO_PROGRAM,
-            "rt, the command of the toolchain that makes the program, isn't on the PATH: README.md, under 'What is trusted', says which "
+            "rt, the command of the toolchain that makes the program, isn't on the PATH: README.md, under 'Two commands', says which "
             "toolchain is meant",
         )
     try:

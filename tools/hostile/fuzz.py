@@ -251,7 +251,7 @@ class Source:
         """The records of the given arrays, in some order and form."""
         pick = self.pick
         try:
-            arrays = meaning.Program(self.source, self.params).arrays
+            arrays = meaning.program_of(self.source, self.params).arrays
         except meaning.Refused:
             return b""
         lines = []
@@ -652,7 +652,7 @@ class Job:
 
     def known(self, words: Sequence[str], bundle: bytes) -> meaning.Program:
         """The program of a bundle that isn't refused."""
-        return meaning.Program(meaning.parts_of(bundle)[0] or b"", values_of(words))
+        return meaning.program_of(meaning.parts_of(bundle)[0] or b"", values_of(words))
 
     def same_sources(self, number: int, words: Sequence[str], bundle: bytes) -> None:
         """The sources of `deps` are the last writers."""

@@ -1,9 +1,9 @@
 #!/usr/bin/env python3
 """The built program at its limits: depth, size, certificates of tens of millions of lines, large data, refused starts of threads.
 
-usage: tools/hostile/limits.py [--only SECTION] [--quick] [--space GB] [--compaan PROGRAM]
+usage: tools/hostile/limits.py [--only SECTION] [--share K/N] [--quick] [--space GB] [--compaan PROGRAM]
 
-Every run has a stack of 8 MB, 4 GB of address space and a time limit. Times are those of processors. Each section prints a table:
+Every run has a stack of 8 MB, 4 GB of address space and 300 seconds of processors. Times are those of processors. Each section prints a table:
 
   deep      sources at the limit of 8,192 tokens, nested as deep as they can be, by each command, with the least stack that serves
   trees     certificates whose trees and proofs nest 512 deep, and one deeper, by `check`, with the least stack that serves
@@ -17,6 +17,9 @@ Every run has a stack of 8 MB, 4 GB of address space and a time limit. Times are
   threads   64, 63 and 62 processes where each start of a thread is refused in turn, with all later ones: by a shim before the C
             library, and by the system's own limit on tasks; the same of `load` and of `trace`; and on few processors
 
+Behind its tables each section prints one of those of its runs that take 2 seconds of a processor, or 256 MB, and how many there were.
+tools/docs/pages.py puts these into docs/SECURITY.md, of a file with the output of all sections.
+
 A run that ends by a signal, that isn't done in its time, or that ends otherwise than is wanted is told behind the tables, and makes the
 script fail. The system's limit on tasks is tried by root alone, as a user of its own. It is a test, outside the proof.
 """
@@ -28,12 +31,13 @@ import random
 import re
 import resource
 import shutil
+import signal
 import sys
 import tempfile
 from collections import Counter
 from collections.abc import Callable, Iterable, Iterator, Sequence
 from pathlib import Path
-from typing import NamedTuple
+from typing import NamedTuple, TypeVar
 
 sys.path.insert(0, str(Path(__file__).resolve().parents[1]))
 from common import bundled, examples, parser_of, program_of, table
@@ -46,6 +50,11 @@ Wanted = tuple[int, bytes, bytes]
 sys.setrecursionlimit(10_000)
 
 BAD: list[str] = []
+# The runs of a section: what each was given, its command, and how it ended; and the least stacks that were found.
+RUNS: list[tuple[str, str, End]] = []
+STACKS: list[tuple[int, str]] = []
+# What takes long, or much.
+LONG, MUCH = 2.0, 256 << 10
 SECONDS = 300
 BUNDLE = meaning.BUNDLE_LIMIT
 KILO = 1 << 10
@@ -53,6 +62,14 @@ KILO = 1 << 10
 MOST_OF_CHECK = 1 << 20
 # With --quick no least stack is looked for.
 QUICK: list[bool] = []
+# Of what a section tries each Nth, from the Kth on.
+SHARE = [1, 1]
+Item = TypeVar("Item")
+
+
+def shared(items: Iterable[Item]) -> Iterator[Item]:
+    """Those of the share that this run is to try."""
+    return itertools.islice(items, SHARE[0] - 1, None, SHARE[1])
 
 
 def with_limits(space: int) -> None:
@@ -62,9 +79,11 @@ def with_limits(space: int) -> None:
 
 
 def ask(program: str, words: Sequence[str], bundle: bytes, stack: int = 0, limit: float = SECONDS) -> End:
-    """A run, with a stack of so many kilobytes where that is said."""
-    before = ["sh", "-c", f'ulimit -S -s {stack} && exec "$@"', "sh"] if stack else []
-    return asking.ask(program, words, bundle, limit, before=before)
+    """A run, with a stack of so many kilobytes where that is said, and so many seconds of processors; of the clock it may take more, since
+    something else may be at work."""
+    shell = f"ulimit -S -t {limit:.0f}" + (f" && ulimit -S -s {stack}" if stack else "")
+    end = asking.ask(program, words, bundle, 5 * limit, before=["sh", "-c", f'{shell} && exec "$@"', "sh"])
+    return end._replace(hung=end.hung or end.status == -signal.SIGXCPU)
 
 
 def told(end: End) -> str:
@@ -79,8 +98,32 @@ def megabytes(end: End) -> str:
     return f"{end.kilobytes / KILO:.1f}"
 
 
-def judge(name: str, end: End, wanted: Wanted | None = None, kilobytes: int | None = None) -> bool:
+def note(name: str, command: str, end: End) -> str:
+    """Keeps how a run ended, and gives what it is called."""
+    RUNS.append((name, command, end))
+    return f"{name}, {command}"
+
+
+def taken() -> None:
+    """Prints which runs of a section take long, or much, and the greatest of the least stacks."""
+    rows = []
+    for name, command, end in RUNS:
+        if end.cpu >= LONG or end.kilobytes >= MUCH or end.hung:
+            ended = str(end.status) if end.status in (0, 10) and not end.hung else told(end)
+            rows.append([name, f"`{command}`", ended, *(["", ""] if end.hung else [f"{end.cpu:.1f}", f"{end.kilobytes / KILO:.0f}"])])
+    print()
+    table(["Given", "Command", "Ends with", "s", "MB"], rows)
+    print(f"\n{len(rows)} of {len(RUNS)} runs take {LONG:.0f} s or {MUCH >> 10} MB.")
+    if STACKS:
+        most, name = max(STACKS)
+        print(f"The greatest least stack is {most} kB: {name}.")
+    RUNS.clear()
+    STACKS.clear()
+
+
+def judge(name: str, command: str, end: End, wanted: Wanted | None = None, kilobytes: int | None = None) -> bool:
     """Whether a run is as wanted, which is told where it isn't."""
+    name = note(name, command, end)
     is_well = (
         not end.hung and end.status >= 0 and (wanted is None or end.said == wanted) and (kilobytes is None or end.kilobytes <= kilobytes)
     )
@@ -148,7 +191,7 @@ def deep_sources() -> Iterator[tuple[str, str, str | tuple[int, str]]]:
     yield "64 processes of 8 reads", "out a; " + ("a = " + "+".join("a" * 8) + ";") * 63, "a,0\n"
 
 
-def least_stack(program: str, words: Sequence[str], bundle: bytes, end: End) -> int:
+def least_stack(program: str, name: str, words: Sequence[str], bundle: bytes, end: End) -> int:
     """The least stack, in kilobytes, by which a run ends as it does by the whole. Below it the program ends by a signal."""
     if QUICK:
         return 8192
@@ -157,6 +200,7 @@ def least_stack(program: str, words: Sequence[str], bundle: bytes, end: End) -> 
         middle = (low + high) // 2
         is_same = ask(program, words, bundle, middle, 30).said == end.said
         low, high = (low, middle) if is_same else (middle, high)
+    STACKS.append((high, f"{name}, `{words[0]}`"))
     return high
 
 
@@ -178,19 +222,19 @@ def deep_trees(program: str) -> None:
     source = b"param N; in x[N]; out y[N]; for (i = 0; i < N; i++) y[i] = x[i] + 1;\n%%\n%%\n"
     first = 15
     rows = []
-    for tests, cuts, wanted in [
+    for tests, cuts, wanted in shared([
         (0, 0, b"accepted\n"),
         (511, 0, b"accepted\n"),
         (0, 511, b"accepted\n"),
         (511, 511, b"accepted\n"),
         (512, 0, b"refused Deep %d\n" % (first + 1 + 512)),
         (0, 512, b"refused Deep %d\n" % (first + 1 + 2 + 512)),
-    ]:
+    ]):
         bundle = source + tree_text(tests, cuts)
         end = ask(program, ["check", "N=1"], bundle)
         name = f"a tree nested {tests + 1} deep with a proof nested {cuts + 1} deep"
-        well = judge(name, end, (0 if wanted == b"accepted\n" else 1, wanted, b""))
-        stack = least_stack(program, ["check", "N=1"], bundle, end)
+        well = judge(name, "check", end, (0 if wanted == b"accepted\n" else 1, wanted, b""))
+        stack = least_stack(program, name, ["check", "N=1"], bundle, end)
         rows.append([name, "as wanted" if well else told(end), f"{end.cpu:.2f}", f"{stack} kB"])
     table(["Certificate", "check", "s", "Least stack"], rows)
 
@@ -215,15 +259,15 @@ def differences(count: int, writers: int) -> Callable[[int], list[str]]:
 def writer_sources() -> Iterator[tuple[str, bytes, int, bool]]:
     """A name, a source, the value of N, and whether the tree of its read may be too large for the time and the addresses that a run has."""
     for place, is_inside in [("inside", True), ("behind", False)]:
-        yield f"62 that never write in six loops, {place}", guarded(
+        yield f"62 writers that never write in six loops, {place}", guarded(
             "ijklmn", 62, lambda number: [f"i >= N + {number}"], is_inside
         ), 4, False
     for writers, is_large in [(4, False), (40, True)]:
-        yield f"{writers} under 2 guards in three loops, inside", guarded(
+        yield f"{writers} writers under 2 guards in three loops, inside", guarded(
             "ijk", writers, lambda number: [f"i - j > {number}", f"k >= {writers - number}"], True
         ), 64, is_large
     for writers, guards, is_large in [(3, 8, False), (6, 16, True), (20, 16, True), (47, 4, True), (47, 20, True)]:
-        yield f"{writers} under {guards} guards in six loops, behind", guarded(
+        yield f"{writers} writers under {guards} guards in six loops, behind", guarded(
             "ijklmn", writers, differences(guards, writers), False
         ), 10_000, is_large
 
@@ -232,7 +276,7 @@ def writers(program: str) -> None:
     """`deps` tells a tree, and `cert`, which is asked where the size is within its limit, writes it or `sweep`; where the tree is large, a run
     may also end with 10, or not in its time."""
     rows = []
-    for name, source, n, is_large in writer_sources():
+    for name, source, n, is_large in shared(writer_sources()):
         row = [name]
         net = ask(program, ["net", f"N={n}"], source).output if n <= 64 else b""
         for command in ("deps", "cert") if n <= 64 else ("deps",):
@@ -240,19 +284,20 @@ def writers(program: str) -> None:
             end = ask(program, words, source)
             wanted = any_text(command, end, net)
             if is_large and (end.hung or end.said == (10, b"", b"")):
+                note(name, command, end)
                 row += [told(end), f"{end.cpu:.2f}", megabytes(end), ""]
                 continue
-            well = judge(f"{name}, {command}", end, wanted, None if is_large else MOST_OF_CHECK)
+            well = judge(name, command, end, wanted, None if is_large else MOST_OF_CHECK)
             if command == "cert" and b"\nsweep\n" in end.output and not is_large:
                 BAD.append(f"{name}: `cert` has `sweep`")
             if command == "cert":
                 checked = ask(program, ["check", f"N={n}"], bundled(source, b"\n", end.output))
-                judge(f"{name}, check", checked, (0, b"accepted\n", b""), None if is_large else MOST_OF_CHECK)
-            stack = f"{least_stack(program, words, source, end)} kB" if end.cpu < 5 else ""
+                judge(name, "check", checked, (0, b"accepted\n", b""), None if is_large else MOST_OF_CHECK)
+            stack = f"{least_stack(program, name, words, source, end)} kB" if end.cpu < 5 else ""
             row += [str(wanted[0]) if well else told(end), f"{end.cpu:.2f}", megabytes(end), stack]
         rows.append([*row, *[""] * (9 - len(row))])
         print(rows[-1], file=sys.stderr, flush=True)
-    table(["Writers", "deps", "s", "MB", "Least stack", "cert", "s", "MB", "Least stack"], rows)
+    table(["Source", "deps", "s", "MB", "Least stack", "cert", "s", "MB", "Least stack"], rows)
 
 
 def repeat_texts() -> Iterator[tuple[str, bytes, bytes]]:
@@ -297,12 +342,12 @@ def repeat_texts() -> Iterator[tuple[str, bytes, bytes]]:
 
 def repeats(program: str) -> None:
     rows = []
-    for name, text, answer in repeat_texts():
+    for name, text, answer in shared(repeat_texts()):
         bundle = b"out y;\n%%\n%%\n" + text
         # an event in repeats takes a step for each level that it stands in
         end = ask(program, ["check"], bundle, limit=3 * SECONDS)
-        well = judge(f"{name}", end, (0 if answer == b"accepted\n" else 1, answer, b""), MOST_OF_CHECK)
-        stack = f"{least_stack(program, ['check'], bundle, end)} kB" if "512" in name or "513" in name else ""
+        well = judge(name, "check", end, (0 if answer == b"accepted\n" else 1, answer, b""), MOST_OF_CHECK)
+        stack = f"{least_stack(program, name, ['check'], bundle, end)} kB" if "512" in name or "513" in name else ""
         rows.append([name, "as wanted" if well else told(end), f"{end.cpu:.2f}", megabytes(end), stack])
         print(rows[-1], file=sys.stderr, flush=True)
     table(["Certificate", "check", "s", "MB", "Least stack"], rows)
@@ -321,7 +366,7 @@ def with_clocks(answer: bytes, end: End) -> Wanted:
 
 def deep(program: str) -> None:
     rows = []
-    for name, text, wanted in deep_sources():
+    for name, text, wanted in shared(deep_sources()):
         source = text.encode()
         row, worst = [name], (0, "")
         cert, net = ask(program, ["cert"], source), ask(program, ["net"], source).output
@@ -336,8 +381,8 @@ def deep(program: str) -> None:
                 may = with_clocks(wanted.encode(), end)
             else:
                 may = (0, b"accepted\n" if command == "check" else wanted.encode(), b"")
-            row.append("as wanted" if judge(f"{name}, {command}", end, may, MOST_OF_DEEP) else told(end))
-            worst = max(worst, (least_stack(program, [command], bundle, end), command))
+            row.append("as wanted" if judge(name, command, end, may, MOST_OF_DEEP) else told(end))
+            worst = max(worst, (least_stack(program, name, [command], bundle, end), command))
             row[-1] += f", {end.cpu:.2f} s" if end.cpu >= 0.1 else ""
         rows.append([*row, "" if QUICK else f"{worst[0]} kB, {worst[1]}"])
         print(rows[-1], file=sys.stderr, flush=True)
@@ -439,7 +484,7 @@ def script_refusal(net: bytes) -> bytes:
 
 def size(program: str) -> None:
     rows: list[list[object]] = []
-    for it in sized():
+    for it in shared(sized()):
         cert, net = ask(program, ["cert", *it.words], it.source), b""
         for command in SIZED_COMMANDS:
             whole = bundled(it.source, b"\n", cert.output) if command == "check" else bundled(it.source, it.data)
@@ -448,7 +493,7 @@ def size(program: str) -> None:
                 continue
             end = ask(program, [command, *it.words], whole)
             net = end.output if command == "net" else net
-            judge(f"{it.name}, {command}", end, wanted_at(it, command, end, net), it.most)
+            judge(it.name, command, end, wanted_at(it, command, end, net), it.most)
             size_of = f", {len(end.output)} bytes" if command in texts.COMMANDS else ""
             rows.append([it.name, command, told(end) + size_of, f"{end.cpu:.2f}", megabytes(end)])
             print(rows[-1], file=sys.stderr, flush=True)
@@ -518,13 +563,29 @@ def line_texts(share: int) -> Iterator[tuple[str, int, bytes, bytes]]:
     yield "a number of 64 MiB", 1, b"cert 1\nsizes 1 0 1 0\nprocess 0 1" + b"0" * (most - 80) + b"\n", b"refused Number 3\n"
 
 
+# Kinds of line that take more memory than they should: a bundle that is full of them may take more than is wanted, or end with 10.
+HEAVY = {
+    "sweep",
+    "r 2 1 and f",
+    "s, of a proof",
+    "s 0 1, of a proof",
+    "s 0 1 0 1 0 1 0 1, of a proof",
+    "m 0, of a leaf",
+    "0 or 1 at random, of the schedule",
+    "f or f z at random",
+    "g 0 d at random, d below 10",
+}
+
+
 def lines(program: str) -> None:
     rows = []
     for share in (16, 1):
-        for name, count, text, answer in line_texts(share):
+        for name, count, text, answer in shared(line_texts(share)):
             end = ask(program, ["check"], b"out y;\n%%\n%%\n" + text)
             wanted = 0 if answer == b"accepted\n" else 1
-            judge(f"{count} lines `{name}`", end, (wanted, answer, b""), MOST_OF_CHECK)
+            is_heavy = share == 1 and name in HEAVY
+            wants = (10, b"", b"") if is_heavy and end.status == 10 else (wanted, answer, b"")
+            judge(f"{count:,} lines `{name}`" if count > 1 else name, "check", end, wants, None if is_heavy else MOST_OF_CHECK)
             each = f"{(end.kilobytes - 2500) * KILO / count:.0f}" if count > 1 else ""
             rows.append([name, count, f"{len(text) / KILO**2:.0f}", told(end), f"{end.cpu:.2f}", megabytes(end), each])
             print(rows[-1], file=sys.stderr, flush=True)
@@ -587,37 +648,38 @@ def announced() -> Iterator[tuple[str, bytes, bytes, int]]:
     yield f"{most} slots, of which the last is filled", text(most, one, 4, b"r 3 1\n0\n", 1), unended, 16 << 10
     puts = b"f z\nr %d 1\np 0\n" % most
     yield f"{most} Puts that don't come", text(0, puts, 2, b"0\n", 1), unended, 16 << 10
-    # The schedule itself is written out, at four bytes an entry.
+    yield f"a schedule of {most} entries", text(0, b"f z\n", 1, b"r %d 1\n0\n" % most, 1), b"refused NotEnabled 1\n", 16 << 10
     puts = b"f z\nr %d 1\np 0\n" % held
-    yield f"a queue of {held} tokens of one fire", text(0, puts, 2, b"r %d 1\n0\n" % (held + 1), 1), b"accepted\n", 144 << 10
+    yield f"a queue of {held} tokens of one fire", text(0, puts, 2, b"r %d 1\n0\n" % (held + 1), 1), b"accepted\n", 16 << 10
     for name, script in [
         ("one after the other", b"f z\nr %d 2\np 0\ng 0 0\n" % (held // 2)),
         ("in repeats 23 deep", b"f z\n" + b"r 2 1\n" * 22 + b"r 2 2\np 0\ng 0 0\n"),
     ]:
-        yield f"{held} events {name}", text(1, script, 2, b"r %d 1\n0\n" % (held + 1), 1), b"accepted\n", 144 << 10
+        yield f"{held} events {name}", text(1, script, 2, b"r %d 1\n0\n" % (held + 1), 1), b"accepted\n", 16 << 10
 
 
 def announce(program: str) -> None:
     rows = []
-    for name, text, answer, most in announced():
+    for name, text, answer, most in shared(announced()):
         end = ask(program, ["check"], b"out y;\n%%\n%%\n" + text)
-        well = judge(name, end, (0 if answer == b"accepted\n" else 1, answer, b""), most)
+        well = judge(name, "check", end, (0 if answer == b"accepted\n" else 1, answer, b""), most)
         rows.append([name, len(text), "as wanted" if well else told(end), f"{end.cpu:.2f}", megabytes(end)])
         print(rows[-1], file=sys.stderr, flush=True)
     table(["Certificate", "Bytes", "check", "s", "MB"], rows)
     print()
     ends: list[End] = []
     statuses: Counter[str] = Counter()
-    for text in announcing():
+    for text in shared(announcing()):
         bundle = b"out y;\n%%\n%%\n" + text
         wanted = meaning.outcome(["check"], bundle)
         end = ask(program, ["check"], bundle)
-        judge(f"announcing {text!r}", end, wanted, 16 << 10)
+        judge(f"announcing {text!r}", "check", end, wanted, 16 << 10)
         statuses[told(end)] += 1
         ends.append(end)
     rows = [[told_so, count] for told_so, count in sorted(statuses.items())]
     table(["Answer", f"Certificates, of {len(ends)}"], rows)
-    print(f"\nthe longest {max(it.cpu for it in ends):.2f} s, the largest {max(it.kilobytes for it in ends) / KILO:.1f} MB")
+    longest, largest = max((it.cpu for it in ends), default=0.0), max((it.kilobytes for it in ends), default=0)
+    print(f"\nthe longest {longest:.2f} s, the largest {largest / KILO:.1f} MB")
 
 
 # -------------------------------------------------------------------------------------------------------------- bundle
@@ -670,12 +732,12 @@ MOST_OF_BUNDLE = 4 << 20
 
 def bundle(program: str) -> None:
     rows = []
-    for name, command, text, wanted in bundles():
+    for name, command, text, wanted in shared(bundles()):
         if wanted is None:
             fields = text.count(b",")
             wanted = 9, b"", b"data: Count 1 %d 1\n" % fields
         end = ask(program, [command], text)
-        judge(f"a bundle of {name}, {command}", end, wanted, MOST_OF_BUNDLE)
+        judge(f"a bundle of {name}", command, end, wanted, MOST_OF_BUNDLE)
         rows.append([name, command, f"{len(text) / KILO**2:.0f}", told(end), f"{end.cpu:.2f}", megabytes(end)])
         print(rows[-1], file=sys.stderr, flush=True)
     table(["Bundle of", "Command", "MiB", "Status, first line", "s", "MB"], rows)
@@ -688,7 +750,7 @@ def threads(program: str) -> None:
     source, data, words = pipeline(62, 20)
     bundle = bundled(source, data)
     plain = asking.ask(program, ["run", *words], bundle)
-    judge("64 processes", plain, asking.ask(program, ["seq", *words], bundle).said)
+    judge("64 processes", "run", plain, asking.ask(program, ["seq", *words], bundle).said)
     rows = [["no limit, 20 items", told(plain)[:20], f"{plain.cpu:.2f}", megabytes(plain)]]
     source, data, long_words = pipeline(62, 16384)
     for count in (1, 2, 4):
@@ -699,7 +761,7 @@ def threads(program: str) -> None:
         for name, given, text in (("20 items", words, bundle), ("16,384 items", long_words, bundled(source, data))):
             wanted = asking.ask(program, ["seq", *given], text, SECONDS)
             end = asking.ask(program, ["run", *given], text, SECONDS)
-            judge(f"64 processes on {count} processors, {name}", end, wanted.said)
+            judge(f"64 processes on {count} processors, {name}", "run", end, wanted.said)
             rows.append([f"{count} processors, {name}", told(end)[:20], f"{end.cpu:.2f}", megabytes(end)])
             print(rows[-1], file=sys.stderr, flush=True)
         os.sched_setaffinity(0, cpus)
@@ -722,14 +784,14 @@ def grouped(rows: Iterable[tuple[int, str, float]]) -> list[list[object]]:
     return [[f"{a} to {b}" if a < b else a, statuses, f"{seconds:.2f}"] for a, b, statuses, seconds in groups]
 
 
-def tried(name: str, count: int, wanted: Callable[[End], Wanted], call: Callable[[], End]) -> tuple[str, float]:
-    """So many runs of a call: their statuses in words, and the longest one's seconds."""
+def tried(name: tuple[str, str], count: int, wanted: Callable[[End], Wanted], call: Callable[[], End]) -> tuple[str, float]:
+    """So many runs of a call, which has a name and a command: their statuses in words, and the longest one's seconds."""
     statuses: Counter[str] = Counter()
     longest = 0.0
     for _ in range(count):
         end = call()
         # where a start is refused the network goes along its schedule, in one thread
-        is_well = judge(name, end, wanted(end))
+        is_well = judge(*name, end, wanted(end))
         statuses["hung" if end.hung else f"{end.status}, {'as wanted' if is_well else 'not as wanted'}"] += 1
         longest = max(longest, end.seconds)
     return ", ".join(f"{count} x {it}" for it, count in sorted(statuses.items())), longest
@@ -761,7 +823,7 @@ def refused_by_shim(program: str) -> None:
             found: list[tuple[int, str, float]] = []
             for number in range(1, count + 2):
                 env = {**os.environ, "LD_PRELOAD": shim, "HOSTILE_START": str(number)}
-                said = f"{name}, start {number} and all later ones refused"
+                said = f"{name}, start {number} and all later ones refused", words[0]
                 found.append((number, *tried(said, 1, wanted, lambda: asking.ask(program, words, bundle, 10, env))))
                 if len(BAD) > 20:
                     break
@@ -801,7 +863,7 @@ def refused_by_system(program: str, words: Sequence[str], bundle: bytes, plain: 
             return end
 
         for limit in [*range(1, 67), 80]:
-            name = f"64 processes under a limit of {limit} tasks"
+            name = f"64 processes under a limit of {limit} tasks", "run"
             rows.append((limit, *tried(name, 5, lambda _: plain.said, lambda: limited(limit))))
             print(rows[-1], file=sys.stderr, flush=True)
     table(["Tasks that are allowed", "Statuses of 5 runs each", "The longest, s"], grouped(rows))
@@ -823,16 +885,22 @@ SECTIONS: dict[str, Callable[[str], None]] = {
 def main() -> int:
     parser = parser_of(__doc__)
     parser.add_argument("--only", metavar="SECTION", choices=SECTIONS, help="this section alone")
+    parser.add_argument("--share", metavar="K/N", default="1/1", help="each Nth of what a section tries, from its Kth on (1/1)")
     parser.add_argument("--quick", action="store_true", help="looks for no least stack")
     parser.add_argument("--space", metavar="GB", type=int, default=4, help="how much address space a run has at most (4); 0 sets no limit")
     given = parser.parse_args()
     program = program_of(given.compaan)
     with_limits(given.space)
     QUICK.extend([True] * given.quick)
+    share = re.fullmatch(r"([1-9]\d*)/([1-9]\d*)", given.share)
+    if share is None or int(share[1]) > int(share[2]):
+        parser.error("--share wants K/N, with K from 1 to N")
+    SHARE[:] = map(int, share.groups())
     for name, section in SECTIONS.items():
         if given.only in (None, name):
             print(f"\n## {name}\n")
             section(program)
+            taken()
     print()
     for line in BAD:
         print(line)

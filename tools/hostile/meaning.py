@@ -315,6 +315,10 @@ class Program:
         self.code: dict[str, list[str]] = {"values": [], "trace": []}
         self.rows = 0
         self.depth = 0
+        # What was made of the code, and what was found by it.
+        self.bodies: dict[str, Any] = {}
+        self.traced: tuple[list[list[Point]], list[list[Any]]] | None = None
+        self.has_size = False
         self.turns: list[str] = []
         self.arrays_now: list[int] = []
         for it in statements:
@@ -564,10 +568,12 @@ class Program:
     # Runs
 
     def walk(self, kind: str, memory: Memory, points: Any, sources: Any, size: int) -> int:
-        text = "\n".join(["def body(M,P,S,n):", "  G=M.get", *self.code[kind], "  return n"])
-        known: dict[str, Any] = {"Refused": Refused, "W": wrap, "L": SIZE_LIMIT, "Q": LOOP_VALUE}
-        exec(compile(text, "source", "exec"), known)
-        return known["body"](memory, points, sources, size)
+        if kind not in self.bodies:
+            text = "\n".join(["def body(M,P,S,n):", "  G=M.get", *self.code[kind], "  return n"])
+            known: dict[str, Any] = {"Refused": Refused, "W": wrap, "L": SIZE_LIMIT, "Q": LOOP_VALUE}
+            exec(compile(text, "source", "exec"), known)
+            self.bodies[kind] = known["body"]
+        return self.bodies[kind](memory, points, sources, size)
 
     def size_of(self, array: Array) -> int:
         """The size of an array's loops, or a number above the limit."""
@@ -598,6 +604,8 @@ class Program:
 
     def trace(self) -> tuple[list[list[Point]], list[list[Any]]]:
         """For each process its points, and for each of them the last writer of each read, as (process, turn) or None."""
+        if self.traced is not None:
+            return self.traced
         memory: Memory = {}
         processes = len(self.reads)
         points: list[list[Point]] = [[] for _ in range(processes)]
@@ -615,7 +623,28 @@ class Program:
             for at in cells_of(it.extents):
                 points[number].append(at)
                 sources[number].append((memory.get((it.number, *at)),))
-        return points, sources
+        self.traced = points, sources
+        return self.traced
+
+
+# The programs that were read last.
+READ: dict[tuple[bytes, tuple[tuple[str, int], ...]], Program | Refused] = {}
+
+
+def program_of(source: bytes, values: Mapping[str, int]) -> Program:
+    """The program of a source with values, which is made once where it is asked for again and again."""
+    key = source, tuple(sorted(values.items()))
+    if key not in READ:
+        if len(READ) == 8:
+            READ.clear()
+        try:
+            READ[key] = Program(source, values)
+        except Refused as refused:
+            READ[key] = refused
+    found = READ[key]
+    if isinstance(found, Refused):
+        raise Refused(found.status, found.line)
+    return found
 
 
 def is_single(coefficients: Sequence[int]) -> bool:
@@ -1162,7 +1191,7 @@ def outcome(words: Sequence[str], bundle: bytes) -> Outcome:
         source, data, certificate = parts_of(bundle)
         if command == "check" and certificate is None:
             raise Refused(5, "bundle: NoPart")
-        program = Program(source, values)
+        program = program_of(source, values)
         if command in ("run", "seq", "sim"):
             fault, given = None, {}
             try:
@@ -1174,8 +1203,9 @@ def outcome(words: Sequence[str], bundle: bytes) -> Outcome:
                 raise fault
             lines = (",".join([name, *map(str, cells)]) + "\n" for name, cells in answer)
             return 0, "".join(lines).encode() if command != "sim" else None, b""
-        if command != "deps" or not program.all_have_trees():
+        if not program.has_size and (command != "deps" or not program.all_have_trees()):
             program.outputs({})
+            program.has_size = True
         if command != "check":
             return 0, None, b""
         judge(program, certificate_of(certificate))

@@ -3,14 +3,14 @@
 
 usage: tools/hostile/memory.py [--jobs JOBS] [--most COUNT] [--only ROW] [--compaan PROGRAM]
 
-Each command is run once to count its requests (calls of malloc, realloc and the like, and starts of threads), and then, for each N up
-to that count, with the Nth refused, and again with the Nth and all later ones refused. Every run must end by itself within its time,
-with status 10 and both streams empty (11 while the words are taken over, before the top call), or with the output, complaint and status
-that it has without refusals, and must have joined the threads that it started; those of trace are waited for by a count. The small rows at
-the head, whose texts stand here, are refused each request whatever COUNT is. In each row some refusal must end the run with 10. Where there is strace, the kernel's own calls (mmap, brk, mremap, mprotect and the start of a thread) are refused in the same way;
-there the first calls, as many as /bin/true makes, are the dynamic loader's, which may break off before the program's first instruction, by
-status 127 or a signal. Prints a table and one line for each run that isn't as wanted, and fails where there is one. It is a test, outside the
-proof.
+Each command is run once to count its requests (calls of malloc, realloc and the like, and starts of threads), and then, for each N up to
+that count, with the Nth refused, and again with the Nth and all later ones refused. Every run must end by itself within its time, with
+status 10 and both streams empty (11 while the words are taken over, before the top call), or with the output, complaint and status that
+it has without refusals, and must have joined the threads that it started; those of trace are waited for by a count. The small rows at the
+head, whose texts stand here, are refused each request whatever COUNT is. In each row some refusal must end the run with 10. Where there
+is strace, the kernel's own calls (mmap, brk, mremap, mprotect and the start of a thread) are refused in the same way; there the first
+calls, as many as /bin/true makes, are the dynamic loader's, which may break off before the program's first instruction, by status 127 or
+a signal. Prints a table and one line for each run that isn't as wanted, and fails where there is one. It is a test, outside the proof.
 """
 from __future__ import annotations
 
@@ -53,6 +53,16 @@ process 2 sink y fires 3 slots 1
 channel 0 from 0 to 1 read 0 tokens 3 capacity 3 hold 1 class inorder
 channel 1 from 1 to 2 read 0 tokens 3 capacity 3 hold 1 class inorder
 events 21
+end
+"""
+NETWORK_OF_SUM = b"""net 1
+process 0 source x fires 3 slots 0
+process 1 assign s fires 3 slots 2
+process 2 sink s fires 3 slots 1
+channel 0 from 1 to 1 read 0 tokens 2 capacity 1 hold 1 class inorder
+channel 1 from 0 to 1 read 1 tokens 3 capacity 3 hold 1 class inorder
+channel 2 from 1 to 2 read 0 tokens 3 capacity 3 hold 1 class inorder
+events 25
 end
 """
 TREES = b"""deps 1
@@ -114,6 +124,7 @@ def small_rows(program: str) -> Iterator[Small]:
         yield f"{command} of the running sum", [command, "N=3"], RUNNING_SUM + b"%%\nx,1,2,3\n", 0, b"s,1,3,6\n"
     yield "net of the increment", ["net", "N=3"], INCREMENT, 0, NETWORK
     yield "net of the increment, down", ["net", "N=3", "--policy=down"], INCREMENT, 0, NETWORK.replace(b"capacity 3", b"capacity 1")
+    yield "net of the running sum", ["net", "N=3"], RUNNING_SUM, 0, NETWORK_OF_SUM
     yield "deps of the running sum, at any size", ["deps", "N=1000000000"], RUNNING_SUM, 0, TREES
     yield "cert of the increment", ["cert", "N=3"], INCREMENT, 0, made
     front = INCREMENT + b"%%\n%%\n"

@@ -208,7 +208,7 @@ impl WriteLines for Origin {
             Origin::Sweep => write_line(&[Word::Text(b"sweep")], out),
             Origin::Tree(tree) => {
                 write_line(&[Word::Text(b"tree")], out);
-                write_tree(tree, out);
+                write_tree(tree.get(), out);
             }
         }
     }

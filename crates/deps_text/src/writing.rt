@@ -30,7 +30,7 @@ fn write_origin<W: TextWriter>(
     match (&dependence.origin, swept) {
         (Origin::Tree(tree), _) => {
             write_line(&[Word::Text(b"tree")], out);
-            write_tree(tree, out);
+            write_tree(tree.get(), out);
         }
         (Origin::Sweep, Some(swept)) => {
             write_points(nest, swept, dependence.statement, dependence.read, out);

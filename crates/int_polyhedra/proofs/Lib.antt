@@ -6,3 +6,4 @@ pub mod Floor
 pub mod Cases
 pub mod Soundness
 pub mod ProofRules
+pub mod Boxes

@@ -4,11 +4,13 @@
 //! stand behind them.
 #![tactic(auto)]
 
+mod parts;
 mod refute;
 mod rows;
 mod steps;
 mod system;
 
+pub use parts::{by_cut, by_split};
 pub use refute::{entails, refutes};
 pub use steps::negation;
 pub use system::{Proof, Reason, System, Term};

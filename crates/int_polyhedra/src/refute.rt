@@ -43,18 +43,23 @@ fn refute(proof: &Proof, alloc: Global, vars: usize, rows: &Rows) -> Result<(), 
     match proof {
         Proof::Sum(terms) => conclude(alloc, vars, rows, terms.as_slice()),
         Proof::Cut(divisor, terms, rest) => {
+            let divisor = divisor.get();
+            let terms = terms.get();
             match cut(alloc, vars, rows, *divisor, terms.as_slice()) {
                 Ok(row) => refute(rest.get(), alloc, vars, &Rows::More(&*rows, &row)),
                 Err(reason) => Err(reason),
             }
         }
-        Proof::Split(form, yes, no) => match split(vars, form) {
-            Ok(other) => match refute(yes.get(), alloc, vars, &Rows::More(&*rows, form)) {
-                Ok(()) => refute(no.get(), alloc, vars, &Rows::More(&*rows, &other)),
+        Proof::Split(form, yes, no) => {
+            let form = form.get();
+            match split(vars, form) {
+                Ok(other) => match refute(yes.get(), alloc, vars, &Rows::More(&*rows, form)) {
+                    Ok(()) => refute(no.get(), alloc, vars, &Rows::More(&*rows, &other)),
+                    Err(reason) => Err(reason),
+                },
                 Err(reason) => Err(reason),
-            },
-            Err(reason) => Err(reason),
-        },
+            }
+        }
     }
 }
 

@@ -16,16 +16,16 @@ pub struct Term {
 }
 
 /// A proof that no whole point meets a system. The system's rows are numbered from 0, and a row that a step adds takes
-/// the next number.
+/// the next number. What only a Cut or a Split has stands in boxes, so that a Sum, of which a proof has the most, is small.
 #[derive(Drop)]
 pub enum Proof {
     /// The sum of the rows with these multipliers has no variable and a negative constant, as in Farkas' lemma.
     Sum(Items<Term>),
     /// The divisor divides each coefficient of the sum of the rows with these multipliers. The row of the quotients,
     /// with the constant rounded down, is added, and the rest is a proof of the larger system: Gomory's cut.
-    Cut(i128, Items<Term>, Boxed<Proof>),
+    Cut(Boxed<i128>, Boxed<Items<Term>>, Boxed<Proof>),
     /// A proof of the system with the row `form >= 0` added, and one of it with the row `-form - 1 >= 0` added.
-    Split(Form, Boxed<Proof>, Boxed<Proof>),
+    Split(Boxed<Form>, Boxed<Proof>, Boxed<Proof>),
 }
 
 /// Why a step of a proof breaks its rule.

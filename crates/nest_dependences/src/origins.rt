@@ -4,7 +4,7 @@ ghost use Rattle.sanlp.specs.Access.{read_count};
 
 use deps_text::Dependence;
 use last_writer::source_of;
-use plain_data::Items;
+use plain_data::{Boxed, Items};
 use sanlp::Nest;
 use source_tree::Origin;
 use std::alloc::{AllocError, Global};
@@ -50,7 +50,7 @@ fn origin_of(alloc: Global, nest: &Nest, statement: u32, read: u32) -> Result<Or
     ensures { IfOk result (IsOriginOf nest.now statement read) }
 {
     if has_tree(nest, statement, read) {
-        Ok(Origin::Tree(source_of(alloc, nest, statement, read)?))
+        Ok(Origin::Tree(Boxed::new(alloc, source_of(alloc, nest, statement, read)?)?))
     } else {
         Ok(Origin::Sweep)
     }

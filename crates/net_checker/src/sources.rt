@@ -229,7 +229,7 @@ fn origin_refusal(
         }
         Origin::Tree(tree) => {
             let mut row = Items::from_vec(Vec::with_capacity(alloc, turns_of(points, statement))?);
-            let refusal = tree_refusal(alloc, nest, points, statement, read, tree, &mut row)?;
+            let refusal = tree_refusal(alloc, nest, points, statement, read, tree.get(), &mut row)?;
             if let Some(rule) = refusal {
                 return Ok(Some(Refusal::Source(statement, read, rule)));
             }

@@ -12,7 +12,7 @@ ghost use Rattle.tree_text.specs.TreeText.{TreeIsInRange};
 use crate::ranges::has_text;
 use affine_core::Vector;
 use last_writer::{in_difference_class, source_of};
-use plain_data::Items;
+use plain_data::{Boxed, Items};
 use sanlp::{Nest, Points};
 use source_tree::{Origin, Tree};
 use std::alloc::{AllocError, Global};
@@ -70,7 +70,7 @@ fn origin(
     differences_are_strides();
     let tree = source_of(alloc, nest, statement, read)?;
     if may_stand(points, statement, &tree) {
-        Ok(Origin::Tree(tree))
+        Ok(Origin::Tree(Boxed::new(alloc, tree)?))
     } else {
         Ok(Origin::Sweep)
     }

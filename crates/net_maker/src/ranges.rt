@@ -65,11 +65,14 @@ fn proof_is_within(proof: &Proof, levels: u32) -> bool
             true
         }
         Proof::Cut(divisor, terms, rest) => {
+            let divisor = divisor.get();
+            let terms = terms.get();
             number_fits(*divisor);
             terms_fit(terms.as_slice());
             proof_is_within(rest.get(), levels - 1)
         }
         Proof::Split(form, above, below) => {
+            let form = form.get();
             form_fits(form);
             if proof_is_within(above.get(), levels - 1) {
                 proof_is_within(below.get(), levels - 1)
@@ -120,6 +123,7 @@ fn tree_is_within(tree: &Tree, levels: u32) -> bool
     }
     match tree {
         Tree::Test(form, above, below) => {
+            let form = form.get();
             form_fits(form);
             if tree_is_within(above.get(), levels - 1) {
                 tree_is_within(below.get(), levels - 1)
@@ -128,6 +132,7 @@ fn tree_is_within(tree: &Tree, levels: u32) -> bool
             }
         }
         Tree::Divides(form, divisor, above, below) => {
+            let form = form.get();
             form_fits(form);
             number_fits(*divisor);
             if tree_is_within(above.get(), levels - 1) {

@@ -83,6 +83,7 @@ fn check_part(
 {
     match tree {
         Tree::Test(form, yes, no) => {
+            let form = form.get();
             if form.coefs.len() != vars as usize {
                 return Ok(Err(Rule::BadForm(leaf)));
             }
@@ -96,6 +97,7 @@ fn check_part(
             }
         }
         Tree::Divides(form, divisor, yes, no) => {
+            let form = form.get();
             let most = read.reference.statement.loops.len() + 6;
             if form.coefs.len() != vars as usize || *divisor < 2 || vars as usize >= most {
                 return Ok(Err(Rule::BadForm(leaf)));

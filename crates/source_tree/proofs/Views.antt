@@ -1,12 +1,12 @@
 -- The node of a tree, by its kind. A tree is of one kind, and its parts are determined: two ways to write it open to
--- one node.
-use Rattle.std.proofs.Common.{◌≡◌, ◌∙◌, ℕ, List, sym, ap}
+-- one node. A form that is read out of its box is the form that the tree has.
+use Rattle.std.proofs.Common.{◌≡◌, ◌∙◌, ℕ, ℤ, List, sym, ap}
 use Rattle.affine_core.specs.declared.form.Form.{Form}
 use Rattle.int_polyhedra.specs.declared.system.Proof.{Proof}
 use Rattle.source_tree.specs.declared.tree.Tree.{Tree, out-Tree}
 use Rattle.source_tree.specs.declared.tree.Tree.TheOpen as open_
 use Rattle.source_tree.specs.declared.tree.Tree.TheVariants.{Writer, Zero, Dead}
-use Rattle.source_tree.specs.declared.tree.Tree.TheViews.{Test, outs-Test, outs-Writer}
+use Rattle.source_tree.specs.declared.tree.Tree.TheViews.{Divides, Test, outs-Test, outs-Writer}
 use Rattle.source_tree.specs.declared.tree.Tree.TheViews.{outs-Zero, outs-Dead}
 
 pub node-Test : (tree : Tree) (form : Form) (a b : Tree) → tree ≡ Test form a b → out-Tree tree ≡ open_.Test form a b
@@ -24,3 +24,11 @@ node-Dead tree proof e = ap out-Tree e ∙ outs-Dead proof
 
 pub node_unique : (tree : Tree) (x y : open_.Tree-F Tree) → out-Tree tree ≡ x → out-Tree tree ≡ y → x ≡ y
 node_unique tree x y e h = sym e ∙ h
+
+pub boxed_test : {tree : Tree} {form form' : Form} (a b : Tree) → tree ≡ Test form a b → form' ≡ form
+    → tree ≡ Test form' a b
+boxed_test {tree} {form} {form'} a b e f = e ∙ ap (λ form. Test form a b) (sym f)
+
+pub boxed_divides : {tree : Tree} {form form' : Form} {d : ℤ} (a b : Tree) → tree ≡ Divides form d a b → form' ≡ form
+    → tree ≡ Divides form' d a b
+boxed_divides {tree} {form} {form'} {d} a b e f = e ∙ ap (λ form. Divides form d a b) (sym f)

@@ -4,14 +4,14 @@ use plain_data::{Boxed, Items};
 use sanlp::Point;
 
 /// Which point wrote what a read reads, by affine tests of the reader's loop values (Feautrier's quasts), with a proof for
-/// each system of each leaf.
+/// each system of each leaf. The form of a test stands in a box, so that a leaf is small.
 #[derive(Drop)]
 pub enum Tree {
     /// The first tree where the form is at least 0, and else the second.
-    Test(Form, Boxed<Tree>, Boxed<Tree>),
+    Test(Boxed<Form>, Boxed<Tree>, Boxed<Tree>),
     /// The first tree where the divisor divides the form's value, and else the second. Below it, the form's value divided
     /// by the divisor and rounded down is one variable more.
-    Divides(Form, i128, Boxed<Tree>, Boxed<Tree>),
+    Divides(Boxed<Form>, i128, Boxed<Tree>, Boxed<Tree>),
     /// The point of this statement at the values of these forms.
     Writer(u32, Items<Form>, Items<Proof>),
     /// No point.

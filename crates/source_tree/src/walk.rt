@@ -35,27 +35,33 @@ fn follow(tree: &Tree, values: &mut Coefs) -> Result<Found, Overflow>
     ensures { result_ok result ≡ outcome_of tree.now values.old }
 {
     match tree {
-        Tree::Test(form, yes, no) => match form.eval(values.as_slice()) {
-            Ok(value) => {
-                if value >= 0 {
-                    follow(yes.get(), values)
-                } else {
-                    follow(no.get(), values)
+        Tree::Test(form, yes, no) => {
+            let form = form.get();
+            match form.eval(values.as_slice()) {
+                Ok(value) => {
+                    if value >= 0 {
+                        follow(yes.get(), values)
+                    } else {
+                        follow(no.get(), values)
+                    }
                 }
+                Err(overflow) => Err(overflow),
             }
-            Err(overflow) => Err(overflow),
-        },
-        Tree::Divides(form, divisor, yes, no) => match form.eval(values.as_slice()) {
-            Ok(value) => {
-                push_quotient(values, value, *divisor);
-                if is_divided(value, *divisor) {
-                    follow(yes.get(), values)
-                } else {
-                    follow(no.get(), values)
+        }
+        Tree::Divides(form, divisor, yes, no) => {
+            let form = form.get();
+            match form.eval(values.as_slice()) {
+                Ok(value) => {
+                    push_quotient(values, value, *divisor);
+                    if is_divided(value, *divisor) {
+                        follow(yes.get(), values)
+                    } else {
+                        follow(no.get(), values)
+                    }
                 }
+                Err(overflow) => Err(overflow),
             }
-            Err(overflow) => Err(overflow),
-        },
+        }
         Tree::Writer(statement, forms, _) => {
             let mut at = Vector::empty(values.allocator());
             match append_mapped(forms.as_slice(), values.as_slice(), &mut at) {

@@ -3,7 +3,7 @@
 use Rattle.std.proofs.Common.{◌≡◌, ◌≤◌, ◌^◌, suc, ℤ, pos, negsuc, ◌+ℤ◌, ◌*ℤ◌, ◌≤ℤ◌, List, [], ◌∷◌, ◌++◌, length, refl, sym, ap, ◌∙◌}
 use Rattle.std.proofs.Common.{Bool, true, subst, arith, lit≤, append_assoc, FitsSigned, w64}
 use Rattle.std.specs.Bool.{OnTrue}
-use Rattle.std.specs.Prelude.{Option, Some, None, unsigned_abs, cond}
+use Rattle.std.specs.Prelude.{Option, Some, None, unsigned_abs, cond, IsTrue, ◌↔◌}
 use Rattle.std.specs.Option.{option_and_then, option_map}
 use Rattle.std.proofs.lemmas.Bool.{lt-ltb, OnTrue_at, OnTrue_from}
 use Rattle.std.proofs.lemmas.Int.{fits_signed_from_abs, ints}
@@ -139,6 +139,21 @@ moved_step turn starts steps starts' steps' a c out middle new e f g h =
     h ∙ ap (λ xs. xs ++ values_at turn starts' steps') g
     ∙ append_assoc out ((a +ℤ (turn *ℤ c)) ∷ []) (values_at turn starts' steps')
     ∙ ap (λ xs. out ++ values_at turn xs (c ∷ steps')) (sym e) ∙ ap (λ xs. out ++ values_at turn starts xs) (sym f)
+
+-- values are those of a map at a turn exactly where the first is, and the others are those of the other lines
+pub values_step : (turn : ℤ) (starts steps starts' steps' values values' : List ℤ) (a c v : ℤ) (b : Bool)
+    → starts ≡ a ∷ starts' → steps ≡ c ∷ steps' → values ≡ v ∷ values' → v ≡ a +ℤ (turn *ℤ c)
+    → IsTrue b ↔ values_at turn starts' steps' ≡ values'
+    → IsTrue b ↔ values_at turn starts steps ≡ values
+values_step turn starts steps starts' steps' values values' a c v b e f g is rest =
+    let whole : values_at turn starts steps ≡ (a +ℤ (turn *ℤ c)) ∷ values_at turn starts' steps' =
+    ap (λ xs. values_at turn xs steps) e ∙ ap (values_at turn (a ∷ starts')) f in (
+      λ told. whole ∙ ap (λ xs. (a +ℤ (turn *ℤ c)) ∷ xs) (rest.0 told) ∙ ap (λ z. z ∷ values') (sym is) ∙ sym g,
+      λ same.
+          let lists : (a +ℤ (turn *ℤ c)) ∷ values_at turn starts' steps' ≡ v ∷ values' = sym whole ∙ same ∙ g in
+          let others : values_at turn starts' steps' ≡ values' = cc in
+          rest.1 others,
+    )
 
 pub small_lines : (starts steps starts' steps' : List ℤ) (a c : ℤ) → AreSmall starts steps
     → unsigned_abs a ≤ 2305843009213693952 → unsigned_abs c ≤ 1073741824

@@ -1,6 +1,6 @@
 -- What a tree gives along its innermost loop. Turns of that loop are counted from the first value of a stretch on, which is
 -- turn 0.
-use Rattle.std.specs.Prelude.{◌≡◌, ◌≤◌, ℕ, ℤ, pos, ◌+ℤ◌, ◌-ℤ◌, ◌*ℤ◌, ◌≤ℤ◌, List, [], ◌∷◌, ◌++◌, Option, Some, unsigned_abs, IfSome}
+use Rattle.std.specs.Prelude.{◌≡◌, ◌≤◌, ℕ, ℤ, pos, ◌+ℤ◌, ◌-ℤ◌, ◌*ℤ◌, ◌≤ℤ◌, List, [], ◌∷◌, ◌++◌, Option, Some, unsigned_abs, IfSome, IsSomeAnd}
 use Rattle.std.specs.Option.{option_map}
 use Rattle.source_tree.specs.declared.tree.Found.{Found}
 use Rattle.source_tree.specs.declared.tree.Found.TheVariants as found
@@ -97,3 +97,14 @@ IsStretch tree stretch =
 -- along the stretch that is known, if there is one, the tree gives what the stretch's leaf gives
 abbrev pub IsStretchOf : Tree → Follower → Type 0
 IsStretchOf tree follower = IfSome follower.stretch (IsStretch tree)
+
+-- the loops round the innermost one have the stretch's values, and the innermost one a value from its first to its last
+pub record LiesIn (at : List ℤ) (stretch : Stretch) : Type 0 where
+  pub value : ℤ
+  pub is : at ≡ stretch.outer ++ value ∷ []
+  pub first : stretch.first ≤ℤ value
+  pub last : value ≤ℤ stretch.last
+
+-- a stretch is known, and these loop values lie in it
+abbrev pub IsKnownAt : Follower → List ℤ → Type 0
+IsKnownAt follower at = IsSomeAnd follower.stretch (LiesIn at)

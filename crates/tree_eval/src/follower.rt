@@ -1,11 +1,11 @@
-ghost use Rattle.std.specs.Prelude.{◌≡◌, ◌≤◌, ◌≤ℤ◌, ◌+◌, ◌+ℤ◌, ◌++◌, ◌↔◌, pos, None, Some, [], ◌∷◌, length, IfOk, IfSome, IsTrue};
+ghost use Rattle.std.specs.Prelude.{◌≡◌, ◌≤◌, ◌≤ℤ◌, ◌+◌, ◌+ℤ◌, ◌++◌, ◌↔◌, pos, None, Some, [], ◌∷◌, length, IfOk, IfSome, IsTrue, IsFalse};
 ghost use Rattle.std.specs.Result.{result_ok};
 ghost use Rattle.source_tree.specs.declared.tree.Found.{Found};
 ghost use Rattle.source_tree.specs.declared.tree.Found.TheVariants as found;
 ghost use Rattle.source_tree.specs.declared.tree.Tree.{Tree};
 ghost use Rattle.source_tree.specs.Gives.{gives};
 ghost use Rattle.source_tree.specs.Walk.{is_ready, outcome_of};
-ghost use Rattle.tree_eval.specs.Stretches.{IsStretch, IsStretchOf, turn_limit};
+ghost use Rattle.tree_eval.specs.Stretches.{IsKnownAt, IsStretch, IsStretchOf, LiesIn, turn_limit};
 
 use crate::leaf::Leaf;
 use crate::row::follow_row;
@@ -71,7 +71,7 @@ impl Stretch {
 
     // Whether the loops round the innermost one have these values.
     fn is_at(&self, outer: &[i64]) -> bool
-        ensures { IsTrue result → self.now.outer ≡ outer.now }
+        ensures { IsTrue result ↔ self.now.outer ≡ outer.now }
     {
         self.outer.as_slice() == outer
     }
@@ -81,6 +81,7 @@ impl Stretch {
         ensures first { IsTrue result → self.now.first ≤ℤ value }
         ensures last { IsTrue result → value ≤ℤ self.now.last }
         ensures outer { IsTrue result → self.now.outer ≡ outer.now }
+        ensures elsewhere { IsFalse result → LiesIn (outer.now ++ value ∷ []) self.now → ⊥ }
     {
         self.first <= value && value <= self.last && self.is_at(outer)
     }
@@ -101,9 +102,9 @@ impl Stretch {
         requires along { (tree : Tree) × IsStretch tree self.now }
         requires first { self.now.first ≤ℤ value }
         requires last { value ≤ℤ self.now.last }
-        ensures { IsTrue result → (tree : Tree) → IsStretch tree self.now
-            → outcome_of tree (self.now.outer ++ value ∷ [])
-            ≡ Some (found.At (record { statement = statement; at = point.now })) }
+        ensures { (tree : Tree) → IsStretch tree self.now
+            → (IsTrue result ↔ outcome_of tree (self.now.outer ++ value ∷ [])
+            ≡ Some (found.At (record { statement = statement; at = point.now }))) }
     {
         self.leaf.is_at(value - self.first, statement, point)
     }
@@ -206,13 +207,13 @@ impl Follower {
     }
 
     /// Whether it is known already that the tree gives this point of this statement at these loop values, where what is known
-    /// is of this tree. `false` tells nothing: `eval` then says what the tree gives. It takes a comparison for each value, and
-    /// makes no point.
+    /// is of this tree: `true` comes exactly where the loop values lie in the stretch that is known, and the tree gives this
+    /// point there. After `false` `eval` says what the tree gives. It takes a comparison for each value, and makes no point.
     pub fn tells(&self, at: &Vector, statement: u32, point: &[i64]) -> bool
         requires { (tree : Tree) × IsStretchOf tree self.now }
-        ensures { IsTrue result → (tree : Tree) → IsStretchOf tree self.now
-            → outcome_of tree at.now
-            ≡ Some (found.At (record { statement = statement; at = point.now })) }
+        ensures { (tree : Tree) → IsStretchOf tree self.now
+            → (IsTrue result ↔ IsKnownAt self.now at.now × (outcome_of tree at.now
+            ≡ Some (found.At (record { statement = statement; at = point.now })))) }
     {
         let Some(stretch) = &self.stretch else {
             return false;

@@ -1,6 +1,6 @@
 ghost use Rattle.std.specs.Bool.{OnTrue};
 ghost use Rattle.std.specs.Option.{option_map};
-ghost use Rattle.std.specs.Prelude.{◌≡◌, ◌≤◌, ◌≤ℤ◌, ◌+◌, ◌+ℤ◌, ◌++◌, ℤ, pos, Some, [], ◌∷◌, ◌*ℤ◌, length, unsigned_abs, IsTrue};
+ghost use Rattle.std.specs.Prelude.{◌≡◌, ◌≤◌, ◌≤ℤ◌, ◌+◌, ◌+ℤ◌, ◌++◌, ◌↔◌, ℤ, pos, Some, [], ◌∷◌, ◌*ℤ◌, length, unsigned_abs, IsTrue};
 ghost use Rattle.source_tree.specs.declared.tree.Found.TheVariants as found;
 ghost use Rattle.source_tree.specs.Walk.{map_values};
 ghost use Rattle.tree_eval.specs.Stretches.{AddsLines, AreSmall, IsSmall, found_at, values_at, start_limit, step_limit, turn_limit};
@@ -53,7 +53,7 @@ fn are_values_at(starts: &[i64], steps: &[i64], turn: i64, values: &[i64]) -> bo
     requires small { AreSmall starts.now steps.now }
     requires not_negative { pos 0 ≤ℤ turn }
     requires few { turn ≤ℤ pos turn_limit }
-    ensures { IsTrue result → values_at turn starts.now steps.now ≡ values.now }
+    ensures { IsTrue result ↔ values_at turn starts.now steps.now ≡ values.now }
 {
     let (Some((start, starts)), Some((step, steps))) = (starts.split_first(), steps.split_first())
     else {
@@ -72,7 +72,7 @@ impl Leaf {
         requires not_negative { pos 0 ≤ℤ turn }
         requires few { turn ≤ℤ pos turn_limit }
         ensures { IsTrue result
-            → found_at self.now turn
+            ↔ found_at self.now turn
             ≡ found.At (record { statement = statement; at = point.now }) }
     {
         match self {

@@ -33,6 +33,7 @@ fn follow(tree: &Tree, at: &Vector) -> Option<Found>
 {
     match tree {
         Tree::Test(form, yes, no) => {
+            let form = form.get();
             let value = narrow_value(form, at.as_slice())?;
             if value >= 0 {
                 follow(yes.get(), at)

@@ -77,6 +77,26 @@ fn term(row: &[u8], times: &[u8]) -> Result<Term, Fault>
     Ok(Term { row, times })
 }
 
+/// The list of one term, which takes no more memory than it needs: most proofs have sums of a few rows.
+fn alone(alloc: Global, term: Term) -> Result<Items<Term>, AllocError>
+    ensures { IfOk result (λ terms. terms ≡ term ∷ []) }
+{
+    let mut terms = Vec::with_capacity(alloc, 1)?;
+    terms.push(term)?;
+    Ok(Items::from_vec(terms))
+}
+
+/// The terms and one more, or want of memory. Room comes with the first term, and is for that one alone.
+fn longer(mut terms: Items<Term>, term: Term) -> Result<Items<Term>, AllocError>
+    ensures { IfOk result (λ more. more ≡ terms ++ term ∷ []) }
+{
+    if terms.is_empty() {
+        return alone(terms.allocator(), term);
+    }
+    terms.push(term)?;
+    Ok(terms)
+}
+
 /// Adds a term at the end, or answers want of memory.
 fn with_term(
     terms: Result<Items<Term>, Fault>,
@@ -86,10 +106,7 @@ fn with_term(
         (λ more. more ≡ made (λ pair. pair.0 ++ pair.1 ∷ []) (judged_together terms term)) }
 {
     match both(terms, term) {
-        Ok((mut terms, term)) => {
-            terms.push(term)?;
-            Ok(Ok(terms))
-        }
+        Ok((terms, term)) => Ok(Ok(longer(terms, term)?)),
         Err(fault) => Ok(Err(fault)),
     }
 }

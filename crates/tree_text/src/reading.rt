@@ -43,6 +43,8 @@ fn cut(
 ) -> Result<Boxed<Proof>, AllocError>
     ensures { IfOk result (λ proof. proof ≡ AnyCut divisor terms rest) }
 {
+    let divisor = Boxed::new(alloc, divisor)?;
+    let terms = Boxed::new(alloc, terms)?;
     Boxed::new(alloc, Proof::Cut(divisor, terms, rest))
 }
 
@@ -55,7 +57,7 @@ fn split(
 ) -> Result<Boxed<Proof>, AllocError>
     ensures { IfOk result (λ proof. proof ≡ AnySplit form above below) }
 {
-    Boxed::new(alloc, Proof::Split(form.into_inner(), above, below))
+    Boxed::new(alloc, Proof::Split(form, above, below))
 }
 
 #[inline(never)]
@@ -67,7 +69,7 @@ fn test(
 ) -> Result<Boxed<Tree>, AllocError>
     ensures { IfOk result (λ tree. tree ≡ AnyTest form above below) }
 {
-    Boxed::new(alloc, Tree::Test(form.into_inner(), above, below))
+    Boxed::new(alloc, Tree::Test(form, above, below))
 }
 
 #[inline(never)]
@@ -80,10 +82,7 @@ fn divides(
 ) -> Result<Boxed<Tree>, AllocError>
     ensures { IfOk result (λ tree. tree ≡ AnyDivides form divisor above below) }
 {
-    Boxed::new(
-        alloc,
-        Tree::Divides(form.into_inner(), divisor, above, below),
-    )
+    Boxed::new(alloc, Tree::Divides(form, divisor, above, below))
 }
 
 /// Reads what follows a line of a proof, where the proofs in it nest at most so many levels deep.
@@ -277,13 +276,13 @@ fn read_levels(levels: u32, alloc: Global, lines: &mut Lines) -> Result<Boxed<Tr
     read_node(levels - 1, line, alloc, lines)
 }
 
-/// Reads a tree with its proofs. A line that begins a tree or a proof nested more than 512 deep is refused as `Deep`,
-/// where a tree that stands alone is nested 1 deep and a proof's depth is counted from its own root.
+/// Reads a tree with its proofs, into a box. A line that begins a tree or a proof nested more than 512 deep is refused as
+/// `Deep`, where a tree that stands alone is nested 1 deep and a proof's depth is counted from its own root.
 ///
 /// The lists grow with the lines that come, so a count that a line announces takes no memory by itself. Its stack grows
 /// with the nesting, which the limit keeps within 8 MB.
-pub fn read_tree(alloc: Global, lines: &mut Lines) -> Result<Tree, CertError>
+pub fn read_tree(alloc: Global, lines: &mut Lines) -> Result<Boxed<Tree>, CertError>
     ensures { Reads result lines.new (tree_part lines.old) }
 {
-    Ok(read_levels(NESTING_LIMIT, alloc, lines)?.into_inner())
+    read_levels(NESTING_LIMIT, alloc, lines)
 }

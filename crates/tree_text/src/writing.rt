@@ -94,10 +94,13 @@ fn write_proof<W: TextWriter>(proof: &Proof, out: &mut W)
     match proof {
         Proof::Sum(terms) => write_sum(terms.as_slice(), out),
         Proof::Cut(divisor, terms, rest) => {
+            let divisor = divisor.get();
+            let terms = terms.get();
             write_cut(*divisor, terms.as_slice(), out);
             write_proof(rest.get(), out);
         }
         Proof::Split(form, above, below) => {
+            let form = form.get();
             write_split(form, out);
             write_proof(above.get(), out);
             write_proof(below.get(), out);
@@ -178,11 +181,13 @@ pub fn write_tree<W: TextWriter>(tree: &Tree, out: &mut W)
 {
     match tree {
         Tree::Test(form, above, below) => {
+            let form = form.get();
             write_test(form, out);
             write_tree(above.get(), out);
             write_tree(below.get(), out);
         }
         Tree::Divides(form, divisor, above, below) => {
+            let form = form.get();
             write_divides(form, *divisor, out);
             write_tree(above.get(), out);
             write_tree(below.get(), out);

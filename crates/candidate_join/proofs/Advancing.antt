@@ -12,7 +12,7 @@ use Rattle.int_polyhedra.specs.declared.system.Proof.TheVariants.{Sum}
 use Rattle.int_polyhedra.specs.declared.system.Term.{Term}
 use Rattle.candidate_order.specs.Candidates.{IsCandidate}
 use Rattle.candidate_order.specs.Comparisons.{facts_had, HasNextLoop, IsComparison}
-use Rattle.candidate_order.specs.Heights.{height_of}
+use Rattle.difference_graphs.specs.Heights.{height_of}
 use Rattle.candidate_order.specs.Positions.{own_sums, IsAt, IsEmptyAt, IsNode, IsPointAt}
 use Rattle.candidate_order.specs.Reads.{pair_of}
 use Rattle.candidate_order.specs.Refutations.{RefutesWrites}
@@ -28,8 +28,8 @@ use Rattle.candidate_order.specs.declared.seen.Absence.{Absence}
 use Rattle.candidate_order.specs.declared.seen.Position.{Position}
 use Rattle.candidate_order.specs.declared.seen.Seen.{Seen}
 use Rattle.candidate_order.specs.declared.seen.Seen.TheVariants as seen
-use Rattle.candidate_order.proofs.LevelCounts.{few_before}
-use Rattle.candidate_order.proofs.Heights.{height_simple}
+use Rattle.candidate_join.proofs.LevelCounts.{few_before}
+use Rattle.difference_graphs.proofs.Heights.{height_simple}
 use Rattle.candidate_order.proofs.Outcomes.{seen_after, seen_before, seen_first, seen_passed, seen_without}
 use Rattle.candidate_join.specs.Joining.{ArePair, IsBest, IsLeft, IsPathOf, IsStanding}
 use Rattle.candidate_join.specs.Walking.{height, tests_left, turns_left, AreFrames, GoesOn, IsReady, IsStep, IsUnderWay}
@@ -48,8 +48,8 @@ use Rattle.candidate_join.proofs.PathSteps.{is_other, others_fewer, path_absent,
 use Rattle.candidate_join.proofs.PathSteps.{path_less, path_passed, path_taken, path_without}
 use Rattle.candidate_join.proofs.Turning.{same_ready, walk_on, walk_stays}
 use Rattle.candidate_join.proofs.Walks.{turns_less}
-use Rattle.lex_max.specs.Asked.{write_of}
-use Rattle.lex_max.specs.Level.{common_of}
+use Rattle.difference_graphs.specs.Asked.{write_of}
+use Rattle.difference_graphs.specs.Level.{common_of}
 use Rattle.plain_data.proofs.Lists.{All-slice_get}
 use Rattle.row_sums.specs.Parts.{weight}
 use Rattle.sanlp.proofs.Precedence.{common_first}

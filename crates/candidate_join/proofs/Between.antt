@@ -19,9 +19,10 @@ use Rattle.int_polyhedra.specs.declared.system.Proof.TheVariants.{Sum}
 use Rattle.int_polyhedra.specs.declared.system.System.{System}
 use Rattle.int_polyhedra.specs.declared.system.Term.{Term}
 use Rattle.candidate_order.specs.Candidates.{levels_before, IsCandidate}
-use Rattle.candidate_order.specs.Contexts.{IsMadeAs, IsPathContext}
+use Rattle.difference_graphs.specs.Contexts.{IsMadeAs}
+use Rattle.candidate_order.specs.Contexts.{IsPathContext}
 use Rattle.candidate_join.specs.Leaves.{order_sums}
-use Rattle.candidate_order.specs.Joint.{orders_behind}
+use Rattle.difference_graphs.specs.Joint.{orders_behind}
 use Rattle.candidate_order.specs.Refutations.{IsPointIn}
 use Rattle.candidate_order.specs.Orders.{difference_parts, strict_parts, AreEqual, DecidesAt, IsOrder}
 use Rattle.candidate_order.specs.Positions.{own_sums, IsAt, IsNode, IsOwnProof, IsPointAt}
@@ -34,16 +35,16 @@ use Rattle.candidate_order.proofs.Absent.{orders_are_made}
 use Rattle.candidate_order.proofs.PointSystems.{carried_write, context_over, joined_rows, light_own, near_forms}
 use Rattle.candidate_order.proofs.PointSystems.{near_variables, node_over, orders_made, own_at, own_row}
 use Rattle.candidate_order.proofs.PointSystems.{system, AreLightSums, AreMadeRows, IsNodeOver}
-use Rattle.candidate_order.proofs.TreeNodes.{checked_point, simple_point, IsCheckedPoint, IsSimplePoint}
+use Rattle.difference_graphs.proofs.Nodes.{checked_point, simple_point, IsCheckedPoint, IsSimplePoint}
 use Rattle.candidate_join.proofs.OrderChains.{orders_stood, AreAlike, AreOwn, AreStood, IsLess}
-use Rattle.lex_max.specs.Asked.{read_of, write_of}
-use Rattle.lex_max.specs.Edges.{AreLevelRows}
-use Rattle.lex_max.specs.Facts.{form_parts}
-use Rattle.lex_max.specs.Level.{common_of}
-use Rattle.lex_max.specs.Paths.{term_of}
-use Rattle.lex_max.specs.declared.writes.Writes.{Writes}
-use Rattle.lex_max.proofs.OrderEdges.{length_variables}
-use Rattle.lex_max.proofs.ZeroSystems.{IsPlaced}
+use Rattle.difference_graphs.specs.Asked.{read_of, write_of}
+use Rattle.difference_graphs.specs.Edges.{AreLevelRows}
+use Rattle.difference_graphs.specs.Facts.{form_parts}
+use Rattle.difference_graphs.specs.Level.{common_of}
+use Rattle.difference_graphs.specs.Paths.{term_of}
+use Rattle.difference_graphs.specs.declared.writes.Writes.{Writes}
+use Rattle.difference_graphs.proofs.OrderEdges.{length_variables}
+use Rattle.difference_graphs.proofs.ZeroSystems.{IsPlaced}
 use Rattle.plain_data.proofs.Options.{option_map-some}
 use Rattle.plain_data.proofs.Lists.{slice_get-append_right, All-slice_get}
 use Rattle.row_sums.specs.Carried.{carried_terms, sum_in_place, CarryFits, ProductsFit}
@@ -54,7 +55,7 @@ use Rattle.row_sums.proofs.SumAlgebra.{combines}
 use Rattle.row_sums.proofs.MoreVariables.{shown_widens}
 use Rattle.sanlp.proofs.Lists.{range_with_len-append}
 use Rattle.sanlp.proofs.Precedence.{common_first, common_loops-comm}
-use Rattle.source_check.proofs.Orders.{common_same}
+use Rattle.difference_graphs.proofs.ProblemBounds.{common_same}
 use Rattle.source_tree.specs.Checked.{IsRefuted}
 use Rattle.source_tree.specs.Places.{order_rows}
 use Rattle.source_tree.specs.Rows.{RowExpr, Take, equal_rows, minus, one_less}

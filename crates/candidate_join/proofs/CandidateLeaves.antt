@@ -17,10 +17,13 @@ use Rattle.int_polyhedra.specs.declared.system.System.{System}
 use Rattle.int_polyhedra.specs.declared.system.Term.{Term}
 use Rattle.candidate_join.proofs.LeafSystems.{order_rows_count}
 use Rattle.candidate_order.specs.Candidates.{levels_before}
-use Rattle.candidate_order.specs.Contexts.{IsMadeAs, IsPathContext}
-use Rattle.candidate_order.specs.Joint.{head_systems, no_orders, orders_behind, write_systems_of, at_writer, at_zero}
-use Rattle.candidate_order.specs.Joint.{IsJoinedTree, IsSum}
-use Rattle.candidate_order.specs.Reads.{pair_of, pairs_of, ReadAndWrite}
+use Rattle.difference_graphs.specs.Contexts.{IsMadeAs}
+use Rattle.candidate_order.specs.Contexts.{IsPathContext}
+use Rattle.difference_graphs.specs.Joint.{head_systems, no_orders, orders_behind, write_systems_of, at_writer, at_zero}
+use Rattle.candidate_order.specs.Reads.{IsJoinedTree}
+use Rattle.difference_graphs.specs.Joint.{IsSum}
+use Rattle.candidate_order.specs.Reads.{pair_of, pairs_of}
+use Rattle.difference_graphs.specs.Joint.{ReadAndWrite}
 use Rattle.candidate_join.specs.Leaves.{AddsRefutations, CanBeCarried, IsCarried}
 use Rattle.candidate_order.specs.Refutations.{IsPointIn}
 use Rattle.candidate_order.specs.Positions.{own_sums, IsAt, IsNode, IsOwnProof}
@@ -30,16 +33,16 @@ use Rattle.candidate_order.specs.declared.seen.Position.{Position}
 use Rattle.candidate_join.proofs.Between.{carry_fits, point_is}
 use Rattle.candidate_join.proofs.Heads.{head_rows, heads_are, heads_carried, heads_tight}
 use Rattle.candidate_order.proofs.PointSystems.{node_over, AreLightSums, IsNodeOver}
-use Rattle.candidate_order.proofs.TreeNodes.{checked_point, simple_point, IsCheckedPoint}
-use Rattle.lex_max.specs.Asked.{read_of, write_of}
-use Rattle.lex_max.specs.Edges.{AreLevelRows}
-use Rattle.lex_max.specs.Level.{common_of}
-use Rattle.lex_max.specs.Simple.{IsLightSum}
-use Rattle.lex_max.specs.Systems.{later_systems}
-use Rattle.lex_max.proofs.Just.{later_system}
-use Rattle.lex_max.proofs.ZeroSystems.{placed, IsPlaced}
+use Rattle.difference_graphs.proofs.Nodes.{checked_point, simple_point, IsCheckedPoint}
+use Rattle.difference_graphs.specs.Asked.{read_of, write_of}
+use Rattle.difference_graphs.specs.Edges.{AreLevelRows}
+use Rattle.difference_graphs.specs.Level.{common_of}
+use Rattle.difference_graphs.specs.Simple.{IsLightSum}
+use Rattle.difference_graphs.specs.Systems.{later_systems}
+use Rattle.difference_graphs.proofs.Just.{later_system}
+use Rattle.difference_graphs.proofs.ZeroSystems.{placed, IsPlaced}
 use Rattle.plain_data.proofs.Lists.{All-slice_get}
-use Rattle.source_check.proofs.Orders.{common_same}
+use Rattle.difference_graphs.proofs.ProblemBounds.{common_same}
 use Rattle.source_tree.specs.Checked.{AreRefuted, IsRefuted}
 use Rattle.source_tree.specs.Rows.{RowExpr, RowSystem}
 use Rattle.source_tree.specs.Systems.{Context, Occurrence, after_systems, cell_systems, outside_systems, with_rows}

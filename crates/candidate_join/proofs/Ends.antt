@@ -14,7 +14,8 @@ use Rattle.affine_core.specs.declared.form.Form.{Form}
 use Rattle.int_polyhedra.specs.declared.system.Proof.{Proof}
 use Rattle.int_polyhedra.specs.declared.system.System.{System}
 use Rattle.candidate_order.specs.Candidates.{is_candidate_of, IsCandidate}
-use Rattle.candidate_order.specs.Reads.{pair_of, pairs_of, ReadAndWrite}
+use Rattle.candidate_order.specs.Reads.{pair_of, pairs_of}
+use Rattle.difference_graphs.specs.Joint.{ReadAndWrite}
 use Rattle.candidate_join.specs.Ending.{IsEmptyEnd, IsLeaf}
 use Rattle.candidate_join.specs.Joining.{IsBest, IsPath}
 use Rattle.candidate_join.specs.Leaves.{is_excluded}
@@ -29,8 +30,8 @@ use Rattle.candidate_order.specs.declared.seen.Outcome.{Outcome}
 use Rattle.candidate_order.specs.declared.seen.Position.{Position}
 use Rattle.candidate_join.proofs.LeafSystems.{found, map_next, flat_next, more_refuted, is_left, was_seen, is_best}
 use Rattle.candidate_order.proofs.Outcomes.{outcome_wider, Tells}
-use Rattle.candidate_order.proofs.Pairs.{candidate_level, same_pair}
-use Rattle.lex_max.specs.Level.{HasLevel}
+use Rattle.candidate_join.proofs.Pairs.{candidate_level, same_pair}
+use Rattle.difference_graphs.specs.Level.{HasLevel}
 use Rattle.plain_data.proofs.Lists.{All-slice_get}
 use Rattle.source_tree.specs.Checked.{AreRefuted, IsRefuted}
 use Rattle.source_tree.specs.Rows.{RowSystem}

@@ -20,9 +20,10 @@ use Rattle.int_polyhedra.specs.declared.system.System.{System}
 use Rattle.int_polyhedra.specs.declared.system.Term.{Term}
 use Rattle.int_polyhedra.specs.Systems.{all_over}
 use Rattle.candidate_order.specs.Candidates.{IsCandidate}
-use Rattle.candidate_order.specs.Contexts.{IsMadeAs, IsPathContext}
-use Rattle.candidate_order.specs.Joint.{head_systems}
-use Rattle.candidate_order.specs.Reads.{ReadAndWrite}
+use Rattle.difference_graphs.specs.Contexts.{IsMadeAs}
+use Rattle.candidate_order.specs.Contexts.{IsPathContext}
+use Rattle.difference_graphs.specs.Joint.{head_systems}
+use Rattle.difference_graphs.specs.Joint.{ReadAndWrite}
 use Rattle.candidate_join.specs.Leaves.{IsCarried}
 use Rattle.candidate_order.specs.Positions.{own_sums}
 use Rattle.candidate_order.specs.declared.candidates.Candidate.{Candidate}
@@ -30,16 +31,16 @@ use Rattle.candidate_order.specs.declared.candidates.Read.{Read}
 use Rattle.candidate_order.proofs.CarriedProofs.{AreSystems}
 use Rattle.candidate_order.proofs.PointSystems.{carried_node, context_over, context_within, light_own, own_at}
 use Rattle.candidate_order.proofs.PointSystems.{AreMadeRows, IsNodeOver}
-use Rattle.lex_max.specs.Asked.{AreCells, IsProblem}
-use Rattle.lex_max.specs.Class.{is_difference}
-use Rattle.lex_max.specs.Edges.{node_of}
-use Rattle.lex_max.specs.Level.{common_of}
-use Rattle.lex_max.specs.Paths.{term_of}
-use Rattle.lex_max.specs.Simple.{IsLightSum}
-use Rattle.lex_max.proofs.Differences.{difference_at, differences_are, shifts_are, AreTrits}
-use Rattle.lex_max.proofs.ProblemBounds.{form_is, FormFits}
-use Rattle.lex_max.proofs.OrderEdges.{variable_within}
-use Rattle.lex_max.proofs.Small.{number_within}
+use Rattle.difference_graphs.specs.Asked.{AreCells, IsProblem}
+use Rattle.difference_graphs.specs.Class.{is_difference}
+use Rattle.difference_graphs.specs.Edges.{node_of}
+use Rattle.difference_graphs.specs.Level.{common_of}
+use Rattle.difference_graphs.specs.Paths.{term_of}
+use Rattle.difference_graphs.specs.Simple.{IsLightSum}
+use Rattle.difference_graphs.proofs.Differences.{difference_at, differences_are, shifts_are, AreTrits}
+use Rattle.difference_graphs.proofs.ProblemBounds.{form_is, FormFits}
+use Rattle.difference_graphs.proofs.OrderEdges.{variable_within}
+use Rattle.difference_graphs.proofs.Small.{number_within}
 use Rattle.plain_data.proofs.Lists.{slice_get-append_right}
 use Rattle.row_sums.specs.Carried.{carried_terms, sum_in_place}
 use Rattle.row_sums.specs.Made.{parts_of}

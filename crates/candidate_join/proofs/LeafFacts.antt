@@ -13,9 +13,10 @@ use Rattle.int_polyhedra.specs.declared.system.Proof.{Proof}
 use Rattle.int_polyhedra.specs.declared.system.Proof.TheVariants.{Sum}
 use Rattle.int_polyhedra.specs.declared.system.System.{System}
 use Rattle.int_polyhedra.specs.declared.system.Term.{Term}
-use Rattle.candidate_order.proofs.LevelCounts.{few_before}
+use Rattle.candidate_join.proofs.LevelCounts.{few_before}
 use Rattle.candidate_order.specs.Candidates.{is_candidate_of, levels_before, IsCandidate}
-use Rattle.candidate_order.specs.Reads.{pair_of, pairs_of, ReadAndWrite}
+use Rattle.candidate_order.specs.Reads.{pair_of, pairs_of}
+use Rattle.difference_graphs.specs.Joint.{ReadAndWrite}
 use Rattle.candidate_order.specs.Contexts.{IsPathContext}
 use Rattle.candidate_join.specs.Ending.{IsAskedBetween, IsBetweenAsked, IsLeaf}
 use Rattle.candidate_join.specs.Joining.{IsBest}
@@ -33,16 +34,16 @@ use Rattle.candidate_order.specs.declared.seen.Position.{Position}
 use Rattle.candidate_join.proofs.Between.{between_carried, carry_fits, few_levels, light_orders, own_append, point_is}
 use Rattle.candidate_join.proofs.Between.{same_carried, same_text}
 use Rattle.candidate_order.proofs.PointSystems.{light_append, AreLightSums}
-use Rattle.candidate_order.proofs.TreeNodes.{same_place}
-use Rattle.candidate_order.proofs.Pairs.{same_pair}
+use Rattle.difference_graphs.proofs.Nodes.{same_place}
+use Rattle.candidate_join.proofs.Pairs.{same_pair}
 use Rattle.candidate_join.proofs.NoCandidate.{light_places}
-use Rattle.lex_max.specs.Asked.{read_of, write_of}
-use Rattle.lex_max.specs.Level.{common_of}
+use Rattle.difference_graphs.specs.Asked.{read_of, write_of}
+use Rattle.difference_graphs.specs.Level.{common_of}
 use Rattle.plain_data.proofs.Lists.{All-slice_get}
 use Rattle.row_sums.specs.Carried.{carried_terms, sum_in_place}
 use Rattle.row_sums.specs.Parts.{weight}
 use Rattle.sanlp.proofs.Precedence.{common_first, common_loops-comm}
-use Rattle.source_check.proofs.Orders.{common_same}
+use Rattle.difference_graphs.proofs.ProblemBounds.{common_same}
 use Rattle.source_tree.specs.Checked.{IsRefuted}
 use Rattle.source_tree.specs.Systems.{Occurrence, with_rows, with_write_at}
 

@@ -13,18 +13,19 @@ use Rattle.std.proofs.lemmas.Bool.{and_parts}
 use Rattle.affine_core.specs.declared.form.Form.{Form}
 use Rattle.int_polyhedra.specs.declared.system.Proof.{Proof}
 use Rattle.int_polyhedra.specs.declared.system.System.{System}
-use Rattle.candidate_order.proofs.LevelCounts.{order_count}
+use Rattle.candidate_join.proofs.LevelCounts.{order_count}
 use Rattle.candidate_order.specs.Candidates.{is_candidate_of, levels_before}
-use Rattle.candidate_order.specs.Joint.{orders_behind, IsSum}
-use Rattle.candidate_order.specs.Reads.{pairs_of, ReadAndWrite}
+use Rattle.difference_graphs.specs.Joint.{orders_behind, IsSum}
+use Rattle.candidate_order.specs.Reads.{pairs_of}
+use Rattle.difference_graphs.specs.Joint.{ReadAndWrite}
 use Rattle.candidate_join.specs.Joining.{IsLeft, IsPathOf}
 use Rattle.candidate_join.specs.Leaves.{AddsRefutations}
 use Rattle.candidate_order.specs.Seen.{Sighting, is_seen}
 use Rattle.candidate_order.specs.declared.candidates.Candidate.{Candidate}
 use Rattle.candidate_order.specs.declared.candidates.Read.{Read}
 use Rattle.candidate_order.specs.declared.seen.Position.{Position}
-use Rattle.lex_max.specs.Level.{common_of, HasLevel}
-use Rattle.lex_max.proofs.OrderEdges.{length_variables}
+use Rattle.difference_graphs.specs.Level.{common_of, HasLevel}
+use Rattle.difference_graphs.proofs.OrderEdges.{length_variables}
 use Rattle.plain_data.proofs.Lists.{take-suc_some}
 use Rattle.sanlp.proofs.Precedence.{common_first, common_second}
 use Rattle.source_tree.specs.Checked.{AreRefuted, IsRefuted}

@@ -15,3 +15,6 @@ pub mod LeafFacts
 pub mod Turning
 pub mod Walks
 pub mod NoCandidate
+pub mod Pairs
+pub mod LevelCounts
+pub mod Levels

@@ -37,8 +37,8 @@ use Rattle.candidate_join.specs.declared.path.State.{State}
 use Rattle.candidate_join.specs.declared.path.Task.{Task}
 use Rattle.candidate_join.specs.declared.path.Walk.{Walk}
 use Rattle.candidate_join.proofs.PathSteps.{path_behind, path_less}
-use Rattle.lex_max.specs.Asked.{write_of}
-use Rattle.lex_max.specs.Facts.{with_form}
+use Rattle.difference_graphs.specs.Asked.{write_of}
+use Rattle.difference_graphs.specs.Facts.{with_form}
 use Rattle.row_sums.specs.Parts.{IsWithin}
 use Rattle.row_sums.proofs.Within.{IsWithin-weaker}
 

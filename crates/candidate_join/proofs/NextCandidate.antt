@@ -14,7 +14,8 @@ use Rattle.affine_core.specs.declared.form.Form.{Form}
 use Rattle.int_polyhedra.specs.declared.system.Term.{Term}
 use Rattle.candidate_order.specs.Absence.{IsContradicted}
 use Rattle.candidate_order.specs.Candidates.{IsCandidate}
-use Rattle.candidate_order.specs.Reads.{pair_of, pairs_of, ReadAndWrite}
+use Rattle.candidate_order.specs.Reads.{pair_of, pairs_of}
+use Rattle.difference_graphs.specs.Joint.{ReadAndWrite}
 use Rattle.candidate_join.specs.Joining.{AllAreExcluded, IsChoice, IsChoiceSoFar, IsLeft, IsPath}
 use Rattle.candidate_join.specs.Leaves.{is_excluded, IsExcluded}
 use Rattle.candidate_order.specs.Positions.{IsPointAt}
@@ -24,11 +25,11 @@ use Rattle.candidate_join.specs.declared.path.State.{State}
 use Rattle.candidate_join.specs.declared.leaf.Excluded.{Excluded}
 use Rattle.candidate_order.specs.declared.seen.Position.{Position}
 use Rattle.candidate_order.proofs.Absent.{writes_refuted}
-use Rattle.lex_max.specs.Asked.{write_of}
-use Rattle.lex_max.proofs.EdgeSums.{weight_from}
+use Rattle.difference_graphs.specs.Asked.{write_of}
+use Rattle.difference_graphs.proofs.EdgeSums.{weight_from}
 use Rattle.row_sums.specs.Parts.{weight}
 use Rattle.row_sums.proofs.Weights.{weight_sum}
-use Rattle.lex_max.specs.Paths.{terms_from}
+use Rattle.difference_graphs.specs.Paths.{terms_from}
 use Rattle.plain_data.proofs.Lists.{All-slice_get}
 
 -- Excluded candidates

@@ -11,7 +11,8 @@ use Rattle.int_polyhedra.specs.declared.system.Proof.{Proof}
 use Rattle.int_polyhedra.specs.declared.system.Proof.TheVariants.{Sum}
 use Rattle.int_polyhedra.specs.declared.system.System.{System}
 use Rattle.int_polyhedra.specs.declared.system.Term.{Term}
-use Rattle.candidate_order.specs.Contexts.{IsMadeAs, IsPathContext}
+use Rattle.difference_graphs.specs.Contexts.{IsMadeAs}
+use Rattle.candidate_order.specs.Contexts.{IsPathContext}
 use Rattle.candidate_order.specs.Reads.{pair_of}
 use Rattle.candidate_order.specs.Refutations.{IsPointIn, RefutesBetween, RefutesWrites}
 use Rattle.candidate_order.specs.Positions.{own_sums, IsAt}
@@ -23,13 +24,13 @@ use Rattle.candidate_order.specs.declared.seen.Position.{Position}
 use Rattle.candidate_order.proofs.Absent.{orders_are_made}
 use Rattle.candidate_order.proofs.PointSystems.{carried_write, light_append, light_own, light_shown, no_rows, node_over}
 use Rattle.candidate_order.proofs.PointSystems.{system, AreLightSums, AreMadeRows, IsNodeOver}
-use Rattle.lex_max.specs.Asked.{read_of, write_of}
-use Rattle.lex_max.specs.Edges.{AreLevelRows}
-use Rattle.lex_max.specs.Simple.{IsLightSum}
-use Rattle.lex_max.proofs.Just.{none_system}
-use Rattle.lex_max.proofs.RowMeaning.{taken_all}
-use Rattle.lex_max.proofs.ZeroSystems.{IsPlaced}
-use Rattle.lex_max.proofs.Nodes.{checked_zero, simple_none}
+use Rattle.difference_graphs.specs.Asked.{read_of, write_of}
+use Rattle.difference_graphs.specs.Edges.{AreLevelRows}
+use Rattle.difference_graphs.specs.Simple.{IsLightSum}
+use Rattle.difference_graphs.proofs.Just.{none_system}
+use Rattle.difference_graphs.proofs.MadeRows.{taken_all}
+use Rattle.difference_graphs.proofs.ZeroSystems.{IsPlaced}
+use Rattle.difference_graphs.proofs.Nodes.{checked_zero, simple_none}
 use Rattle.plain_data.proofs.Lists.{All-slice_get}
 use Rattle.row_sums.specs.Carried.{carried_terms, sum_in_place}
 use Rattle.row_sums.specs.Parts.{weight}

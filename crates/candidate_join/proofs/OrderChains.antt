@@ -14,7 +14,7 @@ use Rattle.int_polyhedra.specs.declared.system.Term.{Term}
 use Rattle.candidate_join.specs.Leaves.{order_sums}
 use Rattle.candidate_order.specs.Orders.{difference_parts, strict_parts}
 use Rattle.candidate_order.specs.declared.order.Equality.{Equality}
-use Rattle.lex_max.specs.Paths.{term_of}
+use Rattle.difference_graphs.specs.Paths.{term_of}
 use Rattle.row_sums.specs.Made.{parts_of}
 use Rattle.row_sums.specs.Parts.{the_constant, the_coefficient}
 use Rattle.row_sums.specs.Shown.{RowParts, Shows}

@@ -17,22 +17,23 @@ use Rattle.int_polyhedra.specs.declared.system.System.{System}
 use Rattle.int_polyhedra.specs.declared.system.Term.{Term}
 use Rattle.candidate_order.specs.Candidates.{AreCandidates, IsCandidate}
 use Rattle.candidate_order.specs.Reads.{pair_of, IsJoined}
-use Rattle.candidate_order.specs.Contexts.{IsMadeAs, IsPathContext}
+use Rattle.difference_graphs.specs.Contexts.{IsMadeAs}
+use Rattle.candidate_order.specs.Contexts.{IsPathContext}
 use Rattle.candidate_join.specs.Joining.{IsPathOf}
 use Rattle.candidate_order.specs.Refutations.{RefutesWrites}
 use Rattle.candidate_order.specs.Positions.{own_sums, IsNode}
 use Rattle.candidate_order.specs.declared.candidates.Candidate.{Candidate}
 use Rattle.candidate_order.specs.declared.candidates.Read.{Read}
 use Rattle.candidate_order.proofs.PointSystems.{system}
-use Rattle.lex_max.specs.Asked.{read_of, write_of}
-use Rattle.lex_max.specs.Facts.{form_parts, IsFact}
-use Rattle.lex_max.specs.Paths.{term_of}
-use Rattle.lex_max.specs.Simple.{IsLightSum, at_zero as simple_zero}
-use Rattle.lex_max.specs.Systems.{at_zero}
-use Rattle.lex_max.proofs.LeastForm.{fact_same}
-use Rattle.lex_max.proofs.Just.{none_system}
-use Rattle.lex_max.proofs.RowMeaning.{taken_all}
-use Rattle.lex_max.proofs.ZeroSystems.{IsPlaced}
+use Rattle.difference_graphs.specs.Asked.{read_of, write_of}
+use Rattle.difference_graphs.specs.Facts.{form_parts, IsFact}
+use Rattle.difference_graphs.specs.Paths.{term_of}
+use Rattle.difference_graphs.specs.Simple.{IsLightSum, at_zero as simple_zero}
+use Rattle.difference_graphs.specs.Systems.{at_zero}
+use Rattle.difference_graphs.proofs.FactSums.{fact_same}
+use Rattle.difference_graphs.proofs.Just.{none_system}
+use Rattle.difference_graphs.proofs.MadeRows.{taken_all}
+use Rattle.difference_graphs.proofs.ZeroSystems.{IsPlaced}
 use Rattle.row_sums.specs.Parts.{Part, row_part, weight, IsWithin}
 use Rattle.row_sums.proofs.SumAlgebra.{combines}
 use Rattle.row_sums.proofs.Within.{IsWithin-weaker}

@@ -14,13 +14,10 @@ use Rattle.std.proofs.lemmas.List.Elements.{All-append, All-nil, All-cons, All-h
 use Rattle.std.proofs.lemmas.Option.{same_Some}
 use Rattle.affine_core.specs.declared.form.Form.{Form}
 use Rattle.int_polyhedra.specs.declared.system.System.{System}
-use Rattle.int_polyhedra.specs.declared.system.Proof.{Proof}
-use Rattle.int_polyhedra.specs.Rules.{Refutes}
 use Rattle.int_polyhedra.specs.Systems.{AreOver, all_over}
 use Rattle.candidate_order.specs.Candidates.{is_candidate_of}
 use Rattle.candidate_order.specs.Reads.{IsJoined}
 use Rattle.candidate_order.specs.Contexts.{IsPathContext}
-use Rattle.candidate_order.specs.Joint.{at_dead, IsJoinedTree}
 use Rattle.candidate_join.specs.Joining.{IsAccountedFor, IsBest, IsLeft, IsPathOf}
 use Rattle.candidate_order.specs.Positions.{IsAt, IsEmptyAt}
 use Rattle.candidate_order.specs.Seen.{Sighting, without, before, passed, is_seen, position_of, AreSeen, StandsBefore}
@@ -29,11 +26,9 @@ use Rattle.candidate_order.specs.declared.candidates.Read.{Read}
 use Rattle.candidate_order.specs.declared.order.Order.{Order}
 use Rattle.candidate_order.specs.declared.seen.Position.{Position}
 use Rattle.candidate_order.proofs.LongerContexts.{at_behind, seen_behind}
-use Rattle.lex_max.specs.Facts.{with_form, IsContext}
-use Rattle.lex_max.proofs.EdgeSums.{over_append}
+use Rattle.difference_graphs.specs.Facts.{with_form, IsContext}
+use Rattle.difference_graphs.proofs.EdgeSums.{over_append}
 use Rattle.row_sums.specs.Parts.{IsWithin}
-use Rattle.source_tree.specs.declared.tree.Tree.{Tree}
-use Rattle.source_tree.specs.declared.tree.Tree.TheVariants.{Dead}
 
 -- Numbers that are left
 
@@ -352,17 +347,3 @@ pub path_absent : (r : Read) (candidates : List Candidate) (context : System) (b
 path_absent r candidates context best sightings left room number at is there at_is empty h =
     path_without r candidates context best sightings (filter (is_other number) left) room at.candidate.now
     (path_taken r candidates context best sightings left room number at.candidate.now is there h) at refl at_is empty
-
--- Trees
-
-pub joined_dead : (r : Read) (context : System) (proof : Proof) (tree : Tree) → tree ≡ Dead proof
-    → Refutes context.vars context.rows proof → IsJoinedTree r context tree
-joined_dead r context proof tree is refuted c made =
-    at_dead c tree proof is (
-      record {
-        rows = context.rows;
-        are_made = made.rows;
-        refuted = subst (λ v. Refutes v context.rows proof) (sym made.vars) refuted;
-      },
-      tt,
-    )

@@ -24,12 +24,13 @@ use Rattle.candidate_order.specs.declared.seen.Position.{Position}
 use Rattle.candidate_order.proofs.NextLoop.{own_fact}
 use Rattle.candidate_join.proofs.Between.{point_is}
 use Rattle.candidate_order.proofs.LongerContexts.{at_behind, node_behind}
-use Rattle.candidate_order.proofs.TreeNodes.{checked_point, node_no, node_yes, test_over, test_within, IsCheckedPoint}
-use Rattle.lex_max.specs.Asked.{read_of, write_of}
-use Rattle.lex_max.specs.Facts.{form_parts, with_form}
-use Rattle.lex_max.specs.Level.{common_of}
-use Rattle.lex_max.specs.Paths.{term_of}
-use Rattle.lex_max.specs.declared.writes.Writes.{Writes}
+use Rattle.candidate_order.proofs.TreeNodes.{node_no, node_yes, test_over, test_within}
+use Rattle.difference_graphs.proofs.Nodes.{checked_point, IsCheckedPoint}
+use Rattle.difference_graphs.specs.Asked.{read_of, write_of}
+use Rattle.difference_graphs.specs.Facts.{form_parts, with_form}
+use Rattle.difference_graphs.specs.Level.{common_of}
+use Rattle.difference_graphs.specs.Paths.{term_of}
+use Rattle.difference_graphs.specs.declared.writes.Writes.{Writes}
 use Rattle.row_sums.proofs.Within.{IsWithin-weaker}
 use Rattle.source_tree.specs.declared.tree.Tree.{Tree}
 use Rattle.source_tree.specs.declared.tree.Tree.TheVariants.{Writer}
@@ -128,4 +129,4 @@ point_here r context at s place proofs h is =
     let w : Writes = at.candidate.now.writes in
     let k : IsCheckedPoint (read_of w) (write_of w) w.level h.node.own s place proofs
     = checked_point (read_of w) (write_of w) w.level h.node.own at.node.now s place proofs h.node.checked is in
-    (proofs, is ∙ ap (λ s. Writer s place proofs) k.is)
+    (proofs, is ∙ ap (λ s. Writer s place proofs) k.number)

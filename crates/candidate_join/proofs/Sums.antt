@@ -9,7 +9,7 @@ use Rattle.std.proofs.lemmas.List.{append_assoc}
 use Rattle.int_polyhedra.specs.declared.system.Term.{Term}
 use Rattle.candidate_join.specs.Leaves.{order_sums}
 use Rattle.candidate_order.specs.declared.order.Equality.{Equality}
-use Rattle.lex_max.specs.Paths.{term_of}
+use Rattle.difference_graphs.specs.Paths.{term_of}
 
 -- the loop that is strict, at the level or above it
 pub sums_last : (strict : List Term) (level start row : ℕ) → (level ≡ 0 → row ≡ start)

@@ -11,8 +11,9 @@ use Rattle.std.proofs.lemmas.List.Sums.{sum_by_push}
 use Rattle.affine_core.specs.declared.form.Form.{Form}
 use Rattle.int_polyhedra.specs.declared.system.System.{System}
 use Rattle.int_polyhedra.specs.Steps.{negation_of}
-use Rattle.candidate_order.specs.Heights.{height_of}
-use Rattle.candidate_order.specs.Joint.{IsJoinedTree}
+use Rattle.difference_graphs.specs.Heights.{height_of}
+use Rattle.candidate_order.specs.Reads.{pairs_of, IsJoinedTree}
+use Rattle.difference_graphs.specs.Joint.{IsTreeFor, ReadAndWrite}
 use Rattle.candidate_order.specs.declared.candidates.Candidate.{Candidate}
 use Rattle.candidate_order.specs.declared.candidates.Read.{Read}
 use Rattle.candidate_order.specs.declared.seen.Seen.{Seen}
@@ -32,7 +33,7 @@ use Rattle.tree_trim.specs.Sides.{AreJoinedSides, IsJoinedBranch}
 use Rattle.tree_trim.specs.Trees.{branch_or_test, tree_names_row, tree_without}
 use Rattle.tree_trim.proofs.Heights.{height_of-branch_or_test, height_of-tree_without}
 use Rattle.candidate_join.proofs.Walks.{frames_more, turns_some}
-use Rattle.lex_max.specs.Facts.{with_form, IsContext}
+use Rattle.difference_graphs.specs.Facts.{with_form, IsContext}
 use Rattle.source_tree.specs.declared.tree.Tree.{Tree}
 use Rattle.source_tree.specs.declared.tree.Tree.TheViews.{Test}
 
@@ -64,11 +65,11 @@ leaf_made r context tree joined low few = (joined, omega (arith, low, few))
 -- a Dead leaf of a side
 pub dead_made : (r : Read) (cs : List Candidate) (context there : System) (seen : List Seen) (left : List ℕ)
     (next : Next) (dead : Option Tree) (tree : Tree) → IsReady r cs there seen left next → context ≡ there
-    → dead ≡ Some tree → IfSome dead (λ tree. (r : Read) → IsJoinedTree r context tree)
+    → dead ≡ Some tree → IfSome dead (λ tree. (pairs : List ReadAndWrite) → IsTreeFor pairs context tree)
     → IfSome dead (λ tree. height_of tree ≡ 0) → IsMade r context tree
 dead_made r cs context there seen left next dead tree h is found joined low =
     leaf_made r context tree
-    (subst (λ o. IfSome o (λ tree. (r : Read) → IsJoinedTree r context tree)) found joined r)
+    (subst (λ o. IfSome o (λ tree. (pairs : List ReadAndWrite) → IsTreeFor pairs context tree)) found joined (pairs_of r))
     (subst (λ o. IfSome o (λ tree. height_of tree ≡ 0)) found low)
     (omega (arith, ap (λ (s : System). length s.rows) is, h.0.context_is.few))
 
@@ -195,7 +196,7 @@ module _ (task : Task) (walk new : Walk) where
   -- the first side is made, and no proof of it names the Test's row
   module _ (count : ℕ) (left : List ℕ) (next : Next) (above : Tree) (h : IsClosing task walk (First count left next) above)
       (number : ℕ) (number_is : number ≡ length h.context.rows) (unnamed : tree_names_row number above ≡ false) where
-    pub unnamed_branch : IsJoinedBranch r h.context number h.row above
+    pub unnamed_branch : IsJoinedBranch (pairs_of r) h.context number h.row above
     unnamed_branch = record {
       number = number_is;
       over = h.open_is.0.over;
@@ -242,7 +243,7 @@ module _ (task : Task) (walk new : Walk) where
 pub test_made : (task : Task) (walk : Walk) (form : Form) (above below tree : Tree)
     → (h : IsClosing task walk (Second form above) below)
     → tree ≡ branch_or_test (length h.context.rows) form above below
-    → (AreJoinedSides task.read.now h.context (length h.context.rows) form above below
+    → (AreJoinedSides (pairs_of task.read.now) h.context (length h.context.rows) form above below
     → IsJoinedTree task.read.now h.context tree)
     → IsMade task.read.now h.context tree
 test_made task walk form above below tree h is joined =

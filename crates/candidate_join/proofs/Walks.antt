@@ -19,7 +19,7 @@ use Rattle.candidate_join.specs.declared.path.Frame.{Frame}
 use Rattle.candidate_join.specs.declared.path.Task.{Task}
 use Rattle.candidate_join.specs.declared.path.Walk.{Walk}
 use Rattle.int_polyhedra.specs.declared.system.System.{System}
-use Rattle.lex_max.specs.Facts.{with_form}
+use Rattle.difference_graphs.specs.Facts.{with_form}
 use Rattle.source_tree.specs.declared.tree.Tree.{Tree}
 
 -- Lists that end with an item

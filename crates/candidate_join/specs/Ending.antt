@@ -5,9 +5,11 @@ use Rattle.affine_core.specs.declared.form.Form.{Form}
 use Rattle.int_polyhedra.specs.declared.system.Proof.{Proof}
 use Rattle.int_polyhedra.specs.declared.system.System.{System}
 use Rattle.candidate_order.specs.Candidates.{levels_before}
-use Rattle.candidate_order.specs.Contexts.{IsMadeAs, IsPathContext}
-use Rattle.candidate_order.specs.Joint.{orders_behind, IsSum}
-use Rattle.candidate_order.specs.Reads.{pairs_of, ReadAndWrite}
+use Rattle.difference_graphs.specs.Contexts.{IsMadeAs}
+use Rattle.candidate_order.specs.Contexts.{IsPathContext}
+use Rattle.difference_graphs.specs.Joint.{orders_behind, IsSum}
+use Rattle.candidate_order.specs.Reads.{pairs_of}
+use Rattle.difference_graphs.specs.Joint.{ReadAndWrite}
 use Rattle.candidate_order.specs.Seen.{StandsBefore}
 use Rattle.candidate_order.specs.declared.candidates.Read.{Read}
 use Rattle.candidate_order.specs.declared.order.Order.{Order}
@@ -15,9 +17,9 @@ use Rattle.candidate_order.specs.declared.seen.Position.{Position}
 use Rattle.candidate_join.specs.Joining.{AllAreExcluded, IsBest, IsPath}
 use Rattle.candidate_join.specs.declared.leaf.Excluded.{Excluded}
 use Rattle.candidate_join.specs.declared.path.State.{State}
-use Rattle.lex_max.specs.Asked.{write_of}
-use Rattle.lex_max.specs.Edges.{AreLevelRows}
-use Rattle.lex_max.specs.Level.{HasLevel}
+use Rattle.difference_graphs.specs.Asked.{write_of}
+use Rattle.difference_graphs.specs.Edges.{AreLevelRows}
+use Rattle.difference_graphs.specs.Level.{HasLevel}
 use Rattle.source_tree.specs.Checked.{AreRefuted}
 use Rattle.source_tree.specs.Rows.{RowExpr, RowSystem}
 use Rattle.source_tree.specs.Systems.{Context, Occurrence, with_rows, with_write_at, writer_place}

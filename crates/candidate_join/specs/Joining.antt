@@ -21,7 +21,7 @@ use Rattle.candidate_join.specs.declared.path.Choice.TheVariants.{End, Absent, T
 use Rattle.candidate_join.specs.declared.path.State.{State}
 use Rattle.candidate_join.specs.declared.leaf.Excluded.{Excluded}
 use Rattle.candidate_order.specs.declared.seen.Position.{Position}
-use Rattle.lex_max.specs.Asked.{write_of}
+use Rattle.difference_graphs.specs.Asked.{write_of}
 use Rattle.row_sums.specs.Parts.{weight}
 
 -- the best is a position with a point

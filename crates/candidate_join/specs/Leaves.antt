@@ -7,14 +7,15 @@ use Rattle.int_polyhedra.specs.declared.system.Proof.TheVariants.{Sum}
 use Rattle.int_polyhedra.specs.declared.system.System.{System}
 use Rattle.int_polyhedra.specs.declared.system.Term.{Term}
 use Rattle.candidate_order.specs.Candidates.{levels_before}
-use Rattle.candidate_order.specs.Contexts.{IsMadeAs}
-use Rattle.candidate_order.specs.Joint.{IsSum}
-use Rattle.candidate_order.specs.Reads.{pairs_of, ReadAndWrite}
+use Rattle.difference_graphs.specs.Contexts.{IsMadeAs}
+use Rattle.difference_graphs.specs.Joint.{IsSum}
+use Rattle.candidate_order.specs.Reads.{pairs_of}
+use Rattle.difference_graphs.specs.Joint.{ReadAndWrite}
 use Rattle.candidate_order.specs.Refutations.{RefutesBetween}
 use Rattle.candidate_order.specs.declared.candidates.Read.{Read}
 use Rattle.candidate_join.specs.declared.leaf.Excluded.{Excluded}
 use Rattle.candidate_order.specs.declared.order.Equality.{Equality}
-use Rattle.lex_max.specs.Paths.{term_of}
+use Rattle.difference_graphs.specs.Paths.{term_of}
 use Rattle.row_sums.specs.Carried.{carried_terms, sum_in_place, CarryFits}
 use Rattle.source_tree.specs.Checked.{AreRefuted}
 use Rattle.source_tree.specs.Rows.{RowSystem}

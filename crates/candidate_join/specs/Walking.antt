@@ -5,8 +5,8 @@ use Rattle.affine_core.specs.declared.form.Form.{Form}
 use Rattle.int_polyhedra.specs.declared.system.System.{System}
 use Rattle.int_polyhedra.specs.Steps.{negation_of}
 use Rattle.candidate_order.specs.Comparisons.{facts_had}
-use Rattle.candidate_order.specs.Heights.{height_of}
-use Rattle.candidate_order.specs.Joint.{IsJoinedTree}
+use Rattle.difference_graphs.specs.Heights.{height_of}
+use Rattle.candidate_order.specs.Reads.{IsJoinedTree}
 use Rattle.candidate_order.specs.Positions.{IsAt}
 use Rattle.candidate_order.specs.Seen.{best_in, sightings_of}
 use Rattle.candidate_order.specs.declared.candidates.Candidate.{Candidate}
@@ -26,7 +26,7 @@ use Rattle.candidate_join.specs.declared.path.Step.{Step}
 use Rattle.candidate_join.specs.declared.path.Step.TheVariants.{On, Made}
 use Rattle.candidate_join.specs.declared.path.Task.{Task}
 use Rattle.candidate_join.specs.declared.path.Walk.{Walk}
-use Rattle.lex_max.specs.Facts.{with_form}
+use Rattle.difference_graphs.specs.Facts.{with_form}
 use Rattle.row_sums.specs.Parts.{IsWithin}
 use Rattle.source_tree.specs.declared.tree.Tree.{Tree}
 

@@ -7,16 +7,17 @@ ghost use Rattle.candidate_order.specs.declared.candidates.Read.{Read as ReadOf}
 ghost use Rattle.candidate_order.specs.declared.seen.Position.{Position as PositionOf};
 ghost use Rattle.candidate_order.specs.Reads.{pair_in, pair_of, pairs_with, read_in, write_in};
 ghost use Rattle.candidate_order.specs.Contexts.{IsPathContext};
-ghost use Rattle.candidate_order.specs.Heights.{height_of};
-ghost use Rattle.candidate_order.specs.Joint.{head_systems, no_orders, orders_behind, write_systems_of, IsJoinedTree, IsSum};
+ghost use Rattle.difference_graphs.specs.Heights.{height_of};
+ghost use Rattle.difference_graphs.specs.Joint.{head_systems, no_orders, orders_behind, write_systems_of, IsSum};
+ghost use Rattle.candidate_order.specs.Reads.{IsJoinedTree};
 ghost use Rattle.candidate_join.specs.Joining.{IsBest};
 ghost use Rattle.candidate_join.specs.Ending.{AddsOfLevel, IsAskedBetween, IsAskedWrite, IsBetweenAsked, IsEmptyEnd, IsLeaf};
 ghost use Rattle.candidate_join.specs.Leaves.{is_excluded, order_sums, AddsRefutations, CanBeCarried, IsCarried};
 ghost use Rattle.candidate_order.specs.Refutations.{IsPointIn, RefutesBetween, RefutesWrites};
 ghost use Rattle.candidate_order.specs.Positions.{IsAt, IsOwnProof, IsPointAt};
 ghost use Rattle.candidate_order.specs.Seen.{absent_at};
-ghost use Rattle.lex_max.specs.Asked.{write_of};
-ghost use Rattle.lex_max.specs.Paths.{term_of};
+ghost use Rattle.difference_graphs.specs.Asked.{write_of};
+ghost use Rattle.difference_graphs.specs.Paths.{term_of};
 ghost use Rattle.source_tree.specs.Systems.{every, write_systems, Occurrence};
 
 use crate::path::State;
@@ -24,8 +25,8 @@ use affine_core::Form;
 use candidate_order::{
     Absence, Equality, Order, Outcome, Position, Problem, carried, level_count, outcome_of, places,
 };
+use difference_graphs::append;
 use int_polyhedra::{Proof, Term};
-use lex_max::append;
 use plain_data::Items;
 use row_sums::carry;
 use source_tree::Tree;

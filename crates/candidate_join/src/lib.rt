@@ -5,7 +5,7 @@
 //! no point here, stands before the best, or is the best.
 #![tactic(auto)]
 
-mod empty;
+mod candidates;
 mod leaf;
 mod path;
 mod whole;

@@ -11,22 +11,22 @@ ghost use Rattle.candidate_order.specs.Candidates.{IsCandidate};
 ghost use Rattle.candidate_order.specs.Reads.{pair_of as pair_at};
 ghost use Rattle.candidate_order.specs.Comparisons.{facts_had};
 ghost use Rattle.candidate_order.specs.Contexts.{IsPathContext};
-ghost use Rattle.candidate_order.specs.Heights.{height_of};
-ghost use Rattle.candidate_order.specs.Joint.{IsJoinedTree};
+ghost use Rattle.difference_graphs.specs.Heights.{height_of};
+ghost use Rattle.candidate_order.specs.Reads.{IsJoinedTree};
 ghost use Rattle.candidate_join.specs.Joining.{ArePair, IsBest, IsChoice, IsChoiceSoFar, IsEnd, IsLeft, IsPath, IsPathOf};
 ghost use Rattle.candidate_join.specs.Leaves.{IsExcluded};
 ghost use Rattle.candidate_join.specs.Walking.{turns_of_frame, turns_of_step, turns_left, AreFrames, AreSides, GoesOn, IsClosing, IsMade, IsStateOf, IsUnderWay};
 ghost use Rattle.candidate_order.specs.Refutations.{RefutesWrites};
 ghost use Rattle.candidate_order.specs.Positions.{IsPointAt};
 ghost use Rattle.candidate_order.specs.Seen.{best_in};
-ghost use Rattle.lex_max.specs.Asked.{write_of};
-ghost use Rattle.lex_max.specs.Facts.{with_form, IsContext};
-ghost use Rattle.lex_max.specs.Paths.{term_of};
+ghost use Rattle.difference_graphs.specs.Asked.{write_of};
+ghost use Rattle.difference_graphs.specs.Facts.{with_form, IsContext};
+ghost use Rattle.difference_graphs.specs.Paths.{term_of};
 ghost use Rattle.row_sums.specs.Parts.{weight};
+ghost use Rattle.difference_graphs.specs.Joint.{IsTreeFor, ReadAndWrite};
 ghost use Rattle.tree_trim.specs.Sides.{AreJoinedSides};
 ghost use Rattle.tree_trim.specs.Trees.{branch_or_test};
 
-use crate::empty::dead_leaf;
 use crate::leaf::{Excluded, point_of, writer_leaf, zero_leaf};
 use affine_core::Form;
 use candidate_order::{
@@ -34,8 +34,9 @@ use candidate_order::{
     absence_of, best_of, compare_points, copy_rows, exclusion, follow, level_count, own_rows,
     test_of_next_loop, unopened,
 };
+use difference_graphs::{once, opposite};
+use empty_contexts::dead_leaf;
 use int_polyhedra::{Proof, System, Term};
-use lex_max::{once, opposite};
 use plain_data::Items;
 use sanlp::common_loops;
 use source_tree::Tree;
@@ -232,7 +233,7 @@ fn enter(context: &mut System, row: Form) -> Result<Option<Tree>, AllocError>
     requires { IsContext (with_form context.old row) }
     ensures context { OnOk result (context.new ≡ with_form context.old row) }
     ensures dead { IfOk result (λ leaf. IfSome leaf
-        (λ tree. (r : ReadOf) → IsJoinedTree r context.new tree)) }
+        (λ tree. (pairs : List ReadAndWrite) → IsTreeFor pairs context.new tree)) }
     ensures low { IfOk result (λ leaf. IfSome leaf (λ tree. height_of tree ≡ 0)) }
 {
     context.rows.push(row)?;
@@ -288,8 +289,9 @@ fn joint_test(
     requires few { length context.now.rows < 2 ^ 32 }
     ensures tree { IfOk result
         (λ tree. tree ≡ branch_or_test (length context.now.rows) form yes no) }
-    ensures joined { IfOk result (λ tree. (r : ReadOf) (there : SystemOf)
-        → AreJoinedSides r there (length context.now.rows) form yes no → IsJoinedTree r there tree) }
+    ensures joined { IfOk result (λ tree. (pairs : List ReadAndWrite) (there : SystemOf)
+        → AreJoinedSides pairs there (length context.now.rows) form yes no
+        → IsTreeFor pairs there tree) }
 {
     let row = context.rows.len() as u32;
     trim_test(alloc, &form, yes, no, row)
@@ -536,6 +538,7 @@ fn follow_on<'a>(
     let Followed { node, rows } = follow(node, &walk.context, rows)?;
     match node {
         Tree::Test(form, yes, no) => {
+            let form = form.get();
             let here = walk.context.rows.len() as u32;
             let above = side_of(alloc, candidate, yes.get(), rows.as_slice(), here)?;
             let below = side_of(alloc, candidate, no.get(), rows.as_slice(), here)?;

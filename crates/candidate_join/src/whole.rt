@@ -1,11 +1,12 @@
 ghost use Rattle.std.specs.Prelude.{◌≡◌, ◌≤◌, ◌+◌, ◌^◌, length, IfOk};
 ghost use Rattle.std.specs.List.{range_with_len};
-ghost use Rattle.candidate_order.specs.Heights.{height_of};
-ghost use Rattle.candidate_order.specs.Joint.{IsJoinedTree};
+ghost use Rattle.difference_graphs.specs.Heights.{height_of};
+ghost use Rattle.candidate_order.specs.Reads.{IsJoinedTree};
 ghost use Rattle.candidate_order.specs.Reads.{IsJoined};
 
+use crate::candidates::candidates_of;
 use crate::path::{Task, tree_of};
-use candidate_order::{Read, candidates_of};
+use candidate_order::Read;
 use int_polyhedra::System;
 use plain_data::Items;
 use source_tree::Tree;

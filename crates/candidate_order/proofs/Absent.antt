@@ -19,25 +19,26 @@ use Rattle.int_polyhedra.specs.Rules.{Refutes}
 use Rattle.int_polyhedra.specs.Systems.{AreOver}
 use Rattle.candidate_order.specs.Absence.{AddsOrderEdges, IsContradicted}
 use Rattle.candidate_order.specs.Candidates.{IsCandidate}
-use Rattle.candidate_order.specs.Contexts.{IsMadeAs, IsPathContext}
-use Rattle.candidate_order.specs.Joint.{orders_behind}
+use Rattle.difference_graphs.specs.Contexts.{IsMadeAs}
+use Rattle.candidate_order.specs.Contexts.{IsPathContext}
+use Rattle.difference_graphs.specs.Joint.{orders_behind}
 use Rattle.candidate_order.specs.Reads.{pair_of}
 use Rattle.candidate_order.specs.Refutations.{IsPointIn, RefutesBetween, RefutesWrites}
 use Rattle.candidate_order.specs.declared.candidates.Candidate.{Candidate}
 use Rattle.candidate_order.specs.declared.candidates.Read.{Read}
 use Rattle.candidate_order.proofs.PointSystems.{context_over, context_within, forms_within, near_forms, near_variables}
 use Rattle.candidate_order.proofs.PointSystems.{no_rows, orders_made, regroup, system, AreMadeRows}
-use Rattle.lex_max.specs.Answer.{IsContradiction}
-use Rattle.lex_max.specs.Asked.{depth_of_write, read_of, write_of}
-use Rattle.lex_max.specs.Facts.{IsContext}
-use Rattle.lex_max.specs.Edges.{edge_parts, write_rows, AreEdges, AreLevelRows}
-use Rattle.lex_max.specs.Level.{common_of}
-use Rattle.lex_max.specs.Paths.{edge_part, terms_from}
-use Rattle.lex_max.specs.declared.edges.Edge.{Edge}
-use Rattle.lex_max.proofs.OrderEdges.{length_variables}
-use Rattle.lex_max.proofs.ZeroSystems.{IsPlaced}
-use Rattle.lex_max.proofs.EdgeSums.{over_append, over_widened, path_shows, weight_from, within_widened, AreRowsOf}
-use Rattle.lex_max.proofs.RowBounds.{edges_count, edges_parts, forms_append}
+use Rattle.difference_graphs.specs.Cycles.{IsContradiction}
+use Rattle.difference_graphs.specs.Asked.{depth_of_write, read_of, write_of}
+use Rattle.difference_graphs.specs.Facts.{IsContext}
+use Rattle.difference_graphs.specs.Edges.{edge_parts, write_rows, AreEdges, AreLevelRows}
+use Rattle.difference_graphs.specs.Level.{common_of}
+use Rattle.difference_graphs.specs.Paths.{edge_part, terms_from}
+use Rattle.difference_graphs.specs.declared.edges.Edge.{Edge}
+use Rattle.difference_graphs.proofs.OrderEdges.{length_variables}
+use Rattle.difference_graphs.proofs.ZeroSystems.{IsPlaced}
+use Rattle.difference_graphs.proofs.EdgeSums.{over_append, over_widened, path_shows, weight_from, within_widened, AreRowsOf}
+use Rattle.difference_graphs.proofs.RowBounds.{edges_count, edges_parts, forms_append}
 use Rattle.plain_data.proofs.Lists.{slice_get-append_left}
 use Rattle.row_sums.specs.Parts.{part_of, row_part, IsWithin}
 use Rattle.row_sums.specs.Shown.{RowParts, Shows}

@@ -18,9 +18,9 @@ use Rattle.int_polyhedra.specs.declared.system.Proof.TheVariants.{Sum}
 use Rattle.int_polyhedra.specs.declared.system.Term.{Term}
 use Rattle.int_polyhedra.specs.Rules.{Refutes}
 use Rattle.int_polyhedra.specs.Systems.{AreOver}
-use Rattle.lex_max.specs.Facts.{form_parts}
-use Rattle.lex_max.proofs.EdgeSums.{over_append, over_widened, within_widened}
-use Rattle.lex_max.proofs.RowBounds.{forms_append}
+use Rattle.difference_graphs.specs.Facts.{form_parts}
+use Rattle.difference_graphs.proofs.EdgeSums.{over_append, over_widened, within_widened}
+use Rattle.difference_graphs.proofs.RowBounds.{forms_append}
 use Rattle.plain_data.proofs.Lists.{slice_get-append_right}
 use Rattle.row_sums.specs.Carried.{carried_terms, sum_in_place}
 use Rattle.row_sums.specs.Parts.{Part, the_constant, the_coefficient, part_of, row_part, weight, IsWithin}

@@ -3,13 +3,9 @@ pub mod NextLoop
 pub mod CarriedProofs
 pub mod PointOrder
 pub mod OrderChains
-pub mod LevelCounts
 pub mod LongerContexts
-pub mod Heights
 pub mod PointSystems
-pub mod Levels
 pub mod TreeNodes
 pub mod OrderEdges
 pub mod Outcomes
-pub mod Pairs
 pub mod Rounds

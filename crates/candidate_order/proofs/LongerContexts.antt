@@ -17,9 +17,9 @@ use Rattle.candidate_order.specs.declared.candidates.Read.{Read}
 use Rattle.candidate_order.specs.declared.order.Equality.{Equality}
 use Rattle.candidate_order.specs.declared.order.Order.{Order}
 use Rattle.candidate_order.specs.declared.seen.Position.{Position}
-use Rattle.lex_max.specs.Asked.{write_of}
-use Rattle.lex_max.specs.Facts.{form_parts, IsFact}
-use Rattle.lex_max.proofs.LeastForm.{fact_behind}
+use Rattle.difference_graphs.specs.Asked.{write_of}
+use Rattle.difference_graphs.specs.Facts.{form_parts, IsFact}
+use Rattle.difference_graphs.proofs.FactSums.{fact_behind}
 use Rattle.source_tree.specs.Systems.{Occurrence}
 use Rattle.source_tree.specs.declared.tree.Tree.{Tree}
 

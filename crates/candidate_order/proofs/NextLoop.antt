@@ -29,13 +29,13 @@ use Rattle.candidate_order.specs.declared.order.Equality.{Equality}
 use Rattle.candidate_order.proofs.PointOrder.{by_loop, by_text, difference_is, equal_push, less_one_is}
 use Rattle.candidate_order.proofs.PointOrder.{turned_loop, turned_text}
 use Rattle.candidate_order.proofs.LongerContexts.{equal_behind}
-use Rattle.lex_max.specs.Closed.{number_parts}
-use Rattle.lex_max.specs.Facts.{form_parts, with_form, IsFact}
-use Rattle.lex_max.specs.Level.{common_of}
-use Rattle.lex_max.specs.Paths.{term_of}
-use Rattle.lex_max.proofs.LeastForm.{fact_behind, fact_same}
-use Rattle.lex_max.proofs.Differences.{number_part}
-use Rattle.lex_max.proofs.Small.{negative_over, negative_within, opposite_fits, opposite_form, opposite_within}
+use Rattle.difference_graphs.specs.Closed.{number_parts}
+use Rattle.difference_graphs.specs.Facts.{form_parts, with_form, IsFact}
+use Rattle.difference_graphs.specs.Level.{common_of}
+use Rattle.difference_graphs.specs.Paths.{term_of}
+use Rattle.difference_graphs.proofs.FactSums.{fact_behind, fact_same}
+use Rattle.difference_graphs.proofs.Differences.{number_part}
+use Rattle.difference_graphs.proofs.Small.{negative_over, negative_within, opposite_fits, opposite_form, opposite_within}
 use Rattle.plain_data.proofs.Lists.{slice_get_push_at, All-slice_get}
 use Rattle.row_sums.specs.Parts.{Part, part_of, row_part, IsWithin}
 use Rattle.row_sums.specs.Shown.{RowParts}

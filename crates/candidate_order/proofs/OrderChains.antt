@@ -19,16 +19,16 @@ use Rattle.candidate_order.specs.Orders.{DecidesAt, DecidesThrough}
 use Rattle.candidate_order.specs.Reads.{StandsInLoopsOf}
 use Rattle.candidate_order.specs.declared.order.Equality.{Equality}
 use Rattle.candidate_order.specs.declared.order.Order.{Order}
-use Rattle.lex_max.specs.Facts.{IsFact}
-use Rattle.lex_max.specs.Level.{common_of}
-use Rattle.lex_max.proofs.LeastForm.{fact_same, fact_sum, fact_weaker}
+use Rattle.difference_graphs.specs.Facts.{IsFact}
+use Rattle.difference_graphs.specs.Level.{common_of}
+use Rattle.difference_graphs.proofs.FactSums.{fact_same, fact_sum, fact_weaker}
 use Rattle.sanlp.specs.declared.nest.Nest.{Nest}
 use Rattle.sanlp.specs.declared.nest.Statement.{Statement}
 use Rattle.sanlp.specs.Order.{common_loops}
 use Rattle.sanlp.specs.Text.{TextComposes}
 use Rattle.sanlp.proofs.TextOrders.{orders_compose}
 use Rattle.sanlp.proofs.Precedence.{common_first, common_least, common_second}
-use Rattle.source_check.proofs.Orders.{common_same}
+use Rattle.difference_graphs.proofs.ProblemBounds.{common_same}
 use Rattle.source_tree.specs.Systems.{Occurrence}
 
 -- Sums of facts

@@ -16,13 +16,13 @@ use Rattle.affine_core.specs.Affine.{form_product}
 use Rattle.affine_core.proofs.Integers.{unsigned_abs-sum}
 use Rattle.candidate_order.specs.Absence.{AddsOrderEdges, IsNearEdge}
 use Rattle.candidate_order.specs.Comparisons.{AreForms}
-use Rattle.lex_max.specs.Edges.{edge_parts, AreEdges}
-use Rattle.lex_max.specs.declared.edges.Edge.{Edge}
-use Rattle.lex_max.proofs.EdgeRows.{edges_more}
-use Rattle.lex_max.proofs.Differences.{past_part}
-use Rattle.lex_max.proofs.OrderEdges.{raised_part}
-use Rattle.lex_max.proofs.Small.{negative_over, negative_within}
-use Rattle.lex_max.proofs.PathSums.{dropped_at}
+use Rattle.difference_graphs.specs.Edges.{edge_parts, AreEdges}
+use Rattle.difference_graphs.specs.declared.edges.Edge.{Edge}
+use Rattle.difference_graphs.proofs.EdgeRows.{edges_more}
+use Rattle.difference_graphs.proofs.Differences.{past_part}
+use Rattle.difference_graphs.proofs.OrderEdges.{raised_part}
+use Rattle.difference_graphs.proofs.Small.{negative_over, negative_within}
+use Rattle.difference_graphs.proofs.PathSums.{dropped_at}
 use Rattle.plain_data.proofs.Options.{option_map-some}
 use Rattle.row_sums.specs.Made.{parts_of}
 use Rattle.row_sums.specs.Parts.{Part, row_part, IsWithin}

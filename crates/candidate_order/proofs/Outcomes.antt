@@ -16,7 +16,8 @@ use Rattle.candidate_order.specs.Candidates.{is_candidate_of, IsCandidate}
 use Rattle.candidate_order.specs.Orders.{difference_parts, strict_parts, AreEqual, AreWritesOf, Composes, DecidesAt}
 use Rattle.candidate_order.specs.Orders.{IsOrder}
 use Rattle.candidate_order.specs.Positions.{IsAt, IsPointAt}
-use Rattle.candidate_order.specs.Reads.{pair_of, pairs_of, IsJoined, ReadAndWrite, StandsInLoopsOf}
+use Rattle.candidate_order.specs.Reads.{pair_of, pairs_of, IsJoined, StandsInLoopsOf}
+use Rattle.difference_graphs.specs.Joint.{ReadAndWrite}
 use Rattle.candidate_order.specs.Seen.{Sighting, without, before, passed, absent_at, best_from, best_in, is_seen}
 use Rattle.candidate_order.specs.Seen.{position_of, sightings_from, sightings_of, with_passed, AreSeen, IsOutcome}
 use Rattle.candidate_order.specs.Seen.{LeadsOn, StandsBefore}
@@ -30,9 +31,9 @@ use Rattle.candidate_order.specs.declared.seen.Outcome.TheVariants as outcome
 use Rattle.candidate_order.specs.declared.seen.Position.{Position}
 use Rattle.candidate_order.specs.declared.seen.Seen.{Seen}
 use Rattle.candidate_order.specs.declared.seen.Seen.TheVariants.{After, Before, First, Without}
-use Rattle.candidate_order.proofs.TreeNodes.{same_place}
-use Rattle.lex_max.specs.Asked.{write_of}
-use Rattle.lex_max.specs.Facts.{IsFact}
+use Rattle.difference_graphs.proofs.Nodes.{same_place}
+use Rattle.difference_graphs.specs.Asked.{write_of}
+use Rattle.difference_graphs.specs.Facts.{IsFact}
 use Rattle.row_sums.specs.Shown.{RowParts}
 use Rattle.source_tree.specs.Systems.{Occurrence}
 

@@ -14,10 +14,10 @@ use Rattle.int_polyhedra.specs.declared.system.Term.{Term}
 use Rattle.candidate_order.specs.Orders.{difference_parts, strict_parts, turned_equal, AreEqual}
 use Rattle.candidate_order.specs.Orders.{IsOrder}
 use Rattle.candidate_order.specs.declared.order.Equality.{Equality}
-use Rattle.lex_max.specs.Facts.{form_parts, IsFact}
-use Rattle.lex_max.specs.Level.{common_of}
-use Rattle.lex_max.proofs.OrderEdges.{raised_part}
-use Rattle.lex_max.proofs.Small.{negative_over}
+use Rattle.difference_graphs.specs.Facts.{form_parts, IsFact}
+use Rattle.difference_graphs.specs.Level.{common_of}
+use Rattle.difference_graphs.proofs.OrderEdges.{raised_part}
+use Rattle.difference_graphs.proofs.Small.{negative_over}
 use Rattle.row_sums.specs.Parts.{Part}
 use Rattle.row_sums.proofs.Ideal.{product_part, sum_part}
 use Rattle.sanlp.proofs.Precedence.{common_loops-comm}

@@ -29,17 +29,17 @@ use Rattle.candidate_order.specs.Positions.{own_sums, IsNode}
 use Rattle.candidate_order.specs.declared.candidates.Candidate.{Candidate}
 use Rattle.candidate_order.specs.declared.candidates.Read.{Read}
 use Rattle.candidate_order.proofs.CarriedProofs.{carried_refuted, AreSystems, StandsIn}
-use Rattle.lex_max.specs.Asked.{read_of, write_of, IsProblem}
-use Rattle.lex_max.specs.Edges.{edge_parts, write_rows, AreLevelRows, IsEdge}
-use Rattle.lex_max.specs.Facts.{form_parts, IsFact}
-use Rattle.lex_max.specs.Paths.{edge_part, term_of}
-use Rattle.lex_max.specs.Simple.{IsSimple}
-use Rattle.lex_max.specs.Systems.{IsCheckedFor}
-use Rattle.lex_max.specs.declared.edges.Edge.{Edge}
-use Rattle.lex_max.proofs.OrderEdges.{variable_over, variable_within}
-use Rattle.lex_max.proofs.ZeroSystems.{placed, IsPlaced}
-use Rattle.lex_max.proofs.EdgeSums.{over_append, AreRowsOf}
-use Rattle.lex_max.proofs.RowBounds.{forms_append}
+use Rattle.difference_graphs.specs.Asked.{read_of, write_of, IsProblem}
+use Rattle.difference_graphs.specs.Edges.{edge_parts, write_rows, AreLevelRows, IsEdge}
+use Rattle.difference_graphs.specs.Facts.{form_parts, IsFact}
+use Rattle.difference_graphs.specs.Paths.{edge_part, term_of}
+use Rattle.difference_graphs.specs.Simple.{IsSimple}
+use Rattle.difference_graphs.specs.Systems.{IsCheckedFor}
+use Rattle.difference_graphs.specs.declared.edges.Edge.{Edge}
+use Rattle.difference_graphs.proofs.OrderEdges.{variable_over, variable_within}
+use Rattle.difference_graphs.proofs.ZeroSystems.{placed, IsPlaced}
+use Rattle.difference_graphs.proofs.EdgeSums.{over_append, AreRowsOf}
+use Rattle.difference_graphs.proofs.RowBounds.{forms_append}
 use Rattle.plain_data.proofs.Options.{option_map-some}
 use Rattle.plain_data.proofs.Lists.{slice_get-append_right, All-slice_get}
 use Rattle.row_sums.specs.Carried.{carried_terms, sum_in_place}

@@ -25,22 +25,22 @@ use Rattle.candidate_order.specs.Contexts.{IsPathContext}
 use Rattle.candidate_order.specs.declared.candidates.Candidate.{Candidate}
 use Rattle.candidate_order.specs.declared.candidates.Read.{Read}
 use Rattle.candidate_order.proofs.NextLoop.{opposite_part}
-use Rattle.lex_max.specs.Answer.{IsCycle}
-use Rattle.lex_max.specs.Asked.{depth_of_write}
-use Rattle.lex_max.specs.Closed.{bound_at, number_parts, AreClosed, IsBound, IsClosure, IsNegativeCycle}
-use Rattle.lex_max.specs.Edges.{edge_parts, IsEdge}
-use Rattle.lex_max.specs.Facts.{form_parts, IsFact}
-use Rattle.lex_max.specs.Paths.{edge_part, term_of, terms_from, IsPath}
-use Rattle.lex_max.specs.declared.closure.Bound.{Bound}
-use Rattle.lex_max.specs.declared.closure.Bounds.{Bounds}
-use Rattle.lex_max.specs.declared.closure.Closure.TheVariants.{Closed}
-use Rattle.lex_max.specs.declared.cycles.Cycle.{Cycle}
-use Rattle.lex_max.specs.declared.edges.Edge.{Edge}
-use Rattle.lex_max.proofs.OrderEdges.{raised_part}
-use Rattle.lex_max.proofs.Root.{negative_contradicts}
-use Rattle.lex_max.proofs.ZeroCycles.{opposite_contradicts, round_form, round_terms}
-use Rattle.lex_max.proofs.Small.{opposite_fits, opposite_form}
-use Rattle.lex_max.proofs.PathSums.{dropped_at, path_edge, path_join, path_same}
+use Rattle.difference_graphs.specs.Cycles.{IsCycle}
+use Rattle.difference_graphs.specs.Asked.{depth_of_write}
+use Rattle.difference_graphs.specs.Closed.{bound_at, number_parts, AreClosed, IsBound, IsClosure, IsNegativeCycle}
+use Rattle.difference_graphs.specs.Edges.{edge_parts, IsEdge}
+use Rattle.difference_graphs.specs.Facts.{form_parts, IsFact}
+use Rattle.difference_graphs.specs.Paths.{edge_part, term_of, terms_from, IsPath}
+use Rattle.difference_graphs.specs.declared.closure.Bound.{Bound}
+use Rattle.difference_graphs.specs.declared.closure.Bounds.{Bounds}
+use Rattle.difference_graphs.specs.declared.closure.Closure.TheVariants.{Closed}
+use Rattle.difference_graphs.specs.declared.cycles.Cycle.{Cycle}
+use Rattle.difference_graphs.specs.declared.edges.Edge.{Edge}
+use Rattle.difference_graphs.proofs.OrderEdges.{raised_part}
+use Rattle.difference_graphs.proofs.ZeroCycles.{negative_contradicts}
+use Rattle.difference_graphs.proofs.ZeroCycles.{opposite_contradicts, round_form, round_terms}
+use Rattle.difference_graphs.proofs.Small.{opposite_fits, opposite_form}
+use Rattle.difference_graphs.proofs.PathSums.{dropped_at, path_edge, path_join, path_same}
 use Rattle.plain_data.proofs.Lists.{All-slice_get}
 use Rattle.row_sums.specs.Parts.{Part, the_constant, the_coefficient, part_of, weighted_sum, IsWithin}
 use Rattle.row_sums.specs.Shown.{RowParts}

@@ -2,14 +2,19 @@
 use Rattle.std.specs.Prelude.{◌≡◌, ◌<◌, ◌+◌, ◌^◌, ℕ, Bool, List, ◌++◌, length, drop, nat_lt, All, Some, slice_get}
 use Rattle.affine_core.specs.declared.form.Form.{Form}
 use Rattle.int_polyhedra.specs.declared.system.System.{System}
+use Rattle.int_polyhedra.specs.Steps.{negation_of}
+use Rattle.candidate_order.specs.declared.candidates.Candidate.{Candidate}
 use Rattle.int_polyhedra.specs.declared.system.Term.{Term}
-use Rattle.lex_max.specs.Answer.{IsContradiction}
-use Rattle.lex_max.specs.Closed.{AreBounds, IsBound}
-use Rattle.lex_max.specs.Edges.{AreEdges}
-use Rattle.lex_max.specs.Paths.{terms_from}
-use Rattle.lex_max.specs.declared.closure.Bound.{Bound}
-use Rattle.lex_max.specs.declared.closure.Bounds.{Bounds}
-use Rattle.lex_max.specs.declared.edges.Edge.{Edge}
+use Rattle.difference_graphs.specs.Cycles.{IsContradiction}
+use Rattle.difference_graphs.specs.Closed.{AreBounds, IsBound}
+use Rattle.difference_graphs.specs.Edges.{AreEdges}
+use Rattle.difference_graphs.specs.Facts.{NoRowTells}
+use Rattle.difference_graphs.specs.Paths.{terms_from}
+use Rattle.difference_graphs.specs.declared.closure.Bound.{Bound}
+use Rattle.difference_graphs.specs.declared.closure.Bounds.{Bounds}
+use Rattle.difference_graphs.specs.declared.closure.Closure.TheVariants.{Closed}
+use Rattle.difference_graphs.specs.declared.cycles.Cycle.{Cycle}
+use Rattle.difference_graphs.specs.declared.edges.Edge.{Edge}
 use Rattle.row_sums.specs.Parts.{IsWithin}
 use Rattle.source_tree.specs.Places.{order_rows}
 use Rattle.source_tree.specs.Rows.{RowExpr}
@@ -20,6 +25,18 @@ pub record IsContradicted (context : System) (edges : List Edge) (ts : List Term
   pub rows : List Term
   pub contradiction : IsContradiction context.vars context.rows edges shown rows
   pub is : ts ≡ shown ++ terms_from (length context.rows) rows
+
+-- no row of the context by itself tells that the cycle's form is below 0
+abbrev pub NoRowRefutesCycle : System → Cycle → Type 0
+NoRowRefutesCycle context cycle =
+    (row : Form) → negation_of cycle.form ≡ Some row → NoRowTells context.rows row
+
+-- the sum of no cycle of the candidate's rows between loop variables is a negative number, and no row of the context by itself
+-- tells that a cycle through 0 that the candidate keeps is below 0
+pub record NoRowRefutes (context : System) (c : Candidate) : Type 0 where
+  pub bounds : Bounds
+  pub closed : c.closure ≡ Closed bounds
+  pub cycles : All (NoRowRefutesCycle context) c.cycles
 
 -- the rows of the edges have numbers behind the context
 abbrev pub AreRefuting : System → List Edge → Type 0

@@ -1,14 +1,15 @@
 -- The candidates of a read: for each write of its array and each level of order before it, the writes at that level.
 use Rattle.std.specs.Prelude.{◌≡◌, ℕ, ◌+◌, ◌≤◌, Bool, ◌&&◌, ◌==◌, nat_lt, List, length, All, Some, Contains, slice_get, IsTrue, if◌then◌else◌}
-use Rattle.lex_max.specs.Answer.{IsCycle}
-use Rattle.lex_max.specs.Asked.{depth_of_write, read_of, write_of, IsAsked}
-use Rattle.lex_max.specs.Closed.{IsClosure}
-use Rattle.lex_max.specs.Level.{common_of, HasLevel}
-use Rattle.lex_max.specs.Rounds.{IsGraphOf}
-use Rattle.lex_max.specs.Simple.{IsSimple}
-use Rattle.lex_max.specs.Systems.{IsCheckedFor}
-use Rattle.candidate_order.specs.Contexts.{IsMadeAs}
-use Rattle.candidate_order.specs.Reads.{pair_of, pairs_of, pairs_with, IsJoined, ReadAndWrite}
+use Rattle.difference_graphs.specs.Cycles.{IsCycle}
+use Rattle.difference_graphs.specs.Asked.{depth_of_write, read_of, write_of, IsAsked}
+use Rattle.difference_graphs.specs.Closed.{IsClosure}
+use Rattle.difference_graphs.specs.Level.{common_of, HasLevel}
+use Rattle.difference_graphs.specs.Rounds.{IsGraphOf}
+use Rattle.difference_graphs.specs.Simple.{IsSimple}
+use Rattle.difference_graphs.specs.Systems.{IsCheckedFor}
+use Rattle.difference_graphs.specs.Contexts.{IsMadeAs}
+use Rattle.candidate_order.specs.Reads.{pair_of, pairs_of, pairs_with, IsJoined}
+use Rattle.difference_graphs.specs.Joint.{ReadAndWrite}
 use Rattle.candidate_order.specs.declared.candidates.Candidate.{Candidate}
 use Rattle.candidate_order.specs.declared.candidates.Problem.{Problem}
 use Rattle.candidate_order.specs.declared.candidates.Read.{Read}

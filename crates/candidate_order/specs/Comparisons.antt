@@ -11,8 +11,8 @@ use Rattle.candidate_order.specs.declared.compare.Comparison.{Comparison}
 use Rattle.candidate_order.specs.declared.compare.Comparison.TheVariants.{Earlier, Later, Open}
 use Rattle.candidate_order.specs.declared.compare.Pair.{Pair}
 use Rattle.candidate_order.specs.declared.compare.Question.{Question}
-use Rattle.lex_max.specs.Facts.{form_parts, with_form, IsFact}
-use Rattle.lex_max.specs.Level.{common_of}
+use Rattle.difference_graphs.specs.Facts.{form_parts, with_form, IsFact}
+use Rattle.difference_graphs.specs.Level.{common_of}
 use Rattle.row_sums.specs.Parts.{Part, IsWithin}
 use Rattle.source_tree.specs.Systems.{Occurrence}
 

@@ -2,8 +2,6 @@ pub mod Absence
 pub mod Candidates
 pub mod Comparisons
 pub mod Contexts
-pub mod Heights
-pub mod Joint
 pub mod Orders
 pub mod Positions
 pub mod Reads

@@ -6,9 +6,9 @@ use Rattle.int_polyhedra.specs.declared.system.Term.{Term}
 use Rattle.candidate_order.specs.Reads.{StandsInLoopsOf}
 use Rattle.candidate_order.specs.declared.order.Equality.{Equality}
 use Rattle.candidate_order.specs.declared.order.Order.{Order}
-use Rattle.lex_max.specs.Closed.{number_parts}
-use Rattle.lex_max.specs.Facts.{form_parts, IsFact}
-use Rattle.lex_max.specs.Level.{common_of}
+use Rattle.difference_graphs.specs.Closed.{number_parts}
+use Rattle.difference_graphs.specs.Facts.{form_parts, IsFact}
+use Rattle.difference_graphs.specs.Level.{common_of}
 use Rattle.row_sums.specs.Shown.{RowParts}
 use Rattle.sanlp.specs.declared.nest.Nest.{Nest}
 use Rattle.source_tree.specs.Systems.{Occurrence}

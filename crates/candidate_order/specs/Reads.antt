@@ -3,19 +3,17 @@
 use Rattle.std.specs.Prelude.{◌≡◌, ◌≤◌, ◌^◌, ℕ, List, length, map, All, Some, Contains, slice_get}
 use Rattle.candidate_order.specs.declared.candidates.Problem.{Problem}
 use Rattle.candidate_order.specs.declared.candidates.Read.{Read}
+use Rattle.int_polyhedra.specs.declared.system.System.{System}
 use Rattle.int_polyhedra.specs.Systems.{AreOver}
-use Rattle.lex_max.specs.Asked.{read_of, write_of, IsProblem}
-use Rattle.lex_max.specs.Level.{HasLevel}
-use Rattle.lex_max.specs.declared.writes.Writes.{Writes}
+use Rattle.difference_graphs.specs.Asked.{read_of, write_of, IsProblem}
+use Rattle.difference_graphs.specs.Joint.{IsTreeFor, ReadAndWrite}
+use Rattle.difference_graphs.specs.Level.{HasLevel}
+use Rattle.difference_graphs.specs.declared.writes.Writes.{Writes}
 use Rattle.row_sums.specs.Parts.{IsWithin}
 use Rattle.sanlp.specs.declared.nest.Nest.{Nest}
 use Rattle.sanlp.specs.declared.nest.Statement.{Statement}
 use Rattle.source_tree.specs.Systems.{Occurrence}
-
--- a read and a write of its array
-pub record ReadAndWrite : Type 0 where
-  pub read : Occurrence
-  pub write : Occurrence
+use Rattle.source_tree.specs.declared.tree.Tree.{Tree}
 
 -- the read, with a problem's subscripts
 abbrev pub read_in : Read → Problem → Occurrence
@@ -69,3 +67,7 @@ pub record IsJoined (r : Read) : Type 0 where
   pub over : AreOver r.context.now.vars r.context.now.rows
   pub within : All (IsWithin (2 ^ 41)) r.context.now.rows
   pub few_rows : length r.context.now.rows ≤ 64
+
+-- a tree is checked for the read and each of the writes, in each context that is made as these rows
+abbrev pub IsJoinedTree : Read → System → Tree → Type 0
+IsJoinedTree r = IsTreeFor (pairs_of r)

@@ -4,10 +4,10 @@ use Rattle.affine_core.specs.declared.form.Form.{Form}
 use Rattle.int_polyhedra.specs.declared.system.Proof.{Proof}
 use Rattle.int_polyhedra.specs.declared.system.System.{System}
 use Rattle.candidate_order.specs.Comparisons.{AreForms}
-use Rattle.candidate_order.specs.Contexts.{IsMadeAs}
-use Rattle.candidate_order.specs.Joint.{orders_behind}
-use Rattle.candidate_order.specs.Reads.{ReadAndWrite}
-use Rattle.lex_max.specs.Edges.{AreLevelRows}
+use Rattle.difference_graphs.specs.Contexts.{IsMadeAs}
+use Rattle.difference_graphs.specs.Joint.{orders_behind}
+use Rattle.difference_graphs.specs.Joint.{ReadAndWrite}
+use Rattle.difference_graphs.specs.Edges.{AreLevelRows}
 use Rattle.source_tree.specs.Checked.{IsRefuted}
 use Rattle.source_tree.specs.Rows.{RowExpr}
 use Rattle.source_tree.specs.Systems.{Context, Occurrence, with_rows, with_write_at, writer_place}

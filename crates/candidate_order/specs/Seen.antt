@@ -16,7 +16,7 @@ use Rattle.candidate_order.specs.declared.seen.Seen.{Seen}
 use Rattle.candidate_order.specs.declared.seen.Seen.TheVariants as seen
 use Rattle.int_polyhedra.specs.declared.system.Proof.TheVariants.{Sum}
 use Rattle.source_tree.specs.declared.tree.Tree.TheVariants.{Zero}
-use Rattle.lex_max.specs.Asked.{write_of}
+use Rattle.difference_graphs.specs.Asked.{write_of}
 
 -- a candidate that was followed to a leaf: it has no point, its point stands before the best, or it was the
 -- best

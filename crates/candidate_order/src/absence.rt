@@ -1,27 +1,27 @@
-ghost use Rattle.std.specs.Prelude.{◌≡◌, ◌≤◌, ◌<◌, ◌+◌, ◌^◌, ◌++◌, ◌∷◌, ℕ, List, length, nat_lt, All, Some, IfOk, IfSome, OnOk};
+ghost use Rattle.std.specs.Prelude.{◌≡◌, ◌≤◌, ◌<◌, ◌+◌, ◌^◌, ◌++◌, ◌∷◌, ℕ, List, length, nat_lt, All, Some, IfNone, IfOk, IfSome, OnOk};
 ghost use Rattle.candidate_order.specs.declared.candidates.Read.{Read as ReadOf};
-ghost use Rattle.candidate_order.specs.Absence.{AddsOrderEdges, AreBack, AreOut, AreRefuting, IsContradicted, IsNearEdge, RoundIsNear};
+ghost use Rattle.candidate_order.specs.Absence.{AddsOrderEdges, AreBack, AreOut, AreRefuting, IsContradicted, IsNearEdge, NoRowRefutes, NoRowRefutesCycle, RoundIsNear};
 ghost use Rattle.candidate_order.specs.Candidates.{IsCandidate};
 ghost use Rattle.candidate_order.specs.Comparisons.{AreForms};
 ghost use Rattle.candidate_order.specs.Contexts.{IsPathContext};
 ghost use Rattle.candidate_order.specs.Reads.{pair_of};
 ghost use Rattle.candidate_order.specs.Refutations.{IsPointIn, RefutesBetween};
-ghost use Rattle.lex_max.specs.Answer.{IsCycle};
-ghost use Rattle.lex_max.specs.Asked.{write_of};
-ghost use Rattle.lex_max.specs.Facts.{IsContext};
-ghost use Rattle.lex_max.specs.Level.{common_of};
-ghost use Rattle.lex_max.specs.Paths.{terms_from};
-ghost use Rattle.lex_max.specs.declared.edges.Edge.{Edge as EdgeOf};
+ghost use Rattle.difference_graphs.specs.Cycles.{IsCycle};
+ghost use Rattle.difference_graphs.specs.Asked.{write_of};
+ghost use Rattle.difference_graphs.specs.Facts.{IsContext};
+ghost use Rattle.difference_graphs.specs.Level.{common_of};
+ghost use Rattle.difference_graphs.specs.Paths.{terms_from};
+ghost use Rattle.difference_graphs.specs.declared.edges.Edge.{Edge as EdgeOf};
 ghost use Rattle.int_polyhedra.specs.declared.system.Proof.TheVariants.{Sum};
 ghost use Rattle.source_tree.specs.Systems.{Occurrence};
 
 use crate::candidates::Candidate;
 use affine_core::Form;
-use int_polyhedra::{System, Term};
-use lex_max::{
+use difference_graphs::{
     Bound, Bounds, Closure, Cycle, Edge, append, append_from, form_beyond, known, negative,
     opposite, raised, sum,
 };
+use int_polyhedra::{System, Term};
 use plain_data::Items;
 use std::alloc::{AllocError, Global};
 
@@ -42,9 +42,11 @@ fn by_cycles(context: &System, cycles: &[Cycle]) -> Result<Option<Items<Term>>, 
     requires context { IsContext context.now }
     requires cycles { (edges : List EdgeOf) × AreRefuting context.now edges
         × All (IsCycle context.now.vars edges) cycles.now }
-    ensures { IfOk result (λ found. IfSome found (λ ts. (edges : List EdgeOf)
+    ensures some { IfOk result (λ found. IfSome found (λ ts. (edges : List EdgeOf)
         → AreRefuting context.now edges → All (IsCycle context.now.vars edges) cycles.now
         → IsContradicted context.now edges ts)) }
+    ensures none { IfOk result
+        (λ found. IfNone found (All (NoRowRefutesCycle context.now) cycles.now)) }
 {
     let Some((cycle, cycles)) = cycles.split_first() else {
         return Ok(None);
@@ -60,15 +62,17 @@ fn by_cycles(context: &System, cycles: &[Cycle]) -> Result<Option<Items<Term>>, 
 }
 
 /// Terms that refute that the candidate writes the read's cell before the read, where one cycle of its rows does so. `None`
-/// says nothing.
+/// says that the sum of no cycle of its rows between loop variables is a negative number, and that no row of the context by
+/// itself tells that a cycle through 0 that the candidate keeps is below 0; it doesn't say that there is such a write.
 pub fn absence_of(
     context: &System,
     candidate: &Candidate,
 ) -> Result<Option<Items<Term>>, AllocError>
     requires candidate { (r : ReadOf) × IsCandidate r candidate.now }
     requires context { IsPathContext candidate.now.writes.vars 0 context.now }
-    ensures { IfOk result
+    ensures some { IfOk result
         (λ found. IfSome found (IsContradicted context.now candidate.now.edges)) }
+    ensures none { IfOk result (λ found. IfNone found (NoRowRefutes context.now candidate.now)) }
 {
     match &candidate.closure {
         Closure::Negative(rows) => Ok(Some(refutation(context, &[], rows.as_slice())?)),
@@ -305,7 +309,8 @@ fn by_orders(
 
 /// Terms that refute that a write of the candidate stands after a place at this level, where one cycle of the candidate's
 /// rows and the order rows of the place and the writer's point does so. `within` says that the level is one of a common
-/// loop. `None` says nothing.
+/// loop. Or terms that refute that the candidate has a write at all. `None` says what that of `absence_of` says, and nothing
+/// of the place.
 pub fn exclusion(
     context: &System,
     candidate: &Candidate,
@@ -317,11 +322,12 @@ pub fn exclusion(
     requires context { IsPathContext candidate.now.writes.vars 0 context.now }
     requires place { (w : Occurrence) × IsPointIn context.now w place.now }
     requires level { level ≤ 6 }
-    ensures { IfOk result (λ found. IfSome found (λ ts. (r : ReadOf) (w : Occurrence)
+    ensures some { IfOk result (λ found. IfSome found (λ ts. (r : ReadOf) (w : Occurrence)
         → IsCandidate r candidate.now → IsPointIn context.now w place.now
         → within ≡ nat_lt level (common_of w (write_of candidate.now.writes))
         → RefutesBetween (pair_of candidate.now.writes) context.now candidate.now.writes.level
         w place.now level (Sum ts))) }
+    ensures none { IfOk result (λ found. IfNone found (NoRowRefutes context.now candidate.now)) }
 {
     let Closure::Closed(bounds) = &candidate.closure else {
         return absence_of(context, candidate);

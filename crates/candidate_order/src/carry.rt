@@ -1,11 +1,11 @@
 ghost use Rattle.std.specs.Prelude.{◌≡◌, ◌<◌, ◌+◌, ◌^◌, ◌++◌, List, IfOk, OnOk};
 ghost use Rattle.int_polyhedra.specs.declared.system.Term.{Term as TermOf};
-ghost use Rattle.candidate_order.specs.Joint.{IsSum};
+ghost use Rattle.difference_graphs.specs.Joint.{IsSum};
 ghost use Rattle.candidate_order.specs.Positions.{own_sums};
 ghost use Rattle.row_sums.specs.Carried.{carried_terms, sum_in_place, CarryFits};
 
+use difference_graphs::once;
 use int_polyhedra::{Proof, Term};
-use lex_max::once;
 use plain_data::Items;
 use row_sums::carry;
 use std::alloc::{AllocError, Global};

@@ -3,14 +3,14 @@ ghost use Rattle.affine_core.specs.declared.form.Form.{Form as FormOf};
 ghost use Rattle.int_polyhedra.specs.declared.system.System.{System as SystemOf};
 ghost use Rattle.candidate_order.specs.Comparisons.{count_had, facts_had, AreForms, ArePoints, HasNextLoop, IsComparedSoFar, IsComparison, IsGap, IsHad, IsQuestion, TellsMore};
 ghost use Rattle.candidate_order.specs.Orders.{turned_equal, AreEqual};
-ghost use Rattle.lex_max.specs.Facts.{IsContext};
+ghost use Rattle.difference_graphs.specs.Facts.{IsContext};
 ghost use Rattle.row_sums.specs.Parts.{IsWithin};
 ghost use Rattle.source_tree.specs.Systems.{Occurrence};
 
 use crate::order::{Equality, Order, copy_equal, turned};
 use affine_core::Form;
+use difference_graphs::{difference, known, once, raised};
 use int_polyhedra::{System, Term};
-use lex_max::{difference, known, once, raised};
 use plain_data::Items;
 use std::alloc::{AllocError, Global};
 

@@ -2,8 +2,8 @@ ghost use Rattle.std.specs.Prelude.{◌≡◌, ◌++◌, IfOk, IfNone, IfSome, O
 ghost use Rattle.std.specs.Option.{option_copied, option_map};
 ghost use Rattle.candidate_order.specs.Orders.{equal_both, turned_equal, Composes, DecidesThrough};
 
+use difference_graphs::joined;
 use int_polyhedra::Term;
-use lex_max::joined;
 use plain_data::Items;
 use std::alloc::{AllocError, Global};
 

@@ -1,11 +1,11 @@
 ghost use Rattle.std.specs.Prelude.{◌≤◌, IfOk};
 ghost use Rattle.candidate_order.specs.declared.candidates.Candidate.{Candidate as CandidateOf};
-ghost use Rattle.candidate_order.specs.Heights.{height_of};
+ghost use Rattle.difference_graphs.specs.Heights.{height_of};
 ghost use Rattle.candidate_order.specs.Positions.{IsNode};
-ghost use Rattle.lex_max.specs.Facts.{IsContext};
+ghost use Rattle.difference_graphs.specs.Facts.{IsContext};
 
+use difference_graphs::{Sign, opposite, sign_of};
 use int_polyhedra::{System, Term};
-use lex_max::{Sign, opposite, sign_of};
 use plain_data::Items;
 use source_tree::Tree;
 use std::alloc::AllocError;
@@ -33,6 +33,7 @@ pub fn follow<'a>(
     let Tree::Test(form, yes, no) = node else {
         return Ok(Followed { node, rows });
     };
+    let form = form.get();
     match sign_of(context, form, &opposite(form))? {
         Sign::AtLeastZero(terms) => {
             rows.push(terms)?;

@@ -15,16 +15,16 @@ use Rattle.std.proofs.lemmas.List.{length-map}
 use Rattle.affine_core.specs.declared.form.Form.{Form}
 use Rattle.affine_core.specs.Affine.{form_product, form_sum, variable_form, widened_form}
 use Rattle.affine_core.proofs.Linear.{length-sums}
-use Rattle.candidate_order.specs.Contexts.{IsMadeAs}
+use Rattle.difference_graphs.specs.Contexts.{IsMadeAs}
 use Rattle.int_polyhedra.specs.declared.system.System.{System}
 use Rattle.int_polyhedra.specs.Systems.{AreOver}
 use Rattle.last_writer.specs.Answers.{HasSmallRows}
 use Rattle.last_writer.specs.Writers.{IsSmallTest}
-use Rattle.lex_max.proofs.OrderEdges.{raised_part, variable_over, variable_within}
-use Rattle.lex_max.proofs.EdgeSums.{over_append, over_widened, within_widened}
-use Rattle.lex_max.proofs.ZeroCycles.{raised_within}
-use Rattle.lex_max.proofs.Small.{negative_over, negative_within}
-use Rattle.lex_max.proofs.RowBounds.{forms_append}
+use Rattle.difference_graphs.proofs.OrderEdges.{raised_part, variable_over, variable_within}
+use Rattle.difference_graphs.proofs.EdgeSums.{over_append, over_widened, within_widened}
+use Rattle.difference_graphs.proofs.ZeroCycles.{raised_within}
+use Rattle.difference_graphs.proofs.Small.{negative_over, negative_within}
+use Rattle.difference_graphs.proofs.RowBounds.{forms_append}
 use Rattle.row_sums.specs.Made.{parts_of, reach, TakesWithin}
 use Rattle.row_sums.specs.Parts.{Part, the_constant, the_coefficient, part_of, IsWithin}
 use Rattle.row_sums.proofs.Bound.{product_within, sum_within}

@@ -16,9 +16,11 @@ use Rattle.std.proofs.lemmas.List.Sums.{sum_by-cons}
 use Rattle.std.proofs.lemmas.Option.{same_Some, slice_get_within}
 use Rattle.affine_core.specs.declared.form.Form.{Form}
 use Rattle.affine_core.specs.Affine.{widened_form}
-use Rattle.candidate_order.specs.Contexts.{IsMadeAs}
-use Rattle.candidate_order.specs.Joint.{IsCheckedForAll, IsJoinedTree}
-use Rattle.candidate_order.specs.Reads.{pair_in, pairs_of as pairs_of_read, pairs_with, IsJoined, ReadAndWrite, StandsInLoopsOf}
+use Rattle.difference_graphs.specs.Contexts.{IsMadeAs}
+use Rattle.difference_graphs.specs.Joint.{IsCheckedForAll}
+use Rattle.candidate_order.specs.Reads.{IsJoinedTree}
+use Rattle.candidate_order.specs.Reads.{pair_in, pairs_of as pairs_of_read, pairs_with, IsJoined, StandsInLoopsOf}
+use Rattle.difference_graphs.specs.Joint.{ReadAndWrite}
 use Rattle.candidate_order.specs.declared.candidates.Problem.{Problem}
 use Rattle.candidate_order.specs.declared.candidates.Read.{Read}
 use Rattle.int_polyhedra.specs.declared.system.System.{System}
@@ -35,8 +37,8 @@ use Rattle.last_writer.proofs.Below.{answered_more, vars_are}
 use Rattle.last_writer.proofs.LeafConversion.{zip_count}
 use Rattle.last_writer.proofs.WriterTests.{tests_asked, told_asked}
 use Rattle.last_writer.proofs.QuotientWrites.{one_pair, told_all}
-use Rattle.lex_max.specs.Asked.{IsProblem}
-use Rattle.lex_max.specs.Level.{HasLevel}
+use Rattle.difference_graphs.specs.Asked.{IsProblem}
+use Rattle.difference_graphs.specs.Level.{HasLevel}
 use Rattle.plain_data.proofs.Lists.{slice_get-append_right}
 use Rattle.row_sums.specs.Parts.{IsWithin}
 use Rattle.row_sums.proofs.SmallRows.{widened_length}

@@ -11,7 +11,7 @@ use Rattle.std.proofs.lemmas.List.Elements.{All-cons, All-head, All-nil, All-tai
 use Rattle.std.proofs.lemmas.Option.{same_Some, slice_get_within}
 use Rattle.affine_core.specs.declared.form.Form.{Form}
 use Rattle.candidate_order.specs.Candidates.{levels_before}
-use Rattle.candidate_order.proofs.LevelCounts.{few_before}
+use Rattle.candidate_join.proofs.LevelCounts.{few_before}
 use Rattle.last_writer.specs.Leaves.{answer_at, context_of, counts_behind, is_told, order_counts, own_systems}
 use Rattle.last_writer.specs.Leaves.{told_systems, AddsProofs, AreOrderRows, CanBeConverted, IsAnswered, IsBelow, IsFurther}
 use Rattle.last_writer.specs.Leaves.{IsRefusal, IsRefusalAmong, IsRefusalBy, IsRefusedContext}
@@ -24,9 +24,9 @@ use Rattle.last_writer.proofs.ProofSteps.{adds_own}
 use Rattle.last_writer.proofs.WriterTests.{no_test_in, tests_asked, tests_in, told_asked, HasAnswers, IsNoTestIn}
 use Rattle.last_writer.proofs.Below.{answer_row, vars_are}
 use Rattle.last_writer.proofs.LevelCounts.{counts_few, orders_made, order_lengths, AreNear}
-use Rattle.lex_max.specs.Level.{common_of}
+use Rattle.difference_graphs.specs.Level.{common_of}
 use Rattle.source_tree.specs.declared.reference.Reference.{Reference}
-use Rattle.lex_max.proofs.OrderEdges.{length_variables, variable_over, variable_within}
+use Rattle.difference_graphs.proofs.OrderEdges.{length_variables, variable_over, variable_within}
 use Rattle.plain_data.proofs.Lists.{All-slice_get}
 use Rattle.row_sums.specs.Parts.{IsWithin}
 use Rattle.row_sums.proofs.Within.{IsWithin-weaker}

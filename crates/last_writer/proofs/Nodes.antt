@@ -4,9 +4,9 @@
 use Rattle.std.proofs.Common.{◌≡◌, ◌+◌, ◌^◌, ◌∙◌, ℕ, List, [], ◌∷◌, length, sym, ap, subst}
 use Rattle.std.specs.Prelude.{All}
 use Rattle.affine_core.specs.declared.form.Form.{Form}
-use Rattle.candidate_order.specs.Joint.{no_orders, place_systems, write_systems_of, IsCheckedForAll, IsSum}
-use Rattle.candidate_order.specs.Joint.{at_dead, at_test, at_writer, at_zero}
-use Rattle.candidate_order.specs.Reads.{ReadAndWrite}
+use Rattle.difference_graphs.specs.Joint.{no_orders, place_systems, write_systems_of, IsCheckedForAll, IsSum}
+use Rattle.difference_graphs.specs.Joint.{at_dead, at_test, at_writer, at_zero}
+use Rattle.difference_graphs.specs.Joint.{ReadAndWrite}
 use Rattle.int_polyhedra.specs.declared.system.Proof.{Proof}
 use Rattle.last_writer.specs.Leaves.{pairs_of, IsJoinedPoint}
 use Rattle.last_writer.specs.declared.leaves.Answered.{Answered}

@@ -9,7 +9,7 @@ use Rattle.std.proofs.lemmas.List.Elements.{All-append, All-cons, All-head, All-
 use Rattle.int_polyhedra.specs.declared.system.Proof.{Proof}
 use Rattle.last_writer.specs.Leaves.{AddsProofs, AreOrderRows}
 use Rattle.last_writer.proofs.ProofSteps.{adds_both, adds_nothing, adds_one}
-use Rattle.lex_max.proofs.RowBounds.{forms_append}
+use Rattle.difference_graphs.proofs.RowBounds.{forms_append}
 use Rattle.row_sums.specs.Parts.{IsWithin}
 use Rattle.source_tree.specs.Checked.{AreRefuted, IsRefuted}
 use Rattle.source_tree.specs.Rows.{RowExpr, RowSystem}

@@ -8,7 +8,7 @@ use Rattle.std.specs.Prelude.{Some, All, IsTrue}
 use Rattle.std.specs.List.{list_all, sum_by}
 use Rattle.std.proofs.lemmas.List.Elements.{All-nil, All-weaker}
 use Rattle.std.proofs.lemmas.Option.{same_Some}
-use Rattle.candidate_order.specs.Contexts.{IsMadeAs}
+use Rattle.difference_graphs.specs.Contexts.{IsMadeAs}
 use Rattle.int_polyhedra.specs.declared.system.System.{System}
 use Rattle.last_writer.specs.Answers.{answered_context, HasSmallRows}
 use Rattle.last_writer.specs.Leaves.{context_of, vars_of, IsAnswered}
@@ -19,7 +19,7 @@ use Rattle.last_writer.proofs.Below.{answered_none}
 use Rattle.last_writer.proofs.JointTrees.{reader_fits, writer_places}
 use Rattle.last_writer.proofs.ReadClass.{reader_there, IsThere}
 use Rattle.source_tree.specs.declared.reference.Reference.{Reference}
-use Rattle.lex_max.proofs.Root.{are_root, AreRoot}
+use Rattle.difference_graphs.proofs.MadeRows.{are_root, AreRoot}
 use Rattle.sanlp.specs.declared.nest.Nest.{Nest}
 use Rattle.sanlp.specs.declared.nest.Statement.{Statement}
 use Rattle.source_tree.specs.Checked.{IsCheckedIn}

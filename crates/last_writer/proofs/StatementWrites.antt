@@ -11,10 +11,10 @@ use Rattle.std.specs.List.{list_all, sum_by}
 use Rattle.std.specs.Option.{option_and_then}
 use Rattle.std.proofs.lemmas.List.Sums.{sum_by-cons}
 use Rattle.std.proofs.lemmas.Bool.{and_parts}
-use Rattle.candidate_order.proofs.LevelCounts.{has_level}
+use Rattle.candidate_join.proofs.LevelCounts.{has_level}
 use Rattle.candidate_order.specs.Candidates.{levels_before}
 use Rattle.last_writer.specs.Writers.{stands_before, IsReadOf}
-use Rattle.lex_max.proofs.Just.{written_number}
+use Rattle.difference_graphs.proofs.Just.{written_number}
 use Rattle.source_tree.specs.declared.reference.Reference.{Reference}
 use Rattle.sanlp.specs.declared.nest.Nest.{Nest}
 use Rattle.sanlp.specs.declared.nest.Statement.{Statement}

@@ -12,9 +12,9 @@ use Rattle.std.proofs.lemmas.List.{append_assoc, length-map}
 use Rattle.std.proofs.lemmas.List.Elements.{All-contains}
 use Rattle.std.proofs.lemmas.Option.{same_Some, slice_get-map}
 use Rattle.affine_core.specs.declared.form.Form.{Form}
-use Rattle.candidate_order.specs.Joint.{orders_behind, write_systems_of}
-use Rattle.candidate_order.specs.Reads.{ReadAndWrite}
-use Rattle.candidate_order.proofs.LevelCounts.{order_count}
+use Rattle.difference_graphs.specs.Joint.{orders_behind, write_systems_of}
+use Rattle.difference_graphs.specs.Joint.{ReadAndWrite}
+use Rattle.candidate_join.proofs.LevelCounts.{order_count}
 use Rattle.int_polyhedra.specs.declared.system.Proof.{Proof}
 use Rattle.last_writer.specs.Leaves.{after_systems_count, is_told, own_systems, pairs_of, told_pair, told_pairs, told_systems}
 use Rattle.last_writer.specs.Leaves.{vars_of, IsAnswered, IsBelow, IsJoinedPoint, IsOwnPoint}
@@ -24,7 +24,7 @@ use Rattle.last_writer.specs.declared.writers.Writer.{Writer}
 use Rattle.last_writer.proofs.TreeConversion.{all_written}
 use Rattle.last_writer.proofs.LeafConversion.{below_vars}
 use Rattle.last_writer.proofs.QuotientWrites.{contains_at, one_place, writers_ascend, Ascend}
-use Rattle.lex_max.proofs.OrderEdges.{length_variables}
+use Rattle.difference_graphs.proofs.OrderEdges.{length_variables}
 use Rattle.sanlp.specs.Order.{common_loops}
 use Rattle.sanlp.proofs.Precedence.{common_first, common_second}
 use Rattle.sanlp.specs.declared.nest.Nest.{Nest}

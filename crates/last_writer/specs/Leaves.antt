@@ -3,15 +3,15 @@ use Rattle.std.specs.Prelude.{◌≡◌, ◌≤◌, ◌<◌, ◌+◌, ◌*◌, �
 use Rattle.std.specs.List.{filter, list_all, range_with_len}
 use Rattle.affine_core.specs.declared.form.Form.{Form}
 use Rattle.candidate_order.specs.Candidates.{levels_before}
-use Rattle.candidate_order.specs.Joint.{place_systems, IsCheckedForAll, IsSum}
-use Rattle.candidate_order.specs.Reads.{ReadAndWrite}
+use Rattle.difference_graphs.specs.Joint.{place_systems, IsCheckedForAll, IsSum}
+use Rattle.difference_graphs.specs.Joint.{ReadAndWrite}
 use Rattle.int_polyhedra.specs.declared.system.Proof.{Proof}
 use Rattle.last_writer.specs.Answers.{answered_context}
 use Rattle.last_writer.specs.Writers.{no_place, AreWriters, IsReadOf}
 use Rattle.last_writer.specs.declared.leaves.Answered.{Answered}
 use Rattle.last_writer.specs.declared.leaves.Refusal.{Refusal}
 use Rattle.last_writer.specs.declared.writers.Writer.{Writer}
-use Rattle.lex_max.specs.Level.{common_of}
+use Rattle.difference_graphs.specs.Level.{common_of}
 use Rattle.source_tree.specs.declared.reference.Reference.{Reference}
 use Rattle.row_sums.specs.Parts.{IsWithin}
 use Rattle.source_tree.specs.Checked.{AreRefuted, HaveVariables, IsCheckedIn}

@@ -1,13 +1,13 @@
 ghost use Rattle.std.specs.Prelude.{◌≡◌, ◌<◌, ◌≤◌, ◌+◌, ◌^◌, ℕ, true, false, [], ◌∷◌, ◌++◌, length, map, All, unsigned_abs, IfOk, OnOk};
 ghost use Rattle.affine_core.specs.Affine.{form_product, variable_form, widened_form};
-ghost use Rattle.candidate_order.specs.Contexts.{IsMadeAs};
+ghost use Rattle.difference_graphs.specs.Contexts.{IsMadeAs};
 ghost use Rattle.last_writer.specs.Answers.{below_answer, HasSmallRows};
 ghost use Rattle.last_writer.specs.Writers.{IsSmallTest};
 ghost use Rattle.source_tree.specs.Systems.{Context};
 
 use affine_core::{Form, Overflow, Row};
+use difference_graphs::{difference, raised};
 use int_polyhedra::System;
-use lex_max::{difference, raised};
 use plain_data::Items;
 use std::alloc::{AllocError, Global};
 use stride_trees::Division;

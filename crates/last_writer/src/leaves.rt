@@ -1,8 +1,8 @@
 ghost use Rattle.std.specs.Prelude.{◌≡◌, ◌<◌, ◌≤◌, ◌+◌, ◌*◌, ◌^◌, ◌++◌, ℕ, [], ◌∷◌, true, List, drop, map, length, take, All, Some, Contains, IfOk, IfSome, MatchOption, OnOk};
 ghost use Rattle.std.specs.List.{flat_map, list_all, range_with_len};
 ghost use Rattle.affine_core.specs.declared.form.Form.{Form as FormOf};
-ghost use Rattle.candidate_order.specs.Heights.{height_of};
-ghost use Rattle.candidate_order.specs.Joint.{no_orders, write_systems_of, IsSum};
+ghost use Rattle.difference_graphs.specs.Heights.{height_of};
+ghost use Rattle.difference_graphs.specs.Joint.{no_orders, write_systems_of, IsSum};
 ghost use Rattle.int_polyhedra.specs.declared.system.Proof.TheVariants.{Sum};
 ghost use Rattle.last_writer.specs.Leaves.{after_systems_count, answer_at as answer_of, counts_behind as behind_counts, is_told, level_count_of, order_counts, own_systems, pairs_of, told_systems, AddsProofs, AreOrderRows, CanBeConverted, Converts, HasWriter, IsAnswered, IsBelow, IsFurther, IsJoinedBelow, IsJoinedPoint, IsOwnPoint, IsRefusal, IsRefusalAmong, IsRefusedContext};
 ghost use Rattle.last_writer.specs.Converted.{turns_left, IsConverting};
@@ -19,8 +19,8 @@ ghost use Rattle.source_tree.specs.References.{occurrence_of};
 use crate::writers::{NO_PLACE, Writer};
 use affine_core::Form;
 use candidate_order::level_count;
+use difference_graphs::test;
 use int_polyhedra::{Proof, Term};
-use lex_max::test;
 use plain_data::Items;
 use sanlp::{Nest, common_loops};
 use source_tree::{Reference, Tree};
@@ -516,6 +516,7 @@ fn down(w: &Answered, rows: u32, opens: &mut Items<Open>, tree: Tree) -> Result<
 {
     match tree {
         Tree::Test(form, yes, no) => {
+            let form = form.into_inner();
             let no = no.into_inner();
             match opens.push(Open::First(form, no)) {
                 Ok(()) => Ok(Part::Joined(yes.into_inner())),

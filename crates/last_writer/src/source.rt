@@ -1,7 +1,7 @@
 ghost use Rattle.std.specs.Prelude.{◌≡◌, ◌≤◌, ◌<◌, ◌+◌, ◌*◌, ◌≤ℤ◌, ◌^◌, ◌++◌, [], ◌∷◌, ℕ, pos, false, if◌then◌else◌, List, length, slice_get, All, Some, None, IfOk, IfSome, IsTrue, MatchOption, OnOk};
 ghost use Rattle.std.specs.List.{AllZip};
 ghost use Rattle.affine_core.specs.Affine.{widened_form};
-ghost use Rattle.candidate_order.specs.Contexts.{IsMadeAs};
+ghost use Rattle.difference_graphs.specs.Contexts.{IsMadeAs};
 ghost use Rattle.candidate_order.specs.Reads.{pairs_with};
 ghost use Rattle.candidate_order.specs.declared.candidates.Read.{Read as ReadOf};
 ghost use Rattle.last_writer.specs.Answers.{answered_context, HasSmallRows};
@@ -159,16 +159,9 @@ fn divides(
         ≡ DividesOf (widened_form context.now.vars test.now.form) test.now.divisor yes no) }
 {
     let form = test.form.widened(context.vars as usize);
-    let Ok(yes) = Boxed::new(alloc, yes) else {
-        drop(form);
-        drop(no);
-        return Err(AllocError);
-    };
-    let Ok(no) = Boxed::new(alloc, no) else {
-        drop(form);
-        drop(yes);
-        return Err(AllocError);
-    };
+    let form = Boxed::new(alloc, form)?;
+    let yes = Boxed::new(alloc, yes)?;
+    let no = Boxed::new(alloc, no)?;
     Ok(Tree::Divides(form, test.divisor, yes, no))
 }
 

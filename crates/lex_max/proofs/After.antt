@@ -5,11 +5,10 @@
 -- the strict row, and below it an equal value does. Another point that stands behind the leaf's in a loop is above it
 -- there, and the path to that loop's form says that it is not. Each proof so takes one row that was added, once.
 use Rattle.std.proofs.Common.{◌≡◌, ◌+◌, ◌*◌, ◌^◌, ◌≤◌, ◌<◌, ℕ, zero, suc, ℤ, pos, ◌+ℤ◌, ◌-ℤ◌}
-use Rattle.std.proofs.Common.{List, [], ◌∷◌, ◌++◌, length, map, true, cond, refl, sym, ap, ◌∙◌, subst}
+use Rattle.std.proofs.Common.{List, [], ◌∷◌, ◌++◌, length, map, true, refl, sym, ap, ◌∙◌, subst}
 use Rattle.std.proofs.Common.{arith, length-append, inl, ◌⊎◌}
 use Rattle.std.specs.Prelude.{Option, Some, None, All, slice_get, nat_lt}
 use Rattle.std.specs.Option.{option_map_or}
-use Rattle.std.proofs.lemmas.Bool.{eq-eqb}
 use Rattle.std.proofs.lemmas.Int.{ints}
 use Rattle.std.proofs.lemmas.List.{length-map}
 use Rattle.std.proofs.lemmas.List.Elements.{All-append}
@@ -23,26 +22,26 @@ use Rattle.int_polyhedra.specs.declared.system.Term.{Term}
 use Rattle.int_polyhedra.specs.Systems.{AreOver}
 use Rattle.sanlp.specs.Order.{common_loops}
 use Rattle.sanlp.proofs.Precedence.{common_loops-comm}
-use Rattle.lex_max.specs.Asked.{depth_of_read, depth_of_write, read_of, write_of}
-use Rattle.lex_max.specs.Edges.{write_rows, AreLevelRows}
-use Rattle.lex_max.specs.Facts.{form_parts, IsFact}
+use Rattle.difference_graphs.specs.Asked.{depth_of_read, depth_of_write, read_of, write_of}
+use Rattle.difference_graphs.specs.Edges.{write_rows, AreLevelRows}
+use Rattle.difference_graphs.specs.Facts.{form_parts, IsFact}
 use Rattle.lex_max.specs.Leaves.{AreShown, IsLeafOf}
-use Rattle.lex_max.specs.Level.{common_of}
-use Rattle.lex_max.specs.Paths.{term_of, terms_from, IsPath}
-use Rattle.lex_max.specs.Simple.{IsLightSum}
-use Rattle.lex_max.specs.declared.edges.Edge.{Edge}
-use Rattle.lex_max.specs.declared.writes.Writes.{Writes}
+use Rattle.difference_graphs.specs.Level.{common_of}
+use Rattle.difference_graphs.specs.Paths.{term_of, terms_from, IsPath}
+use Rattle.difference_graphs.specs.Simple.{IsLightSum}
+use Rattle.difference_graphs.specs.declared.edges.Edge.{Edge}
+use Rattle.difference_graphs.specs.declared.writes.Writes.{Writes}
 use Rattle.lex_max.proofs.PointSystems.{Opposes}
-use Rattle.lex_max.proofs.ProblemBounds.{asked_fits, IsKnown}
+use Rattle.difference_graphs.proofs.ProblemBounds.{common_same, asked_fits, IsKnown}
 use Rattle.lex_max.proofs.LeafParts.{less_opposes, place_taken, shown_refuted}
 use Rattle.lex_max.proofs.Levels.{later_row, of_level, same_at, sooner_row, AreOfLevel}
-use Rattle.lex_max.proofs.Differences.{past_part}
-use Rattle.lex_max.proofs.OrderEdges.{length_variables, reader_at, variable_at}
-use Rattle.lex_max.proofs.ZeroSystems.{variables_taken, IsPlaced}
-use Rattle.lex_max.proofs.EdgeSums.{cycle_shows, over_append, weight_few, weight_from, whole_over}
-use Rattle.lex_max.proofs.EdgeSums.{whole_within, IsBase}
-use Rattle.lex_max.proofs.RowBounds.{are_made, forms_append, level_at, most_made, small_append, small_equal, AreMade}
-use Rattle.lex_max.proofs.RowBounds.{AreSmall, AreTaken, IsSmallLevel}
+use Rattle.difference_graphs.proofs.Differences.{past_part}
+use Rattle.difference_graphs.proofs.OrderEdges.{length_variables, reader_at, variable_at}
+use Rattle.difference_graphs.proofs.ZeroSystems.{variables_taken, IsPlaced}
+use Rattle.difference_graphs.proofs.EdgeSums.{cycle_shows, over_append, weight_few, weight_from, whole_over}
+use Rattle.difference_graphs.proofs.EdgeSums.{whole_within, IsBase}
+use Rattle.difference_graphs.proofs.RowBounds.{are_made, forms_append, level_at, most_made, small_append, small_equal, AreMade}
+use Rattle.difference_graphs.proofs.RowBounds.{AreSmall, AreTaken, IsSmallLevel}
 use Rattle.plain_data.proofs.Lists.{slice_get-some, slice_get-append_right}
 use Rattle.row_sums.specs.Made.{parts_of}
 use Rattle.row_sums.specs.Parts.{Part, the_constant, the_coefficient, part_of, row_part, weight, IsWithin}
@@ -75,11 +74,6 @@ strict_opposes a b = record { negative = omega (arith, ints); no_variable = λ i
 
 later_opposes : (a b : RowExpr) → Opposes (parts_of (one_less (minus b a))) (parts_of (minus a b))
 later_opposes a b = record { negative = omega (arith, ints); no_variable = λ i. omega (arith, ints) }
-
--- how many loops two statements have in common doesn't depend on their order
-pub common_same : (ks : List ℕ) → common_loops ks ks ≡ length ks
-common_same [] = refl
-common_same (k ∷ ks) = ap (λ b. cond b (suc (common_loops ks ks)) 0) (eq-eqb k k refl) ∙ ap suc (common_same ks)
 
 module _ (w : Writes) (c : Context) (context : System) (place : List Form) (here : ℕ)
     (leaf : IsLeafOf w c context place here) (level : List RowExpr) (certs : List (List Term))

@@ -14,22 +14,22 @@ use Rattle.std.proofs.lemmas.Option.{same_Some, slice_get_within}
 use Rattle.affine_core.specs.declared.form.Form.{Form}
 use Rattle.int_polyhedra.specs.declared.system.System.{System}
 use Rattle.int_polyhedra.specs.declared.system.Term.{Term}
-use Rattle.lex_max.specs.Asked.{depth_of_write}
+use Rattle.difference_graphs.specs.Asked.{depth_of_write}
 use Rattle.lex_max.specs.Choices.{chosen_place, upper_of, uppers_of, AreChoices, AreChosen, AreReady}
-use Rattle.lex_max.specs.Closed.{bound_at, number_parts, value_at, value_of, IsBound}
-use Rattle.lex_max.specs.Edges.{IsEdge}
-use Rattle.lex_max.specs.Facts.{form_parts}
+use Rattle.difference_graphs.specs.Closed.{bound_at, number_parts, value_at, value_of, IsBound}
+use Rattle.difference_graphs.specs.Edges.{IsEdge}
+use Rattle.difference_graphs.specs.Facts.{form_parts}
 use Rattle.lex_max.specs.Leaves.{IsPlaceOf}
-use Rattle.lex_max.specs.Paths.{term_of, IsPath}
-use Rattle.lex_max.specs.declared.closure.Bound.{Bound}
-use Rattle.lex_max.specs.declared.closure.Bounds.{Bounds}
+use Rattle.difference_graphs.specs.Paths.{term_of, IsPath}
+use Rattle.difference_graphs.specs.declared.closure.Bound.{Bound}
+use Rattle.difference_graphs.specs.declared.closure.Bounds.{Bounds}
 use Rattle.lex_max.specs.declared.decide.Choice.{Choice}
-use Rattle.lex_max.specs.declared.edges.Edge.{Edge}
-use Rattle.lex_max.specs.declared.writes.Writes.{Writes}
-use Rattle.lex_max.proofs.OrderEdges.{raised_part}
-use Rattle.lex_max.proofs.ZeroCycles.{raised_within}
+use Rattle.difference_graphs.specs.declared.edges.Edge.{Edge}
+use Rattle.difference_graphs.specs.declared.writes.Writes.{Writes}
+use Rattle.difference_graphs.proofs.OrderEdges.{raised_part}
+use Rattle.difference_graphs.proofs.ZeroCycles.{raised_within}
 use Rattle.lex_max.proofs.Uppers.{choice_is, is_upper, IsUpper}
-use Rattle.lex_max.proofs.PathSums.{path_edge, path_join, path_same}
+use Rattle.difference_graphs.proofs.PathSums.{path_edge, path_join, path_same}
 use Rattle.plain_data.proofs.Lists.{All-slice_get}
 use Rattle.row_sums.specs.Parts.{Part, part_of, weight, IsWithin}
 use Rattle.row_sums.proofs.Weights.{weight_sum}

@@ -22,25 +22,27 @@ use Rattle.int_polyhedra.specs.declared.system.Term.{Term}
 use Rattle.int_polyhedra.specs.Steps.{negation_of}
 use Rattle.int_polyhedra.specs.Systems.{AreOver}
 use Rattle.int_polyhedra.proofs.Variables.{length_zeros}
-use Rattle.lex_max.specs.Answer.{IsContextOf, IsContradiction, IsCycle}
-use Rattle.lex_max.specs.Asked.{depth_of_write, IsAsked}
+use Rattle.lex_max.specs.Answer.{IsContextOf}
+use Rattle.difference_graphs.specs.Cycles.{IsContradiction, IsCycle}
+use Rattle.difference_graphs.specs.Asked.{depth_of_write, IsAsked}
 use Rattle.lex_max.specs.Choices.{choices_left, upper_of, uppers_from, uppers_of, AllNone, AreCerts}
 use Rattle.lex_max.specs.Choices.{AreCertsSoFar, AreChoices, AreChosen, AreNoLess, AreReady, IsChoice, IsChoosing}
 use Rattle.lex_max.specs.Choices.{IsNextChoice, with_terms}
-use Rattle.lex_max.specs.Edges.{edge_parts}
-use Rattle.lex_max.specs.Facts.{form_parts, IsContext, IsFact}
-use Rattle.lex_max.specs.Paths.{term_of}
-use Rattle.lex_max.specs.declared.closure.Bounds.{Bounds}
-use Rattle.lex_max.specs.declared.cycles.Cycle.{Cycle}
+use Rattle.difference_graphs.specs.Edges.{edge_parts}
+use Rattle.difference_graphs.specs.Facts.{form_parts, IsContext, IsFact}
+use Rattle.difference_graphs.specs.Paths.{term_of}
+use Rattle.difference_graphs.specs.declared.closure.Bounds.{Bounds}
+use Rattle.difference_graphs.specs.declared.cycles.Cycle.{Cycle}
 use Rattle.lex_max.specs.declared.decide.Choice.{Choice}
-use Rattle.lex_max.specs.declared.edges.Edge.{Edge}
-use Rattle.lex_max.specs.declared.writes.Writes.{Writes}
-use Rattle.lex_max.proofs.LeastForm.{choice_behind, choices_behind, choices_push, fact_behind, fact_same, fact_weaker}
+use Rattle.difference_graphs.specs.declared.edges.Edge.{Edge}
+use Rattle.difference_graphs.specs.declared.writes.Writes.{Writes}
+use Rattle.lex_max.proofs.LeastForm.{choice_behind, choices_behind, choices_push}
+use Rattle.difference_graphs.proofs.FactSums.{fact_behind, fact_same, fact_weaker}
 use Rattle.lex_max.proofs.LeastForm.{kept_none, kept_some, switched_to}
-use Rattle.lex_max.proofs.ProblemBounds.{asked_fits}
-use Rattle.lex_max.proofs.EdgeSums.{over_append}
-use Rattle.lex_max.proofs.ZeroCycles.{opposite_coefficient, opposite_constant, opposite_contradicts}
-use Rattle.lex_max.proofs.Small.{negative_over, opposite_fits, opposite_form, opposite_within}
+use Rattle.difference_graphs.proofs.ProblemBounds.{asked_fits}
+use Rattle.difference_graphs.proofs.EdgeSums.{over_append}
+use Rattle.difference_graphs.proofs.ZeroCycles.{opposite_coefficient, opposite_constant, opposite_contradicts}
+use Rattle.difference_graphs.proofs.Small.{negative_over, opposite_fits, opposite_form, opposite_within}
 use Rattle.lex_max.proofs.Uppers.{has_upper, HasUpper}
 use Rattle.plain_data.proofs.Lists.{slice_get_push, slice_get-append_cons, All-slice_get}
 use Rattle.row_sums.specs.Parts.{Part, the_constant, the_coefficient, part_of, row_part, IsWithin}

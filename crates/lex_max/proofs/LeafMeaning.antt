@@ -20,22 +20,22 @@ use Rattle.int_polyhedra.specs.declared.system.Term.{Term}
 use Rattle.int_polyhedra.specs.Systems.{AreOver, Meets}
 use Rattle.sanlp.specs.Order.{PrecedesWithin}
 use Rattle.lex_max.specs.Answer.{IsContextOf}
-use Rattle.lex_max.specs.Asked.{depth_of_read, depth_of_write, read_of, write_of}
+use Rattle.difference_graphs.specs.Asked.{depth_of_read, depth_of_write, read_of, write_of}
 use Rattle.lex_max.specs.Choices.{AreCerts}
-use Rattle.lex_max.specs.Edges.{edge_parts, write_rows, AreEdges, AreLevelRows}
-use Rattle.lex_max.specs.Facts.{form_parts}
-use Rattle.lex_max.specs.Level.{common_of, IsGreatest, WritesBefore}
-use Rattle.lex_max.specs.Paths.{terms_from, IsPath}
-use Rattle.lex_max.specs.Rounds.{IsGraphOf}
-use Rattle.lex_max.specs.declared.edges.Edge.{Edge}
-use Rattle.lex_max.specs.declared.writes.Writes.{Writes}
-use Rattle.lex_max.proofs.Differences.{past_part}
-use Rattle.lex_max.proofs.ProblemBounds.{asked_fits, IsKnown}
+use Rattle.difference_graphs.specs.Edges.{edge_parts, write_rows, AreEdges, AreLevelRows}
+use Rattle.difference_graphs.specs.Facts.{form_parts}
+use Rattle.difference_graphs.specs.Level.{common_of, IsGreatest, WritesBefore}
+use Rattle.difference_graphs.specs.Paths.{terms_from, IsPath}
+use Rattle.difference_graphs.specs.Rounds.{IsGraphOf}
+use Rattle.difference_graphs.specs.declared.edges.Edge.{Edge}
+use Rattle.difference_graphs.specs.declared.writes.Writes.{Writes}
+use Rattle.difference_graphs.proofs.Differences.{past_part}
+use Rattle.difference_graphs.proofs.ProblemBounds.{asked_fits, IsKnown}
 use Rattle.lex_max.proofs.RowMeaning.{all_met, all_over_rows, all_rows, base, j_is, no_later, system}
-use Rattle.lex_max.proofs.OrderEdges.{length_variables, variable_at, variable_over, variable_within}
-use Rattle.lex_max.proofs.EdgeSums.{cycle_shows}
+use Rattle.difference_graphs.proofs.OrderEdges.{length_variables, variable_at, variable_over, variable_within}
+use Rattle.difference_graphs.proofs.EdgeSums.{cycle_shows}
 use Rattle.lex_max.proofs.RowValues.{made_at, met_domain, taken_value, taken_values}
-use Rattle.lex_max.proofs.RowBounds.{most_made, most_taken, small_minus, AreSmall, IsSmallRow, IsTaken}
+use Rattle.difference_graphs.proofs.RowBounds.{most_made, most_taken, small_minus, AreSmall, IsSmallRow, IsTaken}
 use Rattle.plain_data.proofs.Options.{option_map-some}
 use Rattle.row_sums.specs.Made.{parts_of}
 use Rattle.row_sums.proofs.MadeLaws.{IsMade}

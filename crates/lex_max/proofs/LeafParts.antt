@@ -17,16 +17,16 @@ use Rattle.int_polyhedra.specs.declared.system.Proof.TheVariants.{Sum}
 use Rattle.int_polyhedra.specs.declared.system.System.{System}
 use Rattle.int_polyhedra.specs.declared.system.Term.{Term}
 use Rattle.sanlp.specs.WellFormed.{form_fits}
-use Rattle.lex_max.specs.Asked.{depth_of_write, IsCell}
-use Rattle.lex_max.specs.Facts.{IsFact}
+use Rattle.difference_graphs.specs.Asked.{depth_of_write, IsCell}
+use Rattle.difference_graphs.specs.Facts.{IsFact}
 use Rattle.lex_max.specs.Leaves.{AddsProofs, IsLeafOf}
-use Rattle.lex_max.specs.Paths.{term_of}
-use Rattle.lex_max.specs.Simple.{IsLightSum}
-use Rattle.lex_max.specs.declared.writes.Writes.{Writes}
+use Rattle.difference_graphs.specs.Paths.{term_of}
+use Rattle.difference_graphs.specs.Simple.{IsLightSum}
+use Rattle.difference_graphs.specs.declared.writes.Writes.{Writes}
 use Rattle.lex_max.proofs.PointSystems.{added_refuted, Opposes}
-use Rattle.lex_max.proofs.ProblemBounds.{form_is}
-use Rattle.lex_max.proofs.RowBounds.{farther_row, minus_row, most_made, most_placed, most_taken, one_less_row, placed_row}
-use Rattle.lex_max.proofs.RowBounds.{read_taken, taken_row, AreSmall, AreTaken, IsSmallRow}
+use Rattle.difference_graphs.proofs.ProblemBounds.{form_is}
+use Rattle.difference_graphs.proofs.RowBounds.{farther_row, minus_row, most_made, most_placed, most_taken, one_less_row, placed_row}
+use Rattle.difference_graphs.proofs.RowBounds.{read_taken, taken_row, AreSmall, AreTaken, IsSmallRow}
 use Rattle.row_sums.specs.Made.{parts_of}
 use Rattle.row_sums.specs.Parts.{Part, IsWithin}
 use Rattle.row_sums.proofs.Weights.{weight_sum}

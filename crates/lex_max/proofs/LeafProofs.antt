@@ -21,28 +21,28 @@ use Rattle.sanlp.specs.Order.{common_loops}
 use Rattle.sanlp.specs.WellFormed.{form_fits}
 use Rattle.sanlp.proofs.Precedence.{common_loops-comm}
 use Rattle.lex_max.specs.Answer.{IsContextOf}
-use Rattle.lex_max.specs.Asked.{depth_of_read, depth_of_write, read_of, write_of, AreCells, IsAsked}
+use Rattle.difference_graphs.specs.Asked.{depth_of_read, depth_of_write, read_of, write_of, AreCells, IsAsked}
 use Rattle.lex_max.specs.Choices.{AreCerts}
-use Rattle.lex_max.specs.Edges.{edge_parts, write_rows, AreEdges}
+use Rattle.difference_graphs.specs.Edges.{edge_parts, write_rows, AreEdges}
 use Rattle.lex_max.specs.Leaves.{after_levels, AddsProofs, AreOrderCerts, AreShown, HasAfter, IsAfterProof, IsLeafOf}
 use Rattle.lex_max.specs.Leaves.{IsPlaceOf}
-use Rattle.lex_max.specs.Level.{common_of}
-use Rattle.lex_max.specs.Paths.{term_of}
-use Rattle.lex_max.specs.Rounds.{IsGraphOf}
-use Rattle.lex_max.specs.Simple.{IsLightSum}
-use Rattle.lex_max.specs.declared.edges.Edge.{Edge}
-use Rattle.lex_max.specs.declared.writes.Writes.{Writes}
+use Rattle.difference_graphs.specs.Level.{common_of}
+use Rattle.difference_graphs.specs.Paths.{term_of}
+use Rattle.difference_graphs.specs.Rounds.{IsGraphOf}
+use Rattle.difference_graphs.specs.Simple.{IsLightSum}
+use Rattle.difference_graphs.specs.declared.edges.Edge.{Edge}
+use Rattle.difference_graphs.specs.declared.writes.Writes.{Writes}
 use Rattle.lex_max.proofs.After.{after_above, after_at, after_below, place_taken_here, readers_taken}
 use Rattle.lex_max.proofs.After.{same_refuted, swapped_is}
-use Rattle.lex_max.proofs.LeastForm.{fact_same}
-use Rattle.lex_max.proofs.ProblemBounds.{asked_fits, IsKnown}
+use Rattle.difference_graphs.proofs.FactSums.{fact_same}
+use Rattle.difference_graphs.proofs.ProblemBounds.{asked_fits, IsKnown}
 use Rattle.lex_max.proofs.LeafParts.{adds_more_proofs, adds_no_proofs, adds_one_proof, cell_next, outside_next}
 use Rattle.lex_max.proofs.LeafParts.{place_taken}
 use Rattle.lex_max.proofs.Levels.{of_level, AreOfLevel}
-use Rattle.lex_max.proofs.RowMeaning.{taken_all}
-use Rattle.lex_max.proofs.OrderEdges.{length_variables}
-use Rattle.lex_max.proofs.ZeroSystems.{level_exists, variables_taken}
-use Rattle.lex_max.proofs.RowBounds.{level_at, IsSmallLevel}
+use Rattle.difference_graphs.proofs.MadeRows.{taken_all}
+use Rattle.difference_graphs.proofs.OrderEdges.{length_variables}
+use Rattle.difference_graphs.proofs.ZeroSystems.{level_exists, variables_taken}
+use Rattle.difference_graphs.proofs.RowBounds.{level_at, IsSmallLevel}
 use Rattle.plain_data.proofs.Lists.{slice_get-some}
 use Rattle.row_sums.specs.Made.{parts_of}
 use Rattle.source_tree.specs.Checked.{IsRefuted}

@@ -3,7 +3,7 @@
 -- One form is the least so far, and for each form that was looked at there are terms that show that it is no less.
 -- Where the next form is less, the terms that show that the old one is no less than it are added to all. It isn't said
 -- that the chosen form is the least for another reason than these terms; they are all that a leaf needs.
-use Rattle.std.proofs.Common.{◌≡◌, ◌+◌, ◌*◌, ◌≤◌, ℕ, zero, suc, ◌+ℤ◌, ◌-ℤ◌, ◌≤ℤ◌, List, [], ◌∷◌, ◌++◌}
+use Rattle.std.proofs.Common.{◌≡◌, ◌+◌, ◌*◌, ◌≤◌, ℕ, zero, suc, ◌+ℤ◌, ◌-ℤ◌, List, [], ◌∷◌, ◌++◌}
 use Rattle.std.proofs.Common.{length, map, refl, sym, ap, ◌∙◌, subst, arith}
 use Rattle.std.specs.Prelude.{Option, Some, None, slice_get}
 use Rattle.std.proofs.lemmas.Int.{ints}
@@ -13,43 +13,11 @@ use Rattle.affine_core.specs.declared.form.Form.{Form}
 use Rattle.int_polyhedra.specs.declared.system.System.{System}
 use Rattle.int_polyhedra.specs.declared.system.Term.{Term}
 use Rattle.lex_max.specs.Choices.{AreChoices, AreNoLess, IsChoice, uppers_of, with_terms}
-use Rattle.lex_max.specs.Facts.{form_parts, IsFact}
-use Rattle.lex_max.specs.declared.closure.Bounds.{Bounds}
+use Rattle.difference_graphs.specs.Facts.{form_parts, IsFact}
+use Rattle.difference_graphs.specs.declared.closure.Bounds.{Bounds}
+use Rattle.difference_graphs.proofs.FactSums.{fact_behind, fact_same, fact_sum}
 use Rattle.lex_max.specs.declared.decide.Choice.{Choice}
-use Rattle.lex_max.specs.declared.edges.Edge.{Edge}
-use Rattle.row_sums.specs.Parts.{Part, the_constant, the_coefficient}
-use Rattle.row_sums.specs.Shown.{RowParts}
-use Rattle.row_sums.proofs.SumAlgebra.{combines}
-use Rattle.row_sums.proofs.Weights.{weight_sum}
-
--- Facts
-
-pub fact_sum : (context : System) (m n : ℕ) (a b : RowParts) (ts us : List Term) → IsFact context m a ts
-    → IsFact context n b us → IsFact context (m + n) (λ part. a part +ℤ b part) (ts ++ us)
-fact_sum context m n a b ts us h k = record {
-  shows = (combines context.vars context.rows).sum ts us a b h.shows k.shows;
-  light = omega (arith, weight_sum ts us, h.light, k.light);
-}
-
-pub fact_weaker : (context : System) (m n : ℕ) (a b : RowParts) (ts : List Term) → m ≤ n
-    → a the_constant ≤ℤ b the_constant → ((i : ℕ) → a (the_coefficient i) ≡ b (the_coefficient i))
-    → IsFact context m a ts → IsFact context n b ts
-fact_weaker context m n a b ts le low same h = record {
-  shows = (combines context.vars context.rows).weaker ts a b h.shows low (λ i l. same i);
-  light = omega (arith, h.light, le);
-}
-
-pub fact_same : (context : System) (m : ℕ) (a b : RowParts) (ts : List Term) → ((part : Part) → a part ≡ b part)
-    → IsFact context m a ts → IsFact context m b ts
-fact_same context m a b ts same h = fact_weaker context m m a b ts (omega arith)
-    (omega (arith, ints, same the_constant)) (λ i. same (the_coefficient i)) h
-
--- rows added behind change nothing
-pub fact_behind : (context more : System) (m : ℕ) (a : RowParts) (ts : List Term) (row : Form) → more
-    ≡ record context { rows = context.rows ++ row ∷ [] } → IsFact context m a ts → IsFact more m a ts
-fact_behind context more m a ts row is h =
-    subst (λ more. IsFact more m a ts) (sym is)
-    (record { shows = (combines context.vars context.rows).behind (row ∷ []) ts a h.shows; light = h.light })
+use Rattle.difference_graphs.specs.declared.edges.Edge.{Edge}
 
 -- Lists of terms
 

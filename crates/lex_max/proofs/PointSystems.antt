@@ -15,11 +15,11 @@ use Rattle.int_polyhedra.specs.declared.system.Proof.TheVariants.{Sum}
 use Rattle.int_polyhedra.specs.declared.system.System.{System}
 use Rattle.int_polyhedra.specs.declared.system.Term.{Term}
 use Rattle.int_polyhedra.specs.Systems.{AreOver}
-use Rattle.lex_max.specs.Facts.{IsFact}
+use Rattle.difference_graphs.specs.Facts.{IsFact}
 use Rattle.lex_max.specs.Leaves.{IsMadeFrom}
-use Rattle.lex_max.specs.Paths.{term_of}
-use Rattle.lex_max.proofs.EdgeSums.{over_append, weight_few}
-use Rattle.lex_max.proofs.RowBounds.{are_made, forms_append, most_made, AreMade, AreSmall}
+use Rattle.difference_graphs.specs.Paths.{term_of}
+use Rattle.difference_graphs.proofs.EdgeSums.{over_append, weight_few}
+use Rattle.difference_graphs.proofs.RowBounds.{are_made, forms_append, most_made, AreMade, AreSmall}
 use Rattle.plain_data.proofs.Lists.{slice_get-append_right}
 use Rattle.row_sums.specs.Made.{parts_of}
 use Rattle.row_sums.specs.Parts.{Part, the_constant, the_coefficient, part_of, row_part, weight, IsWithin}

@@ -7,8 +7,7 @@
 use Rattle.std.proofs.Common.{◌≡◌, ◌+◌, ◌<◌, ◌==◌, ℕ, zero, suc, ℤ, pos, ◌≤ℤ◌, ◌<ℤ◌, List, [], ◌∷◌, ◌++◌, length}
 use Rattle.std.proofs.Common.{map, take, false, refl, sym, ap, ◌∙◌, subst, arith, inl, inr, ◌⊎◌}
 use Rattle.std.proofs.Common.{length-append, eqb-true}
-use Rattle.std.specs.Prelude.{Some, All, slice_index_or, nat_lt, IsTrue}
-use Rattle.std.specs.Option.{option_and_then}
+use Rattle.std.specs.Prelude.{All, slice_index_or, nat_lt, IsTrue}
 use Rattle.std.proofs.lemmas.Int.{ints, by_lt_z}
 use Rattle.std.proofs.lemmas.List.{append-nil, take-take}
 use Rattle.std.proofs.lemmas.List.Elements.{All-append, All-nil, All-cons}
@@ -25,36 +24,29 @@ use Rattle.int_polyhedra.proofs.ProofRules.{follows_refuted}
 use Rattle.int_polyhedra.proofs.Soundness.{no_point}
 use Rattle.sanlp.specs.Loops.{all_hold}
 use Rattle.sanlp.specs.Order.{PrecedesWithin}
-use Rattle.lex_max.specs.Answer.{IsContextOf, IsContradiction}
-use Rattle.lex_max.specs.Asked.{depth_of_read, depth_of_write, read_of, write_of, AreCells}
-use Rattle.lex_max.specs.Edges.{write_rows}
-use Rattle.lex_max.specs.Level.{common_of, WritesBefore}
-use Rattle.lex_max.specs.Paths.{terms_from}
-use Rattle.lex_max.specs.Rounds.{IsGraphOf}
-use Rattle.lex_max.specs.declared.edges.Edge.{Edge}
-use Rattle.lex_max.specs.declared.writes.Writes.{Writes}
-use Rattle.lex_max.proofs.ProblemBounds.{asked_fits, IsKnown}
-use Rattle.lex_max.proofs.ZeroSystems.{placed, IsPlaced}
-use Rattle.lex_max.proofs.EdgeSums.{cycle_refutes, whole_over, IsBase}
-use Rattle.lex_max.proofs.TestTrees.{taken_made}
+use Rattle.lex_max.specs.Answer.{IsContextOf}
+use Rattle.difference_graphs.specs.Cycles.{IsContradiction}
+use Rattle.difference_graphs.specs.Asked.{depth_of_read, depth_of_write, read_of, write_of, AreCells}
+use Rattle.difference_graphs.specs.Edges.{write_rows}
+use Rattle.difference_graphs.specs.Level.{common_of, WritesBefore}
+use Rattle.difference_graphs.specs.Paths.{terms_from}
+use Rattle.difference_graphs.specs.Rounds.{IsGraphOf}
+use Rattle.difference_graphs.specs.declared.edges.Edge.{Edge}
+use Rattle.difference_graphs.specs.declared.writes.Writes.{Writes}
+use Rattle.difference_graphs.proofs.ProblemBounds.{asked_fits, IsKnown}
+use Rattle.difference_graphs.proofs.ZeroSystems.{placed, IsPlaced}
+use Rattle.difference_graphs.proofs.MadeRows.{taken_all}
+use Rattle.difference_graphs.proofs.EdgeSums.{cycle_refutes, whole_over, IsBase}
 use Rattle.lex_max.proofs.RowValues.{domain_met, level_met, met_made, taken_value, taken_values}
 use Rattle.lex_max.proofs.RowValues.{widened_met}
 use Rattle.source_tree.specs.Gives.{values}
 use Rattle.source_tree.specs.Places.{cell_rows, domain_rows, variables}
-use Rattle.source_tree.specs.Rows.{Take, row_forms}
+use Rattle.source_tree.specs.Rows.{Take}
 use Rattle.source_tree.specs.Systems.{Context, reader_place, writer_place}
 use Rattle.source_tree.proofs.Gives.{values-variables}
 use Rattle.source_tree.proofs.MetRows.{AreMet, AreMet-append, AreMet-cell_rows}
 
 -- rows as they are
-pub taken_all : (vars : ℕ) (rows : List Form) → AreOver vars rows → row_forms vars (map Take rows) ≡ Some rows
-taken_all vars [] h = refl
-taken_all vars (row ∷ rows) h =
-    let b = and_parts (length row.coefs == vars) (all_over vars rows) h in
-    ap (option_and_then (λ row. option_and_then (λ rest. Some (row ∷ rest)) (row_forms vars (map Take rows))))
-    (taken_made vars row (eqb-true (length row.coefs) vars b.0))
-    ∙ ap (option_and_then (λ rest. Some (row ∷ rest))) (taken_all vars rows b.1)
-
 pub each_over : (vars m : ℕ) (rows : List Form) → vars ≡ m → AreOver vars rows → All (λ row. length row.coefs ≡ m) rows
 each_over vars m [] e h = All-nil _
 each_over vars m (row ∷ rows) e h =

@@ -4,72 +4,36 @@
 -- meets one of both, by the sign of the form there. So the tree gives what the side's tree gives, and is checked where
 -- both are. The rows are made in any context that is made as this one, since a form over the reader's variables is
 -- made as it is.
-use Rattle.std.proofs.Common.{◌≡◌, ◌+◌, ◌-◌, ◌^◌, ◌≤◌, ℕ, ℤ, pos, negsuc, ◌≤ℤ◌, List, [], ◌∷◌, ◌++◌}
-use Rattle.std.proofs.Common.{length, replicate, Bool, true, false, cond, refl, sym, ap, ◌∙◌, subst, arith}
-use Rattle.std.specs.Prelude.{Some, None, int_le}
-use Rattle.std.specs.Option.{option_and_then}
-use Rattle.std.proofs.lemmas.Bool.{le-leb}
+use Rattle.std.proofs.Common.{◌≡◌, ◌+◌, ◌-◌, ◌^◌, ◌≤◌, ℕ, ℤ, pos, ◌≤ℤ◌, List, [], ◌∷◌, ◌++◌}
+use Rattle.std.proofs.Common.{length, Bool, true, false, cond, refl, sym, ap, ◌∙◌, subst, arith}
+use Rattle.std.specs.Prelude.{Some, int_le}
 use Rattle.std.proofs.lemmas.Int.{ints}
-use Rattle.std.proofs.lemmas.List.{append-nil}
 use Rattle.std.proofs.lemmas.List.Elements.{All-append, All-cons, All-nil}
 use Rattle.affine_core.specs.declared.form.Form.{Form}
-use Rattle.affine_core.specs.Affine.{constant_form, form_at, form_product, form_sum, widened_form}
-use Rattle.affine_core.specs.Within.{form_in_128_bits}
+use Rattle.affine_core.specs.Affine.{form_at}
 use Rattle.affine_core.proofs.Integers.{int_le-true, int_le-false}
 use Rattle.int_polyhedra.specs.declared.system.System.{System}
 use Rattle.int_polyhedra.specs.Steps.{negation_of}
 use Rattle.int_polyhedra.specs.Systems.{Meets}
 use Rattle.int_polyhedra.proofs.Soundness.{negation_at}
 use Rattle.lex_max.specs.Answer.{IsAnswer}
-use Rattle.lex_max.specs.Asked.{read_of, write_of}
-use Rattle.lex_max.specs.Level.{IsGreatest}
-use Rattle.lex_max.specs.Simple.{at_test as simple_test}
-use Rattle.lex_max.specs.Systems.{at_test, IsCheckedFor}
-use Rattle.lex_max.specs.declared.writes.Writes.{Writes}
-use Rattle.lex_max.proofs.RowBounds.{forms_append}
+use Rattle.difference_graphs.proofs.MadeRows.{more_made, opposite_made, taken_made}
+use Rattle.difference_graphs.specs.Asked.{read_of, write_of}
+use Rattle.difference_graphs.specs.Level.{IsGreatest}
+use Rattle.difference_graphs.specs.Simple.{at_test as simple_test}
+use Rattle.difference_graphs.specs.Systems.{at_test, IsCheckedFor}
+use Rattle.difference_graphs.specs.declared.writes.Writes.{Writes}
 use Rattle.row_sums.specs.Parts.{IsWithin}
 use Rattle.source_tree.specs.Gives.{gives}
-use Rattle.source_tree.specs.Rows.{RowExpr, Take, below_zero, number, row_form, row_forms}
+use Rattle.source_tree.specs.Rows.{Take, below_zero, row_forms}
 use Rattle.source_tree.specs.Systems.{Context, test_no, test_yes}
 use Rattle.source_tree.specs.declared.tree.Tree.{Tree}
 use Rattle.source_tree.specs.declared.tree.Tree.TheViews.{Test}
 use Rattle.source_tree.proofs.Gives.{gives-Test}
-use Rattle.source_tree.proofs.RowLists.{row_form-number}
 
 -- What each kind of tree gives
 
 -- The rows of a Test, as they are made
-
-pub widened_same : (vars : ℕ) (f : Form) → length f.coefs ≡ vars → widened_form vars f ≡ f
-widened_same vars f e =
-    let none : vars - length f.coefs ≡ 0 = omega (arith, e) in
-    ap (λ n. record f { coefs = f.coefs ++ replicate n (pos 0) }) none
-    ∙ ap (λ cs. record f { coefs = cs }) (append-nil f.coefs)
-
-pub taken_made : (vars : ℕ) (f : Form) → length f.coefs ≡ vars → row_form vars (Take f) ≡ Some f
-taken_made vars f e =
-    let le : length f.coefs ≤ vars = omega (arith, e) in
-    ap (λ b. cond b (Some (widened_form vars f)) None) (le-leb (length f.coefs) vars le)
-    ∙ ap Some (widened_same vars f e)
-
-pub opposite_made : (vars : ℕ) (f other : Form) → length f.coefs ≡ vars → negation_of f ≡ Some other
-    → row_form vars (below_zero (Take f)) ≡ Some other
-opposite_made vars f other e is =
-    ap (λ o. option_and_then
-    (λ left. option_and_then (λ right. form_in_128_bits (form_sum left right)) (row_form vars (number (negsuc 0))))
-    (option_and_then (λ form. form_in_128_bits (form_product (negsuc 0) form)) o)) (taken_made vars f e)
-    ∙ ap (λ o. option_and_then (λ left. option_and_then (λ right. form_in_128_bits (form_sum left right)) o)
-    (form_in_128_bits (form_product (negsuc 0) f))) (row_form-number vars (negsuc 0))
-    ∙ ap (λ n. option_and_then (λ left. form_in_128_bits (form_sum left (constant_form n (negsuc 0))))
-    (form_in_128_bits (form_product (negsuc 0) f))) (sym e)
-    ∙ is
-
-one_form : (vars : ℕ) (e : RowExpr) (f : Form) → row_form vars e ≡ Some f → row_forms vars (e ∷ []) ≡ Some (f ∷ [])
-one_form vars e f is = ap (option_and_then (λ row. option_and_then (λ rest. Some (row ∷ rest)) (Some []))) is
-
-pub more_made : (c : Context) (rows : List Form) (e : RowExpr) (f : Form) → row_forms c.vars c.rows ≡ Some rows
-    → row_form c.vars e ≡ Some f → row_forms c.vars (c.rows ++ e ∷ []) ≡ Some (rows ++ f ∷ [])
-more_made c rows e f is one = forms_append c.vars c.rows (e ∷ []) rows (f ∷ []) is (one_form c.vars e f one)
 
 meets_more : (rows : List Form) (row : Form) (x : List ℤ) → Meets rows x → pos 0 ≤ℤ form_at row x
     → Meets (rows ++ row ∷ []) x

@@ -3,27 +3,29 @@
 -- The leaf's proof takes the terms of the context and, behind it, the rows of the cycle: in the one system that a Zero
 -- leaf of one writer and one level has, these refute. So no point of the writer is left at any point of the reader
 -- that meets the context, and zero is the greatest. A tree with fewer Tests than it may have is an answer as well.
-use Rattle.std.proofs.Common.{◌≡◌, ◌+◌, ◌-◌, ◌^◌, ◌≤◌, ℕ, List, [], ◌∷◌, ◌++◌, length, refl, sym, ap, ◌∙◌, subst}
+use Rattle.std.proofs.Common.{◌≡◌, ◌+◌, ◌^◌, ◌≤◌, ◌<◌, ℕ, List, [], ◌∷◌, ◌++◌, length, refl, sym, ap, ◌∙◌, subst}
 use Rattle.std.proofs.Common.{arith}
-use Rattle.std.proofs.lemmas.List.Elements.{All-nil, All-cons}
+use Rattle.std.specs.Prelude.{All}
+use Rattle.std.proofs.lemmas.List.Elements.{All-nil, All-cons, All-weaker}
 use Rattle.int_polyhedra.specs.declared.system.Proof.{Proof}
 use Rattle.int_polyhedra.specs.declared.system.Proof.TheVariants.{Sum}
 use Rattle.int_polyhedra.specs.declared.system.System.{System}
 use Rattle.int_polyhedra.specs.declared.system.Term.{Term}
 use Rattle.int_polyhedra.specs.Systems.{AreOver}
-use Rattle.lex_max.specs.Answer.{IsAnswer, IsContextOf, IsContradiction}
-use Rattle.lex_max.specs.Asked.{read_of, write_of}
-use Rattle.lex_max.specs.Level.{IsGreatest}
-use Rattle.lex_max.specs.Paths.{terms_from}
-use Rattle.lex_max.specs.Rounds.{IsGraphOf}
-use Rattle.lex_max.specs.Simple.{at_writer, at_zero as simple_zero, IsLightSum, IsSimple}
-use Rattle.lex_max.specs.Simple.{at_test as simple_test}
-use Rattle.lex_max.specs.Systems.{at_zero, none_systems}
-use Rattle.lex_max.specs.declared.edges.Edge.{Edge}
-use Rattle.lex_max.specs.declared.writes.Writes.{Writes}
+use Rattle.lex_max.specs.Answer.{IsAnswer, IsContextOf}
+use Rattle.difference_graphs.specs.Cycles.{IsContradiction}
+use Rattle.difference_graphs.specs.Asked.{read_of, write_of}
+use Rattle.difference_graphs.specs.Level.{IsGreatest}
+use Rattle.difference_graphs.specs.Paths.{terms_from}
+use Rattle.difference_graphs.specs.Rounds.{IsGraphOf}
+use Rattle.difference_graphs.specs.Simple.{at_zero as simple_zero, IsLightSum}
+use Rattle.difference_graphs.proofs.Nodes.{simple_wider}
+use Rattle.difference_graphs.specs.Systems.{at_zero, none_systems}
+use Rattle.difference_graphs.specs.declared.edges.Edge.{Edge}
+use Rattle.difference_graphs.specs.declared.writes.Writes.{Writes}
 use Rattle.lex_max.proofs.RowMeaning.{none_where_refuted}
-use Rattle.lex_max.proofs.ZeroSystems.{none_refuted}
-use Rattle.lex_max.proofs.EdgeSums.{weight_from, IsBase}
+use Rattle.difference_graphs.proofs.ZeroSystems.{none_refuted}
+use Rattle.difference_graphs.proofs.EdgeSums.{weight_from, IsBase}
 use Rattle.row_sums.specs.Parts.{weight}
 use Rattle.row_sums.proofs.Weights.{weight_sum}
 use Rattle.source_tree.specs.Checked.{AreRefuted}
@@ -62,17 +64,6 @@ zero_answer w context edges shown ts terms tree graph of h terms_is is tests =
           (λ j write. none_where_refuted w context edges shown ts graph of h x long meets j write);
     }
 
--- fewer Tests than may be
-pub simple_wider : (m n : ℕ) (tree : Tree) → m ≤ n → IsSimple m tree → IsSimple n tree
-simple_wider m n tree le (at_writer m' tree' s place proofs is within light) =
-    at_writer n tree s place proofs is within light
-simple_wider m n tree le (simple_zero m' tree' proofs is light) = simple_zero n tree proofs is light
-simple_wider m n tree le (simple_test tests tree' form above below is within upper lower) =
-    let k : ℕ = n - 1 in
-    let e : k + 1 ≡ n = omega (arith, le) in
-    subst (λ n. IsSimple n tree) e (simple_test k tree form above below is within
-    (simple_wider tests k above (omega (arith, le)) upper) (simple_wider tests k below (omega (arith, le)) lower))
-
 pub answer_wider : (w : Writes) (context : System) (m n : ℕ) (tree : Tree) → m ≤ n → IsAnswer w context m tree
     → IsAnswer w context n tree
 answer_wider w context m n tree le h =
@@ -81,3 +72,14 @@ answer_wider w context m n tree le h =
 pub context_less : (w : Writes) (context : System) (m n : ℕ) → m ≤ n → IsContextOf w n context → IsContextOf w m context
 context_less w context m n le h =
     record { vars = h.vars; over = h.over; within = h.within; few = omega (arith, h.few, le) }
+
+-- the rows of a contradiction have numbers that can be counted from behind the context
+pub rows_fit : (w : Writes) (context : System) (edges : List Edge) (shown ts : List Term) (first : ℕ)
+    → IsGraphOf w edges → IsContextOf w 0 context
+    → IsContradiction context.vars context.rows edges shown ts → first ≡ length context.rows
+    → All (λ (t : Term). first + t.row < 2 ^ 32) ts
+rows_fit w context edges shown ts first graph of h first_is =
+    let few = graph.graph.few in
+    let count = of.few in
+    All-weaker (λ (t : Term). t.row < length edges) (λ (t : Term). first + t.row < 2 ^ 32)
+    (λ t lt. omega (arith, lt, few, count, first_is)) ts h.cycle.name_edges

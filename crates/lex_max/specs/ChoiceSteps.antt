@@ -4,11 +4,11 @@ use Rattle.affine_core.specs.declared.form.Form.{Form}
 use Rattle.int_polyhedra.specs.declared.system.System.{System}
 use Rattle.int_polyhedra.specs.Steps.{negation_of}
 use Rattle.lex_max.specs.Choices.{IsChoosing, IsNextChoice}
-use Rattle.lex_max.specs.declared.closure.Bounds.{Bounds}
+use Rattle.difference_graphs.specs.declared.closure.Bounds.{Bounds}
 use Rattle.lex_max.specs.declared.decide.Choice.{Choice}
 use Rattle.lex_max.specs.declared.decide.ChoiceStep.{ChoiceStep}
 use Rattle.lex_max.specs.declared.decide.ChoiceStep.TheVariants.{Known, Either}
-use Rattle.lex_max.specs.declared.edges.Edge.{Edge}
+use Rattle.difference_graphs.specs.declared.edges.Edge.{Edge}
 use Rattle.row_sums.specs.Parts.{IsWithin}
 
 -- a form over so many variables with small numbers, as each form that bounds a loop variable is

@@ -6,14 +6,14 @@ use Rattle.int_polyhedra.specs.declared.system.Proof.TheVariants.{Sum}
 use Rattle.int_polyhedra.specs.declared.system.System.{System}
 use Rattle.int_polyhedra.specs.declared.system.Term.{Term}
 use Rattle.int_polyhedra.specs.Systems.{AreOver}
-use Rattle.lex_max.specs.Asked.{depth_of_write, read_of, write_of, IsAsked}
-use Rattle.lex_max.specs.Edges.{AreLevelRows}
-use Rattle.lex_max.specs.Facts.{form_parts, IsFact}
-use Rattle.lex_max.specs.Paths.{term_of, terms_from, IsPath}
-use Rattle.lex_max.specs.Simple.{IsLightSum}
+use Rattle.difference_graphs.specs.Asked.{depth_of_write, read_of, write_of, IsAsked}
+use Rattle.difference_graphs.specs.Edges.{AreLevelRows}
+use Rattle.difference_graphs.specs.Facts.{form_parts, IsFact}
+use Rattle.difference_graphs.specs.Paths.{term_of, terms_from, IsPath}
+use Rattle.difference_graphs.specs.Simple.{IsLightSum}
 use Rattle.lex_max.specs.declared.decide.Choice.{Choice}
-use Rattle.lex_max.specs.declared.edges.Edge.{Edge}
-use Rattle.lex_max.specs.declared.writes.Writes.{Writes}
+use Rattle.difference_graphs.specs.declared.edges.Edge.{Edge}
+use Rattle.difference_graphs.specs.declared.writes.Writes.{Writes}
 use Rattle.row_sums.specs.Made.{parts_of}
 use Rattle.row_sums.specs.Parts.{weight, IsWithin}
 use Rattle.source_tree.specs.Checked.{AreRefuted, IsRefuted}

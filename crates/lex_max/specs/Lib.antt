@@ -1,13 +1,3 @@
-pub mod Class
-pub mod Level
-pub mod Simple
-pub mod Asked
-pub mod Systems
-pub mod Edges
-pub mod Paths
-pub mod Closed
-pub mod Facts
-pub mod Rounds
 pub mod Answer
 pub mod Choices
 pub mod Leaves

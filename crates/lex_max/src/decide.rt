@@ -3,32 +3,31 @@ ghost use Rattle.std.specs.Bool.{OnTrue};
 ghost use Rattle.std.specs.Option.{option_map};
 ghost use Rattle.int_polyhedra.specs.declared.system.System.{System as SystemOf};
 ghost use Rattle.int_polyhedra.specs.declared.system.Term.{Term as TermOf};
-ghost use Rattle.lex_max.specs.declared.closure.Bounds.{Bounds as BoundsOf};
-ghost use Rattle.lex_max.specs.declared.edges.Edge.{Edge as EdgeOf};
-ghost use Rattle.lex_max.specs.Answer.{IsAnswer, IsContextOf, IsCycle};
-ghost use Rattle.lex_max.specs.Asked.{depth_of_write};
+ghost use Rattle.difference_graphs.specs.declared.closure.Bounds.{Bounds as BoundsOf};
+ghost use Rattle.difference_graphs.specs.declared.edges.Edge.{Edge as EdgeOf};
+ghost use Rattle.lex_max.specs.Answer.{IsAnswer, IsContextOf};
+ghost use Rattle.difference_graphs.specs.Cycles.{IsCycle};
+ghost use Rattle.difference_graphs.specs.Asked.{depth_of_write};
 ghost use Rattle.affine_core.specs.declared.form.Form.{Form as FormOf};
 ghost use Rattle.int_polyhedra.specs.Steps.{negation_of};
 ghost use Rattle.lex_max.specs.ChoiceSteps.{IsChoiceStep, IsFollowed, IsSmallForm};
 ghost use Rattle.lex_max.specs.Choices.{chosen_place, choices_left, upper_of, uppers_from, uppers_of, with_terms, AllNone, AreCertsSoFar, AreChosen, AreReady, IsChoosing, IsNextChoice};
-ghost use Rattle.lex_max.specs.Edges.{edge_parts, IsEdge};
+ghost use Rattle.difference_graphs.specs.Edges.{edge_parts, IsEdge};
 ghost use Rattle.lex_max.specs.EdgeStates.{IsEdgeState};
-ghost use Rattle.lex_max.specs.Facts.{form_parts, with_form, IsContext, IsFact};
-ghost use Rattle.lex_max.specs.Paths.{IsPath};
-ghost use Rattle.lex_max.specs.Rounds.{AreClosedOf, IsGraphOf};
+ghost use Rattle.difference_graphs.specs.Facts.{form_parts, with_form, IsContext, IsFact};
+ghost use Rattle.difference_graphs.specs.Paths.{IsPath};
+ghost use Rattle.difference_graphs.specs.Rounds.{AreClosedOf, IsGraphOf};
 ghost use Rattle.row_sums.specs.Parts.{weight, IsWithin, Part};
 
-use crate::closure::{Bounds, form_beyond};
-use crate::cycles::{Cycle, Graph, refuted_by, refuted_leaf, with_row, zero_below};
-use crate::edges::Edge;
-use crate::facts::known;
-use crate::forms::{difference, negative, opposite, sum};
 use crate::leaf::writer_leaf;
-use crate::terms::{append, joined, once};
-use crate::writes::Writes;
+use crate::zeros::{refuted_by, refuted_leaf, zero_below};
 use affine_core::Form;
+use difference_graphs::{
+    Bounds, Cycle, Edge, Graph, Writes, append, difference, form_beyond, joined, known, negative,
+    once, opposite, sum, test, with_row,
+};
 use int_polyhedra::{System, Term};
-use plain_data::{Boxed, Items};
+use plain_data::Items;
 use source_tree::Tree;
 use std::alloc::{AllocError, Global};
 
@@ -56,27 +55,6 @@ pub enum EdgeState {
     Shown(Items<Term>),
     Refuted(Tree),
     Open(Cycle),
-}
-
-/// The Test of a form, its first tree and its second.
-pub fn test(alloc: Global, form: Form, yes: Tree, no: Tree) -> Result<Tree, AllocError>
-    ensures { IfOk result (λ tree. tree ≡ Tree.Test form yes no) }
-{
-    match Boxed::new(alloc, yes) {
-        Ok(yes) => match Boxed::new(alloc, no) {
-            Ok(no) => Ok(Tree::Test(form, yes, no)),
-            Err(error) => {
-                drop(form);
-                drop(yes);
-                Err(error)
-            }
-        },
-        Err(error) => {
-            drop(form);
-            drop(no);
-            Err(error)
-        }
-    }
 }
 
 // The form of the path that begins with this edge from 0 and leads to a variable.

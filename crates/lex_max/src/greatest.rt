@@ -1,19 +1,17 @@
 ghost use Rattle.std.specs.Prelude.{◌≡◌, Some, IfOk};
 ghost use Rattle.lex_max.specs.Answer.{root_of, IsAnswer, IsContextOf};
-ghost use Rattle.lex_max.specs.Asked.{depth_of_read, read_of, write_of, AreAsked, HasLevelOf, IsAsked, WritesArrayOf};
+ghost use Rattle.difference_graphs.specs.Asked.{depth_of_read, read_of, write_of, AreAsked, HasLevelOf, IsAsked, WritesArrayOf};
 ghost use Rattle.lex_max.specs.Choices.{AreReady};
-ghost use Rattle.lex_max.specs.Class.{IsInDifferenceClass};
-ghost use Rattle.lex_max.specs.Level.{common_of, GivesGreatest};
-ghost use Rattle.lex_max.specs.Simple.{IsSimple};
+ghost use Rattle.difference_graphs.specs.Class.{IsInDifferenceClass};
+ghost use Rattle.difference_graphs.specs.Level.{common_of, GivesGreatest};
+ghost use Rattle.difference_graphs.specs.Simple.{IsSimple};
 ghost use Rattle.source_tree.specs.Checked.{IsCheckedIn};
 ghost use Rattle.source_tree.specs.Systems.{just, named_write, read_at, root_context, Occurrence};
 ghost use Rattle.source_tree.specs.References.{occurrence_of};
 
-use crate::closure::{Closure, closure_of};
-use crate::cycles::{Graph, cycles_of, zero_leaf};
 use crate::decide::conditions;
-use crate::edges::edges_of;
-use crate::writes::Writes;
+use crate::zeros::zero_leaf;
+use difference_graphs::{Closure, Graph, Writes, closure_of, cycles_of, edges_of};
 use int_polyhedra::System;
 use plain_data::Items;
 use sanlp::{Nest, common_loops};

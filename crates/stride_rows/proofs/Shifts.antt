@@ -10,7 +10,7 @@ use Rattle.std.proofs.lemmas.Bool.{leb-true, and_parts}
 use Rattle.std.proofs.lemmas.Bool.Decides.{leb_tells}
 use Rattle.std.proofs.lemmas.List.Sums.{sum_by-cons}
 use Rattle.affine_core.specs.declared.form.Form.{Form}
-use Rattle.lex_max.specs.Class.{count_of, is_difference, is_shift, writes_differences, IsInDifferenceClass}
+use Rattle.difference_graphs.specs.Class.{count_of, is_difference, is_shift, writes_differences, IsInDifferenceClass}
 use Rattle.sanlp.specs.declared.nest.Nest.{Nest}
 use Rattle.source_tree.specs.Systems.{Occurrence, array_writes}
 use Rattle.stride_rows.specs.Class.{is_pair, is_single, is_stride, stride_count, variable_count, writes_strides}

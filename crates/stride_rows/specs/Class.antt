@@ -4,7 +4,7 @@ use Rattle.std.specs.Prelude.{◌≡◌, ◌≤◌, ◌==◌, ◌&&◌, ◌||◌
 use Rattle.std.specs.List.{count_by, find, list_all, sum_by}
 use Rattle.std.specs.Ordering.{int_eq}
 use Rattle.affine_core.specs.declared.form.Form.{Form}
-use Rattle.lex_max.specs.Class.{count_of, IsInDifferenceClass}
+use Rattle.difference_graphs.specs.Class.{count_of, IsInDifferenceClass}
 use Rattle.sanlp.specs.declared.nest.Nest.{Nest}
 use Rattle.source_tree.specs.Systems.{Occurrence, array_writes, read_at}
 

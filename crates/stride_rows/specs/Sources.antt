@@ -8,7 +8,7 @@ use Rattle.affine_core.specs.declared.form.Form.{Form}
 use Rattle.int_polyhedra.specs.declared.system.Proof.{Proof}
 use Rattle.int_polyhedra.specs.declared.system.Term.{Term}
 use Rattle.int_polyhedra.specs.Steps.{quotient_row}
-use Rattle.lex_max.specs.Paths.{term_of}
+use Rattle.difference_graphs.specs.Paths.{term_of}
 use Rattle.stride_rows.specs.Class.{is_stride, stride_of}
 use Rattle.stride_rows.specs.Cuts.{converted_sum}
 use Rattle.stride_rows.specs.declared.cuts.Source.{Source}

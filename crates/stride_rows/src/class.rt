@@ -1,7 +1,7 @@
 ghost use Rattle.std.specs.Prelude.{◌≡◌, ◌≤◌, ◌<◌, ◌^◌, ◌↔◌, ◌==◌, ◌&&◌, ◌||◌, not, ℕ, pos, nat_le, nat_lt, unsigned_abs, length, IfSome, IsTrue};
 ghost use Rattle.std.specs.List.{count_by, find, list_all, sum_by};
 ghost use Rattle.std.specs.Ordering.{int_eq};
-ghost use Rattle.lex_max.specs.Class.{count_of as number_count};
+ghost use Rattle.difference_graphs.specs.Class.{count_of as number_count};
 ghost use Rattle.row_sums.specs.Parts.{IsWithin};
 ghost use Rattle.stride_rows.specs.Class.{is_pair as is_pair_of_class, is_single as is_single_of_class, is_stride as is_stride_of_class, stride_count as strides_of, stride_of as stride_of_form, variable_count as variables_of, writes_strides as writes_by_strides, IsInStrideClass};
 ghost use Rattle.source_tree.specs.Systems.{writes_from};

@@ -1,8 +1,8 @@
 ghost use Rattle.std.specs.Prelude.{◌≡◌, ◌<◌, ◌+◌, ◌^◌, ◌++◌, length, slice_index_or, IfOk, OnOk};
 ghost use Rattle.stride_rows.specs.Cuts.{after_cuts, converted_sum, cuts_of, numbers_from, renumbered};
 
-use int_polyhedra::{Proof, Term};
-use plain_data::{Boxed, Items};
+use int_polyhedra::{Proof, Term, by_cut};
+use plain_data::Items;
 use std::alloc::{AllocError, Global};
 
 /// A Cut of a system: it adds the sum of the rows with these multipliers, divided by the divisor.
@@ -31,7 +31,7 @@ fn with_cuts(alloc: Global, sources: &[Source], rest: Proof) -> Result<Proof, Al
         Source::Own(_) => Ok(more),
         Source::Added(cut) => {
             let terms = Items::from_slice(alloc, cut.terms.as_slice())?;
-            Ok(Proof::Cut(cut.divisor, terms, Boxed::new(alloc, more)?))
+            by_cut(alloc, cut.divisor, terms, more)
         }
     }
 }

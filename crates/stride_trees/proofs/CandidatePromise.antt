@@ -18,15 +18,15 @@ use Rattle.affine_core.proofs.Integers.{int_le-true}
 use Rattle.int_polyhedra.specs.declared.system.System.{System}
 use Rattle.int_polyhedra.specs.Systems.{AreOver}
 use Rattle.lex_max.specs.Answer.{IsAnswer, IsContextOf}
-use Rattle.lex_max.specs.Asked.{read_of as asked_read, write_of as asked_write, HasLevelOf}
+use Rattle.difference_graphs.specs.Asked.{read_of as asked_read, write_of as asked_write, HasLevelOf}
 use Rattle.lex_max.specs.Leaves.{IsMadeFrom}
-use Rattle.lex_max.specs.Level.{common_of, GivesGreatest, IsGreatest}
-use Rattle.lex_max.specs.Systems.{IsCheckedFor}
-use Rattle.lex_max.specs.declared.writes.Writes.{Writes}
-use Rattle.lex_max.proofs.ProblemBounds.{form_is, FormFits}
-use Rattle.lex_max.proofs.Just.{checked_in}
+use Rattle.difference_graphs.specs.Level.{common_of, GivesGreatest, IsGreatest}
+use Rattle.difference_graphs.specs.Systems.{IsCheckedFor}
+use Rattle.difference_graphs.specs.declared.writes.Writes.{Writes}
+use Rattle.difference_graphs.proofs.ProblemBounds.{form_is, FormFits}
+use Rattle.difference_graphs.proofs.Just.{checked_in}
 use Rattle.lex_max.proofs.ReadAndWrite.{named_number, read_is, write_has, IsReadAt}
-use Rattle.lex_max.proofs.Root.{are_root, AreRoot}
+use Rattle.difference_graphs.proofs.MadeRows.{are_root, AreRoot}
 use Rattle.lex_max.proofs.RowValues.{met_made}
 use Rattle.plain_data.proofs.Lists.{All-range_with_len}
 use Rattle.row_sums.specs.Parts.{IsWithin}

@@ -17,7 +17,7 @@ use Rattle.std.proofs.lemmas.Option.{same_Some}
 use Rattle.std.proofs.lemmas.List.{length-map}
 use Rattle.affine_core.specs.declared.form.Form.{Form}
 use Rattle.int_polyhedra.specs.Steps.{floor, quotient_row}
-use Rattle.lex_max.specs.Class.{count_of, is_difference}
+use Rattle.difference_graphs.specs.Class.{count_of, is_difference}
 use Rattle.sanlp.specs.Bounds.{BoundsAbove}
 use Rattle.sanlp.specs.WellFormed.{form_fits, is_moderate}
 use Rattle.stride_rows.specs.Class.{is_pair, is_single, stride_of}

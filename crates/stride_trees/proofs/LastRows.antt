@@ -16,8 +16,8 @@ use Rattle.int_polyhedra.specs.declared.system.Proof.TheVariants.{Sum}
 use Rattle.int_polyhedra.specs.declared.system.Term.{Term}
 use Rattle.int_polyhedra.specs.Rules.{Refutes}
 use Rattle.int_polyhedra.specs.Steps.{floor, quotient_row}
-use Rattle.lex_max.proofs.EdgeSums.{over_append}
-use Rattle.lex_max.proofs.RowBounds.{forms_append}
+use Rattle.difference_graphs.proofs.EdgeSums.{over_append}
+use Rattle.difference_graphs.proofs.RowBounds.{forms_append}
 use Rattle.plain_data.proofs.Lists.{slice_get-append_left, slice_get-append_right}
 use Rattle.row_sums.specs.Made.{parts_of}
 use Rattle.row_sums.specs.Parts.{Part, the_constant, the_coefficient, part_of, row_part, weight, weighted_sum, IsWithin}

@@ -14,17 +14,18 @@ use Rattle.std.proofs.lemmas.List.Elements.{All-nil, All-cons, All-append, All-h
 use Rattle.affine_core.specs.declared.form.Form.{Form}
 use Rattle.affine_core.specs.Affine.{form_at}
 use Rattle.int_polyhedra.specs.declared.system.Proof.{Proof}
-use Rattle.lex_max.specs.Level.{common_of}
-use Rattle.lex_max.specs.Simple.{IsLightSum, IsSimple}
-use Rattle.lex_max.specs.Systems.{at_test, at_writer, at_zero, later_systems, none_systems, place_systems, IsCheckedFor}
-use Rattle.lex_max.proofs.After.{common_same}
-use Rattle.lex_max.proofs.Just.{later_system, none_system}
-use Rattle.lex_max.proofs.OrderEdges.{length_variables}
-use Rattle.lex_max.proofs.ZeroSystems.{level_exists, variables_taken}
-use Rattle.lex_max.proofs.EdgeSums.{over_append}
-use Rattle.lex_max.proofs.RowBounds.{are_made, forms_append, level_at, most_made, small_append, small_equal, small_less}
-use Rattle.lex_max.proofs.RowBounds.{AreMade, AreSmall, AreTaken, IsSmallLevel}
-use Rattle.lex_max.proofs.Nodes.{checked_zero, simple_none}
+use Rattle.difference_graphs.specs.Level.{common_of}
+use Rattle.difference_graphs.specs.Simple.{IsLightSum, IsSimple}
+use Rattle.difference_graphs.specs.Systems.{at_test, at_writer, at_zero, later_systems, none_systems, place_systems, IsCheckedFor}
+use Rattle.difference_graphs.proofs.ProblemBounds.{common_same}
+use Rattle.difference_graphs.proofs.Just.{later_system, none_system}
+use Rattle.difference_graphs.proofs.OrderEdges.{length_variables}
+use Rattle.difference_graphs.proofs.ZeroSystems.{level_exists, variables_taken}
+use Rattle.difference_graphs.proofs.EdgeSums.{over_append}
+use Rattle.difference_graphs.proofs.RowBounds.{are_made, forms_append, level_at, most_made, small_append, small_equal, small_less}
+use Rattle.difference_graphs.proofs.RowBounds.{AreMade, AreSmall, AreTaken, IsSmallLevel}
+use Rattle.difference_graphs.proofs.Nodes.{checked_point, checked_test, checked_zero, simple_both, simple_none}
+use Rattle.difference_graphs.proofs.Nodes.{simple_point, AreBothChecked, AreBothSimple, IsCheckedPoint}
 use Rattle.plain_data.proofs.Tests.{ltb-same}
 use Rattle.plain_data.proofs.Lists.{slice_get-append_some}
 use Rattle.row_sums.specs.Parts.{IsWithin}
@@ -52,8 +53,6 @@ use Rattle.stride_trees.specs.Strides.{depth_of_read, depth_of_write, read_of, r
 use Rattle.stride_trees.specs.declared.strides.Strides.{Strides}
 use Rattle.stride_trees.proofs.ProblemBounds.{are_fitting, AreFitting}
 use Rattle.stride_trees.proofs.Lists.{forms_count}
-use Rattle.stride_trees.proofs.Nodes.{checked_point, checked_test, simple_both, simple_leaf}
-use Rattle.stride_trees.proofs.Nodes.{AreBothChecked, AreBothSimple, IsCheckedPoint}
 use Rattle.stride_trees.proofs.RowReach.{below_reached, reached_farther, reached_made, taken_reached, IsMadeWithin}
 use Rattle.stride_trees.proofs.Rows.{level_count}
 
@@ -604,7 +603,7 @@ writer_converted s places here n place own_place told proofs own forms is refute
           (All-weaker (IsWithin (2 ^ 40)) (IsWithin (2 ^ 48)) (λ f k. IsWithin-weaker (2 ^ 40) (2 ^ 48) f (omega arith) k) place
           k.within)
           (cuts c place t (leaf_place c (depth_of_write s) place k.deep k.over k.within) k.within k.refuted
-          (simple_leaf tests (Writer n place told) n place told simple refl)));
+          (simple_point tests (Writer n place told) n place told simple refl).light));
       same = λ x. gives-Writer x own n place proofs own_is ∙ sym (gives-Writer x (Writer n place told) n place told refl);
     }
 

@@ -26,7 +26,6 @@ mod LastCells
 mod SourceCuts
 mod QuotientReach
 mod PlaceProofs
-mod Nodes
 mod LeafConversion
 mod QuotientValues
 mod TreeValues

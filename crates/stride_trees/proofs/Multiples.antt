@@ -3,7 +3,7 @@ use Rattle.std.proofs.Common.{◌≡◌, ◌*◌, ◌^◌, ◌≤◌, ℕ, ℤ, 
 use Rattle.std.specs.Prelude.{Some, unsigned_abs}
 use Rattle.affine_core.specs.Affine.{form_product, variable_form}
 use Rattle.affine_core.specs.Within.{form_in_128_bits}
-use Rattle.lex_max.proofs.OrderEdges.{variable_within}
+use Rattle.difference_graphs.proofs.OrderEdges.{variable_within}
 use Rattle.row_sums.proofs.Bound.{in_bits_within, product_within}
 
 pub multiple_fits : (times : ℤ) (vars i : ℕ) → unsigned_abs times ≤ 2 ^ 32

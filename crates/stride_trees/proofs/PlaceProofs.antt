@@ -11,9 +11,9 @@ use Rattle.affine_core.specs.declared.form.Form.{Form}
 use Rattle.int_polyhedra.specs.declared.system.Proof.{Proof}
 use Rattle.int_polyhedra.specs.declared.system.Proof.TheVariants.{Sum}
 use Rattle.int_polyhedra.specs.declared.system.Term.{Term}
-use Rattle.lex_max.specs.Asked.{IsCell}
-use Rattle.lex_max.specs.Simple.{IsLightSum}
-use Rattle.lex_max.proofs.ProblemBounds.{form_is, FormFits}
+use Rattle.difference_graphs.specs.Asked.{IsCell}
+use Rattle.difference_graphs.specs.Simple.{IsLightSum}
+use Rattle.difference_graphs.proofs.ProblemBounds.{form_is, FormFits}
 use Rattle.row_sums.specs.Parts.{weight, IsWithin}
 use Rattle.row_sums.proofs.Within.{IsWithin-weaker}
 use Rattle.sanlp.specs.WellFormed.{form_fits}

@@ -13,7 +13,7 @@ use Rattle.affine_core.specs.declared.form.Form.{Form}
 use Rattle.int_polyhedra.specs.declared.system.Proof.{Proof}
 use Rattle.int_polyhedra.specs.declared.system.Proof.TheVariants.{Sum}
 use Rattle.int_polyhedra.specs.declared.system.Term.{Term}
-use Rattle.lex_max.specs.Simple.{IsLightSum}
+use Rattle.difference_graphs.specs.Simple.{IsLightSum}
 use Rattle.row_sums.specs.Parts.{IsWithin}
 use Rattle.sanlp.specs.WellFormed.{form_fits}
 use Rattle.source_tree.specs.Checked.{AreRefuted, IsRefuted}
@@ -229,12 +229,12 @@ module _ (s : Strides) (strided : IsStrided s) (places : List ℕ) (here : ℕ) 
   Near = All (IsWithin (2 ^ 40)) place
 
   of_rows : AddsConverted (here + 1) Near outside' (outside_of c w.statement.rows place) first [] middle
-  of_rows = a c (depth_of_write s) place at.small fits.few_loops in_place fits.rows fits.forms
+  of_rows = a c (depth_of_write s) place at.small fits.few_loops in_place fits.rows fits.row_kinds
 
   of_cells : AddsConverted (here + 1) Near cells' (differing c w.access.subscripts r.access.subscripts place) second middle
       proofs
   of_cells = b c (depth_of_write s) (depth_of_read s) place r.access.subscripts at.small fits.few_loops at.reader in_place
-      fits.writes fits.singles fits.reads fits.even at.tests
+      fits.writes fits.kinds fits.reads fits.even at.tests
 
   proofs_are : proofs ≡ of_rows.added ++ of_cells.added
   proofs_are = of_cells.is ∙ ap (λ ps. ps ++ of_cells.added) of_rows.is

@@ -15,13 +15,13 @@ use Rattle.std.proofs.lemmas.List.Elements.{All-nil, All-cons}
 use Rattle.std.proofs.lemmas.Option.{slice_get-map}
 use Rattle.affine_core.specs.declared.form.Form.{Form}
 use Rattle.affine_core.specs.Affine.{form_product, variable_form, widened_form}
-use Rattle.lex_max.specs.Asked.{read_of as asked_read, write_of as asked_write, AreCells, IsAsked, IsCell, IsProblem}
-use Rattle.lex_max.specs.Class.{count_of, is_shift}
-use Rattle.lex_max.specs.Level.{common_of, HasLevel}
-use Rattle.lex_max.specs.declared.writes.Writes.{Writes}
-use Rattle.lex_max.proofs.ProblemBounds.{form_is, FormFits}
-use Rattle.lex_max.proofs.OrderEdges.{variable_over, variable_within}
-use Rattle.lex_max.proofs.Small.{negative_over, negative_within}
+use Rattle.difference_graphs.specs.Asked.{read_of as asked_read, write_of as asked_write, AreCells, IsAsked, IsCell, IsProblem}
+use Rattle.difference_graphs.specs.Class.{count_of, is_shift}
+use Rattle.difference_graphs.specs.Level.{common_of, HasLevel}
+use Rattle.difference_graphs.specs.declared.writes.Writes.{Writes}
+use Rattle.difference_graphs.proofs.ProblemBounds.{form_is, FormFits}
+use Rattle.difference_graphs.proofs.OrderEdges.{variable_over, variable_within}
+use Rattle.difference_graphs.proofs.Small.{negative_over, negative_within}
 use Rattle.row_sums.specs.Parts.{IsWithin}
 use Rattle.row_sums.proofs.SmallRows.{widened_length, widened_part}
 use Rattle.row_sums.proofs.Within.{IsWithin-weaker, IsWithin-from_parts, part_of-le}
@@ -272,13 +272,13 @@ told_problem n r w p q vars places a level reader few each enough =
       few_loops = f.few_loops;
       few_rows = omega (arith, length-map w.statement.rows divided_form, f.few_rows);
       rows = rows_fit (length w.statement.loops) w.statement.rows f.rows;
-      differences = rows_differ w.statement.rows f.forms;
+      differences = rows_differ w.statement.rows f.row_kinds;
       bounded = λ loop lt.
           (let b = bounded_above n w.number w.statement loop f.named.is lt in
           rows_bound w.statement.rows loop b.0 b.1 b.2 b.3);
       few_subscripts = omega (arith, length-map w.access.subscripts problem_write, f.few_subscripts);
       cells = told_cells (length w.statement.loops) (length r.statement.loops) vars places w.access.subscripts
-          r.access.subscripts f.even f.writes f.singles f.reads reader
+          r.access.subscripts f.even f.writes f.kinds f.reads reader
           (places_inside vars (length r.statement.loops) places w.access.subscripts each enough);
       level = level;
     }

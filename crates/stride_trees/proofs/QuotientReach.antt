@@ -12,10 +12,10 @@ use Rattle.std.proofs.Math.Nat.{mul-le-mul_right}
 use Rattle.std.proofs.lemmas.Bool.{and_parts}
 use Rattle.affine_core.specs.declared.form.Form.{Form}
 use Rattle.affine_core.specs.Affine.{variable_form}
-use Rattle.lex_max.specs.Asked.{AreCells, IsCell}
-use Rattle.lex_max.specs.Class.{count_of}
-use Rattle.lex_max.proofs.ProblemBounds.{form_is, FormFits}
-use Rattle.lex_max.proofs.OrderEdges.{variable_over, variable_within}
+use Rattle.difference_graphs.specs.Asked.{AreCells, IsCell}
+use Rattle.difference_graphs.specs.Class.{count_of}
+use Rattle.difference_graphs.proofs.ProblemBounds.{form_is, FormFits}
+use Rattle.difference_graphs.proofs.OrderEdges.{variable_over, variable_within}
 use Rattle.row_sums.proofs.Within.{IsWithin-weaker}
 use Rattle.sanlp.specs.WellFormed.{form_fits}
 use Rattle.source_tree.specs.Places.{at_place, cell_rows, domain_rows, variables}

@@ -11,10 +11,10 @@ use Rattle.std.proofs.lemmas.Option.{same_Some, slice_get-map}
 use Rattle.std.proofs.lemmas.Bool.{and_parts}
 use Rattle.affine_core.specs.declared.form.Form.{Form}
 use Rattle.affine_core.specs.Affine.{variable_form}
-use Rattle.lex_max.proofs.ProblemBounds.{form_is, FormFits}
-use Rattle.lex_max.proofs.OrderEdges.{variable_over, variable_within}
-use Rattle.lex_max.proofs.RowBounds.{farther_row, minus_row, most_made, most_placed, most_taken, one_less_row, placed_row}
-use Rattle.lex_max.proofs.RowBounds.{taken_row, AreSmall, AreTaken, IsSmallRow, IsTaken, number_row}
+use Rattle.difference_graphs.proofs.ProblemBounds.{form_is, FormFits}
+use Rattle.difference_graphs.proofs.OrderEdges.{variable_over, variable_within}
+use Rattle.difference_graphs.proofs.RowBounds.{farther_row, minus_row, most_made, most_placed, most_taken, one_less_row, placed_row}
+use Rattle.difference_graphs.proofs.RowBounds.{taken_row, AreSmall, AreTaken, IsSmallRow, IsTaken, number_row}
 use Rattle.plain_data.proofs.Tests.{ltb-zero}
 use Rattle.row_sums.proofs.Within.{IsWithin-weaker}
 use Rattle.sanlp.specs.WellFormed.{form_fits}

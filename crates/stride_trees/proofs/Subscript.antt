@@ -11,8 +11,8 @@ use Rattle.std.specs.Int.RustNames.{int_lt}
 use Rattle.std.proofs.lemmas.Option.{slice_get_within}
 use Rattle.affine_core.specs.declared.form.Form.{Form}
 use Rattle.affine_core.specs.Affine.{variable_form, widened_form}
-use Rattle.lex_max.proofs.ProblemBounds.{form_is, FormFits}
-use Rattle.lex_max.proofs.OrderEdges.{variable_at, variable_within}
+use Rattle.difference_graphs.proofs.ProblemBounds.{form_is, FormFits}
+use Rattle.difference_graphs.proofs.OrderEdges.{variable_at, variable_within}
 use Rattle.row_sums.specs.Made.{parts_of}
 use Rattle.row_sums.specs.Parts.{Part, part_of, row_part}
 use Rattle.row_sums.specs.Shown.{RowParts}
@@ -120,7 +120,7 @@ module _ (n : Nest) (r w : Occurrence) (p : ℕ) (c : Context) (here i : ℕ) (w
   told : AreStrideRows write read place d f v (int_lt (pos 0) stride)
   told = stride_rows quotient write read place stride i
       (write_fits.over ∙ sym (standing.long n r w p c here strided small reader order order_made))
-      (list_all_at is_single w.access.subscripts i write fits.singles write_is) is
+      (list_all_at is_single w.access.subscripts i write fits.kinds write_is) is
 
   v_small : (part : Part) → unsigned_abs (v part) ≤ 1
   v_small part =

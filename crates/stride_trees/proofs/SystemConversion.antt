@@ -17,9 +17,9 @@ use Rattle.affine_core.specs.Affine.{variable_form, widened_form}
 use Rattle.int_polyhedra.specs.declared.system.Proof.TheVariants.{Sum}
 use Rattle.int_polyhedra.specs.declared.system.Term.{Term}
 use Rattle.int_polyhedra.specs.Rules.{Refutes}
-use Rattle.lex_max.proofs.ProblemBounds.{form_is}
-use Rattle.lex_max.proofs.OrderEdges.{variable_part}
-use Rattle.lex_max.proofs.RowBounds.{AreMade}
+use Rattle.difference_graphs.proofs.ProblemBounds.{form_is}
+use Rattle.difference_graphs.proofs.OrderEdges.{variable_part}
+use Rattle.difference_graphs.proofs.RowBounds.{AreMade}
 use Rattle.plain_data.proofs.Lists.{slice_get-append_left}
 use Rattle.row_sums.specs.Parts.{Part, part_of, row_part, weight, IsWithin}
 use Rattle.row_sums.proofs.SmallRows.{widened_part}
@@ -241,13 +241,13 @@ module _ (n : Nest) (r w : Occurrence) (p : ℕ) (c : Context) (here root : ℕ)
   sources = write_sources forms writes root places here (length order)
 
   domain_told_all : (v : List Form) → row_forms more told_domain ≡ Some v → AreRowsTold more whole place here forms v
-  domain_told_all v h = rows_are_told more whole forms place here domain.forms v domain.are h domain_stand fits.forms
+  domain_told_all v h = rows_are_told more whole forms place here domain.forms v domain.are h domain_stand fits.row_kinds
 
   cells_told_all : (v : List Form) → row_forms more told_cells ≡ Some v
       → AreCellsTold more whole (here + length forms) root places writes v
   cells_told_all v k =
       cells_are_told more c.vars whole writes reads place (here + length forms) (length r.statement.loops) root places
-      cells.forms v cells.are k cells_stand fits.singles (even_places e writes place (sym long) fits.writes) fits.even
+      cells.forms v cells.are k cells_stand fits.kinds (even_places e writes place (sym long) fits.writes) fits.even
       (test_rows_in c.vars more small.rows (domain.forms ++ (cells.forms ++ last)) (length r.statement.loops) root places
       writes reads
       (tests_made c small.rows (length r.statement.loops) root places writes reads small.made tests))
@@ -321,14 +321,14 @@ module _ (n : Nest) (r w : Occurrence) (p : ℕ) (c : Context) (here root : ℕ)
   domain_small : (v : List Form) → row_forms more told_domain ≡ Some v → All (IsWithin (2 ^ 48)) v
   domain_small v made =
       made_within more (2 ^ 40) (2 ^ 48) told_domain v (omega arith)
-      (told_domain_reached more (2 ^ 40) e forms place (omega arith) fits.few_loops fits.rows fits.forms bounded_place) made
+      (told_domain_reached more (2 ^ 40) e forms place (omega arith) fits.few_loops fits.rows fits.row_kinds bounded_place) made
 
   cells_small : (v : List Form) → row_forms more told_cells ≡ Some v → All (IsWithin (2 ^ 48)) v
   cells_small v made =
       made_within more (2 ^ 40) (2 ^ 48) told_cells v (omega arith)
       (told_cells_reached more (2 ^ 40) e c.vars (problem_writes writes)
       (problem_reads c.vars (length r.statement.loops) places writes reads) place (omega arith) fits.few_loops (omega arith)
-      (told_cells_are e (length r.statement.loops) c.vars places writes reads fits.even fits.writes fits.singles fits.reads
+      (told_cells_are e (length r.statement.loops) c.vars places writes reads fits.even fits.writes fits.kinds fits.reads
       reader (tests_inside c (length r.statement.loops) root places writes reads fits.even tests))
       bounded_place) made
 

@@ -17,15 +17,15 @@ use Rattle.affine_core.specs.Affine.{form_product, variable_form, widened_form}
 use Rattle.int_polyhedra.specs.declared.system.Proof.{Proof}
 use Rattle.int_polyhedra.specs.Rules.{Refutes}
 use Rattle.int_polyhedra.specs.Systems.{AreOver}
-use Rattle.lex_max.specs.Level.{common_of}
-use Rattle.lex_max.proofs.ProblemBounds.{form_is, FormFits}
-use Rattle.lex_max.proofs.Just.{none_system, zero_system}
-use Rattle.lex_max.proofs.OrderEdges.{length_variables, variable_at, variable_within}
-use Rattle.lex_max.proofs.ZeroSystems.{level_exists, variables_taken}
-use Rattle.lex_max.proofs.EdgeSums.{over_append, over_widened, within_widened}
-use Rattle.lex_max.proofs.Small.{negative_over, negative_within}
-use Rattle.lex_max.proofs.RowBounds.{are_made, forms_append, level_at, most_made, most_taken, small_append, small_domain}
-use Rattle.lex_max.proofs.RowBounds.{AreMade, AreSmall, AreTaken, IsSmallLevel, IsTaken}
+use Rattle.difference_graphs.specs.Level.{common_of}
+use Rattle.difference_graphs.proofs.ProblemBounds.{form_is, FormFits}
+use Rattle.difference_graphs.proofs.Just.{none_system, zero_system}
+use Rattle.difference_graphs.proofs.OrderEdges.{length_variables, variable_at, variable_within}
+use Rattle.difference_graphs.proofs.ZeroSystems.{level_exists, variables_taken}
+use Rattle.difference_graphs.proofs.EdgeSums.{over_append, over_widened, within_widened}
+use Rattle.difference_graphs.proofs.Small.{negative_over, negative_within}
+use Rattle.difference_graphs.proofs.RowBounds.{are_made, forms_append, level_at, most_made, most_taken, small_append, small_domain}
+use Rattle.difference_graphs.proofs.RowBounds.{AreMade, AreSmall, AreTaken, IsSmallLevel, IsTaken}
 use Rattle.plain_data.proofs.Lists.{slice_get-append_right}
 use Rattle.row_sums.specs.Made.{parts_of}
 use Rattle.row_sums.specs.Parts.{Part, part_of, row_part, IsWithin}
@@ -310,7 +310,7 @@ module _ (n : Nest) (r w : Occurrence) (p : ℕ) (c : Context) (here i : ℕ) (w
 
   told : AreStrideRows write read place d f v (int_lt (pos 0) stride)
   told = stride_rows c.vars write read place stride i (write_fits.over ∙ sym long)
-      (list_all_at is_single w.access.subscripts i write fits.singles s.write_is) s.stride_is
+      (list_all_at is_single w.access.subscripts i write fits.kinds s.write_is) s.stride_is
 
   v_small : (part : Part) → unsigned_abs (v part) ≤ 1
   v_small part =

@@ -18,11 +18,11 @@ use Rattle.affine_core.specs.Affine.{variable_form, widened_form}
 use Rattle.int_polyhedra.specs.declared.system.Proof.{Proof}
 use Rattle.int_polyhedra.specs.Systems.{AreOver}
 use Rattle.std.proofs.lemmas.Bool.{eq-eqb, and_from}
-use Rattle.lex_max.specs.Level.{common_of}
-use Rattle.lex_max.proofs.ProblemBounds.{form_is, FormFits}
-use Rattle.lex_max.proofs.OrderEdges.{variable_over, variable_within}
-use Rattle.lex_max.proofs.EdgeSums.{over_append, over_widened, within_widened}
-use Rattle.lex_max.proofs.RowBounds.{forms_append}
+use Rattle.difference_graphs.specs.Level.{common_of}
+use Rattle.difference_graphs.proofs.ProblemBounds.{form_is, FormFits}
+use Rattle.difference_graphs.proofs.OrderEdges.{variable_over, variable_within}
+use Rattle.difference_graphs.proofs.EdgeSums.{over_append, over_widened, within_widened}
+use Rattle.difference_graphs.proofs.RowBounds.{forms_append}
 use Rattle.row_sums.specs.Made.{parts_of}
 use Rattle.row_sums.specs.Parts.{Part, part_of, IsWithin}
 use Rattle.row_sums.proofs.SmallRows.{small_is_made}

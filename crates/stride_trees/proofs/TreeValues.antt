@@ -20,9 +20,9 @@ use Rattle.affine_core.specs.Affine.{form_at, variable_form, widened_form}
 use Rattle.int_polyhedra.specs.declared.system.Proof.{Proof}
 use Rattle.int_polyhedra.specs.Steps.{floor}
 use Rattle.int_polyhedra.proofs.Floor.{floor_exact}
-use Rattle.lex_max.specs.Level.{IsGreatest, WritesBefore}
-use Rattle.lex_max.proofs.ProblemBounds.{form_is, FormFits}
-use Rattle.lex_max.proofs.OrderEdges.{variable_over}
+use Rattle.difference_graphs.specs.Level.{IsGreatest, WritesBefore}
+use Rattle.difference_graphs.proofs.ProblemBounds.{form_is, FormFits}
+use Rattle.difference_graphs.proofs.OrderEdges.{variable_over}
 use Rattle.row_sums.proofs.SmallRows.{widened_length}
 use Rattle.sanlp.proofs.Elements.{list_all_at}
 use Rattle.sanlp.specs.WellFormed.{form_fits}
@@ -219,7 +219,7 @@ none_writes s strided d test x j odd h =
     let fits : AreFitting s.nest.now (read_of s) (write_of s) s.level =
     are_fitting s.nest.now (read_of s) (write_of s) s.level strided.strided in
     let single : is_single test.write ≡ true =
-    list_all_at is_single s.write.access.now.subscripts d.subscript test.write fits.singles test.write_is in
+    list_all_at is_single s.write.access.now.subscripts d.subscript test.write fits.kinds test.write_is in
     let m : ℕ = unsigned_abs test.stride in
     let v : ℤ = slice_index_or j (loop_of test.write.coefs) (pos 0) in
     let same : form_at test.write j ≡ form_at test.read x =
@@ -337,12 +337,12 @@ module _ (s : Strides) (strided : IsStrided s) (c : Context) (places : List ℕ)
         × (values told_w.access.subscripts j ≡ values told_r.access.subscripts (x ++ more)
         → values own_w.access.subscripts j ≡ values own_r.access.subscripts x)
     cells j = cells_mean c (depth_of_read s) (root_of s) (length own_w.statement.loops) j x more long met places
-        own_w.access.subscripts own_r.access.subscripts own_fits.even own_fits.singles own_fits.writes own_fits.reads tests
+        own_w.access.subscripts own_r.access.subscripts own_fits.even own_fits.kinds own_fits.writes own_fits.reads tests
 
     told_from : (j : List ℤ) → WritesBefore own_r own_w s.level x j → WritesBefore told_r told_w s.level (x ++ more) j
     told_from j h = record {
       deep = h.deep;
-      in_domain = rows_hold own_w.statement.rows j own_fits.forms ∙ h.in_domain;
+      in_domain = rows_hold own_w.statement.rows j own_fits.row_kinds ∙ h.in_domain;
       same_cell = (cells j).0 h.same_cell;
       before = (
         h.before.0 ∙ sym (take_more s.level x within),
@@ -354,7 +354,7 @@ module _ (s : Strides) (strided : IsStrided s) (c : Context) (places : List ℕ)
     own_from : (j : List ℤ) → WritesBefore told_r told_w s.level (x ++ more) j → WritesBefore own_r own_w s.level x j
     own_from j h = record {
       deep = h.deep;
-      in_domain = sym (rows_hold own_w.statement.rows j own_fits.forms) ∙ h.in_domain;
+      in_domain = sym (rows_hold own_w.statement.rows j own_fits.row_kinds) ∙ h.in_domain;
       same_cell = (cells j).1 h.same_cell;
       before = (
         h.before.0 ∙ take_more s.level x within,

@@ -11,10 +11,10 @@ use Rattle.std.proofs.lemmas.List.Elements.{All-append, All-weaker}
 use Rattle.std.proofs.lemmas.Option.{slice_get_within}
 use Rattle.affine_core.specs.declared.form.Form.{Form}
 use Rattle.affine_core.specs.Affine.{widened_form}
-use Rattle.lex_max.proofs.OrderEdges.{length_variables}
-use Rattle.lex_max.proofs.ZeroSystems.{variables_taken}
-use Rattle.lex_max.proofs.EdgeSums.{over_append, over_widened, within_widened}
-use Rattle.lex_max.proofs.RowBounds.{are_made, forms_append, most_made, small_domain, AreMade, AreTaken}
+use Rattle.difference_graphs.proofs.OrderEdges.{length_variables}
+use Rattle.difference_graphs.proofs.ZeroSystems.{variables_taken}
+use Rattle.difference_graphs.proofs.EdgeSums.{over_append, over_widened, within_widened}
+use Rattle.difference_graphs.proofs.RowBounds.{are_made, forms_append, most_made, small_domain, AreMade, AreTaken}
 use Rattle.plain_data.proofs.Lists.{slice_get-append_left, slice_get-append_right}
 use Rattle.row_sums.specs.Parts.{IsWithin}
 use Rattle.row_sums.proofs.RowParts.{made_widens, AreOver-row_forms}

@@ -19,10 +19,10 @@ use Rattle.affine_core.proofs.Linear.{length-sums}
 use Rattle.int_polyhedra.specs.declared.system.System.{System}
 use Rattle.int_polyhedra.specs.Systems.{all_over, AreOver}
 use Rattle.lex_max.specs.Leaves.{IsMadeFrom}
-use Rattle.lex_max.proofs.OrderEdges.{variable_over, variable_within}
-use Rattle.lex_max.proofs.EdgeSums.{over_append, over_widened, within_widened}
-use Rattle.lex_max.proofs.Root.{are_root, AreRoot}
-use Rattle.lex_max.proofs.RowBounds.{forms_append}
+use Rattle.difference_graphs.proofs.OrderEdges.{variable_over, variable_within}
+use Rattle.difference_graphs.proofs.EdgeSums.{over_append, over_widened, within_widened}
+use Rattle.difference_graphs.proofs.MadeRows.{are_root, AreRoot}
+use Rattle.difference_graphs.proofs.RowBounds.{forms_append}
 use Rattle.plain_data.proofs.Lists.{slice_get-append_some, slice_get-append_right}
 use Rattle.row_sums.specs.Parts.{Part, part_of, IsWithin}
 use Rattle.row_sums.proofs.Bound.{product_within}

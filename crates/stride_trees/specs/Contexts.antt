@@ -8,10 +8,10 @@ use Rattle.int_polyhedra.specs.declared.system.Proof.TheVariants.{Sum}
 use Rattle.int_polyhedra.specs.declared.system.System.{System}
 use Rattle.int_polyhedra.specs.declared.system.Term.{Term}
 use Rattle.lex_max.specs.Answer.{IsAnswer}
-use Rattle.lex_max.specs.Asked.{read_of as asked_read, write_of as asked_write}
-use Rattle.lex_max.specs.Simple.{IsLightSum, IsSimple}
-use Rattle.lex_max.specs.Systems.{IsCheckedFor}
-use Rattle.lex_max.specs.declared.writes.Writes.{Writes}
+use Rattle.difference_graphs.specs.Asked.{read_of as asked_read, write_of as asked_write}
+use Rattle.difference_graphs.specs.Simple.{IsLightSum, IsSimple}
+use Rattle.difference_graphs.specs.Systems.{IsCheckedFor}
+use Rattle.difference_graphs.specs.declared.writes.Writes.{Writes}
 use Rattle.row_sums.specs.Parts.{IsWithin}
 use Rattle.source_tree.specs.Checked.{AreRefuted, HaveVariables}
 use Rattle.source_tree.specs.Gives.{gives}

@@ -4,7 +4,7 @@ use Rattle.affine_core.specs.declared.form.Form.{Form}
 use Rattle.affine_core.specs.Affine.{widened_form}
 use Rattle.int_polyhedra.specs.declared.system.Proof.{Proof}
 use Rattle.int_polyhedra.specs.Systems.{AreOver}
-use Rattle.lex_max.specs.Level.{common_of, HasLevel, IsGreatest}
+use Rattle.difference_graphs.specs.Level.{common_of, HasLevel, IsGreatest}
 use Rattle.row_sums.specs.Parts.{IsWithin}
 use Rattle.sanlp.specs.declared.nest.Nest.{Nest}
 use Rattle.source_tree.specs.Gives.{gives}

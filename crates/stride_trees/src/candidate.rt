@@ -2,9 +2,9 @@
 
 ghost use Rattle.std.specs.Prelude.{◌≡◌, ◌≤◌, ◌+◌, ◌++◌, Some, IfOk, OnOk};
 ghost use Rattle.std.specs.List.{range_with_len};
-ghost use Rattle.lex_max.specs.Asked.{HasLevelOf, WritesArrayOf};
+ghost use Rattle.difference_graphs.specs.Asked.{HasLevelOf, WritesArrayOf};
 ghost use Rattle.lex_max.specs.Leaves.{IsMadeFrom};
-ghost use Rattle.lex_max.specs.Level.{common_of, GivesGreatest};
+ghost use Rattle.difference_graphs.specs.Level.{common_of, GivesGreatest};
 ghost use Rattle.source_tree.specs.Checked.{IsCheckedIn};
 ghost use Rattle.source_tree.specs.Systems.{just, named_write, read_at, root_context, Occurrence};
 ghost use Rattle.source_tree.specs.declared.tree.Tree.{Tree as TreeOf};

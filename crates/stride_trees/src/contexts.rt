@@ -9,8 +9,8 @@ ghost use Rattle.stride_trees.specs.Strides.{depth_of_read, read_of, tests_of, I
 use crate::divisions::Division;
 use crate::strides::Strides;
 use affine_core::{Form, Overflow, Row};
+use difference_graphs::difference;
 use int_polyhedra::System;
-use lex_max::difference;
 use plain_data::Items;
 use std::alloc::{AllocError, Global};
 

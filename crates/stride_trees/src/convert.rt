@@ -4,7 +4,7 @@ ghost use Rattle.std.specs.Prelude.{◌≡◌, ◌≤◌, ◌<◌, ◌||◌, ◌
 ghost use Rattle.std.specs.List.{list_all};
 ghost use Rattle.affine_core.specs.declared.form.Form.{Form as FormOf};
 ghost use Rattle.int_polyhedra.specs.declared.system.Term.{Term as TermOf};
-ghost use Rattle.lex_max.specs.Simple.{IsLightSum};
+ghost use Rattle.difference_graphs.specs.Simple.{IsLightSum};
 ghost use Rattle.row_sums.specs.Parts.{IsWithin};
 ghost use Rattle.sanlp.specs.WellFormed.{form_fits};
 ghost use Rattle.source_tree.specs.Checked.{AreRefuted, IsRefuted};

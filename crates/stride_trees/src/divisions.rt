@@ -5,7 +5,7 @@ ghost use Rattle.stride_rows.specs.Class.{stride_of as stride_of_form};
 ghost use Rattle.stride_trees.specs.Divisions.{division_of, divisions_from};
 
 use affine_core::Form;
-use lex_max::negative;
+use difference_graphs::negative;
 use plain_data::Items;
 use std::alloc::{AllocError, Global};
 use stride_rows::small_stride;

@@ -2,8 +2,8 @@
 
 ghost use Rattle.std.specs.Prelude.{◌≡◌, ◌≤◌, ◌<◌, ◌+◌, ◌*◌, ◌^◌, ◌++◌, ℕ, List, length, map, nat_lt, All, IfOk, OnOk, if◌then◌else◌};
 ghost use Rattle.affine_core.specs.declared.form.Form.{Form as FormOf};
-ghost use Rattle.lex_max.specs.Simple.{IsLightSum, IsSimple};
-ghost use Rattle.lex_max.specs.Systems.{none_systems, place_systems, IsCheckedFor};
+ghost use Rattle.difference_graphs.specs.Simple.{IsLightSum, IsSimple};
+ghost use Rattle.difference_graphs.specs.Systems.{none_systems, place_systems, IsCheckedFor};
 ghost use Rattle.row_sums.specs.Parts.{IsWithin};
 ghost use Rattle.source_tree.specs.Checked.{AreRefuted};
 ghost use Rattle.source_tree.specs.Rows.{RowExpr};
@@ -16,8 +16,8 @@ ghost use Rattle.stride_trees.specs.Strides.{depth_of_write, read_of, write_of, 
 use crate::convert::{back, converted_place, converted_write, front, sum_terms};
 use crate::strides::Strides;
 use affine_core::Form;
+use difference_graphs::test;
 use int_polyhedra::Proof;
-use lex_max::test;
 use plain_data::Items;
 use source_tree::Tree;
 use std::alloc::{AllocError, Global};
@@ -218,6 +218,7 @@ pub fn converted_tree(
 {
     match tree {
         Tree::Test(form, yes, no) => {
+            let form = form.get();
             let above = converted_tree(s, places, here + 1, yes.get())?;
             match converted_tree(s, places, here + 1, no.get()) {
                 Ok(below) => test(s.alloc, form.copy(), above, below),

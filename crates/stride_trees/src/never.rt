@@ -4,7 +4,7 @@
 ghost use Rattle.std.specs.Prelude.{◌≡◌, ◌≤◌, ◌≤ℤ◌, ◌+◌, ◌^◌, [], ◌∷◌, pos, List, length, IfOk, IsTrue};
 ghost use Rattle.std.specs.List.{list_all};
 ghost use Rattle.int_polyhedra.specs.declared.system.Proof.TheViews.{Cut as CutOf};
-ghost use Rattle.lex_max.specs.Paths.{term_of};
+ghost use Rattle.difference_graphs.specs.Paths.{term_of};
 ghost use Rattle.source_tree.specs.Checked.{IsRefuted};
 ghost use Rattle.source_tree.specs.Rows.{RowExpr};
 ghost use Rattle.source_tree.specs.Systems.{Context};
@@ -16,9 +16,9 @@ ghost use Rattle.stride_trees.specs.Strides.{depth_of_read, depth_of_write, IsSm
 use crate::divisions::Division;
 use crate::strides::Strides;
 use crate::undivided::{row_above, row_below};
-use int_polyhedra::{Proof, Term};
-use lex_max::once;
-use plain_data::{Boxed, Items};
+use difference_graphs::once;
+use int_polyhedra::{Proof, Term, by_cut};
+use plain_data::Items;
 use std::alloc::{AllocError, Global};
 
 /// Whether a divisor divides a number.
@@ -67,8 +67,8 @@ pub fn rounded(
         row: below,
         times: 1,
     })?;
-    let rest = Boxed::new(alloc, Proof::Sum(terms))?;
-    Ok(Proof::Cut(test.divisor, once(alloc, above)?, rest))
+    let cut = once(alloc, above)?;
+    by_cut(alloc, test.divisor, cut, Proof::Sum(terms))
 }
 
 /// The proof that no write stands before the read, where one of its tests says no by its form alone. The context has `here`

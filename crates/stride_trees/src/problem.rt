@@ -2,7 +2,7 @@ ghost use Rattle.std.specs.Prelude.{◌≡◌, ◌≤◌, ◌<◌, ◌+◌, ◌^
 ghost use Rattle.std.specs.List.{count_by};
 ghost use Rattle.affine_core.specs.Affine.{variable_form};
 ghost use Rattle.int_polyhedra.specs.Steps.{floor, quotient_row};
-ghost use Rattle.lex_max.specs.Asked.{read_of as asked_read, write_of as asked_write, IsAsked};
+ghost use Rattle.difference_graphs.specs.Asked.{read_of as asked_read, write_of as asked_write, IsAsked};
 ghost use Rattle.row_sums.specs.Parts.{IsWithin};
 ghost use Rattle.stride_rows.specs.Class.{is_stride};
 ghost use Rattle.stride_trees.specs.Problem.{problem_read as read_told, problem_reads, problem_rows, problem_write as write_told, problem_writes, told_read, told_write};
@@ -12,7 +12,7 @@ ghost use Rattle.stride_trees.specs.Strides.{depth_of_read, read_of, write_of, A
 use crate::divisions::moved;
 use crate::strides::Strides;
 use affine_core::{Coefs, Form, Row};
-use lex_max::{Writes, negative};
+use difference_graphs::{Writes, negative};
 use plain_data::Items;
 use std::alloc::{AllocError, Global};
 use stride_rows::{falls, next_quotient, places_behind, size, small_stride, stride_of};

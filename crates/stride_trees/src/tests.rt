@@ -67,16 +67,9 @@ fn divides(
 ) -> Result<Tree, AllocError>
     ensures { IfOk result (λ tree. tree ≡ DividesOf form division.now.divisor yes no) }
 {
-    let Ok(yes) = Boxed::new(alloc, yes) else {
-        drop(form);
-        drop(no);
-        return Err(AllocError);
-    };
-    let Ok(no) = Boxed::new(alloc, no) else {
-        drop(form);
-        drop(yes);
-        return Err(AllocError);
-    };
+    let form = Boxed::new(alloc, form)?;
+    let yes = Boxed::new(alloc, yes)?;
+    let no = Boxed::new(alloc, no)?;
     Ok(Tree::Divides(form, division.divisor, yes, no))
 }
 

@@ -2,7 +2,7 @@
 
 ghost use Rattle.std.specs.Prelude.{◌≡◌, ◌≤◌, ◌<◌, ◌+◌, ◌*◌, ◌^◌, [], ◌∷◌, List, length, IfOk, if◌then◌else◌};
 ghost use Rattle.int_polyhedra.specs.declared.system.Proof.TheViews.{Cut as CutOf};
-ghost use Rattle.lex_max.specs.Paths.{term_of};
+ghost use Rattle.difference_graphs.specs.Paths.{term_of};
 ghost use Rattle.source_tree.specs.Checked.{IsRefuted};
 ghost use Rattle.source_tree.specs.Rows.{RowExpr};
 ghost use Rattle.source_tree.specs.Systems.{Context};
@@ -11,8 +11,8 @@ ghost use Rattle.stride_trees.specs.Strides.{depth_of_write, IsStrided, IsTestOf
 
 use crate::divisions::Division;
 use crate::strides::Strides;
-use int_polyhedra::{Proof, Term};
-use plain_data::{Boxed, Items};
+use int_polyhedra::{Proof, Term, by_cut};
+use plain_data::Items;
 use std::alloc::{AllocError, Global};
 
 // Two rows, once each.
@@ -40,7 +40,7 @@ fn cut(
 ) -> Result<Proof, AllocError>
     ensures { IfOk result (λ proof. proof ≡ CutOf division.now.divisor terms rest) }
 {
-    Ok(Proof::Cut(division.divisor, terms, Boxed::new(alloc, rest)?))
+    by_cut(alloc, division.divisor, terms, rest)
 }
 
 /// Of the two rows of a test's subscript, the first of which has this number, that it is no less than the read's, taken with

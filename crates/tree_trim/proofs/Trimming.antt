@@ -1,8 +1,8 @@
--- A branch none of whose proofs names its Test's row is joined without that row.
+-- A branch none of whose proofs names its Test's row is checked without that row.
 --
 -- Below the branch's root the rows of a context are those of the root, and behind them one for each Test, so the row that
 -- is away stands at the same place in all of them: by induction over the tree each leaf's proofs refute its systems
--- without the row. Forms, their sizes and the order of the leaves don't change. A joined tree is checked in each context
+-- without the row. Forms, their sizes and the order of the leaves don't change. Such a tree is checked in each context
 -- whose rows are made as these, and a Test's row can be made as itself.
 use Rattle.std.proofs.Common.{◌≡◌, ◌+◌, ◌^◌, ℕ, suc, List, [], ◌∷◌, ◌++◌, length, map, Bool, true, false, ◌||◌, cond}
 use Rattle.std.proofs.Common.{refl, sym, ap, ◌∙◌, subst, arith}
@@ -13,18 +13,17 @@ use Rattle.std.proofs.lemmas.List.{append-nil, append_assoc}
 use Rattle.std.proofs.lemmas.List.Elements.{All-nil, All-cons, All-head, All-tail}
 use Rattle.std.proofs.lemmas.Option.{same_Some, option_and_then_some}
 use Rattle.affine_core.specs.declared.form.Form.{Form}
-use Rattle.candidate_order.specs.Contexts.{IsMadeAs}
-use Rattle.candidate_order.specs.Joint.{at_dead, at_test, at_writer, at_zero, no_orders, place_systems, write_systems_of}
-use Rattle.candidate_order.specs.Joint.{IsCheckedForAll, IsJoinedTree, IsSum}
-use Rattle.candidate_order.specs.Reads.{pairs_of, ReadAndWrite}
-use Rattle.candidate_order.specs.declared.candidates.Read.{Read}
+use Rattle.difference_graphs.specs.Contexts.{IsMadeAs}
+use Rattle.difference_graphs.specs.Joint.{at_dead, at_test, at_writer, at_zero, no_orders, place_systems, write_systems_of}
+use Rattle.difference_graphs.specs.Joint.{IsCheckedForAll, IsSum, IsTreeFor}
+use Rattle.difference_graphs.specs.Joint.{ReadAndWrite}
 use Rattle.int_polyhedra.specs.declared.system.Proof.{Proof}
 use Rattle.int_polyhedra.specs.declared.system.System.{System}
 use Rattle.int_polyhedra.specs.Steps.{negation_of}
 use Rattle.int_polyhedra.proofs.Variables.{negation_over}
-use Rattle.lex_max.specs.Facts.{with_form}
-use Rattle.lex_max.proofs.Small.{opposite_fits, opposite_form}
-use Rattle.lex_max.proofs.TestTrees.{more_made, opposite_made, taken_made}
+use Rattle.difference_graphs.specs.Facts.{with_form}
+use Rattle.difference_graphs.proofs.Small.{opposite_fits, opposite_form}
+use Rattle.difference_graphs.proofs.MadeRows.{more_made, opposite_made, taken_made}
 use Rattle.row_sums.specs.Parts.{IsWithin}
 use Rattle.row_sums.proofs.Within.{IsWithin-weaker}
 use Rattle.source_tree.specs.Checked.{AreRefuted}
@@ -116,17 +115,17 @@ rows_made vars (e ∷ es) rows made =
     (λ others others_is end.
     ap suc (rows_made vars es others others_is) ∙ ap length (same_Some (row ∷ others) rows end)))
 
-pub branch_joined : (r : Read) (context : System) (row : Form) (tree : Tree) → length row.coefs ≡ context.vars
-    → IsJoinedTree r (with_form context row) tree → tree_names_row (length context.rows) tree ≡ false
-    → IsJoinedTree r context (tree_without (length context.rows) tree)
-branch_joined r context row tree over h none c made =
+pub branch_joined : (pairs : List ReadAndWrite) (context : System) (row : Form) (tree : Tree)
+    → length row.coefs ≡ context.vars
+    → IsTreeFor pairs (with_form context row) tree → tree_names_row (length context.rows) tree ≡ false
+    → IsTreeFor pairs context (tree_without (length context.rows) tree)
+branch_joined pairs context row tree over h none c made =
     let here : length row.coefs ≡ c.vars = over ∙ sym made.vars in
     let count : length c.rows ≡ length context.rows = rows_made c.vars c.rows context.rows made.rows in
     let longer : IsMadeAs (with_form context row) (test_yes c row) = record {
       vars = made.vars;
       rows = more_made c context.rows (Take row) row made.rows (taken_made c.vars row here);
     } in
-    let pairs : List ReadAndWrite = pairs_of r in
     let less : IsCheckedForAll pairs (rows_over c.vars (c.rows ++ [])) (tree_without (length c.rows) tree) =
     checked_without pairs c.rows (Take row) (test_yes c row) tree (h (test_yes c row) longer) [] refl
     (ap (λ n. tree_names_row n tree) count ∙ none) in
@@ -134,17 +133,17 @@ branch_joined r context row tree over h none c made =
     (subst (λ rows. IsCheckedForAll pairs (rows_over c.vars rows) (tree_without (length c.rows) tree))
     (append-nil c.rows) less)
 
-pub unnamed_joined : (r : Read) (context : System) (k : ℕ) (row : Form) (tree : Tree)
-    → IsJoinedBranch r context k row tree → IsJoinedTree r context (tree_without k tree)
-unnamed_joined r context k row tree h =
-    subst (λ k. IsJoinedTree r context (tree_without k tree)) (sym h.number)
-    (branch_joined r context row tree h.over h.joined (ap (λ k. tree_names_row k tree) (sym h.number) ∙ h.unnamed))
+pub unnamed_joined : (pairs : List ReadAndWrite) (context : System) (k : ℕ) (row : Form) (tree : Tree)
+    → IsJoinedBranch pairs context k row tree → IsTreeFor pairs context (tree_without k tree)
+unnamed_joined pairs context k row tree h =
+    subst (λ k. IsTreeFor pairs context (tree_without k tree)) (sym h.number)
+    (branch_joined pairs context row tree h.over h.joined (ap (λ k. tree_names_row k tree) (sym h.number) ∙ h.unnamed))
 
-pub joined_test : (r : Read) (context : System) (form other : Form) (above below : Tree)
+pub joined_test : (pairs : List ReadAndWrite) (context : System) (form other : Form) (above below : Tree)
     → length form.coefs ≡ context.vars → IsWithin (2 ^ 49 + 1) form → negation_of form ≡ Some other
-    → IsJoinedTree r (with_form context form) above → IsJoinedTree r (with_form context other) below
-    → IsJoinedTree r context (Test form above below)
-joined_test r context form other above below over within negated h k c made =
+    → IsTreeFor pairs (with_form context form) above → IsTreeFor pairs (with_form context other) below
+    → IsTreeFor pairs context (Test form above below)
+joined_test pairs context form other above below over within negated h k c made =
     let here : length form.coefs ≡ c.vars = over ∙ sym made.vars in
     at_test c (Test form above below) form above below refl here within
     (h (test_yes c form) (record {
@@ -157,7 +156,7 @@ joined_test r context form other above below over within negated h k c made =
           (opposite_made c.vars form other here negated);
     }))
 
-module _ (r : Read) (context : System) (form : Form) (above below : Tree) where
+module _ (pairs : List ReadAndWrite) (context : System) (form : Form) (above below : Tree) where
   abbrev n : ℕ
   n = length context.rows
 
@@ -165,23 +164,23 @@ module _ (r : Read) (context : System) (form : Form) (above below : Tree) where
   other = opposite_form form
 
   by_names : (a b : Bool) → tree_names_row n above ≡ a → tree_names_row n below ≡ b
-      → AreJoinedSides r context n form above below
-      → IsJoinedTree r context (cond a (cond b (Test form above below) (tree_without n below)) (tree_without n above))
-  by_names false b above_names below_names h = branch_joined r context form above h.over h.above_is above_names
+      → AreJoinedSides pairs context n form above below
+      → IsTreeFor pairs context (cond a (cond b (Test form above below) (tree_without n below)) (tree_without n above))
+  by_names false b above_names below_names h = branch_joined pairs context form above h.over h.above_is above_names
   by_names true false above_names below_names h =
       let negated : negation_of form ≡ Some other =
       opposite_fits form (IsWithin-weaker (2 ^ 49 + 1) (2 ^ 60) form (omega arith) h.within) in
-      branch_joined r context other below (negation_over form other (sym negated) ∙ h.over)
+      branch_joined pairs context other below (negation_over form other (sym negated) ∙ h.over)
       (h.below_is other negated) below_names
   by_names true true above_names below_names h =
       let negated : negation_of form ≡ Some other =
       opposite_fits form (IsWithin-weaker (2 ^ 49 + 1) (2 ^ 60) form (omega arith) h.within) in
-      joined_test r context form other above below h.over h.within negated h.above_is (h.below_is other negated)
+      joined_test pairs context form other above below h.over h.within negated h.above_is (h.below_is other negated)
 
-pub sides_joined : (r : Read) (context : System) (k : ℕ) (form : Form) (above below : Tree)
-    → AreJoinedSides r context k form above below → IsJoinedTree r context (branch_or_test k form above below)
-sides_joined r context k form above below h =
+pub sides_joined : (pairs : List ReadAndWrite) (context : System) (k : ℕ) (form : Form) (above below : Tree)
+    → AreJoinedSides pairs context k form above below → IsTreeFor pairs context (branch_or_test k form above below)
+sides_joined pairs context k form above below h =
     let n : ℕ = length context.rows in
-    subst (λ k. IsJoinedTree r context (branch_or_test k form above below)) (sym h.row)
-    (by_names r context form above below (tree_names_row n above) (tree_names_row n below) refl refl
-    (subst (λ k. AreJoinedSides r context k form above below) h.row h))
+    subst (λ k. IsTreeFor pairs context (branch_or_test k form above below)) (sym h.row)
+    (by_names pairs context form above below (tree_names_row n above) (tree_names_row n below) refl refl
+    (subst (λ k. AreJoinedSides pairs context k form above below) h.row h))

@@ -1,7 +1,6 @@
-ghost use Rattle.std.specs.Prelude.{◌≡◌, IfOk};
+ghost use Rattle.std.specs.Prelude.{◌≡◌, List, IfOk};
 ghost use Rattle.affine_core.specs.declared.form.Form.{Form as FormOf};
-ghost use Rattle.candidate_order.specs.Joint.{IsJoinedTree};
-ghost use Rattle.candidate_order.specs.declared.candidates.Read.{Read as ReadOf};
+ghost use Rattle.difference_graphs.specs.Joint.{IsTreeFor, ReadAndWrite};
 ghost use Rattle.int_polyhedra.specs.declared.system.System.{System as SystemOf};
 ghost use Rattle.source_tree.specs.declared.tree.Tree.TheViews.{Divides as DividesOf, Test as TestOf};
 ghost use Rattle.tree_trim.specs.Sides.{AreJoinedSides, IsJoinedBranch};
@@ -55,7 +54,7 @@ fn test(
 ) -> Result<Boxed<Tree>, AllocError>
     ensures { IfOk result (λ tree. tree ≡ TestOf form yes no) }
 {
-    Boxed::new(alloc, Tree::Test(form.into_inner(), yes, no))
+    Boxed::new(alloc, Tree::Test(form, yes, no))
 }
 
 #[inline(never)]
@@ -68,7 +67,7 @@ fn divides(
 ) -> Result<Boxed<Tree>, AllocError>
     ensures { IfOk result (λ tree. tree ≡ DividesOf form divisor yes no) }
 {
-    Boxed::new(alloc, Tree::Divides(form.into_inner(), divisor, yes, no))
+    Boxed::new(alloc, Tree::Divides(form, divisor, yes, no))
 }
 
 /// The tree once the row of this number of its context is away. The terms of its proofs stay in their own memory; each node
@@ -113,12 +112,13 @@ pub fn tree_without(alloc: Global, tree: Boxed<Tree>, row: u32) -> Result<Boxed<
 }
 
 /// A branch of a Test once the Test's row is away, which is the row of this number of the branch's context. Of a branch that is
-/// joined there and none of whose proofs names that row the tree is joined where the Test stands, whatever the other branch
-/// is. It takes memory and stack as `tree_without` does.
+/// checked there for some reads and writes, and none of whose proofs names that row, the tree is checked for them where the
+/// Test stands, whatever the other branch is. It takes memory and stack as `tree_without` does.
 pub fn branch_without(alloc: Global, tree: Tree, row: u32) -> Result<Tree, AllocError>
     ensures tree { IfOk result (λ other. other ≡ tree_without row tree) }
-    ensures joined { IfOk result (λ other. (r : ReadOf) (context : SystemOf) (form : FormOf)
-        → IsJoinedBranch r context row form tree → IsJoinedTree r context other) }
+    ensures joined { IfOk result (λ other. (pairs : List ReadAndWrite) (context : SystemOf)
+        (form : FormOf) → IsJoinedBranch pairs context row form tree
+        → IsTreeFor pairs context other) }
 {
     let tree = Boxed::new(alloc, tree)?;
     let other = tree_without(alloc, tree, row)?;
@@ -142,12 +142,12 @@ fn branch_or_test(
         drop(yes);
         return branch_without(alloc, no, row);
     }
-    lex_max::test(alloc, form.copy(), yes, no)
+    difference_graphs::test(alloc, form.copy(), yes, no)
 }
 
 /// The tree of a Test from its two branches, where the Test's row has this number in their contexts. A branch none of whose
 /// proofs names that row holds without it, and stands in the Test's place: the first one, or else the second. Where both
-/// name it, the Test stays. Of branches that are joined in their contexts the tree is joined in the Test's.
+/// name it, the Test stays. Of branches that are checked in their contexts the tree is checked in the Test's.
 pub fn trim_test(
     alloc: Global,
     form: &Form,
@@ -156,8 +156,8 @@ pub fn trim_test(
     row: u32,
 ) -> Result<Tree, AllocError>
     ensures tree { IfOk result (λ tree. tree ≡ branch_or_test row form.now yes no) }
-    ensures joined { IfOk result (λ tree. (r : ReadOf) (context : SystemOf)
-        → AreJoinedSides r context row form.now yes no → IsJoinedTree r context tree) }
+    ensures joined { IfOk result (λ tree. (pairs : List ReadAndWrite) (context : SystemOf)
+        → AreJoinedSides pairs context row form.now yes no → IsTreeFor pairs context tree) }
 {
     branch_or_test(alloc, form, yes, no, row)
 }

@@ -42,22 +42,8 @@ pub fn parts_of(alloc: Global, tree: Boxed<Tree>, row: u32) -> Result<Parts, All
     ensures { IfOk result (ArePartsOf row tree) }
 {
     match tree.into_inner() {
-        Tree::Test(form, yes, no) => match Boxed::new(alloc, form) {
-            Ok(form) => Ok(Parts::Test(form, yes, no)),
-            Err(error) => {
-                drop(yes);
-                drop(no);
-                Err(error)
-            }
-        },
-        Tree::Divides(form, divisor, yes, no) => match Boxed::new(alloc, form) {
-            Ok(form) => Ok(Parts::Divides(form, divisor, yes, no)),
-            Err(error) => {
-                drop(yes);
-                drop(no);
-                Err(error)
-            }
-        },
+        Tree::Test(form, yes, no) => Ok(Parts::Test(form, yes, no)),
+        Tree::Divides(form, divisor, yes, no) => Ok(Parts::Divides(form, divisor, yes, no)),
         Tree::Writer(statement, place, proofs) => match proofs_without(alloc, proofs, row) {
             Ok(proofs) => leaf(alloc, Tree::Writer(statement, place, proofs)),
             Err(error) => {

@@ -1,10 +1,8 @@
 ghost use Rattle.std.specs.Prelude.{◌≡◌, IfOk};
 ghost use Rattle.tree_trim.specs.Proofs.{names_row, proof_without, term_without, terms_name, terms_without};
-ghost use Rattle.int_polyhedra.specs.declared.system.Proof.TheViews.{Cut as CutOf, Split as SplitOf};
 
-use affine_core::Form;
-use int_polyhedra::{Proof, Term};
-use plain_data::{Boxed, Items};
+use int_polyhedra::{Proof, Term, by_cut, by_split};
+use plain_data::Items;
 use std::alloc::{AllocError, Global};
 
 // Whether one of the terms names this row.
@@ -22,7 +20,7 @@ pub fn names_row(proof: &Proof, row: u32) -> bool
     match proof {
         Proof::Sum(terms) => terms_name(terms.as_slice(), row),
         Proof::Cut(_, terms, rest) => {
-            if terms_name(terms.as_slice(), row) {
+            if terms_name(terms.get().as_slice(), row) {
                 return true;
             }
             names_row(rest.get(), row)
@@ -67,56 +65,29 @@ fn terms_without(terms: Items<Term>, row: u32) -> Items<Term>
     Items::from_vec(terms)
 }
 
-fn cut(alloc: Global, divisor: i128, terms: Items<Term>, rest: Proof) -> Result<Proof, AllocError>
-    ensures { IfOk result (λ proof. proof ≡ CutOf divisor terms rest) }
-{
-    match Boxed::new(alloc, rest) {
-        Ok(rest) => Ok(Proof::Cut(divisor, terms, rest)),
-        Err(error) => {
-            drop(terms);
-            Err(error)
-        }
-    }
-}
-
-fn split(alloc: Global, form: Form, yes: Proof, no: Proof) -> Result<Proof, AllocError>
-    ensures { IfOk result (λ proof. proof ≡ SplitOf form yes no) }
-{
-    match Boxed::new(alloc, yes) {
-        Ok(yes) => match Boxed::new(alloc, no) {
-            Ok(no) => Ok(Proof::Split(form, yes, no)),
-            Err(error) => {
-                drop(form);
-                drop(yes);
-                Err(error)
-            }
-        },
-        Err(error) => {
-            drop(form);
-            drop(no);
-            Err(error)
-        }
-    }
-}
-
 /// The proof once the row of this number is away: each row behind it has the number before. Where no step names the row, it
-/// refutes the rows without it as it refuted them with it. The terms stay in their own memory; each Cut and Split takes a
-/// box for its rest.
+/// refutes the rows without it as it refuted them with it. The terms stay in their own memory; each Cut and Split takes
+/// its boxes anew, but for that of a form.
 pub fn proof_without(alloc: Global, proof: Proof, row: u32) -> Result<Proof, AllocError>
     ensures { IfOk result (λ other. other ≡ proof_without row proof) }
 {
     match proof {
         Proof::Sum(terms) => Ok(Proof::Sum(terms_without(terms, row))),
         Proof::Cut(divisor, terms, rest) => match proof_without(alloc, rest.into_inner(), row) {
-            Ok(rest) => cut(alloc, divisor, terms_without(terms, row), rest),
+            Ok(rest) => {
+                let divisor = divisor.into_inner();
+                let terms = terms_without(terms.into_inner(), row);
+                by_cut(alloc, divisor, terms, rest)
+            }
             Err(error) => {
+                drop(divisor);
                 drop(terms);
                 Err(error)
             }
         },
         Proof::Split(form, yes, no) => match proof_without(alloc, yes.into_inner(), row) {
             Ok(yes) => match proof_without(alloc, no.into_inner(), row) {
-                Ok(no) => split(alloc, form, yes, no),
+                Ok(no) => by_split(alloc, form, yes, no),
                 Err(error) => {
                     drop(form);
                     drop(yes);

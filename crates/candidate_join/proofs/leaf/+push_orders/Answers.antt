@@ -6,7 +6,7 @@ use Rattle.std.proofs.lemmas.List.{nil_from_length}
 use Rattle.std.proofs.lemmas.Result.{on_ok_weaker}
 use Rattle.candidate_join.specs.Leaves.{order_sums}
 use Rattle.candidate_join.proofs.Sums.{sums_first, sums_last, sums_next, two_and_more}
-use Rattle.lex_max.specs.Paths.{term_of}
+use Rattle.difference_graphs.specs.Paths.{term_of}
 use Rattle.candidate_join.proofs.leaf.+push_orders.Goals as goal
 
 pub unreachable-requires : goal.unreachable-requires

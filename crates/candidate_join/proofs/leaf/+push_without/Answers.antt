@@ -5,7 +5,7 @@ use Rattle.std.specs.Prelude.{All, Contains}
 use Rattle.std.proofs.lemmas.List.{nil_from_length}
 use Rattle.std.proofs.lemmas.List.Elements.{All-head, All-tail}
 use Rattle.std.proofs.lemmas.Result.{on_ok_weaker}
-use Rattle.candidate_order.specs.Joint.{no_orders, write_systems_of}
+use Rattle.difference_graphs.specs.Joint.{no_orders, write_systems_of}
 use Rattle.candidate_order.specs.Reads.{pairs_with, read_in, write_in}
 use Rattle.candidate_join.proofs.LeafSystems.{both_refutations, no_refutations}
 use Rattle.source_tree.specs.Systems.{every, write_systems}

@@ -1,5 +1,5 @@
 use Rattle.std.proofs.Common.{ap, ◌∙◌, sym}
-use Rattle.candidate_order.proofs.TreeNodes.{same_proofs}
+use Rattle.difference_graphs.proofs.Nodes.{same_proofs}
 use Rattle.source_tree.specs.declared.tree.Tree.TheVariants.{Writer}
 use Rattle.candidate_join.proofs.leaf.point_proofs.Goals as goal
 

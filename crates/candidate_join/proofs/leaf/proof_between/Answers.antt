@@ -17,7 +17,7 @@ use Rattle.candidate_join.proofs.Ends.{moved_between, nowhere, outcome_at}
 use Rattle.candidate_order.proofs.Outcomes.{Tells}
 use Rattle.candidate_join.proofs.LeafFacts.{before_asked, best_asked, excluded_level, excluded_refutes, leaf_best}
 use Rattle.candidate_order.specs.Reads.{pair_in}
-use Rattle.lex_max.specs.Asked.{write_of}
+use Rattle.difference_graphs.specs.Asked.{write_of}
 use Rattle.candidate_join.proofs.leaf.proof_between.Goals as goal
 
 pub same_between-requires-clause-best : goal.same_between-requires-clause-best

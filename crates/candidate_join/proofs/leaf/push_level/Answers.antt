@@ -2,13 +2,13 @@
 -- refuted. Each proof is asked anew of the leaf, so a step needs no more than that the leaf stands; nothing is kept
 -- between two levels of the best but the proofs that were added.
 use Rattle.std.proofs.Common.{◌≡◌, ◌++◌, map, subst, arith, take_all}
-use Rattle.candidate_order.specs.Joint.{orders_behind}
+use Rattle.difference_graphs.specs.Joint.{orders_behind}
 use Rattle.candidate_order.specs.Reads.{read_in, write_in}
 use Rattle.candidate_join.proofs.Between.{point_is}
 use Rattle.candidate_join.proofs.Ends.{none_yet, push_next}
 use Rattle.candidate_join.proofs.LeafSystems.{order_rows_count, sum_pushed}
 use Rattle.candidate_join.proofs.LeafFacts.{leaf_best}
-use Rattle.lex_max.specs.Asked.{write_of}
+use Rattle.difference_graphs.specs.Asked.{write_of}
 use Rattle.source_tree.specs.Checked.{AreRefuted}
 use Rattle.source_tree.specs.Systems.{with_rows, with_write_at}
 use Rattle.candidate_join.proofs.leaf.push_level.Goals as goal

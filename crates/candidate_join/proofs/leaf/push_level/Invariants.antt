@@ -1,12 +1,12 @@
 use Rattle.std.proofs.Common.{List, ◌++◌, map, take}
 use Rattle.std.specs.Prelude.{All}
 use Rattle.affine_core.specs.declared.form.Form.{Form}
-use Rattle.candidate_order.specs.Contexts.{IsMadeAs}
-use Rattle.candidate_order.specs.Joint.{orders_behind, IsSum}
+use Rattle.difference_graphs.specs.Contexts.{IsMadeAs}
+use Rattle.difference_graphs.specs.Joint.{orders_behind, IsSum}
 use Rattle.candidate_order.specs.Positions.{IsPointAt}
 use Rattle.candidate_order.specs.Reads.{read_in, write_in}
-use Rattle.lex_max.specs.Asked.{write_of}
-use Rattle.lex_max.specs.Edges.{AreLevelRows}
+use Rattle.difference_graphs.specs.Asked.{write_of}
+use Rattle.difference_graphs.specs.Edges.{AreLevelRows}
 use Rattle.source_tree.specs.Checked.{AreRefuted}
 use Rattle.source_tree.specs.Rows.{RowExpr, RowSystem}
 use Rattle.source_tree.specs.Systems.{Context, with_rows, with_write_at, writer_place}

@@ -3,13 +3,13 @@
 -- levels are the writer's, since level_count is the number of levels that they go over.
 use Rattle.std.proofs.Common.{List, ◌≡◌, ◌++◌, map, take, subst, arith, take_all}
 use Rattle.std.specs.List.{flat_map}
-use Rattle.candidate_order.specs.Joint.{orders_behind}
+use Rattle.difference_graphs.specs.Joint.{orders_behind}
 use Rattle.candidate_order.specs.Reads.{read_in, write_in}
-use Rattle.candidate_order.proofs.Pairs.{pair_is}
+use Rattle.candidate_join.proofs.Pairs.{pair_is}
 use Rattle.candidate_join.proofs.Ends.{flat_push, none_yet}
 use Rattle.candidate_join.proofs.LeafFacts.{leaf_best}
-use Rattle.candidate_order.proofs.LevelCounts.{has_level, level_rows_count}
-use Rattle.lex_max.specs.Asked.{write_of}
+use Rattle.candidate_join.proofs.LevelCounts.{has_level, level_rows_count}
+use Rattle.difference_graphs.specs.Asked.{write_of}
 use Rattle.source_tree.specs.Checked.{AreRefuted}
 use Rattle.source_tree.specs.Places.{before_rows}
 use Rattle.source_tree.specs.Rows.{RowExpr}

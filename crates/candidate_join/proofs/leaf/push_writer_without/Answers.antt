@@ -3,12 +3,12 @@
 -- number of levels that the systems go over.
 use Rattle.std.proofs.Common.{List, ◌≡◌, ◌++◌, [], map, take, subst, arith, take_all}
 use Rattle.std.specs.List.{flat_map}
-use Rattle.candidate_order.specs.Joint.{no_orders}
+use Rattle.difference_graphs.specs.Joint.{no_orders}
 use Rattle.candidate_order.specs.Reads.{read_in, write_in}
-use Rattle.candidate_order.proofs.Pairs.{pair_is}
+use Rattle.candidate_join.proofs.Pairs.{pair_is}
 use Rattle.candidate_join.proofs.Ends.{flat_push, none_yet}
 use Rattle.candidate_join.proofs.LeafSystems.{more_refuted, sum_pushed}
-use Rattle.candidate_order.proofs.LevelCounts.{has_level, level_rows_count}
+use Rattle.candidate_join.proofs.LevelCounts.{has_level, level_rows_count}
 use Rattle.source_tree.specs.Checked.{AreRefuted}
 use Rattle.source_tree.specs.Places.{before_rows}
 use Rattle.source_tree.specs.Rows.{RowExpr}

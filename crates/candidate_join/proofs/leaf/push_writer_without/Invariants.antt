@@ -1,8 +1,8 @@
 use Rattle.std.proofs.Common.{◌++◌, List, map, take}
 use Rattle.std.specs.List.{flat_map}
 use Rattle.std.specs.Prelude.{All}
-use Rattle.candidate_order.specs.Contexts.{IsMadeAs}
-use Rattle.candidate_order.specs.Joint.{no_orders, IsSum}
+use Rattle.difference_graphs.specs.Contexts.{IsMadeAs}
+use Rattle.difference_graphs.specs.Joint.{no_orders, IsSum}
 use Rattle.candidate_order.specs.Reads.{read_in, write_in}
 use Rattle.source_tree.specs.Checked.{AreRefuted}
 use Rattle.source_tree.specs.Places.{before_rows}

@@ -1,10 +1,10 @@
 use Rattle.std.proofs.Common.{◌≡◌, refl, ap, subst}
 use Rattle.std.proofs.lemmas.List.Elements.{All-contains_itself}
-use Rattle.candidate_order.specs.Joint.{head_systems}
+use Rattle.difference_graphs.specs.Joint.{head_systems}
 use Rattle.candidate_order.specs.Reads.{pair_of}
 use Rattle.candidate_join.specs.Leaves.{AddsRefutations}
 use Rattle.candidate_order.specs.Positions.{IsPointAt}
-use Rattle.candidate_order.proofs.Heights.{height_writer}
+use Rattle.difference_graphs.proofs.Heights.{height_writer}
 use Rattle.candidate_join.proofs.Between.{point_is}
 use Rattle.candidate_join.proofs.CandidateLeaves.{writer_tree}
 use Rattle.candidate_join.proofs.LeafFacts.{leaf_best}

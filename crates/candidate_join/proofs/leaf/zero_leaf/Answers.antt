@@ -1,9 +1,9 @@
 use Rattle.std.proofs.Common.{refl, subst}
 use Rattle.std.proofs.lemmas.List.Elements.{All-contains_itself}
-use Rattle.candidate_order.specs.Joint.{no_orders, write_systems_of}
+use Rattle.difference_graphs.specs.Joint.{no_orders, write_systems_of}
 use Rattle.candidate_order.specs.Reads.{pairs_of}
 use Rattle.candidate_join.specs.Leaves.{AddsRefutations}
-use Rattle.candidate_order.proofs.Heights.{height_zero}
+use Rattle.difference_graphs.proofs.Heights.{height_zero}
 use Rattle.candidate_join.proofs.CandidateLeaves.{zero_tree}
 use Rattle.source_tree.specs.declared.tree.Tree.TheVariants.{Zero}
 use Rattle.candidate_join.proofs.leaf.zero_leaf.Goals as goal

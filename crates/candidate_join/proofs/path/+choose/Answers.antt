@@ -13,7 +13,7 @@ use Rattle.affine_core.specs.declared.form.Form.{Form}
 use Rattle.candidate_order.specs.Positions.{IsPointAt}
 use Rattle.candidate_order.specs.Reads.{pair_of}
 use Rattle.candidate_order.specs.declared.candidates.Read.{Read}
-use Rattle.lex_max.specs.Asked.{write_of}
+use Rattle.difference_graphs.specs.Asked.{write_of}
 use Rattle.candidate_join.specs.Leaves.{IsExcluded}
 use Rattle.candidate_join.specs.Joining.{IsBest, IsChoiceSoFar, IsPath}
 use Rattle.candidate_order.specs.declared.seen.Position.{Position}
@@ -85,7 +85,7 @@ returns-in-Some-absent t c =
     let first : c.args.left.now ≡ number ∷ left = search rules in
     let none = none_copied state.best c.in_default-best.not-Some in
     let told = subst (λ o. IfSome o (IsContradicted state.context.now candidate.edges)) c.in-Some-absent.is
-    c.in_ok-absent.ensures in
+    c.in_ok-absent.ensures.some in
     one_absent state number left c.args.out candidate c.in-Some-absent.terms c.requires.path
     (is state c.requires.path c.args.left.now left number c.args.out first c.requires.rest c.index-state-number.result)
     (asked state c.requires.path c.args.left.now left number c.args.out first c.requires.rest

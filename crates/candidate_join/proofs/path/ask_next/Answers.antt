@@ -10,8 +10,8 @@ use Rattle.candidate_join.specs.declared.path.Next.TheVariants.{Compare}
 use Rattle.candidate_join.proofs.Moves.{above_within, below_over, below_within, fewer_left, ready_side}
 use Rattle.candidate_join.proofs.Sides.{standing_there}
 use Rattle.candidate_join.proofs.Walks.{turns_both}
-use Rattle.lex_max.specs.Asked.{write_of}
-use Rattle.lex_max.specs.Facts.{with_form}
+use Rattle.difference_graphs.specs.Asked.{write_of}
+use Rattle.difference_graphs.specs.Facts.{with_form}
 use Rattle.candidate_join.proofs.path.ask_next.Goals as goal
 
 pub test_of_next_loop-requires-clause-points : goal.test_of_next_loop-requires-clause-points

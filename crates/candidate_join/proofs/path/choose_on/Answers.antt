@@ -13,7 +13,7 @@ use Rattle.candidate_join.proofs.Moves.{state_path}
 use Rattle.candidate_join.proofs.PathSteps.{path_less}
 use Rattle.candidate_join.proofs.Turning.{leaf_made, walk_stays}
 use Rattle.candidate_join.proofs.Walks.{turns_some}
-use Rattle.candidate_order.specs.Joint.{IsJoinedTree}
+use Rattle.candidate_order.specs.Reads.{IsJoinedTree}
 use Rattle.candidate_order.specs.Reads.{pair_of}
 use Rattle.candidate_order.specs.Refutations.{RefutesWrites}
 use Rattle.candidate_order.specs.Seen.{best_in, sightings_of}

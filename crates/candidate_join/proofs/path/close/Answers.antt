@@ -4,6 +4,7 @@ use Rattle.candidate_join.specs.Walking.{turns_of_frame, GoesOn, IsClosing}
 use Rattle.std.specs.Prelude.{◌+◌, sum_by}
 use Rattle.candidate_join.specs.declared.path.Step.TheVariants.{Made}
 use Rattle.candidate_join.specs.declared.path.Walk.{Walk}
+use Rattle.candidate_order.specs.Reads.{pairs_of}
 use Rattle.int_polyhedra.specs.declared.system.System.{System}
 use Rattle.std.specs.Prelude.{length}
 use Rattle.tree_trim.specs.Sides.{AreJoinedSides}
@@ -35,6 +36,6 @@ returns-in_ok-made-in-Second c =
     (closed c.args.task.now c.args.walk.now new c.in-Second.form c.in-Second.yes c.args.tree tree h
     (test_made c.args.task.now c.args.walk.now c.in-Second.form c.in-Second.yes c.args.tree tree h
     (c.in_ok-made-in-Second.ensures.tree ∙ ap (λ (s : System). branch_or_test (length s.rows) c.in-Second.form c.in-Second.yes c.args.tree) last.0)
-    (λ sides. c.in_ok-made-in-Second.ensures.joined c.args.task.now.read.now h.context
-    (subst (λ (s : System). AreJoinedSides c.args.task.now.read.now h.context (length s.rows) c.in-Second.form c.in-Second.yes
+    (λ sides. c.in_ok-made-in-Second.ensures.joined (pairs_of c.args.task.now.read.now) h.context
+    (subst (λ (s : System). AreJoinedSides (pairs_of c.args.task.now.read.now) h.context (length s.rows) c.in-Second.form c.in-Second.yes
     c.args.tree) (sym last.0) sides))) last.0 refl refl)

@@ -15,7 +15,7 @@ use Rattle.candidate_join.proofs.Advancing.{after_on, before_on, compares_on, to
 use Rattle.candidate_join.proofs.Moves.{no_more_left}
 use Rattle.candidate_join.proofs.PathSteps.{path_context}
 use Rattle.candidate_join.proofs.Walks.{turns_most}
-use Rattle.lex_max.specs.Asked.{write_of}
+use Rattle.difference_graphs.specs.Asked.{write_of}
 use Rattle.candidate_join.proofs.path.compare_on.Goals as goal
 
 -- the walk, at what is told of the comparison

@@ -1,6 +1,6 @@
 use Rattle.std.proofs.Common.{ap, sym, subst}
 use Rattle.std.proofs.lemmas.Result.{IfOk-weaker}
-use Rattle.lex_max.specs.Facts.{IsContext}
+use Rattle.difference_graphs.specs.Facts.{IsContext}
 use Rattle.candidate_join.proofs.path.enter.Goals as goal
 
 pub dead_leaf-requires : goal.dead_leaf-requires

@@ -5,7 +5,7 @@ use Rattle.std.proofs.Common.{◌≡◌, ◌+◌, length, sym, ap, ◌∙◌, su
 use Rattle.std.specs.Prelude.{IfSome, None, Some, nat_lt, slice_get}
 use Rattle.std.proofs.lemmas.List.{length_push}
 use Rattle.int_polyhedra.specs.declared.system.Proof.TheVariants.{Sum}
-use Rattle.candidate_order.proofs.LevelCounts.{few_before}
+use Rattle.candidate_join.proofs.LevelCounts.{few_before}
 use Rattle.candidate_order.specs.Candidates.{levels_before, IsCandidate}
 use Rattle.candidate_order.specs.Reads.{pair_of}
 use Rattle.candidate_order.specs.Refutations.{IsPointIn, RefutesBetween}
@@ -14,8 +14,8 @@ use Rattle.candidate_join.proofs.Between.{few_levels, point_is}
 use Rattle.candidate_order.proofs.Outcomes.{same_point}
 use Rattle.candidate_join.proofs.LeafFacts.{each_pushed}
 use Rattle.candidate_order.specs.declared.candidates.Read.{Read}
-use Rattle.lex_max.specs.Asked.{write_of}
-use Rattle.lex_max.specs.Level.{common_of}
+use Rattle.difference_graphs.specs.Asked.{write_of}
+use Rattle.difference_graphs.specs.Level.{common_of}
 use Rattle.sanlp.specs.Order.{common_loops}
 use Rattle.source_tree.specs.Systems.{Occurrence}
 use Rattle.candidate_join.proofs.path.exclusions.Goals as goal
@@ -71,7 +71,7 @@ loop-level-preserved c =
     (r : Read) (w : Occurrence) → IsCandidate r candidate → IsPointIn c.args.context.now w place
     → nat_lt level c.common_loops-common.result ≡ nat_lt level (common_of w (write_of candidate.writes))
     → RefutesBetween (pair_of candidate.writes) c.args.context.now candidate.writes.level w place level (Sum ts)))
-    c.in-Some.is c.in_ok-found.ensures in
+    c.in-Some.is c.in_ok-found.ensures.some in
     record {
       count = ap length c.in_ok-push-in-Some.ensures.ok ∙ length_push c.loop-level.sums c.in-Some.terms
           ∙ ap (λ n. n + 1) c.loop-level.invariant.count;

@@ -6,7 +6,7 @@ use Rattle.candidate_order.specs.Candidates.{IsCandidate}
 use Rattle.candidate_order.specs.Reads.{pair_of}
 use Rattle.candidate_order.specs.Refutations.{IsPointIn, RefutesBetween}
 use Rattle.candidate_order.specs.declared.candidates.Read.{Read}
-use Rattle.lex_max.specs.Asked.{write_of}
+use Rattle.difference_graphs.specs.Asked.{write_of}
 use Rattle.candidate_join.proofs.path.exclusions.Given as goal
 
 abbrev pub invariant-loop-level : goal.invariant-loop-level

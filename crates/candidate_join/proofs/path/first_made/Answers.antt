@@ -3,6 +3,7 @@ use Rattle.std.proofs.lemmas.List.{length_push}
 use Rattle.std.specs.Prelude.{length}
 use Rattle.candidate_join.specs.declared.path.Walk.{Walk}
 use Rattle.candidate_join.proofs.Turning.{stands, unnamed_branch}
+use Rattle.candidate_order.specs.Reads.{pairs_of}
 use Rattle.int_polyhedra.specs.declared.system.System.{System}
 use Rattle.candidate_join.proofs.path.first_made.Goals as goal
 
@@ -44,5 +45,5 @@ returns c =
     let unnamed = sym c.tree_names_row.ensures ∙ c.if-tree_names_row.false in
     stands task walk new c.args.count c.args.left c.args.next c.args.yes h _ number unnamed c.in_ok-tree.tree
     c.in_ok-tree.ensures.tree
-    (c.in_ok-tree.ensures.joined task.read.now h.context h.row
+    (c.in_ok-tree.ensures.joined (pairs_of task.read.now) h.context h.row
     (unnamed_branch task walk new c.args.count c.args.left c.args.next c.args.yes h _ number unnamed)) last.0 refl refl

@@ -1,12 +1,12 @@
 use Rattle.std.proofs.Common.{◌≡◌, ◌+◌, ◌++◌, ◌∷◌, ◌<◌, ◌∙◌, [], length, sym, refl, ap, subst, arith}
 use Rattle.std.specs.Prelude.{Some}
 use Rattle.std.proofs.lemmas.Result.{IfOk-weaker}
-use Rattle.candidate_order.specs.Heights.{height_of}
+use Rattle.difference_graphs.specs.Heights.{height_of}
 use Rattle.candidate_order.specs.Positions.{IsAt, IsNode}
 use Rattle.candidate_order.specs.Seen.{absent_at, best_in, sightings_of}
 use Rattle.candidate_order.specs.declared.seen.Position.{Position}
-use Rattle.candidate_order.proofs.Heights.{height_sides}
-use Rattle.candidate_order.proofs.TreeNodes.{simple_kinds}
+use Rattle.difference_graphs.proofs.Heights.{height_sides}
+use Rattle.difference_graphs.proofs.Nodes.{simple_kinds}
 use Rattle.candidate_join.specs.Walking.{height, most_turns, AreSides}
 use Rattle.candidate_join.specs.declared.path.Next.TheVariants.{Follow}
 use Rattle.candidate_join.proofs.Advancing.{zero_on}
@@ -16,8 +16,9 @@ use Rattle.candidate_join.proofs.PathSteps.{path_context, path_context_less, pat
 use Rattle.candidate_join.proofs.Walks.{turns_both, turns_most}
 use Rattle.candidate_join.proofs.NoCandidate.{zero_sum}
 use Rattle.int_polyhedra.specs.declared.system.Proof.TheVariants.{Sum}
-use Rattle.lex_max.specs.Paths.{term_of}
+use Rattle.difference_graphs.specs.Paths.{term_of}
 use Rattle.source_tree.specs.declared.tree.Tree.TheVariants.{Zero}
+use Rattle.source_tree.proofs.Views.{boxed_test}
 use Rattle.candidate_join.proofs.path.follow_on.Goals as goal
 
 pub follow-requires-clause-context : goal.follow-requires-clause-context
@@ -52,12 +53,15 @@ ask-requires-clause-sides c =
     c.in_ok-below-in-Test.ensures.rows ∙ ap (λ xs. xs ++ (term_of c.len-here.result ∷ []) ∷ []) c.as_slice-in-Test.ensures
     ∙ ap (λ n. rows ++ (term_of n ∷ []) ∷ []) c.len-here.ensures in
     let is_node = c.in_ok-node.ensures.node candidate c.requires.1.1.node in
-    let sides = followed_sides r context candidate node.now rows c.in-Test.form c.in-Test.yes c.in-Test.no c.in-Test.is
+    let sides = followed_sides r context candidate node.now rows c.get-form.result.now c.in-Test.yes c.in-Test.no
+    (boxed_test c.in-Test.yes c.in-Test.no c.in-Test.is c.get-form.ensures)
     c.requires.1.1.candidate is_node above below c.in_ok-above-in-Test.ensures.candidate c.in_ok-below-in-Test.ensures.candidate
     (c.in_ok-above-in-Test.ensures.node ∙ c.get.ensures) (c.in_ok-below-in-Test.ensures.node ∙ c.get-in-Test.ensures) rows_above rows_below in
-    let test = followed_form r context candidate node.now rows c.in-Test.form c.in-Test.yes c.in-Test.no c.in-Test.is
+    let test = followed_form r context candidate node.now rows c.get-form.result.now c.in-Test.yes c.in-Test.no
+    (boxed_test c.in-Test.yes c.in-Test.no c.in-Test.is c.get-form.ensures)
     c.requires.1.1.candidate is_node in
-    let low = height_sides node.now c.in-Test.form c.in-Test.yes c.in-Test.no c.in-Test.is in
+    let low = height_sides node.now c.get-form.result.now c.in-Test.yes c.in-Test.no
+    (boxed_test c.in-Test.yes c.in-Test.no c.in-Test.is c.get-form.ensures) in
     let form_is = c.copy.ensures in
     let low_above : height_of above.node.now < height_of at.node.now =
     omega (arith, ap height_of (c.in_ok-above-in-Test.ensures.node ∙ c.get.ensures), low.0, c.in_ok-node.ensures.lower) in
@@ -66,12 +70,14 @@ ask-requires-clause-sides c =
     subst (λ form. AreSides task walk form (Follow above) (Follow below)) (sym form_is)
     (record {
       test = test;
-      above = ready_side r task.candidates.now context walk.seen walk.left (Follow at) (Follow above) c.in-Test.form path
+      above = ready_side r task.candidates.now context walk.seen walk.left (Follow at) (Follow above)
+          c.get-form.result.now path
           (omega (arith, low_above)) (ap Some c.in_ok-above-in-Test.ensures.candidate) test.over
-          (above_within context c.in-Test.form test) sides.0;
+          (above_within context c.get-form.result.now test) sides.0;
       below = λ other negated. ready_side r task.candidates.now context walk.seen walk.left (Follow at) (Follow below) other
           path (omega (arith, low_below)) (ap Some c.in_ok-below-in-Test.ensures.candidate)
-          (below_over context c.in-Test.form other test negated) (below_within context c.in-Test.form other test negated)
+          (below_over context c.get-form.result.now other test negated)
+          (below_within context c.get-form.result.now other test negated)
           (sides.1 other negated);
     })
 
@@ -80,7 +86,8 @@ returns-in-Test c =
     let at = c.args.at in
     let n = length c.args.walk.now.left in
     let node = c.in_ok-node.field-0.node in
-    let low = height_sides node.now c.in-Test.form c.in-Test.yes c.in-Test.no c.in-Test.is in
+    let low = height_sides node.now c.get-form.result.now c.in-Test.yes c.in-Test.no
+    (boxed_test c.in-Test.yes c.in-Test.no c.in-Test.is c.get-form.ensures) in
     let above = c.in_ok-above-in-Test.above in
     let below = c.in_ok-below-in-Test.below in
     let low_above : height_of above.node.now < height_of at.node.now =

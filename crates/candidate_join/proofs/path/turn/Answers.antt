@@ -4,7 +4,7 @@ use Rattle.candidate_join.specs.declared.path.Step.TheVariants.{Made, On}
 use Rattle.candidate_join.specs.declared.path.Walk.{Walk}
 use Rattle.candidate_join.proofs.Turning.{dead_made, kept_seen, ready_context, second_is, second_ready, turned}
 use Rattle.int_polyhedra.specs.Steps.{negation_of}
-use Rattle.lex_max.specs.Facts.{with_form, IsContext}
+use Rattle.difference_graphs.specs.Facts.{with_form, IsContext}
 use Rattle.row_sums.proofs.Within.{IsWithin-weaker}
 use Rattle.row_sums.specs.Parts.{IsWithin}
 use Rattle.std.specs.Prelude.{Some}

@@ -4,7 +4,7 @@ use Rattle.std.proofs.lemmas.Option.{IfSome_then}
 use Rattle.std.proofs.lemmas.Result.{IfOk-weaker}
 use Rattle.candidate_order.specs.Absence.{AreOut, IsContradicted}
 use Rattle.candidate_order.proofs.Rounds.{out_next}
-use Rattle.lex_max.specs.declared.edges.Edge.{Edge}
+use Rattle.difference_graphs.specs.declared.edges.Edge.{Edge}
 use Rattle.candidate_order.proofs.absence.+by_outs.Goals as goal
 
 pub by_out-requires-clause-out : goal.by_out-requires-clause-out

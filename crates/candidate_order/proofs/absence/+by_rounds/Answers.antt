@@ -4,7 +4,7 @@ use Rattle.std.proofs.lemmas.Option.{IfSome_then}
 use Rattle.std.proofs.lemmas.Result.{IfOk-weaker}
 use Rattle.candidate_order.specs.Absence.{AreBack, IsContradicted}
 use Rattle.candidate_order.proofs.Rounds.{back_next}
-use Rattle.lex_max.specs.declared.edges.Edge.{Edge}
+use Rattle.difference_graphs.specs.declared.edges.Edge.{Edge}
 use Rattle.candidate_order.proofs.absence.+by_rounds.Goals as goal
 
 pub by_back-requires-clause-back : goal.by_back-requires-clause-back

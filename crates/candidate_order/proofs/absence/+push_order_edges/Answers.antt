@@ -11,7 +11,7 @@ use Rattle.candidate_order.specs.Comparisons.{AreForms}
 use Rattle.candidate_order.proofs.OrderEdges.{back_edge, forms_rest, less_edge, near_back, near_less, near_out}
 use Rattle.candidate_order.proofs.OrderEdges.{one_pushed, orders_behind, orders_end, orders_equal, orders_less}
 use Rattle.candidate_order.proofs.OrderEdges.{orders_same, out_edge}
-use Rattle.lex_max.specs.declared.edges.Edge.{Edge}
+use Rattle.difference_graphs.specs.declared.edges.Edge.{Edge}
 use Rattle.row_sums.specs.Parts.{IsWithin}
 use Rattle.row_sums.proofs.Within.{IsWithin-weaker}
 use Rattle.candidate_order.proofs.absence.+push_order_edges.Goals as goal

@@ -1,13 +1,15 @@
 use Rattle.std.proofs.Common.{◌+◌, ◌^◌, ◌<◌, ◌++◌, [], length, sym, ap, ◌∙◌, subst}
 use Rattle.std.specs.Prelude.{All}
 use Rattle.std.proofs.lemmas.Option.{IfSome_then}
+use Rattle.candidate_order.specs.Absence.{NoRowRefutesCycle}
 use Rattle.std.proofs.lemmas.Result.{IfOk-weaker}
 use Rattle.int_polyhedra.specs.declared.system.Term.{Term}
-use Rattle.lex_max.specs.Answer.{IsCycle}
-use Rattle.lex_max.specs.Asked.{depth_of_write}
-use Rattle.lex_max.specs.Closed.{IsClosure, IsNegativeCycle}
-use Rattle.lex_max.specs.Paths.{terms_from}
+use Rattle.difference_graphs.specs.Cycles.{IsCycle}
+use Rattle.difference_graphs.specs.Asked.{depth_of_write}
+use Rattle.difference_graphs.specs.Closed.{IsClosure, IsNegativeCycle}
+use Rattle.difference_graphs.specs.Paths.{terms_from}
 use Rattle.candidate_order.proofs.Absent.{candidate_context}
+use Rattle.difference_graphs.proofs.FactLemmas.{none_then}
 use Rattle.candidate_order.proofs.Rounds.{negative_is_contradicted, own_fits, rows_fit}
 use Rattle.candidate_order.proofs.absence.absence_of.Goals as goal
 
@@ -22,8 +24,8 @@ refutation-requires-clause-rows c =
     (rows_fit context candidate.edges c.in-Negative.rows
     (own_fits context a.0 candidate a.1 c.requires.context) negative.path.name_edges)
 
-pub returns-in_ok-refutation-in-Negative : goal.returns-in_ok-refutation-in-Negative
-returns-in_ok-refutation-in-Negative c =
+pub returns-in_ok-refutation-in-Negative-clause-some : goal.returns-in_ok-refutation-in-Negative-clause-some
+returns-in_ok-refutation-in-Negative-clause-some c =
     let a = c.requires.candidate in
     let candidate = c.args.candidate.now in
     let context = c.args.context.now in
@@ -48,8 +50,8 @@ by_cycles-requires-clause-cycles c =
           (subst (λ v. All (IsCycle v candidate.edges) candidate.cycles) (sym c.requires.context.vars_are) a.1.cycles),
     )
 
-pub returns-in-Closed : goal.returns-in-Closed
-returns-in-Closed c =
+pub returns-in-Closed-clause-some : goal.returns-in-Closed-clause-some
+returns-in-Closed-clause-some c =
     let a = c.requires.candidate in
     let candidate = c.args.candidate.now in
     let context = c.args.context.now in
@@ -57,4 +59,16 @@ returns-in-Closed c =
     let all = subst (λ cycles. All (IsCycle context.vars candidate.edges) cycles) (sym c.as_slice-in-Closed.ensures)
     (subst (λ v. All (IsCycle v candidate.edges) candidate.cycles) (sym c.requires.context.vars_are) a.1.cycles) in
     IfOk-weaker c.by_cycles.result _ _
-    (λ found h. IfSome_then found h (λ ts told. told candidate.edges fit all)) c.by_cycles.ensures
+    (λ found h. IfSome_then found h (λ ts told. told candidate.edges fit all)) c.by_cycles.ensures.some
+
+pub returns-in-Closed-clause-none : goal.returns-in-Closed-clause-none
+returns-in-Closed-clause-none c =
+    let context = c.args.context.now in
+    IfOk-weaker c.by_cycles.result _ _
+    (λ found h. none_then found _ _ h
+    (λ cycles. record {
+      bounds = c.in-Closed.field-0;
+      closed = c.in-Closed.is;
+      cycles = subst (All (NoRowRefutesCycle context)) c.as_slice-in-Closed.ensures cycles;
+    }))
+    c.by_cycles.ensures.none

@@ -7,7 +7,7 @@ use Rattle.std.proofs.lemmas.Result.{IfOk-weaker}
 use Rattle.candidate_order.specs.Absence.{AreBack, AreNumbered, IsContradicted}
 use Rattle.candidate_order.proofs.Absent.{candidate_context}
 use Rattle.candidate_order.proofs.Rounds.{numbered_behind, numbered_first, with_orders}
-use Rattle.lex_max.specs.declared.edges.Edge.{Edge}
+use Rattle.difference_graphs.specs.declared.edges.Edge.{Edge}
 use Rattle.candidate_order.proofs.absence.by_orders.Goals as goal
 
 pub by_rounds-requires-clause-context : goal.by_rounds-requires-clause-context

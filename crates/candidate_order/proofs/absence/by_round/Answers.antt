@@ -5,11 +5,11 @@ use Rattle.affine_core.specs.declared.form.Form.{Form}
 use Rattle.affine_core.specs.Affine.{form_sum}
 use Rattle.int_polyhedra.specs.declared.system.Term.{Term}
 use Rattle.int_polyhedra.specs.Steps.{negation_of}
-use Rattle.lex_max.specs.declared.closure.Bound.{Bound}
-use Rattle.lex_max.specs.declared.edges.Edge.{Edge}
-use Rattle.lex_max.specs.Facts.{form_parts, IsFact}
-use Rattle.lex_max.specs.Paths.{term_of, terms_from}
-use Rattle.lex_max.proofs.ZeroCycles.{round_form, round_terms}
+use Rattle.difference_graphs.specs.declared.closure.Bound.{Bound}
+use Rattle.difference_graphs.specs.declared.edges.Edge.{Edge}
+use Rattle.difference_graphs.specs.Facts.{form_parts, IsFact}
+use Rattle.difference_graphs.specs.Paths.{term_of, terms_from}
+use Rattle.difference_graphs.proofs.ZeroCycles.{round_form, round_terms}
 use Rattle.candidate_order.proofs.NextLoop.{negation_over}
 use Rattle.candidate_order.proofs.Rounds.{even, form_over, form_small, round_contradicts, rows_fit, rows_named}
 use Rattle.candidate_order.proofs.Rounds.{sum_small}
@@ -98,7 +98,7 @@ returns c = λ edges fit a.
     let bound = c.args.bound.now in
     let shown = c.in-Some.shown in
     let fact : IsFact context 65536 (form_parts c.opposite.result) shown = subst
-    (λ o. IfSome o (IsFact context 65536 (form_parts c.opposite.result))) c.in-Some.is c.in_ok-found.ensures in
+    (λ o. IfSome o (IsFact context 65536 (form_parts c.opposite.result))) c.in-Some.is c.in_ok-found.ensures.some in
     let form = form_is out back bound c.sum.result c.form_beyond-form.result c.sum.ensures c.form_beyond-form.ensures in
     let is = rows_are (term_of c.args.out_number) (term_of c.args.back_number) bound.terms c.as_slice.result.now
     c.new-rows.result c.push.new.self c.append.new.out c.push-2.new.self c.new-rows.ensures

@@ -7,14 +7,14 @@ use Rattle.candidate_order.specs.Absence.{AddsOrderEdges, IsContradicted, IsNear
 use Rattle.candidate_order.proofs.Absent.{between_by_orders, between_refuted, path_of}
 use Rattle.candidate_order.proofs.absence.exclusion.Goals as goal
 
-pub returns-in_default : goal.returns-in_default
-returns-in_default c =
+pub returns-in_default-clause-some : goal.returns-in_default-clause-some
+returns-in_default-clause-some c =
     let context = c.args.context.now in
     let candidate = c.args.candidate.now in
     IfOk-weaker c.absence_of.result _ _
     (λ found h. IfSome_then found h
     (λ ts told r w is point within. between_refuted r context candidate ts w c.args.place.now c.args.level is
-    (path_of r context 0 candidate is c.requires.context) point told)) c.absence_of.ensures
+    (path_of r context 0 candidate is c.requires.context) point told)) c.absence_of.ensures.some
 
 pub push_order_edges-requires-clause-forms : goal.push_order_edges-requires-clause-forms
 push_order_edges-requires-clause-forms c = let p = c.requires.place in (c.args.context.now.vars, p.1.forms)
@@ -40,8 +40,8 @@ by_orders-requires-clause-few c = omega (
   c.requires.level,
 )
 
-pub returns-in-Some : goal.returns-in-Some
-returns-in-Some c = λ r w is point within.
+pub returns-in-Some-clause-some : goal.returns-in-Some-clause-some
+returns-in-Some-clause-some c = λ r w is point within.
     let context = c.args.context.now in
     let candidate = c.args.candidate.now in
     let orders = c.push_order_edges.new.edges in
@@ -54,11 +54,11 @@ returns-in-Some c = λ r w is point within.
     c.depth-zero.ensures within adds
     (subst (λ orders. IsContradicted context (candidate.edges ++ orders) c.in-Some.terms) c.as_slice.ensures told)
 
-pub returns : goal.returns
-returns c =
+pub returns-clause-some : goal.returns-clause-some
+returns-clause-some c =
     let context = c.args.context.now in
     let candidate = c.args.candidate.now in
     IfOk-weaker c.absence_of-in-None.result _ _
     (λ found h. IfSome_then found h
     (λ ts told r w is point within. between_refuted r context candidate ts w c.args.place.now c.args.level is
-    (path_of r context 0 candidate is c.requires.context) point told)) c.absence_of-in-None.ensures
+    (path_of r context 0 candidate is c.requires.context) point told)) c.absence_of-in-None.ensures.some

@@ -1,7 +1,7 @@
 use Rattle.std.proofs.Common.{◌+◌, ◌<◌, ◌^◌, ◌++◌, ap, ◌∙◌, sym, subst}
 use Rattle.std.specs.Prelude.{All}
 use Rattle.int_polyhedra.specs.declared.system.Term.{Term}
-use Rattle.lex_max.specs.Paths.{terms_from}
+use Rattle.difference_graphs.specs.Paths.{terms_from}
 use Rattle.candidate_order.proofs.absence.refutation.Goals as goal
 
 pub append_from-requires : goal.append_from-requires

@@ -9,7 +9,7 @@ use Rattle.candidate_order.specs.declared.compare.Comparison.TheVariants.{Later}
 use Rattle.candidate_order.specs.declared.order.Equality.{Equality}
 use Rattle.candidate_order.proofs.NextLoop.{earlier_by_loop, few_had, later_by_loop, next_best, next_less, next_new}
 use Rattle.candidate_order.proofs.NextLoop.{none_had, one_more_equal}
-use Rattle.lex_max.specs.Facts.{form_parts, IsFact}
+use Rattle.difference_graphs.specs.Facts.{form_parts, IsFact}
 use Rattle.candidate_order.proofs.compare.+compare_points.Goals as goal
 use Rattle.row_sums.proofs.Within.{IsWithin-weaker}
 
@@ -92,7 +92,7 @@ returns-in-Some-clause-order t c = λ w u p.
     (c.gap-more.ensures context.vars p.best_forms p.new_forms) in
     let fact : IsFact context 65536 (form_parts c.less_one.result) c.in-Some.terms
     = subst (λ found. IfSome found (IsFact context 65536 (form_parts c.less_one.result))) c.in-Some.is
-    c.in_ok-is_less.ensures in
+    c.in_ok-is_less.ensures.some in
     subst (IsComparison context w u pair) (sym c.earlier.ensures)
     (earlier_by_loop context w u pair p equal c.requires.so_far.equal lt c.gap-more.result c.in-Some.terms g
     (subst (λ f. IsFact context 65536 (form_parts f) c.in-Some.terms) c.less_one.ensures fact))
@@ -106,7 +106,7 @@ returns-in-Some-is_more-clause-order t c =
     let lt : length equal < pair.common = omega (arith, c.if-at-pair.false, c.len-at.ensures) in
     let fact : IsFact context 65536 (form_parts c.less_one-3.result) terms
     = subst (λ found. IfSome found (IsFact context 65536 (form_parts c.less_one-3.result))) c.in-Some-is_more.is
-    c.in_ok-is_more.ensures in
+    c.in_ok-is_more.ensures.some in
     IfOk-weaker c.later.result _ _
     (λ comparison is w u p.
     (let g : IsGap context.vars pair.new.now pair.best.now (length equal) c.gap-less.result

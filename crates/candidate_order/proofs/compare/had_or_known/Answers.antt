@@ -14,9 +14,9 @@ returns-in-Some-clause-kept c = omega (arith, ap count_had c.in-Some.is)
 pub returns-in-None-clause-had : goal.returns-in-None-clause-had
 returns-in-None-clause-had c =
     IfOk-weaker c.known.result _ _ (λ found known a b l gap had. had_from_known c.args.context.now a b l c.args.form.now
-    found gap known) c.known.ensures
+    found gap known) c.known.ensures.some
 
 pub returns-in-None-clause-kept : goal.returns-in-None-clause-kept
 returns-in-None-clause-kept c =
     let none : count_had c.args.had ≡ 0 = ap count_had c.in-None.is in
-    IfOk-weaker c.known.result _ _ (λ found known. omega (arith, none)) c.known.ensures
+    IfOk-weaker c.known.result _ _ (λ found known. omega (arith, none)) c.known.ensures.some

@@ -5,7 +5,7 @@ use Rattle.candidate_order.specs.Comparisons.{count_had, facts_had, IsGap, Tells
 use Rattle.candidate_order.specs.Orders.{turned_equal}
 use Rattle.candidate_order.specs.declared.compare.Comparison.TheVariants.{Earlier, Later, Open}
 use Rattle.candidate_order.proofs.NextLoop.{asks_both, asks_lower, asks_upper, next_best, next_new}
-use Rattle.lex_max.specs.Paths.{term_of}
+use Rattle.difference_graphs.specs.Paths.{term_of}
 use Rattle.candidate_order.proofs.compare.test_of_next_loop.Goals as goal
 use Rattle.row_sums.proofs.Within.{IsWithin-weaker}
 

@@ -5,7 +5,7 @@ use Rattle.std.proofs.Common.{◌≡◌, ◌∷◌, ◌+◌, ◌&&◌, [], true,
 use Rattle.std.specs.List.{list_all}
 use Rattle.std.proofs.lemmas.Bool.{eq-eqb}
 use Rattle.std.proofs.lemmas.List.{nil_from_length}
-use Rattle.lex_max.specs.Class.{writes_differences}
+use Rattle.difference_graphs.specs.Class.{writes_differences}
 use Rattle.last_writer.proofs.ReadClass.{differences_none, differences_some}
 use Rattle.source_tree.specs.Systems.{writes_from, Occurrence}
 use Rattle.last_writer.proofs.class.+all_write_differences.Goals as goal

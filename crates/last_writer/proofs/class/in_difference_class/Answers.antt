@@ -2,7 +2,7 @@ use Rattle.std.proofs.Common.{◌≡◌, ◌<◌, length, sym, ap, ◌∙◌, ar
 use Rattle.std.specs.Prelude.{Some, slice_get}
 use Rattle.std.specs.List.{list_all}
 use Rattle.std.proofs.lemmas.Option.{slice_get_read}
-use Rattle.lex_max.specs.Class.{writes_differences}
+use Rattle.difference_graphs.specs.Class.{writes_differences}
 use Rattle.last_writer.proofs.ReadClass.{class_of}
 use Rattle.sanlp.specs.declared.nest.Access.{Access}
 use Rattle.sanlp.proofs.ReadCounts.{read_count-some}

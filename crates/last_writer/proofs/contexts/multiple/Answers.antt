@@ -5,7 +5,7 @@ use Rattle.std.specs.Result.{result_ok}
 use Rattle.std.proofs.lemmas.Int.{to_z-of_z}
 use Rattle.affine_core.specs.Affine.{form_product}
 use Rattle.affine_core.specs.Within.{form_in_128_bits}
-use Rattle.lex_max.proofs.OrderEdges.{variable_within}
+use Rattle.difference_graphs.proofs.OrderEdges.{variable_within}
 use Rattle.row_sums.specs.Parts.{IsWithin}
 use Rattle.row_sums.proofs.Bound.{in_bits_within, product_within}
 use Rattle.last_writer.proofs.contexts.multiple.Goals as goal

@@ -5,7 +5,7 @@ use Rattle.std.specs.Prelude.{All}
 use Rattle.std.proofs.lemmas.List.{length-append, nil_from_length}
 use Rattle.std.proofs.lemmas.List.Elements.{All-head, All-tail}
 use Rattle.std.proofs.lemmas.Result.{IfOk-weaker}
-use Rattle.candidate_order.specs.Joint.{IsSum}
+use Rattle.difference_graphs.specs.Joint.{IsSum}
 use Rattle.last_writer.proofs.OrderSteps.{none_told, only_level, order_step, orders_none, small_both}
 use Rattle.source_tree.specs.Checked.{IsRefuted}
 use Rattle.stride_trees.specs.Contexts.{own_system, told_system, IsTestedContext}

@@ -3,7 +3,7 @@ use Rattle.std.specs.Prelude.{All}
 use Rattle.std.proofs.lemmas.List.{append-nil, append_assoc, nil_from_length}
 use Rattle.std.proofs.lemmas.List.Elements.{All-head, All-tail}
 use Rattle.std.proofs.lemmas.Result.{on_ok_weaker}
-use Rattle.candidate_order.specs.Joint.{IsSum}
+use Rattle.difference_graphs.specs.Joint.{IsSum}
 use Rattle.int_polyhedra.specs.declared.system.Proof.TheVariants.{Sum}
 use Rattle.last_writer.proofs.leaves.+push_sums.Goals as goal
 

@@ -1,5 +1,5 @@
 use Rattle.std.proofs.Common.{arith}
-use Rattle.candidate_order.proofs.LevelCounts.{few_before}
+use Rattle.candidate_join.proofs.LevelCounts.{few_before}
 use Rattle.last_writer.proofs.leaves.after_count.Goals as goal
 use Rattle.source_tree.specs.References.{occurrence_of}
 

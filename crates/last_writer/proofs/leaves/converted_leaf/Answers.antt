@@ -1,7 +1,7 @@
 -- A leaf's proofs are those for all writers.
 use Rattle.std.proofs.Common.{refl, sym, subst}
 use Rattle.std.specs.Prelude.{All}
-use Rattle.candidate_order.specs.Joint.{no_orders, write_systems_of, IsSum}
+use Rattle.difference_graphs.specs.Joint.{no_orders, write_systems_of, IsSum}
 use Rattle.last_writer.proofs.TreeConversion.{dead_converts, point_converts, zero_converts}
 use Rattle.last_writer.proofs.Nodes.{joined_point, joined_zero}
 use Rattle.last_writer.proofs.Opens.{checked_kinds}

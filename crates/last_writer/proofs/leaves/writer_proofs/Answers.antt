@@ -5,7 +5,7 @@ use Rattle.std.specs.Prelude.{All}
 use Rattle.std.specs.List.{flat_map}
 use Rattle.std.proofs.lemmas.List.Elements.{All-contains, All-drop, All-take}
 use Rattle.affine_core.specs.declared.form.Form.{Form}
-use Rattle.candidate_order.specs.Joint.{orders_behind, IsSum}
+use Rattle.difference_graphs.specs.Joint.{orders_behind, IsSum}
 use Rattle.int_polyhedra.specs.declared.system.Proof.{Proof}
 use Rattle.last_writer.proofs.WriterLeaves.{cells_inside, count_inside, first, front_is, is_place, is_told_here, last_is, leaf_writer}
 use Rattle.last_writer.proofs.WriterLeaves.{middle_is, own_point, place_count, second, writer_fits}

@@ -1,5 +1,5 @@
 use Rattle.std.proofs.Common.{[], refl, sym, subst}
-use Rattle.candidate_order.specs.Joint.{no_orders}
+use Rattle.difference_graphs.specs.Joint.{no_orders}
 use Rattle.last_writer.proofs.TreeConversion.{all_written}
 use Rattle.source_tree.specs.Checked.{AreRefuted}
 use Rattle.last_writer.proofs.leaves.zero_proofs.Goals as goal

@@ -3,7 +3,7 @@
 use Rattle.std.proofs.Common.{◌≡◌, length, sym, ap, subst, arith}
 use Rattle.std.proofs.lemmas.List.Elements.{All-weaker}
 use Rattle.std.proofs.lemmas.Result.{IfOk-weaker}
-use Rattle.candidate_order.specs.Contexts.{IsMadeAs}
+use Rattle.difference_graphs.specs.Contexts.{IsMadeAs}
 use Rattle.int_polyhedra.specs.declared.system.System.{System}
 use Rattle.last_writer.proofs.JointTrees.{below_here, joined_below, pairs_joined, read_joined}
 use Rattle.last_writer.proofs.LeafConversion.{zip_count}

@@ -6,10 +6,10 @@ use Rattle.std.proofs.lemmas.List.Sums.{sum_by-cons}
 use Rattle.std.proofs.lemmas.Result.{IfOk-weaker}
 use Rattle.affine_core.specs.declared.form.Form.{Form}
 use Rattle.lex_max.specs.Answer.{IsAnswer, IsContextOf}
-use Rattle.lex_max.specs.Asked.{depth_of_write}
+use Rattle.difference_graphs.specs.Asked.{depth_of_write}
 use Rattle.lex_max.specs.ChoiceSteps.{IsChoiceStep, IsFollowed, IsSmallForm}
 use Rattle.lex_max.specs.Choices.{choices_left, IsChoosing}
-use Rattle.lex_max.specs.Facts.{with_form}
+use Rattle.difference_graphs.specs.Facts.{with_form}
 use Rattle.lex_max.proofs.LeastForm.{choices_behind}
 use Rattle.lex_max.proofs.DecisionContexts.{chosen_all, choosing_end, choosing_start, choosing_step, context_is}
 use Rattle.lex_max.proofs.DecisionContexts.{context_more, few_uppers, next_more, opposite_is, opposite_long, opposite_small}

@@ -4,7 +4,8 @@ use Rattle.std.specs.Prelude.{All, IfSome}
 use Rattle.std.proofs.lemmas.List.Elements.{All-head, All-tail}
 use Rattle.std.proofs.lemmas.Result.{IfOk-weaker}
 use Rattle.affine_core.specs.declared.form.Form.{Form}
-use Rattle.lex_max.specs.Answer.{IsAnswer, IsCycle}
+use Rattle.lex_max.specs.Answer.{IsAnswer}
+use Rattle.difference_graphs.specs.Cycles.{IsCycle}
 use Rattle.lex_max.proofs.DecisionContexts.{context_is, context_more}
 use Rattle.lex_max.proofs.ZeroLeaves.{answer_wider, context_less}
 use Rattle.lex_max.proofs.decide.+conditions.Goals as goal

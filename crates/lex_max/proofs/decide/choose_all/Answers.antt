@@ -4,7 +4,7 @@ use Rattle.std.proofs.lemmas.Result.{IfOk-weaker}
 use Rattle.lex_max.specs.Choices.{choices_left}
 use Rattle.lex_max.proofs.DecisionContexts.{choosing_start, few_tests, few_uppers, next_first, none_chosen}
 use Rattle.lex_max.proofs.DecisionContexts.{some_upper}
-use Rattle.lex_max.proofs.ProblemBounds.{asked_fits}
+use Rattle.difference_graphs.proofs.ProblemBounds.{asked_fits}
 use Rattle.lex_max.proofs.ZeroLeaves.{answer_wider, context_less}
 use Rattle.lex_max.proofs.decide.choose_all.Goals as goal
 

@@ -1,7 +1,7 @@
 use Rattle.std.proofs.Common.{ℕ, sym, ◌∙◌, subst}
 use Rattle.std.specs.Prelude.{IfSome}
 use Rattle.lex_max.specs.Answer.{IsAnswer}
-use Rattle.lex_max.specs.Facts.{form_parts, IsFact}
+use Rattle.difference_graphs.specs.Facts.{form_parts, IsFact}
 use Rattle.lex_max.proofs.DecisionContexts.{context_is, cycle_fact}
 use Rattle.lex_max.proofs.decide.cycle_state.Goals as goal
 
@@ -16,7 +16,7 @@ pub returns-in-Some : goal.returns-in-Some
 returns-in-Some c = λ edges place edge parts.
     let form = c.args.cycle.now.form in
     let told = subst (λ o. IfSome o (IsFact c.args.context.now 65536 (form_parts form))) c.in-Some.is
-    c.in_ok-terms.ensures in
+    c.in_ok-terms.ensures.some in
     cycle_fact c.args.context.now place edge form c.in-Some.terms parts told
 
 pub returns-in-Some-2 : goal.returns-in-Some-2

@@ -2,14 +2,14 @@ use Rattle.std.proofs.Common.{◌≡◌, List, subst, arith}
 use Rattle.std.specs.Prelude.{IfOk, IfSome}
 use Rattle.affine_core.specs.declared.form.Form.{Form}
 use Rattle.int_polyhedra.specs.declared.system.System.{System}
-use Rattle.lex_max.specs.Asked.{depth_of_write}
+use Rattle.difference_graphs.specs.Asked.{depth_of_write}
 use Rattle.lex_max.specs.Choices.{chosen_place}
-use Rattle.lex_max.specs.Edges.{edge_parts, IsEdge}
+use Rattle.difference_graphs.specs.Edges.{edge_parts, IsEdge}
 use Rattle.lex_max.specs.EdgeStates.{IsEdgeState}
-use Rattle.lex_max.specs.Facts.{form_parts}
+use Rattle.difference_graphs.specs.Facts.{form_parts}
 use Rattle.lex_max.specs.declared.decide.EdgeState.{EdgeState}
-use Rattle.lex_max.specs.declared.edges.Edge.{Edge}
-use Rattle.lex_max.specs.declared.writes.Writes.{Writes}
+use Rattle.difference_graphs.specs.declared.edges.Edge.{Edge}
+use Rattle.difference_graphs.specs.declared.writes.Writes.{Writes}
 use Rattle.lex_max.proofs.Uppers.{edge_at}
 use Rattle.row_sums.specs.Parts.{Part}
 use Rattle.lex_max.proofs.decide.edge_state.Goals as goal

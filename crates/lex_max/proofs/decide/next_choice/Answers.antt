@@ -4,9 +4,9 @@ use Rattle.std.proofs.lemmas.Result.{IfOk-weaker}
 use Rattle.affine_core.specs.declared.form.Form.{Form}
 use Rattle.int_polyhedra.specs.declared.system.Term.{Term}
 use Rattle.lex_max.specs.Choices.{with_terms, IsNextChoice}
-use Rattle.lex_max.specs.Facts.{form_parts, IsFact}
+use Rattle.difference_graphs.specs.Facts.{form_parts, IsFact}
 use Rattle.lex_max.proofs.DecisionContexts.{next_kept, next_switched}
-use Rattle.lex_max.proofs.Small.{negative_over}
+use Rattle.difference_graphs.proofs.Small.{negative_over}
 use Rattle.lex_max.proofs.decide.next_choice.Goals as goal
 
 pub returns-in-Some : goal.returns-in-Some
@@ -16,7 +16,7 @@ returns-in-Some c =
     let form = c.args.form.now in
     let above = c.args.above.now in
     let terms = c.in-Some.terms in
-    let fact = subst (λ o. IfSome o (IsFact context 65536 (form_parts above))) c.in-Some.is c.in_ok-found.ensures
+    let fact = subst (λ o. IfSome o (IsFact context 65536 (form_parts above))) c.in-Some.is c.in_ok-found.ensures.some
     in
     IfOk-weaker c.kept_choice.result _ _
     (λ next is.
@@ -35,7 +35,7 @@ returns c =
     let form = c.args.form.now in
     let less = c.negative-less.result in
     let terms = c.in-Some-shown.terms in
-    let fact = subst (λ o. IfSome o (IsFact context 65536 (form_parts less))) c.in-Some-shown.is c.in_ok-shown.ensures
+    let fact = subst (λ o. IfSome o (IsFact context 65536 (form_parts less))) c.in-Some-shown.is c.in_ok-shown.ensures.some
     in
     next_switched context choice c.in_ok-next.next form c.args.above.now less terms c.requires.parts
     c.negative-less.ensures

@@ -1,6 +1,6 @@
 use Rattle.std.proofs.Common.{◌++◌, refl, ap, ◌∙◌}
 use Rattle.stride_trees.proofs.LeafConversion.{writer_converted}
-use Rattle.stride_trees.proofs.Nodes.{checked_point, simple_leaf}
+use Rattle.difference_graphs.proofs.Nodes.{checked_point, simple_point}
 use Rattle.stride_trees.proofs.ProofConversion.{light_sums}
 use Rattle.stride_trees.specs.Problem.{told_read, told_write}
 use Rattle.stride_trees.specs.Strides.{read_of, write_of}
@@ -10,8 +10,8 @@ use Rattle.stride_trees.proofs.leaves.writer_leaf.Goals as goal
 pub writer_proofs-requires-clause-sums : goal.writer_proofs-requires-clause-sums
 writer_proofs-requires-clause-sums c =
     light_sums c.args.told.now
-    (simple_leaf c.requires.simple.0 (Writer c.args.statement c.args.place.now c.args.told.now) c.args.statement
-    c.args.place.now c.args.told.now c.requires.simple.1 refl)
+    (simple_point c.requires.simple.0 (Writer c.args.statement c.args.place.now c.args.told.now) c.args.statement
+    c.args.place.now c.args.told.now c.requires.simple.1 refl).light
 
 pub writer_proofs-requires-clause-told : goal.writer_proofs-requires-clause-told
 writer_proofs-requires-clause-told c =

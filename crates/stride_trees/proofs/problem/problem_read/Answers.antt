@@ -1,6 +1,6 @@
 use Rattle.std.proofs.Common.{◌^◌, length, sym, ap, subst, arith}
 use Rattle.affine_core.specs.declared.form.Form.{Form}
-use Rattle.lex_max.proofs.Small.{negative_over}
+use Rattle.difference_graphs.proofs.Small.{negative_over}
 use Rattle.row_sums.specs.Parts.{IsWithin}
 use Rattle.row_sums.proofs.Within.{IsWithin-weaker}
 use Rattle.stride_trees.proofs.Systems.{moved_within}

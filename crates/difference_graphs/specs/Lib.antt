@@ -1,0 +1,14 @@
+pub mod Class
+pub mod Level
+pub mod Simple
+pub mod Asked
+pub mod Systems
+pub mod Contexts
+pub mod Joint
+pub mod Heights
+pub mod Edges
+pub mod Paths
+pub mod Closed
+pub mod Facts
+pub mod Rounds
+pub mod Cycles

@@ -1,5 +1,0 @@
-use Rattle.std.proofs.Common.{length}
-use Rattle.lex_max.proofs.facts.+by_other_row.Given as goal
-
-abbrev pub decreases-by_other_row : goal.decreases-by_other_row
-decreases-by_other_row l = length l.rows.now

@@ -1,0 +1,21 @@
+use Rattle.std.proofs.Common.{◌^◌, length, sym, ap, ◌∙◌, subst, arith}
+use Rattle.std.proofs.lemmas.Option.{same_Some, IfSome_then}
+use Rattle.std.proofs.lemmas.Result.{IfOk-weaker}
+use Rattle.affine_core.specs.declared.form.Form.{Form}
+use Rattle.difference_graphs.specs.Facts.{form_parts, IsFact}
+use Rattle.lex_max.proofs.DecisionContexts.{opposite_is, opposite_long}
+use Rattle.lex_max.proofs.zeros.known_below.Goals as goal
+
+pub known-requires-clause-over : goal.known-requires-clause-over
+known-requires-clause-over c =
+    let form = c.args.form.now in
+    ap (λ (f : Form). length f.coefs)
+    (opposite_is (2 ^ 60) form c.opposite-row.result (omega arith) c.requires.small c.opposite-row.ensures)
+    ∙ opposite_long form ∙ c.requires.over
+
+pub returns : goal.returns
+returns c =
+    let row = c.opposite-row.result in
+    IfOk-weaker c.known.result _ _
+    (λ found h. IfSome_then found h (λ ts fact other is. subst (λ f. IsFact c.args.context.now 65536 (form_parts f) ts)
+    (same_Some row other (sym c.opposite-row.ensures ∙ is)) fact)) c.known.ensures.some

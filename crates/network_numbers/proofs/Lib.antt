@@ -2,10 +2,11 @@ pub mod PointLengths
 pub mod EntryLengths
 pub mod QueueCounts
 pub mod PassedQueues
-pub mod EntryPassed
 pub mod EventTotals
 pub mod EventsOfNet
 pub mod TextNumbers
+pub mod TraceRuns
+pub mod RunPassed
 pub mod WholeTrace
 pub mod Folded
 pub mod ReadLists

@@ -1,44 +1,54 @@
--- How an entry of the trace changes what is counted of the channels: first the uses of its process, then the Puts.
-use Rattle.std.specs.Prelude.{ℕ, Bool, false, Option, None, List, [], if◌then◌else◌}
+-- How the turns of a process change what is counted of its channels: at each, first the use and then the Put.
+use Rattle.std.specs.Prelude.{ℕ, Bool, false, ◌==◌, ◌&&◌, Option, None, List, [], if◌then◌else◌}
 use Rattle.std.specs.Prelude.{slice_get, slice_index, slice_index_or, slice_set}
 use Rattle.std.specs.List.{fold}
 use Rattle.std.specs.Option.{option_map_or}
 use Rattle.channel_plan.specs.declared.plans.ChannelPlan.{ChannelPlan}
 use Rattle.channel_plan.specs.Tokens.{is_from}
-use Rattle.network_numbers.specs.declared.links.Links.{Links}
 use Rattle.network_numbers.specs.declared.queues.QueueCounts.{QueueCounts}
 use Rattle.network_numbers.specs.Queues.{after_put, after_use, empty_queue}
-use Rattle.process_derive.specs.Incoming.{carries}
-use Rattle.process_derive.specs.Uses.{slots_at}
 use Rattle.sanlp.specs.declared.nest.Tag.{Tag}
 
--- the source at a turn in one list of a table of sources
-abbrev pub source_in : List (List (Option Tag)) → ℕ → ℕ → Option Tag
-source_in table list turn = slice_index_or (slice_index_or table list []) turn None
+-- whether process p uses a channel at a turn: whether it reads there, and the source for that read is
+-- of the channel's writer
+abbrev pub is_used_at : ChannelPlan → ℕ → List (Option Tag) → ℕ → Bool
+is_used_at plan p sources turn =
+    (plan.reader == p) && is_from plan.writer (slice_index_or sources turn None)
 
--- whether channel c is used at a turn of its reader: whether the source for its read is of its writer
-abbrev pub is_used_at : List ChannelPlan → List ℕ → List (List (Option Tag)) → ℕ → ℕ → Bool
-is_used_at plans lists table turn c =
-    option_map_or (λ plan. is_from plan.writer (source_in table (slice_index lists c) turn))
-    (slice_get plans c) false
+-- whether process p puts to a channel at a turn: whether it writes there, and the turn is a token
+abbrev pub is_put_at : ChannelPlan → ℕ → ℕ → Bool
+is_put_at plan p turn = (plan.writer == p) && slice_index_or plan.is_token turn false
 
--- the counts after a turn of channel c's reader
-abbrev pub with_use : List ChannelPlan → List ℕ → List (List (Option Tag)) → ℕ
+-- the counts of a channel after a turn of process p
+abbrev pub after_turn : ChannelPlan → ℕ → List (Option Tag) → QueueCounts → ℕ → QueueCounts
+after_turn plan p sources queue turn =
+    let used = if is_used_at plan p sources turn then after_use queue else queue in
+    if is_put_at plan p turn then after_put plan.slots used else used
+
+-- the same after these turns, one after the other
+abbrev pub after_turns : ChannelPlan → ℕ → List (Option Tag) → List ℕ → QueueCounts → QueueCounts
+after_turns plan p sources turns queue = fold (after_turn plan p sources) queue turns
+
+-- the sources for the read of channel c, where the channels' reads have these numbers
+abbrev pub sources_for : List ℕ → List (List (Option Tag)) → ℕ → List (Option Tag)
+sources_for lists table c = slice_index_or table (slice_index lists c) []
+
+-- the counts of channel c after these turns of process p
+abbrev pub channel_after : List ChannelPlan → List ℕ → List (List (Option Tag)) → ℕ → List ℕ
+    → ℕ → QueueCounts → QueueCounts
+channel_after plans lists table p turns c queue =
+    option_map_or (λ plan. after_turns plan p (sources_for lists table c) turns queue)
+    (slice_get plans c) queue
+
+-- the counts of all channels, where channel c has them after these turns of process p
+abbrev pub with_channel : List ChannelPlan → List ℕ → List (List (Option Tag)) → ℕ → List ℕ
     → List QueueCounts → ℕ → List QueueCounts
-with_use plans lists table turn queues c =
-    if is_used_at plans lists table turn c
-    then slice_set queues c (after_use (slice_index_or queues c empty_queue)) else queues
+with_channel plans lists table p turns queues c =
+    slice_set queues c
+    (channel_after plans lists table p turns c (slice_index_or queues c empty_queue))
 
--- the counts after a turn of channel c's writer
-abbrev pub with_put : List ChannelPlan → ℕ → List QueueCounts → ℕ → List QueueCounts
-with_put plans turn queues c =
-    if carries plans turn c
-    then slice_set queues c
-    (after_put (slots_at plans c) (slice_index_or queues c empty_queue)) else queues
-
--- the counts after a turn of the process with these channels
-abbrev pub after_entry : List ChannelPlan → List ℕ → List (List (Option Tag)) → Links → ℕ
-    → List QueueCounts → List QueueCounts
-after_entry plans lists table links turn queues =
-    fold (with_put plans turn)
-    (fold (with_use plans lists table turn) queues links.incoming) links.outgoing
+-- the counts of all channels after these turns of process p, which has these channels
+abbrev pub after_run : List ChannelPlan → List ℕ → List (List (Option Tag)) → ℕ → List ℕ
+    → List ℕ → List QueueCounts → List QueueCounts
+after_run plans lists table p turns channels queues =
+    fold (with_channel plans lists table p turns) queues channels

@@ -1,4 +1,5 @@
 pub mod Entries
 pub mod Links
+pub mod Runs
 pub mod Queues
 pub mod PlanNumbers

@@ -1,29 +1,20 @@
 -- The channels of a process, and where the sources of a channel's read stand.
-use Rattle.std.specs.Prelude.{ℕ, false, ◌==◌, List, length, map, slice_get}
+use Rattle.std.specs.Prelude.{ℕ, Bool, false, ◌==◌, ◌||◌, List, length, map, slice_get}
 use Rattle.std.specs.List.{filter, range_with_len}
 use Rattle.std.specs.Option.{option_map_or}
 use Rattle.channel_plan.specs.declared.plans.ChannelPlan.{ChannelPlan}
-use Rattle.network_numbers.specs.declared.links.End.{End}
-use Rattle.network_numbers.specs.declared.links.End.TheVariants.{Reader, Writer}
-use Rattle.network_numbers.specs.declared.links.Links.{Links}
 use Rattle.sanlp.specs.declared.nest.Nest.{Nest}
 use Rattle.source_tree.specs.Sources.{read_number}
 
--- the process at an end of a channel
-abbrev pub process_at : End → ChannelPlan → ℕ
-process_at Writer plan = plan.writer
-process_at Reader plan = plan.reader
+-- whether process p reads a channel or writes to it
+abbrev pub has_end_at : ℕ → ChannelPlan → Bool
+has_end_at p plan = (plan.reader == p) || (plan.writer == p)
 
--- the numbers of the channels that have process p at this end, ascending
-abbrev pub channels_at : List ChannelPlan → End → ℕ → List ℕ
-channels_at plans end p =
-    filter (λ c. option_map_or (λ plan. process_at end plan == p) (slice_get plans c) false)
+-- the numbers of the channels that process p reads or writes to, ascending
+abbrev pub channels_at : List ChannelPlan → ℕ → List ℕ
+channels_at plans p =
+    filter (λ c. option_map_or (has_end_at p) (slice_get plans c) false)
     (range_with_len 0 (length plans))
-
--- the numbers of the channels that process p reads, and of those that it writes
-abbrev pub links_of : List ChannelPlan → ℕ → Links
-links_of plans p =
-    record { incoming = channels_at plans Reader p; outgoing = channels_at plans Writer p }
 
 -- for each channel, the number of its read among all reads
 abbrev pub read_lists : Nest → List ChannelPlan → List ℕ

@@ -1,13 +1,11 @@
-ghost use Rattle.std.specs.List.{All, fold};
-ghost use Rattle.std.specs.Prelude.{◌≡◌, ◌<◌, [], None, length, slice_index, slice_index_or};
+ghost use Rattle.std.specs.List.{All, fold, range_with_len};
+ghost use Rattle.std.specs.Prelude.{◌≡◌, ◌<◌, ◌+◌, [], None, length, slice_index, slice_index_or};
 ghost use Rattle.channel_plan.specs.Tokens.{is_from};
-ghost use Rattle.network_numbers.specs.Entries.{after_entry, is_used_at, source_in, with_put, with_use};
+ghost use Rattle.network_numbers.specs.Entries.{after_run, after_turn, after_turns, sources_for, with_channel};
 
-use crate::links::Links;
 use crate::queues::QueueCounts;
 use channel_plan::ChannelPlan;
 use plain_data::Items;
-use process_derive::is_token;
 use sanlp::Tag;
 
 // Whether a source is a point of this process.
@@ -27,13 +25,40 @@ fn source_at(sources: &[Option<Tag>], turn: usize) -> Option<Tag>
     sources.get(turn).copied().unwrap_or(None)
 }
 
-// The source at a turn in one list of a table of sources.
-fn source_in(table: &[Items<Option<Tag>>], list: usize, turn: usize) -> Option<Tag>
-    ensures { result ≡ source_in table.now list turn }
+// Counts what a turn of a process makes of a channel: first the use, where it reads the channel, and then the Put, where it
+// writes to it.
+fn pass_turn(
+    plan: &ChannelPlan,
+    process: u32,
+    sources: &[Option<Tag>],
+    turn: usize,
+    queue: &mut QueueCounts,
+)
+    ensures { queue.new ≡ after_turn plan.now process sources.now queue.old turn }
 {
-    match table.get(list) {
-        Some(sources) => source_at(sources.as_slice(), turn),
-        None => None,
+    if plan.reader == process && is_from(plan.writer, source_at(sources, turn)) {
+        queue.note_use();
+    }
+    if plan.writer == process && plan.is_token.has(turn) {
+        queue.note_put(&plan.slots);
+    }
+}
+
+// Counts what so many turns of a process make of a channel, from this one on.
+fn pass_turns(
+    plan: &ChannelPlan,
+    process: u32,
+    sources: &[Option<Tag>],
+    first: usize,
+    count: usize,
+    queue: &mut QueueCounts,
+)
+    requires { first + count < 4294967296 }
+    ensures { queue.new
+        ≡ after_turns plan.now process sources.now (range_with_len first count) queue.old }
+{
+    for turn in first..first + count {
+        pass_turn(plan, process, sources, turn, queue);
     }
 }
 
@@ -44,84 +69,72 @@ fn number_at(numbers: &[usize], place: usize) -> usize
     numbers.get(place).copied().unwrap_or(0)
 }
 
-// Whether a channel is used at a turn of its reader.
-fn is_used_at(
-    plans: &[ChannelPlan],
+// The sources for the read of a channel, where the channels' reads have these numbers.
+fn sources_for<'a>(
     lists: &[usize],
-    table: &[Items<Option<Tag>>],
-    turn: usize,
+    table: &'a [Items<Option<Tag>>],
     channel: u32,
-) -> bool
-    ensures { result ≡ is_used_at plans.now lists.now table.now turn channel }
+) -> &'a [Option<Tag>]
+    ensures { result.now ≡ sources_for lists.now table.now channel }
 {
-    match plans.get(channel as usize) {
-        Some(plan) => {
-            let list = number_at(lists, channel as usize);
-            is_from(plan.writer, source_in(table, list, turn))
-        }
-        None => false,
+    match table.get(number_at(lists, channel as usize)) {
+        Some(sources) => sources.as_slice(),
+        None => &[],
     }
 }
 
-// Counts the uses of these channels at a turn of their reader.
-fn pass_uses(
+// Counts what so many turns of a process make of one of its channels.
+#[tactic(auto, using(crate::proofs::Folded::channel_read))]
+fn pass_channel(
     plans: &[ChannelPlan],
     lists: &[usize],
     table: &[Items<Option<Tag>>],
-    incoming: &[u32],
-    turn: usize,
+    process: u32,
+    first: usize,
+    count: usize,
+    channel: u32,
     queues: &mut [QueueCounts],
 )
-    requires { All (λ c. c < length queues.old) incoming.now }
-    ensures { queues.new
-        ≡ fold (with_use plans.now lists.now table.now turn) queues.old incoming.now }
-{
-    for channel in incoming {
-        if is_used_at(plans, lists, table, turn, *channel) {
-            queues[*channel as usize].note_use();
-        }
-    }
-}
-
-// Counts the Put to a channel at a turn of its writer, where the turn is a token.
-#[tactic(auto, using(crate::proofs::Folded::slots_read))]
-fn pass_put(plans: &[ChannelPlan], channel: u32, turn: usize, queues: &mut [QueueCounts])
+    requires few { first + count < 4294967296 }
     requires queue { channel < length queues.old }
     requires plan { channel < length plans.now }
-    ensures { queues.new ≡ with_put plans.now turn queues.old channel }
+    ensures { queues.new
+        ≡ with_channel plans.now lists.now table.now process (range_with_len first count)
+        queues.old channel }
 {
-    if is_token(plans, turn, channel) {
-        queues[channel as usize].note_put(&plans[channel as usize].slots);
-    }
+    let sources = sources_for(lists, table, channel);
+    let queue = &mut queues[channel as usize];
+    pass_turns(
+        &plans[channel as usize],
+        process,
+        sources,
+        first,
+        count,
+        queue,
+    );
 }
 
-// Counts the Puts to these channels at a turn of their writer.
-#[tactic(auto, using(crate::proofs::Folded::put_length))]
-fn pass_puts(plans: &[ChannelPlan], outgoing: &[u32], turn: usize, queues: &mut [QueueCounts])
-    requires queues { All (λ c. c < length queues.old) outgoing.now }
-    requires plans { All (λ c. c < length plans.now) outgoing.now }
-    ensures { queues.new ≡ fold (with_put plans.now turn) queues.old outgoing.now }
-{
-    for channel in outgoing {
-        pass_put(plans, *channel, turn, queues);
-    }
-}
-
-/// Counts what a turn of the process with these channels uses, and then its Puts. There is a queue for each channel.
-pub(crate) fn pass_entry(
+/// Counts so many turns of the process with these channels, from this one on: at each what it uses, and then its Puts. The
+/// channels are counted one after the other, since none has to do with another. There is a queue for each channel.
+#[tactic(auto, using(crate::proofs::Folded::channel_length))]
+pub(crate) fn pass_run(
     plans: &[ChannelPlan],
     lists: &[usize],
     table: &[Items<Option<Tag>>],
-    links: &Links,
-    turn: usize,
+    channels: &[u32],
+    process: u32,
+    first: usize,
+    count: usize,
     queues: &mut [QueueCounts],
 )
-    requires incoming { All (λ c. c < length plans.now) links.now.incoming }
-    requires outgoing { All (λ c. c < length plans.now) links.now.outgoing }
+    requires few { first + count < 4294967296 }
+    requires channels { All (λ c. c < length plans.now) channels.now }
     requires queues { length queues.old ≡ length plans.now }
     ensures { queues.new
-        ≡ after_entry plans.now lists.now table.now links.now turn queues.old }
+        ≡ after_run plans.now lists.now table.now process (range_with_len first count)
+        channels.now queues.old }
 {
-    pass_uses(plans, lists, table, links.incoming.as_slice(), turn, queues);
-    pass_puts(plans, links.outgoing.as_slice(), turn, queues);
+    for channel in channels {
+        pass_channel(plans, lists, table, process, first, count, *channel, queues);
+    }
 }

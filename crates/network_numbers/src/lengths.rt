@@ -5,30 +5,30 @@ ghost use Rattle.sanlp.specs.Size.{SizeIsOk};
 ghost use Rattle.source_tree.specs.Sources.{sources_of};
 ghost use Rattle.witness_plan.specs.Sequential.{capacities, sequential_schedule};
 
-use crate::entry::pass_entry;
-use crate::links::{links_of_processes, read_lists};
+use crate::entry::pass_run;
+use crate::links::{channels_of_processes, read_lists};
 use crate::queues::{QueueCounts, greatest_lengths};
+use crate::runs::trace_runs;
 use channel_plan::ChannelPlan;
-use loop_walk::Walk;
 use sanlp::Nest;
 use source_tree::SourceTable;
 use std::alloc::{AllocError, Global};
 
-// The next turn of a process, which is counted.
-fn next_turn(turns: &mut [usize], process: usize) -> usize
+// The first of so many turns of a process, which are counted.
+fn next_turns(turns: &mut [usize], process: usize, count: usize) -> usize
     requires exists { process < length turns.old }
-    requires few { slice_index turns.old process < 4294967295 }
+    requires few { slice_index turns.old process + count < 4294967296 }
     ensures turn { result ≡ slice_index turns.old process }
     ensures counted { turns.new
-        ≡ slice_set turns.old process (slice_index turns.old process + 1) }
+        ≡ slice_set turns.old process (slice_index turns.old process + count) }
 {
     let turn = turns[process];
-    turns[process] = turn + 1;
+    turns[process] = turn + count;
     turn
 }
 
-/// The greatest length of each channel's queue along the sequential schedule, without the schedule: it walks once over the
-/// trace, and at each entry counts the uses of what its process reads and the Puts of its turn.
+/// The greatest length of each channel's queue along the sequential schedule, without the schedule: it goes once over the
+/// trace, run by run, and at each fire counts the uses of what its process reads and the Puts of its turn.
 pub(crate) fn capacities(
     alloc: Global,
     nest: &Nest,
@@ -42,15 +42,27 @@ pub(crate) fn capacities(
         lengths.items ≡ capacities (net nest.now) (sequential_schedule nest.now)) }
 {
     let table = sources.of.as_slice();
-    let links = links_of_processes(alloc, plans, nest.statements.len())?;
     let lists = read_lists(alloc, nest, plans)?;
+    let channels = channels_of_processes(alloc, plans, nest.statements.len())?;
+    let runs = trace_runs(alloc, nest)?;
     let mut turns = vec![in alloc; 0; nest.statements.len()]?;
     let mut queues = vec![in alloc; QueueCounts::EMPTY; plans.len()]?;
-    let mut walk = Walk::new(alloc, nest)?;
-    while let Some(point) = walk.next(nest) {
-        let process = point.statement as usize;
-        let turn = next_turn(&mut turns, process);
-        pass_entry(plans, &lists, table, &links[process], turn, &mut queues);
+    for run in runs.as_slice() {
+        let count = run.count;
+        if count > 0 {
+            let process = run.process as usize;
+            let first = next_turns(&mut turns, process, count);
+            pass_run(
+                plans,
+                &lists,
+                table,
+                channels[process].as_slice(),
+                run.process,
+                first,
+                count,
+                &mut queues,
+            );
+        }
     }
     greatest_lengths(alloc, &queues)
 }

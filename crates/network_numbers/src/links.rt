@@ -1,7 +1,7 @@
 ghost use Rattle.std.specs.Prelude.{◌≡◌, ◌<◌, ◌≤◌, ◌^◌, length, map, take, IfOk};
 ghost use Rattle.std.specs.List.{range_with_len};
 ghost use Rattle.channel_plan.specs.Plans.{plans_of};
-ghost use Rattle.network_numbers.specs.Links.{channels_at, links_of, process_at, read_lists};
+ghost use Rattle.network_numbers.specs.Links.{channels_at, has_end_at, read_lists};
 ghost use Rattle.source_tree.specs.Sources.{read_number};
 
 use channel_plan::ChannelPlan;
@@ -9,68 +9,43 @@ use plain_data::Items;
 use sanlp::Nest;
 use std::alloc::{AllocError, Global};
 
-/// The numbers of the channels that a process reads, and of those that it writes, ascending.
-#[derive(Drop)]
-pub(crate) struct Links {
-    pub incoming: Items<u32>,
-    pub outgoing: Items<u32>,
-}
-
-// The two ends of a channel.
-#[derive(Clone, Copy)]
-enum End {
-    Writer,
-    Reader,
-}
-
-// The process at an end of a channel.
-fn process_at(plan: &ChannelPlan, end: End) -> u32
-    ensures { result ≡ process_at end plan.now }
+// Whether a process reads a channel or writes to it.
+fn has_end_at(process: u32, plan: &ChannelPlan) -> bool
+    ensures { result ≡ has_end_at process plan.now }
 {
-    match end {
-        End::Writer => plan.writer,
-        End::Reader => plan.reader,
-    }
+    plan.reader == process || plan.writer == process
 }
 
-// The numbers of the channels that have a process at this end, ascending.
-fn channels_at(
-    alloc: Global,
-    plans: &[ChannelPlan],
-    end: End,
-    process: u32,
-) -> Result<Items<u32>, AllocError>
+// The numbers of the channels that a process reads or writes to, ascending.
+fn channels_at(alloc: Global, plans: &[ChannelPlan], process: u32) -> Result<Items<u32>, AllocError>
     requires { length plans.now < 2 ^ 32 }
-    ensures { IfOk result (λ channels. channels ≡ channels_at plans.now end process) }
+    ensures { IfOk result (λ channels. channels ≡ channels_at plans.now process) }
 {
     let mut channels = Items::new(alloc);
     for (channel, plan) in plans.iter().enumerate() {
-        let there = process_at(plan, end);
-        if there == process {
+        if has_end_at(process, plan) {
             channels.push(channel as u32)?;
         }
     }
     Ok(channels)
 }
 
-/// For each of so many processes the channels that it reads and those that it writes.
-pub(crate) fn links_of_processes(
+/// For each of so many processes the numbers of the channels that it reads or writes to, ascending.
+pub(crate) fn channels_of_processes(
     alloc: Global,
     plans: &[ChannelPlan],
     processes: usize,
-) -> Result<Vec<Links>, AllocError>
+) -> Result<Vec<Items<u32>>, AllocError>
     requires few { length plans.now < 2 ^ 32 }
     requires processes { processes < 2 ^ 32 }
-    ensures { IfOk result (λ links.
-        links.items ≡ map (links_of plans.now) (range_with_len 0 processes)) }
+    ensures { IfOk result (λ channels.
+        channels.items ≡ map (channels_at plans.now) (range_with_len 0 processes)) }
 {
-    let mut links = Vec::with_capacity(alloc, processes)?;
+    let mut channels = Vec::with_capacity(alloc, processes)?;
     for process in 0..processes {
-        let incoming = channels_at(alloc, plans, End::Reader, process as u32)?;
-        let outgoing = channels_at(alloc, plans, End::Writer, process as u32)?;
-        links.push(Links { incoming, outgoing })?;
+        channels.push(channels_at(alloc, plans, process as u32)?)?;
     }
-    Ok(links)
+    Ok(channels)
 }
 
 // For each statement the number of its first read among all reads.

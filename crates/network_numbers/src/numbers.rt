@@ -103,8 +103,8 @@ fn numbers_by_turns(
 
 /// What the text tells of the network of a nest (Compaan 2000, pn 2007) with the capacities that the sequential schedule needs:
 /// for each process its fires and its slots; for each channel its ends, its read, its tokens, its capacity, its hold and its
-/// class; and the number of events. It walks twice over the trace, and looks at each point at every channel of its process. It
-/// makes no event, no script and no schedule. Nothing is refused but want of memory.
+/// class; and the number of events. It goes twice over the trace, once by its points and once by its runs, and looks at each fire
+/// at every channel of its process. It makes no event, no script and no schedule. Nothing is refused but want of memory.
 pub fn sequential_numbers(alloc: Global, nest: &Nest) -> Result<NetworkNumbers, AllocError>
     requires { SizeIsOk nest.now }
     ensures { IfOk result (λ numbers. numbers ≡ network_numbers (planned_network nest.now Seq)) }

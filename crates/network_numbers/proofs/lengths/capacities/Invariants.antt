@@ -1,22 +1,17 @@
-use Rattle.std.proofs.Common.{◌≡◌, ◌-◌, drop, length, map}
+use Rattle.std.proofs.Common.{◌≡◌, length, map}
 use Rattle.std.specs.List.{range_with_len}
 use Rattle.sanlp.specs.Trace.{trace}
-use Rattle.loop_walk.specs.Walks.{IsWalkOf, rest}
-use Rattle.network_numbers.proofs.EntryPassed.{queues_at}
+use Rattle.network_numbers.proofs.RunPassed.{queues_at}
+use Rattle.network_numbers.proofs.TraceRuns.{fires_before}
 use Rattle.network_numbers.proofs.lengths.capacities.Given as goal
 use Rattle.witness_plan.proofs.InTraceOrder.{turns_before}
 
--- the entries that are gone from the walk were counted
-abbrev pub invariant-loop-point : goal.invariant-loop-point
-invariant-loop-point l =
+-- the runs so far were counted
+abbrev pub invariant-loop-run : goal.invariant-loop-run
+invariant-loop-run l =
     record {
-      walk : IsWalkOf l.nest l.walk;
-      left : drop (length (trace l.nest) - length (rest l.nest l.walk)) (trace l.nest) ≡ rest l.nest l.walk;
       turns : l.turns.items
-          ≡ map (turns_before (trace l.nest) (length (trace l.nest) - length (rest l.nest l.walk)))
+          ≡ map (turns_before (trace l.nest) (fires_before l.run-items l.run-index))
           (range_with_len 0 (length l.nest.statements));
-      queues : l.queues.items ≡ queues_at l.nest (length (trace l.nest) - length (rest l.nest l.walk));
+      queues : l.queues.items ≡ queues_at l.nest (fires_before l.run-items l.run-index);
     }
-
-abbrev pub decreases-loop-point : goal.decreases-loop-point
-decreases-loop-point l = length (rest l.nest l.walk)

@@ -1,18 +1,19 @@
--- What the walk over the trace counts of the channels.
+-- What is counted of the channels along the trace, run by run.
 --
 -- The invariant is that after t entries each channel's counts are those of the schedule so far: the tokens among its
 -- writer's turns, the uses by its reader's turns, and the greatest length of its queue (`queue_at`). One entry changes
 -- the channels of its process alone. A channel that it reads has one use more where the source for its read is of the
 -- channel's writer (`uses_more`), one that it writes has one Put more where the turn is a token (`puts_more`). With no
 -- Put more the queue is no longer than it was, and else it is as long as Puts less Gets say (`greatest_more`). Counts
--- never reach 2^32, since no process has so many turns.
-use Rattle.std.proofs.Common.{◌≡◌, ℕ, suc, ◌+◌, ◌-◌, ◌<◌, ◌≤◌, max, min, Bool, true, false, cond, Option, Some, None}
-use Rattle.std.proofs.Common.{List, [], length, map, take, slice_get, get_or, refl, sym, ap, ap₂, ◌∙◌}
+-- never reach 2^32, since no process has so many turns. A channel's counts rest on no other channel, so a run may be
+-- counted channel by channel, each through all turns of the run (`channel_run`, by induction on the run's length).
+use Rattle.std.proofs.Common.{◌≡◌, ℕ, zero, suc, ◌+◌, ◌-◌, ◌<◌, ◌≤◌, max, min, Bool, true, false, cond, Option, Some, None}
+use Rattle.std.proofs.Common.{List, [], ◌∷◌, length, map, take, slice_get, get_or, refl, sym, ap, ap₂, ◌∙◌}
 use Rattle.std.proofs.Common.{subst, inl, inr, arith}
-use Rattle.std.specs.Prelude.{slice_index, slice_index_or, ◌==◌, ◌&&◌}
-use Rattle.std.specs.List.{cons_option, fold, range_with_len}
+use Rattle.std.specs.Prelude.{slice_index, slice_index_or, ◌==◌, ◌&&◌, ◌||◌}
+use Rattle.std.specs.List.{cons_option, range_with_len}
 use Rattle.std.specs.Option.{option_map, option_map_or}
-use Rattle.std.proofs.lemmas.Bool.{cases_Bool, cases_eq, eq-eqb, ne_eqb}
+use Rattle.std.proofs.lemmas.Bool.{cases_Bool, cases_eq, eq-eqb, false≢true, ne_eqb}
 use Rattle.std.proofs.lemmas.List.{length-map}
 use Rattle.std.proofs.lemmas.Option.{get_or_from_slice_get, slice_get-map, slice_get_within}
 use Rattle.channel_plan.specs.declared.plans.ChannelPlan.{ChannelPlan}
@@ -21,15 +22,12 @@ use Rattle.channel_plan.specs.Tokens.{is_from, is_used, tokens_below, turn_of, t
 use Rattle.channel_plan.proofs.Uses.{below_turn, tokens_more}
 use Rattle.net_core.specs.Machine.{net_of}
 use Rattle.net_core.proofs.EventCounts.{count_next}
-use Rattle.network_numbers.specs.declared.links.End.TheVariants.{Writer}
 use Rattle.network_numbers.specs.declared.queues.QueueCounts.{QueueCounts}
-use Rattle.network_numbers.specs.Entries.{after_entry, is_used_at, source_in, with_put}
-use Rattle.network_numbers.specs.Links.{channels_at, links_of, read_lists}
+use Rattle.network_numbers.specs.Entries.{after_run, after_turn, after_turns, channel_after, sources_for}
+use Rattle.network_numbers.specs.Links.{channels_at, has_end_at, read_lists}
 use Rattle.network_numbers.specs.Queues.{after_put, after_use, empty_queue}
 use Rattle.process_derive.specs.Derived.{net}
-use Rattle.process_derive.specs.Incoming.{carries}
 use Rattle.process_derive.specs.Scripts.{gets_for_uses}
-use Rattle.process_derive.specs.Uses.{slots_at}
 use Rattle.process_derive.proofs.Bounds.{few_entries}
 use Rattle.process_derive.proofs.Counts.{before_few, before_more}
 use Rattle.process_derive.proofs.Numbers.{before_within}
@@ -57,6 +55,7 @@ use Rattle.channel_plan.proofs.PlanEnds.{plans_of-plan_of}
 use Rattle.network_numbers.proofs.EntryLengths.{greatest_entry}
 use Rattle.network_numbers.proofs.PassedQueues.{passed}
 use Rattle.network_numbers.proofs.QueueCounts.{ends, mark_is, queue_counted}
+use Rattle.network_numbers.proofs.TraceRuns.{HasRun, first_fire, later_run, turns_next}
 
 -- what is counted of a channel after the first t entries
 abbrev pub queue_with : Nest → ℕ → ℕ → ChannelPlan → QueueCounts
@@ -302,89 +301,108 @@ module _ (n : Nest) (sized : SizeIsOk n) (t : ℕ) (q : Point) (here : slice_get
       (greatest_length (net_of (net n)) (sequenced n t) c) (greatest_length (net_of (net n)) (sequenced n (suc t)) c)
       puts_more few_puts greatest_more queue_before
 
--- All channels
+-- A run
 
-module _ (n : Nest) (sized : SizeIsOk n) (t : ℕ) (q : Point) (here : slice_get (trace n) t ≡ Some q)
-    (lists : List ℕ) (table : List (List (Option Tag))) (listed : lists ≡ read_lists n (plans_of n))
-    (exact : table ≡ sources_of n) where
-  list_is : (c : ℕ) (plan : ChannelPlan) → slice_get (plans_of n) c ≡ Some plan
-      → slice_index lists c ≡ read_number n plan.reader plan.read
-  list_is c plan found =
-      ap (λ xs. slice_index xs c) listed
-      ∙ get_or_from_slice_get (read_lists n (plans_of n)) c (read_number n plan.reader plan.read) 0
-      (slice_get-map (λ (x : ChannelPlan). read_number n x.reader x.read) (plans_of n) c
-      ∙ ap (option_map (λ (x : ChannelPlan). read_number n x.reader x.read)) found)
+-- a channel of which the process is at no end keeps its counts
+neither : (a b : Bool) → (a || b) ≡ false → (a ≡ false) × (b ≡ false)
+neither true b h = absurd (false≢true (sym h))
+neither false b h = (refl, h)
 
-  source_is : (c : ℕ) (plan : ChannelPlan) → slice_get (plans_of n) c ≡ Some plan
-      → source_in table (slice_index lists c) (turns_before (trace n) t q.statement)
-      ≡ slice_index_or (sources_at n plan.reader plan.read) (turns_before (trace n) t q.statement) None
-  source_is c plan found =
-      ap₂ (λ xs i. source_in xs i (turns_before (trace n) t q.statement)) exact (list_is c plan found)
-      ∙ ap (λ xs. slice_index_or xs (turns_before (trace n) t q.statement) None)
-      (table_row n plan.reader plan.read (ends n c plan found).read)
+idle_turns : (plan : ChannelPlan) (p : ℕ) (sources : List (Option Tag)) (turns : List ℕ) (queue : QueueCounts)
+    → has_end_at p plan ≡ false → after_turns plan p sources turns queue ≡ queue
+idle_turns plan p told [] queue none = refl
+idle_turns plan p told (turn ∷ turns) queue none =
+    let ends = neither (plan.reader == p) (plan.writer == p) none in
+    ap (after_turns plan p told turns)
+    (ap₂ (λ a b. both (a && is_from plan.writer (slice_index_or told turn None))
+    (b && slice_index_or plan.is_token turn false) plan.slots queue) ends.0 ends.1)
+    ∙ idle_turns plan p told turns queue none
 
-  -- one channel, as the two passes change it
-  abbrev once : ℕ → QueueCounts
-  once c =
-      cond (option_map_or (λ (plan : ChannelPlan). plan.reader == q.statement) (slice_get (plans_of n) c) false
-      && is_used_at (plans_of n) lists table (turns_before (trace n) t q.statement) c)
-      (after_use (queue_at n t c)) (queue_at n t c)
+module _ (n : Nest) (sized : SizeIsOk n) (p : ℕ) where
+  -- one channel, turn by turn
+  channel_run : (c : ℕ) (plan : ChannelPlan) → slice_get (plans_of n) c ≡ Some plan → (t count : ℕ) → HasRun n p t count
+      → after_turns plan p (sources_at n plan.reader plan.read) (range_with_len (turns_before (trace n) t p) count)
+      (queue_with n t c plan) ≡ queue_with n (t + count) c plan
+  channel_run c plan found t zero run = (let now : t ≡ t + 0 = omega arith in ap (λ s. queue_with n s c plan) now)
+  channel_run c plan found t (suc count) run =
+      let sources = sources_at n plan.reader plan.read in
+      let fire = first_fire n p t count run in
+      let one : after_turn plan p (sources_at n plan.reader plan.read) (queue_with n t c plan) (turns_before (trace n) t p)
+      ≡ queue_with n (suc t) c plan =
+      ap (λ q. after_turn plan q (sources_at n plan.reader plan.read) (queue_with n t c plan) (turns_before (trace n) t q))
+      (sym fire.same)
+      ∙ channel_passed n sized t fire.point fire.found c plan found in
+      let next : turns_before (trace n) t p + 1 ≡ turns_before (trace n) (suc t) p =
+      omega (
+        arith,
+        turns_next n p t p fire,
+        ap (λ b. turns_before (trace n) t p + cond b 1 0) (eq-eqb p p refl),
+      ) in
+      let later : suc t + count ≡ t + suc count = omega arith in
+      ap (after_turns plan p sources (range_with_len (turns_before (trace n) t p + 1) count)) one
+      ∙ ap (λ f. after_turns plan p sources (range_with_len f count) (queue_with n (suc t) c plan)) next
+      ∙ channel_run c plan found (suc t) count (later_run n p t count run)
+      ∙ ap (λ s. queue_with n s c plan) later
 
-  abbrev twice : ℕ → QueueCounts
-  twice c =
-      cond (option_map_or (λ (plan : ChannelPlan). plan.writer == q.statement) (slice_get (plans_of n) c) false
-      && carries (plans_of n) (turns_before (trace n) t q.statement) c)
-      (after_put (slots_at (plans_of n) c) (once c)) (once c)
+  module _ (lists : List ℕ) (table : List (List (Option Tag))) (listed : lists ≡ read_lists n (plans_of n))
+      (exact : table ≡ sources_of n) (t count : ℕ) (run : HasRun n p t count) where
+    list_is : (c : ℕ) (plan : ChannelPlan) → slice_get (plans_of n) c ≡ Some plan
+        → slice_index lists c ≡ read_number n plan.reader plan.read
+    list_is c plan found =
+        ap (λ xs. slice_index xs c) listed
+        ∙ get_or_from_slice_get (read_lists n (plans_of n)) c (read_number n plan.reader plan.read) 0
+        (slice_get-map (λ (x : ChannelPlan). read_number n x.reader x.read) (plans_of n) c
+        ∙ ap (option_map (λ (x : ChannelPlan). read_number n x.reader x.read)) found)
 
-  place_passed : (c : ℕ) (plan : ChannelPlan) → slice_get (plans_of n) c ≡ Some plan → twice c ≡ queue_at n (suc t) c
-  place_passed c plan found =
-      let f = turns_before (trace n) t q.statement in
-      let used_is : is_used_at (plans_of n) lists table (turns_before (trace n) t q.statement) c
-      ≡ is_from plan.writer (slice_index_or (sources_at n plan.reader plan.read)
-      (turns_before (trace n) t q.statement) None) =
-      ap (λ o. option_map_or (λ (plan : ChannelPlan).
-      is_from plan.writer (source_in table (slice_index lists c) (turns_before (trace n) t q.statement))) o false) found
-      ∙ ap (is_from plan.writer) (source_is c plan found) in
-      let use_is =
-      ap₂ (λ a b. a && b)
-      (ap (λ o. option_map_or (λ (plan : ChannelPlan). plan.reader == q.statement) o false) found) used_is in
-      let put_is =
-      ap₂ (λ a b. a && b)
-      (ap (λ o. option_map_or (λ (plan : ChannelPlan). plan.writer == q.statement) o false) found)
-      (ap (λ o. option_map_or (λ (plan : ChannelPlan).
-      slice_index_or plan.is_token (turns_before (trace n) t q.statement) false) o false) found) in
-      let slots_is : slots_at (plans_of n) c ≡ plan.slots =
-      ap (λ o. option_map_or (λ (plan : ChannelPlan). plan.slots) o
-      (record { gets_before = []; slot_of_get = []; slot_of_use = []; hold = 0 })) found in
-      let queue_is : (s : ℕ) → queue_at n s c ≡ queue_with n s c plan = λ s.
-      ap (λ o. option_map_or (queue_with n s c) o empty_queue) found in
-      ap₂ (λ a b. both a b (slots_at (plans_of n) c) (queue_at n t c)) use_is put_is
-      ∙ ap₂ (λ s x. both ((plan.reader == q.statement)
-      && is_from plan.writer (slice_index_or (sources_at n plan.reader plan.read)
-      (turns_before (trace n) t q.statement) None))
-      ((plan.writer == q.statement) && slice_index_or plan.is_token (turns_before (trace n) t q.statement) false) s x)
-      slots_is (queue_is t)
-      ∙ channel_passed n sized t q here c plan found
-      ∙ sym (queue_is (suc t))
+    sources_are : (c : ℕ) (plan : ChannelPlan) → slice_get (plans_of n) c ≡ Some plan
+        → sources_for lists table c ≡ sources_at n plan.reader plan.read
+    sources_are c plan found =
+        ap₂ (λ (xs : List (List (Option Tag))) i. slice_index_or xs i []) exact (list_is c plan found)
+        ∙ table_row n plan.reader plan.read (ends n c plan found).read
 
-  -- the entry takes all counts one entry on
-  pub entry_passed : after_entry (plans_of n) lists table (links_of (plans_of n) q.statement)
-      (turns_before (trace n) t q.statement) (queues_at n t) ≡ queues_at n (suc t)
-  entry_passed =
-      let f = turns_before (trace n) t q.statement in
-      let many = length (plans_of n) in
-      ap (λ xs. fold (with_put (plans_of n) (turns_before (trace n) t q.statement)) xs
-      (channels_at (plans_of n) Writer q.statement))
-      (passed empty_queue
-      (λ c. option_map_or (λ (plan : ChannelPlan). plan.reader == q.statement) (slice_get (plans_of n) c) false)
-      (is_used_at (plans_of n) lists table (turns_before (trace n) t q.statement)) (λ c. after_use)
-      (length (plans_of n)) (queue_at n t))
-      ∙ passed empty_queue
-      (λ c. option_map_or (λ (plan : ChannelPlan). plan.writer == q.statement) (slice_get (plans_of n) c) false)
-      (carries (plans_of n) (turns_before (trace n) t q.statement)) (λ c. after_put (slots_at (plans_of n) c))
-      (length (plans_of n)) once
-      ∙ map-range_with_len_same twice (queue_at n (suc t)) 0 (length (plans_of n))
-      (λ c from below. (let item = slice_get-some (plans_of n) c (omega arith) in place_passed c item.0 item.1))
+    abbrev turns : List ℕ
+    turns = range_with_len (turns_before (trace n) t p) count
+
+    abbrev at_end : ℕ → Bool
+    at_end c = option_map_or (has_end_at p) (slice_get (plans_of n) c) false
+
+    -- a channel of the process, and any other, as the run changes it
+    abbrev changed_at : ℕ → QueueCounts
+    changed_at c =
+        cond (at_end c && true) (channel_after (plans_of n) lists table p turns c (queue_at n t c)) (queue_at n t c)
+
+    place_passed : (c : ℕ) (plan : ChannelPlan) → slice_get (plans_of n) c ≡ Some plan
+        → changed_at c ≡ queue_at n (t + count) c
+    place_passed c plan found =
+        let queue_is : (s : ℕ) → queue_at n s c ≡ queue_with n s c plan = λ s.
+        ap (λ o. option_map_or (queue_with n s c) o empty_queue) found in
+        let end_is : at_end c ≡ has_end_at p plan = ap (λ o. option_map_or (has_end_at p) o false) found in
+        let all = channel_run c plan found t count run in
+        elim (cases_Bool (has_end_at p plan)) [
+          | inl some ↦
+              ap (λ b. cond (b && true) (channel_after (plans_of n) lists table p turns c (queue_at n t c)) (queue_at n t c))
+              (end_is ∙ some)
+              ∙ ap (λ o. option_map_or (λ (plan : ChannelPlan).
+              after_turns plan p (sources_for lists table c) turns (queue_at n t c)) o (queue_at n t c)) found
+              ∙ ap (λ ss. after_turns plan p ss turns (queue_at n t c)) (sources_are c plan found)
+              ∙ ap (after_turns plan p (sources_at n plan.reader plan.read) turns) (queue_is t)
+              ∙ all ∙ sym (queue_is (t + count))
+          | inr none ↦
+              ap (λ b. cond (b && true) (channel_after (plans_of n) lists table p turns c (queue_at n t c)) (queue_at n t c))
+              (end_is ∙ none)
+              ∙ queue_is t
+              ∙ sym (idle_turns plan p (sources_at n plan.reader plan.read) turns (queue_with n t c plan) none)
+              ∙ all ∙ sym (queue_is (t + count))
+        ]
+
+    -- the run takes all counts as many entries on
+    pub run_passed : after_run (plans_of n) lists table p (range_with_len (turns_before (trace n) t p) count)
+        (channels_at (plans_of n) p) (queues_at n t) ≡ queues_at n (t + count)
+    run_passed =
+        passed empty_queue at_end (λ c. true) (channel_after (plans_of n) lists table p turns) (length (plans_of n))
+        (queue_at n t)
+        ∙ map-range_with_len_same changed_at (queue_at n (t + count)) 0 (length (plans_of n))
+        (λ c from below. (let item = slice_get-some (plans_of n) c (omega arith) in place_passed c item.0 item.1))
 
 -- Before the first entry
 

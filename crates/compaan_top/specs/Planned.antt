@@ -16,10 +16,12 @@ use Rattle.compaan_top.specs.Answers.{Change, IsQuiet, HasFault, IsRead, ReadsTo
 use Rattle.compaan_top.specs.Commands.{nothing, read_by, reads_of}
 use Rattle.compaan_top.specs.Outcome.{IsOutcome, Performs, outcome_of, bundle_limit}
 
+-- the order that the words give, or they are refused
 abbrev pub IsOrdered : Option Order → Result Order Refusal → Type 0
 IsOrdered wanted (Ok order) = wanted ≡ Some order
 IsOrdered wanted (Err refusal) = (wanted ≡ None) × (refusal ≡ Usage)
 
+-- A bundle within the limit was read, one past it is refused, the source had a fault, or memory was wanting.
 abbrev pub ReadsBundle : Change → Result (Vec ℕ) Stop → Type 0
 ReadsBundle input (Ok bundle) =
     IsQuiet input × ReadsTo input bundle.items × (length bundle.items ≤ bundle_limit)

@@ -28,7 +28,8 @@ use std::thread::Threads;
 /// The most bytes that a bundle has.
 const BUNDLE_LIMIT: usize = 67_108_864;
 
-fn order_of(alloc: Global, words: &[String]) -> Result<Order, Stop>
+/// The order that the words give, or the refusal of them. Nothing is read or written.
+pub fn order_of(alloc: Global, words: &[String]) -> Result<Order, Stop>
     ensures { Judges (IsOrdered (order_of (map string_bytes words.now))) result }
 {
     match read_words(alloc, words) {
@@ -38,7 +39,8 @@ fn order_of(alloc: Global, words: &[String]) -> Result<Order, Stop>
     }
 }
 
-fn bundle_of<S: Source>(alloc: Global, input: &mut S) -> Result<Vec<u8>, Stop>
+/// The bundle that the source has left. It takes at most a byte past the limit of 67,108,864, and one with so many is refused.
+pub fn bundle_of<S: Source>(alloc: Global, input: &mut S) -> Result<Vec<u8>, Stop>
     ensures { ReadsBundle (change S.left S.faults input.old input.new) result }
 {
     match read_all(alloc, input, BUNDLE_LIMIT) {

@@ -11,7 +11,7 @@ use sanlp::ArrayDecl;
 use text_out::{TextWriter, Word, Writer, write_line};
 
 /// The status of a program that has told a refusal.
-pub(crate) fn refusal_status(refusal: &Refusal) -> Status
+pub fn refusal_status(refusal: &Refusal) -> Status
     ensures { result ≡ refusal_status refusal.now }
 {
     match refusal {
@@ -144,7 +144,7 @@ fn write_refusal_line<W: TextWriter>(refusal: &Refusal, out: &mut W)
 }
 
 /// Writes the line of a refusal. It takes no memory.
-pub(crate) fn write_refusal<K: Sink>(refusal: &Refusal, sink: &mut K) -> Result<(), WriteFault>
+pub fn write_refusal<K: Sink>(refusal: &Refusal, sink: &mut K) -> Result<(), WriteFault>
     ensures { Writes (change K.held K.faults sink.old sink.new) (refusal_line refusal.now) result }
 {
     let mut out = Writer::new(sink);

@@ -8,5 +8,5 @@ mod laws;
 mod network;
 mod text;
 
-pub use laws::node_ports_are_joined_in_order;
+pub use laws::{node_ports_are_joined_in_order, units_make_a_design};
 pub use text::write_rtl;

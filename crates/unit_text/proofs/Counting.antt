@@ -5,13 +5,14 @@
 -- (`add_back`), since each value fits in 64 bits. The last difference leads to the first value, since past the last place the
 -- next value is the first.
 use Rattle.std.proofs.Common.{◌≡◌, ℕ, zero, suc, ◌+◌, ◌<◌, ◌≤◌, ℤ, pos, ◌+ℤ◌, ◌-ℤ◌, List, [], ◌∷◌, All, map, drop, length}
-use Rattle.std.proofs.Common.{slice_index_or, refl, sym, ap, ◌∙◌, arith}
+use Rattle.std.proofs.Common.{slice_index_or, ◌++◌, refl, sym, ap, ◌∙◌, arith}
 use Rattle.std.specs.Prelude.{FitsSigned}
 use Rattle.std.specs.List.{range_with_len}
 use Rattle.std.specs.Int.{w64, int_wrap, int_wrapping_add, int_wrapping_sub}
 use Rattle.std.proofs.lemmas.Int.{ints, int_wrap-add_right, int_wrap_fits, SFits-int_wrap, wrapping_add_is, wrapping_sub_is}
 use Rattle.std.proofs.lemmas.List.{at_drop_more, drop_all}
 use Rattle.std.proofs.lemmas.List.Elements.{All-get_or}
+use Rattle.script_blocks.specs.Expansion.{repeated}
 use Rattle.unit_text.specs.Counting.{counted, counted_to}
 use Rattle.unit_text.specs.Units.{first_of, gain, gains_round}
 
@@ -87,3 +88,23 @@ pub counts_round : (values : List ℤ) → All (FitsSigned w64) values
     → counted_to (first_of values) (gains_round values) ≡ first_of values
 counts_round [] fit = refl
 counts_round (v ∷ vs) fit = counted_end (v ∷ vs) fit (length vs) 0 (omega arith)
+
+-- one list of gains and then another
+counted_both : (v : ℤ) (gains others : List ℤ)
+    → counted v (gains ++ others) ≡ counted v gains ++ counted (counted_to v gains) others
+counted_both v [] others = refl
+counted_both v (gain ∷ gains) others =
+    ap (λ (zs : List ℤ). v ∷ zs) (counted_both (int_wrapping_add w64 v gain) gains others)
+
+-- each round begins at the first value again
+pub counts_rounds : (values : List ℤ) → All (FitsSigned w64) values → (count : ℕ)
+    → counted (first_of values) (repeated count (gains_round values)) ≡ repeated count values
+unfolding repeated
+counts_rounds values fit zero = refl
+counts_rounds values fit (suc count) =
+    let gains = gains_round values in
+    counted_both (first_of values) gains (repeated count gains)
+    ∙ ap (λ (zs : List ℤ). zs ++ counted (counted_to (first_of values) gains) (repeated count gains))
+    (counts_values values fit)
+    ∙ ap (λ (v : ℤ). values ++ counted v (repeated count gains)) (counts_round values fit)
+    ∙ ap (λ (zs : List ℤ). values ++ zs) (counts_rounds values fit count)

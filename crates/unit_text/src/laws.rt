@@ -23,7 +23,8 @@ pub fn controls_give_scripts()
 {}
 
 /// The counter of a loop is told what to gain, point by point and round by round (`told`). Where the values of a loop fit in 64 bits,
-/// one that begins at the first and gains so has each in turn (`values`), and behind the last the first again (`round`).
+/// one that begins at the first and gains so has each in turn (`values`), and behind the last the first again (`round`). So a counter
+/// that gains what its own sequencer gives has the values of its loop, any number of times, where these fit in 64 bits (`rounds`).
 pub fn counters_give_loop_values()
     ensures told { (points : List (List ℤ)) (counter : LoopCounter) (count : ℕ)
         → IsCounterOf points counter
@@ -34,4 +35,11 @@ pub fn counters_give_loop_values()
         → counted (first_of values) (gains_round values) ≡ values }
     ensures round { (values : List ℤ) → All (FitsSigned w64) values
         → counted_to (first_of values) (gains_round values) ≡ first_of values }
+    ensures rounds { (points : List (List ℤ)) (counter : LoopCounter) (count : ℕ)
+        → IsCounterOf points counter
+        → All (FitsSigned w64) (loop_values counter.number points)
+        → (gains : List ℤ)
+        × Gives counter.gains (step_and_restart counter.gains) (at_start counter.gains) gains
+        (at_start counter.gains)
+        × (counted counter.first gains ≡ repeated count (loop_values counter.number points)) }
 {}

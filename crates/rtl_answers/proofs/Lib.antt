@@ -1,0 +1,3 @@
+mod Designs
+mod Units
+mod Endings

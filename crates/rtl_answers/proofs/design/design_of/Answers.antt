@@ -1,0 +1,26 @@
+use Rattle.std.proofs.Common.{◌∙◌, refl, sym, ap, subst}
+use Rattle.std.specs.Option.{option_copied}
+use Rattle.rtl_text.specs.Designs.{AreUnitsOf}
+use Rattle.rtl_answers.specs.Designing.{first_with_long_control}
+use Rattle.rtl_answers.proofs.design.design_of.Goals as goal
+
+pub returns-in-Some : goal.returns-in-Some
+returns-in-Some c =
+    let units = c.in_ok-units.units in (
+      units,
+      c.in-Some.unit.now,
+      subst (λ network. AreUnitsOf c.args.nest network units) c.in_ok-network.ensures.network c.in_ok-units.ensures,
+      ap first_with_long_control (sym c.as_slice.ensures) ∙ sym c.with_long_control.ensures
+          ∙ ap option_copied c.in-Some.is,
+      c.refusal_of.ensures,
+    )
+
+pub returns : goal.returns
+returns c = (
+  refl,
+  c.in_ok-network.ensures.network,
+  subst (λ network. AreUnitsOf c.args.nest network c.in_ok-units.units) c.in_ok-network.ensures.network
+      c.in_ok-units.ensures,
+  ap first_with_long_control (sym c.as_slice.ensures) ∙ sym c.with_long_control.ensures
+      ∙ ap option_copied c.in_default.is,
+)

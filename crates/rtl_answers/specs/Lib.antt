@@ -1,0 +1,2 @@
+pub mod Designing
+pub mod Calls

@@ -1,0 +1,117 @@
+ghost use Rattle.std.specs.Prelude.{◌≡◌, ◌<◌, ◌^◌, length, IfOk};
+ghost use Rattle.std.specs.Option.{option_copied};
+ghost use Rattle.net_core.specs.Machine.{net_of};
+ghost use Rattle.net_core.specs.Shape.{FitsNumbers, IsShaped};
+ghost use Rattle.sanlp.specs.Points.{points_of};
+ghost use Rattle.sanlp.specs.Size.{SizeIsOk};
+ghost use Rattle.rtl_text.specs.Designs.{AreUnitsOf};
+ghost use Rattle.command_answers.specs.Judging.{Judges};
+ghost use Rattle.rtl_answers.specs.Designing.{Designs, HasDesign, as_design_reply, first_with_long_control, has_long_control as has_long, unit_refusal};
+
+use bundle::parts_of;
+use command_answers::{Refusal, Stop, sized_nest};
+use loop_class::Params;
+use loop_walk::points;
+use net_core::Network;
+use node_automata::automaton;
+use plain_data::Items;
+use sanlp::{Nest, Points};
+use std::alloc::{AllocError, Global};
+use swept_net::compile_network;
+use unit_text::Unit;
+use witness_plan::Policy;
+
+/// The most instructions of a process's control.
+const MOST_INSTRUCTIONS: usize = 65_536;
+
+/// A nest's network with the hardware of its processes, in order.
+#[derive(Drop)]
+pub struct Design {
+    /// The nest, whose arrays name the ports.
+    pub nest: Nest,
+    pub network: Network,
+    pub units: Items<Unit>,
+}
+
+// The hardware of all processes, in order.
+fn units_of(
+    alloc: Global,
+    nest: &Nest,
+    points: &Points,
+    network: &Network,
+) -> Result<Items<Unit>, AllocError>
+    requires points { points.now.of ≡ points_of nest.now }
+    requires shaped { IsShaped (net_of network.now) points.now.of }
+    requires numbers { FitsNumbers (net_of network.now) }
+    ensures { IfOk result (λ units. AreUnitsOf nest.now network.now units) }
+{
+    let mut units = Items::new(alloc);
+    for process in 0..network.processes.len() as u32 {
+        let auto = automaton(alloc, nest, points, network, process)?;
+        let unit = Unit::of(alloc, auto)?;
+        units.push(unit)?;
+    }
+    Ok(units)
+}
+
+fn has_long_control(unit: &Unit) -> bool
+    ensures { result ≡ has_long unit.now }
+{
+    unit.control.instructions.len() > MOST_INSTRUCTIONS
+}
+
+// The first process whose control has too many instructions.
+fn with_long_control(units: &[Unit]) -> Option<&Unit>
+    ensures { option_copied result ≡ first_with_long_control units.now }
+{
+    for unit in units {
+        if has_long_control(unit) {
+            return Some(unit);
+        }
+    }
+    None
+}
+
+// The refusal of a process whose control has too many instructions.
+fn refusal_of(unit: &Unit) -> Refusal
+    ensures { result ≡ unit_refusal unit.now }
+{
+    Refusal::Script(unit.auto.process, unit.control.instructions.len() as u64)
+}
+
+// The design of a nest's network, with the capacities that the policy's schedule needs.
+fn design_of(alloc: Global, policy: Policy, nest: Nest) -> Result<Design, Stop>
+    requires { SizeIsOk nest }
+    ensures { Judges (HasDesign policy nest) result }
+{
+    let network = compile_network(alloc, &nest, policy)?;
+    let points = points(alloc, &nest)?;
+    let units = units_of(alloc, &nest, &points, &network)?;
+    if let Some(unit) = with_long_control(units.as_slice()) {
+        return Err(Stop::Refused(refusal_of(unit)));
+    }
+    Ok(Design {
+        nest,
+        network,
+        units,
+    })
+}
+
+/// The design of the network of a bundle's source.
+///
+/// `Refusal::Script` comes where a process's control has more than 65,536 instructions, for the first such process: the number told
+/// is that of its control's instructions, and not of its events. The sequencers of loop values have no limit.
+pub fn design_network(
+    alloc: Global,
+    policy: Policy,
+    params: &Params,
+    bundle: &[u8],
+) -> Result<Design, Stop>
+    requires { length bundle.now < 2 ^ 32 }
+    ensures { Judges
+        (λ answer. Designs policy params.now bundle.now (as_design_reply answer)) result }
+{
+    let parts = parts_of(bundle);
+    let nest = sized_nest(alloc, parts.source, params)?;
+    design_of(alloc, policy, nest)
+}

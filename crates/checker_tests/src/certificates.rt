@@ -5,7 +5,7 @@ use crate::verdicts::{IN_ORDER, Row, SUMS, verdict_of};
 use cert_lines::Lines;
 use io_edge::MemSink;
 use net_checker::Verdict;
-use plain_data::Items;
+use plain_data::{Boxed, Items};
 use source_tree::{Origin, Tree};
 use std::alloc::{AllocError, Global};
 use std::process::Abort;
@@ -54,7 +54,7 @@ fn tree(alloc: Global, parts: &[&[u8]]) -> Result<Tree, Fail> {
         text.extend_from_slice(*part)?;
     }
     let mut lines = Lines::new(text.as_slice());
-    let tree = read_tree(alloc, &mut lines)?;
+    let tree = read_tree(alloc, &mut lines)?.into_inner();
     match lines.end() {
         Ok(()) => Ok(tree),
         Err(error) => {
@@ -68,7 +68,7 @@ fn origin(alloc: Global, text: Text) -> Result<Origin, Fail> {
     if text.is_empty() {
         return Ok(Origin::Sweep);
     }
-    Ok(Origin::Tree(tree(alloc, text)?))
+    Ok(Origin::Tree(Boxed::new(alloc, tree(alloc, text)?)?))
 }
 
 fn add_origin(alloc: Global, origins: &mut Items<Origin>, text: Text) -> Result<(), Fail> {
@@ -165,7 +165,7 @@ fn filled(alloc: Global, within: &Within, part: &'static [u8]) -> Result<Tree, F
 
 // The origins of the reads where that part is this one.
 fn whole(alloc: Global, within: &Within, part: &'static [u8]) -> Result<Items<Origin>, Fail> {
-    let origin = Origin::Tree(filled(alloc, within, part)?);
+    let origin = Origin::Tree(Boxed::new(alloc, filled(alloc, within, part)?)?);
     let mut origins = Items::new(alloc);
     let added = origins.push(origin);
     let swept = add_sweeps(&mut origins, within.row.sources);

@@ -64,7 +64,7 @@ fn have_values(forms: &[Form], at: &[i64], point: &[i64]) -> bool {
 fn leaf<'a>(tree: &'a Tree, at: &[i64]) -> Option<&'a Tree> {
     match tree {
         Tree::Test(form, above, below) => {
-            if value(form, at)? >= 0 {
+            if value(form.get(), at)? >= 0 {
                 leaf(above.get(), at)
             } else {
                 leaf(below.get(), at)
@@ -110,7 +110,12 @@ fn are_right(made: &Made, table: &SourceTable) -> bool {
             let Some((Origin::Tree(tree), wanted)) = reads.next() else {
                 return false;
             };
-            if !gives_all(tree, vectors.as_slice(), &made.points, wanted.as_slice()) {
+            if !gives_all(
+                tree.get(),
+                vectors.as_slice(),
+                &made.points,
+                wanted.as_slice(),
+            ) {
                 return false;
             }
         }

@@ -119,7 +119,7 @@ fn numbered(
     })
 }
 
-// Whether a network is the same as the network with these numbers, or this the same as it.
+// Whether a network is the same as the network with these numbers, and whether this is the same as it.
 fn is_same(
     alloc: Global,
     network: &Network,
@@ -127,11 +127,11 @@ fn is_same(
     capacity: u32,
     multiplicity: bool,
     events: &[Event],
-) -> Result<bool, AllocError>
+) -> Result<(bool, bool), AllocError>
     requires { length events.now < 2 ^ 32 }
 {
     let other = numbered(alloc, slots, capacity, multiplicity, events)?;
-    Ok(network.same(&other) || other.same(network))
+    Ok((network.same(&other), other.same(network)))
 }
 
 // Slots, a capacity, whether tokens are repeated, the channel of the last Put, and whether the network is the same.
@@ -148,15 +148,16 @@ static OTHERS: [(u32, u32, bool, u32, bool); 5] = [
 fn is_the_first(alloc: Global, network: &Network) -> Result<bool, AllocError> {
     for (slots, capacity, multiplicity, last, wanted) in &OTHERS {
         let events = [put(0), put(*last)];
-        if is_same(alloc, network, *slots, *capacity, *multiplicity, &events)? != *wanted {
+        let found = is_same(alloc, network, *slots, *capacity, *multiplicity, &events)?;
+        if found != (*wanted, *wanted) {
             return Ok(false);
         }
     }
-    if is_same(alloc, network, 3, 5, true, &[put(0)])? {
+    if is_same(alloc, network, 3, 5, true, &[put(0)])? != (false, false) {
         return Ok(false);
     }
     let other = starved(alloc)?;
-    Ok(!network.same(&other))
+    Ok(!network.same(&other) && !other.same(network))
 }
 
 #[test]

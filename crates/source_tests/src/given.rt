@@ -34,13 +34,14 @@ pub(crate) fn gives(
     wanted: Option<Turn>,
 ) -> Result<bool, AllocError> {
     match tree {
-        Tree::Test(form, above, below) => match value(form, at) {
+        Tree::Test(form, above, below) => match value(form.get(), at) {
             Some(value) if value >= 0 => gives(alloc, above.get(), at, wanted),
             Some(_) => gives(alloc, below.get(), at, wanted),
             None => Ok(false),
         },
         Tree::Divides(form, divisor, above, below) => {
-            let Some((longer, divides)) = divided(alloc, value(form, at), *divisor, at)? else {
+            let Some((longer, divides)) = divided(alloc, value(form.get(), at), *divisor, at)?
+            else {
                 return Ok(false);
             };
             if divides {

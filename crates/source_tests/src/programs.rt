@@ -79,7 +79,8 @@ pub(crate) const BETWEEN: &[u8] = b"param N; out y[N]; var a[N][N][N]; \
     for (i = 0; i < N; i++) for (j = 0; j < N; j++) a[i][3*j][2 - i] = j; \
     for (i = 0; i < N; i++) for (k = 0; k < N; k++) y[i] = a[i][k][2 - i] + a[k][i][1];";
 
-// Made at random, by a script outside. Some cells are read that nobody wrote.
+// Made at random, by a script outside. Some cells are read that nobody wrote, and at 4 and more each has two reads or more of
+// what an assignment wrote, but for one with one.
 pub(crate) static RANDOM: [&[u8]; 12] = [
     b"param N; inout a[N], b[N]; for (i = 0; i < N; i++) if (i >= 4) { a[i + 1] = b[0] + i; } \
     for (i = 0; i < N; i++) { a[2*i + 6] = a[3] + i; b[6] = b[0 - i] + i; } for (i = 0; i < \

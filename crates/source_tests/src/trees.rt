@@ -304,7 +304,7 @@ fn trees_have_the_last_writes(rt: HostRuntime) -> Result<(), Fail> {
         }
     }
     for source in &RANDOM {
-        for n in 2..4 {
+        for n in 2..7 {
             assert!(rt; all_are_right(rt.alloc(), source, n, Kind::Joined)?);
         }
     }

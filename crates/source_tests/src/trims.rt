@@ -108,7 +108,7 @@ static CASES: [Case; 12] = [
 
 fn tree_of(alloc: Global, text: &[u8]) -> Result<Tree, Fail> {
     let mut lines = Lines::new(text);
-    Ok(read_tree(alloc, &mut lines)?)
+    Ok(read_tree(alloc, &mut lines)?.into_inner())
 }
 
 // Whether a tree is written as this text.

@@ -59,7 +59,7 @@ fn dead(alloc: Global, proof: &[u8]) -> Result<Tree, Fail> {
     let mut text = Vec::from_slice(alloc, b"x\n")?;
     text.extend_from_slice(proof)?;
     let mut lines = Lines::new(text.as_slice());
-    Ok(read_tree(alloc, &mut lines)?)
+    Ok(read_tree(alloc, &mut lines)?.into_inner())
 }
 
 // From 2 v - 1 >= 0 follows v - 1 >= 0: the negation -v >= 0 is row 1, and the Cut adds v - 1 >= 0 as row 2. Without it the sum

@@ -47,7 +47,7 @@ fn refusal(alloc: Global, text: &[u8]) -> Result<Option<CertError>, Fail> {
     let mut lines = Lines::new(text);
     match read_tree(alloc, &mut lines) {
         Ok(tree) => {
-            let written = is_written(alloc, &tree, text);
+            let written = is_written(alloc, tree.get(), text);
             drop(tree);
             let written = written?;
             if let Err(error) = lines.end() {

@@ -11,9 +11,9 @@ from dataclasses import dataclass
 from pathlib import Path
 from typing import NoReturn
 
-from front_door.base import Stop
+from front_door.base import COMPAAN, RTL, Stop
 from front_door.kept import proved_program, unproved_program
-from front_door.proved import BUILT_BY_RT
+from front_door.proved import built_by_rt
 
 TOP = Path(__file__).resolve().parents[1]
 EXAMPLES = TOP / "examples"
@@ -46,21 +46,28 @@ def plain_parser_of(text: str | None) -> argparse.ArgumentParser:
     return argparse.ArgumentParser(usage=usage and usage[1], description=told, formatter_class=argparse.RawDescriptionHelpFormatter)
 
 
-def program_of(named: str | None) -> str:
-    """The program by its whole name: the named one, or that of COMPAAN, or what was built of these sources, proved before unproved."""
-    named = named or os.environ.get("COMPAAN")
+def program_of(named: str | None, name: str = COMPAAN) -> str:
+    """The program by its whole name: the named one, or that of COMPAAN, or what was built of these sources, proved before unproved. So
+    for the second program, with COMPAAN_RTL."""
+    named = named or os.environ.get(name.upper())
     if named:
         path = os.path.abspath(named)
         return path if os.access(path, os.X_OK) else stop(f"there is no program {path}")
     try:
-        found = proved_program() or (BUILT_BY_RT if os.access(BUILT_BY_RT, os.X_OK) else None)
+        built = built_by_rt(name)
+        found = proved_program(name) or (built if os.access(built, os.X_OK) else None)
         if found is None:
-            found = unproved_program()
+            found = unproved_program(name)
             if found is not None:
                 print(f"{Path(sys.argv[0]).name}: by the unproved program, {found}", file=sys.stderr)
     except Stop as error:
         stop(error.text)
     return str(found) if found is not None else stop("build the program first: ./compaan build, or ./compaan build --unproved")
+
+
+def rtl_program_of(named: str | None) -> str:
+    """The program that writes designs, by its whole name."""
+    return program_of(named, RTL)
 
 
 @dataclass(frozen=True)

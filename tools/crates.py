@@ -9,7 +9,7 @@ import re
 from collections.abc import Iterator
 from pathlib import Path
 
-from front_door.base import TOP
+from front_door.paths import TOP
 from front_door.sources import LIST, listed
 
 CRATES = TOP / "crates"

@@ -15,15 +15,17 @@ is another value here.
 """
 from __future__ import annotations
 
+import contextlib
 import re
 import subprocess
 import sys
+from collections import Counter
 from dataclasses import dataclass, field
 
 from front_door.base import put, tell
 from front_door.bundle import BUNDLE_LIMIT, read_file
 from front_door.ending import ended
-from front_door.words import Parser
+from front_door.options import Parser
 
 try:
     from pycparser import c_ast, c_parser
@@ -50,7 +52,7 @@ WHOLE = {
     "static",
     "register",
 }
-SIZE_MACRO = re.compile(r"[ \t]*#[ \t]*define[ \t]+([A-Za-z_]\w*)[ \t]+\(?[ \t]*(-?\d+)[uUlL]*[ \t]*\)?[ \t]*(?://.*|/\*.*\*/[ \t]*)?$")
+SIZE_MACRO = re.compile(r"[ \t]*#[ \t]*define[ \t]+([A-Za-z_]\w*)[ \t]+\(?[ \t]*(-?)(\d\w*)[ \t]*\)?[ \t]*(?://.*|/\*.*\*/[ \t]*)?$")
 
 
 class Unfit(Exception):
@@ -59,6 +61,38 @@ class Unfit(Exception):
     def __init__(self, node: object, why: str) -> None:
         coord = getattr(node, "coord", None)
         super().__init__(f"{coord.line}: {why}" if coord else why)
+
+
+# The largest number that the source language writes.
+LARGEST = (1 << 63) - 1
+
+
+def number_of(text: str) -> int | None:
+    """The number that a constant of C stands for, of which 010 is eight, or None where it is none that the source language writes."""
+    digits = text.rstrip("uUlL")
+    if re.fullmatch("0[0-7]+", digits):
+        value = int(digits, 8)
+    elif re.fullmatch("0[xX][0-9a-fA-F]+|0[bB][01]+|[0-9]+", digits):
+        value = int(digits, 0)
+    else:
+        return None
+    return value if value <= LARGEST else None
+
+
+def constant_of(node: c_ast.Constant) -> int:
+    """The number of a constant, which may be a character of ASCII."""
+    if node.type == "char":
+        with contextlib.suppress(UnicodeError):
+            text = node.value[1:-1].encode("ascii").decode("unicode_escape")
+            if node.value[0] == "'" and len(text) == 1 and text.isascii():
+                return ord(text)
+        raise Unfit(node, f"{node.value} is no character of ASCII")
+    if not node.type.endswith("int"):
+        raise Unfit(node, "floats have no place here" if node.type in ("float", "double", "long double") else f"{node.value} has no place here")
+    found = number_of(node.value)
+    if found is None:
+        raise Unfit(node, f"{node.value} is no number up to {LARGEST}")
+    return found
 
 
 # A value of the right side: a number, a name, a read with its subscripts, or a sign with its operands.
@@ -158,6 +192,7 @@ class Source:
         # The values of loop variables that run down, in terms of their turns.
         self.turned: dict[str, str] = {}
         self.result: str | None = None
+        self.has_returned = False
 
     # ---- names
 
@@ -170,7 +205,9 @@ class Source:
             self.scopes[0][node.name] = (name, "param")
             self.params.append(name)
             return self.scopes[0][node.name]
-        raise Unfit(node, f"{node.name} is nothing that is declared here")
+        if node.name in self.loop_variables:
+            raise Unfit(node, f"{node.name} counts the turns of a loop, and is known within that alone")
+        raise Unfit(node, f"{node.name} is nothing that is declared in this function")
 
     def declare(self, name: str, kind: str) -> str:
         made = self.names.new(name)
@@ -201,12 +238,14 @@ class Source:
     def affine(self, node: object) -> str:
         """An expression in an affine place: a bound, a subscript, a side of a comparison or an extent."""
         if isinstance(node, c_ast.Constant):
-            return re.sub(r"[uUlL]+$", "", node.value)
+            return str(constant_of(node))
         if isinstance(node, c_ast.ID):
             name, kind = self.find(node)
             if kind == "loop":
                 return self.turned.get(name, name)
             if kind in ("param", "size"):
+                if kind == "size" and name in self.written_arrays:
+                    raise Unfit(node, f"{node.name} is set in this function, so what stands here depends on data")
                 if kind == "size":
                     self.promote(node.name)
                 return name
@@ -267,11 +306,7 @@ class Source:
 
     def value(self, node: object) -> Value:
         if isinstance(node, c_ast.Constant):
-            if node.type not in ("int", "long int", "long long int", "unsigned int", "unsigned long int", "char"):
-                raise Unfit(node, "floats have no place here")
-            if node.type == "char":
-                return Value("number", text=str(ord(node.value.strip("'").encode().decode("unicode_escape"))))
-            return Value("number", text=str(int(re.sub(r"[uUlL]+$", "", node.value), 0)))
+            return Value("number", text=str(constant_of(node)))
         if isinstance(node, c_ast.ID):
             name, kind = self.find(node)
             if kind == "loop":
@@ -300,7 +335,10 @@ class Source:
             if node.op in ("+", "-", "*"):
                 return Value(node.op, [self.value(node.left), self.value(node.right)])
             if node.op == "<<" and isinstance(node.right, c_ast.Constant):
-                return Value("*", [self.value(node.left), Value("number", text=str(1 << int(node.right.value, 0)))])
+                places = constant_of(node.right)
+                if places > 62:
+                    raise Unfit(node, f"a shift by {places} has no place here")
+                return Value("*", [self.value(node.left), Value("number", text=str(1 << places))])
             raise Unfit(node, f"`{node.op}` is no operator of the language: it has +, -, *, min and max")
         if isinstance(node, c_ast.FuncCall):
             raise Unfit(node, f"a call, of {shown(node.name)}, has no place here: write it out, or as a macro")
@@ -366,6 +404,8 @@ class Source:
     def statement(self, node: object, depth: int) -> None:
         if node is None or isinstance(node, (c_ast.EmptyStatement, c_ast.Pragma)):
             return
+        if self.has_returned:
+            raise Unfit(node, "this stands behind a return, and is never executed")
         if isinstance(node, c_ast.Compound):
             self.statements(node.block_items or [], depth)
         elif isinstance(node, c_ast.For):
@@ -382,11 +422,11 @@ class Source:
             self.read_arrays.add(name)
             sign = "+" if "+" in node.op else "-"
             self.assign(text, Value(sign, [Value("read", text=text), Value("number", text="1")]), depth)
-        elif isinstance(node, c_ast.Return) and depth == 0 and node.expr is not None:
-            self.result = self.names.new("result")
-            self.assign(self.result, self.value(node.expr), depth)
         elif isinstance(node, c_ast.Return) and depth == 0:
-            return
+            self.has_returned = True
+            if node.expr is not None:
+                self.result = self.names.new("result")
+                self.assign(self.result, self.value(node.expr), depth)
         elif isinstance(node, c_ast.FuncCall):
             raise Unfit(node, f"a call, of {shown(node.name)}, has no place here: write it out, or as a macro")
         elif isinstance(node, (c_ast.While, c_ast.DoWhile)):
@@ -402,6 +442,8 @@ class Source:
         if node.name in self.loop_variables:
             # (a variable that loops count with needs no declaration)
             return
+        if "static" in node.storage and "const" not in node.quals:
+            raise Unfit(node, f"{node.name} is static, and keeps its value from call to call: make it a parameter of the function")
         if isinstance(node.init, c_ast.InitList):
             raise Unfit(node, f"the values of {node.name} stand in the source: give them as data, in a parameter of the function")
         name = self.declare(node.name, "array" if extents else "scalar")
@@ -432,6 +474,8 @@ class Source:
             c_name, first = node.init.decls[0].name, node.init.decls[0].init
         elif isinstance(node.init, c_ast.Assignment) and node.init.op == "=" and isinstance(node.init.lvalue, c_ast.ID):
             c_name, first = node.init.lvalue.name, node.init.rvalue
+            if any(c_name in scope for scope in self.scopes):
+                raise Unfit(node, f"{c_name} stands for something else already, which this loop would change: take another name")
         else:
             raise Unfit(node, "a loop begins with one variable and its first value")
         condition = node.cond
@@ -594,10 +638,13 @@ def preprocessed(text: str) -> tuple[str, dict[str, int]]:
     sizes: dict[str, int] = {}
     lines = []
     tested = " ".join(re.findall(r"(?m)^[ \t]*#[ \t]*(?:if|elif|ifdef|ifndef)\b(.*)$", text))
+    # How often a name is defined, or no more so: what has several meanings is left to the preprocessor.
+    defined = Counter(re.findall(r"(?m)^[ \t]*#[ \t]*(?:define|undef)[ \t]+(\w+)", text))
     for line in text.split("\n"):
         found = SIZE_MACRO.match(line)
-        if found and not re.search(rf"\b{found[1]}\b", tested):
-            sizes[found[1]] = int(found[2])
+        value = number_of(found[3]) if found else None
+        if found and value is not None and defined[found[1]] == 1 and not re.search(rf"\b{found[1]}\b", tested):
+            sizes[found[1]] = -value if found[2] else value
             line = ""
         elif re.match(r"[ \t]*#[ \t]*include\b", line):
             line = ""

@@ -24,7 +24,7 @@ from clocked import AWAIT_ROOM, AWAIT_TOKEN, ENDED, FIRE, GET, PUT
 from front_door.base import Status, Stop, put, tell
 from front_door.bundle import BUNDLE_LIMIT, read_file
 from front_door.ending import ended
-from front_door.words import Parser
+from front_door.options import Parser
 from network import Network
 from outline import Outline, values_of
 

@@ -10,7 +10,7 @@ usage: tools/docs/check.py [--compaan PROGRAM|--no-program] [FILE.md]..     (all
   complaints of its kind have, or its output. Where LINE begins with `data: `, what stands before is the data of `in x[3];`.
 - Links: what [text](path#heading) names is there, and so is what stands in backticks as a path from the top, as a file of a crate's
   src/, specs/, proofs/, must-fail/ or edits/, or as a document.
-- Tests: in the list of PROVED.md each test stands in one of the crates behind it, and each of these crates has tests.
+- Tests: in the list of PROVED.md each name behind a crate of tests is that of a test of it.
 - Contracts: what stands in backticks as crate::function is a function of that crate.
 - Rows: a row of a table has at most 160 characters.
 - Toolchain: where `rt` is, what a page says of its version, as `rattle-kit-..`, is what `rt version` prints.
@@ -36,7 +36,7 @@ from pathlib import Path
 
 sys.path.insert(0, str(Path(__file__).resolve().parents[1]))
 import pages
-from common import EXAMPLES, TOP, examples, parser_of, program_of, stop
+from common import EXAMPLES, TOP, examples, parser_of, program_of, rtl_program_of, stop
 from common import run as run_program
 from crates import CRATES, files_of, read
 
@@ -54,6 +54,7 @@ LIMITS = (
     ("cert_text/src/kept.rt", "MOST_EVENTS", "docs/CERTIFICATES.md docs/SECURITY.md"),
     ("cert_lines/src/lines.rt", "NESTING_LIMIT", "docs/CERTIFICATES.md docs/SECURITY.md"),
     ("cell_rows/src/places.rt", "ROW_LIMIT", "docs/DECISIONS.md docs/SECURITY.md"),
+    ("rtl_answers/src/design.rt", "MOST_INSTRUCTIONS", "docs/RTL.md"),
     ("vhdl_text/src/text.rt", "MOST_EVENTS", "README.md docs/COMMANDS.md docs/VHDL.md"),
 )
 GIVES = re.compile(r"`([^`]+)` gives `([^`]+)`")
@@ -134,6 +135,8 @@ class Folder:
         """The status of a command of bash, and what it prints on both streams."""
         path = f"{self.path}/bin:{os.environ['PATH']}"
         environment = {**os.environ, "COMPAAN": self.program, "PATH": path, "LC_ALL": "C.UTF-8"}
+        if "./compaan rtl" in command:
+            environment["COMPAAN_RTL"] = rtl_program_of(None)
         done = subprocess.run(
             ["bash", "-c", command],
             stdin=subprocess.DEVNULL,
@@ -213,12 +216,11 @@ def tests_of(crate: str) -> set[str]:
 def check_tests(name: str, text: str, tally: Tally) -> None:
     section = text.partition("## What is tested\n")[2].partition("\n## ")[0]
     for told in re.findall(r"(?m)^- .*(?:\n  .*)*", section):
-        tests, _, crates = told.rpartition("(")
-        found = {it: tests_of(it) for it in re.findall(r"`(\w+)`", crates)}
-        for test in re.findall(r"`(\w+)`", tests.rpartition(": ")[2]):
-            tally.compare("tests", name, any(test in it for it in found.values()), f"{test} is no test of {', '.join(found)}")
-        for crate, of_crate in found.items():
-            tally.compare("tests", name, of_crate, f"{crate} has no tests")
+        crate, *tests = re.findall(r"`(\w+)`", told)
+        found = tests_of(crate)
+        tally.compare("tests", name, found and tests, f"{crate} has no tests, or none is named")
+        for test in tests:
+            tally.compare("tests", name, test in found, f"{test} is no test of {crate}")
 
 
 def check_contracts(name: str, text: str, tally: Tally) -> None:

@@ -1,22 +1,19 @@
 """What all parts of the script stand on: its folders, its statuses, and how it says something."""
-from __future__ import annotations
-
-import contextlib
 import os
 import sys
-from enum import IntEnum
-from pathlib import Path
 
 # What only types name is imported where types are checked: each answer waits for the imports that are made.
 TYPE_CHECKING = False
 
-TOP = Path(__file__).resolve().parents[2]
-CRATE = TOP / "crates" / "compaan"
-# Kept beside the crates' own folders out/, which the toolchain makes and empties.
-KEPT = TOP / "out"
+# The repository's folder.
+HERE = os.path.dirname(os.path.dirname(os.path.dirname(os.path.realpath(__file__))))
+# The programs, by the names of their crates: the second writes whole designs.
+COMPAAN, RTL = "compaan", "compaan_rtl"
+# What is kept, beside the crates' own folders out/, which the toolchain makes and empties.
+KEPT = f"{HERE}/out"
 
 
-class Status(IntEnum):
+class Status:
     """The script's own statuses, apart from the program's, which are 0 to 11."""
 
     WRONG_WORDS = 64
@@ -51,8 +48,10 @@ def write_all(descriptor: int, text: bytes) -> None:
 def tell(text: str, end: str = "\n") -> None:
     """Says something on standard error. Where that is closed or full there is nowhere to say so."""
     if sys.stderr is not None:
-        with contextlib.suppress(OSError):
+        try:
             write_all(2, (text + end).encode(errors="replace"))
+        except OSError:
+            pass
 
 
 def put(text: bytes) -> None:

@@ -1,7 +1,4 @@
 """The files of a call, as the one bundle that the program reads, and the parts of it that places are told for."""
-from __future__ import annotations
-
-import re
 import sys
 
 from .base import TYPE_CHECKING, Status, Stop, printable
@@ -13,8 +10,6 @@ if TYPE_CHECKING:
 
 # The most bytes that the program reads.
 BUNDLE_LIMIT = 67_108_864
-SEPARATOR = re.compile(rb"\n%%(?:\r?\n|\Z)")
-FIRST_SEPARATOR = re.compile(rb"%%(?:\r?\n|\Z)")
 
 
 class Part:
@@ -36,10 +31,10 @@ class Bundle:
         # The bytes of FILE, and the source as it stands there.
         self.file = file
         # The files that --data and --certificate name, each by its name and bytes.
-        self.given_data: tuple[str, bytes] | None = None
-        self.given_certificate: tuple[str, bytes] | None = None
+        self.given_data: "tuple[str, bytes] | None" = None
+        self.given_certificate: "tuple[str, bytes] | None" = None
 
-    def part(self, number: int) -> Part | None:
+    def part(self, number: int) -> "Part | None":
         """The source, the data or the certificate by its number, 0 to 2, in the file where it stands."""
         given = (None, self.given_data, self.given_certificate)[number]
         if given is not None:
@@ -60,13 +55,24 @@ class Bundle:
         return part
 
 
-def separator(text: bytes, first: int) -> tuple[int, int | None]:
+def separator(text: bytes, first: int) -> "tuple[int, int | None]":
     """Where the first separator from this byte on begins, and where what is behind it does; or the text's end, and None."""
-    found = FIRST_SEPARATOR.match(text, first)
-    if found:
-        return found.start(), found.end()
-    found = SEPARATOR.search(text, first)
-    return (found.start() + 1, found.end()) if found else (len(text), None)
+    at = first if text.startswith(b"%%", first) else line_with_mark(text, first)
+    while at >= 0:
+        behind = at + 2
+        if behind == len(text):
+            return at, behind
+        for end in (b"\n", b"\r\n"):
+            if text.startswith(end, behind):
+                return at, behind + len(end)
+        at = line_with_mark(text, behind)
+    return len(text), None
+
+
+def line_with_mark(text: bytes, first: int) -> int:
+    """Where the first line behind this byte begins that begins with %%, or -1."""
+    found = text.find(b"\n%%", first)
+    return found + 1 if found >= 0 else -1
 
 
 def shown(name: str) -> str:
@@ -87,7 +93,7 @@ def read_file(name: str, room: int) -> bytes:
         raise Stop(Status.NO_FILE, f"{shown(name)} can't be read: {why}") from None
 
 
-def read_from(file: BinaryIO, room: int) -> bytes:
+def read_from(file: "BinaryIO", room: int) -> bytes:
     return file.read(max(room, 0) + 1)
 
 
@@ -103,7 +109,7 @@ def refuse_separator(name: str, text: bytes) -> None:
         )
 
 
-def bundle_of(words: Words) -> Bundle:
+def bundle_of(words: "Words") -> Bundle:
     """Reads the files of a call. Together they have at most a byte more than the program takes."""
     name = words.file or "-"
     text = read_file(name, BUNDLE_LIMIT)

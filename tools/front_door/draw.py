@@ -2,6 +2,7 @@
 from __future__ import annotations
 
 import contextlib
+import os
 import subprocess
 
 from network import graph_of, network_of
@@ -9,17 +10,19 @@ from outline import Outline
 
 from .base import printable, put, tell
 from .explain import UNEXPECTED
-from .program import as_file
+from .program import in_memory
 
 
 def picture_of(graph: str) -> bytes | None:
     """What Graphviz draws, or None where it isn't here or fails."""
+    text = in_memory(graph.encode(errors="replace"))
     try:
-        with as_file(graph.encode(errors="replace")) as file:
-            return subprocess.run(["dot", "-Tsvg"], stdin=file, stdout=subprocess.PIPE, check=True).stdout
+        return subprocess.run(["dot", "-Tsvg"], stdin=text, stdout=subprocess.PIPE, check=True).stdout
     except (OSError, subprocess.CalledProcessError) as error:
         tell(f"compaan: Graphviz doesn't draw it ({error}): this is the network's text")
         return None
+    finally:
+        os.close(text)
 
 
 def draw(net: bytes, source: bytes, title: str) -> None:

@@ -1,9 +1,4 @@
 """The one handler round whatever the script does: each failure has a line and a status, and none goes further."""
-from __future__ import annotations
-
-import os
-import signal
-
 from .base import TYPE_CHECKING, Status, Stop, printable, tell
 from .program import Signalled
 
@@ -11,7 +6,7 @@ if TYPE_CHECKING:
     from collections.abc import Callable
 
 
-def ended(act: Callable[[], int]) -> int:
+def ended(act: "Callable[[], int]") -> int:
     """The status of what is done, or that of its failure, which is said on standard error."""
     try:
         return act()
@@ -19,9 +14,7 @@ def ended(act: Callable[[], int]) -> int:
         tell(f"compaan: {printable(stop.text)}")
         return stop.status
     except Signalled as it:
-        # Whoever started the script sees what ended it.
-        signal.signal(it.number, signal.SIG_DFL)
-        os.kill(os.getpid(), it.number)
+        it.end()
         return 128 + it.number
     except MemoryError:
         tell("compaan: memory is wanting")
@@ -30,6 +23,7 @@ def ended(act: Callable[[], int]) -> int:
         tell(f"compaan: {printable(str(error.filename or 'the system'))}: {error.strerror}")
         return Status.SYSTEM
     except Exception as error:
+        import os
         import traceback
 
         last = traceback.extract_tb(error.__traceback__)[-1]

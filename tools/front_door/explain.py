@@ -7,6 +7,7 @@ from __future__ import annotations
 
 import contextlib
 import re
+import signal
 from collections import Counter
 from collections.abc import Callable, Iterator
 
@@ -17,10 +18,12 @@ from .base import number
 from .bundle import Bundle, Part
 from .certificate import Certificate, certificate_of, size_of, wish_of
 from .idioms import advice_on
+from .memory import NO_MEMORY, said_of_memory
 from .place import Place
 from .program import Answer
 from .records import field_start, record_start
-from .words import Words
+from .words import OF_RTL, Words
+from .wrong_words import said_of
 
 ENDS_EARLY = "the source ends here, before it is complete"
 # What a reason says. {0}, {1} and {2} are the numbers of its line, {name} what stands at its place.
@@ -79,6 +82,19 @@ UNEXPECTED = (
 Ask = Callable[[list[str], bytes], Answer]
 
 
+def said_of_answer(words: Words, bundle: Bundle | None, made: Answer, ask: Ask) -> Iterator[str]:
+    """What is said behind an answer of the program that wasn't what was wanted."""
+    if made.signal:
+        yield f"compaan: the program was ended by {signal.strsignal(made.signal) or 'a signal'} (signal {made.signal})"
+    elif made.status == NO_MEMORY and not made.complaint:
+        yield said_of_memory(words)
+    elif made.complaint.startswith(b"usage: "):
+        yield f"compaan: {said_of(words) or 'the program takes no such words (./compaan help)'}"
+    else:
+        explainer = Explainer(words, bundle, ask)
+        yield from explainer.refusal(made.output) if words.command == "check" and made.status == 1 else explainer.complaint(made.complaint)
+
+
 class Explainer:
     """Explains what the program said of a bundle."""
 
@@ -98,7 +114,7 @@ class Explainer:
             yield from self.too_large()
             return
         if (family, reason) == ("limit", "Script"):
-            yield from self.long_scripts(int(rest[0]), int(rest[1]))
+            yield from self.long_sequencer(*rest) if self.words.command == OF_RTL else self.long_scripts(int(rest[0]), int(rest[1]))
             return
         place = None
         # A complaint of a form that this script doesn't know is passed on without a place.
@@ -166,6 +182,11 @@ class Explainer:
             return
         what = "this array, the largest, has {} cells" if largest.is_array else "this loop turns up to {} times with those round it"
         yield from Place(self.bundle.source, largest.byte).lines(f"{limit}, and {what.format(number(largest.count))}")
+
+    def long_sequencer(self, process: str, length: str) -> Iterator[str]:
+        """The first process whose control has more instructions than a design takes."""
+        limit = f"a sequencer has at most {number(SCRIPT_LIMIT)} instructions"
+        yield f"compaan: {limit}, and the script of process {process} folds to {number(int(length))} (docs/RTL.md)"
 
     def long_scripts(self, first: int, length: int) -> Iterator[str]:
         """All processes with more events than VHDL takes. The program tells the first of them."""

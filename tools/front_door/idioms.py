@@ -9,7 +9,7 @@ import re
 from dataclasses import dataclass
 from pathlib import Path
 
-from .base import TOP
+from .paths import TOP
 from .place import Place
 
 PAGE = TOP / "docs" / "LANGUAGE.md"

@@ -1,21 +1,15 @@
 """Joins the parts: what a call is for, which program answers it, and what is said of its answer."""
-from __future__ import annotations
-
-import contextlib
 import os
-import signal
 import sys
 
-from .base import TOP, TYPE_CHECKING, Status, Stop, printable, put, tell, write_all
+from .base import COMPAAN, RTL, TYPE_CHECKING, Status, Stop, printable, put, tell, write_all
 from .bundle import bundle_of
 from .ending import ended
 from .kept import proved_program, unproved_program
 from .program import run
-from .words import COMMANDS, command_help, help_text, words_of
+from .words import COMMANDS, OF_RTL, words_of
 
 if TYPE_CHECKING:
-    from pathlib import Path
-
     from .bundle import Bundle
     from .program import Answer
     from .words import Words
@@ -33,12 +27,18 @@ def main(arguments: list[str]) -> int:
 def answer(arguments: list[str]) -> int:
     """Does what a call is for, and gives its status."""
     if not arguments:
+        from .help import help_text
+
         tell(help_text().rstrip())
         return Status.WRONG_WORDS
     if arguments[0] == "c" and "--help" not in arguments:
-        return other_tool("from_c.py", arguments[1:])
+        from .tools import run_tool, with_package
+
+        return run_tool(with_package("pycparser"), "from_c.py", arguments[1:])
     words = words_of(arguments)
     if words.wants_help or words.command == "help":
+        from .help import command_help, help_text
+
         about = words.file if words.command == "help" else words.command
         put((command_help(about) if about is not None and about in COMMANDS else help_text()).encode())
         return 0
@@ -49,25 +49,20 @@ def answer(arguments: list[str]) -> int:
     return call(words)
 
 
-def other_tool(name: str, words: list[str]) -> int:
-    """Runs another of the tools, and gives its status."""
-    import subprocess
-
-    return subprocess.run([sys.executable, "-B", str(TOP / "tools" / name), *words], check=False).returncode
-
-
-def report(words: Words) -> int:
+def report(words: "Words") -> int:
     """Writes the page about a program and its network."""
+    from .tools import run_tool
+
     if words.file is None or words.file == "-":
         raise Stop(Status.WRONG_WORDS, "report wants the source as a FILE (./compaan report --help)")
     program, is_unproved = program_for(words)
     if is_unproved:
         tell(UNPROVED)
     data = ["--data", words.data] if words.data else []
-    return other_tool("report.py", [str(program), words.file, *words.passed[1:], *data])
+    return run_tool(sys.executable, "report.py", [program, words.file, *words.passed[1:], *data])
 
 
-def build_by(words: Words) -> int:
+def build_by(words: "Words") -> int:
     from .proved import build, take_built
     from .unproved import make_unproved
 
@@ -82,24 +77,24 @@ def build_by(words: Words) -> int:
     return 0
 
 
-def program_for(words: Words) -> tuple[str | Path, bool]:
+def program_for(words: "Words", name: str = COMPAAN) -> tuple[str, bool]:
     """The program that answers, and whether nothing is proved of it. It is made where there is none."""
-    named = os.environ.get("COMPAAN")
+    named = os.environ.get(name.upper())
     if named and not words.unproved:
         return named, False
-    proved = None if words.unproved else proved_program()
+    proved = None if words.unproved else proved_program(name)
     if proved is not None:
         return proved, False
-    made = unproved_program()
+    made = unproved_program(name)
     if made is None:
         from .unproved import make_unproved
 
         refuse_wrong_words(words)
-        made = make_unproved()
+        made = make_unproved(name=name)
     return made, True
 
 
-def refuse_wrong_words(words: Words) -> None:
+def refuse_wrong_words(words: "Words") -> None:
     """Stops at words that the program would refuse, since to have it say so it would have to be made."""
     from .wrong_words import said_of
 
@@ -108,7 +103,7 @@ def refuse_wrong_words(words: Words) -> None:
         raise Stop(Status.WRONG_WORDS, wrong)
 
 
-def call(words: Words) -> int:
+def call(words: "Words") -> int:
     """Runs the program on a call's bundle, and explains what it refuses."""
     if words.isl and words.command != "deps":
         raise Stop(Status.WRONG_WORDS, "--isl goes with deps (./compaan deps --help)")
@@ -117,12 +112,14 @@ def call(words: Words) -> int:
         words.command = "net"
         words.passed[words.passed.index("draw")] = "net"
     bundle = read_bundle(words)
-    program, is_unproved = program_for(words)
+    is_rtl = words.command == OF_RTL
+    program, is_unproved = program_for(words, RTL if is_rtl else COMPAAN)
     if is_unproved:
         tell(UNPROVED)
     # What check says is read to explain it.
     is_read = is_drawn or words.isl or (words.command == "check" and sys.stdout is not None)
-    made = run(program, words.passed, None if bundle is None else bundle.bytes, is_read)
+    passed = words.passed_to_rtl if is_rtl else words.passed
+    made = run(program, passed, None if bundle is None else bundle.bytes, is_read)
     if is_drawn and made.status == 0:
         from .draw import draw
 
@@ -136,18 +133,24 @@ def call(words: Words) -> int:
         return 0
     if not passed_on(made, is_read):
         return NOT_SAID
-    if made.signal:
-        tell(f"compaan: the program was ended by {signal.strsignal(made.signal) or 'a signal'} (signal {made.signal})")
-    elif made.status and sys.stderr is not None:
-        explain(words, bundle, made, program)
+    if made.status and sys.stderr is not None:
+        explain(words, bundle, made, None if is_rtl else program)
     return made.status
 
 
-def source_of(bundle: Bundle | None) -> bytes:
+def first_program() -> str:
+    """The first program, which knows what a complaint of the second means, where it is there."""
+    found = os.environ.get("COMPAAN") or proved_program() or unproved_program()
+    if found is None:
+        raise Stop(Status.NO_PROGRAM, "there is no program that explains it")
+    return found
+
+
+def source_of(bundle: "Bundle | None") -> bytes:
     return bundle.source.text if bundle is not None else b""
 
 
-def read_bundle(words: Words) -> Bundle | None:
+def read_bundle(words: "Words") -> "Bundle | None":
     if words.file is None:
         if words.reads_nothing or sys.stdin is None:
             return None
@@ -156,7 +159,7 @@ def read_bundle(words: Words) -> Bundle | None:
     return bundle_of(words)
 
 
-def passed_on(made: Answer, is_read: bool) -> bool:
+def passed_on(made: "Answer", is_read: bool) -> bool:
     """Writes what was read of the program as it is. Where that fails, the program's status would have said so."""
     try:
         if is_read:
@@ -168,19 +171,15 @@ def passed_on(made: Answer, is_read: bool) -> bool:
     return True
 
 
-def explain(words: Words, bundle: Bundle | None, made: Answer, program: str | Path) -> None:
-    """Says on standard error what a refusal or want of memory means. Where that can't be told, the refusal is what it is."""
-    from .explain import UNEXPECTED, Explainer
-    from .memory import NO_MEMORY, said_of_memory
-    from .wrong_words import said_of
-
-    if made.status == NO_MEMORY and not made.complaint:
-        said = iter([said_of_memory(words)])
-    elif made.complaint.startswith(b"usage: "):
-        said = iter([f"compaan: {said_of(words) or 'the program takes no such words (./compaan help)'}"])
-    else:
-        explainer = Explainer(words, bundle, lambda passed, text: run(program, passed, text, True))
-        said = explainer.refusal(made.output) if words.command == "check" and made.status == 1 else explainer.complaint(made.complaint)
-    with contextlib.suppress(*UNEXPECTED, MemoryError, OSError, Stop):
-        for line in said:
+def explain(words: "Words", bundle: "Bundle | None", made: "Answer", program: "str | None") -> None:
+    """Says on standard error what a refusal, want of memory or an end by a signal means. Where that can't be told, it is what it is."""
+    try:
+        from .explain import UNEXPECTED, said_of_answer
+    except (ImportError, MemoryError) as error:
+        tell(f"compaan: what it means can't be told: {error or 'memory is wanting'}")
+        return
+    try:
+        for line in said_of_answer(words, bundle, made, lambda passed, text: run(program or first_program(), passed, text, True)):
             tell(printable(line))
+    except (*UNEXPECTED, MemoryError, OSError, Stop):
+        pass

@@ -12,10 +12,12 @@ from collections.abc import Iterator
 from pathlib import Path
 from typing import IO
 
-from .base import CRATE, KEPT, Status, Stop, tell
+from .base import Status, Stop, tell
+from .paths import KEPT, crate_of
 from .program import run
 
-def keep(kind: str, total: str, program: Path) -> Path:
+
+def keep(kind: str, total: str, program: Path) -> str:
     """Keeps a program in place of those of other sources."""
     place = folder(kind) / total
     part = place.with_name(f"{total}.part")
@@ -25,7 +27,7 @@ def keep(kind: str, total: str, program: Path) -> Path:
     for other in place.parent.iterdir():
         if other != place:
             other.unlink(missing_ok=True)
-    return place
+    return str(place)
 
 
 def folder(name: str = "") -> Path:
@@ -45,15 +47,15 @@ def writing() -> Iterator[None]:
         raise Stop(Status.NOT_WRITTEN, f"no program can be made and kept here: {why} (COMPAAN names one that is built elsewhere)") from None
 
 
-def example_words() -> list[str]:
-    """The words of the program's own example, which stand in its crate as the toolchain wants them."""
-    return (CRATE / "args").read_text(encoding="utf-8").split("\n")[:-1]
+def example_words(name: str) -> list[str]:
+    """The words of a program's own example, which stand in its crate as the toolchain wants them."""
+    return (crate_of(name) / "args").read_text(encoding="utf-8").split("\n")[:-1]
 
 
-def answers_well(program: Path) -> bool:
-    """Whether a program answers its own example as it should."""
-    answer = run(program, example_words(), (CRATE / "stdin").read_bytes(), reads_output=True)
-    return answer.status == 0 and answer.output == (CRATE / "stdout").read_bytes()
+def answers_well(program: Path, name: str) -> bool:
+    """Whether a program answers the example of its crate, which has this name, as it should."""
+    answer = run(str(program), example_words(name), (crate_of(name) / "stdin").read_bytes(), reads_output=True)
+    return answer.status == 0 and answer.output == (crate_of(name) / "stdout").read_bytes()
 
 
 # ------------------------------------------------------------------------------------------------------------- how far

@@ -4,7 +4,8 @@ from __future__ import annotations
 import re
 import resource
 
-from .base import TOP, number, printable
+from .base import number, printable
+from .paths import TOP
 from .words import Words
 
 # The program's own status for it.

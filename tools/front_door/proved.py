@@ -9,59 +9,75 @@ import tempfile
 from pathlib import Path
 from typing import Any, BinaryIO
 
-from .base import CRATE, KEPT, TOP, Status, Stop, tell
-from .kept import PROVED, kept
+from .base import COMPAAN, RTL, Status, Stop, tell
+from .commands import started
+from .kept import PROVED, kept, kind_of
 from .making import Progress, alone, answers_well, keep, writing
-from .program import started
-from .sources import LIST, STATEMENTS, crates_below, expected_minutes, listed, sum_of
+from .paths import KEPT, TOP, crate_of
+from .sources import LIST, crates_below, expected_minutes, listed
+from .sums import STATEMENTS, read_sum_of
 from .toolchain import toolchain
 
 LOG = KEPT / "build.log"
-BUILT_BY_RT = CRATE / "out" / "compaan"
+
+
+def built_by_rt(name: str) -> Path:
+    """Where `rt ci` and `rt run` leave a program."""
+    return crate_of(name) / "out" / name
 
 
 def build() -> int:
-    """Proves all that the program stands on, and builds it; or follows the build that is under way."""
-    total = sum_of(STATEMENTS)
-    if kept(PROVED, total):
-        tell("compaan: the program is proved and built of these sources")
+    """Proves all that the programs stand on, and builds them; or follows the build that is under way."""
+    return max(build_one(name) for name in (COMPAAN, RTL) if name in listed())
+
+
+def build_one(name: str) -> int:
+    """The same of one program."""
+    total, kind, of = read_sum_of(STATEMENTS, name), kind_of(PROVED, name), "" if name == COMPAAN else f" {name}"
+    if kept(kind, total):
+        tell(f"compaan: the program{of} is proved and built of these sources")
         return 0
     tools = toolchain()
-    with alone(PROVED) as (progress, has_waited):
-        if kept(PROVED, total):
-            tell("compaan: the program is proved and built of these sources")
+    with alone(kind) as (progress, has_waited):
+        if kept(kind, total):
+            tell(f"compaan: the program{of} is proved and built of these sources")
             return 0
         if has_waited:
             raise Stop(Status.NO_PROGRAM, f"that build ended without the program: see {LOG}")
         try:
             with writing():
-                prove_all(tools.rt, total, progress)
+                prove_all(tools.rt, name, total, progress)
         finally:
             progress.end()
-    tell("compaan: all crates that the program stands on are proved, and it is built")
+    tell(f"compaan: all crates that the program{of} stands on are proved, and it is built")
     return 0
 
 
 def take_built() -> int:
-    """Keeps as the proved program what `rt ci` or `rt run` built, on the word of whoever says that it is of these sources."""
-    total = sum_of(STATEMENTS)
-    if not os.access(BUILT_BY_RT, os.X_OK):
-        raise Stop(Status.NO_PROGRAM, f"there is no {BUILT_BY_RT}: rt ci and rt run leave the program there")
-    if not answers_well(BUILT_BY_RT):
-        raise Stop(Status.NO_PROGRAM, f"{BUILT_BY_RT} doesn't answer its own example")
-    with alone(PROVED), writing():
-        keep(PROVED, total, BUILT_BY_RT)
-    tell(f"compaan: {BUILT_BY_RT} is the proved program of these sources from now on, on your word")
+    """Keeps as the proved programs what `rt ci` or `rt run` built, on the word of whoever says that it is of these sources. The second
+    program needn't be there."""
+    for name in (COMPAAN, RTL):
+        built = built_by_rt(name)
+        if not os.access(built, os.X_OK):
+            if name == RTL:
+                continue
+            raise Stop(Status.NO_PROGRAM, f"there is no {built}: rt ci and rt run leave the program there")
+        if not answers_well(built, name):
+            raise Stop(Status.NO_PROGRAM, f"{built} doesn't answer its own example")
+        kind = kind_of(PROVED, name)
+        with alone(kind), writing():
+            keep(kind, read_sum_of(STATEMENTS, name), built)
+        tell(f"compaan: {built} is the proved program of these sources from now on, on your word")
     return 0
 
 
-def prove_all(rt: str, total: str, progress: Progress) -> Path:
+def prove_all(rt: str, name: str, total: str, progress: Progress) -> str:
     """Has the toolchain's gate prove the crates and build the program, and gives the copy of it that is kept.
 
     The gate begins what has the longest chain of crates behind it, and takes as many crates at once as processors and memory allow. It
     runs over a copy of what the program is made of alone, so it proves no crate of tests and tries no edit, and whoever changes a source
     meanwhile is in nobody's way."""
-    names = [*crates_below("compaan"), "compaan"]
+    names = [*crates_below(name), name]
     tell(f"compaan: {len(names)} crates are proved, and then the program is built; the log is {LOG}")
     minutes = expected(names, processors())
     if minutes:
@@ -69,7 +85,7 @@ def prove_all(rt: str, total: str, progress: Progress) -> Path:
     with tempfile.TemporaryDirectory(prefix="compaan-build-") as room:
         top = Path(room)
         copy(names, top)
-        if sum_of(STATEMENTS) != total:
+        if read_sum_of(STATEMENTS, name) != total:
             raise Stop(Status.NO_PROGRAM, "sources changed while they were copied: ./compaan build begins anew")
         with open(LOG, "wb") as log, open(LOG, "rb") as news:
             how: dict[str, Any] = {"stdin": subprocess.DEVNULL, "stdout": log, "stderr": subprocess.STDOUT, "cwd": top}
@@ -82,12 +98,12 @@ def prove_all(rt: str, total: str, progress: Progress) -> Path:
                     proved.update(proved_in(news))
                     progress.say(f"{len(proved)} of {len(names)} crates are proved")
                     progress.pause(process)
-        program = top / BUILT_BY_RT.relative_to(TOP)
+        program = top / built_by_rt(name).relative_to(TOP)
         if process.returncode or not program.is_file():
             raise Stop(Status.NO_PROGRAM, f"rt ci over the program's crates ended with status {process.returncode}: see {LOG}")
-        if not answers_well(program):
+        if not answers_well(program, name):
             raise Stop(Status.NO_PROGRAM, "the program that was built doesn't answer its own example")
-        return keep(PROVED, total, program)
+        return keep(kind_of(PROVED, name), total, program)
 
 
 def copy(names: list[str], to: Path) -> None:

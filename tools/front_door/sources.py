@@ -4,15 +4,14 @@ from __future__ import annotations
 import hashlib
 import os
 import re
+from collections.abc import Callable
 from pathlib import Path
 
-from .base import TOP, Status, Stop
+from .base import Status, Stop
+from .paths import TOP
 
 LIST = TOP / "crates.txt"
 CONTRIBUTING = TOP / "docs" / "CONTRIBUTING.md"
-CODE = ("src",)
-# What is proved of the code. A program that was proved once stays so, whatever becomes of the proofs.
-STATEMENTS = ("src", "specs")
 
 
 def listed(path: Path = LIST) -> dict[str, list[str]]:
@@ -44,12 +43,13 @@ def crates_below(name: str) -> list[str]:
     return found
 
 
-def sum_of(parts: tuple[str, ...]) -> str:
-    """A sum over these parts of the crates that the program is made of."""
+def sum_by_reading(parts: tuple[str, ...], look: Callable[[str], None], program: str) -> str:
+    """A sum over these parts of the crates that a program is made of. What it is made of is looked at before it is read."""
+    look(str(LIST))
     total = hashlib.sha256()
-    for crate in [*crates_below("compaan"), "compaan"]:
+    for crate in [*crates_below(program), program]:
         for part in parts:
-            for file in files_below(TOP / "crates" / crate / part):
+            for file in files_below(str(TOP / "crates" / crate / part), look):
                 name = os.path.relpath(file, TOP).encode(errors="surrogateescape")
                 try:
                     with open(file, "rb") as it:
@@ -62,11 +62,18 @@ def sum_of(parts: tuple[str, ...]) -> str:
     return total.hexdigest()[:32]
 
 
-def files_below(folder: Path) -> list[str]:
+def files_below(folder: str, look: Callable[[str], None]) -> list[str]:
+    """The sources below a folder, each looked at, as are the folders."""
     found = []
+    look(folder)
     for at, folders, names in os.walk(folder):
         folders.sort()
-        found += [os.path.join(at, it) for it in sorted(names) if it.endswith((".rt", ".antt"))]
+        for name in folders:
+            look(os.path.join(at, name))
+        for name in sorted(names):
+            if name.endswith((".rt", ".antt")):
+                found.append(os.path.join(at, name))
+                look(found[-1])
     return found
 
 

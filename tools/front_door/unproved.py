@@ -17,60 +17,60 @@ import tempfile
 from pathlib import Path
 from typing import IO
 
-from .base import CRATE, KEPT, Status, Stop, tell
-from .kept import UNPROVED, kept
+from .base import COMPAAN, Status, Stop, tell
+from .commands import started
+from .kept import UNPROVED, kept, kind_of
 from .making import Progress, alone, answers_well, example_words, folder, keep, writing
-from .program import started
-from .sources import CODE, sum_of
+from .paths import KEPT, crate_of
+from .sums import CODE, read_sum_of
 from .toolchain import Toolchain, toolchain
 
 LOG = KEPT / "unproved.log"
-FAILED = KEPT / "unproved.failed"
 TARGET = "x86_64-unknown-linux-gnu"
 STEPS = ("1 of 3: the toolchain reads the sources", "2 of 3: clang compiles them", "3 of 3: it is linked and tried")
 
 
-def make_unproved(again: bool = False) -> Path:
+def make_unproved(again: bool = False, name: str = COMPAAN) -> str:
     """The unproved program of these sources, which is made where it isn't there. One that couldn't be made is tried anew only `again`."""
-    total = sum_of(CODE)
-    found = kept(UNPROVED, total)
+    total, kind = read_sum_of(CODE, name), kind_of(UNPROVED, name)
+    found = kept(kind, total)
     if found is not None:
         return found
-    if not again and FAILED.is_file() and FAILED.read_bytes() == total.encode():
+    if not again and failed_of(name).is_file() and failed_of(name).read_bytes() == total.encode():
         raise Stop(Status.NO_PROGRAM, f"no program can be made of these sources: see {LOG}; ./compaan build --unproved tries again")
     tools = toolchain()
-    with alone(UNPROVED) as (progress, _):
+    with alone(kind) as (progress, _):
         # Another call may have made it meanwhile.
-        found = kept(UNPROVED, total)
+        found = kept(kind, total)
         if found is None:
             tell("compaan: no program is built of these sources: one is compiled now without a proof, once, which takes some minutes")
             try:
                 with writing():
-                    found = make(tools, total, progress)
+                    found = make(name, tools, total, progress)
             finally:
                 progress.end()
         return found
 
 
-def make(tools: Toolchain, total: str, progress: Progress) -> Path:
+def make(name: str, tools: Toolchain, total: str, progress: Progress) -> str:
     """Makes the unproved program and keeps it."""
     for left in folder().glob("making-*"):
         shutil.rmtree(left, ignore_errors=True)
     room = Path(tempfile.mkdtemp(prefix="making-", dir=KEPT))
     try:
-        return make_in(room, tools, total, progress)
+        return make_in(room, name, tools, total, progress)
     finally:
         shutil.rmtree(room, ignore_errors=True)
 
 
-def make_in(room: Path, tools: Toolchain, total: str, progress: Progress) -> Path:
+def make_in(room: Path, name: str, tools: Toolchain, total: str, progress: Progress) -> str:
     """Makes the unproved program with this folder for what is made on the way."""
     module, object_file, program = room / "module.bc", room / "compaan.o", room / "compaan"
     with open(LOG, "wb") as log:
         progress.say(STEPS[0])
-        words = keep_module(room, tools, module, log, progress)
+        words = keep_module(room, name, tools, module, log, progress)
         if words is None:
-            raise failed(total, "the toolchain compiles nothing of these sources")
+            raise failed(name, total, "the toolchain compiles nothing of these sources")
         clang = [str(tools.folder / "toolchain" / "bin" / "clang"), *compiled_natively(words, module, object_file)]
         link = [str(tools.folder / "bin" / "rattle-link"), "--target", TARGET, "--toolchain", str(tools.folder / "toolchain")]
         link += ["-o", str(program), str(object_file), *[str(tools.folder / "c" / it) for it in ("libos_c.a", "liblibc_c.a")]]
@@ -82,21 +82,21 @@ def make_in(room: Path, tools: Toolchain, total: str, progress: Progress) -> Pat
                 while process.poll() is None:
                     progress.pause(process)
             if process.returncode:
-                raise failed(total, f"{Path(command[0]).name} ended with status {process.returncode}")
-    if not answers_well(program):
-        raise failed(total, "the program that was made doesn't answer its own example")
-    FAILED.unlink(missing_ok=True)
-    return keep(UNPROVED, total, program)
+                raise failed(name, total, f"{Path(command[0]).name} ended with status {process.returncode}")
+    if not answers_well(program, name):
+        raise failed(name, total, "the program that was made doesn't answer its own example")
+    failed_of(name).unlink(missing_ok=True)
+    return keep(kind_of(UNPROVED, name), total, program)
 
 
-def keep_module(room: Path, tools: Toolchain, module: Path, log: IO[bytes], progress: Progress) -> list[str] | None:
+def keep_module(room: Path, name: str, tools: Toolchain, module: Path, log: IO[bytes], progress: Progress) -> list[str] | None:
     """Has the toolchain compile the module for an unproved run, and gives the words of that; or None, where it refuses the sources."""
     words, temporary = room / "words", room / "temporary"
     temporary.mkdir()
     copy_by_links(tools.folder, room / "kit", module, words)
-    trying = [str(room / "kit" / "bin" / "rt"), "try", "--steps", "1000", "--", *example_words()]
-    how = {"cwd": CRATE, "env": {**os.environ, "TMPDIR": str(temporary)}, "start_new_session": True}
-    with open(CRATE / "stdin", "rb") as given, started(trying, stdin=given, stdout=log, stderr=log, **how) as process:
+    trying = [str(room / "kit" / "bin" / "rt"), "try", "--steps", "1000", "--", *example_words(name)]
+    how = {"cwd": crate_of(name), "env": {**os.environ, "TMPDIR": str(temporary)}, "start_new_session": True}
+    with open(crate_of(name) / "stdin", "rb") as given, started(trying, stdin=given, stdout=log, stderr=log, **how) as process:
         while process.poll() is None and not words.is_file():
             progress.pause(process)
         # The run itself isn't needed.
@@ -105,8 +105,13 @@ def keep_module(room: Path, tools: Toolchain, module: Path, log: IO[bytes], prog
     return words.read_text().split("\n")[:-1] if words.is_file() else None
 
 
-def failed(total: str, why: str) -> Stop:
-    FAILED.write_bytes(total.encode())
+def failed_of(name: str) -> Path:
+    """Where it is kept that no program could be made."""
+    return KEPT / f"{kind_of(UNPROVED, name)}.failed"
+
+
+def failed(name: str, total: str, why: str) -> Stop:
+    failed_of(name).write_bytes(total.encode())
     return Stop(Status.NO_PROGRAM, f"no program could be made: {why}: see {LOG}")
 
 

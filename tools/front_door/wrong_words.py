@@ -4,7 +4,7 @@ from __future__ import annotations
 import difflib
 import re
 
-from .words import COMMANDS, NAME, OWN, RESERVED, Words, is_option
+from .words import COMMANDS, OWN, RESERVED, Words, is_name, is_option
 
 
 def said_of(words: Words) -> str | None:
@@ -65,7 +65,7 @@ def wrong_item(rest: list[str]) -> str | None:
         name, equals, value = word.partition("=")
         if not equals:
             return f"{word} is no NAME=VALUE, and one FILE alone is taken"
-        if not NAME.fullmatch(name):
+        if not is_name(name):
             return f"{name or 'nothing'} before the = of {word} is no name"
         if name in RESERVED:
             return f"{name} is a word of the language, and no parameter"

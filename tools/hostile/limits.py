@@ -557,6 +557,14 @@ def line_texts(share: int) -> Iterator[tuple[str, int, bytes, bytes]]:
         yield f"{line[:-1].decode()}, of a proof", count, text, b"refused Source 0 0 Proofs 0 %d 0\n" % count
     count, text = filled(tree + b"w 0 COUNT 0\n", b"m 0\n", b"end\n", most)
     yield "m 0, of a leaf", count, text, b"refused Source 0 0 BadForm 0\n"
+    # proofs and trees that nest as deep as they may
+    for name, part in (("c 1", b"c 1\n"), ("b 0 and s", b"b 0\ns\n")):
+        proof = part * 511 + b"s\n"
+        count, text = filled(tree + b"z COUNT\n", proof, b"end\n", most)
+        yield f"{name}, of proofs", count * proof.count(b"\n"), text, b"refused Source 0 0 Proofs 0 %d 0\n" % count
+    nested = b"tree\n" + b"t 0\nz 0\n" * 511 + b"z 0\n"
+    count, text = filled(b"cert 1\nsizes 1 0 COUNT 0\nprocess 0 1\nf z\n", nested, b"end\n", most)
+    yield "t 0 and z 0, of trees", count * nested.count(b"\n"), text, b"refused Shape 1\n"
     yield "empty lines", *filled(b"cert 1\nsizes 1 0 1 0\nprocess 0 COUNT\n", b"\n", end, most), b"refused Line 4\n"
     yield "one line of 64 MiB", 1, b"cert 1\nsizes 1 0 1 0\nprocess 0 1\nf" + b" z" * (most // 2 - 40), b"refused Truncated\n"
     yield "one ended line of 64 MiB", 1, b"cert 1\nsizes 1 0 1 0\nprocess 0 1\nf" + b" z" * (most // 2 - 40) + b"\n", b"refused Line 4\n"
@@ -571,6 +579,9 @@ HEAVY = {
     "s 0 1, of a proof",
     "s 0 1 0 1 0 1 0 1, of a proof",
     "m 0, of a leaf",
+    "c 1, of proofs",
+    "b 0 and s, of proofs",
+    "t 0 and z 0, of trees",
     "0 or 1 at random, of the schedule",
     "f or f z at random",
     "g 0 d at random, d below 10",

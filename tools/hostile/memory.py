@@ -181,6 +181,11 @@ def are_joined(row: Row, started: int, joined: int) -> bool:
     return row[1][:1] == ["trace"] or joined == started
 
 
+def is_reached(row: Row, count: int, number: int, requests: int) -> bool:
+    """Whether the request was made and refused. A run of trace makes a request or two more or less by how its threads meet."""
+    return count > 0 or (row[1][:1] == ["trace"] and number > requests - 3)
+
+
 def shown(statuses: Counter[object]) -> str:
     return ", ".join(f"{count} x {status}" for status, count in sorted(statuses.items(), key=str))
 
@@ -208,15 +213,16 @@ class Shim:
             return end, struct.unpack("8q", file.read(64))[:5]
 
 
-def refused(shim: Shim, program: str, row: Row, plain: End, way: int, numbers: Sequence[int]) -> Found:
-    """The statuses of the runs in which these requests are refused, and what isn't as wanted."""
+def refused(shim: Shim, program: str, row: Row, plain: End, way: int, numbers: Sequence[int], requests: int) -> Found:
+    """The statuses of the runs in which these of so many requests are refused, and what isn't as wanted."""
     name, words, bundle = row
     statuses: Counter[object] = Counter()
     bad: list[str] = []
     for number in numbers:
         end, (_, count, started, joined, _) = shim.ask(program, words, bundle, refuse=number, all=way)
         statuses["hung" if end.hung else end.status] += 1
-        if end.hung or said(row, end) not in (*WANTING, said(row, plain)) or not are_joined(row, started, joined) or not count:
+        is_as_wanted = not end.hung and said(row, end) in (*WANTING, said(row, plain)) and are_joined(row, started, joined)
+        if not is_as_wanted or not is_reached(row, count, number, requests):
             bad.append(
                 f"{name}, request {number}{' and all later' * way}: {end}, {count} refused, {started} threads, {joined} joined"[:400]
             )
@@ -293,7 +299,7 @@ def main() -> int:
             if name in small and unlike.said != (*small[name][3:], b""):
                 bad.append(f"{name}: {unlike} without a refusal"[:400])
             numbers = range(1, requests + 1, 1 if name in small else max(1, -(-requests // given.most)))
-            ways = [[pool.submit(refused, shim, program, row, plain, way, numbers[at::8]) for at in range(8)] for way in (0, 1)]
+            ways = [[pool.submit(refused, shim, program, row, plain, way, numbers[at::8], requests) for at in range(8)] for way in (0, 1)]
             calls = kernel_asks(program, words, bundle, 0, folder)[1] if has_strace else 0
             by_kernel = [
                 pool.submit(refused_by_kernel, program, row, plain, range(1, calls + 1)[at::4], loading, folder) for at in range(4)

@@ -587,41 +587,6 @@ module _ (K L M : Kind)
     ];
   }
 
--- bytes of one kind that are bytes of another
-module _ (K L : Kind) (as_other : (text ds : List ℕ) → K text ds → L text ds) where
-  same_ahead : (at : Place) → Ahead K L at at
-  same_ahead at = record {
-    lines = [];
-    each = All-nil IsLine;
-    is_text = refl;
-    number = omega arith;
-    depths = [];
-    as_many = refl;
-    shallow = All-nil IsShallow;
-    lift = λ text ds k. record {
-      rest = [];
-      others = [];
-      in_kind = moved_kind L _ _ _ _ (sym (append-nil text)) (sym (append-nil ds)) (as_other text ds k);
-    };
-  }
-
-  pub via_as : {A : Type 0} (part : Part A) (at : Place) → Via part K at → Via part L at
-  via_as part at via = record {
-    takes = λ next b e.
-        let t = via.takes next b e in
-        record {
-          lines = t.lines;
-          each = t.each;
-          is_text = t.is_text;
-          number = t.number;
-          depths = t.depths;
-          in_kind = as_other (lines_text t.lines) t.depths t.in_kind;
-          as_many = t.as_many;
-          shallow = t.shallow;
-        };
-    stops = λ refusal e. stops_ahead K L at at (same_ahead at) refusal (via.stops refusal e);
-  }
-
 -- bytes of one kind, and then of another
 pub record Two (K L : Kind) (text depths : List ℕ) : Type 0 where
   pub front : List ℕ

@@ -44,18 +44,6 @@ module _ (tree : Tree) where
         omega (arith, h, le-max_right (height_of a) (height_of b)),
       )
 
-  -- the sides' bound is the Test's
-  pub height_within : (form : Form) (a b : Tree) (rows most : ℕ) → tree ≡ Test form a b
-      → rows + 1 + height_of a ≤ most → rows + 1 + height_of b ≤ most → rows + height_of tree ≤ most
-  height_within form a b rows most e first second =
-      let k : ℕ = most - (rows + 1) in
-      omega (
-        arith,
-        height_test form a b e,
-        max-le {a = height_of a} {b = height_of b} {k = k} (omega (arith, first)) (omega (arith, second)),
-        first,
-      )
-
 pub height_simple : (m : ℕ) (tree : Tree) → IsSimple m tree → height_of tree ≤ m
 height_simple _ _ (at_test tests tree form above below is within upper lower) =
     omega (

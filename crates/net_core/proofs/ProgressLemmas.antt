@@ -5,17 +5,17 @@
 -- that it had left, and the others lose none; a Get or a Put adds one to its own channel's count, and all others stay
 -- (`counts_more`). Counts are no greater than scripts, which are short, so one more fits (`can_count`). Whether the event
 -- could come isn't asked: both counts are kept, and not their difference, which would be wrong after a Get without a token.
-use Rattle.std.proofs.Common.{◌≡◌, ℕ, zero, suc, ◌+◌, ◌^◌, ◌<◌, ◌≤◌, Bool, true, false, cond, Option, Some, List, []}
+use Rattle.std.proofs.Common.{◌≡◌, ℕ, zero, suc, ◌+◌, ◌^◌, ◌<◌, Bool, true, false, cond, Option, Some, List, []}
 use Rattle.std.proofs.Common.{◌∷◌, map, set, drop, take, length, replicate, count_by, slice_get, get_or, refl, sym, ap, ◌∙◌}
 use Rattle.std.proofs.Common.{subst, inl, inr, arith, eq-eqb, ne_eqb, get_or-set_other, get_or-set_same, length-set}
 use Rattle.std.specs.List.{range_with_len}
 use Rattle.std.specs.Option.{option_map_or}
 use Rattle.std.specs.Prelude.{slice_index}
-use Rattle.std.proofs.lemmas.Bool.{cases_eq, cases_lt}
+use Rattle.std.proofs.lemmas.Bool.{cases_eq}
 use Rattle.std.proofs.lemmas.List.{get_or_read, length-map, length-replicate}
 use Rattle.std.proofs.lemmas.List.Sums.{count_by-le-length}
 use Rattle.std.proofs.lemmas.List.FromFn.{fill_by_all, get_or-map-range_with_len, length-map-range_with_len}
-use Rattle.std.proofs.lemmas.Option.{slice_get_past, slice_get_within}
+use Rattle.std.proofs.lemmas.Option.{slice_get_within}
 use mathlib.Core.Path.{fun_ext}
 use Rattle.net_core.specs.declared.network.Event.{Event}
 use Rattle.net_core.specs.declared.network.Event.TheVariants.{Get, Fire, Put}
@@ -120,19 +120,6 @@ event_found n k p left o is read =
     sym (slice_get-drop (k p) (n.script p)) ∙ ap (λ (l : List Event). slice_get l 0) (sym is) ∙ sym read
 
 -- Whether it has ended
-
-script_past : (network : Network) (p : ℕ) → length network.processes ≤ p → (net_of network).script p ≡ []
-script_past network p past =
-    ap (λ o. option_map_or (λ (x : Process). x.script) o []) (slice_get_past network.processes p past)
-
-pub ended_from : (network : Network) (progress : Progress) → IsProgress (net_of network) progress
-    → ((q : ℕ) → q < length network.processes → cut_of progress q ≡ length ((net_of network).script q))
-    → (p : ℕ) → cut_of progress p ≡ length ((net_of network).script p)
-ended_from network progress is each p =
-    elim (cases_lt p (length network.processes)) [
-      | inl lt ↦ each p lt
-      | inr past ↦ omega (arith, is.inside p, ap length (script_past network p past))
-    ]
 
 -- Positions after one event more
 

@@ -2,12 +2,11 @@
 --
 -- The divisor divides each coefficient of the test's form, and its constant. The two rows of the test's no say that the form
 -- lies strictly between two next multiples of the divisor. These two are refuted together, in any context that has them.
-use Rattle.std.proofs.Common.{◌≡◌, ◌+◌, ◌%◌, ◌^◌, ◌≤◌, ◌<◌, ℕ, ℤ, pos, negsuc, ◌≤ℤ◌, ◌+ℤ◌, ◌*ℤ◌, List, [], ◌∷◌}
-use Rattle.std.proofs.Common.{true, refl, ap, ◌∙◌, subst, arith, eqb-true}
+use Rattle.std.proofs.Common.{◌≡◌, ◌+◌, ◌%◌, ◌^◌, ◌≤◌, ◌<◌, ℕ, pos, negsuc, ◌+ℤ◌, ◌*ℤ◌, List, [], ◌∷◌}
+use Rattle.std.proofs.Common.{true, ap, ◌∙◌, subst, arith, eqb-true}
 use Rattle.std.specs.Prelude.{Some, All, IsTrue, ◌&&◌, slice_get, unsigned_abs}
 use Rattle.std.specs.List.{list_all}
 use Rattle.std.proofs.lemmas.Bool.{and_parts}
-use Rattle.std.proofs.lemmas.Int.{ints}
 use Rattle.std.proofs.lemmas.List.Elements.{All-weaker}
 use Rattle.std.proofs.lemmas.Option.{slice_get_within}
 use Rattle.affine_core.specs.declared.form.Form.{Form}
@@ -29,10 +28,6 @@ use Rattle.stride_trees.specs.Divisions.{always_divides}
 use Rattle.stride_trees.specs.declared.divisions.Division.{Division}
 use Rattle.stride_trees.proofs.Lists.{forms_count, row_made}
 use Rattle.stride_trees.proofs.NeverDivided.{coefficient_divided, row_size}
-
-pub positive_size : (z : ℤ) → pos 1 ≤ℤ z → (0 < unsigned_abs z) × (z ≡ pos (unsigned_abs z))
-positive_size (pos n) h = (omega (arith, ints, h), refl)
-positive_size (negsuc n) h = absurd (let no : ⊥ = omega (arith, ints, h) in no)
 
 module _ (test : Division) (m : ℕ) (divisor : test.divisor ≡ pos m) (positive : 0 < m) (small : m ≤ 2 ^ 32)
     (always : IsTrue (always_divides test)) (row here quotient : ℕ) (c : Context) (h : IsNoIn test row quotient here c) where

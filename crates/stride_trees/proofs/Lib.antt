@@ -11,6 +11,8 @@ mod WriteSystems
 mod SystemConversion
 mod Subscript
 mod NoWrites
+mod EuclidSteps
+mod CommonDivisors
 mod RoundedRows
 mod NeverMultiple
 mod AlwaysMultiple

@@ -1,6 +1,6 @@
 -- Tests whether the stride of a write's subscript divides what the read's is from it.
 use Rattle.std.specs.Prelude.{◌+◌, ◌-◌, ℕ, ℤ, pos, negsuc, ◌-ℤ◌, Bool, ◌&&◌, not, List, [], ◌∷◌, ◌++◌, unsigned_abs, if◌then◌else◌}
-use Rattle.std.specs.List.{list_all}
+use Rattle.std.specs.List.{list_all, list_any, range_with_len}
 use Rattle.std.specs.Option.{option_map_or}
 use Rattle.std.specs.Int.RustNames.{int_lt}
 use Rattle.affine_core.specs.declared.form.Form.{Form}
@@ -32,10 +32,15 @@ divisions_from number (write ∷ writes) (read ∷ reads) =
     option_map_or (λ c. division_of number write read c ∷ []) (stride_of write) []
     ++ divisions_from (number + 1) writes reads
 
--- whether a test says no by its form alone: the divisor divides each coefficient, and not the constant
+-- whether a number divides the divisor of a test and each coefficient of its form, and not the constant
+abbrev pub rules_out : Division → ℕ → Bool
+rules_out d k =
+    divides d.divisor (pos k) && list_all (λ c. divides c (pos k)) d.form.coefs
+    && not (divides d.form.constant (pos k))
+
+-- whether a test says no by its form alone: a divisor of its divisor rules it out
 abbrev pub never_divides : Division → Bool
-never_divides d =
-    list_all (λ c. divides c d.divisor) d.form.coefs && not (divides d.form.constant d.divisor)
+never_divides d = list_any (rules_out d) (range_with_len 1 (unsigned_abs d.divisor))
 
 -- whether a test says yes by its form alone: the divisor divides each coefficient, and the constant
 abbrev pub always_divides : Division → Bool

@@ -1,3 +1,4 @@
+pub mod CommonDivisors
 pub mod Divisions
 pub mod Candidates
 pub mod Strides

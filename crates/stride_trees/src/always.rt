@@ -36,5 +36,5 @@ pub fn no_is_nowhere(
     ensures { IfOk result (λ proof. (c : Context) (quotient : ℕ)
         → IsNoIn test.now row quotient here c → AreRefuted (dead_systems c) (proof ∷ [])) }
 {
-    rounded(alloc, test, row, row + 1, here)
+    rounded(alloc, test.divisor, row, row + 1, here)
 }

@@ -7,6 +7,7 @@
 
 mod always;
 mod candidate;
+mod common_divisors;
 mod contexts;
 mod convert;
 mod divisions;

@@ -1,7 +1,7 @@
-//! A write whose subscript is never the read's: its stride divides all coefficients of what the read's is from it, and not
-//! the constant.
+//! A write whose subscript is never the read's: a divisor of its stride divides all coefficients of what the read's is from
+//! it, and not the constant.
 
-ghost use Rattle.std.specs.Prelude.{◌≡◌, ◌≤◌, ◌≤ℤ◌, ◌+◌, ◌^◌, [], ◌∷◌, pos, List, length, IfOk, IsTrue};
+ghost use Rattle.std.specs.Prelude.{◌≡◌, ◌≤◌, ◌≤ℤ◌, ◌+◌, ◌^◌, [], ◌∷◌, pos, List, length, unsigned_abs, IfOk, IsTrue};
 ghost use Rattle.std.specs.List.{list_all};
 ghost use Rattle.int_polyhedra.specs.declared.system.Proof.TheViews.{Cut as CutOf};
 ghost use Rattle.difference_graphs.specs.Paths.{term_of};
@@ -9,10 +9,12 @@ ghost use Rattle.source_tree.specs.Checked.{IsRefuted};
 ghost use Rattle.source_tree.specs.Rows.{RowExpr};
 ghost use Rattle.source_tree.specs.Systems.{Context};
 ghost use Rattle.source_tree.specs.Walk.{divides};
+ghost use Rattle.stride_trees.specs.CommonDivisors.{IsGreatestCommonDivisor};
 ghost use Rattle.stride_trees.specs.Contexts.{own_system, AreMadeSmall};
 ghost use Rattle.stride_trees.specs.Divisions.{never_divides};
 ghost use Rattle.stride_trees.specs.Strides.{depth_of_read, depth_of_write, IsSmallContext, IsStrided, IsTestOf};
 
+use crate::common_divisors::common_divisor;
 use crate::divisions::Division;
 use crate::strides::Strides;
 use crate::undivided::{row_above, row_below};
@@ -37,38 +39,47 @@ pub fn divides_all(coefs: &[i128], divisor: i128) -> bool
     coefs.iter().all(|coef| divides(*coef, divisor))
 }
 
-/// Whether a test says no by its form alone, whatever the loop values are: the divisor divides each coefficient, and not the
-/// constant. It takes no memory.
+// The greatest common divisor of a test's divisor and of all coefficients of its form.
+fn divisor_of(test: &Division) -> i128
+    requires divisor { pos 1 ≤ℤ test.now.divisor }
+    ensures positive { pos 1 ≤ℤ result }
+    ensures greatest { IsGreatestCommonDivisor (unsigned_abs test.now.divisor)
+        test.now.form.coefs (unsigned_abs result) }
+{
+    common_divisor(test.divisor, test.form.coefs.as_slice())
+}
+
+/// Whether a test says no by its form alone, whatever the loop values are: the greatest common divisor of the divisor and all
+/// coefficients doesn't divide the constant. It takes no memory.
 pub fn never_divides(test: &Division) -> bool
     requires { pos 1 ≤ℤ test.now.divisor }
     ensures { result ≡ never_divides test.now }
 {
-    divides_all(test.form.coefs.as_slice(), test.divisor)
-        && !divides(test.form.constant, test.divisor)
+    !divides(test.form.constant, divisor_of(test))
 }
 
-/// A Cut by the divisor of one row, and the Sum of what it adds, so many times, and another row. The system has `count` rows.
+/// A Cut of one row by this divisor, and the Sum of what it adds, so many times, and another row. The system has `count` rows.
 pub fn rounded(
     alloc: Global,
-    test: &Division,
+    divisor: i128,
     above: u32,
     below: u32,
     count: u32,
 ) -> Result<Proof, AllocError>
-    ensures { IfOk result (λ proof. proof ≡ CutOf test.now.divisor (term_of above ∷ [])
-        (Proof.Sum (record { row = count; times = test.now.divisor } ∷ term_of below ∷ []))) }
+    ensures { IfOk result (λ proof. proof ≡ CutOf divisor (term_of above ∷ [])
+        (Proof.Sum (record { row = count; times = divisor } ∷ term_of below ∷ []))) }
 {
     let mut terms = Items::new(alloc);
     terms.push(Term {
         row: count,
-        times: test.divisor,
+        times: divisor,
     })?;
     terms.push(Term {
         row: below,
         times: 1,
     })?;
     let cut = once(alloc, above)?;
-    by_cut(alloc, test.divisor, cut, Proof::Sum(terms))
+    by_cut(alloc, divisor, cut, Proof::Sum(terms))
 }
 
 /// The proof that no write stands before the read, where one of its tests says no by its form alone. The context has `here`
@@ -89,9 +100,10 @@ pub fn never_write(s: &Strides, test: &Division, here: u32, more: u32) -> Result
     let subscripts = s.write.access.subscripts.len() as u32;
     let row = here + (rows + 2 * test.subscript);
     let count = here + (rows + (2 * subscripts + more));
+    let common = divisor_of(test);
     rounded(
         s.alloc,
-        test,
+        common,
         row_above(test, row),
         row_below(test, row),
         count,

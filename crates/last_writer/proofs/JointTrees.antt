@@ -4,14 +4,14 @@
 -- many quotients as there are tests. Each writer that is told is a problem of differences there, at each of its
 -- levels. An answer more stands behind the others, so the contexts below the two answers of the next test are those
 -- below its Divides. How the proofs of the joined tree become those for all writers is told elsewhere.
-use Rattle.std.proofs.Common.{◌≡◌, ◌+◌, ◌≤◌, ◌<◌, ◌^◌, ℕ, zero, suc, ℤ, List, [], ◌∷◌, ◌++◌, length, Bool, true, false}
+use Rattle.std.proofs.Common.{◌≡◌, ◌+◌, ◌≤◌, ◌<◌, ◌^◌, ℕ, zero, suc, ℤ, List, [], ◌∷◌, ◌++◌, length, map, Bool, true, false}
 use Rattle.std.proofs.Common.{cond, refl, sym, ap, ◌∙◌, subst, arith}
 use Rattle.std.specs.Prelude.{Option, Some, None, All, Contains, is_some, slice_get}
 use Rattle.std.specs.List.{AllZip, count_by, filter}
 use Rattle.std.specs.Option.{option_map_or}
 use Rattle.std.proofs.lemmas.Bool.{leb-true}
 use Rattle.std.proofs.lemmas.List.{append-nil, length-append, length-map}
-use Rattle.std.proofs.lemmas.List.Elements.{All-cons, All-contains, All-head, All-nil, All-tail, All-weaker}
+use Rattle.std.proofs.lemmas.List.Elements.{All-append, All-cons, All-contains, All-head, All-nil, All-tail, All-weaker}
 use Rattle.std.proofs.lemmas.List.Sums.{sum_by-cons}
 use Rattle.std.proofs.lemmas.Option.{same_Some, slice_get_within}
 use Rattle.affine_core.specs.declared.form.Form.{Form}
@@ -26,7 +26,8 @@ use Rattle.candidate_order.specs.declared.candidates.Read.{Read}
 use Rattle.int_polyhedra.specs.declared.system.System.{System}
 use Rattle.int_polyhedra.specs.Systems.{AreOver}
 use Rattle.last_writer.specs.Answers.{answered_context, below_answer, HasSmallRows}
-use Rattle.last_writer.specs.Leaves.{context_of, is_told, pairs_of, told_pair, told_pairs, vars_of, IsAnswered, IsBelow}
+use Rattle.last_writer.specs.Leaves.{context_of, fact_context, is_told, pairs_of, told_pair, told_pairs, vars_of}
+use Rattle.last_writer.specs.Leaves.{HasFacts, IsAnswered, IsBelow}
 use Rattle.last_writer.specs.Told.{IsToldOf}
 use Rattle.last_writer.specs.declared.source.Told.{Told}
 use Rattle.last_writer.specs.Writers.{is_never, stands_before, AreWriters, IsPlaceOf, IsReadOf, IsSmallTest, IsTestAt}
@@ -38,6 +39,8 @@ use Rattle.last_writer.proofs.LeafConversion.{zip_count}
 use Rattle.last_writer.proofs.WriterTests.{tests_asked, told_asked}
 use Rattle.last_writer.proofs.QuotientWrites.{one_pair, told_all}
 use Rattle.difference_graphs.specs.Asked.{IsProblem}
+use Rattle.difference_graphs.proofs.EdgeSums.{over_append}
+use Rattle.difference_graphs.proofs.RowBounds.{forms_append}
 use Rattle.difference_graphs.specs.Level.{HasLevel}
 use Rattle.plain_data.proofs.Lists.{slice_get-append_right}
 use Rattle.row_sums.specs.Parts.{IsWithin}
@@ -49,8 +52,8 @@ use Rattle.sanlp.specs.declared.nest.Nest.{Nest}
 use Rattle.sanlp.specs.declared.nest.Statement.{Statement}
 use Rattle.sanlp.specs.WellFormed.{statement_fits}
 use Rattle.source_tree.specs.Checked.{at_divides, IsCheckedIn}
-use Rattle.source_tree.specs.Rows.{RowExpr}
-use Rattle.source_tree.specs.Systems.{Context, Occurrence, array_writes, divides_no, divides_yes, every, root_context}
+use Rattle.source_tree.specs.Rows.{RowExpr, Take, row_forms}
+use Rattle.source_tree.specs.Systems.{Context, Occurrence, array_writes, divides_no, divides_yes, every, more_rows, root_context}
 use Rattle.source_tree.specs.Systems.{undivided_rows, with_write, write_to, writes_from}
 use Rattle.source_tree.specs.declared.tree.Tree.{Tree}
 use Rattle.source_tree.specs.declared.tree.Tree.TheViews.{Divides}
@@ -64,6 +67,10 @@ use Rattle.stride_trees.specs.declared.strides.Strides.{Strides}
 use Rattle.stride_trees.proofs.Lists.{forms_count}
 use Rattle.stride_trees.proofs.QuotientProblem.{told_problem}
 use Rattle.stride_trees.proofs.ProblemBounds.{are_fitting, AreFitting}
+use Rattle.stride_rows.specs.Cuts.{AddRows}
+use Rattle.tree_facts.specs.Facts.{fact_rows, AddFacts, AreFacts}
+use Rattle.tree_facts.specs.declared.search.Facts.{Facts}
+use Rattle.tree_facts.proofs.FactSystems.{facts_made as rows_made}
 
 -- The reader
 
@@ -195,13 +202,13 @@ stands w x of says =
     }
 
 pub read_joined : (w : Answered) (r : Read) → IsAnswered w → length w.answers.now ≡ length w.tests.now
-    → IsMadeAs r.context.now (context_of w) → HasSmallRows r.context.now → length r.context.now.rows ≤ 64
+    → (context_of w).vars ≡ r.context.now.vars → HasSmallRows r.context.now → length r.context.now.rows ≤ 64
     → pairs_of_read r ≡ pairs_of w → IsJoined r
-read_joined w r h all made small few pairs =
+read_joined w r h all same_vars small few pairs =
     let n : Nest = w.nest.now in
     let rr : Occurrence = occurrence_of w.read in
     let vars : r.context.now.vars ≡ vars_of w =
-    omega (arith, made.vars, vars_are (root_context rr) w.tests.now w.answers.now (omega (arith, all)), all) in
+    omega (arith, same_vars, vars_are (root_context rr) w.tests.now w.answers.now (omega (arith, all)), all) in
     record {
       problems = λ o p there level.
           (subst (λ v. IsProblem v o.read o.write p) (sym vars)
@@ -245,35 +252,79 @@ pairs_joined w r old made given told h zip reference problems is none pushed =
 
 -- The context below all answers
 
-pub below_all : (w : Answered) (context : System) → length w.answers.now ≡ length w.tests.now
-    → IsMadeAs context (context_of w) → HasSmallRows context → IsBelow w (length context.rows) (context_of w)
-below_all w context all made small = record {
+-- that with the facts, where no rows stand behind them
+pub below_here : (w : Answered) (context : System) (here : ℕ) → here ≡ length context.rows
+    → length w.answers.now ≡ length w.tests.now → IsMadeAs context (fact_context w []) → HasSmallRows context
+    → IsBelow w here (fact_context w [])
+below_here w context here count all made small = record {
   all = all;
   small = record {
     rows = context.rows;
     made = made.rows;
-    count = refl;
+    count = sym count;
     over = subst (λ v. AreOver v context.rows) (sym made.vars) small.over;
     within = All-weaker (IsWithin (2 ^ 41)) (IsWithin (2 ^ 50)) (λ f k. IsWithin-weaker (2 ^ 41) (2 ^ 50) f (omega arith) k)
         context.rows small.within;
   };
-  more = [];
-  is = ap (λ rows. record { vars = (context_of w).vars; rows = rows }) (sym (append-nil (context_of w).rows));
+  more = fact_rows w.facts.now [];
+  is = refl;
 }
 
-pub below_here : (w : Answered) (context : System) (here : ℕ) → here ≡ length context.rows
-    → length w.answers.now ≡ length w.tests.now → IsMadeAs context (context_of w) → HasSmallRows context
-    → IsBelow w here (context_of w)
-below_here w context here count all made small =
-    subst (λ here. IsBelow w here (context_of w)) (sym count) (below_all w context all made small)
-
 -- the joined tree is checked there for the writes that are joined
-pub joined_below : (w : Answered) (r : Read) (context : System) (tree : Tree) → IsMadeAs context (context_of w)
+pub joined_below : (w : Answered) (r : Read) (context : System) (tree : Tree) → IsMadeAs context (fact_context w [])
     → r.context.now ≡ context → pairs_of_read r ≡ pairs_of w → IsJoinedTree r r.context.now tree
-    → IsCheckedForAll (pairs_of w) (context_of w) tree
+    → IsCheckedForAll (pairs_of w) (fact_context w []) tree
 joined_below w r context tree made is pairs joined =
-    subst (λ ps. IsCheckedForAll ps (context_of w) tree) pairs
-    (joined (context_of w) (subst (λ (s : System). IsMadeAs s (context_of w)) (sym is) made))
+    subst (λ ps. IsCheckedForAll ps (fact_context w []) tree) pairs
+    (joined (fact_context w []) (subst (λ (s : System). IsMadeAs s (fact_context w [])) (sym is) made))
+
+-- The context with facts
+
+pub same_answered : (w more : Answered) → IsAnswered w → more.nest ≡ w.nest → more.read ≡ w.read
+    → more.writers ≡ w.writers → more.tests ≡ w.tests → more.answers ≡ w.answers → IsAnswered more
+same_answered w more h nest read writers tests answers = record {
+  read = subst (λ n. IsReadOf n more.read) (sym (ap (λ x. x.now) nest))
+      (subst (IsReadOf w.nest.now) (sym read) h.read);
+  writers = subst (λ n. AreWriters n (occurrence_of more.read) (array_writes n (occurrence_of more.read)) more.tests.now
+      more.writers.now) (sym (ap (λ x. x.now) nest))
+      (subst (λ r. AreWriters w.nest.now (occurrence_of r) (array_writes w.nest.now (occurrence_of r)) more.tests.now
+      more.writers.now) (sym read)
+      (subst (λ ts. AreWriters w.nest.now (occurrence_of w.read) (array_writes w.nest.now (occurrence_of w.read)) ts
+      more.writers.now) (sym (ap (λ x. x.now) tests))
+      (subst (λ xs. AreWriters w.nest.now (occurrence_of w.read) (array_writes w.nest.now (occurrence_of w.read))
+      w.tests.now xs) (sym (ap (λ x. x.now) writers)) h.writers)));
+  few = omega (arith, ap (λ x. length x.now) tests, h.few);
+  answers = omega (arith, ap (λ x. length x.now) tests, ap (λ x. length x.now) answers, h.answers);
+}
+
+pub add_facts : (c : Context) (context : System) (found : Facts) → IsMadeAs context c → HasSmallRows context
+    → AreFacts context found → AddFacts c found.cuts found.rows
+add_facts c context found made small f = record {
+  rows = context.rows;
+  made = made.rows;
+  over = subst (λ v. AreOver v context.rows) (sym made.vars) small.over;
+  add = subst (λ v. AddRows v context.rows found.cuts found.rows) (sym made.vars) f.add;
+  facts_over = subst (λ v. AreOver v found.rows) (sym made.vars) f.over;
+}
+
+pub facts_small : (context there : System) (found : Facts) → HasSmallRows context → AreFacts context found
+    → there ≡ record { vars = context.vars; rows = context.rows ++ found.rows } → HasSmallRows there
+facts_small context there found small f is =
+    subst HasSmallRows (sym is) (record {
+      over = over_append context.vars context.rows found.rows small.over f.over;
+      within = All-append (IsWithin (2 ^ 41)) context.rows found.rows small.within f.within;
+    })
+
+pub facts_made : (c : Context) (context there : System) (facts : List Form) → IsMadeAs context c
+    → AreOver context.vars facts → there ≡ record { vars = context.vars; rows = context.rows ++ facts }
+    → IsMadeAs there (more_rows c (fact_rows facts []))
+facts_made c context there facts made over is =
+    subst (λ s. IsMadeAs s (more_rows c (fact_rows facts []))) (sym is) (record {
+      vars = made.vars;
+      rows = ap (λ es. row_forms c.vars (c.rows ++ es)) (append-nil (map Take facts))
+          ∙ forms_append c.vars c.rows (map Take facts) context.rows facts made.rows
+          (rows_made c.vars facts (subst (λ v. AreOver v facts) (sym made.vars) over));
+    })
 
 -- One answer more
 

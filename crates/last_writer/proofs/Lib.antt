@@ -16,3 +16,5 @@ pub mod LeafConversion
 pub mod OrderSteps
 pub mod QuotientWrites
 pub mod Whole
+pub mod RowCounts
+pub mod FactLeaves

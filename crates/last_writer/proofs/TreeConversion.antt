@@ -3,7 +3,7 @@
 -- Tests stay, and add a row behind those of the answers. The proofs of a leaf go part by part: the place is in the
 -- domain and writes the read's cell, which is converted; the read isn't before it, which is the same; and no write is
 -- between, or before the read, which goes writer by writer.
-use Rattle.std.proofs.Common.{◌≡◌, ◌+◌, ◌^◌, ℕ, ℤ, pos, negsuc, List, [], ◌∷◌, ◌++◌, length}
+use Rattle.std.proofs.Common.{◌≡◌, ◌+◌, ◌^◌, ℕ, ℤ, pos, negsuc, List, [], ◌∷◌, ◌++◌, length, map}
 use Rattle.std.proofs.Common.{refl, sym, ap, ◌∙◌, subst, arith, length-append}
 use Rattle.std.specs.Prelude.{Some}
 use Rattle.std.specs.List.{flat_map}
@@ -14,10 +14,10 @@ use Rattle.std.proofs.lemmas.List.{length-replicate}
 use Rattle.affine_core.specs.declared.form.Form.{Form}
 use Rattle.affine_core.specs.Affine.{constant_form, form_product}
 use Rattle.affine_core.proofs.Linear.{length-sums}
-use Rattle.difference_graphs.specs.Joint.{no_orders, write_systems_of}
+use Rattle.difference_graphs.specs.Joint.{no_orders, write_systems_of, IsCheckedForAll}
 use Rattle.int_polyhedra.specs.declared.system.Proof.{Proof}
-use Rattle.last_writer.specs.Leaves.{context_of, own_systems, pairs_of, told_pairs}
-use Rattle.last_writer.specs.Leaves.{told_systems, Converts, IsAnswered, IsBelow}
+use Rattle.last_writer.specs.Leaves.{context_of, fact_context, own_systems, pairs_of, told_pairs}
+use Rattle.last_writer.specs.Leaves.{told_systems, Converts, HasFacts, IsAnswered, IsBelow}
 use Rattle.last_writer.specs.Leaves.{IsJoinedBelow, IsJoinedPoint, IsOwnPoint}
 use Rattle.last_writer.specs.declared.leaves.Answered.{Answered}
 use Rattle.last_writer.proofs.Nodes.{joined_dead, joined_point, joined_test, joined_zero, AreBothJoined}
@@ -28,15 +28,16 @@ use Rattle.difference_graphs.proofs.Small.{negative_over, opposite_fits, opposit
 use Rattle.difference_graphs.proofs.MadeRows.{more_made, opposite_made, taken_made}
 use Rattle.row_sums.specs.Parts.{IsWithin}
 use Rattle.row_sums.proofs.Within.{IsWithin-weaker}
-use Rattle.source_tree.specs.Checked.{AreRefuted}
+use Rattle.source_tree.specs.Checked.{AreRefuted, IsCheckedIn}
 use Rattle.source_tree.specs.Checked.{at_dead as dead_in, at_test as test_in, at_writer as writer_in, at_zero as zero_in}
 use Rattle.source_tree.specs.Rows.{RowExpr, RowSystem, Take, below_zero, row_forms}
-use Rattle.source_tree.specs.Systems.{Context, Occurrence, array_writes, every, more_rows, test_no, test_yes}
+use Rattle.source_tree.specs.Systems.{Context, Occurrence, array_writes, dead_systems, every, more_rows, test_no, test_yes}
 use Rattle.source_tree.specs.Systems.{write_systems, zero_systems}
 use Rattle.source_tree.specs.declared.tree.Tree.{Tree}
 use Rattle.source_tree.specs.declared.tree.Tree.TheVariants.{Dead, Writer, Zero}
 use Rattle.source_tree.specs.declared.tree.Tree.TheViews.{Test}
 use Rattle.source_tree.specs.References.{occurrence_of}
+use Rattle.tree_facts.specs.Facts.{fact_rows}
 
 -- Contexts below a Test
 
@@ -87,41 +88,87 @@ below_no w here c form h over within =
 
 -- Kinds of trees
 
+-- a row more behind the facts
+facts_more : (w : Answered) (rest : List RowExpr) (e : RowExpr)
+    → more_rows (fact_context w rest) (e ∷ []) ≡ fact_context w (rest ++ e ∷ [])
+facts_more w rest e =
+    let rows : List RowExpr = (context_of w).rows in
+    ap (λ rows. record { vars = (context_of w).vars; rows = rows })
+    (append_assoc rows (fact_rows w.facts.now rest) (e ∷ [])
+    ∙ ap (λ more. rows ++ more) (append_assoc (map Take w.facts.now) rest (e ∷ [])))
+
+rest_more : (w : Answered) (rest : List RowExpr) (e : RowExpr)
+    → more_rows (context_of w) (rest ++ e ∷ []) ≡ more_rows (more_rows (context_of w) rest) (e ∷ [])
+rest_more w rest e =
+    ap (λ rows. record { vars = (context_of w).vars; rows = rows }) (sym (append_assoc (context_of w).rows rest (e ∷ [])))
+
 module _ (w : Answered) (here : ℕ) where
+  -- one side of a Test
+  side_joined : (rest : List RowExpr) (e : RowExpr) (part : Tree) → HasFacts w
+      → IsBelow w (here + 1) (more_rows (fact_context w rest) (e ∷ []))
+      → IsCheckedForAll (pairs_of w) (more_rows (fact_context w rest) (e ∷ [])) part
+      → IsJoinedBelow w (here + 1) part
+  side_joined rest e part facts below checked = record {
+    facts = facts;
+    rest = rest ++ e ∷ [];
+    below = subst (IsBelow w (here + 1)) (facts_more w rest e) below;
+    checked = subst (λ c. IsCheckedForAll (pairs_of w) c part) (facts_more w rest e) checked;
+  }
+
+  side_converts : (rest : List RowExpr) (e : RowExpr) (part own : Tree) → Converts w (here + 1) part own
+      → IsBelow w (here + 1) (more_rows (fact_context w rest) (e ∷ []))
+      → IsCheckedForAll (pairs_of w) (more_rows (fact_context w rest) (e ∷ [])) part
+      → IsCheckedIn w.nest.now (occurrence_of w.read) every (more_rows (more_rows (context_of w) rest) (e ∷ [])) own
+  side_converts rest e part own converts below checked =
+      subst (λ c. IsCheckedIn w.nest.now (occurrence_of w.read) every c own) (rest_more w rest e)
+      (converts (rest ++ e ∷ []) (subst (IsBelow w (here + 1)) (facts_more w rest e) below)
+      (subst (λ c. IsCheckedForAll (pairs_of w) c part) (facts_more w rest e) checked))
+
   pub test_joined : (tree : Tree) (form : Form) (a b : Tree) → IsJoinedBelow w here tree → tree ≡ Test form a b
       → IsJoinedBelow w (here + 1) a × IsJoinedBelow w (here + 1) b
-  test_joined tree form a b (c, below, checked) e =
-      let h : AreBothJoined (pairs_of w) c form a b = joined_test (pairs_of w) c tree form a b checked e in (
-        (test_yes c form, below_yes w here c form below h.over h.within, h.above),
-        (test_no c form, below_no w here c form below h.over h.within, h.below),
+  test_joined tree form a b j e =
+      let c : Context = fact_context w j.rest in
+      let h : AreBothJoined (pairs_of w) c form a b = joined_test (pairs_of w) c tree form a b j.checked e in (
+        side_joined j.rest (Take form) a j.facts (below_yes w here c form j.below h.over h.within) h.above,
+        side_joined j.rest (below_zero (Take form)) b j.facts (below_no w here c form j.below h.over h.within) h.below,
       )
 
   pub test_converts : (tree own : Tree) (form : Form) (a b x y : Tree) → tree ≡ Test form a b → own ≡ Test form x y
       → Converts w (here + 1) a x → Converts w (here + 1) b y → Converts w here tree own
-  test_converts tree own form a b x y e f above below' c below checked =
+  test_converts tree own form a b x y e f above below' rest below checked =
+      let c : Context = fact_context w rest in
       let h : AreBothJoined (pairs_of w) c form a b = joined_test (pairs_of w) c tree form a b checked e in
-      test_in c own form x y f h.over
-      (above (test_yes c form) (below_yes w here c form below h.over h.within) h.above)
-      (below' (test_no c form) (below_no w here c form below h.over h.within) h.below)
+      test_in (more_rows (context_of w) rest) own form x y f h.over
+      (side_converts rest (Take form) a x above (below_yes w here c form below h.over h.within) h.above)
+      (side_converts rest (below_zero (Take form)) b y below' (below_no w here c form below h.over h.within) h.below)
 
-  pub dead_converts : (tree own : Tree) (proof : Proof) → tree ≡ Dead proof → own ≡ Dead proof → Converts w here tree own
-  dead_converts tree own proof e f c below checked =
-      dead_in c own proof f (joined_dead (pairs_of w) c tree proof checked e)
+  pub dead_converts : (tree own : Tree) (proof without : Proof) → tree ≡ Dead proof → own ≡ Dead without
+      → ((rest : List RowExpr) → IsBelow w here (fact_context w rest)
+      → AreRefuted (dead_systems (fact_context w rest)) (proof ∷ [])
+      → AreRefuted (dead_systems (more_rows (context_of w) rest)) (without ∷ [])) → Converts w here tree own
+  dead_converts tree own proof without e f h rest below checked =
+      dead_in (more_rows (context_of w) rest) own without f
+      (h rest below (joined_dead (pairs_of w) (fact_context w rest) tree proof checked e))
 
   pub zero_converts : (tree own : Tree) (told proofs : List Proof) → tree ≡ Zero told → own ≡ Zero proofs
-      → ((c : Context) → IsBelow w here c → AreRefuted (write_systems_of (pairs_of w) c no_orders) told
-      → AreRefuted (zero_systems w.nest.now (occurrence_of w.read) every c) proofs) → Converts w here tree own
-  zero_converts tree own told proofs e f h c below checked =
-      zero_in c own proofs f (h c below (joined_zero (pairs_of w) c tree told checked e).0)
+      → ((rest : List RowExpr) → IsBelow w here (fact_context w rest)
+      → AreRefuted (write_systems_of (pairs_of w) (fact_context w rest) no_orders) told
+      → AreRefuted (zero_systems w.nest.now (occurrence_of w.read) every (more_rows (context_of w) rest)) proofs)
+      → Converts w here tree own
+  zero_converts tree own told proofs e f h rest below checked =
+      zero_in (more_rows (context_of w) rest) own proofs f
+      (h rest below (joined_zero (pairs_of w) (fact_context w rest) tree told checked e).0)
 
   pub point_converts : (tree own : Tree) (number : ℕ) (place : List Form) (told proofs : List Proof)
       → tree ≡ Writer number place told → own ≡ Writer number place proofs
-      → ((c : Context) (place : List Form) → IsBelow w here c → IsJoinedPoint w c number place told
-      → IsOwnPoint w c number place proofs) → Converts w here tree own
-  point_converts tree own number place told proofs e f h c below checked =
+      → ((rest : List RowExpr) (place : List Form) → IsBelow w here (fact_context w rest)
+      → IsJoinedPoint w (fact_context w rest) number place told
+      → IsOwnPoint w (more_rows (context_of w) rest) number place proofs) → Converts w here tree own
+  point_converts tree own number place told proofs e f h rest below checked =
+      let c : Context = fact_context w rest in
       let j : IsJoinedPoint w c number place told = joined_point w c tree number place told checked e in
-      let o : IsOwnPoint w c number place proofs = h c place below j in
-      writer_in c own number place proofs o.write f o.named tt o.deep j.over o.refuted
+      let o : IsOwnPoint w (more_rows (context_of w) rest) number place proofs = h rest place below j in
+      writer_in (more_rows (context_of w) rest) own number place proofs o.write f o.named tt o.deep j.over o.refuted
 
 -- All writers
 

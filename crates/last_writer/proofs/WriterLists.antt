@@ -53,10 +53,6 @@ places_kept tests more (d ∷ ds) (place ∷ places) at =
 pub place_never : (tests : List Division) (d : Division) → never_divides d ≡ true → IsPlaceOf tests d no_place
 place_never tests d never = subst (λ b. IsPlaceBy b tests d no_place) (sym never) refl
 
-pub place_asked : (tests : List Division) (d : Division) (place : ℕ) → never_divides d ≡ false → IsTestAt tests d place
-    → IsPlaceOf tests d place
-place_asked tests d place asked at = subst (λ b. IsPlaceBy b tests d place) (sym asked) at
-
 pub test_here : (first : Division) (tests : List Division) (d : Division) → first.form ≡ d.form
     → first.divisor ≡ d.divisor → IsTestAt (first ∷ tests) d 0
 test_here first tests d form divisor = record { test = first; is = refl; form = form; divisor = divisor }

@@ -20,6 +20,7 @@ use Rattle.source_tree.specs.Rows.{RowExpr, RowSystem}
 use Rattle.source_tree.specs.Systems.{Context, Occurrence, array_writes, every, more_rows, named_write, root_context, write_systems, writer_place, writer_systems}
 use Rattle.source_tree.specs.declared.tree.Tree.{Tree}
 use Rattle.source_tree.specs.References.{occurrence_of}
+use Rattle.tree_facts.specs.Facts.{fact_rows, AddFacts}
 use Rattle.stride_trees.specs.Contexts.{AreMadeSmall, IsPlaceIn, IsUndividedContext}
 use Rattle.stride_trees.specs.Divisions.{never_divides}
 use Rattle.stride_trees.specs.Problem.{told_read, told_write}
@@ -73,15 +74,28 @@ pub record IsBelow (w : Answered) (here : ℕ) (c : Context) : Type 0 where
   pub more : List RowExpr
   pub is : c ≡ more_rows (context_of w) more
 
--- where a tree is checked for the writes that are joined, the other is checked for all writes
+-- the Cuts add the facts to the context below the answers
+abbrev pub HasFacts : Answered → Type 0
+HasFacts w = AddFacts (context_of w) w.cuts.now w.facts.now
+
+-- the context below the answers with the facts, and these rows behind
+abbrev pub fact_context : Answered → List RowExpr → Context
+fact_context w rest = more_rows (context_of w) (fact_rows w.facts.now rest)
+
+-- Where a tree is checked for the writes that are joined, in a context with the facts, the other is checked for all
+-- writes in the context without them.
 abbrev pub Converts : Answered → ℕ → Tree → Tree → Type 0
 Converts w here tree own =
-    (c : Context) → IsBelow w here c → IsCheckedForAll (pairs_of w) c tree
-    → IsCheckedIn w.nest.now (occurrence_of w.read) every c own
+    (rest : List RowExpr) → IsBelow w here (fact_context w rest)
+    → IsCheckedForAll (pairs_of w) (fact_context w rest) tree
+    → IsCheckedIn w.nest.now (occurrence_of w.read) every (more_rows (context_of w) rest) own
 
--- the tree is checked for the writes that are joined
-abbrev pub IsJoinedBelow : Answered → ℕ → Tree → Type 0
-IsJoinedBelow w here tree = (c : Context) × IsBelow w here c × IsCheckedForAll (pairs_of w) c tree
+-- the tree is checked for the writes that are joined, in a context with the facts
+pub record IsJoinedBelow (w : Answered) (here : ℕ) (tree : Tree) : Type 0 where
+  pub facts : HasFacts w
+  pub rest : List RowExpr
+  pub below : IsBelow w here (fact_context w rest)
+  pub checked : IsCheckedForAll (pairs_of w) (fact_context w rest) tree
 
 -- Proofs were added that refute these systems, where the first of the proofs that were told refute others. The rest of
 -- those is for what comes behind.

@@ -1,5 +1,6 @@
 pub mod Answers
 pub mod Converted
+pub mod Counts
 pub mod Leaves
 pub mod Told
 pub mod Writers

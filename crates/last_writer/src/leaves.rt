@@ -4,20 +4,21 @@ ghost use Rattle.affine_core.specs.declared.form.Form.{Form as FormOf};
 ghost use Rattle.difference_graphs.specs.Heights.{height_of};
 ghost use Rattle.difference_graphs.specs.Joint.{no_orders, write_systems_of, IsSum};
 ghost use Rattle.int_polyhedra.specs.declared.system.Proof.TheVariants.{Sum};
-ghost use Rattle.last_writer.specs.Leaves.{after_systems_count, answer_at as answer_of, counts_behind as behind_counts, is_told, level_count_of, order_counts, own_systems, pairs_of, told_systems, AddsProofs, AreOrderRows, CanBeConverted, Converts, HasWriter, IsAnswered, IsBelow, IsFurther, IsJoinedBelow, IsJoinedPoint, IsOwnPoint, IsRefusal, IsRefusalAmong, IsRefusedContext};
+ghost use Rattle.last_writer.specs.Leaves.{after_systems_count, answer_at as answer_of, counts_behind as behind_counts, is_told, level_count_of, order_counts, own_systems, pairs_of, told_systems, AddsProofs, context_of, fact_context, AreOrderRows, CanBeConverted, Converts, HasFacts, HasWriter, IsAnswered, IsBelow, IsFurther, IsJoinedBelow, IsJoinedPoint, IsOwnPoint, IsRefusal, IsRefusalAmong, IsRefusedContext};
 ghost use Rattle.last_writer.specs.Converted.{turns_left, IsConverting};
 ghost use Rattle.last_writer.specs.Writers.{IsWriterOf};
 ghost use Rattle.source_tree.specs.Checked.{AreRefuted, IsRefuted};
 ghost use Rattle.source_tree.specs.Rows.{RowExpr, RowSystem};
 ghost use Rattle.source_tree.specs.declared.tree.Tree.{Tree as TreeOf};
 ghost use Rattle.source_tree.specs.declared.tree.Tree.TheViews.{Test as TestOf};
-ghost use Rattle.source_tree.specs.Systems.{zero_systems, every, Context, Occurrence};
+ghost use Rattle.source_tree.specs.Systems.{dead_systems, more_rows, zero_systems, every, Context, Occurrence};
 ghost use Rattle.stride_trees.specs.Contexts.{own_system, told_system, AreMadeSmall, IsTestedContext};
 ghost use Rattle.stride_trees.specs.Strides.{depth_of_write, IsStrided};
 ghost use Rattle.source_tree.specs.References.{occurrence_of};
 
+use crate::counts::{writer_counts, zero_counts};
 use crate::writers::{NO_PLACE, Writer};
-use affine_core::Form;
+use affine_core::{Form, Row};
 use candidate_order::level_count;
 use difference_graphs::test;
 use int_polyhedra::{Proof, Term};
@@ -25,11 +26,14 @@ use plain_data::Items;
 use sanlp::{Nest, common_loops};
 use source_tree::{Reference, Tree};
 use std::alloc::{AllocError, Global};
+use stride_rows::Cut;
 use stride_trees::{
     Division, Strides, converted_place, converted_write, never_write, undivided_write,
 };
+use tree_facts::{proof_by_cuts, proofs_by_cuts};
 
-/// The writers of a read, where the first of their tests of divisibility have answers.
+/// The writers of a read, where the first of their tests of divisibility have answers, and facts of the context where all
+/// have: Cuts of its rows, and the rows that they add.
 #[derive(Clone, Copy)]
 pub struct Answered<'a> {
     pub alloc: Global,
@@ -38,6 +42,8 @@ pub struct Answered<'a> {
     pub writers: &'a [Writer<'a>],
     pub tests: &'a [Division],
     pub answers: &'a [bool],
+    pub cuts: &'a [Cut],
+    pub facts: &'a [Row],
 }
 
 /// A test of a writer that says no, and which of the tests of all writers it is.
@@ -107,7 +113,7 @@ fn push_counts(
 }
 
 // Per level of order of the first statement before the second: how many rows it has.
-fn row_counts(
+pub fn row_counts(
     alloc: Global,
     first: &Reference,
     second: &Reference,
@@ -124,7 +130,7 @@ fn row_counts(
 }
 
 // The same behind a place of a writer, and without one no rows once.
-fn counts_behind(
+pub fn counts_behind(
     alloc: Global,
     behind: &Option<Reference>,
     write: &Reference,
@@ -366,7 +372,7 @@ fn push_sums(proofs: &mut Items<Proof>, sums: &[Proof]) -> Result<(), AllocError
 }
 
 // The writer of this number.
-fn writer_at<'a>(writers: &'a [Writer<'a>], number: u32) -> &'a Writer<'a>
+pub fn writer_at<'a>(writers: &'a [Writer<'a>], number: u32) -> &'a Writer<'a>
     requires { HasWriter writers.now number }
     ensures among { Contains writers.now result.now }
     ensures number { result.now.strides.write.number ≡ number }
@@ -458,6 +464,104 @@ fn zero_proofs(w: &Answered, here: u32, told: &[Proof]) -> Result<Items<Proof>, 
     Ok(proofs)
 }
 
+// How many rows the context has above those of the facts.
+fn rows_above(w: &Answered) -> u32
+    requires rows { length w.now.read.statement.now.rows ≤ 32 }
+    requires answers { length w.now.answers.now ≤ 6 }
+    ensures { result
+        ≡ length w.now.read.statement.now.rows + 2 * length w.now.answers.now }
+{
+    w.read.statement.rows.len() as u32 + 2 * w.answers.len() as u32
+}
+
+// How many rows a context has without the facts, where it has so many with them.
+fn rows_without(w: &Answered, here: u32) -> u32
+    requires { length w.now.cuts.now ≤ here }
+    ensures { result + length w.now.cuts.now ≡ here }
+{
+    here - w.cuts.len() as u32
+}
+
+// The proofs of a Writer leaf where the facts are no rows of the context.
+fn point_proofs(
+    w: &Answered,
+    here: u32,
+    number: u32,
+    told: &[Proof],
+) -> Result<Items<Proof>, AllocError>
+    requires answered { IsAnswered w.now }
+    requires here { here ≤ 2 ^ 30 }
+    requires facts { HasFacts w.now }
+    requires point { (rest : List RowExpr) × (place : List FormOf)
+        × IsBelow w.now here (fact_context w.now rest)
+        × IsJoinedPoint w.now (fact_context w.now rest) number place told.now }
+    ensures { IfOk result (λ proofs. (rest : List RowExpr) (place : List FormOf)
+        → IsBelow w.now here (fact_context w.now rest)
+        → IsJoinedPoint w.now (fact_context w.now rest) number place told.now
+        → IsOwnPoint w.now (more_rows (context_of w.now) rest) number place proofs) }
+{
+    let rows = rows_without(w, here);
+    let above = rows_above(w);
+    let proofs = writer_proofs(w, here, number, told)?;
+    if w.cuts.is_empty() {
+        return Ok(proofs);
+    }
+    match writer_counts(w, rows, number) {
+        Ok(counts) => proofs_by_cuts(w.alloc, w.cuts, above, counts.as_slice(), proofs),
+        Err(error) => {
+            drop(proofs);
+            Err(error)
+        }
+    }
+}
+
+// The proofs of a Zero leaf where the facts are no rows of the context.
+fn none_proofs(w: &Answered, here: u32, told: &[Proof]) -> Result<Items<Proof>, AllocError>
+    requires answered { IsAnswered w.now }
+    requires here { here ≤ 2 ^ 30 }
+    requires facts { HasFacts w.now }
+    requires sums { All IsSum told.now }
+    requires leaf { (rest : List RowExpr) × IsBelow w.now here (fact_context w.now rest)
+        × AreRefuted (write_systems_of (pairs_of w.now) (fact_context w.now rest) no_orders)
+        told.now }
+    ensures { IfOk result (λ proofs. (rest : List RowExpr)
+        → IsBelow w.now here (fact_context w.now rest)
+        → AreRefuted (write_systems_of (pairs_of w.now) (fact_context w.now rest) no_orders)
+        told.now
+        → AreRefuted (zero_systems w.now.nest.now (occurrence_of w.now.read) every
+        (more_rows (context_of w.now) rest)) proofs) }
+{
+    let rows = rows_without(w, here);
+    let above = rows_above(w);
+    let proofs = zero_proofs(w, here, told)?;
+    if w.cuts.is_empty() {
+        return Ok(proofs);
+    }
+    match zero_counts(w, rows) {
+        Ok(counts) => proofs_by_cuts(w.alloc, w.cuts, above, counts.as_slice(), proofs),
+        Err(error) => {
+            drop(proofs);
+            Err(error)
+        }
+    }
+}
+
+// The proof of a Dead leaf where the facts are no rows of the context.
+fn dead_proof(w: &Answered, here: u32, proof: Proof) -> Result<Proof, AllocError>
+    requires answered { IsAnswered w.now }
+    requires here { here ≤ 2 ^ 30 }
+    requires facts { HasFacts w.now }
+    requires leaf { (rest : List RowExpr) × IsBelow w.now here (fact_context w.now rest) }
+    ensures { IfOk result (λ own. (rest : List RowExpr)
+        → IsBelow w.now here (fact_context w.now rest)
+        → AreRefuted (dead_systems (fact_context w.now rest)) (proof ∷ [])
+        → AreRefuted (dead_systems (more_rows (context_of w.now) rest)) (own ∷ [])) }
+{
+    let rows = rows_without(w, here);
+    let above = rows_above(w);
+    proof_by_cuts(w.alloc, w.cuts, above, rows, proof)
+}
+
 // A leaf of a joined tree, with proofs for the writes of all writers. Its context has `here` rows.
 fn converted_leaf(w: &Answered, here: u32, leaf: Tree) -> Result<Tree, AllocError>
     requires answered { IsAnswered w.now }
@@ -468,7 +572,7 @@ fn converted_leaf(w: &Answered, here: u32, leaf: Tree) -> Result<Tree, AllocErro
 {
     match leaf {
         Tree::Writer(number, place, proofs) => {
-            let own = writer_proofs(w, here, number, proofs.as_slice());
+            let own = point_proofs(w, here, number, proofs.as_slice());
             drop(proofs);
             match own {
                 Ok(own) => Ok(Tree::Writer(number, place, own)),
@@ -479,11 +583,11 @@ fn converted_leaf(w: &Answered, here: u32, leaf: Tree) -> Result<Tree, AllocErro
             }
         }
         Tree::Zero(proofs) => {
-            let own = zero_proofs(w, here, proofs.as_slice());
+            let own = none_proofs(w, here, proofs.as_slice());
             drop(proofs);
             Ok(Tree::Zero(own?))
         }
-        Tree::Dead(proof) => Ok(Tree::Dead(proof)),
+        Tree::Dead(proof) => Ok(Tree::Dead(dead_proof(w, here, proof)?)),
         _ => unreachable!(),
     }
 }

@@ -7,6 +7,7 @@
 
 mod class;
 mod contexts;
+mod counts;
 mod leaves;
 mod source;
 mod writers;

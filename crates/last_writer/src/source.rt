@@ -5,7 +5,7 @@ ghost use Rattle.difference_graphs.specs.Contexts.{IsMadeAs};
 ghost use Rattle.candidate_order.specs.Reads.{pairs_with};
 ghost use Rattle.candidate_order.specs.declared.candidates.Read.{Read as ReadOf};
 ghost use Rattle.last_writer.specs.Answers.{answered_context, HasSmallRows};
-ghost use Rattle.last_writer.specs.Leaves.{context_of, told_pairs, vars_of, IsAnswered};
+ghost use Rattle.last_writer.specs.Leaves.{context_of, fact_context, told_pairs, vars_of, HasFacts, IsAnswered};
 ghost use Rattle.last_writer.specs.Told.{IsToldOf};
 ghost use Rattle.last_writer.specs.Writers.{is_never, IsSmallTest};
 ghost use Rattle.last_writer.specs.declared.source.Told.{Told as ToldOf};
@@ -34,6 +34,7 @@ use std::alloc::{AllocError, Global};
 use stride_trees::{
     Division, always_divides, divided_rows, no_is_nowhere, told_reads, told_writes,
 };
+use tree_facts::{Tests, facts_of, with_facts};
 
 // A write over quotients: its domain rows and subscripts, and those of the read.
 #[derive(Drop)]
@@ -127,6 +128,36 @@ fn read_with<'a>(w: &Answered<'a>, context: &'a System, problems: &'a [Problem<'
     }
 }
 
+// The tree in a context with the facts of that where all tests have an answer.
+fn joined_in<'a>(w: &Answered<'a>, told: &'a [Told], there: &'a System) -> Result<Tree, AllocError>
+    requires answered { IsAnswered w.now }
+    requires told { AllZip (IsToldOf (vars_of w.now)) w.now.writers.now told.now }
+    requires all { length w.now.answers.now ≡ length w.now.tests.now }
+    requires facts { HasFacts w.now }
+    requires made { IsMadeAs there.now (fact_context w.now []) }
+    requires rows { HasSmallRows there.now }
+    requires few { length there.now.rows ≤ 64 }
+    ensures { IfOk result (IsCheckedIn w.now.nest.now (occurrence_of w.now.read) every
+        (context_of w.now)) }
+{
+    let mut problems = Items::new(w.alloc);
+    push_problems(&mut problems, w.writers, told, w.answers)?;
+    let read = read_with(&*w, &*there, problems.as_slice());
+    let tree = join(&read)?;
+    converted(w, there.rows.len() as u32, tree)
+}
+
+// Where the rows of the tests stand in the context where all have an answer.
+fn tests_in<'a>(w: &Answered<'a>) -> Tests<'a>
+    requires { length w.now.read.statement.now.rows < 2 ^ 32 }
+{
+    Tests {
+        depth: w.read.statement.loops.len(),
+        root: w.read.statement.rows.len() as u32,
+        answers: w.answers,
+    }
+}
+
 // The tree where all tests of divisibility have an answer.
 fn joined<'a>(w: &Answered<'a>, told: &'a [Told], context: &'a System) -> Result<Tree, AllocError>
     requires answered { IsAnswered w.now }
@@ -138,11 +169,15 @@ fn joined<'a>(w: &Answered<'a>, told: &'a [Told], context: &'a System) -> Result
     ensures { IfOk result (IsCheckedIn w.now.nest.now (occurrence_of w.now.read) every
         (context_of w.now)) }
 {
-    let mut problems = Items::new(w.alloc);
-    push_problems(&mut problems, w.writers, told, w.answers)?;
-    let read = read_with(&*w, &*context, problems.as_slice());
-    let tree = join(&read)?;
-    converted(w, context.rows.len() as u32, tree)
+    let tests = tests_in(w);
+    let found = facts_of(w.alloc, context, &tests)?;
+    let more = Answered {
+        cuts: found.cuts.as_slice(),
+        facts: found.rows.as_slice(),
+        ..*w
+    };
+    let there = with_facts(w.alloc, context, more.facts)?;
+    joined_in(&more, told, &there)
 }
 
 // The test over the variables of a context, with the trees of its yes and its no.
@@ -323,6 +358,8 @@ fn unanswered<'a>(
         writers,
         tests,
         answers: &[],
+        cuts: &[],
+        facts: &[],
     }
 }
 

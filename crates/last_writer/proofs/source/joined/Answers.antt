@@ -1,68 +1,49 @@
--- The writes that are told are problems of differences in this context, so they can be joined, and the joined tree is one of the
--- nest once its proofs are those for all writers.
-use Rattle.std.proofs.Common.{◌≡◌, length, sym, ap, subst, arith}
-use Rattle.std.proofs.lemmas.List.Elements.{All-weaker}
-use Rattle.std.proofs.lemmas.Result.{IfOk-weaker}
-use Rattle.difference_graphs.specs.Contexts.{IsMadeAs}
+-- The facts are what Cuts add to the context, and stand behind its rows. The answers are the same, so the context below them is.
+use Rattle.std.proofs.Common.{◌≡◌, ◌++◌, length, refl, sym, ap, ◌∙◌, subst, arith, length-append}
 use Rattle.int_polyhedra.specs.declared.system.System.{System}
-use Rattle.last_writer.proofs.JointTrees.{below_here, joined_below, pairs_joined, read_joined}
-use Rattle.last_writer.proofs.LeafConversion.{zip_count}
-use Rattle.last_writer.specs.Answers.{HasSmallRows}
+use Rattle.int_polyhedra.specs.Systems.{AreOver}
+use Rattle.last_writer.proofs.JointTrees.{add_facts, facts_made, facts_small, few_rows, same_answered}
 use Rattle.last_writer.specs.Leaves.{context_of}
-use Rattle.last_writer.specs.Writers.{IsPlaceOf, IsWriterOf}
+use Rattle.tree_facts.specs.Facts.{AddFacts}
 use Rattle.last_writer.proofs.source.joined.Goals as goal
-use Rattle.source_tree.specs.References.{occurrence_of}
 
-pub push_problems-requires-clause-places : goal.push_problems-requires-clause-places
-push_problems-requires-clause-places c =
-    let w = c.args.w.now in
-    All-weaker (IsWriterOf w.nest.now (occurrence_of w.read) w.tests.now) (λ x. length x.divisions ≡ length x.places)
-    (λ x of. zip_count (IsPlaceOf w.tests.now) x.divisions x.places of.places) w.writers.now
-    c.requires.answered.writers.each
+pub tests_in-tests-requires : goal.tests_in-tests-requires
+tests_in-tests-requires c = omega (arith, few_rows c.args.w.now c.requires.answered)
 
-pub push_problems-requires-clause-few : goal.push_problems-requires-clause-few
-push_problems-requires-clause-few c =
-    omega (arith, c.requires.answered.answers, c.requires.answered.few)
+pub joined_in-requires-clause-answered : goal.joined_in-requires-clause-answered
+joined_in-requires-clause-answered c = same_answered c.args.w.now _ c.requires.answered refl refl refl refl refl
 
-pub join-requires : goal.join-requires
-join-requires c =
-    let w = c.args.w.now in
-    let r = c.read_with-read.result in
-    let read = c.read_with-read.ensures in
-    read_joined w r c.requires.answered c.requires.all
-    (subst (λ (s : System). IsMadeAs s (context_of w)) (sym read.context) c.requires.made)
-    (subst HasSmallRows (sym read.context) c.requires.rows)
-    (omega (arith, ap (λ (s : System). length s.rows) read.context, c.requires.few))
-    (pairs_joined w r c.new-problems.result c.push_problems.new.problems c.as_slice.result.now c.args.told.now
-    c.requires.answered c.requires.told read.reference read.problems c.as_slice.ensures c.new-problems.ensures
-    c.in_ok-push_problems.ensures)
+pub joined_in-requires-clause-facts : goal.joined_in-requires-clause-facts
+joined_in-requires-clause-facts c =
+    let cx = context_of c.args.w.now in
+    let found = c.in_ok-found.found in
+    subst (λ cuts. AddFacts cx cuts c.as_slice-2.result.now) (sym c.as_slice.ensures)
+    (subst (λ facts. AddFacts cx found.cuts facts) (sym c.as_slice-2.ensures)
+    (add_facts cx c.args.context.now found c.requires.made c.requires.rows c.in_ok-found.ensures))
 
-pub converted-requires-clause-tree : goal.converted-requires-clause-tree
-converted-requires-clause-tree c =
-    let w = c.args.w.now in
-    let r = c.read_with-read.result in
-    let read = c.read_with-read.ensures in
-    let pairs = pairs_joined w r c.new-problems.result c.push_problems.new.problems c.as_slice.result.now c.args.told.now
-    c.requires.answered c.requires.told read.reference read.problems c.as_slice.ensures c.new-problems.ensures
-    c.in_ok-push_problems.ensures in
-    let below = below_here w c.args.context.now c.len.result c.len.ensures c.requires.all c.requires.made c.requires.rows in
-    let checked = joined_below w r c.args.context.now c.in_ok-tree.tree c.requires.made read.context pairs
-    c.in_ok-tree.ensures.joined in
-    (context_of w, below, checked)
+pub joined_in-requires-clause-made : goal.joined_in-requires-clause-made
+joined_in-requires-clause-made c =
+    let context = c.args.context.now in
+    facts_made (context_of c.args.w.now) context c.in_ok-there.there c.as_slice-2.result.now c.requires.made
+    (subst (λ facts. AreOver context.vars facts) (sym c.as_slice-2.ensures) c.in_ok-found.ensures.over)
+    c.in_ok-there.ensures
+
+pub joined_in-requires-clause-rows : goal.joined_in-requires-clause-rows
+joined_in-requires-clause-rows c =
+    let context = c.args.context.now in
+    facts_small context c.in_ok-there.there c.in_ok-found.found c.requires.rows c.in_ok-found.ensures
+    (c.in_ok-there.ensures ∙ ap (λ rows. record { vars = context.vars; rows = context.rows ++ rows }) c.as_slice-2.ensures)
+
+pub joined_in-requires-clause-few : goal.joined_in-requires-clause-few
+joined_in-requires-clause-few c =
+    let context = c.args.context.now in
+    omega (
+      arith,
+      ap (λ (s : System). length s.rows) c.in_ok-there.ensures,
+      length-append context.rows c.as_slice-2.result.now,
+      ap length c.as_slice-2.ensures,
+      c.in_ok-found.ensures.few,
+    )
 
 pub returns : goal.returns
-returns c =
-    let w = c.args.w.now in
-    let r = c.read_with-read.result in
-    let read = c.read_with-read.ensures in
-    let pairs = pairs_joined w r c.new-problems.result c.push_problems.new.problems c.as_slice.result.now c.args.told.now
-    c.requires.answered c.requires.told read.reference read.problems c.as_slice.ensures c.new-problems.ensures
-    c.in_ok-push_problems.ensures in
-    let below = below_here w c.args.context.now c.len.result c.len.ensures c.requires.all c.requires.made c.requires.rows in
-    let checked = joined_below w r c.args.context.now c.in_ok-tree.tree c.requires.made read.context pairs
-    c.in_ok-tree.ensures.joined in
-    IfOk-weaker c.converted.result _ _ (λ own converts. converts (context_of w) below checked) c.converted.ensures
-
-pub converted-requires-clause-here : goal.converted-requires-clause-here
-converted-requires-clause-here c =
-    omega (arith, c.len.ensures, ap (λ (s : System). length s.rows) c.read_with-read.ensures.context, c.in_ok-tree.ensures.low)
+returns c = c.joined_in.ensures

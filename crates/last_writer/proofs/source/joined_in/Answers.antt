@@ -1,0 +1,73 @@
+-- The writes that are told are problems of differences in this context, so they can be joined, and the joined tree is one of the
+-- nest once its proofs are those for all writers.
+use Rattle.std.proofs.Common.{◌≡◌, [], length, sym, ap, ◌∙◌, subst, arith}
+use Rattle.std.proofs.lemmas.List.{append-nil}
+use Rattle.std.proofs.lemmas.List.Elements.{All-weaker}
+use Rattle.std.proofs.lemmas.Result.{IfOk-weaker}
+use Rattle.int_polyhedra.specs.declared.system.System.{System}
+use Rattle.last_writer.proofs.JointTrees.{below_here, joined_below, pairs_joined, read_joined}
+use Rattle.last_writer.proofs.LeafConversion.{zip_count}
+use Rattle.last_writer.specs.Answers.{HasSmallRows}
+use Rattle.last_writer.specs.Leaves.{context_of}
+use Rattle.last_writer.specs.Writers.{IsPlaceOf, IsWriterOf}
+use Rattle.last_writer.proofs.source.joined_in.Goals as goal
+use Rattle.source_tree.specs.Checked.{IsCheckedIn}
+use Rattle.source_tree.specs.References.{occurrence_of}
+use Rattle.source_tree.specs.Systems.{every}
+
+pub push_problems-requires-clause-places : goal.push_problems-requires-clause-places
+push_problems-requires-clause-places c =
+    let w = c.args.w.now in
+    All-weaker (IsWriterOf w.nest.now (occurrence_of w.read) w.tests.now) (λ x. length x.divisions ≡ length x.places)
+    (λ x of. zip_count (IsPlaceOf w.tests.now) x.divisions x.places of.places) w.writers.now
+    c.requires.answered.writers.each
+
+pub push_problems-requires-clause-few : goal.push_problems-requires-clause-few
+push_problems-requires-clause-few c =
+    omega (arith, c.requires.answered.answers, c.requires.answered.few)
+
+pub join-requires : goal.join-requires
+join-requires c =
+    let w = c.args.w.now in
+    let r = c.read_with-read.result in
+    let read = c.read_with-read.ensures in
+    read_joined w r c.requires.answered c.requires.all
+    (c.requires.made.vars ∙ sym (ap (λ (s : System). s.vars) read.context))
+    (subst HasSmallRows (sym read.context) c.requires.rows)
+    (omega (arith, ap (λ (s : System). length s.rows) read.context, c.requires.few))
+    (pairs_joined w r c.new-problems.result c.push_problems.new.problems c.as_slice.result.now c.args.told.now
+    c.requires.answered c.requires.told read.reference read.problems c.as_slice.ensures c.new-problems.ensures
+    c.in_ok-push_problems.ensures)
+
+pub converted-requires-clause-tree : goal.converted-requires-clause-tree
+converted-requires-clause-tree c =
+    let w = c.args.w.now in
+    let r = c.read_with-read.result in
+    let read = c.read_with-read.ensures in
+    let pairs = pairs_joined w r c.new-problems.result c.push_problems.new.problems c.as_slice.result.now c.args.told.now
+    c.requires.answered c.requires.told read.reference read.problems c.as_slice.ensures c.new-problems.ensures
+    c.in_ok-push_problems.ensures in
+    let below = below_here w c.args.there.now c.len.result c.len.ensures c.requires.all c.requires.made c.requires.rows in
+    let checked = joined_below w r c.args.there.now c.in_ok-tree.tree c.requires.made read.context pairs
+    c.in_ok-tree.ensures.joined in
+    record { facts = c.requires.facts; rest = []; below = below; checked = checked }
+
+pub returns : goal.returns
+returns c =
+    let w = c.args.w.now in
+    let r = c.read_with-read.result in
+    let read = c.read_with-read.ensures in
+    let pairs = pairs_joined w r c.new-problems.result c.push_problems.new.problems c.as_slice.result.now c.args.told.now
+    c.requires.answered c.requires.told read.reference read.problems c.as_slice.ensures c.new-problems.ensures
+    c.in_ok-push_problems.ensures in
+    let below = below_here w c.args.there.now c.len.result c.len.ensures c.requires.all c.requires.made c.requires.rows in
+    let checked = joined_below w r c.args.there.now c.in_ok-tree.tree c.requires.made read.context pairs
+    c.in_ok-tree.ensures.joined in
+    IfOk-weaker c.converted.result _ _ (λ own converts.
+    subst (λ c. IsCheckedIn w.nest.now (occurrence_of w.read) every c own)
+    (ap (λ rows. record { vars = (context_of w).vars; rows = rows }) (append-nil (context_of w).rows))
+    (converts [] below checked)) c.converted.ensures
+
+pub converted-requires-clause-here : goal.converted-requires-clause-here
+converted-requires-clause-here c =
+    omega (arith, c.len.ensures, ap (λ (s : System). length s.rows) c.read_with-read.ensures.context, c.in_ok-tree.ensures.low)

@@ -1,0 +1,139 @@
+-- Systems whose context has facts behind its own rows, and the same without them.
+--
+-- A leaf's systems are rows behind those of the context, over the context's variables or more. The facts' rows, widened,
+-- are what the Cuts add to the context's rows, widened; so each proof becomes one without the facts.
+use Rattle.std.proofs.Common.{◌≡◌, ◌+◌, ◌≤◌, ℕ, suc, List, [], ◌∷◌, ◌++◌, length, map}
+use Rattle.std.proofs.Common.{refl, sym, ap, ◌∙◌, subst, arith, append_assoc, length-append}
+use Rattle.std.specs.Prelude.{Some, All, slice_get}
+use Rattle.std.specs.Option.{option_and_then}
+use Rattle.std.proofs.lemmas.List.Elements.{All-head, All-tail}
+use Rattle.std.proofs.lemmas.Option.{option_and_then_some, same_Some}
+use Rattle.affine_core.specs.declared.form.Form.{Form}
+use Rattle.affine_core.specs.Affine.{widened_form}
+use Rattle.difference_graphs.proofs.MadeRows.{taken_made}
+use Rattle.difference_graphs.proofs.RowBounds.{forms_append}
+use Rattle.int_polyhedra.specs.declared.system.Proof.{Proof}
+use Rattle.int_polyhedra.specs.Rules.{Refutes}
+use Rattle.int_polyhedra.specs.Systems.{AreOver}
+use Rattle.int_polyhedra.proofs.Variables.{over_at}
+use Rattle.row_sums.proofs.RowParts.{made_widens}
+use Rattle.source_tree.specs.Checked.{AreRefuted, IsRefuted}
+use Rattle.source_tree.specs.Rows.{RowExpr, RowSystem, Take, row_form, row_forms}
+use Rattle.source_tree.specs.Systems.{Context}
+use Rattle.stride_rows.specs.declared.cuts.Cut.{Cut}
+use Rattle.tree_facts.specs.Cuts.{proof_by_cuts, proofs_by_cuts}
+use Rattle.tree_facts.specs.Facts.{fact_rows, AddFacts, HoldsWithoutFacts}
+use Rattle.tree_facts.proofs.ByCuts.{refutes_by_cuts}
+use Rattle.tree_facts.proofs.Wider.{add_wider}
+use Rattle.tree_trim.proofs.Systems.{behind}
+
+-- rows one behind the other, as they are made
+record AreParted (vars : ℕ) (xs ys : List RowExpr) (rows : List Form) : Type 0 where
+  front : List Form
+  back : List Form
+  front_made : row_forms vars xs ≡ Some front
+  back_made : row_forms vars ys ≡ Some back
+  is : rows ≡ front ++ back
+  count : length front ≡ length xs
+
+parted : (vars : ℕ) (xs ys : List RowExpr) (rows : List Form) → row_forms vars (xs ++ ys) ≡ Some rows
+    → AreParted vars xs ys rows
+parted vars [] ys rows made =
+    record { front = []; back = rows; front_made = refl; back_made = made; is = refl; count = refl }
+parted vars (x ∷ xs) ys rows made =
+    option_and_then_some
+    (λ first. option_and_then (λ others. Some (first ∷ others)) (row_forms vars (xs ++ ys)))
+    (row_form vars x) rows made
+    (λ first first_is rest.
+    option_and_then_some (λ others. Some (first ∷ others)) (row_forms vars (xs ++ ys)) rows rest
+    (λ others others_is end.
+    (let h : AreParted vars xs ys others = parted vars xs ys others others_is in
+    record {
+      front = first ∷ h.front;
+      back = h.back;
+      front_made =
+          ap (option_and_then (λ first. option_and_then (λ others. Some (first ∷ others)) (row_forms vars xs)))
+          first_is ∙ ap (option_and_then (λ others. Some (first ∷ others))) h.front_made;
+      back_made = h.back_made;
+      is = sym (same_Some (first ∷ others) rows end) ∙ ap (λ others. first ∷ others) h.is;
+      count = ap suc h.count;
+    })))
+
+pub facts_made : (vars : ℕ) (facts : List Form) → AreOver vars facts → row_forms vars (map Take facts) ≡ Some facts
+facts_made vars facts over = go facts (λ i row at. over_at vars facts i row over at) where
+  go : (fs : List Form) → ((i : ℕ) (row : Form) → slice_get fs i ≡ Some row → length row.coefs ≡ vars)
+      → row_forms vars (map Take fs) ≡ Some fs
+  go [] h = refl
+  go (f ∷ fs) h =
+      ap (option_and_then (λ row. option_and_then (λ rest. Some (row ∷ rest)) (row_forms vars (map Take fs))))
+      (taken_made vars f (h 0 f refl))
+      ∙ ap (option_and_then (λ rest. Some (f ∷ rest))) (go fs (λ i row at. h (suc i) row at))
+
+made_count : (vars : ℕ) (es : List RowExpr) (fs : List Form) → row_forms vars es ≡ Some fs → length es ≡ length fs
+made_count vars [] fs is = ap length (same_Some [] fs is)
+made_count vars (e ∷ es) fs is =
+    option_and_then_some (λ row. option_and_then (λ rest. Some (row ∷ rest)) (row_forms vars es))
+    (row_form vars e) fs is
+    (λ row row_is is'. option_and_then_some (λ rest. Some (row ∷ rest)) (row_forms vars es) fs is'
+    (λ rest rest_is end. ap suc (made_count vars es rest rest_is) ∙ ap length (same_Some (row ∷ rest) fs end)))
+
+pub system_away : HoldsWithoutFacts
+system_away c cuts facts v more p h le r =
+    let front : List Form = map (widened_form v) h.rows in
+    let told : List Form = map (widened_form v) facts in
+    let front_made : row_forms v c.rows ≡ Some front = made_widens c.vars v c.rows h.rows le h.made in
+    let told_made : row_forms v (map Take facts) ≡ Some told =
+    made_widens c.vars v (map Take facts) facts le (facts_made c.vars facts h.facts_over) in
+    let first : AreParted v c.rows (fact_rows facts more) r.rows =
+    parted v c.rows (fact_rows facts more) r.rows r.are_made in
+    let second : AreParted v (map Take facts) more first.back =
+    parted v (map Take facts) more first.back first.back_made in
+    let same_front : first.front ≡ front = same_Some first.front front (sym first.front_made ∙ front_made) in
+    let same_told : second.front ≡ told = same_Some second.front told (sym second.front_made ∙ told_made) in
+    let after : List Form = second.back in
+    let rows_are : r.rows ≡ front ++ (told ++ after) =
+    first.is ∙ ap (λ fs. fs ++ first.back) same_front
+    ∙ ap (λ fs. front ++ fs) (second.is ∙ ap (λ fs. fs ++ after) same_told) in
+    let refuted : Refutes v (front ++ after) (proof_by_cuts (length front) (length front + length after) cuts p) =
+    refutes_by_cuts v front told after cuts p (add_wider c.vars v h.rows cuts facts le h.over h.add)
+    (subst (λ rows. Refutes v rows p) rows_are r.refuted) in
+    let front_count : length front ≡ length c.rows = ap length (sym same_front) ∙ first.count in
+    let counts : length front + length after ≡ length (c.rows ++ more) =
+    omega (arith, front_count, made_count v more after second.back_made, length-append c.rows more) in
+    record {
+      rows = front ++ after;
+      are_made = forms_append v c.rows more front after front_made second.back_made;
+      refuted = subst (λ k. Refutes v (front ++ after) (proof_by_cuts k (length (c.rows ++ more)) cuts p)) front_count
+          (subst (λ n. Refutes v (front ++ after) (proof_by_cuts (length front) n cuts p)) counts refuted);
+    }
+
+module _ (c : Context) (cuts : List Cut) (facts : List Form) (h : AddFacts c cuts facts) (rest : List RowExpr) where
+  -- how many rows a system has behind those of the context
+  abbrev pub count_behind : RowSystem → ℕ
+  count_behind s = length ((c.rows ++ rest) ++ s.rows)
+
+  one_away : (s : RowSystem) (p : Proof) → c.vars ≤ s.vars
+      → IsRefuted (behind (c.rows ++ fact_rows facts rest) s) p
+      → IsRefuted (behind (c.rows ++ rest) s) (proof_by_cuts (length c.rows) (count_behind s) cuts p)
+  one_away s p le r =
+      let more : List RowExpr = rest ++ s.rows in
+      let apart : (c.rows ++ fact_rows facts rest) ++ s.rows ≡ c.rows ++ fact_rows facts more =
+      append_assoc c.rows (fact_rows facts rest) s.rows
+      ∙ ap (λ rows. c.rows ++ rows) (append_assoc (map Take facts) rest s.rows) in
+      let own : c.rows ++ more ≡ (c.rows ++ rest) ++ s.rows = sym (append_assoc c.rows rest s.rows) in
+      subst (λ rows. IsRefuted (record { vars = s.vars; rows = rows }) (proof_by_cuts (length c.rows) (length rows) cuts p))
+      own
+      (system_away c cuts facts s.vars more p h le
+      (subst (λ rows. IsRefuted (record { vars = s.vars; rows = rows }) p) apart r))
+
+  pub facts_away : (systems : List RowSystem) (proofs : List Proof) → All (λ s. c.vars ≤ s.vars) systems
+      → AreRefuted (map (behind (c.rows ++ fact_rows facts rest)) systems) proofs
+      → AreRefuted (map (behind (c.rows ++ rest)) systems)
+      (proofs_by_cuts (length c.rows) (map count_behind systems) cuts proofs)
+  facts_away [] [] wide r = tt
+  facts_away [] (p ∷ proofs) wide r = absurd r
+  facts_away (s ∷ systems) [] wide r = absurd r
+  facts_away (s ∷ systems) (p ∷ proofs) wide r = (
+    one_away s p (All-head (λ (s : RowSystem). c.vars ≤ s.vars) s systems wide) r.0,
+    facts_away systems proofs (All-tail (λ (s : RowSystem). c.vars ≤ s.vars) s systems wide) r.1,
+  )

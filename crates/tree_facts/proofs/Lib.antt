@@ -1,0 +1,6 @@
+pub mod Folds
+pub mod Moving
+pub mod ByCuts
+pub mod Wider
+pub mod FactSystems
+pub mod Adding

@@ -1,0 +1,89 @@
+ghost use Rattle.std.specs.Prelude.{◌≡◌, ◌<◌, ◌+◌, ◌^◌, [], ◌∷◌, ◌++◌, length, All, IfOk, OnOk};
+ghost use Rattle.tree_facts.specs.Cuts.{proof_by_cut, proof_by_cuts, proofs_by_cuts};
+
+use crate::behind::proof_behind;
+use int_polyhedra::{Proof, by_cut};
+use plain_data::Items;
+use std::alloc::{AllocError, Global};
+use stride_rows::Cut;
+use tree_trim::{names_row, proof_without};
+
+// The proof of a system with the row of this number, as one of the system without it, to which the Cut adds that row: the
+// Cut and then the proof, or where no step names the row, the proof alone.
+fn proof_by_cut(
+    alloc: Global,
+    cut: &Cut,
+    row: u32,
+    last: u32,
+    proof: Proof,
+) -> Result<Proof, AllocError>
+    ensures { IfOk result (λ own. own ≡ proof_by_cut row last cut.now proof) }
+{
+    if !names_row(&proof, row) {
+        return proof_without(alloc, proof, row);
+    }
+    let rest = proof_behind(alloc, proof, row, last)?;
+    match Items::from_slice(alloc, cut.terms.as_slice()) {
+        Ok(terms) => by_cut(alloc, cut.divisor, terms, rest),
+        Err(error) => {
+            drop(rest);
+            Err(error)
+        }
+    }
+}
+
+/// The proof of a system with facts, which stand in it from this number on, as one of the system of so many rows without
+/// them: the Cuts whose rows it names, and then the same steps.
+pub fn proof_by_cuts(
+    alloc: Global,
+    cuts: &[Cut],
+    row: u32,
+    rows: u32,
+    proof: Proof,
+) -> Result<Proof, AllocError>
+    requires few { rows + length cuts.now < 2 ^ 32 }
+    requires inside { row + length cuts.now < 2 ^ 32 }
+    ensures { IfOk result (λ own. own ≡ proof_by_cuts row rows cuts.now proof) }
+{
+    let Some((cut, cuts)) = cuts.split_first() else {
+        return Ok(proof);
+    };
+    let rest = proof_by_cuts(alloc, cuts, row + 1, rows + 1, proof)?;
+    proof_by_cut(alloc, cut, row, rows, rest)
+}
+
+fn push_by_cuts(
+    out: &mut Items<Proof>,
+    cuts: &[Cut],
+    row: u32,
+    rows: u32,
+    proof: Proof,
+) -> Result<(), AllocError>
+    requires few { rows + length cuts.now < 2 ^ 32 }
+    requires inside { row + length cuts.now < 2 ^ 32 }
+    ensures { OnOk result (out.new ≡ out.old ++ proof_by_cuts row rows cuts.now proof ∷ []) }
+{
+    let own = proof_by_cuts(out.allocator(), cuts, row, rows, proof)?;
+    out.push(own)
+}
+
+/// The same of proofs of systems that have these numbers of rows without the facts.
+pub fn proofs_by_cuts(
+    alloc: Global,
+    cuts: &[Cut],
+    row: u32,
+    counts: &[u32],
+    proofs: Items<Proof>,
+) -> Result<Items<Proof>, AllocError>
+    requires few { All (λ rows. rows + length cuts.now < 2 ^ 32) counts.now }
+    requires inside { row + length cuts.now < 2 ^ 32 }
+    requires count { length proofs ≡ length counts.now }
+    ensures { IfOk result (λ own. own ≡ proofs_by_cuts row counts.now cuts.now proofs) }
+{
+    let mut own = Items::new(alloc);
+    for proof in proofs.into_vec() {
+        let rows = counts[own.len()];
+        push_by_cuts(&mut own, cuts, row, rows, proof)?;
+    }
+    Ok(own)
+}

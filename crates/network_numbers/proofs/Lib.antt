@@ -8,6 +8,9 @@ pub mod TextNumbers
 pub mod TraceRuns
 pub mod RunPassed
 pub mod WholeTrace
-pub mod Folded
+pub mod RunQueues
+pub mod WantedTurns
+pub mod EntryCounts
+pub mod PlannedGets
 pub mod ReadLists
 pub mod NumberedItems

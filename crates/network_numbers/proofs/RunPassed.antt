@@ -1,71 +1,60 @@
 -- What is counted of the channels along the trace, run by run.
 --
--- The invariant is that after t entries each channel's counts are those of the schedule so far: the tokens among its
--- writer's turns, the uses by its reader's turns, and the greatest length of its queue (`queue_at`). One entry changes
--- the channels of its process alone. A channel that it reads has one use more where the source for its read is of the
--- channel's writer (`uses_more`), one that it writes has one Put more where the turn is a token (`puts_more`). With no
--- Put more the queue is no longer than it was, and else it is as long as Puts less Gets say (`greatest_more`). Counts
--- never reach 2^32, since no process has so many turns. A channel's counts rest on no other channel, so a run may be
--- counted channel by channel, each through all turns of the run (`channel_run`, by induction on the run's length).
-use Rattle.std.proofs.Common.{◌≡◌, ℕ, zero, suc, ◌+◌, ◌-◌, ◌<◌, ◌≤◌, max, min, Bool, true, false, cond, Option, Some, None}
-use Rattle.std.proofs.Common.{List, [], ◌∷◌, length, map, take, slice_get, get_or, refl, sym, ap, ap₂, ◌∙◌}
-use Rattle.std.proofs.Common.{subst, inl, inr, arith}
-use Rattle.std.specs.Prelude.{slice_index, slice_index_or, ◌==◌, ◌&&◌, ◌||◌}
-use Rattle.std.specs.List.{cons_option, range_with_len}
+-- The invariant is that after t entries each channel has the turns of its writer that those of its reader so far want, and the
+-- greatest length that its queue has had (`queue_at`). A run is as many turns of one process in a row. Of a channel that the
+-- process reads its sources at these turns are wanted too, and of any other no more (`wanted_at`). The queue's length at the end
+-- of each entry is how many turns of the writer so far are tokens, less how many of those wanted are (`queue_is`), where the
+-- process writes to the channel; where it doesn't, nothing more is put, and the queue is never longer than it was (`still`). So
+-- the greatest length is that before the run or one of these (`longest`). A channel's counts rest on no other channel.
+use Rattle.std.proofs.Common.{◌≡◌, ◌≢◌, ℕ, zero, suc, ◌+◌, ◌-◌, ◌<◌, ◌≤◌, max, cond, Option, Some, None}
+use Rattle.std.proofs.Common.{List, [], length, map, take, drop, slice_get, get_or, refl, sym, ap, ap₂, ◌∙◌}
+use Rattle.std.proofs.Common.{inl, inr, arith}
+use Rattle.std.specs.Prelude.{slice_index, slice_index_or, ◌==◌}
+use Rattle.std.specs.List.{fold, range_with_len}
 use Rattle.std.specs.Option.{option_map, option_map_or}
-use Rattle.std.proofs.lemmas.Bool.{cases_Bool, cases_eq, eq-eqb, false≢true, ne_eqb}
-use Rattle.std.proofs.lemmas.List.{length-map}
+use Rattle.std.proofs.lemmas.Bool.{cases_Bool, cases_eq, eq-eqb, ne_eqb}
+use Rattle.std.proofs.lemmas.List.{take-take}
 use Rattle.std.proofs.lemmas.Option.{get_or_from_slice_get, slice_get-map, slice_get_within}
 use Rattle.channel_plan.specs.declared.plans.ChannelPlan.{ChannelPlan}
-use Rattle.channel_plan.specs.Plans.{plans_of, slot_plan, sources_at, turn_count}
-use Rattle.channel_plan.specs.Tokens.{is_from, is_used, tokens_below, turn_of, turns_used, uses_of}
-use Rattle.channel_plan.proofs.Uses.{below_turn, tokens_more}
+use Rattle.channel_plan.specs.Plans.{plans_of, sources_at}
+use Rattle.channel_plan.specs.Tokens.{tokens_below, turns_used}
+use Rattle.net_core.specs.Cuts.{cut_after, opening}
 use Rattle.net_core.specs.Machine.{net_of}
-use Rattle.net_core.proofs.EventCounts.{count_next}
 use Rattle.network_numbers.specs.declared.queues.QueueCounts.{QueueCounts}
-use Rattle.network_numbers.specs.Entries.{after_run, after_turn, after_turns, channel_after, sources_for}
-use Rattle.network_numbers.specs.Links.{channels_at, has_end_at, read_lists}
-use Rattle.network_numbers.specs.Queues.{after_put, after_use, empty_queue}
-use Rattle.process_derive.specs.Derived.{net}
-use Rattle.process_derive.specs.Scripts.{gets_for_uses}
-use Rattle.process_derive.proofs.Bounds.{few_entries}
-use Rattle.process_derive.proofs.Counts.{before_few, before_more}
-use Rattle.process_derive.proofs.Numbers.{before_within}
-use Rattle.process_derive.proofs.Tags.{length-sources, few_turns as turns_few}
+use Rattle.network_numbers.specs.Entries.{after_run, after_turns, lengths, sources_for, tokens_among}
+use Rattle.network_numbers.specs.Entries.{turns_passed, turns_wanted, wanted_by}
+use Rattle.network_numbers.specs.Links.{read_lists}
+use Rattle.network_numbers.specs.Queues.{empty_queue}
+use Rattle.network_numbers.proofs.EntryCounts.{counts_are}
+use Rattle.network_numbers.proofs.EntryLengths.{greatest_entry}
+use Rattle.network_numbers.proofs.PlannedGets.{few_needed, gets_are, grown, tokens_are, turns_made}
+use Rattle.network_numbers.proofs.QueueCounts.{ends, queue_counted}
+use Rattle.network_numbers.proofs.TextNumbers.{numbered_range}
+use Rattle.network_numbers.proofs.TraceRuns.{HasRun, turns_other, turns_own}
+use Rattle.network_numbers.proofs.WantedTurns.{behind, folded, greatest_next}
 use Rattle.plain_data.proofs.Lists.{slice_get-some}
-use Rattle.reorder_slots.specs.declared.slots.SlotPlan.{SlotPlan}
-use Rattle.reorder_slots.specs.Slots.{gets_for}
-use Rattle.reorder_slots.proofs.Gets.{more_gets}
+use Rattle.plan_numbers.specs.Numbers.{numbers_of}
+use Rattle.plan_numbers.specs.declared.numbers.PlanNumbers.{PlanNumbers}
+use Rattle.process_derive.specs.Derived.{net}
 use Rattle.sanlp.specs.Access.{read_count}
-use Rattle.sanlp.specs.Size.{SizeIsOk}
 use Rattle.sanlp.specs.Trace.{trace}
 use Rattle.sanlp.specs.declared.nest.Nest.{Nest}
-use Rattle.sanlp.specs.declared.nest.Point.{Point}
 use Rattle.sanlp.specs.declared.nest.Tag.{Tag}
 use Rattle.sanlp.proofs.Lists.{map-range_with_len_same}
 use Rattle.source_tree.specs.Sources.{read_number, read_sources, sources_of}
 use Rattle.source_tree.proofs.TableNumbers.{read_at}
-use Rattle.witness_plan.specs.Sequential.{greatest_length}
+use Rattle.witness_plan.specs.Sequential.{greatest_length, queue_length}
 use Rattle.witness_plan.proofs.InTraceOrder.{turns_before}
 use Rattle.witness_plan.proofs.GreatestLengths.{now_within}
 use Rattle.witness_plan.proofs.SequentialRun.{few_turns}
-use Rattle.witness_plan.proofs.GetCounts.{gets_so_far}
-use Rattle.witness_plan.proofs.TraceSteps.{sequenced, turn_exists}
-use Rattle.channel_plan.proofs.PlanEnds.{plans_of-plan_of}
-use Rattle.network_numbers.proofs.EntryLengths.{greatest_entry}
-use Rattle.network_numbers.proofs.PassedQueues.{passed}
-use Rattle.network_numbers.proofs.QueueCounts.{ends, mark_is, queue_counted}
-use Rattle.network_numbers.proofs.TraceRuns.{HasRun, first_fire, later_run, turns_next}
+use Rattle.witness_plan.proofs.TraceSteps.{sequenced}
 
 -- what is counted of a channel after the first t entries
 abbrev pub queue_with : Nest → ℕ → ℕ → ChannelPlan → QueueCounts
-queue_with n t c plan =
-    let sources = sources_at n plan.reader plan.read in
-    record {
-      puts = tokens_below (turns_used plan.writer sources) (turns_before (trace n) t plan.writer);
-      uses = length (turns_used plan.writer (take (turns_before (trace n) t plan.reader) sources));
-      greatest = greatest_length (net_of (net n)) (sequenced n t) c;
-    }
+queue_with n t c plan = record {
+  wanted = turns_made n plan (turns_before (trace n) t plan.reader);
+  greatest = greatest_length (net_of (net n)) (sequenced n t) c;
+}
 
 abbrev pub queue_at : Nest → ℕ → ℕ → QueueCounts
 queue_at n t c = option_map_or (queue_with n t c) (slice_get (plans_of n) c) empty_queue
@@ -83,326 +72,236 @@ table_row n p k h =
     get_or_from_slice_get (sources_of n) (read_number n p k) (read_sources n (trace n) p k) []
     (read_at n (trace n) 0 n.statements p k h ∙ ap (λ q. Some (read_sources n (trace n) q k)) front)
 
--- Counts
+-- what is wanted never falls
+wanted_grows : (plan : PlanNumbers) (p : ℕ) (sources : List (Option Tag)) (wanted : ℕ)
+    → wanted ≤ wanted_by plan p sources wanted
+wanted_grows plan p sources wanted =
+    elim (cases_Bool (plan.reader == p)) [
+      | inl reads ↦ rw reads (omega (arith, folded plan.writer sources wanted))
+      | inr other ↦ rw other (omega arith)
+    ]
 
-named : (w : ℕ) (source : Option Tag) → length (cons_option (turn_of w source) []) ≡ cond (is_from w source) 1 0
-named w None = refl
-named w (Some t) = elim (cases_Bool (t.process == w)) [ inl own ↦ rw own refl | inr other ↦ rw other refl ]
+-- A run
 
-abbrev counts : ℕ → ℕ → ℕ → QueueCounts
-counts puts uses greatest = record { puts = puts; uses = uses; greatest = greatest }
+-- a run up to an earlier end
+front_run : (n : Nest) (p t count k : ℕ) → k ≤ count → HasRun n p t count → HasRun n p t k
+front_run n p t count k le run = λ j below. run j (omega arith)
 
-same_counts : (puts puts' uses uses' greatest greatest' : ℕ) → puts ≡ puts' → uses ≡ uses' → greatest ≡ greatest'
-    → counts puts uses greatest ≡ counts puts' uses' greatest'
-same_counts puts puts' uses uses' greatest greatest' e f g = cc
+-- its entries are entries of the trace
+within : (n : Nest) (p t count : ℕ) → HasRun n p t (suc count) → t + count < length (trace n)
+within n p t count run =
+    let fire = run count (omega arith) in slice_get_within (trace n) (t + count) fire.point fire.found
 
--- what an entry makes of a channel's counts, by whether it uses the channel and whether it puts to it
-abbrev both : Bool → Bool → SlotPlan → QueueCounts → QueueCounts
-both uses_it puts_it slots queue =
-    cond puts_it (after_put slots (cond uses_it (after_use queue) queue)) (cond uses_it (after_use queue) queue)
+greatest_run : (n : Nest) (p t count c : ℕ) → HasRun n p t count
+    → greatest_length (net_of (net n)) (sequenced n (t + count)) c
+    ≡ fold max (greatest_length (net_of (net n)) (sequenced n t) c)
+    (map (λ k. queue_length (net_of (net n)) (cut_after opening (sequenced n (t + (k + 1)))) c) (range_with_len 0 count))
+greatest_run n p t zero c run =
+    (let now : t + 0 ≡ t = omega arith in ap (λ s. greatest_length (net_of (net n)) (sequenced n s) c) now)
+greatest_run n p t (suc count) c run =
+    let length_after : ℕ → ℕ = λ k.
+    queue_length (net_of (net n)) (cut_after opening (sequenced n (t + (k + 1)))) c in
+    let before = greatest_length (net_of (net n)) (sequenced n t) c in
+    let fire = run count (omega arith) in
+    let next : t + suc count ≡ suc (t + count) = omega arith in
+    let last : suc (t + count) ≡ t + (count + 1) = omega arith in
+    let more : suc count ≡ count + 1 = omega arith in
+    ap (λ s. greatest_length (net_of (net n)) (sequenced n s) c) next
+    ∙ greatest_entry n (t + count) fire.point fire.found c
+    ∙ ap₂ max (greatest_run n p t count c (front_run n p t (suc count) count (omega arith) run))
+    (ap (λ s. queue_length (net_of (net n)) (cut_after opening (sequenced n s)) c) last)
+    ∙ sym (greatest_next length_after before count)
+    ∙ ap (λ m. fold max before (map length_after (range_with_len 0 m))) (sym more)
 
-use_counted : (it : Bool) (puts uses uses' greatest : ℕ) → uses' ≡ uses + cond it 1 0 → uses' < 4294967295
-    → cond it (after_use (counts puts uses greatest)) (counts puts uses greatest) ≡ counts puts uses' greatest
-use_counted true puts uses uses' greatest more few =
-    let is : min (uses + 1) 4294967295 ≡ uses' = omega (arith, more, few) in
-    same_counts puts puts (min (uses + 1) 4294967295) uses' greatest greatest refl is refl
-use_counted false puts uses uses' greatest more few =
-    let is : uses ≡ uses' = omega (arith, more) in
-    same_counts puts puts uses uses' greatest greatest refl is refl
-
-put_counted : (it : Bool) (slots : SlotPlan) (puts puts' uses greatest greatest' : ℕ) → puts' ≡ puts + cond it 1 0
-    → puts' < 4294967295 → greatest' ≡ max greatest (puts' - gets_for_uses slots uses)
-    → puts - gets_for_uses slots uses ≤ greatest
-    → cond it (after_put slots (counts puts uses greatest)) (counts puts uses greatest) ≡ counts puts' uses greatest'
-put_counted true slots puts puts' uses greatest greatest' more few longer before =
-    let is : min (puts + 1) 4294967295 ≡ puts' = omega (arith, more, few) in
-    same_counts (min (puts + 1) 4294967295) puts' uses uses
-    (max greatest (min (puts + 1) 4294967295 - gets_for_uses slots uses)) greatest' is refl
-    (ap (λ m. max greatest (m - gets_for_uses slots uses)) is ∙ sym longer)
-put_counted false slots puts puts' uses greatest greatest' more few longer before =
-    let is : puts ≡ puts' = omega (arith, more) in
-    let same : max greatest (puts - gets_for_uses slots uses) ≡ greatest = omega (arith, before) in
-    same_counts puts puts' uses uses greatest greatest' is refl
-    (sym same ∙ ap (λ m. max greatest (m - gets_for_uses slots uses)) is ∙ sym longer)
-
-module _ (n : Nest) (sized : SizeIsOk n) (t : ℕ) (q : Point) (here : slice_get (trace n) t ≡ Some q) (c : ℕ)
-    (plan : ChannelPlan) (found : slice_get (plans_of n) c ≡ Some plan) where
+module _ (n : Nest) (p c : ℕ) (plan : ChannelPlan) (found : slice_get (plans_of n) c ≡ Some plan) where
   abbrev sources : List (Option Tag)
   sources = sources_at n plan.reader plan.read
 
   abbrev used : List ℕ
   used = turns_used plan.writer (sources_at n plan.reader plan.read)
 
-  abbrev f : ℕ
-  f = turns_before (trace n) t q.statement
+  module _ (t count : ℕ) (run : HasRun n p t count) where
+    abbrev first : ℕ
+    first = turns_before (trace n) t p
 
-  -- whether the entry uses the channel, and whether it puts to it
-  abbrev uses_it : Bool
-  uses_it = (plan.reader == q.statement)
-      && is_from plan.writer (slice_index_or (sources_at n plan.reader plan.read)
-      (turns_before (trace n) t q.statement) None)
+    abbrev before : ℕ
+    before = turns_made n plan (turns_before (trace n) t plan.reader)
 
-  abbrev puts_it : Bool
-  puts_it = (plan.writer == q.statement) && slice_index_or plan.is_token (turns_before (trace n) t q.statement) false
+    own : (k : ℕ) → k ≤ count → turns_before (trace n) (t + k) p ≡ turns_before (trace n) t p + k
+    own k le = turns_own n p t k (front_run n p t count k le run)
 
-  turns_more : (p : ℕ) → turns_before (trace n) (suc t) p
-      ≡ turns_before (trace n) t p + cond (q.statement == p) 1 0
-  turns_more p = count_next (λ (r : Point). r.statement == p) (trace n) t q here
-
-  uses_more : length (turns_used plan.writer (take (turns_before (trace n) (suc t) plan.reader) sources))
-      ≡ length (turns_used plan.writer (take (turns_before (trace n) t plan.reader) sources)) + cond uses_it 1 0
-  uses_more =
-      let w = plan.writer in
-      let r = plan.reader in
-      elim (cases_eq plan.reader q.statement) [
-        | inl same ↦
-            let more : turns_before (trace n) (suc t) plan.reader ≡ turns_before (trace n) t plan.reader + 1 =
-            turns_more plan.reader
-            ∙ ap (λ b. turns_before (trace n) t plan.reader + cond b 1 0) (eq-eqb q.statement plan.reader (sym same)) in
-            let turn : turns_before (trace n) t plan.reader ≡ turns_before (trace n) t q.statement =
-            ap (turns_before (trace n) t) same in
-            let below : turns_before (trace n) t plan.reader < turn_count n plan.reader =
-            subst (λ p. turns_before (trace n) t p < turn_count n p) (sym same) (turn_exists n t q here) in
-            let item = slice_get-some sources (turns_before (trace n) t plan.reader) (omega (arith, length-sources n r plan.read)) in
-            let value : slice_index_or sources (turns_before (trace n) t q.statement) None ≡ item.0 =
-            ap (λ i. slice_index_or sources i None) (sym turn)
-            ∙ get_or_from_slice_get sources (turns_before (trace n) t plan.reader) item.0 None item.1 in
-            let is : cond {A = ℕ} (is_from plan.writer item.0) 1 0
-            ≡ cond ((plan.reader == q.statement)
-            && is_from plan.writer (slice_index_or sources (turns_before (trace n) t q.statement) None)) 1 0 =
-            ap (λ s. cond {A = ℕ} (is_from plan.writer s) 1 0) (sym value)
-            ∙ ap (λ b. cond {A = ℕ} (b
-            && is_from plan.writer (slice_index_or sources (turns_before (trace n) t q.statement) None)) 1 0)
-            (sym (eq-eqb plan.reader q.statement same)) in
-            ap (λ i. length (turns_used plan.writer (take i sources))) more
-            ∙ before_more sources (turns_before (trace n) t plan.reader) plan.writer item.0 item.1
-            ∙ ap (λ m. length (turns_used plan.writer (take (turns_before (trace n) t plan.reader) sources)) + m)
-            (named plan.writer item.0 ∙ is)
-        | inr other ↦
-            let none : turns_before (trace n) (suc t) plan.reader ≡ turns_before (trace n) t plan.reader =
-            turns_more plan.reader
-            ∙ ap (λ b. turns_before (trace n) t plan.reader + cond b 1 0)
-            (ne_eqb q.statement plan.reader (λ e. other (sym e)))
-            ∙ omega arith in
-            let is : cond {A = ℕ} ((plan.reader == q.statement)
-            && is_from plan.writer (slice_index_or sources (turns_before (trace n) t q.statement) None)) 1 0 ≡ 0 =
-            ap (λ b. cond {A = ℕ} (b
-            && is_from plan.writer (slice_index_or sources (turns_before (trace n) t q.statement) None)) 1 0)
-            (ne_eqb plan.reader q.statement other) in
-            omega (arith, ap (λ i. length (turns_used plan.writer (take i sources))) none, is)
-      ]
-
-  puts_more : tokens_below used (turns_before (trace n) (suc t) plan.writer)
-      ≡ tokens_below used (turns_before (trace n) t plan.writer) + cond puts_it 1 0
-  puts_more =
-      elim (cases_eq plan.writer q.statement) [
-        | inl same ↦
-            let more : turns_before (trace n) (suc t) plan.writer ≡ turns_before (trace n) t plan.writer + 1 =
-            turns_more plan.writer
-            ∙ ap (λ b. turns_before (trace n) t plan.writer + cond b 1 0) (eq-eqb q.statement plan.writer (sym same)) in
-            let turn : turns_before (trace n) t plan.writer ≡ turns_before (trace n) t q.statement =
-            ap (turns_before (trace n) t) same in
-            let below : turns_before (trace n) t plan.writer < turn_count n plan.writer =
-            subst (λ p. turns_before (trace n) t p < turn_count n p) (sym same) (turn_exists n t q here) in
-            let is : cond {A = ℕ} (is_used used (turns_before (trace n) t plan.writer)) 1 0
-            ≡ cond ((plan.writer == q.statement)
-            && slice_index_or plan.is_token (turns_before (trace n) t q.statement) false) 1 0 =
-            ap (λ b. cond {A = ℕ} b 1 0) (sym (mark_is n c plan found (turns_before (trace n) t plan.writer) below))
-            ∙ ap (λ i. cond {A = ℕ} (slice_index_or plan.is_token i false) 1 0) turn
-            ∙ ap (λ b. cond {A = ℕ} (b && slice_index_or plan.is_token (turns_before (trace n) t q.statement) false) 1 0)
-            (sym (eq-eqb plan.writer q.statement same)) in
-            ap (tokens_below used) more ∙ tokens_more used (turns_before (trace n) t plan.writer)
-            ∙ ap (λ m. tokens_below used (turns_before (trace n) t plan.writer) + m) is
-        | inr other ↦
-            let none : turns_before (trace n) (suc t) plan.writer ≡ turns_before (trace n) t plan.writer =
-            turns_more plan.writer
-            ∙ ap (λ b. turns_before (trace n) t plan.writer + cond b 1 0)
-            (ne_eqb q.statement plan.writer (λ e. other (sym e)))
-            ∙ omega arith in
-            let is : cond {A = ℕ} ((plan.writer == q.statement)
-            && slice_index_or plan.is_token (turns_before (trace n) t q.statement) false) 1 0 ≡ 0 =
-            ap (λ b. cond {A = ℕ} (b && slice_index_or plan.is_token (turns_before (trace n) t q.statement) false) 1 0)
-            (ne_eqb plan.writer q.statement other) in
-            omega (arith, ap (tokens_below used) none, is)
-      ]
-
-  -- the Gets for so many uses, as the plan has them
-  gets_planned : (i : ℕ) → gets_for_uses plan.slots (length (turns_used plan.writer (take i sources)))
-      ≡ gets_for (take (length (turns_used plan.writer (take i sources))) (uses_of used))
-  gets_planned i =
-      let slots : plan.slots ≡ slot_plan (uses_of used) = ap (λ (x : ChannelPlan). x.slots) (plans_of-plan_of n c plan found) in
-      ap (λ s. gets_for_uses s (length (turns_used plan.writer (take i sources)))) slots
-      ∙ gets_so_far (uses_of used) (length (turns_used plan.writer (take i sources)))
-      (omega (arith, before_within sources i plan.writer, length-map used (tokens_below used)))
-
-  -- the greatest length so far, or the queue as it stands
-  greatest_more : greatest_length (net_of (net n)) (sequenced n (suc t)) c
-      ≡ max (greatest_length (net_of (net n)) (sequenced n t) c)
-      (tokens_below used (turns_before (trace n) (suc t) plan.writer)
-      - gets_for_uses plan.slots (length (turns_used plan.writer
-      (take (turns_before (trace n) (suc t) plan.reader) sources))))
-  greatest_more =
-      let queue = queue_counted n c plan found (suc t) (omega (arith, slice_get_within (trace n) t q here)) in
-      omega (
-        arith,
-        greatest_entry n t q here c,
-        queue,
-        gets_planned (turns_before (trace n) (suc t) plan.reader),
-      )
-
-  -- the queue was no longer before
-  queue_before : tokens_below used (turns_before (trace n) t plan.writer)
-      - gets_for_uses plan.slots (length (turns_used plan.writer
-      (take (turns_before (trace n) (suc t) plan.reader) sources)))
-      ≤ greatest_length (net_of (net n)) (sequenced n t) c
-  queue_before =
-      let queue = queue_counted n c plan found t (omega (arith, slice_get_within (trace n) t q here)) in
-      omega (
-        arith,
-        now_within (net_of (net n)) (sequenced n t) c,
-        queue,
-        gets_planned (turns_before (trace n) (suc t) plan.reader),
-        more_gets (uses_of used) (length (turns_used plan.writer (take (turns_before (trace n) t plan.reader) sources)))
-            (length (turns_used plan.writer (take (turns_before (trace n) (suc t) plan.reader) sources)))
-            (omega (arith, uses_more)),
-      )
-
-  few_puts : tokens_below used (turns_before (trace n) (suc t) plan.writer) < 4294967295
-  few_puts =
-      omega (
-        arith,
-        below_turn used (turns_before (trace n) (suc t) plan.writer),
-        few_turns n (suc t) plan.writer,
-        turns_few n plan.writer,
-        few_entries n sized,
-      )
-
-  few_uses : length (turns_used plan.writer (take (turns_before (trace n) (suc t) plan.reader) sources)) < 4294967295
-  few_uses =
-      omega (
-        arith,
-        before_few sources (turns_before (trace n) (suc t) plan.reader) plan.writer,
-        few_turns n (suc t) plan.reader,
-        turns_few n plan.reader,
-        few_entries n sized,
-      )
-
-  -- the counts after the entry
-  channel_passed : both uses_it puts_it plan.slots (queue_with n t c plan) ≡ queue_with n (suc t) c plan
-  channel_passed =
-      ap (λ queue. cond puts_it (after_put plan.slots queue) queue)
-      (use_counted uses_it (tokens_below used (turns_before (trace n) t plan.writer))
-      (length (turns_used plan.writer (take (turns_before (trace n) t plan.reader) sources)))
-      (length (turns_used plan.writer (take (turns_before (trace n) (suc t) plan.reader) sources)))
-      (greatest_length (net_of (net n)) (sequenced n t) c) uses_more few_uses)
-      ∙ put_counted puts_it plan.slots (tokens_below used (turns_before (trace n) t plan.writer))
-      (tokens_below used (turns_before (trace n) (suc t) plan.writer))
-      (length (turns_used plan.writer (take (turns_before (trace n) (suc t) plan.reader) sources)))
-      (greatest_length (net_of (net n)) (sequenced n t) c) (greatest_length (net_of (net n)) (sequenced n (suc t)) c)
-      puts_more few_puts greatest_more queue_before
-
--- A run
-
--- a channel of which the process is at no end keeps its counts
-neither : (a b : Bool) → (a || b) ≡ false → (a ≡ false) × (b ≡ false)
-neither true b h = absurd (false≢true (sym h))
-neither false b h = (refl, h)
-
-idle_turns : (plan : ChannelPlan) (p : ℕ) (sources : List (Option Tag)) (turns : List ℕ) (queue : QueueCounts)
-    → has_end_at p plan ≡ false → after_turns plan p sources turns queue ≡ queue
-idle_turns plan p told [] queue none = refl
-idle_turns plan p told (turn ∷ turns) queue none =
-    let ends = neither (plan.reader == p) (plan.writer == p) none in
-    ap (after_turns plan p told turns)
-    (ap₂ (λ a b. both (a && is_from plan.writer (slice_index_or told turn None))
-    (b && slice_index_or plan.is_token turn false) plan.slots queue) ends.0 ends.1)
-    ∙ idle_turns plan p told turns queue none
-
-module _ (n : Nest) (sized : SizeIsOk n) (p : ℕ) where
-  -- one channel, turn by turn
-  channel_run : (c : ℕ) (plan : ChannelPlan) → slice_get (plans_of n) c ≡ Some plan → (t count : ℕ) → HasRun n p t count
-      → after_turns plan p (sources_at n plan.reader plan.read) (range_with_len (turns_before (trace n) t p) count)
-      (queue_with n t c plan) ≡ queue_with n (t + count) c plan
-  channel_run c plan found t zero run = (let now : t ≡ t + 0 = omega arith in ap (λ s. queue_with n s c plan) now)
-  channel_run c plan found t (suc count) run =
-      let sources = sources_at n plan.reader plan.read in
-      let fire = first_fire n p t count run in
-      let one : after_turn plan p (sources_at n plan.reader plan.read) (queue_with n t c plan) (turns_before (trace n) t p)
-      ≡ queue_with n (suc t) c plan =
-      ap (λ q. after_turn plan q (sources_at n plan.reader plan.read) (queue_with n t c plan) (turns_before (trace n) t q))
-      (sym fire.same)
-      ∙ channel_passed n sized t fire.point fire.found c plan found in
-      let next : turns_before (trace n) t p + 1 ≡ turns_before (trace n) (suc t) p =
-      omega (
-        arith,
-        turns_next n p t p fire,
-        ap (λ b. turns_before (trace n) t p + cond b 1 0) (eq-eqb p p refl),
-      ) in
-      let later : suc t + count ≡ t + suc count = omega arith in
-      ap (after_turns plan p sources (range_with_len (turns_before (trace n) t p + 1) count)) one
-      ∙ ap (λ f. after_turns plan p sources (range_with_len f count) (queue_with n (suc t) c plan)) next
-      ∙ channel_run c plan found (suc t) count (later_run n p t count run)
-      ∙ ap (λ s. queue_with n s c plan) later
-
-  module _ (lists : List ℕ) (table : List (List (Option Tag))) (listed : lists ≡ read_lists n (plans_of n))
-      (exact : table ≡ sources_of n) (t count : ℕ) (run : HasRun n p t count) where
-    list_is : (c : ℕ) (plan : ChannelPlan) → slice_get (plans_of n) c ≡ Some plan
-        → slice_index lists c ≡ read_number n plan.reader plan.read
-    list_is c plan found =
-        ap (λ xs. slice_index xs c) listed
-        ∙ get_or_from_slice_get (read_lists n (plans_of n)) c (read_number n plan.reader plan.read) 0
-        (slice_get-map (λ (x : ChannelPlan). read_number n x.reader x.read) (plans_of n) c
-        ∙ ap (option_map (λ (x : ChannelPlan). read_number n x.reader x.read)) found)
-
-    sources_are : (c : ℕ) (plan : ChannelPlan) → slice_get (plans_of n) c ≡ Some plan
-        → sources_for lists table c ≡ sources_at n plan.reader plan.read
-    sources_are c plan found =
-        ap₂ (λ (xs : List (List (Option Tag))) i. slice_index_or xs i []) exact (list_is c plan found)
-        ∙ table_row n plan.reader plan.read (ends n c plan found).read
-
-    abbrev turns : List ℕ
-    turns = range_with_len (turns_before (trace n) t p) count
-
-    abbrev at_end : ℕ → Bool
-    at_end c = option_map_or (has_end_at p) (slice_get (plans_of n) c) false
-
-    -- a channel of the process, and any other, as the run changes it
-    abbrev changed_at : ℕ → QueueCounts
-    changed_at c =
-        cond (at_end c && true) (channel_after (plans_of n) lists table p turns c (queue_at n t c)) (queue_at n t c)
-
-    place_passed : (c : ℕ) (plan : ChannelPlan) → slice_get (plans_of n) c ≡ Some plan
-        → changed_at c ≡ queue_at n (t + count) c
-    place_passed c plan found =
-        let queue_is : (s : ℕ) → queue_at n s c ≡ queue_with n s c plan = λ s.
-        ap (λ o. option_map_or (queue_with n s c) o empty_queue) found in
-        let end_is : at_end c ≡ has_end_at p plan = ap (λ o. option_map_or (has_end_at p) o false) found in
-        let all = channel_run c plan found t count run in
-        elim (cases_Bool (has_end_at p plan)) [
-          | inl some ↦
-              ap (λ b. cond (b && true) (channel_after (plans_of n) lists table p turns c (queue_at n t c)) (queue_at n t c))
-              (end_is ∙ some)
-              ∙ ap (λ o. option_map_or (λ (plan : ChannelPlan).
-              after_turns plan p (sources_for lists table c) turns (queue_at n t c)) o (queue_at n t c)) found
-              ∙ ap (λ ss. after_turns plan p ss turns (queue_at n t c)) (sources_are c plan found)
-              ∙ ap (after_turns plan p (sources_at n plan.reader plan.read) turns) (queue_is t)
-              ∙ all ∙ sym (queue_is (t + count))
-          | inr none ↦
-              ap (λ b. cond (b && true) (channel_after (plans_of n) lists table p turns c (queue_at n t c)) (queue_at n t c))
-              (end_is ∙ none)
-              ∙ queue_is t
-              ∙ sym (idle_turns plan p (sources_at n plan.reader plan.read) turns (queue_with n t c plan) none)
-              ∙ all ∙ sym (queue_is (t + count))
+    -- the turns that are wanted after so many turns
+    wanted_at : (k : ℕ) → k ≤ count
+        → turns_made n plan (turns_before (trace n) (t + k) plan.reader)
+        ≡ wanted_by (numbers_of plan) p (take k (drop first sources)) before
+    wanted_at k le =
+        let more = fold max before (map (turns_wanted plan.writer) (take k (drop first sources))) in
+        elim (cases_eq plan.reader p) [
+          | inl same ↦
+              let start : before ≡ turns_made n plan first = ap (λ r. turns_made n plan (turns_before (trace n) t r)) same in
+              ap (λ r. turns_made n plan (turns_before (trace n) (t + k) r)) same
+              ∙ ap (turns_made n plan) (own k le)
+              ∙ sym (behind plan.writer first k sources before start)
+              ∙ sym (ap (λ b. cond b more before) (eq-eqb plan.reader p same))
+          | inr other ↦
+              ap (turns_made n plan)
+              (turns_other n p t k plan.reader (λ e. other (sym e)) (front_run n p t count k le run))
+              ∙ sym (ap (λ b. cond b more before) (ne_eqb plan.reader p other))
         ]
 
-    -- the run takes all counts as many entries on
-    pub run_passed : after_run (plans_of n) lists table p (range_with_len (turns_before (trace n) t p) count)
-        (channels_at (plans_of n) p) (queues_at n t) ≡ queues_at n (t + count)
-    run_passed =
-        passed empty_queue at_end (λ c. true) (channel_after (plans_of n) lists table p turns) (length (plans_of n))
-        (queue_at n t)
-        ∙ map-range_with_len_same changed_at (queue_at n (t + count)) 0 (length (plans_of n))
-        (λ c from below. (let item = slice_get-some (plans_of n) c (omega arith) in place_passed c item.0 item.1))
+    -- the length of the queue after so many turns
+    queue_is : (k : ℕ) → t + k ≤ length (trace n) → k ≤ count
+        → queue_length (net_of (net n)) (cut_after opening (sequenced n (t + k))) c
+        ≡ tokens_below used (turns_before (trace n) (t + k) plan.writer)
+        - tokens_below used (wanted_by (numbers_of plan) p (take k (drop first sources)) before)
+    queue_is k inside le =
+        queue_counted n c plan found (t + k) inside
+        ∙ ap (λ m. tokens_below used (turns_before (trace n) (t + k) plan.writer) - m)
+        (gets_are n c plan found (turns_before (trace n) (t + k) plan.reader)
+        ∙ ap (tokens_below used) (wanted_at k le))
+
+    -- what is got for the turns that are wanted
+    got_is : (k : ℕ) → k ≤ count
+        → tokens_below used (wanted_by (numbers_of plan) p (take k (drop first sources)) before)
+        ≡ tokens_among (numbers_of plan) (wanted_by (numbers_of plan) p (take k (drop first sources)) before)
+    got_is k le =
+        sym (tokens_are n c plan found (wanted_by (numbers_of plan) p (take k (drop first sources)) before)
+        (omega (arith, wanted_at k le, few_needed n c plan found (turns_before (trace n) (t + k) plan.reader))))
+
+    -- what is put by the end of a turn of the writer
+    put_is : plan.writer ≡ p → (k : ℕ) → k < count
+        → tokens_below used (turns_before (trace n) (t + (k + 1)) plan.writer)
+        ≡ tokens_among (numbers_of plan) (first + k + 1)
+    put_is same k lt =
+        let w = plan.writer in
+        let turn : turns_before (trace n) (t + (k + 1)) plan.writer ≡ first + k + 1 =
+        ap (turns_before (trace n) (t + (k + 1))) same ∙ own (k + 1) (omega arith) ∙ omega arith in
+        ap (tokens_below used) turn
+        ∙ sym (tokens_are n c plan found (first + k + 1) (omega (arith, turn, few_turns n (t + (k + 1)) w)))
+
+    inside : (k : ℕ) → k < count → t + (k + 1) ≤ length (trace n)
+    inside k lt = omega (arith, within n p t k (front_run n p t count (suc k) (omega arith) run))
+
+    -- where the process writes to the channel, the greatest length is one before or one at the end of a turn
+    longest : plan.writer ≡ p
+        → greatest_length (net_of (net n)) (sequenced n (t + count)) c
+        ≡ fold max (greatest_length (net_of (net n)) (sequenced n t) c)
+        (lengths (numbers_of plan) p (take count (drop first sources)) before first count)
+    longest same =
+        greatest_run n p t count c run
+        ∙ ap (fold max (greatest_length (net_of (net n)) (sequenced n t) c))
+        (map-range_with_len_same
+        (λ k. queue_length (net_of (net n)) (cut_after opening (sequenced n (t + (k + 1)))) c)
+        (λ k. tokens_among (numbers_of plan) (first + k + 1)
+        - tokens_among (numbers_of plan) (wanted_by (numbers_of plan) p (take (k + 1) (take count (drop first sources))) before))
+        0 count
+        (λ k from below.
+        queue_is (k + 1) (inside k (omega arith)) (omega arith)
+        ∙ ap₂ (λ a b. a - b) (put_is same k (omega arith))
+        (got_is (k + 1) (omega arith)
+        ∙ ap (λ xs. tokens_among (numbers_of plan) (wanted_by (numbers_of plan) p xs before))
+        (sym (take-take (k + 1) count (drop first sources) (omega arith))))))
+
+  -- where it doesn't, the queue is never longer
+  still : plan.writer ≢ p → (t count : ℕ) → HasRun n p t count
+      → greatest_length (net_of (net n)) (sequenced n (t + count)) c
+      ≡ greatest_length (net_of (net n)) (sequenced n t) c
+  still other t zero run =
+      (let now : t + 0 ≡ t = omega arith in ap (λ s. greatest_length (net_of (net n)) (sequenced n s) c) now)
+  still other t (suc count) run =
+      let fire = run count (omega arith) in
+      let next : t + suc count ≡ suc (t + count) = omega arith in
+      let turn = turns_other n p t (suc count) plan.writer (λ e. other (sym e)) run in
+      let here : t + suc count ≤ length (trace n) = omega (arith, within n p t count run) in
+      let before = turns_made n plan (turns_before (trace n) t plan.reader) in
+      let after = wanted_by (numbers_of plan) p (take (suc count) (drop (turns_before (trace n) t p) sources)) before in
+      let later = queue_is t (suc count) run (suc count) here (omega arith) in
+      let more =
+      grown used before after
+      (wanted_grows (numbers_of plan) p (take (suc count) (drop (turns_before (trace n) t p) sources)) before) in
+      let now = queue_counted n c plan found t (omega arith) in
+      let entry =
+      ap (λ s. greatest_length (net_of (net n)) (sequenced n s) c) next
+      ∙ greatest_entry n (t + count) fire.point fire.found c in
+      let last = ap (λ s. queue_length (net_of (net n)) (cut_after opening (sequenced n s)) c) next in
+      omega (
+        arith,
+        entry,
+        last,
+        later,
+        more,
+        ap (tokens_below used) turn,
+        now,
+        gets_are n c plan found (turns_before (trace n) t plan.reader),
+        now_within (net_of (net n)) (sequenced n t) c,
+        still other t count (front_run n p t (suc count) count (omega arith) run),
+      )
+
+  -- what is counted of the channel
+  channel_run : (t count : ℕ) → HasRun n p t count
+      → after_turns (numbers_of plan) p (take count (drop (turns_before (trace n) t p) sources))
+      (turns_before (trace n) t p) count (queue_with n t c plan)
+      ≡ queue_with n (t + count) c plan
+  channel_run t count run =
+      let before = greatest_length (net_of (net n)) (sequenced n t) c in
+      let those =
+      lengths (numbers_of plan) p (take count (drop (turns_before (trace n) t p) sources))
+      (turns_made n plan (turns_before (trace n) t plan.reader)) (turns_before (trace n) t p) count in
+      counts_are _ _ _ _ (sym (wanted_at t count run count (omega arith)))
+      (elim (cases_eq plan.writer p) [
+        | inl same ↦
+            ap (λ b. cond b (fold max before those) before) (eq-eqb plan.writer p same) ∙ sym (longest t count run same)
+        | inr other ↦
+            ap (λ b. cond b (fold max before those) before) (ne_eqb plan.writer p other) ∙ sym (still other t count run)
+      ])
+
+module _ (n : Nest) (p : ℕ) (lists : List ℕ) (table : List (List (Option Tag)))
+    (listed : lists ≡ read_lists n (map numbers_of (plans_of n))) (exact : table ≡ sources_of n) (t count : ℕ)
+    (run : HasRun n p t count) where
+  plan_is : (c : ℕ) (plan : ChannelPlan) → slice_get (plans_of n) c ≡ Some plan
+      → slice_get (map numbers_of (plans_of n)) c ≡ Some (numbers_of plan)
+  plan_is c plan found = slice_get-map numbers_of (plans_of n) c ∙ ap (option_map numbers_of) found
+
+  list_is : (c : ℕ) (plan : ChannelPlan) → slice_get (plans_of n) c ≡ Some plan
+      → slice_index lists c ≡ read_number n plan.reader plan.read
+  list_is c plan found =
+      ap (λ xs. slice_index xs c) listed
+      ∙ get_or_from_slice_get (read_lists n (map numbers_of (plans_of n))) c (read_number n plan.reader plan.read) 0
+      (slice_get-map (λ (x : PlanNumbers). read_number n x.reader x.read) (map numbers_of (plans_of n)) c
+      ∙ ap (option_map (λ (x : PlanNumbers). read_number n x.reader x.read)) (plan_is c plan found))
+
+  sources_are : (c : ℕ) (plan : ChannelPlan) → slice_get (plans_of n) c ≡ Some plan
+      → sources_for lists table c ≡ sources_at n plan.reader plan.read
+  sources_are c plan found =
+      ap₂ (λ (xs : List (List (Option Tag))) i. slice_index_or xs i []) exact (list_is c plan found)
+      ∙ table_row n plan.reader plan.read (ends n c plan found).read
+
+  place_passed : (c : ℕ) (plan : ChannelPlan) → slice_get (plans_of n) c ≡ Some plan
+      → turns_passed (map numbers_of (plans_of n)) lists table p (turns_before (trace n) t p) count c (queue_at n t c)
+      ≡ queue_at n (t + count) c
+  place_passed c plan found =
+      let first = turns_before (trace n) t p in
+      let queue_is : (s : ℕ) → queue_at n s c ≡ queue_with n s c plan = λ s.
+      ap (λ o. option_map_or (queue_with n s c) o empty_queue) found in
+      ap (λ o. option_map_or (λ (x : PlanNumbers).
+      after_turns x p (take count (drop first (sources_for lists table c))) first count (queue_at n t c)) o (queue_at n t c))
+      (plan_is c plan found)
+      ∙ ap (λ ss. after_turns (numbers_of plan) p (take count (drop first ss)) first count (queue_at n t c))
+      (sources_are c plan found)
+      ∙ ap (after_turns (numbers_of plan) p (take count (drop first (sources_at n plan.reader plan.read))) first count)
+      (queue_is t)
+      ∙ channel_run n p c plan found t count run
+      ∙ sym (queue_is (t + count))
+
+  -- the run takes all counts as many entries on
+  pub run_passed : after_run (map numbers_of (plans_of n)) lists table p (turns_before (trace n) t p) count (queues_at n t)
+      ≡ queues_at n (t + count)
+  run_passed =
+      numbered_range
+      (turns_passed (map numbers_of (plans_of n)) lists table p (turns_before (trace n) t p) count) (queue_at n t) 0
+      (length (plans_of n))
+      ∙ map-range_with_len_same _ (queue_at n (t + count)) 0 (length (plans_of n))
+      (λ c from below. (let item = slice_get-some (plans_of n) c (omega arith) in place_passed c item.0 item.1))
 
 -- Before the first entry
 

@@ -4,7 +4,7 @@
 -- in order, with the capacities beside them, so the numbers are compared channel by channel (`channels_told`, by induction
 -- along the plans). That the Puts of a channel are its plan's tokens, and the span of the slots that are got its hold, are
 -- laws of the text of derived networks; capacities change neither. How capacities are found isn't a question here.
-use Rattle.std.proofs.Common.{◌≡◌, ℕ, zero, suc, ◌+◌, ◌<◌, Some, List, [], ◌∷◌, length, map, slice_get, get_or}
+use Rattle.std.proofs.Common.{◌≡◌, ℕ, zero, suc, ◌+◌, ◌<◌, ◌==◌, cond, Some, List, [], ◌∷◌, length, map, slice_get, get_or}
 use Rattle.std.proofs.Common.{refl, sym, ap, ap₂, ◌∙◌, arith}
 use Rattle.std.specs.Prelude.{ℤ, count_by, slice_index, slice_index_or}
 use Rattle.std.specs.List.{enumerate_from, range_with_len, sum_by}
@@ -20,14 +20,17 @@ use Rattle.net_core.specs.declared.network.Process.{Process}
 use Rattle.net_core.specs.Machine.{Net, net_of}
 use Rattle.net_core.specs.Shape.{events_below, is_fire, put_count, turns}
 use Rattle.net_text.specs.NetworkText.{event_count, hold}
-use Rattle.network_numbers.specs.PlanNumbers.{channels_by_plans, event_total, process_by_plans, processes_by_plans}
+use Rattle.network_numbers.specs.PlanNumbers.{channel_by_plan, channels_by_plans, event_total, process_by_plans}
+use Rattle.network_numbers.specs.PlanNumbers.{processes_by_plans, slots_in}
 use Rattle.net_text.specs.declared.numbers.ChannelNumbers.{ChannelNumbers}
 use Rattle.number_text.specs.declared.numbers.NetworkNumbers.{NetworkNumbers}
 use Rattle.net_text.specs.declared.numbers.ProcessNumbers.{ProcessNumbers}
 use Rattle.net_text.specs.NetworkText.{channel_numbers, process_numbers}
 use Rattle.number_text.specs.Numbers.{network_numbers}
+use Rattle.plan_numbers.specs.Numbers.{numbers_of}
+use Rattle.plan_numbers.specs.declared.numbers.PlanNumbers.{PlanNumbers}
 use Rattle.process_derive.specs.Derived.{channel_of, net, process_of}
-use Rattle.process_derive.specs.Scripts.{script}
+use Rattle.process_derive.specs.Scripts.{script, slots_of}
 use Rattle.process_derive.proofs.NetworkShape.{fits_nest}
 use Rattle.process_derive.proofs.Numbers.{script_at}
 use Rattle.process_derive.proofs.Sums.{sum_map}
@@ -57,27 +60,38 @@ fires_at n p lt =
     ∙ sym (turns_at n (map length (points_of n)) p refl) ∙ ap (λ xs. slice_index xs p) (turns_are n)
     ∙ get_or-map-range_with_len (turn_count n) 0 (length n.statements) p p 0 lt (omega arith)
 
-numbered_range : {X Y : Type 0} (g : ℕ → X → Y) (f : ℕ → X) (a m : ℕ)
+pub numbered_range : {X Y : Type 0} (g : ℕ → X → Y) (f : ℕ → X) (a m : ℕ)
     → map (λ numbered. g numbered.0 numbered.1) (enumerate_from a (map f (range_with_len a m)))
     ≡ map (λ p. g p (f p)) (range_with_len a m)
 numbered_range g f a zero = refl
 numbered_range g f a (suc m) = ap (λ ys. g a (f a) ∷ ys) (numbered_range g f (a + 1) m)
 
-same_process : (fires fires' slots : ℕ) → fires ≡ fires'
-    → (let a : ProcessNumbers = record { fires = fires; slots = slots } in a) ≡ record { fires = fires'; slots = slots }
-same_process fires fires' slots e = cc
+same_process : (fires fires' slots slots' : ℕ) → fires ≡ fires' → slots ≡ slots'
+    → (let a : ProcessNumbers = record { fires = fires; slots = slots } in a) ≡ record { fires = fires'; slots = slots' }
+same_process fires fires' slots slots' e f = cc
+
+-- the slots of a process, by the numbers of plans
+pub slots_told : (plans : List ChannelPlan) (p : ℕ) → slots_in (map numbers_of plans) p ≡ slots_of plans p
+slots_told plans p = sum_map (λ (plan : PlanNumbers). cond (plan.reader == p) plan.hold 0) numbers_of plans
+
+numbered_mapped : {X Y Z : Type 0} (g : ℕ → Y → Z) (h : X → Y) (a : ℕ) (xs : List X)
+    → map (λ numbered. g numbered.0 numbered.1) (enumerate_from a (map h xs))
+    ≡ map (λ numbered. g numbered.0 (h numbered.1)) (enumerate_from a xs)
+numbered_mapped g h a [] = refl
+numbered_mapped g h a (x ∷ xs) = ap (λ ys. g a (h x) ∷ ys) (numbered_mapped g h (a + 1) xs)
 
 processes_told : (n : Nest) (processes : List Process) (counts : List ℕ) → processes ≡ (net n).processes
-    → counts ≡ map length (points_of n) → map process_numbers processes ≡ processes_by_plans (plans_of n) counts
+    → counts ≡ map length (points_of n)
+    → map process_numbers processes ≡ processes_by_plans (map numbers_of (plans_of n)) counts
 unfolding net
 processes_told n processes counts same e =
     ap (map process_numbers) same
     ∙ map-map process_numbers (process_of n) (range_with_len 0 (length n.statements))
     ∙ map-range_with_len_same (λ p. process_numbers (process_of n p))
-    (λ p. process_by_plans (plans_of n) p (turn_count n p)) 0 (length n.statements)
-    (λ p from below. same_process _ _ _ (fires_at n p (omega arith)))
-    ∙ sym (numbered_range (process_by_plans (plans_of n)) (turn_count n) 0 (length n.statements))
-    ∙ ap (processes_by_plans (plans_of n)) (sym (e ∙ turns_are n))
+    (λ p. process_by_plans (map numbers_of (plans_of n)) p (turn_count n p)) 0 (length n.statements)
+    (λ p from below. same_process _ _ _ _ (fires_at n p (omega arith)) (sym (slots_told (plans_of n) p)))
+    ∙ sym (numbered_range (process_by_plans (map numbers_of (plans_of n))) (turn_count n) 0 (length n.statements))
+    ∙ ap (processes_by_plans (map numbers_of (plans_of n))) (sym (e ∙ turns_are n))
 
 -- Channels
 
@@ -172,8 +186,14 @@ turns_summed n counts e =
 
 -- the turns and twice the tokens are the events
 pub events_told : (n : Nest) (counts : List ℕ) → counts ≡ map length (points_of n)
-    → event_total counts (plans_of n) ≡ event_count (net n)
-events_told n counts e = omega (arith, turns_summed n counts e, events_counted n)
+    → event_total counts (map numbers_of (plans_of n)) ≡ event_count (net n)
+events_told n counts e =
+    omega (
+      arith,
+      turns_summed n counts e,
+      events_counted n,
+      sum_map (λ (plan : PlanNumbers). plan.tokens) numbers_of (plans_of n),
+    )
 
 -- The network
 
@@ -186,7 +206,7 @@ same_numbers processes processes' channels channels' events events' e f g = cc
 module _ (n : Nest) (counts capacities : List ℕ) (e : counts ≡ map length (points_of n)) where
   planned_channels : map (λ numbered. channel_numbers (with_capacities (net n) capacities) numbered.0 numbered.1)
       (enumerate_from 0 (with_capacities (net n) capacities).channels)
-      ≡ channels_by_plans (plans_of n) capacities
+      ≡ channels_by_plans (map numbers_of (plans_of n)) capacities
   unfolding net
   planned_channels =
       channels_told (put_count (net_of (with_capacities (net n) capacities)))
@@ -198,16 +218,18 @@ module _ (n : Nest) (counts capacities : List ℕ) (e : counts ≡ map length (p
       ap (hold (net_of (with_capacities (net n) capacities))) front
       ∙ ap (λ (m : Net). hold m j) (net_kept (net n) capacities) ∙ hold_planned n j plan is))
       (λ j. (let front : j ≡ 0 + j = omega arith in ap (slice_index capacities) front))
+      ∙ sym (numbered_mapped (λ k (x : PlanNumbers). channel_by_plan x (slice_index capacities k)) numbers_of 0 (plans_of n))
 
-  planned_events : event_total counts (plans_of n) ≡ event_count (with_capacities (net n) capacities)
+  planned_events : event_total counts (map numbers_of (plans_of n)) ≡ event_count (with_capacities (net n) capacities)
   planned_events =
       events_told n counts e
       ∙ events_same (net_of (net n)) (net_of (with_capacities (net n) capacities)) (λ p. refl) (length (net n).processes)
 
   -- the numbers that are told
   pub numbers_told : (processes : List ProcessNumbers) (channels : List ChannelNumbers) (events : ℕ)
-      → processes ≡ processes_by_plans (plans_of n) counts → channels ≡ channels_by_plans (plans_of n) capacities
-      → events ≡ event_total counts (plans_of n)
+      → processes ≡ processes_by_plans (map numbers_of (plans_of n)) counts
+      → channels ≡ channels_by_plans (map numbers_of (plans_of n)) capacities
+      → events ≡ event_total counts (map numbers_of (plans_of n))
       → (let a : NetworkNumbers = record { processes = processes; channels = channels; events = events } in a)
       ≡ network_numbers (with_capacities (net n) capacities)
   numbers_told processes channels events f g h =

@@ -19,7 +19,7 @@ use Rattle.std.proofs.lemmas.Option.{get_or_from_slice_get, slice_get-map}
 use Rattle.std.specs.Option.{option_map}
 use Rattle.net_core.proofs.EventCounts.{count_next}
 use Rattle.network_numbers.specs.declared.runs.FireRun.{FireRun}
-use Rattle.network_numbers.specs.Runs.{fires_in, processes_of}
+use Rattle.network_numbers.specs.Runs.{processes_in, processes_of}
 use Rattle.plain_data.proofs.Lists.{slice_get-some}
 use Rattle.sanlp.specs.Cells.{counted, natural}
 use Rattle.sanlp.specs.Loops.{interval}
@@ -40,9 +40,9 @@ process_of point = point.statement
 
 -- Making runs
 
-pub run_added : (runs : List FireRun) (run : FireRun) → fires_in (runs ++ run ∷ []) ≡ fires_in runs ++ fires run
+pub run_added : (runs : List FireRun) (run : FireRun) → processes_in (runs ++ run ∷ []) ≡ processes_in runs ++ fires run
 run_added runs run =
-    flat_map-append fires runs (run ∷ []) ∙ ap (λ xs. fires_in runs ++ xs) (append-nil (fires run))
+    flat_map-append fires runs (run ∷ []) ∙ ap (λ xs. processes_in runs ++ xs) (append-nil (fires run))
 
 points_added : (parts : List Node) (part : Node) (at : List ℤ)
     → all_points (map trace_node (parts ++ part ∷ [])) at ≡ all_points (map trace_node parts) at ++ trace_node part at
@@ -123,15 +123,15 @@ run_is runs i = get_or_default runs i _ _
 
 -- how many fires come before a run
 abbrev pub fires_before : List FireRun → ℕ → ℕ
-fires_before runs i = length (fires_in (take i runs))
+fires_before runs i = length (processes_in (take i runs))
 
 pub before_more : (runs : List FireRun) (i : ℕ) (run : FireRun) → i < length runs → run ≡ get_or runs i run
     → fires_before runs (i + 1) ≡ fires_before runs i + run.count
 before_more runs i run lt is =
-    let more : fires_in (take (i + 1) runs) ≡ fires_in (take i runs) ++ fires run =
-    ap fires_in (take_more runs i run lt ∙ ap (λ x. take i runs ++ x ∷ []) (sym is)) ∙ run_added (take i runs) run in
+    let more : processes_in (take (i + 1) runs) ≡ processes_in (take i runs) ++ fires run =
+    ap processes_in (take_more runs i run lt ∙ ap (λ x. take i runs ++ x ∷ []) (sym is)) ∙ run_added (take i runs) run in
     ap length more
-    ∙ length-append (fires_in (take i runs)) (fires run)
+    ∙ length-append (processes_in (take i runs)) (fires run)
     ∙ ap (λ m. fires_before runs i + m) (length-replicate run.count run.process)
 
 -- The trace has a point of this process at this time.
@@ -140,7 +140,7 @@ pub record IsFire (n : Nest) (p t : ℕ) : Type 0 where
   pub found : slice_get (trace n) t ≡ Some point
   pub same : point.statement ≡ p
 
-pub run_here : (n : Nest) (runs : List FireRun) (i : ℕ) (run : FireRun) → fires_in runs ≡ processes_of (trace n)
+pub run_here : (n : Nest) (runs : List FireRun) (i : ℕ) (run : FireRun) → processes_in runs ≡ processes_of (trace n)
     → i < length runs → run ≡ get_or runs i run → (k : ℕ) → k < run.count
     → IsFire n run.process (fires_before runs i + k)
 run_here n runs i run e lt is k below =
@@ -158,7 +158,7 @@ run_here n runs i run e lt is k below =
     let told : get_or (processes_of (trace n)) (fires_before runs i + k) 0 ≡ item.0.statement =
     get_or_from_slice_get (processes_of (trace n)) (fires_before runs i + k) item.0.statement 0
     (slice_get-map process_of (trace n) (fires_before runs i + k) ∙ ap (option_map process_of) item.1) in
-    let fired : get_or (fires_in runs) (fires_before runs i + k) 0 ≡ run.process =
+    let fired : get_or (processes_in runs) (fires_before runs i + k) 0 ≡ run.process =
     get_or-flat_map fires runs i k run 0 lt (omega (arith, many, below))
     ∙ ap (λ r. get_or (fires r) k 0) (sym is)
     ∙ get_or-replicate run.count k run.process 0 below in
@@ -169,10 +169,10 @@ run_here n runs i run e lt is k below =
     }
 
 -- all fires are the trace
-pub whole_trace : (n : Nest) (runs : List FireRun) (i : ℕ) → fires_in runs ≡ processes_of (trace n) → length runs ≤ i
+pub whole_trace : (n : Nest) (runs : List FireRun) (i : ℕ) → processes_in runs ≡ processes_of (trace n) → length runs ≤ i
     → fires_before runs i ≡ length (trace n)
 whole_trace n runs i e le =
-    ap (λ rs. length (fires_in rs)) (take_all i runs le) ∙ ap length e ∙ length-map (trace n) process_of
+    ap (λ rs. length (processes_in rs)) (take_all i runs le) ∙ ap length e ∙ length-map (trace n) process_of
 
 -- Points of one process in a row
 

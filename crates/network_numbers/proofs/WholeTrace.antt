@@ -4,28 +4,27 @@
 -- entries. Before the first there are none, and a run takes both as many entries on as it has (RunPassed, `turns_later`,
 -- `queues_later`). After the last the schedule so far is the sequential one, so the greatest lengths are its capacities. That
 -- a run ends where another process fires is not said.
-use Rattle.std.proofs.Common.{◌≡◌, ℕ, zero, suc, ◌+◌, ◌<◌, ◌≤◌, Bool, true, false, cond, Option, List, ◌∷◌}
-use Rattle.std.proofs.Common.{length, map, set, slice_get, get_or, replicate, refl, sym, ap, ◌∙◌}
+use Rattle.std.proofs.Common.{◌≡◌, ℕ, ◌+◌, ◌<◌, Option, List}
+use Rattle.std.proofs.Common.{length, map, set, get_or, replicate, refl, sym, ap, ◌∙◌}
 use Rattle.std.proofs.Common.{arith}
-use Rattle.std.specs.Prelude.{All}
-use Rattle.std.specs.List.{filter, range_with_len}
+use Rattle.std.specs.List.{range_with_len}
 use Rattle.std.specs.Option.{option_map_or}
 use Rattle.std.proofs.lemmas.List.{get_or_read_under}
-use Rattle.std.proofs.lemmas.List.Elements.{All-cons, All-nil}
 use Rattle.std.proofs.lemmas.List.FromFn.{get_or-map-range_with_len, length-map-range_with_len}
 use Rattle.std.proofs.lemmas.Simd.{map-map}
-use Rattle.channel_plan.specs.declared.plans.ChannelPlan.{ChannelPlan}
 use Rattle.channel_plan.specs.Plans.{plans_of}
 use Rattle.net_core.specs.Machine.{net_of}
 use Rattle.network_numbers.specs.declared.queues.QueueCounts.{QueueCounts}
 use Rattle.network_numbers.specs.Entries.{after_run}
-use Rattle.network_numbers.specs.Links.{channels_at, has_end_at, read_lists}
+use Rattle.network_numbers.specs.Links.{channels_at, read_lists}
 use Rattle.network_numbers.specs.Queues.{empty_queue}
 use Rattle.process_derive.specs.Derived.{net}
 use Rattle.process_derive.proofs.Bounds.{few_entries}
 use Rattle.process_derive.proofs.Numbers.{count_channels}
 use Rattle.process_derive.proofs.Tags.{few_turns as turns_few}
 use Rattle.plain_data.proofs.Lists.{slice_get-some}
+use Rattle.plan_numbers.specs.Numbers.{numbers_of}
+use Rattle.plan_numbers.specs.declared.numbers.PlanNumbers.{PlanNumbers}
 use Rattle.sanlp.specs.Size.{SizeIsOk}
 use Rattle.sanlp.specs.Trace.{trace}
 use Rattle.sanlp.specs.declared.nest.Nest.{Nest}
@@ -41,24 +40,10 @@ use Rattle.witness_plan.proofs.TraceSteps.{sequenced, sequenced_all}
 use Rattle.network_numbers.proofs.TraceRuns.{HasRun, turns_other, turns_own}
 use Rattle.network_numbers.proofs.RunPassed.{none_passed, queue_at, queue_with, queues_at, run_passed}
 
--- Places of channels
-
-all_below : (keep : ℕ → Bool) (a m many : ℕ) → a + m ≤ many → All (λ c. c < many) (filter keep (range_with_len a m))
-all_below keep a zero many le = All-nil (λ c. c < many)
-all_below keep a (suc m) many le = go (keep a) (all_below keep (a + 1) m many (omega arith))
-  where
-    go : (b : Bool) → All (λ c. c < many) (filter keep (range_with_len (a + 1) m))
-        → All (λ c. c < many)
-        (cond b (a ∷ filter keep (range_with_len (a + 1) m)) (filter keep (range_with_len (a + 1) m)))
-    go true later = All-cons (λ c. c < many) a (filter keep (range_with_len (a + 1) m)) (omega arith) later
-    go false later = later
-
-pub channels_below : (plans : List ChannelPlan) (p : ℕ) → All (λ c. c < length plans) (channels_at plans p)
-channels_below plans p =
-    all_below (λ c. option_map_or (has_end_at p) (slice_get plans c) false) 0 (length plans) (length plans) (omega arith)
+-- Channels of processes
 
 -- the channels of a process, as they are read in the list for all processes
-pub linked_at : (plans : List ChannelPlan) (linked : List (List ℕ)) (many p : ℕ) (one : List ℕ)
+pub linked_at : (plans : List PlanNumbers) (linked : List (List ℕ)) (many p : ℕ) (one : List ℕ)
     → linked ≡ map (channels_at plans) (range_with_len 0 many) → p < many → one ≡ get_or linked p one
     → one ≡ channels_at plans p
 linked_at plans linked many p one e lt is =
@@ -114,20 +99,17 @@ module _ (n : Nest) (sized : SizeIsOk n) (p t count : ℕ) (run : HasRun n p t c
         (turns_before (trace n) t p + count) process_exists (turns_own n p t count run)
         (λ k ne. sym (turns_other n p t count k (λ e. ne (sym e)) run))
 
-pub queues_later : (n : Nest) (sized : SizeIsOk n) (p t count : ℕ) → HasRun n p t count → (plans : List ChannelPlan)
-    (lists : List ℕ) (table : List (List (Option Tag))) (channels : List ℕ) (first : ℕ) (before after : List QueueCounts)
-    → plans ≡ plans_of n → lists ≡ read_lists n plans → table ≡ sources_of n → channels ≡ channels_at plans p
+pub queues_later : (n : Nest) (p t count : ℕ) → HasRun n p t count → (plans : List PlanNumbers) (lists : List ℕ)
+    (table : List (List (Option Tag))) (first : ℕ) (before after : List QueueCounts)
+    → plans ≡ map numbers_of (plans_of n) → lists ≡ read_lists n plans → table ≡ sources_of n
     → first ≡ turns_before (trace n) t p → before ≡ queues_at n t
-    → after ≡ after_run plans lists table p (range_with_len first count) channels before
-    → after ≡ queues_at n (t + count)
-queues_later n sized p t count run plans lists table channels first before after planned listed exact linked turned so_far is =
+    → after ≡ after_run plans lists table p first count before → after ≡ queues_at n (t + count)
+queues_later n p t count run plans lists table first before after planned listed exact turned so_far is =
     is
-    ∙ ap (after_run plans lists table p (range_with_len first count) channels) so_far
-    ∙ ap (λ f. after_run plans lists table p (range_with_len f count) channels (queues_at n t)) turned
-    ∙ ap (λ cs. after_run plans lists table p (range_with_len (turns_before (trace n) t p) count) cs (queues_at n t)) linked
-    ∙ ap (λ ps. after_run ps lists table p (range_with_len (turns_before (trace n) t p) count) (channels_at ps p)
-    (queues_at n t)) planned
-    ∙ run_passed n sized p lists table (listed ∙ ap (read_lists n) planned) exact t count run
+    ∙ ap (after_run plans lists table p first count) so_far
+    ∙ ap (λ f. after_run plans lists table p f count (queues_at n t)) turned
+    ∙ ap (λ ps. after_run ps lists table p (turns_before (trace n) t p) count (queues_at n t)) planned
+    ∙ run_passed n p lists table (listed ∙ ap (read_lists n) planned) exact t count run
 
 -- At the end
 

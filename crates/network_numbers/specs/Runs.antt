@@ -5,8 +5,8 @@ use Rattle.network_numbers.specs.declared.runs.FireRun.{FireRun}
 use Rattle.sanlp.specs.declared.nest.Point.{Point}
 
 -- the process of each fire of these runs
-abbrev pub fires_in : List FireRun → List ℕ
-fires_in runs = flat_map (λ run. replicate run.count run.process) runs
+abbrev pub processes_in : List FireRun → List ℕ
+processes_in runs = flat_map (λ run. replicate run.count run.process) runs
 
 -- the process of each of these points
 abbrev pub processes_of : List Point → List ℕ

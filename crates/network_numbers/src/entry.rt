@@ -1,72 +1,117 @@
-ghost use Rattle.std.specs.List.{All, fold, range_with_len};
-ghost use Rattle.std.specs.Prelude.{◌≡◌, ◌<◌, ◌+◌, [], None, length, slice_index, slice_index_or};
-ghost use Rattle.channel_plan.specs.Tokens.{is_from};
-ghost use Rattle.network_numbers.specs.Entries.{after_run, after_turn, after_turns, sources_for, with_channel};
+ghost use Rattle.std.specs.Prelude.{◌≡◌, ◌<◌, ◌≤◌, ◌+◌, [], ◌∷◌, None, drop, length, slice_index, slice_index_or, slice_set, take};
+ghost use Rattle.network_numbers.specs.Entries.{after_run, after_turns, sources_for, tokens_among, turns_passed, turns_wanted, wanted_after, wanted_by};
+ghost use Rattle.network_numbers.specs.Links.{channels_at};
+ghost use Rattle.network_numbers.specs.Queues.{empty_queue};
 
 use crate::queues::QueueCounts;
-use channel_plan::ChannelPlan;
 use plain_data::Items;
+use plan_numbers::PlanNumbers;
+use process_derive::number_at;
 use sanlp::Tag;
 
-// Whether a source is a point of this process.
-fn is_from(writer: u32, source: Option<Tag>) -> bool
-    ensures { result ≡ is_from writer source }
+// How many turns of a writer a source wants: up to itself where it is a turn of this writer, and else none.
+fn turns_wanted(writer: u32, source: Option<Tag>) -> usize
+    ensures { result ≡ turns_wanted writer source }
 {
     match source {
-        Some(tag) => tag.process == writer,
-        None => false,
+        Some(tag) => {
+            if tag.process == writer {
+                tag.turn as usize + 1
+            } else {
+                0
+            }
+        }
+        None => 0,
     }
 }
 
-// The source at a turn in a list, or `None` past its end.
-fn source_at(sources: &[Option<Tag>], turn: usize) -> Option<Tag>
-    ensures { result ≡ slice_index_or sources.now turn None }
+// How many of so many first turns of a channel's writer are tokens.
+fn tokens_among(plan: &PlanNumbers, turns: usize) -> u32
+    ensures { result ≡ tokens_among plan.now turns }
 {
-    sources.get(turn).copied().unwrap_or(None)
+    number_at(plan.tokens_before.as_slice(), turns)
 }
 
-// Counts what a turn of a process makes of a channel: first the use, where it reads the channel, and then the Put, where it
-// writes to it.
-fn pass_turn(
-    plan: &ChannelPlan,
-    process: u32,
-    sources: &[Option<Tag>],
-    turn: usize,
-    queue: &mut QueueCounts,
-)
-    ensures { queue.new ≡ after_turn plan.now process sources.now queue.old turn }
+// The source at a place in a list, or `None` past its end.
+fn source_at(sources: &[Option<Tag>], place: usize) -> Option<Tag>
+    ensures { result ≡ slice_index_or sources.now place None }
 {
-    if plan.reader == process && is_from(plan.writer, source_at(sources, turn)) {
-        queue.note_use();
-    }
-    if plan.writer == process && plan.is_token.has(turn) {
-        queue.note_put(&plan.slots);
+    sources.get(place).copied().unwrap_or(None)
+}
+
+// Counts the use that a turn with this source makes of a channel, where its process reads the channel.
+fn pass_use(plan: &PlanNumbers, process: u32, source: Option<Tag>, queue: &mut QueueCounts)
+    ensures { queue.new
+        ≡ record {
+          wanted = wanted_by plan.now process (source ∷ []) queue.old.wanted;
+          greatest = queue.old.greatest;
+        } }
+{
+    if plan.reader == process {
+        queue.note_use(turns_wanted(plan.writer, source));
     }
 }
 
-// Counts what so many turns of a process make of a channel, from this one on.
-fn pass_turns(
-    plan: &ChannelPlan,
+// Counts the uses that turns with these sources make of a channel.
+fn pass_uses(plan: &PlanNumbers, sources: &[Option<Tag>], queue: &mut QueueCounts)
+    ensures { queue.new
+        ≡ record {
+          wanted = wanted_after plan.now sources.now queue.old.wanted;
+          greatest = queue.old.greatest;
+        } }
+{
+    for source in sources {
+        queue.note_use(turns_wanted(plan.writer, *source));
+    }
+}
+
+// Counts so many turns of the writer of a channel, from this one on. Where it reads the channel too, it has these sources.
+fn pass_ends(
+    plan: &PlanNumbers,
     process: u32,
     sources: &[Option<Tag>],
     first: usize,
     count: usize,
     queue: &mut QueueCounts,
 )
-    requires { first + count < 4294967296 }
-    ensures { queue.new
-        ≡ after_turns plan.now process sources.now (range_with_len first count) queue.old }
+    requires few { first + count < 4294967296 }
+    requires many { length sources.now ≤ count }
+    requires writer { plan.now.writer ≡ process }
+    ensures { queue.new ≡ after_turns plan.now process sources.now first count queue.old }
 {
-    for turn in first..first + count {
-        pass_turn(plan, process, sources, turn, queue);
+    for place in 0..count {
+        pass_use(plan, process, source_at(sources, place), queue);
+        let put = tokens_among(plan, first + place + 1);
+        let got = tokens_among(plan, queue.wanted);
+        queue.note_end(put.saturating_sub(got));
+    }
+}
+
+// Counts so many turns of a process, from this one on, for a channel for whose read these are its sources there.
+fn pass_turns(
+    plan: &PlanNumbers,
+    process: u32,
+    sources: &[Option<Tag>],
+    first: usize,
+    count: usize,
+    queue: &mut QueueCounts,
+)
+    requires few { first + count < 4294967296 }
+    requires many { length sources.now ≤ count }
+    ensures { queue.new ≡ after_turns plan.now process sources.now first count queue.old }
+{
+    if plan.writer == process {
+        pass_ends(plan, process, sources, first, count, queue);
+    } else if plan.reader == process {
+        pass_uses(plan, sources, queue);
     }
 }
 
 // The number at a place, 0 past the end.
-fn number_at(numbers: &[usize], place: usize) -> usize
-    ensures { result ≡ slice_index numbers.now place }
+fn list_at(lists: &[usize], place: usize) -> usize
+    ensures { result ≡ slice_index lists.now place }
 {
-    numbers.get(place).copied().unwrap_or(0)
+    lists.get(place).copied().unwrap_or(0)
 }
 
 // The sources for the read of a channel, where the channels' reads have these numbers.
@@ -77,16 +122,25 @@ fn sources_for<'a>(
 ) -> &'a [Option<Tag>]
     ensures { result.now ≡ sources_for lists.now table.now channel }
 {
-    match table.get(number_at(lists, channel as usize)) {
+    match table.get(list_at(lists, channel as usize)) {
         Some(sources) => sources.as_slice(),
         None => &[],
     }
 }
 
+// The sources at so many turns, from this one on, or at as many as there are.
+fn sources_from(sources: &[Option<Tag>], first: usize, count: usize) -> &[Option<Tag>]
+    ensures { result.now ≡ take count (drop first sources.now) }
+{
+    let start = first.min(sources.len());
+    let end = start + count.min(sources.len() - start);
+    &sources[start..end]
+}
+
 // Counts what so many turns of a process make of one of its channels.
-#[tactic(auto, using(crate::proofs::Folded::channel_read))]
+#[tactic(auto, using(crate::proofs::RunQueues::channel_read))]
 fn pass_channel(
-    plans: &[ChannelPlan],
+    plans: &[PlanNumbers],
     lists: &[usize],
     table: &[Items<Option<Tag>>],
     process: u32,
@@ -99,10 +153,11 @@ fn pass_channel(
     requires queue { channel < length queues.old }
     requires plan { channel < length plans.now }
     ensures { queues.new
-        ≡ with_channel plans.now lists.now table.now process (range_with_len first count)
-        queues.old channel }
+        ≡ slice_set queues.old channel
+        (turns_passed plans.now lists.now table.now process first count channel
+        (slice_index_or queues.old channel empty_queue)) }
 {
-    let sources = sources_for(lists, table, channel);
+    let sources = sources_from(sources_for(lists, table, channel), first, count);
     let queue = &mut queues[channel as usize];
     pass_turns(
         &plans[channel as usize],
@@ -116,9 +171,9 @@ fn pass_channel(
 
 /// Counts so many turns of the process with these channels, from this one on: at each what it uses, and then its Puts. The
 /// channels are counted one after the other, since none has to do with another. There is a queue for each channel.
-#[tactic(auto, using(crate::proofs::Folded::channel_length))]
+#[tactic(auto, using(crate::proofs::RunQueues::with_channel_length))]
 pub(crate) fn pass_run(
-    plans: &[ChannelPlan],
+    plans: &[PlanNumbers],
     lists: &[usize],
     table: &[Items<Option<Tag>>],
     channels: &[u32],
@@ -128,11 +183,10 @@ pub(crate) fn pass_run(
     queues: &mut [QueueCounts],
 )
     requires few { first + count < 4294967296 }
-    requires channels { All (λ c. c < length plans.now) channels.now }
+    requires channels { channels.now ≡ channels_at plans.now process }
     requires queues { length queues.old ≡ length plans.now }
     ensures { queues.new
-        ≡ after_run plans.now lists.now table.now process (range_with_len first count)
-        channels.now queues.old }
+        ≡ after_run plans.now lists.now table.now process first count queues.old }
 {
     for channel in channels {
         pass_channel(plans, lists, table, process, first, count, *channel, queues);

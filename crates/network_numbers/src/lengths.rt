@@ -1,5 +1,6 @@
-ghost use Rattle.std.specs.Prelude.{◌≡◌, ◌<◌, ◌+◌, length, slice_index, slice_set, IfOk};
+ghost use Rattle.std.specs.Prelude.{◌≡◌, ◌<◌, ◌+◌, length, map, slice_index, slice_set, IfOk};
 ghost use Rattle.channel_plan.specs.Plans.{plans_of};
+ghost use Rattle.plan_numbers.specs.Numbers.{numbers_of};
 ghost use Rattle.process_derive.specs.Derived.{net};
 ghost use Rattle.sanlp.specs.Size.{SizeIsOk};
 ghost use Rattle.source_tree.specs.Sources.{sources_of};
@@ -9,12 +10,12 @@ use crate::entry::pass_run;
 use crate::links::{channels_of_processes, read_lists};
 use crate::queues::{QueueCounts, greatest_lengths};
 use crate::runs::trace_runs;
-use channel_plan::ChannelPlan;
+use plan_numbers::PlanNumbers;
 use sanlp::Nest;
 use source_tree::SourceTable;
 use std::alloc::{AllocError, Global};
 
-// The first of so many turns of a process, which are counted.
+// Counts so many turns more of a process, and answers the first of them.
 fn next_turns(turns: &mut [usize], process: usize, count: usize) -> usize
     requires exists { process < length turns.old }
     requires few { slice_index turns.old process + count < 4294967296 }
@@ -27,16 +28,16 @@ fn next_turns(turns: &mut [usize], process: usize, count: usize) -> usize
     turn
 }
 
-/// The greatest length of each channel's queue along the sequential schedule, without the schedule: it goes once over the
-/// trace, run by run, and at each fire counts the uses of what its process reads and the Puts of its turn.
+/// The greatest length of each channel's queue along the sequential schedule, without the schedule. It goes once over the
+/// trace, run by run, and in each run goes through the turns of the process once for each of its channels.
 pub(crate) fn capacities(
     alloc: Global,
     nest: &Nest,
-    plans: &[ChannelPlan],
+    plans: &[PlanNumbers],
     sources: &SourceTable,
 ) -> Result<Vec<u32>, AllocError>
     requires size { SizeIsOk nest.now }
-    requires plans { plans.now ≡ plans_of nest.now }
+    requires plans { plans.now ≡ map numbers_of (plans_of nest.now) }
     requires sources { sources.now.of ≡ sources_of nest.now }
     ensures { IfOk result (λ lengths.
         lengths.items ≡ capacities (net nest.now) (sequential_schedule nest.now)) }

@@ -2,22 +2,23 @@ ghost use Rattle.std.specs.Prelude.{◌≡◌, ◌<◌, ◌≤◌, ◌^◌, leng
 ghost use Rattle.std.specs.List.{range_with_len};
 ghost use Rattle.channel_plan.specs.Plans.{plans_of};
 ghost use Rattle.network_numbers.specs.Links.{channels_at, has_end_at, read_lists};
+ghost use Rattle.plan_numbers.specs.Numbers.{numbers_of};
 ghost use Rattle.source_tree.specs.Sources.{read_number};
 
-use channel_plan::ChannelPlan;
 use plain_data::Items;
+use plan_numbers::PlanNumbers;
 use sanlp::Nest;
 use std::alloc::{AllocError, Global};
 
 // Whether a process reads a channel or writes to it.
-fn has_end_at(process: u32, plan: &ChannelPlan) -> bool
+fn has_end_at(process: u32, plan: &PlanNumbers) -> bool
     ensures { result ≡ has_end_at process plan.now }
 {
     plan.reader == process || plan.writer == process
 }
 
 // The numbers of the channels that a process reads or writes to, ascending.
-fn channels_at(alloc: Global, plans: &[ChannelPlan], process: u32) -> Result<Items<u32>, AllocError>
+fn channels_at(alloc: Global, plans: &[PlanNumbers], process: u32) -> Result<Items<u32>, AllocError>
     requires { length plans.now < 2 ^ 32 }
     ensures { IfOk result (λ channels. channels ≡ channels_at plans.now process) }
 {
@@ -33,7 +34,7 @@ fn channels_at(alloc: Global, plans: &[ChannelPlan], process: u32) -> Result<Ite
 /// For each of so many processes the numbers of the channels that it reads or writes to, ascending.
 pub(crate) fn channels_of_processes(
     alloc: Global,
-    plans: &[ChannelPlan],
+    plans: &[PlanNumbers],
     processes: usize,
 ) -> Result<Vec<Items<u32>>, AllocError>
     requires few { length plans.now < 2 ^ 32 }
@@ -67,9 +68,9 @@ fn first_reads(alloc: Global, nest: &Nest) -> Result<Vec<usize>, AllocError>
 pub(crate) fn read_lists(
     alloc: Global,
     nest: &Nest,
-    plans: &[ChannelPlan],
+    plans: &[PlanNumbers],
 ) -> Result<Vec<usize>, AllocError>
-    requires { plans.now ≡ plans_of nest.now }
+    requires { plans.now ≡ map numbers_of (plans_of nest.now) }
     ensures { IfOk result (λ lists. lists.items ≡ read_lists nest.now plans.now) }
 {
     let firsts = first_reads(alloc, nest)?;

@@ -1,8 +1,6 @@
 ghost use Rattle.std.specs.Prelude.{◌≡◌, ◌<◌, ◌^◌, ℕ, length, map, IfOk};
-ghost use Rattle.channel_plan.specs.Plans.{plans_of};
-ghost use Rattle.network_numbers.specs.PlanNumbers.{channel_by_plan, channels_by_plans, process_by_plans, processes_by_plans};
+ghost use Rattle.network_numbers.specs.PlanNumbers.{channel_by_plan, channels_by_plans, process_by_plans, processes_by_plans, slots_in};
 ghost use Rattle.number_text.specs.Numbers.{network_numbers};
-ghost use Rattle.process_derive.specs.Scripts.{slots_of};
 ghost use Rattle.sanlp.specs.Points.{points_of};
 ghost use Rattle.sanlp.specs.Size.{SizeIsOk};
 ghost use Rattle.source_tree.specs.Sources.{sources_of};
@@ -11,35 +9,52 @@ ghost use Rattle.witness_plan.specs.declared.schedules.Policy.TheVariants.{Seq};
 
 use crate::lengths::capacities;
 use crate::totals::event_total;
-use channel_plan::{ChannelPlan, channel_plans};
 use net_text::{ChannelNumbers, ProcessNumbers};
 use number_text::NetworkNumbers;
 use plain_data::Items;
-use process_derive::{number_at, slot_count};
+use plan_numbers::{PlanNumbers, numbers_of_plans};
+use process_derive::number_at;
 use sanlp::Nest;
 use shadow_sweep::sweep_counted;
 use source_tree::SourceTable;
 use std::alloc::{AllocError, Global};
 
+// How many slots the channels have that a process reads.
+fn slots_in(plans: &[PlanNumbers], process: u32) -> u64
+    requires { slots_in plans.now process < 2 ^ 64 }
+    ensures { result ≡ slots_in plans.now process }
+{
+    plans
+        .iter()
+        .map(|plan| {
+            if plan.reader == process {
+                u64::from(plan.hold)
+            } else {
+                0
+            }
+        })
+        .sum()
+}
+
 // The numbers of a process that fires so often.
-fn process_by_plans(plans: &[ChannelPlan], process: u32, fires: usize) -> ProcessNumbers
-    requires { slots_of plans.now process < 2 ^ 32 }
+fn process_by_plans(plans: &[PlanNumbers], process: u32, fires: usize) -> ProcessNumbers
+    requires { slots_in plans.now process < 2 ^ 64 }
     ensures { result ≡ process_by_plans plans.now process fires }
 {
     ProcessNumbers {
         fires: fires as u64,
-        slots: u64::from(slot_count(plans, process)),
+        slots: slots_in(plans, process),
     }
 }
 
 // For each process its numbers, where the processes have so many turns.
 fn process_numbers(
     alloc: Global,
-    plans: &[ChannelPlan],
+    plans: &[PlanNumbers],
     turns: &[usize],
 ) -> Result<Items<ProcessNumbers>, AllocError>
     requires few { length turns.now < 2 ^ 32 }
-    requires slots { (p : ℕ) → slots_of plans.now p < 2 ^ 32 }
+    requires slots { (p : ℕ) → slots_in plans.now p < 2 ^ 64 }
     ensures { IfOk result (λ numbers. numbers ≡ processes_by_plans plans.now turns.now) }
 {
     let mut numbers = Vec::with_capacity(alloc, turns.len())?;
@@ -50,7 +65,7 @@ fn process_numbers(
 }
 
 // The numbers of a channel with this capacity.
-fn channel_by_plan(plan: &ChannelPlan, capacity: u32) -> ChannelNumbers
+fn channel_by_plan(plan: &PlanNumbers, capacity: u32) -> ChannelNumbers
     ensures { result ≡ channel_by_plan plan.now capacity }
 {
     ChannelNumbers {
@@ -59,7 +74,7 @@ fn channel_by_plan(plan: &ChannelPlan, capacity: u32) -> ChannelNumbers
         read: plan.read,
         tokens: u64::from(plan.tokens),
         capacity,
-        hold: u64::from(plan.slots.hold),
+        hold: u64::from(plan.hold),
         class: plan.class,
     }
 }
@@ -67,7 +82,7 @@ fn channel_by_plan(plan: &ChannelPlan, capacity: u32) -> ChannelNumbers
 // For each channel its numbers, where the channels have these capacities.
 fn channel_numbers(
     alloc: Global,
-    plans: &[ChannelPlan],
+    plans: &[PlanNumbers],
     capacities: &[u32],
 ) -> Result<Items<ChannelNumbers>, AllocError>
     ensures { IfOk result (λ numbers. numbers ≡ channels_by_plans plans.now capacities.now) }
@@ -91,7 +106,7 @@ fn numbers_by_turns(
     requires sources { sources.now.of ≡ sources_of nest.now }
     ensures { IfOk result (λ numbers. numbers ≡ network_numbers (planned_network nest.now Seq)) }
 {
-    let channels = channel_plans(alloc, nest, turns, sources)?;
+    let channels = numbers_of_plans(alloc, nest, turns, sources)?;
     let plans = channels.as_slice();
     let capacities = capacities(alloc, nest, plans, sources)?;
     Ok(NetworkNumbers {
@@ -103,8 +118,9 @@ fn numbers_by_turns(
 
 /// What the text tells of the network of a nest (Compaan 2000, pn 2007) with the capacities that the sequential schedule needs:
 /// for each process its fires and its slots; for each channel its ends, its read, its tokens, its capacity, its hold and its
-/// class; and the number of events. It goes twice over the trace, once by its points and once by its runs, and looks at each fire
-/// at every channel of its process. It makes no event, no script and no schedule. Nothing is refused but want of memory.
+/// class; and the number of events. It goes twice over the trace, once by its points and once by its runs, and there through the
+/// turns of each run once for each channel of its process. It makes no event, no script and no schedule, and no table of slots.
+/// Nothing is refused but want of memory.
 pub fn sequential_numbers(alloc: Global, nest: &Nest) -> Result<NetworkNumbers, AllocError>
     requires { SizeIsOk nest.now }
     ensures { IfOk result (λ numbers. numbers ≡ network_numbers (planned_network nest.now Seq)) }

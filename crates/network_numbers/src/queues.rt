@@ -1,40 +1,34 @@
 ghost use Rattle.std.specs.Prelude.{◌≡◌, map, IfOk};
-ghost use Rattle.network_numbers.specs.Queues.{after_put, after_use};
+ghost use Rattle.network_numbers.specs.Queues.{after_end, after_use};
 
-use process_derive::gets_for;
-use reorder_slots::SlotPlan;
 use std::alloc::{AllocError, Global};
 
-/// How often a channel's writer has put to it, how often its reader's fires have used it, and the greatest length that its
-/// queue has had at the end of an entry. Counts past 2^32 - 1 stay there.
+/// How many of a channel's writer's turns the uses so far have wanted, up to the last one that was used, and the greatest length
+/// that its queue has had at the end of an entry.
 #[derive(Clone, Copy)]
 pub(crate) struct QueueCounts {
-    puts: u32,
-    uses: u32,
+    pub wanted: usize,
     greatest: u32,
 }
 
 impl QueueCounts {
-    /// No Put and no use yet.
+    /// No use yet, and nothing put.
     pub(crate) const EMPTY: QueueCounts = QueueCounts {
-        puts: 0,
-        uses: 0,
+        wanted: 0,
         greatest: 0,
     };
 
-    /// Counts a use.
-    pub(crate) fn note_use(&mut self)
-        ensures { self.new ≡ after_use self.old }
+    /// Counts a use that wants so many turns.
+    pub(crate) fn note_use(&mut self, wanted: usize)
+        ensures { self.new ≡ after_use wanted self.old }
     {
-        self.uses = self.uses.saturating_add(1);
+        self.wanted = self.wanted.max(wanted);
     }
 
-    /// Counts a Put. The Gets that the uses so far want were made before it.
-    pub(crate) fn note_put(&mut self, slots: &SlotPlan)
-        ensures { self.new ≡ after_put slots.now self.old }
+    /// Counts the end of an entry, at which the queue has this length.
+    pub(crate) fn note_end(&mut self, length: u32)
+        ensures { self.new ≡ after_end length self.old }
     {
-        self.puts = self.puts.saturating_add(1);
-        let length = self.puts.saturating_sub(gets_for(slots, self.uses));
         self.greatest = self.greatest.max(length);
     }
 }

@@ -1,6 +1,6 @@
 ghost use Rattle.std.specs.Prelude.{◌≡◌, ◌+◌, ◌<◌, ◌≤◌, ◌+ℤ◌, ◌-ℤ◌, pos, ◌++◌, length, map, replicate, IfOk, IsTrue, OnOk};
 ghost use Rattle.loop_walk.specs.EnteredLoops.{parts_within, turns_within};
-ghost use Rattle.network_numbers.specs.Runs.{fires_in, processes_of};
+ghost use Rattle.network_numbers.specs.Runs.{processes_in, processes_of};
 ghost use Rattle.sanlp.specs.Cells.{natural};
 ghost use Rattle.sanlp.specs.Loops.{interval};
 ghost use Rattle.sanlp.specs.Size.{SizeIsOk, is_loop_value, node_within};
@@ -11,14 +11,14 @@ use loop_walk::{LoopValues, loop_range, only_assignment, rows_hold};
 use sanlp::{Nest, Node};
 use std::alloc::{AllocError, Global};
 
-/// Fires of one process in a row.
+/// So many fires of one process in a row; maybe none.
 #[derive(Drop)]
 pub(crate) struct FireRun {
     pub process: u32,
     pub count: usize,
 }
 
-// How many turns a loop has.
+// How many turns a loop has from its first value to its last.
 fn turns_of(first: i64, last: i64) -> usize
     requires first_within { IsTrue (is_loop_value first) }
     requires last_within { IsTrue (is_loop_value last) }
@@ -31,10 +31,10 @@ fn turns_of(first: i64, last: i64) -> usize
     }
 }
 
-// Adds a run.
+// Adds a run of so many fires of a process.
 fn add_run(process: u32, count: usize, runs: &mut Vec<FireRun>) -> Result<(), AllocError>
     ensures { OnOk result
-        (fires_in runs.new.items ≡ fires_in runs.old.items ++ replicate count process) }
+        (processes_in runs.new.items ≡ processes_in runs.old.items ++ replicate count process) }
 {
     runs.push(FireRun { process, count })?;
     Ok(())
@@ -46,8 +46,8 @@ fn add_parts(parts: &[Node], at: &LoopValues, runs: &mut Vec<FireRun>) -> Result
     requires fit { IsTrue (all_forms_fit parts.now (length at.now)) }
     requires within { IsTrue (parts_within parts.now at.now) }
     ensures { OnOk result
-        (fires_in runs.new.items
-        ≡ fires_in runs.old.items ++ processes_of (all_points (map trace_node parts.now) at.now)) }
+        (processes_in runs.new.items
+        ≡ processes_in runs.old.items ++ processes_of (all_points (map trace_node parts.now) at.now)) }
 {
     for part in parts {
         add_node(part, at, runs)?;
@@ -55,12 +55,13 @@ fn add_parts(parts: &[Node], at: &LoopValues, runs: &mut Vec<FireRun>) -> Result
     Ok(())
 }
 
+// Adds the fires of a part of a body.
 #[cycle(runs)]
 fn add_node(node: &Node, at: &LoopValues, runs: &mut Vec<FireRun>) -> Result<(), AllocError>
     requires fits { IsTrue (forms_fit node.now (length at.now)) }
     requires within { IsTrue (node_within node.now at.now) }
     ensures { OnOk result
-        (fires_in runs.new.items ≡ fires_in runs.old.items ++ processes_of (trace_node node.now at.now)) }
+        (processes_in runs.new.items ≡ processes_in runs.old.items ++ processes_of (trace_node node.now at.now)) }
 {
     match node {
         Node::Loop {
@@ -103,8 +104,8 @@ fn add_turns(
     requires fit { IsTrue (all_forms_fit body.now (length at.now + 1)) }
     requires within { IsTrue (turns_within body.now at.now (interval first last)) }
     ensures { OnOk result
-        (fires_in runs.new.items
-        ≡ fires_in runs.old.items
+        (processes_in runs.new.items
+        ≡ processes_in runs.old.items
         ++ processes_of
         (turn_points (all_points (map trace_node body.now)) (interval first last) at.now)) }
 {
@@ -121,7 +122,7 @@ fn add_turns(
 /// turns of a loop over one assignment are one run. Nothing is refused but want of memory.
 pub(crate) fn trace_runs(alloc: Global, nest: &Nest) -> Result<Vec<FireRun>, AllocError>
     requires { SizeIsOk nest.now }
-    ensures { IfOk result (λ runs. fires_in runs.items ≡ processes_of (trace nest.now)) }
+    ensures { IfOk result (λ runs. processes_in runs.items ≡ processes_of (trace nest.now)) }
 {
     let mut runs = Vec::new(alloc);
     add_parts(nest.parts(), &LoopValues::empty(), &mut runs)?;

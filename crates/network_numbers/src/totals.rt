@@ -2,7 +2,7 @@ ghost use Rattle.std.specs.Prelude.{◌≡◌, ◌<◌, ◌+◌, ◌*◌, ◌^�
 ghost use Rattle.std.specs.List.{sum_by};
 ghost use Rattle.network_numbers.specs.PlanNumbers.{event_total};
 
-use channel_plan::ChannelPlan;
+use plan_numbers::PlanNumbers;
 
 // How many turns all processes have.
 fn turn_total(turns: &[usize]) -> u64
@@ -13,7 +13,7 @@ fn turn_total(turns: &[usize]) -> u64
 }
 
 // How many tokens all channels have.
-fn token_total(plans: &[ChannelPlan]) -> u64
+fn token_total(plans: &[PlanNumbers]) -> u64
     requires { sum_by (λ plan. plan.tokens) plans.now < 2 ^ 64 }
     ensures { result ≡ sum_by (λ plan. plan.tokens) plans.now }
 {
@@ -21,7 +21,7 @@ fn token_total(plans: &[ChannelPlan]) -> u64
 }
 
 /// One Fire for each turn, and a Put and a Get for each token.
-pub(crate) fn event_total(turns: &[usize], plans: &[ChannelPlan]) -> u64
+pub(crate) fn event_total(turns: &[usize], plans: &[PlanNumbers]) -> u64
     requires { event_total turns.now plans.now < 2 ^ 64 }
     ensures { result ≡ event_total turns.now plans.now }
 {

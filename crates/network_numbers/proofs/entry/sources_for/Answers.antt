@@ -9,9 +9,9 @@ returns-in-Some c =
     let table = c.args.table.now in
     let sources = c.in-Some.sources.now in
     let lookup = c.in-Some.ensures.lookup in
-    let list = c.number_at.result in
+    let list = c.list_at.result in
     let there = slice_get_read table (length table) list sources refl
     (ltb-true list (length table) (sym lookup.0)) lookup.1 in
     c.as_slice.ensures
     ∙ sym (get_or_from_slice_get table list sources [] there)
-    ∙ ap (λ i. slice_index_or table i []) c.number_at.ensures
+    ∙ ap (λ i. slice_index_or table i []) c.list_at.ensures

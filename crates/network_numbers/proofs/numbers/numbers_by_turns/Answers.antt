@@ -1,12 +1,11 @@
 use Rattle.std.proofs.Common.{length, ap, ap₂, ◌∙◌, arith}
 use Rattle.std.proofs.lemmas.List.FromFn.{length-map-range_with_len}
-use Rattle.channel_plan.specs.Plans.{turn_count}
+use Rattle.channel_plan.specs.Plans.{plans_of, turn_count}
 use Rattle.channel_plan.proofs.Nests.{turns_are}
-use Rattle.network_numbers.specs.PlanNumbers.{channels_by_plans, event_total, processes_by_plans}
-use Rattle.network_numbers.proofs.TextNumbers.{events_told, numbers_told}
+use Rattle.network_numbers.specs.PlanNumbers.{channels_by_plans, event_total, processes_by_plans, slots_in}
+use Rattle.network_numbers.proofs.TextNumbers.{events_told, numbers_told, slots_told}
 use Rattle.network_numbers.proofs.numbers.numbers_by_turns.Goals as goal
 use Rattle.process_derive.specs.Derived.{net}
-use Rattle.process_derive.specs.Scripts.{slots_of}
 use Rattle.process_derive.proofs.Holds.{slots_within}
 use Rattle.process_derive.proofs.Numbers.{numbers_fit}
 use Rattle.sanlp.proofs.NestFacts.{few_statements}
@@ -26,7 +25,8 @@ pub process_numbers-requires-clause-slots : goal.process_numbers-requires-clause
 process_numbers-requires-clause-slots c = λ p.
     omega (
       arith,
-      ap (λ plans. slots_of plans p) (c.as_slice-plans.ensures ∙ c.in_ok-channels.ensures),
+      ap (λ plans. slots_in plans p) (c.as_slice-plans.ensures ∙ c.in_ok-channels.ensures),
+      slots_told (plans_of c.args.nest.now) p,
       slots_within c.args.nest.now p c.requires.size,
     )
 

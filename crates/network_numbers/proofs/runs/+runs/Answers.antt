@@ -6,7 +6,7 @@ use Rattle.std.proofs.lemmas.List.{length-append}
 use Rattle.loop_walk.specs.EnteredLoops.{parts_within, turns_within}
 use Rattle.loop_walk.proofs.BodyParts.{part_passes}
 use Rattle.loop_walk.proofs.LoopEntries.{loop_fits, loop_turns_within, turn_within}
-use Rattle.network_numbers.specs.Runs.{fires_in, processes_of}
+use Rattle.network_numbers.specs.Runs.{processes_in, processes_of}
 use Rattle.network_numbers.proofs.TraceRuns.{one_run, parts_more, turn_more, turns_done}
 use Rattle.network_numbers.proofs.runs.+runs.Goals as goal
 use Rattle.sanlp.specs.declared.nest.Node.TheViews.{the_lemmas}
@@ -85,8 +85,8 @@ add_node-returns-in-Some t c =
     ∙ ap (λ ps. turn_points (all_points (map trace_node ps)) (interval c.in-Some.first c.in-Some.last) at)
     (sym c.as_slice-body.ensures) in
     let after = simp to_z-of_z at c.add_turns.ensures in
-    subst (λ ps. OnOk c.add_turns.result (fires_in c.add_turns.new.runs.items
-    ≡ fires_in c.args.runs.now.items ++ processes_of ps)) (sym points) after
+    subst (λ ps. OnOk c.add_turns.result (processes_in c.add_turns.new.runs.items
+    ≡ processes_in c.args.runs.now.items ++ processes_of ps)) (sym points) after
 
 -- Turns
 
@@ -98,7 +98,7 @@ add_turns-returns-in-Some t c =
     let fires =
     ap (λ n. replicate n c.in-Some.process) count
     ∙ sym (one_run c.in-Some.process c.args.body.now c.args.first c.args.last c.args.at.now c.in-Some.ensures) in
-    subst (λ fs. OnOk c.add_run.result (fires_in c.add_run.new.runs.items ≡ fires_in c.args.runs.now.items ++ fs)) fires
+    subst (λ fs. OnOk c.add_run.result (processes_in c.add_run.new.runs.items ≡ processes_in c.args.runs.now.items ++ fs)) fires
     c.add_run.ensures
 
 pub add_turns-add_parts-requires : goal.add_turns-add_parts-requires
@@ -127,11 +127,11 @@ add_turns-loop-value-preserved t c =
     let more =
     turn_more c.args.body.now c.args.at.now _ last _ _ c.loop-value.invariant.0 _ le
     (c.in_ok-add_parts.ensures
-    ∙ ap (λ at. fires_in c.loop-value.runs.items
+    ∙ ap (λ at. processes_in c.loop-value.runs.items
     ++ processes_of (all_points (map trace_node c.args.body.now) at)) inner) in (
-      subst (λ v. fires_in c.add_parts.new.runs.items
+      subst (λ v. processes_in c.add_parts.new.runs.items
           ++ processes_of (turn_points (all_points (map trace_node c.args.body.now)) (interval v last) c.args.at.now)
-          ≡ fires_in c.args.runs.now.items
+          ≡ processes_in c.args.runs.now.items
           ++ processes_of (turn_points (all_points (map trace_node c.args.body.now))
           (interval (to_z w64 (of_z w64 c.args.first)) last) c.args.at.now))
           (sym next) more,
@@ -151,11 +151,11 @@ add_turns-returns-in_ok-add_parts t c =
     let more =
     turn_more c.args.body.now c.args.at.now _ _ _ _ c.loop-value.invariant.0 _ le
     (c.in_ok-add_parts.ensures
-    ∙ ap (λ at. fires_in c.loop-value.runs.items
+    ∙ ap (λ at. processes_in c.loop-value.runs.items
     ++ processes_of (all_points (map trace_node c.args.body.now) at)) inner) in
     simp to_z-of_z at
     (turns_done c.args.body.now c.args.at.now (to_z w64 c.loop-value.value-bits +ℤ pos 1) (to_z w64 (of_z w64 c.args.last))
-    (fires_in c.add_parts.new.runs.items)
-    (fires_in c.args.runs.now.items
+    (processes_in c.add_parts.new.runs.items)
+    (processes_in c.args.runs.now.items
     ++ processes_of (turn_points (all_points (map trace_node c.args.body.now))
     (interval (to_z w64 (of_z w64 c.args.first)) (to_z w64 (of_z w64 c.args.last))) c.args.at.now)) more past)

@@ -1,6 +1,6 @@
 use Rattle.std.proofs.Common.{◌++◌, [], map, ap, ◌∙◌}
 use Rattle.loop_walk.specs.EnteredLoops.{parts_within}
-use Rattle.network_numbers.specs.Runs.{fires_in, processes_of}
+use Rattle.network_numbers.specs.Runs.{processes_in, processes_of}
 use Rattle.network_numbers.proofs.runs.trace_runs.Goals as goal
 use Rattle.sanlp.specs.Trace.{all_points, trace, trace_node}
 
@@ -13,6 +13,6 @@ pub returns : goal.returns
 unfolding trace
 returns c =
     c.in_ok-add_parts.ensures
-    ∙ ap (λ fs. fs ++ processes_of (all_points (map trace_node c.parts.result.now) c.empty.result)) (ap fires_in c.new-runs.ensures.items)
+    ∙ ap (λ fs. fs ++ processes_of (all_points (map trace_node c.parts.result.now) c.empty.result)) (ap processes_in c.new-runs.ensures.items)
     ∙ ap (λ ps. processes_of (all_points (map trace_node ps) c.empty.result)) c.parts.ensures.value
     ∙ ap (λ at. processes_of (all_points (map trace_node c.args.nest.now.body) at)) c.empty.ensures

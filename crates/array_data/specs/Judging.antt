@@ -1,5 +1,5 @@
 -- How the records are judged in turn, with the values so far at the numbers of their arrays.
-use Rattle.std.specs.Prelude.{◌≡◌, ◌<◌, ℕ, ◌+◌, ◌==◌, ℤ, Bool, true, map, List, [], ◌∷◌, length, is_some, ok_or, Option, Some, None, Result, Ok, Err, if◌then◌else◌, slice_index_or, slice_set}
+use Rattle.std.specs.Prelude.{◌≡◌, ◌<◌, ℕ, ◌+◌, ◌==◌, ℤ, Bool, true, map, min, List, [], ◌∷◌, length, is_some, ok_or, Option, Some, None, Result, Ok, Err, if◌then◌else◌, slice_index_or, slice_set}
 use Rattle.std.specs.Option.{option_map, option_map_or}
 use Rattle.std.specs.List.{range_with_len}
 use Rattle.sanlp.specs.declared.nest.ArrayDecl.{ArrayDecl}
@@ -22,6 +22,11 @@ values_from number at [] = Ok []
 values_from number at (field ∷ fields) =
     before (ok_or (value_of field) (NotANumber number at)) (values_from number (at + 1) fields)
 
+-- values that were read of a record, or its first field that is none, if there is one
+abbrev pub held : ℕ → List ℤ → Option ℕ → Result (List ℤ) DataError
+held number values None = Ok values
+held number values (Some at) = Err (NotANumber number at)
+
 -- the values of a record whose array has so many cells
 abbrev pub values_taken : ℕ → ℕ → Bool → Record → Result (List ℤ) DataError
 values_taken cells number is_given row =
@@ -29,11 +34,12 @@ values_taken cells number is_given row =
     else if length (value_fields row) == cells then values_from number 1 (value_fields row)
     else Err (Count number (length (value_fields row)) cells)
 
--- a count that differs from the number of cells, of which `want` is told; past 64 bits it can't be told
+-- a count that differs from the number of cells; past 64 bits they can't be told
 abbrev pub IsCountFault : ℕ → ℕ → ℕ → DataError → Type 0
 IsCountFault number got want Memory = Unit {0}
 IsCountFault number got want (Count n g w) =
-    (want < 18446744073709551615) × (Count n g w ≡ Count number got want)
+    (got < 18446744073709551615) × (want < 18446744073709551615)
+    × (Count n g w ≡ Count number got want)
 IsCountFault number got want (UnknownArray n) = ⊥
 IsCountFault number got want (Twice n) = ⊥
 IsCountFault number got want (Missing a) = ⊥
@@ -55,10 +61,10 @@ taken arrays number row given =
     (values_taken (wanted_count arrays a) number (is_some (slice_index_or given a None)) row))
     (array_named arrays (name_of row)) (Err (UnknownArray number))
 
--- what a step answers and leaves is what the definition says, unless memory ran out
-abbrev pub Takes : Result Unit DataError → Given → Result Given DataError → Type 0
-Takes (Ok u) new wanted = wanted ≡ Ok new
-Takes (Err fault) new wanted = IsUnlessMemory Memory (Err fault) wanted
+-- how many values a record's array takes, as 64 bits tell it
+abbrev pub most_for : List ArrayDecl → Option ℕ → ℕ
+most_for arrays None = 0
+most_for arrays (Some a) = min (wanted_count arrays a) 18446744073709551615
 
 -- the values of array a, which has none unless it is no input
 abbrev pub given_or_missing : ArrayDecl → ℕ → Option (List ℤ) → Result (List ℤ) DataError

@@ -1,3 +1,4 @@
 pub mod Answer
 pub mod Data
 pub mod Judging
+pub mod Reading

@@ -8,8 +8,8 @@ ghost use Rattle.array_data.specs.Data.{inputs_of, lists_or_fault, records_of};
 ghost use Rattle.array_data.specs.Judging.{IsMissing, IsGivenBy, collected, given_or_missing};
 
 use crate::error::DataError;
+use crate::reader::Reader;
 use crate::record::take_record;
-use csv::ReaderBuilder;
 use plain_data::Items;
 use sanlp::{ArrayDecl, Inputs, Nest};
 use std::alloc::{AllocError, Global};
@@ -33,18 +33,11 @@ fn read_records(
     ensures { IsGivenBy arrays.now (records_of bytes.now) result }
 {
     let mut given = no_values(alloc, arrays.len())?;
-    let mut count: u64 = 0;
-    let rows = ReaderBuilder::new()
-        .has_headers(false)
-        .flexible(true)
-        .from_reader(alloc, bytes);
-    for row in rows.into_byte_records() {
-        // By the contract of `csv` it may also be that a read failed, but a slice is read without fail.
-        let Ok(row) = row else {
-            return Err(DataError::Memory);
-        };
-        count += 1;
-        take_record(alloc, arrays, count, &row, &mut given)?;
+    let mut reader = Reader::new(bytes);
+    let mut field = Items::new(alloc);
+    let mut number: u64 = 1;
+    while take_record(alloc, arrays, number, &mut reader, &mut field, &mut given)? {
+        number += 1;
     }
     Ok(given)
 }

@@ -9,6 +9,7 @@ mod error;
 mod field;
 mod inputs;
 mod law;
+mod reader;
 mod record;
 
 pub use answer::write_answer;

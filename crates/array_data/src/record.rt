@@ -1,18 +1,19 @@
 //! The judgement of one record.
 
-ghost use Rattle.std.specs.Prelude.{◌≡◌, ◌<◌, ◌&&◌, [], IfSome, bytes_eq, length, slice_index_or};
-ghost use Rattle.csv.specs.Records.{fields_of};
-ghost use Rattle.sanlp.specs.Cells.{cell_count, is_input};
+ghost use Rattle.std.specs.Prelude.{◌≡◌, ◌<◌, ◌&&◌, ◌∷◌, ◌++◌, [], List, ℕ, Option, Some, IfOk, IfSome, OnOk, bytes_eq, length, min};
+ghost use Rattle.csv.specs.Machine.{Read};
+ghost use Rattle.sanlp.specs.Cells.{is_input};
 ghost use Rattle.plain_data.specs.Answers.{IsUnlessMemory};
-ghost use Rattle.array_data.specs.Data.{array_named as number_named, value_fields, without_blanks as trimmed};
-ghost use Rattle.array_data.specs.Judging.{IsCountFault, Takes, taken, values_from, values_taken};
+ghost use Rattle.array_data.specs.Data.{array_named as number_named};
+ghost use Rattle.array_data.specs.Judging.{IsCountFault, most_for, taken, values_taken};
+ghost use Rattle.array_data.specs.Reading.{AreOf, AreRead, IsLeft, TakesNext, record_left, text_of};
 
 use crate::error::DataError;
 use crate::field::{value_of, without_blanks};
-use csv::ByteRecord;
+use crate::reader::Reader;
 use plain_data::Items;
 use sanlp::{ArrayDecl, capped_count};
-use std::alloc::Global;
+use std::alloc::{AllocError, Global};
 
 fn is_named(array: &ArrayDecl, name: &[u8]) -> bool
     ensures { result ≡ (is_input array.now.kind && bytes_eq array.now.name name.now) }
@@ -33,86 +34,142 @@ fn array_named(arrays: &[ArrayDecl], name: &[u8]) -> Option<usize>
     None
 }
 
-// The field at this place without the blanks round it, or an empty one past the last.
-fn field_at(row: &ByteRecord, at: usize) -> &[u8]
-    ensures { result.now ≡ trimmed (slice_index_or (fields_of row.now) at []) }
-{
-    match row.get(at) {
-        Some(field) => without_blanks(field),
-        None => &[],
-    }
+/// What is kept of a record: how many values it has, and the first ones of them up to the first field that is none.
+#[derive(Drop)]
+struct Values {
+    count: u64,
+    values: Items<i64>,
+    fault: Option<u64>,
 }
 
-// The values of the record of this number, or the first field that is none.
-fn read_values(alloc: Global, number: u64, row: &ByteRecord) -> Result<Items<i64>, DataError>
-    ensures { IsUnlessMemory DataError.Memory result
-        (values_from number 1 (value_fields (fields_of row.now))) }
-{
-    let mut values = Items::new(alloc);
-    for at in 1..row.len() {
-        match value_of(field_at(row, at)) {
-            Some(value) => values.push(value)?,
-            None => return Err(DataError::NotANumber(number, at as u64)),
+impl Values {
+    fn none(alloc: Global) -> Values
+        ensures { (most : ℕ) → AreOf most [] result }
+    {
+        Values {
+            count: 0,
+            values: Items::new(alloc),
+            fault: None,
         }
     }
-    Ok(values)
+
+    /// Counts one more field, and keeps its value if it is among the first so many and no field before it was none.
+    fn add(&mut self, most: u64, field: &[u8]) -> Result<(), AllocError>
+        ensures { OnOk result ((fields : List (List ℕ)) → AreOf most fields self.old →
+            AreOf most (fields ++ field.now ∷ []) self.new) }
+    {
+        self.count = self.count.saturating_add(1);
+        if self.count > most || self.fault.is_some() {
+            return Ok(());
+        }
+        match value_of(without_blanks(field)) {
+            Some(value) => self.values.push(value),
+            None => {
+                self.fault = Some(self.count);
+                Ok(())
+            }
+        }
+    }
 }
 
-// Why a record with so many values is refused. A number of cells past 64 bits can't be told.
+/// The values of the record whose first field, which may be its only one, was read just now; or `None` where it has no end. At most
+/// so many are kept, so that a record takes no memory for what its array can't take.
+fn read_values(
+    alloc: Global,
+    most: u64,
+    is_only: bool,
+    reader: &mut Reader,
+    field: &mut Items<u8>,
+) -> Result<Option<Values>, AllocError>
+    ensures { IfOk result (λ row. (read : Option Read) (fields : List (List ℕ)) →
+        IsLeft read (Some is_only) (text_of reader.old) fields →
+        AreRead most read row (text_of reader.new) fields) }
+{
+    let mut row = Values::none(alloc);
+    let mut is_last = is_only;
+    while !is_last {
+        let Some(ends) = reader.next_field(field)? else {
+            return Ok(None);
+        };
+        is_last = ends;
+        row.add(most, field.as_slice())?;
+    }
+    Ok(Some(row))
+}
+
+// How many values the array of this number takes at most.
+fn most_values(arrays: &[ArrayDecl], array: Option<usize>) -> u64
+    requires { IfSome array (λ number. number < length arrays.now) }
+    ensures { result ≡ most_for arrays.now array }
+{
+    match array {
+        Some(array) => capped_count(arrays[array].extents.as_slice()) as u64,
+        None => 0,
+    }
+}
+
+// Why a record with so many values is refused. A number past 64 bits can't be told.
 fn count_fault(number: u64, got: u64, want: u64) -> DataError
     ensures { IsCountFault number got want result }
 {
-    if want < u64::MAX {
+    if got < u64::MAX && want < u64::MAX {
         DataError::Count(number, got, want)
     } else {
         DataError::Memory
     }
 }
 
-// The values of the record of this number for an array with these extents.
-fn values_for(
-    alloc: Global,
-    extents: &[i64],
-    number: u64,
-    is_given: bool,
-    row: &ByteRecord,
-) -> Result<Items<i64>, DataError>
-    ensures { IsUnlessMemory DataError.Memory result
-        (values_taken (cell_count extents.now) number is_given (fields_of row.now)) }
+// The values of the record of this number, or why it is refused. Its array takes at most so many values, and was given some before
+// or not.
+fn values_for(most: u64, number: u64, is_given: bool, row: Values) -> Result<Items<i64>, DataError>
+    ensures { (cells : ℕ) (name : List ℕ) (fields : List (List ℕ)) →
+        most ≡ min cells u64.MAX → AreOf most fields row →
+        IsUnlessMemory DataError.Memory result (values_taken cells number is_given (name ∷ fields)) }
 {
     if is_given {
         return Err(DataError::Twice(number));
     }
-    let got = row.len().saturating_sub(1) as u64;
-    let want = capped_count(extents) as u64;
-    if got != want {
-        return Err(count_fault(number, got, want));
+    let Values {
+        count,
+        values,
+        fault,
+    } = row;
+    if count != most || most == u64::MAX {
+        return Err(count_fault(number, count, most));
     }
-    read_values(alloc, number, row)
+    match fault {
+        Some(at) => Err(DataError::NotANumber(number, at)),
+        None => Ok(values),
+    }
 }
 
-/// Judges the record of this number, and keeps its values at the number of its array. There is a place for each array.
+/// Reads the next record, which has this number, into what `field` holds, field by field. Judges it, and keeps its values at the
+/// number of its array; or answers that there is none. There is a place for each array.
 pub(crate) fn take_record(
     alloc: Global,
     arrays: &[ArrayDecl],
     number: u64,
-    row: &ByteRecord,
+    reader: &mut Reader,
+    field: &mut Items<u8>,
     given: &mut Items<Option<Items<i64>>>,
-) -> Result<(), DataError>
+) -> Result<bool, DataError>
     requires { length given.old ≡ length arrays.now }
-    ensures { Takes result given.new (taken arrays.now number (fields_of row.now) given.old) }
+    ensures { TakesNext result (record_left (text_of reader.old) []) (text_of reader.new)
+        given.old given.new (λ row. taken arrays.now number row given.old) }
 {
-    let Some(array) = array_named(arrays, field_at(row, 0)) else {
+    let Some(is_only) = reader.next_field(field)? else {
+        return Ok(false);
+    };
+    let array = array_named(arrays, without_blanks(field.as_slice()));
+    let most = most_values(arrays, array);
+    let Some(row) = read_values(alloc, most, is_only, reader, field)? else {
+        return Ok(false);
+    };
+    let Some(array) = array else {
         return Err(DataError::UnknownArray(number));
     };
     let is_given = given.as_slice()[array].is_some();
-    let values = values_for(
-        alloc,
-        arrays[array].extents.as_slice(),
-        number,
-        is_given,
-        row,
-    )?;
+    let values = values_for(most, number, is_given, row)?;
     given.set(array, Some(values));
-    Ok(())
+    Ok(true)
 }

@@ -5,12 +5,19 @@ ghost use Rattle.std.specs.Option.{option_to_list};
 ghost use Rattle.script_blocks.specs.Expansion.{expansion, repeated};
 ghost use Rattle.script_blocks.specs.Nesting.{is_proper};
 
+use crate::compact::compact_blocks;
 use crate::folded::FoldedList;
 use crate::keys::Keyed;
 use plain_data::Items;
 use script_blocks::{BlockPart, Blocks, ScriptBuilder};
 use std::alloc::{AllocError, Global};
 use std::marker::Model;
+
+/// The least number of items at which it is looked whether a run folds.
+const LONG: usize = 262_144;
+
+/// A run folds badly where its blocks have more than one node for so many items.
+const ITEMS_OF_A_NODE: u64 = 4;
 
 /// Items one after the other, which contracts see as their list. They are kept by kinds, but for the last, so that an item that
 /// stands alone takes no search.
@@ -56,13 +63,25 @@ fn blocks_of<T: Copy + Eq + Keyed>(
     ensures proper { IfOk result (λ blocks. IsTrue (is_proper blocks)) }
 {
     let Some(last) = last else {
-        return items.blocks(alloc);
+        let blocks = items.blocks(alloc)?;
+        return compact_blocks(alloc, blocks);
     };
     if items.is_empty() {
         return alone(alloc, last);
     }
     items.push_with_key(last.key(), &last)?;
-    items.blocks(alloc)
+    let blocks = items.blocks(alloc)?;
+    compact_blocks(alloc, blocks)
+}
+
+/// Whether it is to be looked whether so many items fold: at a number, and then each time that there are twice as many.
+fn is_long(count: usize) -> bool {
+    count >= LONG && count.is_power_of_two()
+}
+
+/// Whether blocks of so many nodes are few for so many items.
+fn folds(nodes: u64, count: usize) -> bool {
+    nodes.saturating_mul(ITEMS_OF_A_NODE) <= count as u64
 }
 
 impl<T> Run<T> {
@@ -104,10 +123,27 @@ impl<T: Copy + Eq + Keyed> Run<T> {
         *self = Run::new(alloc);
         list.append(alloc, blocks)
     }
+
+    /// Moves all items but the last one to the end of a list where they are many that fold badly, or answers want of memory.
+    fn settle(&mut self, alloc: Global, list: &mut FoldedList<T>) -> Result<(), AllocError>
+        ensures { OnOk result (list.new ++ self.new ≡ list.old ++ self.old) }
+    {
+        let count = self.items.len();
+        if !is_long(count) {
+            return Ok(());
+        }
+        let blocks = self.items.blocks(alloc)?;
+        if folds(blocks.nodes(), count) {
+            return Ok(());
+        }
+        let blocks = compact_blocks(alloc, blocks)?;
+        self.items = ScriptBuilder::new(alloc);
+        list.append(alloc, blocks)
+    }
 }
 
-/// A list that grows, which contracts see as its items. It folds each run of items as soon as a repeat follows, so it takes little
-/// more than its blocks and four bytes for each item of the last run.
+/// A list that grows, which contracts see as its items. It folds each run of items as soon as a repeat follows, and before that
+/// where the run is long and folds badly. So it takes little more than its blocks and four bytes for each item of the last run.
 #[derive(Drop)]
 pub(crate) struct Gathering<T> {
     list: FoldedList<T>,
@@ -139,10 +175,11 @@ impl<T> Gathering<T> {
 
 impl<T: Copy + Eq + Keyed> Gathering<T> {
     /// Adds an item at the end, or answers want of memory. Two items that compare equal have to be the same value.
-    pub(crate) fn push(&mut self, item: T) -> Result<(), AllocError>
+    pub(crate) fn push(&mut self, alloc: Global, item: T) -> Result<(), AllocError>
         requires same { (a b : T) → T.eq a b ≡ true → a ≡ b }
         ensures { OnOk result (self.new ≡ self.old ++ item ∷ []) }
     {
+        self.run.settle(alloc, &mut self.list)?;
         self.run.push(item)
     }
 

@@ -4,6 +4,7 @@
 //! was read so far, the levels of repeats that are left, and the number of the next line.
 #![tactic(auto)]
 
+mod compact;
 mod folded;
 mod folded_cert;
 mod gathering;

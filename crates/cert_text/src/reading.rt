@@ -73,7 +73,7 @@ fn read_part<T: FromLine + Copy + Eq + Keyed>(
 {
     let line = read_part_line(version, lines)?;
     match line {
-        PartLine::Item(item) => Ok(list.push(item)?),
+        PartLine::Item(item) => Ok(list.push(alloc, item)?),
         PartLine::Repeat(times, parts) => {
             if levels == 0 {
                 return Err(CertError::Deep(lines.taken()));

@@ -1,17 +1,18 @@
-use Rattle.std.proofs.Common.{◌≡◌, ◌<◌, ℕ, List, Some, length}
-use Rattle.csv.specs.Reading.{Reached, Ready, default_config, source_of, strip_bom}
+use Rattle.std.proofs.Common.{◌≡◌, ◌+◌, ◌-◌, List, length}
+use Rattle.csv.specs.Reading.{Reached, default_config, strip_bom}
 use Rattle.csv.specs.declared.parser.State.TheVariants as st
-use Rattle.csv.specs.declared.reader.Trim.TheVariants as trim
 use Rattle.array_data.specs.Data.{Record}
+use Rattle.array_data.specs.Reading.{text_of}
 use Rattle.array_data.proofs.RecordVerdicts.{HaveGiven}
 use Rattle.array_data.proofs.inputs.read_records.Given as goal
 
 -- the records so far were read and taken
-abbrev pub invariant-loop-row : goal.invariant-loop-row
-invariant-loop-row l =
-    (l.row-iterator.rdr.trim ≡ trim.None) × Ready l.row-iterator.rdr × (0 < l.row-iterator.left)
-    × (l.row-iterator.rdr.config ≡ default_config)
-    × (left : List ℕ) × (source_of (λ s. Some s.now) l.row-iterator.rdr ≡ Some left)
-    × (seen : List Record)
-    × Reached default_config st.StartRecord (strip_bom l.fn.bytes) seen l.row-iterator.rdr.state left
-    × (l.count ≡ length seen) × HaveGiven l.arrays seen l.given
+abbrev pub invariant-loop-field : goal.invariant-loop-field
+invariant-loop-field l =
+    (seen : List Record)
+    × Reached default_config st.StartRecord (strip_bom l.fn.bytes) seen (text_of l.reader).state (text_of l.reader).bytes
+    × (l.number ≡ length seen + 1) × HaveGiven l.arrays seen l.given
+
+-- there is at most one record more than bytes
+abbrev pub decreases-loop-field : goal.decreases-loop-field
+decreases-loop-field l = length l.fn.bytes + 3 - l.number

@@ -1,12 +1,15 @@
-use Rattle.std.proofs.Common.{◌≡◌, map, drop}
-use Rattle.csv.specs.Records.{fields_of}
-use Rattle.array_data.specs.Data.{value_fields, without_blanks}
-use Rattle.array_data.specs.Judging.{values_from}
-use Rattle.array_data.proofs.Fields.{behind}
+use Rattle.std.proofs.Common.{ℕ, ◌+◌, ◌++◌, List, Option, Some, length}
+use Rattle.std.specs.Prelude.{if◌then◌else◌}
+use Rattle.csv.specs.Machine.{Read}
+use Rattle.array_data.specs.Reading.{AreOf, IsLeft, text_of}
 use Rattle.array_data.proofs.record.read_values.Given as goal
 
--- the values so far, and those of the fields that are left
-abbrev pub invariant-loop-at : goal.invariant-loop-at
-invariant-loop-at l =
-    behind l.values (values_from l.number l.at (map without_blanks (drop l.at (fields_of l.row))))
-    ≡ values_from l.number 1 (value_fields (fields_of l.row))
+-- behind the fields that stood before, the record has those that were read and kept
+abbrev pub invariant-loop-is_last : goal.invariant-loop-is_last
+invariant-loop-is_last l = (read : Option Read) (fields : List (List ℕ))
+    → IsLeft read (Some l.fn.is_only) (text_of l.fn.reader) fields
+    → (more : List (List ℕ)) × IsLeft read (Some l.is_last) (text_of l.reader) (fields ++ more)
+    × AreOf l.most more l.row
+
+abbrev pub decreases-loop-is_last : goal.decreases-loop-is_last
+decreases-loop-is_last l = length l.reader.bytes.now + (if l.is_last then 0 else 1)

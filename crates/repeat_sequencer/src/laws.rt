@@ -29,11 +29,13 @@ pub fn rounds<T: Copy>()
 
 /// It has as many instructions as the blocks have items, each counted once. In proper blocks each repeat ends once, so with
 /// the ends behind them these are the nodes of the blocks: its size is a matter of how the blocks are kept, and not of their
-/// counts.
+/// counts. They are never more than the items that proper blocks stand for.
 pub fn size<T: Copy>()
     ensures items { (blocks : Blocks T)
         → length (sequencer_of blocks).instructions ≡ item_count blocks }
     ensures nodes { (blocks : Blocks T) → item_count blocks ≤ node_count blocks }
     ensures ends { (blocks : Blocks T) → is_proper blocks ≡ true
         → item_count blocks + end_count (sequencer_of blocks) ≡ node_count blocks }
+    ensures within { (blocks : Blocks T) → is_proper blocks ≡ true
+        → length (sequencer_of blocks).instructions ≤ length (expansion blocks) }
 {}

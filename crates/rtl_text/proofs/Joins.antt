@@ -1,9 +1,9 @@
 -- The text of a node in the network is that of what its ports are joined to, in the order of the ports of its entity.
 --
 -- As of the ports (`unit_text.proofs.Ports`): the code writes a line end behind each join but the last, and the definition one
--- between each two. The joins of a channel come three at once, and their lines are what the code writes for the channel; so it
--- is for those of a role. The pieces of these lines are variables here. That the names of the joins are those of the ports goes
--- part by part.
+-- between each two. The joins of a channel come three at once, and their lines are what the code writes for the channel. The
+-- pieces of these lines are variables here, so that no letter of them matters. That the names of the joins are those of the
+-- ports goes part by part; to what each is joined isn't said by that.
 use Rattle.std.proofs.Common.{◌≡◌, ℕ, List, [], ◌∷◌, ◌++◌, codes, decimal, map, refl, sym, ap, ap₂, ◌∙◌, append_assoc, append-nil}
 use Rattle.std.specs.List.{concat, flat_map, join_by}
 use Rattle.std.proofs.lemmas.Grind.{flat_map-append}
@@ -14,8 +14,9 @@ use Rattle.sanlp.specs.declared.nest.Role.TheVariants.{Source, Assign, Sink}
 use Rattle.unit_text.specs.declared.unit.Unit.{Unit}
 use Rattle.unit_text.specs.Ports.{bit_out, incoming_ports, outgoing_ports, ports, role_ports}
 use Rattle.unit_text.proofs.Ports.{flat_map_of_flat_map, join_last, list_end}
-use Rattle.rtl_text.specs.Joins.{incoming_joins, join_line, joins, node_with, outgoing_joins, role_joins_of, same}
-use Rattle.rtl_text.specs.Networks.{array_name, joins_in, joins_out, node_part, outer_joins, port_name, role_joins, way_out}
+use Rattle.rtl_text.specs.declared.network.End.TheVariants.{Reader, Writer}
+use Rattle.rtl_text.specs.Joins.{incoming_joins, join_line, join_lines, joins, node_with, outgoing_joins, role_joins_of, same}
+use Rattle.rtl_text.specs.Networks.{joins_text, node_part}
 
 -- Lines
 
@@ -25,49 +26,28 @@ three_joins : (in_front name c arrow under behind p q r x y z : List ℕ)
     ((concat (name ∷ c ∷ p ∷ []), concat (x ∷ under ∷ c ∷ []))
     ∷ (concat (name ∷ c ∷ q ∷ []), concat (y ∷ under ∷ c ∷ []))
     ∷ (concat (name ∷ c ∷ r ∷ []), concat (z ∷ under ∷ c ∷ [])) ∷ [])
-    ≡ (in_front ++ name) ++ (c ++ ((p ++ (arrow ++ (x ++ under))) ++ (c ++ ((behind ++ (in_front ++ name))
-    ++ (c ++ ((q ++ (arrow ++ (y ++ under))) ++ (c ++ ((behind ++ (in_front ++ name))
-    ++ (c ++ ((r ++ (arrow ++ (z ++ under))) ++ (c ++ behind)))))))))))
+    ≡ join_by (λ (piece : List ℕ). piece) c
+    ((in_front ++ name) ∷ (p ++ (arrow ++ (x ++ under))) ∷ (behind ++ (in_front ++ name))
+    ∷ (q ++ (arrow ++ (y ++ under))) ∷ (behind ++ (in_front ++ name)) ∷ (r ++ (arrow ++ (z ++ under))) ∷ behind ∷ [])
 three_joins in_front name c arrow under behind p q r x y z = simp (append_assoc, append-nil)
-
--- of a role's three joins
-three_of_role : (in_front inner arrow behind v r a b c : List ℕ)
-    → flat_map (λ (join : List ℕ × List ℕ). concat (in_front ∷ join.0 ∷ arrow ∷ join.1 ∷ []) ++ behind)
-    ((inner, a) ∷ (inner ++ v, b) ∷ (inner ++ r, c) ∷ [])
-    ≡ in_front ++ (inner ++ (arrow ++ (a ++ ((behind ++ in_front) ++ (inner ++ ((v ++ arrow) ++ (b
-    ++ ((behind ++ in_front) ++ (inner ++ ((r ++ arrow) ++ (c ++ behind)))))))))))
-three_of_role in_front inner arrow behind v r a b c = simp (append_assoc, append-nil)
 
 abbrev line : List ℕ × List ℕ → List ℕ
 line join = join_line join ++ codes ",\n"
 
-incoming_lines : (c : ℕ) → flat_map line (incoming_joins c) ≡ joins_in c
-unfolding joins_in
+incoming_lines : (c : ℕ) → flat_map line (incoming_joins c) ≡ joins_text Reader c
+unfolding joins_text
 incoming_lines c =
     three_joins (codes "      ") (codes "c") (decimal c) (codes " => ") (codes "_") (codes ",\n") (codes "_valid") (codes "_front")
     (codes "_take") (codes "valid") (codes "front") (codes "take")
 
-outgoing_lines : (c : ℕ) → flat_map line (outgoing_joins c) ≡ joins_out c
-unfolding joins_out
+outgoing_lines : (c : ℕ) → flat_map line (outgoing_joins c) ≡ joins_text Writer c
+unfolding joins_text
 outgoing_lines c =
     three_joins (codes "      ") (codes "c") (decimal c) (codes " => ") (codes "_") (codes ",\n") (codes "_ready") (codes "_data")
     (codes "_give") (codes "ready") (codes "data") (codes "give")
 
-role_lines : (nest : Nest) (role : Role) → flat_map line (role_joins_of nest role) ≡ outer_joins nest role
-unfolding role_joins
-role_lines nest (Source array) =
-    three_of_role (codes "      ") (codes "given") (codes " => ") (codes ",\n") (codes "_valid") (codes "_ready")
-    (port_name (array_name nest array) (codes "data") []) (port_name (array_name nest array) (codes "valid") [])
-    (port_name (array_name nest array) (codes "ready") [])
-role_lines nest Assign = refl
-role_lines nest (Sink array) =
-    three_of_role (codes "      ") (codes "result") (codes " => ") (codes ",\n") (codes "_valid") (codes "_ready")
-    (port_name (array_name nest array) (codes "data") (way_out nest array))
-    (port_name (array_name nest array) (codes "valid") (way_out nest array))
-    (port_name (array_name nest array) (codes "ready") (way_out nest array))
-
 node_regroup : (a d b i l r g q t e : List ℕ)
-    → (a ++ (d ++ (b ++ (d ++ (i ++ l))))) ++ (r ++ (g ++ (q ++ ((t ++ (d ++ e)) ++ []))))
+    → (a ++ ((d ++ b) ++ ((d ++ (i ++ l)) ++ []))) ++ (r ++ (g ++ (q ++ ((t ++ ((d ++ e) ++ [])) ++ []))))
     ≡ a ++ (d ++ (b ++ (d ++ (i ++ (((l ++ (r ++ (g ++ q))) ++ (t ++ (d ++ []))) ++ e)))))
 node_regroup a d b i l r g q t e = simp (append_assoc, append-nil)
 
@@ -83,17 +63,17 @@ module _ (nest : Nest) (unit : Unit) where
   done = (codes "done", codes "done_" ++ decimal unit.auto.process)
 
   abbrev other_lines : List ℕ
-  other_lines = outer_joins nest unit.auto.role
-      ++ (flat_map joins_in unit.auto.gets ++ flat_map joins_out unit.auto.puts)
+  other_lines = join_lines (role_joins_of nest unit.auto.role)
+      ++ (flat_map (joins_text Reader) unit.auto.gets ++ flat_map (joins_text Writer) unit.auto.puts)
 
   lines_of_others : flat_map line others ≡ other_lines
   lines_of_others =
       flat_map-append line (role_joins_of nest unit.auto.role)
       (flat_map incoming_joins unit.auto.gets ++ flat_map outgoing_joins unit.auto.puts)
-      ∙ ap₂ (λ (a b : List ℕ). a ++ b) (role_lines nest unit.auto.role)
+      ∙ ap (λ (b : List ℕ). join_lines (role_joins_of nest unit.auto.role) ++ b)
       (flat_map-append line (flat_map incoming_joins unit.auto.gets) (flat_map outgoing_joins unit.auto.puts)
-      ∙ ap₂ (λ (a b : List ℕ). a ++ b) (flat_map_of_flat_map line incoming_joins joins_in incoming_lines unit.auto.gets)
-      (flat_map_of_flat_map line outgoing_joins joins_out outgoing_lines unit.auto.puts))
+      ∙ ap₂ (λ (a b : List ℕ). a ++ b) (flat_map_of_flat_map line incoming_joins (joins_text Reader) incoming_lines unit.auto.gets)
+      (flat_map_of_flat_map line outgoing_joins (joins_text Writer) outgoing_lines unit.auto.puts))
 
   joined : join_by join_line (codes ",\n") (joins nest unit)
       ≡ (codes "      clk => clk,\n      rst => rst,\n      again => again,\n" ++ other_lines)
@@ -112,7 +92,7 @@ module _ (nest : Nest) (unit : Unit) where
   node_has_joins =
       node_regroup (codes "  node_") (decimal unit.auto.process) (codes " : entity work.node_")
       (codes "\n    port map (\n") (codes "      clk => clk,\n      rst => rst,\n      again => again,\n")
-      (outer_joins nest unit.auto.role) (flat_map joins_in unit.auto.gets) (flat_map joins_out unit.auto.puts)
+      (join_lines (role_joins_of nest unit.auto.role)) (flat_map (joins_text Reader) unit.auto.gets) (flat_map (joins_text Writer) unit.auto.puts)
       (codes "      done => done_") (codes "\n    );\n")
       ∙ ap (λ (text : List ℕ). codes "  node_" ++ (decimal unit.auto.process ++ (codes " : entity work.node_"
       ++ (decimal unit.auto.process ++ (codes "\n    port map (\n" ++ (text ++ codes "\n    );\n")))))) (sym joined)

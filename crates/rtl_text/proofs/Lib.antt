@@ -1,2 +1,8 @@
 mod Names
 mod Joins
+mod Lines
+mod PortNames
+mod Differences
+mod NetworkPorts
+mod ShortScripts
+mod NumberedNames

@@ -4,7 +4,7 @@
 use Rattle.std.proofs.Common.{◌≡◌, ◌+◌, ◌<◌, ◌≤◌, ℕ, Bool, true, false, not, eqb, ◌&&◌, List, drop, length, get_or}
 use Rattle.std.proofs.Common.{ap, ◌∙◌}
 use Rattle.std.proofs.lemmas.List.{at_drop_more, drop_all}
-use Rattle.rtl_text.specs.Networks.{goes_on, may_follow}
+use Rattle.rtl_text.specs.Names.{goes_on, may_follow}
 
 module _ (behind : Bool) (name : List ℕ) (i : ℕ) (lt : i < length name) where
   here : goes_on behind (drop i name)

@@ -6,24 +6,26 @@ use Rattle.sanlp.specs.declared.nest.Role.{Role}
 use Rattle.sanlp.specs.declared.nest.Role.TheVariants as role
 use Rattle.unit_text.specs.declared.unit.Unit.{Unit}
 use Rattle.unit_text.specs.Ports.{channel_port}
-use Rattle.rtl_text.specs.Networks.{array_name, port_name, way_out}
+use Rattle.rtl_text.specs.Names.{array_name, port_name, way_out}
 
 -- a port with the name of what it is joined to, which is the same
 abbrev pub same : List ℕ → List ℕ × List ℕ
 same name = (name, name)
 
 -- the ports of a role with those of an array
-abbrev pub array_joins : List ℕ → List ℕ → List ℕ → List (List ℕ × List ℕ)
-array_joins inner array way =
-    (inner, port_name array (codes "data") way)
-    ∷ (inner ++ codes "_valid", port_name array (codes "valid") way)
-    ∷ (inner ++ codes "_ready", port_name array (codes "ready") way) ∷ []
+abbrev pub array_joins : (value valid ready array way : List ℕ) → List (List ℕ × List ℕ)
+array_joins value valid ready array way =
+    (value, port_name array (codes "data") way) ∷ (valid, port_name array (codes "valid") way)
+    ∷ (ready, port_name array (codes "ready") way) ∷ []
 
 abbrev pub role_joins_of : Nest → Role → List (List ℕ × List ℕ)
-role_joins_of nest (role.Source array) = array_joins (codes "given") (array_name nest array) []
+role_joins_of nest (role.Source array) =
+    array_joins (codes "given") (codes "given_valid") (codes "given_ready")
+    (array_name nest array) []
 role_joins_of nest role.Assign = []
 role_joins_of nest (role.Sink array) =
-    array_joins (codes "result") (array_name nest array) (way_out nest array)
+    array_joins (codes "result") (codes "result_valid") (codes "result_ready")
+    (array_name nest array) (way_out nest array)
 
 -- a port of channel c with the network's signal of it
 abbrev pub channel_join : ℕ → List ℕ → List ℕ × List ℕ
@@ -50,6 +52,10 @@ joins nest unit =
 
 abbrev pub join_line : List ℕ × List ℕ → List ℕ
 join_line join = concat (codes "      " ∷ join.0 ∷ codes " => " ∷ join.1 ∷ [])
+
+-- joins that another follows
+abbrev pub join_lines : List (List ℕ × List ℕ) → List ℕ
+join_lines all = flat_map (λ join. join_line join ++ codes ",\n") all
 
 -- a node of process p with these joins
 abbrev pub node_with : ℕ → List (List ℕ × List ℕ) → List ℕ

@@ -8,5 +8,8 @@ mod laws;
 mod network;
 mod text;
 
-pub use laws::{node_ports_are_joined_in_order, units_make_a_design};
+pub use laws::{
+    network_ports_differ, node_ports_are_joined_in_order, short_scripts_have_short_sequencers,
+    units_make_a_design,
+};
 pub use text::write_rtl;

@@ -1,13 +1,48 @@
-ghost use Rattle.std.specs.Prelude.{◌≡◌, ◌==◌, [], codes, false, if◌then◌else◌};
-ghost use Rattle.std.specs.List.{enumerate_from, flat_map, range_with_len};
+ghost use Rattle.std.specs.Prelude.{◌≡◌, ◌==◌, ◌++◌, [], codes, false, if◌then◌else◌};
+ghost use Rattle.std.specs.List.{flat_map};
 ghost use Rattle.text_out.specs.Wrote.{Wrote};
-ghost use Rattle.rtl_text.specs.Networks.{array_name, array_ports, channel_part, channel_signals, channel_text, done_signal, done_term, goes_on as is_continued, is_digit as is_decimal, is_letter as is_lower, is_plain as is_plain_name, joins_in, joins_out, may_follow as may_stand, network_entity, network_text, node_head, node_part, node_tail, outer_joins, outer_ports, port_name, role_joins, way_out};
+ghost use Rattle.unit_text.specs.Ports.{port_line};
+ghost use Rattle.rtl_text.specs.Joins.{array_joins, join_line, join_lines, role_joins_of};
+ghost use Rattle.rtl_text.specs.Names.{array_name, goes_on as is_continued, is_digit as is_decimal, is_letter as is_lower, is_plain as is_plain_name, may_follow as may_stand, port_name, way_out};
+ghost use Rattle.rtl_text.specs.Networks.{channel_part_text, channel_text, for_channels, for_units, instance_text, joins_text, network_body, network_entity, node_part, unit_part_text};
+ghost use Rattle.rtl_text.specs.Ports.{array_ports, outer_ports, port_lines};
 
 use net_core::{Channel, Network};
 use sanlp::{Nest, Role};
-use sequencer_text::write_all;
-use text_out::{TextWriter, Word};
-use unit_text::Unit;
+use text_out::{TextWriter, write_number};
+use unit_text::{Unit, write_unit};
+use vhdl_text::write_with_number;
+
+/// What the text of a design has for the hardware of a process.
+#[derive(Clone, Copy)]
+pub(crate) enum UnitPart {
+    /// Its entities.
+    Entities,
+    /// The ports of the network that its role has.
+    Ports,
+    /// The signal that it is done.
+    DoneSignal,
+    /// Its node in the network.
+    Node,
+    /// The term that says that it is done.
+    DoneTerm,
+}
+
+/// What the network has for a channel.
+#[derive(Clone, Copy)]
+pub(crate) enum ChannelPart {
+    /// Its signals.
+    Signals,
+    /// Its instance.
+    Instance,
+}
+
+/// Which end of a channel a process is.
+#[derive(Clone, Copy)]
+pub(crate) enum End {
+    Reader,
+    Writer,
+}
 
 fn is_letter(byte: u8) -> bool
     ensures { result ≡ is_lower byte }
@@ -118,337 +153,283 @@ pub(crate) fn write_channel<W: TextWriter>(out: &mut W)
     );
 }
 
-fn write_network_entity<W: TextWriter>(out: &mut W)
-    ensures { Wrote W.given out.old out.new network_entity }
+/// Writes a port of an array as an entity has it, with its mode and type.
+fn write_port_line<W: TextWriter>(array: &[u8], part: &[u8], way: &[u8], mode: &[u8], out: &mut W)
+    ensures { Wrote W.given out.old out.new
+        (port_line (port_name array.now part.now way.now, mode.now) ++ codes ";\n") }
 {
-    out.put(
-        b"\nlibrary ieee;\nuse ieee.std_logic_1164.all;\nuse ieee.numeric_std.all;\nentity network is\n  port (\n    clk : in std_logic;\n    rst : in std_logic;\n    again : in std_logic;\n",
-    );
+    out.put(b"    ");
+    write_port(array, part, way, out);
+    out.put(b" : ");
+    out.put(mode);
+    out.put(b";\n");
 }
 
-/// Writes the ports of an array, of which the data goes one way and whether it is taken the other.
+/// Writes the ports of an array with their modes and types.
 fn write_array_ports<W: TextWriter>(
     array: &[u8],
     way: &[u8],
-    given: &[u8],
-    taken: &[u8],
+    value: &[u8],
+    valid: &[u8],
+    ready: &[u8],
     out: &mut W,
 )
-    ensures { Wrote W.given out.old out.new (array_ports array.now way.now given.now taken.now) }
+    ensures { Wrote W.given out.old out.new
+        (port_lines (array_ports array.now way.now value.now valid.now ready.now)) }
 {
-    out.put(b"    ");
-    write_port(array, b"data", way, out);
-    out.put(b" : ");
-    out.put(given);
-    out.put(b" signed(63 downto 0);\n    ");
-    write_port(array, b"valid", way, out);
-    out.put(b" : ");
-    out.put(given);
-    out.put(b" std_logic;\n    ");
-    write_port(array, b"ready", way, out);
-    out.put(b" : ");
-    out.put(taken);
-    out.put(b" std_logic;\n");
+    write_port_line(array, b"data", way, value, out);
+    write_port_line(array, b"valid", way, valid, out);
+    write_port_line(array, b"ready", way, ready, out);
 }
 
 fn write_outer_ports<W: TextWriter>(nest: &Nest, role: Role, out: &mut W)
-    ensures { Wrote W.given out.old out.new (outer_ports nest.now role) }
+    ensures { Wrote W.given out.old out.new (port_lines (outer_ports nest.now role)) }
 {
     match role {
-        Role::Source(array) => write_array_ports(name_of(nest, array), b"", b"in", b"out", out),
+        Role::Source(array) => write_array_ports(
+            name_of(nest, array),
+            b"",
+            b"in signed(63 downto 0)",
+            b"in std_logic",
+            b"out std_logic",
+            out,
+        ),
         Role::Assign => {}
-        Role::Sink(array) => {
-            let way = way_out_of(nest, array);
-            write_array_ports(name_of(nest, array), way, b"out", b"in", out);
-        }
+        Role::Sink(array) => write_array_ports(
+            name_of(nest, array),
+            way_out_of(nest, array),
+            b"out signed(63 downto 0)",
+            b"out std_logic",
+            b"in std_logic",
+            out,
+        ),
     }
 }
 
-fn write_all_outer_ports<W: TextWriter>(nest: &Nest, units: &[Unit], out: &mut W)
+/// Writes how a port of a node is joined to one of an array.
+fn write_join_line<W: TextWriter>(inner: &[u8], array: &[u8], part: &[u8], way: &[u8], out: &mut W)
     ensures { Wrote W.given out.old out.new
-        (flat_map (λ unit. outer_ports nest.now unit.auto.role) units.now) }
-{
-    for unit in units {
-        write_outer_ports(nest, unit.auto.role, out);
-    }
-}
-
-fn write_channel_signals<W: TextWriter>(number: u64, out: &mut W)
-    ensures { Wrote W.given out.old out.new (channel_signals number) }
-{
-    let number = Word::Number(number);
-    write_all(
-        &[
-            Word::Text(b"  signal ready_"),
-            number,
-            Word::Text(b", give_"),
-            number,
-            Word::Text(b", valid_"),
-            number,
-            Word::Text(b", take_"),
-            number,
-            Word::Text(b" : std_logic;\n  signal data_"),
-            number,
-            Word::Text(b", front_"),
-            number,
-            Word::Text(b" : signed(63 downto 0);\n"),
-        ],
-        out,
-    );
-}
-
-// Writes the signals of so many channels.
-fn write_all_channel_signals<W: TextWriter>(count: usize, out: &mut W)
-    ensures { Wrote W.given out.old out.new (flat_map channel_signals (range_with_len 0 count)) }
-{
-    for number in 0..count {
-        write_channel_signals(number as u64, out);
-    }
-}
-
-fn write_done_signal<W: TextWriter>(process: u32, out: &mut W)
-    ensures { Wrote W.given out.old out.new (done_signal process) }
-{
-    write_all(
-        &[
-            Word::Text(b"  signal done_"),
-            Word::Number(u64::from(process)),
-            Word::Text(b" : std_logic;\n"),
-        ],
-        out,
-    );
-}
-
-fn write_done_signals<W: TextWriter>(units: &[Unit], out: &mut W)
-    ensures { Wrote W.given out.old out.new
-        (flat_map (λ unit. done_signal unit.auto.process) units.now) }
-{
-    for unit in units {
-        write_done_signal(unit.auto.process, out);
-    }
-}
-
-fn write_node_head<W: TextWriter>(process: u32, out: &mut W)
-    ensures { Wrote W.given out.old out.new (node_head process) }
-{
-    let number = Word::Number(u64::from(process));
-    write_all(
-        &[
-            Word::Text(b"  node_"),
-            number,
-            Word::Text(b" : entity work.node_"),
-            number,
-            Word::Text(
-                b"\n    port map (\n      clk => clk,\n      rst => rst,\n      again => again,\n",
-            ),
-        ],
-        out,
-    );
-}
-
-/// Writes how the ports of a node's role are joined to those of an array.
-fn write_role_joins<W: TextWriter>(inner: &[u8], array: &[u8], way: &[u8], out: &mut W)
-    ensures { Wrote W.given out.old out.new (role_joins inner.now array.now way.now) }
+        (join_line (inner.now, port_name array.now part.now way.now) ++ codes ",\n") }
 {
     out.put(b"      ");
     out.put(inner);
     out.put(b" => ");
-    write_port(array, b"data", way, out);
-    out.put(b",\n      ");
-    out.put(inner);
-    out.put(b"_valid => ");
-    write_port(array, b"valid", way, out);
-    out.put(b",\n      ");
-    out.put(inner);
-    out.put(b"_ready => ");
-    write_port(array, b"ready", way, out);
+    write_port(array, part, way, out);
     out.put(b",\n");
 }
 
-fn write_outer_joins<W: TextWriter>(nest: &Nest, role: Role, out: &mut W)
-    ensures { Wrote W.given out.old out.new (outer_joins nest.now role) }
+/// Writes how the ports of a node's role are joined to those of an array.
+fn write_array_joins<W: TextWriter>(
+    value: &[u8],
+    valid: &[u8],
+    ready: &[u8],
+    array: &[u8],
+    way: &[u8],
+    out: &mut W,
+)
+    ensures { Wrote W.given out.old out.new
+        (join_lines (array_joins value.now valid.now ready.now array.now way.now)) }
+{
+    write_join_line(value, array, b"data", way, out);
+    write_join_line(valid, array, b"valid", way, out);
+    write_join_line(ready, array, b"ready", way, out);
+}
+
+fn write_role_joins<W: TextWriter>(nest: &Nest, role: Role, out: &mut W)
+    ensures { Wrote W.given out.old out.new (join_lines (role_joins_of nest.now role)) }
 {
     match role {
-        Role::Source(array) => write_role_joins(b"given", name_of(nest, array), b"", out),
+        Role::Source(array) => write_array_joins(
+            b"given",
+            b"given_valid",
+            b"given_ready",
+            name_of(nest, array),
+            b"",
+            out,
+        ),
         Role::Assign => {}
-        Role::Sink(array) => {
-            let way = way_out_of(nest, array);
-            write_role_joins(b"result", name_of(nest, array), way, out);
-        }
+        Role::Sink(array) => write_array_joins(
+            b"result",
+            b"result_valid",
+            b"result_ready",
+            name_of(nest, array),
+            way_out_of(nest, array),
+            out,
+        ),
     }
 }
 
-fn write_join_in<W: TextWriter>(channel: u64, out: &mut W)
-    ensures { Wrote W.given out.old out.new (joins_in channel) }
+/// Writes how the ports of a channel are joined at this end of it.
+fn write_join<W: TextWriter>(end: End, channel: u64, out: &mut W)
+    ensures { Wrote W.given out.old out.new (joins_text end channel) }
 {
-    let number = Word::Number(channel);
-    write_all(
-        &[
-            Word::Text(b"      c"),
-            number,
-            Word::Text(b"_valid => valid_"),
-            number,
-            Word::Text(b",\n      c"),
-            number,
-            Word::Text(b"_front => front_"),
-            number,
-            Word::Text(b",\n      c"),
-            number,
-            Word::Text(b"_take => take_"),
-            number,
-            Word::Text(b",\n"),
-        ],
-        out,
-    );
+    match end {
+        End::Reader => write_with_number(
+            channel,
+            &[
+                b"      c",
+                b"_valid => valid_",
+                b",\n      c",
+                b"_front => front_",
+                b",\n      c",
+                b"_take => take_",
+                b",\n",
+            ],
+            out,
+        ),
+        End::Writer => write_with_number(
+            channel,
+            &[
+                b"      c",
+                b"_ready => ready_",
+                b",\n      c",
+                b"_data => data_",
+                b",\n      c",
+                b"_give => give_",
+                b",\n",
+            ],
+            out,
+        ),
+    }
 }
 
-fn write_joins_in<W: TextWriter>(channels: &[u32], out: &mut W)
-    ensures { Wrote W.given out.old out.new (flat_map joins_in channels.now) }
+fn write_joins<W: TextWriter>(end: End, channels: &[u32], out: &mut W)
+    ensures { Wrote W.given out.old out.new (flat_map (joins_text end) channels.now) }
 {
     for channel in channels {
-        write_join_in(u64::from(*channel), out);
+        write_join(end, u64::from(*channel), out);
     }
 }
 
-fn write_join_out<W: TextWriter>(channel: u64, out: &mut W)
-    ensures { Wrote W.given out.old out.new (joins_out channel) }
-{
-    let number = Word::Number(channel);
-    write_all(
-        &[
-            Word::Text(b"      c"),
-            number,
-            Word::Text(b"_ready => ready_"),
-            number,
-            Word::Text(b",\n      c"),
-            number,
-            Word::Text(b"_data => data_"),
-            number,
-            Word::Text(b",\n      c"),
-            number,
-            Word::Text(b"_give => give_"),
-            number,
-            Word::Text(b",\n"),
-        ],
-        out,
-    );
-}
-
-fn write_joins_out<W: TextWriter>(channels: &[u32], out: &mut W)
-    ensures { Wrote W.given out.old out.new (flat_map joins_out channels.now) }
-{
-    for channel in channels {
-        write_join_out(u64::from(*channel), out);
-    }
-}
-
-fn write_node_tail<W: TextWriter>(process: u32, out: &mut W)
-    ensures { Wrote W.given out.old out.new (node_tail process) }
-{
-    write_all(
-        &[
-            Word::Text(b"      done => done_"),
-            Word::Number(u64::from(process)),
-            Word::Text(b"\n    );\n"),
-        ],
-        out,
-    );
-}
-
-fn write_node_part<W: TextWriter>(nest: &Nest, unit: &Unit, out: &mut W)
+fn write_node<W: TextWriter>(nest: &Nest, unit: &Unit, out: &mut W)
     ensures { Wrote W.given out.old out.new (node_part nest.now unit.now) }
 {
-    write_node_head(unit.auto.process, out);
-    write_outer_joins(nest, unit.auto.role, out);
-    write_joins_in(unit.auto.gets.as_slice(), out);
-    write_joins_out(unit.auto.puts.as_slice(), out);
-    write_node_tail(unit.auto.process, out);
+    let number = u64::from(unit.auto.process);
+    write_with_number(
+        number,
+        &[
+            b"  node_",
+            b" : entity work.node_",
+            b"\n    port map (\n      clk => clk,\n      rst => rst,\n      again => again,\n",
+        ],
+        out,
+    );
+    write_role_joins(nest, unit.auto.role, out);
+    write_joins(End::Reader, unit.auto.gets.as_slice(), out);
+    write_joins(End::Writer, unit.auto.puts.as_slice(), out);
+    write_with_number(number, &[b"      done => done_", b"\n    );\n"], out);
 }
 
-fn write_node_parts<W: TextWriter>(nest: &Nest, units: &[Unit], out: &mut W)
-    ensures { Wrote W.given out.old out.new (flat_map (node_part nest.now) units.now) }
+fn write_unit_part<W: TextWriter>(part: UnitPart, nest: &Nest, unit: &Unit, out: &mut W)
+    ensures { Wrote W.given out.old out.new (unit_part_text part nest.now unit.now) }
 {
-    for unit in units {
-        write_node_part(nest, unit, out);
+    let number = u64::from(unit.auto.process);
+    match part {
+        UnitPart::Entities => write_unit(unit, out),
+        UnitPart::Ports => write_outer_ports(nest, unit.auto.role, out),
+        UnitPart::DoneSignal => {
+            write_with_number(number, &[b"  signal done_", b" : std_logic;\n"], out)
+        }
+        UnitPart::Node => write_node(nest, unit, out),
+        UnitPart::DoneTerm => write_with_number(number, &[b" and done_", b""], out),
     }
 }
 
-fn write_channel_part<W: TextWriter>(number: usize, channel: &Channel, out: &mut W)
-    ensures { Wrote W.given out.old out.new (channel_part (number, channel.now)) }
+/// Writes a part for each of these units.
+pub(crate) fn write_for_units<W: TextWriter>(
+    part: UnitPart,
+    nest: &Nest,
+    units: &[Unit],
+    out: &mut W,
+)
+    ensures { Wrote W.given out.old out.new (for_units part nest.now units.now) }
 {
-    let place = Word::Number(number as u64);
-    write_all(
+    for unit in units {
+        write_unit_part(part, nest, unit, out);
+    }
+}
+
+/// Writes the instance of a channel.
+fn write_instance<W: TextWriter>(number: u64, capacity: u32, out: &mut W)
+    ensures { Wrote W.given out.old out.new (instance_text number capacity) }
+{
+    out.put(b"  channel_");
+    write_number(number, out);
+    out.put(b" : entity work.channel\n    generic map (\n      capacity => ");
+    write_number(capacity, out);
+    write_with_number(
+        number,
         &[
-            Word::Text(b"  channel_"),
-            place,
-            Word::Text(b" : entity work.channel\n    generic map (\n      capacity => "),
-            Word::Number(u64::from(channel.capacity)),
-            Word::Text(
-                b"\n    )\n    port map (\n      clk => clk,\n      rst => rst,\n      ready => ready_",
-            ),
-            place,
-            Word::Text(b",\n      give => give_"),
-            place,
-            Word::Text(b",\n      data => data_"),
-            place,
-            Word::Text(b",\n      valid => valid_"),
-            place,
-            Word::Text(b",\n      take => take_"),
-            place,
-            Word::Text(b",\n      front => front_"),
-            place,
-            Word::Text(b"\n    );\n"),
+            b"\n    )\n    port map (\n      clk => clk,\n      rst => rst,\n      ready => ready_",
+            b",\n      give => give_",
+            b",\n      data => data_",
+            b",\n      valid => valid_",
+            b",\n      take => take_",
+            b",\n      front => front_",
+            b"\n    );\n",
         ],
         out,
     );
 }
 
-fn write_channel_parts<W: TextWriter>(channels: &[Channel], out: &mut W)
-    ensures { Wrote W.given out.old out.new
-        (flat_map channel_part (enumerate_from 0 channels.now)) }
+fn write_channel_part<W: TextWriter>(
+    part: ChannelPart,
+    number: usize,
+    channel: &Channel,
+    out: &mut W,
+)
+    ensures { Wrote W.given out.old out.new (channel_part_text part (number, channel.now)) }
 {
-    for (number, channel) in channels.iter().enumerate() {
-        write_channel_part(number, channel, out);
+    match part {
+        ChannelPart::Signals => write_with_number(
+            number as u64,
+            &[
+                b"  signal ready_",
+                b", give_",
+                b", valid_",
+                b", take_",
+                b" : std_logic;\n  signal data_",
+                b", front_",
+                b" : signed(63 downto 0);\n",
+            ],
+            out,
+        ),
+        ChannelPart::Instance => write_instance(number as u64, channel.capacity, out),
     }
 }
 
-fn write_done_term<W: TextWriter>(process: u32, out: &mut W)
-    ensures { Wrote W.given out.old out.new (done_term process) }
+// Writes a part for each of these channels.
+fn write_for_channels<W: TextWriter>(part: ChannelPart, channels: &[Channel], out: &mut W)
+    ensures { Wrote W.given out.old out.new (for_channels part channels.now) }
 {
-    write_all(
-        &[Word::Text(b" and done_"), Word::Number(u64::from(process))],
-        out,
-    );
-}
-
-fn write_done_terms<W: TextWriter>(units: &[Unit], out: &mut W)
-    ensures { Wrote W.given out.old out.new
-        (flat_map (λ unit. done_term unit.auto.process) units.now) }
-{
-    for unit in units {
-        write_done_term(unit.auto.process, out);
+    for (number, channel) in channels.iter().enumerate() {
+        write_channel_part(part, number, channel, out);
     }
 }
 
 /// Writes the entity of the network, with an empty line before it.
-pub(crate) fn write_network<W: TextWriter>(
-    nest: &Nest,
-    network: &Network,
-    units: &[Unit],
-    out: &mut W,
-)
-    ensures { Wrote W.given out.old out.new (network_text nest.now network.now units.now) }
+pub(crate) fn write_entity<W: TextWriter>(nest: &Nest, units: &[Unit], out: &mut W)
+    ensures { Wrote W.given out.old out.new (network_entity nest.now units.now) }
+{
+    out.put(
+        b"\nlibrary ieee;\nuse ieee.std_logic_1164.all;\nuse ieee.numeric_std.all;\nentity network is\n  port (\n    clk : in std_logic;\n    rst : in std_logic;\n    again : in std_logic;\n",
+    );
+    write_for_units(UnitPart::Ports, nest, units, out);
+    out.put(b"    done : out std_logic\n  );\nend entity;\n");
+}
+
+/// Writes the architecture of the network.
+pub(crate) fn write_body<W: TextWriter>(nest: &Nest, network: &Network, units: &[Unit], out: &mut W)
+    ensures { Wrote W.given out.old out.new (network_body nest.now network.now units.now) }
 {
     let channels = network.channels.as_slice();
-    write_network_entity(out);
-    write_all_outer_ports(nest, units, out);
-    out.put(b"    done : out std_logic\n  );\nend entity;\narchitecture rtl of network is\n");
-    write_all_channel_signals(channels.len(), out);
-    write_done_signals(units, out);
+    out.put(b"architecture rtl of network is\n");
+    write_for_channels(ChannelPart::Signals, channels, out);
+    write_for_units(UnitPart::DoneSignal, nest, units, out);
     out.put(b"begin\n");
-    write_node_parts(nest, units, out);
-    write_channel_parts(channels, out);
+    write_for_units(UnitPart::Node, nest, units, out);
+    write_for_channels(ChannelPart::Instance, channels, out);
     out.put(b"  done <= '1'");
-    write_done_terms(units, out);
+    write_for_units(UnitPart::DoneTerm, nest, units, out);
     out.put(b";\nend architecture;\n");
 }

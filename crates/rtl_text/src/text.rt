@@ -1,63 +1,26 @@
 ghost use Rattle.std.specs.Prelude.{◌≡◌, OnErr, OnOk};
 ghost use Rattle.std.specs.Io.KnownBytes.{Appends};
-ghost use Rattle.std.specs.List.{flat_map};
 ghost use Rattle.io_edge.specs.Causes.{AppendsFront, Rose};
 ghost use Rattle.text_out.specs.Wrote.{Wrote};
-ghost use Rattle.vhdl_text.specs.VhdlText.{channel_line, channel_lines};
 ghost use Rattle.rtl_text.specs.Networks.{rtl_text};
-ghost use Rattle.unit_text.specs.Nodes.{unit_text};
 
-use crate::network::{write_channel, write_network};
+use crate::network::{UnitPart, write_body, write_channel, write_entity, write_for_units};
 use io_edge::{Sink, WriteFault};
-use net_core::{Channel, Network};
+use net_core::Network;
 use sanlp::Nest;
-use sequencer_text::write_all;
-use text_out::{TextWriter, Word, Writer};
-use unit_text::{Unit, write_unit};
-
-fn write_channel_line<W: TextWriter>(number: usize, channel: &Channel, out: &mut W)
-    ensures { Wrote W.given out.old out.new (channel_line (number, channel.now)) }
-{
-    write_all(
-        &[
-            Word::Text(b"-- channel "),
-            Word::Number(number as u64),
-            Word::Text(b" node_"),
-            Word::Number(u64::from(channel.writer)),
-            Word::Text(b" node_"),
-            Word::Number(u64::from(channel.reader)),
-            Word::Text(b" capacity "),
-            Word::Number(u64::from(channel.capacity)),
-            Word::Text(b"\n"),
-        ],
-        out,
-    );
-}
-
-fn write_channel_lines<W: TextWriter>(channels: &[Channel], out: &mut W)
-    ensures { Wrote W.given out.old out.new (channel_lines channels.now) }
-{
-    for (number, channel) in channels.iter().enumerate() {
-        write_channel_line(number, channel, out);
-    }
-}
-
-fn write_units<W: TextWriter>(units: &[Unit], out: &mut W)
-    ensures { Wrote W.given out.old out.new (flat_map unit_text units.now) }
-{
-    for unit in units {
-        write_unit(unit, out);
-    }
-}
+use text_out::{TextWriter, Writer};
+use unit_text::Unit;
+use vhdl_text::write_channels;
 
 fn write_text<W: TextWriter>(nest: &Nest, network: &Network, units: &[Unit], out: &mut W)
     ensures { Wrote W.given out.old out.new (rtl_text nest.now network.now units.now) }
 {
     out.put(b"-- compaan rtl 1\n");
-    write_channel_lines(network.channels.as_slice(), out);
+    write_channels(network.channels.as_slice(), out);
     write_channel(out);
-    write_units(units, out);
-    write_network(nest, network, units, out);
+    write_for_units(UnitPart::Entities, nest, units, out);
+    write_entity(nest, units, out);
+    write_body(nest, network, units, out);
 }
 
 /// Writes the text of a network's design with the hardware of its processes, in order. It takes no memory.

@@ -5,18 +5,10 @@ use Rattle.repeat_sequencer.specs.declared.sequencer.Sequencer.{Sequencer}
 use Rattle.sequencer_text.specs.declared.sequencer.EntityName.{EntityName}
 use Rattle.sequencer_text.specs.declared.sequencer.EntityName.TheVariants.{Control, Loop}
 use Rattle.sequencer_text.specs.declared.sequencer.EndPart.{EndPart}
-use Rattle.sequencer_text.specs.declared.sequencer.EndPart.TheVariants.{Signals, Lines, Turns}
+use Rattle.sequencer_text.specs.declared.sequencer.EndPart.TheVariants.{Tables, Signals, Lines, Turns}
 use Rattle.sequencer_text.specs.declared.tables.EndColumn.TheVariants.{Level, First, Count}
 use Rattle.sequencer_text.specs.Tables.{end_table, most_ends, most_turns}
-
--- pieces with a number between each two
-abbrev pub number_before : ℕ → List (List ℕ) → List ℕ
-number_before n [] = []
-number_before n (piece ∷ pieces) = decimal n ++ (piece ++ number_before n pieces)
-
-abbrev pub with_number : ℕ → List (List ℕ) → List ℕ
-with_number n [] = []
-with_number n (piece ∷ pieces) = piece ++ number_before n pieces
+use Rattle.vhdl_text.specs.Numbered.{with_number}
 
 abbrev pub library_lines : List ℕ
 library_lines = codes "\nlibrary ieee;\nuse ieee.std_logic_1164.all;\nuse ieee.numeric_std.all;\n"
@@ -50,47 +42,39 @@ sequencer_signals count levels = concat (
     ∷ codes " := 0;\n  signal turns : counts(0 to " ∷ decimal levels
     ∷ codes ") := (others => 0);\n" ∷ [])
 
-abbrev pub end_signals : ℕ → List ℕ
-end_signals j =
-    with_number j (codes "  signal level" ∷ codes "_here, first" ∷ codes "_here, count" ∷ codes "_here : integer;\n" ∷ [])
-
--- what the tables have at the instruction
-abbrev pub end_lines : ℕ → List ℕ
-end_lines j = with_number j (
-    codes "  level" ∷ codes "_here <= level" ∷ codes "(pc);\n  first" ∷ codes "_here <= first"
-    ∷ codes "(pc);\n  count" ∷ codes "_here <= count" ∷ codes "(pc);\n" ∷ [])
-
 -- a reset, and the end, behind which all begins anew while that is asked for
 abbrev pub sequencer_head : ℕ → List ℕ
-sequencer_head count = concat (
+sequencer_head count = with_number count (
     codes "  process (clk)\n    variable ends : boolean;\n    variable target : integer range 0 to "
-    ∷ decimal count
     ∷ codes ";\n  begin\n    if rising_edge(clk) then\n      if rst = '1' then\n        pc <= 0;\n        turns <= (others => 0);\n      elsif pc = "
-    ∷ decimal count
     ∷ codes " then\n        if again = '1' then\n          pc <= 0;\n        end if;\n      elsif step = '1' then\n        ends := true;\n        target := pc + 1;\n" ∷ [])
 
--- the repeat of place j, where those before it have ended
-abbrev pub turn_lines : ℕ → List ℕ
-turn_lines j = with_number j (
+abbrev pub sequencer_end : ℕ → List ℕ
+sequencer_end count = with_number count (
+    codes "        if target = "
+    ∷ codes " and again = '1' then\n          pc <= 0;\n        else\n          pc <= target;\n        end if;\n      end if;\n    end if;\n  end process;\nend architecture;\n" ∷ [])
+
+-- What there is for place j of repeats that end: its tables, signals of what these have at the instruction, the lines that drive
+-- the signals, and what is done where the repeats of the places before it have ended.
+abbrev pub end_part_text : {T : Type 0} → EndPart → Sequencer T → ℕ → List ℕ
+end_part_text Tables sequencer j = end_tables sequencer j
+end_part_text Signals sequencer j = with_number j (
+    codes "  signal level" ∷ codes "_here, first" ∷ codes "_here, count"
+    ∷ codes "_here : integer;\n" ∷ [])
+end_part_text Lines sequencer j = with_number j (
+    codes "  level" ∷ codes "_here <= level" ∷ codes "(pc);\n  first" ∷ codes "_here <= first"
+    ∷ codes "(pc);\n  count" ∷ codes "_here <= count" ∷ codes "(pc);\n" ∷ [])
+end_part_text Turns sequencer j = with_number j (
     codes "        if ends and count" ∷ codes "_here > 0 then\n          if turns(level"
     ∷ codes "_here) + 1 < count" ∷ codes "_here then\n            turns(level"
     ∷ codes "_here) <= turns(level" ∷ codes "_here) + 1;\n            target := first"
     ∷ codes "_here;\n            ends := false;\n          else\n            turns(level"
     ∷ codes "_here) <= 0;\n          end if;\n        end if;\n" ∷ [])
 
-abbrev pub sequencer_end : ℕ → List ℕ
-sequencer_end count = concat (
-    codes "        if target = " ∷ decimal count
-    ∷ codes " and again = '1' then\n          pc <= 0;\n        else\n          pc <= target;\n        end if;\n      end if;\n    end if;\n  end process;\nend architecture;\n" ∷ [])
-
-abbrev pub end_part_text : EndPart → ℕ → List ℕ
-end_part_text Signals j = end_signals j
-end_part_text Lines j = end_lines j
-end_part_text Turns j = turn_lines j
-
--- something for each place of repeats that end
-abbrev pub for_ends : {T : Type 0} → (ℕ → List ℕ) → Sequencer T → List ℕ
-for_ends f sequencer = flat_map f (range_with_len 0 (most_ends sequencer))
+-- the same for each place of repeats that end
+abbrev pub for_ends : {T : Type 0} → EndPart → Sequencer T → List ℕ
+for_ends part sequencer =
+    flat_map (end_part_text part sequencer) (range_with_len 0 (most_ends sequencer))
 
 -- a sequencer as an entity with its architecture: a counter for the instruction, and one for each level of repeats
 abbrev pub sequencer_text : {T : Type 0} → EntityName → Sequencer T → List ℕ
@@ -98,6 +82,6 @@ sequencer_text name sequencer =
     let count : ℕ = length sequencer.instructions in
     concat (
     sequencer_entity name count ∷ sequencer_types name (most_turns sequencer)
-    ∷ for_ends (end_tables sequencer) sequencer ∷ sequencer_signals count sequencer.levels
-    ∷ for_ends (end_part_text Signals) sequencer ∷ codes "begin\n  at <= pc;\n" ∷ for_ends (end_part_text Lines) sequencer
-    ∷ sequencer_head count ∷ for_ends (end_part_text Turns) sequencer ∷ sequencer_end count ∷ [])
+    ∷ for_ends Tables sequencer ∷ sequencer_signals count sequencer.levels
+    ∷ for_ends Signals sequencer ∷ codes "begin\n  at <= pc;\n" ∷ for_ends Lines sequencer
+    ∷ sequencer_head count ∷ for_ends Turns sequencer ∷ sequencer_end count ∷ [])

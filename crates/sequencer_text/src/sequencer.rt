@@ -1,10 +1,10 @@
 ghost use Rattle.text_out.specs.Wrote.{Wrote};
-ghost use Rattle.sequencer_text.specs.Sequencers.{end_lines, end_part_text, end_signals, end_tables, for_ends, name_text, sequencer_end, sequencer_entity, sequencer_head, sequencer_signals, sequencer_text, sequencer_types, turn_lines};
+ghost use Rattle.sequencer_text.specs.Sequencers.{end_part_text, end_tables, for_ends, name_text, sequencer_end, sequencer_entity, sequencer_head, sequencer_signals, sequencer_text, sequencer_types};
 
 use crate::tables::{EndColumn, most_ends, most_turns, write_end_table};
-use crate::words::write_all;
 use repeat_sequencer::Sequencer;
 use text_out::{TextWriter, Word};
+use vhdl_text::{write_all, write_with_number};
 
 /// The name of the entity of a sequencer.
 #[derive(Clone, Copy)]
@@ -83,14 +83,6 @@ fn write_end_tables<T, W: TextWriter>(sequencer: &Sequencer<T>, place: usize, ou
     write_end_table(EndColumn::Count, place, sequencer, out);
 }
 
-fn write_all_end_tables<T, W: TextWriter>(sequencer: &Sequencer<T>, out: &mut W)
-    ensures { Wrote W.given out.old out.new (for_ends (end_tables sequencer.now) sequencer.now) }
-{
-    for place in 0..most_ends(sequencer) {
-        write_end_tables(sequencer, place, out);
-    }
-}
-
 fn write_sequencer_signals<W: TextWriter>(count: u64, levels: u64, out: &mut W)
     ensures { Wrote W.given out.old out.new (sequencer_signals count levels) }
 {
@@ -106,92 +98,15 @@ fn write_sequencer_signals<W: TextWriter>(count: u64, levels: u64, out: &mut W)
     );
 }
 
-fn write_end_signals<W: TextWriter>(place: u64, out: &mut W)
-    ensures { Wrote W.given out.old out.new (end_signals place) }
-{
-    let number = Word::Number(place);
-    write_all(
-        &[
-            Word::Text(b"  signal level"),
-            number,
-            Word::Text(b"_here, first"),
-            number,
-            Word::Text(b"_here, count"),
-            number,
-            Word::Text(b"_here : integer;\n"),
-        ],
-        out,
-    );
-}
-
-fn write_end_lines<W: TextWriter>(place: u64, out: &mut W)
-    ensures { Wrote W.given out.old out.new (end_lines place) }
-{
-    let number = Word::Number(place);
-    write_all(
-        &[
-            Word::Text(b"  level"),
-            number,
-            Word::Text(b"_here <= level"),
-            number,
-            Word::Text(b"(pc);\n  first"),
-            number,
-            Word::Text(b"_here <= first"),
-            number,
-            Word::Text(b"(pc);\n  count"),
-            number,
-            Word::Text(b"_here <= count"),
-            number,
-            Word::Text(b"(pc);\n"),
-        ],
-        out,
-    );
-}
-
 fn write_sequencer_head<W: TextWriter>(count: u64, out: &mut W)
     ensures { Wrote W.given out.old out.new (sequencer_head count) }
 {
-    write_all(
+    write_with_number(
+        count,
         &[
-            Word::Text(
-                b"  process (clk)\n    variable ends : boolean;\n    variable target : integer range 0 to ",
-            ),
-            Word::Number(count),
-            Word::Text(
-                b";\n  begin\n    if rising_edge(clk) then\n      if rst = '1' then\n        pc <= 0;\n        turns <= (others => 0);\n      elsif pc = ",
-            ),
-            Word::Number(count),
-            Word::Text(
-                b" then\n        if again = '1' then\n          pc <= 0;\n        end if;\n      elsif step = '1' then\n        ends := true;\n        target := pc + 1;\n",
-            ),
-        ],
-        out,
-    );
-}
-
-fn write_turn_lines<W: TextWriter>(place: u64, out: &mut W)
-    ensures { Wrote W.given out.old out.new (turn_lines place) }
-{
-    let number = Word::Number(place);
-    write_all(
-        &[
-            Word::Text(b"        if ends and count"),
-            number,
-            Word::Text(b"_here > 0 then\n          if turns(level"),
-            number,
-            Word::Text(b"_here) + 1 < count"),
-            number,
-            Word::Text(b"_here then\n            turns(level"),
-            number,
-            Word::Text(b"_here) <= turns(level"),
-            number,
-            Word::Text(b"_here) + 1;\n            target := first"),
-            number,
-            Word::Text(
-                b"_here;\n            ends := false;\n          else\n            turns(level",
-            ),
-            number,
-            Word::Text(b"_here) <= 0;\n          end if;\n        end if;\n"),
+            b"  process (clk)\n    variable ends : boolean;\n    variable target : integer range 0 to ",
+            b";\n  begin\n    if rising_edge(clk) then\n      if rst = '1' then\n        pc <= 0;\n        turns <= (others => 0);\n      elsif pc = ",
+            b" then\n        if again = '1' then\n          pc <= 0;\n        end if;\n      elsif step = '1' then\n        ends := true;\n        target := pc + 1;\n",
         ],
         out,
     );
@@ -200,13 +115,11 @@ fn write_turn_lines<W: TextWriter>(place: u64, out: &mut W)
 fn write_sequencer_end<W: TextWriter>(count: u64, out: &mut W)
     ensures { Wrote W.given out.old out.new (sequencer_end count) }
 {
-    write_all(
+    write_with_number(
+        count,
         &[
-            Word::Text(b"        if target = "),
-            Word::Number(count),
-            Word::Text(
-                b" and again = '1' then\n          pc <= 0;\n        else\n          pc <= target;\n        end if;\n      end if;\n    end if;\n  end process;\nend architecture;\n",
-            ),
+            b"        if target = ",
+            b" and again = '1' then\n          pc <= 0;\n        else\n          pc <= target;\n        end if;\n      end if;\n    end if;\n  end process;\nend architecture;\n",
         ],
         out,
     );
@@ -215,6 +128,8 @@ fn write_sequencer_end<W: TextWriter>(count: u64, out: &mut W)
 /// What a sequencer's text has for each place of repeats that end.
 #[derive(Clone, Copy)]
 pub(crate) enum EndPart {
+    /// Its tables.
+    Tables,
     /// The signals of what its tables have.
     Signals,
     /// The lines that drive them.
@@ -223,21 +138,62 @@ pub(crate) enum EndPart {
     Turns,
 }
 
-fn write_end_part<W: TextWriter>(part: EndPart, place: u64, out: &mut W)
-    ensures { Wrote W.given out.old out.new (end_part_text part place) }
+fn write_end_part<T, W: TextWriter>(
+    part: EndPart,
+    sequencer: &Sequencer<T>,
+    place: usize,
+    out: &mut W,
+)
+    ensures { Wrote W.given out.old out.new (end_part_text part sequencer.now place) }
 {
+    let number = place as u64;
     match part {
-        EndPart::Signals => write_end_signals(place, out),
-        EndPart::Lines => write_end_lines(place, out),
-        EndPart::Turns => write_turn_lines(place, out),
+        EndPart::Tables => write_end_tables(sequencer, place, out),
+        EndPart::Signals => write_with_number(
+            number,
+            &[
+                b"  signal level",
+                b"_here, first",
+                b"_here, count",
+                b"_here : integer;\n",
+            ],
+            out,
+        ),
+        EndPart::Lines => write_with_number(
+            number,
+            &[
+                b"  level",
+                b"_here <= level",
+                b"(pc);\n  first",
+                b"_here <= first",
+                b"(pc);\n  count",
+                b"_here <= count",
+                b"(pc);\n",
+            ],
+            out,
+        ),
+        EndPart::Turns => write_with_number(
+            number,
+            &[
+                b"        if ends and count",
+                b"_here > 0 then\n          if turns(level",
+                b"_here) + 1 < count",
+                b"_here then\n            turns(level",
+                b"_here) <= turns(level",
+                b"_here) + 1;\n            target := first",
+                b"_here;\n            ends := false;\n          else\n            turns(level",
+                b"_here) <= 0;\n          end if;\n        end if;\n",
+            ],
+            out,
+        ),
     }
 }
 
 fn write_end_parts<T, W: TextWriter>(part: EndPart, sequencer: &Sequencer<T>, out: &mut W)
-    ensures { Wrote W.given out.old out.new (for_ends (end_part_text part) sequencer.now) }
+    ensures { Wrote W.given out.old out.new (for_ends part sequencer.now) }
 {
     for place in 0..most_ends(sequencer) {
-        write_end_part(part, place as u64, out);
+        write_end_part(part, sequencer, place, out);
     }
 }
 
@@ -248,7 +204,7 @@ pub fn write_sequencer<T, W: TextWriter>(name: EntityName, sequencer: &Sequencer
     let count = sequencer.instructions.len() as u64;
     write_sequencer_entity(name, count, out);
     write_sequencer_types(name, most_turns(sequencer), out);
-    write_all_end_tables(sequencer, out);
+    write_end_parts(EndPart::Tables, sequencer, out);
     write_sequencer_signals(count, sequencer.levels as u64, out);
     write_end_parts(EndPart::Signals, sequencer, out);
     out.put(b"begin\n  at <= pc;\n");

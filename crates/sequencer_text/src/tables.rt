@@ -1,12 +1,12 @@
-ghost use Rattle.std.specs.Prelude.{◌≡◌, ◌++◌, decimal, map};
+ghost use Rattle.std.specs.Prelude.{◌≡◌, decimal, map};
 ghost use Rattle.script_blocks.specs.Nesting.{greatest};
 ghost use Rattle.text_out.specs.Wrote.{Wrote};
-ghost use Rattle.text_out.specs.Words.{word_text};
-ghost use Rattle.vhdl_text.specs.Pieces.{entries_from, entry_comma, head_text, tail_text};
+ghost use Rattle.vhdl_text.specs.Pieces.{entries_from};
 ghost use Rattle.sequencer_text.specs.Tables.{end_number as number_of_end, end_table, end_value, end_word, ends_behind, most_ends as ends_at_most, most_turns as turns_at_most, turns_behind};
 
 use repeat_sequencer::{Instruction, RepeatEnd, Sequencer};
-use text_out::{TextWriter, Word, write_number, write_word};
+use text_out::{TextWriter, Word};
+use vhdl_text::{write_entry, write_head, write_tail};
 
 /// A table of the repeats that end behind each instruction.
 #[derive(Clone, Copy)]
@@ -17,41 +17,6 @@ pub(crate) enum EndColumn {
     First,
     /// Its turns, or 0 where no repeat ends.
     Count,
-}
-
-/// Writes an entry that another follows.
-pub fn write_entry<W: TextWriter>(index: u64, value: Word, out: &mut W)
-    ensures { Wrote W.given out.old out.new (entry_comma (index, word_text value.entry)) }
-{
-    write_number(index, out);
-    out.put(b" => ");
-    write_word(value, out);
-    out.put(b", ");
-}
-
-/// Writes what comes before the entries of a table, of which there are so many.
-pub fn write_head<W: TextWriter>(name: &[u8], number: Word, of: &[u8], count: u64, out: &mut W)
-    ensures { Wrote W.given out.old out.new
-        (head_text (name.now ++ word_text number.entry) of.now count) }
-{
-    out.put(b"  constant ");
-    out.put(name);
-    write_word(number, out);
-    out.put(b" : ");
-    out.put(of);
-    out.put(b"(0 to ");
-    write_number(count, out);
-    out.put(b") := (");
-}
-
-/// Writes the last entry of a table.
-pub fn write_tail<W: TextWriter>(count: u64, value: Word, out: &mut W)
-    ensures { Wrote W.given out.old out.new (tail_text count (word_text value.entry)) }
-{
-    write_number(count, out);
-    out.put(b" => ");
-    write_word(value, out);
-    out.put(b");\n");
 }
 
 // A number of the repeat of this place that ends behind an instruction, or 0 where fewer end there.

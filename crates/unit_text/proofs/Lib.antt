@@ -1,3 +1,4 @@
 pub mod Ports
 mod Counting
 mod Sequences
+pub mod Limits

@@ -14,7 +14,7 @@ use Rattle.unit_text.specs.declared.node.Part.TheVariants.{PortsIn, PortsOut}
 use Rattle.unit_text.specs.declared.node.RolePart.TheVariants as roles
 use Rattle.unit_text.specs.declared.unit.Unit.{Unit}
 use Rattle.unit_text.specs.Nodes.{entity_text, part_text, parts_text, role_text}
-use Rattle.unit_text.specs.Ports.{bit_in, bit_out, entity_with, incoming_ports, outgoing_ports, port_line}
+use Rattle.unit_text.specs.Ports.{bit_in, bit_out, entity_with, incoming_ports, node_name, outgoing_ports, port_line}
 use Rattle.unit_text.specs.Ports.{ports, role_ports, word_in, word_out}
 
 -- Pieces with something between them
@@ -44,10 +44,10 @@ join_last f between (x ∷ xs) last =
 pub list_end : {X : Type 0} (xs ys zs end : List X) → xs ++ (ys ++ (zs ++ end)) ≡ (xs ++ (ys ++ zs)) ++ end
 list_end xs ys zs end = simp append_assoc
 
-entity_regroup : (h p i l r g q d e : List ℕ)
-    → (h ++ (p ++ (i ++ l))) ++ (r ++ (g ++ (q ++ (d ++ e))))
-    ≡ h ++ (p ++ (i ++ (((l ++ (r ++ (g ++ q))) ++ d) ++ e)))
-entity_regroup h p i l r g q d e = simp append_assoc
+entity_regroup : (h k p i l r g q d e : List ℕ)
+    → ((h ++ k) ++ ((p ++ (i ++ l)) ++ [])) ++ (r ++ (g ++ (q ++ (d ++ e))))
+    ≡ h ++ ((k ++ p) ++ (i ++ (((l ++ (r ++ (g ++ q))) ++ d) ++ e)))
+entity_regroup h k p i l r g q d e = simp (append_assoc, append-nil)
 
 -- lists of lists, one after the other
 pub flat_map_of_flat_map : {X Y : Type 0} (g : Y → List ℕ) (f : X → List Y) (text : X → List ℕ)
@@ -65,9 +65,9 @@ flat_map_of_flat_map g f text each (x ∷ xs) =
 lines_of_three : (in_front name c colon behind p q r s t u : List ℕ)
     → flat_map (λ (port : List ℕ × List ℕ). concat (in_front ∷ port.0 ∷ colon ∷ port.1 ∷ []) ++ behind)
     ((concat (name ∷ c ∷ p ∷ []), s) ∷ (concat (name ∷ c ∷ q ∷ []), t) ∷ (concat (name ∷ c ∷ r ∷ []), u) ∷ [])
-    ≡ (in_front ++ name) ++ (c ++ ((p ++ (colon ++ (s ++ (behind ++ (in_front ++ name)))))
-    ++ (c ++ ((q ++ (colon ++ (t ++ (behind ++ (in_front ++ name)))))
-    ++ (c ++ (r ++ (colon ++ (u ++ behind))))))))
+    ≡ join_by (λ (piece : List ℕ). piece) c
+    ((in_front ++ name) ∷ (p ++ (colon ++ (s ++ (behind ++ (in_front ++ name)))))
+    ∷ (q ++ (colon ++ (t ++ (behind ++ (in_front ++ name))))) ∷ (r ++ (colon ++ (u ++ behind))) ∷ [])
 lines_of_three in_front name c colon behind p q r s t u = simp (append_assoc, append-nil)
 
 abbrev line : List ℕ × List ℕ → List ℕ
@@ -126,11 +126,13 @@ module _ (unit : Unit) where
       (codes "    clk : in std_logic;\n    rst : in std_logic;\n    again : in std_logic;\n" ++ text)
       ++ codes "    done : out std_logic") lines_of_others
 
-  pub entity_has_ports : entity_text unit ≡ entity_with unit.auto.process (ports unit)
+  pub entity_has_ports : entity_text unit ≡ entity_with (node_name unit.auto.process) (ports unit)
   entity_has_ports =
-      entity_regroup (library_lines ++ codes "entity node_") (decimal unit.auto.process) (codes " is\n  port (\n")
+      entity_regroup (library_lines ++ codes "entity ") (codes "node_") (decimal unit.auto.process)
+      (codes " is\n  port (\n")
       (codes "    clk : in std_logic;\n    rst : in std_logic;\n    again : in std_logic;\n")
       (role_text roles.Ports unit.auto.role) (parts_text PortsIn unit.auto.gets) (parts_text PortsOut unit.auto.puts)
       (codes "    done : out std_logic") (codes "\n  );\nend entity;\n")
-      ∙ ap (λ (text : List ℕ). (library_lines ++ codes "entity node_")
-      ++ (decimal unit.auto.process ++ (codes " is\n  port (\n" ++ (text ++ codes "\n  );\nend entity;\n")))) (sym joined)
+      ∙ ap (λ (text : List ℕ). (library_lines ++ codes "entity ")
+      ++ (node_name unit.auto.process ++ (codes " is\n  port (\n" ++ (text ++ codes "\n  );\nend entity;\n"))))
+      (sym joined)

@@ -1,4 +1,8 @@
 -- What a sequencer of blocks that stand for a list gives: the list in a round, and again in each round where it begins anew.
+--
+-- The sequencer is that of its blocks, and these stand for the list, so both follow from what the sequencer of proper blocks
+-- gives (`repeat_sequencer.proofs.Given`) by putting the one for the other. Nothing is an induction here, and nothing is said of
+-- which blocks they are.
 use Rattle.std.proofs.Common.{ℕ, List, sym, subst}
 use Rattle.script_blocks.specs.Expansion.{repeated}
 use Rattle.repeat_sequencer.specs.declared.sequencer.Sequencer.{Sequencer}

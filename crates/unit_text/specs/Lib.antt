@@ -1,6 +1,6 @@
 pub mod Units
 pub mod Events
-pub mod Expressions
 pub mod Nodes
 pub mod Ports
 pub mod Counting
+pub mod Limits

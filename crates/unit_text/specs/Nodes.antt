@@ -4,7 +4,11 @@ use Rattle.std.specs.List.{concat, flat_map, range_with_len}
 use Rattle.sanlp.specs.declared.nest.Role.{Role}
 use Rattle.sanlp.specs.declared.nest.Role.TheVariants.{Source, Assign, Sink}
 use Rattle.vhdl_text.specs.Constants.{constant_text}
+use Rattle.vhdl_text.specs.declared.constants.Column.TheVariants.{Op, Arg, Dst, Read}
+use Rattle.vhdl_text.specs.declared.expression.Naming.TheVariants as naming
+use Rattle.vhdl_text.specs.Expressions.{expr_text}
 use Rattle.vhdl_text.specs.Literals.{literal}
+use Rattle.vhdl_text.specs.Numbered.{with_number}
 use Rattle.vhdl_text.specs.Pieces.{functions_text}
 use Rattle.unit_text.specs.declared.node.Part.{Part}
 use Rattle.unit_text.specs.declared.node.Part.TheVariants.{PortsIn, PortsOut, StepIn, StepOut, Take, Give, Receive}
@@ -15,11 +19,9 @@ use Rattle.unit_text.specs.declared.node.ReadPart.TheVariants as reads
 use Rattle.unit_text.specs.declared.node.RolePart.{RolePart}
 use Rattle.unit_text.specs.declared.node.RolePart.TheVariants as roles
 use Rattle.sequencer_text.specs.declared.sequencer.EntityName.TheVariants.{Control, Loop}
-use Rattle.unit_text.specs.declared.events.Column.TheVariants.{Op, Arg, Dst, Read}
 use Rattle.unit_text.specs.declared.unit.LoopCounter.{LoopCounter}
 use Rattle.unit_text.specs.declared.unit.Unit.{Unit}
-use Rattle.unit_text.specs.Expressions.{expr_text}
-use Rattle.sequencer_text.specs.Sequencers.{library_lines, name_text, sequencer_text, with_number}
+use Rattle.sequencer_text.specs.Sequencers.{library_lines, name_text, sequencer_text}
 use Rattle.unit_text.specs.Events.{event_table}
 
 -- What a node has for its role: a source is given values, and a sink gives them out. A source fires when a value is there,
@@ -80,16 +82,12 @@ abbrev pub parts_text : Part → List ℕ → List ℕ
 parts_text part channels = flat_map (part_text part) channels
 
 -- What it has for a read: a table, a signal of what the table has at the instruction, and the line that drives this.
-abbrev pub read_signal : ℕ → List ℕ
-read_signal k = with_number k (codes "  signal r" ∷ codes "_here : integer;\n" ∷ [])
-
-abbrev pub read_line : ℕ → List ℕ
-read_line k = with_number k (codes "  r" ∷ codes "_here <= r" ∷ codes "(pc);\n" ∷ [])
-
 abbrev pub read_text : ReadPart → Unit → ℕ → List ℕ
 read_text reads.Table unit k = event_table (Read k) unit.control
-read_text reads.Signal unit k = read_signal k
-read_text reads.Line unit k = read_line k
+read_text reads.Signal unit k =
+    with_number k (codes "  signal r" ∷ codes "_here : integer;\n" ∷ [])
+read_text reads.Line unit k =
+    with_number k (codes "  r" ∷ codes "_here <= r" ∷ codes "(pc);\n" ∷ [])
 
 abbrev pub reads_text : ReadPart → Unit → List ℕ
 reads_text part unit = flat_map (read_text part unit) (range_with_len 0 unit.auto.reads)
@@ -115,10 +113,6 @@ loop_part p counter = concat (
     ∷ codes "\n    port map (\n      clk => clk,\n      rst => rst,\n      again => '1',\n      step => fires,\n      at => pc"
     ∷ decimal counter.number ∷ codes "\n    );\n" ∷ [])
 
-abbrev pub gain_line : ℕ → List ℕ
-gain_line n = with_number n (
-    codes "        v" ∷ codes " <= v" ∷ codes " + gain" ∷ codes "(pc" ∷ codes ");\n" ∷ [])
-
 abbrev pub loop_reset : LoopCounter → List ℕ
 loop_reset counter = concat (
     codes "        v" ∷ decimal counter.number ∷ codes " <= " ∷ literal counter.first
@@ -129,7 +123,8 @@ loop_text loops.Entity p counter = sequencer_text (Loop p counter.number) counte
 loop_text loops.Table p counter = gain_table counter
 loop_text loops.Signals p counter = loop_signals counter
 loop_text loops.Part p counter = loop_part p counter
-loop_text loops.Gain p counter = gain_line counter.number
+loop_text loops.Gain p counter = with_number counter.number (
+    codes "        v" ∷ codes " <= v" ∷ codes " + gain" ∷ codes "(pc" ∷ codes ");\n" ∷ [])
 loop_text loops.Reset p counter = loop_reset counter
 
 abbrev pub loops_text : LoopPart → Unit → List ℕ
@@ -138,8 +133,8 @@ loops_text part unit = flat_map (loop_text part unit.auto.process) unit.loops
 -- The entity
 
 abbrev pub node_entity : ℕ → List ℕ
-node_entity p = concat (
-    library_lines ∷ codes "entity node_" ∷ decimal p
+node_entity p = with_number p (
+    (library_lines ++ codes "entity node_")
     ∷ codes " is\n  port (\n    clk : in std_logic;\n    rst : in std_logic;\n    again : in std_logic;\n"
     ∷ [])
 
@@ -149,22 +144,22 @@ node_entity_end = codes "    done : out std_logic\n  );\nend entity;\n"
 -- The architecture's declarations
 
 abbrev pub node_types : ℕ → List ℕ
-node_types p = concat (
-    codes "architecture rtl of node_" ∷ decimal p
+node_types p = with_number p (
+    codes "architecture rtl of node_"
     ∷ codes " is\n  type codes is array (natural range <>) of integer;\n  type words is array (natural range <>) of signed(63 downto 0);\n  constant zero : signed(63 downto 0) := x\"0000000000000000\";\n"
     ∷ [])
 
 -- the place in the script, whether it is left at the next edge, and by a fire; what the tables have there
 abbrev pub node_signals : ℕ → List ℕ
-node_signals count = concat (
-    codes "  signal pc : integer range 0 to " ∷ decimal count
+node_signals count = with_number count (
+    codes "  signal pc : integer range 0 to "
     ∷ codes ";\n  signal step : std_logic;\n  signal fires : std_logic;\n  signal op_here, arg_here, dst_here : integer;\n"
     ∷ [])
 
 -- the slots with a spare one, and the value that was fired last
 abbrev pub slot_signals : ℕ → List ℕ
-slot_signals slots = concat (
-    codes "  signal slot : words(0 to " ∷ decimal slots
+slot_signals slots = with_number slots (
+    codes "  signal slot : words(0 to "
     ∷ codes ");\n  signal fired : signed(63 downto 0);\n" ∷ [])
 
 -- The architecture's statements
@@ -226,7 +221,7 @@ wiring_text unit = concat (
 abbrev pub process_text : Unit → List ℕ
 process_text unit = concat (
     process_head ∷ parts_text Receive unit.auto.gets ∷ role_text roles.Taken unit.auto.role
-    ∷ fire_lines (expr_text unit.auto.expr) ∷ role_text roles.Gives unit.auto.role
+    ∷ fire_lines (expr_text naming.Signals unit.auto.expr) ∷ role_text roles.Gives unit.auto.role
     ∷ loops_text loops.Gain unit
     ∷ reset_lines ∷ role_text roles.Reset unit.auto.role ∷ loops_text loops.Reset unit
     ∷ node_end ∷ [])

@@ -53,8 +53,12 @@ ports unit =
 abbrev pub port_line : List ℕ × List ℕ → List ℕ
 port_line port = concat (codes "    " ∷ port.0 ∷ codes " : " ∷ port.1 ∷ [])
 
--- an entity with these ports
-abbrev pub entity_with : ℕ → List (List ℕ × List ℕ) → List ℕ
-entity_with p all = concat (
-    library_lines ∷ codes "entity node_" ∷ decimal p ∷ codes " is\n  port (\n"
+-- an entity of this name with these ports
+abbrev pub entity_with : List ℕ → List (List ℕ × List ℕ) → List ℕ
+entity_with name all = concat (
+    library_lines ∷ codes "entity " ∷ name ∷ codes " is\n  port (\n"
     ∷ join_by port_line (codes ";\n") all ∷ codes "\n  );\nend entity;\n" ∷ [])
+
+-- the entity of process p
+abbrev pub node_name : ℕ → List ℕ
+node_name p = codes "node_" ++ decimal p

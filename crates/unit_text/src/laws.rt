@@ -1,4 +1,4 @@
-ghost use Rattle.std.specs.Prelude.{◌≡◌, ℕ, ℤ, List, FitsSigned};
+ghost use Rattle.std.specs.Prelude.{◌≡◌, ◌≤◌, ℕ, ℤ, List, FitsSigned, length, map};
 ghost use Rattle.std.specs.List.{All};
 ghost use Rattle.std.specs.Int.{w64};
 ghost use Rattle.script_blocks.specs.Expansion.{repeated};
@@ -6,6 +6,8 @@ ghost use Rattle.node_automata.specs.declared.node.NodeAuto.{NodeAuto};
 ghost use Rattle.repeat_sequencer.specs.Steps.{at_end, at_start, step, step_and_restart, Gives};
 ghost use Rattle.unit_text.specs.declared.unit.LoopCounter.{LoopCounter};
 ghost use Rattle.unit_text.specs.declared.unit.Unit.{Unit};
+ghost use Rattle.script_blocks.specs.Nesting.{greatest};
+ghost use Rattle.unit_text.specs.Limits.{gain_instructions, most_instructions};
 ghost use Rattle.unit_text.specs.Counting.{counted, counted_to};
 ghost use Rattle.unit_text.specs.Units.{first_of, gains_round, loop_values, IsCounterOf, IsUnitOf};
 
@@ -42,4 +44,17 @@ pub fn counters_give_loop_values()
         × Gives counter.gains (step_and_restart counter.gains) (at_start counter.gains) gains
         (at_start counter.gains)
         × (counted counter.first gains ≡ repeated count (loop_values counter.number points)) }
+{}
+
+/// The sequencer of a process's script has no more instructions than the script has events, and those of its loops have no more
+/// than the process has points. A process has no more points than events where it fires once at each: then no sequencer of it has
+/// more instructions than its script has events, however the script and the gains were folded.
+pub fn sequencers_are_no_longer_than_what_they_give()
+    ensures control { (auto : NodeAuto) (unit : Unit) → IsUnitOf auto unit
+        → length unit.control.instructions ≤ length auto.events }
+    ensures loops { (auto : NodeAuto) (unit : Unit) → IsUnitOf auto unit
+        → greatest (map gain_instructions unit.loops) ≤ length auto.values }
+    ensures all { (auto : NodeAuto) (unit : Unit) → IsUnitOf auto unit
+        → length auto.values ≤ length auto.events
+        → most_instructions unit ≤ length auto.events }
 {}

@@ -5,11 +5,12 @@
 #![tactic(auto)]
 
 mod events;
-mod expression;
 mod laws;
 mod node;
 mod unit;
 
-pub use laws::{controls_give_scripts, counters_give_loop_values};
+pub use laws::{
+    controls_give_scripts, counters_give_loop_values, sequencers_are_no_longer_than_what_they_give,
+};
 pub use node::write_unit;
-pub use unit::{LoopCounter, Unit};
+pub use unit::{LoopCounter, Unit, first_with_long_sequencer};

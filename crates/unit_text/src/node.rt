@@ -1,23 +1,23 @@
 ghost use Rattle.std.specs.Prelude.{◌≡◌, ℕ, map};
 ghost use Rattle.std.specs.List.{flat_map};
 ghost use Rattle.text_out.specs.Wrote.{Wrote};
+ghost use Rattle.vhdl_text.specs.declared.expression.Naming.TheVariants.{Signals};
+ghost use Rattle.vhdl_text.specs.Expressions.{expr_text};
 ghost use Rattle.vhdl_text.specs.Literals.{literal as literal_text};
-ghost use Rattle.vhdl_text.specs.Pieces.{entries_from, functions_text};
+ghost use Rattle.vhdl_text.specs.Pieces.{entries_from};
 ghost use Rattle.sanlp.specs.declared.nest.Role.TheVariants.{Source, Assign, Sink};
-ghost use Rattle.unit_text.specs.declared.node.Part.TheVariants.{PortsIn, PortsOut, StepIn, StepOut, Take, Give, Receive};
-ghost use Rattle.unit_text.specs.Expressions.{expr_text};
-ghost use Rattle.unit_text.specs.Nodes.{control_part, declarations_text, entity_text, fire_lines, gain_line, gain_table, loop_part, loop_reset, loop_signals, loop_text, loops_text, node_entity, node_signals, node_types, part_text, parts_text, process_text, read_line, read_signal, read_text, reads_text, role_text, slot_signals, unit_text, wiring_text};
+ghost use Rattle.unit_text.specs.Nodes.{control_part, declarations_text, entity_text, fire_lines, gain_table, loop_part, loop_reset, loop_signals, loop_text, loops_text, part_text, parts_text, process_text, read_text, reads_text, role_text, unit_text, wiring_text};
 
-use crate::events::{Column, write_event_table};
-use crate::expression::write_expr;
+use crate::events::write_event_table;
 use crate::unit::{LoopCounter, Unit};
 use repeat_sequencer::Instruction;
 use sanlp::Role;
-use sequencer_text::{
-    EntityName, literal, write_all, write_entry, write_head, write_name, write_sequencer,
-    write_tail,
-};
+use sequencer_text::{EntityName, write_name, write_sequencer};
 use text_out::{TextWriter, Word, write_number};
+use vhdl_text::{
+    Column, Naming, literal, write_all, write_entry, write_expr, write_functions, write_head,
+    write_tail, write_with_number,
+};
 
 /// What a node has for a channel.
 #[derive(Clone, Copy)]
@@ -143,137 +143,77 @@ fn sink_part(part: RolePart) -> &'static [u8]
     }
 }
 
-fn write_ports_in<W: TextWriter>(channel: u64, out: &mut W)
-    ensures { Wrote W.given out.old out.new (part_text PortsIn channel) }
-{
-    let number = Word::Number(channel);
-    write_all(
-        &[
-            Word::Text(b"    c"),
-            number,
-            Word::Text(b"_valid : in std_logic;\n    c"),
-            number,
-            Word::Text(b"_front : in signed(63 downto 0);\n    c"),
-            number,
-            Word::Text(b"_take : out std_logic;\n"),
-        ],
-        out,
-    );
-}
-
-fn write_ports_out<W: TextWriter>(channel: u64, out: &mut W)
-    ensures { Wrote W.given out.old out.new (part_text PortsOut channel) }
-{
-    let number = Word::Number(channel);
-    write_all(
-        &[
-            Word::Text(b"    c"),
-            number,
-            Word::Text(b"_ready : in std_logic;\n    c"),
-            number,
-            Word::Text(b"_data : out signed(63 downto 0);\n    c"),
-            number,
-            Word::Text(b"_give : out std_logic;\n"),
-        ],
-        out,
-    );
-}
-
-fn write_step_in<W: TextWriter>(channel: u64, out: &mut W)
-    ensures { Wrote W.given out.old out.new (part_text StepIn channel) }
-{
-    let number = Word::Number(channel);
-    write_all(
-        &[
-            Word::Text(b"    or (op_here = 1 and arg_here = "),
-            number,
-            Word::Text(b" and c"),
-            number,
-            Word::Text(b"_valid = '1')\n"),
-        ],
-        out,
-    );
-}
-
-fn write_step_out<W: TextWriter>(channel: u64, out: &mut W)
-    ensures { Wrote W.given out.old out.new (part_text StepOut channel) }
-{
-    let number = Word::Number(channel);
-    write_all(
-        &[
-            Word::Text(b"    or (op_here = 3 and arg_here = "),
-            number,
-            Word::Text(b" and c"),
-            number,
-            Word::Text(b"_ready = '1')\n"),
-        ],
-        out,
-    );
-}
-
-fn write_take<W: TextWriter>(channel: u64, out: &mut W)
-    ensures { Wrote W.given out.old out.new (part_text Take channel) }
-{
-    let number = Word::Number(channel);
-    write_all(
-        &[
-            Word::Text(b"  c"),
-            number,
-            Word::Text(b"_take <= '1' when op_here = 1 and arg_here = "),
-            number,
-            Word::Text(b" else '0';\n"),
-        ],
-        out,
-    );
-}
-
-fn write_give<W: TextWriter>(channel: u64, out: &mut W)
-    ensures { Wrote W.given out.old out.new (part_text Give channel) }
-{
-    let number = Word::Number(channel);
-    write_all(
-        &[
-            Word::Text(b"  c"),
-            number,
-            Word::Text(b"_data <= fired;\n  c"),
-            number,
-            Word::Text(b"_give <= '1' when op_here = 3 and arg_here = "),
-            number,
-            Word::Text(b" else '0';\n"),
-        ],
-        out,
-    );
-}
-
-fn write_receive<W: TextWriter>(channel: u64, out: &mut W)
-    ensures { Wrote W.given out.old out.new (part_text Receive channel) }
-{
-    let number = Word::Number(channel);
-    write_all(
-        &[
-            Word::Text(b"      if op_here = 1 and arg_here = "),
-            number,
-            Word::Text(b" and c"),
-            number,
-            Word::Text(b"_valid = '1' then\n        slot(dst_here) <= c"),
-            number,
-            Word::Text(b"_front;\n      end if;\n"),
-        ],
-        out,
-    );
-}
-
 fn write_part<W: TextWriter>(part: Part, channel: u64, out: &mut W)
     ensures { Wrote W.given out.old out.new (part_text part channel) }
 {
     match part {
-        Part::PortsIn => write_ports_in(channel, out),
-        Part::PortsOut => write_ports_out(channel, out),
-        Part::StepIn => write_step_in(channel, out),
-        Part::StepOut => write_step_out(channel, out),
-        Part::Take => write_take(channel, out),
-        Part::Give => write_give(channel, out),
-        Part::Receive => write_receive(channel, out),
+        Part::PortsIn => write_with_number(
+            channel,
+            &[
+                b"    c",
+                b"_valid : in std_logic;\n    c",
+                b"_front : in signed(63 downto 0);\n    c",
+                b"_take : out std_logic;\n",
+            ],
+            out,
+        ),
+        Part::PortsOut => write_with_number(
+            channel,
+            &[
+                b"    c",
+                b"_ready : in std_logic;\n    c",
+                b"_data : out signed(63 downto 0);\n    c",
+                b"_give : out std_logic;\n",
+            ],
+            out,
+        ),
+        Part::StepIn => write_with_number(
+            channel,
+            &[
+                b"    or (op_here = 1 and arg_here = ",
+                b" and c",
+                b"_valid = '1')\n",
+            ],
+            out,
+        ),
+        Part::StepOut => write_with_number(
+            channel,
+            &[
+                b"    or (op_here = 3 and arg_here = ",
+                b" and c",
+                b"_ready = '1')\n",
+            ],
+            out,
+        ),
+        Part::Take => write_with_number(
+            channel,
+            &[
+                b"  c",
+                b"_take <= '1' when op_here = 1 and arg_here = ",
+                b" else '0';\n",
+            ],
+            out,
+        ),
+        Part::Give => write_with_number(
+            channel,
+            &[
+                b"  c",
+                b"_data <= fired;\n  c",
+                b"_give <= '1' when op_here = 3 and arg_here = ",
+                b" else '0';\n",
+            ],
+            out,
+        ),
+        Part::Receive => write_with_number(
+            channel,
+            &[
+                b"      if op_here = 1 and arg_here = ",
+                b" and c",
+                b"_valid = '1' then\n        slot(dst_here) <= c",
+                b"_front;\n      end if;\n",
+            ],
+            out,
+        ),
     }
 }
 
@@ -286,42 +226,16 @@ fn write_parts<W: TextWriter>(part: Part, channels: &[u32], out: &mut W)
     }
 }
 
-fn write_read_signal<W: TextWriter>(read: u64, out: &mut W)
-    ensures { Wrote W.given out.old out.new (read_signal read) }
-{
-    write_all(
-        &[
-            Word::Text(b"  signal r"),
-            Word::Number(read),
-            Word::Text(b"_here : integer;\n"),
-        ],
-        out,
-    );
-}
-
-fn write_read_line<W: TextWriter>(read: u64, out: &mut W)
-    ensures { Wrote W.given out.old out.new (read_line read) }
-{
-    let number = Word::Number(read);
-    write_all(
-        &[
-            Word::Text(b"  r"),
-            number,
-            Word::Text(b"_here <= r"),
-            number,
-            Word::Text(b"(pc);\n"),
-        ],
-        out,
-    );
-}
-
 fn write_read<W: TextWriter>(part: ReadPart, unit: &Unit, read: u32, out: &mut W)
     ensures { Wrote W.given out.old out.new (read_text part unit.now read) }
 {
+    let number = u64::from(read);
     match part {
         ReadPart::Table => write_event_table(Column::Read(read), &unit.control, out),
-        ReadPart::Signal => write_read_signal(u64::from(read), out),
-        ReadPart::Line => write_read_line(u64::from(read), out),
+        ReadPart::Signal => {
+            write_with_number(number, &[b"  signal r", b"_here : integer;\n"], out)
+        }
+        ReadPart::Line => { write_with_number(number, &[b"  r", b"_here <= r", b"(pc);\n"], out) }
     }
 }
 
@@ -388,26 +302,6 @@ fn write_loop_part<W: TextWriter>(process: u32, counter: &LoopCounter, out: &mut
     out.put(b"\n    );\n");
 }
 
-fn write_gain<W: TextWriter>(number: u64, out: &mut W)
-    ensures { Wrote W.given out.old out.new (gain_line number) }
-{
-    let number = Word::Number(number);
-    write_all(
-        &[
-            Word::Text(b"        v"),
-            number,
-            Word::Text(b" <= v"),
-            number,
-            Word::Text(b" + gain"),
-            number,
-            Word::Text(b"(pc"),
-            number,
-            Word::Text(b");\n"),
-        ],
-        out,
-    );
-}
-
 fn write_loop_reset<W: TextWriter>(counter: &LoopCounter, out: &mut W)
     ensures { Wrote W.given out.old out.new (loop_reset counter.now) }
 {
@@ -437,7 +331,11 @@ fn write_loop<W: TextWriter>(part: LoopPart, process: u32, counter: &LoopCounter
         LoopPart::Table => write_gain_table(counter, out),
         LoopPart::Signals => write_loop_signals(counter, out),
         LoopPart::Part => write_loop_part(process, counter, out),
-        LoopPart::Gain => write_gain(u64::from(counter.number), out),
+        LoopPart::Gain => write_with_number(
+            u64::from(counter.number),
+            &[b"        v", b" <= v", b" + gain", b"(pc", b");\n"],
+            out,
+        ),
         LoopPart::Reset => write_loop_reset(counter, out),
     }
 }
@@ -458,85 +356,6 @@ fn write_loops<W: TextWriter>(part: LoopPart, unit: &Unit, out: &mut W)
     write_each_loop(part, unit.auto.process, unit.loops.as_slice(), out);
 }
 
-fn write_node_entity<W: TextWriter>(process: u32, out: &mut W)
-    ensures { Wrote W.given out.old out.new (node_entity process) }
-{
-    write_all(
-        &[
-            Word::Text(
-                b"\nlibrary ieee;\nuse ieee.std_logic_1164.all;\nuse ieee.numeric_std.all;\nentity node_",
-            ),
-            Word::Number(u64::from(process)),
-            Word::Text(
-                b" is\n  port (\n    clk : in std_logic;\n    rst : in std_logic;\n    again : in std_logic;\n",
-            ),
-        ],
-        out,
-    );
-}
-
-fn write_node_types<W: TextWriter>(process: u32, out: &mut W)
-    ensures { Wrote W.given out.old out.new (node_types process) }
-{
-    write_all(
-        &[
-            Word::Text(b"architecture rtl of node_"),
-            Word::Number(u64::from(process)),
-            Word::Text(
-                b" is\n  type codes is array (natural range <>) of integer;\n  type words is array (natural range <>) of signed(63 downto 0);\n  constant zero : signed(63 downto 0) := x\"0000000000000000\";\n",
-            ),
-        ],
-        out,
-    );
-}
-
-fn write_node_signals<W: TextWriter>(count: u64, out: &mut W)
-    ensures { Wrote W.given out.old out.new (node_signals count) }
-{
-    write_all(
-        &[
-            Word::Text(b"  signal pc : integer range 0 to "),
-            Word::Number(count),
-            Word::Text(
-                b";\n  signal step : std_logic;\n  signal fires : std_logic;\n  signal op_here, arg_here, dst_here : integer;\n",
-            ),
-        ],
-        out,
-    );
-}
-
-fn write_slot_signals<W: TextWriter>(slots: u32, out: &mut W)
-    ensures { Wrote W.given out.old out.new (slot_signals slots) }
-{
-    write_all(
-        &[
-            Word::Text(b"  signal slot : words(0 to "),
-            Word::Number(u64::from(slots)),
-            Word::Text(b");\n  signal fired : signed(63 downto 0);\n"),
-        ],
-        out,
-    );
-}
-
-/// Writes the functions, and the beginning of the statements.
-fn write_functions<W: TextWriter>(out: &mut W)
-    ensures { Wrote W.given out.old out.new functions_text }
-{
-    out.put(
-        b"  function pick(b : words; r : integer) return signed is\n  begin\n    if r < 0 then\n      return zero;\n    else\n      return b(r);\n    end if;\n  end function;\n",
-    );
-    out.put(
-        b"  function mul(a, b : signed(63 downto 0)) return signed is\n    variable p : signed(127 downto 0);\n  begin\n    p := a * b;\n    return p(63 downto 0);\n  end function;\n",
-    );
-    out.put(
-        b"  function least(a, b : signed(63 downto 0)) return signed is\n  begin\n    if a < b then\n      return a;\n    else\n      return b;\n    end if;\n  end function;\n",
-    );
-    out.put(
-        b"  function most(a, b : signed(63 downto 0)) return signed is\n  begin\n    if a < b then\n      return b;\n    else\n      return a;\n    end if;\n  end function;\n",
-    );
-    out.put(b"begin\n");
-}
-
 fn write_control<W: TextWriter>(process: u32, out: &mut W)
     ensures { Wrote W.given out.old out.new (control_part process) }
 {
@@ -550,7 +369,14 @@ fn write_control<W: TextWriter>(process: u32, out: &mut W)
 fn write_entity<W: TextWriter>(unit: &Unit, out: &mut W)
     ensures { Wrote W.given out.old out.new (entity_text unit.now) }
 {
-    write_node_entity(unit.auto.process, out);
+    write_with_number(
+        u64::from(unit.auto.process),
+        &[
+            b"\nlibrary ieee;\nuse ieee.std_logic_1164.all;\nuse ieee.numeric_std.all;\nentity node_",
+            b" is\n  port (\n    clk : in std_logic;\n    rst : in std_logic;\n    again : in std_logic;\n",
+        ],
+        out,
+    );
     out.put(role_part(RolePart::Ports, unit.auto.role));
     write_parts(Part::PortsIn, unit.auto.gets.as_slice(), out);
     write_parts(Part::PortsOut, unit.auto.puts.as_slice(), out);
@@ -560,16 +386,37 @@ fn write_entity<W: TextWriter>(unit: &Unit, out: &mut W)
 fn write_declarations<W: TextWriter>(unit: &Unit, out: &mut W)
     ensures { Wrote W.given out.old out.new (declarations_text unit.now) }
 {
-    write_node_types(unit.auto.process, out);
+    write_with_number(
+        u64::from(unit.auto.process),
+        &[
+            b"architecture rtl of node_",
+            b" is\n  type codes is array (natural range <>) of integer;\n  type words is array (natural range <>) of signed(63 downto 0);\n  constant zero : signed(63 downto 0) := x\"0000000000000000\";\n",
+        ],
+        out,
+    );
     write_event_table(Column::Op, &unit.control, out);
     write_event_table(Column::Arg, &unit.control, out);
     write_event_table(Column::Dst, &unit.control, out);
     write_reads(ReadPart::Table, unit, out);
     write_loops(LoopPart::Table, unit, out);
-    write_node_signals(unit.control.instructions.len() as u64, out);
+    write_with_number(
+        unit.control.instructions.len() as u64,
+        &[
+            b"  signal pc : integer range 0 to ",
+            b";\n  signal step : std_logic;\n  signal fires : std_logic;\n  signal op_here, arg_here, dst_here : integer;\n",
+        ],
+        out,
+    );
     write_reads(ReadPart::Signal, unit, out);
     write_loops(LoopPart::Signals, unit, out);
-    write_slot_signals(unit.auto.slots, out);
+    write_with_number(
+        u64::from(unit.auto.slots),
+        &[
+            b"  signal slot : words(0 to ",
+            b");\n  signal fired : signed(63 downto 0);\n",
+        ],
+        out,
+    );
     out.put(role_part(RolePart::Signal, unit.auto.role));
     write_functions(out);
 }
@@ -593,10 +440,10 @@ fn write_wiring<W: TextWriter>(unit: &Unit, out: &mut W)
 }
 
 fn write_fire<W: TextWriter>(unit: &Unit, out: &mut W)
-    ensures { Wrote W.given out.old out.new (fire_lines (expr_text unit.now.auto.expr)) }
+    ensures { Wrote W.given out.old out.new (fire_lines (expr_text Signals unit.now.auto.expr)) }
 {
     out.put(b"      if fires = '1' then\n        fired <= ");
-    write_expr(&unit.auto.expr, out);
+    write_expr(Naming::Signals, &unit.auto.expr, out);
     out.put(b";\n");
 }
 

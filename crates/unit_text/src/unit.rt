@@ -1,4 +1,7 @@
-ghost use Rattle.std.specs.Prelude.{◌≡◌, ◌<◌, ◌^◌, pos, length, map, slice_index_or, All, IfOk};
+ghost use Rattle.std.specs.Prelude.{◌≡◌, ◌<◌, ◌^◌, length, map, slice_index_or, All, IfOk};
+ghost use Rattle.std.specs.Option.{option_copied};
+ghost use Rattle.script_blocks.specs.Nesting.{greatest};
+ghost use Rattle.unit_text.specs.Limits.{first_with_long_sequencer as first_with_long, gain_instructions, has_long_sequencer as has_long};
 ghost use Rattle.unit_text.specs.Units.{gain, gains_round, loop_values, names_loop, named_loops, IsCounterOf, IsSequencerOf};
 
 use affine_core::Vector;
@@ -8,7 +11,11 @@ use plain_data::Items;
 use repeat_sequencer::Sequencer;
 use script_blocks::Script;
 use std::alloc::{AllocError, Global};
+use vhdl_text::value_at;
 use wrap_expr::Expr;
+
+/// The most instructions of a sequencer in a design.
+const MOST_INSTRUCTIONS: usize = 65_536;
 
 /// A counter for a loop that the expression of a process names.
 #[derive(Drop)]
@@ -41,16 +48,6 @@ fn names(expr: &Expr, number: u32) -> bool
         Expr::Add(a, b) | Expr::Sub(a, b) | Expr::Mul(a, b) | Expr::Min(a, b) | Expr::Max(a, b) =>
             names(a.get(), number) || names(b.get(), number),
         Expr::Neg(a) => names(a.get(), number),
-    }
-}
-
-// The value of a loop at a point, or 0 where the point has no such loop.
-fn value_at(at: &Vector, number: u32) -> i64
-    ensures { result ≡ slice_index_or at.now number (pos 0) }
-{
-    match at.as_slice().get(number as usize) {
-        Some(value) => *value,
-        None => 0,
     }
 }
 
@@ -134,8 +131,20 @@ fn loop_counters(alloc: Global, auto: &NodeAuto) -> Result<Items<LoopCounter>, A
     Ok(loops)
 }
 
+// The most instructions that the sequencer of one of these counters has.
+fn longest_of(loops: &[LoopCounter]) -> usize
+    ensures { result ≡ greatest (map gain_instructions loops.now) }
+{
+    let mut most: usize = 0;
+    for counter in loops {
+        most = most.max(counter.gains.instructions.len());
+    }
+    most
+}
+
 impl Unit {
-    ghost use Rattle.std.specs.Prelude.{◌<◌, ◌^◌, length, IfOk};
+    ghost use Rattle.std.specs.Prelude.{◌≡◌, ◌<◌, ◌^◌, length, IfOk};
+    ghost use Rattle.unit_text.specs.Limits.{most_instructions};
     ghost use Rattle.unit_text.specs.Units.{IsUnitOf};
 
     /// The hardware of a process that has this automaton, or want of memory. Its sequencers are of the script as it is kept,
@@ -152,4 +161,34 @@ impl Unit {
             loops,
         })
     }
+
+    /// The most instructions that one of its sequencers has: that of its script, or one of what a loop gains. It takes no memory,
+    /// and the time of a look at each loop.
+    pub fn longest_sequencer(&self) -> usize
+        ensures { result ≡ most_instructions self.now }
+    {
+        self.control
+            .instructions
+            .len()
+            .max(longest_of(self.loops.as_slice()))
+    }
+}
+
+fn has_long_sequencer(unit: &Unit) -> bool
+    ensures { result ≡ has_long unit.now }
+{
+    unit.longest_sequencer() > MOST_INSTRUCTIONS
+}
+
+/// The first of these units with a sequencer that is too long for a design: it has more than 65,536 instructions, as
+/// `longest_sequencer` tells. It takes no memory.
+pub fn first_with_long_sequencer(units: &[Unit]) -> Option<&Unit>
+    ensures { option_copied result ≡ first_with_long units.now }
+{
+    for unit in units {
+        if has_long_sequencer(unit) {
+            return Some(unit);
+        }
+    }
+    None
 }

@@ -18,6 +18,7 @@ use Rattle.vhdl_text.specs.declared.channels.Part.TheVariants.{PortsIn, PortsOut
 use Rattle.vhdl_text.specs.declared.constants.Column.TheVariants as column
 use Rattle.vhdl_text.specs.Channels.{branch_text, parts_text}
 use Rattle.vhdl_text.specs.Constants.{column_values, event_constant}
+use Rattle.vhdl_text.specs.declared.expression.Naming.TheVariants.{Arrays}
 use Rattle.vhdl_text.specs.Expressions.{expr_step, expr_text}
 use Rattle.vhdl_text.specs.Literals.{literal}
 use Rattle.vhdl_text.specs.Refusal.{are_too_many}
@@ -139,32 +140,32 @@ behind_the_expression =
     ∷ [])
 
 whole_node : (e : Expr)
-    → node_text (increment e) ≡ before_the_expression ++ ((expr_text e ++ codes ";\n") ++ behind_the_expression)
+    → node_text (increment e) ≡ before_the_expression ++ ((expr_text Arrays e ++ codes ";\n") ++ behind_the_expression)
 unfolding before_the_expression behind_the_expression digits literal
 whole_node e = refl
 
 -- Expressions
 
-one_more : expr_text (Add (Read 0) (Const (pos 1))) ≡ codes "(pick(slot, r0(arg(pc))) + signed'(x\"0000000000000001\"))"
+one_more : expr_text Arrays (Add (Read 0) (Const (pos 1))) ≡ codes "(pick(slot, r0(arg(pc))) + signed'(x\"0000000000000001\"))"
 unfolding digits literal
 one_more = simp (fold_add, fold_read, fold_const)
 
-product : expr_text (Mul Given (Var 2)) ≡ codes "mul(given, v2(arg(pc)))"
+product : expr_text Arrays (Mul Given (Var 2)) ≡ codes "mul(given, v2(arg(pc)))"
 unfolding digits
 product = simp (fold_mul, fold_given, fold_var)
 
 -- the others, where the operands have the texts a and b
 
-difference : expr_step (layer.Sub (codes "a") (codes "b")) ≡ codes "(a - b)"
+difference : expr_step Arrays (layer.Sub (codes "a") (codes "b")) ≡ codes "(a - b)"
 difference = refl
 
-least : expr_step (layer.Min (codes "a") (codes "b")) ≡ codes "least(a, b)"
+least : expr_step Arrays (layer.Min (codes "a") (codes "b")) ≡ codes "least(a, b)"
 least = refl
 
-most : expr_step (layer.Max (codes "a") (codes "b")) ≡ codes "most(a, b)"
+most : expr_step Arrays (layer.Max (codes "a") (codes "b")) ≡ codes "most(a, b)"
 most = refl
 
-negation : expr_step (layer.Neg (codes "a")) ≡ codes "(zero - a)"
+negation : expr_step Arrays (layer.Neg (codes "a")) ≡ codes "(zero - a)"
 negation = refl
 
 -- Values: 16 digits of the two's complement

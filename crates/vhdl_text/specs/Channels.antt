@@ -2,6 +2,7 @@
 use Rattle.std.specs.Prelude.{ℕ, ◌==◌, Bool, if◌then◌else◌, List, [], ◌∷◌, codes, decimal}
 use Rattle.std.specs.List.{concat, flat_map, list_any}
 use Rattle.node_automata.specs.declared.node.NodeAuto.{NodeAuto}
+use Rattle.vhdl_text.specs.Numbered.{with_number}
 use Rattle.vhdl_text.specs.declared.channels.Part.{Part}
 use Rattle.vhdl_text.specs.declared.channels.Part.TheVariants.{PortsIn, PortsOut, Take, Give, Receive, Send}
 
@@ -19,26 +20,7 @@ ports_in own c = concat (
     ∷ codes "    c" ∷ decimal c ∷ data_in own ∷ codes " : in signed(63 downto 0);\n"
     ∷ codes "    c" ∷ decimal c ∷ codes "_take : out std_logic;\n" ∷ [])
 
-abbrev pub ports_out : ℕ → List ℕ
-ports_out c = concat (
-    codes "    c" ∷ decimal c ∷ codes "_ready : in std_logic;\n"
-    ∷ codes "    c" ∷ decimal c ∷ codes "_data : out signed(63 downto 0);\n"
-    ∷ codes "    c" ∷ decimal c ∷ codes "_give : out std_logic;\n" ∷ [])
-
--- the node takes from an incoming channel while its next event is a Get of it
-abbrev pub take_line : ℕ → List ℕ
-take_line c =
-    concat (codes "  c" ∷ decimal c ∷ codes "_take <= '1' when op(pc) = 1 and arg(pc) = "
-    ∷ decimal c ∷ codes " else '0';\n" ∷ [])
-
--- it gives the value that was fired last to an outgoing channel while its next event is a Put to it
-abbrev pub give_lines : ℕ → List ℕ
-give_lines c = concat (
-    codes "  c" ∷ decimal c ∷ codes "_data <= fired;\n"
-    ∷ codes "  c" ∷ decimal c ∷ codes "_give <= '1' when op(pc) = 3 and arg(pc) = " ∷ decimal c
-    ∷ codes " else '0';\n" ∷ [])
-
--- a Get waits until its channel is valid, and a Put until its channel is ready
+-- a Get waits until its channel is valid
 abbrev pub receive_lines : Bool → ℕ → List ℕ
 receive_lines own c = concat (
     codes "            if arg(pc) = " ∷ decimal c ∷ codes " and c" ∷ decimal c
@@ -46,19 +28,22 @@ receive_lines own c = concat (
     ∷ codes "              slot(dst(pc)) <= c" ∷ decimal c ∷ data_in own ∷ codes ";\n"
     ∷ codes "              pc <= pc + 1;\n            end if;\n" ∷ [])
 
-abbrev pub send_lines : ℕ → List ℕ
-send_lines c = concat (
-    codes "            if arg(pc) = " ∷ decimal c ∷ codes " and c" ∷ decimal c
-    ∷ codes "_ready = '1' then\n"
-    ∷ codes "              pc <= pc + 1;\n            end if;\n" ∷ [])
-
+-- The node takes from an incoming channel while its next event is a Get of it. It gives the value that was fired last to an
+-- outgoing channel while its next event is a Put to it, which waits until the channel is ready.
 abbrev pub part_text : Part → Bool → ℕ → List ℕ
 part_text PortsIn own c = ports_in own c
-part_text PortsOut own c = ports_out c
-part_text Take own c = take_line c
-part_text Give own c = give_lines c
+part_text PortsOut own c = with_number c (
+    codes "    c" ∷ codes "_ready : in std_logic;\n    c"
+    ∷ codes "_data : out signed(63 downto 0);\n    c" ∷ codes "_give : out std_logic;\n" ∷ [])
+part_text Take own c = with_number c (
+    codes "  c" ∷ codes "_take <= '1' when op(pc) = 1 and arg(pc) = " ∷ codes " else '0';\n" ∷ [])
+part_text Give own c = with_number c (
+    codes "  c" ∷ codes "_data <= fired;\n  c"
+    ∷ codes "_give <= '1' when op(pc) = 3 and arg(pc) = " ∷ codes " else '0';\n" ∷ [])
 part_text Receive own c = receive_lines own c
-part_text Send own c = send_lines c
+part_text Send own c = with_number c (
+    codes "            if arg(pc) = " ∷ codes " and c"
+    ∷ codes "_ready = '1' then\n              pc <= pc + 1;\n            end if;\n" ∷ [])
 
 -- the same for each of these channels
 abbrev pub parts_text : Part → NodeAuto → List ℕ → List ℕ

@@ -1,3 +1,4 @@
+pub mod Numbered
 pub mod Literals
 pub mod Expressions
 pub mod Constants

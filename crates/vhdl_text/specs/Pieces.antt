@@ -39,6 +39,19 @@ arg_of f (Get channel slot) = channel
 arg_of f (Fire refs) = f
 arg_of f (Put channel) = channel
 
+-- the slot that read k of a Fire names, or -1
+abbrev pub read_slot : ℕ → Event → List ℕ
+read_slot k (Get channel slot) = codes "-1"
+read_slot k (Fire refs) = slot_text (slice_get refs k)
+read_slot k (Put channel) = codes "-1"
+
+-- the value of an event after so many fires
+abbrev pub event_value : Column → ℕ → Event → List ℕ
+event_value Op f event = decimal (op_of event)
+event_value Arg f event = decimal (arg_of f event)
+event_value Dst f event = decimal (dst_of event)
+event_value (Read k) f event = read_slot k event
+
 -- the entry of a read at an event after so many fires, if it is a fire
 abbrev pub read_entry : ℕ → ℕ → Event → List ℕ
 read_entry k f (Get channel slot) = []
@@ -47,9 +60,9 @@ read_entry k f (Put channel) = []
 
 -- the entry of an event of this index after so many fires
 abbrev pub event_entry : Column → ℕ → ℕ → Event → List ℕ
-event_entry Op i f event = entry_comma (i, decimal (op_of event))
-event_entry Arg i f event = entry_comma (i, decimal (arg_of f event))
-event_entry Dst i f event = entry_comma (i, decimal (dst_of event))
+event_entry Op i f event = entry_comma (i, event_value Op f event)
+event_entry Arg i f event = entry_comma (i, event_value Arg f event)
+event_entry Dst i f event = entry_comma (i, event_value Dst f event)
 event_entry (Read k) i f event = read_entry k f event
 
 abbrev pub event_entries : Column → ℕ → ℕ → List Event → List ℕ

@@ -10,6 +10,7 @@ use Rattle.vhdl_text.specs.declared.channels.Part.TheVariants.{PortsIn, PortsOut
 use Rattle.vhdl_text.specs.declared.constants.Column.TheVariants.{Op, Arg, Dst}
 use Rattle.vhdl_text.specs.Channels.{branch_text, parts_text}
 use Rattle.vhdl_text.specs.Constants.{event_constant, read_constants, variable_constants}
+use Rattle.vhdl_text.specs.declared.expression.Naming.TheVariants.{Arrays}
 use Rattle.vhdl_text.specs.Expressions.{expr_text}
 
 -- The entity
@@ -116,7 +117,7 @@ node_text a = concat (
     ∷ parts_text Take a a.gets ∷ parts_text Give a a.puts ∷ done_line
     ∷ process_head ∷ gave_low a.role ∷ case_head
     ∷ codes "          when 1 =>\n" ∷ branch_text Receive a a.gets
-    ∷ codes "          when 2 =>\n" ∷ fired_line (expr_text a.expr) ∷ gave_high a.role
+    ∷ codes "          when 2 =>\n" ∷ fired_line (expr_text Arrays a.expr) ∷ gave_high a.role
     ∷ codes "            pc <= pc + 1;\n          when 3 =>\n" ∷ branch_text Send a a.puts
     ∷ process_end ∷ [])
 

@@ -1,7 +1,8 @@
 ghost use Rattle.std.specs.Prelude.{◌≡◌};
 ghost use Rattle.text_out.specs.Wrote.{Wrote};
-ghost use Rattle.vhdl_text.specs.Channels.{branch_text, data_in, give_lines, is_own as leads_back, part_text, parts_text, ports_in, ports_out, receive_lines, send_lines, take_line};
+ghost use Rattle.vhdl_text.specs.Channels.{branch_text, data_in, is_own as leads_back, part_text, parts_text, ports_in, receive_lines};
 
+use crate::words::write_with_number;
 use node_automata::NodeAuto;
 use text_out::{TextWriter, write_number};
 
@@ -39,7 +40,7 @@ fn write_data_in<W: TextWriter>(own: bool, out: &mut W)
     }
 }
 
-fn write_ports_in<W: TextWriter>(own: bool, channel: u32, out: &mut W)
+fn write_ports_in<W: TextWriter>(own: bool, channel: u64, out: &mut W)
     ensures { Wrote W.given out.old out.new (ports_in own channel) }
 {
     out.put(b"    c");
@@ -52,41 +53,7 @@ fn write_ports_in<W: TextWriter>(own: bool, channel: u32, out: &mut W)
     out.put(b"_take : out std_logic;\n");
 }
 
-fn write_ports_out<W: TextWriter>(channel: u32, out: &mut W)
-    ensures { Wrote W.given out.old out.new (ports_out channel) }
-{
-    out.put(b"    c");
-    write_number(channel, out);
-    out.put(b"_ready : in std_logic;\n    c");
-    write_number(channel, out);
-    out.put(b"_data : out signed(63 downto 0);\n    c");
-    write_number(channel, out);
-    out.put(b"_give : out std_logic;\n");
-}
-
-fn write_take_line<W: TextWriter>(channel: u32, out: &mut W)
-    ensures { Wrote W.given out.old out.new (take_line channel) }
-{
-    out.put(b"  c");
-    write_number(channel, out);
-    out.put(b"_take <= '1' when op(pc) = 1 and arg(pc) = ");
-    write_number(channel, out);
-    out.put(b" else '0';\n");
-}
-
-fn write_give_lines<W: TextWriter>(channel: u32, out: &mut W)
-    ensures { Wrote W.given out.old out.new (give_lines channel) }
-{
-    out.put(b"  c");
-    write_number(channel, out);
-    out.put(b"_data <= fired;\n  c");
-    write_number(channel, out);
-    out.put(b"_give <= '1' when op(pc) = 3 and arg(pc) = ");
-    write_number(channel, out);
-    out.put(b" else '0';\n");
-}
-
-fn write_receive_lines<W: TextWriter>(own: bool, channel: u32, out: &mut W)
+fn write_receive_lines<W: TextWriter>(own: bool, channel: u64, out: &mut W)
     ensures { Wrote W.given out.old out.new (receive_lines own channel) }
 {
     out.put(b"            if arg(pc) = ");
@@ -99,26 +66,50 @@ fn write_receive_lines<W: TextWriter>(own: bool, channel: u32, out: &mut W)
     out.put(b";\n              pc <= pc + 1;\n            end if;\n");
 }
 
-fn write_send_lines<W: TextWriter>(channel: u32, out: &mut W)
-    ensures { Wrote W.given out.old out.new (send_lines channel) }
-{
-    out.put(b"            if arg(pc) = ");
-    write_number(channel, out);
-    out.put(b" and c");
-    write_number(channel, out);
-    out.put(b"_ready = '1' then\n              pc <= pc + 1;\n            end if;\n");
-}
-
-fn write_part<W: TextWriter>(part: Part, own: bool, channel: u32, out: &mut W)
+fn write_part<W: TextWriter>(part: Part, own: bool, channel: u64, out: &mut W)
     ensures { Wrote W.given out.old out.new (part_text part own channel) }
 {
     match part {
         Part::PortsIn => write_ports_in(own, channel, out),
-        Part::PortsOut => write_ports_out(channel, out),
-        Part::Take => write_take_line(channel, out),
-        Part::Give => write_give_lines(channel, out),
+        Part::PortsOut => write_with_number(
+            channel,
+            &[
+                b"    c",
+                b"_ready : in std_logic;\n    c",
+                b"_data : out signed(63 downto 0);\n    c",
+                b"_give : out std_logic;\n",
+            ],
+            out,
+        ),
+        Part::Take => write_with_number(
+            channel,
+            &[
+                b"  c",
+                b"_take <= '1' when op(pc) = 1 and arg(pc) = ",
+                b" else '0';\n",
+            ],
+            out,
+        ),
+        Part::Give => write_with_number(
+            channel,
+            &[
+                b"  c",
+                b"_data <= fired;\n  c",
+                b"_give <= '1' when op(pc) = 3 and arg(pc) = ",
+                b" else '0';\n",
+            ],
+            out,
+        ),
         Part::Receive => write_receive_lines(own, channel, out),
-        Part::Send => write_send_lines(channel, out),
+        Part::Send => write_with_number(
+            channel,
+            &[
+                b"            if arg(pc) = ",
+                b" and c",
+                b"_ready = '1' then\n              pc <= pc + 1;\n            end if;\n",
+            ],
+            out,
+        ),
     }
 }
 
@@ -127,7 +118,7 @@ pub(crate) fn write_parts<W: TextWriter>(part: Part, auto: &NodeAuto, channels: 
     ensures { Wrote W.given out.old out.new (parts_text part auto.now channels.now) }
 {
     for channel in channels {
-        write_part(part, is_own(auto, *channel), *channel, out);
+        write_part(part, is_own(auto, *channel), u64::from(*channel), out);
     }
 }
 

@@ -1,12 +1,13 @@
 ghost use Rattle.std.specs.Prelude.{◌++◌, codes, length};
 ghost use Rattle.text_out.specs.Wrote.{Wrote};
+ghost use Rattle.vhdl_text.specs.declared.expression.Naming.TheVariants.{Arrays};
 ghost use Rattle.vhdl_text.specs.Expressions.{expr_text};
 ghost use Rattle.vhdl_text.specs.Pieces.{fire_text, functions_text, start_text, step_text};
 ghost use Rattle.vhdl_text.specs.VhdlText.{architecture_head, case_head, done_line, entity_end, gave_high, gave_low, node_text, process_end, process_head, role_lines, role_ports, role_signal, signals};
 
 use crate::channels::{Part, write_branch, write_parts};
 use crate::constants::{Column, write_column, write_reads, write_variables};
-use crate::expression::write_expr;
+use crate::expression::{Naming, write_expr};
 use node_automata::NodeAuto;
 use sanlp::Role;
 use text_out::{TextWriter, write_number};
@@ -99,8 +100,8 @@ fn write_signals<W: TextWriter>(auto: &NodeAuto, out: &mut W)
     out.put(b");\n  signal fired : signed(63 downto 0);\n");
 }
 
-/// Writes the functions, and the beginning of the statements.
-fn write_functions<W: TextWriter>(out: &mut W)
+/// Writes the functions that expressions call, and the beginning of the statements.
+pub fn write_functions<W: TextWriter>(out: &mut W)
     ensures { Wrote W.given out.old out.new functions_text }
 {
     out.put(
@@ -138,10 +139,10 @@ fn write_case_head<W: TextWriter>(out: &mut W)
 
 /// Writes what is done at a fire, up to the assignment.
 fn write_fire<W: TextWriter>(auto: &NodeAuto, out: &mut W)
-    ensures { Wrote W.given out.old out.new (fire_text (expr_text auto.now.expr)) }
+    ensures { Wrote W.given out.old out.new (fire_text (expr_text Arrays auto.now.expr)) }
 {
     out.put(b"          when 2 =>\n            fired <= ");
-    write_expr(&auto.expr, out);
+    write_expr(Naming::Arrays, &auto.expr, out);
     out.put(b";\n");
 }
 

@@ -77,7 +77,8 @@ fn write_channel<W: TextWriter>(number: usize, channel: &Channel, out: &mut W)
     out.put(b"\n");
 }
 
-fn write_channels<W: TextWriter>(channels: &[Channel], out: &mut W)
+/// Writes a line for each of these channels, the first having number 0.
+pub fn write_channels<W: TextWriter>(channels: &[Channel], out: &mut W)
     ensures { Wrote W.given out.old out.new (channel_lines channels.now) }
 {
     for (number, channel) in channels.iter().enumerate() {

@@ -1,5 +1,5 @@
 use Rattle.std.proofs.Common.{◌+◌, ◌∙◌, drop, sym, ap}
-use Rattle.rtl_text.specs.Networks.{goes_on}
+use Rattle.rtl_text.specs.Names.{goes_on}
 use Rattle.rtl_text.proofs.Names.{goes_on_past, name_end, stops}
 use Rattle.rtl_text.proofs.network.goes_on.Goals as goal
 

@@ -1,5 +1,5 @@
 use Rattle.std.proofs.Common.{◌≡◌, false, drop}
-use Rattle.rtl_text.specs.Networks.{goes_on}
+use Rattle.rtl_text.specs.Names.{goes_on}
 use Rattle.rtl_text.proofs.network.goes_on.Given as goal
 
 -- the answer is that of what is left

@@ -1,21 +1,9 @@
 use Rattle.text_out.proofs.Wrote.{Wrote-append}
-use Rattle.rtl_text.specs.Networks.{array_ports}
+use Rattle.vhdl_text.proofs.Sequences.{Wrote-last}
 use Rattle.rtl_text.proofs.network.write_array_ports.Goals as goal
 
 pub returns : goal.returns
-unfolding array_ports
 returns g c =
     let w = g.W.TextWriter.given in
-    Wrote-append w _ _ c.put.ensures
-    (Wrote-append w _ _ c.write_port.ensures
-    (Wrote-append w _ _ c.put-2.ensures
-    (Wrote-append w _ _ c.put-3.ensures
-    (Wrote-append w _ _ c.put-4.ensures
-    (Wrote-append w _ _ c.write_port-2.ensures
-    (Wrote-append w _ _ c.put-5.ensures
-    (Wrote-append w _ _ c.put-6.ensures
-    (Wrote-append w _ _ c.put-7.ensures
-    (Wrote-append w _ _ c.write_port-3.ensures
-    (Wrote-append w _ _ c.put-8.ensures
-    (Wrote-append w _ _ c.put-9.ensures
-    (c.put-10.ensures))))))))))))
+    Wrote-append w _ _ c.write_port_line.ensures
+    (Wrote-append w _ _ c.write_port_line-2.ensures (Wrote-last w _ c.write_port_line-3.ensures))

@@ -1,21 +1,8 @@
-use Rattle.text_out.proofs.Wrote.{Wrote-append}
-use Rattle.rtl_text.specs.Networks.{role_joins}
 use Rattle.rtl_text.proofs.network.write_role_joins.Goals as goal
 
-pub returns : goal.returns
-unfolding role_joins
-returns g c =
-    let w = g.W.TextWriter.given in
-    Wrote-append w _ _ c.put.ensures
-    (Wrote-append w _ _ c.put-2.ensures
-    (Wrote-append w _ _ c.put-3.ensures
-    (Wrote-append w _ _ c.write_port.ensures
-    (Wrote-append w _ _ c.put-4.ensures
-    (Wrote-append w _ _ c.put-5.ensures
-    (Wrote-append w _ _ c.put-6.ensures
-    (Wrote-append w _ _ c.write_port-2.ensures
-    (Wrote-append w _ _ c.put-7.ensures
-    (Wrote-append w _ _ c.put-8.ensures
-    (Wrote-append w _ _ c.put-9.ensures
-    (Wrote-append w _ _ c.write_port-3.ensures
-    (c.put-10.ensures))))))))))))
+pub returns-in-Source : goal.returns-in-Source
+returns-in-Source g c = rw c.in-Source.is (rw c.name_of.ensures at c.write_array_joins.ensures)
+
+pub returns-in-Sink : goal.returns-in-Sink
+returns-in-Sink g c =
+    rw c.in-Sink.is (rw (c.name_of-in-Sink.ensures, c.way_out_of.ensures) at c.write_array_joins-in-Sink.ensures)

@@ -1,5 +1,4 @@
 use Rattle.sequencer_text.proofs.sequencer.write_sequencer_end.Goals as goal
 
 pub returns : goal.returns
-returns g c =
-    c.write_all.ensures
+returns g c = c.write_with_number.ensures

@@ -1,5 +1,5 @@
 use Rattle.sequencer_text.specs.Tables.{end_value}
-use Rattle.sequencer_text.proofs.Lists.{entry_more}
+use Rattle.vhdl_text.proofs.Sequences.{entry_more}
 use Rattle.sequencer_text.proofs.tables.write_end_entries.Goals as goal
 
 pub loop-index-preserved : goal.loop-index-preserved

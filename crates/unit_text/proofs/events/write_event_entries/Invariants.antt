@@ -1,11 +1,10 @@
 use Rattle.std.proofs.Common.{map, take}
 use Rattle.text_out.specs.Wrote.{Wrote}
-use Rattle.vhdl_text.specs.Pieces.{entries_from}
-use Rattle.unit_text.specs.Events.{event_value}
+use Rattle.vhdl_text.specs.Pieces.{entries_from, event_value}
 use Rattle.unit_text.proofs.events.write_event_entries.Given as goal
 
 -- the entries so far were written
 abbrev pub invariant-loop-index : goal.invariant-loop-index
 invariant-loop-index g l =
     Wrote g.W.TextWriter.given l.fn.out l.out
-    (entries_from 0 (take l.index (map (λ i. event_value l.fn.column i.item) l.instructions)))
+    (entries_from 0 (take l.index (map (λ i. event_value l.fn.column 0 i.item) l.instructions)))

@@ -4,7 +4,7 @@ use Rattle.unit_text.proofs.node.write_entity.Goals as goal
 pub returns : goal.returns
 returns g c =
     let w = g.W.TextWriter.given in
-    Wrote-append w _ _ c.write_node_entity.ensures
+    Wrote-append w _ _ (rw c.from.ensures at c.write_with_number.ensures)
     (Wrote-append w _ _ (rw c.role_part.ensures at c.put.ensures)
     (Wrote-append w _ _ (rw c.as_slice.ensures at c.write_parts.ensures)
     (Wrote-append w _ _ (rw c.as_slice-2.ensures at c.write_parts-2.ensures)

@@ -4,7 +4,7 @@ use Rattle.std.specs.Int.{w64}
 use Rattle.std.proofs.lemmas.Int.{to_z-of_z}
 use Rattle.repeat_sequencer.specs.declared.sequencer.Instruction.{Instruction}
 use Rattle.vhdl_text.specs.Literals.{literal}
-use Rattle.sequencer_text.proofs.Lists.{entry_more}
+use Rattle.vhdl_text.proofs.Sequences.{entry_more}
 use Rattle.unit_text.proofs.node.write_gains.Goals as goal
 
 pub loop-index-preserved : goal.loop-index-preserved

@@ -1,5 +1,5 @@
 use Rattle.text_out.proofs.Wrote.{Wrote-append}
-use Rattle.sequencer_text.proofs.Lists.{Wrote-last}
+use Rattle.vhdl_text.proofs.Sequences.{Wrote-last}
 use Rattle.unit_text.proofs.node.write_unit.Goals as goal
 
 pub returns : goal.returns

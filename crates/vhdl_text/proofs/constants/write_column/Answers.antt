@@ -9,7 +9,7 @@ returns g c =
     let w = g.W.TextWriter.given in
     let column = c.args.column in
     let events = c.args.auto.now.events in
-    let count = rw c.value_count-count.ensures at c.write_head.ensures in
+    let count = rw c.value_count-count.ensures at c.write_column_head.ensures in
     let entries = rw (column_entries column events) at c.write_event_entries.ensures in
     let tail = rw (c.value_count-count.ensures, c.last_of.ensures) at c.write_tail.ensures in
     rw (constant_pieces (name_of column) (codes "codes") (column_values column events) (last_of column))

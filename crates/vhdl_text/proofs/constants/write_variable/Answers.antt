@@ -15,7 +15,7 @@ returns g c =
     let count : length c.as_slice-values.result.now ≡ length values =
     ap length c.as_slice-values.ensures
     ∙ sym (length-map points (λ vector. literal (slice_index_or vector n (pos 0)))) in
-    let head = rw count at c.write_variable_head.ensures in
+    let head = rw (c.from.ensures, count) at c.write_head.ensures in
     let entries = rw c.as_slice-values.ensures at c.write_point_entries.ensures in
     let tail = rw (count, c.literal.ensures) at c.write_tail.ensures in
     rw (constant_pieces (codes "v" ++ decimal n) (codes "words") values (literal (pos 0)))

@@ -1,5 +1,0 @@
-use Rattle.rtl_text.proofs.network.write_channel_signals.Goals as goal
-
-pub returns : goal.returns
-returns g c =
-    c.write_all.ensures

@@ -1,4 +1,0 @@
-use Rattle.rtl_text.proofs.network.write_done_term.Goals as goal
-
-pub returns : goal.returns
-returns g c = rw c.from.ensures at c.write_all.ensures

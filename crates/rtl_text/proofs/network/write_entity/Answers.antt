@@ -1,0 +1,7 @@
+use Rattle.text_out.proofs.Wrote.{Wrote-append}
+use Rattle.rtl_text.proofs.network.write_entity.Goals as goal
+
+pub returns : goal.returns
+returns g c =
+    let w = g.W.TextWriter.given in
+    Wrote-append w _ _ c.put.ensures (Wrote-append w _ _ c.write_for_units.ensures c.put-2.ensures)

@@ -1,5 +1,0 @@
-use Rattle.unit_text.proofs.node.write_give.Goals as goal
-
-pub returns : goal.returns
-returns g c =
-    c.write_all.ensures

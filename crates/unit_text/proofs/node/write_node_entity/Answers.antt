@@ -1,4 +1,0 @@
-use Rattle.unit_text.proofs.node.write_node_entity.Goals as goal
-
-pub returns : goal.returns
-returns g c = rw c.from.ensures at c.write_all.ensures

@@ -1,9 +1,0 @@
-use Rattle.text_out.proofs.Wrote.{Wrote-append}
-use Rattle.vhdl_text.proofs.channels.write_take_line.Goals as goal
-
-pub returns : goal.returns
-returns g c =
-    let w = g.W.TextWriter.given in
-    Wrote-append w _ _ c.put.ensures
-    (Wrote-append w _ _ c.write_number.ensures
-    (Wrote-append w _ _ c.put-2.ensures (Wrote-append w _ _ c.write_number-2.ensures c.put-3.ensures)))
